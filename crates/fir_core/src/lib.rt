@@ -1,13 +1,31 @@
-// A library with one function.
+//! Whole-number decimation of one-bit sound.
+//!
+//! A [`Taps`] holds a finite impulse response filter and how its sums become samples. [`decimate`]
+//! answers the samples of a channel, [`sample`] one of them, [`sum_at`] the sum before rounding.
+//!
+//! The words of its contracts, all over whole numbers without bounds: `conv h bits n` is the
+//! convolution of taps with the signal of stored bits (1 counts +1, 0 counts -1, nothing outside),
+//! `rounded` and `round_clip` say how a sum is rounded and clipped, `samples` lists the samples of a
+//! decimator. What the code returns is these values for every input: no sum overflows, since the
+//! absolute values of the taps add up to at most `2^30`.
+//!
+//! ```text
+//! let taps = Taps::new(alloc, &[1, 2, 3, 4], 8, 3, 0, 16)?;
+//! let bits = Bits::from_packed(alloc, &[0xf0], 8)?;
+//! decimate(alloc, &taps, &bits)?        // [10]
+//! ```
 #![tactic(auto)]
 
-ghost use Rattle.std.specs.Prelude.{◌≡◌};
-ghost use Rattle.fir_core.specs.Echo.{echo_of};
+mod convolution;
+mod decimator;
+mod fault;
+mod rounding;
+mod taps;
 
-// The `ensures` clause is the contract: what `echo` returns is `echo_of` of its argument, a definition
-// in `specs/Echo.antt`, which a caller's clause can cite too.
-pub fn echo(x: usize) -> usize
-    ensures { result ≡ echo_of x }
-{
-    x
-}
+pub use convolution::sum_at;
+pub use decimator::{decimate, sample};
+pub use fault::TapsFault;
+pub use taps::Taps;
+
+#[cfg(test)]
+mod tests;

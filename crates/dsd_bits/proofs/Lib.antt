@@ -1,2 +1,3 @@
 pub mod PackingLemmas
 pub mod SumLaws
+pub mod RoundTrip

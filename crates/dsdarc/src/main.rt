@@ -1,0 +1,53 @@
+//! The program `dsdarc`: `play PROJECT IN OUT` plays a one-bit recording to a RIFF WAVE file.
+//!
+//! The work is [`player::play`], over the bytes of a project and of a file; `words` reads the command
+//! line, `run` the files, and `outcome` says what is printed and with which status the program ends.
+//!
+//! The words of its contracts: `Plays project file bytes` says that these bytes are the WAVE text of
+//! the file's recording, decimated as the project says, and `StandsFirst project file fault` that this
+//! is the first fault of the order.
+#![tactic(auto)]
+
+mod dsdiff;
+mod fault;
+mod key;
+mod outcome;
+mod player;
+mod project;
+mod recording;
+mod run;
+mod table;
+mod wave;
+mod words;
+
+#[cfg(test)]
+mod tests;
+
+use fault::Fault;
+use outcome::{Outcome, outcome_line, status};
+use std::io;
+use std::process::ExitCode;
+
+fn main(rt: HostRuntime) -> ExitCode {
+    let outcome = match given_words(&rt) {
+        Ok(words) => run::run(&rt, words.as_slice()),
+        Err(error) if error.kind() == io::ErrorKind::OutOfMemory => Fault::Memory.into(),
+        Err(_) => Outcome::WrongWords,
+    };
+    let _ = print(&rt, &outcome);
+    ExitCode::from(status(&outcome))
+}
+
+fn given_words(rt: &HostRuntime) -> io::Result<Vec<String>> {
+    let words: Vec<String> = std::env::args(rt)?.collect(rt.alloc())?;
+    Ok(words)
+}
+
+// What was done goes to standard output, a fault to standard error.
+fn print(rt: &HostRuntime, outcome: &Outcome) -> io::Result<()> {
+    let line = outcome_line(rt.alloc(), outcome)?;
+    match outcome {
+        Outcome::Played(_) => println!(rt; "{line}"),
+        _ => eprintln!(rt; "{line}"),
+    }
+}

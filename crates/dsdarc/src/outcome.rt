@@ -1,0 +1,56 @@
+//! What a command came to: the line that is printed and the status that the program ends with.
+
+ghost use Rattle.std.specs.Prelude.{◌≡◌, IfOk, string_bytes};
+ghost use Rattle.dsdarc.specs.Outcomes.{ShowsPlayed, status_of};
+ghost use Rattle.dsdarc.specs.declared.outcome.Outcome.TheVariants as outcomes;
+
+use crate::fault::Fault;
+use std::alloc::{AllocError, Global};
+
+/// What a command came to.
+#[derive(Clone, Copy, Debug, PartialEq, Eq)]
+pub enum Outcome {
+    /// A file was played; its WAVE file has so many bytes.
+    Played(u64),
+    /// The call was refused.
+    Fault(Fault),
+    /// A file could not be opened or read.
+    ReadFailed,
+    /// A file could not be created or written.
+    WriteFailed,
+    /// The words are no command.
+    WrongWords,
+}
+
+impl From<Fault> for Outcome {
+    ghost from_gives = { λ fault outcome. outcome ≡ outcomes.Fault fault };
+
+    fn from(fault: Fault) -> Outcome {
+        Outcome::Fault(fault)
+    }
+}
+
+/// The line that is printed. It is refused only for want of memory.
+pub fn outcome_line(alloc: Global, outcome: &Outcome) -> Result<String, AllocError>
+    ensures { IfOk result (λ line. ShowsPlayed outcome.now (string_bytes line)) }
+{
+    match outcome {
+        Outcome::Played(count) => format!(in alloc; "played {count} bytes"),
+        Outcome::Fault(fault) => format!(in alloc; "fault: {fault}"),
+        Outcome::ReadFailed => format!(in alloc; "fault: ReadFailed"),
+        Outcome::WriteFailed => format!(in alloc; "fault: WriteFailed"),
+        Outcome::WrongWords => format!(in alloc; "fault: WrongWords"),
+    }
+}
+
+/// The program's exit status: 0 where the command was done, 2 for a fault, 3 for words that are no
+/// command.
+pub fn status(outcome: &Outcome) -> u8
+    ensures { result ≡ status_of outcome.now }
+{
+    match outcome {
+        Outcome::Played(_) => 0,
+        Outcome::Fault(_) | Outcome::ReadFailed | Outcome::WriteFailed => 2,
+        Outcome::WrongWords => 3,
+    }
+}

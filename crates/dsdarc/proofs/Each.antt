@@ -6,7 +6,7 @@ use Rattle.toml.specs.View.{view, items_view}
 use Rattle.toml.specs.declared.value.Value.{Value}
 use Rattle.toml.proofs.Views.{items_view-drop}
 use Rattle.dsdarc.specs.declared.fault.ProjectFault.{ProjectFault}
-use Rattle.dsdarc.specs.declared.fault.ProjectFault.TheVariants.{NotYet, Memory}
+use Rattle.dsdarc.specs.declared.fault.ProjectFault.TheVariants.{NotYet}
 use Rattle.dsdarc.specs.Tables.{◌>>=◌, each, list_of}
 
 -- what was read before, and what is still read

@@ -1,12 +1,11 @@
 -- What a player answers is what project and file play, or the fault that stands first.
-use Rattle.std.proofs.Common.{◌≡◌, ℕ, ◌+◌, ◌*◌, ◌/◌, ◌%◌, ◌^◌, ◌<◌, ◌≤◌, List, [], ◌++◌, length, replicate, cond, ltb, Option, Some, None, Result, Ok, Err, refl, sym, ap, ◌∙◌, arith, IsErrOf}
+use Rattle.std.proofs.Common.{◌≡◌, ℕ, ◌*◌, ◌/◌, ◌%◌, ◌^◌, ◌<◌, ◌≤◌, List, ◌++◌, length, replicate, Some, None, Err, refl, sym, ap, ◌∙◌, arith}
 use Rattle.std.specs.List.{flat_map}
 use Rattle.std.specs.Int.{div_ceil}
 use Rattle.std.proofs.lemmas.Bool.{le-ltb, lt-ltb}
 use Rattle.std.proofs.lemmas.List.{append-nil}
 use Rattle.std.proofs.lemmas.List.FromFn.{length-map-range_with_len}
 use Rattle.fir_core.specs.Decimator.{Decimator, sample_at, samples}
-use Rattle.dsdarc.specs.declared.fault.Fault.{Fault}
 use Rattle.dsdarc.specs.declared.fault.ProjectFault.{ProjectFault}
 use Rattle.dsdarc.specs.declared.fault.ProjectFault.TheVariants as projects
 use Rattle.dsdarc.specs.declared.fault.WaveFault.{WaveFault}
@@ -59,7 +58,11 @@ module _ (project file : List ℕ) (r : Recording) (d : Decimator) (frames : ℕ
     where
       stands : (e : WaveFault) → (e ≡ waves.TooLarge → 2 ^ 32 ≤ riff_size (frames * 2)) → StandsFirst project file (play_fault_of_wave e)
       stands waves.TooLarge large = record {
-        decimator = d; recording = r; project_says = says; file_holds = holds; rate_divided = divided;
+        decimator = d;
+        recording = r;
+        project_says = says;
+        file_holds = holds;
+        rate_divided = divided;
         no_text = no_text r d frames says.sixteen_bits count (large refl);
       }
       stands waves.Memory large = tt

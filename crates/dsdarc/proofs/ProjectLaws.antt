@@ -1,5 +1,5 @@
 -- A project is read exactly where its text says it.
-use Rattle.std.proofs.Common.{◌≡◌, ℕ, ◌≤◌, ◌<◌, ◌^◌, ◌%◌, ◌⊎◌, ℤ, Bool, true, false, cond, eqb, List, length, Option, Some, None, Result, Ok, Err, refl, ap, ◌∙◌, arith, sum_by, unsigned_abs, inl, inr, eq-eqb}
+use Rattle.std.proofs.Common.{◌≡◌, ℕ, ◌<◌, ◌^◌, ℤ, cond, eqb, List, Option, Some, None, Result, Ok, Err, refl, ap, ◌∙◌, arith, sum_by, unsigned_abs, inl, inr, eq-eqb}
 use Rattle.std.specs.Prelude.{IfOk}
 use Rattle.std.proofs.lemmas.Bool.{eqb-true}
 use Rattle.toml.specs.Data.{Data, table, Members}

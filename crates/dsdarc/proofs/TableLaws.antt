@@ -7,7 +7,7 @@ use Rattle.toml.specs.Data.{Data, string, integer, float, boolean, datetime, arr
 use Rattle.toml.specs.View.{items_of}
 use Rattle.dsdarc.specs.declared.key.Key.{Key}
 use Rattle.dsdarc.specs.declared.fault.ProjectFault.{ProjectFault}
-use Rattle.dsdarc.specs.declared.fault.ProjectFault.TheVariants.{NotYet, Memory}
+use Rattle.dsdarc.specs.declared.fault.ProjectFault.TheVariants.{NotYet}
 use Rattle.dsdarc.specs.Keys.{name_of}
 use Rattle.dsdarc.specs.Tables.{◌>>=◌, array_of, each, fits_i32, has_only, integer_of, list_of, numbers_at, signed_of, table_of, tap_of, unsigned_at, unsigned_of, value_at}
 use Rattle.dsdarc.specs.Projects.{FindsOnly, Has, number, numbers}
@@ -32,7 +32,6 @@ ok_or_ok (Some y) d x e = cc
 pub value_ok : (key : Key) (t : Members) (d : Data) → value_at key t ≡ Ok d → Has t key d
 unfolding value_at
 value_ok key t d e = ok_or_ok (get_member (name_of key) t) NotYet d e
-
 
 integer_ok : (d : Data) (z : ℤ) → integer_of d ≡ Ok z → d ≡ integer z
 integer_ok (string s) z e = absurd cc

@@ -1,5 +1,5 @@
 -- What is played of a project and a file, and which fault stands first where nothing is.
-use Rattle.std.specs.Prelude.{◌≡◌, ◌≢◌, ℕ, ◌/◌, ◌%◌, List, Option, Some, None, Result, Ok, Err, Vec}
+use Rattle.std.specs.Prelude.{◌≡◌, ◌≢◌, ℕ, ◌/◌, ◌%◌, List, Some, None, Result, Ok, Err, Vec}
 use Rattle.std.specs.declared.alloc.Global.{Global}
 use Rattle.fir_core.specs.Decimator.{Decimator, samples}
 use Rattle.dsdarc.specs.declared.fault.Fault.{Fault}

@@ -17,11 +17,10 @@ mod project;
 mod recording;
 mod run;
 mod table;
-mod wave;
-mod words;
-
 #[cfg(test)]
 mod tests;
+mod wave;
+mod words;
 
 use fault::Fault;
 use outcome::{Outcome, outcome_line, status};

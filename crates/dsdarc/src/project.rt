@@ -14,13 +14,8 @@ use std::alloc::Global;
 use toml::{Table, Value};
 
 const TOP_KEYS: [Key; 1] = [Key::Decimate];
-const DECIMATE_KEYS: [Key; 5] = [
-    Key::Taps,
-    Key::Factor,
-    Key::Delay,
-    Key::Shift,
-    Key::Width,
-];
+
+const DECIMATE_KEYS: [Key; 5] = [Key::Taps, Key::Factor, Key::Delay, Key::Shift, Key::Width];
 
 /// The decimator of a project text: a TOML document with the one table `decimate`, whose keys are
 /// `taps`, `factor`, `delay`, `shift` and `width`, within the limits of `Taps::new` and for samples of

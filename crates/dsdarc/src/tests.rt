@@ -25,7 +25,8 @@ const WAVE: [u8; 46] = [
     2, 0, 0, 0, 0x0a, 0,
 ];
 
-const PROJECT: &str = "[decimate]\ntaps = [1, 2, 3, 4]\nfactor = 8\ndelay = 3\nshift = 0\nwidth = 16\n";
+const PROJECT: &str =
+    "[decimate]\ntaps = [1, 2, 3, 4]\nfactor = 8\ndelay = 3\nshift = 0\nwidth = 16\n";
 
 // The project with other values.
 fn project(
@@ -33,7 +34,9 @@ fn project(
     taps: &str,
     (factor, delay, shift, width): (u32, u32, u32, u32),
 ) -> Result<String, AllocError> {
-    format!(in alloc; "[decimate]\ntaps = {taps}\nfactor = {factor}\ndelay = {delay}\nshift = {shift}\nwidth = {width}\n")
+    format!(in alloc;
+        "[decimate]\ntaps = {taps}\nfactor = {factor}\ndelay = {delay}\nshift = {shift}\nwidth = {width}\n"
+    )
 }
 
 #[test]
@@ -118,7 +121,11 @@ fn prints_outcomes(rt: HostRuntime) -> Result<(), Fail> {
             2,
             "fault: FileUnread NotYet",
         ),
-        (Outcome::Fault(Fault::RateNotDivided), 2, "fault: RateNotDivided"),
+        (
+            Outcome::Fault(Fault::RateNotDivided),
+            2,
+            "fault: RateNotDivided",
+        ),
         (Outcome::Fault(Fault::TooLarge), 2, "fault: TooLarge"),
         (Outcome::Fault(Fault::Memory), 2, "fault: Memory"),
         (Outcome::ReadFailed, 2, "fault: ReadFailed"),

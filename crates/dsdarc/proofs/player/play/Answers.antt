@@ -1,11 +1,7 @@
-use Rattle.std.proofs.Common.{◌≡◌, ◌+◌, ◌*◌, ◌/◌, ◌%◌, ◌≤◌, ◌<◌, ◌^◌, ◌++◌, length, Err, Some, ap, ◌∙◌, sym, arith, refl, rules}
+use Rattle.std.proofs.Common.{◌≡◌, ◌%◌, length, Err, ap, rules}
 use Rattle.std.specs.Int.{div_ceil}
-use Rattle.std.specs.List.{flat_map}
 use Rattle.std.proofs.lemmas.Result.{err_from_is_err_and}
-use Rattle.fir_core.specs.Decimator.{samples}
 use Rattle.dsdarc.specs.declared.fault.WaveFault.{WaveFault}
-use Rattle.dsdarc.specs.Playing.{pcm}
-use Rattle.dsdarc.specs.Wave.{header, riff_size, sample_bytes, wave_text}
 use Rattle.dsdarc.proofs.PlayLaws.{project_refused, project_stands, same_text, size_refused, size_stands, text_is}
 use Rattle.dsdarc.proofs.player.play.Goals as goal
 

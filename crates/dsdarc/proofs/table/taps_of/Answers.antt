@@ -1,9 +1,7 @@
-use Rattle.std.proofs.Common.{◌≡◌, rules, Err, FitsSigned, to_z, of_z, w32}
+use Rattle.std.proofs.Common.{◌≡◌, rules, FitsSigned, to_z, of_z, w32}
 use Rattle.std.proofs.lemmas.Int.{to_z-of_z}
-use Rattle.toml.specs.View.{items_view, view}
-use Rattle.dsdarc.specs.declared.fault.ProjectFault.TheVariants.{NotYet}
 use Rattle.dsdarc.specs.Tables.{tap_of}
-use Rattle.dsdarc.proofs.Each.{values_begin, values_done, values_end, values_go_on}
+use Rattle.dsdarc.proofs.Each.{values_begin, values_done, values_go_on}
 use Rattle.dsdarc.proofs.table.taps_of.Goals as goal
 
 pub loop-value-init : goal.loop-value-init

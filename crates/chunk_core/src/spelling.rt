@@ -1,0 +1,26 @@
+//! DSDIFF chunks, written.
+
+ghost use Rattle.std.specs.Prelude.{◌≡◌, ◌++◌, OnOk, OnErr};
+ghost use Rattle.chunk_core.specs.Chunks.{spelled};
+
+use byteorder::{BigEndian, ByteOrder};
+use std::alloc::AllocError;
+
+/// Appends a DSDIFF chunk (DSDIFF 1.5): the ID, the number of data bytes, the data, and one zero byte
+/// after odd data, which the size does not count. A refused growth leaves `out` as it was.
+pub fn push_chunk(out: &mut Vec<u8>, id: [u8; 4], content: &[u8]) -> Result<(), AllocError>
+    ensures ok { OnOk result (out.new.items ≡ out.old.items ++ spelled id content.now) }
+    ensures err { OnErr result (out.new.items ≡ out.old.items) }
+{
+    let pad = content.len() % 2;
+    out.reserve(12 + content.len() + pad)?;
+    let mut size = [0; 8];
+    BigEndian::write_u64(&mut size, content.len() as u64);
+    out.extend_from_slice(&id)?;
+    out.extend_from_slice(&size)?;
+    out.extend_from_slice(content)?;
+    if pad == 1 {
+        out.push_reserved(0);
+    }
+    Ok(())
+}

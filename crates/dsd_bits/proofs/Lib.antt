@@ -1,3 +1,7 @@
+pub mod LacingLemmas
 pub mod PackingLemmas
-pub mod SumLaws
+pub mod RangeLemmas
 pub mod RoundTrip
+pub mod ShiftingLemmas
+pub mod SumLaws
+pub mod TurningLemmas

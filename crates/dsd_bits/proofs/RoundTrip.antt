@@ -9,7 +9,7 @@ use Rattle.dsd_bits.proofs.PackingLemmas.{past_end, packed-unpacked, unpacked_is
 
 -- eight digits of base 2
 module _ (v : ℕ → ℕ) (small : (k : ℕ) → v k < 2) where
-  digit : (k : ℕ) → k < 8 → bit_at (v 0 * 128 + v 1 * 64 + v 2 * 32 + v 3 * 16 + v 4 * 8 + v 5 * 4 + v 6 * 2 + v 7 * 1) (7 - k) ≡ v k
+  pub digit : (k : ℕ) → k < 8 → bit_at (v 0 * 128 + v 1 * 64 + v 2 * 32 + v 3 * 16 + v 4 * 8 + v 5 * 4 + v 6 * 2 + v 7 * 1) (7 - k) ≡ v k
   digit zero h = omega arith
   digit (suc zero) h = omega arith
   digit (suc (suc zero)) h = omega arith
@@ -55,7 +55,7 @@ module _ (xs : List Bool) (j : ℕ) where
   digits k h = ap (λ b. bit_at b (7 - k)) sum_of_worths ∙ digit at (λ k. value_lt (get_or xs (8 * j + k) false)) k h
 
 -- bit i of the byte where it stands
-bit_of_byte : (xs : List Bool) (i : ℕ) → eqb (bit_at (packed_byte xs (i / 8)) (7 - i % 8)) 1 ≡ get_or xs i false
+pub bit_of_byte : (xs : List Bool) (i : ℕ) → eqb (bit_at (packed_byte xs (i / 8)) (7 - i % 8)) 1 ≡ get_or xs i false
 bit_of_byte xs i =
     let e : 8 * (i / 8) + i % 8 ≡ i = omega arith in
     ap (λ (m : ℕ). eqb m 1) (digits xs (i / 8) (i % 8) (omega arith)) ∙ value_is_one (get_or xs (8 * (i / 8) + i % 8) false) ∙ ap (λ k. get_or xs k false) e

@@ -1,2 +1,10 @@
+pub mod Channels
+pub mod Contents
+pub mod Ids
+pub mod Lacing
+pub mod Layouts
 pub mod Packing
+pub mod Shape
+pub mod Shifting
 pub mod Sums
+pub mod Turning

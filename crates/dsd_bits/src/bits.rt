@@ -1,10 +1,11 @@
 //! Lists of bits, packed eight to a byte.
 
-ghost use Rattle.std.specs.Prelude.{◌≡◌, ◌*◌, ◌+◌, ◌^◌, ◌<◌, ◌≤◌, ◌↔◌, [], Bool, false, List, length, vec_len, IfOk, slice_index_or};
-ghost use Rattle.dsd_bits.specs.Packing.{Holds, IsTight, packed, unpacked};
+ghost use Rattle.std.specs.Prelude.{◌≡◌, ◌-◌, ◌*◌, ◌+◌, ◌^◌, ◌<◌, ◌≤◌, ◌++◌, ◌∷◌, ◌↔◌, [], Bool, false, List, length, vec_len, IfOk, OnErr, OnOk, slice_index_or, slice_range};
+ghost use Rattle.dsd_bits.specs.Packing.{IsTight, packed, unpacked};
 
 use crate::fault::BitsFault;
-use std::alloc::Global;
+use crate::packing::{append_bytes, clear_from, fill_byte, put_bit};
+use std::alloc::{AllocError, Global};
 use std::marker::Model;
 
 /// A list of at most `2^36` bits, packed with the earliest bit of a byte its most significant and
@@ -52,6 +53,15 @@ impl Bits {
         Ok(Bits { bytes: kept, count })
     }
 
+    // All the bits of the bytes.
+    pub(crate) fn from_whole_bytes(bytes: Vec<u8>) -> Bits
+        requires { 8 * vec_len bytes ≤ 2 ^ 36 }
+        ensures { result ≡ unpacked bytes.items (8 * vec_len bytes) }
+    {
+        let count = 8 * bytes.len();
+        Bits { bytes, count }
+    }
+
     /// How many bits there are.
     pub fn len(&self) -> usize
         ensures value { result ≡ length self.now }
@@ -77,16 +87,37 @@ impl Bits {
         let bytes = self.bytes.as_slice();
         bytes
     }
-}
 
-// Clears the packed bits from bit `from` on, which all stand in the last byte.
-fn clear_from(bytes: &mut Vec<u8>, from: usize)
-    requires in_last { (from ≤ 8 * vec_len bytes.old) × (8 * vec_len bytes.old < from + 8) }
-    ensures len { vec_len bytes.new ≡ vec_len bytes.old }
-    ensures holds { Holds bytes.new.items (unpacked bytes.old.items from) }
-{
-    let used = from % 8;
-    if used > 0 {
-        bytes[from / 8] &= u8::MAX << (8 - used);
+    /// Adds a bit at the end. Where there is no memory for it the bits stay as they were.
+    pub fn push_bit(&mut self, bit: bool) -> Result<(), AllocError>
+        requires { length self.old < 2 ^ 36 }
+        ensures ok { OnOk result (self.new ≡ self.old ++ bit ∷ []) }
+        ensures err { OnErr result (self.new ≡ self.old) }
+    {
+        self.bytes.resize((self.count + 1).div_ceil(8), 0)?;
+        put_bit(&mut self.bytes, self.count, bit);
+        self.count += 1;
+        Ok(())
+    }
+
+    /// Adds the bits `start` to `stop - 1` of `source` at the end. Where there is no memory for them the
+    /// bits stay as they were.
+    pub fn push_range(&mut self, source: &Bits, start: usize, stop: usize) -> Result<(), AllocError>
+        requires in_order { start ≤ stop }
+        requires in_source { stop ≤ length source.now }
+        requires in_limit { length self.old + (stop - start) ≤ 2 ^ 36 }
+        ensures ok { OnOk result (self.new ≡ self.old ++ slice_range source.now start stop) }
+        ensures err { OnErr result (self.new ≡ self.old) }
+    {
+        let before = self.count;
+        let count = before + (stop - start);
+        let kept = self.bytes.len();
+        let added = count.div_ceil(8) - kept;
+        let from = source.as_bytes();
+        append_bytes(&mut self.bytes, from, start + (8 * kept - before), added)?;
+        fill_byte(&mut self.bytes, before, from, start);
+        clear_from(&mut self.bytes, count);
+        self.count = count;
+        Ok(())
     }
 }

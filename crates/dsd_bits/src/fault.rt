@@ -1,9 +1,10 @@
-//! Why bytes give no list of bits.
+//! Why bytes give no bits.
 
 ghost use Rattle.std.specs.Prelude.{◌≡◌};
-ghost use Rattle.dsd_bits.specs.declared.fault.BitsFault.TheVariants.{Memory};
+ghost use Rattle.dsd_bits.specs.declared.fault.BitsFault.TheVariants as bits_faults;
+ghost use Rattle.dsd_bits.specs.declared.fault.LaceFault.TheVariants as lace_faults;
 
-use std::alloc::AllocError;
+use std::alloc::{AllocError, AllocFailed};
 use thiserror::Error;
 
 /// Why bytes give no list of bits.
@@ -18,9 +19,28 @@ pub enum BitsFault {
 }
 
 impl From<AllocError> for BitsFault {
-    ghost from_gives = { λ _ e. e ≡ Memory };
+    ghost from_gives = { λ _ e. e ≡ bits_faults.Memory };
 
     fn from(_e: AllocError) -> BitsFault {
         BitsFault::Memory
+    }
+}
+
+/// Why sound bytes give no channels.
+#[derive(Clone, Copy, Debug, PartialEq, Eq, Error)]
+pub enum LaceFault {
+    /// The bytes are no whole number of frames, a frame being one byte of each channel.
+    #[error("PartFrame")]
+    PartFrame,
+    /// Want of memory.
+    #[error("Memory")]
+    Memory,
+}
+
+impl From<AllocError> for LaceFault {
+    ghost from_gives = { λ _ e. e ≡ lace_faults.Memory };
+
+    fn from(_e: AllocError) -> LaceFault {
+        LaceFault::Memory
     }
 }

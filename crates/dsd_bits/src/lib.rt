@@ -1,27 +1,54 @@
-//! One-bit sound (DSD) as lists of bits.
+//! One-bit sound (DSD): lists of bits, sound bytes of several channels, and recordings.
 //!
 //! A [`Bits`] is a list of truth values to whoever reads a contract: a stored 1 is `true`. In memory
 //! it is packed eight bits to a byte, the earliest bit the most significant, as DSDIFF 1.5 stores a
-//! channel; the bits of the last byte that are not used are zero.
+//! channel; the bits of the last byte that are not used are zero. A range of one list is added to
+//! another by whole bytes, wherever it begins. [`turn`] changes between this order of the bits of a
+//! byte and that of DSF 1.01.
 //!
-//! The words of its contracts: `unpacked bytes n` is the list of the first `n` bits of some bytes,
-//! `packed bits` the bytes of a list, `IsTight bytes n` says that bytes hold just `n` bits.
-//! `specs/Sums.antt` has what the crates above share: what a bit counts (`sign`) and whole-number sums
-//! (`sum_below`).
+//! [`unlace_bytes`] takes the sound bytes of DSDIFF apart into channels, and [`lace_bytes`] puts them
+//! together: what was laced is read again.
+//!
+//! A [`Recording`] is one record of lists and numbers: its rate, its channels, their IDs and layout,
+//! its marks, the chunks that it keeps as they are, and its tag.
+//!
+//! The words of the contracts:
+//!
+//! - `unpacked bytes n` is the list of the first `n` bits of some bytes, `packed bits` the bytes of a
+//!   list, `IsTight bytes n` says that bytes hold just `n` bits.
+//! - `laced_bit bytes channels c i` is bit `i` of channel `c` among sound bytes, `unlaced_all` all the
+//!   channels, `laced` the sound bytes of channels, `AreLaced` says where each bit stands.
+//! - `IsTurned old new` says that bit `i` of one byte is bit `7 - i` of the other.
+//! - `IsLevel channels` says that channels are equally long, `count_of` how long.
+//! - `Content` is what a recording holds, `HasShape` names the rules that it keeps, `layout_channels`
+//!   is the table of layouts.
+//! - `sign`, what a bit counts, and `sum_below`, sums of whole numbers, serve the crates above.
 //!
 //! ```text
 //! let bits = Bits::from_packed(alloc, &[0xf0, 0xff], 12)?;
-//! bits.len()        // 12
-//! bits.get(0)       // true
-//! bits.as_bytes()   // [0xf0, 0xf0]
+//! bits.as_bytes()                          // [0xf0, 0xf0]
+//! let mut part = Bits::new(alloc);
+//! part.push_range(&bits, 2, 10)?;          // [0xc3]
+//! part.push_bit(true)?;                    // [0xc3, 0x80], 9 bits
+//! let channels = unlace_bytes(alloc, &[0xf0, 0x0f, 0xaa, 0x55], 2)?;
+//! channels[0].as_bytes()                   // [0xf0, 0xaa]
 //! ```
 #![tactic(auto)]
 
 mod bits;
 mod fault;
+mod lacing;
+mod marks;
+mod packing;
+mod recording;
+mod turning;
 
 pub use bits::Bits;
-pub use fault::BitsFault;
+pub use fault::{BitsFault, LaceFault};
+pub use lacing::{lace_bytes, laced_channels_are_read_again, unlace_bytes};
+pub use marks::{Mark, Other, Place};
+pub use recording::Recording;
+pub use turning::{turn, turn_byte};
 
 #[cfg(test)]
 mod tests;

@@ -1,6 +1,11 @@
 //! Calls at ample memory with their answers, and the texts of the faults.
 
-use crate::{Bits, BitsFault};
+use crate::{
+    Bits, BitsFault, LaceFault, Mark, Other, Place, Recording, lace_bytes, turn, turn_byte,
+    unlace_bytes,
+};
+use std::alloc::Global;
+use std::process::Abort;
 use std::test::Fail;
 
 #[test]
@@ -16,13 +21,22 @@ fn packs_the_first_bits(rt: HostRuntime) -> Result<(), Fail> {
 }
 
 #[test]
-fn names_too_few_bytes(rt: HostRuntime) -> Result<(), Fail> {
+fn names_the_faults(rt: HostRuntime) -> Result<(), Fail> {
     let alloc = rt.alloc();
     let refused = Bits::from_packed(alloc, &[0xf0], 9).err().ok_or("a fault")?;
     assert_eq!(rt; refused, BitsFault::TooFewBytes);
     assert_eq!(rt; format!(in alloc; "{refused}")?.as_str(), "TooFewBytes");
     assert_eq!(rt;
         format!(in alloc; "{}", BitsFault::Memory)?.as_str(),
+        "Memory"
+    );
+    let cut = unlace_bytes(alloc, &[0xf0, 0x0f, 0xaa], 2)
+        .err()
+        .ok_or("a fault")?;
+    assert_eq!(rt; cut, LaceFault::PartFrame);
+    assert_eq!(rt; format!(in alloc; "{cut}")?.as_str(), "PartFrame");
+    assert_eq!(rt;
+        format!(in alloc; "{}", LaceFault::Memory)?.as_str(),
         "Memory"
     );
     Ok(())
@@ -33,5 +47,126 @@ fn begins_empty(rt: HostRuntime) -> Result<(), Fail> {
     let bits = Bits::new(rt.alloc());
     assert_eq!(rt; bits.len(), 0);
     assert_eq!(rt; bits.as_bytes().len(), 0);
+    Ok(())
+}
+
+#[test]
+fn adds_a_range_and_a_bit(rt: HostRuntime) -> Result<(), Fail> {
+    let alloc = rt.alloc();
+    let source = Bits::from_packed(alloc, &[0xf0, 0xff], 12)?;
+    assert_eq!(rt; source.len(), 12);
+    let mut bits = Bits::new(alloc);
+    bits.push_range(&source, 2, 10)?;
+    assert_eq!(rt; bits.as_bytes(), [0xc3].as_slice());
+    assert_eq!(rt; bits.len(), 8);
+    bits.push_bit(true)?;
+    assert_eq!(rt; bits.as_bytes(), [0xc3, 0x80].as_slice());
+    assert_eq!(rt; bits.len(), 9);
+    Ok(())
+}
+
+// The bits `start` to `stop - 1` of 12 34 56 78 behind the first `count` bits of `old`.
+fn added(
+    rt: &impl Abort,
+    alloc: Global,
+    old: &[u8],
+    count: usize,
+    start: usize,
+    stop: usize,
+) -> Result<Bits, Fail> {
+    let source = Bits::from_packed(alloc, &[0x12, 0x34, 0x56, 0x78], 32)?;
+    assert!(rt; start <= stop && stop <= source.len() && count < 64);
+    let mut bits = Bits::from_packed(alloc, old, count)?;
+    assert_eq!(rt; bits.len(), count);
+    bits.push_range(&source, start, stop)?;
+    Ok(bits)
+}
+
+#[test]
+fn adds_ranges_at_every_kind_of_place(rt: HostRuntime) -> Result<(), Fail> {
+    let alloc = rt.alloc();
+    let whole = added(&rt, alloc, &[0xff], 8, 8, 24)?;
+    assert_eq!(rt; whole.as_bytes(), [0xff, 0x34, 0x56].as_slice());
+    let from_half = added(&rt, alloc, &[], 0, 4, 28)?;
+    assert_eq!(rt; from_half.as_bytes(), [0x23, 0x45, 0x67].as_slice());
+    let to_half = added(&rt, alloc, &[0xa0], 4, 0, 32)?;
+    assert_eq!(rt;
+        to_half.as_bytes(),
+        [0xa1, 0x23, 0x45, 0x67, 0x80].as_slice()
+    );
+    let both_half = added(&rt, alloc, &[0xa0], 4, 4, 28)?;
+    assert_eq!(rt; both_half.as_bytes(), [0xa2, 0x34, 0x56, 0x70].as_slice());
+    let apart = added(&rt, alloc, &[0xa0], 3, 5, 22)?;
+    assert_eq!(rt; apart.as_bytes(), [0xa8, 0xd1, 0x50].as_slice());
+    assert_eq!(rt; apart.len(), 20);
+    let in_byte = added(&rt, alloc, &[0x80], 1, 3, 5)?;
+    assert_eq!(rt; in_byte.as_bytes(), [0xc0].as_slice());
+    assert_eq!(rt; in_byte.len(), 3);
+    let none = added(&rt, alloc, &[0xa0], 3, 32, 32)?;
+    assert_eq!(rt; none.as_bytes(), [0xa0].as_slice());
+    assert_eq!(rt; none.len(), 3);
+    Ok(())
+}
+
+#[test]
+fn turns_bytes(rt: HostRuntime) -> Result<(), Fail> {
+    assert_eq!(rt; turn_byte(0x0f), 0xf0);
+    assert_eq!(rt; turn_byte(0x01), 0x80);
+    let mut bytes = [0x0f, 0x01, 0x35].to_vec(rt.alloc())?;
+    turn(bytes.as_mut_slice());
+    assert_eq!(rt; bytes.as_slice(), [0xf0, 0x80, 0xac].as_slice());
+    Ok(())
+}
+
+#[test]
+fn laces_what_it_took_apart(rt: HostRuntime) -> Result<(), Fail> {
+    let alloc = rt.alloc();
+    let channels = unlace_bytes(alloc, &[0xf0, 0x0f, 0xaa, 0x55], 2)?;
+    assert_eq!(rt; channels.len(), 2);
+    assert_eq!(rt; channels[0].as_bytes(), [0xf0, 0xaa].as_slice());
+    assert_eq!(rt; channels[1].as_bytes(), [0x0f, 0x55].as_slice());
+    assert_eq!(rt; channels[0].len(), 16);
+    assert_eq!(rt; channels[1].len(), 16);
+    let bytes = lace_bytes(alloc, &channels)?;
+    assert_eq!(rt; bytes.as_slice(), [0xf0, 0x0f, 0xaa, 0x55].as_slice());
+    Ok(())
+}
+
+#[test]
+fn hands_out_the_parts_of_a_recording(rt: HostRuntime) -> Result<(), Fail> {
+    let alloc = rt.alloc();
+    let channel = Bits::from_packed(alloc, &[0xf0, 0xff], 12)?;
+    let channels = vec![in alloc; channel]?;
+    let ids = vec![in alloc; *b"C000"]?;
+    let mark = Mark {
+        hours: 1,
+        minutes: 2,
+        seconds: 3,
+        samples: 4,
+        offset: -5,
+        kind: 0,
+        channel: 0,
+        flags: 0,
+        text: b"x".to_vec(alloc)?,
+    };
+    let marks = vec![in alloc; mark]?;
+    let other = Other {
+        place: Place::Form,
+        id: *b"COMT",
+        bytes: b"made by hand".to_vec(alloc)?,
+    };
+    let others = vec![in alloc; other]?;
+    let tag = b"ID3".to_vec(alloc)?;
+    let recording = Recording::new(2822400, channels, ids, 1, marks, others, tag);
+    assert_eq!(rt; recording.rate(), 2822400);
+    assert_eq!(rt; recording.channels().len(), 1);
+    assert_eq!(rt; recording.count(), 12);
+    assert_eq!(rt; recording.ids(), [*b"C000"].as_slice());
+    assert_eq!(rt; recording.layout(), 1);
+    assert_eq!(rt; recording.marks().len(), 1);
+    assert_eq!(rt; recording.marks()[0].text.as_slice(), b"x".as_slice());
+    assert_eq!(rt; recording.others().len(), 1);
+    assert_eq!(rt; recording.others()[0].id, *b"COMT");
+    assert_eq!(rt; recording.tag(), b"ID3".as_slice());
     Ok(())
 }

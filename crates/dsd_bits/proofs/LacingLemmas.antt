@@ -1,0 +1,79 @@
+-- Lemmas about laced sound bytes.
+use Rattle.std.proofs.Common.{◌≡◌, ℕ, ◌+◌, ◌-◌, ◌*◌, ◌/◌, ◌%◌, ◌<◌, ◌≤◌, Bool, false, eqb, List, [], map, length, get_or, slice_index, sym, ap, ◌∙◌, arith, mul_comm, mul_assoc, add-zero}
+use Rattle.std.proofs.lemmas.List.FromFn.{length-map-range_with_len, get_or-map-range_with_len}
+use Rattle.std.proofs.lemmas.List.{same_lists, ext_get_or}
+use Rattle.std.proofs.lemmas.Nat.{div-mul-add, mod-mul-add, mul-add-lt}
+use Rattle.std.specs.List.{range_with_len}
+use Rattle.std.specs.Int.{bit_at}
+use Rattle.dsd_bits.specs.Channels.{IsLevel, count_of}
+use Rattle.dsd_bits.specs.Packing.{unpacked, packed_byte, packed}
+use Rattle.dsd_bits.specs.Lacing.{AreLaced, laced_bit, unlaced, unlaced_all, frames_of, laced_byte, laced}
+use Rattle.dsd_bits.proofs.RoundTrip.{bit_of_byte}
+
+-- lists by a function of the place, equal place by place
+map_range_same : {X : Type 0} (n : ℕ) (f g : ℕ → X) → ((i : ℕ) → i < n → f i ≡ g i) → map f (range_with_len 0 n) ≡ map g (range_with_len 0 n)
+map_range_same n f g same =
+    same_lists _ _ (length-map-range_with_len f 0 n ∙ sym (length-map-range_with_len g 0 n)) (λ i d h.
+    let low : i < n = omega (arith, length-map-range_with_len f 0 n) in
+    get_or-map-range_with_len f 0 n i i d low (omega arith) ∙ same i low ∙ sym (get_or-map-range_with_len g 0 n i i d low (omega arith)))
+
+-- the bytes of one channel
+abbrev pub own_bytes : List ℕ → ℕ → ℕ → ℕ → List ℕ
+own_bytes bytes channels c frames = map (λ frame. slice_index bytes (frame * channels + c)) (range_with_len 0 frames)
+
+pub unpacked-own_bytes : (bytes : List ℕ) (channels c frames : ℕ) → unpacked (own_bytes bytes channels c frames) (8 * frames) ≡ map (laced_bit bytes channels c) (range_with_len 0 (8 * frames))
+unpacked-own_bytes bytes channels c frames = map_range_same (8 * frames) _ _ (λ i h.
+    ap (λ b. eqb (bit_at b (7 - i % 8)) 1) (get_or-map-range_with_len (λ frame. slice_index bytes (frame * channels + c)) 0 frames (i / 8) (i / 8) 0 (omega arith) (omega arith)))
+
+-- ---- channels of whole bytes
+module _ (channels : List (List Bool)) (level : IsLevel channels) (whole : count_of channels % 8 ≡ 0) (some : 1 ≤ length channels) where
+  pub channel_length : (c : ℕ) → c < length channels → length (get_or channels c []) ≡ 8 * frames_of channels
+  channel_length c in_list = omega (arith, level.same c [] in_list)
+
+  -- the byte of a channel at a frame
+  pub byte_is_laced : (frame c : ℕ) → frame < frames_of channels → c < length channels → slice_index (packed (get_or channels c [])) frame ≡ laced_byte channels (frame * length channels + c)
+  byte_is_laced frame c below in_list =
+      let n = length channels in
+      let size = channel_length c in_list in
+      let read = get_or-map-range_with_len (packed_byte (get_or channels c [])) 0 _ frame frame 0 (omega arith) (omega arith) in
+      read ∙ sym (ap (λ p. packed_byte (get_or channels p []) ((frame * n + c) / n)) (mod-mul-add frame n c in_list) ∙ ap (packed_byte (get_or channels c [])) (div-mul-add frame n c in_list))
+
+  length-laced : length (laced channels) ≡ frames_of channels * length channels
+  length-laced = length-map-range_with_len (laced_byte channels) 0 _
+
+  frames_again : length (laced channels) / length channels ≡ frames_of channels
+  frames_again = rw (length-laced, ← add-zero (frames_of channels * length channels)) (div-mul-add (frames_of channels) (length channels) 0 some)
+
+  -- a bit of channel c
+  bit_again : (c i : ℕ) → c < length channels → i < 8 * frames_of channels → laced_bit (laced channels) (length channels) c i ≡ get_or (get_or channels c []) i false
+  bit_again c i in_list below =
+      let n = length channels in
+      let frame : i / 8 < frames_of channels = omega arith in
+      let place : i / 8 * n + c < frames_of channels * n = omega (arith, mul-add-lt (i / 8) n c (frames_of channels) frame in_list, mul_comm n (frames_of channels)) in
+      let read = get_or-map-range_with_len (laced_byte channels) 0 (frames_of channels * n) (i / 8 * n + c) (i / 8 * n + c) 0 place (omega arith) in
+      ap (λ b. eqb (bit_at b (7 - i % 8)) 1) (read ∙ ap (λ p. packed_byte (get_or channels p []) ((i / 8 * n + c) / n)) (mod-mul-add (i / 8) n c in_list) ∙ ap (packed_byte (get_or channels c [])) (div-mul-add (i / 8) n c in_list)) ∙ bit_of_byte (get_or channels c []) i
+
+  -- each bit stands at its place
+  pub are_laced : AreLaced channels (laced channels)
+  are_laced = record {
+    size =
+        let e : 8 * frames_of channels ≡ count_of channels = omega arith in
+        ap (λ m. 8 * m) length-laced ∙ sym (mul_assoc 8 (frames_of channels) (length channels)) ∙ ap (λ m. m * length channels) e;
+    at = λ c i in_list below. bit_again c i in_list (omega arith);
+  }
+
+  channel_again : (c : ℕ) → c < length channels → unlaced (laced channels) (length channels) c ≡ get_or channels c []
+  channel_again c in_list =
+      let size = length-map-range_with_len (laced_bit (laced channels) (length channels) c) 0 (8 * (length (laced channels) / length channels)) ∙ ap (λ m. 8 * m) frames_again in
+      ext_get_or false _ _ (size ∙ sym (channel_length c in_list)) (λ i h.
+      let below : i < 8 * frames_of channels = omega arith in
+      let room : i < 8 * (length (laced channels) / length channels) = omega (arith, frames_again) in
+      get_or-map-range_with_len (laced_bit (laced channels) (length channels) c) 0 _ i i false room (omega arith) ∙ bit_again c i in_list below)
+
+  -- the law of lacing
+  pub unlaced_all-laced : unlaced_all (laced channels) (length channels) ≡ channels
+  unlaced_all-laced =
+      let size = length-map-range_with_len (unlaced (laced channels) (length channels)) 0 (length channels) in
+      ext_get_or [] _ _ size (λ c h.
+      let in_list : c < length channels = omega arith in
+      get_or-map-range_with_len (unlaced (laced channels) (length channels)) 0 (length channels) c c [] in_list (omega arith) ∙ channel_again c in_list)

@@ -1,0 +1,9 @@
+use Rattle.std.proofs.Common.{arith}
+use Rattle.dsd_bits.proofs.TurningLemmas.{is_turned}
+use Rattle.dsd_bits.proofs.turning.turn.Goals as goal
+
+pub returns-clause-bits : goal.returns-clause-bits
+returns-clause-bits c = record {
+  size = c.loop-k.invariant.size;
+  at = λ k h. is_turned _ _ (c.loop-k.invariant.done k (omega (arith, c.loop-k-test.false)));
+}

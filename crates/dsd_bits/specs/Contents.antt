@@ -1,0 +1,63 @@
+-- What a recording holds, as lists and numbers.
+use Rattle.std.specs.Prelude.{ℕ, ℤ, Bool, List, map}
+use Rattle.dsd_bits.specs.declared.marks.Mark.{Mark}
+use Rattle.dsd_bits.specs.declared.marks.Other.{Other}
+use Rattle.dsd_bits.specs.declared.marks.Place.{Place}
+
+-- a mark
+pub record MarkContent : Type 0 where
+  pub hours : ℕ
+  pub minutes : ℕ
+  pub seconds : ℕ
+  pub samples : ℕ
+  pub offset : ℤ
+  pub kind : ℕ
+  pub channel : ℕ
+  pub flags : ℕ
+  pub text : List ℕ
+
+-- a chunk that is kept as its bytes
+pub record OtherContent : Type 0 where
+  pub place : Place
+  pub id : List ℕ
+  pub bytes : List ℕ
+
+-- a recording
+pub record Content : Type 0 where
+  pub rate : ℕ
+  pub channels : List (List Bool)
+  pub ids : List (List ℕ)
+  pub layout : ℕ
+  pub marks : List MarkContent
+  pub others : List OtherContent
+  pub tag : List ℕ
+
+-- what a mark in memory holds
+abbrev pub mark_content : Mark → MarkContent
+mark_content m = record {
+  hours = m.hours;
+  minutes = m.minutes;
+  seconds = m.seconds;
+  samples = m.samples;
+  offset = m.offset;
+  kind = m.kind;
+  channel = m.channel;
+  flags = m.flags;
+  text = m.text.items;
+}
+
+-- what a kept chunk in memory holds
+abbrev pub other_content : Other → OtherContent
+other_content o = record { place = o.place; id = o.id; bytes = o.bytes.items }
+
+-- what the parts of a recording in memory hold
+abbrev pub content_of : ℕ → List (List Bool) → List (List ℕ) → ℕ → List Mark → List Other → List ℕ → Content
+content_of rate channels ids layout marks others tag = record {
+  rate = rate;
+  channels = channels;
+  ids = ids;
+  layout = layout;
+  marks = map mark_content marks;
+  others = map other_content others;
+  tag = tag;
+}

@@ -1,0 +1,31 @@
+//! Bytes with their bits in the other order, as DSF 1.01 stores them: the earliest bit the least
+//! significant.
+
+ghost use Rattle.std.specs.Prelude.{◌≡◌, map};
+ghost use Rattle.dsd_bits.specs.Turning.{AreTurned, IsTurned, turned};
+
+/// The bits of a byte in the other order: bit `i` of the result is bit `7 - i` of `byte`, bit 0 being
+/// the least significant.
+pub fn turn_byte(byte: u8) -> u8
+    ensures value { result ≡ turned byte }
+    ensures bits { IsTurned byte result }
+{
+    byte % 2 * 128
+        + byte / 2 % 2 * 64
+        + byte / 4 % 2 * 32
+        + byte / 8 % 2 * 16
+        + byte / 16 % 2 * 8
+        + byte / 32 % 2 * 4
+        + byte / 64 % 2 * 2
+        + byte / 128
+}
+
+/// Turns each byte as [`turn_byte`] does.
+pub fn turn(bytes: &mut [u8])
+    ensures values { bytes.new ≡ map turned bytes.old }
+    ensures bits { AreTurned bytes.old bytes.new }
+{
+    for k in 0..bytes.len() {
+        bytes[k] = turn_byte(bytes[k]);
+    }
+}

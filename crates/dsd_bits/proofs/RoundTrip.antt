@@ -1,11 +1,7 @@
 -- A list that is packed is read again, and bytes that are unpacked are packed again.
-use Rattle.std.proofs.Common.{◌≡◌, ℕ, zero, suc, ◌+◌, ◌-◌, ◌*◌, ◌/◌, ◌%◌, ◌^◌, ◌<◌, ◌≤◌, Bool, true, false, cond, eqb, List, length, slice_index, get_or, refl, sym, ap, ◌∙◌, inl, inr, arith, one-mul, zero-mul, add-zero}
-use Rattle.std.proofs.lemmas.List.FromFn.{length-map-range_with_len, get_or-map-range_with_len}
-use Rattle.std.proofs.lemmas.List.{get_or_past}
-use Rattle.std.proofs.lemmas.Bool.{cases_lt}
-use Rattle.std.specs.Int.{bit_at, div_ceil}
-use Rattle.dsd_bits.specs.Packing.{unpacked, IsTight, Holds, packed_byte, packed, bit_worth}
-use Rattle.dsd_bits.proofs.PackingLemmas.{past_end, packed-unpacked, unpacked_is}
+use Rattle.std.proofs.Common.{◌≡◌, ℕ, zero, suc, ◌+◌, ◌-◌, ◌*◌, ◌/◌, ◌%◌, ◌<◌, Bool, true, false, cond, eqb, List, get_or, refl, sym, ap, ◌∙◌, arith, one-mul, zero-mul, add-zero}
+use Rattle.std.specs.Int.{bit_at}
+use Rattle.dsd_bits.specs.Packing.{packed_byte, bit_worth}
 
 -- eight digits of base 2
 module _ (v : ℕ → ℕ) (small : (k : ℕ) → v k < 2) where
@@ -59,27 +55,3 @@ pub bit_of_byte : (xs : List Bool) (i : ℕ) → eqb (bit_at (packed_byte xs (i 
 bit_of_byte xs i =
     let e : 8 * (i / 8) + i % 8 ≡ i = omega arith in
     ap (λ (m : ℕ). eqb m 1) (digits xs (i / 8) (i % 8) (omega arith)) ∙ value_is_one (get_or xs (8 * (i / 8) + i % 8) false) ∙ ap (λ k. get_or xs k false) e
-
--- the packed form holds the list
-pub Holds-packed : (xs : List Bool) → Holds (packed xs) xs
-Holds-packed xs = record {
-  at = λ i.
-      let size = length-map-range_with_len (packed_byte xs) 0 (div_ceil (length xs) 8) in
-      elim (cases_lt (i / 8) (div_ceil (length xs) 8)) [
-        | inl low ↦ ap (λ b. eqb (bit_at b (7 - i % 8)) 1) (get_or-map-range_with_len (packed_byte xs) 0 (div_ceil (length xs) 8) (i / 8) (i / 8) 0 low (omega arith)) ∙ bit_of_byte xs i
-        | inr high ↦ past_end (packed xs) i (omega arith) ∙ sym (get_or_past xs i false (omega arith))
-      ];
-}
-
--- a list of whole bytes
-pub length-packed : (xs : List Bool) → length xs % 8 ≡ 0 → 8 * length (packed xs) ≡ length xs
-length-packed xs whole = omega (arith, length-map-range_with_len (packed_byte xs) 0 (div_ceil (length xs) 8))
-
-pub unpacked-packed : (xs : List Bool) → length xs % 8 ≡ 0 → unpacked (packed xs) (8 * length (packed xs)) ≡ xs
-unpacked-packed xs whole = unpacked_is (packed xs) (8 * length (packed xs)) xs (Holds-packed xs) (sym (length-packed xs whole))
-
--- all bits of the bytes
-pub packed-unpacked_all : (bytes : List ℕ) → ((j : ℕ) → slice_index bytes j < 256) → length bytes ≤ 2 ^ 33 → bytes ≡ packed (unpacked bytes (8 * length bytes))
-packed-unpacked_all bytes small limit =
-    let tight : IsTight bytes (8 * length bytes) = record { enough = omega arith; no_more = omega arith; in_limit = omega arith; spare = past_end bytes } in
-    packed-unpacked bytes (8 * length bytes) tight small

@@ -6,7 +6,6 @@ use Rattle.toml.specs.View.{view, items_view}
 use Rattle.toml.specs.declared.value.Value.{Value}
 use Rattle.toml.proofs.Views.{items_view-drop}
 use Rattle.dsdarc.specs.declared.fault.ProjectFault.{ProjectFault}
-use Rattle.dsdarc.specs.declared.fault.ProjectFault.TheVariants.{NotYet}
 use Rattle.dsdarc.specs.Tables.{◌>>=◌, each, list_of}
 
 -- what was read before, and what is still read
@@ -33,10 +32,6 @@ pub values_go_on : {B : Type 0} (f : Data → Result B ProjectFault) (front : Li
 values_go_on f front vs i v y total lt is h so_far =
     let one : values_left f front i vs ≡ values_left f (front ++ y ∷ []) (i + 1) vs = rw (items_view-drop vs i v lt, ← is, h) (regroup front y (each f (list_of (items_view (drop (i + 1) vs))))) in
     sym one ∙ so_far
-
-pub values_end : {B : Type 0} (f : Data → Result B ProjectFault) (front : List B) (vs : List Value) (i : ℕ) (v : Value) (total : Result (List B) ProjectFault) → i < length vs → v ≡ get_or vs i v → f (view v) ≡ Err NotYet
-    → values_left f front i vs ≡ total → total ≡ Err NotYet
-values_end f front vs i v total lt is h so_far = sym so_far ∙ rw (items_view-drop vs i v lt, ← is, h)
 
 pub values_done : {B : Type 0} (f : Data → Result B ProjectFault) (front : List B) (vs : List Value) (i : ℕ) (total : Result (List B) ProjectFault) → length vs ≤ i → values_left f front i vs ≡ total → total ≡ Ok front
 values_done {B = B} f front vs i total le so_far =

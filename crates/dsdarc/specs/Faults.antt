@@ -1,8 +1,8 @@
 -- Which fault of a call a fault of a lower call becomes.
 use Rattle.fir_core.specs.declared.fault.TapsFault.{TapsFault}
 use Rattle.fir_core.specs.declared.fault.TapsFault.TheVariants as taps
-use Rattle.dsd_bits.specs.declared.fault.BitsFault.{BitsFault}
-use Rattle.dsd_bits.specs.declared.fault.BitsFault.TheVariants as bits
+use Rattle.dsdiff_core.specs.declared.fault.DsdiffFault.{DsdiffFault}
+use Rattle.dsdiff_core.specs.declared.fault.DsdiffFault.TheVariants as dsdiff
 use Rattle.dsdarc.specs.declared.fault.ProjectFault.{ProjectFault}
 use Rattle.dsdarc.specs.declared.fault.ProjectFault.TheVariants as project
 use Rattle.dsdarc.specs.declared.fault.ReadFault.{ReadFault}
@@ -17,10 +17,11 @@ abbrev pub limit_fault : TapsFault → ProjectFault
 limit_fault taps.Memory = project.Memory
 limit_fault _ = project.NotYet
 
--- of a file's sound
-abbrev pub file_fault : BitsFault → ReadFault
-file_fault bits.TooFewBytes = read.NotYet
-file_fault bits.Memory = read.Memory
+-- of a DSDIFF file: one that isn't a DSDIFF file has no form that is known
+abbrev pub file_fault : DsdiffFault → ReadFault
+file_fault dsdiff.NotDsdiff = read.UnknownForm
+file_fault dsdiff.Memory = read.Memory
+file_fault fault = read.Dsdiff fault
 
 -- of a project in playing
 abbrev pub play_fault_of_project : ProjectFault → Fault
@@ -29,8 +30,8 @@ play_fault_of_project project.Memory = Memory
 
 -- of a file in playing
 abbrev pub play_fault_of_file : ReadFault → Fault
-play_fault_of_file read.NotYet = FileUnread read.NotYet
 play_fault_of_file read.Memory = Memory
+play_fault_of_file fault = FileUnread fault
 
 -- of the WAVE text in playing
 abbrev pub play_fault_of_wave : WaveFault → Fault

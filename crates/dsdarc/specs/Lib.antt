@@ -1,6 +1,7 @@
-pub mod Dsdiff
 pub mod Faults
+pub mod Frames
 pub mod Keys
+pub mod Opening
 pub mod Outcomes
 pub mod Playing
 pub mod Projects

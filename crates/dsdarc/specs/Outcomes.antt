@@ -2,9 +2,9 @@
 use Rattle.std.specs.Prelude.{◌≡◌, ℕ, List, ◌++◌, codes}
 use Rattle.std.specs.Fmt.{decimal}
 use Rattle.dsdarc.specs.declared.outcome.Outcome.{Outcome}
-use Rattle.dsdarc.specs.declared.outcome.Outcome.TheVariants.{Played, Fault, ReadFailed, WriteFailed, WrongWords}
+use Rattle.dsdarc.specs.declared.outcome.Outcome.TheVariants.{Played, Info, Fault, ReadFailed, WriteFailed, WrongWords}
 
--- the line of a file that was played names its bytes; of a fault's text nothing is said
+-- the line of a file that was played names its bytes; of other texts nothing is said
 abbrev pub ShowsPlayed : Outcome → List ℕ → Type 0
 ShowsPlayed (Played n) line = line ≡ codes "played " ++ decimal n ++ codes " bytes"
 ShowsPlayed _ line = Unit {0}
@@ -12,6 +12,7 @@ ShowsPlayed _ line = Unit {0}
 -- done: 0; a fault: 2; words that are no command: 3
 abbrev pub status_of : Outcome → ℕ
 status_of (Played n) = 0
+status_of (Info recording) = 0
 status_of (Fault f) = 2
 status_of ReadFailed = 2
 status_of WriteFailed = 2

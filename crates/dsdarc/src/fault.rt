@@ -7,7 +7,7 @@ ghost use Rattle.dsdarc.specs.declared.fault.ProjectFault.TheVariants as project
 ghost use Rattle.dsdarc.specs.declared.fault.ReadFault.TheVariants as read;
 ghost use Rattle.dsdarc.specs.declared.fault.WaveFault.TheVariants as wave;
 
-use dsd_bits::BitsFault;
+use dsdiff_core::DsdiffFault;
 use fir_core::TapsFault;
 use std::alloc::{AllocError, AllocFailed};
 use thiserror::Error;
@@ -54,22 +54,25 @@ impl From<TapsFault> for ProjectFault {
 /// Why a file is not read as a recording.
 #[derive(Clone, Copy, Debug, PartialEq, Eq, Error)]
 pub enum ReadFault {
-    /// The file isn't one of those that are read so far: the DSDIFF text, as this program writes it,
-    /// of one channel with the ID `C000` and with no markers or other chunks.
-    #[error("NotYet")]
-    NotYet,
+    /// The file has none of the forms that are read: it is no DSDIFF file.
+    #[error("UnknownForm")]
+    UnknownForm,
+    /// The file is a DSDIFF file that holds no recording that can be read.
+    #[error("Dsdiff {0}")]
+    Dsdiff(DsdiffFault),
     /// Want of memory.
     #[error("Memory")]
     Memory,
 }
 
-impl From<BitsFault> for ReadFault {
+impl From<DsdiffFault> for ReadFault {
     ghost from_gives = { λ f e. e ≡ file_fault f };
 
-    fn from(fault: BitsFault) -> ReadFault {
+    fn from(fault: DsdiffFault) -> ReadFault {
         match fault {
-            BitsFault::TooFewBytes => ReadFault::NotYet,
-            BitsFault::Memory => ReadFault::Memory,
+            DsdiffFault::NotDsdiff => ReadFault::UnknownForm,
+            DsdiffFault::Memory => ReadFault::Memory,
+            fault => ReadFault::Dsdiff(fault),
         }
     }
 }
@@ -139,7 +142,7 @@ impl From<ReadFault> for Fault {
     fn from(fault: ReadFault) -> Fault {
         match fault {
             ReadFault::Memory => Fault::Memory,
-            ReadFault::NotYet => Fault::FileUnread(ReadFault::NotYet),
+            fault => Fault::FileUnread(fault),
         }
     }
 }

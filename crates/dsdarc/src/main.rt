@@ -1,20 +1,22 @@
-//! The program `dsdarc`: `play PROJECT IN OUT` plays a one-bit recording to a RIFF WAVE file.
+//! The program `dsdarc`: `play PROJECT IN OUT` plays a one-bit recording to a RIFF WAVE file, and
+//! `info FILE` tells what a recording's file holds.
 //!
-//! The work is [`player::play`], over the bytes of a project and of a file; `words` reads the command
-//! line, `run` the files, and `outcome` says what is printed and with which status the program ends.
+//! The work is [`player::play`] and [`opening::open`], over the bytes of a project and of a file; `words`
+//! reads the command line, `run` the files, and `outcome` says what is printed and with which status the
+//! program ends.
 //!
 //! The words of its contracts: `Plays project file bytes` says that these bytes are the WAVE text of
 //! the file's recording, decimated as the project says, and `StandsFirst project file fault` that this
 //! is the first fault of the order.
 #![tactic(auto)]
 
-mod dsdiff;
 mod fault;
+mod info;
 mod key;
+mod opening;
 mod outcome;
 mod player;
 mod project;
-mod recording;
 mod run;
 mod table;
 #[cfg(test)]
@@ -46,7 +48,7 @@ fn given_words(rt: &HostRuntime) -> io::Result<Vec<String>> {
 fn print(rt: &HostRuntime, outcome: &Outcome) -> io::Result<()> {
     let line = outcome_line(rt.alloc(), outcome)?;
     match outcome {
-        Outcome::Played(_) => println!(rt; "{line}"),
+        Outcome::Played(_) | Outcome::Info(_) => println!(rt; "{line}"),
         _ => eprintln!(rt; "{line}"),
     }
 }

@@ -5,13 +5,17 @@ ghost use Rattle.dsdarc.specs.Outcomes.{ShowsPlayed, status_of};
 ghost use Rattle.dsdarc.specs.declared.outcome.Outcome.TheVariants as outcomes;
 
 use crate::fault::Fault;
+use crate::info::info_lines;
+use dsd_bits::Recording;
 use std::alloc::{AllocError, Global};
 
 /// What a command came to.
-#[derive(Clone, Copy, Debug, PartialEq, Eq)]
+#[derive(Drop)]
 pub enum Outcome {
     /// A file was played; its WAVE file has so many bytes.
     Played(u64),
+    /// A file was read, and its recording is told of.
+    Info(Recording),
     /// The call was refused.
     Fault(Fault),
     /// A file could not be opened or read.
@@ -30,12 +34,14 @@ impl From<Fault> for Outcome {
     }
 }
 
-/// The line that is printed. It is refused only for want of memory.
+/// The line or lines that are printed, without the end of the last. It is refused only for want of
+/// memory.
 pub fn outcome_line(alloc: Global, outcome: &Outcome) -> Result<String, AllocError>
     ensures { IfOk result (λ line. ShowsPlayed outcome.now (string_bytes line)) }
 {
     match outcome {
         Outcome::Played(count) => format!(in alloc; "played {count} bytes"),
+        Outcome::Info(recording) => info_lines(alloc, recording),
         Outcome::Fault(fault) => format!(in alloc; "fault: {fault}"),
         Outcome::ReadFailed => format!(in alloc; "fault: ReadFailed"),
         Outcome::WriteFailed => format!(in alloc; "fault: WriteFailed"),
@@ -49,7 +55,7 @@ pub fn status(outcome: &Outcome) -> u8
     ensures { result ≡ status_of outcome.now }
 {
     match outcome {
-        Outcome::Played(_) => 0,
+        Outcome::Played(_) | Outcome::Info(_) => 0,
         Outcome::Fault(_) | Outcome::ReadFailed | Outcome::WriteFailed => 2,
         Outcome::WrongWords => 3,
     }

@@ -1,27 +1,48 @@
 //! Commands over files.
 
 use crate::fault::Fault;
+use crate::opening::open;
 use crate::outcome::Outcome;
 use crate::player::play;
-use crate::words::{PlayWords, play_words};
+use crate::words::{Task, task_of};
 use std::rt::Files;
 use std::{fs, io};
 
 /// Does the command that the words ask for, the program's name first.
 pub fn run<R: Files + AllocGlobal>(rt: &R, words: &[String]) -> Outcome {
-    match play_words(rt.alloc(), words) {
-        Ok(names) => play_files(rt, names).unwrap_or_else(|outcome| outcome),
-        Err(outcome) => outcome,
-    }
+    let done = match task_of(rt.alloc(), words) {
+        Ok(
+            Task::Play {
+                project,
+                input,
+                output,
+            },
+        ) => play_files(rt, project, input, output),
+        Ok(Task::Info { file }) => info_file(rt, file),
+        Err(outcome) => Err(outcome),
+    };
+    done.unwrap_or_else(|outcome| outcome)
 }
 
 // Reads the project, then the recording, plays it and only then creates the WAVE file.
-fn play_files<R: Files + AllocGlobal>(rt: &R, names: PlayWords<'_>) -> Result<Outcome, Outcome> {
-    let project = read_whole(rt, names.project)?;
-    let input = read_whole(rt, names.input)?;
+fn play_files<R: Files + AllocGlobal>(
+    rt: &R,
+    project: &str,
+    input: &str,
+    output: &str,
+) -> Result<Outcome, Outcome> {
+    let project = read_whole(rt, project)?;
+    let input = read_whole(rt, input)?;
     let wave = play(rt.alloc(), &project, &input)?;
-    fs::write(rt, names.output, wave.as_slice()).map_err(|e| failed(&e, Outcome::WriteFailed))?;
+    fs::write(rt, output, wave.as_slice()).map_err(|e| failed(&e, Outcome::WriteFailed))?;
     Ok(Outcome::Played(wave.len() as u64))
+}
+
+// Reads a file and the recording in it.
+fn info_file<R: Files + AllocGlobal>(rt: &R, file: &str) -> Result<Outcome, Outcome> {
+    let bytes = read_whole(rt, file)?;
+    let recording = open(rt.alloc(), &bytes).map_err(Fault::from)?;
+    Ok(Outcome::Info(recording))
 }
 
 // A file opened and read to its end.

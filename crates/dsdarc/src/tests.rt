@@ -1,9 +1,11 @@
 //! Small files played, the fault that comes first, and what is printed.
 
 use crate::fault::{Fault, ProjectFault, ReadFault};
+use crate::opening::open;
 use crate::outcome::{Outcome, outcome_line, status};
 use crate::player::play;
-use crate::words::play_words;
+use crate::words::{Task, task_of};
+use chunk_core::{Order, push_chunk, push_u64};
 use std::alloc::{AllocError, Global};
 use std::test::Fail;
 
@@ -79,8 +81,81 @@ fn plays_no_sound(rt: HostRuntime) -> Result<(), Fail> {
     Ok(())
 }
 
+// The chunks of a property at 2,822,400 Hz, of one channel and of two.
+const RATE: [u8; 16] = *b"FS  \0\0\0\0\0\0\0\x04\x00\x2b\x11\x00";
+
+const MONO: [u8; 18] = *b"CHNL\0\0\0\0\0\0\0\x06\0\x01C000";
+
+const STEREO: [u8; 22] = *b"CHNL\0\0\0\0\0\0\0\x0a\0\x02SLFTSRGT";
+
+const RAW: [u8; 32] = *b"CMPR\0\0\0\0\0\0\0\x13DSD \x0enot compressed\0";
+
+// A file with these chunks in its property, this sound, and what follows it.
+fn file_of(
+    alloc: Global,
+    parts: &[&[u8]],
+    sound: &[u8],
+    rest: &[u8],
+) -> Result<Vec<u8>, AllocError> {
+    let mut property = Vec::new(alloc);
+    property.extend_from_slice(b"SND ")?;
+    for part in parts {
+        property.extend_from_slice(part)?;
+    }
+    let mut body = Vec::new(alloc);
+    push_chunk(&mut body, *b"FVER", &[1, 5, 0, 0])?;
+    push_chunk(&mut body, *b"PROP", &property)?;
+    push_chunk(&mut body, *b"DSD ", sound)?;
+    body.extend_from_slice(rest)?;
+    let mut file = Vec::new(alloc);
+    file.extend_from_slice(b"FRM8")?;
+    push_u64(&mut file, Order::Big, (body.len() as u64).saturating_add(4))?;
+    file.extend_from_slice(b"DSD ")?;
+    file.extend_from_slice(&body)?;
+    Ok(file)
+}
+
+// A `DIIN` chunk with a mark of so many zero bytes.
+fn marked(alloc: Global, size: usize) -> Result<Vec<u8>, AllocError> {
+    let fields = vec![in alloc; 0; size]?;
+    let mut mark = Vec::new(alloc);
+    push_chunk(&mut mark, *b"MARK", &fields)?;
+    let mut master = Vec::new(alloc);
+    push_chunk(&mut master, *b"DIIN", &mark)?;
+    Ok(master)
+}
+
 #[test]
-fn names_the_first_fault(rt: HostRuntime) -> Result<(), Fail> {
+fn plays_two_channels(rt: HostRuntime) -> Result<(), Fail> {
+    let alloc = rt.alloc();
+    let file = file_of(alloc, &[&RATE, &STEREO, &RAW], &[0xf0, 0x0f], &[])?;
+    assert_eq!(rt; file.len(), 132);
+    let made = play(alloc, PROJECT.as_bytes(), &file)?;
+    let wave = [
+        0x52, 0x49, 0x46, 0x46, 0x28, 0, 0, 0, 0x57, 0x41, 0x56, 0x45, 0x66, 0x6d, 0x74, 0x20,
+        0x10, 0, 0, 0, 1, 0, 2, 0, 0x20, 0x62, 5, 0, 0x80, 0x88, 0x15, 0, 4, 0, 0x10, 0, 0x64,
+        0x61, 0x74, 0x61, 4, 0, 0, 0, 0x0a, 0, 0xf6, 0xff,
+    ];
+    assert_eq!(rt; made.as_slice(), wave.as_slice());
+    Ok(())
+}
+
+#[test]
+fn plays_files_of_usual_writers(rt: HostRuntime) -> Result<(), Fail> {
+    let alloc = rt.alloc();
+    let mut long_name = FILE;
+    long_name[93] = 20;
+    let mut followed = Vec::from_slice(alloc, &FILE)?;
+    followed.extend_from_slice(&[1, 2, 3, 4, 5])?;
+    for file in [long_name.as_slice(), &FILE[..127], &followed] {
+        let made = play(alloc, PROJECT.as_bytes(), file)?;
+        assert_eq!(rt; made.as_slice(), WAVE.as_slice());
+    }
+    Ok(())
+}
+
+#[test]
+fn names_the_first_project_fault(rt: HostRuntime) -> Result<(), Fail> {
     let alloc = rt.alloc();
     let wide = project(alloc, "[1, 2, 3, 4]", (8, 3, 0, 24))?;
     let slow = project(alloc, "[1, 2, 3, 4]", (1024, 3, 0, 16))?;
@@ -88,12 +163,14 @@ fn names_the_first_fault(rt: HostRuntime) -> Result<(), Fail> {
     let texts = project(alloc, "[\"a\"]", (8, 3, 0, 16))?;
     let whole = FILE.as_slice();
     let project_fault = Fault::Project(ProjectFault::NotYet);
-    let file_fault = Fault::FileUnread(ReadFault::NotYet);
     let cases = [
-        (PROJECT.as_bytes(), &FILE[..127], file_fault),
         (wide.as_bytes(), whole, project_fault),
         (slow.as_bytes(), whole, Fault::RateNotDivided),
-        (slow.as_bytes(), &[], file_fault),
+        (
+            slow.as_bytes(),
+            &[],
+            Fault::FileUnread(ReadFault::UnknownForm),
+        ),
         (odd.as_bytes(), whole, project_fault),
         (texts.as_bytes(), whole, project_fault),
         (&[], &[], project_fault),
@@ -107,6 +184,58 @@ fn names_the_first_fault(rt: HostRuntime) -> Result<(), Fail> {
 }
 
 #[test]
+fn names_the_first_file_fault(rt: HostRuntime) -> Result<(), Fail> {
+    let alloc = rt.alloc();
+    let mut long_sound = FILE;
+    long_sound[125] = 100;
+    let mut packed = FILE;
+    packed[96] = b'T';
+    let twice = file_of(alloc, &[&RATE, &RATE, &MONO, &RAW], &[0xf0], &[])?;
+    let mark = marked(alloc, 21)?;
+    let cut_mark = file_of(alloc, &[&RATE, &MONO, &RAW], &[0xf0], &mark)?;
+    let cases = [
+        (&FILE[..126], "fault: FileUnread Dsdiff FormCut"),
+        (&FILE[..15], "fault: FileUnread UnknownForm"),
+        (&long_sound, "fault: FileUnread Dsdiff Chunk DataCut 114"),
+        (&packed, "fault: FileUnread Dsdiff Compressed"),
+        (&twice, "fault: FileUnread Dsdiff Twice 46532020"),
+        (&cut_mark, "fault: FileUnread Dsdiff BadMark"),
+    ];
+    for (file, text) in cases {
+        let refused = play(alloc, PROJECT.as_bytes(), file)
+            .err()
+            .ok_or("a fault")?;
+        let line = outcome_line(alloc, &Outcome::Fault(refused))?;
+        assert_eq!(rt; line.as_str(), text);
+    }
+    Ok(())
+}
+
+#[test]
+fn tells_of_a_file(rt: HostRuntime) -> Result<(), Fail> {
+    let alloc = rt.alloc();
+    let mark = marked(alloc, 22)?;
+    let file = file_of(alloc, &[&RATE, &MONO, &RAW], &[0xf0], &mark)?;
+    assert_eq!(rt; file.get(11).copied(), Some(162));
+    let cases = [
+        (
+            FILE.as_slice(),
+            "form dsdiff\nrate 2822400\nchannels 1\nsamples 8\nids 43303030\nlayout 1\nmarks 0\nothers 0\ntag 0",
+        ),
+        (
+            &file,
+            "form dsdiff\nrate 2822400\nchannels 1\nsamples 8\nids 43303030\nlayout 1\nmarks 1\nmark 0 type 0 channel 0\nothers 0\ntag 0",
+        ),
+    ];
+    for (file, text) in cases {
+        let outcome = Outcome::Info(open(alloc, file)?);
+        assert_eq!(rt; status(&outcome), 0);
+        assert_eq!(rt; outcome_line(alloc, &outcome)?.as_str(), text);
+    }
+    Ok(())
+}
+
+#[test]
 fn prints_outcomes(rt: HostRuntime) -> Result<(), Fail> {
     let alloc = rt.alloc();
     let cases = [
@@ -115,11 +244,6 @@ fn prints_outcomes(rt: HostRuntime) -> Result<(), Fail> {
             Outcome::Fault(Fault::Project(ProjectFault::NotYet)),
             2,
             "fault: Project NotYet",
-        ),
-        (
-            Outcome::Fault(Fault::FileUnread(ReadFault::NotYet)),
-            2,
-            "fault: FileUnread NotYet",
         ),
         (
             Outcome::Fault(Fault::RateNotDivided),
@@ -146,6 +270,7 @@ fn reads_words(rt: HostRuntime) -> Result<(), Fail> {
         ["dsdarc"].as_slice(),
         &["dsdarc", "--help"],
         &["dsdarc", "help"],
+        &["dsdarc", "info"],
         &["dsdarc", "play", "p.toml", "in.dff"],
         &["dsdarc", "play", "p.toml", "in.dff", "out.wav", "more"],
         &["dsdarc", "record", "p.toml", "in.dff", "out.wav"],
@@ -153,14 +278,26 @@ fn reads_words(rt: HostRuntime) -> Result<(), Fail> {
     ];
     for texts in wrong {
         let words = words_of(alloc, texts)?;
-        let outcome = play_words(alloc, words.as_slice()).err();
-        assert_eq!(rt; outcome, Some(Outcome::WrongWords), "{texts:?}");
+        let refused = task_of(alloc, words.as_slice()).err().ok_or("refused")?;
+        assert_eq!(rt; status(&refused), 3, "{texts:?}");
     }
-    let words = words_of(alloc, &["dsdarc", "play", "--", "-p", "in.dff", "out.wav"])?;
-    let named = play_words(alloc, words.as_slice()).ok().ok_or("a command")?;
-    assert_eq!(rt; named.project, "-p");
-    assert_eq!(rt; named.input, "in.dff");
-    assert_eq!(rt; named.output, "out.wav");
+    let play = words_of(alloc, &["dsdarc", "play", "p.toml", "in.dff", "out.wav"])?;
+    let info = words_of(alloc, &["dsdarc", "info", "--", "-x"])?;
+    let tasks = [
+        (
+            play,
+            Task::Play {
+                project: "p.toml",
+                input: "in.dff",
+                output: "out.wav",
+            },
+        ),
+        (info, Task::Info { file: "-x" }),
+    ];
+    for (words, task) in tasks {
+        let found = task_of(alloc, words.as_slice()).ok().ok_or("a task")?;
+        assert!(rt; found == task);
+    }
     Ok(())
 }
 

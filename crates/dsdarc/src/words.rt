@@ -6,29 +6,44 @@ use clap::error::ErrorKind;
 use clap::{Arg, ArgAction, ArgMatches, Command, Error};
 use std::alloc::{AllocError, Global};
 
-/// The names of the files that `play PROJECT IN OUT` names.
-#[derive(Clone, Copy, Debug)]
-pub struct PlayWords<'a> {
-    pub project: &'a str,
-    pub input: &'a str,
-    pub output: &'a str,
+/// What a command line asks for, with the names of the files.
+#[derive(Clone, Copy, Debug, PartialEq, Eq)]
+pub enum Task<'a> {
+    /// `play PROJECT IN OUT`
+    Play {
+        project: &'a str,
+        input: &'a str,
+        output: &'a str,
+    },
+    /// `info FILE`
+    Info {
+        file: &'a str,
+    },
 }
 
 /// What the words ask for, the program's name first. Other words than those of a command are
 /// `WrongWords`.
-pub fn play_words<'a>(alloc: Global, words: &'a [String]) -> Result<PlayWords<'a>, Outcome> {
+pub fn task_of<'a>(alloc: Global, words: &'a [String]) -> Result<Task<'a>, Outcome> {
     let matches = match matches_of(alloc, words) {
         Ok(matches) => matches,
         Err(error) if error.kind() == ErrorKind::OutOfMemory => return Err(Fault::Memory.into()),
         Err(_) => return Err(Outcome::WrongWords),
     };
-    let play = matches
-        .subcommand_matches("play")
-        .ok_or(Outcome::WrongWords)?;
-    Ok(PlayWords {
-        project: play.get_str("PROJECT").ok_or(Outcome::WrongWords)?,
-        input: play.get_str("IN").ok_or(Outcome::WrongWords)?,
-        output: play.get_str("OUT").ok_or(Outcome::WrongWords)?,
+    named_task(&matches).ok_or(Outcome::WrongWords)
+}
+
+// The command that was matched, with its names.
+fn named_task<'a>(matches: &ArgMatches<'a>) -> Option<Task<'a>> {
+    if let Some(play) = matches.subcommand_matches("play") {
+        return Some(Task::Play {
+            project: play.get_str("PROJECT")?,
+            input: play.get_str("IN")?,
+            output: play.get_str("OUT")?,
+        });
+    }
+    let info = matches.subcommand_matches("info")?;
+    Some(Task::Info {
+        file: info.get_str("FILE")?,
     })
 }
 
@@ -42,9 +57,11 @@ fn command<'a>(alloc: Global) -> Result<Command<'a>, AllocError> {
         .arg(positional(alloc, "PROJECT"))?
         .arg(positional(alloc, "IN"))?
         .arg(positional(alloc, "OUT"))?;
+    let info = Command::new(alloc, "info").arg(positional(alloc, "FILE"))?;
     Command::new(alloc, "dsdarc")
         .subcommand_required(true)
-        .subcommand(play)
+        .subcommand(play)?
+        .subcommand(info)
 }
 
 fn positional<'a>(alloc: Global, id: &'a str) -> Arg<'a> {

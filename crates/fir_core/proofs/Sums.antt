@@ -1,6 +1,6 @@
 -- Lemmas about sums of taps.
-use Rattle.std.proofs.Common.{◌≡◌, ℕ, suc, ◌+◌, ◌-◌, ◌<◌, ◌≤◌, ◌^◌, ℤ, pos, negsuc, ◌+ℤ◌, ◌-ℤ◌, ◌*ℤ◌, neg_ℤ, unsigned_abs, Bool, true, false, List, map, length, get_or, sum_by, refl, ap, ◌∙◌, inl, inr, arith, add-one, mul-one, mul-le-mul_left, FitsSigned, to_z, of_z, w32}
-use Rattle.std.proofs.lemmas.Int.{ints, unsigned_abs-mul, fits_signed_from_abs, to_z-of_z}
+use Rattle.std.proofs.Common.{◌≡◌, ℕ, ◌+◌, ◌<◌, ◌≤◌, ◌^◌, ℤ, pos, negsuc, ◌+ℤ◌, ◌-ℤ◌, ◌*ℤ◌, unsigned_abs, Bool, true, false, List, map, length, get_or, sum_by, refl, ap, ◌∙◌, inl, inr, arith, add-one, mul-one, mul-le-mul_left, FitsSigned, to_z, of_z, w32}
+use Rattle.std.proofs.lemmas.Int.{unsigned_abs-mul, fits_signed_from_abs, to_z-of_z}
 use Rattle.std.proofs.lemmas.List.{get_or-map, get_or_past, length-map}
 use Rattle.std.proofs.lemmas.List.Sums.{get_or-le-sum_by, sum_by-take-le}
 use Rattle.std.proofs.lemmas.Bool.{cases_lt}
@@ -11,30 +11,6 @@ use Rattle.fir_core.specs.Convolution.{signal}
 -- a term of the sum
 abbrev pub term : List ℤ → List Bool → ℕ → ℕ → ℤ
 term h bits n k = get_or h k (pos 0) *ℤ signal bits (pos n -ℤ pos k)
-
-minus_below : (n k : ℕ) → k ≤ n → pos n -ℤ pos k ≡ pos (n - k)
-minus_below n k h = omega (arith, ints)
-
-minus_above : (n k : ℕ) → n < k → pos n -ℤ pos k ≡ negsuc (k - n - 1)
-minus_above n k h = omega (arith, ints)
-
--- the signal in the recording, before it and after it
-pub signal_inside : (bits : List Bool) (n k : ℕ) → k ≤ n → n - k < length bits → signal bits (pos n -ℤ pos k) ≡ sign (get_or bits (n - k) false)
-signal_inside bits n k h below = ap (signal bits) (minus_below n k h) ∙ get_or-map sign bits (n - k) false (pos 0) below
-
-pub signal_before : (bits : List Bool) (n k : ℕ) → n < k → signal bits (pos n -ℤ pos k) ≡ pos 0
-signal_before bits n k h = ap (signal bits) (minus_above n k h)
-
-pub signal_after : (bits : List Bool) (n k : ℕ) → k ≤ n → length bits ≤ n - k → signal bits (pos n -ℤ pos k) ≡ pos 0
-signal_after bits n k h past = ap (signal bits) (minus_below n k h) ∙ get_or_past (map sign bits) (n - k) (pos 0) (omega (arith, length-map bits sign))
-
-pub times_one : (z : ℤ) → z *ℤ sign true ≡ z
-times_one (pos n) = ap pos (mul-one n)
-times_one (negsuc n) = ap (λ m. neg_ℤ (pos m)) (mul-one (suc n))
-
-pub times_minus_one : (z : ℤ) → z *ℤ sign false ≡ neg_ℤ z
-times_minus_one (pos n) = ap (λ m. neg_ℤ (pos m)) (mul-one n)
-times_minus_one (negsuc n) = ap pos (mul-one (suc n))
 
 abs_sign : (b : Bool) → unsigned_abs (sign b) ≡ 1
 abs_sign true = refl

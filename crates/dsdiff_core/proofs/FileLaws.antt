@@ -1,0 +1,293 @@
+-- Reading in order, and what a file is.
+use Rattle.std.proofs.Common.{◌≡◌, ℕ, ◌+◌, ◌-◌, ◌*◌, ◌/◌, ◌%◌, ◌^◌, ◌≤◌, Bool, true, List, [], ◌∷◌, ◌++◌, Some, length, map, take, drop, Result, Ok, refl, sym, ap, subst, ◌∙◌, arith}
+use Rattle.std.specs.Prelude.{All, filter, find, slice_range}
+use Rattle.std.proofs.lemmas.List.FromFn.{length-map-range_with_len}
+use Rattle.byteorder.specs.Endian.{big_number}
+use Rattle.chunk_core.specs.declared.layout.Span.{Span}
+use Rattle.chunk_core.specs.Chunks.{Chunk, chunks}
+use Rattle.chunk_core.specs.Places.{places, span_chunk}
+use Rattle.chunk_core.proofs.PlaceLaws.{spans_found, spans_again}
+use Rattle.chunk_core.proofs.Ranges.{range_after}
+use Rattle.chunk_core.proofs.Steps.{bind_then}
+use Rattle.dsd_bits.specs.declared.marks.Place.TheVariants.{Property, Master, Form}
+use Rattle.dsd_bits.specs.Contents.{Content}
+use Rattle.dsd_bits.specs.Ids.{FVER, FS, CHNL, CMPR, DSD, MARK}
+use Rattle.dsd_bits.specs.Lacing.{unlaced_all}
+use Rattle.dsd_bits.specs.Layouts.{usual_layout}
+use Rattle.dsdiff_core.specs.declared.fault.DsdiffFault.{DsdiffFault}
+use Rattle.dsdiff_core.specs.Fields.{form_end, ids_in}
+use Rattle.dsdiff_core.specs.Files.{IsDsdiff, joined}
+use Rattle.dsdiff_core.specs.Forms.{top_of}
+use Rattle.dsdiff_core.specs.Kinds.{has_id, is_property}
+use Rattle.dsdiff_core.specs.Marks.{IsWholeMark, mark_in}
+use Rattle.dsdiff_core.specs.Masters.{masters_of}
+use Rattle.dsdiff_core.specs.Others.{kept}
+use Rattle.dsdiff_core.specs.Properties.{Told, property_of}
+use Rattle.dsdiff_core.specs.Reading.{marks_of, others_of, recording_of}
+use Rattle.dsdiff_core.specs.Sounds.{sound_leads, sound_of}
+use Rattle.dsdiff_core.specs.Spans.{data_with, holds_property, span_has}
+use Rattle.dsdiff_core.proofs.FormLaws.{IsTop, top_ok, top_again}
+use Rattle.dsdiff_core.proofs.KindLaws.{filter_chunks, leads_again, order_again, order_ok, passes}
+use Rattle.dsdiff_core.proofs.MarkLaws.{none_cut_again, whole_marks}
+use Rattle.dsdiff_core.proofs.MasterLaws.{masters_again, masters_ok}
+use Rattle.dsdiff_core.proofs.OnceLaws.{AtMostOne, is_found, only_one}
+use Rattle.dsdiff_core.proofs.PropertyLaws.{IsProperty, IsTold, data_ok, property_again, property_ok, told_by}
+use Rattle.dsdiff_core.proofs.SoundLaws.{IsSound, sound_again, sound_ok}
+
+-- the recording that the four parts of reading make
+abbrev made_of : List ℕ → List Span → Told → List ℕ → List Span → Content
+made_of file top told sound inner = record {
+  rate = told.rate;
+  channels = unlaced_all sound (length told.ids);
+  ids = told.ids;
+  layout = usual_layout (length told.ids);
+  marks = marks_of file inner;
+  others = others_of file told.parts inner top;
+  tag = [];
+}
+
+-- the parts of reading, each with its value
+pub record Parts (file : List ℕ) (r : Content) : Type 0 where
+  pub top : List Span
+  pub at_top : top_of file ≡ Ok top
+  pub told : Told
+  pub at_told : property_of file top ≡ Ok told
+  pub sound : List ℕ
+  pub at_sound : sound_of (sound_leads (map (span_chunk file) top)) (data_with file DSD top) (length told.ids) ≡ Ok sound
+  pub inner : List Span
+  pub at_inner : masters_of file top ≡ Ok inner
+  pub made : made_of file top told sound inner ≡ r
+
+abbrev done : Content → Result Content DsdiffFault
+done r = Ok r
+
+pub same_content : (x y : Content) → done x ≡ done y → x ≡ y
+same_content x y e = cc
+
+pub parts_ok : (file : List ℕ) (r : Content) → recording_of file ≡ Ok r → Parts file r
+unfolding recording_of
+parts_ok file r e =
+    bind_then (top_of file) _ r e (λ top e1 h1.
+    bind_then (property_of file top) _ r h1 (λ told e2 h2.
+    bind_then (sound_of (sound_leads (map (span_chunk file) top)) (data_with file DSD top) (length told.ids)) _ r h2 (λ sound e3 h3.
+    bind_then (masters_of file top) _ r h3 (λ inner e4 h4.
+    record {
+      top = top;
+      at_top = e1;
+      told = told;
+      at_told = e2;
+      sound = sound;
+      at_sound = e3;
+      inner = inner;
+      at_inner = e4;
+      made = same_content (made_of file top told sound inner) r h4;
+    }))))
+
+pub parts_again : (file : List ℕ) (r : Content) → Parts file r → recording_of file ≡ Ok r
+unfolding recording_of
+parts_again file r p = rw (p.at_top, p.at_told, p.at_sound, p.at_inner) (ap done p.made)
+
+-- ---- chunks that stand once
+
+one_chunk : (file : List ℕ) (test : Chunk → Bool) (ss : List Span) (s : Span) → AtMostOne ss (λ x. test (span_chunk file x)) → find (λ x. test (span_chunk file x)) ss ≡ Some s → filter test (map (span_chunk file) ss) ≡ span_chunk file s ∷ []
+one_chunk file test ss s once found = filter_chunks file test ss ∙ ap (map (span_chunk file)) (only_one (λ x. test (span_chunk file x)) ss s once found)
+
+one_of : (file : List ℕ) (xs : List Span) (c : Chunk) → map (span_chunk file) xs ≡ c ∷ [] → (s : Span) × (xs ≡ s ∷ []) × (span_chunk file s ≡ c)
+one_of file [] c e = absurd cc
+one_of file (s ∷ []) c e = (s, refl, cc (e))
+one_of file (s ∷ t ∷ xs) c e = absurd cc
+
+-- the span of a chunk that stands once
+pub record Stands (file : List ℕ) (test : Chunk → Bool) (ss : List Span) (c : Chunk) : Type 0 where
+  pub span : Span
+  pub found : find (λ x. test (span_chunk file x)) ss ≡ Some span
+  pub is : span_chunk file span ≡ c
+  pub once : AtMostOne ss (λ x. test (span_chunk file x))
+
+stands : (file : List ℕ) (test : Chunk → Bool) (ss : List Span) (cs : List Chunk) (c : Chunk) → map (span_chunk file) ss ≡ cs → filter test cs ≡ c ∷ [] → Stands file test ss c
+stands file test ss cs c back e =
+    let o = one_of file (filter (λ x. test (span_chunk file x)) ss) c (sym (filter_chunks file test ss) ∙ ap (filter test) back ∙ e) in
+    record { span = o.0; found = is_found (λ x. test (span_chunk file x)) ss o.0 [] o.1; is = o.2; once = omega (arith, ap length o.1) }
+
+-- ---- the version
+
+version_alone : (file : List ℕ) (top : List Span) (c : Chunk) (later : List Chunk) → AtMostOne top (span_has FVER) → map (span_chunk file) top ≡ c ∷ later → has_id FVER c ≡ true → filter (has_id FVER) (map (span_chunk file) top) ≡ c ∷ []
+version_alone file [] c later once e h = absurd cc
+version_alone file (s ∷ ss) c later once e h =
+    let same : span_chunk file s ≡ c = cc (e) in
+    let y : span_has FVER s ≡ true = rw (← same) at h in
+    let found : find (span_has FVER) (s ∷ ss) ≡ Some s = rw y refl in
+    one_chunk file (has_id FVER) (s ∷ ss) s once found ∙ ap (λ (x : Chunk). x ∷ []) same
+
+-- ---- the property's range
+
+behind_type : (file : List ℕ) (s : Span) → slice_range file (s.start + 4) (s.start + s.size) ≡ drop 4 (span_chunk file s).content
+behind_type file s =
+    let whole : s.start + s.size - s.start ≡ s.size = omega arith in
+    sym (range_after file s.start (s.start + s.size) 4) ∙ ap (λ (k : ℕ). drop 4 (take k (drop s.start file))) whole
+
+-- what is read is what the file is
+pub is_dsdiff : (file : List ℕ) (r : Content) → Parts file r → IsDsdiff file r
+is_dsdiff file r g =
+    let top : List Chunk = map (span_chunk file) g.top in
+    let t = top_ok file g.top g.at_top in
+    let in_top = spans_found file 16 (form_end file) g.top t.spans in
+    let p = property_ok file g.top g.told g.at_told in
+    let property : Chunk = span_chunk file p.property in
+    let parts : List Chunk = map (span_chunk file) g.told.parts in
+    let in_parts = spans_found file (p.property.start + 4) (p.property.start + p.property.size) g.told.parts p.spans in
+    let rates = data_ok file FS g.told.parts p.rates p.at_rates in
+    let names = data_ok file CHNL g.told.parts p.names p.at_names in
+    let kinds = data_ok file CMPR g.told.parts p.kinds p.at_kinds in
+    let sounds = sound_ok (sound_leads top) (data_with file DSD g.top) (length g.told.ids) g.sound g.at_sound in
+    let sound = data_ok file DSD g.top g.sound sounds.0 in
+    let once : filter is_property top ≡ property ∷ [] = one_chunk file is_property g.top p.property t.once.1.0 p.found in
+    let sound_once : filter (has_id DSD) top ≡ span_chunk file sound.0 ∷ [] = one_chunk file (has_id DSD) g.top sound.0 t.once.1.1.0 sound.1 in
+    let tells : IsTold (span_chunk file rates.0).content (span_chunk file names.0).content (span_chunk file kinds.0).content g.told.rate g.told.ids = rw (rates.2, names.2, kinds.2) p.is_told in
+    let n : ℕ = big_number 2 (span_chunk file names.0).content in
+    let number : length g.told.ids ≡ n = ap length tells.ids ∙ length-map-range_with_len (λ k. take 4 (drop (4 * k) (drop 2 (span_chunk file names.0).content))) 0 n in
+    let is_sound : IsSound (sound_leads top) (span_chunk file sound.0).content n =
+    subst (λ (k : ℕ). IsSound (sound_leads top) (span_chunk file sound.0).content k) number (subst (λ (bs : List ℕ). IsSound (sound_leads top) bs (length g.told.ids)) (sym sound.2) sounds.1) in
+    let m = masters_ok file g.top g.inner g.at_inner in
+    record {
+      long = t.form.long;
+      form = t.form.form;
+      kind = t.form.kind;
+      holds_type = t.form.holds_type;
+      in_file = t.form.in_file;
+      top = top;
+      are_top = in_top.0;
+      version = t.version.version;
+      later = t.version.later;
+      version_first = t.version.is;
+      version_once = version_alone file g.top t.version.version t.version.later t.once.0 t.version.is t.version.id;
+      version_long = t.version.long;
+      version_main = t.version.main;
+      property = property;
+      sound = span_chunk file sound.0;
+      property_then_sound = order_ok top property (span_chunk file sound.0) is_sound.behind once sound_once;
+      property_is = passes is_property top property [] once;
+      sound_is = passes (has_id DSD) top (span_chunk file sound.0) [] sound_once;
+      parts = parts;
+      are_parts = subst (λ (bs : List ℕ). chunks bs parts) (behind_type file p.property) in_parts.0;
+      rates = span_chunk file rates.0;
+      names = span_chunk file names.0;
+      kinds = span_chunk file kinds.0;
+      one_rate = one_chunk file (has_id FS) g.told.parts rates.0 p.once.0 rates.1;
+      one_names = one_chunk file (has_id CHNL) g.told.parts names.0 p.once.1.0 names.1;
+      one_kind = one_chunk file (has_id CMPR) g.told.parts kinds.0 p.once.1.1.0 kinds.1;
+      rate_long = tells.rate_long;
+      rate = ap (λ (x : Content). x.rate) (sym g.made) ∙ tells.rate;
+      rate_low = rw (← g.made) tells.rate_low;
+      rate_high = rw (← g.made) tells.rate_high;
+      number = n;
+      number_is = refl;
+      some_channel = tells.some_channel;
+      six_channels = tells.six_channels;
+      names_long = tells.names_long;
+      ids = ap (λ (x : Content). x.ids) (sym g.made) ∙ tells.ids;
+      raw = tells.raw;
+      whole = is_sound.whole;
+      not_long = is_sound.not_long;
+      channels = ap (λ (x : Content). x.channels) (sym g.made) ∙ ap (λ (k : ℕ). unlaced_all g.sound k) number ∙ ap (λ (bs : List ℕ). unlaced_all bs n) (sym sound.2);
+      masters = m.masters;
+      are_masters = m.each;
+      whole_marks = subst (λ (cs : List Chunk). All IsWholeMark (filter (has_id MARK) cs)) (sym m.inner) (whole_marks (map (span_chunk file) g.inner) m.none_is_cut);
+      marks = ap (λ (x : Content). x.marks) (sym g.made) ∙ ap (λ (cs : List Chunk). map mark_in (filter (has_id MARK) cs)) (sym m.inner);
+      others = ap (λ (x : Content). x.others) (sym g.made) ∙ ap (λ (cs : List Chunk). kept Property parts ++ (kept Master cs ++ kept Form top)) (sym m.inner);
+      layout = ap (λ (x : Content). x.layout) (sym g.made) ∙ ap usual_layout number;
+      tag = ap (λ (x : Content). x.tag) (sym g.made);
+    }
+
+-- ---- the other way
+
+-- the form's chunks of such a file
+is_top : (file : List ℕ) (r : Content) (h : IsDsdiff file r) (top : List Span) → top ≡ places 16 h.top → map (span_chunk file) top ≡ h.top → IsTop file top
+is_top file r h top e back =
+    let order = order_again h.top h.property h.sound h.property_then_sound h.property_is h.sound_is in
+    let v = stands file (has_id FVER) top h.top h.version back h.version_once in
+    let p = stands file is_property top h.top h.property back order.0 in
+    let s = stands file (has_id DSD) top h.top h.sound back order.1 in
+    record {
+      form = record { long = h.long; form = h.form; kind = h.kind; holds_type = h.holds_type; in_file = h.in_file };
+      spans = (spans_again file 16 (form_end file) h.top h.are_top).0 ∙ ap (λ (ss : List Span). Ok ss) (sym e);
+      version = record { version = h.version; later = h.later; is = back ∙ h.version_first; id = passes (has_id FVER) h.top h.version [] h.version_once; long = h.version_long; main = h.version_main };
+      once = (v.once, (p.once, (s.once, tt)));
+    }
+
+content_at : (file id : List ℕ) (ss : List Span) (c : Chunk) → Stands file (has_id id) ss c → data_with file id ss ≡ Some c.content
+content_at file id ss c s = rw s.found (ap (λ (x : Chunk). Some x.content) s.is)
+
+-- what the sound property of such a file tells
+is_property_of : (file : List ℕ) (r : Content) (h : IsDsdiff file r) (top parts : List Span) (span : Span) → find (holds_property file) top ≡ Some span → span_chunk file span ≡ h.property → parts ≡ places (span.start + 4) h.parts
+    → IsProperty file top (told_by r.rate r.ids parts)
+is_property_of file r h top parts span found same e =
+    let range : slice_range file (span.start + 4) (span.start + span.size) ≡ drop 4 h.property.content = behind_type file span ∙ ap (λ (c : Chunk). drop 4 c.content) same in
+    let inner = spans_again file (span.start + 4) (span.start + span.size) h.parts (subst (λ (bs : List ℕ). chunks bs h.parts) (sym range) h.are_parts) in
+    let back : map (span_chunk file) parts ≡ h.parts = ap (map (span_chunk file)) e ∙ inner.1 in
+    let rs = stands file (has_id FS) parts h.parts h.rates back h.one_rate in
+    let ns = stands file (has_id CHNL) parts h.parts h.names back h.one_names in
+    let ks = stands file (has_id CMPR) parts h.parts h.kinds back h.one_kind in
+    record {
+      property = span;
+      found = found;
+      spans = inner.0 ∙ ap (λ (ss : List Span). Ok ss) (sym e);
+      once = (rs.once, (ns.once, (ks.once, tt)));
+      rates = h.rates.content;
+      names = h.names.content;
+      kinds = h.kinds.content;
+      at_rates = content_at file FS parts h.rates rs;
+      at_names = content_at file CHNL parts h.names ns;
+      at_kinds = content_at file CMPR parts h.kinds ks;
+      is_told = record {
+        rate_long = h.rate_long;
+        rate = h.rate;
+        rate_low = h.rate_low;
+        rate_high = h.rate_high;
+        some_channel = subst (λ (n : ℕ). 1 ≤ n) h.number_is h.some_channel;
+        six_channels = subst (λ (n : ℕ). n ≤ 6) h.number_is h.six_channels;
+        names_long = subst (λ (n : ℕ). 2 + 4 * n ≤ length h.names.content) h.number_is h.names_long;
+        ids = subst (λ (n : ℕ). r.ids ≡ ids_in n (drop 2 h.names.content)) h.number_is h.ids;
+        raw = h.raw;
+      };
+    }
+
+-- what the file is is read
+pub parts_from : (file : List ℕ) (r : Content) → IsDsdiff file r → Parts file r
+parts_from file r h =
+    let top : List Span = places 16 h.top in
+    let back : map (span_chunk file) top ≡ h.top = (spans_again file 16 (form_end file) h.top h.are_top).1 in
+    let order = order_again h.top h.property h.sound h.property_then_sound h.property_is h.sound_is in
+    let p = stands file is_property top h.top h.property back order.0 in
+    let s = stands file (has_id DSD) top h.top h.sound back order.1 in
+    let parts : List Span = places (p.span.start + 4) h.parts in
+    let told : Told = told_by r.rate r.ids parts in
+    let range : slice_range file (p.span.start + 4) (p.span.start + p.span.size) ≡ drop 4 h.property.content = behind_type file p.span ∙ ap (λ (c : Chunk). drop 4 c.content) p.is in
+    let parts_back : map (span_chunk file) parts ≡ h.parts = (spans_again file (p.span.start + 4) (p.span.start + p.span.size) h.parts (subst (λ (bs : List ℕ). chunks bs h.parts) (sym range) h.are_parts)).1 in
+    let number : length r.ids ≡ h.number = ap length h.ids ∙ length-map-range_with_len (λ k. take 4 (drop (4 * k) (drop 2 h.names.content))) 0 h.number in
+    let sounds : IsSound (sound_leads (map (span_chunk file) top)) h.sound.content (length r.ids) = record {
+      behind = ap sound_leads back ∙ leads_again h.top h.property (h.sound ∷ []) h.property_then_sound h.property_is;
+      whole = ap (λ (n : ℕ). length h.sound.content % n) number ∙ h.whole;
+      not_long = subst (λ (n : ℕ). 8 * (length h.sound.content / n) ≤ 2 ^ 36) (sym number) h.not_long;
+    } in
+    let m = masters_again file top h.masters (rw back h.are_masters) (none_cut_again (joined h.masters) h.whole_marks) in
+    let others_are : others_of file parts m.0 top ≡ r.others = rw (parts_back, m.2, back) (sym h.others) in
+    record {
+      top = top;
+      at_top = top_again file top (is_top file r h top refl back);
+      told = told;
+      at_told = property_again file top told (is_property_of file r h top parts p.span p.found p.is refl);
+      sound = h.sound.content;
+      at_sound = rw (content_at file DSD top h.sound s) (sound_again (sound_leads (map (span_chunk file) top)) h.sound.content (length r.ids) sounds);
+      inner = m.0;
+      at_inner = m.1;
+      made = λ i. record {
+        rate = r.rate;
+        channels = (ap (λ (n : ℕ). unlaced_all h.sound.content n) number ∙ sym h.channels) i;
+        ids = r.ids;
+        layout = (ap usual_layout number ∙ sym h.layout) i;
+        marks = (ap (λ (cs : List Chunk). map mark_in (filter (has_id MARK) cs)) m.2 ∙ sym h.marks) i;
+        others = others_are i;
+        tag = sym h.tag i;
+      };
+    }

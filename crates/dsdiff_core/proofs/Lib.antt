@@ -1,0 +1,20 @@
+pub mod Steps
+pub mod KindLaws
+pub mod SpanLaws
+pub mod OnceLoop
+pub mod OnceLaws
+pub mod KeptLoop
+pub mod MarkLaws
+pub mod MasterLoop
+pub mod ShapeLaws
+pub mod FormLaws
+pub mod PropertyLaws
+pub mod SoundLaws
+pub mod MasterLaws
+pub mod FileLaws
+mod PlaceLemmas
+mod WritingLemmas
+mod WrittenAgain
+mod WrittenForms
+mod WrittenMarks
+mod WrittenOthers

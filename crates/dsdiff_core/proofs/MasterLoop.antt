@@ -1,0 +1,65 @@
+-- The loop over the edited masters.
+use Rattle.std.proofs.Common.{◌≡◌, ℕ, ◌+◌, ◌≤◌, ◌<◌, Bool, true, false, cond, ◌&&◌, List, [], ◌∷◌, ◌++◌, length, get_or, map, drop, Result, Ok, Err, refl, sym, ap, subst, ◌∙◌, append_assoc}
+use Rattle.std.proofs.lemmas.List.{append-nil, at_drop_more, at_drop_all}
+use Rattle.chunk_core.specs.declared.layout.Span.{Span}
+use Rattle.chunk_core.specs.Places.{span_chunk}
+use Rattle.chunk_core.specs.Steps.{◌>>=◌}
+use Rattle.dsd_bits.specs.Ids.{DIIN}
+use Rattle.dsdiff_core.specs.declared.fault.DsdiffFault.{DsdiffFault}
+use Rattle.dsdiff_core.specs.Kinds.{has_id}
+use Rattle.dsdiff_core.specs.Masters.{has_no_cut_mark, is_no_cut_mark, master_of, masters_of}
+use Rattle.dsdiff_core.specs.Steps.{Fails}
+use Rattle.dsdiff_core.proofs.Steps.{step_fails}
+
+-- what was found before, and what is still found
+abbrev pub with_front : List Span → Result (List Span) DsdiffFault → Result (List Span) DsdiffFault
+with_front front found = found >>= λ rest. Ok (front ++ rest)
+
+pub front_of_none : (found : Result (List Span) DsdiffFault) → with_front [] found ≡ found
+front_of_none (Ok x) = refl
+front_of_none (Err e) = refl
+
+regroup : (front inner : List Span) (found : Result (List Span) DsdiffFault) → with_front front (found >>= λ rest. Ok (inner ++ rest)) ≡ with_front (front ++ inner) found
+regroup front inner (Ok r) = ap (λ (ds : List Span). Ok ds) (simp append_assoc)
+regroup front inner (Err f) = refl
+
+abbrev step : List ℕ → Span → Result (List Span) DsdiffFault → Result (List Span) DsdiffFault
+step file s later = cond (has_id DIIN (span_chunk file s)) (master_of file s >>= λ inner. later >>= λ rest. Ok (inner ++ rest)) later
+
+masters_more : (file : List ℕ) (ss : List Span) (i : ℕ) (d : Span) → i < length ss → masters_of file (drop i ss) ≡ step file (get_or ss i d) (masters_of file (drop (i + 1) ss))
+unfolding masters_of
+masters_more file ss i d lt = at_drop_more (λ (xs : List Span). masters_of file xs) ss i d lt
+
+pub masters_end : (file : List ℕ) (ss : List Span) (i : ℕ) (front : List Span) → length ss ≤ i → with_front front (masters_of file (drop i ss)) ≡ Ok front
+unfolding masters_of
+masters_end file ss i front le = at_drop_all (λ (xs : List Span). with_front front (masters_of file xs)) ss i le ∙ ap (λ (x : List Span). Ok x) (append-nil front)
+
+pub goes_on : (file : List ℕ) (ss : List Span) (i : ℕ) (d : Span) (front inner : List Span) (total : Result (List Span) DsdiffFault) → i < length ss → has_id DIIN (span_chunk file (get_or ss i d)) ≡ true
+    → master_of file (get_or ss i d) ≡ Ok inner → with_front front (masters_of file (drop i ss)) ≡ total → with_front (front ++ inner) (masters_of file (drop (i + 1) ss)) ≡ total
+goes_on file ss i d front inner total lt is m so_far =
+    let one : with_front front (masters_of file (drop i ss)) ≡ with_front (front ++ inner) (masters_of file (drop (i + 1) ss)) =
+    rw (masters_more file ss i d lt, is, m) (regroup front inner (masters_of file (drop (i + 1) ss))) in
+    sym one ∙ so_far
+
+pub passes_on : (file : List ℕ) (ss : List Span) (i : ℕ) (d : Span) (front : List Span) (total : Result (List Span) DsdiffFault) → i < length ss → has_id DIIN (span_chunk file (get_or ss i d)) ≡ false
+    → with_front front (masters_of file (drop i ss)) ≡ total → with_front front (masters_of file (drop (i + 1) ss)) ≡ total
+passes_on file ss i d front total lt other so_far =
+    let one : with_front front (masters_of file (drop i ss)) ≡ with_front front (masters_of file (drop (i + 1) ss)) = rw (masters_more file ss i d lt, other) refl in
+    sym one ∙ so_far
+
+pub master_fails : (e : DsdiffFault) (file : List ℕ) (ss : List Span) (i : ℕ) (d : Span) (front : List Span) (total : Result (List Span) DsdiffFault) → i < length ss → has_id DIIN (span_chunk file (get_or ss i d)) ≡ true
+    → Fails e (master_of file (get_or ss i d)) → with_front front (masters_of file (drop i ss)) ≡ total → Fails e total
+master_fails e file ss i d front total lt is h so_far =
+    let s : Span = get_or ss i d in
+    let a : Fails e (master_of file s >>= λ inner. masters_of file (drop (i + 1) ss) >>= λ rest. Ok (inner ++ rest)) = step_fails e (master_of file s) _ h in
+    let b : Fails e (masters_of file (drop i ss)) = rw (masters_more file ss i d lt, is) a in
+    subst (λ (r : Result (List Span) DsdiffFault). Fails e r) so_far (step_fails e (masters_of file (drop i ss)) _ b)
+
+and_again : (a b c : Bool) → (a && b) ≡ true → (b ≡ true → c ≡ true) → (a && c) ≡ true
+and_again true b c e h = h e
+and_again false b c e h = absurd cc
+
+-- none is cut among the chunks of both
+pub none_cut : (file : List ℕ) (ss ts : List Span) → has_no_cut_mark (map (span_chunk file) ss) ≡ true → has_no_cut_mark (map (span_chunk file) ts) ≡ true → has_no_cut_mark (map (span_chunk file) (ss ++ ts)) ≡ true
+none_cut file [] ts a b = b
+none_cut file (s ∷ ss) ts a b = and_again (is_no_cut_mark (span_chunk file s)) (has_no_cut_mark (map (span_chunk file) ss)) (has_no_cut_mark (map (span_chunk file) (ss ++ ts))) a (λ h. none_cut file ss ts h b)

@@ -1,0 +1,11 @@
+-- Places of marks as signed numbers.
+use Rattle.std.proofs.Common.{◌≡◌, ℕ, ◌^◌, ◌<◌, arith}
+use Rattle.std.specs.Prelude.{ℤ, pos, ◌+ℤ◌}
+use Rattle.std.specs.Int.{w32, w64, cast_signed, cast_unsigned}
+use Rattle.std.specs.Int.RustNames.{FitsSigned}
+use Rattle.std.proofs.lemmas.Int.{ints}
+
+-- a number and a signed offset of 32 bits, added in 64 bits
+pub widened_sum : (n : ℕ) (offset : ℤ) → n < 2 ^ 62 → FitsSigned w32 offset
+    → cast_signed w64 (cast_unsigned w64 (cast_signed w64 n +ℤ cast_signed w64 (cast_unsigned w64 (cast_signed w32 (cast_unsigned w32 offset))))) ≡ pos n +ℤ offset
+widened_sum n offset h f = omega (arith, ints)

@@ -1,0 +1,15 @@
+use Rattle.std.proofs.Common.{◌≡◌, ◌*◌, take, drop, List, ℕ, refl, arith}
+use Rattle.std.proofs.lemmas.List.FromFn.{map-range_with_len_more, length-map-range_with_len}
+use Rattle.dsdiff_core.proofs.property.read_ids.Goals as goal
+
+pub loop-k-preserved : goal.loop-k-preserved
+loop-k-preserved c =
+    let f : ℕ → List ℕ = λ k. take 4 (drop (4 * k) c.args.bytes.now) in
+    let more = map-range_with_len_more f 0 c.loop-k.k c.loop-k.k (omega arith) in
+    rw (more, c.in_ok-push.ensures.items, c.loop-k.invariant, c.copy_from_slice.ensures.after, c.split_at-in-loop-k.ensures.front, c.split_at.ensures.back) refl
+
+pub returns-clause-number : goal.returns-clause-number
+returns-clause-number c =
+    let f : ℕ → List ℕ = λ k. take 4 (drop (4 * k) c.args.bytes.now) in
+    let e : c.loop-k.k ≡ c.args.number = omega arith in
+    rw (c.loop-k.invariant, length-map-range_with_len f 0 c.loop-k.k) e

@@ -1,0 +1,17 @@
+pub mod Kinds
+pub mod Fields
+pub mod Marks
+pub mod MarkBytes
+pub mod MarkPlaces
+pub mod Others
+pub mod Files
+pub mod Steps
+pub mod Spans
+pub mod Forms
+pub mod Properties
+pub mod Sounds
+pub mod Masters
+pub mod Reading
+pub mod Writing
+pub mod ReadAgain
+pub mod Laws

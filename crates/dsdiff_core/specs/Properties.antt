@@ -1,0 +1,71 @@
+-- The sound property: rate, channels and compression.
+use Rattle.std.specs.Prelude.{ℕ, ◌+◌, ◌*◌, List, [], length, take, drop, find, Option, Some, None, Result, Ok, Err, nat_lt, if◌then◌else◌}
+use Rattle.byteorder.specs.Endian.{big_number}
+use Rattle.chunk_core.specs.declared.layout.Span.{Span}
+use Rattle.chunk_core.specs.Reading.{spans_in}
+use Rattle.chunk_core.specs.Steps.{◌>>=◌}
+use Rattle.dsd_bits.specs.Ids.{same_id, FS, CHNL, CMPR, DSD}
+use Rattle.dsdiff_core.specs.declared.fault.DsdiffFault.{DsdiffFault}
+use Rattle.dsdiff_core.specs.declared.fault.DsdiffFault.TheVariants.{NoProperty, NoRate, NoChannels, NoCompression, Compressed, BadRate, BadChannelNumber}
+use Rattle.dsdiff_core.specs.declared.property.SoundProperty.{SoundProperty}
+use Rattle.dsdiff_core.specs.Fields.{ids_in}
+use Rattle.dsdiff_core.specs.Spans.{data_with, holds_property, once_each, property_kinds}
+use Rattle.dsdiff_core.specs.Steps.{some_or, walked}
+
+-- what a sound property tells, and the places of its chunks
+pub record Told : Type 0 where
+  pub rate : ℕ
+  pub ids : List (List ℕ)
+  pub parts : List Span
+
+-- what a sound property that was read tells
+abbrev pub told_of : SoundProperty → Told
+told_of p = record { rate = p.rate; ids = p.ids.items; parts = p.parts.items }
+
+-- the rate in the data of its chunk
+abbrev pub rate_of : Option (List ℕ) → Result ℕ DsdiffFault
+rate_of None = Err NoRate
+rate_of (Some bytes) = if nat_lt (length bytes) 4 then Err NoRate else Ok (big_number 4 bytes)
+
+-- the channel number and the bytes of the IDs in the data of their chunk
+abbrev pub names_of : Option (List ℕ) → Result (ℕ × List ℕ) DsdiffFault
+names_of None = Err NoChannels
+names_of (Some bytes) =
+    if nat_lt (length bytes) 2 then Err NoChannels
+    else if nat_lt (length bytes) (2 + 4 * big_number 2 bytes) then Err NoChannels
+    else Ok (big_number 2 bytes, drop 2 bytes)
+
+-- the data of its chunk tell of no compression
+abbrev pub raw_of : Option (List ℕ) → Result (Unit {0}) DsdiffFault
+raw_of None = Err NoCompression
+raw_of (Some bytes) =
+    if nat_lt (length bytes) 4 then Err NoCompression
+    else if same_id (take 4 bytes) DSD then Ok tt
+    else Err Compressed
+
+-- rate and channel number lie in their limits
+abbrev pub limits_of : ℕ → ℕ → Result (Unit {0}) DsdiffFault
+limits_of rate number =
+    if nat_lt rate 1000000 then Err BadRate
+    else if nat_lt 50000000 rate then Err BadRate
+    else if nat_lt number 1 then Err BadChannelNumber
+    else if nat_lt 6 number then Err BadChannelNumber
+    else Ok tt
+
+-- the rate and the IDs in the data of the chunks for rate, channels and compression
+unfoldable pub fields_of : Option (List ℕ) → Option (List ℕ) → Option (List ℕ) → Result (ℕ × List (List ℕ)) DsdiffFault
+fields_of rates names kinds = do
+  rate ← rate_of rates
+  channels ← names_of names
+  raw ← raw_of kinds
+  limits ← limits_of rate channels.0
+  Ok (rate, ids_in channels.0 channels.1)
+
+-- the property of the sound among the form's chunks
+unfoldable pub property_of : List ℕ → List Span → Result Told DsdiffFault
+property_of file top = do
+  property ← some_or NoProperty (find (holds_property file) top)
+  parts ← walked (spans_in file (property.start + 4) (property.start + property.size))
+  once ← once_each property_kinds [] parts
+  fields ← fields_of (data_with file FS parts) (data_with file CHNL parts) (data_with file CMPR parts)
+  Ok (record { rate = fields.0; ids = fields.1; parts = parts })

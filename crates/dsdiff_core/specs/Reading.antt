@@ -1,0 +1,45 @@
+-- Reading a file in a fixed order, to a recording or the first fault.
+use Rattle.std.specs.Prelude.{ℕ, List, [], ◌++◌, filter, length, map, Result, Ok}
+use Rattle.chunk_core.specs.declared.layout.Span.{Span}
+use Rattle.chunk_core.specs.Places.{span_chunk}
+use Rattle.chunk_core.specs.Steps.{◌>>=◌}
+use Rattle.dsd_bits.specs.declared.marks.Place.TheVariants.{Property, Master, Form}
+use Rattle.dsd_bits.specs.Contents.{Content, MarkContent, OtherContent}
+use Rattle.dsd_bits.specs.Ids.{DSD, MARK}
+use Rattle.dsd_bits.specs.Lacing.{unlaced_all}
+use Rattle.dsd_bits.specs.Layouts.{usual_layout}
+use Rattle.dsdiff_core.specs.declared.fault.DsdiffFault.{DsdiffFault}
+use Rattle.dsdiff_core.specs.Forms.{top_of}
+use Rattle.dsdiff_core.specs.Kinds.{has_id}
+use Rattle.dsdiff_core.specs.Marks.{mark_in}
+use Rattle.dsdiff_core.specs.Masters.{masters_of}
+use Rattle.dsdiff_core.specs.Others.{kept}
+use Rattle.dsdiff_core.specs.Properties.{property_of}
+use Rattle.dsdiff_core.specs.Sounds.{sound_leads, sound_of}
+use Rattle.dsdiff_core.specs.Spans.{data_with}
+
+-- the marks among the chunks of the edited masters
+abbrev pub marks_of : List ℕ → List Span → List MarkContent
+marks_of file inner = map mark_in (filter (has_id MARK) (map (span_chunk file) inner))
+
+-- what is kept of the chunks of the sound property, of the edited masters and of the form
+abbrev pub others_of : List ℕ → List Span → List Span → List Span → List OtherContent
+others_of file parts inner top =
+    kept Property (map (span_chunk file) parts) ++ (kept Master (map (span_chunk file) inner) ++ kept Form (map (span_chunk file) top))
+
+-- the recording in a file, or the first fault
+unfoldable pub recording_of : List ℕ → Result Content DsdiffFault
+recording_of file = do
+  top ← top_of file
+  told ← property_of file top
+  sound ← sound_of (sound_leads (map (span_chunk file) top)) (data_with file DSD top) (length told.ids)
+  inner ← masters_of file top
+  Ok (record {
+    rate = told.rate;
+    channels = unlaced_all sound (length told.ids);
+    ids = told.ids;
+    layout = usual_layout (length told.ids);
+    marks = marks_of file inner;
+    others = others_of file told.parts inner top;
+    tag = [];
+  })

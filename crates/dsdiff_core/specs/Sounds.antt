@@ -1,0 +1,21 @@
+-- The sound among the form's chunks.
+use Rattle.std.specs.Prelude.{ℕ, ◌*◌, ◌/◌, ◌%◌, ◌^◌, Bool, true, false, not, List, [], ◌∷◌, length, Option, Some, None, Result, Ok, Err, nat_eq, nat_lt, if◌then◌else◌}
+use Rattle.chunk_core.specs.Chunks.{Chunk}
+use Rattle.dsd_bits.specs.Ids.{DSD}
+use Rattle.dsdiff_core.specs.declared.fault.DsdiffFault.{DsdiffFault}
+use Rattle.dsdiff_core.specs.declared.fault.DsdiffFault.TheVariants.{NoSound, SoundBeforeProperty, PartFrame, TooLong}
+use Rattle.dsdiff_core.specs.Kinds.{has_id, is_property}
+
+-- a sound stands before the first property of the sound
+abbrev pub sound_leads : List Chunk → Bool
+sound_leads [] = false
+sound_leads (c ∷ cs) = if is_property c then false else if has_id DSD c then true else sound_leads cs
+
+-- the sound bytes of so many channels
+abbrev pub sound_of : Bool → Option (List ℕ) → ℕ → Result (List ℕ) DsdiffFault
+sound_of leads None number = Err NoSound
+sound_of leads (Some bytes) number =
+    if leads then Err SoundBeforeProperty
+    else if not (nat_eq (length bytes % number) 0) then Err PartFrame
+    else if nat_lt (2 ^ 36) (8 * (length bytes / number)) then Err TooLong
+    else Ok bytes

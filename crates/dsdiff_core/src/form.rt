@@ -1,0 +1,71 @@
+//! The form that a file is, and its chunks.
+
+ghost use Rattle.std.specs.Prelude.{◌≡◌, ◌≤◌, All, IfOk, length, map};
+ghost use Rattle.chunk_core.specs.Places.{span_chunk};
+ghost use Rattle.dsdiff_core.specs.Forms.{end_of, top_of, version_of};
+ghost use Rattle.dsdiff_core.specs.Spans.{StandsIn};
+ghost use Rattle.dsdiff_core.specs.Steps.{Gives};
+
+use crate::fault::DsdiffFault;
+use crate::once::refuse_second_in_form;
+use crate::spans::data_of;
+use chunk_core::{Order, Span, head, walk};
+use std::alloc::Global;
+
+/// The chunks of the form: the first is a version 1, and none is a second version, sound property or
+/// sound.
+#[tactic(auto, unfolding(crate::specs::Forms::top_of))]
+pub(crate) fn form_chunks(alloc: Global, file: &[u8]) -> Result<Vec<Span>, DsdiffFault>
+    ensures exact { Gives (λ v. v.items) result (top_of file.now) }
+    ensures inside { IfOk result (λ v. All (StandsIn file.now) v.items) }
+{
+    let end = form_end(file)?;
+    let top = walk(alloc, file, 16, end)?;
+    require_version(file, &top)?;
+    refuse_second_in_form(file, &top)?;
+    Ok(top)
+}
+
+// Where the form ends. Its size counts from byte 12, and one byte may be missing: a last pad.
+#[tactic(auto, unfolding(crate::specs::Forms::end_of))]
+fn form_end(file: &[u8]) -> Result<usize, DsdiffFault>
+    ensures exact { Gives (λ n. n) result (end_of file.now) }
+    ensures from { IfOk result (λ n. 16 ≤ n) }
+    ensures within { IfOk result (λ n. n ≤ length file.now) }
+{
+    if file.len() < 16 {
+        return Err(DsdiffFault::NotDsdiff);
+    }
+    let Some(form) = head(Order::Big, file, 0) else {
+        return Err(DsdiffFault::NotDsdiff);
+    };
+    let (_, behind_head) = file.split_at(12);
+    let (name, _) = behind_head.split_at(4);
+    let mut kind = [0; 4];
+    kind.copy_from_slice(name);
+    if form.id != *b"FRM8" || kind != *b"DSD " {
+        return Err(DsdiffFault::NotDsdiff);
+    }
+    if form.size < 4 || ((file.len() - 11) as u64) < form.size {
+        return Err(DsdiffFault::FormCut);
+    }
+    Ok((12 + form.size as usize).min(file.len()))
+}
+
+// Refuses another first chunk than a version 1.
+fn require_version(file: &[u8], top: &[Span]) -> Result<(), DsdiffFault>
+    requires { All (StandsIn file.now) top.now }
+    ensures { Gives (λ _. tt) result (version_of (map (span_chunk file.now) top.now)) }
+{
+    let [first, ..] = top else {
+        return Err(DsdiffFault::NoVersion);
+    };
+    if first.id != *b"FVER" || first.size < 4 {
+        return Err(DsdiffFault::NoVersion);
+    }
+    let version = data_of(file, *first);
+    if version[0] != 1 {
+        return Err(DsdiffFault::BadVersion);
+    }
+    Ok(())
+}

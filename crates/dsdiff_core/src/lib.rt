@@ -1,0 +1,77 @@
+//! DSDIFF 1.5 files of uncompressed sound.
+//!
+//! A file is one form, `FRM8` of the type `DSD `: a list of chunks ([`chunk_core`]) with a version
+//! `FVER` in front, a property `PROP` of the sound (type `SND `) whose own chunks tell the rate (`FS  `),
+//! the channels and their IDs (`CHNL`) and the compression (`CMPR`), the sound bytes (`DSD `), and, each
+//! of them optional, edited masters (`DIIN`) with marks (`MARK`) and whatever other chunks there are.
+//! Numbers have the highest byte first.
+//!
+//! [`read`] takes a file to the recording that it holds ([`dsd_bits::Recording`]). It is lenient where
+//! usual writers differ: a chunk may be longer than its named fields, the last pad may be missing,
+//! bytes behind the form are ignored, and chunks that it does not know are kept as ID and bytes.
+//! Compressed sound, and more channels, samples or another rate than a recording has, are refused by
+//! name ([`DsdiffFault`]).
+//!
+//! [`write`] gives the bytes of the file that holds a recording, all of them or none, and [`place`] says
+//! where a mark is. A recording whose channels end inside a byte has no file.
+//!
+//! The words of its contracts:
+//! - `IsDsdiff file r` (`specs/Files.antt`): the file holds the recording `r`. It is said in lists of
+//!   chunks, part by part, and nothing in it walks.
+//! - `recording_of file` (`specs/Reading.antt`): the reading in a fixed order, to the recording or the
+//!   first fault; its steps are `top_of` (`specs/Forms.antt`), `property_of` (`specs/Properties.antt`),
+//!   `sound_of` (`specs/Sounds.antt`) and `masters_of` (`specs/Masters.antt`).
+//! - `mark_in` (`specs/Marks.antt`) and `kept` (`specs/Others.antt`): what is made of a mark's chunk, and
+//!   which chunks are kept as they are.
+//! - `Gives` (`specs/Steps.antt`): what a function gives of a reading when memory may run out.
+//! - `dsdiff_text r` (`specs/Writing.antt`): the bytes of the file of a recording, if it has one. They are made
+//!   of lists of chunks: `property_chunks` in the sound's property, `master_chunks` in the edited master,
+//!   `form_chunks` in the form, each spelled by `spell`; `form_text` puts the head before them.
+//! - `mark_bytes m` (`specs/MarkBytes.antt`): the bytes of a mark.
+//! - `place_of m rate` (`specs/MarkPlaces.antt`): the place of a mark, a whole number that may be below zero.
+//! - `as_told r` (`specs/ReadAgain.antt`): the recording without what a file does not tell, its layout and tag.
+//!
+//! What it promises: what is read is what the file holds; whatever recording a file holds is read; any
+//! other file is refused with the first fault of the stated order. `Memory` alone may come in place of
+//! each of these. A file holds one recording at most ([`one_recording`]).
+//! What is written is exactly `dsdiff_text`, [`WriteFault::NotWholeBytes`] comes exactly where there is none,
+//! and the file holds the recording as it is told. [`written_is_read_again`] carries the law behind that
+//! for a recording that is no value in memory.
+//!
+//! ```text
+//! let recording = read(alloc, file)?;
+//! recording.rate()       // 2822400
+//! recording.channels()   // one list of bits for each channel
+//! recording.marks()      // the marks of all edited masters, in the order of the file
+//! let file = write(alloc, &recording)?;
+//! ```
+#![tactic(auto)]
+
+mod fault;
+mod form;
+mod laws;
+mod marks;
+mod masters;
+mod once;
+mod others;
+mod places;
+mod property;
+mod reading;
+mod sound;
+mod spans;
+mod write_fault;
+mod writing;
+mod writing_laws;
+
+pub use fault::DsdiffFault;
+pub use laws::one_recording;
+pub use places::place;
+pub use reading::read;
+pub use write_fault::WriteFault;
+pub use writing::write;
+pub use writing_laws::written_is_read_again;
+
+#[cfg(test)]
+mod tests;
+#[cfg(test)]
+mod writing_tests;

@@ -1,0 +1,51 @@
+//! Chunks that are kept as their bytes.
+
+ghost use Rattle.std.specs.Prelude.{◌≡◌, ◌++◌, All, OnOk, map};
+ghost use Rattle.chunk_core.specs.Places.{span_chunk};
+ghost use Rattle.dsd_bits.specs.Contents.{other_content};
+ghost use Rattle.dsd_bits.specs.Shape.{has_part};
+ghost use Rattle.dsdiff_core.specs.Others.{kept};
+ghost use Rattle.dsdiff_core.specs.Spans.{StandsIn};
+
+use crate::spans::{data_of, is_sound_property};
+use chunk_core::Span;
+use dsd_bits::{Other, Place};
+use std::alloc::{AllocError, Global};
+
+/// Appends those of a place's chunks that are kept.
+pub(crate) fn push_kept(
+    alloc: Global,
+    others: &mut Vec<Other>,
+    place: Place,
+    file: &[u8],
+    spans: &[Span],
+) -> Result<(), AllocError>
+    requires { All (StandsIn file.now) spans.now }
+    ensures { OnOk result (map other_content others.new.items ≡ map other_content others.old.items ++ kept place (map (span_chunk file.now) spans.now)) }
+{
+    for span in spans {
+        if !is_read(place, file, *span) {
+            let bytes = Vec::from_slice(alloc, data_of(file, *span))?;
+            let id = span.id;
+            others.push(Other { place, id, bytes })?;
+        }
+    }
+    Ok(())
+}
+
+// Whether a recording has a part of its own for a chunk of this place.
+fn is_read(place: Place, file: &[u8], span: Span) -> bool
+    requires { StandsIn file.now span }
+    ensures { result ≡ has_part place (span_chunk file.now span).id (span_chunk file.now span).content }
+{
+    match place {
+        Place::Property => span.id == *b"FS  " || span.id == *b"CHNL" || span.id == *b"CMPR",
+        Place::Master => span.id == *b"MARK",
+        Place::Form => {
+            span.id == *b"FVER"
+                || span.id == *b"DSD "
+                || span.id == *b"DIIN"
+                || is_sound_property(file, span)
+        }
+    }
+}

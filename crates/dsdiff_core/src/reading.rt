@@ -1,0 +1,91 @@
+//! A whole file.
+
+ghost use Rattle.std.specs.Prelude.{◌≡◌, ◌≤◌, List, ℕ, IfOk, Ok};
+ghost use Rattle.dsd_bits.specs.Contents.{Content};
+ghost use Rattle.dsd_bits.specs.Layouts as layouts;
+ghost use Rattle.dsdiff_core.specs.Files.{IsDsdiff};
+ghost use Rattle.dsdiff_core.specs.Reading.{recording_of};
+ghost use Rattle.dsdiff_core.specs.Steps.{Gives};
+
+use crate::fault::DsdiffFault;
+use crate::form::form_chunks;
+use crate::marks::read_marks;
+use crate::masters::master_chunks;
+use crate::others::push_kept;
+use crate::property::read_property;
+use crate::sound::find_sound;
+use dsd_bits::{Place, Recording, unlace_bytes};
+use std::alloc::Global;
+
+/// The recording that a DSDIFF 1.5 file holds: its rate in hertz, a list of bits for each channel, the
+/// channels' IDs, the marks of every `DIIN`, and the chunks that are kept as they are: those of the
+/// sound property, then those of every `DIIN`, then those of the form, each in the order of the file.
+/// The layout is the usual one for so many channels, and the tag is empty.
+///
+/// Refusals, in this order; the first that applies is answered:
+/// 1. `NotDsdiff`: fewer than 16 bytes, no `FRM8`, or another form than `DSD `.
+/// 2. `FormCut`: the form's size is below 4, or goes more than one byte past the file's end.
+/// 3. `Chunk`: the form is no list of chunks.
+/// 4. `NoVersion`, `BadVersion`: the first chunk is no `FVER` of 4 bytes or more; its first byte is not 1.
+/// 5. `Twice`: the first chunk that is a second `FVER`, sound property or `DSD `.
+/// 6. `NoProperty`: no `PROP` whose data begin with `SND `.
+/// 7. `Chunk`, `Twice`: what is behind that is no list of chunks; a second `FS  `, `CHNL` or `CMPR`.
+/// 8. `NoRate`, `NoChannels`, `NoCompression`: one of these is not there or too short.
+/// 9. `Compressed`: the compression is another than `DSD `. Its name is not read.
+/// 10. `BadRate`, `BadChannelNumber`: not 1,000,000 to 50,000,000 hertz; not 1 to 6 channels.
+/// 11. `NoSound`, `SoundBeforeProperty`: no `DSD `; it stands before the sound property.
+/// 12. `PartFrame`, `TooLong`: the sound is no whole number of frames of one byte a channel; it has more
+///     than `2^36` bits a channel.
+/// 13. `Chunk`, `BadMark`, for each `DIIN` in turn: it is no list of chunks; a `MARK` of fewer than 22
+///     bytes, or fewer than 22 and the size of its text.
+///
+/// `Memory` may come in place of any of them.
+pub fn read(alloc: Global, file: &[u8]) -> Result<Recording, DsdiffFault>
+    // What is read is what the file holds.
+    ensures found { IfOk result (λ r. IsDsdiff file.now r) }
+    // What a file holds is read, unless memory runs out.
+    ensures only { (r : Content) → IsDsdiff file.now r → Gives (λ r. r) result (Ok r) }
+    // The fault is the first one.
+    ensures exact { Gives (λ r. r) result (recording_of file.now) }
+{
+    read_in_order(alloc, file)
+}
+
+// The same, by the order of refusals alone.
+#[tactic(auto, unfolding(crate::specs::Reading::recording_of))]
+fn read_in_order(alloc: Global, file: &[u8]) -> Result<Recording, DsdiffFault>
+    ensures { Gives (λ r. r) result (recording_of file.now) }
+{
+    let top = form_chunks(alloc, file)?;
+    let told = read_property(alloc, file, &top)?;
+    let number = told.ids.len();
+    let sound = find_sound(file, &top, number)?;
+    let inner = master_chunks(alloc, file, &top)?;
+    let channels = unlace_bytes(alloc, sound, number)?;
+    let marks = read_marks(alloc, file, &inner)?;
+    let mut others = Vec::new(alloc);
+    push_kept(alloc, &mut others, Place::Property, file, &told.parts)?;
+    push_kept(alloc, &mut others, Place::Master, file, &inner)?;
+    push_kept(alloc, &mut others, Place::Form, file, &top)?;
+    Ok(Recording::new(
+        told.rate,
+        channels,
+        told.ids,
+        usual_layout(number),
+        marks,
+        others,
+        Vec::new(alloc),
+    ))
+}
+
+// The layout of so many channels, a channel type of DSF 1.01.
+fn usual_layout(number: usize) -> u32
+    requires { number ≤ 6 }
+    ensures { result ≡ layouts.usual_layout number }
+{
+    if number < 5 {
+        number as u32
+    } else {
+        number as u32 + 1
+    }
+}

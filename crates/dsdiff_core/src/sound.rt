@@ -1,0 +1,55 @@
+//! The sound: whole frames behind the sound property.
+
+ghost use Rattle.std.specs.Prelude.{◌≡◌, ◌≤◌, ◌*◌, ◌/◌, ◌%◌, ◌^◌, All, IfOk, length, map};
+ghost use Rattle.chunk_core.specs.Places.{span_chunk};
+ghost use Rattle.dsd_bits.specs.Ids.{DSD};
+ghost use Rattle.dsdiff_core.specs.Sounds.{sound_leads, sound_of};
+ghost use Rattle.dsdiff_core.specs.Spans.{StandsIn, data_with};
+ghost use Rattle.dsdiff_core.specs.Steps.{Gives};
+
+use crate::fault::DsdiffFault;
+use crate::spans::{data_with, is_sound_property};
+use chunk_core::Span;
+
+/// The sound bytes of so many channels, among the form's chunks.
+pub(crate) fn find_sound<'a>(
+    file: &'a [u8],
+    top: &[Span],
+    number: usize,
+) -> Result<&'a [u8], DsdiffFault>
+    requires inside { All (StandsIn file.now) top.now }
+    requires some { 1 ≤ number }
+    ensures exact { Gives (λ x. x.now) result (sound_of (sound_leads (map (span_chunk file.now) top.now)) (data_with file.now DSD top.now) number) }
+    ensures in_limit { IfOk result (λ x. 8 * (length x.now / number) ≤ 2 ^ 36) }
+    ensures whole { IfOk result (λ x. length x.now % number ≡ 0) }
+{
+    let Some(bytes) = data_with(file, top, *b"DSD ") else {
+        return Err(DsdiffFault::NoSound);
+    };
+    if leads(file, top) {
+        return Err(DsdiffFault::SoundBeforeProperty);
+    }
+    if bytes.len() % number != 0 {
+        return Err(DsdiffFault::PartFrame);
+    }
+    if (1 << 36) / 8 < bytes.len() / number {
+        return Err(DsdiffFault::TooLong);
+    }
+    Ok(bytes)
+}
+
+// Whether the sound stands before the sound property.
+fn leads(file: &[u8], top: &[Span]) -> bool
+    requires { All (StandsIn file.now) top.now }
+    ensures { result ≡ sound_leads (map (span_chunk file.now) top.now) }
+{
+    for span in top {
+        if is_sound_property(file, *span) {
+            return false;
+        }
+        if span.id == *b"DSD " {
+            return true;
+        }
+    }
+    false
+}

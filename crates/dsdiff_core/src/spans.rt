@@ -1,0 +1,65 @@
+//! Chunks of a file by their places.
+
+ghost use Rattle.std.specs.Prelude.{◌≡◌, ◌≤◌, All, IfSome, IsTrue, find, length, option_map};
+ghost use Rattle.chunk_core.specs.Places.{span_chunk};
+ghost use Rattle.dsdiff_core.specs.Spans.{StandsIn, data_with, holds_property, span_has};
+
+use chunk_core::Span;
+
+/// A chunk's data.
+pub(crate) fn data_of(file: &[u8], span: Span) -> &[u8]
+    requires { StandsIn file.now span }
+    ensures value { result.now ≡ (span_chunk file.now span).content }
+    ensures len { length result.now ≡ span.size }
+{
+    let (_, from) = file.split_at(span.start);
+    let (data, _) = from.split_at(span.size);
+    data
+}
+
+/// Whether the chunk is a property of the sound.
+pub(crate) fn is_sound_property(file: &[u8], span: Span) -> bool
+    requires { StandsIn file.now span }
+    ensures value { result ≡ holds_property file.now span }
+    ensures long { IsTrue result → 4 ≤ span.size }
+{
+    span.id == *b"PROP" && data_of(file, span).starts_with(b"SND ")
+}
+
+/// The first chunk with this ID.
+pub(crate) fn first_with(spans: &[Span], id: [u8; 4]) -> Option<Span>
+    ensures { result ≡ find (span_has id) spans.now }
+{
+    for span in spans {
+        if span.id == id {
+            return Some(*span);
+        }
+    }
+    None
+}
+
+/// The first property of the sound.
+pub(crate) fn first_sound_property(file: &[u8], spans: &[Span]) -> Option<Span>
+    requires { All (StandsIn file.now) spans.now }
+    ensures value { result ≡ find (holds_property file.now) spans.now }
+    ensures inside { IfSome result (StandsIn file.now) }
+    ensures long { IfSome result (λ s. 4 ≤ s.size) }
+{
+    for span in spans {
+        if is_sound_property(file, *span) {
+            return Some(*span);
+        }
+    }
+    None
+}
+
+/// The data of the first chunk with this ID.
+pub(crate) fn data_with<'a>(file: &'a [u8], spans: &[Span], id: [u8; 4]) -> Option<&'a [u8]>
+    requires { All (StandsIn file.now) spans.now }
+    ensures { option_map (λ x. x.now) result ≡ data_with file.now id spans.now }
+{
+    match first_with(spans, id) {
+        None => None,
+        Some(span) => Some(data_of(file, span)),
+    }
+}

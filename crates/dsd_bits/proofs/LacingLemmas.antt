@@ -1,17 +1,20 @@
 -- Lemmas about laced sound bytes.
-use Rattle.std.proofs.Common.{◌≡◌, ℕ, ◌+◌, ◌-◌, ◌*◌, ◌/◌, ◌%◌, ◌<◌, ◌≤◌, Bool, false, eqb, List, [], map, length, get_or, slice_index, sym, ap, ◌∙◌, arith, mul_comm, mul_assoc, add-zero}
+use Rattle.std.proofs.Common.{◌≡◌, ◌≢◌, ℕ, ◌+◌, ◌-◌, ◌*◌, ◌/◌, ◌%◌, ◌<◌, ◌≤◌, Bool, false, eqb, List, [], ◌++◌, map, take, length, get_or, slice_index, inl, inr, sym, ap, ◌∙◌, arith, mul_comm, mul_assoc, add-zero}
 use Rattle.std.proofs.lemmas.List.FromFn.{length-map-range_with_len, get_or-map-range_with_len}
 use Rattle.std.proofs.lemmas.List.{same_lists, ext_get_or}
-use Rattle.std.proofs.lemmas.Nat.{div-mul-add, mod-mul-add, mul-add-lt}
+use Rattle.std.proofs.lemmas.Bool.{cases_lt}
+use Rattle.std.proofs.lemmas.Grind.{same_number_lists}
+use Rattle.std.proofs.lemmas.Nat.{div-add-mod', div-mul-add, div_below, mod-mul-add, mod_below, mul-add-lt}
 use Rattle.std.specs.List.{range_with_len}
 use Rattle.std.specs.Int.{bit_at}
 use Rattle.dsd_bits.specs.Channels.{IsLevel, count_of}
 use Rattle.dsd_bits.specs.Packing.{unpacked, packed_byte, packed}
 use Rattle.dsd_bits.specs.Lacing.{AreLaced, laced_bit, unlaced, unlaced_all, frames_of, laced_byte, laced}
 use Rattle.dsd_bits.proofs.RoundTrip.{bit_of_byte}
+use Rattle.dsd_bits.proofs.ShiftingLemmas.{written_back}
 
 -- lists by a function of the place, equal place by place
-map_range_same : {X : Type 0} (n : ℕ) (f g : ℕ → X) → ((i : ℕ) → i < n → f i ≡ g i) → map f (range_with_len 0 n) ≡ map g (range_with_len 0 n)
+pub map_range_same : {X : Type 0} (n : ℕ) (f g : ℕ → X) → ((i : ℕ) → i < n → f i ≡ g i) → map f (range_with_len 0 n) ≡ map g (range_with_len 0 n)
 map_range_same n f g same =
     same_lists _ _ (length-map-range_with_len f 0 n ∙ sym (length-map-range_with_len g 0 n)) (λ i d h.
     let low : i < n = omega (arith, length-map-range_with_len f 0 n) in
@@ -24,6 +27,24 @@ own_bytes bytes channels c frames = map (λ frame. slice_index bytes (frame * ch
 pub unpacked-own_bytes : (bytes : List ℕ) (channels c frames : ℕ) → unpacked (own_bytes bytes channels c frames) (8 * frames) ≡ map (laced_bit bytes channels c) (range_with_len 0 (8 * frames))
 unpacked-own_bytes bytes channels c frames = map_range_same (8 * frames) _ _ (λ i h.
     ap (λ b. eqb (bit_at b (7 - i % 8)) 1) (get_or-map-range_with_len (λ frame. slice_index bytes (frame * channels + c)) 0 frames (i / 8) (i / 8) 0 (omega arith) (omega arith)))
+
+-- bytes that were picked are those of the channel
+pub unlaced_is : (result : List Bool) (bytes to rest : List ℕ) (channels c len : ℕ) → length to ≡ len → len ≡ length bytes / channels → ((frame : ℕ) → frame < length to → slice_index to frame ≡ slice_index bytes (frame * channels + c))
+    → result ≡ unpacked (take len (to ++ rest)) (8 * len) → result ≡ unlaced bytes channels c
+unlaced_is result bytes to rest channels c len size frames_are at read =
+    let frames = length bytes / channels in
+    let f : ℕ → ℕ = λ frame. slice_index bytes (frame * channels + c) in
+    let own : to ≡ own_bytes bytes channels c frames =
+    same_number_lists _ _ (size ∙ frames_are ∙ sym (length-map-range_with_len f 0 frames)) (λ k h. at k h ∙ sym (get_or-map-range_with_len f 0 frames k k 0 (omega (arith, size, frames_are)) (omega arith))) in
+    read ∙ ap (λ bs. unpacked bs (8 * len)) (written_back to rest len size ∙ own) ∙ ap (λ n. unpacked (own_bytes bytes channels c frames) (8 * n)) frames_are ∙ unpacked-own_bytes bytes channels c frames
+
+-- ---- places of channels in frames
+
+pub frames_apart : (a b n c : ℕ) → c < n → a ≢ b → a * n + c ≢ b * n + c
+frames_apart a b n c h apart = λ e. apart (sym (div-mul-add a n c h) ∙ ap (λ m. m / n) e ∙ div-mul-add b n c h)
+
+pub channels_apart : (a b n c d : ℕ) → c < n → d < n → d ≢ c → a * n + d ≢ b * n + c
+channels_apart a b n c d hc hd apart = λ e. apart (sym (mod-mul-add a n d hd) ∙ ap (λ m. m % n) e ∙ mod-mul-add b n c hc)
 
 -- ---- channels of whole bytes
 module _ (channels : List (List Bool)) (level : IsLevel channels) (whole : count_of channels % 8 ≡ 0) (some : 1 ≤ length channels) where
@@ -40,6 +61,40 @@ module _ (channels : List (List Bool)) (level : IsLevel channels) (whole : count
 
   length-laced : length (laced channels) ≡ frames_of channels * length channels
   length-laced = length-map-range_with_len (laced_byte channels) 0 _
+
+  -- bytes of which each is a channel's
+  pub laced_is : (to : List ℕ) → length to ≡ frames_of channels * length channels
+      → ((frame c : ℕ) → frame < frames_of channels → c < length channels → slice_index to (frame * length channels + c) ≡ slice_index (packed (get_or channels c [])) frame)
+      → to ≡ laced channels
+  laced_is to size at =
+      let n = length channels in
+      same_number_lists _ _ (size ∙ sym length-laced) (λ j h.
+      let below : j < frames_of channels * n = omega (arith, size) in
+      let frame : j / n < frames_of channels = div_below j n (frames_of channels) some below in
+      let c : j % n < n = mod_below j n some in
+      let place : j / n * n + j % n ≡ j = div-add-mod' j n in
+      ap (slice_index to) (sym place) ∙ at (j / n) (j % n) frame c ∙ byte_is_laced (j / n) (j % n) frame c ∙ ap (laced_byte channels) place
+      ∙ sym (get_or-map-range_with_len (laced_byte channels) 0 (frames_of channels * n) j j 0 below (omega arith)))
+
+  pub laced_two_are : (to left right : List ℕ) → length channels ≡ 2 → length to ≡ frames_of channels * length channels → left ≡ packed (get_or channels 0 []) → right ≡ packed (get_or channels 1 [])
+      → ((frame : ℕ) → frame < length left → slice_index to (2 * frame) ≡ slice_index left frame)
+      → ((frame : ℕ) → frame < length left → slice_index to (2 * frame + 1) ≡ slice_index right frame)
+      → to ≡ laced channels
+  laced_two_are to left right two size left_is right_is at-left at-right =
+      let long : length left ≡ frames_of channels = ap length left_is ∙ length-map-range_with_len (packed_byte (get_or channels 0 [])) 0 _ ∙ omega (arith, channel_length 0 some) in
+      laced_is to size (λ frame c below in_list.
+      let here : frame < length left = omega (arith, long) in
+      let row = ap (λ m. frame * m + c) two in
+      elim (cases_lt c 1) [
+        | inl low ↦
+            let e : c ≡ 0 = omega arith in
+            let place : frame * 2 + c ≡ 2 * frame = omega (arith, e) in
+            ap (slice_index to) (row ∙ place) ∙ at-left frame here ∙ ap (λ bs. slice_index bs frame) left_is ∙ ap (λ m. slice_index (packed (get_or channels m [])) frame) (sym e)
+        | inr high ↦
+            let e : c ≡ 1 = omega (arith, two) in
+            let place : frame * 2 + c ≡ 2 * frame + 1 = omega (arith, e) in
+            ap (slice_index to) (row ∙ place) ∙ at-right frame here ∙ ap (λ bs. slice_index bs frame) right_is ∙ ap (λ m. slice_index (packed (get_or channels m [])) frame) (sym e)
+      ])
 
   frames_again : length (laced channels) / length channels ≡ frames_of channels
   frames_again = rw (length-laced, ← add-zero (frames_of channels * length channels)) (div-mul-add (frames_of channels) (length channels) 0 some)

@@ -1,4 +1,6 @@
+pub mod BlockLemmas
 pub mod LacingLemmas
+pub mod LayoutLaws
 pub mod PackingLemmas
 pub mod RangeLemmas
 pub mod RoundTrip

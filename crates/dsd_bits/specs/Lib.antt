@@ -1,3 +1,4 @@
+pub mod Blocks
 pub mod Channels
 pub mod Contents
 pub mod Ids

@@ -1,6 +1,7 @@
 //! Lists of bits, packed eight to a byte.
 
 ghost use Rattle.std.specs.Prelude.{◌≡◌, ◌-◌, ◌*◌, ◌+◌, ◌^◌, ◌<◌, ◌≤◌, ◌++◌, ◌∷◌, ◌↔◌, [], Bool, false, List, length, vec_len, IfOk, OnErr, OnOk, slice_index_or, slice_range};
+ghost use Rattle.std.specs.Int.{div_ceil};
 ghost use Rattle.dsd_bits.specs.Packing.{IsTight, packed, unpacked};
 
 use crate::fault::BitsFault;
@@ -48,9 +49,19 @@ impl Bits {
         if bytes.len() < size {
             return Err(BitsFault::TooFewBytes);
         }
-        let mut kept = Vec::from_slice(alloc, &bytes[..size])?;
+        let kept = Vec::from_slice(alloc, &bytes[..size])?;
+        Ok(Bits::from_first_bits(kept, count))
+    }
+
+    // The first bits of the bytes, which are no more than these bits take.
+    pub(crate) fn from_first_bits(bytes: Vec<u8>, count: usize) -> Bits
+        requires in_limit { count ≤ 2 ^ 36 }
+        requires size { vec_len bytes ≡ div_ceil count 8 }
+        ensures { result ≡ unpacked bytes.items count }
+    {
+        let mut kept = bytes;
         clear_from(&mut kept, count);
-        Ok(Bits { bytes: kept, count })
+        Bits { bytes: kept, count }
     }
 
     // All the bits of the bytes.

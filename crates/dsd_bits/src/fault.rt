@@ -32,6 +32,9 @@ pub enum LaceFault {
     /// The bytes are no whole number of frames, a frame being one byte of each channel.
     #[error("PartFrame")]
     PartFrame,
+    /// The bytes hold fewer blocks than the channels take.
+    #[error("TooFewBytes")]
+    TooFewBytes,
     /// Want of memory.
     #[error("Memory")]
     Memory,

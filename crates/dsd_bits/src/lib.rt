@@ -7,7 +7,9 @@
 //! byte and that of DSF 1.01.
 //!
 //! [`unlace_bytes`] takes the sound bytes of DSDIFF apart into channels, and [`lace_bytes`] puts them
-//! together: what was laced is read again.
+//! together: what was laced is read again. [`unlace_blocks`] and [`lace_blocks`] do so with the blocks of
+//! DSF 1.01, in which each byte has the earliest bit at the one end or the other ([`BitOrder`]).
+//! [`push_laced`] and [`push_blocks`] put the sound bytes behind what a list of bytes already holds.
 //!
 //! A [`Recording`] is one record of lists and numbers: its rate, its channels, their IDs and layout,
 //! its marks, the chunks that it keeps as they are, and its tag.
@@ -18,6 +20,9 @@
 //!   list, `IsTight bytes n` says that bytes hold just `n` bits.
 //! - `laced_bit bytes channels c i` is bit `i` of channel `c` among sound bytes, `unlaced_all` all the
 //!   channels, `laced` the sound bytes of channels, `AreLaced` says where each bit stands.
+//! - `block_bit order bytes channels c i` is bit `i` of channel `c` among sound bytes in blocks,
+//!   `unblocked_all` the first bits of all the channels, `blocks_size` how many sound bytes these take,
+//!   `blocked` the sound bytes of channels, `AreBlocks` says where each bit stands.
 //! - `IsTurned old new` says that bit `i` of one byte is bit `7 - i` of the other.
 //! - `IsLevel channels` says that channels are equally long, `count_of` how long.
 //! - `Content` is what a recording holds, `HasShape` names the rules that it keeps, `layout_channels`
@@ -36,16 +41,20 @@
 #![tactic(auto)]
 
 mod bits;
+mod blocks;
 mod fault;
 mod lacing;
+mod layouts;
 mod marks;
 mod packing;
 mod recording;
 mod turning;
 
 pub use bits::Bits;
+pub use blocks::{BitOrder, lace_blocks, laced_blocks_are_read_again, push_blocks, unlace_blocks};
 pub use fault::{BitsFault, LaceFault};
-pub use lacing::{lace_bytes, laced_channels_are_read_again, unlace_bytes};
+pub use lacing::{lace_bytes, laced_channels_are_read_again, push_laced, unlace_bytes};
+pub use layouts::{layout_channels, usual_layout};
 pub use marks::{Mark, Other, Place};
 pub use recording::Recording;
 pub use turning::{turn, turn_byte};

@@ -1,8 +1,8 @@
 //! Calls at ample memory with their answers, and the texts of the faults.
 
 use crate::{
-    Bits, BitsFault, LaceFault, Mark, Other, Place, Recording, lace_bytes, turn, turn_byte,
-    unlace_bytes,
+    BitOrder, Bits, BitsFault, LaceFault, Mark, Other, Place, Recording, lace_blocks, lace_bytes,
+    push_blocks, push_laced, turn, turn_byte, unlace_blocks, unlace_bytes,
 };
 use std::alloc::Global;
 use std::process::Abort;
@@ -129,6 +129,59 @@ fn laces_what_it_took_apart(rt: HostRuntime) -> Result<(), Fail> {
     assert_eq!(rt; channels[1].len(), 16);
     let bytes = lace_bytes(alloc, &channels)?;
     assert_eq!(rt; bytes.as_slice(), [0xf0, 0x0f, 0xaa, 0x55].as_slice());
+    Ok(())
+}
+
+#[test]
+fn laces_behind_what_is_there(rt: HostRuntime) -> Result<(), Fail> {
+    let alloc = rt.alloc();
+    let mut out = [7].to_vec(alloc)?;
+    push_laced(&mut out, &unlace_bytes(alloc, &[0xf0, 0x0f], 1)?)?;
+    push_laced(&mut out, &unlace_bytes(alloc, &[0xaa, 0x55], 2)?)?;
+    push_laced(&mut out, &unlace_bytes(alloc, &[1, 2, 3], 3)?)?;
+    assert_eq!(rt;
+        out.as_slice(),
+        [7, 0xf0, 0x0f, 0xaa, 0x55, 1, 2, 3].as_slice()
+    );
+    Ok(())
+}
+
+#[test]
+fn pushes_blocks_behind_what_is_there(rt: HostRuntime) -> Result<(), Fail> {
+    let alloc = rt.alloc();
+    let mut out = [1].to_vec(alloc)?;
+    push_blocks(
+        &mut out,
+        &unlace_bytes(alloc, &[1], 1)?,
+        BitOrder::LeastFirst,
+    )?;
+    let mut expected = [1, 0x80].to_vec(alloc)?;
+    expected.resize(4097, 0)?;
+    assert_eq!(rt; out.as_slice(), expected.as_slice());
+    Ok(())
+}
+
+#[test]
+fn takes_blocks_apart_and_puts_them_together(rt: HostRuntime) -> Result<(), Fail> {
+    let alloc = rt.alloc();
+    let mut bytes = [1].to_vec(alloc)?;
+    bytes.resize(8192, 0)?;
+    let channels = unlace_blocks(alloc, &bytes, 2, 1, BitOrder::LeastFirst)?;
+    assert_eq!(rt; channels.len(), 2);
+    assert_eq!(rt; channels[0].as_bytes(), [0x80].as_slice());
+    assert_eq!(rt; channels[1].as_bytes(), [0].as_slice());
+    assert_eq!(rt; channels[0].len(), 1);
+    assert_eq!(rt; channels[1].len(), 1);
+    let laced = lace_blocks(alloc, &channels, BitOrder::MostFirst)?;
+    let mut expected = [0x80].to_vec(alloc)?;
+    expected.resize(8192, 0)?;
+    assert_eq!(rt; laced.as_slice(), expected.as_slice());
+    bytes.resize(8191, 0)?;
+    let cut = unlace_blocks(alloc, &bytes, 2, 1, BitOrder::LeastFirst)
+        .err()
+        .ok_or("a fault")?;
+    assert_eq!(rt; cut, LaceFault::TooFewBytes);
+    assert_eq!(rt; format!(in alloc; "{cut}")?.as_str(), "TooFewBytes");
     Ok(())
 }
 

@@ -13,21 +13,12 @@ use Rattle.dsd_bits.specs.Contents.{MarkContent, OtherContent}
 use Rattle.dsd_bits.specs.Lacing.{laced_bit, unlaced, unlaced_all}
 use Rattle.dsd_bits.specs.Layouts.{layout_channels, usual_layout}
 use Rattle.dsd_bits.specs.Shape.{HasShape, at_place, has_part, same_place}
+use Rattle.dsd_bits.proofs.LayoutLaws.{usual_layout_fits}
 use Rattle.dsdiff_core.specs.Others.{kept, other_in}
 
 -- those of a place's chunks that are kept
 abbrev passed : Place → List Chunk → List Chunk
 passed p cs = filter (λ c. not (has_part p c.id c.content)) cs
-
-layout_is : (n : ℕ) → n ≤ 6 → layout_channels (usual_layout n) ≡ n
-layout_is zero h = refl
-layout_is (suc zero) h = refl
-layout_is (suc (suc zero)) h = refl
-layout_is (suc (suc (suc zero))) h = refl
-layout_is (suc (suc (suc (suc zero)))) h = refl
-layout_is (suc (suc (suc (suc (suc zero))))) h = refl
-layout_is (suc (suc (suc (suc (suc (suc zero)))))) h = refl
-layout_is (suc (suc (suc (suc (suc (suc (suc n))))))) h = absurd (omega arith)
 
 -- ---- channels
 
@@ -104,7 +95,7 @@ shape_is rate number layout channels ids sound tag marks others a b c low high s
       level = subst IsLevel (sym made) (level_is sound number some);
       in_limit = omega (arith, ap count_of made, count_is sound number some, short);
       id_for_each = named ∙ sym long;
-      layout_fits = ap layout_channels usual ∙ layout_is number six ∙ sym long;
+      layout_fits = ap layout_channels usual ∙ usual_layout_fits number six ∙ sym long;
       short_texts = texts;
       in_order = rw kept_are (in_order a b c);
       no_parts = rw kept_are (All-append NoPart (kept Property a) (kept Master b ++ kept Form c) (no_part Property a) (All-append NoPart (kept Master b) (kept Form c) (no_part Master b) (no_part Form c)));

@@ -1,8 +1,9 @@
 -- Bytes that were appended piece by piece.
-use Rattle.std.proofs.Common.{◌≡◌, ℕ, ◌+◌, ◌-◌, ◌%◌, ◌^◌, ◌<◌, ◌≤◌, All, List, [], ◌∷◌, ◌++◌, Some, flat_map, length, map, take, drop, get_or, Bool, true, false, refl, sym, ap, subst, ◌∙◌, append_assoc, arith}
+use Rattle.std.proofs.Common.{◌≡◌, ℕ, ◌+◌, ◌*◌, ◌-◌, ◌%◌, ◌^◌, ◌<◌, ◌≤◌, All, List, [], ◌∷◌, ◌++◌, Some, flat_map, length, map, replicate, take, drop, get_or, Bool, true, false, refl, sym, ap, subst, ◌∙◌, append_assoc, arith}
 use Rattle.std.specs.Prelude.{if◌then◌else◌}
 use Rattle.std.proofs.lemmas.List.{append-nil, get_or-map, length-map, map-append, take_all, take_more}
 use Rattle.std.proofs.lemmas.List.Elements.{All-append, All-map, All-nil, All-push, All-same, filter-append}
+use Rattle.std.proofs.lemmas.List.FromFn.{length-map-range_with_len}
 use Rattle.std.proofs.lemmas.Grind.{flat_map-append}
 use Rattle.byteorder.specs.Endian.{big_bytes}
 use Rattle.chunk_core.specs.Chunks.{Chunk, spell, spelled}
@@ -13,7 +14,7 @@ use Rattle.dsd_bits.specs.declared.marks.Place.TheVariants.{Property, Master, Fo
 use Rattle.dsd_bits.specs.Channels.{count_of}
 use Rattle.dsd_bits.specs.Contents.{Content, MarkContent, OtherContent, mark_content, other_content}
 use Rattle.dsd_bits.specs.Ids.{SND, FS, CHNL, DSD, MARK}
-use Rattle.dsd_bits.specs.Lacing.{laced}
+use Rattle.dsd_bits.specs.Lacing.{frames_of, laced, laced_byte}
 use Rattle.dsd_bits.specs.Shape.{HasShape, same_place, at_place}
 use Rattle.dsdiff_core.specs.Kinds.{FRM8}
 use Rattle.dsdiff_core.specs.MarkBytes.{mark_bytes}
@@ -46,6 +47,15 @@ four_more : (front a b c d : List ℕ) (now-0 now-1 now-2 now-3 now-4 : List ℕ
 four_more front a b c d now-0 now-1 now-2 now-3 now-4 e-0 e-1 e-2 e-3 e-4 =
     e-4 ∙ ap (λ x. x ++ d) (e-3 ∙ ap (λ x. x ++ c) (e-2 ∙ ap (λ x. x ++ b) (e-1 ∙ ap (λ x. x ++ a) e-0))) ∙ simp append_assoc
 
+-- the sound's chunk, whose pad is written last
+pub sound_is : (channels : List (List Bool)) (old now-1 now-2 now-3 now-4 : List ℕ) (size n fill : ℕ) → size ≡ frames_of channels * length channels → now-1 ≡ old ++ DSD → now-2 ≡ now-1 ++ big_bytes 8 size → now-3 ≡ now-2 ++ laced channels
+    → length now-3 ≤ n → fill ≡ size % 2 → now-4 ≡ take n now-3 ++ replicate fill 0 → now-4 ≡ old ++ spelled DSD (laced channels)
+sound_is channels old now-1 now-2 now-3 now-4 size n fill size_is e-1 e-2 e-3 room filled e-4 =
+    let sound = laced channels in
+    let long : size ≡ length sound = size_is ∙ sym (length-map-range_with_len (laced_byte channels) 0 (frames_of channels * length channels)) in
+    four_more old DSD (big_bytes 8 (length sound)) sound (replicate (length sound % 2) 0) old now-1 now-2 now-3 now-4 refl e-1 (e-2 ∙ ap (λ k. now-1 ++ big_bytes 8 k) long) e-3
+    (e-4 ∙ ap (λ (xs : List ℕ). xs ++ replicate fill 0) (take_all n now-3 room) ∙ ap (λ k. now-3 ++ replicate k 0) (filled ∙ ap (λ k. k % 2) long))
+
 -- the data of the sound's property
 pub property_is : (r : Content) (rate names : List ℕ) (now-0 now-1 now-2 now-3 now-4 : List ℕ) → rate ≡ big_bytes 4 r.rate → names ≡ (channels_chunk r.ids).content
     → now-0 ≡ SND → now-1 ≡ now-0 ++ spelled FS rate → now-2 ≡ now-1 ++ spelled CHNL names → now-3 ≡ now-2 ++ spell compression_chunk → now-4 ≡ now-3 ++ flat_map spell (others_of Property r.others)
@@ -67,13 +77,13 @@ sized body now new e sized_is =
     sized_is ∙ ap filled e ∙ ap (λ size. FRM8 ++ big_bytes 8 size ++ DSD ++ body) (omega arith)
 
 -- the file
-pub text_is : (r : Content) (sound : List ℕ) (now-1 now-2 now-3 now-4 : List ℕ) → count_of r.channels % 8 ≡ 0 → sound ≡ laced r.channels
-    → now-1 ≡ first_bytes r → now-2 ≡ now-1 ++ spelled DSD sound → now-3 ≡ now-2 ++ flat_map spell (last_chunks r)
+pub text_is : (r : Content) (now-1 now-2 now-3 now-4 : List ℕ) → count_of r.channels % 8 ≡ 0
+    → now-1 ≡ first_bytes r → now-2 ≡ now-1 ++ spelled DSD (laced r.channels) → now-3 ≡ now-2 ++ flat_map spell (last_chunks r)
     → now-4 ≡ take 4 now-3 ++ big_bytes 8 (length now-3 - 12) ++ drop 12 now-3 → dsdiff_text r ≡ Some now-4
-text_is r sound now-1 now-2 now-3 now-4 whole sound_is e-1 e-2 e-3 e-4 =
+text_is r now-1 now-2 now-3 now-4 whole e-1 e-2 e-3 e-4 =
     let text : now-4 ≡ form_text (form_chunks r) =
     sized (flat_map spell (form_chunks r)) now-3 now-4
-    (two_more (FRM8 ++ big_bytes 8 0 ++ DSD) (spell version_chunk) (spell (property_chunk r)) (spell (sound_chunk r)) (flat_map spell (last_chunks r)) now-1 now-2 now-3 e-1 (e-2 ∙ ap (λ x. now-1 ++ spelled DSD x) sound_is) e-3)
+    (two_more (FRM8 ++ big_bytes 8 0 ++ DSD) (spell version_chunk) (spell (property_chunk r)) (spell (sound_chunk r)) (flat_map spell (last_chunks r)) now-1 now-2 now-3 e-1 e-2 e-3)
     e-4 in
     rw whole (ap Some (sym text))
 

@@ -2,8 +2,6 @@
 use Rattle.std.specs.Prelude.{◌≡◌, Option, Some, None, Result, Ok, Err}
 use Rattle.chunk_core.specs.declared.fault.ChunkFault.{ChunkFault}
 use Rattle.chunk_core.specs.declared.fault.ChunkFault.TheVariants as chunk_faults
-use Rattle.dsd_bits.specs.declared.fault.LaceFault.{LaceFault}
-use Rattle.dsd_bits.specs.declared.fault.LaceFault.TheVariants as lace_faults
 use Rattle.dsdiff_core.specs.declared.fault.DsdiffFault.{DsdiffFault}
 use Rattle.dsdiff_core.specs.declared.fault.DsdiffFault.TheVariants as faults
 
@@ -12,11 +10,6 @@ abbrev pub chunk_fault : ChunkFault → DsdiffFault
 chunk_fault chunk_faults.Memory = faults.Memory
 chunk_fault (chunk_faults.HeadCut at) = faults.Chunk (chunk_faults.HeadCut at)
 chunk_fault (chunk_faults.DataCut at) = faults.Chunk (chunk_faults.DataCut at)
-
--- a fault of laced sound as one of a file
-abbrev pub lace_fault : LaceFault → DsdiffFault
-lace_fault lace_faults.PartFrame = faults.PartFrame
-lace_fault lace_faults.Memory = faults.Memory
 
 -- what a walk gave, as a step of reading a file
 abbrev pub walked : {A : Type 0} → Result A ChunkFault → Result A DsdiffFault

@@ -2,10 +2,9 @@
 
 ghost use Rattle.std.specs.Prelude.{◌≡◌};
 ghost use Rattle.dsdiff_core.specs.declared.fault.DsdiffFault.TheVariants.{Memory};
-ghost use Rattle.dsdiff_core.specs.Steps.{chunk_fault, lace_fault};
+ghost use Rattle.dsdiff_core.specs.Steps.{chunk_fault};
 
 use chunk_core::ChunkFault;
-use dsd_bits::LaceFault;
 use std::alloc::{AllocError, AllocFailed};
 use thiserror::Error;
 
@@ -80,17 +79,6 @@ impl From<ChunkFault> for DsdiffFault {
         match f {
             ChunkFault::Memory => DsdiffFault::Memory,
             _ => DsdiffFault::Chunk(f),
-        }
-    }
-}
-
-impl From<LaceFault> for DsdiffFault {
-    ghost from_gives = { λ f e. e ≡ lace_fault f };
-
-    fn from(f: LaceFault) -> DsdiffFault {
-        match f {
-            LaceFault::PartFrame => DsdiffFault::PartFrame,
-            LaceFault::Memory => DsdiffFault::Memory,
         }
     }
 }

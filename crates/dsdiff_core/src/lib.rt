@@ -13,7 +13,8 @@
 //! name ([`DsdiffFault`]).
 //!
 //! [`write`] gives the bytes of the file that holds a recording, all of them or none, and [`place`] says
-//! where a mark is. A recording whose channels end inside a byte has no file.
+//! where a mark is; [`mark_at`] makes the mark of a title that starts at a place. A recording whose
+//! channels end inside a byte has no file.
 //!
 //! The words of its contracts:
 //! - `IsDsdiff file r` (`specs/Files.antt`): the file holds the recording `r`. It is said in lists of
@@ -29,6 +30,7 @@
 //!   `form_chunks` in the form, each spelled by `spell`; `form_text` puts the head before them.
 //! - `mark_bytes m` (`specs/MarkBytes.antt`): the bytes of a mark.
 //! - `place_of m rate` (`specs/MarkPlaces.antt`): the place of a mark, a whole number that may be below zero.
+//!   `title_mark place rate text` is the mark of a title, `IsAt m rate place` says where a mark is.
 //! - `as_told r` (`specs/ReadAgain.antt`): the recording without what a file does not tell, its layout and tag.
 //!
 //! What it promises: what is read is what the file holds; whatever recording a file holds is read; any
@@ -65,7 +67,7 @@ mod writing_laws;
 
 pub use fault::DsdiffFault;
 pub use laws::one_recording;
-pub use places::place;
+pub use places::{mark_at, place};
 pub use reading::read;
 pub use write_fault::WriteFault;
 pub use writing::write;

@@ -1,8 +1,7 @@
 //! A whole file.
 
-ghost use Rattle.std.specs.Prelude.{◌≡◌, ◌≤◌, List, ℕ, IfOk, Ok};
+ghost use Rattle.std.specs.Prelude.{List, ℕ, IfOk, Ok};
 ghost use Rattle.dsd_bits.specs.Contents.{Content};
-ghost use Rattle.dsd_bits.specs.Layouts as layouts;
 ghost use Rattle.dsdiff_core.specs.Files.{IsDsdiff};
 ghost use Rattle.dsdiff_core.specs.Reading.{recording_of};
 ghost use Rattle.dsdiff_core.specs.Steps.{Gives};
@@ -13,8 +12,8 @@ use crate::marks::read_marks;
 use crate::masters::master_chunks;
 use crate::others::push_kept;
 use crate::property::read_property;
-use crate::sound::find_sound;
-use dsd_bits::{Place, Recording, unlace_bytes};
+use crate::sound::{channels_of, find_sound};
+use dsd_bits::{Place, Recording, usual_layout};
 use std::alloc::Global;
 
 /// The recording that a DSDIFF 1.5 file holds: its rate in hertz, a list of bits for each channel, the
@@ -61,7 +60,7 @@ fn read_in_order(alloc: Global, file: &[u8]) -> Result<Recording, DsdiffFault>
     let number = told.ids.len();
     let sound = find_sound(file, &top, number)?;
     let inner = master_chunks(alloc, file, &top)?;
-    let channels = unlace_bytes(alloc, sound, number)?;
+    let channels = channels_of(alloc, sound, number)?;
     let marks = read_marks(alloc, file, &inner)?;
     let mut others = Vec::new(alloc);
     push_kept(alloc, &mut others, Place::Property, file, &told.parts)?;
@@ -71,21 +70,9 @@ fn read_in_order(alloc: Global, file: &[u8]) -> Result<Recording, DsdiffFault>
         told.rate,
         channels,
         told.ids,
-        usual_layout(number),
+        usual_layout(number as u32),
         marks,
         others,
         Vec::new(alloc),
     ))
-}
-
-// The layout of so many channels, a channel type of DSF 1.01.
-fn usual_layout(number: usize) -> u32
-    requires { number ≤ 6 }
-    ensures { result ≡ layouts.usual_layout number }
-{
-    if number < 5 {
-        number as u32
-    } else {
-        number as u32 + 1
-    }
 }

@@ -3,6 +3,7 @@
 ghost use Rattle.std.specs.Prelude.{◌≡◌, ◌≤◌, ◌*◌, ◌/◌, ◌%◌, ◌^◌, All, IfOk, length, map};
 ghost use Rattle.chunk_core.specs.Places.{span_chunk};
 ghost use Rattle.dsd_bits.specs.Ids.{DSD};
+ghost use Rattle.dsd_bits.specs.Lacing.{unlaced_all};
 ghost use Rattle.dsdiff_core.specs.Sounds.{sound_leads, sound_of};
 ghost use Rattle.dsdiff_core.specs.Spans.{StandsIn, data_with};
 ghost use Rattle.dsdiff_core.specs.Steps.{Gives};
@@ -10,6 +11,8 @@ ghost use Rattle.dsdiff_core.specs.Steps.{Gives};
 use crate::fault::DsdiffFault;
 use crate::spans::{data_with, is_sound_property};
 use chunk_core::Span;
+use dsd_bits::{Bits, LaceFault, unlace_bytes};
+use std::alloc::{AllocError, Global};
 
 /// The sound bytes of so many channels, among the form's chunks.
 pub(crate) fn find_sound<'a>(
@@ -36,6 +39,24 @@ pub(crate) fn find_sound<'a>(
         return Err(DsdiffFault::TooLong);
     }
     Ok(bytes)
+}
+
+/// The channels of whole frames of sound.
+pub(crate) fn channels_of(
+    alloc: Global,
+    sound: &[u8],
+    number: usize,
+) -> Result<Vec<Bits>, AllocError>
+    requires channel_number { (1 ≤ number) × (number ≤ 6) }
+    requires in_limit { 8 * (length sound.now / number) ≤ 2 ^ 36 }
+    requires whole { length sound.now % number ≡ 0 }
+    ensures { IfOk result (λ made. made.items ≡ unlaced_all sound.now number) }
+{
+    match unlace_bytes(alloc, sound, number) {
+        Ok(channels) => Ok(channels),
+        Err(LaceFault::Memory) => Err(AllocError),
+        Err(LaceFault::PartFrame | LaceFault::TooFewBytes) => unreachable!(),
+    }
 }
 
 // Whether the sound stands before the sound property.

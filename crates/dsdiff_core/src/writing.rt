@@ -1,11 +1,13 @@
 //! From a recording to the bytes of a file.
 
-ghost use Rattle.std.specs.Prelude.{◌≡◌, ◌<◌, ◌≤◌, ◌-◌, ◌^◌, ◌++◌, ◌↔◌, All, None, Some, IfOk, OnOk, drop, flat_map, length, map, take};
+ghost use Rattle.std.specs.Prelude.{◌≡◌, ◌<◌, ◌≤◌, ◌-◌, ◌%◌, ◌^◌, ◌++◌, ◌↔◌, All, None, Some, IfOk, OnOk, drop, flat_map, length, map, take};
 ghost use Rattle.byteorder.specs.Endian.{big_bytes};
 ghost use Rattle.chunk_core.specs.Chunks.{spell, spelled};
 ghost use Rattle.dsd_bits.specs.declared.marks.Place.TheVariants.{Form, Master, Property};
+ghost use Rattle.dsd_bits.specs.Channels.{IsLevel, count_of};
 ghost use Rattle.dsd_bits.specs.Contents.{mark_content, other_content};
-ghost use Rattle.dsd_bits.specs.Ids.{SND};
+ghost use Rattle.dsd_bits.specs.Ids.{DSD, SND};
+ghost use Rattle.dsd_bits.specs.Lacing.{laced};
 ghost use Rattle.dsd_bits.specs.Shape.{HasShape, at_place, same_place};
 ghost use Rattle.dsdiff_core.specs.Files.{IsDsdiff};
 ghost use Rattle.dsdiff_core.specs.MarkBytes.{mark_bytes};
@@ -15,8 +17,8 @@ ghost use Rattle.dsdiff_core.specs.Writing.{channels_chunk, dsdiff_text, first_b
 use crate::write_fault::WriteFault;
 use crate::writing_laws::written_is_read_again;
 use byteorder::{BigEndian, ByteOrder};
-use chunk_core::{Order, push_chunk, push_u16, push_u32};
-use dsd_bits::{Mark, Other, Place, Recording, lace_bytes};
+use chunk_core::{Order, push_chunk, push_u16, push_u32, push_u64};
+use dsd_bits::{Bits, Mark, Other, Place, Recording, push_laced};
 use std::alloc::{AllocError, Global};
 
 /// The bytes of the DSDIFF 1.5 file that holds the recording. Numbers are written with the highest byte
@@ -45,11 +47,12 @@ pub fn write(alloc: Global, recording: &Recording) -> Result<Vec<u8>, WriteFault
     if recording.count() % 8 != 0 {
         return Err(WriteFault::NotWholeBytes);
     }
-    let sound = lace_bytes(alloc, recording.channels())?;
+    let channels = recording.channels();
+    let sound = recording.count() / 8 * channels.len();
     let last = last_bytes(alloc, recording)?;
     let mut out = first_bytes(alloc, recording)?;
-    out.reserve_exact(12 + sound.len() + sound.len() % 2 + last.len())?;
-    push_chunk(&mut out, *b"DSD ", &sound)?;
+    out.reserve_exact(12 + sound + sound % 2 + last.len())?;
+    push_sound(&mut out, channels)?;
     out.extend_from_slice(&last)?;
     set_form_size(&mut out);
     written_is_read_again();
@@ -112,6 +115,21 @@ fn channels_data(alloc: Global, ids: &[[u8; 4]]) -> Result<Vec<u8>, AllocError>
         out.extend_from_slice(id)?;
     }
     Ok(out)
+}
+
+// Appends the chunk of the sound.
+fn push_sound(out: &mut Vec<u8>, channels: &[Bits]) -> Result<(), AllocError>
+    requires channel_number { (1 ≤ length channels.now) × (length channels.now ≤ 6) }
+    requires level { IsLevel channels.now }
+    requires whole_bytes { count_of channels.now % 8 ≡ 0 }
+    ensures { OnOk result (out.new.items ≡ out.old.items ++ spelled DSD (laced channels.now)) }
+{
+    let size = channels[0].len() / 8 * channels.len();
+    out.extend_from_slice(b"DSD ")?;
+    push_u64(out, Order::Big, size as u64)?;
+    push_laced(out, channels)?;
+    out.resize(out.len() + size % 2, 0)?;
+    Ok(())
 }
 
 // The chunks behind the sound.

@@ -1,6 +1,6 @@
 //! Files written at ample memory, byte by byte, places of marks, and the texts of the faults.
 
-use crate::{WriteFault, place, write};
+use crate::{WriteFault, mark_at, place, write};
 use dsd_bits::{Bits, Mark, Other, Place, Recording};
 use std::test::Fail;
 
@@ -129,6 +129,17 @@ fn finds_places(rt: HostRuntime) {
     mark.minutes = 0;
     mark.seconds = 0;
     assert_eq!(rt; place(&mark, 2822400), -1);
+}
+
+#[test]
+fn marks_the_start_of_a_title(rt: HostRuntime) -> Result<(), Fail> {
+    let mark = mark_at(rt.alloc(), 10332806405, 2822400, b"x")?;
+    assert_eq!(rt; (mark.hours, mark.minutes, mark.seconds), (1, 1, 1));
+    assert_eq!(rt; (mark.samples, mark.offset), (5, 0));
+    assert_eq!(rt; (mark.kind, mark.channel, mark.flags), (0, 0, 0));
+    assert_eq!(rt; mark.text.as_slice(), b"x".as_slice());
+    assert_eq!(rt; place(&mark, 2822400), 10332806405);
+    Ok(())
 }
 
 #[test]

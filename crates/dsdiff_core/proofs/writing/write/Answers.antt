@@ -5,13 +5,13 @@ use Rattle.dsdiff_core.proofs.writing.write.Goals as goal
 
 pub returns-clause-text : goal.returns-clause-text
 returns-clause-text c =
-    text_is c.args.recording.now c.deref.result.now c.reserve_exact.new.self.items c.push_chunk.new.out.items c.extend_from_slice.new.self.items c.set_form_size.new.form.items
-    (grind arith) (grind arith) (grind arith) (grind arith) (grind arith) c.set_form_size.ensures
+    text_is c.args.recording.now c.reserve_exact.new.self.items c.push_sound.new.out.items c.extend_from_slice.new.self.items c.set_form_size.new.form.items
+    (grind arith) (grind arith) (grind arith) (grind arith) c.set_form_size.ensures
 
 pub returns-clause-read_again : goal.returns-clause-read_again
 returns-clause-read_again c =
     let r = c.args.recording.now in
     let first = c.in_ok-out.ensures in
     let last = c.in_ok-last.ensures in
-    let fits : FitsFields r = record { ids = first.ids_fit; marks = last.marks_fit; others = others_fit r c.channels.ensures.shape first.properties_fit last.masters_fit last.forms_fit } in
-    c.written_is_read_again.ensures r c.set_form_size.new.form.items c.channels.ensures.shape fits (returns-clause-text c) (omega arith)
+    let fits : FitsFields r = record { ids = first.ids_fit; marks = last.marks_fit; others = others_fit r c.channels-channels.ensures.shape first.properties_fit last.masters_fit last.forms_fit } in
+    c.written_is_read_again.ensures r c.set_form_size.new.form.items c.channels-channels.ensures.shape fits (returns-clause-text c) (omega arith)

@@ -1,0 +1,146 @@
+//! Channels laced into blocks of sound bytes, as the data chunk of DSF 1.01 holds them, and taken apart
+//! again.
+
+ghost use Rattle.std.specs.Prelude.{◌≡◌, ◌≢◌, ◌+◌, ◌*◌, ◌^◌, ◌<◌, ◌≤◌, ◌++◌, ◌↔◌, IfOk, IsOk, OnOk, if◌then◌else◌, is_ok, length, map, slice_index, vec_capacity, vec_len};
+ghost use Rattle.std.specs.List.{range_with_len};
+ghost use Rattle.dsd_bits.specs.Blocks.{AreBlocks, BlocksReadAgain, blocked, blocks_size, ordered, unblocked, unblocked_all};
+ghost use Rattle.dsd_bits.specs.Channels.{IsLevel, count_of};
+
+use crate::bits::Bits;
+use crate::fault::LaceFault;
+use crate::turning::turn;
+use std::alloc::{AllocError, Global};
+
+/// Which bit of a sound byte of DSF 1.01 is the earliest.
+#[derive(Clone, Copy, Debug, PartialEq, Eq)]
+pub enum BitOrder {
+    /// The least significant, as of 1 bit per sample.
+    LeastFirst,
+    /// The most significant, as of 8 bits per sample.
+    MostFirst,
+}
+
+/// The first `count` bits, at most `2^36`, of each of one to six channels in sound bytes of DSF 1.01:
+/// for every 32768 bits a block of 4096 bytes of each channel in turn. What stands behind a channel's
+/// last bit and behind the last block is left out.
+///
+/// Refusals, in this order: `TooFewBytes` where a block is missing or cut, `Memory`.
+pub fn unlace_blocks(
+    alloc: Global,
+    bytes: &[u8],
+    channels: usize,
+    count: usize,
+    order: BitOrder,
+) -> Result<Vec<Bits>, LaceFault>
+    requires channel_number { (1 ≤ channels) × (channels ≤ 6) }
+    requires in_limit { count ≤ 2 ^ 36 }
+    ensures ok { IfOk result (λ made. made.items ≡ unblocked_all order bytes.now channels count) }
+    ensures level { IfOk result (λ made. IsLevel made.items) }
+    ensures count { IfOk result (λ made. count_of made.items ≡ count) }
+    ensures too_few { (result ≡ Err LaceFault.TooFewBytes) ↔ (length bytes.now < blocks_size channels count) }
+    ensures no_part_frame { result ≢ Err LaceFault.PartFrame }
+{
+    if bytes.len() < count.div_ceil(32768) * channels * 4096 {
+        return Err(LaceFault::TooFewBytes);
+    }
+    let mut made = Vec::with_capacity(alloc, channels)?;
+    for c in 0..channels {
+        made.push_reserved(unlace_channel(alloc, bytes, channels, c, count, order)?);
+    }
+    Ok(made)
+}
+
+// Channel `c` of sound bytes in blocks.
+fn unlace_channel(
+    alloc: Global,
+    bytes: &[u8],
+    channels: usize,
+    c: usize,
+    count: usize,
+    order: BitOrder,
+) -> Result<Bits, AllocError>
+    requires channel { (c < channels) × (channels ≤ 6) }
+    requires enough { blocks_size channels count ≤ length bytes.now }
+    requires in_limit { count ≤ 2 ^ 36 }
+    ensures { IfOk result (λ bits. bits ≡ unblocked order bytes.now channels count c) }
+{
+    let size = count.div_ceil(8);
+    let mut own = Vec::with_capacity(alloc, size)?;
+    for group in 0..count.div_ceil(32768) {
+        let (_, block) = bytes.split_at((group * channels + c) * 4096);
+        let (used, _) = block.split_at((size - 4096 * group).min(4096));
+        own.extend_from_slice(used)?;
+    }
+    put_in_order(own.as_mut_slice(), order);
+    Ok(Bits::from_first_bits(own, count))
+}
+
+/// The sound bytes of DSF 1.01 of one to six channels of equal length: for every 32768 bits a block of
+/// 4096 bytes of each channel in turn, the last block of a channel filled with zeros.
+pub fn lace_blocks(alloc: Global, channels: &[Bits], order: BitOrder) -> Result<Vec<u8>, AllocError>
+    requires channel_number { (1 ≤ length channels.now) × (length channels.now ≤ 6) }
+    requires level { IsLevel channels.now }
+    ensures text { IfOk result (λ bytes. bytes.items ≡ blocked order channels.now) }
+    ensures places { IfOk result (λ bytes. AreBlocks order channels.now bytes.items) }
+{
+    let mut made = Vec::new(alloc);
+    push_blocks(&mut made, channels, order)?;
+    Ok(made)
+}
+
+/// Appends the sound bytes of DSF 1.01 of one to six channels of equal length, as [`lace_blocks`] gives
+/// them. Where there is no memory for them `out` stays as it was.
+pub fn push_blocks(out: &mut Vec<u8>, channels: &[Bits], order: BitOrder) -> Result<(), AllocError>
+    requires channel_number { (1 ≤ length channels.now) × (length channels.now ≤ 6) }
+    requires level { IsLevel channels.now }
+    ensures text { out.new.items ≡
+        (if is_ok result then out.old.items ++ blocked order channels.now else out.old.items) }
+{
+    let blocks = channels[0].len().div_ceil(32768) * channels.len();
+    out.reserve(4096 * blocks)?;
+    for block in 0..blocks {
+        let bytes = channels[block % channels.len()].as_bytes();
+        push_block(out, bytes, block / channels.len(), order)?;
+    }
+    Ok(())
+}
+
+// Appends the block of a channel in a group: 4096 of its bytes, with zeros behind their end. It fails
+// only where room is missing.
+fn push_block(
+    out: &mut Vec<u8>,
+    bytes: &[u8],
+    group: usize,
+    order: BitOrder,
+) -> Result<(), AllocError>
+    requires { 4096 * group ≤ length bytes.now }
+    ensures ok { OnOk result (out.new.items ≡
+        out.old.items ++ map (ordered order) (map (slice_index bytes.now) (range_with_len (4096 * group) 4096))) }
+    ensures capacity { vec_capacity out.old ≤ vec_capacity out.new }
+    ensures succeeds { vec_len out.old + 4096 ≤ vec_capacity out.old → IsOk result }
+{
+    let (_, rest) = bytes.split_at(4096 * group);
+    let (used, _) = rest.split_at(rest.len().min(4096));
+    let kept = out.len();
+    out.extend_from_slice(used)?;
+    out.resize(kept + 4096, 0)?;
+    let (_, block) = out.as_mut_slice().split_at_mut(kept);
+    put_in_order(block, order);
+    Ok(())
+}
+
+// Changes bytes between this order of their bits and the most significant bit first.
+fn put_in_order(bytes: &mut [u8], order: BitOrder)
+    ensures { bytes.new ≡ map (ordered order) bytes.old }
+{
+    match order {
+        BitOrder::LeastFirst => turn(bytes),
+        BitOrder::MostFirst => {}
+    }
+}
+
+/// The law of blocks: channels of equal length that are laced in blocks are read again, whatever stands
+/// behind the blocks.
+pub fn laced_blocks_are_read_again()
+    ensures { BlocksReadAgain }
+{}

@@ -1,0 +1,199 @@
+-- Reading and the relation, in both directions.
+use Rattle.std.proofs.Common.{◌≡◌, ℕ, zero, suc, ◌+◌, ◌-◌, ◌^◌, ◌≤◌, ◌⊎◌, inl, inr, Bool, true, false, cond, eqb, ltb, not, ◌&&◌, List, [], ◌∷◌, length, drop, Result, Ok, Err, refl, sym, ap, ◌∙◌, arith, ne_eqb, eq-eqb}
+use Rattle.std.proofs.lemmas.Bool.{ltb-false, le-ltb, eqb-true, cases_eq, not_from_true}
+use Rattle.std.proofs.lemmas.Slice.Eq.{bytes_eq-Decides}
+use Rattle.chunk_core.proofs.Steps.{bind_then, guard_ok, chosen}
+use Rattle.dsd_bits.specs.declared.blocks.BitOrder.{BitOrder}
+use Rattle.dsd_bits.specs.declared.blocks.BitOrder.TheVariants.{LeastFirst, MostFirst}
+use Rattle.dsd_bits.specs.Contents.{Content}
+use Rattle.dsd_bits.specs.Ids.{same_id, DSD}
+use Rattle.dsf_core.specs.declared.fault.DsfFault.{DsfFault}
+use Rattle.dsf_core.specs.declared.fault.DsfFault.TheVariants.{BadPointer}
+use Rattle.dsf_core.specs.Fields.{id_at, FMT, DATA, first_size, pointer, format_size, version, format, channel_type, channel_number, rate, bits_per_sample, count, block_size, data_place, data_size, sound_place, needed, sound_end, layout_told, dsf_ids, tag_told}
+use Rattle.dsf_core.specs.Files.{bits_of, IsDsf}
+use Rattle.dsf_core.specs.Reading.{chunks_of, order_of, sound_of, tag_of, told, recording_of}
+
+not_false : (b : Bool) → not b ≡ false → b ≡ true
+not_false true e = refl
+not_false false e = absurd cc
+
+id_is : (a b : List ℕ) → not (same_id a b) ≡ false → a ≡ b
+id_is a b e = (bytes_eq-Decides a b).0 (not_false _ e)
+
+same_again : (a b : List ℕ) → a ≡ b → not (same_id a b) ≡ false
+same_again a b e = not_from_true _ ((bytes_eq-Decides a b).1 e)
+
+-- ---- the three chunks
+
+chunks_ok : (file : List ℕ) (n : ℕ) → chunks_of file ≡ Ok n
+    → (id_at file 0 ≡ DSD) × (first_size file ≡ 28) × (id_at file 28 ≡ FMT) × (52 ≤ format_size file) × (id_at file (data_place file) ≡ DATA) × (12 ≤ data_size file) × (format file ≡ 0)
+unfolding chunks_of
+chunks_ok file n e =
+    let a = guard_ok _ _ _ _ e in
+    let b = guard_ok _ _ _ _ a.1 in
+    let c = guard_ok _ _ _ _ b.1 in
+    let d = guard_ok _ _ _ _ c.1 in
+    let f = guard_ok _ _ _ _ d.1 in
+    let g = guard_ok _ _ _ _ f.1 in
+    let h = guard_ok _ _ _ _ g.1 in
+    let i = guard_ok _ _ _ _ h.1 in
+    let j = guard_ok _ _ _ _ i.1 in
+    let k = guard_ok _ _ _ _ j.1 in
+    (id_is _ _ b.0, eqb-true _ _ (not_false _ d.0), id_is _ _ f.0, ltb-false _ _ g.0, id_is _ _ i.0, ltb-false _ _ j.0, eqb-true _ _ (not_false _ k.0))
+
+chunks_again : (file : List ℕ) (r : Content) (order : BitOrder) → IsDsf file r order → chunks_of file ≡ Ok (data_place file)
+unfolding chunks_of
+chunks_again file r order h =
+    let within : data_place file + 12 ≤ length file = omega (arith, h.in_file) in
+    let long : 80 ≤ length file = omega (arith, h.second_long, within) in
+    rw (le-ltb (length file) 4 (omega (arith, long)), same_again (id_at file 0) DSD h.first, le-ltb (length file) 80 long, eq-eqb (first_size file) 28 h.first_is, same_again (id_at file 28) FMT h.second, le-ltb (format_size file) 52 h.second_long, le-ltb (length file) (data_place file + 12) within, same_again (id_at file (data_place file)) DATA h.third, le-ltb (data_size file) 12 h.third_long, eq-eqb (format file) 0 h.format_is) refl
+
+-- ---- the fields
+
+told_order : ℕ → BitOrder
+told_order bits = cond (eqb bits 1) LeastFirst MostFirst
+
+bits_ok : (bits : ℕ) → (not (eqb bits 1) && not (eqb bits 8)) ≡ false → bits ≡ bits_of (told_order bits)
+unfolding told_order
+bits_ok bits e = elim (cases_eq bits 1) [
+  | inl one ↦ rw (eq-eqb bits 1 one) one
+  | inr other ↦
+      let eight : not (eqb bits 8) ≡ false = rw (ne_eqb bits 1 other) at e in
+      rw (ne_eqb bits 1 other) (eqb-true bits 8 (not_false _ eight))
+]
+
+order_ok : (file : List ℕ) (order : BitOrder) → order_of file ≡ Ok order
+    → (version file ≡ 1) × (1 ≤ channel_number file) × (channel_number file ≤ 6) × (1000000 ≤ rate file) × (rate file ≤ 50000000) × (bits_per_sample file ≡ bits_of order) × (block_size file ≡ 4096) × (count file ≤ 2 ^ 36)
+unfolding order_of told_order
+order_ok file order e =
+    let a = guard_ok _ _ _ _ e in
+    let b = guard_ok _ _ _ _ a.1 in
+    let c = guard_ok _ _ _ _ b.1 in
+    let d = guard_ok _ _ _ _ c.1 in
+    let f = guard_ok _ _ _ _ d.1 in
+    let g = guard_ok _ _ _ _ f.1 in
+    let h = guard_ok _ _ _ _ g.1 in
+    let i = guard_ok _ _ _ _ h.1 in
+    let same : told_order (bits_per_sample file) ≡ order = cc (i.1) in
+    (eqb-true _ _ (not_false _ a.0), ltb-false _ _ b.0, ltb-false _ _ c.0, ltb-false _ _ d.0, ltb-false _ _ f.0, bits_ok (bits_per_sample file) g.0 ∙ ap bits_of same, eqb-true _ _ (not_false _ h.0), ltb-false _ _ i.0)
+
+bits_again : (bits : ℕ) (order : BitOrder) → bits ≡ bits_of order → ((not (eqb bits 1) && not (eqb bits 8)) ≡ false) × (cond (eqb bits 1) LeastFirst MostFirst ≡ order)
+bits_again bits LeastFirst e = rw e (refl, refl)
+bits_again bits MostFirst e = rw e (refl, refl)
+
+order_again : (file : List ℕ) (r : Content) (order : BitOrder) → IsDsf file r order → order_of file ≡ Ok order
+unfolding order_of
+order_again file r order h =
+    let bits = bits_again (bits_per_sample file) order h.order_is in
+    rw (eq-eqb (version file) 1 h.version_is, le-ltb (channel_number file) 1 h.some_channel, le-ltb 6 (channel_number file) h.six_channels, le-ltb (rate file) 1000000 h.rate_low, le-ltb 50000000 (rate file) h.rate_high, bits.0, eq-eqb (block_size file) 4096 h.block_is, le-ltb (2 ^ 36) (count file) h.not_long, bits.1) refl
+
+-- ---- the sound and the tag
+
+sound_ok : (file : List ℕ) (n : ℕ) → sound_of file ≡ Ok n → (needed file ≤ data_size file - 12) × (sound_end file ≤ length file)
+unfolding sound_of
+sound_ok file n e =
+    let a = guard_ok _ _ _ _ e in
+    let b = guard_ok _ _ _ _ a.1 in
+    (ltb-false _ _ a.0, ltb-false _ _ b.0)
+
+sound_again : (file : List ℕ) (r : Content) (order : BitOrder) → IsDsf file r order → sound_of file ≡ Ok (sound_end file)
+unfolding sound_of
+sound_again file r order h =
+    rw (le-ltb (data_size file - 12) (needed file) h.in_chunk, le-ltb (length file) (sound_end file) h.in_file) refl
+
+abbrev Behind : List ℕ → Type 0
+Behind file = (pointer file ≡ 0) ⊎ ((sound_end file ≤ pointer file) × (pointer file ≤ length file))
+
+tag_ok : (file tag : List ℕ) → tag_of file ≡ Ok tag → Behind file × (tag ≡ tag_told file)
+unfolding tag_of
+tag_ok file tag e = elim (chosen (eqb (pointer file) 0) (Ok []) (cond (ltb (pointer file) (sound_end file)) (Err BadPointer) (cond (ltb (length file) (pointer file)) (Err BadPointer) (Ok (drop (pointer file) file)))) (Ok tag) e) [
+  | inl none ↦
+      let same : [] ≡ tag = cc (none.1) in
+      (inl (eqb-true _ _ none.0), rw none.0 (sym same))
+  | inr some ↦
+      let a = guard_ok _ _ _ _ some.1 in
+      let b = guard_ok _ _ _ _ a.1 in
+      let same : drop (pointer file) file ≡ tag = cc (b.1) in
+      (inr (ltb-false _ _ a.0, ltb-false _ _ b.0), rw some.0 (sym same))
+]
+
+tag_again : (file : List ℕ) → Behind file → tag_of file ≡ Ok (tag_told file)
+unfolding tag_of
+tag_again file behind = elim (cases_eq (pointer file) 0) [
+  | inl none ↦ rw (eq-eqb (pointer file) 0 none) refl
+  | inr some ↦ elim behind [
+    | inl none ↦ absurd (some none)
+    | inr inside ↦ rw (ne_eqb (pointer file) 0 some, le-ltb (pointer file) (sound_end file) inside.0, le-ltb (length file) (pointer file) inside.1) refl
+  ]
+]
+
+-- ---- a whole file
+
+abbrev done : Content × BitOrder → Result (Content × BitOrder) DsfFault
+done x = Ok x
+
+ok_is : (x y : Content × BitOrder) → done x ≡ done y → y ≡ x
+ok_is x y e = cc
+
+-- a reading that gives two recordings gives one
+pub same_reading : (r s : Content) (order other : BitOrder) → done (r, order) ≡ done (s, other) → (r ≡ s) × (order ≡ other)
+same_reading r s order other e =
+    let both = ok_is (s, other) (r, order) (sym e) in
+    (ap (λ (x : Content × BitOrder). x.0) both, ap (λ (x : Content × BitOrder). x.1) both)
+
+pub is_dsf : (file : List ℕ) (x : Content × BitOrder) → recording_of file ≡ Ok x → IsDsf file x.0 x.1
+unfolding recording_of
+is_dsf file x e =
+    bind_then (chunks_of file) _ x e (λ place e1 h1.
+    bind_then (order_of file) _ x h1 (λ order e2 h2.
+    bind_then (sound_of file) _ x h2 (λ end e3 h3.
+    bind_then (tag_of file) _ x h3 (λ tag e4 h4.
+    let heads = chunks_ok file place e1 in
+    let fields = order_ok file order e2 in
+    let sound = sound_ok file end e3 in
+    let tags = tag_ok file tag e4 in
+    let made : x ≡ (told file order tag, order) = ok_is (told file order tag, order) x h4 in
+    let order_made : order ≡ x.1 = sym (ap (λ (y : Content × BitOrder). y.1) made) in
+    let content : x.0 ≡ told file order tag = ap (λ (y : Content × BitOrder). y.0) made in
+    let content_is : x.0 ≡ told file x.1 tag = content ∙ ap (λ o. told file o tag) order_made in
+    record {
+      first = heads.0;
+      first_is = heads.1;
+      second = heads.2;
+      second_long = heads.3;
+      third = heads.4;
+      third_long = heads.5;
+      version_is = fields.0;
+      format_is = heads.6;
+      some_channel = fields.1;
+      six_channels = fields.2;
+      rate_low = fields.3;
+      rate_high = fields.4;
+      order_is = fields.5 ∙ ap bits_of order_made;
+      block_is = fields.6;
+      not_long = fields.7;
+      in_chunk = sound.0;
+      in_file = sound.1;
+      behind = tags.0;
+      rate_read = ap (λ (r : Content). r.rate) content_is;
+      channels_read = ap (λ (r : Content). r.channels) content_is;
+      ids_read = ap (λ (r : Content). r.ids) content_is;
+      layout_read = ap (λ (r : Content). r.layout) content_is;
+      tag_read = ap (λ (r : Content). r.tag) content_is ∙ tags.1;
+      no_marks = ap (λ (r : Content). r.marks) content_is;
+      no_others = ap (λ (r : Content). r.others) content_is;
+    }))))
+
+pub dsf_is_read : (file : List ℕ) (r : Content) (order : BitOrder) → IsDsf file r order → recording_of file ≡ Ok (r, order)
+unfolding recording_of
+dsf_is_read file r order h =
+    let made : told file order (tag_told file) ≡ r = λ i. record {
+      rate = sym h.rate_read i;
+      channels = sym h.channels_read i;
+      ids = sym h.ids_read i;
+      layout = sym h.layout_read i;
+      marks = sym h.no_marks i;
+      others = sym h.no_others i;
+      tag = sym h.tag_read i;
+    } in
+    rw (chunks_again file r order h, order_again file r order h, sound_again file r order h, tag_again file h.behind) (ap (λ (c : Content). done (c, order)) made)

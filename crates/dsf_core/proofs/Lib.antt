@@ -1,0 +1,3 @@
+pub mod FileLaws
+pub mod ShapeLaws
+pub mod WrittenAgain

@@ -1,0 +1,112 @@
+-- The fields of a DSF 1.01 file at their offsets. Numbers have the lowest byte first, and the size of a chunk counts the 12 bytes of its head.
+use Rattle.std.specs.Prelude.{ℕ, ◌+◌, List, [], ◌∷◌, ◌++◌, codes, map, take, drop, nat_eq, if◌then◌else◌}
+use Rattle.std.specs.List.{range_with_len}
+use Rattle.byteorder.specs.Endian.{little_number}
+use Rattle.dsd_bits.specs.Blocks.{blocks_size}
+use Rattle.dsd_bits.specs.Layouts.{layout_channels, usual_layout}
+
+-- the ID at an offset
+abbrev pub id_at : List ℕ → ℕ → List ℕ
+id_at file at = take 4 (drop at file)
+
+-- the number of four bytes at an offset
+abbrev pub u32_at : List ℕ → ℕ → ℕ
+u32_at file at = little_number 4 (drop at file)
+
+-- the number of eight bytes at an offset
+abbrev pub u64_at : List ℕ → ℕ → ℕ
+u64_at file at = little_number 8 (drop at file)
+
+-- ---- the first chunk
+
+-- its size
+abbrev pub first_size : List ℕ → ℕ
+first_size file = u64_at file 4
+
+-- where the tag stands, and 0 for none
+abbrev pub pointer : List ℕ → ℕ
+pointer file = u64_at file 20
+
+-- ---- the format chunk
+
+-- its ID
+abbrev pub FMT : List ℕ
+FMT = codes "fmt "
+
+-- its size
+abbrev pub format_size : List ℕ → ℕ
+format_size file = u64_at file 32
+
+-- the version of the format, which is 1
+abbrev pub version : List ℕ → ℕ
+version file = u32_at file 40
+
+-- the kind of sound, 0 for raw DSD
+abbrev pub format : List ℕ → ℕ
+format file = u32_at file 44
+
+-- the layout of the channels
+abbrev pub channel_type : List ℕ → ℕ
+channel_type file = u32_at file 48
+
+-- how many channels there are
+abbrev pub channel_number : List ℕ → ℕ
+channel_number file = u32_at file 52
+
+-- the bits a second of each channel, in hertz
+abbrev pub rate : List ℕ → ℕ
+rate file = u32_at file 56
+
+-- 1 or 8, which tells the order of the bits in a byte
+abbrev pub bits_per_sample : List ℕ → ℕ
+bits_per_sample file = u32_at file 60
+
+-- how many bits each channel has
+abbrev pub count : List ℕ → ℕ
+count file = u64_at file 64
+
+-- how many bytes a block has
+abbrev pub block_size : List ℕ → ℕ
+block_size file = u32_at file 72
+
+-- ---- the data chunk
+
+-- its ID
+abbrev pub DATA : List ℕ
+DATA = codes "data"
+
+-- where it stands: behind the format chunk
+abbrev pub data_place : List ℕ → ℕ
+data_place file = 28 + format_size file
+
+-- its size
+abbrev pub data_size : List ℕ → ℕ
+data_size file = u64_at file (data_place file + 4)
+
+-- where the sound bytes stand
+abbrev pub sound_place : List ℕ → ℕ
+sound_place file = data_place file + 12
+
+-- how many sound bytes the channels need
+abbrev pub needed : List ℕ → ℕ
+needed file = blocks_size (channel_number file) (count file)
+
+-- where these end
+abbrev pub sound_end : List ℕ → ℕ
+sound_end file = sound_place file + needed file
+
+-- ---- what the fields tell
+
+-- the layout: the channel type where it fits the channel number, else the usual layout
+abbrev pub layout_told : ℕ → ℕ → ℕ
+layout_told kind number = if nat_eq (layout_channels kind) number then kind else usual_layout number
+
+-- the IDs of so many channels
+abbrev pub dsf_ids : ℕ → List (List ℕ)
+dsf_ids number =
+    if nat_eq number 2 then codes "SLFT" ∷ codes "SRGT" ∷ []
+    else map (λ c. codes "C00" ++ (48 + c) ∷ []) (range_with_len 0 number)
+
+-- the tag: the bytes from the pointer on
+abbrev pub tag_told : List ℕ → List ℕ
+tag_told file = if nat_eq (pointer file) 0 then [] else drop (pointer file) file

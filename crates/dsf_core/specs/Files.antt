@@ -1,0 +1,46 @@
+-- What a file of DSF 1.01 that holds a recording is, field by field.
+use Rattle.std.specs.Prelude.{◌≡◌, ◌≤◌, ℕ, ◌-◌, ◌^◌, ◌⊎◌, List, [], length, drop}
+use Rattle.dsd_bits.specs.declared.blocks.BitOrder.{BitOrder}
+use Rattle.dsd_bits.specs.declared.blocks.BitOrder.TheVariants.{LeastFirst, MostFirst}
+use Rattle.dsd_bits.specs.Blocks.{unblocked_all}
+use Rattle.dsd_bits.specs.Contents.{Content}
+use Rattle.dsd_bits.specs.Ids.{DSD}
+use Rattle.dsf_core.specs.Fields.{id_at, FMT, DATA, first_size, pointer, format_size, version, format, channel_type, channel_number, rate, bits_per_sample, count, block_size, data_place, data_size, sound_place, needed, sound_end, layout_told, dsf_ids, tag_told}
+
+-- the bits per sample that tell an order
+abbrev pub bits_of : BitOrder → ℕ
+bits_of LeastFirst = 1
+bits_of MostFirst = 8
+
+-- the file holds this recording, its bits in this order
+pub record IsDsf (file : List ℕ) (r : Content) (order : BitOrder) : Type 0 where
+  -- three chunks, the second and the third of them with all their fields
+  pub first : id_at file 0 ≡ DSD
+  pub first_is : first_size file ≡ 28
+  pub second : id_at file 28 ≡ FMT
+  pub second_long : 52 ≤ format_size file
+  pub third : id_at file (data_place file) ≡ DATA
+  pub third_long : 12 ≤ data_size file
+  -- raw sound of version 1, in the limits
+  pub version_is : version file ≡ 1
+  pub format_is : format file ≡ 0
+  pub some_channel : 1 ≤ channel_number file
+  pub six_channels : channel_number file ≤ 6
+  pub rate_low : 1000000 ≤ rate file
+  pub rate_high : rate file ≤ 50000000
+  pub order_is : bits_per_sample file ≡ bits_of order
+  pub block_is : block_size file ≡ 4096
+  pub not_long : count file ≤ 2 ^ 36
+  -- the needed sound bytes stand in the data chunk and in the file, and the tag behind them
+  pub in_chunk : needed file ≤ data_size file - 12
+  pub in_file : sound_end file ≤ length file
+  pub behind : (pointer file ≡ 0) ⊎ ((sound_end file ≤ pointer file) × (pointer file ≤ length file))
+  -- what is read
+  pub rate_read : r.rate ≡ rate file
+  pub channels_read : r.channels ≡ unblocked_all order (drop (sound_place file) file) (channel_number file) (count file)
+  pub ids_read : r.ids ≡ dsf_ids (channel_number file)
+  pub layout_read : r.layout ≡ layout_told (channel_type file) (channel_number file)
+  pub tag_read : r.tag ≡ tag_told file
+  -- what the format does not tell
+  pub no_marks : r.marks ≡ []
+  pub no_others : r.others ≡ []

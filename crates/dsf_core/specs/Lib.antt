@@ -1,0 +1,7 @@
+pub mod Fields
+pub mod Files
+pub mod Laws
+pub mod ReadAgain
+pub mod Reading
+pub mod Steps
+pub mod Writing

@@ -1,0 +1,75 @@
+//! The fields of the format chunk: their limits and what they mean.
+
+ghost use Rattle.std.specs.Prelude.{◌≡◌, ◌≤◌, ◌^◌, length, IfOk};
+ghost use Rattle.dsf_core.specs.Fields.{channel_number, count, dsf_ids, layout_told, rate};
+ghost use Rattle.dsf_core.specs.Reading.{order_of};
+ghost use Rattle.dsf_core.specs.Steps.{Gives};
+
+use crate::fault::DsfFault;
+use crate::fields::{u32_at, u64_at};
+use dsd_bits::{BitOrder, layout_channels, usual_layout};
+use std::alloc::{AllocError, Global};
+
+/// The order of the bits in a byte, where the fields lie in their limits.
+#[tactic(auto, unfolding(crate::specs::Reading::order_of))]
+pub(crate) fn read_order(file: &[u8]) -> Result<BitOrder, DsfFault>
+    requires { 80 ≤ length file.now }
+    ensures exact { Gives (λ x. x) result (order_of file.now) }
+    ensures channels { IfOk result (λ _. (1 ≤ channel_number file.now) × (channel_number file.now ≤ 6)) }
+    ensures rate { IfOk result (λ _. (1000000 ≤ rate file.now) × (rate file.now ≤ 50000000)) }
+    ensures short { IfOk result (λ _. count file.now ≤ 2 ^ 36) }
+{
+    if u32_at(file, 40) != 1 {
+        return Err(DsfFault::BadVersion);
+    }
+    let number = u32_at(file, 52);
+    if number < 1 || 6 < number {
+        return Err(DsfFault::BadChannelNumber);
+    }
+    let rate = u32_at(file, 56);
+    if rate < 1_000_000 || 50_000_000 < rate {
+        return Err(DsfFault::BadRate);
+    }
+    let bits = u32_at(file, 60);
+    if bits != 1 && bits != 8 {
+        return Err(DsfFault::BadBits);
+    }
+    if u32_at(file, 72) != 4096 {
+        return Err(DsfFault::BadBlock);
+    }
+    if 1 << 36 < u64_at(file, 64) {
+        return Err(DsfFault::TooLong);
+    }
+    if bits == 1 {
+        return Ok(BitOrder::LeastFirst);
+    }
+    Ok(BitOrder::MostFirst)
+}
+
+/// The layout of so many channels: the channel type where it fits them, else the usual layout.
+pub(crate) fn layout(kind: u32, number: u32) -> u32
+    requires { number ≤ 6 }
+    ensures { result ≡ layout_told kind number }
+{
+    if layout_channels(kind) == number {
+        return kind;
+    }
+    usual_layout(number)
+}
+
+/// The IDs of so many channels: `SLFT` and `SRGT` for two, else `C000`, `C001` and so on.
+pub(crate) fn channel_ids(alloc: Global, number: u32) -> Result<Vec<[u8; 4]>, AllocError>
+    requires { number ≤ 6 }
+    ensures { IfOk result (λ ids. ids.items ≡ dsf_ids number) }
+{
+    let mut ids = Vec::new(alloc);
+    if number == 2 {
+        ids.push(*b"SLFT")?;
+        ids.push(*b"SRGT")?;
+        return Ok(ids);
+    }
+    for c in 0..number as u8 {
+        ids.push([b'C', b'0', b'0', b'0' + c])?;
+    }
+    Ok(ids)
+}

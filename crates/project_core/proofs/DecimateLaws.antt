@@ -1,0 +1,75 @@
+-- A decimator is read exactly where its table says it.
+use Rattle.std.proofs.Common.{◌≡◌, ℕ, ◌<◌, ◌^◌, ℤ, List, Option, Some, None, Result, Ok, Err, refl, arith, sum_by, unsigned_abs, inl, inr}
+use Rattle.toml.specs.Data.{Data, table, Members}
+use Rattle.fir_core.specs.declared.fault.TapsFault.{TapsFault}
+use Rattle.fir_core.specs.Decimator.{Decimator, IsWithinLimits}
+use Rattle.fir_core.specs.Faults.{first_fault}
+use Rattle.fir_core.proofs.LimitLaws.{IsWithinLimits-from_no_fault, no_fault-from_IsWithinLimits}
+use Rattle.project_core.specs.declared.key.Key.TheVariants as keys
+use Rattle.project_core.specs.declared.fault.ProjectFault.{ProjectFault}
+use Rattle.project_core.specs.Keys.{decimate_keys}
+use Rattle.project_core.specs.Steps.{◌>>=◌}
+use Rattle.project_core.specs.Reading.{integers_at, table_of, unsigned_at}
+use Rattle.project_core.specs.ReadingDecimate.{decimate_of, unless_broken}
+use Rattle.project_core.specs.Meaning.{IsDecimate}
+use Rattle.project_core.proofs.TableLaws.{bind_ok, integers_ok, table_ok, unsigned_ok}
+use Rattle.project_core.proofs.TableAgain.{fits_by_sum, integers_again, table_again, unsigned_again}
+
+unless_ok : (o : Option TapsFault) (d y : Decimator) → unless_broken o d ≡ Ok y → (o ≡ None) × (d ≡ y)
+unless_ok None d y e = (refl, cc)
+unless_ok (Some fault) d y e = absurd cc
+
+-- the parts of a decimator that was read
+parts : (taps : Result (List ℤ) ProjectFault) (factor delay shift width : Result ℕ ProjectFault) (y : Decimator)
+    → (taps >>= λ a. factor >>= λ b. delay >>= λ c. shift >>= λ d. width >>= λ f. let made : Decimator = record { taps = a; factor = b; delay = c; shift = d; width = f } in unless_broken (first_fault made) made) ≡ Ok y
+    → (taps ≡ Ok y.taps) × (factor ≡ Ok y.factor) × (delay ≡ Ok y.delay) × (shift ≡ Ok y.shift) × (width ≡ Ok y.width) × (first_fault y ≡ None)
+parts (Err x) factor delay shift width y e = absurd cc
+parts (Ok a) (Err x) delay shift width y e = absurd cc
+parts (Ok a) (Ok b) (Err x) shift width y e = absurd cc
+parts (Ok a) (Ok b) (Ok c) (Err x) width y e = absurd cc
+parts (Ok a) (Ok b) (Ok c) (Ok d) (Err x) y e = absurd cc
+parts (Ok a) (Ok b) (Ok c) (Ok d) (Ok f) y e =
+    let made : Decimator = record { taps = a; factor = b; delay = c; shift = d; width = f } in
+    let w = unless_ok (first_fault made) made y e in
+    let same = w.1 in
+    rw (← same) (refl, refl, refl, refl, refl, w.0)
+
+pub decimate_ok : (d : Data) (y : Decimator) → decimate_of d ≡ Ok y → (t : Members) × (d ≡ table t) × IsDecimate t y
+unfolding decimate_of
+decimate_ok d y e =
+    let a = bind_ok (table_of keys.Decimate decimate_keys d) (λ t. integers_at keys.Taps t >>= λ a. unsigned_at keys.Factor t >>= λ b. unsigned_at keys.Delay t >>= λ c. unsigned_at keys.Shift t >>= λ d. unsigned_at keys.Width t >>= λ f. let made : Decimator = record { taps = a; factor = b; delay = c; shift = d; width = f } in unless_broken (first_fault made) made) y e in
+    let t = a.0 in
+    let known = table_ok keys.Decimate decimate_keys d t a.1 in
+    let q = parts (integers_at keys.Taps t) (unsigned_at keys.Factor t) (unsigned_at keys.Delay t) (unsigned_at keys.Shift t) (unsigned_at keys.Width t) y a.2 in (
+      t,
+      known.0,
+      record {
+        no_others = known.1;
+        taps = integers_ok keys.Taps t y.taps q.0;
+        factor = unsigned_ok keys.Factor t y.factor q.1;
+        delay = unsigned_ok keys.Delay t y.delay q.2;
+        shift = unsigned_ok keys.Shift t y.shift q.3;
+        width = unsigned_ok keys.Width t y.width q.4;
+        limits = IsWithinLimits-from_no_fault y q.5;
+      },
+    )
+
+small_width : (d : Decimator) → IsWithinLimits d → d.width < 2 ^ 32
+small_width d h = elim h.known_width [ inl e ↦ omega arith | inr e ↦ omega arith ]
+
+pub decimate_again : (t : Members) (y : Decimator) → IsDecimate t y → decimate_of (table t) ≡ Ok y
+unfolding decimate_of
+decimate_again t y h =
+    let sum : sum_by unsigned_abs y.taps < 2 ^ 31 = omega (arith, h.limits.small_sum) in
+    let factor : y.factor < 2 ^ 32 = omega (arith, h.limits.greatest_factor) in
+    let delay : y.delay < 2 ^ 32 = omega (arith, h.limits.delay_in_taps, h.limits.few_taps) in
+    let shift : y.shift < 2 ^ 32 = omega (arith, h.limits.small_shift) in
+    rw (
+      table_again keys.Decimate decimate_keys t h.no_others,
+      integers_again keys.Taps t y.taps h.taps (fits_by_sum y.taps sum),
+      unsigned_again keys.Factor t y.factor h.factor factor,
+      unsigned_again keys.Delay t y.delay h.delay delay,
+      unsigned_again keys.Shift t y.shift h.shift shift,
+      unsigned_again keys.Width t y.width h.width (small_width y h.limits),
+      no_fault-from_IsWithinLimits y h.limits,
+    )

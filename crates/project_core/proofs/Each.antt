@@ -1,0 +1,77 @@
+-- Reading the items of a list one after the other, as a loop does.
+use Rattle.std.proofs.Common.{◌≡◌, ℕ, suc, ◌+◌, ◌≤◌, ◌<◌, List, [], ◌∷◌, ◌++◌, length, drop, get_or, Result, Ok, Err, refl, sym, ap, ◌∙◌, append_assoc, add-one, drop-cons}
+use Rattle.std.proofs.lemmas.List.{append-nil, drop_all}
+use Rattle.toml.specs.Data.{Data}
+use Rattle.toml.specs.View.{view, items_view}
+use Rattle.toml.specs.declared.value.Value.{Value}
+use Rattle.toml.proofs.Views.{items_view-drop}
+use Rattle.project_core.specs.declared.fault.ProjectFault.{ProjectFault}
+use Rattle.project_core.specs.declared.fault.ProjectFault.TheVariants.{NotToml, UnknownKey, MissingKey, WrongKind, OutOfLimit, NoTake, ShortCue, LastBridge, Memory}
+use Rattle.project_core.specs.Steps.{◌>>=◌, Fails, each}
+use Rattle.project_core.specs.Tables.{list_of}
+
+-- what was read before, and what is still read
+abbrev pub with_front : {B : Type 0} → List B → Result (List B) ProjectFault → Result (List B) ProjectFault
+with_front front read = read >>= λ ys. Ok (front ++ ys)
+
+regroup : {B : Type 0} (front : List B) (y : B) (read : Result (List B) ProjectFault) → with_front front (read >>= λ ys. Ok (y ∷ ys)) ≡ with_front (front ++ y ∷ []) read
+regroup {B = B} front y (Ok ys) = ap (λ (zs : List B). Ok zs) (sym (append_assoc front (y ∷ []) ys))
+regroup front y (Err f) = refl
+
+pub each_begins : {A B : Type 0} (f : ℕ → A → Result B ProjectFault) (xs : List A) → with_front [] (each f 0 (drop 0 xs)) ≡ each f 0 xs
+each_begins f xs = begins (each f 0 xs)
+  where
+    begins : {B : Type 0} (read : Result (List B) ProjectFault) → with_front [] read ≡ read
+    begins (Ok ys) = refl
+    begins (Err f) = refl
+
+pub each_goes_on : {A B : Type 0} (f : ℕ → A → Result B ProjectFault) (front : List B) (xs : List A) (i : ℕ) (d x : A) (y : B) (total : Result (List B) ProjectFault) → i < length xs → x ≡ get_or xs i d → f i x ≡ Ok y
+    → with_front front (each f i (drop i xs)) ≡ total → with_front (front ++ y ∷ []) (each f (i + 1) (drop (i + 1) xs)) ≡ total
+each_goes_on f front xs i d x y total lt is h so_far =
+    let one : with_front front (each f i (drop i xs)) ≡ with_front (front ++ y ∷ []) (each f (i + 1) (drop (i + 1) xs)) = rw (drop-cons xs i d, ← is, h, add-one) (regroup front y (each f (suc i) (drop (suc i) xs))) in
+    sym one ∙ so_far
+
+fails_at : {A B : Type 0} (e : ProjectFault) (f : ℕ → A → Result B ProjectFault) (front : List B) (i : ℕ) (x : A) (xs : List A) → Fails e (f i x) → Fails e (with_front front (each f i (x ∷ xs)))
+fails_at Memory f front i x xs h = tt
+fails_at NotToml f front i x xs h = rw h
+fails_at UnknownKey f front i x xs h = rw h
+fails_at (MissingKey k) f front i x xs h = rw h
+fails_at (WrongKind k) f front i x xs h = rw h
+fails_at (OutOfLimit k) f front i x xs h = rw h
+fails_at (NoTake k) f front i x xs h = rw h
+fails_at (ShortCue k) f front i x xs h = rw h
+fails_at LastBridge f front i x xs h = rw h
+
+pub each_ends : {A B : Type 0} (e : ProjectFault) (f : ℕ → A → Result B ProjectFault) (front : List B) (xs : List A) (i : ℕ) (d x : A) (total : Result (List B) ProjectFault) → i < length xs → x ≡ get_or xs i d → Fails e (f i x)
+    → with_front front (each f i (drop i xs)) ≡ total → Fails e total
+each_ends e f front xs i d x total lt is h so_far = rw (← so_far, drop-cons xs i d, ← is) (fails_at e f front i x (drop (suc i) xs) h)
+
+pub each_is_done : {A B : Type 0} (f : ℕ → A → Result B ProjectFault) (front : List B) (xs : List A) (i : ℕ) (total : Result (List B) ProjectFault) → length xs ≤ i → with_front front (each f i (drop i xs)) ≡ total → total ≡ Ok front
+each_is_done {B = B} f front xs i total le so_far =
+    let gone : drop i xs ≡ [] = drop_all i xs le in
+    let one : with_front front (each f i (drop i xs)) ≡ Ok front = rw gone (ap (λ (ys : List B). Ok ys) (append-nil front)) in
+    sym so_far ∙ one
+
+-- The same over the values of an array.
+abbrev pub values_left : {B : Type 0} → (ℕ → Data → Result B ProjectFault) → List B → ℕ → List Value → Result (List B) ProjectFault
+values_left f front i vs = with_front front (each f i (list_of (items_view (drop i vs))))
+
+pub values_go_on : {B : Type 0} (f : ℕ → Data → Result B ProjectFault) (front : List B) (vs : List Value) (i : ℕ) (v : Value) (y : B) (total : Result (List B) ProjectFault) → i < length vs → v ≡ get_or vs i v → f i (view v) ≡ Ok y
+    → values_left f front i vs ≡ total → values_left f (front ++ y ∷ []) (i + 1) vs ≡ total
+values_go_on f front vs i v y total lt is h so_far =
+    let one : values_left f front i vs ≡ values_left f (front ++ y ∷ []) (i + 1) vs = rw (items_view-drop vs i v lt, ← is, h) (regroup front y (each f (i + 1) (list_of (items_view (drop (i + 1) vs))))) in
+    sym one ∙ so_far
+
+pub values_end : {B : Type 0} (e : ProjectFault) (f : ℕ → Data → Result B ProjectFault) (front : List B) (vs : List Value) (i : ℕ) (v : Value) (total : Result (List B) ProjectFault) → i < length vs → v ≡ get_or vs i v → Fails e (f i (view v))
+    → values_left f front i vs ≡ total → Fails e total
+values_end e f front vs i v total lt is h so_far = rw (← so_far, items_view-drop vs i v lt, ← is) (fails_at e f front i (view v) (list_of (items_view (drop (i + 1) vs))) h)
+
+pub values_done : {B : Type 0} (f : ℕ → Data → Result B ProjectFault) (front : List B) (vs : List Value) (i : ℕ) (total : Result (List B) ProjectFault) → length vs ≤ i → values_left f front i vs ≡ total → total ≡ Ok front
+values_done {B = B} f front vs i total le so_far =
+    let one : values_left f front i vs ≡ Ok front = rw (drop_all i vs le) (ap (λ (ys : List B). Ok ys) (append-nil front)) in
+    sym so_far ∙ one
+
+-- an array has as many items as values
+pub list_of_length : (vs : List Value) → length (list_of (items_view vs)) ≡ length vs
+list_of_length [] = refl
+list_of_length (v ∷ vs) = ap suc (list_of_length vs)

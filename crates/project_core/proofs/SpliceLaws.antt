@@ -1,0 +1,128 @@
+-- A splice that was read is what its table says.
+use Rattle.std.proofs.Common.{◌≡◌, ℕ, ◌≤◌, ℤ, true, ◌&&◌, cond, eqb, List, [], ◌∷◌, length, map, Some, Ok, Err, refl, sym, ap, subst, ◌∙◌, arith, sum_by, unsigned_abs}
+use Rattle.std.specs.Prelude.{nat_le, All}
+use Rattle.std.specs.List.{AllZip}
+use Rattle.std.proofs.lemmas.Bool.{eqb-true, eq-eqb, leb-true, le-leb, and_parts}
+use Rattle.std.proofs.lemmas.List.{length-map}
+use Rattle.std.proofs.lemmas.List.Elements.{All-from_recursion}
+use Rattle.std.proofs.lemmas.Slice.Zip.{AllZip-long}
+use Rattle.toml.specs.Data.{Data, array, table, Members}
+use Rattle.toml.specs.View.{items_of}
+use Rattle.project_core.specs.declared.key.Key.TheVariants as keys
+use Rattle.project_core.specs.declared.fault.ProjectFault.TheVariants.{OutOfLimit, LastBridge}
+use Rattle.project_core.specs.Steps.{◌>>=◌, each}
+use Rattle.project_core.specs.Reading.{table_of, value_at, array_of, integers_at, texts_at}
+use Rattle.project_core.specs.Tables.{list_of, Has, numbers, texts}
+use Rattle.project_core.specs.Cues.{CueContent, AreWeights, last_bridge, IsCueWithin, IsSplicing}
+use Rattle.project_core.specs.ReadingCue.{cue_of}
+use Rattle.project_core.specs.ReadingSplice.{are_weights, is_number, weights_at, takes_at, cues_of, cues_at, splice_of}
+use Rattle.project_core.specs.Splices.{SpliceContent}
+use Rattle.project_core.specs.Keys.{splice_keys}
+use Rattle.project_core.specs.Meaning.{IsCue, IsSplice}
+use Rattle.project_core.proofs.TableLaws.{bind_ok, passed, tested, value_ok, array_ok, table_ok, each_ok, zip_right, items_of-list_of, list_of-items_of, integers_ok, texts_ok}
+use Rattle.project_core.proofs.TableAgain.{table_again, value_again, integers_again, texts_again, zip_again, fits_by_sum}
+use Rattle.project_core.proofs.CueLaws.{cue_ok, cue_again}
+
+number_parts : (limit n : ℕ) → is_number limit n ≡ true → (1 ≤ n) × (n ≤ limit)
+number_parts limit n h =
+    let p = and_parts (nat_le 1 n) (nat_le n limit) h in
+    (leb-true 1 n p.0, leb-true n limit p.1)
+
+weights_parts : (ws : List ℤ) → are_weights ws ≡ true → AreWeights ws
+weights_parts ws h =
+    let p = and_parts (nat_le 2 (length ws) && nat_le (length ws) 12) (nat_le (sum_by unsigned_abs ws) 4096) h in
+    let q = and_parts (nat_le 2 (length ws)) (nat_le (length ws) 12) p.0 in
+    record { two_weights = leb-true 2 (length ws) q.0; few_weights = leb-true (length ws) 12 q.1; small_sum = leb-true (sum_by unsigned_abs ws) 4096 p.1 }
+
+pub weights_ok : (t : Members) (ws : List ℤ) → weights_at t ≡ Ok ws → Has t keys.Weights (numbers ws) × AreWeights ws
+unfolding weights_at
+weights_ok t ws e =
+    let a = bind_ok (integers_at keys.Weights t) (λ ws. cond (are_weights ws) (Ok ws) (Err (OutOfLimit keys.Weights))) ws e in
+    let b = passed (are_weights a.0) (OutOfLimit keys.Weights) a.0 ws a.2 in
+    subst (λ (xs : List ℤ). Has t keys.Weights (numbers xs) × AreWeights xs) b.1 (integers_ok keys.Weights t a.0 a.1, weights_parts a.0 b.0)
+
+pub takes_ok : (t : Members) (ts : List (List ℕ)) → takes_at t ≡ Ok ts → Has t keys.Takes (texts ts) × ((1 ≤ length ts) × (length ts ≤ 16))
+unfolding takes_at
+takes_ok t ts e =
+    let a = bind_ok (texts_at keys.Takes t) (λ ts. cond (is_number 16 (length ts)) (Ok ts) (Err (OutOfLimit keys.Takes))) ts e in
+    let b = passed (is_number 16 (length a.0)) (OutOfLimit keys.Takes) a.0 ts a.2 in
+    subst (λ (xs : List (List ℕ)). Has t keys.Takes (texts xs) × ((1 ≤ length xs) × (length xs ≤ 16))) b.1 (texts_ok keys.Takes t a.0 a.1, number_parts 16 (length a.0) b.0)
+
+-- a value is a table that says this cue
+abbrev SaysCue : ℕ → ℕ → Data → CueContent → Type 0
+SaysCue weights takes d p = (t : Members) × (d ≡ table t) × IsCue weights takes t p
+
+tables_of : (weights takes : ℕ) (ds : List Data) (ps : List CueContent) → AllZip (SaysCue weights takes) ds ps → (ts : List Members) × (ds ≡ map table ts) × AllZip (IsCue weights takes) ts ps
+tables_of weights takes [] [] h = ([], refl, tt)
+tables_of weights takes [] (p ∷ ps) h = absurd h
+tables_of weights takes (d ∷ ds) [] h = absurd h
+tables_of weights takes (d ∷ ds) (p ∷ ps) h =
+    let more = tables_of weights takes ds ps h.1 in
+    (h.0.0 ∷ more.0, ap (λ (x : Data). x ∷ ds) h.0.1 ∙ ap (λ (xs : List Data). table h.0.0 ∷ xs) more.1, (h.0.2, more.2))
+
+pub cues_ok : (weights takes : ℕ) (t : Members) (ps : List CueContent) → cues_at weights takes t ≡ Ok ps
+    → ((ts : List Members) × Has t keys.Cue (array (items_of (map table ts))) × AllZip (IsCue weights takes) ts ps) × ((1 ≤ length ps) × (length ps ≤ 256)) × All (IsCueWithin weights takes) ps
+unfolding cues_at cues_of
+cues_ok weights takes t ps e =
+    let a = bind_ok (value_at keys.Cue t) (λ d. array_of keys.Cue d >>= λ ds. cond (is_number 256 (length (list_of ds))) (each (cue_of weights takes) 0 (list_of ds)) (Err (OutOfLimit keys.Cue))) ps e in
+    let b = bind_ok (array_of keys.Cue a.0) (λ ds. cond (is_number 256 (length (list_of ds))) (each (cue_of weights takes) 0 (list_of ds)) (Err (OutOfLimit keys.Cue))) ps a.2 in
+    let c = tested (is_number 256 (length (list_of b.0))) (OutOfLimit keys.Cue) (each (cue_of weights takes) 0 (list_of b.0)) ps b.2 in
+    let zip = each_ok (cue_of weights takes) (SaysCue weights takes) (λ i d p h. cue_ok weights takes i d p h) 0 (list_of b.0) ps c.1 in
+    let tables = tables_of weights takes (list_of b.0) ps zip in
+    let items : b.0 ≡ items_of (map table tables.0) = sym (items_of-list_of b.0) ∙ ap items_of tables.1 in
+    let long : length ps ≡ length (list_of b.0) = AllZip-long (SaysCue weights takes) (list_of b.0) ps zip in
+    let few = number_parts 256 (length (list_of b.0)) c.0 in
+    let each_fits = zip_right (SaysCue weights takes) (IsCueWithin weights takes) (λ d p h. h.2.limits) (list_of b.0) ps zip in
+    ((tables.0, value_ok keys.Cue t a.0 a.1 ∙ ap (λ (d : Data). Some d) (array_ok keys.Cue a.0 b.0 b.1 ∙ ap array items), tables.2), (omega arith, omega arith), All-from_recursion (IsCueWithin weights takes) ps each_fits)
+
+pub splice_ok : (d : Data) (s : SpliceContent) → splice_of d ≡ Ok s → (t : Members) × (d ≡ table t) × IsSplice t s
+unfolding splice_of
+splice_ok d s e =
+    let a = bind_ok (table_of keys.Splice splice_keys d) (λ t. weights_at t >>= λ ws. takes_at t >>= λ ts. cues_at (length ws) (length ts) t >>= λ cs. cond (eqb (last_bridge cs) 0) (Ok (record { weights = ws; takes = ts; cues = cs })) (Err LastBridge)) s e in
+    let t = a.0 in
+    let b = bind_ok (weights_at t) (λ ws. takes_at t >>= λ ts. cues_at (length ws) (length ts) t >>= λ cs. cond (eqb (last_bridge cs) 0) (Ok (record { weights = ws; takes = ts; cues = cs })) (Err LastBridge)) s a.2 in
+    let c = bind_ok (takes_at t) (λ ts. cues_at (length b.0) (length ts) t >>= λ cs. cond (eqb (last_bridge cs) 0) (Ok (record { weights = b.0; takes = ts; cues = cs })) (Err LastBridge)) s b.2 in
+    let f = bind_ok (cues_at (length b.0) (length c.0) t) (λ cs. cond (eqb (last_bridge cs) 0) (Ok (record { weights = b.0; takes = c.0; cues = cs })) (Err LastBridge)) s c.2 in
+    let made : SpliceContent = record { weights = b.0; takes = c.0; cues = f.0 } in
+    let g = passed (eqb (last_bridge f.0) 0) LastBridge made s f.2 in
+    let known = table_ok keys.Splice splice_keys d t a.1 in
+    let weights = weights_ok t b.0 b.1 in
+    let takes = takes_ok t c.0 c.1 in
+    let cues = cues_ok (length b.0) (length c.0) t f.0 f.1 in
+    let limits : IsSplicing b.0 (length c.0) f.0 = record { weights_fit = weights.1; some_takes = takes.1.0; few_takes = takes.1.1; some_cues = cues.1.0; few_cues = cues.1.1; each_fits = cues.2; no_last_bridge = eqb-true (last_bridge f.0) 0 g.0 } in
+    let says : IsSplice t made = record { no_others = known.1; weights = weights.0; takes = takes.0; cues = cues.0; limits = limits } in
+    (t, known.0, subst (λ (x : SpliceContent). IsSplice t x) g.1 says)
+
+number_again : (limit n : ℕ) → (1 ≤ n) × (n ≤ limit) → is_number limit n ≡ true
+number_again limit n h = rw (le-leb 1 n h.0, le-leb n limit h.1)
+
+weights_kept : (ws : List ℤ) → AreWeights ws → are_weights ws ≡ true
+weights_kept ws h = rw (le-leb 2 (length ws) h.two_weights, le-leb (length ws) 12 h.few_weights, le-leb (sum_by unsigned_abs ws) 4096 h.small_sum)
+
+pub weights_again : (t : Members) (ws : List ℤ) → Has t keys.Weights (numbers ws) → AreWeights ws → weights_at t ≡ Ok ws
+unfolding weights_at
+weights_again t ws h fit =
+    rw (integers_again keys.Weights t ws h (fits_by_sum ws (omega (arith, fit.small_sum))), weights_kept ws fit)
+
+pub takes_again : (t : Members) (ts : List (List ℕ)) → Has t keys.Takes (texts ts) → (1 ≤ length ts) × (length ts ≤ 16) → takes_at t ≡ Ok ts
+unfolding takes_at
+takes_again t ts h fit = rw (texts_again keys.Takes t ts h, number_again 16 (length ts) fit)
+
+pub cues_again : (weights takes : ℕ) (t : Members) (ts : List Members) (ps : List CueContent) → Has t keys.Cue (array (items_of (map table ts))) → AllZip (IsCue weights takes) ts ps → (1 ≤ length ps) × (length ps ≤ 256) → cues_at weights takes t ≡ Ok ps
+unfolding cues_at cues_of
+cues_again weights takes t ts ps h zip fit =
+    let long : length (map table ts) ≡ length ps = length-map ts table ∙ sym (AllZip-long (IsCue weights takes) ts ps zip) in
+    let few : is_number 256 (length (map table ts)) ≡ true = number_again 256 (length (map table ts)) (omega arith, omega arith) in
+    rw (value_again keys.Cue t (array (items_of (map table ts))) h, list_of-items_of (map table ts), few)
+    (zip_again (cue_of weights takes) table (IsCue weights takes) (λ i s p says. cue_again weights takes i s p says) 0 ts ps zip)
+
+pub splice_again : (t : Members) (s : SpliceContent) → IsSplice t s → splice_of (table t) ≡ Ok s
+unfolding splice_of
+splice_again t s h =
+    rw (
+      table_again keys.Splice splice_keys t h.no_others,
+      weights_again t s.weights h.weights h.limits.weights_fit,
+      takes_again t s.takes h.takes (h.limits.some_takes, h.limits.few_takes),
+      cues_again (length s.weights) (length s.takes) t h.cues.0 s.cues h.cues.1 h.cues.2 (h.limits.some_cues, h.limits.few_cues),
+      eq-eqb (last_bridge s.cues) 0 h.limits.no_last_bridge,
+    )

@@ -1,0 +1,16 @@
+-- What a project's fault is where its decimator is refused.
+use Rattle.fir_core.specs.declared.fault.TapsFault.{TapsFault}
+use Rattle.fir_core.specs.declared.fault.TapsFault.TheVariants.{TapNumber, TapSum, Factor, Delay, Shift, Width, Memory}
+use Rattle.project_core.specs.declared.key.Key.TheVariants as keys
+use Rattle.project_core.specs.declared.fault.ProjectFault.{ProjectFault}
+use Rattle.project_core.specs.declared.fault.ProjectFault.TheVariants as faults
+
+-- the fault that tells the key whose limit is broken
+abbrev pub limit_fault : TapsFault → ProjectFault
+limit_fault TapNumber = faults.OutOfLimit keys.Taps
+limit_fault TapSum = faults.OutOfLimit keys.Taps
+limit_fault Factor = faults.OutOfLimit keys.Factor
+limit_fault Delay = faults.OutOfLimit keys.Delay
+limit_fault Shift = faults.OutOfLimit keys.Shift
+limit_fault Width = faults.OutOfLimit keys.Width
+limit_fault Memory = faults.Memory

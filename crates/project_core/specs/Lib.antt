@@ -1,0 +1,14 @@
+pub mod Keys
+pub mod Faults
+pub mod Cues
+pub mod Splices
+pub mod Projects
+pub mod Steps
+pub mod Tables
+pub mod Meaning
+pub mod Reading
+pub mod ReadingDecimate
+pub mod ReadingCue
+pub mod ReadingSplice
+pub mod ReadingProject
+pub mod Laws

@@ -1,0 +1,58 @@
+-- What a project text says, with no order of reading.
+use Rattle.std.specs.Prelude.{◌≡◌, ℕ, List, map, length, Option, Some, None, codes, option_map, ◌⊎◌}
+use Rattle.std.specs.List.{AllZip}
+use Rattle.toml.specs.Data.{Data, string, array, table, Members, get_member}
+use Rattle.toml.specs.View.{items_of}
+use Rattle.fir_core.specs.Decimator.{Decimator, IsWithinLimits}
+use Rattle.project_core.specs.declared.key.Key.TheVariants as keys
+use Rattle.project_core.specs.Keys.{name_of, top_keys, decimate_keys, splice_keys, cue_keys}
+use Rattle.project_core.specs.Tables.{FindsOnly, Has, Lacks, number, numbers, table_in, texts}
+use Rattle.project_core.specs.Cues.{CueContent, IsCueWithin, IsSplicing}
+use Rattle.project_core.specs.Splices.{SpliceContent}
+use Rattle.project_core.specs.Projects.{ProjectContent}
+
+-- a table says this decimator
+pub record IsDecimate (t : Members) (d : Decimator) : Type 0 where
+  pub no_others : FindsOnly decimate_keys t
+  pub taps : Has t keys.Taps (numbers d.taps)
+  pub factor : Has t keys.Factor (number d.factor)
+  pub delay : Has t keys.Delay (number d.delay)
+  pub shift : Has t keys.Shift (number d.shift)
+  pub width : Has t keys.Width (number d.width)
+  pub limits : IsWithinLimits d
+
+-- a table says this cue, among so many weights and takes; without a bridge it is a plain cut, and its target is the fade
+pub record IsCue (weights takes : ℕ) (t : Members) (c : CueContent) : Type 0 where
+  pub no_others : FindsOnly cue_keys t
+  pub take : Has t keys.Take (number c.take)
+  pub start : Has t keys.Start (number c.start)
+  pub stop : Has t keys.Stop (number c.stop)
+  pub bridge : Has t keys.Bridge (number c.bridge) ⊎ (Lacks t keys.Bridge × (c.bridge ≡ 0))
+  pub target : Has t keys.Target (string (codes "fade")) ⊎ Lacks t keys.Target
+  pub title : get_member (name_of keys.Title) t ≡ option_map string c.title
+  pub limits : IsCueWithin weights takes c
+
+-- a table says this splice: weights, the names of takes, and a table for each cue
+pub record IsSplice (t : Members) (s : SpliceContent) : Type 0 where
+  pub no_others : FindsOnly splice_keys t
+  pub weights : Has t keys.Weights (numbers s.weights)
+  pub takes : Has t keys.Takes (texts s.takes)
+  pub cues : (ts : List Members) × Has t keys.Cue (array (items_of (map table ts))) × AllZip (IsCue (length s.weights) (length s.takes)) ts s.cues
+  pub limits : IsSplicing s.weights (length s.takes) s.cues
+
+-- nothing says nothing, and a value is a table that says P of what is there
+abbrev pub SaysOptional : {A : Type 0} → (Members → A → Type 0) → Option Data → Option A → Type 0
+SaysOptional P None None = Unit {0}
+SaysOptional P None (Some x) = ⊥
+SaysOptional P (Some d) None = ⊥
+SaysOptional P (Some d) (Some x) = (t : Members) × (d ≡ table t) × P t x
+
+-- a document says this project: each of its two tables is there exactly where the project has it
+pub record IsProjectTable (t : Members) (p : ProjectContent) : Type 0 where
+  pub no_others : FindsOnly top_keys t
+  pub decimate : SaysOptional IsDecimate (get_member (name_of keys.Decimate) t) p.decimate
+  pub splice : SaysOptional IsSplice (get_member (name_of keys.Splice) t) p.splice
+
+-- the bytes are a text that says this project
+abbrev pub IsProject : List ℕ → ProjectContent → Type 0
+IsProject bytes p = (t : Members) × (table_in bytes ≡ Some t) × IsProjectTable t p

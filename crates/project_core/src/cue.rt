@@ -1,0 +1,25 @@
+//! Cues.
+
+/// What the sound of a bridge should be like.
+#[derive(Clone, Copy, Debug, PartialEq, Eq)]
+pub enum Target {
+    /// A linear fade from the take before the bridge to the take after it.
+    Fade,
+}
+
+/// A part of a take, and the bridge to the next cue. Places and lengths are in bits of a channel.
+#[derive(Debug, Drop)]
+pub struct Cue {
+    /// The number of the take, counted from 0.
+    pub take: usize,
+    /// The first bit that is cut from each channel of the take, at most `2^36`.
+    pub start: usize,
+    /// The place after the last bit that is cut, at most `2^36`.
+    pub stop: usize,
+    /// The length of the bridge to the next cue, at most 4096; 0 is a plain cut.
+    pub bridge: usize,
+    /// What the bridge should sound like.
+    pub target: Target,
+    /// The text of the mark at the cue's first bit, at most 255 bytes.
+    pub title: Option<String>,
+}

@@ -1,0 +1,122 @@
+//! Reading a table of the array `cue`.
+
+ghost use Rattle.std.specs.Prelude.{◌≤◌, option_map, string_bytes};
+ghost use Rattle.toml.specs.View.{view, table_view};
+ghost use Rattle.project_core.specs.Cues.{cue_content};
+ghost use Rattle.project_core.specs.Steps.{Gives};
+ghost use Rattle.project_core.specs.ReadingCue.{bridge_at, cue_of, take_at, target_at, title_at, title_of};
+
+use crate::cue::{Cue, Target};
+use crate::fault::ProjectFault;
+use crate::key::Key;
+use crate::table::{below, find, integer_of, limited_at, table_of, text_of, value_at};
+use std::alloc::Global;
+use toml::{Table, Value};
+
+// The most bits that a channel of a take has.
+const MAX_PLACE: usize = 1 << 36;
+
+// The longest bridge, in bits.
+const MAX_BRIDGE: usize = 4096;
+
+// The longest title, in bytes.
+const MAX_TITLE: usize = 255;
+
+const KEYS: [Key; 6] = [
+    Key::Take,
+    Key::Start,
+    Key::Stop,
+    Key::Bridge,
+    Key::Target,
+    Key::Title,
+];
+
+/// The cue that a value is, under its number, with so many weights and takes.
+#[tactic(auto, unfolding(crate::specs::ReadingCue::cue_of))]
+pub fn cue_of(
+    alloc: Global,
+    value: &Value,
+    number: usize,
+    weights: usize,
+    takes: usize,
+) -> Result<Cue, ProjectFault>
+    requires { weights ≤ 12 }
+    ensures { Gives cue_content result (cue_of weights takes number (view value.now)) }
+{
+    let table = table_of(value, Key::Cue, &KEYS)?;
+    let take = take_at(table, number, takes)?;
+    let start = limited_at(table, Key::Start, MAX_PLACE)?;
+    let stop = limited_at(table, Key::Stop, MAX_PLACE)?;
+    let bridge = bridge_at(table)?;
+    let target = target_at(table)?;
+    let title = title_at(alloc, table)?;
+    if stop + 1 < start + weights {
+        return Err(ProjectFault::ShortCue(number));
+    }
+    Ok(Cue {
+        take,
+        start,
+        stop,
+        bridge,
+        target,
+        title,
+    })
+}
+
+// The number of the cue's take, below the number of takes.
+#[tactic(auto, unfolding(crate::specs::ReadingCue::take_at))]
+fn take_at(table: &Table, number: usize, takes: usize) -> Result<usize, ProjectFault>
+    ensures { Gives (λ n. n) result (take_at number takes (table_view table.now)) }
+{
+    let integer = integer_of(value_at(table, Key::Take)?, Key::Take)?;
+    below(integer, takes).ok_or(ProjectFault::NoTake(number))
+}
+
+// The length of the cue's bridge, 0 where it isn't told.
+#[tactic(auto, unfolding(crate::specs::ReadingCue::bridge_at))]
+fn bridge_at(table: &Table) -> Result<usize, ProjectFault>
+    ensures { Gives (λ n. n) result (bridge_at (table_view table.now)) }
+{
+    let Some(value) = find(table, Key::Bridge) else {
+        return Ok(0);
+    };
+    let integer = integer_of(value, Key::Bridge)?;
+    below(integer, MAX_BRIDGE + 1).ok_or(ProjectFault::OutOfLimit(Key::Bridge))
+}
+
+// The cue's target, the fade where it isn't told.
+#[tactic(auto, unfolding(crate::specs::ReadingCue::target_at))]
+fn target_at(table: &Table) -> Result<Target, ProjectFault>
+    ensures { Gives (λ t. t) result (target_at (table_view table.now)) }
+{
+    let Some(value) = find(table, Key::Target) else {
+        return Ok(Target::Fade);
+    };
+    match text_of(value, Key::Target)? {
+        "fade" => Ok(Target::Fade),
+        _ => Err(ProjectFault::OutOfLimit(Key::Target)),
+    }
+}
+
+// The cue's title, if it has one.
+#[tactic(auto, unfolding(crate::specs::ReadingCue::title_at))]
+fn title_at(alloc: Global, table: &Table) -> Result<Option<String>, ProjectFault>
+    ensures { Gives (λ o. option_map string_bytes o) result (title_at (table_view table.now)) }
+{
+    let Some(value) = find(table, Key::Title) else {
+        return Ok(None);
+    };
+    let title = title_of(value)?;
+    Ok(Some(String::from_str(alloc, title)?))
+}
+
+// A title that isn't too long.
+fn title_of(value: &Value) -> Result<&str, ProjectFault>
+    ensures { Gives (λ t. t.now) result (title_of (view value.now)) }
+{
+    let title = text_of(value, Key::Title)?;
+    if title.len() > MAX_TITLE {
+        return Err(ProjectFault::OutOfLimit(Key::Title));
+    }
+    Ok(title)
+}

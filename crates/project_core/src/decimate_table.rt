@@ -1,0 +1,28 @@
+//! Reading the table `decimate`.
+
+ghost use Rattle.toml.specs.View.{view};
+ghost use Rattle.project_core.specs.Steps.{Gives};
+ghost use Rattle.project_core.specs.ReadingDecimate.{decimate_of};
+
+use crate::fault::ProjectFault;
+use crate::key::Key;
+use crate::table::{integers_at, table_of, unsigned_at};
+use fir_core::Taps;
+use std::alloc::Global;
+use toml::Value;
+
+const KEYS: [Key; 5] = [Key::Taps, Key::Factor, Key::Delay, Key::Shift, Key::Width];
+
+/// The decimator of the value at `decimate`.
+#[tactic(auto, unfolding(crate::specs::ReadingDecimate::decimate_of))]
+pub fn decimate_of(alloc: Global, value: &Value) -> Result<Taps, ProjectFault>
+    ensures { Gives (λ d. d) result (decimate_of (view value.now)) }
+{
+    let table = table_of(value, Key::Decimate, &KEYS)?;
+    let taps = integers_at(alloc, table, Key::Taps)?;
+    let factor = unsigned_at(table, Key::Factor)?;
+    let delay = unsigned_at(table, Key::Delay)?;
+    let shift = unsigned_at(table, Key::Shift)?;
+    let width = unsigned_at(table, Key::Width)?;
+    Ok(Taps::new(alloc, &taps, factor, delay, shift, width)?)
+}

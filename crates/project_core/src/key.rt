@@ -1,0 +1,80 @@
+//! The keys of a project text.
+
+ghost use Rattle.std.specs.Prelude.{◌≡◌};
+ghost use Rattle.project_core.specs.Keys.{name_of};
+
+use std::fmt;
+
+/// A key of a project text. Its text is the key as it stands there.
+#[derive(Clone, Copy, Debug, PartialEq, Eq)]
+pub enum Key {
+    /// The table of a decimator.
+    Decimate,
+    /// The taps of its filter.
+    Taps,
+    /// How many stored bits make one sample.
+    Factor,
+    /// The delay in bits.
+    Delay,
+    /// By how many bits a sum is shifted.
+    Shift,
+    /// How many bits a sample has.
+    Width,
+    /// The table of a splice.
+    Splice,
+    /// The weights by which bridges are judged.
+    Weights,
+    /// The takes' names.
+    Takes,
+    /// The array of cues.
+    Cue,
+    /// A cue's take.
+    Take,
+    /// A cue's first bit.
+    Start,
+    /// The place after a cue's last bit.
+    Stop,
+    /// The length of the bridge after a cue, in bits.
+    Bridge,
+    /// What that bridge should sound like.
+    Target,
+    /// A cue's title.
+    Title,
+}
+
+impl Key {
+    /// The key as it stands in a text.
+    #[tactic(auto, unfolding(crate::specs::Keys::name_of))]
+    pub fn name(self) -> &'static str
+        ensures { result.now ≡ name_of self }
+    {
+        match self {
+            Key::Decimate => "decimate",
+            Key::Taps => "taps",
+            Key::Factor => "factor",
+            Key::Delay => "delay",
+            Key::Shift => "shift",
+            Key::Width => "width",
+            Key::Splice => "splice",
+            Key::Weights => "weights",
+            Key::Takes => "takes",
+            Key::Cue => "cue",
+            Key::Take => "take",
+            Key::Start => "start",
+            Key::Stop => "stop",
+            Key::Bridge => "bridge",
+            Key::Target => "target",
+            Key::Title => "title",
+        }
+    }
+}
+
+impl fmt::Display for Key {
+    ghost use Rattle.std.specs.Prelude.{Some};
+
+    ghost output = { λ key. Some (name_of key) };
+
+    fn fmt<W: fmt::Write>(&self, f: &mut fmt::Formatter<W>) -> fmt::Result {
+        f.write_str(self.name())
+    }
+}

@@ -1,0 +1,79 @@
+//! Project texts: how a recording is played, and how takes are cut together.
+//!
+//! A project text is a TOML document of at most two tables, each of them optional:
+//!
+//! ```text
+//! [decimate]                      # a decimator, see `fir_core`
+//! taps = [1, 2, 3, 4]             # 1 to 4096, absolute values that add up to at most 2^30
+//! factor = 8                      # stored bits for a sample: a multiple of 8, 8 to 1024
+//! delay = 3                       # in bits, below the number of taps
+//! shift = 0                       # 0 to 30
+//! width = 16                      # bits of a sample: 16 or 24
+//!
+//! [splice]
+//! weights = [1, 1]                # 2 to 12, absolute values that add up to at most 4096
+//! takes = ["a.dff", "b.dff"]      # 1 to 16 names
+//! [[splice.cue]]                  # 1 to 256 cues
+//! take = 0                        # a take's number, counted from 0
+//! start = 0                       # its first bit, 0 to 2^36
+//! stop = 8                        # the place after its last bit, 0 to 2^36
+//! bridge = 1                      # bits up to the next cue, 0 to 4096; 0 if left out, and in the last cue
+//! [[splice.cue]]
+//! take = 1
+//! start = 2
+//! stop = 9
+//! target = "fade"                 # what the bridge is to sound like; "fade" if left out
+//! title = "one"                   # at most 255 bytes; none if left out
+//! ```
+//!
+//! A cue is at most one bit shorter than there are weights. Tables have no other keys. Booleans, floats and dates are no integers.
+//!
+//! [`read`] takes a text to the [`Project`] that it says, or to its first fault ([`ProjectFault`]).
+//!
+//! The words of its contracts:
+//! - `IsProject bytes p` (`specs/Meaning.antt`): the bytes are a text that says the project `p`. It is
+//!   said in what the tables have (`IsDecimate`, `IsSplice`, `IsCue`), and nothing in it reads.
+//! - `IsWithinLimits` (`fir_core`), `IsSplicing`, `AreWeights` and `IsCueWithin` (`specs/Cues.antt`): the
+//!   limits. Each [`Splice`] keeps its own.
+//! - `project_at bytes` (`specs/ReadingProject.antt`): the reading in a fixed order, to the project or
+//!   the first fault; its steps are `decimate_of` (`specs/ReadingDecimate.antt`), `splice_of`
+//!   (`specs/ReadingSplice.antt`), `cue_of` (`specs/ReadingCue.antt`), and single keys
+//!   (`specs/Reading.antt`).
+//! - `project_content`, `splice_content` and `cue_content` (`specs/Projects.antt`, `specs/Splices.antt`,
+//!   `specs/Cues.antt`): what is held, as lists and numbers.
+//! - `Gives` (`specs/Steps.antt`): what a function gives of a reading when memory may run out.
+//!
+//! What it promises: what is read is what the text says; whatever a text says is read; any other text is
+//! refused with the first fault of the stated order. `Memory` alone may come in place of each of these.
+//! A text says one project at most ([`one_project`]), and reading in order comes to a project exactly
+//! where the text says it ([`read_as_said`]).
+//!
+//! ```text
+//! let project = read(alloc, text)?;
+//! project.decimate       // None, or the decimator
+//! project.splice         // None, or the weights, the takes' names and the cues
+//! ```
+#![tactic(auto)]
+
+mod cue;
+mod cue_table;
+mod decimate_table;
+mod fault;
+mod key;
+mod laws;
+mod project;
+mod reading;
+mod splice;
+mod splice_table;
+mod table;
+
+pub use cue::{Cue, Target};
+pub use fault::ProjectFault;
+pub use key::Key;
+pub use laws::{one_project, read_as_said};
+pub use project::Project;
+pub use reading::read;
+pub use splice::Splice;
+
+#[cfg(test)]
+mod tests;

@@ -1,0 +1,13 @@
+//! Projects.
+
+use crate::splice::Splice;
+use fir_core::Taps;
+
+/// What a project text says.
+#[derive(Drop)]
+pub struct Project {
+    /// How a recording is played.
+    pub decimate: Option<Taps>,
+    /// How takes are cut together.
+    pub splice: Option<Splice>,
+}

@@ -1,0 +1,112 @@
+//! Reading a whole project text.
+
+ghost use Rattle.std.specs.Prelude.{IfOk, Ok, option_map};
+ghost use Rattle.toml.specs.View.{table_view};
+ghost use Rattle.project_core.specs.Splices.{splice_content};
+ghost use Rattle.project_core.specs.Projects.{ProjectContent, project_content};
+ghost use Rattle.project_core.specs.Steps.{Gives};
+ghost use Rattle.project_core.specs.Meaning.{IsProject};
+ghost use Rattle.project_core.specs.ReadingProject.{decimate_in, document, project_at, project_of, splice_in};
+
+use crate::decimate_table::decimate_of;
+use crate::fault::ProjectFault;
+use crate::key::Key;
+use crate::project::Project;
+use crate::splice::Splice;
+use crate::splice_table::splice_of;
+use crate::table::{find, has_only};
+use fir_core::Taps;
+use std::alloc::Global;
+use toml::Table;
+
+const KEYS: [Key; 2] = [Key::Decimate, Key::Splice];
+
+/// The project that a text says.
+///
+/// Refusals, in this order; the first that applies is answered:
+/// 1. `NotToml`: the bytes are no TOML document.
+/// 2. `UnknownKey`: the document has another key than `decimate` and `splice`.
+/// 3. If `decimate` is there: `WrongKind(decimate)` if it's no table, `UnknownKey` inside it; then for
+///    `taps`, `factor`, `delay`, `shift` and `width` in turn `MissingKey`, `WrongKind`, and `OutOfLimit`
+///    where an integer doesn't fit 32 bits, with a sign for the taps and without for the others; then
+///    `OutOfLimit` for the first of them outside the limits of a decimator.
+/// 4. If `splice` is there: `WrongKind(splice)` if it's no table, `UnknownKey` inside it; then for
+///    `weights`, `takes` and `cue` in turn `MissingKey`, `WrongKind`, `OutOfLimit`.
+/// 5. Each cue in turn, counted from 0: `WrongKind(cue)` if it's no table, `UnknownKey` inside it; then for
+///    `take`, `start`, `stop`, `bridge`, `target` and `title` in turn `MissingKey`, `WrongKind`,
+///    `OutOfLimit`, or `NoTake` for a take's number that isn't below the number of takes; then `ShortCue`.
+/// 6. `LastBridge`: the last cue's bridge isn't 0.
+///
+/// An array with one element of another kind is `WrongKind`, an empty one is `OutOfLimit`. `Memory` may
+/// come in place of any of them.
+pub fn read(alloc: Global, bytes: &[u8]) -> Result<Project, ProjectFault>
+    // What is read is what the text says.
+    ensures found { IfOk result (λ p. IsProject bytes.now (project_content p)) }
+    // What a text says is read, unless memory runs out.
+    ensures only { (p : ProjectContent) → IsProject bytes.now p → Gives project_content result (Ok p) }
+    // The fault is the first one.
+    ensures exact { Gives project_content result (project_at bytes.now) }
+{
+    read_in_order(alloc, bytes)
+}
+
+// The same, by the order of refusals alone.
+#[tactic(auto, unfolding(crate::specs::ReadingProject::project_at))]
+fn read_in_order(alloc: Global, bytes: &[u8]) -> Result<Project, ProjectFault>
+    ensures { Gives project_content result (project_at bytes.now) }
+{
+    let table = document(alloc, bytes)?;
+    project_of(alloc, &table)
+}
+
+// The document that the bytes are in TOML.
+#[tactic(auto, unfolding(crate::specs::ReadingProject::document))]
+fn document(alloc: Global, bytes: &[u8]) -> Result<Table, ProjectFault>
+    ensures { Gives (λ t. table_view t) result (document bytes.now) }
+{
+    match toml::table_from_slice(alloc, bytes) {
+        Ok(table) => Ok(table),
+        Err(error) => {
+            if error.is_memory() {
+                Err(ProjectFault::Memory)
+            } else {
+                Err(ProjectFault::NotToml)
+            }
+        }
+    }
+}
+
+// The project of a document.
+#[tactic(auto, unfolding(crate::specs::ReadingProject::project_of))]
+fn project_of(alloc: Global, table: &Table) -> Result<Project, ProjectFault>
+    ensures { Gives project_content result (project_of (table_view table.now)) }
+{
+    if !has_only(table, &KEYS) {
+        return Err(ProjectFault::UnknownKey);
+    }
+    let decimate = decimate_in(alloc, table)?;
+    let splice = splice_in(alloc, table)?;
+    Ok(Project { decimate, splice })
+}
+
+// The decimator, if there is one.
+#[tactic(auto, unfolding(crate::specs::ReadingProject::decimate_in))]
+fn decimate_in(alloc: Global, table: &Table) -> Result<Option<Taps>, ProjectFault>
+    ensures { Gives (λ o. o) result (decimate_in (table_view table.now)) }
+{
+    let Some(value) = find(table, Key::Decimate) else {
+        return Ok(None);
+    };
+    Ok(Some(decimate_of(alloc, value)?))
+}
+
+// The splice, if there is one.
+#[tactic(auto, unfolding(crate::specs::ReadingProject::splice_in))]
+fn splice_in(alloc: Global, table: &Table) -> Result<Option<Splice>, ProjectFault>
+    ensures { Gives (λ o. option_map splice_content o) result (splice_in (table_view table.now)) }
+{
+    let Some(value) = find(table, Key::Splice) else {
+        return Ok(None);
+    };
+    Ok(Some(splice_of(alloc, value)?))
+}

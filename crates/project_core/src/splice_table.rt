@@ -1,0 +1,123 @@
+//! Reading the table `splice`.
+
+ghost use Rattle.std.specs.Prelude.{◌≡◌, ◌≤◌, length, map, string_bytes, unsigned_abs};
+ghost use Rattle.std.specs.List.{sum_by};
+ghost use Rattle.toml.specs.View.{view, table_view, items_view};
+ghost use Rattle.project_core.specs.Cues.{cue_content, last_bridge};
+ghost use Rattle.project_core.specs.Splices.{splice_content};
+ghost use Rattle.project_core.specs.Steps.{Gives};
+ghost use Rattle.project_core.specs.Tables.{list_of};
+ghost use Rattle.project_core.specs.ReadingSplice.{cues_at, cues_of, splice_of, takes_at, weights_at};
+
+use crate::cue::Cue;
+use crate::cue_table::cue_of;
+use crate::fault::ProjectFault;
+use crate::key::Key;
+use crate::splice::Splice;
+use crate::table::{integers_at, table_of, texts_at, value_at};
+use std::alloc::Global;
+use toml::{Table, Value};
+
+const KEYS: [Key; 3] = [Key::Weights, Key::Takes, Key::Cue];
+
+/// The splice of the value at `splice`.
+#[tactic(auto, unfolding(crate::specs::ReadingSplice::splice_of))]
+pub fn splice_of(alloc: Global, value: &Value) -> Result<Splice, ProjectFault>
+    ensures { Gives splice_content result (splice_of (view value.now)) }
+{
+    let table = table_of(value, Key::Splice, &KEYS)?;
+    let weights = weights_at(alloc, table)?;
+    let takes = takes_at(alloc, table)?;
+    let cues = cues_at(alloc, table, weights.len(), takes.len())?;
+    if last_bridge(&cues) != 0 {
+        return Err(ProjectFault::LastBridge);
+    }
+    Ok(Splice {
+        weights,
+        takes,
+        cues,
+    })
+}
+
+// 2 to 12 weights, with absolute values that add up to at most 4096.
+#[tactic(auto, unfolding(crate::specs::ReadingSplice::weights_at))]
+fn weights_at(alloc: Global, table: &Table) -> Result<Vec<i32>, ProjectFault>
+    ensures { Gives (λ v. v.items) result (weights_at (table_view table.now)) }
+{
+    let weights = integers_at(alloc, table, Key::Weights)?;
+    if weights.len() < 2 || weights.len() > 12 || abs_sum(&weights) > 4096 {
+        return Err(ProjectFault::OutOfLimit(Key::Weights));
+    }
+    Ok(weights)
+}
+
+// The names of 1 to 16 takes.
+#[tactic(auto, unfolding(crate::specs::ReadingSplice::takes_at))]
+fn takes_at(alloc: Global, table: &Table) -> Result<Vec<String>, ProjectFault>
+    ensures { Gives (λ v. map string_bytes v.items) result (takes_at (table_view table.now)) }
+{
+    let takes = texts_at(alloc, table, Key::Takes)?;
+    if takes.is_empty() || takes.len() > 16 {
+        return Err(ProjectFault::OutOfLimit(Key::Takes));
+    }
+    Ok(takes)
+}
+
+// 1 to 256 cues, with so many weights and takes.
+#[tactic(auto, using(crate::proofs::Each::list_of_length), unfolding(crate::specs::ReadingSplice::cues_at))]
+fn cues_at(
+    alloc: Global,
+    table: &Table,
+    weights: usize,
+    takes: usize,
+) -> Result<Vec<Cue>, ProjectFault>
+    requires { weights ≤ 12 }
+    ensures { Gives (λ v. map cue_content v.items) result (cues_at weights takes (table_view table.now)) }
+{
+    let value = value_at(table, Key::Cue)?;
+    let values = value.as_array().ok_or(ProjectFault::WrongKind(Key::Cue))?;
+    if values.is_empty() || values.len() > 256 {
+        return Err(ProjectFault::OutOfLimit(Key::Cue));
+    }
+    cues_of(alloc, values, weights, takes)
+}
+
+// The cues that all of the values are.
+#[tactic(auto, unfolding(crate::specs::ReadingSplice::cues_of))]
+fn cues_of(
+    alloc: Global,
+    values: &[Value],
+    weights: usize,
+    takes: usize,
+) -> Result<Vec<Cue>, ProjectFault>
+    requires { weights ≤ 12 }
+    ensures { Gives (λ v. map cue_content v.items) result (cues_of weights takes (list_of (items_view values.now))) }
+{
+    let mut cues = Vec::new(alloc);
+    for (number, value) in values.iter().enumerate() {
+        let cue = cue_of(alloc, value, number, weights, takes)?;
+        cues.push(cue)?;
+    }
+    Ok(cues)
+}
+
+// The bridge of the last cue.
+fn last_bridge(cues: &[Cue]) -> usize
+    ensures { result ≡ last_bridge (map cue_content cues.now) }
+{
+    match cues.last() {
+        Some(cue) => cue.bridge,
+        None => 0,
+    }
+}
+
+// The sum of the absolute values.
+fn abs_sum(weights: &[i32]) -> u64
+    requires { length weights.now ≤ 12 }
+    ensures { result ≡ sum_by unsigned_abs weights.now }
+{
+    weights
+        .iter()
+        .map(|weight| u64::from(weight.unsigned_abs()))
+        .sum()
+}

@@ -1,0 +1,179 @@
+//! The members of a TOML table, read at their keys.
+
+ghost use Rattle.std.specs.Prelude.{◌≡◌, ◌≤◌, ◌<◌, ◌^◌, IfOk, option_map, map, string_bytes};
+ghost use Rattle.toml.specs.Data.{get_member};
+ghost use Rattle.toml.specs.View.{view, table_view, items_view};
+ghost use Rattle.project_core.specs.Keys.{name_of};
+ghost use Rattle.project_core.specs.Steps.{Gives};
+ghost use Rattle.project_core.specs.Tables.{has_only, is_among, list_of};
+ghost use Rattle.project_core.specs.Reading.{below, integer_of, integers_at, integers_of, limited_at, narrow, signed_of, table_of, text_of, texts_at, texts_of, unsigned_at, value_at};
+
+use crate::fault::ProjectFault;
+use crate::key::Key;
+use std::alloc::Global;
+use toml::{Table, Value};
+
+/// The value at a key, if there is one.
+pub fn find(table: &Table, key: Key) -> Option<&Value>
+    ensures { option_map (λ v. view v.now) result ≡ get_member (name_of key) (table_view table.now) }
+{
+    table.get(key.name())
+}
+
+/// The value at a key that has to be there.
+#[tactic(auto, unfolding(crate::specs::Reading::value_at))]
+pub fn value_at(table: &Table, key: Key) -> Result<&Value, ProjectFault>
+    ensures { Gives (λ v. view v.now) result (value_at key (table_view table.now)) }
+{
+    find(table, key).ok_or(ProjectFault::MissingKey(key))
+}
+
+/// The integer that the value at a key is.
+pub fn integer_of(value: &Value, key: Key) -> Result<i64, ProjectFault>
+    ensures { Gives (λ z. z) result (integer_of key (view value.now)) }
+{
+    value.as_integer().ok_or(ProjectFault::WrongKind(key))
+}
+
+/// The text that the value at a key is.
+pub fn text_of(value: &Value, key: Key) -> Result<&str, ProjectFault>
+    ensures { Gives (λ t. t.now) result (text_of key (view value.now)) }
+{
+    value.as_str().ok_or(ProjectFault::WrongKind(key))
+}
+
+/// The table that the value at a key is, if it has no keys but these.
+#[tactic(auto, unfolding(crate::specs::Reading::table_of))]
+pub fn table_of<'a>(value: &'a Value, key: Key, keys: &[Key]) -> Result<&'a Table, ProjectFault>
+    ensures { Gives (λ t. table_view t.now) result (table_of key keys.now (view value.now)) }
+{
+    let table = value.as_table().ok_or(ProjectFault::WrongKind(key))?;
+    if !has_only(table, keys) {
+        return Err(ProjectFault::UnknownKey);
+    }
+    Ok(table)
+}
+
+/// Whether a table has no keys but these.
+pub fn has_only(table: &Table, keys: &[Key]) -> bool
+    ensures { result ≡ has_only keys.now (table_view table.now) }
+{
+    for (name, _) in table {
+        if !is_among(keys, name.as_str()) {
+            return false;
+        }
+    }
+    true
+}
+
+/// The number of 32 bits with no sign at a key.
+#[tactic(auto, unfolding(crate::specs::Reading::unsigned_at))]
+pub fn unsigned_at(table: &Table, key: Key) -> Result<u32, ProjectFault>
+    ensures { Gives (λ n. n) result (unsigned_at key (table_view table.now)) }
+{
+    let integer = integer_of(value_at(table, key)?, key)?;
+    match u32::try_from(integer) {
+        Ok(number) => Ok(number),
+        Err(_) => Err(ProjectFault::OutOfLimit(key)),
+    }
+}
+
+/// The number at a key, from 0 to a limit.
+#[tactic(auto, unfolding(crate::specs::Reading::limited_at))]
+pub fn limited_at(table: &Table, key: Key, limit: usize) -> Result<usize, ProjectFault>
+    requires { limit < 2 ^ 63 }
+    ensures exact { Gives (λ n. n) result (limited_at key limit (table_view table.now)) }
+    ensures within { IfOk result (λ n. n ≤ limit) }
+{
+    let integer = integer_of(value_at(table, key)?, key)?;
+    below(integer, limit + 1).ok_or(ProjectFault::OutOfLimit(key))
+}
+
+/// A number that isn't negative and lies below a bound.
+pub fn below(integer: i64, bound: usize) -> Option<usize>
+    ensures { result ≡ below bound integer }
+{
+    match usize::try_from(integer) {
+        Ok(number) if number < bound => Some(number),
+        _ => None,
+    }
+}
+
+/// The integers of the array at a key: first all are integers, and then all fit 32 bits.
+#[tactic(auto, unfolding(crate::specs::Reading::integers_at))]
+pub fn integers_at(alloc: Global, table: &Table, key: Key) -> Result<Vec<i32>, ProjectFault>
+    ensures { Gives (λ v. v.items) result (integers_at key (table_view table.now)) }
+{
+    let value = value_at(table, key)?;
+    let array = value.as_array().ok_or(ProjectFault::WrongKind(key))?;
+    let integers = integers_of(alloc, array, key)?;
+    narrow(alloc, &integers, key)
+}
+
+/// The texts of the array at a key.
+#[tactic(auto, unfolding(crate::specs::Reading::texts_at))]
+pub fn texts_at(alloc: Global, table: &Table, key: Key) -> Result<Vec<String>, ProjectFault>
+    ensures { Gives (λ v. map string_bytes v.items) result (texts_at key (table_view table.now)) }
+{
+    let value = value_at(table, key)?;
+    let array = value.as_array().ok_or(ProjectFault::WrongKind(key))?;
+    texts_of(alloc, array, key)
+}
+
+// Whether a name is that of one of the keys.
+#[tactic(auto, unfolding(crate::specs::Tables::is_among))]
+fn is_among(keys: &[Key], name: &str) -> bool
+    ensures { result ≡ is_among keys.now name.now }
+{
+    keys.iter().any(|key| key.name() == name)
+}
+
+// The integers that all of the values are.
+#[tactic(auto, unfolding(crate::specs::Reading::integers_of))]
+fn integers_of(alloc: Global, values: &[Value], key: Key) -> Result<Vec<i64>, ProjectFault>
+    ensures { Gives (λ v. v.items) result (integers_of key (list_of (items_view values.now))) }
+{
+    let mut integers = Vec::new(alloc);
+    for value in values {
+        let integer = integer_of(value, key)?;
+        integers.push(integer)?;
+    }
+    Ok(integers)
+}
+
+// The number, if it fits 32 bits.
+fn signed_of(integer: i64, key: Key) -> Result<i32, ProjectFault>
+    ensures { Gives (λ z. z) result (signed_of key integer) }
+{
+    match i32::try_from(integer) {
+        Ok(number) => Ok(number),
+        Err(_) => Err(ProjectFault::OutOfLimit(key)),
+    }
+}
+
+// The numbers, if all of them fit 32 bits.
+#[tactic(auto, unfolding(crate::specs::Reading::narrow))]
+fn narrow(alloc: Global, integers: &[i64], key: Key) -> Result<Vec<i32>, ProjectFault>
+    ensures { Gives (λ v. v.items) result (narrow key integers.now) }
+{
+    let mut numbers = Vec::new(alloc);
+    for integer in integers {
+        let number = signed_of(*integer, key)?;
+        numbers.push(number)?;
+    }
+    Ok(numbers)
+}
+
+// The texts that all of the values are.
+#[tactic(auto, unfolding(crate::specs::Reading::texts_of))]
+fn texts_of(alloc: Global, values: &[Value], key: Key) -> Result<Vec<String>, ProjectFault>
+    ensures { Gives (λ v. map string_bytes v.items) result (texts_of key (list_of (items_view values.now))) }
+{
+    let mut texts = Vec::new(alloc);
+    for value in values {
+        let text = text_of(value, key)?;
+        let copy = String::from_str(alloc, text)?;
+        texts.push(copy)?;
+    }
+    Ok(texts)
+}

@@ -1,0 +1,39 @@
+-- The text of a RIFF WAVE file of PCM samples (Microsoft and IBM, Multimedia Programming Interface and Data Specifications 1.0).
+use Rattle.std.specs.Prelude.{ℕ, suc, ◌-◌, ◌*◌, ◌/◌, ◌^◌, ℤ, pos, negsuc, List, ◌++◌, length, codes, nat_lt, if◌then◌else◌, Option, Some, None, replicate}
+use Rattle.std.specs.List.{flat_map}
+use Rattle.chunk_core.specs.declared.numbers.Order.TheVariants.{Little}
+use Rattle.chunk_core.specs.Numbers.{bytes_of}
+use Rattle.wave_core.specs.Contents.{Pcm}
+use Rattle.wave_core.specs.Sizes.{block_align, data_size, pad_size, riff_size}
+
+-- all that stands before the samples of so many frames
+unfoldable pub header : ℕ → ℕ → ℕ → ℕ → List ℕ
+header channels rate width frames =
+    codes "RIFF" ++ bytes_of Little 4 (riff_size channels width frames) ++ codes "WAVE"
+    ++ codes "fmt " ++ bytes_of Little 4 16 ++ bytes_of Little 2 1 ++ bytes_of Little 2 channels ++ bytes_of Little 4 rate
+    ++ bytes_of Little 4 (rate * block_align channels width) ++ bytes_of Little 2 (block_align channels width) ++ bytes_of Little 2 width
+    ++ codes "data" ++ bytes_of Little 4 (data_size channels width frames)
+
+-- the number that stands for a value in two's complement of so many bits (negsuc n is -1 - n)
+abbrev pub twos_complement : ℕ → ℤ → ℕ
+twos_complement width (pos n) = n
+twos_complement width (negsuc n) = 2 ^ width - suc n
+
+-- a sample: two's complement, the lowest byte first
+abbrev pub sample_bytes : ℕ → ℤ → List ℕ
+sample_bytes width value = bytes_of Little (width / 8) (twos_complement width value)
+
+-- what follows the samples of so many frames: one zero byte after odd data, else nothing
+abbrev pub pad_bytes : ℕ → ℕ → ℕ → List ℕ
+pad_bytes channels width frames = replicate (pad_size channels width frames) 0
+
+-- how many frames there are
+abbrev pub frame_count : Pcm → ℕ
+frame_count p = length p.samples / p.channels
+
+-- the file: the header, each sample, the pad; none where the RIFF chunk's size does not fit 32 bits
+abbrev pub wave_text : Pcm → Option (List ℕ)
+wave_text p =
+    if nat_lt (riff_size p.channels p.width (frame_count p)) (2 ^ 32)
+    then Some (header p.channels p.rate p.width (frame_count p) ++ (flat_map (sample_bytes p.width) p.samples ++ pad_bytes p.channels p.width (frame_count p)))
+    else None

@@ -1,0 +1,49 @@
+//! WAVE files of integer samples, written whole or in parts.
+//!
+//! A file is one RIFF chunk of the type `WAVE` (Microsoft and IBM, Multimedia Programming Interface and
+//! Data Specifications 1.0, PCM format): a `fmt ` chunk of 16 bytes, and a `data` chunk of the samples,
+//! frame by frame, in two's complement. All numbers have the lowest byte first. One zero byte follows an
+//! odd number of sample bytes; the RIFF chunk's size counts it, the `data` chunk's does not.
+//!
+//! A [`Pcm`] holds 1 to 6 channels of 16 or 24 bits at 1 to 6,250,000 frames a second, and [`write`] makes
+//! its file. Whoever has no list of samples makes the same file in parts: [`push_header`], then
+//! [`push_sample`] for each frame and channel, then [`push_pad`].
+//!
+//! The words of the contracts:
+//!
+//! - `Pcm` is what the samples in memory hold, `IsPcm` names the rules that they keep, `IsSample width
+//!   value` says that a value lies in the range of a width (`specs/Contents.antt`).
+//! - `data_size`, `pad_size` and `riff_size` of channels, width and frames are the sizes in bytes, and
+//!   `FitsRiff` says that the last fits 32 bits (`specs/Sizes.antt`).
+//! - `header`, `sample_bytes` and `pad_bytes` are the parts of a file, `wave_text` the whole, if there is
+//!   one (`specs/Texts.antt`).
+//!
+//! What it promises: what is written is exactly `wave_text`, and what is pushed exactly the part of it.
+//! `TooLarge` is answered exactly where the RIFF chunk's size would not fit 32 bits, for every number of
+//! frames. A refused push leaves the bytes as they were. [`parts_join`] carries the law that the parts make
+//! the whole.
+//!
+//! ```text
+//! let pcm = Pcm::new(1, 352_800, 24, vec![in alloc; 10]?);
+//! write(alloc, &pcm)?                        // 48 bytes
+//! let mut file = Vec::new(alloc);            // the same
+//! push_header(&mut file, 1, 352_800, 24, 1)?;
+//! push_sample(&mut file, 24, 10)?;
+//! push_pad(&mut file, 1, 24, 1)?;
+//! ```
+#![tactic(auto)]
+
+mod fault;
+mod header;
+mod pcm;
+mod sound;
+mod writing;
+
+pub use fault::WaveFault;
+pub use header::push_header;
+pub use pcm::Pcm;
+pub use sound::{push_pad, push_sample};
+pub use writing::{parts_join, write};
+
+#[cfg(test)]
+mod tests;

@@ -1,0 +1,49 @@
+//! From samples to the bytes of a file.
+
+ghost use Rattle.std.specs.Prelude.{◌≡◌, ◌↔◌, ◌++◌, IfOk, OnOk, None, Some};
+ghost use Rattle.std.specs.List.{flat_map};
+ghost use Rattle.wave_core.specs.Contents.{IsPcm};
+ghost use Rattle.wave_core.specs.Laws.{PartsJoin};
+ghost use Rattle.wave_core.specs.Texts.{sample_bytes, wave_text};
+
+use crate::fault::WaveFault;
+use crate::header::{header_bytes, sizes_of};
+use crate::pcm::Pcm;
+use crate::sound::{push_pad, push_sample};
+use std::alloc::{AllocError, Global};
+
+/// The bytes of the WAVE file of the samples: what [`crate::push_header`] appends, each sample as of
+/// [`crate::push_sample`], and what [`crate::push_pad`] appends.
+///
+/// Refusals, in this order: `TooLarge` where the size of the RIFF chunk would not fit 32 bits, for which no
+/// memory is needed; `Memory`.
+pub fn write(alloc: Global, pcm: &Pcm) -> Result<Vec<u8>, WaveFault>
+    ensures text { IfOk result (λ file. wave_text pcm.now ≡ Some file.items) }
+    ensures too_large { (result ≡ Err WaveFault.TooLarge) ↔ (wave_text pcm.now ≡ None) }
+{
+    let frames = (pcm.samples.len() / usize::from(pcm.channels)) as u64;
+    let Some(sizes) = sizes_of(pcm.channels, pcm.width, frames) else {
+        return Err(WaveFault::TooLarge);
+    };
+    let mut out = Vec::with_capacity(alloc, 8 + sizes.riff_size as usize)?;
+    out.extend_from_slice(&header_bytes(pcm.channels, pcm.rate, pcm.width, &sizes))?;
+    push_samples(&mut out, pcm)?;
+    push_pad(&mut out, pcm.channels, pcm.width, frames)?;
+    Ok(out)
+}
+
+// Appends all samples.
+fn push_samples(out: &mut Vec<u8>, pcm: &Pcm) -> Result<(), AllocError>
+    ensures { OnOk result (out.new.items ≡ out.old.items ++ flat_map (sample_bytes pcm.now.width) pcm.now.samples) }
+{
+    for value in &pcm.samples {
+        push_sample(out, pcm.width, *value)?;
+    }
+    Ok(())
+}
+
+/// The law of the parts: the header, the samples of whole frames and the pad are the whole file, and where
+/// they are too large there is none. The function does nothing: a caller's proof cites what it ensures.
+pub fn parts_join()
+    ensures { PartsJoin }
+{}

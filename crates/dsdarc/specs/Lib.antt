@@ -1,9 +1,2 @@
-pub mod Faults
-pub mod Frames
-pub mod Keys
-pub mod Opening
+pub mod FormNames
 pub mod Outcomes
-pub mod Playing
-pub mod Projects
-pub mod Tables
-pub mod Wave

@@ -1,20 +1,23 @@
-//! What is told of a recording.
+//! What is told of a file.
 
-use dsd_bits::Recording;
+use crate::form_names::name_of;
+use archive_core::Opened;
 use dsdiff_core::place;
 use std::alloc::{AllocError, Global};
 use std::fmt::Write;
 
-/// The lines that `info` prints of a DSDIFF file's recording, without the end of the last line: its
-/// form, its rate in hertz, how many channels and samples (bits) a channel it has, the channels' IDs as
+/// The lines that `info` prints of a file's recording, without the end of the last line: the file's form,
+/// its rate in hertz, how many channels and samples (bits) a channel it has, the channels' IDs as
 /// hexadecimal digits, its layout, its marks with their places in samples, how many chunks are kept as
 /// they are, and how many bytes its tag has. It is refused only for want of memory.
-pub fn info_lines(alloc: Global, recording: &Recording) -> Result<String, AllocError> {
+pub fn info_lines(alloc: Global, opened: &Opened) -> Result<String, AllocError> {
+    let form = name_of(opened.form);
+    let recording = &opened.recording;
     let rate = recording.rate();
     let channels = recording.channels().len();
     let count = recording.count();
     let mut text = format!(in alloc;
-        "form dsdiff\nrate {rate}\nchannels {channels}\nsamples {count}\nids"
+        "form {form}\nrate {rate}\nchannels {channels}\nsamples {count}\nids"
     )?;
     for id in recording.ids() {
         write!(text, " {:08x}", u32::from_be_bytes(*id))?;

@@ -1,30 +1,19 @@
-//! The program `dsdarc`: `play PROJECT IN OUT` plays a one-bit recording to a RIFF WAVE file, and
-//! `info FILE` tells what a recording's file holds.
+//! The program `dsdarc`: `play PROJECT IN OUT` plays a one-bit recording to a RIFF WAVE file,
+//! `convert FORM IN OUT` writes it in another form, and `info FILE` tells what a recording's file holds.
 //!
-//! The work is [`player::play`] and [`opening::open`], over the bytes of a project and of a file; `words`
-//! reads the command line, `run` the files, and `outcome` says what is printed and with which status the
-//! program ends.
-//!
-//! The words of its contracts: `Plays project file bytes` says that these bytes are the WAVE text of
-//! the file's recording, decimated as the project says, and `StandsFirst project file fault` that this
-//! is the first fault of the order.
+//! The work is done by `archive_core`, over the bytes of files; `words` reads the command line, `run` the
+//! files, and `outcome` says what is printed and with which status the program ends.
 #![tactic(auto)]
 
-mod fault;
+mod form_names;
 mod info;
-mod key;
-mod opening;
 mod outcome;
-mod player;
-mod project;
 mod run;
-mod table;
 #[cfg(test)]
 mod tests;
-mod wave;
 mod words;
 
-use fault::Fault;
+use archive_core::Fault;
 use outcome::{Outcome, outcome_line, status};
 use std::io;
 use std::process::ExitCode;
@@ -48,7 +37,7 @@ fn given_words(rt: &HostRuntime) -> io::Result<Vec<String>> {
 fn print(rt: &HostRuntime, outcome: &Outcome) -> io::Result<()> {
     let line = outcome_line(rt.alloc(), outcome)?;
     match outcome {
-        Outcome::Played(_) | Outcome::Info(_) => println!(rt; "{line}"),
+        Outcome::Played(_) | Outcome::Converted(_) | Outcome::Info(_) => println!(rt; "{line}"),
         _ => eprintln!(rt; "{line}"),
     }
 }

@@ -1,12 +1,11 @@
 //! What a command came to: the line that is printed and the status that the program ends with.
 
 ghost use Rattle.std.specs.Prelude.{◌≡◌, IfOk, string_bytes};
-ghost use Rattle.dsdarc.specs.Outcomes.{ShowsPlayed, status_of};
+ghost use Rattle.dsdarc.specs.Outcomes.{ShowsDone, status_of};
 ghost use Rattle.dsdarc.specs.declared.outcome.Outcome.TheVariants as outcomes;
 
-use crate::fault::Fault;
 use crate::info::info_lines;
-use dsd_bits::Recording;
+use archive_core::{Fault, Opened};
 use std::alloc::{AllocError, Global};
 
 /// What a command came to.
@@ -14,8 +13,10 @@ use std::alloc::{AllocError, Global};
 pub enum Outcome {
     /// A file was played; its WAVE file has so many bytes.
     Played(u64),
-    /// A file was read, and its recording is told of.
-    Info(Recording),
+    /// A file was converted; so many parts of its recording have no place in the other form.
+    Converted(u64),
+    /// A file was read, and its form and its recording are told of.
+    Info(Opened),
     /// The call was refused.
     Fault(Fault),
     /// A file could not be opened or read.
@@ -24,6 +25,8 @@ pub enum Outcome {
     WriteFailed,
     /// The words are no command.
     WrongWords,
+    /// A form is named that isn't known.
+    UnknownFormName,
 }
 
 impl From<Fault> for Outcome {
@@ -37,26 +40,28 @@ impl From<Fault> for Outcome {
 /// The line or lines that are printed, without the end of the last. It is refused only for want of
 /// memory.
 pub fn outcome_line(alloc: Global, outcome: &Outcome) -> Result<String, AllocError>
-    ensures { IfOk result (λ line. ShowsPlayed outcome.now (string_bytes line)) }
+    ensures { IfOk result (λ line. ShowsDone outcome.now (string_bytes line)) }
 {
     match outcome {
         Outcome::Played(count) => format!(in alloc; "played {count} bytes"),
-        Outcome::Info(recording) => info_lines(alloc, recording),
+        Outcome::Converted(dropped) => format!(in alloc; "converted dropped {dropped}"),
+        Outcome::Info(opened) => info_lines(alloc, opened),
         Outcome::Fault(fault) => format!(in alloc; "fault: {fault}"),
         Outcome::ReadFailed => format!(in alloc; "fault: ReadFailed"),
         Outcome::WriteFailed => format!(in alloc; "fault: WriteFailed"),
         Outcome::WrongWords => format!(in alloc; "fault: WrongWords"),
+        Outcome::UnknownFormName => format!(in alloc; "fault: UnknownFormName"),
     }
 }
 
 /// The program's exit status: 0 where the command was done, 2 for a fault, 3 for words that are no
-/// command.
+/// command or name no form.
 pub fn status(outcome: &Outcome) -> u8
     ensures { result ≡ status_of outcome.now }
 {
     match outcome {
-        Outcome::Played(_) | Outcome::Info(_) => 0,
+        Outcome::Played(_) | Outcome::Converted(_) | Outcome::Info(_) => 0,
         Outcome::Fault(_) | Outcome::ReadFailed | Outcome::WriteFailed => 2,
-        Outcome::WrongWords => 3,
+        Outcome::WrongWords | Outcome::UnknownFormName => 3,
     }
 }

@@ -1,7 +1,8 @@
 //! The words of a command line.
 
-use crate::fault::Fault;
+use crate::form_names::form_named;
 use crate::outcome::Outcome;
+use archive_core::{Fault, Form};
 use clap::error::ErrorKind;
 use clap::{Arg, ArgAction, ArgMatches, Command, Error};
 use std::alloc::{AllocError, Global};
@@ -15,6 +16,12 @@ pub enum Task<'a> {
         input: &'a str,
         output: &'a str,
     },
+    /// `convert FORM IN OUT`
+    Convert {
+        form: Form,
+        input: &'a str,
+        output: &'a str,
+    },
     /// `info FILE`
     Info {
         file: &'a str,
@@ -22,29 +29,43 @@ pub enum Task<'a> {
 }
 
 /// What the words ask for, the program's name first. Other words than those of a command are
-/// `WrongWords`.
+/// `WrongWords`, and another form than `dsdiff`, `dsf` or `dsf8` is `UnknownFormName`.
 pub fn task_of<'a>(alloc: Global, words: &'a [String]) -> Result<Task<'a>, Outcome> {
     let matches = match matches_of(alloc, words) {
         Ok(matches) => matches,
         Err(error) if error.kind() == ErrorKind::OutOfMemory => return Err(Fault::Memory.into()),
         Err(_) => return Err(Outcome::WrongWords),
     };
-    named_task(&matches).ok_or(Outcome::WrongWords)
-}
-
-// The command that was matched, with its names.
-fn named_task<'a>(matches: &ArgMatches<'a>) -> Option<Task<'a>> {
     if let Some(play) = matches.subcommand_matches("play") {
-        return Some(Task::Play {
-            project: play.get_str("PROJECT")?,
-            input: play.get_str("IN")?,
-            output: play.get_str("OUT")?,
+        return Ok(Task::Play {
+            project: name_at(play, "PROJECT")?,
+            input: name_at(play, "IN")?,
+            output: name_at(play, "OUT")?,
         });
     }
-    let info = matches.subcommand_matches("info")?;
-    Some(Task::Info {
-        file: info.get_str("FILE")?,
+    if let Some(convert) = matches.subcommand_matches("convert") {
+        return Ok(Task::Convert {
+            form: form_at(convert)?,
+            input: name_at(convert, "IN")?,
+            output: name_at(convert, "OUT")?,
+        });
+    }
+    let info = matches
+        .subcommand_matches("info")
+        .ok_or(Outcome::WrongWords)?;
+    Ok(Task::Info {
+        file: name_at(info, "FILE")?,
     })
+}
+
+// The name that a command was given.
+fn name_at<'a>(matches: &ArgMatches<'a>, id: &str) -> Result<&'a str, Outcome> {
+    matches.get_str(id).ok_or(Outcome::WrongWords)
+}
+
+// The form that a command was given.
+fn form_at(matches: &ArgMatches) -> Result<Form, Outcome> {
+    form_named(name_at(matches, "FORM")?).ok_or(Outcome::UnknownFormName)
 }
 
 fn matches_of<'a>(alloc: Global, words: &'a [String]) -> Result<ArgMatches<'a>, Error> {
@@ -57,10 +78,15 @@ fn command<'a>(alloc: Global) -> Result<Command<'a>, AllocError> {
         .arg(positional(alloc, "PROJECT"))?
         .arg(positional(alloc, "IN"))?
         .arg(positional(alloc, "OUT"))?;
+    let convert = Command::new(alloc, "convert")
+        .arg(positional(alloc, "FORM"))?
+        .arg(positional(alloc, "IN"))?
+        .arg(positional(alloc, "OUT"))?;
     let info = Command::new(alloc, "info").arg(positional(alloc, "FILE"))?;
     Command::new(alloc, "dsdarc")
         .subcommand_required(true)
         .subcommand(play)?
+        .subcommand(convert)?
         .subcommand(info)
 }
 

@@ -1,0 +1,56 @@
+-- What a conversion answers is the text of the file's recording, or the fault that stands first.
+use Rattle.std.proofs.Common.{◌≡◌, ℕ, List, Some, Ok, Err, sym, ap, ◌∙◌}
+use Rattle.dsd_bits.specs.Contents.{Content}
+use Rattle.archive_core.specs.declared.fault.Fault.{Fault}
+use Rattle.archive_core.specs.declared.fault.Fault.TheVariants.{Project, NoDecimation, NoSplice, FileUnread, RateNotDivided, TooLarge, NotWholeBytes, Memory}
+use Rattle.archive_core.specs.declared.fault.ReadFault.{ReadFault}
+use Rattle.archive_core.specs.declared.fault.ReadFault.TheVariants as reads
+use Rattle.archive_core.specs.declared.form.Form.{Form}
+use Rattle.archive_core.specs.declared.opening.Opened.{Opened}
+use Rattle.archive_core.specs.Converting.{AnswersConverted, ConvertStandsFirst, Converts}
+use Rattle.archive_core.specs.Faults.{fault_of_file}
+use Rattle.archive_core.specs.Forms.{Holds, text_in}
+use Rattle.archive_core.specs.Opening.{Opens, opened_of}
+use Rattle.archive_core.specs.Writing.{IsWriteFault}
+
+-- ---- a file that is refused
+pub file_stands : (file : List ℕ) (form : Form) (e : ReadFault) → Opens (Err e) (opened_of file) → ConvertStandsFirst file form (fault_of_file e)
+file_stands file form reads.UnknownForm h = h
+file_stands file form (reads.Dsdiff fault) h = h
+file_stands file form (reads.Dsf fault) h = h
+file_stands file form reads.Memory h = tt
+
+pub file_refused : (file : List ℕ) (form : Form) (bytes : List ℕ) (dropped : ℕ) (e : ReadFault) → ((source : Form) (r : Content) → Holds file source r → Opens (Err e) (Ok (record { form = source; recording = r }))) → Converts file form bytes dropped
+    → AnswersConverted (Err (fault_of_file e)) bytes dropped
+file_refused file form bytes dropped reads.UnknownForm h converts = let e = h converts.source converts.recording converts.file_holds in absurd cc
+file_refused file form bytes dropped (reads.Dsdiff fault) h converts = let e = h converts.source converts.recording converts.file_holds in absurd cc
+file_refused file form bytes dropped (reads.Dsf fault) h converts = let e = h converts.source converts.recording converts.file_holds in absurd cc
+file_refused file form bytes dropped reads.Memory h converts = tt
+
+-- ---- a recording that is not written
+pub write_stands : (file : List ℕ) (form source : Form) (r : Content) (e : Fault) → Holds file source r → IsWriteFault form r e → ConvertStandsFirst file form e
+write_stands file form source r NotWholeBytes holds none = record { source = source; recording = r; file_holds = holds; no_text = none }
+write_stands file form source r Memory holds h = tt
+write_stands file form source r (Project f) holds h = absurd h
+write_stands file form source r NoDecimation holds h = absurd h
+write_stands file form source r NoSplice holds h = absurd h
+write_stands file form source r (FileUnread f) holds h = absurd h
+write_stands file form source r RateNotDivided holds h = absurd h
+write_stands file form source r TooLarge holds h = absurd h
+
+pub write_refused : (form : Form) (r s : Content) (bytes : List ℕ) (dropped : ℕ) (e : Fault) → IsWriteFault form r e → r ≡ s → text_in form s ≡ Some bytes → AnswersConverted (Err e) bytes dropped
+write_refused form r s bytes dropped NotWholeBytes none same text = let some : text_in form r ≡ Some bytes = ap (text_in form) same ∙ text in absurd cc
+write_refused form r s bytes dropped Memory h same text = tt
+write_refused form r s bytes dropped (Project f) h same text = absurd h
+write_refused form r s bytes dropped NoDecimation h same text = absurd h
+write_refused form r s bytes dropped NoSplice h same text = absurd h
+write_refused form r s bytes dropped (FileUnread f) h same text = absurd h
+write_refused form r s bytes dropped RateNotDivided h same text = absurd h
+write_refused form r s bytes dropped TooLarge h same text = absurd h
+
+-- the recording that was read is the one that the file holds
+pub same_recording : (x y : Opened) → Opens (Ok x) (Ok y) → x.recording ≡ y.recording
+same_recording x y e = cc
+
+pub same_text : (form : Form) (r s : Content) (made bytes : List ℕ) → r ≡ s → text_in form r ≡ Some made → text_in form s ≡ Some bytes → made ≡ bytes
+same_text form r s made bytes same e f = let both : Some made ≡ Some bytes = sym e ∙ ap (text_in form) same ∙ f in cc

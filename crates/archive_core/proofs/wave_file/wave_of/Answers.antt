@@ -1,0 +1,52 @@
+use Rattle.std.proofs.Common.{◌≡◌, ◌/◌, ℕ, length, Vec, Global, rules, append_assoc}
+use Rattle.std.proofs.lemmas.Result.{err_from_is_err_and}
+use Rattle.std.specs.List.{flat_map}
+use Rattle.wave_core.specs.Sizes.{FitsRiff}
+use Rattle.wave_core.specs.Texts.{header, pad_bytes, sample_bytes}
+use Rattle.archive_core.specs.Frames.{frame_count, frames_below}
+use Rattle.archive_core.proofs.SampleLaws.{answered, header_refused, memory_refused, text_is}
+use Rattle.archive_core.proofs.wave_file.wave_of.Goals as goal
+
+pub returns-in_err-push_header-clause-too_large : goal.returns-in_err-push_header-clause-too_large
+returns-in_err-push_header-clause-too_large c =
+    let p = err_from_is_err_and c.from_residual.result c.from_residual.ensures.1 in
+    let count : c.div_ceil-count.result ≡ frame_count c.args.taps.now c.args.recording.now.channels = search rules in
+    rw (p.1, p.2) (header_refused c.args.recording.now c.args.taps.now c.channels-channels.ensures.shape c.parts_join.ensures {X = Unit {0}} {Y = Vec ℕ Global} c.in_err-push_header.field-0.0
+    (rw (← count, ← c.channels-channels.ensures.value, ← c.width-width.ensures.value) c.in_err-push_header.ensures.too_large))
+
+pub returns-in_err-reserve_exact-clause-too_large : goal.returns-in_err-reserve_exact-clause-too_large
+returns-in_err-reserve_exact-clause-too_large c =
+    let p = err_from_is_err_and c.from_residual-in_err-reserve_exact.result c.from_residual-in_err-reserve_exact.ensures.1 in
+    let count : c.div_ceil-count.result ≡ frame_count c.args.taps.now c.args.recording.now.channels = search rules in
+    let fits : FitsRiff (length c.args.recording.now.channels) c.args.taps.now.width (frame_count c.args.taps.now c.args.recording.now.channels) = rw (← count, ← c.channels-channels.ensures.value, ← c.width-width.ensures.value) c.in_ok-push_header.ensures.fits in
+    rw p.1 (memory_refused c.args.recording.now c.args.taps.now c.channels-channels.ensures.shape c.parts_join.ensures {Y = Vec ℕ Global} p.0 p.2 fits)
+
+pub returns-in_err-push_frames-clause-too_large : goal.returns-in_err-push_frames-clause-too_large
+returns-in_err-push_frames-clause-too_large c =
+    let p = err_from_is_err_and c.from_residual-in_err-push_frames.result c.from_residual-in_err-push_frames.ensures.1 in
+    let count : c.div_ceil-count.result ≡ frame_count c.args.taps.now c.args.recording.now.channels = search rules in
+    let fits : FitsRiff (length c.args.recording.now.channels) c.args.taps.now.width (frame_count c.args.taps.now c.args.recording.now.channels) = rw (← count, ← c.channels-channels.ensures.value, ← c.width-width.ensures.value) c.in_ok-push_header.ensures.fits in
+    rw p.1 (memory_refused c.args.recording.now c.args.taps.now c.channels-channels.ensures.shape c.parts_join.ensures {Y = Vec ℕ Global} p.0 p.2 fits)
+
+pub returns-in_err-push_pad-clause-too_large : goal.returns-in_err-push_pad-clause-too_large
+returns-in_err-push_pad-clause-too_large c =
+    let p = err_from_is_err_and c.from_residual-in_err-push_pad.result c.from_residual-in_err-push_pad.ensures.1 in
+    let count : c.div_ceil-count.result ≡ frame_count c.args.taps.now c.args.recording.now.channels = search rules in
+    let fits : FitsRiff (length c.args.recording.now.channels) c.args.taps.now.width (frame_count c.args.taps.now c.args.recording.now.channels) = rw (← count, ← c.channels-channels.ensures.value, ← c.width-width.ensures.value) c.in_ok-push_header.ensures.fits in
+    rw p.1 (memory_refused c.args.recording.now c.args.taps.now c.channels-channels.ensures.shape c.parts_join.ensures {Y = Vec ℕ Global} p.0 p.2 fits)
+
+pub returns-clause-text : goal.returns-clause-text
+returns-clause-text c =
+    let count : c.div_ceil-count.result ≡ frame_count c.args.taps.now c.args.recording.now.channels = search rules in
+    let fits : FitsRiff (length c.args.recording.now.channels) c.args.taps.now.width (frame_count c.args.taps.now c.args.recording.now.channels) = rw (← count, ← c.channels-channels.ensures.value, ← c.width-width.ensures.value) c.in_ok-push_header.ensures.fits in
+    let r = c.args.recording.now in
+    let d = c.args.taps.now in
+    let n = c.div_ceil-count.result in
+    text_is c.args.recording.now c.args.taps.now c.channels-channels.ensures.shape c.parts_join.ensures c.push_pad.new.out.items fits
+    (rw (← count) (rw (c.in_ok-push_pad.ensures.ok, c.in_ok-push_frames.ensures, c.in_ok-reserve_exact.ensures.items, c.in_ok-push_header.ensures.ok, c.new-wave.ensures.items, c.channels-channels.ensures.value, c.factor-factor.ensures.value, c.rate.ensures.value, c.width-width.ensures.value) (append_assoc (header (length r.channels) (r.rate / d.factor) d.width n) (flat_map (sample_bytes d.width) (frames_below d r.channels n)) (pad_bytes (length r.channels) d.width n))))
+
+pub returns-clause-too_large : goal.returns-clause-too_large
+returns-clause-too_large c =
+    let count : c.div_ceil-count.result ≡ frame_count c.args.taps.now c.args.recording.now.channels = search rules in
+    let fits : FitsRiff (length c.args.recording.now.channels) c.args.taps.now.width (frame_count c.args.taps.now c.args.recording.now.channels) = rw (← count, ← c.channels-channels.ensures.value, ← c.width-width.ensures.value) c.in_ok-push_header.ensures.fits in
+    answered c.args.recording.now c.args.taps.now c.channels-channels.ensures.shape c.parts_join.ensures {Y = Vec ℕ Global} c.push_pad.new.out fits

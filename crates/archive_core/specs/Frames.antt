@@ -1,0 +1,22 @@
+-- The samples of several channels, frame by frame.
+use Rattle.std.specs.Prelude.{ℕ, ℤ, Bool, List, map}
+use Rattle.std.specs.List.{flat_map, range_with_len}
+use Rattle.std.specs.Int.{div_ceil}
+use Rattle.fir_core.specs.Decimator.{Decimator, sample_at}
+use Rattle.dsd_bits.specs.Channels.{count_of}
+
+-- frame j: sample j of each channel, in order
+abbrev pub frame : Decimator → List (List Bool) → ℕ → List ℤ
+frame d channels j = map (λ bits. sample_at d bits j) channels
+
+-- the first frames, one after the other
+abbrev pub frames_below : Decimator → List (List Bool) → ℕ → List ℤ
+frames_below d channels count = flat_map (frame d channels) (range_with_len 0 count)
+
+-- how many frames there are: those j from 0 on with j * factor below the number of bits
+abbrev pub frame_count : Decimator → List (List Bool) → ℕ
+frame_count d channels = div_ceil (count_of channels) d.factor
+
+-- all frames
+abbrev pub frames : Decimator → List (List Bool) → List ℤ
+frames d channels = frames_below d channels (frame_count d channels)

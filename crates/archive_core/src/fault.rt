@@ -1,0 +1,135 @@
+//! Why a call is refused.
+
+ghost use Rattle.std.specs.Prelude.{◌≡◌};
+ghost use Rattle.archive_core.specs.Faults.{dsdiff_fault, dsf_fault, fault_of_file, fault_of_project, fault_of_wave, fault_of_writing};
+ghost use Rattle.archive_core.specs.declared.fault.Fault.TheVariants as faults;
+
+use dsdiff_core::{DsdiffFault, WriteFault};
+use dsf_core::DsfFault;
+use project_core::ProjectFault;
+use std::alloc::AllocError;
+use thiserror::Error;
+use wave_core::WaveFault;
+
+/// Why a file is not read as a recording.
+#[derive(Clone, Copy, Debug, PartialEq, Eq, Error)]
+pub enum ReadFault {
+    /// The file is neither a DSDIFF file nor a DSF file.
+    #[error("UnknownForm")]
+    UnknownForm,
+    /// The file is a DSDIFF file that holds no recording that can be read.
+    #[error("Dsdiff {0}")]
+    Dsdiff(DsdiffFault),
+    /// The file is a DSF file that holds no recording that can be read.
+    #[error("Dsf {0}")]
+    Dsf(DsfFault),
+    /// Want of memory.
+    #[error("Memory")]
+    Memory,
+}
+
+impl From<DsdiffFault> for ReadFault {
+    ghost from_gives = { λ f e. e ≡ dsdiff_fault f };
+
+    fn from(fault: DsdiffFault) -> ReadFault {
+        match fault {
+            DsdiffFault::NotDsdiff => ReadFault::UnknownForm,
+            DsdiffFault::Memory => ReadFault::Memory,
+            fault => ReadFault::Dsdiff(fault),
+        }
+    }
+}
+
+impl From<DsfFault> for ReadFault {
+    ghost from_gives = { λ f e. e ≡ dsf_fault f };
+
+    fn from(fault: DsfFault) -> ReadFault {
+        match fault {
+            DsfFault::NotDsf => ReadFault::UnknownForm,
+            DsfFault::Memory => ReadFault::Memory,
+            fault => ReadFault::Dsf(fault),
+        }
+    }
+}
+
+/// Why a call is refused: the first fault that stands, in the order that the call states. Every want of
+/// memory is `Memory`.
+#[derive(Clone, Copy, Debug, PartialEq, Eq, Error)]
+pub enum Fault {
+    /// The project text is not read.
+    #[error("Project {0}")]
+    Project(ProjectFault),
+    /// The project text has no decimator.
+    #[error("NoDecimation")]
+    NoDecimation,
+    /// The project text has no splice.
+    #[error("NoSplice")]
+    NoSplice,
+    /// The file is not read as a recording.
+    #[error("FileUnread {0}")]
+    FileUnread(ReadFault),
+    /// The decimation factor doesn't divide the recording's sample rate.
+    #[error("RateNotDivided")]
+    RateNotDivided,
+    /// The WAVE file would be larger than its 32-bit sizes can say.
+    #[error("TooLarge")]
+    TooLarge,
+    /// A DSDIFF file holds whole bytes of each channel, and the channels end inside one.
+    #[error("NotWholeBytes")]
+    NotWholeBytes,
+    /// Want of memory.
+    #[error("Memory")]
+    Memory,
+}
+
+impl From<AllocError> for Fault {
+    ghost from_gives = { λ _ e. e ≡ faults.Memory };
+
+    fn from(_e: AllocError) -> Fault {
+        Fault::Memory
+    }
+}
+
+impl From<ProjectFault> for Fault {
+    ghost from_gives = { λ f e. e ≡ fault_of_project f };
+
+    fn from(fault: ProjectFault) -> Fault {
+        match fault {
+            ProjectFault::Memory => Fault::Memory,
+            fault => Fault::Project(fault),
+        }
+    }
+}
+
+impl From<ReadFault> for Fault {
+    ghost from_gives = { λ f e. e ≡ fault_of_file f };
+
+    fn from(fault: ReadFault) -> Fault {
+        match fault {
+            ReadFault::Memory => Fault::Memory,
+            fault => Fault::FileUnread(fault),
+        }
+    }
+}
+
+impl From<WaveFault> for Fault {
+    ghost from_gives = { λ f e. e ≡ fault_of_wave f };
+
+    fn from(fault: WaveFault) -> Fault {
+        match fault {
+            WaveFault::Memory => Fault::Memory,
+            WaveFault::TooLarge => Fault::TooLarge,
+        }
+    }
+}
+
+impl From<WriteFault> for Fault {
+    ghost from_gives = { λ f e. e ≡ fault_of_writing f };
+
+    fn from(fault: WriteFault) -> Fault {
+        match fault {
+            WriteFault::Memory => Fault::Memory,
+            WriteFault::NotWholeBytes => Fault::NotWholeBytes,
+        }
+    }
+}

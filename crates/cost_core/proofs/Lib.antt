@@ -1,0 +1,12 @@
+pub mod Arriving
+pub mod Channels
+pub mod Fades
+pub mod Joining
+pub mod Leasts
+pub mod Limits
+pub mod Numbers
+pub mod Places
+pub mod Reading
+pub mod SumLaws
+pub mod Tables
+pub mod Walks

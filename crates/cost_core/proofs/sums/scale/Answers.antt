@@ -1,0 +1,20 @@
+use Rattle.std.proofs.Common.{◌≡◌, ◌≤◌, ◌+◌, ◌*◌, ◌+ℤ◌, ◌*ℤ◌, pos, unsigned_abs, arith, to_z, of_z, w32}
+use Rattle.std.proofs.lemmas.Int.{ints, unsigned_abs-mul}
+use Rattle.std.proofs.lemmas.Nat.{mul-le}
+use Rattle.cost_core.proofs.SumLaws.{kept}
+use Rattle.cost_core.proofs.sums.scale.Goals as goal
+use Rattle.cost_core.proofs.sums.scale.Goals.{Start}
+
+product_in : (c : Start) → unsigned_abs (pos (c.args.levels + 1) *ℤ c.args.sum) ≤ (c.args.levels + 1) * 4096
+product_in c = rw (unsigned_abs-mul (pos (c.args.levels + 1)) c.args.sum) (mul-le (c.args.levels + 1) (unsigned_abs c.args.sum) (c.args.levels + 1) 4096 (omega arith) c.requires.sum)
+
+value_is : (c : Start) → to_z w32 (of_z w32 (to_z w32 (of_z w32 (to_z w32 c.args.levels +ℤ pos 1)) *ℤ to_z w32 (of_z w32 c.args.sum))) ≡ pos (c.args.levels + 1) *ℤ c.args.sum
+value_is c =
+    let ea : to_z w32 (of_z w32 (to_z w32 c.args.levels +ℤ pos 1)) ≡ pos (c.args.levels + 1) = omega (arith, ints, c.requires.levels) in
+    rw (ea, kept c.args.sum (omega (arith, c.requires.sum))) (kept (pos (c.args.levels + 1) *ℤ c.args.sum) (omega (arith, product_in c, c.requires.levels)))
+
+pub returns-clause-value : goal.returns-clause-value
+returns-clause-value c = value_is (goal.at.returns-clause-value c).Start
+
+pub returns-clause-bound : goal.returns-clause-bound
+returns-clause-bound c = let s = (goal.at.returns-clause-bound c).Start in rw (value_is s) (product_in s)

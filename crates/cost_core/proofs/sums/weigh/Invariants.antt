@@ -1,0 +1,7 @@
+use Rattle.std.proofs.Common.{◌≡◌, ◌/◌, ◌%◌, ◌^◌, eqb}
+use Rattle.dsd_bits.specs.Sums.{sum_below}
+use Rattle.cost_core.proofs.SumLaws.{weight_term}
+use Rattle.cost_core.proofs.sums.weigh.Given as goal
+
+abbrev pub invariant-loop-k : goal.invariant-loop-k
+invariant-loop-k l = l.sum ≡ sum_below l.k (weight_term l.weights (λ k. eqb (l.code / 2 ^ k % 2) 1))

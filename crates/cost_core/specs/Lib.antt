@@ -1,0 +1,11 @@
+pub mod Bridges
+pub mod Channels
+pub mod Fade
+pub mod Faults
+pub mod Least
+pub mod Limits
+pub mod StateCosts
+pub mod Trellis
+pub mod Validity
+pub mod View
+pub mod Weighted

@@ -1,0 +1,66 @@
+//! The targets of a linear fade.
+
+ghost use Rattle.std.specs.Prelude.{◌≡◌, ◌+◌, ◌*◌, ◌-◌, ◌<◌, ◌≤◌, map, length, pos, ◌+ℤ◌, ◌*ℤ◌, unsigned_abs, IfOk};
+ghost use Rattle.std.specs.List.{range_with_len};
+ghost use Rattle.cost_core.specs.Limits.{CanFade};
+ghost use Rattle.cost_core.specs.Fade.{fade};
+
+use crate::sums::{scale, weighted_at};
+use dsd_bits::Bits;
+use std::alloc::{AllocError, Global};
+
+// Between two weighted sums, in parts of one more than the levels.
+fn blend(before: usize, a: i32, after: usize, b: i32) -> i32
+    requires parts { before + after ≤ 4097 }
+    requires a { unsigned_abs a ≤ 4096 }
+    requires b { unsigned_abs b ≤ 4096 }
+    ensures { result ≡ (pos before *ℤ a) +ℤ (pos after *ℤ b) }
+{
+    before as i32 * a + after as i32 * b
+}
+
+// The target of place `i` of a fade of `levels` bits, from the end `stop` of a cue in the take `a` to
+// the start of a cue in the take `b`.
+fn fade_at(
+    weights: &[i32],
+    a: &Bits,
+    stop: usize,
+    b: &Bits,
+    start: usize,
+    levels: usize,
+    i: usize,
+) -> i32
+    requires room { CanFade weights.now a.now stop b.now start levels }
+    requires first { 1 ≤ i }
+    requires last { i < levels + length weights.now }
+    ensures { result ≡ fade weights.now a.now stop b.now start levels i }
+{
+    if i <= levels {
+        blend(
+            levels + 1 - i,
+            weighted_at(weights, a, stop + i - 1),
+            i,
+            weighted_at(weights, b, start - levels + i - 1),
+        )
+    } else {
+        scale(levels, weighted_at(weights, b, start + i - levels - 1))
+    }
+}
+
+/// The targets of all places of a fade.
+pub fn fade_targets(
+    alloc: Global,
+    weights: &[i32],
+    a: &Bits,
+    stop: usize,
+    b: &Bits,
+    start: usize,
+    levels: usize,
+) -> Result<Vec<i32>, AllocError>
+    requires { CanFade weights.now a.now stop b.now start levels }
+    ensures { IfOk result (λ made. made.items ≡ map (fade weights.now a.now stop b.now start levels) (range_with_len 1 (levels + (length weights.now - 1)))) }
+{
+    (1..levels + weights.len())
+        .map(|i| fade_at(weights, a, stop, b, start, levels, i))
+        .collect(alloc)
+}

@@ -1,0 +1,52 @@
+//! What the bits of a bridge between two cues cost.
+//!
+//! At each place of a bridge's window (its own bits, and those after it that a weight still reads) the
+//! weighted sum of the newest bits is held against a target; the cost is the sum of the squared
+//! deviations. The target of a fade goes in a straight line from the weighted sum of the take before
+//! to that of the take after. All sums are of whole numbers, times one more than the bridge's length,
+//! so nothing is rounded.
+//!
+//! A [`Window`] holds what decides the cost of one bridge in one channel. It tells the cost of any bits
+//! ([`Window::cost_of`]), and the same step by step for a trellis search as of Viterbi, over the states
+//! that are made of the last bits ([`Window::step_cost`], [`Window::tail_cost`]).
+//!
+//! The words of the contracts, all over lists and numbers without bounds:
+//!
+//! - `weighted w z n` is the sum over `k` of `w[k] * sign(z[n - k])`, `fade` the target of a place.
+//! - `Bridging` is what a window holds; `bridge_cost d x` is the sum of the squared deviations over its
+//!   places, `IsLeastBridge d x` says that no bits of its length cost less, `IsFirstLeastBridge d x`
+//!   that of those they come first, read from the last bit to the first.
+//! - `Trellis` is states, steps and ends; `trellis_of d` is that of a bridge, `cost` the sum of the
+//!   steps along some bits and of the end where they lead, `next`, `before_by_0` and `before_by_1` the
+//!   states after and before a state.
+//! - `IsValid t bound c x` says by five plain facts that a table of forward bounds shows that no bits
+//!   cost less than `x`; `IsBounded t` that no number leaves 64 bits.
+//! - `channel` is a whole channel of cues and bridges, `channel_cost` the sum over all its places.
+//!
+//! Functions that do nothing carry the laws: [`steps_are_cost`], [`costs_in_bounds`],
+//! [`least_from_valid`], [`cut_is_valid`], [`places_are_windows`], [`fades_join`] and
+//! [`least_together`].
+//!
+//! ```text
+//! // Weights 1, 1; 8 bits of a take of ones, a bridge of 1 bit, then a take of zeros from its bit 2 on.
+//! let window = Window::new(alloc, &splice, &ones, &zeros, 0)?;
+//! window.cost_of(&zero)                // 0: the bridge's bit 0
+//! window.cost_of(&one)                 // 32
+//! ```
+#![tactic(auto)]
+
+mod fading;
+mod fault;
+mod laws;
+mod sums;
+mod window;
+
+pub use fault::WindowFault;
+pub use laws::{
+    costs_in_bounds, cut_is_valid, fades_join, least_from_valid, least_together,
+    places_are_windows, steps_are_cost,
+};
+pub use window::Window;
+
+#[cfg(test)]
+mod tests;

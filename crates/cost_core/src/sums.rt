@@ -1,0 +1,93 @@
+//! Weighted sums of bits.
+
+ghost use Rattle.std.specs.Prelude.{◌≡◌, ◌+◌, ◌*◌, ◌^◌, ◌<◌, ◌≤◌, map, length, pos, ◌*ℤ◌, ◌-ℤ◌, unsigned_abs, IfOk};
+ghost use Rattle.std.specs.List.{range_with_len};
+ghost use Rattle.dsd_bits.specs.Sums.{sign};
+ghost use Rattle.project_core.specs.Cues.{AreWeights};
+ghost use Rattle.cost_core.specs.Limits.{greatest_step, greatest_sum};
+ghost use Rattle.cost_core.specs.Trellis.{state_after};
+ghost use Rattle.cost_core.specs.Weighted.{weighted, weighted_code, square};
+
+use dsd_bits::Bits;
+use std::alloc::{AllocError, Global};
+
+// A weight with the sign of a bit.
+fn signed(weight: i32, bit: bool) -> i32
+    requires { unsigned_abs weight ≤ 4096 }
+    ensures { result ≡ weight *ℤ sign bit }
+{
+    if bit { weight } else { -weight }
+}
+
+// The weighted sum of a number's binary digits, the lowest first.
+fn weigh(weights: &[i32], code: usize) -> i32
+    requires { AreWeights weights.now }
+    ensures value { result ≡ weighted_code weights.now code }
+    ensures bound { unsigned_abs result ≤ 4096 }
+{
+    let mut sum = 0;
+    for (k, weight) in weights.iter().enumerate() {
+        sum += signed(*weight, (code >> k) % 2 == 1);
+    }
+    sum
+}
+
+/// The weighted sum of the bits up to place `n`, the newest first.
+pub fn weighted_at(weights: &[i32], bits: &Bits, n: usize) -> i32
+    requires weights { AreWeights weights.now }
+    requires enough { length weights.now ≤ n + 1 }
+    requires inside { n < length bits.now }
+    ensures value { result ≡ weighted weights.now bits.now n }
+    ensures bound { unsigned_abs result ≤ 4096 }
+{
+    let mut sum = 0;
+    for (k, weight) in weights.iter().enumerate() {
+        sum += signed(*weight, bits.get(n - k));
+    }
+    sum
+}
+
+/// A weighted sum times one more than the number of levels.
+pub fn scale(levels: usize, sum: i32) -> i32
+    requires levels { levels ≤ 4096 }
+    requires sum { unsigned_abs sum ≤ 4096 }
+    ensures value { result ≡ pos (levels + 1) *ℤ sum }
+    ensures bound { unsigned_abs result ≤ (levels + 1) * 4096 }
+{
+    (levels as i32 + 1) * sum
+}
+
+/// The square of the difference of two scaled sums: below `2^51`.
+pub fn squared_difference(a: i32, b: i32) -> u64
+    requires a { unsigned_abs a ≤ greatest_sum }
+    requires b { unsigned_abs b ≤ greatest_sum }
+    ensures value { result ≡ square (a -ℤ b) }
+    ensures bound { result ≤ greatest_step }
+{
+    let size = u64::from((a - b).unsigned_abs());
+    size * size
+}
+
+/// The scaled weighted sums of all numbers of as many binary digits as there are weights.
+pub fn scaled_sums(alloc: Global, weights: &[i32], levels: usize) -> Result<Vec<i32>, AllocError>
+    requires weights { AreWeights weights.now }
+    requires levels { levels ≤ 4096 }
+    ensures { IfOk result (λ made. made.items ≡ map (λ code. pos (levels + 1) *ℤ weighted_code weights.now code) (range_with_len 0 (2 ^ length weights.now))) }
+{
+    (0..1 << weights.len())
+        .map(|code| scale(levels, weigh(weights, code)))
+        .collect(alloc)
+}
+
+/// The state that bits lead to from state 0: they are its binary digits, the newest the lowest.
+pub fn read_state(bits: &Bits) -> usize
+    requires { length bits.now ≤ 11 }
+    ensures { result ≡ state_after (length bits.now) 0 bits.now }
+{
+    let states = 1 << bits.len();
+    let mut state = 0;
+    for i in 0..bits.len() {
+        state = (2 * state + usize::from(bits.get(i))) % states;
+    }
+    state
+}

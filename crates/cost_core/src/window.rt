@@ -1,0 +1,215 @@
+//! The window of a bridge.
+
+ghost use Rattle.std.specs.Prelude.{◌≡◌, ◌+◌, ◌*◌, ◌^◌, ◌<◌, ◌≤◌, length, IfOk, OnOk, IsOkUnless, MatchResult, None};
+ghost use Rattle.project_core.specs.Splices.{splice_content};
+ghost use Rattle.cost_core.specs.Trellis.{states, cost, IsBounded};
+ghost use Rattle.cost_core.specs.Bridges.{bridge_cost};
+ghost use Rattle.cost_core.specs.StateCosts.{step_of, step_row, trellis_of};
+ghost use Rattle.cost_core.specs.Fade.{cue_at, bridging, faded};
+ghost use Rattle.cost_core.specs.Limits.{CanFade, IsBridging, greatest_step};
+ghost use Rattle.cost_core.specs.Faults.{HasRoom, first_fault, named};
+
+use crate::fading::fade_targets;
+use crate::fault::WindowFault;
+use crate::sums::{read_state, scaled_sums, squared_difference};
+use dsd_bits::Bits;
+use project_core::Splice;
+use std::alloc::{AllocError, Global};
+use std::marker::Model;
+
+/// What decides the cost of a bridge's bits in one channel: the weights, the bits round the bridge that
+/// a weight reads, and the target of each place.
+#[derive(Drop)]
+pub struct Window {
+    weights: Vec<i32>,
+    levels: usize,
+    start: usize,
+    preceding: Bits,
+    following: Bits,
+    targets: Vec<i32>,
+    // By the bits up to a place as a number: their weighted sum times one more than the levels.
+    scaled: Vec<i32>,
+}
+
+impl Model for Window {
+    ghost use Rattle.cost_core.specs.Bridges.{Bridging};
+    ghost use Rattle.cost_core.specs.View.{bridging_of, IsWindow};
+
+    ghost Value = { Bridging };
+
+    ghost view = { bridging_of };
+
+    ghost invariant = { IsWindow };
+}
+
+impl Window {
+    /// The window of the bridge after cue `cue`, whose target is a linear fade from the channel `a` of
+    /// its take to the channel `b` of the next cue's take.
+    ///
+    /// Refusals, in this order: `NoRoomBefore` where the next cue starts less than the bridge's length
+    /// and the number of weights but one after the start of `b`, `NoRoomAfter` where the cue stops less
+    /// than the bridge's length before the end of `a`, `Memory`.
+    pub fn new(
+        alloc: Global,
+        splice: &Splice,
+        a: &Bits,
+        b: &Bits,
+        cue: usize,
+    ) -> Result<Window, WindowFault>
+        requires cues { cue + 1 < length (splice_content splice.now).cues }
+        requires bridge { 1 ≤ (cue_at (splice_content splice.now) cue).bridge }
+        requires before { (cue_at (splice_content splice.now) cue).stop ≤ length a.now }
+        requires after { (cue_at (splice_content splice.now) (cue + 1)).stop ≤ length b.now }
+        ensures ok { IfOk result (λ window. window ≡ bridging (splice_content splice.now) cue a.now b.now) }
+
+        // It is made exactly where there is room, want of memory aside.
+        ensures found { OnOk result (HasRoom (splice_content splice.now) cue a.now) }
+        ensures only { HasRoom (splice_content splice.now) cue a.now → IsOkUnless result WindowFault.Memory }
+
+        // Which fault it is: the first want of room.
+        ensures order { MatchResult result (λ _. first_fault (splice_content splice.now) cue a.now ≡ None) (λ fault. first_fault (splice_content splice.now) cue a.now ≡ named fault) }
+    {
+        let weights = splice.weights.as_slice();
+        let stop = splice.cues[cue].stop;
+        let levels = splice.cues[cue].bridge;
+        let start = splice.cues[cue + 1].start;
+        if start + 1 < levels + weights.len() {
+            return Err(WindowFault::NoRoomBefore);
+        }
+        if a.len() < stop + levels {
+            return Err(WindowFault::NoRoomAfter);
+        }
+        Ok(Window::faded(alloc, weights, a, stop, b, start, levels)?)
+    }
+
+    // The window of a fade of `levels` bits, from the end `stop` of a cue in `a` to the start of a cue
+    // in `b`.
+    fn faded(
+        alloc: Global,
+        weights: &[i32],
+        a: &Bits,
+        stop: usize,
+        b: &Bits,
+        start: usize,
+        levels: usize,
+    ) -> Result<Window, AllocError>
+        requires { CanFade weights.now a.now stop b.now start levels }
+        ensures { IfOk result (λ window. window ≡ faded weights.now a.now stop b.now start levels) }
+    {
+        let width = weights.len() - 1;
+        let mut preceding = Bits::new(alloc);
+        preceding.push_range(a, stop - width, stop)?;
+        let mut following = Bits::new(alloc);
+        following.push_range(b, start, start + width)?;
+        let targets = fade_targets(alloc, weights, a, stop, b, start, levels)?;
+        let scaled = scaled_sums(alloc, weights, levels)?;
+        let weights = Vec::from_slice(alloc, weights)?;
+        let start = read_state(&preceding);
+        Ok(Window {
+            weights,
+            levels,
+            start,
+            preceding,
+            following,
+            targets,
+            scaled,
+        })
+    }
+
+    /// How many bits a state holds: one fewer than there are weights.
+    pub fn width(&self) -> usize
+        ensures value { result ≡ length self.now.preceding }
+        ensures limits { IsBridging self.now }
+    {
+        self.preceding.len()
+    }
+
+    /// How many states there are: two to the power of the width.
+    pub fn states(&self) -> usize
+        ensures value { result ≡ states (trellis_of self.now) }
+        ensures bounded { IsBounded (trellis_of self.now) }
+    {
+        1 << self.preceding.len()
+    }
+
+    /// How many bits the bridge has.
+    pub fn length(&self) -> usize
+        ensures value { result ≡ self.now.levels }
+        ensures bounded { IsBounded (trellis_of self.now) }
+    {
+        self.levels
+    }
+
+    /// The state before the bridge.
+    pub fn start(&self) -> usize
+        ensures { result ≡ (trellis_of self.now).start }
+    {
+        self.start
+    }
+
+    /// The squared deviation from the target at place `level + 1`, where the bits of `state` stand
+    /// before it and `bit` at it.
+    pub fn step_cost(&self, level: usize, state: usize, bit: bool) -> u64
+        requires level { level < self.now.levels }
+        requires state { state < states (trellis_of self.now) }
+        ensures { result ≡ step_of self.now level state bit }
+    {
+        self.deviation(level, state, bit)
+    }
+
+    /// The sum of the squared deviations at the places after a bridge that ends in `state`.
+    pub fn tail_cost(&self, state: usize) -> u64
+        requires { state < states (trellis_of self.now) }
+        ensures { result ≡ (trellis_of self.now).tail state }
+    {
+        let mut total = 0;
+        let mut state = state;
+        for i in 0..self.following.len() {
+            let bit = self.following.get(i);
+            total += self.deviation(self.levels + i, state, bit);
+            state = (2 * state + usize::from(bit)) % self.states();
+        }
+        total
+    }
+
+    /// The cost of a bridge's bits: the sum of the squared deviations at all places of the window.
+    pub fn cost_of(&self, bits: &Bits) -> u64
+        requires { length bits.now ≡ self.now.levels }
+        ensures places { result ≡ bridge_cost self.now bits.now }
+        ensures steps { result ≡ cost (trellis_of self.now) bits.now }
+    {
+        let mut total = 0;
+        let mut state = self.start;
+        for level in 0..self.levels {
+            let bit = bits.get(level);
+            total += self.deviation(level, state, bit);
+            state = (2 * state + usize::from(bit)) % self.states();
+        }
+        total + self.tail_cost(state)
+    }
+
+    /// Writes the step costs of a level, by the state that a step leads to: first those from the states
+    /// whose oldest bit is 0, then those from the states whose oldest bit is 1.
+    pub fn step_costs(&self, level: usize, row: &mut [u64])
+        requires level { level < self.now.levels }
+        requires row { length row.old ≡ 2 * states (trellis_of self.now) }
+        ensures { row.new ≡ step_row self.now level }
+    {
+        let target = self.targets[level];
+        for code in 0..row.len() {
+            row[code] = squared_difference(self.scaled[code], target);
+        }
+    }
+
+    // The squared deviation at the place after `level`, also after the bridge.
+    fn deviation(&self, level: usize, state: usize, bit: bool) -> u64
+        requires level { level < self.now.levels + length self.now.following }
+        requires state { state < 2 ^ length self.now.preceding }
+        ensures value { result ≡ step_of self.now level state bit }
+        ensures bound { result ≤ greatest_step }
+    {
+        let target = self.targets[level];
+        let code = 2 * state + usize::from(bit);
+        squared_difference(self.scaled[code], target)
+    }
+}

@@ -1,0 +1,5 @@
+pub mod Back
+pub mod Bests
+pub mod Finals
+pub mod RowLaws
+pub mod TableLaws

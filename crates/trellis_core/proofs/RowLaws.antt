@@ -1,0 +1,111 @@
+-- Rows of least sums, as lists.
+use Rattle.std.proofs.Common.{◌≡◌, ℕ, ◌+◌, ◌/◌, ◌^◌, ◌<◌, min, eqb, cond, List, [], ◌∷◌, ◌++◌, map, length, get_or, refl, sym, ap, ◌∙◌, arith}
+use Rattle.std.proofs.Math.Numerals.{add-one}
+use Rattle.std.proofs.lemmas.List.{length-append, get_or_append_left, get_or-append-add}
+use Rattle.std.proofs.lemmas.List.FromFn.{length-map-range_with_len, get_or-map-range_with_len, map-range_with_len_more}
+use Rattle.std.specs.List.{range_with_len}
+use Rattle.cost_core.specs.Trellis.{Trellis, states, newest, before_by_0, before_by_1, IsBounded}
+use Rattle.cost_core.specs.Bridges.{Bridging}
+use Rattle.cost_core.specs.StateCosts.{step_of, step_row, trellis_of}
+use Rattle.cost_core.proofs.Numbers.{pow_double}
+use Rattle.trellis_core.specs.Best.{by_0, by_1, best, best_row}
+use Rattle.trellis_core.proofs.Bests.{best_le}
+
+pub row_length : (t : Trellis) (i : ℕ) → length (best_row t i) ≡ states t
+unfolding best_row
+row_length t i = length-map-range_with_len (best t i) 0 (states t)
+
+pub row_at : (t : Trellis) (i q : ℕ) → q < states t → get_or (best_row t i) q 0 ≡ best t i q
+unfolding best_row
+row_at t i q h = get_or-map-range_with_len (best t i) 0 (states t) q q 0 h (omega arith)
+
+pub best_first : (t : Trellis) (q : ℕ) → best t 0 q ≡ cond (eqb q t.start) 0 (2 ^ 63)
+unfolding best
+best_first t q = refl
+
+best_next : (t : Trellis) (i q : ℕ) → best t (i + 1) q ≡ min (min (by_0 t i (best t i) q) (by_1 t i (best t i) q)) (2 ^ 63)
+unfolding best
+best_next t i q = rw add-one (omega arith)
+
+pub best_from : (t : Trellis) (i q a b m v : ℕ) → a ≡ by_0 t i (best t i) q → b ≡ by_1 t i (best t i) q → m ≡ min a b → v ≡ min m (2 ^ 63) → v ≡ best t (i + 1) q
+best_from t i q a b m v ea eb em ev = rw (ev, em, ea, eb) (sym (best_next t i q))
+
+-- a row grows by one value
+pub row_more : (f : ℕ → ℕ) (row : List ℕ) (n v : ℕ) → row ≡ map f (range_with_len 0 n) → v ≡ f n → row ++ (v ∷ []) ≡ map f (range_with_len 0 (n + 1))
+row_more f row n v e h = rw (e, h) (sym (map-range_with_len_more f 0 n n (omega arith)))
+
+pub row_grown : (t : Trellis) (i n : ℕ) (row : List ℕ) → row ≡ map (best t i) (range_with_len 0 n) → n ≡ states t → row ≡ best_row t i
+unfolding best_row
+row_grown t i n row e en = e ∙ ap (λ k. map (best t i) (range_with_len 0 k)) en
+
+pub before_0_in : (t : Trellis) (q : ℕ) → q < states t → before_by_0 t.width q < states t
+before_0_in t q h = omega arith
+
+pub before_1_in : (t : Trellis) → 0 < t.width → (q : ℕ) → q < states t → before_by_1 t.width q < states t
+before_1_in t some q h = omega (arith, pow_double t.width some)
+
+pub high_is : (t : Trellis) → 0 < t.width → (q n : ℕ) → n ≡ states t → q / 2 + n / 2 ≡ before_by_1 t.width q
+high_is t some q n en = rw en (omega (arith, pow_double t.width some))
+
+-- the sums by either state before a state, as they are read from a row
+module _ (t : Trellis) (fine : IsBounded t) (i q n : ℕ) (row : List ℕ) (en : n ≡ states t) (er : row ≡ best_row t i) (hq : q < states t) where
+  pub low_in : q / 2 < length row
+  low_in = rw (er, row_length) (before_0_in t q hq)
+
+  high : q / 2 + n / 2 ≡ before_by_1 t.width q
+  high = high_is t fine.some_state q n en
+
+  pub high_in : q / 2 + n / 2 < length row
+  high_in = rw (er, row_length, high) (before_1_in t fine.some_state q hq)
+
+  pub low_state : q / 2 < states t
+  low_state = before_0_in t q hq
+
+  pub high_state : q / 2 + n / 2 < states t
+  high_state = rw high (before_1_in t fine.some_state q hq)
+
+  at : (p : ℕ) → p < states t → get_or row p 0 ≡ best t i p
+  at p h = ap (λ l. get_or l p 0) er ∙ row_at t i p h
+
+  pub sum_0 : (s : ℕ) → s ≡ t.step i (q / 2) (newest q) → get_or row (q / 2) 0 + s ≡ by_0 t i (best t i) q
+  sum_0 s es = omega (arith, at (q / 2) low_state)
+
+  pub sum_1 : (s : ℕ) → s ≡ t.step i (q / 2 + n / 2) (newest q) → get_or row (q / 2 + n / 2) 0 + s ≡ by_1 t i (best t i) q
+  sum_1 s es = ap (λ p. get_or row p 0 + s) high ∙ omega (arith, at (before_by_1 t.width q) (before_1_in t fine.some_state q hq), es ∙ ap (λ p. t.step i p (newest q)) high)
+
+  pub sum_0_fits : (s : ℕ) → s ≡ t.step i (q / 2) (newest q) → i < t.levels → get_or row (q / 2) 0 + s < 2 ^ 64
+  sum_0_fits s es hi = omega (arith, at (q / 2) low_state, best_le t fine.some_state i (q / 2), fine.step_in i (q / 2) (newest q) hi low_state)
+
+  pub sum_1_fits : (s : ℕ) → s ≡ t.step i (q / 2 + n / 2) (newest q) → i < t.levels → get_or row (q / 2 + n / 2) 0 + s < 2 ^ 64
+  sum_1_fits s es hi = omega (arith, at (q / 2 + n / 2) high_state, best_le t fine.some_state i (q / 2 + n / 2), fine.step_in i (q / 2 + n / 2) (newest q) hi high_state)
+
+-- the steps of a level, as they are read from their row
+module _ (d : Bridging) (i q n : ℕ) (steps : List ℕ) (es : steps ≡ step_row d i) (en : n ≡ states (trellis_of d)) (hq : q < states (trellis_of d)) where
+  abbrev by : (ℕ → ℕ → ℕ) → ℕ → ℕ
+  by before p = step_of d i (before (length d.preceding) p) (newest p)
+
+  abbrev part : (ℕ → ℕ → ℕ) → List ℕ
+  part before = map (by before) (range_with_len 0 (2 ^ length d.preceding))
+
+  part_length : (before : ℕ → ℕ → ℕ) → length (part before) ≡ states (trellis_of d)
+  part_length before = length-map-range_with_len (by before) 0 (2 ^ length d.preceding)
+
+  part_at : (before : ℕ → ℕ → ℕ) → get_or (part before) q 0 ≡ by before q
+  part_at before = get_or-map-range_with_len (by before) 0 (2 ^ length d.preceding) q q 0 hq (omega arith)
+
+  steps_length : length steps ≡ states (trellis_of d) + states (trellis_of d)
+  steps_length = ap length es ∙ length-append (part before_by_0) (part before_by_1) ∙ omega (arith, part_length before_by_0, part_length before_by_1)
+
+  pub step_0_in : q < length steps
+  step_0_in = omega (arith, steps_length)
+
+  pub step_1_in : n + q < length steps
+  step_1_in = omega (arith, steps_length)
+
+  pub step_0 : get_or steps q 0 ≡ step_of d i (q / 2) (newest q)
+  step_0 = ap (λ l. get_or l q 0) es ∙ get_or_append_left (part before_by_0) (part before_by_1) 0 q (omega (arith, part_length before_by_0)) ∙ part_at before_by_0
+
+  pub step_1 : 0 < length d.preceding → get_or steps (n + q) 0 ≡ step_of d i (q / 2 + n / 2) (newest q)
+  step_1 some =
+      ap (λ l. get_or l (n + q) 0) es ∙ ap (λ k. get_or (part before_by_0 ++ part before_by_1) (k + q) 0) (en ∙ sym (part_length before_by_0))
+      ∙ get_or-append-add (part before_by_0) (part before_by_1) q 0 ∙ part_at before_by_1 ∙ ap (λ p. step_of d i p (newest q)) (sym (high_is (trellis_of d) some q n en))

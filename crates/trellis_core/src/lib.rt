@@ -1,0 +1,34 @@
+//! The least bits of a bridge between two cues, by a trellis search.
+//!
+//! [`bridge`] answers the bits of a bridge whose cost is least among all lists of its length, and of
+//! several least ones the first, read from the last bit to the first, 0 before 1. So the answer is a
+//! function of the window. The cost is that of `cost_core`: the sum of the squared deviations over the
+//! places of the window, those after the bridge among them.
+//!
+//! A list of `n` bits is one of `2^n`, and none of them is tried. The search is that of Viterbi (A.
+//! Viterbi, "Error bounds for convolutional codes and an asymptotically optimum decoding algorithm",
+//! IEEE Transactions on Information Theory 13, 1967): a deviation reads no more bits than there are
+//! weights, so bits that lead to the same state cost the same from there on, and of these only the
+//! least can be part of the answer. Level by level the least sum of each state is kept; then the way
+//! back from the best end is read off.
+//!
+//! The words of the contracts are those of `cost_core`: `IsFirstLeastBridge` and `bridge_cost`. All rows
+//! are held at once: eight bytes for each state and level, at most 67 MB.
+//!
+//! ```text
+//! // Weights 1, 0; 8 bits of a take of ones, a bridge of 2 bits, then a take of zeros from bit 3 on.
+//! let chosen = bridge(alloc, &window)?;
+//! chosen.bits                          // 1, 0
+//! chosen.cost                          // 8
+//! ```
+#![tactic(auto)]
+
+mod bridging;
+mod ends;
+mod rows;
+mod tracing;
+
+pub use bridging::{Chosen, bridge};
+
+#[cfg(test)]
+mod tests;

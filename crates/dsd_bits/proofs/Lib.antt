@@ -2,6 +2,7 @@ pub mod BlockLemmas
 pub mod LacingLemmas
 pub mod LayoutLaws
 pub mod PackingLemmas
+pub mod PartLemmas
 pub mod RangeLemmas
 pub mod RoundTrip
 pub mod ShiftingLemmas

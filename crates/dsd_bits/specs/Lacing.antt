@@ -9,6 +9,10 @@ use Rattle.dsd_bits.specs.Packing.{packed_byte}
 abbrev pub laced_bit : List ℕ → ℕ → ℕ → ℕ → Bool
 laced_bit bytes channels c i = bit_at (slice_index bytes (i / 8 * channels + c)) (7 - i % 8) == 1
 
+-- the bytes of channel c in so many frames from one on
+abbrev pub picked : List ℕ → ℕ → ℕ → ℕ → ℕ → List ℕ
+picked bytes channels c from frames = map (λ frame. slice_index bytes (frame * channels + c)) (range_with_len from frames)
+
 -- channel c of the sound bytes
 abbrev pub unlaced : List ℕ → ℕ → ℕ → List Bool
 unlaced bytes channels c = map (laced_bit bytes channels c) (range_with_len 0 (8 * (length bytes / channels)))
@@ -24,6 +28,10 @@ laced_byte channels place = packed_byte (slice_index_or channels (place % length
 -- how many bytes each channel takes
 abbrev pub frames_of : List (List Bool) → ℕ
 frames_of channels = count_of channels / 8
+
+-- the sound bytes of the channels in so many frames from one on
+abbrev pub laced_part : List (List Bool) → ℕ → ℕ → List ℕ
+laced_part channels from frames = map (laced_byte channels) (range_with_len (from * length channels) (frames * length channels))
 
 -- the sound bytes of the channels
 abbrev pub laced : List (List Bool) → List ℕ

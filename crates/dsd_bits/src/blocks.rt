@@ -69,9 +69,8 @@ fn unlace_channel(
     for group in 0..count.div_ceil(32768) {
         let (_, block) = bytes.split_at((group * channels + c) * 4096);
         let (used, _) = block.split_at((size - 4096 * group).min(4096));
-        own.extend_from_slice(used)?;
+        push_in_order(&mut own, used, order)?;
     }
-    put_in_order(own.as_mut_slice(), order);
     Ok(Bits::from_first_bits(own, count))
 }
 
@@ -126,6 +125,18 @@ fn push_block(
     out.resize(kept + 4096, 0)?;
     let (_, block) = out.as_mut_slice().split_at_mut(kept);
     put_in_order(block, order);
+    Ok(())
+}
+
+// Appends bytes of which each is changed between this order of its bits and the most significant bit
+// first.
+fn push_in_order(out: &mut Vec<u8>, bytes: &[u8], order: BitOrder) -> Result<(), AllocError>
+    ensures { OnOk result (out.new.items ≡ out.old.items ++ map (ordered order) bytes.now) }
+{
+    let kept = out.len();
+    out.extend_from_slice(bytes)?;
+    let (_, added) = out.as_mut_slice().split_at_mut(kept);
+    put_in_order(added, order);
     Ok(())
 }
 

@@ -50,13 +50,26 @@ fn begins_empty(rt: HostRuntime) -> Result<(), Fail> {
     Ok(())
 }
 
+// The bits `start` to `stop - 1` of the first `count` bits of `bytes`.
+fn range_of(
+    rt: &impl Abort,
+    alloc: Global,
+    bytes: &[u8],
+    count: usize,
+    start: usize,
+    stop: usize,
+) -> Result<Bits, Fail> {
+    assert!(rt; start <= stop && stop <= count && count < 64);
+    let source = Bits::from_packed(alloc, bytes, count)?;
+    assert_eq!(rt; source.len(), count);
+    let mut bits = Bits::new(alloc);
+    bits.push_range(&source, start, stop)?;
+    Ok(bits)
+}
+
 #[test]
 fn adds_a_range_and_a_bit(rt: HostRuntime) -> Result<(), Fail> {
-    let alloc = rt.alloc();
-    let source = Bits::from_packed(alloc, &[0xf0, 0xff], 12)?;
-    assert_eq!(rt; source.len(), 12);
-    let mut bits = Bits::new(alloc);
-    bits.push_range(&source, 2, 10)?;
+    let mut bits = range_of(&rt, rt.alloc(), &[0xf0, 0xff], 12, 2, 10)?;
     assert_eq!(rt; bits.as_bytes(), [0xc3].as_slice());
     assert_eq!(rt; bits.len(), 8);
     bits.push_bit(true)?;
@@ -108,12 +121,23 @@ fn adds_ranges_at_every_kind_of_place(rt: HostRuntime) -> Result<(), Fail> {
     Ok(())
 }
 
+// Turns a byte and compares it with what it has to be.
+fn turns_to(rt: &impl Abort, byte: u8, expected: u8) {
+    assert_eq!(rt; turn_byte(byte), expected);
+}
+
+// Turns a copy of the bytes.
+fn turned(alloc: Global, bytes: &[u8]) -> Result<Vec<u8>, Fail> {
+    let mut copy = bytes.to_vec(alloc)?;
+    turn(copy.as_mut_slice());
+    Ok(copy)
+}
+
 #[test]
 fn turns_bytes(rt: HostRuntime) -> Result<(), Fail> {
-    assert_eq!(rt; turn_byte(0x0f), 0xf0);
-    assert_eq!(rt; turn_byte(0x01), 0x80);
-    let mut bytes = [0x0f, 0x01, 0x35].to_vec(rt.alloc())?;
-    turn(bytes.as_mut_slice());
+    turns_to(&rt, 0x0f, 0xf0);
+    turns_to(&rt, 0x01, 0x80);
+    let bytes = turned(rt.alloc(), &[0x0f, 0x01, 0x35])?;
     assert_eq!(rt; bytes.as_slice(), [0xf0, 0x80, 0xac].as_slice());
     Ok(())
 }

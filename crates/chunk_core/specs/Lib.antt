@@ -1,7 +1,9 @@
 pub mod Chunks
 pub mod Heads
+pub mod Inlets
 pub mod Laws
 pub mod Numbers
+pub mod Outlets
 pub mod Places
 pub mod Reading
 pub mod Steps

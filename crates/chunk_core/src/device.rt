@@ -1,0 +1,8 @@
+//! The one fault of reading and writing.
+
+use thiserror::Error;
+
+/// A read or a write failed, or a write took nothing of the bytes that it was given.
+#[derive(Clone, Copy, Debug, PartialEq, Eq, Error)]
+#[error("Device")]
+pub struct Device;

@@ -4,7 +4,9 @@ pub mod Fade
 pub mod Faults
 pub mod Least
 pub mod Limits
+pub mod Sinks
 pub mod StateCosts
+pub mod Tables
 pub mod Trellis
 pub mod Validity
 pub mod View

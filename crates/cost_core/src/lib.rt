@@ -8,7 +8,8 @@
 //!
 //! A [`Window`] holds what decides the cost of one bridge in one channel. It tells the cost of any bits
 //! ([`Window::cost_of`]), and the same step by step for a trellis search as of Viterbi, over the states
-//! that are made of the last bits ([`Window::step_cost`], [`Window::tail_cost`]).
+//! that are made of the last bits ([`Window::step_cost`], [`Window::tail_cost`]). What takes the rows of
+//! such a search, a level at a time, is a [`LevelSink`].
 //!
 //! The words of the contracts, all over lists and numbers without bounds:
 //!
@@ -21,6 +22,10 @@
 //!   states after and before a state.
 //! - `IsValid t bound c x` says by five plain facts that a table of forward bounds shows that no bits
 //!   cost less than `x`; `IsBounded t` that no number leaves 64 bits.
+//! - `IsTable t rows` says that a list of rows is such a table, `value_in rows` gives its bounds by level
+//!   and state.
+//! - `HandsOver spelling old new rows` says that the text of a [`LevelSink`] grew by the spellings of
+//!   these rows, `HandsOverPart` that a front of one row more followed.
 //! - `channel` is a whole channel of cues and bridges, `channel_cost` the sum over all its places.
 //!
 //! Functions that do nothing carry the laws: [`steps_are_cost`], [`costs_in_bounds`],
@@ -38,6 +43,7 @@
 mod fading;
 mod fault;
 mod laws;
+mod sink;
 mod sums;
 mod window;
 
@@ -46,6 +52,7 @@ pub use laws::{
     costs_in_bounds, cut_is_valid, fades_join, least_from_valid, least_together,
     places_are_windows, steps_are_cost,
 };
+pub use sink::{LevelSink, SinkFault};
 pub use window::Window;
 
 #[cfg(test)]

@@ -2,7 +2,7 @@
 
 ghost use Rattle.std.specs.Prelude.{◌≡◌, ◌+◌, ◌≤◌, length, unsigned_abs, IfOk, None};
 
-use crate::{Window, WindowFault};
+use crate::{SinkFault, Window, WindowFault};
 use dsd_bits::{Bits, BitsFault};
 use project_core::{Cue, Splice, Target};
 use std::alloc::Global;
@@ -146,5 +146,6 @@ fn faults_are_told_by_name(rt: HostRuntime) -> Result<(), Fail> {
     assert!(rt; WindowFault::NoRoomBefore.to_string(alloc)?.as_str() == "NoRoomBefore");
     assert!(rt; WindowFault::NoRoomAfter.to_string(alloc)?.as_str() == "NoRoomAfter");
     assert!(rt; WindowFault::Memory.to_string(alloc)?.as_str() == "Memory");
+    assert!(rt; SinkFault.to_string(alloc)?.as_str() == "SinkFault");
     Ok(())
 }

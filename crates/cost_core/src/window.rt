@@ -128,6 +128,7 @@ impl Window {
     pub fn states(&self) -> usize
         ensures value { result ≡ states (trellis_of self.now) }
         ensures bounded { IsBounded (trellis_of self.now) }
+        ensures limits { IsBridging self.now }
     {
         1 << self.preceding.len()
     }
@@ -136,6 +137,7 @@ impl Window {
     pub fn length(&self) -> usize
         ensures value { result ≡ self.now.levels }
         ensures bounded { IsBounded (trellis_of self.now) }
+        ensures limits { IsBridging self.now }
     {
         self.levels
     }

@@ -19,6 +19,10 @@ best t (suc level) q = min (2 ^ 63) (min (by_0 t level (best t level) q) (by_1 t
 unfoldable pub best_row : Trellis → ℕ → List ℕ
 best_row t level = map (best t level) (range_with_len 0 (states t))
 
+-- the least sums of so many levels, from level 0 on
+abbrev pub best_rows : Trellis → ℕ → List (List ℕ)
+best_rows t n = map (best_row t) (range_with_len 0 n)
+
 -- the state before a state of the next level, on the way back: on a tie the one whose oldest bit is 0
 unfoldable pub before : Trellis → ℕ → ℕ → ℕ
 before t level q = if nat_lt (by_1 t level (best t level) q) (by_0 t level (best t level) q) then before_by_1 t.width q else before_by_0 t.width q

@@ -1,1 +1,3 @@
 pub mod Best
+pub mod Handing
+pub mod LeastSums

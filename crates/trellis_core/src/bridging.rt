@@ -1,12 +1,18 @@
 //! The choice of a bridge's bits.
 
-ghost use Rattle.std.specs.Prelude.{◌≡◌, IfOk};
+ghost use Rattle.std.specs.Prelude.{◌≡◌, ◌+◌, ◌*◌, ◌<◌, ◌≤◌, ◌↔◌, true, false, map, length, IfOk, OnOk, IsErrOf};
+ghost use Rattle.cost_core.specs.Trellis.{states};
+ghost use Rattle.cost_core.specs.StateCosts.{trellis_of};
 ghost use Rattle.cost_core.specs.Bridges.{bridge_cost, IsFirstLeastBridge};
+ghost use Rattle.trellis_core.specs.Best.{best_rows};
+ghost use Rattle.trellis_core.specs.Handing.{HandsOverAll, HandsOverSome, HandsOverUpTo};
 
 use crate::ends::{end_state, total};
+use crate::fault::BridgeFault;
 use crate::rows::forward;
 use crate::tracing::{reversed, trace};
-use cost_core::Window;
+use crate::unheard::Unheard;
+use cost_core::{LevelSink, Window};
 use dsd_bits::Bits;
 use std::alloc::{AllocError, Global};
 
@@ -25,11 +31,55 @@ pub fn bridge(alloc: Global, window: &Window) -> Result<Chosen, AllocError>
     ensures first_least { IfOk result (λ chosen. IsFirstLeastBridge window.now chosen.bits) }
     ensures cost { IfOk result (λ chosen. chosen.cost ≡ bridge_cost window.now chosen.bits) }
 {
+    let mut sink = Unheard::new(window);
+    match bridge_into(alloc, window, &mut sink) {
+        Ok(chosen) => Ok(chosen),
+        Err(_) => Err(AllocError),
+    }
+}
+
+/// The same bits, and a row of numbers for each level handed to the sink, level 0 first: by rising
+/// state the lesser of `2^63` and the least sum of steps from the start to the state.
+///
+/// Refusals: `Memory`, after which the rows of the first levels were handed over; `Sink` where the sink
+/// refused a row, after those of the levels before it.
+pub fn bridge_into<S: LevelSink>(
+    alloc: Global,
+    window: &Window,
+    sink: &mut S,
+) -> Result<Chosen, BridgeFault>
+    requires rows { window.now.levels + 1 ≤ S.rows_left sink.old }
+    requires row_length { S.row_length sink.old ≡ states (trellis_of window.now) }
+    requires ready { S.has_refused sink.old ≡ false }
+    ensures first_least { IfOk result (λ chosen. IsFirstLeastBridge window.now chosen.bits) }
+    ensures cost { IfOk result (λ chosen. chosen.cost ≡ bridge_cost window.now chosen.bits) }
+
+    // The rows that were handed over.
+    ensures rows { OnOk result (HandsOverAll (trellis_of window.now) (S.spelling (S.kind sink.old)) (S.text sink.old) (S.text sink.new)) }
+    ensures memory { IsErrOf result BridgeFault.Memory → HandsOverSome (trellis_of window.now) (S.spelling (S.kind sink.old)) (S.text sink.old) (S.text sink.new) }
+    ensures sink { IsErrOf result BridgeFault.Sink → HandsOverUpTo (trellis_of window.now) (S.spelling (S.kind sink.old)) (S.text sink.old) (S.text sink.new) }
+
+    // What the sink is afterwards.
+    ensures refused { IsErrOf result BridgeFault.Sink ↔ (S.has_refused sink.new ≡ true) }
+    ensures rows_left { OnOk result (S.rows_left sink.new + (window.now.levels + 1) ≡ S.rows_left sink.old) }
+    ensures row_length { S.row_length sink.new ≡ S.row_length sink.old }
+    ensures kind { S.kind sink.new ≡ S.kind sink.old }
+    ensures kept { S.kept sink.new ≡ S.kept sink.old }
+{
+    let rows = forward(alloc, window, sink)?;
+    Ok(choose(alloc, window, &rows)?)
+}
+
+// The bits that are chosen by the rows of all levels, and their cost.
+fn choose(alloc: Global, window: &Window, rows: &[Vec<u64>]) -> Result<Chosen, AllocError>
+    requires { map (λ row. row.items) rows.now ≡ best_rows (trellis_of window.now) ((trellis_of window.now).levels + 1) }
+    ensures first_least { IfOk result (λ chosen. IsFirstLeastBridge window.now chosen.bits) }
+    ensures cost { IfOk result (λ chosen. chosen.cost ≡ bridge_cost window.now chosen.bits) }
+{
     let width = window.width();
-    let rows = forward(alloc, window)?;
     let last = &rows[window.length()];
     let end = end_state(window, last, width, 0);
-    let newest_first = trace(alloc, window, &rows, end)?;
+    let newest_first = trace(alloc, window, rows, end)?;
     Ok(Chosen {
         bits: reversed(alloc, &newest_first)?,
         cost: total(window, last, end),

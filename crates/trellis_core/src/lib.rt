@@ -12,8 +12,17 @@
 //! least can be part of the answer. Level by level the least sum of each state is kept; then the way
 //! back from the best end is read off.
 //!
-//! The words of the contracts are those of `cost_core`: `IsFirstLeastBridge` and `bridge_cost`. All rows
-//! are held at once: eight bytes for each state and level, at most 67 MB.
+//! [`bridge_into`] answers the same, and hands these least sums to a sink, a row for each level: they show
+//! that the bits are least to whoever has no search ([`best_rows_are_valid`]).
+//!
+//! The words of the contracts are those of `cost_core`, `IsFirstLeastBridge` and `bridge_cost`, and
+//!
+//! - `IsBest t level q v`: `v` is the lesser of `2^63` and the least sum of steps over all lists of so many
+//!   bits that lead to state `q`; `BestRows t rows`: a row of these for each level.
+//! - `HandsOverAll t spelling old new`: a sink's text grew by the rows of all levels, `HandsOverSome` by
+//!   those of the first ones, `HandsOverUpTo` by those and a front of the next.
+//!
+//! All rows are held at once: eight bytes for each state and level, at most 67 MB.
 //!
 //! ```text
 //! // Weights 1, 0; 8 bits of a take of ones, a bridge of 2 bits, then a take of zeros from bit 3 on.
@@ -25,10 +34,17 @@
 
 mod bridging;
 mod ends;
+mod fault;
+mod laws;
 mod rows;
 mod tracing;
+mod unheard;
 
-pub use bridging::{Chosen, bridge};
+pub use bridging::{Chosen, bridge, bridge_into};
+pub use fault::BridgeFault;
+pub use laws::best_rows_are_valid;
 
+#[cfg(test)]
+mod sink_tests;
 #[cfg(test)]
 mod tests;

@@ -1,13 +1,13 @@
 //! The least sums of steps, level by level.
 
-ghost use Rattle.std.specs.Prelude.{◌≡◌, ◌+◌, ◌*◌, ◌<◌, ◌≤◌, map, length, IfOk};
-ghost use Rattle.std.specs.List.{range_with_len};
+ghost use Rattle.std.specs.Prelude.{◌≡◌, ◌+◌, ◌*◌, ◌<◌, ◌≤◌, ◌↔◌, ◌++◌, ◌∷◌, [], true, false, map, length, IfOk, OnOk, IsErrOf};
 ghost use Rattle.cost_core.specs.Trellis.{states};
-ghost use Rattle.cost_core.specs.Limits.{IsBridging};
 ghost use Rattle.cost_core.specs.StateCosts.{step_row, trellis_of};
-ghost use Rattle.trellis_core.specs.Best.{best, best_row, by_0, by_1};
+ghost use Rattle.trellis_core.specs.Best.{best, best_row, best_rows};
+ghost use Rattle.trellis_core.specs.Handing.{HandsOverAll, HandsOverSome, HandsOverUpTo};
 
-use cost_core::Window;
+use crate::fault::BridgeFault;
+use cost_core::{LevelSink, Window};
 use std::alloc::{AllocError, Global};
 
 // The sum of a state that no bits lead to, and the greatest sum that is kept.
@@ -61,19 +61,62 @@ fn next_row(
     Ok(following)
 }
 
-/// The least sums of all levels.
-pub fn forward(alloc: Global, window: &Window) -> Result<Vec<Vec<u64>>, AllocError>
-    requires { IsBridging window.now }
-    ensures { IfOk result (λ rows. map (λ row. row.items) rows.items ≡ map (best_row (trellis_of window.now)) (range_with_len 0 ((trellis_of window.now).levels + 1))) }
+// A row joins those of the levels before.
+fn keep(rows: &mut Vec<Vec<u64>>, row: Vec<u64>) -> Result<(), AllocError>
+    ensures { OnOk result (rows.new.items ≡ rows.old.items ++ row ∷ []) }
+{
+    rows.push(row)?;
+    Ok(())
+}
+
+// The least sums of the level after `level`. Its own, `row`, join those of the levels before.
+fn next_row_after(
+    alloc: Global,
+    window: &Window,
+    level: usize,
+    row: Vec<u64>,
+    rows: &mut Vec<Vec<u64>>,
+    steps: &mut [u64],
+) -> Result<Vec<u64>, AllocError>
+    requires level { level < (trellis_of window.now).levels }
+    requires row { row.items ≡ best_row (trellis_of window.now) level }
+    requires steps { length steps.old ≡ 2 * states (trellis_of window.now) }
+    ensures row { IfOk result (λ following. following.items ≡ best_row (trellis_of window.now) (level + 1)) }
+    ensures rows { OnOk result (rows.new.items ≡ rows.old.items ++ row ∷ []) }
+    ensures steps { length steps.new ≡ 2 * states (trellis_of window.now) }
+{
+    let following = next_row(alloc, window, level, &row, steps)?;
+    keep(rows, row)?;
+    Ok(following)
+}
+
+/// The least sums of all levels. Each row is handed over when it is made.
+pub fn forward<S: LevelSink>(
+    alloc: Global,
+    window: &Window,
+    sink: &mut S,
+) -> Result<Vec<Vec<u64>>, BridgeFault>
+    requires rows { window.now.levels + 1 ≤ S.rows_left sink.old }
+    requires row_length { S.row_length sink.old ≡ states (trellis_of window.now) }
+    requires ready { S.has_refused sink.old ≡ false }
+    ensures table { IfOk result (λ rows. map (λ row. row.items) rows.items ≡ best_rows (trellis_of window.now) ((trellis_of window.now).levels + 1)) }
+    ensures rows { OnOk result (HandsOverAll (trellis_of window.now) (S.spelling (S.kind sink.old)) (S.text sink.old) (S.text sink.new)) }
+    ensures memory { IsErrOf result BridgeFault.Memory → HandsOverSome (trellis_of window.now) (S.spelling (S.kind sink.old)) (S.text sink.old) (S.text sink.new) }
+    ensures sink { IsErrOf result BridgeFault.Sink → HandsOverUpTo (trellis_of window.now) (S.spelling (S.kind sink.old)) (S.text sink.old) (S.text sink.new) }
+    ensures refused { IsErrOf result BridgeFault.Sink ↔ (S.has_refused sink.new ≡ true) }
+    ensures rows_left { OnOk result (S.rows_left sink.new + (window.now.levels + 1) ≡ S.rows_left sink.old) }
+    ensures row_length { S.row_length sink.new ≡ S.row_length sink.old }
+    ensures kind { S.kind sink.new ≡ S.kind sink.old }
+    ensures kept { S.kept sink.new ≡ S.kept sink.old }
 {
     let mut steps = vec![in alloc; 0; 2 * window.states()]?;
     let mut rows = Vec::new(alloc);
     let mut row = first_row(alloc, window)?;
     for level in 0..window.length() {
-        let following = next_row(alloc, window, level, &row, &mut steps)?;
-        rows.push(row)?;
-        row = following;
+        sink.level(&row)?;
+        row = next_row_after(alloc, window, level, row, &mut rows, &mut steps)?;
     }
-    rows.push(row)?;
+    sink.level(&row)?;
+    keep(&mut rows, row)?;
     Ok(rows)
 }

@@ -68,9 +68,9 @@ fn chooses(alloc: Global, window: Window, byte: u8, cost: u64) -> Result<bool, A
     Ok(chosen.bits.as_bytes() == [byte].as_slice() && chosen.cost == cost)
 }
 
-// The window by the weights 1 and `second` between a take whose bytes are all `byte` and one of the
-// opposite bits.
-fn small(
+/// The window by the weights 1 and `second` between a take whose bytes are all `byte` and one of the
+/// opposite bits.
+pub fn small(
     alloc: Global,
     second: i32,
     byte: u8,

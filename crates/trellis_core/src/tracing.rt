@@ -1,10 +1,9 @@
 //! The way back through the rows.
 
 ghost use Rattle.std.specs.Prelude.{◌≡◌, ◌+◌, ◌^◌, ◌<◌, ◌≤◌, map, length, reverse, IfOk};
-ghost use Rattle.std.specs.List.{range_with_len};
 ghost use Rattle.cost_core.specs.Trellis.{states};
 ghost use Rattle.cost_core.specs.StateCosts.{trellis_of};
-ghost use Rattle.trellis_core.specs.Best.{best_row, before, traced};
+ghost use Rattle.trellis_core.specs.Best.{best_row, best_rows, before, traced};
 
 use cost_core::Window;
 use dsd_bits::Bits;
@@ -32,7 +31,7 @@ pub fn trace(
     rows: &[Vec<u64>],
     end: usize,
 ) -> Result<Vec<bool>, AllocError>
-    requires rows { map (λ row. row.items) rows.now ≡ map (best_row (trellis_of window.now)) (range_with_len 0 ((trellis_of window.now).levels + 1)) }
+    requires rows { map (λ row. row.items) rows.now ≡ best_rows (trellis_of window.now) ((trellis_of window.now).levels + 1) }
     requires end { end < states (trellis_of window.now) }
     ensures { IfOk result (λ bits. bits.items ≡ traced (trellis_of window.now) (trellis_of window.now).levels end) }
 {

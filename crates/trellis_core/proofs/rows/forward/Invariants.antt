@@ -1,14 +1,22 @@
-use Rattle.std.proofs.Common.{◌≡◌, ◌*◌, length, map}
-use Rattle.std.specs.List.{range_with_len}
+-- The rows up to this level were made, and those below it handed over.
+use Rattle.std.proofs.Common.{◌≡◌, ◌+◌, ◌*◌, length, map, false}
 use Rattle.cost_core.specs.Trellis.{states}
 use Rattle.cost_core.specs.StateCosts.{trellis_of}
-use Rattle.trellis_core.specs.Best.{best_row}
+use Rattle.cost_core.specs.Sinks.{HandsOver}
+use Rattle.trellis_core.specs.Best.{best_row, best_rows}
 use Rattle.trellis_core.proofs.rows.forward.Given as goal
 
 abbrev pub invariant-loop-level : goal.invariant-loop-level
-invariant-loop-level l =
+invariant-loop-level g l =
+    let t = trellis_of l.window in
     record {
-      steps : length l.steps.items ≡ 2 * states (trellis_of l.window);
-      row : l.row.items ≡ best_row (trellis_of l.window) l.level;
-      rows : map (λ row. row.items) l.rows.items ≡ map (best_row (trellis_of l.window)) (range_with_len 0 l.level);
+      steps : length l.steps.items ≡ 2 * states t;
+      row : l.row.items ≡ best_row t l.level;
+      rows : map (λ row. row.items) l.rows.items ≡ best_rows t l.level;
+      handed : HandsOver (g.S.LevelSink.spelling (g.S.LevelSink.kind l.initial.sink)) (g.S.LevelSink.text l.initial.sink) (g.S.LevelSink.text l.sink) (best_rows t l.level);
+      left : g.S.LevelSink.rows_left l.sink + l.level ≡ g.S.LevelSink.rows_left l.initial.sink;
+      row_length : g.S.LevelSink.row_length l.sink ≡ g.S.LevelSink.row_length l.initial.sink;
+      kind : g.S.LevelSink.kind l.sink ≡ g.S.LevelSink.kind l.initial.sink;
+      kept : g.S.LevelSink.kept l.sink ≡ g.S.LevelSink.kept l.initial.sink;
+      ready : g.S.LevelSink.has_refused l.sink ≡ false;
     }

@@ -1,0 +1,33 @@
+-- Least sums of steps by level and state, over all lists of bits, and tables of them.
+use Rattle.std.specs.Prelude.{◌≡◌, ℕ, ◌^◌, ◌<◌, ◌≤◌, ◌⊎◌, Bool, List, length}
+use Rattle.cost_core.specs.Trellis.{Trellis, states, state_after, steps}
+use Rattle.cost_core.specs.Tables.{IsTable, value_in}
+use Rattle.cost_core.specs.Bridges.{Bridging, bridge_cost, IsLeastBridge}
+use Rattle.cost_core.specs.StateCosts.{trellis_of}
+use Rattle.cost_core.specs.Limits.{IsBridging}
+use Rattle.cost_core.specs.Validity.{IsValid}
+
+-- these bits lead from the start to a state, in so many steps
+abbrev pub LeadsTo : Trellis → ℕ → ℕ → List Bool → Type 0
+LeadsTo t level q x = (length x ≡ level) × (state_after t.width t.start x ≡ q)
+
+-- the sum of the steps of some bits from the start
+abbrev pub sum_of_steps : Trellis → List Bool → ℕ
+sum_of_steps t x = steps t.width t.step 0 t.start x
+
+-- v is the lesser of 2 ^ 63 and the least sum of steps over all lists of so many bits that lead to a state: 2 ^ 63 where none leads there
+pub record IsBest (t : Trellis) (level q v : ℕ) : Type 0 where
+  pub at_most : v ≤ 2 ^ 63
+  pub below_each : (x : List Bool) → LeadsTo t level q x → v ≤ sum_of_steps t x
+  pub is_some : (v ≡ 2 ^ 63) ⊎ ((x : List Bool) × LeadsTo t level q x × (sum_of_steps t x ≡ v))
+
+-- a row for each level, and in it the best sum of each state
+pub record BestRows (t : Trellis) (rows : List (List ℕ)) : Type 0 where
+  pub is_table : IsTable t rows
+  pub are_best : (level q : ℕ) → level ≤ t.levels → q < states t → IsBest t level q (value_in rows level q)
+
+-- the best sums are valid bounds for each least bridge
+abbrev pub BestRowsAreValid : Type 0
+BestRowsAreValid =
+    (d : Bridging) (rows : List (List ℕ)) (x : List Bool) → IsBridging d → BestRows (trellis_of d) rows → IsLeastBridge d x
+    → IsValid (trellis_of d) (value_in rows) (bridge_cost d x) x

@@ -1,0 +1,35 @@
+//! Why no bridge was found.
+
+ghost use Rattle.std.specs.Prelude.{◌≡◌};
+ghost use Rattle.trellis_core.specs.declared.fault.BridgeFault.TheVariants.{Memory, Sink};
+
+use cost_core::SinkFault;
+use std::alloc::AllocError;
+use thiserror::Error;
+
+/// Why no bridge was found.
+#[derive(Clone, Copy, Debug, PartialEq, Eq, Error)]
+pub enum BridgeFault {
+    /// Want of memory.
+    #[error("Memory")]
+    Memory,
+    /// The sink refused a row.
+    #[error("Sink")]
+    Sink,
+}
+
+impl From<AllocError> for BridgeFault {
+    ghost from_gives = { λ _ e. e ≡ Memory };
+
+    fn from(_e: AllocError) -> BridgeFault {
+        BridgeFault::Memory
+    }
+}
+
+impl From<SinkFault> for BridgeFault {
+    ghost from_gives = { λ _ e. e ≡ Sink };
+
+    fn from(_e: SinkFault) -> BridgeFault {
+        BridgeFault::Sink
+    }
+}

@@ -1,0 +1,52 @@
+//! A sink for searches whose rows nobody wants.
+
+ghost use Rattle.std.specs.Prelude.{◌≡◌, ◌+◌, None, [], false};
+ghost use Rattle.cost_core.specs.Trellis.{states};
+ghost use Rattle.cost_core.specs.StateCosts.{trellis_of};
+
+use cost_core::{LevelSink, SinkFault, Window};
+
+/// Takes the rows of one window and forgets them.
+#[derive(Drop)]
+pub struct Unheard {
+    left: usize,
+    width: usize,
+}
+
+impl Unheard {
+    /// For the rows of a window.
+    pub fn new(window: &Window) -> Unheard
+        ensures left { result.left ≡ window.now.levels + 1 }
+        ensures width { result.width ≡ states (trellis_of window.now) }
+    {
+        Unheard {
+            left: window.length() + 1,
+            width: window.states(),
+        }
+    }
+}
+
+impl LevelSink for Unheard {
+    ghost rows_left = { λ sink. sink.left };
+
+    ghost row_length = { λ sink. sink.width };
+
+    ghost kind = { λ _. 0 };
+
+    ghost text = { λ _. None };
+
+    ghost spelling = { λ _ _. [] };
+
+    ghost has_refused = { λ _. false };
+
+    ghost kept = { λ _. tt };
+
+    fn level(&mut self, _row: &[u64]) -> Result<(), SinkFault> {
+        self.left -= 1;
+        Ok(())
+    }
+
+    fn refused(&self) -> bool {
+        false
+    }
+}

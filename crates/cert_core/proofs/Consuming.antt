@@ -1,0 +1,48 @@
+-- What was consumed so far, and what is left.
+use Rattle.std.proofs.Common.{◌≡◌, ℕ, ◌+◌, ◌*◌, ◌<◌, ◌≤◌, List, [], ◌∷◌, ◌++◌, Option, None, Some, Result, Ok, Err, IfSome, refl, sym, subst, length, arith}
+use Rattle.std.proofs.lemmas.List.{length-append}
+use Rattle.std.specs.Int.{w64, to_be_bytes}
+use Rattle.std.specs.Result.{IsErrAnd}
+use Rattle.std.specs.Io.KnownBytes.{Consumes}
+use Rattle.cert_core.specs.Text.{row_text}
+use Rattle.cert_core.specs.declared.verdict.CertReason.{CertReason}
+use Rattle.cert_core.specs.declared.stop.Stop.{Stop}
+use Rattle.cert_core.specs.declared.stop.Stop.TheVariants.{Reason, Device, Memory}
+use Rattle.cert_core.specs.Stops.{CutBelow, OnReason}
+
+pub row_text-length : (row : List ℕ) → length (row_text row) ≡ 8 * length row
+row_text-length [] = refl
+row_text-length (v ∷ row) = omega (arith, row_text-length row, length-append (to_be_bytes w64 v) (row_text row))
+
+-- a fact of what is left is one of all, with what was consumed before it
+pub before : (P Q : List ℕ → Type 0) (a b : Option (List ℕ)) (bs : List ℕ) → Consumes a b bs → ((rest : List ℕ) → P rest → Q (bs ++ rest)) → IfSome b P → IfSome a Q
+before P Q None b bs c f p = tt
+before P Q (Some xs) None bs c f p = absurd c
+before P Q (Some xs) (Some ys) bs c f p = subst Q (sym c) (f ys p)
+
+-- a reason goes on to the caller
+pub passes : {A : Type 0} (B : Type 0) (r : Result A Stop) (stop : Stop) (P Q : CertReason → Type 0) → IsErrAnd r (λ e. e ≡ stop) → ((reason : CertReason) → P reason → Q reason) → OnReason {T = B} (Err stop) P → OnReason r Q
+passes {A} B (Ok x) stop P Q e f p = tt
+passes {A} B (Err s) (Reason reason) P Q e f p = subst (λ x. OnReason {T = A} (Err x) Q) (sym e) (f reason p)
+passes {A} B (Err s) Device P Q e f p = subst (λ x. OnReason {T = A} (Err x) Q) (sym e) tt
+passes {A} B (Err s) Memory P Q e f p = subst (λ x. OnReason {T = A} (Err x) Q) (sym e) tt
+
+pub cut_before : (a b : Option (List ℕ)) (bs : List ℕ) (n m : ℕ) → Consumes a b bs → length bs + n ≤ m → (reason : CertReason) → CutBelow b n reason → CutBelow a m reason
+cut_before a b bs n m c h reason (is, short) =
+    (is, before (λ rest. length rest < n) (λ all. length all < m) a b bs c (λ rest k. omega (arith, length-append bs rest)) short)
+
+-- what holds of what was consumed and anything after it
+pub after : (Q : List ℕ → Type 0) (a b : Option (List ℕ)) (bs : List ℕ) → Consumes a b bs → ((rest : List ℕ) → Q (bs ++ rest)) → IfSome a Q
+after Q None b bs c f = tt
+after Q (Some xs) None bs c f = absurd c
+after Q (Some xs) (Some ys) bs c f = subst Q (sym c) (f ys)
+
+pub maps : {A : Type 0} (r : Result A Stop) (P Q : CertReason → Type 0) → ((reason : CertReason) → P reason → Q reason) → OnReason r P → OnReason r Q
+maps (Ok x) P Q f p = tt
+maps (Err (Reason reason)) P Q f p = f reason p
+maps (Err Device) P Q f p = tt
+maps (Err Memory) P Q f p = tt
+
+pub if_some : (a : Option (List ℕ)) (P Q : List ℕ → Type 0) → ((bytes : List ℕ) → P bytes → Q bytes) → IfSome a P → IfSome a Q
+if_some None P Q f p = tt
+if_some (Some xs) P Q f p = f xs p

@@ -1,0 +1,10 @@
+pub mod Composition
+pub mod Consuming
+pub mod Entries
+pub mod Exact
+pub mod Heads
+pub mod OneReason
+pub mod Pulls
+pub mod Spellings
+pub mod Steps
+pub mod Whole

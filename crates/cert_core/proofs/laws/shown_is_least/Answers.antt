@@ -1,0 +1,5 @@
+use Rattle.cert_core.proofs.Composition.{shown_is_least}
+use Rattle.cert_core.proofs.laws.shown_is_least.Goals as goal
+
+pub returns : goal.returns
+returns c = shown_is_least

@@ -1,0 +1,61 @@
+-- How the parts of a certificate make the whole.
+use Rattle.std.specs.Prelude.{◌≡◌, ℕ, ◌^◌, ◌<◌, Bool, List, [], ◌∷◌, ◌++◌, length, flat_map, Option}
+use Rattle.std.specs.Int.{w64, to_be_bytes}
+use Rattle.std.specs.Io.KnownBytes.{Appends}
+use Rattle.cost_core.specs.Bridges.{Bridging, IsLeastBridge}
+use Rattle.cost_core.specs.Limits.{IsBridging}
+use Rattle.cost_core.specs.StateCosts.{trellis_of}
+use Rattle.cert_core.specs.declared.verdict.CertReason.{CertReason}
+use Rattle.cert_core.specs.Certificates.{Claim, Shows, IsCert, IsEntryOf, AreEntries}
+use Rattle.cert_core.specs.Entries.{IsEntry, BeginsValid}
+use Rattle.cert_core.specs.Reasons.{FirstReason}
+use Rattle.cert_core.specs.Text.{Entry, row_text, entry_start, cert_entry, cert_head, cert_text}
+
+-- the start, the rows and the cost, written one after the other, are the entry
+abbrev pub PartsAreEntry : Type 0
+PartsAreEntry =
+    (a b c d : Option (List ℕ)) (e : Entry) → Appends a b (entry_start e.cue e.channel e.levels) → Appends b c (flat_map row_text e.rows) → Appends c d (to_be_bytes w64 e.cost) → Appends a d (cert_entry e)
+
+-- entries and one more are all of them
+abbrev pub EntriesJoin : Type 0
+EntriesJoin = (a b c : Option (List ℕ)) (entries : List Entry) (e : Entry) → Appends a b (flat_map cert_entry entries) → Appends b c (cert_entry e) → Appends a c (flat_map cert_entry (entries ++ e ∷ []))
+
+-- the head and then all entries are the certificate
+abbrev pub HeadAndEntries : Type 0
+HeadAndEntries =
+    (a b c : Option (List ℕ)) (weights : ℕ) (entries : List Entry) → Appends a b (cert_head weights (length entries)) → Appends b c (flat_map cert_entry entries) → Appends a c (cert_text weights entries)
+
+-- an entry that shows a claim is read as such, whatever follows
+abbrev pub ShownIsRead : Type 0
+ShownIsRead = (claim : Claim) (e : Entry) (rest : List ℕ) → Shows claim e → BeginsValid (trellis_of claim.bridging) claim.cue claim.channel claim.bits (cert_entry e ++ rest)
+
+-- what was read entry by entry is a certificate
+abbrev pub ReadIsCert : Type 0
+ReadIsCert = (weights : ℕ) (claims : List Claim) (rest : List ℕ) → AreEntries claims rest → IsCert weights claims (cert_head weights (length claims) ++ rest)
+
+-- a certificate is its head and then an entry for each claim
+abbrev pub CertIsRead : Type 0
+CertIsRead = (weights : ℕ) (claims : List Claim) (bytes : List ℕ) → IsCert weights claims bytes → (rest : List ℕ) × (bytes ≡ cert_head weights (length claims) ++ rest) × AreEntries claims rest
+
+-- one entry more
+abbrev pub ReadMore : Type 0
+ReadMore = (claims : List Claim) (claim : Claim) (bytes entry : List ℕ) → AreEntries claims bytes → IsEntryOf claim entry → AreEntries (claims ++ claim ∷ []) (bytes ++ entry)
+
+-- after the entries of the first claims comes a valid entry of the next one
+abbrev pub NextIsRead : Type 0
+NextIsRead =
+    (claims : List Claim) (claim : Claim) (more : List Claim) (front after : List ℕ) → AreEntries claims front → AreEntries (claims ++ claim ∷ more) (front ++ after)
+    → BeginsValid (trellis_of claim.bridging) claim.cue claim.channel claim.bits after
+
+-- after the entries of all claims comes nothing
+abbrev pub NothingFollows : Type 0
+NothingFollows = (claims : List Claim) (front after : List ℕ) → AreEntries claims front → AreEntries claims (front ++ after) → after ≡ []
+
+-- bits that an entry shows to be least are least
+abbrev pub ShownIsLeast : Type 0
+ShownIsLeast = (d : Bridging) (cue channel : ℕ) (x : List Bool) (bytes : List ℕ) → IsBridging d → length x ≡ d.levels → IsEntry (trellis_of d) cue channel x bytes → IsLeastBridge d x
+
+-- bytes have one first reason at most
+abbrev pub OneReason : Type 0
+OneReason = (d : Bridging) (cue channel found : ℕ) (bytes : List ℕ) (a b : CertReason) → IsBridging d → cue < 2 ^ 16 → channel < 2 ^ 16
+    → FirstReason (trellis_of d) cue channel found bytes a → FirstReason (trellis_of d) cue channel found bytes b → a ≡ b

@@ -1,0 +1,11 @@
+pub mod Certificates
+pub mod Composing
+pub mod Entries
+pub mod Faults
+pub mod Fillings
+pub mod FusedOutlets
+pub mod Readers
+pub mod Reasons
+pub mod Stops
+pub mod Text
+pub mod Writers

@@ -1,0 +1,57 @@
+-- What contracts see of a reader of certificates and of its answers.
+use Rattle.std.specs.Prelude.{◌≡◌, ◌<◌, ℕ, List, length, Option, None, Some, Result, Ok, Err, ⊤, IfSome}
+use Rattle.chunk_core.specs.declared.inlet.Inlet.{Inlet}
+use Rattle.cert_core.specs.declared.reader.CertReader.{CertReader}
+use Rattle.cert_core.specs.declared.verdict.CertReason.{CertReason}
+use Rattle.cert_core.specs.declared.verdict.CertReason.TheVariants.{Extra}
+use Rattle.cert_core.specs.declared.verdict.CertVerdict.{CertVerdict}
+use Rattle.cert_core.specs.declared.verdict.CertVerdict.TheVariants.{Accepted, Rejected}
+use Rattle.cert_core.specs.declared.verdict.CheckFault.{CheckFault}
+use Rattle.cert_core.specs.declared.verdict.CheckFault.TheVariants.{Device, Memory}
+use Rattle.cert_core.specs.Reasons.{HeadReason}
+
+-- the inlet, as it stands
+abbrev pub cert_inlet : {R : Type 0} → CertReader R → Inlet R
+cert_inlet reader = reader.inlet
+
+-- P of the cost, where the bits were accepted
+abbrev pub IfAccepted : Result CertVerdict CheckFault → (ℕ → Type 0) → Type 0
+IfAccepted (Ok (Accepted cost)) P = P cost
+IfAccepted (Ok (Rejected reason)) P = ⊤
+IfAccepted (Err fault) P = ⊤
+
+-- P of the reason, where they were rejected
+abbrev pub IfRejected : Result CertVerdict CheckFault → (CertReason → Type 0) → Type 0
+IfRejected (Ok (Rejected reason)) P = P reason
+IfRejected (Ok (Accepted cost)) P = ⊤
+IfRejected (Err fault) P = ⊤
+
+-- one where the answer is `Device`
+abbrev pub failed_checks : Result CertVerdict CheckFault → ℕ
+failed_checks (Err Device) = 1
+failed_checks (Err Memory) = 0
+failed_checks (Ok verdict) = 0
+
+-- all is well
+abbrev pub IsWell : Result (Option CertReason) CheckFault → Type 0
+IsWell result = result ≡ Ok None
+
+-- P of the reason, where there is one
+abbrev pub IfReason : Result (Option CertReason) CheckFault → (CertReason → Type 0) → Type 0
+IfReason (Ok (Some reason)) P = P reason
+IfReason (Ok None) P = ⊤
+IfReason (Err fault) P = ⊤
+
+-- one where the answer is `Device`
+abbrev pub failed_reads : Result (Option CertReason) CheckFault → ℕ
+failed_reads (Err Device) = 1
+failed_reads (Err Memory) = 0
+failed_reads (Ok reason) = 0
+
+-- known bytes have this reason first in the head
+abbrev pub InHead : ℕ → ℕ → Option (List ℕ) → CertReason → Type 0
+InHead weights entries known reason = IfSome known (λ bytes. HeadReason weights entries bytes reason)
+
+-- the reason is that known bytes are left
+abbrev pub InRest : Option (List ℕ) → CertReason → Type 0
+InRest known reason = (reason ≡ Extra) × IfSome known (λ bytes. 0 < length bytes)

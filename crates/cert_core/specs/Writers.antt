@@ -1,0 +1,48 @@
+-- What contracts see of a writer of certificates.
+use Rattle.std.specs.Prelude.{ℕ, ◌-◌, ◌^◌, Bool}
+use Rattle.chunk_core.specs.declared.outlet.Outlet.{Outlet}
+use Rattle.cert_core.specs.declared.writer.CertWriter.{CertWriter}
+use Rattle.cert_core.specs.FusedOutlets.{fused_outlet, fused_failed}
+
+-- the outlet, as it stands
+abbrev pub cert_outlet : {W : Type 0} → CertWriter W → Outlet W
+cert_outlet writer = fused_outlet writer.outlet
+
+-- whether a write failed
+abbrev pub has_failed : {W : Type 0} → CertWriter W → Bool
+has_failed writer = fused_failed writer.outlet
+
+-- how many weights the head tells
+abbrev pub cert_weights : {W : Type 0} → CertWriter W → ℕ
+cert_weights writer = writer.weights
+
+-- how many values a row has
+abbrev pub row_length : {W : Type 0} → CertWriter W → ℕ
+row_length writer = 2 ^ (writer.weights - 1)
+
+-- how many rows of an entry are still to come
+abbrev pub rows_left : {W : Type 0} → CertWriter W → ℕ
+rows_left writer = writer.rows_left
+
+-- what no row changes: the number of weights, whether the head was written, how many entries are still to begin, whether an entry was begun and not ended
+pub record Stage : Type 0 where
+  pub weights : ℕ
+  pub has_head : Bool
+  pub entries_left : ℕ
+  pub is_open : Bool
+
+-- where a writer stands
+abbrev pub stage : {W : Type 0} → CertWriter W → Stage
+stage writer = record { weights = writer.weights; has_head = writer.has_head; entries_left = writer.entries_left; is_open = writer.is_open }
+
+-- whether the head was written
+abbrev pub has_head : {W : Type 0} → CertWriter W → Bool
+has_head writer = writer.has_head
+
+-- how many entries are still to begin
+abbrev pub entries_left : {W : Type 0} → CertWriter W → ℕ
+entries_left writer = writer.entries_left
+
+-- whether an entry was begun and not ended
+abbrev pub is_open : {W : Type 0} → CertWriter W → Bool
+is_open writer = writer.is_open

@@ -1,0 +1,161 @@
+//! The reading of an entry, a row at a time.
+
+ghost use Rattle.std.specs.Prelude.{◌≡◌, ℕ, ◌+◌, ◌*◌, ◌-◌, ◌^◌, ◌<◌, ◌≤◌, length, slice_index_or, IfOk, OnOk};
+ghost use Rattle.std.specs.Int.{w64, to_be_bytes};
+ghost use Rattle.std.specs.Io.KnownBytes.{Consumes};
+ghost use Rattle.chunk_core.specs.Inlets.{inlet_reader, inlet_failures};
+ghost use Rattle.cost_core.specs.Trellis.{states, cost, IsBounded};
+ghost use Rattle.cost_core.specs.StateCosts.{trellis_of};
+ghost use Rattle.cost_core.specs.Limits.{IsBridging};
+ghost use Rattle.cert_core.specs.Text.{row_text, entry_start};
+ghost use Rattle.cert_core.specs.Entries.{ReadsEntry};
+ghost use Rattle.cert_core.specs.Reasons.{RowBounded};
+ghost use Rattle.cert_core.specs.Stops.{OnReason, failed_stops, CutBelow, InStart, InRows, InEnd, InEntry, ReadsRows};
+
+use crate::filling::fill;
+use crate::numbers::{number_in, start_numbers};
+use crate::rows::{low_end, row_reason};
+use crate::stop::Stop;
+use crate::verdict::CertReason;
+use chunk_core::Inlet;
+use cost_core::Window;
+use dsd_bits::Bits;
+use std::alloc::{AllocError, Global};
+use std::io::Read;
+
+// A number of eight bytes.
+fn read_number<R: Read>(inlet: &mut Inlet<R>) -> Result<u64, Stop>
+    requires { inlet_failures inlet.old < 2 ^ 64 - 1 }
+    ensures ok { IfOk result (λ value. Consumes (R.remaining (inlet_reader inlet.old)) (R.remaining (inlet_reader inlet.new)) (to_be_bytes w64 value)) }
+    ensures cut { OnReason result (CutBelow (R.remaining (inlet_reader inlet.old)) 8) }
+    ensures failures { inlet_failures inlet.new ≡ inlet_failures inlet.old + failed_stops result }
+{
+    let mut bytes = [0u8; 8];
+    let count = fill(inlet, &mut bytes)?;
+    if count < 8 {
+        return Err(Stop::Reason(CertReason::Cut));
+    }
+    Ok(number_in(bytes))
+}
+
+// A row of as many numbers as the old one has.
+fn read_row<R: Read>(inlet: &mut Inlet<R>, row: &mut Vec<u64>) -> Result<(), Stop>
+    requires { inlet_failures inlet.old < 2 ^ 64 - 1 }
+    ensures len { length row.new.items ≡ length row.old.items }
+    ensures values { OnOk result ((q : ℕ) → slice_index_or row.new.items q 0 < 2 ^ 64) }
+    ensures ok { OnOk result (Consumes (R.remaining (inlet_reader inlet.old)) (R.remaining (inlet_reader inlet.new)) (row_text row.new.items)) }
+    ensures cut { OnReason result (CutBelow (R.remaining (inlet_reader inlet.old)) (8 * length row.old.items)) }
+    ensures failures { inlet_failures inlet.new ≡ inlet_failures inlet.old + failed_stops result }
+{
+    for place in 0..row.len() {
+        row[place] = read_number(inlet)?;
+    }
+    Ok(())
+}
+
+// The start of an entry, which has to be of this cue, this channel and a bridge of this length.
+fn read_start<R: Read>(
+    inlet: &mut Inlet<R>,
+    cue: u16,
+    channel: u16,
+    length: usize,
+) -> Result<(), Stop>
+    requires ready { inlet_failures inlet.old < 2 ^ 64 - 1 }
+    ensures ok { OnOk result (Consumes (R.remaining (inlet_reader inlet.old)) (R.remaining (inlet_reader inlet.new)) (entry_start cue channel length)) }
+    ensures reason { OnReason result (InStart (R.remaining (inlet_reader inlet.old)) cue channel length) }
+    ensures failures { inlet_failures inlet.new ≡ inlet_failures inlet.old + failed_stops result }
+{
+    let mut bytes = [0u8; 6];
+    let count = fill(inlet, &mut bytes)?;
+    if count < 6 {
+        return Err(Stop::Reason(CertReason::Cut));
+    }
+    let (found_cue, found_channel, found_length) = start_numbers(bytes);
+    if found_cue != cue || found_channel != channel {
+        return Err(Stop::Reason(CertReason::Head));
+    }
+    if usize::from(found_length) != length {
+        return Err(Stop::Reason(CertReason::Length));
+    }
+    Ok(())
+}
+
+// A row of so many zeros.
+fn make_row(alloc: Global, count: usize) -> Result<Vec<u64>, AllocError>
+    ensures { IfOk result (λ row. length row.items ≡ count) }
+{
+    vec![in alloc; 0; count]
+}
+
+// The last row, after the rows of all levels. Two rows are held.
+fn read_rows<R: Read>(
+    alloc: Global,
+    inlet: &mut Inlet<R>,
+    window: &Window,
+) -> Result<Vec<u64>, Stop>
+    requires ready { inlet_failures inlet.old < 2 ^ 64 - 1 }
+    ensures ok { IfOk result (λ last. ReadsRows (trellis_of window.now) (R.remaining (inlet_reader inlet.old)) (R.remaining (inlet_reader inlet.new)) last.items) }
+    ensures reason { OnReason result (InRows (trellis_of window.now) (R.remaining (inlet_reader inlet.old))) }
+    ensures failures { inlet_failures inlet.new ≡ inlet_failures inlet.old + failed_stops result }
+{
+    let states = window.states();
+    let mut previous = make_row(alloc, states)?;
+    let mut row = make_row(alloc, states)?;
+    for level in 0..window.length() + 1 {
+        read_row(inlet, &mut row)?;
+        if let Some(reason) = row_reason(window, level, &previous, &row) {
+            return Err(Stop::Reason(reason));
+        }
+        std::mem::swap(&mut previous, &mut row);
+    }
+    Ok(previous)
+}
+
+// The cost, which has to be `found`, that of the bits, and no more than any end of the last row.
+fn read_end<R: Read>(
+    inlet: &mut Inlet<R>,
+    window: &Window,
+    last: &[u64],
+    found: u64,
+) -> Result<u64, Stop>
+    requires ready { inlet_failures inlet.old < 2 ^ 64 - 1 }
+    requires bounded { IsBounded (trellis_of window.now) }
+    requires last { length last.now ≡ states (trellis_of window.now) }
+    requires limit { RowBounded (trellis_of window.now) last.now }
+    ensures ok { IfOk result (λ cost. Consumes (R.remaining (inlet_reader inlet.old)) (R.remaining (inlet_reader inlet.new)) (to_be_bytes w64 cost)) }
+    ensures cost { IfOk result (λ cost. cost ≡ found) }
+    ensures ends { IfOk result (λ cost. (q : ℕ) → q < states (trellis_of window.now) → cost ≤ slice_index_or last.now q 0 + (trellis_of window.now).tail q) }
+    ensures reason { OnReason result (InEnd (trellis_of window.now) last.now found (R.remaining (inlet_reader inlet.old))) }
+    ensures failures { inlet_failures inlet.new ≡ inlet_failures inlet.old + failed_stops result }
+{
+    let stated = read_number(inlet)?;
+    if stated != found {
+        return Err(Stop::Reason(CertReason::Cost));
+    }
+    match low_end(window, last, stated) {
+        Some(state) => Err(Stop::Reason(CertReason::End(state))),
+        None => Ok(stated),
+    }
+}
+
+/// Reads an entry, whose table has to be valid for the bits. The answer is what they cost.
+pub fn read_entry<R: Read>(
+    alloc: Global,
+    inlet: &mut Inlet<R>,
+    cue: u16,
+    channel: u16,
+    window: &Window,
+    bits: &Bits,
+) -> Result<u64, Stop>
+    requires ready { inlet_failures inlet.old < 2 ^ 64 - 1 }
+    requires bits { length bits.now ≡ window.now.levels }
+    ensures limits { IsBridging window.now }
+    ensures entry { IfOk result (λ cost. ReadsEntry (trellis_of window.now) cue channel bits.now (R.remaining (inlet_reader inlet.old)) (R.remaining (inlet_reader inlet.new))) }
+    ensures cost { IfOk result (λ found. found ≡ cost (trellis_of window.now) bits.now) }
+    ensures reason { OnReason result (InEntry (trellis_of window.now) cue channel (cost (trellis_of window.now) bits.now) (R.remaining (inlet_reader inlet.old))) }
+    ensures failures { inlet_failures inlet.new ≡ inlet_failures inlet.old + failed_stops result }
+{
+    read_start(inlet, cue, channel, window.length())?;
+    let last = read_rows(alloc, inlet, window)?;
+    read_end(inlet, window, &last, window.cost_of(bits))
+}

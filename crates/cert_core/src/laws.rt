@@ -1,0 +1,40 @@
+//! How the parts of a certificate make the whole: functions that do nothing and carry laws.
+
+ghost use Rattle.cert_core.specs.Composing.{PartsAreEntry, EntriesJoin, HeadAndEntries, ShownIsRead, ReadIsCert, CertIsRead, ReadMore, NextIsRead, NothingFollows, ShownIsLeast, OneReason};
+
+/// The parts that a writer writes in order are the text of the certificate.
+pub fn parts_join()
+    ensures entry { PartsAreEntry }
+    ensures entries { EntriesJoin }
+    ensures whole { HeadAndEntries }
+{}
+
+/// An entry with a valid table is read as one, whatever follows.
+pub fn shown_is_read()
+    ensures { ShownIsRead }
+{}
+
+/// A head, then an entry for each claim, each of which shows it, and then nothing: these are just the
+/// certificates.
+pub fn read_is_cert()
+    ensures read { ReadIsCert }
+    ensures only { CertIsRead }
+    ensures more { ReadMore }
+{}
+
+/// Where entries were read for the first claims, the next bytes of a certificate are the entry of the
+/// next claim, and after all claims there are none.
+pub fn cert_goes_on()
+    ensures next { NextIsRead }
+    ensures end { NothingFollows }
+{}
+
+/// Bits that an entry shows to be least are least.
+pub fn shown_is_least()
+    ensures { ShownIsLeast }
+{}
+
+/// Bytes have one first reason at most, so the answer of a rejection is determined.
+pub fn one_reason()
+    ensures { OneReason }
+{}

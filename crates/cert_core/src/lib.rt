@@ -1,0 +1,73 @@
+//! Certificates: tables of bounds that show the bits of bridges to be least.
+//!
+//! A bridge of `L` bits between two cues is one of `2^L` lists. That none of them costs less than the one
+//! chosen is shown by a table: for each level from 0 to `L` and each state of a trellis a number below
+//! which no bits lead there. Whoever has such a table, the takes and the bits checks it step by step, and
+//! needs neither the search that chose the bits nor trust in who wrote the table. `docs/CERTIFICATES.md`
+//! says why, and has the format and an example by hand.
+//!
+//! A [`CertWriter`] writes a certificate to an outlet, part by part; as a `LevelSink` it takes the rows of
+//! a search. A [`CertReader`] reads one from an inlet, two rows at a time, and
+//! [`check_bridge`](CertReader::check_bridge) judges the bits of a bridge by the next entry. This crate
+//! knows nothing of the search.
+//!
+//! The words of its contracts, all over lists and numbers without bounds:
+//!
+//! - `cert_text weights entries` is the whole text, of `cert_head` and of a `cert_entry` for each `Entry`
+//!   (`specs/Text.antt`). The validity of a table is `IsValid` of `cost_core`: five plain facts.
+//! - `IsEntry t cue channel x bytes`: the bytes are an entry with a table that is valid for the bits `x`;
+//!   `BeginsValid`: they begin with one (`specs/Entries.antt`).
+//! - `FirstReason t cue channel found bytes reason`: the first reason, in the stated order, why they don't
+//!   (`specs/Reasons.antt`).
+//! - `Claim` is what an entry is to show, and `IsCert weights claims bytes` says that the bytes are the
+//!   certificate of entries that show all claims (`specs/Certificates.antt`).
+//! - `stage` is where a writer stands: `has_head`, `entries_left`, `is_open`; and `rows_left`
+//!   (`specs/Writers.antt`).
+//!
+//! What it promises: `Accepted` exactly for a valid entry of these bits, which are then least; else the
+//! first reason, or `Device` exactly where a read failed, or want of memory. Each part of a certificate
+//! that is written is just its part of the text. Functions that do nothing carry the laws that callers
+//! prove with (`specs/Composing.antt`): [`parts_join`], [`shown_is_read`], [`read_is_cert`],
+//! [`cert_goes_on`], [`shown_is_least`], [`one_reason`].
+//!
+//! ```text
+//! // The bridge of one bit by the weights 1, 0 from ones to zeros: both bits cost 4.
+//! let mut writer = CertWriter::new(alloc, Outlet::new(Vec::new(alloc)), 2)?;
+//! writer.begin(1)?;
+//! writer.begin_bridge(0, 0, 1)?;
+//! writer.level(&[1 << 63, 0])?;
+//! writer.level(&[4, 4])?;
+//! writer.end_bridge(4)?;
+//! let bytes = writer.finish().into_inner();            // 58 bytes
+//!
+//! let mut reader = CertReader::new(Inlet::new(bytes.as_slice()));
+//! reader.read_head(2, 1)?                              // None
+//! reader.check_bridge(alloc, 0, 0, &window, &zero)?    // Accepted { cost: 4 }
+//! reader.at_end()?                                     // None
+//! ```
+#![tactic(auto)]
+
+mod entry;
+mod filling;
+mod fused;
+mod laws;
+mod numbers;
+mod reader;
+mod rows;
+mod sink;
+mod stop;
+mod verdict;
+mod writer;
+
+pub use fused::CertFault;
+pub use laws::{cert_goes_on, one_reason, parts_join, read_is_cert, shown_is_least, shown_is_read};
+pub use reader::CertReader;
+pub use verdict::{CertReason, CertVerdict, CheckFault};
+pub use writer::CertWriter;
+
+#[cfg(test)]
+mod test_devices;
+#[cfg(test)]
+mod tests;
+#[cfg(test)]
+mod writer_tests;

@@ -1,0 +1,65 @@
+//! Numbers as bytes, the highest byte first.
+
+ghost use Rattle.std.specs.Prelude.{◌≡◌, ◌*◌, ◌≤◌, length};
+ghost use Rattle.std.specs.Int.{w32, w64, to_be_bytes};
+ghost use Rattle.cert_core.specs.Text.{row_text, entry_start, cert_head};
+
+/// The head of a certificate of version 1.
+pub fn head_bytes(weights: usize, entries: u32) -> [u8; 12]
+    requires { weights ≤ 12 }
+    ensures { result ≡ cert_head weights entries }
+{
+    let weights = (weights as u16).to_be_bytes();
+    let entries = entries.to_be_bytes();
+    [
+        b'D', b'S', b'P', b'C', 0, 1, weights[0], weights[1], entries[0], entries[1], entries[2],
+        entries[3],
+    ]
+}
+
+/// The start of an entry.
+pub fn start_bytes(cue: u16, channel: u16, length: u16) -> [u8; 6]
+    ensures { result ≡ entry_start cue channel length }
+{
+    let cue = cue.to_be_bytes();
+    let channel = channel.to_be_bytes();
+    let length = length.to_be_bytes();
+    [cue[0], cue[1], channel[0], channel[1], length[0], length[1]]
+}
+
+/// The cue, the channel and the bridge's length in the start of an entry.
+pub fn start_numbers(bytes: [u8; 6]) -> (u16, u16, u16)
+    ensures { bytes ≡ entry_start result.0 result.1 result.2 }
+{
+    (
+        u16::from_be_bytes([bytes[0], bytes[1]]),
+        u16::from_be_bytes([bytes[2], bytes[3]]),
+        u16::from_be_bytes([bytes[4], bytes[5]]),
+    )
+}
+
+// The number in four bytes.
+fn half_in(bytes: [u8; 4]) -> u32
+    ensures { bytes ≡ to_be_bytes w32 result }
+{
+    u32::from_be_bytes([bytes[0], bytes[1], bytes[2], bytes[3]])
+}
+
+/// The number in eight bytes.
+pub fn number_in(bytes: [u8; 8]) -> u64
+    ensures { bytes ≡ to_be_bytes w64 result }
+{
+    let high = half_in([bytes[0], bytes[1], bytes[2], bytes[3]]);
+    let low = half_in([bytes[4], bytes[5], bytes[6], bytes[7]]);
+    u64::from(high) * 4294967296 + u64::from(low)
+}
+
+/// Writes the numbers of a row into a buffer of their bytes.
+pub fn put_row(row: &[u64], buffer: &mut [u8])
+    requires { length buffer.old ≡ 8 * length row.now }
+    ensures { buffer.new ≡ row_text row.now }
+{
+    for (place, value) in row.iter().enumerate() {
+        buffer[8 * place..8 * place + 8].copy_from_slice(&value.to_be_bytes());
+    }
+}

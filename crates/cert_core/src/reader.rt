@@ -1,0 +1,135 @@
+//! The reader of certificates.
+
+ghost use Rattle.std.specs.Prelude.{◌≡◌, ◌+◌, ◌-◌, ◌^◌, ◌<◌, ◌≤◌, ◌++◌, List, ℕ, length, IfSome, IsErrOf};
+ghost use Rattle.std.specs.Io.KnownBytes.{Consumes, IsAtEnd};
+ghost use Rattle.chunk_core.specs.Inlets.{inlet_reader, inlet_failures};
+ghost use Rattle.cost_core.specs.StateCosts.{trellis_of};
+ghost use Rattle.cost_core.specs.Bridges.{bridge_cost, IsLeastBridge};
+ghost use Rattle.cert_core.specs.Text.{cert_head};
+ghost use Rattle.cert_core.specs.Entries.{BeginsValid, ReadsEntry};
+ghost use Rattle.cert_core.specs.Stops.{InEntry};
+
+use crate::entry::read_entry;
+use crate::filling::fill;
+use crate::numbers::head_bytes;
+use crate::stop::Stop;
+use crate::verdict::{CertReason, CertVerdict, CheckFault};
+use chunk_core::Inlet;
+use cost_core::Window;
+use dsd_bits::Bits;
+use std::alloc::Global;
+use std::io::Read;
+
+/// A reader of a certificate: [`read_head`](CertReader::read_head), then
+/// [`check_bridge`](CertReader::check_bridge) for each entry, then [`at_end`](CertReader::at_end). After
+/// a rejection, `Device` or `Memory` its place is open, and nothing more is asked of it.
+#[derive(Drop)]
+pub struct CertReader<R> {
+    inlet: Inlet<R>,
+}
+
+impl<R: Read> CertReader<R> {
+    ghost use Rattle.cert_core.specs.Readers.{cert_inlet, IfAccepted, IfRejected, failed_checks, IsWell, IfReason, InHead, InRest, failed_reads};
+
+    /// A reader at the inlet's place.
+    pub fn new(inlet: Inlet<R>) -> CertReader<R>
+        ensures { cert_inlet result ≡ inlet }
+    {
+        CertReader { inlet }
+    }
+
+    /// Reads the head, which has to be that of so many weights and entries. None means that it is.
+    ///
+    /// Reasons, in this order: `Cut` where fewer than 12 bytes are left, `Head`. Refusal: `Device` where
+    /// a read fails. It takes no memory.
+    pub fn read_head(
+        &mut self,
+        weights: usize,
+        entries: u32,
+    ) -> Result<Option<CertReason>, CheckFault>
+        requires ready { inlet_failures (cert_inlet self.old) < 2 ^ 64 - 1 }
+        requires weights { weights ≤ 12 }
+        ensures none { IsWell result → Consumes (R.remaining (inlet_reader (cert_inlet self.old))) (R.remaining (inlet_reader (cert_inlet self.new))) (cert_head weights entries) }
+
+        // Known bytes have this reason first, and don't begin with the head.
+        ensures reason { IfReason result (InHead weights entries (R.remaining (inlet_reader (cert_inlet self.old)))) }
+        ensures only { IfReason result (λ _. IfSome (R.remaining (inlet_reader (cert_inlet self.old))) (λ bytes. (rest : List ℕ) → bytes ≡ cert_head weights entries ++ rest → ⊥)) }
+
+        // The answer is `Device` exactly where a read failed, and never `Memory`.
+        ensures failures { inlet_failures (cert_inlet self.new) ≡ inlet_failures (cert_inlet self.old) + failed_reads result }
+        ensures memory { IsErrOf result CheckFault.Memory → ⊥ }
+    {
+        let mut bytes = [0u8; 12];
+        let Ok(count) = fill(&mut self.inlet, &mut bytes) else {
+            return Err(CheckFault::Device);
+        };
+        if count < 12 {
+            return Ok(Some(CertReason::Cut));
+        }
+        if bytes != head_bytes(weights, entries) {
+            return Ok(Some(CertReason::Head));
+        }
+        Ok(None)
+    }
+
+    /// Reads the next entry and judges by it the bits of the bridge after `cue` in `channel`. `Accepted`
+    /// says that the entry's table is valid for them, and so no bits of the bridge's length cost less.
+    ///
+    /// Reasons, in this order: `Cut` where the 6 bytes of its start aren't there, `Head` for another cue
+    /// or channel, `Length`; for each level in turn `Cut`, `Bound`, at level 0 `Start`, at the others
+    /// `Step` for the lowest such state; then `Cut`, `Cost`, and `End` for the lowest such state.
+    /// Refusals: `Device` where a read fails, `Memory`. Two rows of the table are held at a time.
+    pub fn check_bridge(
+        &mut self,
+        alloc: Global,
+        cue: u16,
+        channel: u16,
+        window: &Window,
+        bits: &Bits,
+    ) -> Result<CertVerdict, CheckFault>
+        requires ready { inlet_failures (cert_inlet self.old) < 2 ^ 64 - 1 }
+        requires bits { length bits.now ≡ window.now.levels }
+
+        // Just one entry was read, whose table is valid for the bits.
+        ensures entry { IfAccepted result (λ _. ReadsEntry (trellis_of window.now) cue channel bits.now (R.remaining (inlet_reader (cert_inlet self.old))) (R.remaining (inlet_reader (cert_inlet self.new)))) }
+        ensures cost { IfAccepted result (λ cost. cost ≡ bridge_cost window.now bits.now) }
+        ensures least { IfAccepted result (λ _. IsLeastBridge window.now bits.now) }
+
+        // Known bytes have this reason first, and begin with no such entry.
+        ensures reason { IfRejected result (InEntry (trellis_of window.now) cue channel (bridge_cost window.now bits.now) (R.remaining (inlet_reader (cert_inlet self.old)))) }
+        ensures only { IfRejected result (λ _. IfSome (R.remaining (inlet_reader (cert_inlet self.old))) (λ bytes. BeginsValid (trellis_of window.now) cue channel bits.now bytes → ⊥)) }
+
+        // The answer is `Device` exactly where a read failed.
+        ensures failures { inlet_failures (cert_inlet self.new) ≡ inlet_failures (cert_inlet self.old) + failed_checks result }
+    {
+        match read_entry(alloc, &mut self.inlet, cue, channel, window, bits) {
+            Ok(cost) => Ok(CertVerdict::Accepted { cost }),
+            Err(Stop::Reason(reason)) => Ok(CertVerdict::Rejected(reason)),
+            Err(Stop::Device) => Err(CheckFault::Device),
+            Err(Stop::Memory) => Err(CheckFault::Memory),
+        }
+    }
+
+    /// Whether the certificate ends here. None means that it does.
+    ///
+    /// Reason: `Extra`. Refusal: `Device` where a read fails. It takes no memory.
+    pub fn at_end(&mut self) -> Result<Option<CertReason>, CheckFault>
+        requires { inlet_failures (cert_inlet self.old) < 2 ^ 64 - 1 }
+        ensures none { IsWell result → IsAtEnd (R.remaining (inlet_reader (cert_inlet self.old))) }
+        ensures reason { IfReason result (InRest (R.remaining (inlet_reader (cert_inlet self.old)))) }
+
+        // The answer is `Device` exactly where a read failed, and never `Memory`.
+        ensures failures { inlet_failures (cert_inlet self.new) ≡ inlet_failures (cert_inlet self.old) + failed_reads result }
+        ensures memory { IsErrOf result CheckFault.Memory → ⊥ }
+    {
+        let mut bytes = [0u8; 1];
+        let Ok(count) = fill(&mut self.inlet, &mut bytes) else {
+            return Err(CheckFault::Device);
+        };
+        if count == 0 {
+            Ok(None)
+        } else {
+            Ok(Some(CertReason::Extra))
+        }
+    }
+}

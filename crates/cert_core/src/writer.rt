@@ -1,0 +1,177 @@
+//! The writer of certificates.
+
+ghost use Rattle.std.specs.Prelude.{◌≡◌, true, false, ◌+◌, ◌*◌, ◌-◌, ◌<◌, ◌≤◌, ◌^◌, length, not, is_ok, ◌↔◌, IsErrOf, OnOk, OnErr, IfOk, IfErr};
+ghost use Rattle.std.specs.Int.{w64, to_be_bytes};
+ghost use Rattle.std.specs.Io.KnownBytes.{Appends};
+ghost use Rattle.chunk_core.specs.Outlets.{outlet_writer, outlet_failures, AppendsPart};
+ghost use Rattle.cert_core.specs.Text.{row_text, entry_start, cert_head};
+ghost use Rattle.cert_core.specs.Faults.{failed_parts};
+
+use crate::fused::{CertFault, FusedOutlet};
+use crate::numbers::{head_bytes, put_row, start_bytes};
+use chunk_core::Outlet;
+use std::alloc::{AllocError, Global};
+use std::io::Write;
+
+// A buffer of so many bytes.
+fn make_buffer(alloc: Global, count: usize) -> Result<Vec<u8>, AllocError>
+    ensures { IfOk result (λ buffer. length buffer.items ≡ count) }
+{
+    vec![in alloc; 0; count]
+}
+
+/// A certificate that is written to an outlet: [`begin`](CertWriter::begin), then for each entry
+/// [`begin_bridge`](CertWriter::begin_bridge), [`level`](CertWriter::level) for each row, and
+/// [`end_bridge`](CertWriter::end_bridge); last [`finish`](CertWriter::finish). After `Device` it writes
+/// nothing more. It holds the bytes of one row.
+#[derive(Drop)]
+pub struct CertWriter<W> {
+    outlet: FusedOutlet<W>,
+    buffer: Vec<u8>,
+    weights: usize,
+    has_head: bool,
+    entries_left: u32,
+    is_open: bool,
+    rows_left: u32,
+    ghost few: { weights ≤ 12 },
+    ghost room: { length buffer.items ≡ 8 * 2 ^ (weights - 1) },
+}
+
+impl<W: Write> CertWriter<W> {
+    ghost use Rattle.cert_core.specs.Writers.{Stage, cert_outlet, has_failed, cert_weights, row_length, rows_left, stage, has_head, entries_left, is_open};
+
+    /// A writer for bridges of so many weights, which has written nothing. Err is want of memory, and
+    /// gives the outlet back.
+    pub fn new(alloc: Global, outlet: Outlet<W>, weights: usize) -> Result<CertWriter<W>, Outlet<W>>
+        requires ready { outlet_failures outlet < 2 ^ 64 - 1 }
+        requires two { 2 ≤ weights }
+        requires few { weights ≤ 12 }
+        ensures outlet { IfOk result (λ writer. cert_outlet writer ≡ outlet) }
+        ensures failed { IfOk result (λ writer. has_failed writer ≡ false) }
+        ensures stage { IfOk result (λ writer. stage writer ≡ record { weights = weights; has_head = false; entries_left = 0; is_open = false }) }
+        ensures rows { IfOk result (λ writer. rows_left writer ≡ 0) }
+        ensures back { IfErr result (λ given. given ≡ outlet) }
+    {
+        match make_buffer(alloc, 8 << (weights - 1)) {
+            Ok(buffer) => Ok(CertWriter {
+                outlet: FusedOutlet::new(outlet),
+                buffer,
+                weights,
+                has_head: false,
+                entries_left: 0,
+                is_open: false,
+                rows_left: 0,
+            }),
+            Err(_) => Err(outlet),
+        }
+    }
+
+    /// Writes the head, which announces so many entries.
+    ///
+    /// Refusals of this and each later call that writes: `Device` where a write fails, and a front of the
+    /// part went out, not all of it; `Failed` after a `Device`, and nothing is written.
+    pub fn begin(&mut self, entries: u32) -> Result<(), CertFault>
+        requires { has_head self.old ≡ false }
+        ensures ok { OnOk result (Appends (W.contents (outlet_writer (cert_outlet self.old))) (W.contents (outlet_writer (cert_outlet self.new))) (cert_head (cert_weights self.old) entries)) }
+        ensures device { IsErrOf result CertFault.Device → AppendsPart (W.contents (outlet_writer (cert_outlet self.old))) (W.contents (outlet_writer (cert_outlet self.new))) (cert_head (cert_weights self.old) entries) }
+        ensures failed { IsErrOf result CertFault.Failed ↔ (has_failed self.old ≡ true) }
+        ensures unchanged { IsErrOf result CertFault.Failed → self.new ≡ self.old }
+        ensures failures { outlet_failures (cert_outlet self.new) ≡ outlet_failures (cert_outlet self.old) + failed_parts result }
+        ensures refused { has_failed self.new ≡ not (is_ok result) }
+        ensures begun { OnOk result (stage self.new ≡ record (stage self.old) { has_head = true; entries_left = entries }) }
+        ensures kept { OnErr result (stage self.new ≡ stage self.old) }
+        ensures rows { rows_left self.new ≡ rows_left self.old }
+    {
+        self.outlet.put_all(&head_bytes(self.weights, entries))?;
+        self.has_head = true;
+        self.entries_left = entries;
+        Ok(())
+    }
+
+    /// Writes the start of the entry of the bridge after `cue` in `channel`, which announces a row for
+    /// each level of a bridge of `length` bits.
+    pub fn begin_bridge(&mut self, cue: u16, channel: u16, length: u16) -> Result<(), CertFault>
+        requires head { has_head self.old ≡ true }
+        requires entries { 0 < entries_left self.old }
+        requires open { is_open self.old ≡ false }
+        ensures ok { OnOk result (Appends (W.contents (outlet_writer (cert_outlet self.old))) (W.contents (outlet_writer (cert_outlet self.new))) (entry_start cue channel length)) }
+        ensures device { IsErrOf result CertFault.Device → AppendsPart (W.contents (outlet_writer (cert_outlet self.old))) (W.contents (outlet_writer (cert_outlet self.new))) (entry_start cue channel length) }
+        ensures failed { IsErrOf result CertFault.Failed ↔ (has_failed self.old ≡ true) }
+        ensures unchanged { IsErrOf result CertFault.Failed → self.new ≡ self.old }
+        ensures failures { outlet_failures (cert_outlet self.new) ≡ outlet_failures (cert_outlet self.old) + failed_parts result }
+        ensures refused { has_failed self.new ≡ not (is_ok result) }
+        ensures begun { OnOk result (stage self.new ≡ record (stage self.old) { entries_left = entries_left self.old - 1; is_open = true }) }
+        ensures kept { OnErr result (stage self.new ≡ stage self.old) }
+        ensures rows { OnOk result (rows_left self.new ≡ length + 1) }
+        ensures rows_kept { OnErr result (rows_left self.new ≡ rows_left self.old) }
+    {
+        self.outlet.put_all(&start_bytes(cue, channel, length))?;
+        self.entries_left -= 1;
+        self.is_open = true;
+        self.rows_left = u32::from(length) + 1;
+        Ok(())
+    }
+
+    /// Writes the row of the next level: `2^(K-1)` values by rising state, `K` being the number of weights.
+    /// After `Failed` the outlet is as it was.
+    pub fn level(&mut self, row: &[u64]) -> Result<(), CertFault>
+        requires rows { 0 < rows_left self.old }
+        requires row { length row.now ≡ row_length self.old }
+        ensures ok { OnOk result (Appends (W.contents (outlet_writer (cert_outlet self.old))) (W.contents (outlet_writer (cert_outlet self.new))) (row_text row.now)) }
+        ensures device { IsErrOf result CertFault.Device → AppendsPart (W.contents (outlet_writer (cert_outlet self.old))) (W.contents (outlet_writer (cert_outlet self.new))) (row_text row.now) }
+        ensures failed { IsErrOf result CertFault.Failed ↔ (has_failed self.old ≡ true) }
+        ensures unchanged { IsErrOf result CertFault.Failed → cert_outlet self.new ≡ cert_outlet self.old }
+        ensures failures { outlet_failures (cert_outlet self.new) ≡ outlet_failures (cert_outlet self.old) + failed_parts result }
+        ensures refused { has_failed self.new ≡ not (is_ok result) }
+        ensures kept { stage self.new ≡ stage self.old }
+        ensures rows { OnOk result (rows_left self.new + 1 ≡ rows_left self.old) }
+        ensures rows_kept { OnErr result (rows_left self.new ≡ rows_left self.old) }
+    {
+        put_row(row, &mut self.buffer);
+        self.outlet.put_all(&self.buffer)?;
+        self.rows_left -= 1;
+        Ok(())
+    }
+
+    /// Writes the cost of the bridge's bits, after all rows of its entry.
+    pub fn end_bridge(&mut self, cost: u64) -> Result<(), CertFault>
+        requires open { is_open self.old ≡ true }
+        requires rows { rows_left self.old ≡ 0 }
+        ensures ok { OnOk result (Appends (W.contents (outlet_writer (cert_outlet self.old))) (W.contents (outlet_writer (cert_outlet self.new))) (to_be_bytes w64 cost)) }
+        ensures device { IsErrOf result CertFault.Device → AppendsPart (W.contents (outlet_writer (cert_outlet self.old))) (W.contents (outlet_writer (cert_outlet self.new))) (to_be_bytes w64 cost) }
+        ensures failed { IsErrOf result CertFault.Failed ↔ (has_failed self.old ≡ true) }
+        ensures unchanged { IsErrOf result CertFault.Failed → self.new ≡ self.old }
+        ensures failures { outlet_failures (cert_outlet self.new) ≡ outlet_failures (cert_outlet self.old) + failed_parts result }
+        ensures refused { has_failed self.new ≡ not (is_ok result) }
+        ensures ended { OnOk result (stage self.new ≡ record (stage self.old) { is_open = false }) }
+        ensures kept { OnErr result (stage self.new ≡ stage self.old) }
+        ensures rows { rows_left self.new ≡ rows_left self.old }
+    {
+        self.outlet.put_all(&cost.to_be_bytes())?;
+        self.is_open = false;
+        Ok(())
+    }
+
+    /// Whether a write failed.
+    pub(crate) fn has_failed(&self) -> bool
+        ensures { result ≡ has_failed self.now }
+    {
+        self.outlet.has_failed()
+    }
+
+    /// The outlet, as it stands.
+    pub fn finish(self) -> Outlet<W>
+        ensures { result ≡ cert_outlet self }
+    {
+        let CertWriter {
+            outlet,
+            buffer: _,
+            weights: _,
+            has_head: _,
+            entries_left: _,
+            is_open: _,
+            rows_left: _,
+        } = self;
+        outlet.into_inner()
+    }
+}

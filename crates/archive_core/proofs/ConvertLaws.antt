@@ -2,7 +2,7 @@
 use Rattle.std.proofs.Common.{◌≡◌, ℕ, List, Some, Ok, Err, sym, ap, ◌∙◌}
 use Rattle.dsd_bits.specs.Contents.{Content}
 use Rattle.archive_core.specs.declared.fault.Fault.{Fault}
-use Rattle.archive_core.specs.declared.fault.Fault.TheVariants.{Project, NoDecimation, NoSplice, FileUnread, RateNotDivided, TooLarge, NotWholeBytes, Memory}
+use Rattle.archive_core.specs.declared.fault.Fault.TheVariants.{Project, NoDecimation, NoSplice, TakeNumber, TakeUnread, TakeMismatch, CueOutside, MasterTooLong, NoRoomBefore, NoRoomAfter, FileUnread, RateNotDivided, TooLarge, NotWholeBytes, Memory}
 use Rattle.archive_core.specs.declared.fault.ReadFault.{ReadFault}
 use Rattle.archive_core.specs.declared.fault.ReadFault.TheVariants as reads
 use Rattle.archive_core.specs.declared.form.Form.{Form}
@@ -36,6 +36,13 @@ write_stands file form source r NoDecimation holds h = absurd h
 write_stands file form source r NoSplice holds h = absurd h
 write_stands file form source r (FileUnread f) holds h = absurd h
 write_stands file form source r RateNotDivided holds h = absurd h
+write_stands file form source r TakeNumber holds h = absurd h
+write_stands file form source r (TakeUnread i f) holds h = absurd h
+write_stands file form source r (TakeMismatch i) holds h = absurd h
+write_stands file form source r (CueOutside i) holds h = absurd h
+write_stands file form source r MasterTooLong holds h = absurd h
+write_stands file form source r (NoRoomBefore i) holds h = absurd h
+write_stands file form source r (NoRoomAfter i) holds h = absurd h
 write_stands file form source r TooLarge holds h = absurd h
 
 pub write_refused : (form : Form) (r s : Content) (bytes : List ℕ) (dropped : ℕ) (e : Fault) → IsWriteFault form r e → r ≡ s → text_in form s ≡ Some bytes → AnswersConverted (Err e) bytes dropped
@@ -46,6 +53,13 @@ write_refused form r s bytes dropped NoDecimation h same text = absurd h
 write_refused form r s bytes dropped NoSplice h same text = absurd h
 write_refused form r s bytes dropped (FileUnread f) h same text = absurd h
 write_refused form r s bytes dropped RateNotDivided h same text = absurd h
+write_refused form r s bytes dropped TakeNumber h same text = absurd h
+write_refused form r s bytes dropped (TakeUnread i f) h same text = absurd h
+write_refused form r s bytes dropped (TakeMismatch i) h same text = absurd h
+write_refused form r s bytes dropped (CueOutside i) h same text = absurd h
+write_refused form r s bytes dropped MasterTooLong h same text = absurd h
+write_refused form r s bytes dropped (NoRoomBefore i) h same text = absurd h
+write_refused form r s bytes dropped (NoRoomAfter i) h same text = absurd h
 write_refused form r s bytes dropped TooLarge h same text = absurd h
 
 -- the recording that was read is the one that the file holds

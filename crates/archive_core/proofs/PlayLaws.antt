@@ -6,7 +6,7 @@ use Rattle.wave_core.specs.declared.fault.WaveFault.{WaveFault}
 use Rattle.wave_core.specs.declared.fault.WaveFault.TheVariants as waves
 use Rattle.wave_core.specs.Texts.{wave_text}
 use Rattle.archive_core.specs.declared.fault.Fault.{Fault}
-use Rattle.archive_core.specs.declared.fault.Fault.TheVariants.{Project, NoDecimation, NoSplice, FileUnread, RateNotDivided, TooLarge, NotWholeBytes, Memory}
+use Rattle.archive_core.specs.declared.fault.Fault.TheVariants.{Project, NoDecimation, NoSplice, TakeNumber, TakeUnread, TakeMismatch, CueOutside, MasterTooLong, NoRoomBefore, NoRoomAfter, FileUnread, RateNotDivided, TooLarge, NotWholeBytes, Memory}
 use Rattle.archive_core.specs.declared.fault.ReadFault.{ReadFault}
 use Rattle.archive_core.specs.declared.fault.ReadFault.TheVariants as reads
 use Rattle.archive_core.specs.declared.form.Form.{Form}
@@ -24,6 +24,13 @@ project_stands project file NoDecimation h = h
 project_stands project file NoSplice h = absurd h
 project_stands project file (FileUnread f) h = absurd h
 project_stands project file RateNotDivided h = absurd h
+project_stands project file TakeNumber h = absurd h
+project_stands project file (TakeUnread i f) h = absurd h
+project_stands project file (TakeMismatch i) h = absurd h
+project_stands project file (CueOutside i) h = absurd h
+project_stands project file MasterTooLong h = absurd h
+project_stands project file (NoRoomBefore i) h = absurd h
+project_stands project file (NoRoomAfter i) h = absurd h
 project_stands project file TooLarge h = absurd h
 project_stands project file NotWholeBytes h = absurd h
 project_stands project file Memory h = tt
@@ -34,6 +41,13 @@ project_refused project file bytes NoDecimation h plays = h plays.decimator play
 project_refused project file bytes NoSplice h plays = h plays.decimator plays.project_says
 project_refused project file bytes (FileUnread f) h plays = h plays.decimator plays.project_says
 project_refused project file bytes RateNotDivided h plays = h plays.decimator plays.project_says
+project_refused project file bytes TakeNumber h plays = h plays.decimator plays.project_says
+project_refused project file bytes (TakeUnread i f) h plays = h plays.decimator plays.project_says
+project_refused project file bytes (TakeMismatch i) h plays = h plays.decimator plays.project_says
+project_refused project file bytes (CueOutside i) h plays = h plays.decimator plays.project_says
+project_refused project file bytes MasterTooLong h plays = h plays.decimator plays.project_says
+project_refused project file bytes (NoRoomBefore i) h plays = h plays.decimator plays.project_says
+project_refused project file bytes (NoRoomAfter i) h plays = h plays.decimator plays.project_says
 project_refused project file bytes TooLarge h plays = h plays.decimator plays.project_says
 project_refused project file bytes NotWholeBytes h plays = h plays.decimator plays.project_says
 project_refused project file bytes Memory h plays = tt

@@ -1,4 +1,5 @@
 -- Which fault of a call a fault of a lower call becomes.
+use Rattle.std.specs.Prelude.{ℕ}
 use Rattle.dsdiff_core.specs.declared.fault.DsdiffFault.{DsdiffFault}
 use Rattle.dsdiff_core.specs.declared.fault.DsdiffFault.TheVariants as dsdiffs
 use Rattle.dsdiff_core.specs.declared.write_fault.WriteFault.{WriteFault}
@@ -12,7 +13,7 @@ use Rattle.wave_core.specs.declared.fault.WaveFault.TheVariants as waves
 use Rattle.archive_core.specs.declared.fault.ReadFault.{ReadFault}
 use Rattle.archive_core.specs.declared.fault.ReadFault.TheVariants as reads
 use Rattle.archive_core.specs.declared.fault.Fault.{Fault}
-use Rattle.archive_core.specs.declared.fault.Fault.TheVariants.{Project, FileUnread, TooLarge, NotWholeBytes, Memory}
+use Rattle.archive_core.specs.declared.fault.Fault.TheVariants.{Project, FileUnread, TakeUnread, TooLarge, NotWholeBytes, Memory}
 
 -- of a DSDIFF file: one that isn't a DSDIFF file has no form that is known
 abbrev pub dsdiff_fault : DsdiffFault → ReadFault
@@ -35,6 +36,11 @@ fault_of_project fault = Project fault
 abbrev pub fault_of_file : ReadFault → Fault
 fault_of_file reads.Memory = Memory
 fault_of_file fault = FileUnread fault
+
+-- of the file of a take
+abbrev pub fault_of_take : ℕ → ReadFault → Fault
+fault_of_take number reads.Memory = Memory
+fault_of_take number fault = TakeUnread number fault
 
 -- of the WAVE text
 abbrev pub fault_of_wave : WaveFault → Fault

@@ -1,8 +1,17 @@
+pub mod Checking
+pub mod Choosing
+pub mod Claims
 pub mod Converting
+pub mod Cuts
+pub mod Editing
 pub mod Faults
 pub mod Forms
 pub mod Frames
+pub mod Masters
 pub mod Opening
 pub mod Playing
 pub mod Projects
+pub mod Rooms
+pub mod Takes
+pub mod Titles
 pub mod Writing

@@ -4,14 +4,16 @@ use Rattle.dsd_bits.specs.Contents.{Content}
 use Rattle.archive_core.specs.declared.fault.Fault.{Fault}
 use Rattle.archive_core.specs.declared.fault.Fault.TheVariants.{NotWholeBytes, Memory}
 use Rattle.archive_core.specs.declared.form.Form.{Form}
+use Rattle.archive_core.specs.declared.form.Form.TheVariants.{Dsdiff}
 use Rattle.archive_core.specs.Forms.{Holds, text_in}
 
--- the bytes are a file of the form with the rate and the channels of the recording
+-- the bytes are a file of the form with the rate and the channels of the recording, and with its marks where the form has marks
 pub record HoldsSound (form : Form) (recording : Content) (bytes : List ℕ) : Type 0 where
   pub again : Content
   pub holds : Holds bytes form again
   pub same_rate : again.rate ≡ recording.rate
   pub same_channels : again.channels ≡ recording.channels
+  pub same_marks : form ≡ Dsdiff → again.marks ≡ recording.marks
 
 -- a refusal of writing: part of a byte where there is no text, or want of memory
 abbrev pub IsWriteFault : Form → Content → Fault → Type 0

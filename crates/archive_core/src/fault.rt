@@ -68,6 +68,27 @@ pub enum Fault {
     /// The file is not read as a recording.
     #[error("FileUnread {0}")]
     FileUnread(ReadFault),
+    /// There are not as many files as the project has takes.
+    #[error("TakeNumber")]
+    TakeNumber,
+    /// The file of the take of this number is not read as a recording.
+    #[error("TakeUnread {0} {1}")]
+    TakeUnread(usize, ReadFault),
+    /// The take of this number has another sample rate or another number of channels than take 0.
+    #[error("TakeMismatch {0}")]
+    TakeMismatch(usize),
+    /// The cue of this number stops behind the end of its take.
+    #[error("CueOutside {0}")]
+    CueOutside(usize),
+    /// The master would have more than `2^36` bits a channel.
+    #[error("MasterTooLong")]
+    MasterTooLong,
+    /// The cue behind the cue of this number starts too early in its take for the fade between them.
+    #[error("NoRoomBefore {0}")]
+    NoRoomBefore(usize),
+    /// The cue of this number stops too late in its take for the fade behind it.
+    #[error("NoRoomAfter {0}")]
+    NoRoomAfter(usize),
     /// The decimation factor doesn't divide the recording's sample rate.
     #[error("RateNotDivided")]
     RateNotDivided,

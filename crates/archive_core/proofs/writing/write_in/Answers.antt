@@ -4,10 +4,10 @@ use Rattle.dsf_core.specs.ReadAgain as dsf
 use Rattle.archive_core.proofs.writing.write_in.Goals as goal
 
 pub returns-in_ok-write-in-Dsdiff-clause-read_again : goal.returns-in_ok-write-in-Dsdiff-clause-read_again
-returns-in_ok-write-in-Dsdiff-clause-read_again c = rw c.in-Dsdiff.is (record { again = dsdiff.as_told c.args.recording.now; holds = c.in_ok-write-in-Dsdiff.ensures.read_again; same_rate = refl; same_channels = refl })
+returns-in_ok-write-in-Dsdiff-clause-read_again c = rw c.in-Dsdiff.is (record { again = dsdiff.as_told c.args.recording.now; holds = c.in_ok-write-in-Dsdiff.ensures.read_again; same_rate = refl; same_channels = refl; same_marks = λ e. refl })
 
 pub returns-in_ok-write-in-Dsf-clause-read_again : goal.returns-in_ok-write-in-Dsf-clause-read_again
-returns-in_ok-write-in-Dsf-clause-read_again c = rw c.in-Dsf.is (record { again = dsf.as_told c.args.recording.now; holds = c.in_ok-write-in-Dsf.ensures.read_again; same_rate = refl; same_channels = refl })
+returns-in_ok-write-in-Dsf-clause-read_again c = rw c.in-Dsf.is (record { again = dsf.as_told c.args.recording.now; holds = c.in_ok-write-in-Dsf.ensures.read_again; same_rate = refl; same_channels = refl; same_marks = λ e. absurd cc })
 
 pub returns-in_ok-write-in-Dsf8-clause-read_again : goal.returns-in_ok-write-in-Dsf8-clause-read_again
-returns-in_ok-write-in-Dsf8-clause-read_again c = rw c.in-Dsf8.is (record { again = dsf.as_told c.args.recording.now; holds = c.in_ok-write-in-Dsf8.ensures.read_again; same_rate = refl; same_channels = refl })
+returns-in_ok-write-in-Dsf8-clause-read_again c = rw c.in-Dsf8.is (record { again = dsf.as_told c.args.recording.now; holds = c.in_ok-write-in-Dsf8.ensures.read_again; same_rate = refl; same_channels = refl; same_marks = λ e. absurd cc })

@@ -1,2 +1,5 @@
+pub mod Commands
+pub mod Files
 pub mod FormNames
+pub mod Limits
 pub mod Outcomes

@@ -1,26 +1,47 @@
 //! The program `dsdarc`: `play PROJECT IN OUT` plays a one-bit recording to a RIFF WAVE file,
-//! `convert FORM IN OUT` writes it in another form, and `info FILE` tells what a recording's file holds.
+//! `convert FORM IN OUT` writes it in another form, `edit FORM PROJECT MASTER CERT` cuts a master from takes and
+//! certifies it, `check PROJECT MASTER CERT` judges a master and its certificate, and `info FILE` tells what
+//! a recording's file holds.
 //!
-//! The work is done by `archive_core`, over the bytes of files; `words` reads the command line, `run` the
-//! files, and `outcome` says what is printed and with which status the program ends.
+//! The work is done by `archive_core`, over the bytes of files. `words` reads the command line; `run` does the
+//! command over a [`Folder`](folder::Folder), whose files `files` reads and writes whole; and `outcome` says
+//! what is printed and with which status the program ends. The folder is the [`Disk`](disk::Disk), and in
+//! tests one in memory.
 #![tactic(auto)]
 
+mod disk;
+#[cfg(test)]
+mod edit_tests;
+#[cfg(test)]
+mod file_tests;
+mod files;
+mod folder;
 mod form_names;
 mod info;
+mod limited;
+#[cfg(test)]
+mod memory_folder;
 mod outcome;
 mod run;
 #[cfg(test)]
+mod run_tests;
+#[cfg(test)]
+mod test_files;
+#[cfg(test)]
 mod tests;
+#[cfg(test)]
+mod watched_folder;
 mod words;
 
 use archive_core::Fault;
+use disk::Disk;
 use outcome::{Outcome, outcome_line, status};
 use std::io;
 use std::process::ExitCode;
 
 fn main(rt: HostRuntime) -> ExitCode {
     let outcome = match given_words(&rt) {
-        Ok(words) => run::run(&rt, words.as_slice()),
+        Ok(words) => run::run(rt.alloc(), words.as_slice(), &mut Disk::new(&rt)),
         Err(error) if error.kind() == io::ErrorKind::OutOfMemory => Fault::Memory.into(),
         Err(_) => Outcome::WrongWords,
     };
@@ -33,11 +54,15 @@ fn given_words(rt: &HostRuntime) -> io::Result<Vec<String>> {
     Ok(words)
 }
 
-// What was done goes to standard output, a fault to standard error.
+// What was done or judged goes to standard output, a fault to standard error.
 fn print(rt: &HostRuntime, outcome: &Outcome) -> io::Result<()> {
     let line = outcome_line(rt.alloc(), outcome)?;
     match outcome {
-        Outcome::Played(_) | Outcome::Converted(_) | Outcome::Info(_) => println!(rt; "{line}"),
-        _ => eprintln!(rt; "{line}"),
+        Outcome::Fault(_)
+        | Outcome::ReadFailed
+        | Outcome::WriteFailed
+        | Outcome::WrongWords
+        | Outcome::UnknownFormName => eprintln!(rt; "{line}"),
+        _ => println!(rt; "{line}"),
     }
 }

@@ -5,7 +5,7 @@ ghost use Rattle.dsdarc.specs.Outcomes.{ShowsDone, status_of};
 ghost use Rattle.dsdarc.specs.declared.outcome.Outcome.TheVariants as outcomes;
 
 use crate::info::info_lines;
-use archive_core::{Fault, Opened};
+use archive_core::{Fault, Opened, Reason};
 use std::alloc::{AllocError, Global};
 
 /// What a command came to.
@@ -15,6 +15,12 @@ pub enum Outcome {
     Played(u64),
     /// A file was converted; so many parts of its recording have no place in the other form.
     Converted(u64),
+    /// A master was cut; so much do the bridges of all its channels cost.
+    Edited(u128),
+    /// A master was accepted; so much do the bridges of all its channels cost.
+    Accepted(u128),
+    /// A master was rejected for this reason.
+    Rejected(Reason),
     /// A file was read, and its form and its recording are told of.
     Info(Opened),
     /// The call was refused.
@@ -45,6 +51,9 @@ pub fn outcome_line(alloc: Global, outcome: &Outcome) -> Result<String, AllocErr
     match outcome {
         Outcome::Played(count) => format!(in alloc; "played {count} bytes"),
         Outcome::Converted(dropped) => format!(in alloc; "converted dropped {dropped}"),
+        Outcome::Edited(total) => format!(in alloc; "edited total {total}"),
+        Outcome::Accepted(total) => format!(in alloc; "accepted total {total}"),
+        Outcome::Rejected(reason) => format!(in alloc; "rejected {reason}"),
         Outcome::Info(opened) => info_lines(alloc, opened),
         Outcome::Fault(fault) => format!(in alloc; "fault: {fault}"),
         Outcome::ReadFailed => format!(in alloc; "fault: ReadFailed"),
@@ -54,13 +63,18 @@ pub fn outcome_line(alloc: Global, outcome: &Outcome) -> Result<String, AllocErr
     }
 }
 
-/// The program's exit status: 0 where the command was done, 2 for a fault, 3 for words that are no
-/// command or name no form.
+/// The program's exit status: 0 where the command was done, 1 for a master that is rejected, 2 for a fault,
+/// 3 for words that are no command or name no form.
 pub fn status(outcome: &Outcome) -> u8
     ensures { result ≡ status_of outcome.now }
 {
     match outcome {
-        Outcome::Played(_) | Outcome::Converted(_) | Outcome::Info(_) => 0,
+        Outcome::Played(_)
+        | Outcome::Converted(_)
+        | Outcome::Edited(_)
+        | Outcome::Accepted(_)
+        | Outcome::Info(_) => 0,
+        Outcome::Rejected(_) => 1,
         Outcome::Fault(_) | Outcome::ReadFailed | Outcome::WriteFailed => 2,
         Outcome::WrongWords | Outcome::UnknownFormName => 3,
     }

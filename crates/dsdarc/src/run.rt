@@ -1,82 +1,156 @@
-//! Commands over files.
+//! Commands over the files of a folder.
 
+ghost use Rattle.std.specs.Prelude.{◌≡◌, IfErr, IfOk, IsTrue};
+ghost use Rattle.archive_core.specs.Takes.{bytes_of};
+ghost use Rattle.dsdarc.specs.Commands.{AreSources, ComesTo, EndsIn};
+
+use crate::files::{read_file, read_files, write_file};
+use crate::folder::Folder;
 use crate::outcome::Outcome;
 use crate::words::{Task, task_of};
-use archive_core::{Fault, Form, convert, play, read_any};
-use std::rt::Files;
-use std::{fs, io};
+use archive_core::{Fault, Form, Verdict, check, convert, edit, play, read_any, take_names};
+use std::alloc::Global;
 
-/// Does the command that the words ask for, the program's name first.
-pub fn run<R: Files + AllocGlobal>(rt: &R, words: &[String]) -> Outcome {
-    let done = match task_of(rt.alloc(), words) {
-        Ok(
-            Task::Play {
-                project,
-                input,
-                output,
-            },
-        ) => play_files(rt, project, input, output),
-        Ok(
-            Task::Convert {
-                form,
-                input,
-                output,
-            },
-        ) => convert_file(rt, form, input, output),
-        Ok(Task::Info { file }) => info_file(rt, file),
-        Err(outcome) => Err(outcome),
-    };
-    done.unwrap_or_else(|outcome| outcome)
+// The text of a project, and the files of the takes that it names.
+#[derive(Drop)]
+struct Sources {
+    project: Vec<u8>,
+    takes: Vec<Vec<u8>>,
+}
+
+/// Does the command that the words ask for, the program's name first. Each file is opened and read whole in
+/// the order in which the command names it, and a project's takes behind it by their numbers; the call of
+/// `archive_core` comes next, and only where it answers is a file created. The first fault is what the
+/// command comes to.
+pub fn run<F: Folder>(alloc: Global, words: &[String], folder: &mut F) -> Outcome
+    ensures { IsTrue (F.is_told folder.old) → ComesTo (F.file folder.old) (F.file folder.new) result }
+{
+    match task_of(alloc, words) {
+        Ok(task) => perform(alloc, task, folder).unwrap_or_else(|outcome| outcome),
+        Err(outcome) => outcome,
+    }
+}
+
+// Does a command.
+fn perform<F: Folder>(alloc: Global, task: Task, folder: &mut F) -> Result<Outcome, Outcome>
+    ensures { IsTrue (F.is_told folder.old) → EndsIn (F.file folder.old) (F.file folder.new) result }
+{
+    match task {
+        Task::Play {
+            project,
+            input,
+            output,
+        } => play_files(alloc, folder, project, input, output),
+        Task::Convert {
+            form,
+            input,
+            output,
+        } => convert_file(alloc, folder, form, input, output),
+        Task::Edit {
+            form,
+            project,
+            master,
+            cert,
+        } => edit_files(alloc, folder, form, project, master, cert),
+        Task::Check {
+            project,
+            master,
+            cert,
+        } => check_files(alloc, folder, project, master, cert),
+        Task::Info { file } => info_file(alloc, folder, file),
+    }
 }
 
 // Reads the project, then the recording, plays it and only then creates the WAVE file.
-fn play_files<R: Files + AllocGlobal>(
-    rt: &R,
+fn play_files<F: Folder>(
+    alloc: Global,
+    folder: &mut F,
     project: &str,
     input: &str,
     output: &str,
-) -> Result<Outcome, Outcome> {
-    let project = read_whole(rt, project)?;
-    let input = read_whole(rt, input)?;
-    let wave = play(rt.alloc(), &project, &input)?;
-    write_whole(rt, output, &wave)?;
+) -> Result<Outcome, Outcome>
+    ensures { IsTrue (F.is_told folder.old) → EndsIn (F.file folder.old) (F.file folder.new) result }
+{
+    let project = read_file(alloc, folder, project)?;
+    let input = read_file(alloc, folder, input)?;
+    let wave = play(alloc, &project, &input)?;
+    write_file(folder, output, &wave)?;
     Ok(Outcome::Played(wave.len() as u64))
 }
 
 // Reads a recording, converts it and only then creates the file in the other form.
-fn convert_file<R: Files + AllocGlobal>(
-    rt: &R,
+fn convert_file<F: Folder>(
+    alloc: Global,
+    folder: &mut F,
     form: Form,
     input: &str,
     output: &str,
-) -> Result<Outcome, Outcome> {
-    let input = read_whole(rt, input)?;
-    let converted = convert(rt.alloc(), &input, form)?;
-    write_whole(rt, output, &converted.bytes)?;
+) -> Result<Outcome, Outcome>
+    ensures { IsTrue (F.is_told folder.old) → EndsIn (F.file folder.old) (F.file folder.new) result }
+{
+    let input = read_file(alloc, folder, input)?;
+    let converted = convert(alloc, &input, form)?;
+    write_file(folder, output, &converted.bytes)?;
     Ok(Outcome::Converted(converted.dropped))
 }
 
-// Reads a file and the recording in it.
-fn info_file<R: Files + AllocGlobal>(rt: &R, file: &str) -> Result<Outcome, Outcome> {
-    let bytes = read_whole(rt, file)?;
-    let opened = read_any(rt.alloc(), &bytes).map_err(Fault::from)?;
-    Ok(Outcome::Info(opened))
+// Reads the project, then the takes that it names.
+fn read_sources<F: Folder>(alloc: Global, folder: &mut F, project: &str) -> Result<Sources, Outcome>
+    ensures same { F.file folder.new ≡ F.file folder.old }
+    ensures told { F.is_told folder.new ≡ F.is_told folder.old }
+    ensures sources { IfOk result (λ found. IsTrue (F.is_told folder.old) → AreSources (F.file folder.old) found.project.items (bytes_of found.takes.items)) }
+    ensures fault { IfErr result (λ fault. IsTrue (F.is_told folder.old) → ComesTo (F.file folder.old) (F.file folder.new) fault) }
+{
+    let project = read_file(alloc, folder, project)?;
+    let names = take_names(alloc, &project)?;
+    let takes = read_files(alloc, folder, &names)?;
+    Ok(Sources { project, takes })
 }
 
-// A file opened and read to its end.
-fn read_whole<R: Files + AllocGlobal>(rt: &R, name: &str) -> Result<Vec<u8>, Outcome> {
-    fs::read(rt, name).map_err(|e| failed(&e, Outcome::ReadFailed))
+// Reads the project and its takes, cuts the master and only then creates its file and that of its certificate.
+fn edit_files<F: Folder>(
+    alloc: Global,
+    folder: &mut F,
+    form: Form,
+    project: &str,
+    master: &str,
+    cert: &str,
+) -> Result<Outcome, Outcome>
+    ensures { IsTrue (F.is_told folder.old) → EndsIn (F.file folder.old) (F.file folder.new) result }
+{
+    let sources = read_sources(alloc, folder, project)?;
+    let edited = edit(alloc, &sources.project, &sources.takes, form)?;
+    write_file(folder, master, &edited.master)?;
+    write_file(folder, cert, &edited.cert)?;
+    Ok(Outcome::Edited(edited.total))
 }
 
-// A file created and written whole.
-fn write_whole<R: Files + AllocGlobal>(rt: &R, name: &str, bytes: &[u8]) -> Result<(), Outcome> {
-    fs::write(rt, name, bytes).map_err(|e| failed(&e, Outcome::WriteFailed))
-}
-
-// What a device's error comes to: want of memory is no fault of the device.
-fn failed(error: &io::Error, outcome: Outcome) -> Outcome {
-    if error.kind() == io::ErrorKind::OutOfMemory {
-        return Fault::Memory.into();
+// Reads the project and its takes, then a master and its certificate, and judges them.
+fn check_files<F: Folder>(
+    alloc: Global,
+    folder: &mut F,
+    project: &str,
+    master: &str,
+    cert: &str,
+) -> Result<Outcome, Outcome>
+    ensures { IsTrue (F.is_told folder.old) → EndsIn (F.file folder.old) (F.file folder.new) result }
+{
+    let sources = read_sources(alloc, folder, project)?;
+    let master = read_file(alloc, folder, master)?;
+    let cert = read_file(alloc, folder, cert)?;
+    match check(alloc, &sources.project, &sources.takes, &master, &cert)? {
+        Verdict::Accepted { total } => Ok(Outcome::Accepted(total)),
+        Verdict::Rejected(reason) => Ok(Outcome::Rejected(reason)),
     }
-    outcome
+}
+
+// Reads a file and the recording in it.
+fn info_file<F: Folder>(alloc: Global, folder: &mut F, file: &str) -> Result<Outcome, Outcome>
+    ensures { IsTrue (F.is_told folder.old) → EndsIn (F.file folder.old) (F.file folder.new) result }
+{
+    let bytes = read_file(alloc, folder, file)?;
+    match read_any(alloc, &bytes) {
+        Ok(opened) => Ok(Outcome::Info(opened)),
+        Err(fault) => Err(Fault::from(fault).into()),
+    }
 }

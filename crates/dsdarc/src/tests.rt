@@ -1,34 +1,12 @@
 //! What is printed, and what the words of a command line ask for.
 
 use crate::outcome::{Outcome, outcome_line, status};
+use crate::test_files::{FILE, TOLD, marked, words_of};
 use crate::words::{Task, task_of};
-use archive_core::{Fault, Form, ReadFault, convert, read_any};
-use chunk_core::{Order, push_chunk, push_u64};
+use archive_core::{Fault, Form, ReadFault, Reason, convert, read_any};
+use cert_core::CertReason;
 use std::alloc::{AllocError, Global};
 use std::test::Fail;
-
-// One channel at 2,822,400 Hz with the sound byte f0.
-const FILE: [u8; 128] = [
-    0x46, 0x52, 0x4d, 0x38, 0, 0, 0, 0, 0, 0, 0, 0x74, 0x44, 0x53, 0x44, 0x20, 0x46, 0x56, 0x45,
-    0x52, 0, 0, 0, 0, 0, 0, 0, 4, 1, 5, 0, 0, 0x50, 0x52, 0x4f, 0x50, 0, 0, 0, 0, 0, 0, 0, 0x46,
-    0x53, 0x4e, 0x44, 0x20, 0x46, 0x53, 0x20, 0x20, 0, 0, 0, 0, 0, 0, 0, 4, 0, 0x2b, 0x11, 0, 0x43,
-    0x48, 0x4e, 0x4c, 0, 0, 0, 0, 0, 0, 0, 6, 0, 1, 0x43, 0x30, 0x30, 0x30, 0x43, 0x4d, 0x50, 0x52,
-    0, 0, 0, 0, 0, 0, 0, 0x13, 0x44, 0x53, 0x44, 0x20, 0x0e, 0x6e, 0x6f, 0x74, 0x20, 0x63, 0x6f,
-    0x6d, 0x70, 0x72, 0x65, 0x73, 0x73, 0x65, 0x64, 0, 0x44, 0x53, 0x44, 0x20, 0, 0, 0, 0, 0, 0, 0,
-    1, 0xf0, 0,
-];
-
-// The file with a mark behind its sound.
-fn marked(alloc: Global) -> Result<Vec<u8>, AllocError> {
-    let mut mark = Vec::new(alloc);
-    push_chunk(&mut mark, *b"MARK", &[0; 22])?;
-    let mut file = Vec::new(alloc);
-    file.extend_from_slice(b"FRM8")?;
-    push_u64(&mut file, Order::Big, 162)?;
-    file.extend_from_slice(&FILE[12..])?;
-    push_chunk(&mut file, *b"DIIN", &mark)?;
-    Ok(file)
-}
 
 #[test]
 fn tells_of_files(rt: HostRuntime) -> Result<(), Fail> {
@@ -37,10 +15,7 @@ fn tells_of_files(rt: HostRuntime) -> Result<(), Fail> {
     let least = convert(alloc, &FILE, Form::Dsf)?;
     let most = convert(alloc, &FILE, Form::Dsf8)?;
     let cases = [
-        (
-            FILE.as_slice(),
-            "form dsdiff\nrate 2822400\nchannels 1\nsamples 8\nids 43303030\nlayout 1\nmarks 0\nothers 0\ntag 0",
-        ),
+        (FILE.as_slice(), TOLD),
         (
             &marked,
             "form dsdiff\nrate 2822400\nchannels 1\nsamples 8\nids 43303030\nlayout 1\nmarks 1\nmark 0 type 0 channel 0\nothers 0\ntag 0",
@@ -69,6 +44,52 @@ fn prints_outcomes(rt: HostRuntime) -> Result<(), Fail> {
     let cases = [
         (Outcome::Played(46), 0, "played 46 bytes"),
         (Outcome::Converted(2), 0, "converted dropped 2"),
+        (
+            Outcome::Edited(u128::MAX),
+            0,
+            "edited total 340282366920938463463374607431768211455",
+        ),
+        (Outcome::Accepted(4), 0, "accepted total 4"),
+        (
+            Outcome::Rejected(Reason::MasterUnread),
+            1,
+            "rejected MasterUnread",
+        ),
+        (
+            Outcome::Rejected(Reason::MasterShape),
+            1,
+            "rejected MasterShape",
+        ),
+        (
+            Outcome::Rejected(Reason::MasterLength),
+            1,
+            "rejected MasterLength",
+        ),
+        (
+            Outcome::Rejected(Reason::MasterMarks),
+            1,
+            "rejected MasterMarks",
+        ),
+        (
+            Outcome::Rejected(Reason::CuedBit(0, 0)),
+            1,
+            "rejected CuedBit 0 0",
+        ),
+        (
+            Outcome::Rejected(Reason::CertHead(CertReason::Cut)),
+            1,
+            "rejected CertHead Cut",
+        ),
+        (
+            Outcome::Rejected(Reason::Cert(0, CertReason::Step(1, 0))),
+            1,
+            "rejected Cert 0 Step 1 0",
+        ),
+        (
+            Outcome::Rejected(Reason::CertExtra),
+            1,
+            "rejected CertExtra",
+        ),
         (Outcome::Fault(unread), 2, "fault: FileUnread UnknownForm"),
         (
             Outcome::Fault(Fault::NoDecimation),
@@ -85,6 +106,12 @@ fn prints_outcomes(rt: HostRuntime) -> Result<(), Fail> {
             Outcome::Fault(Fault::NotWholeBytes),
             2,
             "fault: NotWholeBytes",
+        ),
+        (Outcome::Fault(Fault::TakeNumber), 2, "fault: TakeNumber"),
+        (
+            Outcome::Fault(Fault::MasterTooLong),
+            2,
+            "fault: MasterTooLong",
         ),
         (Outcome::Fault(Fault::Memory), 2, "fault: Memory"),
         (Outcome::ReadFailed, 2, "fault: ReadFailed"),
@@ -111,6 +138,8 @@ fn reads_words(rt: HostRuntime) -> Result<(), Fail> {
         &["dsdarc", "play", "p.toml", "in.dff", "out.wav", "more"],
         &["dsdarc", "record", "p.toml", "in.dff", "out.wav"],
         &["dsdarc", "convert", "wav", "in.dff"],
+        &["dsdarc", "edit", "dsdiff", "e.toml", "m.dff"],
+        &["dsdarc", "check", "e.toml", "m.dff"],
         &[],
     ];
     for texts in wrong {
@@ -141,6 +170,11 @@ fn reads_commands(rt: HostRuntime) -> Result<(), Fail> {
     let alloc = rt.alloc();
     let play = words_of(alloc, &["dsdarc", "play", "p.toml", "in.dff", "out.wav"])?;
     let convert = words_of(alloc, &["dsdarc", "convert", "dsf8", "in.dff", "out.dsf"])?;
+    let edit = words_of(
+        alloc,
+        &["dsdarc", "edit", "dsdiff", "e.toml", "m.dff", "c.cert"],
+    )?;
+    let check = words_of(alloc, &["dsdarc", "check", "e.toml", "m.dff", "c.cert"])?;
     let info = words_of(alloc, &["dsdarc", "info", "--", "-x"])?;
     let tasks = [
         (
@@ -159,6 +193,23 @@ fn reads_commands(rt: HostRuntime) -> Result<(), Fail> {
                 output: "out.dsf",
             },
         ),
+        (
+            edit,
+            Task::Edit {
+                form: Form::Dsdiff,
+                project: "e.toml",
+                master: "m.dff",
+                cert: "c.cert",
+            },
+        ),
+        (
+            check,
+            Task::Check {
+                project: "e.toml",
+                master: "m.dff",
+                cert: "c.cert",
+            },
+        ),
         (info, Task::Info { file: "-x" }),
     ];
     for (words, task) in tasks {
@@ -166,12 +217,4 @@ fn reads_commands(rt: HostRuntime) -> Result<(), Fail> {
         assert!(rt; found == task);
     }
     Ok(())
-}
-
-fn words_of(alloc: Global, texts: &[&str]) -> Result<Vec<String>, AllocError> {
-    let mut words = Vec::new(alloc);
-    for text in texts {
-        words.push(String::from_str(alloc, text)?)?;
-    }
-    Ok(words)
 }

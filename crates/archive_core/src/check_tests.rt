@@ -52,6 +52,18 @@ fn accepts_what_was_edited(rt: HostRuntime) -> Result<(), Fail> {
 }
 
 #[test]
+fn accepts_a_titled_master_of_each_form(rt: HostRuntime) -> Result<(), Fail> {
+    let alloc = rt.alloc();
+    let takes = takes(alloc)?;
+    for form in [Form::Dsdiff, Form::Dsf, Form::Dsf8] {
+        let Edited { master, cert, .. } = edit(alloc, SPLICE.as_bytes(), &takes, form)?;
+        let verdict = check(alloc, SPLICE.as_bytes(), &takes, &master, &cert)?;
+        assert_eq!(rt; verdict, Verdict::Accepted { total: 0 });
+    }
+    Ok(())
+}
+
+#[test]
 fn names_the_first_reason_in_a_certificate(rt: HostRuntime) -> Result<(), Fail> {
     let alloc = rt.alloc();
     let text = project(alloc, "1, 0", &CUES)?;

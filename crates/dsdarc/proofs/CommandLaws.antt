@@ -9,7 +9,7 @@ use Rattle.archive_core.specs.declared.fault.Fault as calls
 use Rattle.archive_core.specs.declared.form.Form.{Form}
 use Rattle.archive_core.specs.declared.verdict.Verdict.{Verdict}
 use Rattle.dsdarc.specs.Commands.{AreSources, ChecksFiles, ComesTo, CutsFile, EditsFiles, Judges, PlaysFiles}
-use Rattle.dsdarc.specs.Files.{AreFiles, Files, KeepsAllBut, KeepsOthers}
+use Rattle.dsdarc.specs.Files.{AreFiles, Files, KeepsOthers}
 use Rattle.dsdarc.specs.declared.outcome.Outcome.{Outcome}
 use Rattle.dsdarc.specs.declared.outcome.Outcome.TheVariants.{Fault, WriteFailed}
 

@@ -106,7 +106,7 @@ fn first_other(takes: &[Recording]) -> Option<usize>
     None
 }
 
-// Whether two takes have another rate or another number of channels.
+/// Whether two takes have another rate or another number of channels.
 pub fn differ(first: &Recording, take: &Recording) -> bool
     ensures alike { result ≡ false → AreAlike first.now take.now }
     ensures other { result ≡ true → AreAlike first.now take.now → ⊥ }

@@ -32,7 +32,7 @@ pub fn marks_in(
     }
 }
 
-// The marks of all titles.
+/// The marks of all titles.
 pub fn title_marks(alloc: Global, splice: &Splice, rate: u32) -> Result<Vec<Mark>, AllocError>
     requires rate { (1000000 ≤ rate) × (rate ≤ 50000000) }
     requires in_limit { master_length (splice_content splice.now).cues ≤ 2 ^ 36 }

@@ -13,7 +13,7 @@ ghost use Rattle.cert_core.specs.Reasons.{RowBounded};
 ghost use Rattle.cert_core.specs.Stops.{OnReason, failed_stops, CutBelow, InStart, InRows, InEnd, InEntry, ReadsRows};
 
 use crate::filling::fill;
-use crate::numbers::{number_in, start_numbers};
+use crate::numbers::{number_in, start_numbers, take_row};
 use crate::rows::{low_end, row_reason};
 use crate::stop::Stop;
 use crate::verdict::CertReason;
@@ -38,18 +38,26 @@ fn read_number<R: Read>(inlet: &mut Inlet<R>) -> Result<u64, Stop>
     Ok(number_in(bytes))
 }
 
-// A row of as many numbers as the old one has.
-fn read_row<R: Read>(inlet: &mut Inlet<R>, row: &mut Vec<u64>) -> Result<(), Stop>
-    requires { inlet_failures inlet.old < 2 ^ 64 - 1 }
+// A row of as many numbers as the old one has, read whole into a buffer of its bytes.
+fn read_row<R: Read>(
+    inlet: &mut Inlet<R>,
+    bytes: &mut Vec<u8>,
+    row: &mut Vec<u64>,
+) -> Result<(), Stop>
+    requires ready { inlet_failures inlet.old < 2 ^ 64 - 1 }
+    requires bytes { length bytes.old.items ≡ 8 * length row.old.items }
     ensures len { length row.new.items ≡ length row.old.items }
+    ensures bytes { length bytes.new.items ≡ length bytes.old.items }
     ensures values { OnOk result ((q : ℕ) → slice_index_or row.new.items q 0 < 2 ^ 64) }
     ensures ok { OnOk result (Consumes (R.remaining (inlet_reader inlet.old)) (R.remaining (inlet_reader inlet.new)) (row_text row.new.items)) }
     ensures cut { OnReason result (CutBelow (R.remaining (inlet_reader inlet.old)) (8 * length row.old.items)) }
     ensures failures { inlet_failures inlet.new ≡ inlet_failures inlet.old + failed_stops result }
 {
-    for place in 0..row.len() {
-        row[place] = read_number(inlet)?;
+    let count = fill(inlet, bytes)?;
+    if count < bytes.len() {
+        return Err(Stop::Reason(CertReason::Cut));
     }
+    take_row(bytes, row);
     Ok(())
 }
 
@@ -87,7 +95,14 @@ fn make_row(alloc: Global, count: usize) -> Result<Vec<u64>, AllocError>
     vec![in alloc; 0; count]
 }
 
-// The last row, after the rows of all levels. Two rows are held.
+// A buffer for the bytes of a row.
+fn make_buffer(alloc: Global, row: &[u64]) -> Result<Vec<u8>, AllocError>
+    ensures { IfOk result (λ bytes. length bytes.items ≡ 8 * length row.now) }
+{
+    vec![in alloc; 0; 8 * row.len()]
+}
+
+// The last row, after the rows of all levels. Two rows and the bytes of one are held.
 fn read_rows<R: Read>(
     alloc: Global,
     inlet: &mut Inlet<R>,
@@ -101,8 +116,9 @@ fn read_rows<R: Read>(
     let states = window.states();
     let mut previous = make_row(alloc, states)?;
     let mut row = make_row(alloc, states)?;
+    let mut bytes = make_buffer(alloc, &row)?;
     for level in 0..window.length() + 1 {
-        read_row(inlet, &mut row)?;
+        read_row(inlet, &mut bytes, &mut row)?;
         if let Some(reason) = row_reason(window, level, &previous, &row) {
             return Err(Stop::Reason(reason));
         }

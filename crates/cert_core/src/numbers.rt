@@ -63,3 +63,23 @@ pub fn put_row(row: &[u64], buffer: &mut [u8])
         buffer[8 * place..8 * place + 8].copy_from_slice(&value.to_be_bytes());
     }
 }
+
+/// Takes the numbers of a row out of their bytes.
+pub fn take_row(bytes: &[u8], row: &mut [u64])
+    requires { length bytes.now ≡ 8 * length row.old }
+    ensures { bytes.now ≡ row_text row.new }
+{
+    for place in 0..row.len() {
+        let at = 8 * place;
+        row[place] = number_in([
+            bytes[at],
+            bytes[at + 1],
+            bytes[at + 2],
+            bytes[at + 3],
+            bytes[at + 4],
+            bytes[at + 5],
+            bytes[at + 6],
+            bytes[at + 7],
+        ]);
+    }
+}

@@ -1,6 +1,6 @@
 //! Whether a recording is the master of a splice of takes, whatever its bridges.
 
-ghost use Rattle.std.specs.Prelude.{◌≡◌, ◌≢◌, ◌+◌, ◌<◌, ◌≤◌, ◌^◌, ◌++◌, All, IfOk, MatchOption, OnOk, false, length, map, true};
+ghost use Rattle.std.specs.Prelude.{◌≡◌, ◌≢◌, ◌+◌, ◌<◌, ◌≤◌, ◌^◌, ◌++◌, All, IfOk, MatchOption, OnOk, false, length, map, slice_index, true, ℕ};
 ghost use Rattle.dsd_bits.specs.Channels.{count_of};
 ghost use Rattle.dsd_bits.specs.Contents.{mark_content};
 ghost use Rattle.dsd_bits.specs.Shape.{HasShape};
@@ -167,10 +167,25 @@ fn first_difference(a: &Bits, b: &Bits) -> Option<usize>
     if a.as_bytes() == b.as_bytes() {
         return None;
     }
-    for place in 0..a.len() {
+    let start = 8 * equal_bytes(a.as_bytes(), b.as_bytes());
+    for place in start..a.len() {
         if a.get(place) != b.get(place) {
             return Some(place);
         }
     }
     None
+}
+
+// How many bytes two lists of one length have alike before the first that differ.
+fn equal_bytes(a: &[u8], b: &[u8]) -> usize
+    requires { length a.now ≡ length b.now }
+    ensures inside { result ≤ length a.now }
+    ensures alike { (i : ℕ) → i < result → slice_index a.now i ≡ slice_index b.now i }
+{
+    for place in 0..a.len() {
+        if a[place] != b[place] {
+            return place;
+        }
+    }
+    a.len()
 }

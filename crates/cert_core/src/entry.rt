@@ -13,7 +13,7 @@ ghost use Rattle.cert_core.specs.Reasons.{RowBounded};
 ghost use Rattle.cert_core.specs.Stops.{OnReason, failed_stops, CutBelow, InStart, InRows, InEnd, InEntry, ReadsRows};
 
 use crate::filling::fill;
-use crate::numbers::{number_in, start_numbers, take_row};
+use crate::numbers::{make_buffer, number_in, start_numbers, take_row};
 use crate::rows::{low_end, row_reason};
 use crate::stop::Stop;
 use crate::verdict::CertReason;
@@ -95,13 +95,6 @@ fn make_row(alloc: Global, count: usize) -> Result<Vec<u64>, AllocError>
     vec![in alloc; 0; count]
 }
 
-// A buffer for the bytes of a row.
-fn make_buffer(alloc: Global, row: &[u64]) -> Result<Vec<u8>, AllocError>
-    ensures { IfOk result (λ bytes. length bytes.items ≡ 8 * length row.now) }
-{
-    vec![in alloc; 0; 8 * row.len()]
-}
-
 // The last row, after the rows of all levels. Two rows and the bytes of one are held.
 fn read_rows<R: Read>(
     alloc: Global,
@@ -116,7 +109,7 @@ fn read_rows<R: Read>(
     let states = window.states();
     let mut previous = make_row(alloc, states)?;
     let mut row = make_row(alloc, states)?;
-    let mut bytes = make_buffer(alloc, &row)?;
+    let mut bytes = make_buffer(alloc, 8 * row.len())?;
     for level in 0..window.length() + 1 {
         read_row(inlet, &mut bytes, &mut row)?;
         if let Some(reason) = row_reason(window, level, &previous, &row) {

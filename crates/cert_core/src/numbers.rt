@@ -1,8 +1,10 @@
 //! Numbers as bytes, the highest byte first.
 
-ghost use Rattle.std.specs.Prelude.{◌≡◌, ◌*◌, ◌≤◌, length};
+ghost use Rattle.std.specs.Prelude.{◌≡◌, ◌*◌, ◌≤◌, length, IfOk};
 ghost use Rattle.std.specs.Int.{w32, w64, to_be_bytes};
 ghost use Rattle.cert_core.specs.Text.{row_text, entry_start, cert_head};
+
+use std::alloc::{AllocError, Global};
 
 /// The head of a certificate of version 1.
 pub fn head_bytes(weights: usize, entries: u32) -> [u8; 12]
@@ -82,4 +84,11 @@ pub fn take_row(bytes: &[u8], row: &mut [u64])
             bytes[at + 7],
         ]);
     }
+}
+
+/// A buffer of so many bytes.
+pub fn make_buffer(alloc: Global, count: usize) -> Result<Vec<u8>, AllocError>
+    ensures { IfOk result (λ buffer. length buffer.items ≡ count) }
+{
+    vec![in alloc; 0; count]
 }

@@ -8,17 +8,10 @@ ghost use Rattle.cert_core.specs.Text.{row_text, entry_start, cert_head};
 ghost use Rattle.cert_core.specs.Faults.{failed_parts};
 
 use crate::fused::{CertFault, FusedOutlet};
-use crate::numbers::{head_bytes, put_row, start_bytes};
+use crate::numbers::{head_bytes, make_buffer, put_row, start_bytes};
 use chunk_core::Outlet;
-use std::alloc::{AllocError, Global};
+use std::alloc::Global;
 use std::io::Write;
-
-// A buffer of so many bytes.
-fn make_buffer(alloc: Global, count: usize) -> Result<Vec<u8>, AllocError>
-    ensures { IfOk result (λ buffer. length buffer.items ≡ count) }
-{
-    vec![in alloc; 0; count]
-}
 
 /// A certificate that is written to an outlet: [`begin`](CertWriter::begin), then for each entry
 /// [`begin_bridge`](CertWriter::begin_bridge), [`level`](CertWriter::level) for each row, and

@@ -10,7 +10,7 @@ use Rattle.cert_core.proofs.entry.read_rows.Goals as goal
 pub loop-level-init : goal.loop-level-init
 loop-level-init g c =
     let t = trellis_of c.args.window.now in
-    (RowsSoFar-none t _ c.in_ok-previous.previous.items (c.in_ok-previous.ensures ∙ c.states-states.ensures.value), c.in_ok-row.ensures ∙ c.states-states.ensures.value, omega (arith, c.in_ok-bytes.ensures, ap length c.deref.ensures.value, c.in_ok-row.ensures, c.states-states.ensures.value), refl)
+    (RowsSoFar-none t _ c.in_ok-previous.previous.items (c.in_ok-previous.ensures ∙ c.states-states.ensures.value), c.in_ok-row.ensures ∙ c.states-states.ensures.value, omega (arith, c.in_ok-bytes.ensures, c.len.ensures, c.in_ok-row.row.ok, c.in_ok-row.ensures, c.states-states.ensures.value), refl)
 
 pub returns-in_err-read_row-clause-reason : goal.returns-in_err-read_row-clause-reason
 returns-in_err-read_row-clause-reason g c =
@@ -22,7 +22,7 @@ returns-in_err-read_row-clause-reason g c =
 pub row_reason-requires-clause-limit : goal.row_reason-requires-clause-limit
 row_reason-requires-clause-limit g c =
     let t = trellis_of c.args.window.now in
-    λ some. subst (RowBounded t) (sym c.deref-in-loop-level.ensures.value) (RowsSoFar-bounded t _ _ c.loop-level.level c.loop-level.previous.items c.loop-level.invariant.0 some)
+    λ some. subst (RowBounded t) (sym c.deref.ensures.value) (RowsSoFar-bounded t _ _ c.loop-level.level c.loop-level.previous.items c.loop-level.invariant.0 some)
 
 pub returns-in-Some-clause-reason : goal.returns-in-Some-clause-reason
 returns-in-Some-clause-reason g c =
@@ -30,8 +30,8 @@ returns-in-Some-clause-reason g c =
     let so = c.loop-level.invariant in
     let reason = c.in-Some.reason in
     let w : RowReason t c.loop-level.level c.loop-level.previous.items c.read_row.new.row.items reason =
-    subst (λ p. RowReason t c.loop-level.level p c.read_row.new.row.items reason) c.deref-in-loop-level.ensures.value
-    (subst (λ r. RowReason t c.loop-level.level c.deref-in-loop-level.result.now r reason) c.deref-in-loop-level-2.ensures.value c.in-Some.ensures) in
+    subst (λ p. RowReason t c.loop-level.level p c.read_row.new.row.items reason) c.deref.ensures.value
+    (subst (λ r. RowReason t c.loop-level.level c.deref.result.now r reason) c.deref-in-loop-level.ensures.value c.in-Some.ensures) in
     RowsSoFar-fault t _ _ _ c.loop-level.level c.loop-level.previous.items c.read_row.new.row.items so.0 c.in_ok-read_row.ensures.ok (c.in_ok-read_row.ensures.len ∙ so.1) (omega (arith, c.length-level-end.ensures.value, c.loop-level-test.true)) c.in_ok-read_row.ensures.values reason w
 
 pub loop-level-preserved : goal.loop-level-preserved
@@ -40,8 +40,8 @@ loop-level-preserved g c =
     let so = c.loop-level.invariant in
     let row = c.read_row.new.row.items in
     let w : RowClean t c.loop-level.level c.loop-level.previous.items row =
-    subst (λ p. RowClean t c.loop-level.level p row) c.deref-in-loop-level.ensures.value
-    (subst (λ r. RowClean t c.loop-level.level c.deref-in-loop-level.result.now r) c.deref-in-loop-level-2.ensures.value c.in_default.ensures) in
+    subst (λ p. RowClean t c.loop-level.level p row) c.deref.ensures.value
+    (subst (λ r. RowClean t c.loop-level.level c.deref.result.now r) c.deref-in-loop-level.ensures.value c.in_default.ensures) in
     let long = c.in_ok-read_row.ensures.len ∙ so.1 in
     let more = RowsSoFar-more t _ _ _ c.loop-level.level c.loop-level.previous.items row so.0 c.in_ok-read_row.ensures.ok long w in
     let from = g.R.Read.remaining (inlet_reader c.args.inlet.now) in

@@ -1,5 +1,5 @@
 #!/usr/bin/env python3
-"""Writes a DSDIFF 1.5 file of a given size: make_dsdiff.py OUT MEGABYTES [CHANNELS]."""
+"""Writes a DSDIFF 1.5 file of a given size: make_dsdiff.py OUT MEGABYTES [CHANNELS [SEED]]."""
 import random
 import struct
 import sys
@@ -15,7 +15,8 @@ def main():
     out, megabytes = sys.argv[1], int(sys.argv[2])
     channels = int(sys.argv[3]) if len(sys.argv) > 3 else 2
     names = NAMES.get(channels, [b"C%03d" % c for c in range(channels)])
-    block = random.Random(1).randbytes(channels * 10_000)
+    seed = int(sys.argv[4]) if len(sys.argv) > 4 else 1
+    block = random.Random(seed).randbytes(channels * 10_000)
     sound = block * (megabytes * 1_000_000 // len(block))
     prop = (
         b"SND "

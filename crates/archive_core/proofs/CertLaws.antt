@@ -21,7 +21,8 @@ use Rattle.archive_core.specs.declared.verdict.Reason.{Reason}
 use Rattle.archive_core.specs.declared.verdict.Reason.TheVariants.{MasterUnread, MasterShape, MasterLength, MasterMarks, CuedBit, CertHead, Cert, CertExtra}
 use Rattle.archive_core.specs.declared.verdict.Verdict.{Verdict}
 use Rattle.archive_core.specs.declared.verdict.Verdict.TheVariants.{Rejected}
-use Rattle.archive_core.specs.Checking.{CertReasons, IsWrongFrom, JudgesBytes, JudgesClaim, JudgesClaims, JudgesHead, LacksClaim, ReadsEntries, ShowsBridges, ShowsClaims, claim_cost}
+use Rattle.archive_core.specs.Checking.{CertReasons}
+use Rattle.archive_core.specs.Judging.{IsWrongFrom, JudgesBytes, JudgesClaim, JudgesClaims, JudgesHead, LacksClaim, ReadsEntries, ShowsBridges, ShowsClaims, claim_cost}
 use Rattle.archive_core.specs.Claims.{IsCertOf, bridge_places, claim_at, claims}
 use Rattle.archive_core.specs.Takes.{take_at}
 

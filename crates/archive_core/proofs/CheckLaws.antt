@@ -27,7 +27,8 @@ use Rattle.archive_core.specs.declared.verdict.Reason.{Reason}
 use Rattle.archive_core.specs.declared.verdict.Reason.TheVariants.{MasterUnread, MasterShape, MasterLength, MasterMarks, CuedBit, CertHead, Cert, CertExtra}
 use Rattle.archive_core.specs.declared.verdict.Verdict.{Verdict}
 use Rattle.archive_core.specs.declared.verdict.Verdict.TheVariants.{Accepted, Rejected}
-use Rattle.archive_core.specs.Checking.{Accepts, AnswersAccepted, AreLeastBridges, CutReason, IfAccepted, IfRejected, IsCut, IsLeastFront, IsLeastMaster, IsNoRejection, JudgesMaster, RejectsFirst, WhereAccepted, rebuilt}
+use Rattle.archive_core.specs.Checking.{Accepts, AnswersAccepted, CutReason, IfAccepted, IfRejected, IsCut, IsLeastFront, IsLeastMaster, RejectsFirst, rebuilt}
+use Rattle.archive_core.specs.Judging.{AreLeastBridges, IsNoRejection, JudgesMaster, WhereAccepted}
 use Rattle.archive_core.specs.Claims.{IsCertOf, bridge_bits, bridge_places, bridge_start, claim_at, places_behind}
 use Rattle.archive_core.specs.Editing.{IsMaster}
 use Rattle.archive_core.specs.Forms.{Holds}

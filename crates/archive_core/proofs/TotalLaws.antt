@@ -17,7 +17,8 @@ use Rattle.cost_core.specs.Channels.{AreJoined, FadesJoin, HaveLengths, Part, Pl
 use Rattle.cost_core.specs.Fade.{cue_at}
 use Rattle.archive_core.specs.declared.verdict.Verdict.{Verdict}
 use Rattle.archive_core.specs.declared.verdict.Verdict.TheVariants.{Accepted, Rejected}
-use Rattle.archive_core.specs.Checking.{HoldCues, JudgesBytes, JudgesCert, claim_cost, rebuilt}
+use Rattle.archive_core.specs.Checking.{HoldCues, rebuilt}
+use Rattle.archive_core.specs.Judging.{JudgesBytes, JudgesCert, claim_cost}
 use Rattle.archive_core.specs.Claims.{bridge_bits, bridge_places, bridge_start, claim_at, claims, places_behind}
 use Rattle.archive_core.specs.Masters.{channel_numbers, channels_at, cost_of, cue_bits, part_at, parts_of, source_of, total}
 use Rattle.archive_core.specs.Takes.{FitTakes, master_length, span, take_at}

@@ -7,6 +7,7 @@ pub mod Editing
 pub mod Faults
 pub mod Forms
 pub mod Frames
+pub mod Judging
 pub mod Masters
 pub mod Opening
 pub mod Playing

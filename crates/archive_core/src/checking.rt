@@ -5,8 +5,9 @@ ghost use Rattle.dsd_bits.specs.Contents.{Content};
 ghost use Rattle.dsd_bits.specs.Shape.{HasShape};
 ghost use Rattle.project_core.specs.Splices.{splice_content};
 ghost use Rattle.archive_core.specs.declared.form.Form.{Form};
-ghost use Rattle.archive_core.specs.Checking as checks;
-ghost use Rattle.archive_core.specs.Checking.{Accepts, AnswersAccepted, AreLeastBridges, CheckStandsFirst, HoldsNothing, IfAccepted, IfRejected, IsCut, IsLeastMaster, IsNoRejection, JudgesMaster, RejectsFirst, WhereAccepted};
+ghost use Rattle.archive_core.specs.Judging as judging;
+ghost use Rattle.archive_core.specs.Checking.{Accepts, AnswersAccepted, CheckStandsFirst, HoldsNothing, IfAccepted, IfRejected, IsCut, IsLeastMaster, RejectsFirst};
+ghost use Rattle.archive_core.specs.Judging.{AreLeastBridges, IsNoRejection, JudgesMaster, WhereAccepted};
 ghost use Rattle.archive_core.specs.Claims.{IsCertOf};
 ghost use Rattle.archive_core.specs.Editing.{IsMaster};
 ghost use Rattle.archive_core.specs.Forms.{Holds};
@@ -79,7 +80,7 @@ fn open_master(alloc: Global, file: &[u8]) -> Result<Option<Opened>, AllocError>
 
 // Whether a refusal is want of memory.
 fn is_memory(fault: &ReadFault) -> bool
-    ensures { result ≡ checks.is_memory fault.now }
+    ensures { result ≡ judging.is_memory fault.now }
 {
     match fault {
         ReadFault::Memory => true,

@@ -2,7 +2,7 @@ use Rattle.std.proofs.Common.{◌≡◌, ◌∙◌, IfOk, Some, ap, length, subs
 use Rattle.std.specs.List.{All}
 use Rattle.chunk_core.specs.Inlets.{inlet_reader}
 use Rattle.project_core.specs.Splices.{splice_content}
-use Rattle.archive_core.specs.Checking.{JudgesBytes}
+use Rattle.archive_core.specs.Judging.{JudgesBytes}
 use Rattle.archive_core.specs.Takes.{master_length}
 use Rattle.archive_core.proofs.CutLaws.{splicing}
 use Rattle.archive_core.proofs.TotalLaws.{judged_whole, places_are_total}

@@ -6,7 +6,7 @@ use Rattle.std.proofs.lemmas.List.Sums.{sum_by_more}
 use Rattle.chunk_core.specs.Inlets.{inlet_reader}
 use Rattle.project_core.specs.Splices.{splice_content}
 use Rattle.cert_core.specs.Readers.{cert_inlet}
-use Rattle.archive_core.specs.Checking.{IsLeastClaim, JudgesClaim, LacksClaim, ReadsEntries, ShowsClaim, claim_cost}
+use Rattle.archive_core.specs.Judging.{IsLeastClaim, JudgesClaim, LacksClaim, ReadsEntries, ShowsClaim, claim_cost}
 use Rattle.archive_core.specs.Claims.{claim_at}
 use Rattle.archive_core.proofs.CertLaws.{lacks_one, shown_more}
 use Rattle.archive_core.proofs.certifying.check_entries.Goals as goal

@@ -3,7 +3,7 @@ use Rattle.std.specs.List.{All, sum_by}
 use Rattle.chunk_core.specs.Inlets.{inlet_failures, inlet_reader}
 use Rattle.project_core.specs.Splices.{splice_content}
 use Rattle.cert_core.specs.Readers.{cert_inlet}
-use Rattle.archive_core.specs.Checking.{IsLeastClaim, ReadsEntries, claim_cost}
+use Rattle.archive_core.specs.Judging.{IsLeastClaim, ReadsEntries, claim_cost}
 use Rattle.archive_core.specs.Claims.{claim_at}
 use Rattle.archive_core.proofs.certifying.check_entries.Given as goal
 

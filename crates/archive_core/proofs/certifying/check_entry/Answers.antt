@@ -4,7 +4,7 @@ use Rattle.chunk_core.specs.Inlets.{inlet_reader}
 use Rattle.dsd_bits.specs.Shape.{HasShape}
 use Rattle.project_core.specs.Splices.{splice_content}
 use Rattle.cert_core.specs.Readers.{cert_inlet}
-use Rattle.archive_core.specs.Checking.{JudgesClaim}
+use Rattle.archive_core.specs.Judging.{JudgesClaim}
 use Rattle.archive_core.specs.Claims.{bridge_bits}
 use Rattle.archive_core.specs.Masters.{channels_at, part_at}
 use Rattle.archive_core.specs.Takes.{take_at}

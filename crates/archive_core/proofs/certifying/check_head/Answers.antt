@@ -1,7 +1,7 @@
 use Rattle.std.proofs.Common.{◌≡◌, arith, length, subst}
 use Rattle.chunk_core.specs.Inlets.{inlet_reader}
 use Rattle.cert_core.specs.Readers.{cert_inlet}
-use Rattle.archive_core.specs.Checking.{JudgesHead}
+use Rattle.archive_core.specs.Judging.{JudgesHead}
 use Rattle.archive_core.proofs.CertLaws.{head_judged}
 use Rattle.archive_core.proofs.certifying.check_head.Goals as goal
 

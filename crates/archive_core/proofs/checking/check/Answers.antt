@@ -2,7 +2,8 @@ use Rattle.std.proofs.Common.{◌≡◌, ◌∙◌, List, subst, sym}
 use Rattle.std.proofs.lemmas.Result.{err_from_is_err_and}
 use Rattle.dsd_bits.specs.Contents.{Content}
 use Rattle.project_core.specs.Splices.{SpliceContent, splice_content}
-use Rattle.archive_core.specs.Checking.{AreLeastBridges, HoldsNothing, IsCut, JudgesMaster, WhereAccepted}
+use Rattle.archive_core.specs.Checking.{HoldsNothing, IsCut}
+use Rattle.archive_core.specs.Judging.{AreLeastBridges, JudgesMaster, WhereAccepted}
 use Rattle.archive_core.specs.Claims.{IsCertOf}
 use Rattle.archive_core.specs.Opening.{IsOpened}
 use Rattle.archive_core.specs.Rooms.{HaveRoom}

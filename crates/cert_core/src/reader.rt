@@ -78,7 +78,8 @@ impl<R: Read> CertReader<R> {
     /// Reasons, in this order: `Cut` where the 6 bytes of its start aren't there, `Head` for another cue
     /// or channel, `Length`; for each level in turn `Cut`, `Bound`, at level 0 `Start`, at the others
     /// `Step` for the lowest such state; then `Cut`, `Cost`, and `End` for the lowest such state.
-    /// Refusals: `Device` where a read fails, `Memory`. Two rows of the table are held at a time.
+    /// Refusals: `Device` where a read fails, `Memory`. Two rows of the table are held at a time, and the
+    /// bytes of one, which are read whole.
     pub fn check_bridge(
         &mut self,
         alloc: Global,

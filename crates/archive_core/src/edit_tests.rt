@@ -8,13 +8,17 @@ use std::fmt::Write;
 use std::test::Fail;
 
 /// A cue: its take, its first bit, the place behind its last, and the bridge behind it.
-pub type CueNumbers = (usize, usize, usize, usize);
+pub(crate) type CueNumbers = (usize, usize, usize, usize);
 
 /// The cue of the first 8 bits of take 0 and the cue of take 1 behind it, with a bridge of one bit.
-pub const CUES: [CueNumbers; 2] = [(0, 0, 8, 1), (1, 2, 9, 0)];
+pub(crate) const CUES: [CueNumbers; 2] = [(0, 0, 8, 1), (1, 2, 9, 0)];
 
 /// A project of these weights and cues.
-pub fn project(alloc: Global, weights: &str, cues: &[CueNumbers]) -> Result<String, AllocError> {
+pub(crate) fn project(
+    alloc: Global,
+    weights: &str,
+    cues: &[CueNumbers],
+) -> Result<String, AllocError> {
     let mut text = format!(in alloc;
         "[splice]\nweights = [{weights}]\ntakes = [\"a.dff\", \"b.dff\"]\n"
     )?;
@@ -28,12 +32,12 @@ pub fn project(alloc: Global, weights: &str, cues: &[CueNumbers]) -> Result<Stri
 }
 
 /// A file of one channel with this sound.
-pub fn mono(alloc: Global, sound: &[u8]) -> Result<Vec<u8>, AllocError> {
+pub(crate) fn mono(alloc: Global, sound: &[u8]) -> Result<Vec<u8>, AllocError> {
     file_of(alloc, &[&RATE, &MONO, &RAW], sound, &[])
 }
 
 /// A take of 16 ones and a take of 16 zeros.
-pub fn takes(alloc: Global) -> Result<Vec<Vec<u8>>, AllocError> {
+pub(crate) fn takes(alloc: Global) -> Result<Vec<Vec<u8>>, AllocError> {
     let ones = mono(alloc, &[0xff; 2])?;
     let zeros = mono(alloc, &[0; 2])?;
     Ok(vec![in alloc; ones, zeros]?)

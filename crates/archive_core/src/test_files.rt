@@ -4,16 +4,16 @@ use chunk_core::{Order, push_chunk, push_u32, push_u64};
 use std::alloc::{AllocError, Global};
 
 /// The chunks of a property at 2,822,400 Hz, of one channel and of two.
-pub const RATE: [u8; 16] = *b"FS  \0\0\0\0\0\0\0\x04\x00\x2b\x11\x00";
+pub(crate) const RATE: [u8; 16] = *b"FS  \0\0\0\0\0\0\0\x04\x00\x2b\x11\x00";
 
-pub const MONO: [u8; 18] = *b"CHNL\0\0\0\0\0\0\0\x06\0\x01C000";
+pub(crate) const MONO: [u8; 18] = *b"CHNL\0\0\0\0\0\0\0\x06\0\x01C000";
 
-pub const STEREO: [u8; 22] = *b"CHNL\0\0\0\0\0\0\0\x0a\0\x02SLFTSRGT";
+pub(crate) const STEREO: [u8; 22] = *b"CHNL\0\0\0\0\0\0\0\x0a\0\x02SLFTSRGT";
 
-pub const RAW: [u8; 32] = *b"CMPR\0\0\0\0\0\0\0\x13DSD \x0enot compressed\0";
+pub(crate) const RAW: [u8; 32] = *b"CMPR\0\0\0\0\0\0\0\x13DSD \x0enot compressed\0";
 
 /// A file with these chunks in its property, this sound, and what follows it.
-pub fn file_of(
+pub(crate) fn file_of(
     alloc: Global,
     parts: &[&[u8]],
     sound: &[u8],
@@ -38,7 +38,7 @@ pub fn file_of(
 }
 
 /// A `DIIN` chunk with a mark of so many zero bytes.
-pub fn marked(alloc: Global, size: usize) -> Result<Vec<u8>, AllocError> {
+pub(crate) fn marked(alloc: Global, size: usize) -> Result<Vec<u8>, AllocError> {
     let fields = vec![in alloc; 0; size]?;
     let mut mark = Vec::new(alloc);
     push_chunk(&mut mark, *b"MARK", &fields)?;
@@ -49,7 +49,7 @@ pub fn marked(alloc: Global, size: usize) -> Result<Vec<u8>, AllocError> {
 
 /// A DSF file at 2,822,400 Hz, of so many bits a channel and per sample, with this sound in so many bytes
 /// of blocks, and a tag.
-pub fn dsf_of(
+pub(crate) fn dsf_of(
     alloc: Global,
     (number, bits, count): (u32, u32, u64),
     sound: &[u8],
@@ -87,7 +87,7 @@ pub fn dsf_of(
 }
 
 /// Two takes, and the cues that are cut from them.
-pub const SPLICE: &str = "[splice]
+pub(crate) const SPLICE: &str = "[splice]
 weights = [1, 1]
 takes = [\"a.dff\", \"b.dff\"]
 [[splice.cue]]

@@ -10,14 +10,14 @@ use std::io::Cursor;
 
 /// Files in memory. It tells them.
 #[derive(Drop)]
-pub struct MemoryFolder {
+pub(crate) struct MemoryFolder {
     alloc: Global,
     files: BTreeMap<String, Vec<u8>>,
 }
 
 impl MemoryFolder {
     /// A folder without files.
-    pub fn new(alloc: Global) -> MemoryFolder {
+    pub(crate) fn new(alloc: Global) -> MemoryFolder {
         MemoryFolder {
             alloc,
             files: BTreeMap::new(alloc),
@@ -25,7 +25,7 @@ impl MemoryFolder {
     }
 
     /// Puts a file of these bytes under a name.
-    pub fn put(&mut self, name: &str, bytes: &[u8]) -> Result<(), AllocError> {
+    pub(crate) fn put(&mut self, name: &str, bytes: &[u8]) -> Result<(), AllocError> {
         let name = String::from_str(self.alloc, name)?;
         let mut file = Vec::new(self.alloc);
         file.extend_from_slice(bytes)?;
@@ -34,13 +34,13 @@ impl MemoryFolder {
     }
 
     /// The bytes of the file of a name, if there is one.
-    pub fn get(&self, name: &str) -> Option<&[u8]> {
+    pub(crate) fn get(&self, name: &str) -> Option<&[u8]> {
         let file = self.files.get(name)?;
         Some(file.as_slice())
     }
 
     /// How many files there are.
-    pub fn count(&self) -> usize {
+    pub(crate) fn count(&self) -> usize {
         self.files.len()
     }
 }

@@ -17,7 +17,7 @@ fn folder(alloc: Global) -> Result<MemoryFolder, AllocError> {
 }
 
 /// The status and the line that the words come to in this folder.
-pub fn line_of(
+pub(crate) fn line_of(
     alloc: Global,
     folder: &mut MemoryFolder,
     texts: &[&str],

@@ -4,7 +4,7 @@ use chunk_core::{Order, push_chunk, push_u64};
 use std::alloc::{AllocError, Global};
 
 /// One channel at 2,822,400 Hz with the sound byte f0.
-pub const FILE: [u8; 128] = [
+pub(crate) const FILE: [u8; 128] = [
     0x46, 0x52, 0x4d, 0x38, 0, 0, 0, 0, 0, 0, 0, 0x74, 0x44, 0x53, 0x44, 0x20, 0x46, 0x56, 0x45,
     0x52, 0, 0, 0, 0, 0, 0, 0, 4, 1, 5, 0, 0, 0x50, 0x52, 0x4f, 0x50, 0, 0, 0, 0, 0, 0, 0, 0x46,
     0x53, 0x4e, 0x44, 0x20, 0x46, 0x53, 0x20, 0x20, 0, 0, 0, 0, 0, 0, 0, 4, 0, 0x2b, 0x11, 0, 0x43,
@@ -15,19 +15,19 @@ pub const FILE: [u8; 128] = [
 ];
 
 /// What is told of the file.
-pub const TOLD: &str =
+pub(crate) const TOLD: &str =
     "form dsdiff\nrate 2822400\nchannels 1\nsamples 8\nids 43303030\nlayout 1\nmarks 0\nothers 0\ntag 0";
 
 /// A project that decimates by 8 with four taps.
-pub const PROJECT: &str =
+pub(crate) const PROJECT: &str =
     "[decimate]\ntaps = [1, 2, 3, 4]\nfactor = 8\ndelay = 3\nshift = 0\nwidth = 16\n";
 
 /// The WAVE file of the file's one sample, which is 10.
-pub const WAVE: [u8; 46] =
+pub(crate) const WAVE: [u8; 46] =
     *b"RIFF\x26\0\0\0WAVEfmt \x10\0\0\0\x01\0\x01\0\x20\x62\x05\0\x40\xc4\x0a\0\x02\0\x10\0data\x02\0\0\0\x0a\0";
 
 /// The file with a mark behind its sound.
-pub fn marked(alloc: Global) -> Result<Vec<u8>, AllocError> {
+pub(crate) fn marked(alloc: Global) -> Result<Vec<u8>, AllocError> {
     let mut mark = Vec::new(alloc);
     push_chunk(&mut mark, *b"MARK", &[0; 22])?;
     let mut file = Vec::new(alloc);
@@ -39,7 +39,7 @@ pub fn marked(alloc: Global) -> Result<Vec<u8>, AllocError> {
 }
 
 /// Two takes, and the cues that are cut from them.
-pub const SPLICE: &str = "[splice]
+pub(crate) const SPLICE: &str = "[splice]
 weights = [1, 1]
 takes = [\"a.dff\", \"b.dff\"]
 [[splice.cue]]
@@ -55,7 +55,7 @@ title = \"one\"
 ";
 
 /// A file of one channel with two bytes of this sound.
-pub fn sounding(alloc: Global, sound: &[u8]) -> Result<Vec<u8>, AllocError> {
+pub(crate) fn sounding(alloc: Global, sound: &[u8]) -> Result<Vec<u8>, AllocError> {
     let mut file = Vec::new(alloc);
     file.extend_from_slice(&FILE[..114])?;
     push_chunk(&mut file, *b"DSD ", sound)?;
@@ -63,7 +63,7 @@ pub fn sounding(alloc: Global, sound: &[u8]) -> Result<Vec<u8>, AllocError> {
 }
 
 /// The same with a mark at the ninth sample with the text `one`.
-pub fn titled(alloc: Global, sound: &[u8]) -> Result<Vec<u8>, AllocError> {
+pub(crate) fn titled(alloc: Global, sound: &[u8]) -> Result<Vec<u8>, AllocError> {
     let mut mark = Vec::new(alloc);
     push_chunk(
         &mut mark,
@@ -80,7 +80,7 @@ pub fn titled(alloc: Global, sound: &[u8]) -> Result<Vec<u8>, AllocError> {
 }
 
 /// The words of a command line.
-pub fn words_of(alloc: Global, texts: &[&str]) -> Result<Vec<String>, AllocError> {
+pub(crate) fn words_of(alloc: Global, texts: &[&str]) -> Result<Vec<String>, AllocError> {
     let mut words = Vec::new(alloc);
     for text in texts {
         words.push(String::from_str(alloc, text)?)?;

@@ -11,7 +11,7 @@ use std::io::{Cursor, ErrorKind, Read, Write};
 
 /// What fails.
 #[derive(Clone, Copy)]
-pub enum Failure {
+pub(crate) enum Failure {
     /// Opening the file of this name.
     Open(&'static str),
     /// Reading the file of this name, at its end.
@@ -26,17 +26,17 @@ pub enum Failure {
 
 /// Files in memory, of which it tells nothing.
 #[derive(Drop)]
-pub struct WatchedFolder {
+pub(crate) struct WatchedFolder {
     /// The files.
-    pub files: MemoryFolder,
+    pub(crate) files: MemoryFolder,
     /// The calls, a line each.
-    pub calls: String,
+    pub(crate) calls: String,
     failure: Option<Failure>,
 }
 
 impl WatchedFolder {
     /// A folder without files, in which this fails.
-    pub fn new(alloc: Global, failure: Option<Failure>) -> WatchedFolder {
+    pub(crate) fn new(alloc: Global, failure: Option<Failure>) -> WatchedFolder {
         WatchedFolder {
             files: MemoryFolder::new(alloc),
             calls: String::new(alloc),
@@ -51,7 +51,7 @@ impl WatchedFolder {
 
 /// A file that may fail at its end.
 #[derive(Drop)]
-pub struct WatchedInput {
+pub(crate) struct WatchedInput {
     bytes: Cursor<Vec<u8>>,
     fails: bool,
 }
@@ -67,7 +67,7 @@ impl Read for WatchedInput {
 }
 
 /// A file that has room for so many bytes.
-pub struct WatchedOutput {
+pub(crate) struct WatchedOutput {
     bytes: Vec<u8>,
     room: usize,
 }

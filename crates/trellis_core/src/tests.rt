@@ -70,7 +70,7 @@ fn chooses(alloc: Global, window: Window, byte: u8, cost: u64) -> Result<bool, A
 
 /// The window by the weights 1 and `second` between a take whose bytes are all `byte` and one of the
 /// opposite bits.
-pub fn small(
+pub(crate) fn small(
     alloc: Global,
     second: i32,
     byte: u8,

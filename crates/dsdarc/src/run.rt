@@ -2,7 +2,7 @@
 
 ghost use Rattle.std.specs.Prelude.{◌≡◌, IfErr, IfOk, IsTrue};
 ghost use Rattle.archive_core.specs.Takes.{bytes_of};
-ghost use Rattle.dsdarc.specs.Commands.{AreSources, ComesTo, EndsIn};
+ghost use Rattle.dsdarc.specs.Commands.{AreSources, CheckComesTo, ComesTo, ConvertComesTo, EditComesTo, Ends, InfoComesTo, PlayComesTo, SourcesUnread, TaskComesTo};
 
 use crate::files::{read_file, read_files, write_file};
 use crate::folder::Folder;
@@ -33,7 +33,7 @@ pub fn run<F: Folder>(alloc: Global, words: &[String], folder: &mut F) -> Outcom
 
 // Does a command.
 fn perform<F: Folder>(alloc: Global, task: Task, folder: &mut F) -> Result<Outcome, Outcome>
-    ensures { IsTrue (F.is_told folder.old) → EndsIn (F.file folder.old) (F.file folder.new) result }
+    ensures { IsTrue (F.is_told folder.old) → Ends result (TaskComesTo task.entry (F.file folder.old) (F.file folder.new)) }
 {
     match task {
         Task::Play {
@@ -69,7 +69,7 @@ fn play_files<F: Folder>(
     input: &str,
     output: &str,
 ) -> Result<Outcome, Outcome>
-    ensures { IsTrue (F.is_told folder.old) → EndsIn (F.file folder.old) (F.file folder.new) result }
+    ensures { IsTrue (F.is_told folder.old) → Ends result (PlayComesTo project.now input.now output.now (F.file folder.old) (F.file folder.new)) }
 {
     let project = read_file(alloc, folder, project)?;
     let input = read_file(alloc, folder, input)?;
@@ -86,7 +86,7 @@ fn convert_file<F: Folder>(
     input: &str,
     output: &str,
 ) -> Result<Outcome, Outcome>
-    ensures { IsTrue (F.is_told folder.old) → EndsIn (F.file folder.old) (F.file folder.new) result }
+    ensures { IsTrue (F.is_told folder.old) → Ends result (ConvertComesTo form input.now output.now (F.file folder.old) (F.file folder.new)) }
 {
     let input = read_file(alloc, folder, input)?;
     let converted = convert(alloc, &input, form)?;
@@ -98,8 +98,8 @@ fn convert_file<F: Folder>(
 fn read_sources<F: Folder>(alloc: Global, folder: &mut F, project: &str) -> Result<Sources, Outcome>
     ensures same { F.file folder.new ≡ F.file folder.old }
     ensures told { F.is_told folder.new ≡ F.is_told folder.old }
-    ensures sources { IfOk result (λ found. IsTrue (F.is_told folder.old) → AreSources (F.file folder.old) found.project.items (bytes_of found.takes.items)) }
-    ensures fault { IfErr result (λ fault. IsTrue (F.is_told folder.old) → ComesTo (F.file folder.old) (F.file folder.new) fault) }
+    ensures sources { IfOk result (λ found. IsTrue (F.is_told folder.old) → AreSources project.now (F.file folder.old) found.project.items (bytes_of found.takes.items)) }
+    ensures fault { IfErr result (λ fault. IsTrue (F.is_told folder.old) → SourcesUnread project.now (F.file folder.old) (F.file folder.new) fault) }
 {
     let project = read_file(alloc, folder, project)?;
     let names = take_names(alloc, &project)?;
@@ -116,7 +116,7 @@ fn edit_files<F: Folder>(
     master: &str,
     cert: &str,
 ) -> Result<Outcome, Outcome>
-    ensures { IsTrue (F.is_told folder.old) → EndsIn (F.file folder.old) (F.file folder.new) result }
+    ensures { IsTrue (F.is_told folder.old) → Ends result (EditComesTo (record { form = form; project_name = project.now; master_name = master.now; cert_name = cert.now }) (F.file folder.old) (F.file folder.new)) }
 {
     let sources = read_sources(alloc, folder, project)?;
     let edited = edit(alloc, &sources.project, &sources.takes, form)?;
@@ -133,7 +133,7 @@ fn check_files<F: Folder>(
     master: &str,
     cert: &str,
 ) -> Result<Outcome, Outcome>
-    ensures { IsTrue (F.is_told folder.old) → EndsIn (F.file folder.old) (F.file folder.new) result }
+    ensures { IsTrue (F.is_told folder.old) → Ends result (CheckComesTo project.now master.now cert.now (F.file folder.old) (F.file folder.new)) }
 {
     let sources = read_sources(alloc, folder, project)?;
     let master = read_file(alloc, folder, master)?;
@@ -146,7 +146,7 @@ fn check_files<F: Folder>(
 
 // Reads a file and the recording in it.
 fn info_file<F: Folder>(alloc: Global, folder: &mut F, file: &str) -> Result<Outcome, Outcome>
-    ensures { IsTrue (F.is_told folder.old) → EndsIn (F.file folder.old) (F.file folder.new) result }
+    ensures { IsTrue (F.is_told folder.old) → Ends result (InfoComesTo file.now (F.file folder.old) (F.file folder.new)) }
 {
     let bytes = read_file(alloc, folder, file)?;
     match read_any(alloc, &bytes) {

@@ -14,7 +14,7 @@ use Rattle.archive_core.specs.Faults.{fault_of_file}
 use Rattle.archive_core.specs.Opening.{IsOpened, Opens, opened_of}
 use Rattle.archive_core.specs.Playing.{Plays, StandsFirst}
 use Rattle.archive_core.specs.Projects.{SaysTakes, SpliceStandsFirst}
-use Rattle.dsdarc.specs.Files.{AreFiles, Files, KeepsAllBut, KeepsOthers}
+use Rattle.dsdarc.specs.Files.{AreFiles, Files, IsFront, KeepsAllBut, KeepsOthers}
 use Rattle.dsdarc.specs.declared.outcome.Outcome.{Outcome}
 use Rattle.dsdarc.specs.declared.outcome.Outcome.TheVariants.{Played, Converted, Edited, Accepted, Rejected, Info, Fault, ReadFailed, WriteFailed, WrongWords, UnknownFormName}
 use Rattle.dsdarc.specs.declared.words.Task.{Task}
@@ -32,12 +32,33 @@ pub record PlaysFiles (project_name file_name output_name : List ℕ) (old new :
   pub plays : Plays project file bytes
   pub counted : count ≡ length bytes
 
+-- the output is as it was, or holds a front of what the project plays of the file of a recording; no other file changed
+pub record PlaysFront (project_name file_name output_name : List ℕ) (old new : Files) : Type 0 where
+  pub project : List ℕ
+  pub file : List ℕ
+  pub bytes : List ℕ
+  pub project_stands : old project_name ≡ Some project
+  pub file_stands : old file_name ≡ Some file
+  pub front : IsFront (old output_name) (new output_name) bytes
+  pub others : KeepsOthers output_name old new
+  pub plays : Plays project file bytes
+
 -- the output holds now what the file of a recording is converted to, without so many parts of it; no other file changed
 pub record ConvertsFile (form : Form) (file_name output_name : List ℕ) (old new : Files) (dropped : ℕ) : Type 0 where
   pub file : List ℕ
   pub bytes : List ℕ
   pub file_stands : old file_name ≡ Some file
   pub output_stands : new output_name ≡ Some bytes
+  pub others : KeepsOthers output_name old new
+  pub converts : Converts file form bytes dropped
+
+-- the output is as it was, or holds a front of what the file of a recording is converted to; no other file changed
+pub record ConvertsFront (form : Form) (file_name output_name : List ℕ) (old new : Files) : Type 0 where
+  pub file : List ℕ
+  pub bytes : List ℕ
+  pub dropped : ℕ
+  pub file_stands : old file_name ≡ Some file
+  pub front : IsFront (old output_name) (new output_name) bytes
   pub others : KeepsOthers output_name old new
   pub converts : Converts file form bytes dropped
 
@@ -72,13 +93,27 @@ pub record EditsFiles (cut : Cut) (old new : Files) (total : ℕ) : Type 0 where
   pub cert_stands : new cut.cert_name ≡ Some cert
   pub accepted : Accepts project takes master cert total
 
--- a master was cut, and what the certificate's file holds is not said
-pub record LeavesMaster (cut : Cut) (old new : Files) : Type 0 where
+-- the master's file is as it was, or holds a front of the master that was cut; no other file changed
+pub record CutsFront (cut : Cut) (old new : Files) : Type 0 where
   pub project : List ℕ
   pub takes : List (List ℕ)
   pub master : List ℕ
   pub total : ℕ
+  pub sources : AreSources cut.project_name old project takes
+  pub front : IsFront (old cut.master_name) (new cut.master_name) master
+  pub others : KeepsOthers cut.master_name old new
+  pub edits : Edits project takes cut.form master total
+
+-- a master was cut, and the certificate's file is as it was, or holds a front of a certificate with which it is accepted
+pub record LeavesMaster (cut : Cut) (old new : Files) : Type 0 where
+  pub project : List ℕ
+  pub takes : List (List ℕ)
+  pub master : List ℕ
+  pub cert : List ℕ
+  pub total : ℕ
   pub cuts : CutsFile cut old new project takes master total
+  pub front : cut.cert_name ≢ cut.master_name → IsFront (old cut.cert_name) (new cut.cert_name) cert
+  pub accepted : Accepts project takes master cert total
 
 -- a master is accepted at this cost, or this reason stands first against it
 abbrev pub Judges : List ℕ → List (List ℕ) → List ℕ → List ℕ → Verdict → Type 0
@@ -151,7 +186,7 @@ abbrev pub PlayComesTo : List ℕ → List ℕ → List ℕ → Files → Files 
 PlayComesTo project input output old new (Played count) = PlaysFiles project input output old new count
 PlayComesTo project input output old new (Fault fault) = (new ≡ old) × ((fault ≡ Memory) ⊎ IsUnplayed project input old fault)
 PlayComesTo project input output old new ReadFailed = new ≡ old
-PlayComesTo project input output old new WriteFailed = KeepsOthers output old new
+PlayComesTo project input output old new WriteFailed = PlaysFront project input output old new
 PlayComesTo project input output old new _ = ⊥
 
 -- the files before and after `convert FORM IN OUT` came to this
@@ -159,7 +194,7 @@ abbrev pub ConvertComesTo : Form → List ℕ → List ℕ → Files → Files �
 ConvertComesTo form input output old new (Converted dropped) = ConvertsFile form input output old new dropped
 ConvertComesTo form input output old new (Fault fault) = (new ≡ old) × ((fault ≡ Memory) ⊎ IsUnconverted form input old fault)
 ConvertComesTo form input output old new ReadFailed = new ≡ old
-ConvertComesTo form input output old new WriteFailed = KeepsOthers output old new
+ConvertComesTo form input output old new WriteFailed = ConvertsFront form input output old new
 ConvertComesTo form input output old new _ = ⊥
 
 -- the project or a take that it names was not read for this, and no file changed
@@ -173,7 +208,7 @@ abbrev pub EditComesTo : Cut → Files → Files → Outcome → Type 0
 EditComesTo cut old new (Edited total) = EditsFiles cut old new total
 EditComesTo cut old new (Fault fault) = (new ≡ old) × ((fault ≡ Memory) ⊎ (IsUnnamed cut.project_name old fault ⊎ IsUncut cut.form cut.project_name old fault))
 EditComesTo cut old new ReadFailed = new ≡ old
-EditComesTo cut old new WriteFailed = KeepsOthers cut.master_name old new ⊎ LeavesMaster cut old new
+EditComesTo cut old new WriteFailed = CutsFront cut old new ⊎ LeavesMaster cut old new
 EditComesTo cut old new _ = ⊥
 
 -- the files before and after `check PROJECT MASTER CERT` came to this

@@ -1,6 +1,6 @@
 //! The recording that a file holds, whatever its form.
 
-ghost use Rattle.std.specs.Prelude.{◌≡◌, IfOk, List, Ok, ℕ};
+ghost use Rattle.std.specs.Prelude.{◌≡◌, IfOk, Ok};
 ghost use Rattle.dsd_bits.specs.declared.blocks.BitOrder.{BitOrder};
 ghost use Rattle.dsd_bits.specs.Contents.{Content};
 ghost use Rattle.dsf_core.specs.Reading.{recording_of};

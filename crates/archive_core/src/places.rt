@@ -1,6 +1,6 @@
 //! The places of a master's bridges, in the order of its certificate.
 
-ghost use Rattle.std.specs.Prelude.{◌≡◌, ◌+◌, ◌*◌, ◌<◌, ◌≤◌, ◌++◌, All, IfOk, OnOk, length};
+ghost use Rattle.std.specs.Prelude.{◌≡◌, ◌+◌, ◌<◌, ◌≤◌, ◌++◌, All, IfOk, OnOk, length};
 ghost use Rattle.project_core.specs.Splices.{splice_content};
 ghost use Rattle.archive_core.specs.Claims as claims;
 ghost use Rattle.archive_core.specs.Claims.{IsPlace, places_behind};

@@ -1,6 +1,6 @@
 //! What a project text says that a call needs.
 
-ghost use Rattle.std.specs.Prelude.{ℕ, List, IfErr, IfOk, map, string_bytes};
+ghost use Rattle.std.specs.Prelude.{ℕ, List, IfErr, IfOk};
 ghost use Rattle.fir_core.specs.Decimator.{Decimator};
 ghost use Rattle.project_core.specs.Splices.{SpliceContent, splice_content};
 ghost use Rattle.archive_core.specs.Projects.{AnswersThis, DecimatorStandsFirst, SaysDecimator, SaysSplice, SaysTakes, SpliceStandsFirst, names_of};

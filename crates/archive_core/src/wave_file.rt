@@ -1,6 +1,6 @@
 //! The WAVE file of a recording's samples.
 
-ghost use Rattle.std.specs.Prelude.{◌≡◌, ◌+◌, ◌*◌, ◌/◌, ◌%◌, ◌^◌, ◌<◌, ◌≤◌, ◌++◌, ◌↔◌, length, IfOk, OnOk, None, Some};
+ghost use Rattle.std.specs.Prelude.{◌≡◌, ◌+◌, ◌*◌, ◌/◌, ◌%◌, ◌<◌, ◌++◌, ◌↔◌, IfOk, OnOk, None, Some};
 ghost use Rattle.std.specs.List.{flat_map};
 ghost use Rattle.dsd_bits.specs.Channels.{IsLevel, count_of};
 ghost use Rattle.wave_core.specs.Texts.{sample_bytes, wave_text};

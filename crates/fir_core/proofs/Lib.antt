@@ -1,3 +1,11 @@
 pub mod Sums
 pub mod RoundingLemmas
+pub mod InPlace
 pub mod LimitLaws
+pub mod RowLaws
+pub mod StreamLaws
+pub mod SumOrder
+pub mod Dot
+pub mod TableLaws
+pub mod TileLaws
+pub mod WindowLaws

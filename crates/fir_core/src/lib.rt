@@ -19,12 +19,19 @@
 mod convolution;
 mod decimator;
 mod fault;
+mod kernel;
 mod rounding;
+mod rows;
+mod stream;
+mod tables;
 mod taps;
+mod tiles;
 
 pub use convolution::sum_at;
 pub use decimator::{decimate, sample};
 pub use fault::TapsFault;
+pub use kernel::{Kernel, decimate_with};
+pub use stream::Stream;
 pub use taps::Taps;
 
 #[cfg(test)]

@@ -1,0 +1,144 @@
+-- Runs of samples: in parts, and by the sums of windows.
+use Rattle.std.proofs.Common.{◌≡◌, ℕ, ◌+◌, ◌-◌, ◌*◌, ◌/◌, ◌%◌, ◌^◌, ◌<◌, ◌≤◌, ℤ, pos, inl, inr, unsigned_abs, Bool, List, ◌++◌, map, length, get_or, take, drop, replicate, reverse, sum_by, sym, ap, ap₂, ◌∙◌, arith, length-append, length-drop}
+use Rattle.std.specs.Int.{div_ceil}
+use Rattle.std.proofs.Math.Nat.{mul-le-mul_right, mul_assoc}
+use Rattle.std.proofs.Math.Seq.{get_or-append_right}
+use Rattle.std.proofs.lemmas.Bool.{cases_lt}
+use Rattle.std.proofs.lemmas.Grind.{div_ceil_times}
+use Rattle.std.proofs.lemmas.List.{drop-drop, get_or_append_left, get_or-map, length-map, length-take}
+use Rattle.std.proofs.lemmas.List.FromFn.{fill_by_all, get_or-map-range_with_len, length-map-range_with_len}
+use Rattle.std.proofs.lemmas.Slice.{take-put_mid}
+use borrow.Rule.Slice.PartMut.{put_mid}
+use Rattle.dsd_bits.specs.Packing.{unpacked}
+use Rattle.fir_core.specs.Convolution.{conv}
+use Rattle.fir_core.specs.Decimator.{Decimator}
+use Rattle.fir_core.specs.Places.{sample_of, samples_from}
+use Rattle.fir_core.specs.Rounding.{round_clip}
+use Rattle.fir_core.specs.Signed.{bits_of, dot}
+use Rattle.fir_core.specs.Windows.{aligned, window_size, window_sum, window_sums}
+use Rattle.fir_core.proofs.Dot.{dot_bound}
+use Rattle.fir_core.proofs.WindowLaws.{conv_by_window, length-aligned}
+
+pub next_product : (i n f : ℕ) → i < n → i * f + f ≤ n * f
+next_product i n f h = let e : (i + 1) * f ≤ n * f = mul-le-mul_right f (omega arith) in omega arith
+
+-- a number of places that is rounded up
+pub below_ceil : (i a f : ℕ) → 0 < f → i < div_ceil a f → i * f < a
+below_ceil i a f some h = omega (arith, next_product i (div_ceil a f) f h, div_ceil_times a f some)
+
+pub whole_step : (i factor : ℕ) → factor % 8 ≡ 0 → i * factor ≡ 8 * (i * (factor / 8))
+whole_step i factor whole =
+    let e : factor ≡ factor / 8 * 8 = omega arith in
+    let f : i * factor ≡ (i * (factor / 8)) * 8 = ap (λ m. i * m) e ∙ sym (mul_assoc i (factor / 8) 8) in
+    omega arith
+
+-- ---- a run in two parts
+pub length-samples : (d : Decimator) (bits : List Bool) (first number : ℕ) → length (samples_from d bits first number) ≡ number
+length-samples d bits first number = length-map-range_with_len (λ i. sample_of d bits (i * d.factor + first)) 0 number
+
+pub sample_in : (d : Decimator) (bits : List Bool) (first number i : ℕ) → i < number → get_or (samples_from d bits first number) i (pos 0) ≡ sample_of d bits (i * d.factor + first)
+sample_in d bits first number i h = get_or-map-range_with_len (λ j. sample_of d bits (j * d.factor + first)) 0 number i i (pos 0) h (omega arith)
+
+pub samples_split : (d : Decimator) (bits : List Bool) (first m n : ℕ) → samples_from d bits first m ++ samples_from d bits (m * d.factor + first) n ≡ samples_from d bits first (m + n)
+samples_split d bits first m n =
+    let front = samples_from d bits first m in
+    let back = samples_from d bits (m * d.factor + first) n in
+    let long = length-samples d bits first m in
+    fill_by_all (λ i. sample_of d bits (i * d.factor + first)) (front ++ back) (m + n) (pos 0)
+    (length-append front back ∙ ap₂ ◌+◌ long (length-samples d bits (m * d.factor + first) n))
+    (λ k h. elim (cases_lt k m) [
+      | inl below ↦ get_or_append_left front back (pos 0) k (omega arith) ∙ sample_in d bits first m k below
+      | inr past ↦
+          let part : (k - m) * d.factor + (m * d.factor + first) ≡ k * d.factor + first =
+          (let e : (k - m) + m ≡ k = omega arith in let f = ap (λ (x : ℕ). x * d.factor) e in omega arith) in
+          get_or-append_right front back k (pos 0) (omega arith) ∙ ap (λ j. get_or back (k - j) (pos 0)) long ∙ sample_in d bits (m * d.factor + first) n (k - m) (omega arith) ∙ ap (sample_of d bits) part
+    ])
+
+-- ---- the sums of windows
+aligned_by_phase : (h : List ℤ) (n m : ℕ) → n % 8 ≡ m % 8 → aligned h n ≡ aligned h m
+aligned_by_phase h n m e =
+    ap (λ (r : ℕ). let b = 7 - r in let before = 8 * div_ceil (length h + b) 8 - (length h + b) in replicate before (pos 0) ++ reverse h ++ replicate b (pos 0)) e
+
+same_size : (number n m : ℕ) → n % 8 ≡ m % 8 → window_size number n ≡ window_size number m
+same_size number n m e = ap (λ r. div_ceil (number + (7 - r)) 8) e
+
+-- the convolution at a place of a run, from the bytes on with which the run's first window begins
+pub conv_in_run : (d : Decimator) (bytes : List ℕ) (count first i : ℕ) → d.factor % 8 ≡ 0 → first % 8 ≡ d.delay % 8 → window_size (length d.taps) d.delay ≤ first / 8 + 1 → i * d.factor + first < count → count ≤ 8 * length bytes
+    → conv d.taps (unpacked bytes count) (i * d.factor + first) ≡ window_sum (aligned d.taps d.delay) (drop (first / 8 + 1 - window_size (length d.taps) d.delay) bytes) (i * (d.factor / 8))
+conv_in_run d bytes count first i whole phase begins inside enough =
+    let n = i * d.factor + first in
+    let move = i * (d.factor / 8) in
+    let size = window_size (length d.taps) d.delay in
+    let at = first / 8 + 1 - size in
+    let product : i * d.factor ≡ 8 * move = whole_step i d.factor whole in
+    let same : n % 8 ≡ d.delay % 8 = omega arith in
+    let place : n / 8 + 1 ≡ (at + move) + size = omega arith in
+    conv_by_window d.taps bytes count n (at + move) (place ∙ ap (λ m. (at + move) + m) (sym (same_size (length d.taps) n d.delay same))) inside enough
+    ∙ ap (λ hs. window_sum hs bytes (at + move)) (aligned_by_phase d.taps n d.delay same)
+    ∙ ap (λ bs. dot (aligned d.taps d.delay) (bits_of bs)) (sym (drop-drop move at bytes))
+
+-- the window of a place of a run ends within the bytes
+pub window_within : (i factor first count size long : ℕ) → factor % 8 ≡ 0 → size ≤ first / 8 + 1 → i * factor + first < count → count ≤ 8 * long → i * (factor / 8) + size + (first / 8 + 1 - size) ≤ long
+window_within i factor first count size long whole begins inside enough = omega (arith, whole_step i factor whole)
+
+pub length-sums : (hs : List ℤ) (bytes : List ℕ) (step number : ℕ) → length (window_sums hs bytes step number) ≡ number
+length-sums hs bytes step number = length-map-range_with_len (λ i. window_sum hs bytes (i * step)) 0 number
+
+pub small_windows : (hs : List ℤ) (bytes : List ℕ) (step number k : ℕ) → sum_by unsigned_abs hs ≤ 2 ^ 30 → k < number → unsigned_abs (get_or (window_sums hs bytes step number) k (pos 0)) ≤ 2 ^ 30
+small_windows hs bytes step number k small h =
+    rw (get_or-map-range_with_len (λ i. window_sum hs bytes (i * step)) 0 number k k (pos 0) h (omega arith)) (omega (arith, dot_bound hs (bits_of (drop (k * step) bytes))))
+
+pub run_by_windows : (d : Decimator) (bytes front : List ℕ) (count first number : ℕ) → d.factor % 8 ≡ 0 → first % 8 ≡ d.delay % 8 → window_size (length d.taps) d.delay ≤ first / 8 + 1 → ((i : ℕ) → i < number → i * d.factor + first < count) → count ≤ 8 * length bytes
+    → front ≡ drop (first / 8 + 1 - window_size (length d.taps) d.delay) bytes
+    → map (λ sum. round_clip sum d.shift d.width) (window_sums (aligned d.taps d.delay) front (d.factor / 8) number) ≡ samples_from d (unpacked bytes count) first number
+run_by_windows d bytes front count first number whole phase begins inside enough is =
+    let sums = window_sums (aligned d.taps d.delay) front (d.factor / 8) number in
+    let done : ℤ → ℤ = λ sum. round_clip sum d.shift d.width in
+    let long : length sums ≡ number = length-map-range_with_len (λ i. window_sum (aligned d.taps d.delay) front (i * (d.factor / 8))) 0 number in
+    fill_by_all (λ i. sample_of d (unpacked bytes count) (i * d.factor + first)) (map done sums) number (pos 0) (length-map sums done ∙ long)
+    (λ k h.
+    get_or-map done sums k (pos 0) (pos 0) (omega arith)
+    ∙ ap done (get_or-map-range_with_len (λ i. window_sum (aligned d.taps d.delay) front (i * (d.factor / 8))) 0 number k k (pos 0) h (omega arith)
+    ∙ ap (λ bs. window_sum (aligned d.taps d.delay) bs (k * (d.factor / 8))) is
+    ∙ sym (conv_in_run d bytes count first k whole phase begins (inside k h) enough)))
+
+-- how many bytes the aligned taps need
+pub size_is : (hs taps h : List ℤ) (n : ℕ) → hs ≡ taps → taps ≡ aligned h n → length hs / 8 ≡ window_size (length h) n
+size_is hs taps h n e f = omega (arith, ap length (e ∙ f), length-aligned h n)
+
+-- ---- where the windows lie within the bytes
+pub early_enough : (early factor first size : ℕ) → factor % 8 ≡ 0 → 8 ≤ factor → early ≡ div_ceil ((size - 1) - first / 8) (factor / 8) → size ≤ (early * factor + first) / 8 + 1
+early_enough early factor first size whole least is =
+    let a = (size - 1) - first / 8 in
+    let up = (div_ceil_times a (factor / 8) (omega arith)).0 in
+    let reaches : a ≤ early * (factor / 8) = rw is up in
+    omega (arith, whole_step early factor whole)
+
+pub late_enough : (i early late factor first count : ℕ) → 0 < factor → late ≤ div_ceil (count - first) factor → early ≤ late → i < late - early → i * factor + (early * factor + first) < count
+late_enough i early late factor first count some is order h =
+    let below : (i + early) * factor < count - first = below_ceil (i + early) (count - first) factor some (omega arith) in
+    omega arith
+
+pub rest_reaches : (rest late number factor first most : ℕ) → rest + late ≡ number → number * factor + first ≤ most → rest * factor + (late * factor + first) ≤ most
+rest_reaches rest late number factor first most e reach = let f = ap (λ (x : ℕ). x * factor) e in omega arith
+
+pub same_phase : (early factor first delay : ℕ) → factor % 8 ≡ 0 → first % 8 ≡ delay % 8 → (early * factor + first) % 8 ≡ delay % 8
+same_phase early factor first delay whole phase = omega (arith, whole_step early factor whole)
+
+pub parts : (early late factor first : ℕ) → early ≤ late → late * factor + first ≡ (late - early) * factor + (early * factor + first)
+parts early late factor first order = let e : (late - early) + early ≡ late = omega arith in let f = ap (λ (x : ℕ). x * factor) e in omega arith
+
+pub part_reaches : (start end number factor first most : ℕ) → start ≤ end → end ≤ number → number * factor + first ≤ most → (end - start) * factor + (start * factor + first) ≤ most
+part_reaches start end number factor first most order within reach = let e : end * factor ≤ number * factor = mul-le-mul_right factor within in omega (arith, parts start end factor first order)
+
+-- one more tile
+pub one_more_tile : (d : Decimator) (bits : List Bool) (first start end : ℕ) (xs ys : List ℤ) → start ≤ end → end ≤ length xs → take start xs ≡ samples_from d bits first start → ys ≡ samples_from d bits (start * d.factor + first) (end - start)
+    → take end (put_mid start (end - start) xs ys) ≡ samples_from d bits first end
+one_more_tile d bits first start end xs ys order within before is =
+    let long : length ys ≡ end - start = ap length is ∙ length-samples d bits (start * d.factor + first) (end - start) in
+    let all : start + (end - start) ≡ end = omega arith in
+    take-put_mid start (end - start) xs ys end (omega arith) (omega arith)
+    ∙ ap₂ ◌++◌ before is ∙ samples_split d bits first start (end - start) ∙ ap (samples_from d bits first) all
+
+pub tile_length : (start end : ℕ) (xs : List ℤ) → end ≤ length xs → length (take (end - start) (drop start xs)) ≡ end - start
+tile_length start end xs within = omega (arith, length-take (end - start) (drop start xs), length-drop start xs)

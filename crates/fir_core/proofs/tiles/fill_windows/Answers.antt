@@ -1,0 +1,58 @@
+use Rattle.std.proofs.Common.{◌≡◌, ℤ, ◌+◌, ◌-◌, ◌/◌, ◌^◌, ◌≤◌, ◌∙◌, List, ap, arith, length, map, take, drop, length-drop, subst, sum_by, unsigned_abs}
+use Rattle.std.proofs.lemmas.List.{take_rest}
+use Rattle.fir_core.specs.Rounding.{round_clip}
+use Rattle.fir_core.specs.Windows.{aligned, window_size, window_sums}
+use Rattle.fir_core.proofs.TileLaws.{length-sums, run_by_windows, size_is, small_windows, window_within}
+use Rattle.fir_core.proofs.tiles.fill_windows.Goals as goal
+use Rattle.fir_core.proofs.tiles.fill_windows.Goals.{After-as_slice-groups}
+
+size : (c : After-as_slice-groups) → length c.as_slice-groups.result.now / 8 ≡ window_size (length c.args.taps.now.taps) c.args.taps.now.delay
+size c = size_is c.as_slice-groups.result.now c.args.tables.now c.args.taps.now.taps c.args.taps.now.delay (c.as_slice-groups.ensures.value ∙ c.tables.view_is) c.requires.tables
+
+starts_within : (c : After-as_slice-groups) → c.args.first / 8 + 1 - length c.as_slice-groups.result.now / 8 ≤ length c.args.bytes.now
+starts_within c =
+    let first = c.requires.inside 0 c.requires.some in
+    omega (arith, first, c.requires.enough, c.tables.invariant.tabled.some, ap length c.as_slice-groups.ensures.value)
+
+pub slice_bounds-front-count : goal.slice_bounds-front-count
+slice_bounds-front-count c = starts_within c
+
+pub slice_bounds-front-start : goal.slice_bounds-front-start
+slice_bounds-front-start c = starts_within c
+
+pub sum_tile-requires-clause-within : goal.sum_tile-requires-clause-within
+sum_tile-requires-clause-within c = λ i h.
+    let groups = length c.as_slice-groups.result.now / 8 in
+    let at = c.args.first / 8 + 1 - groups in
+    let before = (goal.at.sum_tile-requires-clause-within c).After-as_slice-groups in
+    let front = take_rest c.args.bytes.now at in
+    let begins : groups ≤ c.args.first / 8 + 1 = rw (size before) c.requires.begins in
+    rw (ap length front, c.factor.ensures.value)
+    (omega (
+      arith,
+      ap length (c.as_slice-groups.ensures.value ∙ c.tables.view_is),
+      length-drop at c.args.bytes.now,
+      window_within i c.args.taps.now.factor c.args.first c.args.count groups (length c.args.bytes.now) c.factor.ensures.limits.whole_bytes begins (c.requires.inside i h) c.requires.enough,
+    ))
+
+pub finish-requires-clause-small : goal.finish-requires-clause-small
+finish-requires-clause-small c = λ i h.
+    let small : sum_by unsigned_abs c.args.tables.now ≤ 2 ^ 30 = subst (λ (hs : List ℤ). sum_by unsigned_abs hs ≤ 2 ^ 30) c.tables.view_is c.tables.invariant.tabled.small in
+    let long = ap length c.sum_tile.ensures ∙ length-sums c.args.tables.now _ _ (length c.args.samples.now) in
+    rw c.sum_tile.ensures (small_windows c.args.tables.now _ _ (length c.args.samples.now) i small (omega arith))
+
+pub returns : goal.returns
+returns c =
+    let before = (goal.at.returns c).After-as_slice-groups in
+    let d = c.args.taps.now in
+    let number = length c.args.samples.now in
+    let at = c.args.first / 8 + 1 - length c.as_slice-groups.result.now / 8 in
+    let front = take (length c.args.bytes.now - at) (drop at c.args.bytes.now) in
+    let done : ℤ → ℤ = λ sum. round_clip sum d.shift d.width in
+    c.finish.ensures
+    ∙ ap (λ f. map (λ sum. round_clip sum f.shift f.width) c.sum_tile.new.sums) c.taps.view_is
+    ∙ ap (map done) (c.sum_tile.ensures
+    ∙ ap (λ hs. window_sums hs front (c.factor.result / 8) number) c.requires.tables
+    ∙ ap (λ n. window_sums (aligned d.taps d.delay) front (n / 8) number) c.factor.ensures.value)
+    ∙ run_by_windows d c.args.bytes.now front c.args.count c.args.first number c.factor.ensures.limits.whole_bytes c.requires.phase c.requires.begins c.requires.inside c.requires.enough
+    (take_rest c.args.bytes.now at ∙ ap (λ m. drop (c.args.first / 8 + 1 - m) c.args.bytes.now) (size before))

@@ -1,0 +1,56 @@
+//! Ways to the same samples.
+
+ghost use Rattle.std.specs.Prelude.{◌≡◌, IfOk};
+ghost use Rattle.fir_core.specs.Decimator.{samples};
+
+use crate::decimator::decimate;
+use crate::tables::Tables;
+use crate::taps::Taps;
+use crate::tiles::push_samples;
+use dsd_bits::Bits;
+use std::alloc::{AllocError, Global};
+
+/// How the sums of a decimator are computed. Each way gives the same samples.
+#[derive(Clone, Copy, Debug, Drop, PartialEq, Eq)]
+pub enum Kernel {
+    /// Bit by bit.
+    Plain,
+    /// Byte by byte over tiles of samples: a table of 256 sums for each group of eight taps, four
+    /// groups at a time; for a factor of 8 a row of all groups' sums for each of the 256 bytes.
+    Table,
+}
+
+/// All samples of a channel, as [`decimate`] answers them, computed by a kernel. It is refused only
+/// for want of memory.
+pub fn decimate_with(
+    alloc: Global,
+    taps: &Taps,
+    bits: &Bits,
+    kernel: Kernel,
+) -> Result<Vec<i32>, AllocError>
+    ensures { IfOk result (λ made. made.items ≡ samples taps.now bits.now) }
+{
+    match kernel {
+        Kernel::Plain => decimate(alloc, taps, bits),
+        Kernel::Table => decimate_by_table(alloc, taps, bits),
+    }
+}
+
+fn decimate_by_table(alloc: Global, taps: &Taps, bits: &Bits) -> Result<Vec<i32>, AllocError>
+    ensures { IfOk result (λ made. made.items ≡ samples taps.now bits.now) }
+{
+    let tables = Tables::new(alloc, taps)?;
+    let number = bits.len().div_ceil(taps.factor() as usize);
+    let first = taps.delay as usize;
+    let mut made = Vec::new(alloc);
+    push_samples(
+        &mut made,
+        number,
+        taps,
+        &tables,
+        bits.as_bytes(),
+        bits.len(),
+        first,
+    )?;
+    Ok(made)
+}

@@ -1,0 +1,242 @@
+//! The sums of windows that begin at each byte, four bytes at a time: a byte's row holds what the
+//! byte adds to each window that it stands in.
+
+ghost use Rattle.std.specs.Prelude.{◌≡◌, ℕ, ◌+◌, ◌-◌, ◌*◌, ◌/◌, ◌<◌, ◌≤◌, EachIndex, length, pos, slice_index_or, take};
+ghost use Rattle.fir_core.specs.Rows as Rows;
+ghost use Rattle.fir_core.specs.Rows.{IsLaid};
+ghost use Rattle.fir_core.specs.Windows.{window_sum, window_sums};
+
+/// How many windows four bytes reach, rounded up to whole fours.
+pub(crate) fn span_of(taps: &[i32]) -> usize
+    requires few { length taps.now ≤ 4104 }
+    ensures { result ≡ Rows.span_of taps.now }
+{
+    (taps.len() / 8 + 3).div_ceil(4) * 4
+}
+
+/// Where the rows hold what byte `p` adds to the window that begins at byte `i`.
+fn row_place(span: usize, bytes: &[u8], p: usize, i: usize) -> usize
+    requires within { p < length bytes.now }
+    requires reached { p < i + span }
+    requires near { i ≤ p + 3 }
+    requires narrow { span ≤ 1024 }
+    ensures { result ≡ Rows.row_place span bytes.now p i }
+{
+    bytes[p] as usize * (span + 3) + (i + span - (p + 1))
+}
+
+/// Byte `p` in the sum of the window that begins at byte `i`, for which the rows hold it `at` a place.
+fn add_byte(
+    taps: &[i32],
+    rows: &[i32],
+    span: usize,
+    bytes: &[u8],
+    p: usize,
+    i: usize,
+    at: usize,
+    sum: i32,
+) -> i32
+    requires laid { IsLaid taps.now rows.now span }
+    requires within { p < length bytes.now }
+    requires reached { p < i + span }
+    requires near { i ≤ p + 3 }
+    requires place { at ≡ Rows.row_place span bytes.now p i }
+    requires so_far { sum ≡ window_sum (take (8 * (p - i)) taps.now) bytes.now i }
+    ensures { result ≡ window_sum (take (8 * (p + 1 - i)) taps.now) bytes.now i }
+{
+    sum + rows[at]
+}
+
+/// Four bytes from `p` on in the sum of the window that begins at byte `i`, each from its place in
+/// the rows.
+fn add_bytes(
+    taps: &[i32],
+    rows: &[i32],
+    span: usize,
+    bytes: &[u8],
+    p: usize,
+    i: usize,
+    one: usize,
+    two: usize,
+    three: usize,
+    four: usize,
+    sum: i32,
+) -> i32
+    requires laid { IsLaid taps.now rows.now span }
+    requires within { p + 4 ≤ length bytes.now }
+    requires reached { p + 4 ≤ i + span }
+    requires near { i < p + 4 }
+    requires one { one ≡ Rows.row_place span bytes.now p i }
+    requires two { two ≡ Rows.row_place span bytes.now (p + 1) i }
+    requires three { three ≡ Rows.row_place span bytes.now (p + 2) i }
+    requires four { four ≡ Rows.row_place span bytes.now (p + 3) i }
+    requires so_far { sum ≡ window_sum (take (8 * (p - i)) taps.now) bytes.now i }
+    ensures { result ≡ window_sum (take (8 * (p + 4 - i)) taps.now) bytes.now i }
+{
+    let first = add_byte(taps, rows, span, bytes, p, i, one, sum);
+    let second = add_byte(taps, rows, span, bytes, p + 1, i, two, first);
+    let third = add_byte(taps, rows, span, bytes, p + 2, i, three, second);
+    add_byte(taps, rows, span, bytes, p + 3, i, four, third)
+}
+
+/// Four bytes from `p` on in the sums of four windows, the first of which begins at byte `i`. All four
+/// sums are there before one is written, so that they become a vector.
+fn add_four_bytes(
+    taps: &[i32],
+    rows: &[i32],
+    span: usize,
+    bytes: &[u8],
+    p: usize,
+    i: usize,
+    one: usize,
+    two: usize,
+    three: usize,
+    four: usize,
+    sums: &mut [i32],
+)
+    requires laid { IsLaid taps.now rows.now span }
+    requires within { p + 4 ≤ length bytes.now }
+    requires reached { p + 4 ≤ i + span }
+    requires near { i ≤ p }
+    requires inside { i + 4 ≤ length sums.old }
+    requires one { one ≡ Rows.row_place span bytes.now p i }
+    requires two { two ≡ Rows.row_place span bytes.now (p + 1) i }
+    requires three { three ≡ Rows.row_place span bytes.now (p + 2) i }
+    requires four { four ≡ Rows.row_place span bytes.now (p + 3) i }
+    requires done { (k : ℕ) → k < i → slice_index_or sums.old k (pos 0) ≡ window_sum (take (8 * (p + 4 - k)) taps.now) bytes.now k }
+    requires rest { EachIndex sums.old (λ k. i ≤ k → slice_index_or sums.old k (pos 0) ≡ window_sum (take (8 * (p - k)) taps.now) bytes.now k) }
+    ensures len { length sums.new ≡ length sums.old }
+    ensures done { (k : ℕ) → k < i + 4 → slice_index_or sums.new k (pos 0) ≡ window_sum (take (8 * (p + 4 - k)) taps.now) bytes.now k }
+    ensures rest { EachIndex sums.new (λ k. i + 4 ≤ k → slice_index_or sums.new k (pos 0) ≡ window_sum (take (8 * (p - k)) taps.now) bytes.now k) }
+{
+    let first = add_bytes(
+        taps, rows, span, bytes, p, i, one, two, three, four, sums[i],
+    );
+    let second = add_bytes(
+        taps,
+        rows,
+        span,
+        bytes,
+        p,
+        i + 1,
+        one + 1,
+        two + 1,
+        three + 1,
+        four + 1,
+        sums[i + 1],
+    );
+    let third = add_bytes(
+        taps,
+        rows,
+        span,
+        bytes,
+        p,
+        i + 2,
+        one + 2,
+        two + 2,
+        three + 2,
+        four + 2,
+        sums[i + 2],
+    );
+    let fourth = add_bytes(
+        taps,
+        rows,
+        span,
+        bytes,
+        p,
+        i + 3,
+        one + 3,
+        two + 3,
+        three + 3,
+        four + 3,
+        sums[i + 3],
+    );
+    sums[i] = first;
+    sums[i + 1] = second;
+    sums[i + 2] = third;
+    sums[i + 3] = fourth;
+}
+
+/// Four bytes from `p` on in the sum of each window.
+fn add_block(taps: &[i32], rows: &[i32], span: usize, bytes: &[u8], p: usize, sums: &mut [i32])
+    requires laid { IsLaid taps.now rows.now span }
+    requires within { p + 4 ≤ length bytes.now }
+    requires reached { p + 4 ≤ length sums.old + span }
+    requires so_far { EachIndex sums.old (λ i. slice_index_or sums.old i (pos 0) ≡ window_sum (take (8 * (p - i)) taps.now) bytes.now i) }
+    ensures len { length sums.new ≡ length sums.old }
+    ensures sums { EachIndex sums.new (λ i. slice_index_or sums.new i (pos 0) ≡ window_sum (take (8 * (p + 4 - i)) taps.now) bytes.now i) }
+{
+    let start = (p + 4).saturating_sub(span);
+    let end = (p + 4).min(sums.len());
+    let one = row_place(span, bytes, p, start);
+    let two = row_place(span, bytes, p + 1, start);
+    let three = row_place(span, bytes, p + 2, start);
+    let four = row_place(span, bytes, p + 3, start);
+    let fours = (end - start) / 4;
+    for turn in 0..fours {
+        let k = 4 * turn;
+        add_four_bytes(
+            taps,
+            rows,
+            span,
+            bytes,
+            p,
+            start + k,
+            one + k,
+            two + k,
+            three + k,
+            four + k,
+            sums,
+        );
+    }
+    for i in start + 4 * fours..end {
+        let k = i - start;
+        sums[i] = add_bytes(
+            taps,
+            rows,
+            span,
+            bytes,
+            p,
+            i,
+            one + k,
+            two + k,
+            three + k,
+            four + k,
+            sums[i],
+        );
+    }
+}
+
+/// Byte `p` in the sum of each window.
+fn add_last(taps: &[i32], rows: &[i32], span: usize, bytes: &[u8], p: usize, sums: &mut [i32])
+    requires laid { IsLaid taps.now rows.now span }
+    requires within { p < length bytes.now }
+    requires reached { p < length sums.old + span }
+    requires so_far { EachIndex sums.old (λ i. slice_index_or sums.old i (pos 0) ≡ window_sum (take (8 * (p - i)) taps.now) bytes.now i) }
+    ensures len { length sums.new ≡ length sums.old }
+    ensures sums { EachIndex sums.new (λ i. slice_index_or sums.new i (pos 0) ≡ window_sum (take (8 * (p + 1 - i)) taps.now) bytes.now i) }
+{
+    let start = (p + 1).saturating_sub(span);
+    let end = (p + 1).min(sums.len());
+    for i in start..end {
+        let at = row_place(span, bytes, p, i);
+        sums[i] = add_byte(taps, rows, span, bytes, p, i, at, sums[i]);
+    }
+}
+
+/// The sums of windows that begin at each byte.
+pub(crate) fn sum_rows(taps: &[i32], rows: &[i32], span: usize, bytes: &[u8], sums: &mut [i32])
+    requires laid { IsLaid taps.now rows.now span }
+    requires within { length sums.old + length taps.now / 8 ≤ length bytes.now + 1 }
+    ensures { sums.new ≡ window_sums taps.now bytes.now 1 (length sums.old) }
+{
+    sums.fill(0);
+    let reach = sums.len() + taps.len() / 8 - 1;
+    let blocks = reach / 4;
+    for block in 0..blocks {
+        add_block(taps, rows, span, bytes, 4 * block, sums);
+    }
+    for p in 4 * blocks..reach {
+        add_last(taps, rows, span, bytes, p, sums);
+    }
+}

@@ -1,0 +1,260 @@
+//! The samples of a run of places, by tables where the window lies within the bytes.
+
+ghost use Rattle.std.specs.Prelude.{◌≡◌, ℕ, ◌+◌, ◌-◌, ◌*◌, ◌/◌, ◌%◌, ◌^◌, ◌<◌, ◌≤◌, ◌⊎◌, ◌++◌, EachIndex, OnErr, OnOk, length, map, pos, slice_index_or, take, unsigned_abs};
+ghost use Rattle.dsd_bits.specs.Packing.{unpacked};
+ghost use Rattle.fir_core.specs.Places.{sample_of, samples_from};
+ghost use Rattle.fir_core.specs.Rounding.{round_clip};
+ghost use Rattle.fir_core.specs.Windows.{IsTabled, aligned, window_size, window_sum, window_sums};
+
+use crate::convolution::sum_over;
+use crate::rounding::{clip, round};
+use crate::rows::{span_of, sum_rows};
+use crate::tables::Tables;
+use crate::taps::Taps;
+use std::alloc::AllocError;
+
+/// How many samples are summed at a time, so that their sums stay in the cache.
+const TILE: usize = 4096;
+
+/// One more group of eight taps in the sum of the window that begins at byte `at`.
+fn add_group(taps: &[i32], table: &[i32], group: usize, bytes: &[u8], at: usize, sum: i32) -> i32
+    requires tabled { IsTabled taps.now table.now }
+    requires group { 8 * group < length taps.now }
+    requires within { at + length taps.now / 8 ≤ length bytes.now }
+    requires so_far { sum ≡ window_sum (take (8 * group) taps.now) bytes.now at }
+    ensures { result ≡ window_sum (take (8 * (group + 1)) taps.now) bytes.now at }
+{
+    sum + table[256 * group + bytes[at + group] as usize]
+}
+
+/// Four more groups in the sum of the window that begins at byte `at`.
+fn add_four(taps: &[i32], table: &[i32], group: usize, bytes: &[u8], at: usize, sum: i32) -> i32
+    requires tabled { IsTabled taps.now table.now }
+    requires group { 8 * group + 32 ≤ length taps.now }
+    requires within { at + length taps.now / 8 ≤ length bytes.now }
+    requires so_far { sum ≡ window_sum (take (8 * group) taps.now) bytes.now at }
+    ensures { result ≡ window_sum (take (8 * (group + 4)) taps.now) bytes.now at }
+{
+    let one = add_group(taps, table, group, bytes, at, sum);
+    let two = add_group(taps, table, group + 1, bytes, at, one);
+    let three = add_group(taps, table, group + 2, bytes, at, two);
+    add_group(taps, table, group + 3, bytes, at, three)
+}
+
+/// Four more groups in the sum of each window. The windows begin at each `step`-th byte.
+fn add_groups(
+    taps: &[i32],
+    table: &[i32],
+    group: usize,
+    bytes: &[u8],
+    step: usize,
+    sums: &mut [i32],
+)
+    requires tabled { IsTabled taps.now table.now }
+    requires group { 8 * group + 32 ≤ length taps.now }
+    requires within { EachIndex sums.old (λ i. i * step + length taps.now / 8 ≤ length bytes.now) }
+    requires so_far { EachIndex sums.old (λ i. slice_index_or sums.old i (pos 0) ≡ window_sum (take (8 * group) taps.now) bytes.now (i * step)) }
+    ensures len { length sums.new ≡ length sums.old }
+    ensures sums { EachIndex sums.new (λ i. slice_index_or sums.new i (pos 0) ≡ window_sum (take (8 * (group + 4)) taps.now) bytes.now (i * step)) }
+{
+    for i in 0..sums.len() {
+        sums[i] = add_four(taps, table, group, bytes, i * step, sums[i]);
+    }
+}
+
+/// One more group in the sum of each window. The windows begin at each `step`-th byte.
+fn add_one(taps: &[i32], table: &[i32], group: usize, bytes: &[u8], step: usize, sums: &mut [i32])
+    requires tabled { IsTabled taps.now table.now }
+    requires group { 8 * group < length taps.now }
+    requires within { EachIndex sums.old (λ i. i * step + length taps.now / 8 ≤ length bytes.now) }
+    requires so_far { EachIndex sums.old (λ i. slice_index_or sums.old i (pos 0) ≡ window_sum (take (8 * group) taps.now) bytes.now (i * step)) }
+    ensures len { length sums.new ≡ length sums.old }
+    ensures sums { EachIndex sums.new (λ i. slice_index_or sums.new i (pos 0) ≡ window_sum (take (8 * (group + 1)) taps.now) bytes.now (i * step)) }
+{
+    for i in 0..sums.len() {
+        sums[i] = add_group(taps, table, group, bytes, i * step, sums[i]);
+    }
+}
+
+/// The sums of windows that begin at each `step`-th byte.
+fn sum_windows(taps: &[i32], table: &[i32], bytes: &[u8], step: usize, sums: &mut [i32])
+    requires tabled { IsTabled taps.now table.now }
+    requires within { EachIndex sums.old (λ i. i * step + length taps.now / 8 ≤ length bytes.now) }
+    ensures { sums.new ≡ window_sums taps.now bytes.now step (length sums.old) }
+{
+    sums.fill(0);
+    let fours = taps.len() / 32;
+    for pass in 0..fours {
+        add_groups(taps, table, 4 * pass, bytes, step, sums);
+    }
+    for group in 4 * fours..taps.len() / 8 {
+        add_one(taps, table, group, bytes, step, sums);
+    }
+}
+
+/// The sums of windows that begin at each `step`-th byte: by rows where that is each byte, else by
+/// the sums of each group.
+fn sum_tile(tables: &Tables, bytes: &[u8], step: usize, sums: &mut [i32])
+    requires some { 1 ≤ length sums.old }
+    requires within { EachIndex sums.old (λ i. i * step + length tables.now / 8 ≤ length bytes.now) }
+    ensures { sums.new ≡ window_sums tables.now bytes.now step (length sums.old) }
+{
+    let taps = tables.taps.as_slice();
+    if step == 1 {
+        let span = span_of(taps);
+        sum_rows(taps, tables.rows.as_slice(), span, bytes, sums);
+    } else {
+        sum_windows(taps, tables.sums.as_slice(), bytes, step, sums);
+    }
+}
+
+/// Sums as samples.
+fn finish(sums: &mut [i32], shift: u32, width: u32)
+    requires small { EachIndex sums.old (λ i. unsigned_abs (slice_index_or sums.old i (pos 0)) ≤ 2 ^ 30) }
+    requires small_shift { shift ≤ 30 }
+    requires known_width { (width ≡ 16) ⊎ (width ≡ 24) }
+    ensures { sums.new ≡ map (λ sum. round_clip sum shift width) sums.old }
+{
+    for sum in sums.iter_mut() {
+        *sum = clip(round(*sum, shift), width);
+    }
+}
+
+/// The sample at place `n` (in bits) of the first `count` bits of the bytes.
+pub(crate) fn sample_over(taps: &Taps, bytes: &[u8], count: usize, n: usize) -> i32
+    requires place { n < 2 ^ 37 }
+    requires enough { count ≤ 8 * length bytes.now }
+    ensures { result ≡ sample_of taps.now (unpacked bytes.now count) n }
+{
+    clip(
+        round(sum_over(taps, bytes, count, n), taps.shift),
+        taps.width,
+    )
+}
+
+/// The samples of a run of places, bit by bit: the first is at place `first`, in bits.
+fn fill_plainly(taps: &Taps, bytes: &[u8], count: usize, first: usize, samples: &mut [i32])
+    requires enough { count ≤ 8 * length bytes.now }
+    requires reach { length samples.old * taps.now.factor + first ≤ 2 ^ 37 }
+    ensures { samples.new ≡ samples_from taps.now (unpacked bytes.now count) first (length samples.old) }
+{
+    let factor = taps.factor() as usize;
+    for i in 0..samples.len() {
+        samples[i] = sample_over(taps, bytes, count, i * factor + first);
+    }
+}
+
+/// The samples of a run of places whose windows lie within the bytes, by the tables.
+fn fill_windows(
+    taps: &Taps,
+    tables: &Tables,
+    bytes: &[u8],
+    count: usize,
+    first: usize,
+    samples: &mut [i32],
+)
+    requires enough { count ≤ 8 * length bytes.now }
+    requires tables { tables.now ≡ aligned taps.now.taps taps.now.delay }
+    requires phase { first % 8 ≡ taps.now.delay % 8 }
+    requires begins { window_size (length taps.now.taps) taps.now.delay ≤ first / 8 + 1 }
+    requires some { 1 ≤ length samples.old }
+    requires inside { EachIndex samples.old (λ i. i * taps.now.factor + first < count) }
+    ensures { samples.new ≡ samples_from taps.now (unpacked bytes.now count) first (length samples.old) }
+{
+    let step = taps.factor() as usize / 8;
+    let groups = tables.taps.as_slice();
+    let at = first / 8 + 1 - groups.len() / 8;
+    let front = &bytes[at..];
+    sum_tile(tables, front, step, samples);
+    finish(samples, taps.shift, taps.width);
+}
+
+/// The samples of a run of places: bit by bit where the window goes beyond the bytes, and by the
+/// tables between.
+fn fill_tile(
+    taps: &Taps,
+    tables: &Tables,
+    bytes: &[u8],
+    count: usize,
+    first: usize,
+    samples: &mut [i32],
+)
+    requires enough { count ≤ 8 * length bytes.now }
+    requires reach { length samples.old * taps.now.factor + first ≤ 2 ^ 37 }
+    requires tables { tables.now ≡ aligned taps.now.taps taps.now.delay }
+    requires phase { first % 8 ≡ taps.now.delay % 8 }
+    ensures { samples.new ≡ samples_from taps.now (unpacked bytes.now count) first (length samples.old) }
+{
+    let factor = taps.factor() as usize;
+    let size = tables.taps.len() / 8;
+    let early = (size - 1).saturating_sub(first / 8).div_ceil(factor / 8);
+    let late = count
+        .saturating_sub(first)
+        .div_ceil(factor)
+        .min(samples.len());
+    if late <= early {
+        fill_plainly(taps, bytes, count, first, samples);
+        return;
+    }
+    let (head, rest) = samples.split_at_mut(early);
+    let (middle, tail) = rest.split_at_mut(late - early);
+    fill_plainly(taps, bytes, count, first, head);
+    fill_windows(taps, tables, bytes, count, early * factor + first, middle);
+    fill_plainly(taps, bytes, count, late * factor + first, tail);
+}
+
+/// The samples of a run of places, tile by tile.
+pub(crate) fn fill_samples(
+    taps: &Taps,
+    tables: &Tables,
+    bytes: &[u8],
+    count: usize,
+    first: usize,
+    samples: &mut [i32],
+)
+    requires enough { count ≤ 8 * length bytes.now }
+    requires reach { length samples.old * taps.now.factor + first ≤ 2 ^ 37 }
+    requires tables { tables.now ≡ aligned taps.now.taps taps.now.delay }
+    requires phase { first % 8 ≡ taps.now.delay % 8 }
+    ensures { samples.new ≡ samples_from taps.now (unpacked bytes.now count) first (length samples.old) }
+{
+    let factor = taps.factor() as usize;
+    let number = samples.len();
+    for tile in 0..number.div_ceil(TILE) {
+        let start = tile * TILE;
+        let end = (start + TILE).min(number);
+        fill_tile(
+            taps,
+            tables,
+            bytes,
+            count,
+            start * factor + first,
+            &mut samples[start..end],
+        );
+    }
+}
+
+/// Appends the samples of a run of places; for want of memory it appends nothing.
+pub(crate) fn push_samples(
+    out: &mut Vec<i32>,
+    number: usize,
+    taps: &Taps,
+    tables: &Tables,
+    bytes: &[u8],
+    count: usize,
+    first: usize,
+) -> Result<(), AllocError>
+    requires enough { count ≤ 8 * length bytes.now }
+    requires reach { number * taps.now.factor + first ≤ 2 ^ 37 }
+    requires tables { tables.now ≡ aligned taps.now.taps taps.now.delay }
+    requires phase { first % 8 ≡ taps.now.delay % 8 }
+    ensures ok { OnOk result (out.new.items ≡ out.old.items ++ samples_from taps.now (unpacked bytes.now count) first number) }
+    ensures err { OnErr result (out.new.items ≡ out.old.items) }
+{
+    let before = out.len();
+    let factor = taps.factor() as usize;
+    out.resize(before + number, 0)?;
+    let samples = out.as_mut_slice();
+    fill_samples(taps, tables, bytes, count, first, &mut samples[before..]);
+    Ok(())
+}

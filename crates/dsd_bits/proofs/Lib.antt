@@ -6,5 +6,6 @@ pub mod PartLemmas
 pub mod RangeLemmas
 pub mod RoundTrip
 pub mod ShiftingLemmas
+pub mod SoundLemmas
 pub mod SumLaws
 pub mod TurningLemmas

@@ -7,5 +7,6 @@ pub mod Layouts
 pub mod Packing
 pub mod Shape
 pub mod Shifting
+pub mod Sounds
 pub mod Sums
 pub mod Turning

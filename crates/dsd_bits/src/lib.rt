@@ -12,7 +12,8 @@
 //! [`push_laced`] and [`push_blocks`] put the sound bytes behind what a list of bytes already holds.
 //!
 //! A [`Recording`] is one record of lists and numbers: its rate, its channels, their IDs and layout,
-//! its marks, the chunks that it keeps as they are, and its tag.
+//! its marks, the chunks that it keeps as they are, and its tag. A [`Sound`] says what the sound of a file
+//! is and where its bytes stand, and [`SoundAt`] what the front of the file tells of it.
 //!
 //! The words of the contracts:
 //!
@@ -27,6 +28,8 @@
 //! - `IsLevel channels` says that channels are equally long, `count_of` how long.
 //! - `Content` is what a recording holds, `HasShape` names the rules that it keeps, `layout_channels`
 //!   is the table of layouts.
+//! - `IsSound s` names the limits of a sound, `HasSound file r s` says that the bytes of the sound in a
+//!   file hold the channels of a recording; `IfFound`, `IfMore` and `IfRefused` speak of a [`SoundAt`].
 //! - `sign`, what a bit counts, and `sum_below`, sums of whole numbers, serve the crates above.
 //!
 //! ```text
@@ -48,6 +51,7 @@ mod layouts;
 mod marks;
 mod packing;
 mod recording;
+mod sound;
 mod turning;
 
 pub use bits::Bits;
@@ -57,6 +61,7 @@ pub use lacing::{lace_bytes, laced_channels_are_read_again, push_laced, unlace_b
 pub use layouts::{layout_channels, usual_layout};
 pub use marks::{Mark, Other, Place};
 pub use recording::Recording;
+pub use sound::{Sound, SoundAt};
 pub use turning::{turn, turn_byte};
 
 #[cfg(test)]

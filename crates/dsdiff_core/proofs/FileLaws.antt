@@ -89,7 +89,7 @@ parts_again file r p = rw (p.at_top, p.at_told, p.at_sound, p.at_inner) (ap done
 
 -- ---- chunks that stand once
 
-one_chunk : (file : List ℕ) (test : Chunk → Bool) (ss : List Span) (s : Span) → AtMostOne ss (λ x. test (span_chunk file x)) → find (λ x. test (span_chunk file x)) ss ≡ Some s → filter test (map (span_chunk file) ss) ≡ span_chunk file s ∷ []
+pub one_chunk : (file : List ℕ) (test : Chunk → Bool) (ss : List Span) (s : Span) → AtMostOne ss (λ x. test (span_chunk file x)) → find (λ x. test (span_chunk file x)) ss ≡ Some s → filter test (map (span_chunk file) ss) ≡ span_chunk file s ∷ []
 one_chunk file test ss s once found = filter_chunks file test ss ∙ ap (map (span_chunk file)) (only_one (λ x. test (span_chunk file x)) ss s once found)
 
 one_of : (file : List ℕ) (xs : List Span) (c : Chunk) → map (span_chunk file) xs ≡ c ∷ [] → (s : Span) × (xs ≡ s ∷ []) × (span_chunk file s ≡ c)
@@ -104,14 +104,14 @@ pub record Stands (file : List ℕ) (test : Chunk → Bool) (ss : List Span) (c 
   pub is : span_chunk file span ≡ c
   pub once : AtMostOne ss (λ x. test (span_chunk file x))
 
-stands : (file : List ℕ) (test : Chunk → Bool) (ss : List Span) (cs : List Chunk) (c : Chunk) → map (span_chunk file) ss ≡ cs → filter test cs ≡ c ∷ [] → Stands file test ss c
+pub stands : (file : List ℕ) (test : Chunk → Bool) (ss : List Span) (cs : List Chunk) (c : Chunk) → map (span_chunk file) ss ≡ cs → filter test cs ≡ c ∷ [] → Stands file test ss c
 stands file test ss cs c back e =
     let o = one_of file (filter (λ x. test (span_chunk file x)) ss) c (sym (filter_chunks file test ss) ∙ ap (filter test) back ∙ e) in
     record { span = o.0; found = is_found (λ x. test (span_chunk file x)) ss o.0 [] o.1; is = o.2; once = omega (arith, ap length o.1) }
 
 -- ---- the version
 
-version_alone : (file : List ℕ) (top : List Span) (c : Chunk) (later : List Chunk) → AtMostOne top (span_has FVER) → map (span_chunk file) top ≡ c ∷ later → has_id FVER c ≡ true → filter (has_id FVER) (map (span_chunk file) top) ≡ c ∷ []
+pub version_alone : (file : List ℕ) (top : List Span) (c : Chunk) (later : List Chunk) → AtMostOne top (span_has FVER) → map (span_chunk file) top ≡ c ∷ later → has_id FVER c ≡ true → filter (has_id FVER) (map (span_chunk file) top) ≡ c ∷ []
 version_alone file [] c later once e h = absurd cc
 version_alone file (s ∷ ss) c later once e h =
     let same : span_chunk file s ≡ c = cc (e) in
@@ -121,7 +121,7 @@ version_alone file (s ∷ ss) c later once e h =
 
 -- ---- the property's range
 
-behind_type : (file : List ℕ) (s : Span) → slice_range file (s.start + 4) (s.start + s.size) ≡ drop 4 (span_chunk file s).content
+pub behind_type : (file : List ℕ) (s : Span) → slice_range file (s.start + 4) (s.start + s.size) ≡ drop 4 (span_chunk file s).content
 behind_type file s =
     let whole : s.start + s.size - s.start ≡ s.size = omega arith in
     sym (range_after file s.start (s.start + s.size) 4) ∙ ap (λ (k : ℕ). drop 4 (take k (drop s.start file))) whole
@@ -219,9 +219,9 @@ content_at : (file id : List ℕ) (ss : List Span) (c : Chunk) → Stands file (
 content_at file id ss c s = rw s.found (ap (λ (x : Chunk). Some x.content) s.is)
 
 -- what the sound property of such a file tells
-is_property_of : (file : List ℕ) (r : Content) (h : IsDsdiff file r) (top parts : List Span) (span : Span) → find (holds_property file) top ≡ Some span → span_chunk file span ≡ h.property → parts ≡ places (span.start + 4) h.parts
+pub is_property_of : (whole : List ℕ) (r : Content) (h : IsDsdiff whole r) (file : List ℕ) (top parts : List Span) (span : Span) → find (holds_property file) top ≡ Some span → span_chunk file span ≡ h.property → parts ≡ places (span.start + 4) h.parts
     → IsProperty file top (told_by r.rate r.ids parts)
-is_property_of file r h top parts span found same e =
+is_property_of whole r h file top parts span found same e =
     let range : slice_range file (span.start + 4) (span.start + span.size) ≡ drop 4 h.property.content = behind_type file span ∙ ap (λ (c : Chunk). drop 4 c.content) same in
     let inner = spans_again file (span.start + 4) (span.start + span.size) h.parts (subst (λ (bs : List ℕ). chunks bs h.parts) (sym range) h.are_parts) in
     let back : map (span_chunk file) parts ≡ h.parts = ap (map (span_chunk file)) e ∙ inner.1 in
@@ -276,7 +276,7 @@ parts_from file r h =
       top = top;
       at_top = top_again file top (is_top file r h top refl back);
       told = told;
-      at_told = property_again file top told (is_property_of file r h top parts p.span p.found p.is refl);
+      at_told = property_again file top told (is_property_of file r h file top parts p.span p.found p.is refl);
       sound = h.sound.content;
       at_sound = rw (content_at file DSD top h.sound s) (sound_again (sound_leads (map (span_chunk file) top)) h.sound.content (length r.ids) sounds);
       inner = m.0;

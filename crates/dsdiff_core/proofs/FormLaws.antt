@@ -62,7 +62,7 @@ pub record IsVersion (cs : List Chunk) : Type 0 where
   pub long : 4 ≤ length version.content
   pub main : slice_index version.content 0 ≡ 1
 
-version_ok : (cs : List Chunk) (u : Unit {0}) → version_of cs ≡ Ok u → IsVersion cs
+pub version_ok : (cs : List Chunk) (u : Unit {0}) → version_of cs ≡ Ok u → IsVersion cs
 version_ok [] u e = absurd cc
 version_ok (c ∷ cs) u e =
     let a = guard_ok _ _ _ _ e in
@@ -70,7 +70,7 @@ version_ok (c ∷ cs) u e =
     let d = under_ok _ tt u faults.BadVersion b.1 in
     record { version = c; later = cs; is = refl; id = not_false _ a.0; long = ltb-false _ _ b.0; main = eqb-true _ _ d.0 }
 
-version_again : (cs : List Chunk) → IsVersion cs → version_of cs ≡ Ok tt
+pub version_again : (cs : List Chunk) → IsVersion cs → version_of cs ≡ Ok tt
 version_again cs v = rw (v.is, v.id, le-ltb (length v.version.content) 4 v.long, v.main) refl
 
 -- the chunks of the form

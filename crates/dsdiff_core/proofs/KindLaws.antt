@@ -31,13 +31,13 @@ id_is (x ∷ xs) (y ∷ ys) e =
     cc
 
 -- a chunk of one ID has no other
-not_both : (a b : List ℕ) (c : Chunk) → same_id a b ≡ false → has_id a c ≡ true → has_id b c ≡ false
+pub not_both : (a b : List ℕ) (c : Chunk) → same_id a b ≡ false → has_id a c ≡ true → has_id b c ≡ false
 not_both a b c ne e = rw (id_is c.id a e) ne
 
 property_id : (c : Chunk) → is_property c ≡ true → has_id PROP c ≡ true
 property_id c e = (and_both (has_id PROP c) _ e).0
 
-no_property : (c : Chunk) → has_id PROP c ≡ false → is_property c ≡ false
+pub no_property : (c : Chunk) → has_id PROP c ≡ false → is_property c ≡ false
 no_property c e = rw e refl
 
 -- ---- chunks of spans
@@ -59,7 +59,7 @@ passes test (x ∷ cs) c r e =
 
 -- ---- the order of the property and the sound
 
-nothing_first : (c : Chunk) (cs : List Chunk) → c ∷ cs ≡ [] → ⊥
+pub nothing_first : (c : Chunk) (cs : List Chunk) → c ∷ cs ≡ [] → ⊥
 nothing_first c cs e = cc
 
 none_left : (p q : Chunk → Bool) (cs : List Chunk) → filter p cs ≡ [] → filter (λ c. p c || q c) cs ≡ filter q cs

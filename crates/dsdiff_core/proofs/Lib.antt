@@ -1,3 +1,8 @@
+pub mod LeadLaws
+pub mod FrontLaws
+pub mod OtherSound
+pub mod ClosingLaws
+pub mod SeekLoop
 pub mod Steps
 pub mod KindLaws
 pub mod SpanLaws

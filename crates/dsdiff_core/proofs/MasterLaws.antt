@@ -67,7 +67,7 @@ masters_ok file (s ∷ ss) inner e =
 
 -- ---- the other way
 
-front_uncut : (cs ds : List Chunk) → has_no_cut_mark (cs ++ ds) ≡ true → (has_no_cut_mark cs ≡ true) × (has_no_cut_mark ds ≡ true)
+pub front_uncut : (cs ds : List Chunk) → has_no_cut_mark (cs ++ ds) ≡ true → (has_no_cut_mark cs ≡ true) × (has_no_cut_mark ds ≡ true)
 front_uncut [] ds e = (refl, e)
 front_uncut (c ∷ cs) ds e =
     let p = and_both (is_no_cut_mark c) (has_no_cut_mark (cs ++ ds)) e in

@@ -18,7 +18,7 @@ AtMostOne ss kind = length (filter kind ss) ≤ 1
 abbrev pub Once : List (Span → Bool) → List Span → Type 0
 Once kinds ss = AllByRecursion (AtMostOne ss) kinds
 
-none_found : (kind : Span → Bool) (ss : List Span) → length (filter kind ss) ≡ 0 → is_some (find kind ss) ≡ false
+pub none_found : (kind : Span → Bool) (ss : List Span) → length (filter kind ss) ≡ 0 → is_some (find kind ss) ≡ false
 none_found kind [] e = refl
 none_found kind (s ∷ ss) e =
     elim (bool_cases (kind s)) [

@@ -1,8 +1,21 @@
 -- What the words of the contracts have to do with each other.
-use Rattle.std.specs.Prelude.{◌≡◌, ℕ, List}
+use Rattle.std.specs.Prelude.{◌≡◌, ℕ, List, ◌++◌, length}
+use Rattle.dsd_bits.specs.declared.sound.Sound.{Sound}
 use Rattle.dsd_bits.specs.Contents.{Content}
+use Rattle.dsd_bits.specs.Lacing.{unlaced_all}
 use Rattle.dsdiff_core.specs.Files.{IsDsdiff}
+use Rattle.dsdiff_core.specs.Fronts.{EndsAt, HoldsHead, IsAccepted}
 
 -- a file holds one recording at most
 abbrev pub OneRecording : Type 0
 OneRecording = (file : List ℕ) (r s : Content) → IsDsdiff file r → IsDsdiff file s → r ≡ s
+
+-- a file with other sound bytes of the same number holds the same recording, but for its channels, which are these bytes
+abbrev pub OtherSound : Type 0
+OtherSound =
+    (front sound other back : List ℕ) (s : Sound) (r : Content) → EndsAt front s → length sound ≡ s.size → length other ≡ s.size → IsDsdiff (front ++ (sound ++ back)) r
+    → IsDsdiff (front ++ (other ++ back)) (record r { channels = unlaced_all other s.channels })
+
+-- a file that is accepted holds the head of its sound
+abbrev pub SoundHasHead : Type 0
+SoundHasHead = (file : List ℕ) → IsAccepted file → HoldsHead file

@@ -11,6 +11,7 @@ pub mod Forms
 pub mod Properties
 pub mod Sounds
 pub mod Masters
+pub mod Fronts
 pub mod Reading
 pub mod Writing
 pub mod ReadAgain

@@ -3,6 +3,7 @@
 ghost use Rattle.std.specs.Prelude.{◌≡◌, ◌≤◌, All, IfOk, length, map};
 ghost use Rattle.chunk_core.specs.Places.{span_chunk};
 ghost use Rattle.dsdiff_core.specs.Forms.{end_of, top_of, version_of};
+ghost use Rattle.dsdiff_core.specs.Fronts.{leading_of};
 ghost use Rattle.dsdiff_core.specs.Spans.{StandsIn};
 ghost use Rattle.dsdiff_core.specs.Steps.{Gives};
 
@@ -23,6 +24,24 @@ pub(crate) fn form_chunks(alloc: Global, file: &[u8]) -> Result<Vec<Span>, Dsdif
     let top = walk(alloc, file, 16, end)?;
     require_version(file, &top)?;
     refuse_second_in_form(file, &top)?;
+    Ok(top)
+}
+
+/// The chunks of the form before its sound, whose head stands at a place: the first is a version 1, and
+/// none is a second version or sound property.
+#[tactic(auto, unfolding(crate::specs::Fronts::leading_of))]
+pub(crate) fn leading_chunks(
+    alloc: Global,
+    front: &[u8],
+    at: usize,
+) -> Result<Vec<Span>, DsdiffFault>
+    requires { (16 ≤ at) × (at ≤ length front.now) }
+    ensures exact { Gives (λ v. v.items) result (leading_of front.now at) }
+    ensures inside { IfOk result (λ v. All (StandsIn front.now) v.items) }
+{
+    let top = walk(alloc, front, 16, at)?;
+    require_version(front, &top)?;
+    refuse_second_in_form(front, &top)?;
     Ok(top)
 }
 

@@ -49,8 +49,10 @@
 //! ```
 #![tactic(auto)]
 
+mod closing;
 mod fault;
 mod form;
+mod front;
 mod laws;
 mod marks;
 mod masters;
@@ -65,8 +67,10 @@ mod write_fault;
 mod writing;
 mod writing_laws;
 
+pub use closing::closes;
 pub use fault::DsdiffFault;
-pub use laws::one_recording;
+pub use front::sound_at;
+pub use laws::{accepted_files_have_a_head, bytes_of_sound_do_not_matter, one_recording};
 pub use places::{mark_at, place};
 pub use reading::read;
 pub use write_fault::WriteFault;

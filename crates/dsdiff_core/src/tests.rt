@@ -2,9 +2,9 @@
 
 ghost use Rattle.std.specs.Prelude.{◌≤◌, ◌+◌, length};
 
-use crate::{DsdiffFault, read};
+use crate::{DsdiffFault, closes, read, sound_at};
 use chunk_core::{ChunkFault, Order, push_chunk, push_u64};
-use dsd_bits::Place;
+use dsd_bits::{Place, Sound, SoundAt};
 use std::alloc::{AllocError, Global};
 use std::test::Fail;
 
@@ -267,5 +267,33 @@ fn names_faults(rt: HostRuntime) -> Result<(), Fail> {
     ] {
         assert_eq!(rt; format!(in rt.alloc(); "{fault}")?.as_str(), text);
     }
+    Ok(())
+}
+
+// Whether these bytes close the file whose front leads up to its sound.
+fn closes_behind(alloc: Global, front: &[u8], back: &[u8]) -> Result<bool, Fail> {
+    match sound_at(alloc, front)? {
+        SoundAt::Found(sound) if sound.start == front.len() => Ok(closes(alloc, front, back)?),
+        _ => Err("a front that ends at its sound")?,
+    }
+}
+
+#[test]
+fn finds_the_sound(rt: HostRuntime) -> Result<(), Fail> {
+    let alloc = rt.alloc();
+    let sound = Sound {
+        rate: 2_822_400,
+        channels: 1,
+        count: 8,
+        start: 126,
+        size: 1,
+        order: None,
+    };
+    assert_eq!(rt; sound_at(alloc, &FILE[..125])?, SoundAt::More);
+    assert_eq!(rt; sound_at(alloc, &FILE[..126])?, SoundAt::Found(sound));
+    assert_eq!(rt; sound_at(alloc, &changed(4, &[0; 8]))?, SoundAt::Refused);
+    assert!(rt; closes_behind(alloc, &FILE[..126], &[0])?);
+    assert!(rt; closes_behind(alloc, &FILE[..126], &[])?);
+    assert!(rt; closes_behind(alloc, &FILE[..126], &[0, 1, 2, 3, 4, 5])?);
     Ok(())
 }

@@ -1,5 +1,5 @@
 -- Reading and the relation, in both directions.
-use Rattle.std.proofs.Common.{◌≡◌, ℕ, zero, suc, ◌+◌, ◌-◌, ◌^◌, ◌≤◌, ◌⊎◌, inl, inr, Bool, true, false, cond, eqb, ltb, not, ◌&&◌, List, [], ◌∷◌, length, drop, Result, Ok, Err, refl, sym, ap, ◌∙◌, arith, ne_eqb, eq-eqb}
+use Rattle.std.proofs.Common.{◌≡◌, ℕ, ◌+◌, ◌-◌, ◌^◌, ◌≤◌, ◌⊎◌, inl, inr, Bool, true, false, cond, eqb, ltb, not, ◌&&◌, List, [], length, drop, Result, Ok, Err, refl, sym, ap, subst, ◌∙◌, arith, ne_eqb, eq-eqb}
 use Rattle.std.proofs.lemmas.Bool.{ltb-false, le-ltb, eqb-true, cases_eq, not_from_true}
 use Rattle.std.proofs.lemmas.Slice.Eq.{bytes_eq-Decides}
 use Rattle.chunk_core.proofs.Steps.{bind_then, guard_ok, chosen}
@@ -9,8 +9,9 @@ use Rattle.dsd_bits.specs.Contents.{Content}
 use Rattle.dsd_bits.specs.Ids.{same_id, DSD}
 use Rattle.dsf_core.specs.declared.fault.DsfFault.{DsfFault}
 use Rattle.dsf_core.specs.declared.fault.DsfFault.TheVariants.{BadPointer}
-use Rattle.dsf_core.specs.Fields.{id_at, FMT, DATA, first_size, pointer, format_size, version, format, channel_type, channel_number, rate, bits_per_sample, count, block_size, data_place, data_size, sound_place, needed, sound_end, layout_told, dsf_ids, tag_told}
+use Rattle.dsf_core.specs.Fields.{id_at, FMT, DATA, first_size, pointer, format_size, version, format, channel_number, rate, bits_per_sample, count, block_size, data_place, data_size, needed, sound_end, tag_told}
 use Rattle.dsf_core.specs.Files.{bits_of, IsDsf}
+use Rattle.dsf_core.specs.Fronts.{HoldsHead}
 use Rattle.dsf_core.specs.Reading.{chunks_of, order_of, sound_of, tag_of, told, recording_of}
 
 not_false : (b : Bool) → not b ≡ false → b ≡ true
@@ -20,13 +21,22 @@ not_false false e = absurd cc
 id_is : (a b : List ℕ) → not (same_id a b) ≡ false → a ≡ b
 id_is a b e = (bytes_eq-Decides a b).0 (not_false _ e)
 
-same_again : (a b : List ℕ) → a ≡ b → not (same_id a b) ≡ false
+pub same_again : (a b : List ℕ) → a ≡ b → not (same_id a b) ≡ false
 same_again a b e = not_from_true _ ((bytes_eq-Decides a b).1 e)
 
 -- ---- the three chunks
 
-chunks_ok : (file : List ℕ) (n : ℕ) → chunks_of file ≡ Ok n
-    → (id_at file 0 ≡ DSD) × (first_size file ≡ 28) × (id_at file 28 ≡ FMT) × (52 ≤ format_size file) × (id_at file (data_place file) ≡ DATA) × (12 ≤ data_size file) × (format file ≡ 0)
+-- three chunks, as a file has them
+pub record Heads (file : List ℕ) : Type 0 where
+  pub first : id_at file 0 ≡ DSD
+  pub first_is : first_size file ≡ 28
+  pub second : id_at file 28 ≡ FMT
+  pub second_long : 52 ≤ format_size file
+  pub third : id_at file (data_place file) ≡ DATA
+  pub third_long : 12 ≤ data_size file
+  pub format_is : format file ≡ 0
+
+pub chunks_ok : (file : List ℕ) (n : ℕ) → chunks_of file ≡ Ok n → Heads file × HoldsHead file
 unfolding chunks_of
 chunks_ok file n e =
     let a = guard_ok _ _ _ _ e in
@@ -38,13 +48,22 @@ chunks_ok file n e =
     let h = guard_ok _ _ _ _ g.1 in
     let i = guard_ok _ _ _ _ h.1 in
     let j = guard_ok _ _ _ _ i.1 in
-    let k = guard_ok _ _ _ _ j.1 in
-    (id_is _ _ b.0, eqb-true _ _ (not_false _ d.0), id_is _ _ f.0, ltb-false _ _ g.0, id_is _ _ i.0, ltb-false _ _ j.0, eqb-true _ _ (not_false _ k.0))
+    let k = guard_ok _ _ _ _ j.1 in (
+      record {
+        first = id_is _ _ b.0;
+        first_is = eqb-true _ _ (not_false _ d.0);
+        second = id_is _ _ f.0;
+        second_long = ltb-false _ _ g.0;
+        third = id_is _ _ i.0;
+        third_long = ltb-false _ _ j.0;
+        format_is = eqb-true _ _ (not_false _ k.0);
+      },
+      record { fields = ltb-false _ _ c.0; head = ltb-false _ _ h.0 },
+    )
 
-chunks_again : (file : List ℕ) (r : Content) (order : BitOrder) → IsDsf file r order → chunks_of file ≡ Ok (data_place file)
+pub chunks_again : (file : List ℕ) → Heads file → data_place file + 12 ≤ length file → chunks_of file ≡ Ok (data_place file)
 unfolding chunks_of
-chunks_again file r order h =
-    let within : data_place file + 12 ≤ length file = omega (arith, h.in_file) in
+chunks_again file h within =
     let long : 80 ≤ length file = omega (arith, h.second_long, within) in
     rw (le-ltb (length file) 4 (omega (arith, long)), same_again (id_at file 0) DSD h.first, le-ltb (length file) 80 long, eq-eqb (first_size file) 28 h.first_is, same_again (id_at file 28) FMT h.second, le-ltb (format_size file) 52 h.second_long, le-ltb (length file) (data_place file + 12) within, same_again (id_at file (data_place file)) DATA h.third, le-ltb (data_size file) 12 h.third_long, eq-eqb (format file) 0 h.format_is) refl
 
@@ -62,8 +81,18 @@ bits_ok bits e = elim (cases_eq bits 1) [
       rw (ne_eqb bits 1 other) (eqb-true bits 8 (not_false _ eight))
 ]
 
-order_ok : (file : List ℕ) (order : BitOrder) → order_of file ≡ Ok order
-    → (version file ≡ 1) × (1 ≤ channel_number file) × (channel_number file ≤ 6) × (1000000 ≤ rate file) × (rate file ≤ 50000000) × (bits_per_sample file ≡ bits_of order) × (block_size file ≡ 4096) × (count file ≤ 2 ^ 36)
+-- fields in their limits, with this order of bits
+pub record Limits (file : List ℕ) (order : BitOrder) : Type 0 where
+  pub version_is : version file ≡ 1
+  pub some_channel : 1 ≤ channel_number file
+  pub six_channels : channel_number file ≤ 6
+  pub rate_low : 1000000 ≤ rate file
+  pub rate_high : rate file ≤ 50000000
+  pub order_is : bits_per_sample file ≡ bits_of order
+  pub block_is : block_size file ≡ 4096
+  pub not_long : count file ≤ 2 ^ 36
+
+pub order_ok : (file : List ℕ) (order : BitOrder) → order_of file ≡ Ok order → Limits file order
 unfolding order_of told_order
 order_ok file order e =
     let a = guard_ok _ _ _ _ e in
@@ -75,15 +104,24 @@ order_ok file order e =
     let h = guard_ok _ _ _ _ g.1 in
     let i = guard_ok _ _ _ _ h.1 in
     let same : told_order (bits_per_sample file) ≡ order = cc (i.1) in
-    (eqb-true _ _ (not_false _ a.0), ltb-false _ _ b.0, ltb-false _ _ c.0, ltb-false _ _ d.0, ltb-false _ _ f.0, bits_ok (bits_per_sample file) g.0 ∙ ap bits_of same, eqb-true _ _ (not_false _ h.0), ltb-false _ _ i.0)
+    record {
+      version_is = eqb-true _ _ (not_false _ a.0);
+      some_channel = ltb-false _ _ b.0;
+      six_channels = ltb-false _ _ c.0;
+      rate_low = ltb-false _ _ d.0;
+      rate_high = ltb-false _ _ f.0;
+      order_is = bits_ok (bits_per_sample file) g.0 ∙ ap bits_of same;
+      block_is = eqb-true _ _ (not_false _ h.0);
+      not_long = ltb-false _ _ i.0;
+    }
 
 bits_again : (bits : ℕ) (order : BitOrder) → bits ≡ bits_of order → ((not (eqb bits 1) && not (eqb bits 8)) ≡ false) × (cond (eqb bits 1) LeastFirst MostFirst ≡ order)
 bits_again bits LeastFirst e = rw e (refl, refl)
 bits_again bits MostFirst e = rw e (refl, refl)
 
-order_again : (file : List ℕ) (r : Content) (order : BitOrder) → IsDsf file r order → order_of file ≡ Ok order
+pub order_again : (file : List ℕ) (order : BitOrder) → Limits file order → order_of file ≡ Ok order
 unfolding order_of
-order_again file r order h =
+order_again file order h =
     let bits = bits_again (bits_per_sample file) order h.order_is in
     rw (eq-eqb (version file) 1 h.version_is, le-ltb (channel_number file) 1 h.some_channel, le-ltb 6 (channel_number file) h.six_channels, le-ltb (rate file) 1000000 h.rate_low, le-ltb 50000000 (rate file) h.rate_high, bits.0, eq-eqb (block_size file) 4096 h.block_is, le-ltb (2 ^ 36) (count file) h.not_long, bits.1) refl
 
@@ -101,7 +139,7 @@ unfolding sound_of
 sound_again file r order h =
     rw (le-ltb (data_size file - 12) (needed file) h.in_chunk, le-ltb (length file) (sound_end file) h.in_file) refl
 
-abbrev Behind : List ℕ → Type 0
+abbrev pub Behind : List ℕ → Type 0
 Behind file = (pointer file ≡ 0) ⊎ ((sound_end file ≤ pointer file) × (pointer file ≤ length file))
 
 tag_ok : (file tag : List ℕ) → tag_of file ≡ Ok tag → Behind file × (tag ≡ tag_told file)
@@ -141,6 +179,36 @@ same_reading r s order other e =
     let both = ok_is (s, other) (r, order) (sym e) in
     (ap (λ (x : Content × BitOrder). x.0) both, ap (λ (x : Content × BitOrder). x.1) both)
 
+-- a file of these chunks and fields, whose sound and tag stand in it, holds what it tells
+pub is_file : (file : List ℕ) (order : BitOrder) → Heads file → Limits file order → needed file ≤ data_size file - 12 → sound_end file ≤ length file → Behind file → IsDsf file (told file order (tag_told file)) order
+is_file file order heads limits in_chunk in_file behind = record {
+  first = heads.first;
+  first_is = heads.first_is;
+  second = heads.second;
+  second_long = heads.second_long;
+  third = heads.third;
+  third_long = heads.third_long;
+  version_is = limits.version_is;
+  format_is = heads.format_is;
+  some_channel = limits.some_channel;
+  six_channels = limits.six_channels;
+  rate_low = limits.rate_low;
+  rate_high = limits.rate_high;
+  order_is = limits.order_is;
+  block_is = limits.block_is;
+  not_long = limits.not_long;
+  in_chunk = in_chunk;
+  in_file = in_file;
+  behind = behind;
+  rate_read = refl;
+  channels_read = refl;
+  ids_read = refl;
+  layout_read = refl;
+  tag_read = refl;
+  no_marks = refl;
+  no_others = refl;
+}
+
 pub is_dsf : (file : List ℕ) (x : Content × BitOrder) → recording_of file ≡ Ok x → IsDsf file x.0 x.1
 unfolding recording_of
 is_dsf file x e =
@@ -148,41 +216,19 @@ is_dsf file x e =
     bind_then (order_of file) _ x h1 (λ order e2 h2.
     bind_then (sound_of file) _ x h2 (λ end e3 h3.
     bind_then (tag_of file) _ x h3 (λ tag e4 h4.
-    let heads = chunks_ok file place e1 in
-    let fields = order_ok file order e2 in
     let sound = sound_ok file end e3 in
     let tags = tag_ok file tag e4 in
-    let made : x ≡ (told file order tag, order) = ok_is (told file order tag, order) x h4 in
-    let order_made : order ≡ x.1 = sym (ap (λ (y : Content × BitOrder). y.1) made) in
-    let content : x.0 ≡ told file order tag = ap (λ (y : Content × BitOrder). y.0) made in
-    let content_is : x.0 ≡ told file x.1 tag = content ∙ ap (λ o. told file o tag) order_made in
-    record {
-      first = heads.0;
-      first_is = heads.1;
-      second = heads.2;
-      second_long = heads.3;
-      third = heads.4;
-      third_long = heads.5;
-      version_is = fields.0;
-      format_is = heads.6;
-      some_channel = fields.1;
-      six_channels = fields.2;
-      rate_low = fields.3;
-      rate_high = fields.4;
-      order_is = fields.5 ∙ ap bits_of order_made;
-      block_is = fields.6;
-      not_long = fields.7;
-      in_chunk = sound.0;
-      in_file = sound.1;
-      behind = tags.0;
-      rate_read = ap (λ (r : Content). r.rate) content_is;
-      channels_read = ap (λ (r : Content). r.channels) content_is;
-      ids_read = ap (λ (r : Content). r.ids) content_is;
-      layout_read = ap (λ (r : Content). r.layout) content_is;
-      tag_read = ap (λ (r : Content). r.tag) content_is ∙ tags.1;
-      no_marks = ap (λ (r : Content). r.marks) content_is;
-      no_others = ap (λ (r : Content). r.others) content_is;
-    }))))
+    let made : (told file order tag, order) ≡ x = sym (ok_is (told file order tag, order) x h4) in
+    let content : (told file order (tag_told file), order) ≡ x = ap (λ (t : List ℕ). (told file order t, order)) (sym tags.1) ∙ made in
+    let P : Content × BitOrder → Type 0 = λ y. IsDsf file y.0 y.1 in
+    subst P content (is_file file order (chunks_ok file place e1).0 (order_ok file order e2) sound.0 sound.1 tags.0)))))
+
+-- the chunks and the fields of such a file
+pub heads_of : (file : List ℕ) (r : Content) (order : BitOrder) → IsDsf file r order → Heads file
+heads_of file r order h = record { first = h.first; first_is = h.first_is; second = h.second; second_long = h.second_long; third = h.third; third_long = h.third_long; format_is = h.format_is }
+
+pub limits_of : (file : List ℕ) (r : Content) (order : BitOrder) → IsDsf file r order → Limits file order
+limits_of file r order h = record { version_is = h.version_is; some_channel = h.some_channel; six_channels = h.six_channels; rate_low = h.rate_low; rate_high = h.rate_high; order_is = h.order_is; block_is = h.block_is; not_long = h.not_long }
 
 pub dsf_is_read : (file : List ℕ) (r : Content) (order : BitOrder) → IsDsf file r order → recording_of file ≡ Ok (r, order)
 unfolding recording_of
@@ -196,4 +242,4 @@ dsf_is_read file r order h =
       others = sym h.no_others i;
       tag = sym h.tag_read i;
     } in
-    rw (chunks_again file r order h, order_again file r order h, sound_again file r order h, tag_again file h.behind) (ap (λ (c : Content). done (c, order)) made)
+    rw (chunks_again file (heads_of file r order h) (omega (arith, h.in_file)), order_again file order (limits_of file r order h), sound_again file r order h, tag_again file h.behind) (ap (λ (c : Content). done (c, order)) made)

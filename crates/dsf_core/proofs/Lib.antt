@@ -1,3 +1,4 @@
 pub mod FileLaws
+pub mod FrontLaws
 pub mod ShapeLaws
 pub mod WrittenAgain

@@ -1,5 +1,5 @@
 -- What is written is a file of the recording.
-use Rattle.std.proofs.Common.{◌≡◌, ℕ, ◌+◌, ◌-◌, ◌*◌, ◌^◌, ◌<◌, ◌≤◌, ◌⊎◌, inl, inr, cond, eqb, List, [], ◌∷◌, ◌++◌, length, drop, append_assoc, length-append, refl, sym, ap, ◌∙◌, arith, ne_eqb, eq-eqb}
+use Rattle.std.proofs.Common.{◌≡◌, ℕ, ◌+◌, ◌*◌, ◌^◌, ◌<◌, ◌≤◌, ◌⊎◌, inl, inr, cond, eqb, List, [], ◌∷◌, ◌++◌, length, drop, append_assoc, length-append, refl, sym, ap, ◌∙◌, arith, ne_eqb, eq-eqb}
 use Rattle.std.proofs.lemmas.Bool.{cases_eq, cases_lt, le-ltb}
 use Rattle.std.proofs.lemmas.List.{drop_at}
 use Rattle.std.proofs.lemmas.List.FromFn.{length-map-range_with_len}
@@ -11,12 +11,10 @@ use Rattle.dsd_bits.specs.declared.blocks.BitOrder.TheVariants.{LeastFirst, Most
 use Rattle.byteorder.specs.Endian.{little_bytes}
 use Rattle.dsd_bits.specs.Blocks.{BlocksReadAgain, block_byte, blocked, blocks_size, unblocked_all}
 use Rattle.dsd_bits.specs.Channels.{count_of}
-use Rattle.dsd_bits.specs.Contents.{Content}
 use Rattle.dsd_bits.specs.Ids.{DSD}
 use Rattle.dsd_bits.specs.Layouts.{layout_channels}
-use Rattle.dsd_bits.specs.Shape.{HasShape}
-use Rattle.dsf_core.specs.Fields.{FMT, DATA, u32_at, u64_at, pointer, data_size, channel_type, channel_number, rate, bits_per_sample, count, needed, sound_end, sound_place, layout_told, dsf_ids, tag_told}
-use Rattle.dsf_core.specs.Files.{bits_of, IsDsf}
+use Rattle.dsf_core.specs.Fields.{FMT, DATA, pointer, data_size, channel_type, channel_number, rate, bits_per_sample, count, needed, sound_end, dsf_ids, tag_told}
+use Rattle.dsf_core.specs.Files.{bits_of}
 use Rattle.dsf_core.specs.ReadAgain.{WrittenReadAgain}
 use Rattle.dsf_core.specs.Writing.{sound_size, tag_place, head_text, dsf_text}
 

@@ -1,9 +1,18 @@
 -- What the words of the contracts have to do with each other.
-use Rattle.std.specs.Prelude.{◌≡◌, ℕ, List}
+use Rattle.std.specs.Prelude.{◌≡◌, ℕ, List, ◌++◌, length}
 use Rattle.dsd_bits.specs.declared.blocks.BitOrder.{BitOrder}
 use Rattle.dsd_bits.specs.Contents.{Content}
 use Rattle.dsf_core.specs.Files.{IsDsf}
+use Rattle.dsf_core.specs.Fronts.{EndsAtSound, HoldsHead, IsAccepted}
 
 -- a file holds one recording at most, in one order of bits
 abbrev pub OneRecording : Type 0
 OneRecording = (file : List ℕ) (r s : Content) (order other : BitOrder) → IsDsf file r order → IsDsf file s other → (r ≡ s) × (order ≡ other)
+
+-- other bytes of the same number behind the front of a file change neither that it is accepted nor that it is refused
+abbrev pub SoundDoesNotMatter : Type 0
+SoundDoesNotMatter = (front rest other : List ℕ) → EndsAtSound front → length rest ≡ length other → IsAccepted (front ++ rest) → IsAccepted (front ++ other)
+
+-- a file that is accepted holds the head of its sound
+abbrev pub SoundHasHead : Type 0
+SoundHasHead = (file : List ℕ) → IsAccepted file → HoldsHead file

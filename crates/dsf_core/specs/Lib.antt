@@ -1,5 +1,6 @@
 pub mod Fields
 pub mod Files
+pub mod Fronts
 pub mod Laws
 pub mod ReadAgain
 pub mod Reading

@@ -1,6 +1,6 @@
 //! The three chunks: `DSD `, `fmt ` and `data`.
 
-ghost use Rattle.std.specs.Prelude.{◌≡◌, ◌≤◌, ◌+◌, length, IfOk};
+ghost use Rattle.std.specs.Prelude.{◌≡◌, ◌≢◌, ◌≤◌, ◌+◌, length, IfOk};
 ghost use Rattle.dsf_core.specs.Fields.{data_place, data_size};
 ghost use Rattle.dsf_core.specs.Reading.{chunks_of};
 ghost use Rattle.dsf_core.specs.Steps.{Gives};
@@ -16,6 +16,7 @@ pub(crate) fn find_data(file: &[u8]) -> Result<usize, DsfFault>
     ensures inside { IfOk result (λ n. n + 12 ≤ length file.now) }
     ensures place { IfOk result (λ n. n ≡ data_place file.now) }
     ensures size { IfOk result (λ _. 12 ≤ data_size file.now) }
+    ensures no_memory { result ≢ Err DsfFault.Memory }
 {
     if file.len() < 4 {
         return Err(DsfFault::NotDsf);

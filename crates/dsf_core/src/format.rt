@@ -1,6 +1,6 @@
 //! The fields of the format chunk: their limits and what they mean.
 
-ghost use Rattle.std.specs.Prelude.{◌≡◌, ◌≤◌, ◌^◌, length, IfOk};
+ghost use Rattle.std.specs.Prelude.{◌≡◌, ◌≢◌, ◌≤◌, ◌^◌, length, IfOk};
 ghost use Rattle.dsf_core.specs.Fields.{channel_number, count, dsf_ids, layout_told, rate};
 ghost use Rattle.dsf_core.specs.Reading.{order_of};
 ghost use Rattle.dsf_core.specs.Steps.{Gives};
@@ -18,6 +18,7 @@ pub(crate) fn read_order(file: &[u8]) -> Result<BitOrder, DsfFault>
     ensures channels { IfOk result (λ _. (1 ≤ channel_number file.now) × (channel_number file.now ≤ 6)) }
     ensures rate { IfOk result (λ _. (1000000 ≤ rate file.now) × (rate file.now ≤ 50000000)) }
     ensures short { IfOk result (λ _. count file.now ≤ 2 ^ 36) }
+    ensures no_memory { result ≢ Err DsfFault.Memory }
 {
     if u32_at(file, 40) != 1 {
         return Err(DsfFault::BadVersion);

@@ -1,9 +1,21 @@
-//! What the words of the contracts have to do with each other. The function does nothing: a caller's
-//! proof cites what it ensures.
+//! What the words of the contracts have to do with each other. The functions do nothing: a caller's
+//! proof cites what they ensure.
 
-ghost use Rattle.dsf_core.specs.Laws.{OneRecording};
+ghost use Rattle.dsf_core.specs.Laws.{OneRecording, SoundDoesNotMatter, SoundHasHead};
 
 /// A file holds one recording at most, in one order of bits.
 pub fn one_recording()
     ensures { OneRecording }
+{}
+
+/// Behind the front of a file, which ends where its sound starts, other bytes of the same number change
+/// neither that the file is accepted nor that it is refused. ([`crate::sound_at`] says which channels they hold.)
+pub fn bytes_of_sound_do_not_matter()
+    ensures { SoundDoesNotMatter }
+{}
+
+/// A file that is accepted holds the head of its sound: [`crate::sound_at`] of the whole of it asks for no
+/// more bytes.
+pub fn accepted_files_have_a_head()
+    ensures { SoundHasHead }
 {}

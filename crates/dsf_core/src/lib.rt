@@ -42,6 +42,7 @@ mod chunks;
 mod fault;
 mod fields;
 mod format;
+mod front;
 mod laws;
 mod reading;
 mod sound;
@@ -49,7 +50,8 @@ mod writing;
 mod writing_laws;
 
 pub use fault::DsfFault;
-pub use laws::one_recording;
+pub use front::{closes, sound_at};
+pub use laws::{accepted_files_have_a_head, bytes_of_sound_do_not_matter, one_recording};
 pub use reading::read;
 pub use writing::write;
 pub use writing_laws::written_is_read_again;

@@ -3,7 +3,7 @@
 ghost use Rattle.std.specs.Prelude.{◌≡◌, ◌≤◌, ◌+◌, ◌^◌, length, IfOk};
 ghost use Rattle.dsd_bits.specs.Blocks.{blocks_size, unblocked_all};
 ghost use Rattle.dsd_bits.specs.Channels.{IsLevel, count_of};
-ghost use Rattle.dsf_core.specs.Fields.{channel_number, count, data_place, data_size, sound_end};
+ghost use Rattle.dsf_core.specs.Fields.{channel_number, count, data_place, data_size, needed, sound_end};
 ghost use Rattle.dsf_core.specs.Reading.{sound_of, tag_of};
 ghost use Rattle.dsf_core.specs.Steps.{Gives};
 
@@ -25,8 +25,7 @@ pub(crate) fn find_sound_end(file: &[u8], data_at: usize) -> Result<usize, DsfFa
     ensures inside { IfOk result (λ n. n ≤ length file.now) }
     ensures end { IfOk result (λ n. n ≡ sound_end file.now) }
 {
-    let groups = u64_at(file, 64).div_ceil(32768);
-    let size = groups * u64::from(u32_at(file, 52)) * 4096;
+    let size = needed_bytes(file);
     if u64_at(file, data_at + 4) - 12 < size {
         return Err(DsfFault::DataCut);
     }
@@ -34,6 +33,17 @@ pub(crate) fn find_sound_end(file: &[u8], data_at: usize) -> Result<usize, DsfFa
         return Err(DsfFault::DataCut);
     }
     Ok(data_at + 12 + size as usize)
+}
+
+/// How many bytes the blocks have that the channels need.
+pub(crate) fn needed_bytes(file: &[u8]) -> u64
+    requires long { 80 ≤ length file.now }
+    requires channels { channel_number file.now ≤ 6 }
+    requires short { count file.now ≤ 2 ^ 36 }
+    ensures { result ≡ needed file.now }
+{
+    let groups = u64_at(file, 64).div_ceil(32768);
+    groups * u64::from(u32_at(file, 52)) * 4096
 }
 
 /// The bytes from the pointer on, none where it is 0.

@@ -2,8 +2,8 @@
 
 ghost use Rattle.std.specs.Prelude.{◌≡◌, ◌≤◌, ◌+◌, ◌^◌, length, IfOk};
 
-use crate::{DsfFault, read, write};
-use dsd_bits::{BitOrder, Bits, BitsFault, Recording};
+use crate::{DsfFault, closes, read, sound_at, write};
+use dsd_bits::{BitOrder, Bits, BitsFault, Recording, Sound, SoundAt};
 use std::alloc::{AllocError, Global};
 use std::process::Abort;
 use std::test::Fail;
@@ -252,5 +252,33 @@ fn names_faults(rt: HostRuntime) -> Result<(), Fail> {
     ] {
         assert_eq!(rt; format!(in rt.alloc(); "{name}")?.as_str(), text);
     }
+    Ok(())
+}
+
+// Whether a file of so many bytes is accepted whose front leads up to its sound.
+fn closes_at(front: &[u8], total: u64) -> Result<bool, Fail> {
+    match sound_at(front) {
+        SoundAt::Found(sound) if sound.start == front.len() && front.len() as u64 <= total => {
+            Ok(closes(front, total))
+        }
+        _ => Err("a front that ends at its sound")?,
+    }
+}
+
+#[test]
+fn finds_the_sound(rt: HostRuntime) -> Result<(), Fail> {
+    let sound = Sound {
+        rate: 2_822_400,
+        channels: 1,
+        count: 1,
+        start: 92,
+        size: 4096,
+        order: Some(BitOrder::LeastFirst),
+    };
+    assert_eq!(rt; sound_at(&FRONT[..91]), SoundAt::More);
+    assert_eq!(rt; sound_at(&FRONT[..92]), SoundAt::Found(sound));
+    assert_eq!(rt; sound_at(b"RIFF"), SoundAt::Refused);
+    assert!(rt; closes_at(&FRONT[..92], 4188)?);
+    assert!(rt; !closes_at(&FRONT[..92], 4187)?);
     Ok(())
 }

@@ -1,0 +1,59 @@
+-- The sound of a file: what it is, and where its bytes stand.
+use Rattle.std.specs.Prelude.{◌≡◌, ◌≤◌, ℕ, ◌+◌, ◌*◌, ◌/◌, ◌^◌, Bool, List, length, take, drop, Option, Some, None}
+use Rattle.dsd_bits.specs.declared.blocks.BitOrder.{BitOrder}
+use Rattle.dsd_bits.specs.declared.sound.Sound.{Sound}
+use Rattle.dsd_bits.specs.declared.sound.SoundAt.{SoundAt}
+use Rattle.dsd_bits.specs.declared.sound.SoundAt.TheVariants.{More, Refused, Found}
+use Rattle.dsd_bits.specs.Blocks.{blocks_size, unblocked_all}
+use Rattle.dsd_bits.specs.Channels.{count_of}
+use Rattle.dsd_bits.specs.Contents.{Content}
+use Rattle.dsd_bits.specs.Lacing.{unlaced_all}
+
+-- how many sound bytes channels of so many bits need: a byte of each channel in turn where no order is told, else blocks
+abbrev pub sound_size : Option BitOrder → ℕ → ℕ → ℕ
+sound_size None channels count = count / 8 * channels
+sound_size (Some order) channels count = blocks_size channels count
+
+-- the channels in sound bytes
+abbrev pub sound_channels : Option BitOrder → ℕ → ℕ → List ℕ → List (List Bool)
+sound_channels None channels count bytes = unlaced_all bytes channels
+sound_channels (Some order) channels count bytes = unblocked_all order bytes channels count
+
+-- the sound lies within the limits of a recording, and its size is what its channels need
+pub record IsSound (s : Sound) : Type 0 where
+  pub rate_low : 1000000 ≤ s.rate
+  pub rate_high : s.rate ≤ 50000000
+  pub some_channel : 1 ≤ s.channels
+  pub six_channels : s.channels ≤ 6
+  pub in_limit : s.count ≤ 2 ^ 36
+  pub size : s.size ≡ sound_size s.order s.channels s.count
+
+-- the bytes of the sound in a file
+abbrev pub sound_bytes : List ℕ → Sound → List ℕ
+sound_bytes file s = take s.size (drop s.start file)
+
+-- the file, which holds this recording, has this sound: it tells rate, channel number and count, and its bytes hold the channels
+pub record HasSound (file : List ℕ) (r : Content) (s : Sound) : Type 0 where
+  pub rate : r.rate ≡ s.rate
+  pub number : length r.channels ≡ s.channels
+  pub count : count_of r.channels ≡ s.count
+  pub in_file : s.start + s.size ≤ length file
+  pub channels : r.channels ≡ sound_channels s.order s.channels s.count (sound_bytes file s)
+
+-- P of the sound that was found
+abbrev pub IfFound : SoundAt → (Sound → Type 0) → Type 0
+IfFound More P = Unit {0}
+IfFound Refused P = Unit {0}
+IfFound (Found s) P = P s
+
+-- P where more bytes are wanted
+abbrev pub IfMore : SoundAt → Type 0 → Type 0
+IfMore More P = P
+IfMore Refused P = Unit {0}
+IfMore (Found s) P = Unit {0}
+
+-- P where every file that begins so is refused
+abbrev pub IfRefused : SoundAt → Type 0 → Type 0
+IfRefused More P = Unit {0}
+IfRefused Refused P = P
+IfRefused (Found s) P = Unit {0}

@@ -1,0 +1,173 @@
+-- Where the sound of a file stands, as the front of the file tells.
+use Rattle.std.specs.Prelude.{◌≡◌, ◌≤◌, ℕ, zero, suc, ◌+◌, ◌*◌, ◌/◌, ◌%◌, ◌^◌, ◌-◌, min, Bool, true, false, ◌&&◌, ◌||◌, not, List, [], ◌∷◌, filter, length, map, take, drop, slice_range, Option, Some, None, Result, Ok, Err, nat_eq, nat_lt, if◌then◌else◌}
+use Rattle.byteorder.specs.Endian.{big_number}
+use Rattle.chunk_core.specs.declared.fault.ChunkFault.TheVariants.{DataCut}
+use Rattle.chunk_core.specs.declared.layout.Span.{Span}
+use Rattle.chunk_core.specs.Chunks.{Chunk, chunks, width}
+use Rattle.chunk_core.specs.Places.{span_chunk}
+use Rattle.chunk_core.specs.Reading.{spans_in}
+use Rattle.chunk_core.specs.Steps.{◌>>=◌}
+use Rattle.dsd_bits.specs.declared.sound.Sound.{Sound}
+use Rattle.dsd_bits.specs.declared.sound.SoundAt.{SoundAt}
+use Rattle.dsd_bits.specs.declared.sound.SoundAt.TheVariants.{More, Refused, Found}
+use Rattle.dsd_bits.specs.Contents.{Content}
+use Rattle.dsd_bits.specs.Ids.{same_id, FVER, DSD}
+use Rattle.dsdiff_core.specs.declared.fault.DsdiffFault.{DsdiffFault}
+use Rattle.dsdiff_core.specs.declared.fault.DsdiffFault.TheVariants.{NotDsdiff, FormCut, Chunk as ChunkFails, NoSound, PartFrame, TooLong}
+use Rattle.dsdiff_core.specs.Fields.{form_size}
+use Rattle.dsdiff_core.specs.Files.{IsDsdiff}
+use Rattle.dsdiff_core.specs.Forms.{version_of}
+use Rattle.dsdiff_core.specs.Kinds.{FRM8, has_id, is_property}
+use Rattle.dsdiff_core.specs.Masters.{masters_of}
+use Rattle.dsdiff_core.specs.Properties.{property_of}
+use Rattle.dsdiff_core.specs.Spans.{once_each, top_kinds}
+use Rattle.dsdiff_core.specs.Steps.{walked}
+
+-- the file holds some recording
+abbrev pub IsAccepted : List ℕ → Type 0
+IsAccepted file = (r : Content) × IsDsdiff file r
+
+-- the size in the head at a place
+abbrev pub size_at : List ℕ → ℕ → ℕ
+size_at front at = big_number 8 (drop (at + 4) front)
+
+-- the place behind chunks that follow each other from a place on, each with its pad
+abbrev pub behind : ℕ → List Chunk → ℕ
+behind at [] = at
+behind at (c ∷ cs) = behind (at + width c) cs
+
+-- the bytes hold the head of the sound: chunks of the form, of which none is a sound, lead up to it
+pub record HoldsHead (front : List ℕ) : Type 0 where
+  pub at : ℕ
+  pub before : List Chunk
+  pub are_before : chunks (slice_range front 16 at) before
+  pub no_gap : behind 16 before ≡ at
+  pub no_sound : filter (has_id DSD) before ≡ []
+  pub id : take 4 (drop at front) ≡ DSD
+  pub whole : at + 12 ≤ length front
+
+-- the place of the first head of a sound among chunks from a place on, in a form of this size and in at most so many steps; none where more bytes are wanted
+unfoldable pub seek_for : ℕ → ℕ → List ℕ → ℕ → Result (Option ℕ) DsdiffFault
+seek_for zero at front size = Ok None
+seek_for (suc steps) at front size =
+    if nat_lt size at then Err NoSound
+    else if nat_lt (length front) (at + 12) then Ok None
+    else if nat_lt size (at + size_at front at) then Err (ChunkFails (DataCut at))
+    else if same_id (take 4 (drop at front)) DSD then Ok (Some at)
+    else if nat_lt (length front) (at + 12 + size_at front at) then Ok None
+    else seek_for steps (at + (12 + size_at front at + size_at front at % 2)) front size
+
+-- the place of the head of the sound: there are no more chunks than bytes
+unfoldable pub seek : List ℕ → Result (Option ℕ) DsdiffFault
+seek front = seek_for (length front) 16 front (form_size front)
+
+-- the form begins
+unfoldable pub form_of : List ℕ → Result (Unit {0}) DsdiffFault
+form_of front =
+    if not (same_id (take 4 front) FRM8) then Err NotDsdiff
+    else if not (same_id (take 4 (drop 12 front)) DSD) then Err NotDsdiff
+    else if nat_lt (form_size front) 4 then Err FormCut
+    else Ok tt
+
+-- the size is that of whole frames of so many channels, within the limit
+abbrev pub frames_of : ℕ → ℕ → Result (Unit {0}) DsdiffFault
+frames_of size number =
+    if not (nat_eq (size % number) 0) then Err PartFrame
+    else if nat_lt (2 ^ 36) (8 * (size / number)) then Err TooLong
+    else Ok tt
+
+-- the sound of this rate, channel number and size whose head stands at a place
+abbrev pub sound_told : ℕ → ℕ → ℕ → ℕ → Sound
+sound_told rate number at size = record {
+  rate = rate;
+  channels = number;
+  count = 8 * (size / number);
+  start = at + 12;
+  size = size;
+  order = None;
+}
+
+-- the chunks of the form up to a place
+unfoldable pub leading_of : List ℕ → ℕ → Result (List Span) DsdiffFault
+leading_of front at = do
+  top ← walked (spans_in front 16 at)
+  known ← version_of (map (span_chunk front) top)
+  once ← once_each (top_kinds front) [] top
+  Ok top
+
+-- the sound whose head stands at a place, where the chunks before it tell what it is
+unfoldable pub sound_behind : List ℕ → ℕ → Result Sound DsdiffFault
+sound_behind front at = do
+  top ← leading_of front at
+  told ← property_of front top
+  frames ← frames_of (size_at front at) (length told.ids)
+  Ok (sound_told told.rate (length told.ids) at (size_at front at))
+
+-- the sound that the front of a file leads to; none where more bytes are wanted
+abbrev pub sound_from : List ℕ → Option ℕ → Result (Option Sound) DsdiffFault
+sound_from front None = Ok None
+sound_from front (Some at) = sound_behind front at >>= λ s. Ok (Some s)
+
+unfoldable pub sound_in : List ℕ → Result (Option Sound) DsdiffFault
+sound_in front = if nat_lt (length front) 16 then Ok None else do
+  form ← form_of front
+  place ← seek front
+  sound_from front place
+
+-- what is told of the sound
+abbrev pub answer_of : Result (Option Sound) DsdiffFault → SoundAt
+answer_of (Ok (Some s)) = Found s
+answer_of (Ok None) = More
+answer_of (Err e) = Refused
+
+-- what the front of a file tells of its sound
+abbrev pub sound_at : List ℕ → SoundAt
+sound_at front = answer_of (sound_in front)
+
+-- the front of a file tells of this sound, and ends where that starts
+pub record EndsAt (front : List ℕ) (s : Sound) : Type 0 where
+  pub found : sound_at front ≡ Found s
+  pub start : s.start ≡ length front
+
+-- ---- behind the sound
+
+-- how many bytes of the form stand behind a sound of this size, of which the last may be missing
+abbrev pub left_behind : List ℕ → ℕ → ℕ
+left_behind front size = 12 + form_size front - (length front + size)
+
+-- where these end in the bytes behind the sound
+abbrev pub end_behind : List ℕ → ℕ → List ℕ → ℕ
+end_behind front size back = min (left_behind front size) (length back)
+
+-- the chunk is of a kind that stands once, and before the end of the sound: a version, a property of the sound, a sound
+abbrev pub is_known : Chunk → Bool
+is_known c = has_id FVER c || (is_property c || has_id DSD c)
+
+-- none of the chunks is
+abbrev pub none_known : List Chunk → Bool
+none_known [] = true
+none_known (c ∷ cs) = not (is_known c) && none_known cs
+
+-- the chunks behind a sound of this size, and behind its pad
+unfoldable pub later_of : List ℕ → ℕ → List ℕ → Result (List Span) DsdiffFault
+later_of front size back =
+    if nat_lt (length back + 1) (left_behind front size) then Err FormCut
+    else walked (spans_in back (min (size % 2) (end_behind front size back)) (end_behind front size back))
+
+-- the bytes behind a sound of this size close the file, or the first fault
+unfoldable pub closing_of : List ℕ → ℕ → List ℕ → Result Bool DsdiffFault
+closing_of front size back = do
+  later ← later_of front size back
+  before ← walked (spans_in front 16 (length front - 12))
+  early ← masters_of front before
+  late ← masters_of back later
+  Ok (none_known (map (span_chunk back) later))
+
+-- whether the reading finds that they do
+abbrev pub closes_of : Result Bool DsdiffFault → Bool
+closes_of (Ok closed) = closed
+closes_of (Err e) = false
+
+-- the front of a file ends where a sound starts that it tells of
+abbrev pub EndsAtSound : List ℕ → Type 0
+EndsAtSound front = (s : Sound) × EndsAt front s

@@ -1,0 +1,151 @@
+//! Where the sound of a file stands, as its front tells.
+
+ghost use Rattle.std.specs.Prelude.{None, ◌≡◌, ◌≤◌, ◌+◌, ◌++◌, ◌%◌, ◌*◌, ◌/◌, ◌^◌, All, List, ℕ, IfOk, IfSome, length, map};
+ghost use Rattle.chunk_core.specs.Places.{span_chunk};
+ghost use Rattle.chunk_core.specs.Reading.{spans_in};
+ghost use Rattle.dsd_bits.specs.Contents.{Content};
+ghost use Rattle.dsd_bits.specs.Sounds.{HasSound, IfFound, IfMore, IfRefused, IsSound};
+ghost use Rattle.dsdiff_core.specs.Fields.{form_size};
+ghost use Rattle.dsdiff_core.specs.Files.{IsDsdiff};
+ghost use Rattle.dsdiff_core.specs.Fronts.{HoldsHead, IsAccepted, form_of, frames_of, seek, size_at, sound_at, sound_behind, sound_in};
+ghost use Rattle.dsdiff_core.specs.Steps.{Gives};
+
+use crate::fault::DsdiffFault;
+use crate::form::leading_chunks;
+use crate::property::read_property;
+use chunk_core::{ChunkFault, Order, head};
+use dsd_bits::{Sound, SoundAt};
+use std::alloc::{AllocError, Global};
+
+/// Where the sound of a DSDIFF 1.5 file stands, and what it is, told by the front of the file alone:
+/// - `More`: the front does not hold the whole head of the chunk of the sound.
+/// - `Refused`: no file that begins so is accepted by [`crate::read`].
+/// - `Found`: every file that begins so and is accepted has this sound: its rate, its channels and its
+///   count, and the bytes of the sound stand at `start`, `size` bytes.
+///
+/// It fails for want of memory alone.
+pub fn sound_at(alloc: Global, front: &[u8]) -> Result<SoundAt, AllocError>
+    ensures found { IfOk result (λ x. IfFound x (λ s. (rest : List ℕ) (r : Content) → IsDsdiff (front.now ++ rest) r → HasSound (front.now ++ rest) r s)) }
+    ensures limits { IfOk result (λ x. IfFound x (λ s. IsSound s × (s.order ≡ None))) }
+    ensures refused { IfOk result (λ x. IfRefused x ((rest : List ℕ) → IsAccepted (front.now ++ rest) → ⊥)) }
+    ensures more { IfOk result (λ x. IfMore x (HoldsHead front.now → ⊥)) }
+    // By the order of refusals.
+    ensures exact { IfOk result (λ x. x ≡ sound_at front.now) }
+{
+    answer(alloc, front)
+}
+
+// The same, by the order of refusals alone.
+fn answer(alloc: Global, front: &[u8]) -> Result<SoundAt, AllocError>
+    ensures { IfOk result (λ x. x ≡ sound_at front.now) }
+{
+    match read_front(alloc, front) {
+        Ok(Some(sound)) => Ok(SoundAt::Found(sound)),
+        Ok(None) => Ok(SoundAt::More),
+        Err(DsdiffFault::Memory) => Err(AllocError),
+        Err(_) => Ok(SoundAt::Refused),
+    }
+}
+
+// The sound that the front of a file leads to, and none where more bytes are wanted.
+#[tactic(auto, unfolding(crate::specs::Fronts::sound_in))]
+fn read_front(alloc: Global, front: &[u8]) -> Result<Option<Sound>, DsdiffFault>
+    ensures { Gives (λ x. x) result (sound_in front.now) }
+{
+    if front.len() < 16 {
+        return Ok(None);
+    }
+    let size = form_size(front)?;
+    let Some(at) = find_head(front, size)? else {
+        return Ok(None);
+    };
+    let sound = read_sound(alloc, front, at)?;
+    Ok(Some(sound))
+}
+
+// The size of the form that begins.
+#[tactic(auto, unfolding(crate::specs::Fronts::form_of))]
+fn form_size(front: &[u8]) -> Result<u64, DsdiffFault>
+    requires { 16 ≤ length front.now }
+    ensures exact { Gives (λ _. tt) result (form_of front.now) }
+    ensures size { IfOk result (λ n. n ≡ form_size front.now) }
+{
+    let Some(form) = head(Order::Big, front, 0) else {
+        return Err(DsdiffFault::NotDsdiff);
+    };
+    let (_, behind_head) = front.split_at(12);
+    let (name, _) = behind_head.split_at(4);
+    let mut kind = [0; 4];
+    kind.copy_from_slice(name);
+    if form.id != *b"FRM8" || kind != *b"DSD " {
+        return Err(DsdiffFault::NotDsdiff);
+    }
+    if form.size < 4 {
+        return Err(DsdiffFault::FormCut);
+    }
+    Ok(form.size)
+}
+
+// Where the head of the sound stands in a form of this size, and none where more bytes are wanted.
+fn find_head(front: &[u8], size: u64) -> Result<Option<usize>, DsdiffFault>
+    requires long { 16 ≤ length front.now }
+    requires size { size ≡ form_size front.now }
+    ensures exact { Gives (λ x. x) result (seek front.now) }
+    ensures whole { IfOk result (λ x. IfSome x (λ at. (16 ≤ at) × (at + 12 ≤ length front.now))) }
+{
+    let mut at = 16;
+    while at as u64 <= size {
+        let Some(chunk) = head(Order::Big, front, at) else {
+            return Ok(None);
+        };
+        if size - (at as u64) < chunk.size {
+            return Err(DsdiffFault::Chunk(ChunkFault::DataCut(at)));
+        }
+        if chunk.id == *b"DSD " {
+            return Ok(Some(at));
+        }
+        if ((front.len() - at - 12) as u64) < chunk.size {
+            return Ok(None);
+        }
+        at += 12 + chunk.size as usize + chunk.size as usize % 2;
+    }
+    Err(DsdiffFault::NoSound)
+}
+
+// The sound whose head stands at a place.
+#[tactic(auto, unfolding(crate::specs::Fronts::sound_behind))]
+fn read_sound(alloc: Global, front: &[u8], at: usize) -> Result<Sound, DsdiffFault>
+    requires from { 16 ≤ at }
+    requires whole { at + 12 ≤ length front.now }
+    ensures { Gives (λ s. s) result (sound_behind front.now at) }
+{
+    let top = leading_chunks(alloc, front, at)?;
+    let told = read_property(alloc, front, &top)?;
+    let number = told.ids.len();
+    let Some(chunk) = head(Order::Big, front, at) else {
+        return Err(DsdiffFault::NoSound);
+    };
+    check_frames(chunk.size, number)?;
+    Ok(Sound {
+        rate: told.rate,
+        channels: number,
+        count: 8 * (chunk.size as usize / number),
+        start: at + 12,
+        size: chunk.size as usize,
+        order: None,
+    })
+}
+
+// Refuses a size that is not that of whole frames of so many channels, within the limit.
+fn check_frames(size: u64, number: usize) -> Result<(), DsdiffFault>
+    requires { 1 ≤ number }
+    ensures { Gives (λ _. tt) result (frames_of size number) }
+{
+    if size % number as u64 != 0 {
+        return Err(DsdiffFault::PartFrame);
+    }
+    if (1 << 36) / 8 < size / number as u64 {
+        return Err(DsdiffFault::TooLong);
+    }
+    Ok(())
+}

@@ -1,0 +1,54 @@
+-- Where the sound of a file stands, as the front of the file tells, and which ends make a file of it.
+use Rattle.std.specs.Prelude.{◌≡◌, ◌≤◌, ℕ, ◌-◌, List, length, Some, Result, Ok, Err, nat_lt, if◌then◌else◌}
+use Rattle.chunk_core.specs.Steps.{◌>>=◌}
+use Rattle.dsd_bits.specs.declared.blocks.BitOrder.{BitOrder}
+use Rattle.dsd_bits.specs.declared.sound.Sound.{Sound}
+use Rattle.dsd_bits.specs.declared.sound.SoundAt.{SoundAt}
+use Rattle.dsd_bits.specs.declared.sound.SoundAt.TheVariants.{More, Refused, Found}
+use Rattle.dsd_bits.specs.Contents.{Content}
+use Rattle.dsf_core.specs.declared.fault.DsfFault.{DsfFault}
+use Rattle.dsf_core.specs.declared.fault.DsfFault.TheVariants.{HeadCut, DataCut}
+use Rattle.dsf_core.specs.Fields.{rate, channel_number, count, data_size, sound_place, needed}
+use Rattle.dsf_core.specs.Files.{IsDsf}
+use Rattle.dsf_core.specs.Reading.{chunks_of, order_of}
+
+-- the file holds some recording
+abbrev pub IsAccepted : List ℕ → Type 0
+IsAccepted file = (r : Content) × (order : BitOrder) × IsDsf file r order
+
+-- the bytes hold the fields of the format chunk, and the head of the data chunk
+pub record HoldsHead (front : List ℕ) : Type 0 where
+  pub fields : 80 ≤ length front
+  pub head : sound_place front ≤ length front
+
+-- the sound that the fields tell, its bits in this order
+abbrev pub sound_told : List ℕ → BitOrder → Sound
+sound_told front order = record {
+  rate = rate front;
+  channels = channel_number front;
+  count = count front;
+  start = sound_place front;
+  size = needed front;
+  order = Some order;
+}
+
+-- the sound that the front of a file leads to, or the first fault
+unfoldable pub sound_in : List ℕ → Result Sound DsfFault
+sound_in front = do
+  data_at ← chunks_of front
+  order ← order_of front
+  if nat_lt (data_size front - 12) (needed front) then Err DataCut else Ok (sound_told front order)
+
+-- a sound is found; where a head is cut more bytes are wanted
+abbrev pub answer_of : Result Sound DsfFault → SoundAt
+answer_of (Ok s) = Found s
+answer_of (Err HeadCut) = More
+answer_of (Err e) = Refused
+
+-- what the front of a file tells of its sound
+unfoldable pub sound_at : List ℕ → SoundAt
+sound_at front = if nat_lt (length front) 4 then More else answer_of (sound_in front)
+
+-- the front of a file tells of its sound, and ends where that starts
+abbrev pub EndsAtSound : List ℕ → Type 0
+EndsAtSound front = (s : Sound) × (sound_at front ≡ Found s) × (s.start ≡ length front)

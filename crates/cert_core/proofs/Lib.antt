@@ -8,3 +8,4 @@ pub mod Pulls
 pub mod Spellings
 pub mod Steps
 pub mod Whole
+pub mod Within

@@ -60,7 +60,7 @@ module _ (t : Trellis) (some : 0 < t.width) where
     exceeds_high : set_by (before_by_1 t.width q) < get_or row q 0 → Exceeds t level previous row q
     exceeds_high lt = (before_by_1 t.width q, newest q, omega (arith, low_below q inside, halves), next_high q inside, lt)
 
-    one_exceeds : Exceeds t level previous row q → (set_by (before_by_0 t.width q) < get_or row q 0) ⊎ (set_by (before_by_1 t.width q) < get_or row q 0)
+    pub one_exceeds : Exceeds t level previous row q → (set_by (before_by_0 t.width q) < get_or row q 0) ⊎ (set_by (before_by_1 t.width q) < get_or row q 0)
     one_exceeds (p, bit, h, e, lt) =
         let w = before_next p bit q h e in
         let lt2 : set_by p < get_or row q 0 = subst (λ b. get_or previous p 0 + t.step level p b < get_or row q 0) w.0 lt in

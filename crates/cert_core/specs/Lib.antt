@@ -8,4 +8,5 @@ pub mod Readers
 pub mod Reasons
 pub mod Stops
 pub mod Text
+pub mod Within
 pub mod Writers

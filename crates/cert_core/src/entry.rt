@@ -95,7 +95,7 @@ fn make_row(alloc: Global, count: usize) -> Result<Vec<u64>, AllocError>
     vec![in alloc; 0; count]
 }
 
-// The last row, after the rows of all levels. Two rows and the bytes of one are held.
+// The last row, after the rows of all levels. Two rows, the steps of one level and the bytes of a row are held.
 fn read_rows<R: Read>(
     alloc: Global,
     inlet: &mut Inlet<R>,
@@ -110,9 +110,10 @@ fn read_rows<R: Read>(
     let mut previous = make_row(alloc, states)?;
     let mut row = make_row(alloc, states)?;
     let mut bytes = make_buffer(alloc, 8 * row.len())?;
+    let mut steps = make_row(alloc, 2 * states)?;
     for level in 0..window.length() + 1 {
         read_row(inlet, &mut bytes, &mut row)?;
-        if let Some(reason) = row_reason(window, level, &previous, &row) {
+        if let Some(reason) = row_reason(window, level, &previous, &row, &mut steps) {
             return Err(Stop::Reason(reason));
         }
         std::mem::swap(&mut previous, &mut row);

@@ -1,12 +1,15 @@
 //! What is wrong with a row of bounds.
 
-ghost use Rattle.std.specs.Prelude.{◌≡◌, ℕ, ◌+◌, ◌-◌, ◌*◌, ◌^◌, ◌<◌, ◌≤◌, length, slice_index, MatchOption, IsTrue, ◌↔◌, false};
+ghost use Rattle.std.specs.Prelude.{◌≡◌, ℕ, ◌+◌, ◌-◌, ◌*◌, ◌^◌, ◌<◌, ◌≤◌, length, ◌%◌, slice_index, MatchOption, IsTrue, ◌↔◌, false};
+ghost use Rattle.std.specs.Simd.Lanes.{Each1};
 ghost use Rattle.cost_core.specs.Trellis.{states, IsBounded};
 ghost use Rattle.cost_core.specs.StateCosts.{trellis_of};
+ghost use Rattle.cert_core.specs.Within.{WithinBoth};
 ghost use Rattle.cert_core.specs.Reasons.{RowBounded, Exceeds, RowClean, RowReason};
 
 use crate::verdict::CertReason;
-use cost_core::Window;
+use cost_core::{Window, doubled};
+use std::simd::prelude::*;
 
 // The greatest bound.
 const GREATEST: u64 = 1 << 63;
@@ -53,19 +56,93 @@ fn exceeds(window: &Window, level: usize, previous: &[u64], row: &[u64], state: 
         || reached(window, level, previous, high, bit) < row[state]
 }
 
-// The lowest state whose value exceeds what a state before it sets.
-fn exceeding(window: &Window, level: usize, previous: &[u64], row: &[u64]) -> Option<usize>
+// Whether no value of eight states exceeds what either state before it sets.
+fn are_within(
+    row: &[u64; 8],
+    low: &[u64; 8],
+    low_steps: &[u64; 8],
+    high: &[u64; 8],
+    high_steps: &[u64; 8],
+) -> bool
+    requires low { Each1 (λ x. x ≤ 2 ^ 63) low.now }
+    requires low_steps { Each1 (λ x. x < 2 ^ 63) low_steps.now }
+    requires high { Each1 (λ x. x ≤ 2 ^ 63) high.now }
+    requires high_steps { Each1 (λ x. x < 2 ^ 63) high_steps.now }
+    ensures low { IsTrue result → (k : ℕ) → k < 8 → slice_index row.now k ≤ slice_index low.now k + slice_index low_steps.now k }
+    ensures high { IsTrue result → (k : ℕ) → k < 8 → slice_index row.now k ≤ slice_index high.now k + slice_index high_steps.now k }
+{
+    let row = u64x8::from_array(*row);
+    let by_0 = u64x8::from_array(*low).strict_add(u64x8::from_array(*low_steps));
+    let by_1 = u64x8::from_array(*high).strict_add(u64x8::from_array(*high_steps));
+    row.simd_gt(by_0).to_bitmask() == 0 && row.simd_gt(by_1).to_bitmask() == 0
+}
+
+// Whether no value of a row exceeds what either state before it sets. The row has sixteen states or a multiple
+// of them; `lows` and `highs` are the steps into each.
+fn is_within(previous: &[u64], lows: &[u64], highs: &[u64], row: &[u64]) -> bool
+    requires whole { length previous.now % 16 ≡ 0 }
+    requires lows_len { length lows.now ≡ length previous.now }
+    requires highs_len { length highs.now ≡ length previous.now }
+    requires row_len { length row.now ≡ length previous.now }
+    requires previous { Each1 (λ x. x ≤ 2 ^ 63) previous.now }
+    requires lows { Each1 (λ x. x < 2 ^ 63) lows.now }
+    requires highs { Each1 (λ x. x < 2 ^ 63) highs.now }
+    ensures { IsTrue result → WithinBoth (length previous.now) previous.now lows.now highs.now row.now }
+{
+    let (low, high) = previous.split_at(previous.len() / 2);
+    let (low_chunks, _) = low.as_chunks::<8>();
+    let (high_chunks, _) = high.as_chunks::<8>();
+    let (low_steps, _) = lows.as_chunks::<8>();
+    let (high_steps, _) = highs.as_chunks::<8>();
+    let (rows, _) = row.as_chunks::<8>();
+    for i in 0..low_chunks.len() {
+        let j = 2 * i;
+        let (low_front, low_back) = doubled(&low_chunks[i]);
+        let (high_front, high_back) = doubled(&high_chunks[i]);
+        let front = are_within(&rows[j], &low_front, &low_steps[j], &high_front, &high_steps[j]);
+        let back = are_within(
+            &rows[j + 1],
+            &low_back,
+            &low_steps[j + 1],
+            &high_back,
+            &high_steps[j + 1],
+        );
+        if !front || !back {
+            return false;
+        }
+    }
+    true
+}
+
+// The lowest state whose value exceeds what a state before it sets. `steps` is overwritten.
+fn exceeding(
+    window: &Window,
+    level: usize,
+    previous: &[u64],
+    row: &[u64],
+    steps: &mut [u64],
+) -> Option<usize>
     requires bounded { IsBounded (trellis_of window.now) }
     requires level { level < (trellis_of window.now).levels }
     requires previous { length previous.now ≡ states (trellis_of window.now) }
     requires row { length row.now ≡ states (trellis_of window.now) }
     requires limit { RowBounded (trellis_of window.now) previous.now }
-    ensures { MatchOption result
+    requires steps { length steps.old ≡ 2 * states (trellis_of window.now) }
+    ensures steps { length steps.new ≡ length steps.old }
+    ensures found { MatchOption result
         ((q : ℕ) → q < states (trellis_of window.now) → Exceeds (trellis_of window.now) level previous.now row.now q → ⊥)
         (λ q. (q < states (trellis_of window.now)) × Exceeds (trellis_of window.now) level previous.now row.now q
         × ((k : ℕ) → k < q → Exceeds (trellis_of window.now) level previous.now row.now k → ⊥)) }
 {
-    for state in 0..window.states() {
+    let states = window.states();
+    if states > 8 {
+        window.step_costs(level, steps);
+        let (lows, highs) = steps.split_at(states);
+        if is_within(previous, lows, highs, row) {
+            return None;
+        }
+    }
+    for state in 0..states {
         if exceeds(window, level, previous, row, state) {
             return Some(state);
         }
@@ -73,19 +150,22 @@ fn exceeding(window: &Window, level: usize, previous: &[u64], row: &[u64]) -> Op
     None
 }
 
-/// What is wrong with the row of a level first; `previous` is the row before it.
+/// What is wrong with the row of a level first; `previous` is the row before it, and `steps` is overwritten.
 pub fn row_reason(
     window: &Window,
     level: usize,
     previous: &[u64],
     row: &[u64],
+    steps: &mut [u64],
 ) -> Option<CertReason>
     requires bounded { IsBounded (trellis_of window.now) }
     requires level { level ≤ (trellis_of window.now).levels }
     requires row { length row.now ≡ states (trellis_of window.now) }
     requires previous { 0 < level → length previous.now ≡ states (trellis_of window.now) }
     requires limit { 0 < level → RowBounded (trellis_of window.now) previous.now }
-    ensures { MatchOption result
+    requires steps { length steps.old ≡ 2 * states (trellis_of window.now) }
+    ensures steps { length steps.new ≡ length steps.old }
+    ensures reason { MatchOption result
         (RowClean (trellis_of window.now) level previous.now row.now)
         (RowReason (trellis_of window.now) level previous.now row.now) }
 {
@@ -99,7 +179,7 @@ pub fn row_reason(
             Some(CertReason::Start)
         };
     }
-    match exceeding(window, level - 1, previous, row) {
+    match exceeding(window, level - 1, previous, row, steps) {
         Some(state) => Some(CertReason::Step(level, state)),
         None => None,
     }

@@ -1,12 +1,16 @@
 pub mod Arriving
 pub mod Channels
+pub mod Chunks
 pub mod Fades
 pub mod Joining
+pub mod Lanes
 pub mod Leasts
 pub mod Limits
 pub mod Numbers
 pub mod Places
 pub mod Reading
+pub mod StepRows
 pub mod SumLaws
 pub mod Tables
+pub mod Twice
 pub mod Walks

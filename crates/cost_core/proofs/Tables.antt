@@ -17,7 +17,7 @@ module _ (w : Inside) (fine : IsWindow w) where
   pub table_length : length w.scaled.items ≡ 2 ^ length w.weights.items
   table_length = ap length fine.table_is ∙ length-map-range_with_len (scaled (bridging_of w)) 0 (2 ^ length w.weights.items)
 
-  table_at : (code : ℕ) → code < 2 ^ length w.weights.items → get_or w.scaled.items code (pos 0) ≡ scaled (bridging_of w) code
+  pub table_at : (code : ℕ) → code < 2 ^ length w.weights.items → get_or w.scaled.items code (pos 0) ≡ scaled (bridging_of w) code
   table_at code h = ap (λ l. get_or l code (pos 0)) fine.table_is ∙ get_or-map-range_with_len (scaled (bridging_of w)) 0 (2 ^ length w.weights.items) code code (pos 0) h (omega arith)
 
   pub table_in : (code : ℕ) → unsigned_abs (scaled (bridging_of w) code) ≤ 4097 * 4096

@@ -43,6 +43,7 @@
 mod fading;
 mod fault;
 mod laws;
+mod rows;
 mod sink;
 mod sums;
 mod window;
@@ -52,6 +53,7 @@ pub use laws::{
     costs_in_bounds, cut_is_valid, fades_join, least_from_valid, least_together,
     places_are_windows, steps_are_cost,
 };
+pub use rows::doubled;
 pub use sink::{LevelSink, SinkFault};
 pub use window::Window;
 

@@ -1,6 +1,6 @@
 //! Weighted sums of bits.
 
-ghost use Rattle.std.specs.Prelude.{◌≡◌, ◌+◌, ◌*◌, ◌^◌, ◌<◌, ◌≤◌, map, length, pos, ◌*ℤ◌, ◌-ℤ◌, unsigned_abs, IfOk};
+ghost use Rattle.std.specs.Prelude.{◌≡◌, ℕ, ◌+◌, ◌*◌, ◌^◌, ◌<◌, ◌≤◌, map, length, slice_index, slice_index_or, pos, ◌*ℤ◌, ◌-ℤ◌, unsigned_abs, IfOk};
 ghost use Rattle.std.specs.List.{range_with_len};
 ghost use Rattle.dsd_bits.specs.Sums.{sign};
 ghost use Rattle.project_core.specs.Cues.{AreWeights};
@@ -66,6 +66,19 @@ pub fn squared_difference(a: i32, b: i32) -> u64
 {
     let size = u64::from((a - b).unsigned_abs());
     size * size
+}
+
+/// Writes the squares of the differences of some scaled sums and another one. (A plain loop over two slices,
+/// which the compiler turns into lanes.)
+pub fn squared_differences(sums: &[i32], other: i32, squares: &mut [u64])
+    requires sums { (k : ℕ) → k < length sums.now → unsigned_abs (slice_index_or sums.now k (pos 0)) ≤ greatest_sum }
+    requires other { unsigned_abs other ≤ greatest_sum }
+    requires as_many { length squares.old ≡ length sums.now }
+    ensures { (k : ℕ) → k < length sums.now → slice_index squares.new k ≡ square (slice_index_or sums.now k (pos 0) -ℤ other) }
+{
+    for i in 0..squares.len() {
+        squares[i] = squared_difference(sums[i], other);
+    }
 }
 
 /// The scaled weighted sums of all numbers of as many binary digits as there are weights.

@@ -11,7 +11,7 @@ ghost use Rattle.cost_core.specs.Faults.{HasRoom, first_fault, named};
 
 use crate::fading::fade_targets;
 use crate::fault::WindowFault;
-use crate::sums::{read_state, scaled_sums, squared_difference};
+use crate::sums::{read_state, scaled_sums, squared_difference, squared_differences};
 use dsd_bits::Bits;
 use project_core::Splice;
 use std::alloc::{AllocError, Global};
@@ -198,9 +198,7 @@ impl Window {
         ensures { row.new ≡ step_row self.now level }
     {
         let target = self.targets[level];
-        for code in 0..row.len() {
-            row[code] = squared_difference(self.scaled[code], target);
-        }
+        squared_differences(&self.scaled, target, row);
     }
 
     // The squared deviation at the place after `level`, also after the bridge.

@@ -1,7 +1,10 @@
 pub mod Back
 pub mod Bests
+pub mod Decisions
+pub mod Few
 pub mod Finals
 pub mod HandedOver
 pub mod LeastSums
+pub mod Levels
 pub mod RowLaws
 pub mod TableLaws

@@ -1,13 +1,11 @@
 -- Rows of least sums, as lists.
 use Rattle.std.proofs.Common.{◌≡◌, ℕ, ◌+◌, ◌/◌, ◌^◌, ◌<◌, min, eqb, cond, List, [], ◌∷◌, ◌++◌, map, length, get_or, refl, sym, ap, ◌∙◌, arith}
 use Rattle.std.proofs.Math.Numerals.{add-one}
-use Rattle.std.proofs.lemmas.List.{length-append, get_or_append_left, get_or-append-add}
 use Rattle.std.proofs.lemmas.List.FromFn.{length-map-range_with_len, get_or-map-range_with_len, map-range_with_len_more}
 use Rattle.std.specs.List.{range_with_len}
 use Rattle.cost_core.specs.Trellis.{Trellis, states, newest, before_by_0, before_by_1, IsBounded}
-use Rattle.cost_core.specs.Bridges.{Bridging}
-use Rattle.cost_core.specs.StateCosts.{step_of, step_row, trellis_of}
 use Rattle.cost_core.proofs.Numbers.{pow_double}
+use Rattle.cost_core.proofs.StepRows.{high_is}
 use Rattle.trellis_core.specs.Best.{by_0, by_1, best, best_row}
 use Rattle.trellis_core.proofs.Bests.{best_le}
 
@@ -44,9 +42,6 @@ before_0_in t q h = omega arith
 pub before_1_in : (t : Trellis) → 0 < t.width → (q : ℕ) → q < states t → before_by_1 t.width q < states t
 before_1_in t some q h = omega (arith, pow_double t.width some)
 
-pub high_is : (t : Trellis) → 0 < t.width → (q n : ℕ) → n ≡ states t → q / 2 + n / 2 ≡ before_by_1 t.width q
-high_is t some q n en = rw en (omega (arith, pow_double t.width some))
-
 -- the sums by either state before a state, as they are read from a row
 module _ (t : Trellis) (fine : IsBounded t) (i q n : ℕ) (row : List ℕ) (en : n ≡ states t) (er : row ≡ best_row t i) (hq : q < states t) where
   pub low_in : q / 2 < length row
@@ -78,34 +73,3 @@ module _ (t : Trellis) (fine : IsBounded t) (i q n : ℕ) (row : List ℕ) (en :
 
   pub sum_1_fits : (s : ℕ) → s ≡ t.step i (q / 2 + n / 2) (newest q) → i < t.levels → get_or row (q / 2 + n / 2) 0 + s < 2 ^ 64
   sum_1_fits s es hi = omega (arith, at (q / 2 + n / 2) high_state, best_le t fine.some_state i (q / 2 + n / 2), fine.step_in i (q / 2 + n / 2) (newest q) hi high_state)
-
--- the steps of a level, as they are read from their row
-module _ (d : Bridging) (i q n : ℕ) (steps : List ℕ) (es : steps ≡ step_row d i) (en : n ≡ states (trellis_of d)) (hq : q < states (trellis_of d)) where
-  abbrev by : (ℕ → ℕ → ℕ) → ℕ → ℕ
-  by before p = step_of d i (before (length d.preceding) p) (newest p)
-
-  abbrev part : (ℕ → ℕ → ℕ) → List ℕ
-  part before = map (by before) (range_with_len 0 (2 ^ length d.preceding))
-
-  part_length : (before : ℕ → ℕ → ℕ) → length (part before) ≡ states (trellis_of d)
-  part_length before = length-map-range_with_len (by before) 0 (2 ^ length d.preceding)
-
-  part_at : (before : ℕ → ℕ → ℕ) → get_or (part before) q 0 ≡ by before q
-  part_at before = get_or-map-range_with_len (by before) 0 (2 ^ length d.preceding) q q 0 hq (omega arith)
-
-  steps_length : length steps ≡ states (trellis_of d) + states (trellis_of d)
-  steps_length = ap length es ∙ length-append (part before_by_0) (part before_by_1) ∙ omega (arith, part_length before_by_0, part_length before_by_1)
-
-  pub step_0_in : q < length steps
-  step_0_in = omega (arith, steps_length)
-
-  pub step_1_in : n + q < length steps
-  step_1_in = omega (arith, steps_length)
-
-  pub step_0 : get_or steps q 0 ≡ step_of d i (q / 2) (newest q)
-  step_0 = ap (λ l. get_or l q 0) es ∙ get_or_append_left (part before_by_0) (part before_by_1) 0 q (omega (arith, part_length before_by_0)) ∙ part_at before_by_0
-
-  pub step_1 : 0 < length d.preceding → get_or steps (n + q) 0 ≡ step_of d i (q / 2 + n / 2) (newest q)
-  step_1 some =
-      ap (λ l. get_or l (n + q) 0) es ∙ ap (λ k. get_or (part before_by_0 ++ part before_by_1) (k + q) 0) (en ∙ sym (part_length before_by_0))
-      ∙ get_or-append-add (part before_by_0) (part before_by_1) q 0 ∙ part_at before_by_1 ∙ ap (λ p. step_of d i p (newest q)) (sym (high_is (trellis_of d) some q n en))

@@ -1,27 +1,13 @@
--- The table of rows, the way back through it, and the end state.
-use Rattle.std.proofs.Common.{◌≡◌, ℕ, zero, suc, ◌+◌, ◌-◌, ◌/◌, ◌^◌, ◌<◌, ◌≤◌, Bool, ltb, List, [], ◌∷◌, ◌++◌, map, length, take, drop, get_or, sym, ap, ◌∙◌, inl, inr, refl, arith, append_assoc}
+-- Lists that are written over, the way back, and the end state.
+use Rattle.std.proofs.Common.{◌≡◌, ℕ, zero, suc, ◌+◌, ◌-◌, ◌/◌, ◌^◌, ◌<◌, ◌≤◌, Bool, ltb, List, [], ◌∷◌, ◌++◌, length, take, drop, get_or, sym, ap, ◌∙◌, inl, inr, refl, arith, append_assoc}
 use Rattle.std.proofs.lemmas.Bool.{lt-ltb, le-ltb, cases_Bool, cases_lt}
-use Rattle.std.proofs.Math.ListN.{get_or-map as get_or-map_to}
 use Rattle.std.proofs.lemmas.Nat.{pow_pos, pow-add}
 use Rattle.std.proofs.Math.Nat.{mul-div_left, two-pow-succ, pow-le-pow_right}
-use Rattle.std.proofs.lemmas.List.{map-append, length-map, append-nil, length-append, length-take, length-drop}
-use Rattle.std.proofs.lemmas.List.FromFn.{length-map-range_with_len, get_or-map-range_with_len, map-range_with_len_more}
-use Rattle.std.specs.List.{range_with_len}
+use Rattle.std.proofs.lemmas.List.{append-nil, length-append, length-take, length-drop, drop_all, take_all}
 use Rattle.cost_core.specs.Trellis.{Trellis, states, newest, IsBounded}
 use Rattle.trellis_core.specs.Best.{by_0, by_1, best, best_row, before, total, traced, final}
 use Rattle.trellis_core.proofs.Bests.{best_le}
-use Rattle.trellis_core.proofs.RowLaws.{row_length, row_at, high_is, before_0_in, before_1_in}
-
-pub rows_more : {X Y : Type 0} (f : X → Y) (g : ℕ → Y) (xs : List X) (x : X) (n : ℕ) → map f xs ≡ map g (range_with_len 0 n) → f x ≡ g n → map f (xs ++ (x ∷ [])) ≡ map g (range_with_len 0 (n + 1))
-rows_more f g xs x n e h =
-    map-append f xs (x ∷ []) ∙ rw (e, h) (sym (map-range_with_len_more g 0 n n (omega arith)))
-
-pub rows_at : {X Y : Type 0} (f : X → Y) (g : ℕ → Y) (xs : List X) (n k : ℕ) (d : X) → map f xs ≡ map g (range_with_len 0 n) → k < n → f (get_or xs k d) ≡ g k
-rows_at f g xs n k d e h =
-    sym (get_or-map_to f xs k d) ∙ ap (λ l. get_or l k (f d)) e ∙ get_or-map-range_with_len g 0 n k k (f d) h (omega arith)
-
-pub rows_length : {X Y : Type 0} (f : X → Y) (g : ℕ → Y) (xs : List X) (n : ℕ) → map f xs ≡ map g (range_with_len 0 n) → length xs ≡ n
-rows_length f g xs n e = sym (length-map xs f) ∙ ap length e ∙ length-map-range_with_len g 0 n
+use Rattle.trellis_core.proofs.RowLaws.{row_length, row_at, before_0_in, before_1_in}
 
 -- a list of the same length, written over another
 pub written_length : {X : Type 0} (n k : ℕ) (new old : List X) → n ≡ length old → length new ≡ k → length old ≡ k → length (take n (new ++ drop (length new) old)) ≡ k
@@ -29,17 +15,10 @@ written_length n k new old en ek eo =
     let h : length (drop (length new) old) ≡ 0 = length-drop (length new) old ∙ omega arith in
     length-take n (new ++ drop (length new) old) ∙ omega (arith, length-append new (drop (length new) old))
 
-pub before_is_1 : (t : Trellis) → 0 < t.width → (i q n a b : ℕ) → n ≡ states t → a ≡ by_0 t i (best t i) q → b ≡ by_1 t i (best t i) q → b < a → q / 2 + n / 2 ≡ before t i q
-unfolding before
-before_is_1 t some i q n a b en ea eb h =
-    let lt : by_1 t i (best t i) q < by_0 t i (best t i) q = omega arith in
-    rw (lt-ltb (by_1 t i (best t i) q) (by_0 t i (best t i) q) lt) (high_is t some q n en)
-
-pub before_is_0 : (t : Trellis) (i q a b : ℕ) → a ≡ by_0 t i (best t i) q → b ≡ by_1 t i (best t i) q → a ≤ b → q / 2 ≡ before t i q
-unfolding before
-before_is_0 t i q a b ea eb h =
-    let le : by_0 t i (best t i) q ≤ by_1 t i (best t i) q = omega arith in
-    rw (le-ltb (by_1 t i (best t i) q) (by_0 t i (best t i) q) le) refl
+-- and what was written, all of it
+pub written : {X : Type 0} (n : ℕ) (new old : List X) → n ≡ length old → length new ≡ length old → take n (new ++ drop (length new) old) ≡ new
+written n new old en e =
+    ap (λ rest. take n (new ++ rest)) (drop_all (length new) old (omega arith)) ∙ ap (take n) (append-nil new) ∙ take_all n new (omega arith)
 
 pub before_in : (t : Trellis) → 0 < t.width → (i q : ℕ) → q < states t → before t i q < states t
 unfolding before

@@ -1,3 +1,4 @@
 pub mod Best
+pub mod Decisions
 pub mod Handing
 pub mod LeastSums

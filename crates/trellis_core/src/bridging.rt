@@ -1,15 +1,16 @@
 //! The choice of a bridge's bits.
 
-ghost use Rattle.std.specs.Prelude.{◌≡◌, ◌+◌, ◌*◌, ◌<◌, ◌≤◌, ◌↔◌, true, false, map, length, IfOk, OnOk, IsErrOf};
+ghost use Rattle.std.specs.Prelude.{◌≡◌, ◌+◌, ◌*◌, ◌<◌, ◌≤◌, ◌↔◌, true, false, IfOk, OnOk, IsErrOf};
 ghost use Rattle.cost_core.specs.Trellis.{states};
 ghost use Rattle.cost_core.specs.StateCosts.{trellis_of};
 ghost use Rattle.cost_core.specs.Bridges.{bridge_cost, IsFirstLeastBridge};
-ghost use Rattle.trellis_core.specs.Best.{best_rows};
+ghost use Rattle.trellis_core.specs.Best.{best_row};
+ghost use Rattle.trellis_core.specs.Decisions.{AreAllDecisions};
 ghost use Rattle.trellis_core.specs.Handing.{HandsOverAll, HandsOverSome, HandsOverUpTo};
 
 use crate::ends::{end_state, total};
 use crate::fault::BridgeFault;
-use crate::rows::forward;
+use crate::rows::{Searched, forward};
 use crate::tracing::{reversed, trace};
 use crate::unheard::Unheard;
 use cost_core::{LevelSink, Window};
@@ -66,22 +67,21 @@ pub fn bridge_into<S: LevelSink>(
     ensures kind { S.kind sink.new ≡ S.kind sink.old }
     ensures kept { S.kept sink.new ≡ S.kept sink.old }
 {
-    let rows = forward(alloc, window, sink)?;
-    Ok(choose(alloc, window, &rows)?)
+    let searched = forward(alloc, window, sink)?;
+    Ok(choose(alloc, window, &searched)?)
 }
 
-// The bits that are chosen by the rows of all levels, and their cost.
-fn choose(alloc: Global, window: &Window, rows: &[Vec<u64>]) -> Result<Chosen, AllocError>
-    requires { map (λ row. row.items) rows.now ≡ best_rows (trellis_of window.now) ((trellis_of window.now).levels + 1) }
+// The bits that a search leads to, and their cost.
+fn choose(alloc: Global, window: &Window, searched: &Searched) -> Result<Chosen, AllocError>
+    requires last { searched.now.last.items ≡ best_row (trellis_of window.now) (trellis_of window.now).levels }
+    requires decisions { AreAllDecisions (trellis_of window.now) (trellis_of window.now).levels searched.now.decisions.items }
     ensures first_least { IfOk result (λ chosen. IsFirstLeastBridge window.now chosen.bits) }
     ensures cost { IfOk result (λ chosen. chosen.cost ≡ bridge_cost window.now chosen.bits) }
 {
-    let width = window.width();
-    let last = &rows[window.length()];
-    let end = end_state(window, last, width, 0);
-    let newest_first = trace(alloc, window, rows, end)?;
+    let end = end_state(window, &searched.last, window.width(), 0);
+    let newest_first = trace(alloc, window, &searched.decisions, end)?;
     Ok(Chosen {
         bits: reversed(alloc, &newest_first)?,
-        cost: total(window, last, end),
+        cost: total(window, &searched.last, end),
     })
 }

@@ -22,7 +22,9 @@
 //! - `HandsOverAll t spelling old new`: a sink's text grew by the rows of all levels, `HandsOverSome` by
 //!   those of the first ones, `HandsOverUpTo` by those and a front of the next.
 //!
-//! All rows are held at once: eight bytes for each state and level, at most 67 MB.
+//! Two rows are held at once, and one bit for each state and level, which says whence its least sum came:
+//! at most 1 MB. A row is made eight states at a time (`choosing`), or one at a time where there are fewer than
+//! sixteen.
 //!
 //! ```text
 //! // Weights 1, 0; 8 bits of a take of ones, a bridge of 2 bits, then a take of zeros from bit 3 on.
@@ -33,6 +35,7 @@
 #![tactic(auto)]
 
 mod bridging;
+mod choosing;
 mod ends;
 mod fault;
 mod laws;

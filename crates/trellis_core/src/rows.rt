@@ -1,17 +1,23 @@
 //! The least sums of steps, level by level.
 
-ghost use Rattle.std.specs.Prelude.{◌≡◌, ◌+◌, ◌*◌, ◌<◌, ◌≤◌, ◌↔◌, ◌++◌, ◌∷◌, [], true, false, map, length, IfOk, OnOk, IsErrOf};
+ghost use Rattle.std.specs.Prelude.{◌≡◌, ◌+◌, ◌*◌, ◌<◌, ◌≤◌, ◌↔◌, true, false, length, IfOk, OnOk, IsErrOf};
 ghost use Rattle.cost_core.specs.Trellis.{states};
-ghost use Rattle.cost_core.specs.StateCosts.{step_row, trellis_of};
-ghost use Rattle.trellis_core.specs.Best.{best, best_row, best_rows};
+ghost use Rattle.cost_core.specs.StateCosts.{trellis_of};
+ghost use Rattle.trellis_core.specs.Best.{best_row};
+ghost use Rattle.trellis_core.specs.Decisions.{AreAllDecisions, AreDecisions, decision_bytes};
 ghost use Rattle.trellis_core.specs.Handing.{HandsOverAll, HandsOverSome, HandsOverUpTo};
 
+use crate::choosing::{NO_WAY, choose};
 use crate::fault::BridgeFault;
 use cost_core::{LevelSink, Window};
 use std::alloc::{AllocError, Global};
 
-// The sum of a state that no bits lead to, and the greatest sum that is kept.
-const NO_WAY: u64 = 1 << 63;
+/// What a search leaves: the least sums of the last level, and the decisions of all levels.
+#[derive(Drop)]
+pub struct Searched {
+    pub last: Vec<u64>,
+    pub decisions: Vec<u8>,
+}
 
 // The least sums of level 0.
 fn first_row(alloc: Global, window: &Window) -> Result<Vec<u64>, AllocError>
@@ -25,81 +31,42 @@ fn first_row(alloc: Global, window: &Window) -> Result<Vec<u64>, AllocError>
     Ok(row)
 }
 
-// The least sum at a state by way of either state before it.
-fn least_sum(window: &Window, level: usize, row: &[u64], steps: &[u64], state: usize) -> u64
-    requires level { level < (trellis_of window.now).levels }
-    requires row { row.now ≡ best_row (trellis_of window.now) level }
-    requires steps { steps.now ≡ step_row window.now level }
-    requires state { state < states (trellis_of window.now) }
-    ensures { result ≡ best (trellis_of window.now) (level + 1) state }
-{
-    let states = window.states();
-    let by_0 = row[state / 2] + steps[state];
-    let by_1 = row[state / 2 + states / 2] + steps[states + state];
-    by_0.min(by_1).min(NO_WAY)
-}
-
-// The least sums of the level after `level`, whose own are `row`; `steps` is overwritten.
+// Writes the least sums of the level after `level`, whose own are `row`, and the decisions of `level`;
+// `steps` is overwritten.
 fn next_row(
-    alloc: Global,
     window: &Window,
     level: usize,
     row: &[u64],
     steps: &mut [u64],
-) -> Result<Vec<u64>, AllocError>
+    following: &mut [u64],
+    decisions: &mut [u8],
+)
     requires level { level < (trellis_of window.now).levels }
     requires row { row.now ≡ best_row (trellis_of window.now) level }
     requires steps { length steps.old ≡ 2 * states (trellis_of window.now) }
-    ensures row { IfOk result (λ following. following.items ≡ best_row (trellis_of window.now) (level + 1)) }
-    ensures steps { length steps.new ≡ 2 * states (trellis_of window.now) }
+    requires following { length following.old ≡ states (trellis_of window.now) }
+    requires decisions { length decisions.old ≡ decision_bytes (states (trellis_of window.now)) }
+    ensures following { following.new ≡ best_row (trellis_of window.now) (level + 1) }
+    ensures decisions { AreDecisions (trellis_of window.now) level decisions.new }
+    ensures steps_length { length steps.new ≡ length steps.old }
+    ensures decisions_length { length decisions.new ≡ length decisions.old }
 {
     window.step_costs(level, steps);
-    let mut following = Vec::new(alloc);
-    for state in 0..window.states() {
-        following.push(least_sum(window, level, row, steps, state))?;
-    }
-    Ok(following)
+    let (lows, highs) = steps.split_at(window.states());
+    choose(row, lows, highs, following, decisions);
 }
 
-// A row joins those of the levels before.
-fn keep(rows: &mut Vec<Vec<u64>>, row: Vec<u64>) -> Result<(), AllocError>
-    ensures { OnOk result (rows.new.items ≡ rows.old.items ++ row ∷ []) }
-{
-    rows.push(row)?;
-    Ok(())
-}
-
-// The least sums of the level after `level`. Its own, `row`, join those of the levels before.
-fn next_row_after(
-    alloc: Global,
-    window: &Window,
-    level: usize,
-    row: Vec<u64>,
-    rows: &mut Vec<Vec<u64>>,
-    steps: &mut [u64],
-) -> Result<Vec<u64>, AllocError>
-    requires level { level < (trellis_of window.now).levels }
-    requires row { row.items ≡ best_row (trellis_of window.now) level }
-    requires steps { length steps.old ≡ 2 * states (trellis_of window.now) }
-    ensures row { IfOk result (λ following. following.items ≡ best_row (trellis_of window.now) (level + 1)) }
-    ensures rows { OnOk result (rows.new.items ≡ rows.old.items ++ row ∷ []) }
-    ensures steps { length steps.new ≡ 2 * states (trellis_of window.now) }
-{
-    let following = next_row(alloc, window, level, &row, steps)?;
-    keep(rows, row)?;
-    Ok(following)
-}
-
-/// The least sums of all levels. Each row is handed over when it is made.
+/// Searches all levels. Each row is handed over when it is made; two rows are held.
 pub fn forward<S: LevelSink>(
     alloc: Global,
     window: &Window,
     sink: &mut S,
-) -> Result<Vec<Vec<u64>>, BridgeFault>
+) -> Result<Searched, BridgeFault>
     requires rows { window.now.levels + 1 ≤ S.rows_left sink.old }
     requires row_length { S.row_length sink.old ≡ states (trellis_of window.now) }
     requires ready { S.has_refused sink.old ≡ false }
-    ensures table { IfOk result (λ rows. map (λ row. row.items) rows.items ≡ best_rows (trellis_of window.now) ((trellis_of window.now).levels + 1)) }
+    ensures last { IfOk result (λ searched. searched.last.items ≡ best_row (trellis_of window.now) (trellis_of window.now).levels) }
+    ensures decisions { IfOk result (λ searched. AreAllDecisions (trellis_of window.now) (trellis_of window.now).levels searched.decisions.items) }
     ensures rows { OnOk result (HandsOverAll (trellis_of window.now) (S.spelling (S.kind sink.old)) (S.text sink.old) (S.text sink.new)) }
     ensures memory { IsErrOf result BridgeFault.Memory → HandsOverSome (trellis_of window.now) (S.spelling (S.kind sink.old)) (S.text sink.old) (S.text sink.new) }
     ensures sink { IsErrOf result BridgeFault.Sink → HandsOverUpTo (trellis_of window.now) (S.spelling (S.kind sink.old)) (S.text sink.old) (S.text sink.new) }
@@ -109,14 +76,28 @@ pub fn forward<S: LevelSink>(
     ensures kind { S.kind sink.new ≡ S.kind sink.old }
     ensures kept { S.kept sink.new ≡ S.kept sink.old }
 {
-    let mut steps = vec![in alloc; 0; 2 * window.states()]?;
-    let mut rows = Vec::new(alloc);
+    let states = window.states();
+    let mut steps = vec![in alloc; 0; 2 * states]?;
     let mut row = first_row(alloc, window)?;
+    let mut following = vec![in alloc; 0; states]?;
+    let mut decided = vec![in alloc; 0; states.div_ceil(8)]?;
+    let mut decisions = Vec::new(alloc);
     for level in 0..window.length() {
         sink.level(&row)?;
-        row = next_row_after(alloc, window, level, row, &mut rows, &mut steps)?;
+        next_row(
+            window,
+            level,
+            &row,
+            &mut steps,
+            &mut following,
+            &mut decided,
+        );
+        decisions.extend_from_slice(&decided)?;
+        std::mem::swap(&mut row, &mut following);
     }
     sink.level(&row)?;
-    keep(&mut rows, row)?;
-    Ok(rows)
+    Ok(Searched {
+        last: row,
+        decisions,
+    })
 }

@@ -1,37 +1,40 @@
-//! The way back through the rows.
+//! The way back through the decisions.
 
-ghost use Rattle.std.specs.Prelude.{◌≡◌, ◌+◌, ◌^◌, ◌<◌, ◌≤◌, map, length, reverse, IfOk};
+ghost use Rattle.std.specs.Prelude.{◌≡◌, ◌^◌, ◌<◌, ◌≤◌, length, reverse, IfOk};
 ghost use Rattle.cost_core.specs.Trellis.{states};
 ghost use Rattle.cost_core.specs.StateCosts.{trellis_of};
-ghost use Rattle.trellis_core.specs.Best.{best_row, best_rows, before, traced};
+ghost use Rattle.trellis_core.specs.Best.{before, traced};
+ghost use Rattle.trellis_core.specs.Decisions.{AreAllDecisions};
 
 use cost_core::Window;
 use dsd_bits::Bits;
 use std::alloc::{AllocError, Global};
 
-// The state before `state` of the next level: on a tie the one whose oldest bit is 0.
-fn before(window: &Window, level: usize, row: &[u64], state: usize) -> usize
+// The state before `state` of the level after `level`, as it was decided.
+fn before(window: &Window, decisions: &[u8], level: usize, state: usize) -> usize
+    requires decisions { AreAllDecisions (trellis_of window.now) (trellis_of window.now).levels decisions.now }
     requires level { level < (trellis_of window.now).levels }
-    requires row { row.now ≡ best_row (trellis_of window.now) level }
     requires state { state < states (trellis_of window.now) }
     ensures { result ≡ before (trellis_of window.now) level state }
 {
-    let bit = state % 2 == 1;
+    let states = window.states();
+    let byte = decisions[level * states.div_ceil(8) + state / 8];
     let low = state / 2;
-    let high = low + window.states() / 2;
-    let by_0 = row[low] + window.step_cost(level, low, bit);
-    let by_1 = row[high] + window.step_cost(level, high, bit);
-    if by_1 < by_0 { high } else { low }
+    if (byte >> (state % 8)) % 2 == 1 {
+        low + states / 2
+    } else {
+        low
+    }
 }
 
 /// The bits on the way back from a state of the last level, the newest first.
 pub fn trace(
     alloc: Global,
     window: &Window,
-    rows: &[Vec<u64>],
+    decisions: &[u8],
     end: usize,
 ) -> Result<Vec<bool>, AllocError>
-    requires rows { map (λ row. row.items) rows.now ≡ best_rows (trellis_of window.now) ((trellis_of window.now).levels + 1) }
+    requires decisions { AreAllDecisions (trellis_of window.now) (trellis_of window.now).levels decisions.now }
     requires end { end < states (trellis_of window.now) }
     ensures { IfOk result (λ bits. bits.items ≡ traced (trellis_of window.now) (trellis_of window.now).levels end) }
 {
@@ -41,7 +44,7 @@ pub fn trace(
     while level > 0 {
         bits.push(state % 2 == 1)?;
         level -= 1;
-        state = before(window, level, &rows[level], state);
+        state = before(window, decisions, level, state);
     }
     Ok(bits)
 }

@@ -31,7 +31,7 @@ returns-in-Some-clause-reason g c =
     let reason = c.in-Some.reason in
     let w : RowReason t c.loop-level.level c.loop-level.previous.items c.read_row.new.row.items reason =
     subst (λ p. RowReason t c.loop-level.level p c.read_row.new.row.items reason) c.deref.ensures.value
-    (subst (λ r. RowReason t c.loop-level.level c.deref.result.now r reason) c.deref-in-loop-level.ensures.value c.in-Some.ensures) in
+    (subst (λ r. RowReason t c.loop-level.level c.deref.result.now r reason) c.deref-in-loop-level.ensures.value c.in-Some.ensures.reason) in
     RowsSoFar-fault t _ _ _ c.loop-level.level c.loop-level.previous.items c.read_row.new.row.items so.0 c.in_ok-read_row.ensures.ok (c.in_ok-read_row.ensures.len ∙ so.1) (omega (arith, c.length-level-end.ensures.value, c.loop-level-test.true)) c.in_ok-read_row.ensures.values reason w
 
 pub loop-level-preserved : goal.loop-level-preserved
@@ -41,7 +41,7 @@ loop-level-preserved g c =
     let row = c.read_row.new.row.items in
     let w : RowClean t c.loop-level.level c.loop-level.previous.items row =
     subst (λ p. RowClean t c.loop-level.level p row) c.deref.ensures.value
-    (subst (λ r. RowClean t c.loop-level.level c.deref.result.now r) c.deref-in-loop-level.ensures.value c.in_default.ensures) in
+    (subst (λ r. RowClean t c.loop-level.level c.deref.result.now r) c.deref-in-loop-level.ensures.value c.in_default.ensures.reason) in
     let long = c.in_ok-read_row.ensures.len ∙ so.1 in
     let more = RowsSoFar-more t _ _ _ c.loop-level.level c.loop-level.previous.items row so.0 c.in_ok-read_row.ensures.ok long w in
     let from = g.R.Read.remaining (inlet_reader c.args.inlet.now) in

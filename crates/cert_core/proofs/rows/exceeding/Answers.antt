@@ -1,6 +1,10 @@
-use Rattle.std.proofs.Common.{◌≡◌, false, true, sym, ◌∙◌, below_more, arith}
+use Rattle.std.proofs.Common.{refl, length, take, subst, ◌<◌, ◌≡◌, false, true, sym, ◌∙◌, below_more, arith}
 use Rattle.cost_core.specs.StateCosts.{trellis_of}
 use Rattle.cert_core.specs.Reasons.{Exceeds}
+use Rattle.std.specs.Simd.Lanes.{Each1}
+use Rattle.cost_core.proofs.StepRows.{states_whole}
+use Rattle.cert_core.specs.Within.{WithinBoth}
+use Rattle.cert_core.proofs.Within.{previous_small, lows_small, highs_small, none_exceeds}
 use Rattle.cert_core.proofs.rows.exceeding.Goals as goal
 
 pub loop-state-preserved : goal.loop-state-preserved
@@ -8,5 +12,25 @@ loop-state-preserved c =
     below_more (λ k. Exceeds (trellis_of c.args.window.now) c.args.level c.args.previous.now c.args.row.now k → ⊥) c.loop-state.state c.loop-state.invariant
     (λ x. let e : false ≡ true = sym c.if-exceeds.false ∙ c.exceeds.ensures.1 x in cc)
 
-pub returns : goal.returns
-returns c = λ q inside. c.loop-state.invariant q (omega (arith, c.loop-state-test.false, c.states-state-end.ensures.value))
+pub returns-clause-found : goal.returns-clause-found
+returns-clause-found c = λ q inside. c.loop-state.invariant q (omega (arith, c.loop-state-test.false, c.states-states.ensures.value))
+
+pub is_within-requires-clause-whole : goal.is_within-requires-clause-whole
+is_within-requires-clause-whole c = states_whole (trellis_of c.args.window.now).width (length c.args.previous.now) c.requires.previous (omega (arith, c.requires.previous, c.states-states.ensures.value))
+
+pub is_within-requires-clause-previous : goal.is_within-requires-clause-previous
+is_within-requires-clause-previous c = previous_small c.args.window.now c.args.level c.states-states.result c.args.previous.now c.args.row.now c.step_costs.new.row c.states-states.ensures.bounded c.requires.level c.states-states.ensures.value (omega (arith, c.requires.previous, c.states-states.ensures.value)) c.step_costs.ensures c.requires.limit
+
+pub is_within-requires-clause-lows : goal.is_within-requires-clause-lows
+is_within-requires-clause-lows c = subst (Each1 (λ x. x < 9223372036854775808)) (sym c.split_at.ensures.front) (lows_small c.args.window.now c.args.level c.states-states.result c.args.previous.now c.args.row.now c.step_costs.new.row c.states-states.ensures.bounded c.requires.level c.states-states.ensures.value (omega (arith, c.requires.previous, c.states-states.ensures.value)) c.step_costs.ensures)
+
+pub is_within-requires-clause-highs : goal.is_within-requires-clause-highs
+is_within-requires-clause-highs c = subst (Each1 (λ x. x < 9223372036854775808)) (sym c.split_at.ensures.back) (highs_small c.args.window.now c.args.level c.states-states.result c.args.previous.now c.args.row.now c.step_costs.new.row c.states-states.ensures.bounded c.requires.level c.states-states.ensures.value (omega (arith, c.requires.previous, c.states-states.ensures.value)) c.step_costs.ensures)
+
+pub returns-then-is_within-clause-found : goal.returns-then-is_within-clause-found
+returns-then-is_within-clause-found c =
+    let previous = c.args.previous.now in
+    let row = c.args.row.now in
+    none_exceeds c.args.window.now c.args.level c.states-states.result c.args.previous.now c.args.row.now c.step_costs.new.row c.states-states.ensures.bounded c.requires.level c.states-states.ensures.value (omega (arith, c.requires.previous, c.states-states.ensures.value)) c.step_costs.ensures
+    (subst (λ highs. WithinBoth (length previous) previous (take c.states-states.result c.step_costs.new.row) highs row) c.split_at.ensures.back
+    (subst (λ lows. WithinBoth (length previous) previous lows c.split_at.result.1.now row) c.split_at.ensures.front (c.if-is_within.ensures refl)))

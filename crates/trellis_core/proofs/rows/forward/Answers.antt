@@ -1,17 +1,25 @@
-use Rattle.std.proofs.Common.{◌≡◌, ◌+◌, ◌*◌, ap, sym, ◌∙◌, arith}
+use Rattle.std.proofs.Common.{◌≡◌, ◌+◌, ◌*◌, ◌++◌, length, ap, sym, subst, ◌∙◌, arith}
 use Rattle.cost_core.specs.Trellis.{states}
 use Rattle.cost_core.specs.StateCosts.{trellis_of}
-use Rattle.trellis_core.specs.Best.{best_row, best_rows}
+use Rattle.trellis_core.specs.Best.{best_row}
+use Rattle.trellis_core.specs.Decisions.{AreAllDecisions}
+use Rattle.trellis_core.proofs.Decisions.{one_more}
+use Rattle.trellis_core.proofs.TableLaws.{written, written_length}
 use Rattle.trellis_core.proofs.HandedOver.{hands_more, hands_front, hands_none, hands_some, hands_up_to, hands_all}
 use Rattle.trellis_core.proofs.RowLaws.{row_length}
-use Rattle.trellis_core.proofs.TableLaws.{rows_more, written_length}
 use Rattle.trellis_core.proofs.rows.forward.Goals as goal
 
 pub returns-in_err-steps-clause-memory : goal.returns-in_err-steps-clause-memory
-returns-in_err-steps-clause-memory g c = λ _. hands_none (trellis_of c.args.window.now) c.states.ensures.bounded (g.S.LevelSink.spelling (g.S.LevelSink.kind c.args.sink.now)) (g.S.LevelSink.text c.args.sink.now)
+returns-in_err-steps-clause-memory g c = λ _. hands_none (trellis_of c.args.window.now) c.states-states.ensures.bounded (g.S.LevelSink.spelling (g.S.LevelSink.kind c.args.sink.now)) (g.S.LevelSink.text c.args.sink.now)
 
 pub returns-in_err-row-clause-memory : goal.returns-in_err-row-clause-memory
-returns-in_err-row-clause-memory g c = λ _. hands_none (trellis_of c.args.window.now) c.states.ensures.bounded (g.S.LevelSink.spelling (g.S.LevelSink.kind c.args.sink.now)) (g.S.LevelSink.text c.args.sink.now)
+returns-in_err-row-clause-memory g c = λ _. hands_none (trellis_of c.args.window.now) c.states-states.ensures.bounded (g.S.LevelSink.spelling (g.S.LevelSink.kind c.args.sink.now)) (g.S.LevelSink.text c.args.sink.now)
+
+pub returns-in_err-following-clause-memory : goal.returns-in_err-following-clause-memory
+returns-in_err-following-clause-memory g c = λ _. hands_none (trellis_of c.args.window.now) c.states-states.ensures.bounded (g.S.LevelSink.spelling (g.S.LevelSink.kind c.args.sink.now)) (g.S.LevelSink.text c.args.sink.now)
+
+pub returns-in_err-decided-clause-memory : goal.returns-in_err-decided-clause-memory
+returns-in_err-decided-clause-memory g c = λ _. hands_none (trellis_of c.args.window.now) c.states-states.ensures.bounded (g.S.LevelSink.spelling (g.S.LevelSink.kind c.args.sink.now)) (g.S.LevelSink.text c.args.sink.now)
 
 pub level-requires-clause-row : goal.level-requires-clause-row
 level-requires-clause-row g c =
@@ -23,29 +31,37 @@ returns-in_err-level-clause-sink g c = λ _.
     let t = trellis_of c.args.window.now in
     let e : c.deref.result.now ≡ best_row t c.loop-level.level = c.deref.ensures.value ∙ c.loop-level.invariant.row in
     let part = hands_front t g.S.LevelSink.spelling (g.S.LevelSink.kind c.args.sink.now) (g.S.LevelSink.kind c.loop-level.sink) (g.S.LevelSink.text c.args.sink.now) (g.S.LevelSink.text c.loop-level.sink) (g.S.LevelSink.text c.level.new.self) c.loop-level.level c.deref.result.now c.loop-level.invariant.kind e c.loop-level.invariant.handed c.in_err-level.ensures.err in
-    hands_up_to t c.states.ensures.bounded (g.S.LevelSink.spelling (g.S.LevelSink.kind c.args.sink.now)) (g.S.LevelSink.text c.args.sink.now) (g.S.LevelSink.text c.level.new.self) c.loop-level.level c.deref.result.now (omega (arith, c.loop-level-test.true, c.length-level-end.ensures.value)) e part
+    hands_up_to t c.states-states.ensures.bounded (g.S.LevelSink.spelling (g.S.LevelSink.kind c.args.sink.now)) (g.S.LevelSink.text c.args.sink.now) (g.S.LevelSink.text c.level.new.self) c.loop-level.level c.deref.result.now (omega (arith, c.loop-level-test.true, c.length-level-end.ensures.value)) e part
 
-pub returns-in_err-row-2-clause-memory : goal.returns-in_err-row-2-clause-memory
-returns-in_err-row-2-clause-memory g c = λ _.
+pub returns-in_err-extend_from_slice-clause-memory : goal.returns-in_err-extend_from_slice-clause-memory
+returns-in_err-extend_from_slice-clause-memory g c = λ _.
     let t = trellis_of c.args.window.now in
     let e : c.deref.result.now ≡ best_row t c.loop-level.level = c.deref.ensures.value ∙ c.loop-level.invariant.row in
     let more = hands_more t g.S.LevelSink.spelling (g.S.LevelSink.kind c.args.sink.now) (g.S.LevelSink.kind c.loop-level.sink) (g.S.LevelSink.text c.args.sink.now) (g.S.LevelSink.text c.loop-level.sink) (g.S.LevelSink.text c.level.new.self) c.loop-level.level c.deref.result.now c.loop-level.invariant.kind e c.loop-level.invariant.handed c.in_ok-level.ensures.ok in
-    hands_some t c.states.ensures.bounded (g.S.LevelSink.spelling (g.S.LevelSink.kind c.args.sink.now)) (g.S.LevelSink.text c.args.sink.now) (g.S.LevelSink.text c.level.new.self) (c.loop-level.level + 1) (omega (arith, c.loop-level-test.true, c.length-level-end.ensures.value)) more
+    hands_some t c.states-states.ensures.bounded (g.S.LevelSink.spelling (g.S.LevelSink.kind c.args.sink.now)) (g.S.LevelSink.text c.args.sink.now) (g.S.LevelSink.text c.level.new.self) (c.loop-level.level + 1) (omega (arith, c.loop-level-test.true, c.length-level-end.ensures.value)) more
 
 pub loop-level-preserved : goal.loop-level-preserved
 loop-level-preserved g c =
     let t = trellis_of c.args.window.now in
     let e : c.deref.result.now ≡ best_row t c.loop-level.level = c.deref.ensures.value ∙ c.loop-level.invariant.row in
+    let more = hands_more t g.S.LevelSink.spelling (g.S.LevelSink.kind c.args.sink.now) (g.S.LevelSink.kind c.loop-level.sink) (g.S.LevelSink.text c.args.sink.now) (g.S.LevelSink.text c.loop-level.sink) (g.S.LevelSink.text c.level.new.self) c.loop-level.level c.deref.result.now c.loop-level.invariant.kind e c.loop-level.invariant.handed c.in_ok-level.ensures.ok in
+    let kept = c.next_row.ensures in
+    let inv = c.loop-level.invariant in
+    let following = written c.loop-level.following.len c.next_row.new.following c.loop-level.following.items c.loop-level.following.ok.0 (ap length kept.following ∙ row_length t (c.loop-level.level + 1) ∙ sym inv.following) in
+    let decided = written c.loop-level.decided.len c.next_row.new.decisions c.loop-level.decided.items c.loop-level.decided.ok.0 (omega (arith, kept.decisions_length)) in
     record {
-      steps = written_length c.loop-level.steps.len (2 * states t) c.next_row_after.new.steps c.loop-level.steps.items c.loop-level.steps.ok.0 (omega (arith, c.next_row_after.ensures.steps)) c.loop-level.invariant.steps;
-      row = c.in_ok-row-2.ensures.row;
-      rows = rw c.in_ok-row-2.ensures.rows (rows_more (λ row. row.items) (best_row t) c.loop-level.rows.items c.loop-level.row c.loop-level.level c.loop-level.invariant.rows c.loop-level.invariant.row);
-      handed = hands_more t g.S.LevelSink.spelling (g.S.LevelSink.kind c.args.sink.now) (g.S.LevelSink.kind c.loop-level.sink) (g.S.LevelSink.text c.args.sink.now) (g.S.LevelSink.text c.loop-level.sink) (g.S.LevelSink.text c.level.new.self) c.loop-level.level c.deref.result.now c.loop-level.invariant.kind e c.loop-level.invariant.handed c.in_ok-level.ensures.ok;
-      left = omega (arith, c.in_ok-level.ensures.rows, c.loop-level.invariant.left);
-      row_length = c.level.ensures.row_length ∙ c.loop-level.invariant.row_length;
-      kind = c.level.ensures.kind ∙ c.loop-level.invariant.kind;
-      kept = c.level.ensures.kept ∙ c.loop-level.invariant.kept;
-      ready = c.in_ok-level.ensures.refused c.loop-level.invariant.ready;
+      steps = written_length c.loop-level.steps.len (2 * states t) c.next_row.new.steps c.loop-level.steps.items c.loop-level.steps.ok.0 (omega (arith, kept.steps_length)) inv.steps;
+      row = ap (λ v. v.items) c.swap.ensures.x_after ∙ following ∙ kept.following;
+      following = ap (λ v. length v.items) c.swap.ensures.y_after ∙ ap length inv.row ∙ row_length t c.loop-level.level;
+      decided = ap length decided ∙ omega (arith, kept.decisions_length, inv.decided);
+      decisions = subst (AreAllDecisions t (c.loop-level.level + 1)) (sym (c.in_ok-extend_from_slice.ensures.items ∙ ap (λ r. c.loop-level.decisions.items ++ r) (c.deref-in-loop-level-2.ensures.value ∙ decided)))
+          (one_more t c.loop-level.level c.loop-level.decisions.items c.next_row.new.decisions inv.decisions (omega (arith, kept.decisions_length, inv.decided)) kept.decisions);
+      handed = more;
+      left = omega (arith, c.in_ok-level.ensures.rows, inv.left);
+      row_length = c.level.ensures.row_length ∙ inv.row_length;
+      kind = c.level.ensures.kind ∙ inv.kind;
+      kept = c.level.ensures.kept ∙ inv.kept;
+      ready = c.in_ok-level.ensures.refused inv.ready;
     }
 
 pub level-requires-2-clause-row : goal.level-requires-2-clause-row
@@ -58,25 +74,11 @@ returns-in_err-level-2-clause-sink g c = λ _.
     let t = trellis_of c.args.window.now in
     let e : c.deref-2.result.now ≡ best_row t c.loop-level.level = c.deref-2.ensures.value ∙ c.loop-level.invariant.row in
     let part = hands_front t g.S.LevelSink.spelling (g.S.LevelSink.kind c.args.sink.now) (g.S.LevelSink.kind c.loop-level.sink) (g.S.LevelSink.text c.args.sink.now) (g.S.LevelSink.text c.loop-level.sink) (g.S.LevelSink.text c.level-2.new.self) c.loop-level.level c.deref-2.result.now c.loop-level.invariant.kind e c.loop-level.invariant.handed c.in_err-level-2.ensures.err in
-    hands_up_to t c.states.ensures.bounded (g.S.LevelSink.spelling (g.S.LevelSink.kind c.args.sink.now)) (g.S.LevelSink.text c.args.sink.now) (g.S.LevelSink.text c.level-2.new.self) c.loop-level.level c.deref-2.result.now (omega (arith, c.loop-level-test.false, c.length-level-end.ensures.value)) e part
-
-pub returns-in_err-keep-clause-memory : goal.returns-in_err-keep-clause-memory
-returns-in_err-keep-clause-memory g c = λ _.
-    let t = trellis_of c.args.window.now in
-    let e : c.deref-2.result.now ≡ best_row t c.loop-level.level = c.deref-2.ensures.value ∙ c.loop-level.invariant.row in
-    let more = hands_more t g.S.LevelSink.spelling (g.S.LevelSink.kind c.args.sink.now) (g.S.LevelSink.kind c.loop-level.sink) (g.S.LevelSink.text c.args.sink.now) (g.S.LevelSink.text c.loop-level.sink) (g.S.LevelSink.text c.level-2.new.self) c.loop-level.level c.deref-2.result.now c.loop-level.invariant.kind e c.loop-level.invariant.handed c.in_ok-level-2.ensures.ok in
-    hands_some t c.states.ensures.bounded (g.S.LevelSink.spelling (g.S.LevelSink.kind c.args.sink.now)) (g.S.LevelSink.text c.args.sink.now) (g.S.LevelSink.text c.level-2.new.self) (c.loop-level.level + 1) (omega (arith, c.length-level-end.ensures.value)) more
-
-pub returns-clause-table : goal.returns-clause-table
-returns-clause-table g c =
-    let t = trellis_of c.args.window.now in
-    let n : c.loop-level.level ≡ t.levels = omega (arith, c.length-level-end.ensures.value) in
-    let r = rows_more (λ row. row.items) (best_row t) c.loop-level.rows.items c.loop-level.row c.loop-level.level c.loop-level.invariant.rows c.loop-level.invariant.row in
-    rw c.in_ok-keep.ensures (r ∙ ap (λ k. best_rows t (k + 1)) n)
+    hands_up_to t c.states-states.ensures.bounded (g.S.LevelSink.spelling (g.S.LevelSink.kind c.args.sink.now)) (g.S.LevelSink.text c.args.sink.now) (g.S.LevelSink.text c.level-2.new.self) c.loop-level.level c.deref-2.result.now (omega (arith, c.loop-level-test.false, c.length-level-end.ensures.value)) e part
 
 pub returns-clause-rows : goal.returns-clause-rows
 returns-clause-rows g c =
     let t = trellis_of c.args.window.now in
     let e : c.deref-2.result.now ≡ best_row t c.loop-level.level = c.deref-2.ensures.value ∙ c.loop-level.invariant.row in
     let more = hands_more t g.S.LevelSink.spelling (g.S.LevelSink.kind c.args.sink.now) (g.S.LevelSink.kind c.loop-level.sink) (g.S.LevelSink.text c.args.sink.now) (g.S.LevelSink.text c.loop-level.sink) (g.S.LevelSink.text c.level-2.new.self) c.loop-level.level c.deref-2.result.now c.loop-level.invariant.kind e c.loop-level.invariant.handed c.in_ok-level-2.ensures.ok in
-    hands_all t c.states.ensures.bounded (g.S.LevelSink.spelling (g.S.LevelSink.kind c.args.sink.now)) (g.S.LevelSink.text c.args.sink.now) (g.S.LevelSink.text c.level-2.new.self) c.loop-level.level (omega (arith, c.length-level-end.ensures.value)) more
+    hands_all t c.states-states.ensures.bounded (g.S.LevelSink.spelling (g.S.LevelSink.kind c.args.sink.now)) (g.S.LevelSink.text c.args.sink.now) (g.S.LevelSink.text c.level-2.new.self) c.loop-level.level (omega (arith, c.length-level-end.ensures.value)) more

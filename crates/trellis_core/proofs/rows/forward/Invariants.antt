@@ -1,9 +1,10 @@
--- The rows up to this level were made, and those below it handed over.
-use Rattle.std.proofs.Common.{◌≡◌, ◌+◌, ◌*◌, length, map, false}
+-- The row of this level was made, and those below it handed over; the decisions below it are kept.
+use Rattle.std.proofs.Common.{◌≡◌, ◌+◌, ◌*◌, length, false}
 use Rattle.cost_core.specs.Trellis.{states}
 use Rattle.cost_core.specs.StateCosts.{trellis_of}
 use Rattle.cost_core.specs.Sinks.{HandsOver}
 use Rattle.trellis_core.specs.Best.{best_row, best_rows}
+use Rattle.trellis_core.specs.Decisions.{AreAllDecisions, decision_bytes}
 use Rattle.trellis_core.proofs.rows.forward.Given as goal
 
 abbrev pub invariant-loop-level : goal.invariant-loop-level
@@ -12,7 +13,9 @@ invariant-loop-level g l =
     record {
       steps : length l.steps.items ≡ 2 * states t;
       row : l.row.items ≡ best_row t l.level;
-      rows : map (λ row. row.items) l.rows.items ≡ best_rows t l.level;
+      following : length l.following.items ≡ states t;
+      decided : length l.decided.items ≡ decision_bytes (states t);
+      decisions : AreAllDecisions t l.level l.decisions.items;
       handed : HandsOver (g.S.LevelSink.spelling (g.S.LevelSink.kind l.initial.sink)) (g.S.LevelSink.text l.initial.sink) (g.S.LevelSink.text l.sink) (best_rows t l.level);
       left : g.S.LevelSink.rows_left l.sink + l.level ≡ g.S.LevelSink.rows_left l.initial.sink;
       row_length : g.S.LevelSink.row_length l.sink ≡ g.S.LevelSink.row_length l.initial.sink;

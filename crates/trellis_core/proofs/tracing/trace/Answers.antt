@@ -1,25 +1,7 @@
-use Rattle.std.proofs.Common.{◌+◌, ◌-◌, ◌∙◌, ap, arith}
-use Rattle.trellis_core.specs.Best.{best_row}
+use Rattle.std.proofs.Common.{◌-◌, arith}
 use Rattle.cost_core.specs.StateCosts.{trellis_of}
-use Rattle.trellis_core.proofs.TableLaws.{rows_at, rows_length, traced_step, returned, before_in}
+use Rattle.trellis_core.proofs.TableLaws.{traced_step, returned, before_in}
 use Rattle.trellis_core.proofs.tracing.trace.Goals as goal
-
-pub offset_bounds-rows-level : goal.offset_bounds-rows-level
-offset_bounds-rows-level c =
-    let t = trellis_of c.args.window.now in
-    omega (arith, rows_length (λ row. row.items) (best_row t) c.args.rows.now _ c.requires.rows)
-
-pub bounds-rows-level : goal.bounds-rows-level
-bounds-rows-level c =
-    let t = trellis_of c.args.window.now in
-    omega (arith, rows_length (λ row. row.items) (best_row t) c.args.rows.now _ c.requires.rows)
-
-pub before-state-requires-clause-row : goal.before-state-requires-clause-row
-before-state-requires-clause-row c =
-    let t = trellis_of c.args.window.now in
-    let r = c.index-rows-level.result in
-    let e = rows_at (λ row. row.items) (best_row t) c.args.rows.now (t.levels + 1) (c.loop-level.level - 1) r c.requires.rows (omega arith) in
-    c.deref.ensures.value ∙ ap (λ row. row.items) c.index-rows-level.is ∙ e
 
 pub loop-level-preserved : goal.loop-level-preserved
 loop-level-preserved c =

@@ -1,0 +1,120 @@
+-- Rows that exceed nothing, eight states at a time.
+use Rattle.std.proofs.Common.{◌≡◌, ℕ, ◌+◌, ◌*◌, ◌-◌, ◌/◌, ◌%◌, ◌^◌, ◌<◌, ◌≤◌, Bool, true, false, refl, cond, ltb, eqb, List, map, take, drop, length, get_or, sym, ap, ◌∙◌, inl, inr, IsTrue, arith, rules, tests, w64, Fits}
+use Rattle.std.specs.Simd.Lanes.{zip2, Each1, mask_l, top}
+use Rattle.std.proofs.lemmas.Bool.{cases_Bool, cases_lt, ltb-false}
+use Rattle.std.proofs.Math.Nat.{zero-div}
+use Rattle.std.proofs.lemmas.List.{get_or-take, get_or-drop, length-take-le, length-drop}
+use Rattle.std.proofs.lemmas.Simd.{bit_mask_l, get_or-chunk, Each1-from_get_or}
+use Rattle.cost_core.specs.Trellis.{Trellis, states, newest, before_by_0, before_by_1, IsBounded}
+use Rattle.cost_core.specs.Bridges.{Bridging}
+use Rattle.cost_core.specs.StateCosts.{step_of, step_row, trellis_of}
+use Rattle.cost_core.specs.Rows.{sums, seconds, twice}
+use Rattle.cost_core.proofs.Lanes.{choices_are, length-sums}
+use Rattle.cost_core.proofs.Chunks.{at_seconds, at_sums}
+use Rattle.cost_core.proofs.Twice.{at_twice}
+use Rattle.cost_core.proofs.StepRows.{high_is, states_even, step_0, step_1, steps_length}
+use Rattle.cert_core.specs.Reasons.{RowBounded, Exceeds}
+use Rattle.cert_core.specs.Within.{WithinBoth}
+use Rattle.cert_core.proofs.Steps.{one_exceeds}
+
+pub is_zero : (m : ℕ) → IsTrue (eqb m 0) → m ≡ 0
+is_zero m h = search (rules, tests)
+
+no_bit : (m k : ℕ) → m ≡ 0 → m / 2 ^ k % 2 ≡ 0
+no_bit m k e = rw e (ap (λ n. n % 2) (zero-div (2 ^ k)))
+
+unmarked : (b : Bool) (n : ℕ) → n ≡ cond b 1 0 → n ≡ 0 → b ≡ false
+unmarked false n e z = refl
+unmarked true n e z = absurd (omega arith)
+
+abbrev marked : List ℕ → List ℕ → ℕ
+marked row by = mask_l (map (top 63) (zip2 (λ a b. cond (ltb a b) (2 ^ 64 - 1) 0) by row)) % 2 ^ 64
+
+-- where no lane is marked, no value is above the sum of its way
+pub none_above : (row xs ys : List ℕ) → length row ≡ 8 → length xs ≡ 8 → length ys ≡ 8 → marked row (sums xs ys) ≡ 0 → (k : ℕ) → k < 8 → get_or row k 0 ≤ get_or xs k 0 + get_or ys k 0
+none_above row xs ys lr lx ly e k h =
+    let by = sums xs ys in
+    let lb : length by ≡ 8 = length-sums xs ys (lx ∙ sym ly) ∙ lx in
+    let ss = seconds row by in
+    let z : mask_l ss ≡ 0 = sym (choices_are row by lr lb).0 ∙ e in
+    let at : get_or ss k false ≡ ltb (get_or by k 0) (get_or row k 0) = at_seconds row by k (omega arith) (omega arith) in
+    let not : get_or ss k false ≡ false = unmarked (get_or ss k false) (mask_l ss / 2 ^ k % 2) (bit_mask_l ss k) (no_bit (mask_l ss) k z) in
+    let le = ltb-false (get_or by k 0) (get_or row k 0) (sym at ∙ not) in
+    omega (arith, at_sums xs ys k (omega arith) (omega arith))
+
+-- from eight lanes to the rows that they are of
+module _ (at : ℕ) (a u b v r a8 u8 b8 v8 r8 : List ℕ) (ea : a8 ≡ take 8 (drop at a)) (eu : u8 ≡ take 8 (drop at u)) (eb : b8 ≡ take 8 (drop at b)) (ev : v8 ≡ take 8 (drop at v)) (er : r8 ≡ take 8 (drop at r)) where
+  lane : (ys xs : List ℕ) → ys ≡ take 8 (drop at xs) → (m : ℕ) → m < 8 → get_or ys m 0 ≡ get_or xs (at + m) 0
+  lane ys xs e m h = ap (λ l. get_or l m 0) e ∙ get_or-chunk at 8 xs m 0 h
+
+  pub eight_more : ((k : ℕ) → k < 8 → get_or r8 k 0 ≤ get_or a8 k 0 + get_or u8 k 0) → ((k : ℕ) → k < 8 → get_or r8 k 0 ≤ get_or b8 k 0 + get_or v8 k 0)
+      → (k : ℕ) → at ≤ k → k < at + 8 → (get_or r k 0 ≤ get_or a k 0 + get_or u k 0) × (get_or r k 0 ≤ get_or b k 0 + get_or v k 0)
+  eight_more low high k from to =
+      let m : ℕ = k - at in
+      let h : m < 8 = omega arith in
+      let e : at + m ≡ k = omega arith in
+      rw (← e) (omega (arith, low m h, lane a8 a ea m h, lane u8 u eu m h, lane r8 r er m h), omega (arith, high m h, lane b8 b eb m h, lane v8 v ev m h, lane r8 r er m h))
+
+module _ (d : Bridging) (i n : ℕ) (previous row steps : List ℕ) (fine : IsBounded (trellis_of d)) (hi : i < d.levels) (en : n ≡ states (trellis_of d)) (el : length previous ≡ n) (es : steps ≡ step_row d i) where
+  abbrev t : Trellis
+  t = trellis_of d
+
+  halves : n ≡ 2 * (n / 2)
+  halves = omega (arith, states_even t.width n fine.some_state en)
+
+  some_states : 0 < n
+  some_states = omega (arith, fine.start_in)
+
+  steps_long : length steps ≡ n + n
+  steps_long = steps_length d i 0 n steps es en (omega (arith, some_states)) ∙ omega arith
+
+  pub lens : (length (take n steps) ≡ length previous) × (length (drop n steps) ≡ length previous)
+  lens = (length-take-le n steps (omega (arith, steps_long)) ∙ sym el, length-drop n steps ∙ omega (arith, steps_long))
+
+  module _ (q : ℕ) (hq : q < n) where
+    inside : q < states t
+    inside = omega arith
+
+    low_step : get_or (take n steps) q 0 ≡ step_of d i (q / 2) (newest q)
+    low_step = get_or-take n steps q 0 hq ∙ step_0 d i q n steps es en inside
+
+    high_step : get_or (drop n steps) q 0 ≡ step_of d i (q / 2 + n / 2) (newest q)
+    high_step = get_or-drop n steps q 0 ∙ step_1 d i q n steps es en inside fine.some_state
+
+    low_value : get_or (twice (take (length previous / 2) previous)) q 0 ≡ get_or previous (q / 2) 0
+    low_value = at_twice (take (length previous / 2) previous) q ∙ get_or-take (length previous / 2) previous (q / 2) 0 (omega (arith, el, halves))
+
+    high_value : get_or (twice (drop (length previous / 2) previous)) q 0 ≡ get_or previous (q / 2 + n / 2) 0
+    high_value =
+        let e : length previous / 2 + q / 2 ≡ q / 2 + n / 2 = omega (arith, el) in
+        at_twice (drop (length previous / 2) previous) q ∙ get_or-drop (length previous / 2) previous (q / 2) 0 ∙ ap (λ k. get_or previous k 0) e
+
+    high : q / 2 + n / 2 ≡ before_by_1 t.width q
+    high = high_is t fine.some_state q n en
+
+    low_small : get_or (take n steps) q 0 < 2 ^ 63
+    low_small = omega (arith, low_step, fine.step_in i (q / 2) (newest q) hi (omega (arith, inside)))
+
+    high_small : get_or (drop n steps) q 0 < 2 ^ 63
+    high_small = omega (arith, high_step, fine.step_in i (q / 2 + n / 2) (newest q) hi (omega (arith, inside, halves)))
+
+  pub previous_small : RowBounded t previous → Each1 (λ x. x ≤ 2 ^ 63) previous
+  previous_small limit = Each1-from_get_or (λ x. x ≤ 2 ^ 63) previous 0 (λ q h. limit q (omega (arith, el)))
+
+  pub lows_small : Each1 (λ x. x < 2 ^ 63) (take n steps)
+  lows_small = Each1-from_get_or (λ x. x < 2 ^ 63) (take n steps) 0 (λ q h. low_small q (omega (arith, lens.0, el)))
+
+  pub highs_small : Each1 (λ x. x < 2 ^ 63) (drop n steps)
+  highs_small = Each1-from_get_or (λ x. x < 2 ^ 63) (drop n steps) 0 (λ q h. high_small q (omega (arith, lens.1, el)))
+
+  pub none_exceeds : WithinBoth (length previous) previous (take n steps) (drop n steps) row → (q : ℕ) → q < states t → Exceeds t i previous row q → ⊥
+  none_exceeds within q h x =
+      let hq : q < n = omega arith in
+      let w = within q (omega (arith, el)) in
+      elim (one_exceeds t fine.some_state i previous row q h x) [
+        | inl lt ↦ absurd (omega (arith, w.0, lt, low_value q hq, low_step q hq))
+        | inr lt ↦
+            let e : get_or previous (before_by_1 t.width q) 0 + step_of d i (before_by_1 t.width q) (newest q) ≡ get_or previous (q / 2 + n / 2) 0 + step_of d i (q / 2 + n / 2) (newest q) =
+            ap (λ p. get_or previous p 0 + step_of d i p (newest q)) (sym (high q hq)) in
+            absurd (omega (arith, w.1, lt, e, high_value q hq, high_step q hq))
+      ]

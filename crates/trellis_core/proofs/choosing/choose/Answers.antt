@@ -1,0 +1,16 @@
+use Rattle.std.proofs.Common.{◌∙◌, ap, sym, arith, length}
+use Rattle.std.specs.Simd.Lanes.{mask_l}
+use Rattle.std.proofs.lemmas.List.{take_all}
+use Rattle.cost_core.specs.Rows.{seconds, lower, upper}
+use Rattle.trellis_core.proofs.Few.{few_long}
+use Rattle.cost_core.proofs.Chunks.{choices_more}
+use Rattle.trellis_core.proofs.choosing.choose.Goals as goal
+
+pub returns-else-old-gt8-clause-choices : goal.returns-else-old-gt8-clause-choices
+returns-else-old-gt8-clause-choices c = λ k h.
+    let a = c.args in
+    let n = length a.old.now in
+    let ss = seconds (lower a.old.now a.lows.now) (upper a.old.now a.highs.now) in
+    let long = few_long a.old.now a.lows.now a.highs.now c.requires.even c.requires.lows_len c.requires.highs_len in
+    choices_more a.choices.now ss 0 c.choose_few.result n (λ j lt. absurd (omega arith))
+    (c.choose_few.ensures.choices ∙ ap mask_l (sym (take_all n ss (omega (arith, long.1))))) c.requires.some (omega arith) k (omega arith)

@@ -1,0 +1,37 @@
+use Rattle.std.proofs.Common.{◌+◌, ◌∙◌, ap, sym, arith, take, set}
+use Rattle.std.specs.Simd.Lanes.{mask_l}
+use Rattle.std.proofs.lemmas.List.{take_all}
+use Rattle.cost_core.specs.Rows.{seconds, least, lower, upper}
+use Rattle.trellis_core.proofs.Few.{few_second, few_first, few_long}
+use Rattle.trellis_core.proofs.choosing.choose_few.Goals as goal
+use Rattle.trellis_core.proofs.choosing.choose_few.Goals.{then-second-first, else-second-first}
+
+pub overflow_add-choices : goal.overflow_add-choices
+overflow_add-choices c =
+    record { fits = (few_second c.args.old.now c.args.lows.now c.args.highs.now c.loop-k.row c.loop-k.k c.loop-k.choices (omega arith) (omega arith) c.requires.even (omega arith) (omega arith) (omega arith) c.loop-k.invariant.row c.loop-k.invariant.choices c.if-second-first.true).fits }
+
+pub loop-k-preserved : goal.loop-k-preserved
+loop-k-preserved c =
+    let k = c.loop-k.k in
+    elim c.if-second-first.branch [
+      | then-second-first w ↦
+          let s = few_second c.args.old.now c.args.lows.now c.args.highs.now c.loop-k.row c.loop-k.k c.loop-k.choices (omega arith) (omega arith) c.requires.even (omega arith) (omega arith) (omega arith) c.loop-k.invariant.row c.loop-k.invariant.choices w.if-second-first.true in
+          record { row = ap (take (k + 1)) (w.row-is ∙ ap (set c.loop-k.row k) w.min.ensures) ∙ s.out; choices = w.choices-is ∙ s.mask }
+      | else-second-first w ↦
+          let s = few_first c.args.old.now c.args.lows.now c.args.highs.now c.loop-k.row c.loop-k.k c.loop-k.choices (omega arith) (omega arith) c.requires.even (omega arith) (omega arith) (omega arith) c.loop-k.invariant.row c.loop-k.invariant.choices w.if-second-first.false in
+          record { row = ap (take (k + 1)) (w.row-is ∙ ap (set c.loop-k.row k) w.min-else-second-first.ensures) ∙ s.out; choices = w.choices-is ∙ s.mask }
+    ]
+
+pub returns-clause-row : goal.returns-clause-row
+returns-clause-row c =
+    let a = c.args in
+    let k = c.loop-k.k in
+    let long = few_long a.old.now a.lows.now a.highs.now c.requires.even (omega arith) (omega arith) in
+    sym (take_all k c.loop-k.row (omega arith)) ∙ c.loop-k.invariant.row ∙ take_all k (least (lower a.old.now a.lows.now) (upper a.old.now a.highs.now)) (omega (arith, long.0))
+
+pub returns-clause-choices : goal.returns-clause-choices
+returns-clause-choices c =
+    let a = c.args in
+    let k = c.loop-k.k in
+    let long = few_long a.old.now a.lows.now a.highs.now c.requires.even (omega arith) (omega arith) in
+    c.loop-k.invariant.choices ∙ ap mask_l (take_all k (seconds (lower a.old.now a.lows.now) (upper a.old.now a.highs.now)) (omega (arith, long.1)))

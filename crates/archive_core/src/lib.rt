@@ -53,12 +53,3 @@ pub use opening::{Opened, read_any};
 pub use player::play;
 pub use projects::take_names;
 pub use verdict::{Reason, Verdict};
-
-#[cfg(test)]
-mod check_tests;
-#[cfg(test)]
-mod edit_tests;
-#[cfg(test)]
-mod test_files;
-#[cfg(test)]
-mod tests;

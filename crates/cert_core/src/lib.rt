@@ -64,10 +64,3 @@ pub use laws::{cert_goes_on, one_reason, parts_join, read_is_cert, shown_is_leas
 pub use reader::CertReader;
 pub use verdict::{CertReason, CertVerdict, CheckFault};
 pub use writer::CertWriter;
-
-#[cfg(test)]
-mod test_devices;
-#[cfg(test)]
-mod tests;
-#[cfg(test)]
-mod writer_tests;

@@ -99,7 +99,13 @@ fn is_within(previous: &[u64], lows: &[u64], highs: &[u64], row: &[u64]) -> bool
         let j = 2 * i;
         let (low_front, low_back) = doubled(&low_chunks[i]);
         let (high_front, high_back) = doubled(&high_chunks[i]);
-        let front = are_within(&rows[j], &low_front, &low_steps[j], &high_front, &high_steps[j]);
+        let front = are_within(
+            &rows[j],
+            &low_front,
+            &low_steps[j],
+            &high_front,
+            &high_steps[j],
+        );
         let back = are_within(
             &rows[j + 1],
             &low_back,

@@ -74,10 +74,3 @@ pub use numbers::{Order, push_u16, push_u32, push_u64};
 pub use outlet::Outlet;
 pub use spelling::push_chunk;
 pub use walking::walk;
-
-#[cfg(test)]
-mod device_tests;
-#[cfg(test)]
-mod test_devices;
-#[cfg(test)]
-mod tests;

@@ -56,6 +56,3 @@ pub use laws::{
 pub use rows::doubled;
 pub use sink::{LevelSink, SinkFault};
 pub use window::Window;
-
-#[cfg(test)]
-mod tests;

@@ -63,6 +63,3 @@ pub use marks::{Mark, Other, Place};
 pub use recording::Recording;
 pub use sound::{Sound, SoundAt};
 pub use turning::{turn, turn_byte};
-
-#[cfg(test)]
-mod tests;

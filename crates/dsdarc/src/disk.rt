@@ -2,7 +2,7 @@
 
 ghost use Rattle.std.specs.Prelude.{None, false};
 
-use crate::folder::{Folder, FolderFault};
+use command_core::{Folder, FolderFault};
 use std::fs;
 use std::rt::Files;
 

@@ -3,39 +3,22 @@
 //! certifies it, `check PROJECT MASTER CERT` judges a master and its certificate, and `info FILE` tells what
 //! a recording's file holds.
 //!
-//! The work is done by `archive_core`, over the bytes of files. `words` reads the command line; `run` does the
-//! command over a [`Folder`](folder::Folder), whose files `files` reads and writes whole; and `outcome` says
-//! what is printed and with which status the program ends. The folder is the [`Disk`](disk::Disk), and in
-//! tests one in memory.
+//! `words` reads the command line; `run` does the command over a [`Folder`](command_core::Folder), by
+//! `command_core`, which also says what is printed and with which status the program ends. The folder is the
+//! [`Disk`](disk::Disk), and in tests one in memory.
 #![tactic(auto)]
 
 mod disk;
-#[cfg(test)]
-mod edit_tests;
-#[cfg(test)]
-mod file_tests;
-mod files;
-mod folder;
-mod form_names;
-mod info;
-mod limited;
-#[cfg(test)]
-mod memory_folder;
-mod outcome;
 mod run;
 #[cfg(test)]
 mod run_tests;
-#[cfg(test)]
-mod test_files;
-#[cfg(test)]
-mod tests;
-#[cfg(test)]
-mod watched_folder;
 mod words;
+#[cfg(test)]
+mod words_tests;
 
 use archive_core::Fault;
+use command_core::{Outcome, outcome_line, status};
 use disk::Disk;
-use outcome::{Outcome, outcome_line, status};
 use std::io;
 use std::process::ExitCode;
 

@@ -1,92 +1,94 @@
 //! The words of a command line.
 
 ghost use Rattle.std.specs.Prelude.{◌≡◌, IfErr};
-ghost use Rattle.dsdarc.specs.Commands.{IsNoCommand};
-ghost use Rattle.dsdarc.specs.declared.outcome.Outcome.TheVariants as outcomes;
+ghost use Rattle.command_core.specs.Commands.{IsNoCommand};
+ghost use Rattle.command_core.specs.declared.outcome.Outcome.TheVariants as outcomes;
 
-use crate::form_names::form_named;
-use crate::outcome::Outcome;
 use archive_core::{Fault, Form};
 use clap::error::ErrorKind;
 use clap::{Arg, ArgAction, ArgMatches, Command, Error};
+use command_core::{Outcome, Task, form_named};
 use std::alloc::{AllocError, Global};
 
-/// What a command line asks for, with the names of the files.
-#[derive(Clone, Copy, Debug, PartialEq, Eq)]
-pub enum Task<'a> {
-    /// `play PROJECT IN OUT`
-    Play {
-        project: &'a str,
-        input: &'a str,
-        output: &'a str,
-    },
-    /// `convert FORM IN OUT`
-    Convert {
-        form: Form,
-        input: &'a str,
-        output: &'a str,
-    },
-    /// `edit FORM PROJECT MASTER CERT`
-    Edit {
-        form: Form,
-        project: &'a str,
-        master: &'a str,
-        cert: &'a str,
-    },
-    /// `check PROJECT MASTER CERT`
-    Check {
-        project: &'a str,
-        master: &'a str,
-        cert: &'a str,
-    },
-    /// `info FILE`
-    Info {
-        file: &'a str,
-    },
-}
+// The commands, each with the names of its words in their order.
+const COMMANDS: [(&str, &[&str]); 5] = [
+    ("info", &["FILE"]),
+    ("convert", &["FORM", "IN", "OUT"]),
+    ("play", &["PROJECT", "IN", "OUT"]),
+    ("edit", &["FORM", "PROJECT", "MASTER", "CERT"]),
+    ("check", &["PROJECT", "MASTER", "CERT"]),
+];
 
 /// What the words ask for, the program's name first. Other words than those of a command are
 /// `WrongWords`, and another form than `dsdiff`, `dsf` or `dsf8` is `UnknownFormName`.
 pub fn task_of<'a>(alloc: Global, words: &'a [String]) -> Result<Task<'a>, Outcome>
     ensures { IfErr result IsNoCommand }
 {
-    let matches = match matches_of(alloc, words) {
-        Ok(matches) => matches,
-        Err(error) if error.kind() == ErrorKind::OutOfMemory => return Err(Fault::Memory.into()),
-        Err(_) => return Err(Outcome::WrongWords),
-    };
-    if let Some(play) = matches.subcommand_matches("play") {
-        return Ok(Task::Play {
-            project: name_at(play, "PROJECT")?,
-            input: name_at(play, "IN")?,
-            output: name_at(play, "OUT")?,
-        });
+    match matches_of(alloc, words) {
+        Ok(matches) => task_in(&matches),
+        Err(error) if error.kind() == ErrorKind::OutOfMemory => Err(Fault::Memory.into()),
+        Err(_) => Err(Outcome::WrongWords),
     }
-    if let Some(convert) = matches.subcommand_matches("convert") {
-        return Ok(Task::Convert {
-            form: form_at(convert)?,
-            input: name_at(convert, "IN")?,
-            output: name_at(convert, "OUT")?,
-        });
+}
+
+// What was read asks for. It is borrowed here, so that no exit has to let go of it.
+fn task_in<'a>(matches: &ArgMatches<'a>) -> Result<Task<'a>, Outcome>
+    ensures { IfErr result IsNoCommand }
+{
+    match matches.subcommand() {
+        Some(("info", info)) => info_task(info),
+        Some(("convert", convert)) => convert_task(convert),
+        Some(("play", play)) => play_task(play),
+        Some(("edit", edit)) => edit_task(edit),
+        Some(("check", check)) => check_task(check),
+        _ => Err(Outcome::WrongWords),
     }
-    if let Some(edit) = matches.subcommand_matches("edit") {
-        return Ok(Task::Edit {
-            form: form_at(edit)?,
-            project: name_at(edit, "PROJECT")?,
-            master: name_at(edit, "MASTER")?,
-            cert: name_at(edit, "CERT")?,
-        });
-    }
-    if let Some(check) = matches.subcommand_matches("check") {
-        return Ok(Task::Check {
-            project: name_at(check, "PROJECT")?,
-            master: name_at(check, "MASTER")?,
-            cert: name_at(check, "CERT")?,
-        });
-    }
-    let info = matches
-        .subcommand_matches("info")
-        .ok_or(Outcome::WrongWords)?;
+}
+
+fn play_task<'a>(play: &ArgMatches<'a>) -> Result<Task<'a>, Outcome>
+    ensures { IfErr result IsNoCommand }
+{
+    Ok(Task::Play {
+        project: name_at(play, "PROJECT")?,
+        input: name_at(play, "IN")?,
+        output: name_at(play, "OUT")?,
+    })
+}
+
+fn convert_task<'a>(convert: &ArgMatches<'a>) -> Result<Task<'a>, Outcome>
+    ensures { IfErr result IsNoCommand }
+{
+    Ok(Task::Convert {
+        form: form_at(convert)?,
+        input: name_at(convert, "IN")?,
+        output: name_at(convert, "OUT")?,
+    })
+}
+
+fn edit_task<'a>(edit: &ArgMatches<'a>) -> Result<Task<'a>, Outcome>
+    ensures { IfErr result IsNoCommand }
+{
+    Ok(Task::Edit {
+        form: form_at(edit)?,
+        project: name_at(edit, "PROJECT")?,
+        master: name_at(edit, "MASTER")?,
+        cert: name_at(edit, "CERT")?,
+    })
+}
+
+fn check_task<'a>(check: &ArgMatches<'a>) -> Result<Task<'a>, Outcome>
+    ensures { IfErr result IsNoCommand }
+{
+    Ok(Task::Check {
+        project: name_at(check, "PROJECT")?,
+        master: name_at(check, "MASTER")?,
+        cert: name_at(check, "CERT")?,
+    })
+}
+
+fn info_task<'a>(info: &ArgMatches<'a>) -> Result<Task<'a>, Outcome>
+    ensures { IfErr result IsNoCommand }
+{
     Ok(Task::Info {
         file: name_at(info, "FILE")?,
     })
@@ -112,31 +114,41 @@ fn matches_of<'a>(alloc: Global, words: &'a [String]) -> Result<ArgMatches<'a>, 
 }
 
 fn command<'a>(alloc: Global) -> Result<Command<'a>, AllocError> {
-    let play = Command::new(alloc, "play")
-        .arg(positional(alloc, "PROJECT"))?
-        .arg(positional(alloc, "IN"))?
-        .arg(positional(alloc, "OUT"))?;
-    let convert = Command::new(alloc, "convert")
-        .arg(positional(alloc, "FORM"))?
-        .arg(positional(alloc, "IN"))?
-        .arg(positional(alloc, "OUT"))?;
-    let edit = Command::new(alloc, "edit")
-        .arg(positional(alloc, "FORM"))?
-        .arg(positional(alloc, "PROJECT"))?
-        .arg(positional(alloc, "MASTER"))?
-        .arg(positional(alloc, "CERT"))?;
-    let check = Command::new(alloc, "check")
-        .arg(positional(alloc, "PROJECT"))?
-        .arg(positional(alloc, "MASTER"))?
-        .arg(positional(alloc, "CERT"))?;
-    let info = Command::new(alloc, "info").arg(positional(alloc, "FILE"))?;
-    Command::new(alloc, "dsdarc")
-        .subcommand_required(true)
-        .subcommand(play)?
-        .subcommand(convert)?
-        .subcommand(edit)?
-        .subcommand(check)?
-        .subcommand(info)
+    let mut root = Ok(Command::new(alloc, "dsdarc").subcommand_required(true));
+    for (name, ids) in COMMANDS {
+        root = with(root, subcommand(alloc, name, ids));
+    }
+    root
+}
+
+fn subcommand<'a>(
+    alloc: Global,
+    name: &'a str,
+    ids: &[&'a str],
+) -> Result<Command<'a>, AllocError> {
+    let mut command = Ok(Command::new(alloc, name));
+    for id in ids {
+        command = naming(alloc, command, id);
+    }
+    command
+}
+
+// A command with one subcommand more. The results go in and out as they are: each `?` in a caller would be
+// an exit at which every command that it holds is let go of, and the check pays for each.
+fn with<'a>(
+    root: Result<Command<'a>, AllocError>,
+    part: Result<Command<'a>, AllocError>,
+) -> Result<Command<'a>, AllocError> {
+    root?.subcommand(part?)
+}
+
+// A command with one name more.
+fn naming<'a>(
+    alloc: Global,
+    command: Result<Command<'a>, AllocError>,
+    id: &'a str,
+) -> Result<Command<'a>, AllocError> {
+    command?.arg(positional(alloc, id))
 }
 
 fn positional<'a>(alloc: Global, id: &'a str) -> Arg<'a> {

@@ -76,8 +76,3 @@ pub use reading::read;
 pub use write_fault::WriteFault;
 pub use writing::write;
 pub use writing_laws::written_is_read_again;
-
-#[cfg(test)]
-mod tests;
-#[cfg(test)]
-mod writing_tests;

@@ -55,6 +55,3 @@ pub use laws::{accepted_files_have_a_head, bytes_of_sound_do_not_matter, one_rec
 pub use reading::read;
 pub use writing::write;
 pub use writing_laws::written_is_read_again;
-
-#[cfg(test)]
-mod tests;

@@ -33,6 +33,3 @@ pub use fault::TapsFault;
 pub use kernel::{Kernel, decimate_with};
 pub use stream::Stream;
 pub use taps::Taps;
-
-#[cfg(test)]
-mod tests;

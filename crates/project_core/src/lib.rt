@@ -74,6 +74,3 @@ pub use laws::{one_project, read_as_said};
 pub use project::Project;
 pub use reading::read;
 pub use splice::Splice;
-
-#[cfg(test)]
-mod tests;

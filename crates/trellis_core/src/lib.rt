@@ -46,8 +46,3 @@ mod unheard;
 pub use bridging::{Chosen, bridge, bridge_into};
 pub use fault::BridgeFault;
 pub use laws::best_rows_are_valid;
-
-#[cfg(test)]
-mod sink_tests;
-#[cfg(test)]
-mod tests;

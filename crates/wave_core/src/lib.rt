@@ -44,6 +44,3 @@ pub use header::push_header;
 pub use pcm::Pcm;
 pub use sound::{push_pad, push_sample};
 pub use writing::{parts_join, write};
-
-#[cfg(test)]
-mod tests;

@@ -76,7 +76,7 @@ loop-i-preserved c = λ k lt.
     elim (cases_lt k (8 * j)) [
       | inl before ↦ c.loop-i.invariant k before
       | inr after ↦ elim (cases_lt k (8 * (j + 1))) [
-          | inl first ↦ eight_more (8 * j) a lows b highs row _ _ _ _ _ d0 l0 h0 u0 r0 (c.if-not-front.ensures.low refl) (c.if-not-front.ensures.high refl) k after (omega arith)
-          | inr second ↦ eight_more (8 * (j + 1)) a lows b highs row _ _ _ _ _ d1 l1 h1 u1 r1 (c.if-not-back.ensures.low refl) (c.if-not-back.ensures.high refl) k second (omega arith)
-        ]
+        | inl first ↦ eight_more (8 * j) a lows b highs row _ _ _ _ _ d0 l0 h0 u0 r0 (c.if-not-front.ensures.low refl) (c.if-not-front.ensures.high refl) k after (omega arith)
+        | inr second ↦ eight_more (8 * (j + 1)) a lows b highs row _ _ _ _ _ d1 l1 h1 u1 r1 (c.if-not-back.ensures.low refl) (c.if-not-back.ensures.high refl) k second (omega arith)
+      ]
     ]

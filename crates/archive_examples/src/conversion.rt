@@ -1,0 +1,109 @@
+//! Recordings written in each form, and how many of their parts have no place there.
+
+use crate::builders::{file_in, is_named};
+use archive_core::{Fault, Form, convert};
+use chunk_core::push_chunk;
+use fixtures::files::{MONO, RATE, RAW, dsf_of, file_of, marked};
+use std::alloc::{AllocError, Global};
+use std::test::Fail;
+
+// Whether a file is converted to these bytes, without so many parts of its recording.
+fn converts(
+    alloc: Global,
+    from: Result<Vec<u8>, AllocError>,
+    form: Form,
+    to: Result<Vec<u8>, AllocError>,
+    dropped: u64,
+) -> Result<bool, Fault> {
+    let from = from?;
+    let to = to?;
+    let made = convert(alloc, &from, form)?;
+    Ok(made.bytes.as_slice() == to.as_slice() && made.dropped == dropped)
+}
+
+// Each form to each form.
+const PAIRS: [(Form, Form); 9] = [
+    (Form::Dsdiff, Form::Dsdiff),
+    (Form::Dsdiff, Form::Dsf),
+    (Form::Dsdiff, Form::Dsf8),
+    (Form::Dsf, Form::Dsdiff),
+    (Form::Dsf, Form::Dsf),
+    (Form::Dsf, Form::Dsf8),
+    (Form::Dsf8, Form::Dsdiff),
+    (Form::Dsf8, Form::Dsf),
+    (Form::Dsf8, Form::Dsf8),
+];
+
+#[test]
+fn converts_one_byte_of_sound(rt: HostRuntime) -> Result<(), Fail> {
+    let alloc = rt.alloc();
+    for (from, to) in &PAIRS {
+        let file = file_in(alloc, *from);
+        assert!(rt;
+            converts(alloc, file, *to, file_in(alloc, *to), 0)?,
+            "{from:?} {to:?}"
+        );
+    }
+    Ok(())
+}
+
+// A DSF file of two channels of 32,769 bits, one more than a block holds, and this first byte.
+fn long(alloc: Global, bits: u32, first: u8) -> Result<Vec<u8>, AllocError> {
+    dsf_of(alloc, (2, bits, 32769), &[first], 16384, &[])
+}
+
+// Whether a conversion to DSDIFF is refused for this fault.
+fn is_refused(
+    alloc: Global,
+    from: Result<Vec<u8>, AllocError>,
+    expected: &str,
+) -> Result<bool, AllocError> {
+    match convert(alloc, &from?, Form::Dsdiff) {
+        Ok(_) => Ok(false),
+        Err(fault) => is_named(alloc, fault, expected),
+    }
+}
+
+// DSDIFF holds whole bytes of each channel.
+#[test]
+fn converts_channels_that_end_inside_a_byte(rt: HostRuntime) -> Result<(), Fail> {
+    let alloc = rt.alloc();
+    assert!(rt; long(alloc, 1, 0x80)?.len() == 16476);
+    assert!(rt; is_refused(alloc, long(alloc, 1, 0x80), "NotWholeBytes")?);
+    let turned = long(alloc, 8, 0x01);
+    assert!(rt; converts(alloc, long(alloc, 1, 0x80), Form::Dsf8, turned, 0)?);
+    Ok(())
+}
+
+// The file of one byte of sound with a mark, and a comment chunk of no comments, behind it.
+fn commented(alloc: Global) -> Result<Vec<u8>, AllocError> {
+    let mut rest = marked(alloc, 22)?;
+    push_chunk(&mut rest, *b"COMT", &[0, 0])?;
+    file_of(alloc, &[&RATE, &MONO, &RAW], &[0xf0], &rest)
+}
+
+#[test]
+fn counts_what_has_no_place_in_dsf(rt: HostRuntime) -> Result<(), Fail> {
+    let alloc = rt.alloc();
+    assert!(rt; commented(alloc)?.len() == 188);
+    let bare = file_in(alloc, Form::Dsf);
+    assert!(rt; converts(alloc, commented(alloc), Form::Dsf, bare, 2)?);
+    assert!(rt; converts(alloc, commented(alloc), Form::Dsdiff, commented(alloc), 0)?);
+    Ok(())
+}
+
+// The DSF file of one byte of sound with a tag.
+fn tagged(alloc: Global, bits: u32, first: u8) -> Result<Vec<u8>, AllocError> {
+    dsf_of(alloc, (1, bits, 8), &[first], 4096, b"ID3")
+}
+
+#[test]
+fn keeps_a_tag_in_dsf_alone(rt: HostRuntime) -> Result<(), Fail> {
+    let alloc = rt.alloc();
+    assert!(rt; tagged(alloc, 1, 0x0f)?.len() == 4191);
+    let turned = tagged(alloc, 8, 0xf0);
+    assert!(rt; converts(alloc, tagged(alloc, 1, 0x0f), Form::Dsf8, turned, 0)?);
+    let bare = file_in(alloc, Form::Dsdiff);
+    assert!(rt; converts(alloc, tagged(alloc, 1, 0x0f), Form::Dsdiff, bare, 1)?);
+    Ok(())
+}

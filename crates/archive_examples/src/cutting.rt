@@ -1,0 +1,155 @@
+//! Small masters cut from two takes, what their bridges cost, and the fault that comes first.
+
+use crate::builders::{
+    CUES, CueNumbers, Sources, cut_off, fast, is_named, mono_sources, sources_of, stereo,
+    stereo_sources, titled, titled_sources,
+};
+use archive_core::{Fault, Form, edit};
+use fixtures::files::{dsf_of, mono};
+use fixtures::projects::SPLICE;
+use std::alloc::{AllocError, Global};
+use std::test::Fail;
+
+// Whether the master that is cut is this file, at this cost.
+fn cuts(
+    alloc: Global,
+    sources: Result<Sources, AllocError>,
+    form: Form,
+    master: Result<Vec<u8>, AllocError>,
+    total: u128,
+) -> Result<bool, Fault> {
+    let master = master?;
+    let made = sources?.edit(alloc, form)?;
+    Ok(made.master.as_slice() == master.as_slice() && made.total == total)
+}
+
+// Weights, cues, the sound that is cut, and its cost. A bridge of one bit between ones and zeros has the
+// targets 0 and -2 times the sum of the weights; all numbers are times 2. By the weights 1 and 1 the bit 0
+// meets both: it costs 0. By 1 and 0 either bit is 2 off, which costs 4, and of both the 0 is taken. A
+// bridge of two bits by 1 and 0, times 3, has the targets 1 and -1: the bits 1 and 0 are 2 off each, 8 in
+// all. A plain cut costs nothing.
+const CUTS: [(&str, &[CueNumbers], [u8; 2], u128); 5] = [
+    ("1, 1", &[(0, 0, 8, 1), (1, 2, 9, 0)], [0xff, 0x00], 0),
+    ("1, 0", &[(0, 0, 8, 1), (1, 2, 9, 0)], [0xff, 0x00], 4),
+    ("1, 0", &[(0, 0, 8, 2), (1, 3, 9, 0)], [0xff, 0x80], 8),
+    (
+        "1, 1",
+        &[(0, 0, 8, 1), (1, 2, 3, 1), (0, 2, 7, 0)],
+        [0xff, 0x3f],
+        0,
+    ),
+    ("1, 1", &[(0, 0, 8, 0), (1, 0, 8, 0)], [0xff, 0x00], 0),
+];
+
+#[test]
+fn cuts_masters(rt: HostRuntime) -> Result<(), Fail> {
+    let alloc = rt.alloc();
+    for (weights, cues, sound, total) in &CUTS {
+        let sources = mono_sources(alloc, weights, cues);
+        let master = mono(alloc, sound);
+        assert!(rt;
+            cuts(alloc, sources, Form::Dsdiff, master, *total)?,
+            "{weights} {cues:?}"
+        );
+    }
+    Ok(())
+}
+
+// A DSDIFF master has a mark for each title, a DSF master has none.
+#[test]
+fn marks_titles_in_dsdiff_alone(rt: HostRuntime) -> Result<(), Fail> {
+    let alloc = rt.alloc();
+    assert!(rt; titled(alloc)?.len() == 178);
+    assert!(rt; cuts(alloc, titled_sources(alloc), Form::Dsdiff, titled(alloc), 0)?);
+    let least = dsf_of(alloc, (1, 1, 16), &[0xff, 0], 4096, &[]);
+    assert!(rt; cuts(alloc, titled_sources(alloc), Form::Dsf, least, 0)?);
+    let most = dsf_of(alloc, (1, 8, 16), &[0xff, 0], 4096, &[]);
+    assert!(rt; cuts(alloc, titled_sources(alloc), Form::Dsf8, most, 0)?);
+    Ok(())
+}
+
+// Each channel has a bridge that costs 4.
+#[test]
+fn cuts_each_channel(rt: HostRuntime) -> Result<(), Fail> {
+    let alloc = rt.alloc();
+    let master = stereo(alloc, &[0xff, 0xff, 0, 0]);
+    assert!(rt; cuts(alloc, stereo_sources(alloc), Form::Dsdiff, master, 8)?);
+    Ok(())
+}
+
+// Whether a cut is refused for this fault.
+fn is_refused(
+    alloc: Global,
+    sources: Result<Sources, AllocError>,
+    expected: &str,
+) -> Result<bool, AllocError> {
+    match sources?.edit(alloc, Form::Dsdiff) {
+        Ok(_) => Ok(false),
+        Err(fault) => is_named(alloc, fault, expected),
+    }
+}
+
+// With two weights a fade of one bit needs one bit of its take behind its cue, and two bits before the cue
+// behind it. Takes have 16 bits, cues at least one, no bridge follows the last, and a DSDIFF master ends
+// with a whole byte.
+const REFUSED: [(&str, &[CueNumbers], &str); 7] = [
+    ("1, 1", &[(0, 0, 8, 1), (1, 1, 8, 0)], "NoRoomBefore 0"),
+    ("1, 1", &[(0, 0, 16, 1), (1, 2, 9, 0)], "NoRoomAfter 0"),
+    ("1, 1", &[(0, 0, 8, 1), (1, 2, 17, 0)], "CueOutside 1"),
+    ("1, 1", &[(0, 0, 8, 1), (1, 2, 2, 0)], "Project ShortCue 1"),
+    ("1, 1", &[(0, 0, 8, 1), (1, 2, 9, 1)], "Project LastBridge"),
+    ("1, 1", &[(0, 0, 8, 0), (1, 0, 4, 0)], "NotWholeBytes"),
+    (
+        "4096, 1",
+        &[(0, 0, 8, 1), (1, 2, 9, 0)],
+        "Project OutOfLimit weights",
+    ),
+];
+
+#[test]
+fn names_the_first_fault_of_cues(rt: HostRuntime) -> Result<(), Fail> {
+    let alloc = rt.alloc();
+    for (weights, cues, expected) in &REFUSED {
+        assert!(rt;
+            is_refused(alloc, mono_sources(alloc, weights, cues), expected)?,
+            "{expected}"
+        );
+    }
+    Ok(())
+}
+
+// Whether a cut of the take of ones and this other take is refused for this fault.
+fn is_take_refused(
+    alloc: Global,
+    other: Result<Vec<u8>, AllocError>,
+    expected: &str,
+) -> Result<bool, AllocError> {
+    let text: Result<_, _> = String::from_str(alloc, SPLICE);
+    is_refused(
+        alloc,
+        sources_of(alloc, text, mono(alloc, &[0xff; 2]), other),
+        expected,
+    )
+}
+
+// Whether a cut of the take of ones alone is refused for this fault.
+fn is_alone_refused(alloc: Global, text: &str, expected: &str) -> Result<bool, AllocError> {
+    let ones = mono(alloc, &[0xff; 2])?;
+    let takes = vec![in alloc; ones]?;
+    match edit(alloc, text.as_bytes(), &takes, Form::Dsdiff) {
+        Ok(_) => Ok(false),
+        Err(fault) => is_named(alloc, fault, expected),
+    }
+}
+
+// One file for two takes, and for no splice; a take of another rate; and one whose sound is cut.
+#[test]
+fn names_the_first_fault_of_takes(rt: HostRuntime) -> Result<(), Fail> {
+    let alloc = rt.alloc();
+    let cut = "TakeUnread 1 Dsdiff Chunk DataCut 114";
+    assert!(rt; is_alone_refused(alloc, SPLICE, "TakeNumber")?);
+    assert!(rt; is_alone_refused(alloc, "", "NoSplice")?);
+    assert!(rt; is_take_refused(alloc, fast(alloc, &[0; 2]), "TakeMismatch 1")?);
+    assert!(rt; is_take_refused(alloc, cut_off(alloc), cut)?);
+    Ok(())
+}

@@ -1,0 +1,202 @@
+//! `play`, `convert` and `info` over folders in memory: what they print and which files they create.
+
+use crate::builders::file_in;
+use crate::folders::{asks, comes_to, holds, is_refused};
+use crate::outcomes::TOLD;
+use crate::watched_folder::{Failure, WatchedFolder};
+use archive_core::Form;
+use command_core::{MemoryFolder, Task};
+use fixtures::files::{FILE, WAVE};
+use fixtures::projects::DECIMATE;
+use std::alloc::{AllocError, Global};
+use std::test::Fail;
+
+// A folder with a file and a project.
+fn folder(alloc: Global) -> Result<MemoryFolder, AllocError> {
+    let mut folder = MemoryFolder::new(alloc);
+    folder.put("in.dff", &FILE)?;
+    folder.put("p.toml", DECIMATE.as_bytes())?;
+    Ok(folder)
+}
+
+// Playing this input by this project.
+fn playing<'a>(project: &'a str, input: &'a str) -> Task<'a> {
+    Task::Play {
+        project,
+        input,
+        output: "out",
+    }
+}
+
+// Converting this input to this output.
+fn converting<'a>(form: Form, input: &'a str, output: &'a str) -> Task<'a> {
+    Task::Convert {
+        form,
+        input,
+        output,
+    }
+}
+
+// Whether a task comes to the status 0 and this line in the folder, which has so many files then, and this
+// one of these bytes.
+fn makes(
+    alloc: Global,
+    task: Task,
+    line: &str,
+    (name, bytes): (&str, &[u8]),
+    count: usize,
+) -> Result<bool, AllocError> {
+    let mut folder = folder(alloc)?;
+    let done = comes_to(alloc, &mut folder, task, 0, line)?;
+    Ok(done && holds(&folder, name, bytes) && folder.count() == count)
+}
+
+#[test]
+fn plays_to_a_file(rt: HostRuntime) -> Result<(), Fail> {
+    let alloc = rt.alloc();
+    let task = playing("p.toml", "in.dff");
+    assert!(rt; makes(alloc, task, "played 46 bytes", ("out", &WAVE), 3)?);
+    Ok(())
+}
+
+// Whether the file is converted to the one that its recording has in this form, beside itself.
+fn converts(alloc: Global, form: Form) -> Result<bool, AllocError> {
+    let made = file_in(alloc, form)?;
+    let task = converting(form, "in.dff", "out");
+    makes(alloc, task, "converted dropped 0", ("out", &made), 3)
+}
+
+// In the end the file takes its own place: it is read whole before it is created.
+#[test]
+fn converts_to_files(rt: HostRuntime) -> Result<(), Fail> {
+    let alloc = rt.alloc();
+    assert!(rt; converts(alloc, Form::Dsf)?);
+    assert!(rt; converts(alloc, Form::Dsf8)?);
+    assert!(rt; converts(alloc, Form::Dsdiff)?);
+    let task = converting(Form::Dsdiff, "in.dff", "in.dff");
+    assert!(rt; makes(alloc, task, "converted dropped 0", ("in.dff", &FILE), 2)?);
+    Ok(())
+}
+
+#[test]
+fn tells_of_a_file(rt: HostRuntime) -> Result<(), Fail> {
+    let alloc = rt.alloc();
+    let task = Task::Info { file: "in.dff" };
+    assert!(rt; makes(alloc, task, TOLD, ("in.dff", &FILE), 2)?);
+    Ok(())
+}
+
+// A project and an input that are no such, one that is not there, and what is printed.
+const PLAYED: [(&str, &str, &str); 4] = [
+    ("none", "in.dff", "fault: ReadFailed"),
+    ("in.dff", "none", "fault: ReadFailed"),
+    ("in.dff", "p.toml", "fault: Project NotToml"),
+    ("p.toml", "p.toml", "fault: FileUnread UnknownForm"),
+];
+
+// The same of a file that is converted or told of.
+const READ: [(&str, &str); 2] = [
+    ("none", "fault: ReadFailed"),
+    ("p.toml", "fault: FileUnread UnknownForm"),
+];
+
+#[test]
+fn refuses_and_creates_nothing(rt: HostRuntime) -> Result<(), Fail> {
+    let alloc = rt.alloc();
+    for (project, input, line) in &PLAYED {
+        let task = playing(project, input);
+        assert!(rt;
+            is_refused(alloc, folder(alloc), task, line)?,
+            "{project} {input}"
+        );
+    }
+    for (input, line) in &READ {
+        let task = converting(Form::Dsf, input, "out");
+        assert!(rt;
+            is_refused(alloc, folder(alloc), task, line)?,
+            "convert {input}"
+        );
+        let task = Task::Info { file: input };
+        assert!(rt;
+            is_refused(alloc, folder(alloc), task, line)?,
+            "info {input}"
+        );
+    }
+    Ok(())
+}
+
+// What fails, what is printed, and what the folder is asked for, and no more. A file that was created is
+// kept, whether it was written or not.
+const PLAYS: [(Option<Failure>, &str, &str); 8] = [
+    (
+        None,
+        "played 46 bytes",
+        "open p.toml\nopen in.dff\ncreate out\nkeep out\n",
+    ),
+    (
+        Some(Failure::Open("p.toml")),
+        "fault: ReadFailed",
+        "open p.toml\n",
+    ),
+    (
+        Some(Failure::Read("p.toml")),
+        "fault: ReadFailed",
+        "open p.toml\n",
+    ),
+    (
+        Some(Failure::Open("in.dff")),
+        "fault: ReadFailed",
+        "open p.toml\nopen in.dff\n",
+    ),
+    (
+        Some(Failure::Read("in.dff")),
+        "fault: ReadFailed",
+        "open p.toml\nopen in.dff\n",
+    ),
+    (
+        Some(Failure::Create("out")),
+        "fault: WriteFailed",
+        "open p.toml\nopen in.dff\ncreate out\n",
+    ),
+    (
+        Some(Failure::Write(0)),
+        "fault: WriteFailed",
+        "open p.toml\nopen in.dff\ncreate out\nkeep out\n",
+    ),
+    (
+        Some(Failure::Keep("out")),
+        "fault: WriteFailed",
+        "open p.toml\nopen in.dff\ncreate out\nkeep out\n",
+    ),
+];
+
+#[test]
+fn asks_for_files_in_order(rt: HostRuntime) -> Result<(), Fail> {
+    let alloc = rt.alloc();
+    for (failure, line, calls) in &PLAYS {
+        let task = playing("p.toml", "in.dff");
+        assert!(rt;
+            asks(alloc, folder(alloc), *failure, task, (line, calls))?,
+            "{failure:?}"
+        );
+    }
+    Ok(())
+}
+
+// Whether the file is kept as the front of so many bytes where there is no room for more.
+fn keeps_front(alloc: Global, room: usize) -> Result<bool, AllocError> {
+    let task = playing("p.toml", "in.dff");
+    let mut folder = WatchedFolder::over(alloc, folder(alloc)?, Some(Failure::Write(room)));
+    let failed = comes_to(alloc, &mut folder, task, 2, "fault: WriteFailed")?;
+    let (front, _) = WAVE.split_at(room.min(46));
+    Ok(failed && holds(&folder.files, "out", front))
+}
+
+#[test]
+fn keeps_a_front_after_a_failed_write(rt: HostRuntime) -> Result<(), Fail> {
+    let alloc = rt.alloc();
+    for room in 0..46 {
+        assert!(rt; keeps_front(alloc, room)?, "{room}");
+    }
+    Ok(())
+}

@@ -1,0 +1,33 @@
+//! Worked examples of whole files and of the commands over them.
+#![tactic(auto)]
+
+#[cfg(test)]
+mod builders;
+#[cfg(test)]
+mod certifying;
+#[cfg(test)]
+mod checking;
+#[cfg(test)]
+mod conversion;
+#[cfg(test)]
+mod cutting;
+#[cfg(test)]
+mod file_commands;
+#[cfg(test)]
+mod folders;
+#[cfg(test)]
+mod master_commands;
+#[cfg(test)]
+mod opening;
+#[cfg(test)]
+mod outcomes;
+#[cfg(test)]
+mod playing;
+#[cfg(test)]
+mod reading_files;
+#[cfg(test)]
+mod rejecting;
+#[cfg(test)]
+mod take_names;
+#[cfg(test)]
+mod watched_folder;

@@ -1,0 +1,309 @@
+//! `edit` and `check` over folders in memory: what they print and which files they create.
+
+use crate::builders::{CUES, CueNumbers, cut_off, fast, splice, titled};
+use crate::certifying::{FALLING, LEVEL, cert_of};
+use crate::folders::{asks, comes_to, holds, is_refused};
+use crate::watched_folder::Failure;
+use archive_core::Form;
+use command_core::{MemoryFolder, Task};
+use fixtures::files::{FILE, dsf_of, mono};
+use fixtures::projects::SPLICE;
+use std::alloc::{AllocError, Global};
+use std::test::Fail;
+
+// Cutting the master of `e.toml` to `m.dff` and `c.cert`.
+const CUT: Task = Task::Edit {
+    form: Form::Dsdiff,
+    project: "e.toml",
+    master: "m.dff",
+    cert: "c.cert",
+};
+
+// Checking it.
+const CHECK: Task = Task::Check {
+    project: "e.toml",
+    master: "m.dff",
+    cert: "c.cert",
+};
+
+// A folder with this project, a take of ones and this second take.
+fn folder_with(
+    alloc: Global,
+    project: &str,
+    second: Result<Vec<u8>, AllocError>,
+) -> Result<MemoryFolder, AllocError> {
+    let mut folder = MemoryFolder::new(alloc);
+    folder.put("e.toml", project.as_bytes())?;
+    put_built(&mut folder, "a.dff", mono(alloc, &[0xff; 2]))?;
+    put_built(&mut folder, "b.dff", second)?;
+    Ok(folder)
+}
+
+// Puts a file that was built under a name.
+fn put_built(
+    folder: &mut MemoryFolder,
+    name: &str,
+    bytes: Result<Vec<u8>, AllocError>,
+) -> Result<(), AllocError> {
+    folder.put(name, &bytes?)
+}
+
+// A folder with this project, a take of ones and a take of zeros.
+fn folder_of(alloc: Global, project: &str) -> Result<MemoryFolder, AllocError> {
+    folder_with(alloc, project, mono(alloc, &[0; 2]))
+}
+
+// The same with a project of these weights and cues.
+fn folder_by(
+    alloc: Global,
+    weights: &str,
+    cues: &[CueNumbers],
+) -> Result<MemoryFolder, AllocError> {
+    folder_of(alloc, &splice(alloc, weights, cues)?)
+}
+
+// Whether a file that was built stands in the folder.
+fn holds_built(
+    folder: &MemoryFolder,
+    name: &str,
+    bytes: Result<Vec<u8>, AllocError>,
+) -> Result<bool, AllocError> {
+    Ok(holds(folder, name, &bytes?))
+}
+
+// Whether the cut of `CUES` by these weights comes to this line, its certificate has one entry of these
+// numbers, and its master is accepted with this line.
+fn cuts_and_accepts(
+    alloc: Global,
+    weights: &str,
+    numbers: [u64; 5],
+    (line, accepted): (&str, &str),
+) -> Result<bool, AllocError> {
+    let mut folder = folder_by(alloc, weights, &CUES)?;
+    let cut = comes_to(alloc, &mut folder, CUT, 0, line)?;
+    let master = holds_built(&folder, "m.dff", mono(alloc, &[0xff, 0]))?;
+    let cert = holds_built(&folder, "c.cert", cert_of(alloc, &[(0, 0, numbers)]))?;
+    let checked = comes_to(alloc, &mut folder, CHECK, 0, accepted)?;
+    Ok(cut && master && cert && checked && folder.count() == 5)
+}
+
+#[test]
+fn cuts_a_master_and_accepts_it(rt: HostRuntime) -> Result<(), Fail> {
+    let alloc = rt.alloc();
+    let free = ("edited total 0", "accepted total 0");
+    assert!(rt; cuts_and_accepts(alloc, "1, 1", FALLING, free)?);
+    let four = ("edited total 4", "accepted total 4");
+    assert!(rt; cuts_and_accepts(alloc, "1, 0", LEVEL, four)?);
+    Ok(())
+}
+
+#[test]
+fn keeps_the_certificate_under_one_name_for_both(rt: HostRuntime) -> Result<(), Fail> {
+    let alloc = rt.alloc();
+    let mut folder = folder_by(alloc, "1, 0", &CUES)?;
+    let task = Task::Edit {
+        form: Form::Dsdiff,
+        project: "e.toml",
+        master: "m",
+        cert: "m",
+    };
+    assert!(rt; comes_to(alloc, &mut folder, task, 0, "edited total 4")?);
+    assert!(rt; holds_built(&folder, "m", cert_of(alloc, &[(0, 0, LEVEL)]))?);
+    assert!(rt; folder.count() == 4);
+    Ok(())
+}
+
+// Whether the cut of `SPLICE` in this form is this file, of which this is told.
+fn cuts_in(
+    alloc: Global,
+    form: Form,
+    made: Result<Vec<u8>, AllocError>,
+    told: &str,
+) -> Result<bool, AllocError> {
+    let mut folder = folder_of(alloc, SPLICE)?;
+    let task = Task::Edit {
+        form,
+        project: "e.toml",
+        master: "m",
+        cert: "c.cert",
+    };
+    let cut = comes_to(alloc, &mut folder, task, 0, "edited total 0")?;
+    let master = holds_built(&folder, "m", made)?;
+    let info = comes_to(alloc, &mut folder, Task::Info { file: "m" }, 0, told)?;
+    Ok(cut && master && info)
+}
+
+// What is told of a DSDIFF master with a title, and of a DSF master, which has no marks.
+const MARKED: &str =
+    "form dsdiff\nrate 2822400\nchannels 1\nsamples 16\nids 43303030\nlayout 1\nmarks 1\nmark 9 type 0 channel 0\nothers 0\ntag 0";
+
+const BARE: &str =
+    "form dsf\nrate 2822400\nchannels 1\nsamples 16\nids 43303030\nlayout 1\nmarks 0\nothers 0\ntag 0";
+
+#[test]
+fn tells_of_a_master_with_a_title(rt: HostRuntime) -> Result<(), Fail> {
+    let alloc = rt.alloc();
+    assert!(rt; cuts_in(alloc, Form::Dsdiff, titled(alloc), MARKED)?);
+    let least = dsf_of(alloc, (1, 1, 16), &[0xff, 0], 4096, &[]);
+    assert!(rt; cuts_in(alloc, Form::Dsf, least, BARE)?);
+    Ok(())
+}
+
+// Cues that are refused where masters are cut, and what is printed.
+const REFUSED: [(&[CueNumbers], &str); 6] = [
+    (&[(0, 0, 8, 1), (1, 1, 8, 0)], "fault: NoRoomBefore 0"),
+    (&[(0, 0, 16, 1), (1, 2, 9, 0)], "fault: NoRoomAfter 0"),
+    (&[(0, 0, 8, 1), (1, 2, 17, 0)], "fault: CueOutside 1"),
+    (&[(0, 0, 8, 1), (1, 2, 2, 0)], "fault: Project ShortCue 1"),
+    (&[(0, 0, 8, 1), (1, 2, 9, 1)], "fault: Project LastBridge"),
+    (&[(0, 0, 8, 0), (1, 0, 4, 0)], "fault: NotWholeBytes"),
+];
+
+#[test]
+fn refuses_cues_and_creates_nothing(rt: HostRuntime) -> Result<(), Fail> {
+    let alloc = rt.alloc();
+    for (cues, line) in &REFUSED {
+        let folder = folder_by(alloc, "1, 1", cues);
+        assert!(rt; is_refused(alloc, folder, CUT, line)?, "{line}");
+    }
+    Ok(())
+}
+
+// Cutting the master of this project.
+fn cutting(project: &str) -> Task<'_> {
+    Task::Edit {
+        form: Form::Dsdiff,
+        project,
+        master: "m.dff",
+        cert: "c.cert",
+    }
+}
+
+// A take of another rate, and one whose sound is cut; then a project that isn't there, one that is no text,
+// and one that has no splice.
+#[test]
+fn refuses_takes_and_projects_and_creates_nothing(rt: HostRuntime) -> Result<(), Fail> {
+    let alloc = rt.alloc();
+    let unread = "fault: TakeUnread 1 Dsdiff Chunk DataCut 114";
+    let other = folder_with(alloc, SPLICE, fast(alloc, &[0; 2]));
+    assert!(rt; is_refused(alloc, other, CUT, "fault: TakeMismatch 1")?);
+    let cut = folder_with(alloc, SPLICE, cut_off(alloc));
+    assert!(rt; is_refused(alloc, cut, CUT, unread)?);
+    let folder = folder_of(alloc, "");
+    assert!(rt; is_refused(alloc, folder, cutting("none"), "fault: ReadFailed")?);
+    let folder = folder_of(alloc, "");
+    assert!(rt; is_refused(alloc, folder, cutting("a.dff"), "fault: Project NotToml")?);
+    let folder = folder_of(alloc, "");
+    assert!(rt; is_refused(alloc, folder, CUT, "fault: NoSplice")?);
+    Ok(())
+}
+
+// What fails, what is printed, and what the folder is asked for, and no more: takes by their numbers, and the
+// certificate is created once the master is written and kept.
+const CUTS: [(Option<Failure>, &str, &str); 6] = [
+    (
+        None,
+        "edited total 0",
+        "open e.toml\nopen a.dff\nopen b.dff\ncreate m.dff\nkeep m.dff\ncreate c.cert\nkeep c.cert\n",
+    ),
+    (
+        Some(Failure::Open("a.dff")),
+        "fault: ReadFailed",
+        "open e.toml\nopen a.dff\n",
+    ),
+    (
+        Some(Failure::Open("b.dff")),
+        "fault: ReadFailed",
+        "open e.toml\nopen a.dff\nopen b.dff\n",
+    ),
+    (
+        Some(Failure::Read("b.dff")),
+        "fault: ReadFailed",
+        "open e.toml\nopen a.dff\nopen b.dff\n",
+    ),
+    (
+        Some(Failure::Write(100)),
+        "fault: WriteFailed",
+        "open e.toml\nopen a.dff\nopen b.dff\ncreate m.dff\nkeep m.dff\n",
+    ),
+    (
+        Some(Failure::Create("c.cert")),
+        "fault: WriteFailed",
+        "open e.toml\nopen a.dff\nopen b.dff\ncreate m.dff\nkeep m.dff\ncreate c.cert\n",
+    ),
+];
+
+#[test]
+fn asks_for_takes_by_number(rt: HostRuntime) -> Result<(), Fail> {
+    let alloc = rt.alloc();
+    for (failure, line, calls) in &CUTS {
+        let folder = folder_of(alloc, SPLICE);
+        assert!(rt;
+            asks(alloc, folder, *failure, CUT, (line, calls))?,
+            "{failure:?}"
+        );
+    }
+    Ok(())
+}
+
+// A folder with a master and a certificate of no bytes beside the project and its takes.
+fn folder_with_master(
+    alloc: Global,
+    folder: Result<MemoryFolder, AllocError>,
+    master: Result<Vec<u8>, AllocError>,
+) -> Result<MemoryFolder, AllocError> {
+    let mut folder = folder?;
+    put_built(&mut folder, "m.dff", master)?;
+    folder.put("c.cert", b"")?;
+    Ok(folder)
+}
+
+// Which file can't be opened, and what the folder is asked for: the master and its certificate behind the
+// takes.
+const CHECKS: [(&str, &str); 3] = [
+    ("b.dff", "open e.toml\nopen a.dff\nopen b.dff\n"),
+    ("m.dff", "open e.toml\nopen a.dff\nopen b.dff\nopen m.dff\n"),
+    (
+        "c.cert",
+        "open e.toml\nopen a.dff\nopen b.dff\nopen m.dff\nopen c.cert\n",
+    ),
+];
+
+#[test]
+fn reads_a_master_and_its_certificate_behind_the_takes(rt: HostRuntime) -> Result<(), Fail> {
+    let alloc = rt.alloc();
+    for (name, calls) in &CHECKS {
+        let folder = folder_with_master(alloc, folder_of(alloc, SPLICE), Ok(Vec::new(alloc)));
+        let failure = Some(Failure::Open(*name));
+        assert!(rt;
+            asks(alloc, folder, failure, CHECK, ("fault: ReadFailed", calls))?,
+            "{name}"
+        );
+    }
+    Ok(())
+}
+
+// Whether a check of this master comes to the status 1 and this line, and creates nothing.
+fn is_rejected(
+    alloc: Global,
+    master: Result<Vec<u8>, AllocError>,
+    line: &str,
+) -> Result<bool, AllocError> {
+    let folder = folder_by(alloc, "1, 1", &CUES);
+    let mut folder = folder_with_master(alloc, folder, master)?;
+    let rejected = comes_to(alloc, &mut folder, CHECK, 1, line)?;
+    Ok(rejected && folder.count() == 5)
+}
+
+// The reasons are worked out where masters are rejected.
+#[test]
+fn rejects_masters_and_creates_nothing(rt: HostRuntime) -> Result<(), Fail> {
+    let alloc = rt.alloc();
+    assert!(rt; is_rejected(alloc, Ok(Vec::new(alloc)), "rejected MasterUnread")?);
+    assert!(rt; is_rejected(alloc, fast(alloc, &[0; 2]), "rejected MasterShape")?);
+    let short: Result<_, _> = Vec::from_slice(alloc, &FILE);
+    assert!(rt; is_rejected(alloc, short, "rejected MasterLength")?);
+    assert!(rt; is_rejected(alloc, titled(alloc), "rejected MasterMarks")?);
+    assert!(rt; is_rejected(alloc, mono(alloc, &[0x7f, 0]), "rejected CuedBit 0 0")?);
+    Ok(())
+}

@@ -1,0 +1,86 @@
+//! Files told apart by their first bytes, and the first fault of those that hold no recording.
+
+use crate::builders::{file_in, noted, with_byte};
+use archive_core::{Form, read_any};
+use fixtures::files::{FILE, MONO, RATE, RAW, dsf_of, file_of};
+use std::alloc::{AllocError, Global};
+use std::test::Fail;
+
+// Whether a file holds a recording in this form, with so many bits a channel.
+fn is_told(
+    alloc: Global,
+    file: Result<Vec<u8>, AllocError>,
+    form: Form,
+    count: usize,
+) -> Result<bool, Fail> {
+    let opened = read_any(alloc, &file?)?;
+    Ok(opened.form == form && opened.recording.count() == count)
+}
+
+// DSF tells the order of its bits by the bits per sample, 1 or 8, and counts bits where DSDIFF has whole
+// bytes.
+#[test]
+fn tells_each_form(rt: HostRuntime) -> Result<(), Fail> {
+    let alloc = rt.alloc();
+    assert!(rt; is_told(alloc, file_in(alloc, Form::Dsdiff), Form::Dsdiff, 8)?);
+    let least = dsf_of(alloc, (2, 1, 9), &[0x0f], 8192, &[]);
+    assert!(rt; is_told(alloc, least, Form::Dsf, 9)?);
+    let most = dsf_of(alloc, (2, 8, 9), &[0x0f], 8192, &[]);
+    assert!(rt; is_told(alloc, most, Form::Dsf8, 9)?);
+    Ok(())
+}
+
+// Whether a file is refused for this fault.
+fn is_refused(
+    alloc: Global,
+    file: Result<Vec<u8>, AllocError>,
+    expected: &str,
+) -> Result<bool, AllocError> {
+    match read_any(alloc, &file?) {
+        Ok(_) => Ok(false),
+        Err(fault) => Ok(fault.to_string(alloc)?.as_str() == expected),
+    }
+}
+
+// The first bytes of `FILE`, with another byte at a place.
+fn front_with(alloc: Global, length: usize, place: usize, byte: u8) -> Result<Vec<u8>, AllocError> {
+    let (front, _) = FILE.split_at(length.min(128));
+    with_byte(alloc, front, place, byte)
+}
+
+// Of files cut off at a length or with another byte at a place: the sound's size ends at 125, and the four
+// letters of the compression stand at 94.
+const CHANGED: [(usize, usize, u8, &str); 5] = [
+    (126, 0, b'F', "Dsdiff FormCut"),
+    (15, 0, b'F', "UnknownForm"),
+    (3, 0, b'F', "UnknownForm"),
+    (128, 125, 100, "Dsdiff Chunk DataCut 114"),
+    (128, 96, b'T', "Dsdiff Compressed"),
+];
+
+#[test]
+fn names_the_first_fault_of_a_changed_file(rt: HostRuntime) -> Result<(), Fail> {
+    let alloc = rt.alloc();
+    for (length, place, byte, expected) in &CHANGED {
+        let file = front_with(alloc, *length, *place, *byte);
+        assert!(rt; is_refused(alloc, file, expected)?, "{expected}");
+    }
+    Ok(())
+}
+
+// Two rates; a mark of fewer than 22 bytes; 2 bits per sample; blocks of fewer bytes than 4096; and a DSF
+// file of its first four bytes.
+#[test]
+fn names_the_first_fault_of_a_built_file(rt: HostRuntime) -> Result<(), Fail> {
+    let alloc = rt.alloc();
+    let twice = file_of(alloc, &[&RATE, &RATE, &MONO, &RAW], &[0xf0], &[]);
+    assert!(rt; is_refused(alloc, twice, "Dsdiff Twice 46532020")?);
+    assert!(rt; is_refused(alloc, noted(alloc, 21), "Dsdiff BadMark")?);
+    let few_bits = dsf_of(alloc, (1, 2, 1), &[0x0f], 4096, &[]);
+    assert!(rt; is_refused(alloc, few_bits, "Dsf BadBits")?);
+    let few_blocks = dsf_of(alloc, (1, 1, 1), &[0x0f], 4095, &[]);
+    assert!(rt; is_refused(alloc, few_blocks, "Dsf DataCut")?);
+    let head: Result<_, _> = Vec::from_slice(alloc, b"DSD ");
+    assert!(rt; is_refused(alloc, head, "Dsf HeadCut")?);
+    Ok(())
+}

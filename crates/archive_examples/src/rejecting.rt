@@ -1,0 +1,152 @@
+//! Masters rejected, and the first reason in the certificate or in the master.
+
+use crate::builders::{CUES, Sources, fast, mono_sources, stereo, titled_sources, with_byte};
+use archive_core::{Form, Verdict, check};
+use fixtures::files::mono;
+use std::alloc::{AllocError, Global};
+use std::test::Fail;
+
+// Whether a master is rejected with this certificate for this reason.
+fn rejects(
+    alloc: Global,
+    sources: Result<Sources, AllocError>,
+    master: Result<Vec<u8>, AllocError>,
+    cert: &[u8],
+    expected: &str,
+) -> Result<bool, Fail> {
+    let sources = sources?;
+    let master = master?;
+    match check(
+        alloc,
+        sources.text.as_bytes(),
+        &sources.takes,
+        &master,
+        cert,
+    )? {
+        Verdict::Accepted { .. } => Ok(false),
+        Verdict::Rejected(reason) => Ok(reason.to_string(alloc)?.as_str() == expected),
+    }
+}
+
+// The certificate of the master of `CUES` by these weights. That by 1 and 0 is worked out by hand in
+// docs/CERTIFICATES.md.
+fn cert_by(alloc: Global, weights: &str) -> Result<Vec<u8>, Fail> {
+    let sources = mono_sources(alloc, weights, &CUES)?;
+    Ok(sources.edit(alloc, Form::Dsdiff)?.cert)
+}
+
+// Whether the master is rejected for this reason with this certificate.
+fn rejects_cert(alloc: Global, cert: &[u8], expected: &str) -> Result<bool, Fail> {
+    let sources = mono_sources(alloc, "1, 0", &CUES);
+    rejects(alloc, sources, mono(alloc, &[0xff, 0]), cert, expected)
+}
+
+// The same with its certificate with another byte at a place.
+fn rejects_byte(alloc: Global, place: usize, byte: u8, expected: &str) -> Result<bool, Fail> {
+    let cert = cert_by(alloc, "1, 0")?;
+    let changed = with_byte(alloc, &cert, place, byte)?;
+    rejects_cert(alloc, &changed, expected)
+}
+
+// Bytes of the certificate: the head has the version at 4 to 5; the entry has its cue at 12 to 13, its length
+// at 16 to 17, the row of level 0 from 18 on, that of level 1 from 34 on, and the cost at 50 to 57. The
+// bound of state 0 at level 1 ends at 41: 5 is above the 4 that a step leads to it for, 3 is below the cost.
+// The bound of state 0 at level 0 ends at 25, and one above `2^63` is none; that of the start state ends at
+// 33, and is 0.
+const CHANGED: [(usize, u8, &str); 8] = [
+    (41, 5, "Cert 0 Step 1 0"),
+    (41, 3, "Cert 0 End 0"),
+    (5, 3, "CertHead Head"),
+    (13, 1, "Cert 0 Head"),
+    (17, 2, "Cert 0 Length"),
+    (25, 1, "Cert 0 Bound"),
+    (33, 1, "Cert 0 Start"),
+    (57, 5, "Cert 0 Cost"),
+];
+
+#[test]
+fn names_the_first_reason_in_a_certificate(rt: HostRuntime) -> Result<(), Fail> {
+    let alloc = rt.alloc();
+    assert!(rt; cert_by(alloc, "1, 0")?.len() == 58);
+    for (place, byte, expected) in &CHANGED {
+        assert!(rt; rejects_byte(alloc, *place, *byte, expected)?, "{expected}");
+    }
+    Ok(())
+}
+
+// Whether the master is rejected for this reason with the first bytes of its certificate.
+fn rejects_front(alloc: Global, length: usize, expected: &str) -> Result<bool, Fail> {
+    let cert = cert_by(alloc, "1, 0")?;
+    let (front, _) = cert.split_at(length.min(cert.len()));
+    rejects_cert(alloc, front, expected)
+}
+
+// The same with a byte behind its certificate.
+fn rejects_longer(alloc: Global, expected: &str) -> Result<bool, Fail> {
+    let mut cert = cert_by(alloc, "1, 0")?;
+    cert.push(0)?;
+    rejects_cert(alloc, &cert, expected)
+}
+
+// The certificate cut off at each byte, in the head's 12 bytes first, and with one byte more.
+#[test]
+fn names_cut_and_long_certificates(rt: HostRuntime) -> Result<(), Fail> {
+    let alloc = rt.alloc();
+    for length in 0..12 {
+        assert!(rt; rejects_front(alloc, length, "CertHead Cut")?, "{length}");
+    }
+    for length in 12..58 {
+        assert!(rt; rejects_front(alloc, length, "Cert 0 Cut")?, "{length}");
+    }
+    assert!(rt; rejects_longer(alloc, "CertExtra")?);
+    Ok(())
+}
+
+// Whether a master is rejected for this reason with the certificate of `CUES` by the weights 1 and 1.
+fn rejects_master(
+    alloc: Global,
+    sources: Result<Sources, AllocError>,
+    master: Result<Vec<u8>, AllocError>,
+    expected: &str,
+) -> Result<bool, Fail> {
+    let cert = cert_by(alloc, "1, 1")?;
+    rejects(alloc, sources, master, &cert, expected)
+}
+
+// The same by the project of that certificate.
+fn rejects_made(
+    alloc: Global,
+    master: Result<Vec<u8>, AllocError>,
+    expected: &str,
+) -> Result<bool, Fail> {
+    rejects_master(alloc, mono_sources(alloc, "1, 1", &CUES), master, expected)
+}
+
+// The master is ff, 00. Its bridge is the bit at place 8, which costs more as a 1; a bit of a cue differs at
+// the place 0, and at 15; then it has a byte more.
+const SOUNDS: [(&[u8], &str); 4] = [
+    (&[0xff, 0x80], "Cert 0 Cost"),
+    (&[0x7f, 0x00], "CuedBit 0 0"),
+    (&[0xff, 0x01], "CuedBit 0 15"),
+    (&[0xff, 0x00, 0x00], "MasterLength"),
+];
+
+// Behind these, what is no file, another rate, two channels, and no mark for a title.
+#[test]
+fn names_the_first_reason_in_a_master(rt: HostRuntime) -> Result<(), Fail> {
+    let alloc = rt.alloc();
+    for (sound, expected) in &SOUNDS {
+        assert!(rt;
+            rejects_made(alloc, mono(alloc, sound), expected)?,
+            "{expected}"
+        );
+    }
+    let unread: Result<_, _> = Vec::from_slice(alloc, &[1, 2, 3]);
+    assert!(rt; rejects_made(alloc, unread, "MasterUnread")?);
+    assert!(rt; rejects_made(alloc, fast(alloc, &[0xff, 0]), "MasterShape")?);
+    let two = stereo(alloc, &[0xff, 0xff, 0, 0]);
+    assert!(rt; rejects_made(alloc, two, "MasterShape")?);
+    let bare = mono(alloc, &[0xff, 0]);
+    assert!(rt; rejects_master(alloc, titled_sources(alloc), bare, "MasterMarks")?);
+    Ok(())
+}

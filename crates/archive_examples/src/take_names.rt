@@ -1,0 +1,48 @@
+//! The takes that a project names, and the first fault of a project that names none.
+
+use crate::builders::is_named;
+use archive_core::take_names;
+use fixtures::projects::{DECIMATE, SPLICE};
+use std::alloc::{AllocError, Global};
+use std::test::Fail;
+
+#[test]
+fn names_takes(rt: HostRuntime) -> Result<(), Fail> {
+    let names = take_names(rt.alloc(), SPLICE.as_bytes())?;
+    assert!(rt; names.len() == 2);
+    assert!(rt; names[0].as_str() == "a.dff" && names[1].as_str() == "b.dff");
+    Ok(())
+}
+
+// Whether a project is refused for this fault.
+fn is_refused(
+    alloc: Global,
+    text: Result<String, AllocError>,
+    expected: &str,
+) -> Result<bool, AllocError> {
+    match take_names(alloc, text?.as_bytes()) {
+        Ok(_) => Ok(false),
+        Err(fault) => is_named(alloc, fault, expected),
+    }
+}
+
+// Of the splice with one line in place of another: a cue has at least one bit fewer than there are weights,
+// weights add up to at most 4096, and no bridge follows the last cue.
+const CHANGED: [(&str, &str, &str); 3] = [
+    ("stop = 9", "stop = 2", "Project ShortCue 1"),
+    ("[1, 1]", "[4096, 1]", "Project OutOfLimit weights"),
+    ("title = \"one\"", "bridge = 1", "Project LastBridge"),
+];
+
+#[test]
+fn names_the_first_fault_of_takes(rt: HostRuntime) -> Result<(), Fail> {
+    let alloc = rt.alloc();
+    for (old, new, expected) in &CHANGED {
+        let text: Result<_, _> = SPLICE.replace(alloc, old, new);
+        assert!(rt; is_refused(alloc, text, expected)?, "{expected}");
+    }
+    let decimate: Result<_, _> = String::from_str(alloc, DECIMATE);
+    assert!(rt; is_refused(alloc, decimate, "NoSplice")?);
+    assert!(rt; is_refused(alloc, Ok(String::new(alloc)), "NoSplice")?);
+    Ok(())
+}

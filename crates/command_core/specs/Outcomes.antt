@@ -1,0 +1,27 @@
+-- What is printed of an outcome, and the status that the program ends with.
+use Rattle.std.specs.Prelude.{◌≡◌, ℕ, List, ◌++◌, codes}
+use Rattle.std.specs.Fmt.{decimal}
+use Rattle.command_core.specs.declared.outcome.Outcome.{Outcome}
+use Rattle.command_core.specs.declared.outcome.Outcome.TheVariants.{Played, Converted, Edited, Accepted, Rejected, Info, Fault, ReadFailed, WriteFailed, WrongWords, UnknownFormName}
+
+-- the line of a file that was played names its bytes, that of one that was converted what was dropped, that of a master that was cut or accepted what it costs; of other texts nothing is said
+abbrev pub ShowsDone : Outcome → List ℕ → Type 0
+ShowsDone (Played n) line = line ≡ codes "played " ++ decimal n ++ codes " bytes"
+ShowsDone (Converted n) line = line ≡ codes "converted dropped " ++ decimal n
+ShowsDone (Edited n) line = line ≡ codes "edited total " ++ decimal n
+ShowsDone (Accepted n) line = line ≡ codes "accepted total " ++ decimal n
+ShowsDone _ line = Unit {0}
+
+-- done: 0; a master that is rejected: 1; a fault: 2; words that are no command or name no form: 3
+abbrev pub status_of : Outcome → ℕ
+status_of (Played n) = 0
+status_of (Converted n) = 0
+status_of (Edited n) = 0
+status_of (Accepted n) = 0
+status_of (Rejected reason) = 1
+status_of (Info opened) = 0
+status_of (Fault f) = 2
+status_of ReadFailed = 2
+status_of WriteFailed = 2
+status_of WrongWords = 3
+status_of UnknownFormName = 3

@@ -1,0 +1,81 @@
+//! What a command came to: the line that is printed and the status that the program ends with.
+
+ghost use Rattle.std.specs.Prelude.{◌≡◌, IfOk, string_bytes};
+ghost use Rattle.command_core.specs.Outcomes.{ShowsDone, status_of};
+ghost use Rattle.command_core.specs.declared.outcome.Outcome.TheVariants as outcomes;
+
+use crate::info::info_lines;
+use archive_core::{Fault, Opened, Reason};
+use std::alloc::{AllocError, Global};
+
+/// What a command came to.
+#[derive(Drop)]
+pub enum Outcome {
+    /// A file was played; its WAVE file has so many bytes.
+    Played(u64),
+    /// A file was converted; so many parts of its recording have no place in the other form.
+    Converted(u64),
+    /// A master was cut; so much do the bridges of all its channels cost.
+    Edited(u128),
+    /// A master was accepted; so much do the bridges of all its channels cost.
+    Accepted(u128),
+    /// A master was rejected for this reason.
+    Rejected(Reason),
+    /// A file was read, and its form and its recording are told of.
+    Info(Opened),
+    /// The call was refused.
+    Fault(Fault),
+    /// A file could not be opened or read.
+    ReadFailed,
+    /// A file could not be created or written.
+    WriteFailed,
+    /// The words are no command.
+    WrongWords,
+    /// A form is named that isn't known.
+    UnknownFormName,
+}
+
+impl From<Fault> for Outcome {
+    ghost from_gives = { λ fault outcome. outcome ≡ outcomes.Fault fault };
+
+    fn from(fault: Fault) -> Outcome {
+        Outcome::Fault(fault)
+    }
+}
+
+/// The line or lines that are printed, without the end of the last. It is refused only for want of
+/// memory.
+pub fn outcome_line(alloc: Global, outcome: &Outcome) -> Result<String, AllocError>
+    ensures { IfOk result (λ line. ShowsDone outcome.now (string_bytes line)) }
+{
+    match outcome {
+        Outcome::Played(count) => format!(in alloc; "played {count} bytes"),
+        Outcome::Converted(dropped) => format!(in alloc; "converted dropped {dropped}"),
+        Outcome::Edited(total) => format!(in alloc; "edited total {total}"),
+        Outcome::Accepted(total) => format!(in alloc; "accepted total {total}"),
+        Outcome::Rejected(reason) => format!(in alloc; "rejected {reason}"),
+        Outcome::Info(opened) => info_lines(alloc, opened),
+        Outcome::Fault(fault) => format!(in alloc; "fault: {fault}"),
+        Outcome::ReadFailed => format!(in alloc; "fault: ReadFailed"),
+        Outcome::WriteFailed => format!(in alloc; "fault: WriteFailed"),
+        Outcome::WrongWords => format!(in alloc; "fault: WrongWords"),
+        Outcome::UnknownFormName => format!(in alloc; "fault: UnknownFormName"),
+    }
+}
+
+/// The program's exit status: 0 where the command was done, 1 for a master that is rejected, 2 for a fault,
+/// 3 for words that are no command or name no form.
+pub fn status(outcome: &Outcome) -> u8
+    ensures { result ≡ status_of outcome.now }
+{
+    match outcome {
+        Outcome::Played(_)
+        | Outcome::Converted(_)
+        | Outcome::Edited(_)
+        | Outcome::Accepted(_)
+        | Outcome::Info(_) => 0,
+        Outcome::Rejected(_) => 1,
+        Outcome::Fault(_) | Outcome::ReadFailed | Outcome::WriteFailed => 2,
+        Outcome::WrongWords | Outcome::UnknownFormName => 3,
+    }
+}

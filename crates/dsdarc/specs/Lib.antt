@@ -1,5 +1,0 @@
-pub mod Commands
-pub mod Files
-pub mod FormNames
-pub mod Limits
-pub mod Outcomes

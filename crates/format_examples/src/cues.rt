@@ -1,0 +1,112 @@
+//! The cues of a project's splice with their first fault.
+
+use crate::project_faults::{check_faults, fault_of_many};
+use std::test::Fail;
+
+// A splice of three weights and two takes, up to the parts of its first cue.
+const CUE: &str = "splice = {weights = [1, 1, 1], takes = [\"a\", \"b\"], cue = [{";
+
+const PLACES: &[(&str, &str)] = &[
+    ("start = 0, stop = 8", "MissingKey take"),
+    ("take = \"a\", start = 0, stop = 8", "WrongKind take"),
+    ("take = -1, start = -1", "NoTake 0"),
+    ("take = 2, start = -1", "NoTake 0"),
+    ("take = 9223372036854775807", "NoTake 0"),
+    ("take = 1", "MissingKey start"),
+    ("take = 1, start = 0.0", "WrongKind start"),
+    ("take = 1, start = -1", "OutOfLimit start"),
+    ("take = 1, start = 68719476737", "OutOfLimit start"),
+    ("take = 1, start = 68719476736", "MissingKey stop"),
+    ("take = 1, start = 0, stop = true", "WrongKind stop"),
+    (
+        "take = 1, start = 0, stop = -9223372036854775808",
+        "OutOfLimit stop",
+    ),
+    ("take = 1, start = 0, stop = 68719476737", "OutOfLimit stop"),
+    (
+        "take = 1, start = 68719476736, stop = 68719476736",
+        "ShortCue 0",
+    ),
+    ("take = 1, start = 68719476734, stop = 68719476736", "read"),
+    ("take = 1, start = 5, stop = 0", "ShortCue 0"),
+    ("take = 1, start = 0, stop = 1", "ShortCue 0"),
+    ("take = 1, start = 0, stop = 2", "read"),
+    ("gain = 1", "UnknownKey"),
+    ("line = [1, 1]", "UnknownKey"),
+];
+
+#[test]
+fn names_the_faults_of_takes_and_places(rt: HostRuntime) -> Result<(), Fail> {
+    check_faults(&rt, rt.alloc(), (CUE, "}]}"), PLACES)
+}
+
+// With a take and a start. A cue that stops at 1 is too short.
+const MAY_HAVE: &[(&str, &str)] = &[
+    ("bridge = \"1\", stop = 1", "WrongKind bridge"),
+    ("bridge = -1, stop = 1", "OutOfLimit bridge"),
+    ("bridge = 4097, target = 1, stop = 1", "OutOfLimit bridge"),
+    ("bridge = 4096, stop = 8", "LastBridge"),
+    ("bridge = 4096, stop = 1", "ShortCue 0"),
+    ("bridge = 0, stop = 8", "read"),
+    ("target = 1, title = 1, stop = 1", "WrongKind target"),
+    (
+        "target = \"line\", title = 1, stop = 1",
+        "OutOfLimit target",
+    ),
+    ("target = \"\", stop = 1", "OutOfLimit target"),
+    ("target = \"Fade\", stop = 1", "OutOfLimit target"),
+    ("target = \"fade\", stop = 8", "read"),
+    ("title = 1, stop = 1", "WrongKind title"),
+    ("title = [\"a\"], stop = 1", "WrongKind title"),
+    ("title = \"\", stop = 8", "read"),
+];
+
+#[test]
+fn names_the_faults_of_what_a_cue_may_have(rt: HostRuntime) -> Result<(), Fail> {
+    check_faults(&rt, rt.alloc(), (CUE, ", take = 0, start = 0}]}"), MAY_HAVE)
+}
+
+// Behind a first take, start and stop.
+const SEVERAL: &[(&str, &str)] = &[
+    ("bridge = 1}, {take = 1, start = 2, stop = 9}", "read"),
+    ("bridge = 1}, {take = 2, start = 2, stop = 9}", "NoTake 1"),
+    ("bridge = 1}, {take = 1, start = 2, stop = 3}", "ShortCue 1"),
+    (
+        "bridge = 1}, {take = 1, start = 2, stop = 9, bridge = 1}",
+        "LastBridge",
+    ),
+    (
+        "bridge = 1}, {take = 1, start = 2, stop = 2, bridge = 1}",
+        "ShortCue 1",
+    ),
+    (
+        "bridge = 1}, {take = 1, start = 2, stop = 9, gain = 1}",
+        "UnknownKey",
+    ),
+    (
+        "bridge = 1}, {take = 1, start = 2, stop = 9}, 1",
+        "WrongKind cue",
+    ),
+    ("title = 1}, 1", "WrongKind title"),
+];
+
+#[test]
+fn names_the_faults_of_several_cues(rt: HostRuntime) -> Result<(), Fail> {
+    let before = format!(in rt.alloc(); "{CUE}take = 0, start = 0, stop = 8, ")?;
+    check_faults(&rt, rt.alloc(), (before.as_str(), "]}"), SEVERAL)
+}
+
+#[test]
+fn counts_the_bytes_of_titles(rt: HostRuntime) -> Result<(), Fail> {
+    let before = format!(in rt.alloc(); "{CUE}take = 0, start = 0, stop = 2, title = \"a")?;
+    // Each `é` has two bytes.
+    for (times, after, fault) in &[
+        (127, "\"}]}", "read"),
+        (127, "a\"}]}", "OutOfLimit title"),
+        (126, "aa\"}]}", "read"),
+    ] {
+        let found = fault_of_many(rt.alloc(), before.as_str(), ("é", *times), after)?;
+        assert!(rt; found.as_str() == *fault, "{times} and {after}");
+    }
+    Ok(())
+}

@@ -1,0 +1,70 @@
+//! Marks of DSDIFF 1.5 edited masters: their fields, and the places that they mark, worked out by hand.
+
+use dsd_bits::{Mark, Recording};
+use dsdiff_core::{DsdiffFault, mark_at, place, read};
+use fixtures::files::{MONO, RATE, RAW, file_of, marked_with};
+use std::alloc::Global;
+use std::test::Fail;
+
+// What a file with a mark of these bytes holds.
+fn with_mark(alloc: Global, fields: &[u8]) -> Result<Recording, DsdiffFault> {
+    let master = marked_with(alloc, fields)?;
+    let file = file_of(alloc, &[&RATE, &MONO, &RAW], &[0xf0], &master)?;
+    read(alloc, &file)
+}
+
+#[test]
+fn reads_marks(rt: HostRuntime) -> Result<(), Fail> {
+    let fields = b"\0\x01\x02\x03\0\0\0\x04\xff\xff\xff\xfb\0\x06\0\x07\0\x08\0\0\0\x01x";
+    let recording = with_mark(rt.alloc(), fields)?;
+    assert!(rt; recording.marks().len() == 1);
+    let mark = &recording.marks()[0];
+    assert!(rt; (mark.hours, mark.minutes, mark.seconds) == (1, 2, 3));
+    assert!(rt; (mark.samples, mark.offset) == (4, -5));
+    assert!(rt; (mark.kind, mark.channel, mark.flags) == (6, 7, 8));
+    assert!(rt; mark.text.as_slice() == b"x".as_slice());
+    Ok(())
+}
+
+#[test]
+fn wants_whole_marks(rt: HostRuntime) -> Result<(), Fail> {
+    let recording = with_mark(rt.alloc(), &[0; 22])?;
+    assert!(rt; recording.marks().len() == 1);
+    let refused = with_mark(rt.alloc(), &[0; 21]).err();
+    assert!(rt; refused == Some(DsdiffFault::BadMark));
+    Ok(())
+}
+
+// A mark of so many hours, minutes and seconds each, five samples, and an offset.
+fn mark_of(alloc: Global, hours: u8, offset: i32) -> Mark {
+    Mark {
+        hours: hours as u16,
+        minutes: hours,
+        seconds: hours,
+        samples: 5,
+        offset,
+        kind: 0,
+        channel: 0,
+        flags: 0,
+        text: Vec::new(alloc),
+    }
+}
+
+#[test]
+fn finds_places(rt: HostRuntime) {
+    for (hours, offset, at) in &[(1, 0, 10332806405), (1, -6, 10332806399), (0, -6, -1)] {
+        let mark = mark_of(rt.alloc(), *hours, *offset);
+        assert!(rt; place(&mark, 2822400) == *at, "{hours} and {offset}");
+    }
+}
+
+#[test]
+fn marks_the_start_of_a_title(rt: HostRuntime) -> Result<(), Fail> {
+    let mark = mark_at(rt.alloc(), 10332806405, 2822400, b"x")?;
+    assert!(rt; (mark.hours, mark.minutes, mark.seconds) == (1, 1, 1));
+    assert!(rt; (mark.samples, mark.offset) == (5, 0));
+    assert!(rt; (mark.kind, mark.channel, mark.flags) == (0, 0, 0));
+    assert!(rt; mark.text.as_slice() == b"x".as_slice());
+    assert!(rt; place(&mark, 2822400) == 10332806405);
+    Ok(())
+}

@@ -1,0 +1,109 @@
+//! DSF 1.01 files that are refused, each by the first rule that it breaks, and the texts of the refusals.
+
+ghost use Rattle.std.specs.Prelude.{◌≤◌, ◌+◌, length};
+
+use dsf_core::{DsfFault, read};
+use fixtures::files::{DSF_FRONT, changed, filled};
+use std::alloc::Global;
+use std::test::Fail;
+
+// The fault of a file of this front and so many bytes.
+fn fault_of(alloc: Global, front: &[u8], size: usize) -> Result<Option<DsfFault>, Fail> {
+    let file = filled(alloc, front, size)?;
+    Ok(read(alloc, &file).err())
+}
+
+// The fault of the file of `DSF_FRONT` with other bytes from a place on.
+fn fault_with(alloc: Global, at: usize, bytes: &[u8]) -> Result<Option<DsfFault>, Fail>
+    requires { at + length bytes.now ≤ 93 }
+{
+    let front = changed(alloc, &DSF_FRONT, at, bytes)?;
+    fault_of(alloc, &front, 4188)
+}
+
+#[test]
+fn refuses_files_that_are_cut(rt: HostRuntime) -> Result<(), Fail> {
+    for (size, fault) in &[
+        (0, DsfFault::NotDsf),
+        (3, DsfFault::NotDsf),
+        (4, DsfFault::HeadCut),
+        (79, DsfFault::HeadCut),
+        (80, DsfFault::HeadCut),
+        (91, DsfFault::HeadCut),
+        (92, DsfFault::DataCut),
+        (4187, DsfFault::DataCut),
+    ] {
+        let found = fault_of(rt.alloc(), &DSF_FRONT, *size)?;
+        assert!(rt; found == Some(*fault), "{size} bytes");
+    }
+    Ok(())
+}
+
+#[test]
+fn refuses_fields_out_of_their_limits(rt: HostRuntime) -> Result<(), Fail> {
+    for (at, bytes, fault) in &[
+        (0, *b"RIFF", DsfFault::NotDsf),
+        (4, [29, 0, 0, 0], DsfFault::BadFormat),
+        (28, *b"FMT ", DsfFault::BadFormat),
+        (32, [51, 0, 0, 0], DsfFault::BadFormat),
+        (80, *b"DATA", DsfFault::BadFormat),
+        (84, [11, 0, 0, 0], DsfFault::BadFormat),
+        (44, [1, 0, 0, 0], DsfFault::BadFormat),
+        (40, [2, 0, 0, 0], DsfFault::BadVersion),
+        (52, [0, 0, 0, 0], DsfFault::BadChannelNumber),
+        (52, [7, 0, 0, 0], DsfFault::BadChannelNumber),
+        (56, [0x3f, 0x42, 0x0f, 0], DsfFault::BadRate),
+        (56, [0x81, 0xf0, 0xfa, 2], DsfFault::BadRate),
+        (60, [2, 0, 0, 0], DsfFault::BadBits),
+        (72, [0, 0x20, 0, 0], DsfFault::BadBlock),
+        (64, [1, 0x80, 0, 0], DsfFault::DataCut),
+        (84, [0x0b, 0x10, 0, 0], DsfFault::DataCut),
+        (20, [0x5b, 0x10, 0, 0], DsfFault::BadPointer),
+        (20, [0x5d, 0x10, 0, 0], DsfFault::BadPointer),
+    ] {
+        assert!(rt; *at <= 84);
+        let found = fault_with(rt.alloc(), *at, bytes)?;
+        assert!(rt; found == Some(*fault), "{bytes:?} at {at}");
+    }
+    Ok(())
+}
+
+#[test]
+fn refuses_huge_sizes(rt: HostRuntime) -> Result<(), Fail> {
+    for (at, bytes, fault) in &[
+        (32, [0xff; 8], DsfFault::HeadCut),
+        (64, [0xff; 8], DsfFault::TooLong),
+        (64, [1, 0, 0, 0, 0x10, 0, 0, 0], DsfFault::TooLong),
+        (64, [0, 0, 0, 0, 0x10, 0, 0, 0], DsfFault::DataCut),
+        (20, [0xff; 8], DsfFault::BadPointer),
+    ] {
+        assert!(rt; *at <= 64);
+        let found = fault_with(rt.alloc(), *at, bytes)?;
+        assert!(rt; found == Some(*fault), "{bytes:?} at {at}");
+    }
+    Ok(())
+}
+
+#[test]
+fn names_faults(rt: HostRuntime) -> Result<(), Fail> {
+    for (fault, text) in &[
+        (DsfFault::NotDsf, "NotDsf"),
+        (DsfFault::HeadCut, "HeadCut"),
+        (DsfFault::BadFormat, "BadFormat"),
+        (DsfFault::BadVersion, "BadVersion"),
+        (DsfFault::BadChannelNumber, "BadChannelNumber"),
+        (DsfFault::BadRate, "BadRate"),
+        (DsfFault::BadBits, "BadBits"),
+        (DsfFault::BadBlock, "BadBlock"),
+        (DsfFault::TooLong, "TooLong"),
+        (DsfFault::DataCut, "DataCut"),
+        (DsfFault::BadPointer, "BadPointer"),
+        (DsfFault::Memory, "Memory"),
+    ] {
+        assert!(rt;
+            format!(in rt.alloc(); "{fault}")?.as_str() == *text,
+            "{text}"
+        );
+    }
+    Ok(())
+}

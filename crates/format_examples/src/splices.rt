@@ -1,0 +1,76 @@
+//! The table `splice` of a project with its first fault, up to its cues.
+
+use crate::project_faults::{check_faults, fault_of_many};
+use std::test::Fail;
+
+const SPLICES: &[(&str, &str)] = &[
+    ("takes = 1", "MissingKey weights"),
+    ("weights = 1, takes = 1", "WrongKind weights"),
+    ("weights = [1, false]", "WrongKind weights"),
+    (
+        "weights = [9223372036854775807, \"a\"]",
+        "WrongKind weights",
+    ),
+    ("weights = [], takes = 1", "OutOfLimit weights"),
+    ("weights = [1]", "OutOfLimit weights"),
+    ("weights = [1, 1.5]", "WrongKind weights"),
+    (
+        "weights = [1, 1, 1, 1, 1, 1, 1, 1, 1, 1, 1, 1]",
+        "MissingKey takes",
+    ),
+    (
+        "weights = [1, 1, 1, 1, 1, 1, 1, 1, 1, 1, 1, 1, 1]",
+        "OutOfLimit weights",
+    ),
+    ("weights = [4096, 0]", "MissingKey takes"),
+    ("weights = [4096, 1]", "OutOfLimit weights"),
+    ("weights = [4096, -1]", "OutOfLimit weights"),
+    ("weights = [-9223372036854775808, 1]", "OutOfLimit weights"),
+    ("weights = [9223372036854775807, 1]", "OutOfLimit weights"),
+    ("weights = [1, 1], takes = \"a\"", "WrongKind takes"),
+    ("weights = [1, 1], takes = [\"a\", 1]", "WrongKind takes"),
+    ("weights = [1, 1], takes = []", "OutOfLimit takes"),
+    ("weights = [1, 1], takes = [\"a\"]", "MissingKey cue"),
+    (
+        "weights = [1, 1], takes = [\"a\"], cue = 1",
+        "WrongKind cue",
+    ),
+    (
+        "weights = [1, 1], takes = [\"a\"], cue = {}",
+        "WrongKind cue",
+    ),
+    (
+        "weights = [1, 1], takes = [\"a\"], cue = []",
+        "OutOfLimit cue",
+    ),
+    (
+        "weights = [1, 1], takes = [\"a\"], cue = [1]",
+        "WrongKind cue",
+    ),
+    (
+        "weights = [1, 1], takes = [\"a\"], cue = [{}]",
+        "MissingKey take",
+    ),
+];
+
+#[test]
+fn names_the_faults_of_splices(rt: HostRuntime) -> Result<(), Fail> {
+    check_faults(&rt, rt.alloc(), ("splice = {", "}"), SPLICES)
+}
+
+#[test]
+fn counts_takes_and_cues(rt: HostRuntime) -> Result<(), Fail> {
+    let takes = "splice = {weights = [1, 1], takes = [\"a\"";
+    let cues = "splice = {weights = [1, 1], takes = [\"a\"], cue = [";
+    let cue = "{take = 0, start = 0, stop = 2}, ";
+    for (before, middle, times, after, fault) in &[
+        (takes, ", \"a\"", 15, "]}", "MissingKey cue"),
+        (takes, ", \"a\"", 16, "]}", "OutOfLimit takes"),
+        (cues, cue, 255, "{}]}", "MissingKey take"),
+        (cues, cue, 256, "{}]}", "OutOfLimit cue"),
+    ] {
+        let found = fault_of_many(rt.alloc(), before, (middle, *times), after)?;
+        assert!(rt; found.as_str() == *fault, "{times} times {middle}");
+    }
+    Ok(())
+}

@@ -1,0 +1,19 @@
+//! The certificates of two bridges of one bit, worked out by hand as `docs/CERTIFICATES.md` says.
+
+/// The bridge of one bit by the weights 1, 0 from ones to zeros: both bits cost 4.
+pub(crate) const WORKED: [u8; 58] = [
+    0x44, 0x53, 0x50, 0x43, 0, 1, 0, 2, 0, 0, 0, 1, // head
+    0, 0, 0, 0, 0, 1, // cue 0, channel 0, one bit
+    0x80, 0, 0, 0, 0, 0, 0, 0, 0, 0, 0, 0, 0, 0, 0, 0, // level 0
+    0, 0, 0, 0, 0, 0, 0, 4, 0, 0, 0, 0, 0, 0, 0, 4, // level 1
+    0, 0, 0, 0, 0, 0, 0, 4, // cost
+];
+
+/// The same by the weights 1, 1: the bit 0 costs nothing, and 1 costs 32.
+pub(crate) const EQUAL: [u8; 58] = [
+    0x44, 0x53, 0x50, 0x43, 0, 1, 0, 2, 0, 0, 0, 1, // head
+    0, 0, 0, 0, 0, 1, // cue 0, channel 0, one bit
+    0x80, 0, 0, 0, 0, 0, 0, 0, 0, 0, 0, 0, 0, 0, 0, 0, // level 0
+    0, 0, 0, 0, 0, 0, 0, 0, 0, 0, 0, 0, 0, 0, 0, 16, // level 1
+    0, 0, 0, 0, 0, 0, 0, 0, // cost
+];

@@ -1,0 +1,85 @@
+//! Samples worked out by hand.
+
+use dsd_bits::Bits;
+use fir_core::{Taps, decimate, sample, sum_at};
+use std::alloc::Global;
+use std::test::Fail;
+
+// Whether these are the samples of the first `count` bits of some bytes, by a factor of 8 at 16 bits.
+fn plays(
+    alloc: Global,
+    (taps, delay, shift): (&[i32], u32, u32),
+    (bytes, count): (&[u8], u16),
+    samples: &[i32],
+) -> Result<bool, Fail> {
+    let taps = Taps::new(alloc, taps, 8, delay, shift, 16)?;
+    let bits = Bits::from_packed(alloc, bytes, usize::from(count))?;
+    Ok(decimate(alloc, &taps, &bits)?.as_slice() == samples)
+}
+
+#[test]
+fn plays_small_channels(rt: HostRuntime) -> Result<(), Fail> {
+    let ramp = [1, 2, 3, 4].as_slice();
+    let turned = [-1, -2, -3, -4].as_slice();
+    let loud = [32_768].as_slice();
+    let nine = [1; 9].as_slice();
+    let many = [1; 33].as_slice();
+    for (decimator, channel, samples) in [
+        ((ramp, 3, 0), ([0xf0].as_slice(), 8), [10].as_slice()),
+        ((ramp, 1, 0), (&[0xf0], 8), &[3]),
+        ((turned, 3, 0), (&[0xf0], 8), &[-10]),
+        // Halves are rounded upwards: 2.5 and -2.5.
+        ((ramp, 3, 2), (&[0xf0], 8), &[3]),
+        ((turned, 3, 2), (&[0xf0], 8), &[-2]),
+        // Clipped to 16 bits.
+        ((loud, 0, 0), (&[0xf0], 8), &[32_767]),
+        ((loud, 0, 0), (&[0x0f], 8), &[-32_768]),
+        // What lies outside the recording counts 0, also the spare bits of its last byte.
+        ((nine, 8, 0), (&[0xf0], 8), &[0]),
+        ((ramp, 3, 0), (&[0xf0], 1), &[4]),
+        ((many, 32, 0), (&[0xff; 5], 40), &[33, 32, 24, 16, 8]),
+        ((ramp, 3, 0), (&[], 0), &[]),
+    ] {
+        assert!(rt;
+            plays(rt.alloc(), decimator, channel, samples)?,
+            "{channel:?} by {decimator:?}"
+        );
+    }
+    Ok(())
+}
+
+// The first sample of 4096 ones by 4096 taps of 1.
+fn sample_of_most_taps(alloc: Global) -> Result<Option<i32>, Fail> {
+    let taps = Taps::new(alloc, &[1; 4096], 8, 4095, 0, 16)?;
+    let bits = Bits::from_packed(alloc, &[0xff; 512], 4096)?;
+    Ok(decimate(alloc, &taps, &bits)?.first().copied())
+}
+
+#[test]
+fn plays_the_most_taps(rt: HostRuntime) -> Result<(), Fail> {
+    assert!(rt; sample_of_most_taps(rt.alloc())? == Some(4096));
+    Ok(())
+}
+
+// The sums at the places 3 and 4, and sample 0 where there is one.
+fn single_samples(taps: &Taps, bits: &Bits) -> (i32, i32, Option<i32>) {
+    let first = if bits.len() > 0 {
+        Some(sample(taps, bits, 0))
+    } else {
+        None
+    };
+    (sum_at(taps, bits, 3), sum_at(taps, bits, 4), first)
+}
+
+#[test]
+fn answers_single_samples(rt: HostRuntime) -> Result<(), Fail> {
+    let alloc = rt.alloc();
+    let taps = Taps::new(alloc, &[1, 2, 3, 4], 16, 3, 0, 24)?;
+    assert!(rt; (taps.factor(), taps.width()) == (16, 24));
+    assert!(rt; taps.rate_fits(2_822_400));
+    assert!(rt; !taps.rate_fits(2_822_408));
+    let bits = Bits::from_packed(alloc, &[0xf0], 8)?;
+    assert!(rt; bits.len() == 8);
+    assert!(rt; single_samples(&taps, &bits) == (10, 8, Some(10)));
+    Ok(())
+}

@@ -1,0 +1,25 @@
+//! Worked examples of decimation, of the costs and the bits of bridges, and of certificates.
+#![tactic(auto)]
+
+#[cfg(test)]
+mod bridges;
+#[cfg(test)]
+mod certificate_checking;
+#[cfg(test)]
+mod certificate_writing;
+#[cfg(test)]
+mod certificates;
+#[cfg(test)]
+mod decimation;
+#[cfg(test)]
+mod decimators;
+#[cfg(test)]
+mod kernels;
+#[cfg(test)]
+mod names;
+#[cfg(test)]
+mod rows;
+#[cfg(test)]
+mod streams;
+#[cfg(test)]
+mod windows;

@@ -1,0 +1,52 @@
+//! The samples of a stream that is fed piece by piece.
+
+ghost use Rattle.std.specs.Prelude.{◌≡◌};
+ghost use Rattle.fir_core.specs.StreamView.{IsStream, state_of};
+
+use dsd_bits::Bits;
+use fir_core::{Stream, Taps, decimate};
+use std::alloc::{AllocError, Global};
+use std::test::Fail;
+
+// Feeds a stream 17 bytes piece by piece; how many samples it gave after the first, and after nine.
+fn feed_pieces(stream: &mut Stream, made: &mut Vec<i32>) -> Result<(usize, usize), AllocError>
+    requires ready { IsStream stream.old }
+    requires fed { (state_of stream.old).fed ≡ 0 }
+    requires count { (state_of stream.old).count ≡ 132 }
+{
+    stream.feed(b"a", made)?;
+    let early = made.len();
+    stream.feed(b" channel", made)?;
+    stream.feed(b"", made)?;
+    let late = made.len();
+    stream.feed(b" of bits", made)?;
+    stream.finish(made)?;
+    Ok((early, late))
+}
+
+// The same of a new stream of 132 bits.
+fn stream_pieces(
+    alloc: Global,
+    taps: &Taps,
+    made: &mut Vec<i32>,
+) -> Result<(usize, usize), AllocError> {
+    let mut stream = Stream::new(alloc, taps, 132)?;
+    feed_pieces(&mut stream, made)
+}
+
+// How many samples a stream gave early and late, and whether in the end it gave those of the whole.
+fn streams(alloc: Global) -> Result<(usize, usize, bool), Fail> {
+    let taps = Taps::new(alloc, &[5, -7, 11, 2, 9, 4, -1, 8, 6, 3], 8, 4, 1, 16)?;
+    let bits = Bits::from_packed(alloc, b"a channel of bits", 132)?;
+    let whole = decimate(alloc, &taps, &bits)?;
+    let mut made = Vec::new(alloc);
+    let (early, late) = stream_pieces(alloc, &taps, &mut made)?;
+    Ok((early, late, made.as_slice() == whole.as_slice()))
+}
+
+#[test]
+fn streams_the_same_samples(rt: HostRuntime) -> Result<(), Fail> {
+    // The places of the samples are 4, 12, 20 ..: one lies below 8, and nine below 72.
+    assert!(rt; streams(rt.alloc())? == (1, 9, true));
+    Ok(())
+}

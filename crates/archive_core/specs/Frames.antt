@@ -2,7 +2,7 @@
 use Rattle.std.specs.Prelude.{ℕ, ℤ, Bool, List, map}
 use Rattle.std.specs.List.{flat_map, range_with_len}
 use Rattle.std.specs.Int.{div_ceil}
-use Rattle.fir_core.specs.Decimator.{Decimator, sample_at}
+use Rattle.fir_core.specs.Decimator.{Decimator, sample_at, samples_of}
 use Rattle.dsd_bits.specs.Channels.{count_of}
 
 -- frame j: sample j of each channel, in order
@@ -20,3 +20,7 @@ frame_count d channels = div_ceil (count_of channels) d.factor
 -- all frames
 abbrev pub frames : Decimator → List (List Bool) → List ℤ
 frames d channels = frames_below d channels (frame_count d channels)
+
+-- the samples of so many frames from one on, channel by channel
+abbrev pub tile_of : Decimator → List (List Bool) → ℕ → ℕ → List ℤ
+tile_of d channels start number = flat_map (λ bits. samples_of d bits start number) channels

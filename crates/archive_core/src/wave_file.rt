@@ -1,16 +1,20 @@
 //! The WAVE file of a recording's samples.
 
-ghost use Rattle.std.specs.Prelude.{◌≡◌, ◌+◌, ◌*◌, ◌/◌, ◌%◌, ◌<◌, ◌++◌, ◌↔◌, IfOk, OnOk, None, Some};
+ghost use Rattle.std.specs.Prelude.{◌≡◌, ◌+◌, ◌*◌, ◌/◌, ◌%◌, ◌≤◌, ◌++◌, ◌↔◌, IfOk, OnOk, None, Some};
 ghost use Rattle.std.specs.List.{flat_map};
-ghost use Rattle.dsd_bits.specs.Channels.{IsLevel, count_of};
+ghost use Rattle.dsd_bits.specs.Channels.{IsLevel};
 ghost use Rattle.wave_core.specs.Texts.{sample_bytes, wave_text};
-ghost use Rattle.archive_core.specs.Frames.{frame, frames_below};
+ghost use Rattle.fir_core.specs.Windows.{aligned};
+ghost use Rattle.archive_core.specs.Frames.{frame_count, frames_below, tile_of};
 ghost use Rattle.archive_core.specs.Playing.{pcm};
 
 use dsd_bits::{Bits, Recording};
-use fir_core::{Taps, sample};
+use fir_core::{Tables, Taps, push_part};
 use std::alloc::{AllocError, Global};
-use wave_core::{WaveFault, parts_join, push_header, push_pad, push_sample};
+use wave_core::{WaveFault, parts_join, push_frames, push_header, push_pad};
+
+// How many frames are made at a time, so that their samples stay in the cache.
+const TILE: usize = 4096;
 
 /// The WAVE file of a recording's samples, in each frame one of each channel in order.
 ///
@@ -36,37 +40,52 @@ pub fn wave_of(alloc: Global, taps: &Taps, recording: &Recording) -> Result<Vec<
         count as u64,
     )?;
     wave.reserve_exact(count * (channels.len() * (width / 8) as usize) + 1)?;
-    push_frames(&mut wave, taps, channels, count)?;
+    push_tiles(alloc, &mut wave, taps, channels, count)?;
     push_pad(&mut wave, number, width, count as u64)?;
     Ok(wave)
 }
 
-// Appends the first `count` frames.
-fn push_frames(
+// Appends the first `count` frames, tile by tile.
+fn push_tiles(
+    alloc: Global,
     out: &mut Vec<u8>,
     taps: &Taps,
     channels: &[Bits],
     count: usize,
 ) -> Result<(), AllocError>
     requires level { IsLevel channels.now }
-    requires frames { count * taps.now.factor < count_of channels.now + taps.now.factor }
+    requires count { count ≡ frame_count taps.now channels.now }
     ensures { OnOk result (out.new.items ≡ out.old.items ++ flat_map (sample_bytes taps.now.width) (frames_below taps.now channels.now count)) }
 {
-    for j in 0..count {
-        push_frame(out, taps, channels, j)?;
+    let tables = Tables::new(alloc, taps)?;
+    let width = taps.width();
+    let mut tile = Vec::new(alloc);
+    for turn in 0..count.div_ceil(TILE) {
+        let start = turn * TILE;
+        let number = TILE.min(count - start);
+        fill_tile(&mut tile, taps, &tables, channels, start, number)?;
+        push_frames(out, width, tile.as_slice(), number)?;
     }
     Ok(())
 }
 
-// Appends frame `j`.
-fn push_frame(out: &mut Vec<u8>, taps: &Taps, channels: &[Bits], j: usize) -> Result<(), AllocError>
+// The samples of so many frames from frame `start` on, channel by channel.
+fn fill_tile(
+    tile: &mut Vec<i32>,
+    taps: &Taps,
+    tables: &Tables,
+    channels: &[Bits],
+    start: usize,
+    number: usize,
+) -> Result<(), AllocError>
     requires level { IsLevel channels.now }
-    requires frame { j * taps.now.factor < count_of channels.now }
-    ensures { OnOk result (out.new.items ≡ out.old.items ++ flat_map (sample_bytes taps.now.width) (frame taps.now channels.now j)) }
+    requires tables { tables.now ≡ aligned taps.now.taps taps.now.delay }
+    requires within { start + number ≤ frame_count taps.now channels.now }
+    ensures { OnOk result (tile.new.items ≡ tile_of taps.now channels.now start number) }
 {
-    let width = taps.width();
+    tile.clear();
     for bits in channels {
-        push_sample(out, width, sample(taps, bits, j))?;
+        push_part(tile, number, taps, tables, bits, start)?;
     }
     Ok(())
 }

@@ -9,3 +9,6 @@ pub mod Dot
 pub mod TableLaws
 pub mod TileLaws
 pub mod WindowLaws
+pub mod LaneLaws
+pub mod LaneSigns
+pub mod LaneSums

@@ -3,10 +3,10 @@ use Rattle.std.proofs.Common.{◌≡◌, ℕ, zero, suc, ◌+◌, ◌-◌, ◌*�
 use Rattle.std.proofs.Math.Nat.{mul-le-mul_right}
 use Rattle.std.proofs.lemmas.Bool.{cases_lt}
 use Rattle.std.proofs.lemmas.Int.{to_z-of_z, fits_signed_from_abs}
-use Rattle.std.proofs.lemmas.List.{drop_all, get_or-drop, take_all}
+use Rattle.std.proofs.lemmas.List.{drop_all, get_or-drop, get_or-take, length-take-le, take_all}
 use Rattle.std.proofs.lemmas.List.FromFn.{get_or-map-range_with_len, length-map-range_with_len}
 use Rattle.std.proofs.lemmas.Nat.{div-mul-add, mod-mul-add}
-use Rattle.fir_core.specs.Rows.{IsLaid, last_group, row_entry, rows, span_of}
+use Rattle.fir_core.specs.Rows.{AreEntries, IsLaid, last_group, row_entry, rows, span_of}
 use Rattle.fir_core.specs.Signed.{dot, bits_of, bits_of_byte}
 use Rattle.fir_core.specs.Windows.{IsTabled, table_entry, window_sum}
 use Rattle.fir_core.proofs.Dot.{dot_bound, part_small, dot_group, dot_fits}
@@ -41,7 +41,8 @@ in_rows byte width column small within = let e : byte * width ≤ 255 * width = 
 pub length-rows : (hs : List ℤ) (span : ℕ) → length (rows hs span) ≡ 256 * (span + 3)
 length-rows hs span = length-map-range_with_len (row_entry hs span) 0 (256 * (span + 3))
 
-module _ (hs sums : List ℤ) (span : ℕ) (bytes : List ℕ) (p i : ℕ) (laid : IsLaid hs sums span) (within : p < length bytes) (reached : p < i + span) (near : i ≤ p + 3) (small : get_or bytes p 0 < 256) (s : ℤ) (so_far : s ≡ window_sum (take (8 * (p - i)) hs) bytes i) where
+-- a part of a byte's row
+module _ (hs sums : List ℤ) (span : ℕ) (bytes : List ℕ) (p i : ℕ) (laid : IsLaid hs sums span) (reached : p < i + span) (near : i ≤ p + 3) (small : get_or bytes p 0 < 256) where
   place : ℕ
   place = get_or bytes p 0 * (span + 3) + (i + span - (p + 1))
 
@@ -57,24 +58,51 @@ module _ (hs sums : List ℤ) (span : ℕ) (bytes : List ℕ) (p i : ℕ) (laid 
       ∙ ap₂ (λ m n. last_group hs (span - m) n) (mod-mul-add byte (span + 3) column below) (div-mul-add byte (span + 3) column below)
       ∙ ap (λ n. last_group hs n byte) turned
 
-  entry_fits : FitsSigned w32 (get_or sums place (pos 0))
-  entry_fits = fits_signed_from_abs w32 _ (rw entry_value (omega (arith, last_small hs (p + 1 - i) (get_or bytes p 0) laid.small)))
+pub part_within : (hs sums : List ℤ) (span : ℕ) (bytes : List ℕ) (p i number : ℕ) → IsLaid hs sums span → p < i + span → i + number ≤ p + 4 → get_or bytes p 0 < 256
+    → (get_or bytes p 0 * (span + 3) + (i + span - (p + 1))) + number ≤ length sums
+part_within hs sums span bytes p i number laid reached last small =
+    let long : length sums ≡ 256 * (span + 3) = ap length laid.laid ∙ length-rows hs span in
+    let row : get_or bytes p 0 * (span + 3) ≤ 255 * (span + 3) = mul-le-mul_right (span + 3) (omega arith) in
+    omega arith
 
-  more : s +ℤ to_z w32 (of_z w32 (get_or sums place (pos 0))) ≡ window_sum (take (8 * (p + 1 - i)) hs) bytes i
-  more = ap₂ ◌+ℤ◌ so_far (to_z-of_z w32 _ entry_fits ∙ entry_value) ∙ sym (one_more_byte hs bytes p i within)
+pub part_is : (hs sums : List ℤ) (span : ℕ) (bytes : List ℕ) (p i number : ℕ) → IsLaid hs sums span → p < i + span → i + number ≤ p + 4 → get_or bytes p 0 < 256
+    → AreEntries hs bytes p i number (take number (drop (get_or bytes p 0 * (span + 3) + (i + span - (p + 1))) sums))
+unfolding place
+part_is hs sums span bytes p i number laid reached last small =
+    let at = get_or bytes p 0 * (span + 3) + (i + span - (p + 1)) in
+    let within = part_within hs sums span bytes p i number laid reached last small in
+    record {
+      long = length-take-le number (drop at sums) (omega (arith, length-drop at sums));
+      each = λ k h.
+          let next : at + k ≡ get_or bytes p 0 * (span + 3) + ((i + k) + span - (p + 1)) = omega arith in
+          get_or-take number (drop at sums) k (pos 0) h ∙ get_or-drop at sums k (pos 0) ∙ ap (λ j. get_or sums j (pos 0)) next
+          ∙ entry_value hs sums span bytes p (i + k) laid (omega arith) (omega arith) small;
+    }
 
-  s_fits : to_z w32 (of_z w32 s) ≡ s
-  s_fits = to_z-of_z w32 s (subst (FitsSigned w32) (sym so_far) (dot_fits hs (bits_of (drop i bytes)) (8 * (p - i)) laid.small))
+-- four of a part
+pub four_entries : (hs : List ℤ) (bytes : List ℕ) (p i number : ℕ) (row : List ℤ) (k : ℕ) → AreEntries hs bytes p i number row → k + 4 ≤ number → AreEntries hs bytes p (i + k) 4 (take 4 (drop k row))
+four_entries hs bytes p i number row k entries within = record {
+  long = length-take-le 4 (drop k row) (omega (arith, length-drop k row, entries.long));
+  each = λ j h.
+      let same : p + 1 - (i + (k + j)) ≡ p + 1 - ((i + k) + j) = omega arith in
+      get_or-take 4 (drop k row) j (pos 0) h ∙ get_or-drop k row j (pos 0) ∙ entries.each (k + j) (omega arith) ∙ ap (λ (n : ℕ). last_group hs n (get_or bytes p 0)) same;
+}
 
-  both : to_z w32 (of_z w32 s) +ℤ to_z w32 (of_z w32 (get_or sums place (pos 0))) ≡ window_sum (take (8 * (p + 1 - i)) hs) bytes i
-  both = ap (λ z. z +ℤ to_z w32 (of_z w32 (get_or sums place (pos 0)))) s_fits ∙ more
+-- an entry in a sum
+module _ (hs : List ℤ) (bytes : List ℕ) (p i : ℕ) (small : sum_by unsigned_abs hs ≤ 2 ^ 30) (within : p < length bytes) (entry s : ℤ) (is : entry ≡ last_group hs (p + 1 - i) (get_or bytes p 0)) (so_far : s ≡ window_sum (take (8 * (p - i)) hs) bytes i) where
+  entry_back : to_z w32 (of_z w32 entry) ≡ entry
+  entry_back = to_z-of_z w32 entry (subst (FitsSigned w32) (sym is) (fits_signed_from_abs w32 _ (omega (arith, last_small hs (p + 1 - i) (get_or bytes p 0) small))))
 
-  pub byte_fits : FitsSigned w32 (to_z w32 (of_z w32 s) +ℤ to_z w32 (of_z w32 (get_or sums (get_or bytes p 0 * (span + 3) + (i + span - (p + 1))) (pos 0))))
-  unfolding place
-  byte_fits = subst (FitsSigned w32) (sym both) (dot_fits hs (bits_of (drop i bytes)) (8 * (p + 1 - i)) laid.small)
+  sum_back : to_z w32 (of_z w32 s) ≡ s
+  sum_back = to_z-of_z w32 s (subst (FitsSigned w32) (sym so_far) (dot_fits hs (bits_of (drop i bytes)) (8 * (p - i)) small))
 
-  pub byte_is : to_z w32 (of_z w32 (to_z w32 (of_z w32 s) +ℤ to_z w32 (of_z w32 (get_or sums (get_or bytes p 0 * (span + 3) + (i + span - (p + 1))) (pos 0))))) ≡ window_sum (take (8 * (p + 1 - i)) hs) bytes i
-  unfolding place
+  both : to_z w32 (of_z w32 s) +ℤ to_z w32 (of_z w32 entry) ≡ window_sum (take (8 * (p + 1 - i)) hs) bytes i
+  both = ap₂ ◌+ℤ◌ (sum_back ∙ so_far) (entry_back ∙ is) ∙ sym (one_more_byte hs bytes p i within)
+
+  pub byte_fits : FitsSigned w32 (to_z w32 (of_z w32 s) +ℤ to_z w32 (of_z w32 entry))
+  byte_fits = subst (FitsSigned w32) (sym both) (dot_fits hs (bits_of (drop i bytes)) (8 * (p + 1 - i)) small)
+
+  pub byte_is : to_z w32 (of_z w32 (to_z w32 (of_z w32 s) +ℤ to_z w32 (of_z w32 entry))) ≡ window_sum (take (8 * (p + 1 - i)) hs) bytes i
   byte_is = to_z-of_z w32 _ byte_fits ∙ both
 
 -- where all groups were added, and before any was

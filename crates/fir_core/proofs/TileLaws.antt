@@ -11,7 +11,7 @@ use Rattle.std.proofs.lemmas.Slice.{take-put_mid}
 use borrow.Rule.Slice.PartMut.{put_mid}
 use Rattle.dsd_bits.specs.Packing.{unpacked}
 use Rattle.fir_core.specs.Convolution.{conv}
-use Rattle.fir_core.specs.Decimator.{Decimator}
+use Rattle.fir_core.specs.Decimator.{Decimator, sample_at, samples_of}
 use Rattle.fir_core.specs.Places.{sample_of, samples_from}
 use Rattle.fir_core.specs.Rounding.{round_clip}
 use Rattle.fir_core.specs.Signed.{bits_of, dot}
@@ -142,3 +142,26 @@ one_more_tile d bits first start end xs ys order within before is =
 
 pub tile_length : (start end : ℕ) (xs : List ℤ) → end ≤ length xs → length (take (end - start) (drop start xs)) ≡ end - start
 tile_length start end xs within = omega (arith, length-take (end - start) (drop start xs), length-drop start xs)
+
+-- the convolution at a place whose window lies within the bytes, by the taps in the order of the bits
+pub conv_at : (h turned : List ℤ) (bits : List Bool) (bytes : List ℕ) (count n delay : ℕ) → turned ≡ aligned h delay → n % 8 ≡ delay % 8 → bits ≡ unpacked bytes count → length turned / 8 ≤ n / 8 + 1 → n < count → count ≤ 8 * length bytes
+    → conv h bits n ≡ dot turned (bits_of (drop (n / 8 + 1 - length turned / 8) bytes))
+conv_at h turned bits bytes count n delay is phase packed early late enough =
+    let at = n / 8 + 1 - length turned / 8 in
+    let size : length turned ≡ 8 * window_size (length h) delay = ap length is ∙ length-aligned h delay in
+    let place : n / 8 + 1 ≡ at + window_size (length h) n = omega (arith, size, same_size (length h) n delay phase) in
+    ap (λ bs. conv h bs n) packed ∙ conv_by_window h bytes count n at place late enough ∙ ap (λ hs. window_sum hs bytes at) (aligned_by_phase h n delay phase ∙ sym is)
+
+-- ---- samples by their numbers
+pub numbered : (d : Decimator) (bits : List Bool) (j number : ℕ) → samples_from d bits (j * d.factor + d.delay) number ≡ samples_of d bits j number
+numbered d bits j number =
+    sym (fill_by_all (λ i. sample_of d bits (i * d.factor + (j * d.factor + d.delay))) (samples_of d bits j number) number (pos 0) (length-map-range_with_len (sample_at d bits) j number)
+    (λ k h.
+    let place : (j + k) * d.factor + d.delay ≡ k * d.factor + (j * d.factor + d.delay) = omega arith in
+    get_or-map-range_with_len (sample_at d bits) j number k (j + k) (pos 0) h (omega arith) ∙ ap (sample_of d bits) place))
+
+pub numbers_reach : (j number count factor delay : ℕ) → 0 < factor → factor ≤ 1024 → delay ≤ 4096 → count ≤ 2 ^ 36 → j + number ≤ div_ceil count factor → number * factor + (j * factor + delay) ≤ 2 ^ 37
+numbers_reach j number count factor delay some few near limit within =
+    let e : (j + number) * factor ≤ div_ceil count factor * factor = mul-le-mul_right factor within in
+    let up = (div_ceil_times count factor some).1 in
+    omega arith

@@ -1,5 +1,5 @@
 -- The sums of all groups of taps for a byte, in the order of the windows that the byte stands in.
-use Rattle.std.specs.Prelude.{◌≡◌, ℕ, zero, suc, ◌+◌, ◌-◌, ◌*◌, ◌/◌, ◌%◌, ◌^◌, ◌≤◌, ℤ, pos, unsigned_abs, List, map, take, drop, length, slice_index}
+use Rattle.std.specs.Prelude.{◌≡◌, ℕ, zero, suc, ◌+◌, ◌-◌, ◌*◌, ◌/◌, ◌%◌, ◌^◌, ◌<◌, ◌≤◌, ℤ, pos, unsigned_abs, List, map, take, drop, length, slice_index, slice_index_or}
 use Rattle.std.specs.List.{range_with_len, sum_by}
 use Rattle.std.specs.Int.{div_ceil}
 use Rattle.fir_core.specs.Signed.{dot, bits_of_byte}
@@ -26,6 +26,15 @@ rows taps span = map (row_entry taps span) (range_with_len 0 (256 * (span + 3)))
 -- where the rows hold what byte p adds to the window that begins at byte i
 abbrev pub row_place : ℕ → List ℕ → ℕ → ℕ → ℕ
 row_place span bytes p i = slice_index bytes p * (span + 3) + (i + span - (p + 1))
+
+-- what byte p adds to the window that begins at byte i
+abbrev pub entry_of : List ℤ → List ℕ → ℕ → ℕ → ℤ
+entry_of taps bytes p i = last_group taps (p + 1 - i) (slice_index bytes p)
+
+-- what byte p adds to so many windows, the first of which begins at byte i
+pub record AreEntries (taps : List ℤ) (bytes : List ℕ) (p i number : ℕ) (entries : List ℤ) : Type 0 where
+  pub long : length entries ≡ number
+  pub each : (k : ℕ) → k < number → slice_index_or entries k (pos 0) ≡ entry_of taps bytes p (i + k)
 
 -- taps in whole groups of eight, and the rows of all bytes
 pub record IsLaid (taps sums : List ℤ) (span : ℕ) : Type 0 where

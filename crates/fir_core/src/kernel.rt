@@ -3,7 +3,8 @@
 ghost use Rattle.std.specs.Prelude.{◌≡◌, IfOk};
 ghost use Rattle.fir_core.specs.Decimator.{samples};
 
-use crate::decimator::decimate;
+use crate::decimator::sample;
+use crate::lanes::decimate_by_lanes;
 use crate::tables::Tables;
 use crate::taps::Taps;
 use crate::tiles::push_samples;
@@ -18,6 +19,9 @@ pub enum Kernel {
     /// Byte by byte over tiles of samples: a table of 256 sums for each group of eight taps, four
     /// groups at a time; for a factor of 8 a row of all groups' sums for each of the 256 bytes.
     Table,
+    /// Eight taps at a time, in lanes, with a byte's bits as the mask that selects a tap or its
+    /// negative.
+    Lanes,
 }
 
 /// All samples of a channel, as [`decimate`] answers them, computed by a kernel. It is refused only
@@ -31,9 +35,17 @@ pub fn decimate_with(
     ensures { IfOk result (λ made. made.items ≡ samples taps.now bits.now) }
 {
     match kernel {
-        Kernel::Plain => decimate(alloc, taps, bits),
+        Kernel::Plain => decimate_plainly(alloc, taps, bits),
         Kernel::Table => decimate_by_table(alloc, taps, bits),
+        Kernel::Lanes => decimate_by_lanes(alloc, taps, bits),
     }
+}
+
+fn decimate_plainly(alloc: Global, taps: &Taps, bits: &Bits) -> Result<Vec<i32>, AllocError>
+    ensures { IfOk result (λ made. made.items ≡ samples taps.now bits.now) }
+{
+    let count = bits.len().div_ceil(taps.factor as usize);
+    (0..count).map(|j| sample(taps, bits, j)).collect(alloc)
 }
 
 fn decimate_by_table(alloc: Global, taps: &Taps, bits: &Bits) -> Result<Vec<i32>, AllocError>

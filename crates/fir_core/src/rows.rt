@@ -1,9 +1,10 @@
 //! The sums of windows that begin at each byte, four bytes at a time: a byte's row holds what the
 //! byte adds to each window that it stands in.
 
-ghost use Rattle.std.specs.Prelude.{◌≡◌, ℕ, ◌+◌, ◌-◌, ◌*◌, ◌/◌, ◌<◌, ◌≤◌, EachIndex, length, pos, slice_index_or, take};
+ghost use Rattle.std.specs.Prelude.{◌≡◌, ℕ, ◌+◌, ◌-◌, ◌*◌, ◌/◌, ◌^◌, ◌<◌, ◌≤◌, EachIndex, length, pos, slice_index_or, take, unsigned_abs};
+ghost use Rattle.std.specs.List.{sum_by};
 ghost use Rattle.fir_core.specs.Rows as Rows;
-ghost use Rattle.fir_core.specs.Rows.{IsLaid};
+ghost use Rattle.fir_core.specs.Rows.{AreEntries, IsLaid, entry_of};
 ghost use Rattle.fir_core.specs.Windows.{window_sum, window_sums};
 
 /// How many windows four bytes reach, rounded up to whole fours.
@@ -25,84 +26,86 @@ fn row_place(span: usize, bytes: &[u8], p: usize, i: usize) -> usize
     bytes[p] as usize * (span + 3) + (i + span - (p + 1))
 }
 
-/// Byte `p` in the sum of the window that begins at byte `i`, for which the rows hold it `at` a place.
-fn add_byte(
+/// What byte `p` adds to so many windows, the first of which begins at byte `i`: a part of its row.
+fn row_part<'a>(
     taps: &[i32],
-    rows: &[i32],
+    rows: &'a [i32],
     span: usize,
     bytes: &[u8],
     p: usize,
     i: usize,
-    at: usize,
-    sum: i32,
-) -> i32
+    number: usize,
+) -> &'a [i32]
     requires laid { IsLaid taps.now rows.now span }
     requires within { p < length bytes.now }
     requires reached { p < i + span }
     requires near { i ≤ p + 3 }
-    requires place { at ≡ Rows.row_place span bytes.now p i }
+    requires last { i + number ≤ p + 4 }
+    ensures { AreEntries taps.now bytes.now p i number result.now }
+{
+    let at = row_place(span, bytes, p, i);
+    &rows[at..at + number]
+}
+
+/// Byte `p` in the sum of the window that begins at byte `i`, to which it adds its entry.
+fn add_byte(taps: &[i32], bytes: &[u8], p: usize, i: usize, entry: i32, sum: i32) -> i32
+    requires small { sum_by unsigned_abs taps.now ≤ 2 ^ 30 }
+    requires within { p < length bytes.now }
+    requires entry { entry ≡ entry_of taps.now bytes.now p i }
     requires so_far { sum ≡ window_sum (take (8 * (p - i)) taps.now) bytes.now i }
     ensures { result ≡ window_sum (take (8 * (p + 1 - i)) taps.now) bytes.now i }
 {
-    sum + rows[at]
+    sum + entry
 }
 
-/// Four bytes from `p` on in the sum of the window that begins at byte `i`, each from its place in
-/// the rows.
+/// Four bytes from `p` on in the sum of the window that begins at byte `i`, to which each adds its
+/// entry.
 fn add_bytes(
     taps: &[i32],
-    rows: &[i32],
-    span: usize,
     bytes: &[u8],
     p: usize,
     i: usize,
-    one: usize,
-    two: usize,
-    three: usize,
-    four: usize,
+    one: i32,
+    two: i32,
+    three: i32,
+    four: i32,
     sum: i32,
 ) -> i32
-    requires laid { IsLaid taps.now rows.now span }
+    requires small { sum_by unsigned_abs taps.now ≤ 2 ^ 30 }
     requires within { p + 4 ≤ length bytes.now }
-    requires reached { p + 4 ≤ i + span }
-    requires near { i < p + 4 }
-    requires one { one ≡ Rows.row_place span bytes.now p i }
-    requires two { two ≡ Rows.row_place span bytes.now (p + 1) i }
-    requires three { three ≡ Rows.row_place span bytes.now (p + 2) i }
-    requires four { four ≡ Rows.row_place span bytes.now (p + 3) i }
+    requires one { one ≡ entry_of taps.now bytes.now p i }
+    requires two { two ≡ entry_of taps.now bytes.now (p + 1) i }
+    requires three { three ≡ entry_of taps.now bytes.now (p + 2) i }
+    requires four { four ≡ entry_of taps.now bytes.now (p + 3) i }
     requires so_far { sum ≡ window_sum (take (8 * (p - i)) taps.now) bytes.now i }
     ensures { result ≡ window_sum (take (8 * (p + 4 - i)) taps.now) bytes.now i }
 {
-    let first = add_byte(taps, rows, span, bytes, p, i, one, sum);
-    let second = add_byte(taps, rows, span, bytes, p + 1, i, two, first);
-    let third = add_byte(taps, rows, span, bytes, p + 2, i, three, second);
-    add_byte(taps, rows, span, bytes, p + 3, i, four, third)
+    let first = add_byte(taps, bytes, p, i, one, sum);
+    let second = add_byte(taps, bytes, p + 1, i, two, first);
+    let third = add_byte(taps, bytes, p + 2, i, three, second);
+    add_byte(taps, bytes, p + 3, i, four, third)
 }
 
-/// Four bytes from `p` on in the sums of four windows, the first of which begins at byte `i`. All four
-/// sums are there before one is written, so that they become a vector.
+/// Four bytes from `p` on in the sums of four windows, the first of which begins at byte `i`, by the
+/// entries of each byte. All four sums are there before one is written, so that they become a vector.
 fn add_four_bytes(
     taps: &[i32],
-    rows: &[i32],
-    span: usize,
     bytes: &[u8],
     p: usize,
     i: usize,
-    one: usize,
-    two: usize,
-    three: usize,
-    four: usize,
+    one: &[i32],
+    two: &[i32],
+    three: &[i32],
+    four: &[i32],
     sums: &mut [i32],
 )
-    requires laid { IsLaid taps.now rows.now span }
+    requires small { sum_by unsigned_abs taps.now ≤ 2 ^ 30 }
     requires within { p + 4 ≤ length bytes.now }
-    requires reached { p + 4 ≤ i + span }
-    requires near { i ≤ p }
     requires inside { i + 4 ≤ length sums.old }
-    requires one { one ≡ Rows.row_place span bytes.now p i }
-    requires two { two ≡ Rows.row_place span bytes.now (p + 1) i }
-    requires three { three ≡ Rows.row_place span bytes.now (p + 2) i }
-    requires four { four ≡ Rows.row_place span bytes.now (p + 3) i }
+    requires one { AreEntries taps.now bytes.now p i 4 one.now }
+    requires two { AreEntries taps.now bytes.now (p + 1) i 4 two.now }
+    requires three { AreEntries taps.now bytes.now (p + 2) i 4 three.now }
+    requires four { AreEntries taps.now bytes.now (p + 3) i 4 four.now }
     requires done { (k : ℕ) → k < i → slice_index_or sums.old k (pos 0) ≡ window_sum (take (8 * (p + 4 - k)) taps.now) bytes.now k }
     requires rest { EachIndex sums.old (λ k. i ≤ k → slice_index_or sums.old k (pos 0) ≡ window_sum (take (8 * (p - k)) taps.now) bytes.now k) }
     ensures len { length sums.new ≡ length sums.old }
@@ -110,45 +113,39 @@ fn add_four_bytes(
     ensures rest { EachIndex sums.new (λ k. i + 4 ≤ k → slice_index_or sums.new k (pos 0) ≡ window_sum (take (8 * (p - k)) taps.now) bytes.now k) }
 {
     let first = add_bytes(
-        taps, rows, span, bytes, p, i, one, two, three, four, sums[i],
+        taps, bytes, p, i, one[0], two[0], three[0], four[0], sums[i],
     );
     let second = add_bytes(
         taps,
-        rows,
-        span,
         bytes,
         p,
         i + 1,
-        one + 1,
-        two + 1,
-        three + 1,
-        four + 1,
+        one[1],
+        two[1],
+        three[1],
+        four[1],
         sums[i + 1],
     );
     let third = add_bytes(
         taps,
-        rows,
-        span,
         bytes,
         p,
         i + 2,
-        one + 2,
-        two + 2,
-        three + 2,
-        four + 2,
+        one[2],
+        two[2],
+        three[2],
+        four[2],
         sums[i + 2],
     );
     let fourth = add_bytes(
         taps,
-        rows,
-        span,
         bytes,
         p,
         i + 3,
-        one + 3,
-        two + 3,
-        three + 3,
-        four + 3,
+        one[3],
+        two[3],
+        three[3],
+        four[3],
         sums[i + 3],
     );
     sums[i] = first;
@@ -167,42 +164,24 @@ fn add_block(taps: &[i32], rows: &[i32], span: usize, bytes: &[u8], p: usize, su
     ensures sums { EachIndex sums.new (λ i. slice_index_or sums.new i (pos 0) ≡ window_sum (take (8 * (p + 4 - i)) taps.now) bytes.now i) }
 {
     let start = (p + 4).saturating_sub(span);
-    let end = (p + 4).min(sums.len());
-    let one = row_place(span, bytes, p, start);
-    let two = row_place(span, bytes, p + 1, start);
-    let three = row_place(span, bytes, p + 2, start);
-    let four = row_place(span, bytes, p + 3, start);
-    let fours = (end - start) / 4;
+    let number = (p + 4).min(sums.len()) - start;
+    let one = row_part(taps, rows, span, bytes, p, start, number);
+    let two = row_part(taps, rows, span, bytes, p + 1, start, number);
+    let three = row_part(taps, rows, span, bytes, p + 2, start, number);
+    let four = row_part(taps, rows, span, bytes, p + 3, start, number);
+    let fours = number / 4;
     for turn in 0..fours {
         let k = 4 * turn;
-        add_four_bytes(
-            taps,
-            rows,
-            span,
-            bytes,
-            p,
-            start + k,
-            one + k,
-            two + k,
-            three + k,
-            four + k,
-            sums,
-        );
+        let one = &one[k..k + 4];
+        let two = &two[k..k + 4];
+        let three = &three[k..k + 4];
+        let four = &four[k..k + 4];
+        add_four_bytes(taps, bytes, p, start + k, one, two, three, four, sums);
     }
-    for i in start + 4 * fours..end {
-        let k = i - start;
+    for k in 4 * fours..number {
+        let i = start + k;
         sums[i] = add_bytes(
-            taps,
-            rows,
-            span,
-            bytes,
-            p,
-            i,
-            one + k,
-            two + k,
-            three + k,
-            four + k,
-            sums[i],
+            taps, bytes, p, i, one[k], two[k], three[k], four[k], sums[i],
         );
     }
 }
@@ -217,10 +196,11 @@ fn add_last(taps: &[i32], rows: &[i32], span: usize, bytes: &[u8], p: usize, sum
     ensures sums { EachIndex sums.new (λ i. slice_index_or sums.new i (pos 0) ≡ window_sum (take (8 * (p + 1 - i)) taps.now) bytes.now i) }
 {
     let start = (p + 1).saturating_sub(span);
-    let end = (p + 1).min(sums.len());
-    for i in start..end {
-        let at = row_place(span, bytes, p, i);
-        sums[i] = add_byte(taps, rows, span, bytes, p, i, at, sums[i]);
+    let number = (p + 1).min(sums.len()) - start;
+    let row = row_part(taps, rows, span, bytes, p, start, number);
+    for k in 0..number {
+        let i = start + k;
+        sums[i] = add_byte(taps, bytes, p, i, row[k], sums[i]);
     }
 }
 

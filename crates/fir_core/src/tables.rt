@@ -13,10 +13,10 @@ use std::alloc::{AllocError, Global};
 use std::marker::Model;
 
 /// A decimator's taps in the order of the bits of a window of whole bytes, and for each group of
-/// eight of them its sum for each of the 256 bytes: group by group, and row by row as [`crate::rows`]
-/// reads them.
+/// eight of them its sum for each of the 256 bytes: group by group, and row by row as they are added
+/// up for a factor of 8. Contracts see it as the taps in that order.
 #[derive(Drop)]
-pub(crate) struct Tables {
+pub struct Tables {
     pub(crate) taps: Vec<i32>,
     pub(crate) sums: Vec<i32>,
     pub(crate) rows: Vec<i32>,
@@ -39,7 +39,8 @@ impl Tables {
     ghost use Rattle.fir_core.specs.Windows.{aligned};
 
     /// The tables of a decimator; of its places they know the delay's, and every sample has its phase.
-    pub(crate) fn new(alloc: Global, taps: &Taps) -> Result<Tables, AllocError>
+    /// They are refused only for want of memory.
+    pub fn new(alloc: Global, taps: &Taps) -> Result<Tables, AllocError>
         ensures { IfOk result (λ made. made ≡ aligned taps.now.taps taps.now.delay) }
     {
         let _factor = taps.factor();
@@ -56,7 +57,7 @@ impl Tables {
 }
 
 // The taps in the order of the window's bits, with zeros before and behind them.
-fn aligned_taps(alloc: Global, taps: &Taps) -> Result<Vec<i32>, AllocError>
+pub(crate) fn aligned_taps(alloc: Global, taps: &Taps) -> Result<Vec<i32>, AllocError>
     ensures { IfOk result (λ made. made.items ≡ aligned taps.now.taps taps.now.delay) }
 {
     let number = taps.taps.len();
@@ -127,7 +128,7 @@ fn entry(taps: &[i32], i: usize) -> i32
 }
 
 // The sum of the taps, each with its bit's sign.
-fn dot_plain(taps: &[i32], bytes: &[u8]) -> i32
+pub(crate) fn dot_plain(taps: &[i32], bytes: &[u8]) -> i32
     requires enough { length taps.now ≤ 8 * length bytes.now }
     requires small { sum_by unsigned_abs taps.now ≤ 2 ^ 30 }
     ensures { result ≡ dot taps.now (bits_of bytes.now) }

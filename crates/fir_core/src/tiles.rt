@@ -1,7 +1,9 @@
 //! The samples of a run of places, by tables where the window lies within the bytes.
 
 ghost use Rattle.std.specs.Prelude.{◌≡◌, ℕ, ◌+◌, ◌-◌, ◌*◌, ◌/◌, ◌%◌, ◌^◌, ◌<◌, ◌≤◌, ◌⊎◌, ◌++◌, EachIndex, OnErr, OnOk, length, map, pos, slice_index_or, take, unsigned_abs};
+ghost use Rattle.std.specs.Int.{div_ceil};
 ghost use Rattle.dsd_bits.specs.Packing.{unpacked};
+ghost use Rattle.fir_core.specs.Decimator.{samples_of};
 ghost use Rattle.fir_core.specs.Places.{sample_of, samples_from};
 ghost use Rattle.fir_core.specs.Rounding.{round_clip};
 ghost use Rattle.fir_core.specs.Windows.{IsTabled, aligned, window_size, window_sum, window_sums};
@@ -11,6 +13,7 @@ use crate::rounding::{clip, round};
 use crate::rows::{span_of, sum_rows};
 use crate::tables::Tables;
 use crate::taps::Taps;
+use dsd_bits::Bits;
 use std::alloc::AllocError;
 
 /// How many samples are summed at a time, so that their sums stay in the cache.
@@ -256,5 +259,27 @@ pub(crate) fn push_samples(
     out.resize(before + number, 0)?;
     let samples = out.as_mut_slice();
     fill_samples(taps, tables, bytes, count, first, &mut samples[before..]);
+    Ok(())
+}
+
+/// Appends samples of a channel: sample `j` and those that follow it, `number` in all and each as
+/// [`crate::sample`] answers it, by the tables of the same decimator. For want of memory it appends
+/// nothing.
+pub fn push_part(
+    out: &mut Vec<i32>,
+    number: usize,
+    taps: &Taps,
+    tables: &Tables,
+    bits: &Bits,
+    j: usize,
+) -> Result<(), AllocError>
+    requires tables { tables.now ≡ aligned taps.now.taps taps.now.delay }
+    requires within { j + number ≤ div_ceil (length bits.now) taps.now.factor }
+    ensures ok { OnOk result (out.new.items ≡ out.old.items ++ samples_of taps.now bits.now j number) }
+    ensures err { OnErr result (out.new.items ≡ out.old.items) }
+{
+    let count = bits.len();
+    let first = j * taps.factor() as usize + taps.delay as usize;
+    push_samples(out, number, taps, tables, bits.as_bytes(), count, first)?;
     Ok(())
 }

@@ -1,9 +1,24 @@
 //! Samples worked out by hand.
 
 use dsd_bits::Bits;
-use fir_core::{Taps, decimate, sample, sum_at};
-use std::alloc::Global;
+use fir_core::{Kernel, Taps, decimate, decimate_with, sample, sum_at};
+use std::alloc::{AllocError, Global};
 use std::test::Fail;
+
+// Whether each kernel gives these samples.
+fn each_gives(
+    alloc: Global,
+    taps: &Taps,
+    bits: &Bits,
+    samples: &[i32],
+) -> Result<bool, AllocError> {
+    for kernel in [Kernel::Plain, Kernel::Table, Kernel::Lanes] {
+        if decimate_with(alloc, taps, bits, kernel)?.as_slice() != samples {
+            return Ok(false);
+        }
+    }
+    Ok(decimate(alloc, taps, bits)?.as_slice() == samples)
+}
 
 // Whether these are the samples of the first `count` bits of some bytes, by a factor of 8 at 16 bits.
 fn plays(
@@ -14,7 +29,7 @@ fn plays(
 ) -> Result<bool, Fail> {
     let taps = Taps::new(alloc, taps, 8, delay, shift, 16)?;
     let bits = Bits::from_packed(alloc, bytes, usize::from(count))?;
-    Ok(decimate(alloc, &taps, &bits)?.as_slice() == samples)
+    Ok(each_gives(alloc, &taps, &bits, samples)?)
 }
 
 #[test]

@@ -5,11 +5,22 @@ use fir_core::{Kernel, Taps, decimate_with};
 use std::alloc::{AllocError, Global};
 use std::test::Fail;
 
-// Whether the tables give the samples of these bits that the plain sum gives.
+// Whether a kernel gives these samples.
+fn gives(
+    alloc: Global,
+    taps: &Taps,
+    bits: &Bits,
+    kernel: Kernel,
+    samples: &[i32],
+) -> Result<bool, AllocError> {
+    Ok(decimate_with(alloc, taps, bits, kernel)?.as_slice() == samples)
+}
+
+// Whether tables and lanes give the samples of these bits that the plain sum gives.
 fn kernels_agree(alloc: Global, taps: &Taps, bits: &Bits) -> Result<bool, AllocError> {
     let plain = decimate_with(alloc, taps, bits, Kernel::Plain)?;
-    let table = decimate_with(alloc, taps, bits, Kernel::Table)?;
-    Ok(plain.as_slice() == table.as_slice())
+    let table = gives(alloc, taps, bits, Kernel::Table, plain.as_slice())?;
+    Ok(table && gives(alloc, taps, bits, Kernel::Lanes, plain.as_slice())?)
 }
 
 // The same of the first `count` bits of a text.

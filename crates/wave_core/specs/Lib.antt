@@ -1,4 +1,5 @@
 pub mod Contents
+pub mod Frames
 pub mod Laws
 pub mod Sizes
 pub mod Texts

@@ -42,5 +42,5 @@ mod writing;
 pub use fault::WaveFault;
 pub use header::push_header;
 pub use pcm::Pcm;
-pub use sound::{push_pad, push_sample};
+pub use sound::{push_frames, push_pad, push_sample};
 pub use writing::{parts_join, write};

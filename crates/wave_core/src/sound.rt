@@ -1,7 +1,9 @@
 //! The samples and what follows them.
 
-ghost use Rattle.std.specs.Prelude.{◌≡◌, ◌≤◌, ◌++◌, ◌⊎◌, OnOk, OnErr};
+ghost use Rattle.std.specs.Prelude.{◌≡◌, ◌≤◌, ◌<◌, ◌++◌, ◌⊎◌, All, OnOk, OnErr};
+ghost use Rattle.std.specs.List.{flat_map};
 ghost use Rattle.wave_core.specs.Contents.{IsSample};
+ghost use Rattle.wave_core.specs.Frames.{frame_of, frames_of};
 ghost use Rattle.wave_core.specs.Sizes.{pad_size};
 ghost use Rattle.wave_core.specs.Texts.{pad_bytes, sample_bytes};
 
@@ -21,6 +23,44 @@ pub fn push_sample(out: &mut Vec<u8>, width: u32, value: i32) -> Result<(), Allo
         return out.extend_from_slice(&[low, middle]);
     }
     out.extend_from_slice(&[low, middle, high])
+}
+
+/// Appends frames, each a sample of each channel in order, as of [`push_sample`]. The samples are given
+/// channel by channel, `frames` of each. After a refused growth a front of the frames may be appended.
+pub fn push_frames(
+    out: &mut Vec<u8>,
+    width: u32,
+    samples: &[i32],
+    frames: usize,
+) -> Result<(), AllocError>
+    requires width { (width ≡ 16) ⊎ (width ≡ 24) }
+    requires values { All (IsSample width) samples.now }
+    requires frames { 1 ≤ frames }
+    ensures { OnOk result (out.new.items ≡ out.old.items ++ flat_map (sample_bytes width) (frames_of samples.now frames)) }
+{
+    for i in 0..frames {
+        push_frame(out, width, samples, frames, i)?;
+    }
+    Ok(())
+}
+
+// Appends frame `i` of samples that are given channel by channel.
+fn push_frame(
+    out: &mut Vec<u8>,
+    width: u32,
+    samples: &[i32],
+    frames: usize,
+    i: usize,
+) -> Result<(), AllocError>
+    requires width { (width ≡ 16) ⊎ (width ≡ 24) }
+    requires values { All (IsSample width) samples.now }
+    requires frame { i < frames }
+    ensures { OnOk result (out.new.items ≡ out.old.items ++ flat_map (sample_bytes width) (frame_of samples.now frames i)) }
+{
+    for c in 0..samples.len() / frames {
+        push_sample(out, width, samples[c * frames + i])?;
+    }
+    Ok(())
 }
 
 /// Appends what follows the samples of so many frames of 1 to 6 channels, each sample of `width` bits, 16

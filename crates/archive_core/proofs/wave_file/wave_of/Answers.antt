@@ -21,9 +21,9 @@ returns-in_err-reserve_exact-clause-too_large c =
     let fits : FitsRiff (length c.args.recording.now.channels) c.args.taps.now.width (frame_count c.args.taps.now c.args.recording.now.channels) = rw (← count, ← c.channels-channels.ensures.value, ← c.width-width.ensures.value) c.in_ok-push_header.ensures.fits in
     rw p.1 (memory_refused c.args.recording.now c.args.taps.now c.channels-channels.ensures.shape c.parts_join.ensures {Y = Vec ℕ Global} p.0 p.2 fits)
 
-pub returns-in_err-push_frames-clause-too_large : goal.returns-in_err-push_frames-clause-too_large
-returns-in_err-push_frames-clause-too_large c =
-    let p = err_from_is_err_and c.from_residual-in_err-push_frames.result c.from_residual-in_err-push_frames.ensures.1 in
+pub returns-in_err-push_tiles-clause-too_large : goal.returns-in_err-push_tiles-clause-too_large
+returns-in_err-push_tiles-clause-too_large c =
+    let p = err_from_is_err_and c.from_residual-in_err-push_tiles.result c.from_residual-in_err-push_tiles.ensures.1 in
     let count : c.div_ceil-count.result ≡ frame_count c.args.taps.now c.args.recording.now.channels = search rules in
     let fits : FitsRiff (length c.args.recording.now.channels) c.args.taps.now.width (frame_count c.args.taps.now c.args.recording.now.channels) = rw (← count, ← c.channels-channels.ensures.value, ← c.width-width.ensures.value) c.in_ok-push_header.ensures.fits in
     rw p.1 (memory_refused c.args.recording.now c.args.taps.now c.channels-channels.ensures.shape c.parts_join.ensures {Y = Vec ℕ Global} p.0 p.2 fits)
@@ -43,7 +43,7 @@ returns-clause-text c =
     let d = c.args.taps.now in
     let n = c.div_ceil-count.result in
     text_is c.args.recording.now c.args.taps.now c.channels-channels.ensures.shape c.parts_join.ensures c.push_pad.new.out.items fits
-    (rw (← count) (rw (c.in_ok-push_pad.ensures.ok, c.in_ok-push_frames.ensures, c.in_ok-reserve_exact.ensures.items, c.in_ok-push_header.ensures.ok, c.new-wave.ensures.items, c.channels-channels.ensures.value, c.factor-factor.ensures.value, c.rate.ensures.value, c.width-width.ensures.value) (append_assoc (header (length r.channels) (r.rate / d.factor) d.width n) (flat_map (sample_bytes d.width) (frames_below d r.channels n)) (pad_bytes (length r.channels) d.width n))))
+    (rw (← count) (rw (c.in_ok-push_pad.ensures.ok, c.in_ok-push_tiles.ensures, c.in_ok-reserve_exact.ensures.items, c.in_ok-push_header.ensures.ok, c.new-wave.ensures.items, c.channels-channels.ensures.value, c.factor-factor.ensures.value, c.rate.ensures.value, c.width-width.ensures.value) (append_assoc (header (length r.channels) (r.rate / d.factor) d.width n) (flat_map (sample_bytes d.width) (frames_below d r.channels n)) (pad_bytes (length r.channels) d.width n))))
 
 pub returns-clause-too_large : goal.returns-clause-too_large
 returns-clause-too_large c =

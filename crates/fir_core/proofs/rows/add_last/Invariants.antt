@@ -3,8 +3,8 @@ use Rattle.fir_core.specs.Windows.{window_sum}
 use Rattle.fir_core.proofs.rows.add_last.Given as goal
 
 -- the sums before this one are done, and the others are as they were
-abbrev pub invariant-loop-i : goal.invariant-loop-i
-invariant-loop-i l = record {
-  done : (k : ℕ) → k < l.i → get_or l.sums k (pos 0) ≡ window_sum (take (8 * (l.p + 1 - k)) l.taps) l.bytes k;
-  rest : (k : ℕ) → l.i ≤ k → k < length l.sums → get_or l.sums k (pos 0) ≡ window_sum (take (8 * (l.p - k)) l.taps) l.bytes k;
+abbrev pub invariant-loop-k : goal.invariant-loop-k
+invariant-loop-k l = record {
+  done : (k : ℕ) → k < l.start + l.k → get_or l.sums k (pos 0) ≡ window_sum (take (8 * (l.p + 1 - k)) l.taps) l.bytes k;
+  rest : (k : ℕ) → l.start + l.k ≤ k → k < length l.sums → get_or l.sums k (pos 0) ≡ window_sum (take (8 * (l.p - k)) l.taps) l.bytes k;
 }

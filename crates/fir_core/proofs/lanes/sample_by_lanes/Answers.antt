@@ -1,4 +1,4 @@
-use Rattle.std.proofs.Common.{◌≤◌, ◌^◌, ap, arith, sum_by, unsigned_abs}
+use Rattle.std.proofs.Common.{ap, arith, sum_by, unsigned_abs}
 use Rattle.fir_core.proofs.TileLaws.{whole_step}
 use Rattle.fir_core.proofs.WindowLaws.{abs_sum_aligned}
 use Rattle.fir_core.proofs.lanes.sample_by_lanes.Goals as goal

@@ -1,8 +1,5 @@
-use Rattle.std.proofs.Common.{ℕ, ◌+◌, ◌-◌, ◌*◌, ◌∙◌, inl, inr, refl, take, arith}
-use Rattle.std.proofs.lemmas.Bool.{cases_lt}
-use Rattle.fir_core.specs.Windows.{window_sum}
-use Rattle.fir_core.proofs.InPlace.{one_more, one_less}
-use Rattle.fir_core.proofs.RowLaws.{all_groups, no_groups}
+use Rattle.std.proofs.Common.{◌+◌, ◌-◌, ◌∙◌, refl, arith}
+use Rattle.fir_core.proofs.RowLaws.{all_groups}
 use Rattle.fir_core.proofs.rows.add_block.Goals as goal
 
 pub loop-turn-init : goal.loop-turn-init

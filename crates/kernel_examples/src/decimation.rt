@@ -1,7 +1,7 @@
 //! Samples worked out by hand.
 
 use dsd_bits::Bits;
-use fir_core::{Kernel, Taps, decimate, decimate_with, sample, sum_at};
+use fir_core::{Kernel, Tables, Taps, decimate, decimate_with, push_part, sample, sum_at};
 use std::alloc::{AllocError, Global};
 use std::test::Fail;
 
@@ -73,6 +73,31 @@ fn sample_of_most_taps(alloc: Global) -> Result<Option<i32>, Fail> {
 #[test]
 fn plays_the_most_taps(rt: HostRuntime) -> Result<(), Fail> {
     assert!(rt; sample_of_most_taps(rt.alloc())? == Some(4096));
+    Ok(())
+}
+
+// What is there, and behind it the samples 1 to 3 of a channel that has so many.
+fn with_a_part(
+    alloc: Global,
+    taps: &Taps,
+    bits: &Bits,
+    there: &[i32],
+) -> Result<Vec<i32>, AllocError> {
+    let tables = Tables::new(alloc, taps)?;
+    let mut samples = Vec::from_slice(alloc, there)?;
+    if bits.len().div_ceil(taps.factor() as usize) >= 4 {
+        push_part(&mut samples, 3, taps, &tables, bits, 1)?;
+    }
+    Ok(samples)
+}
+
+#[test]
+fn appends_a_part(rt: HostRuntime) -> Result<(), Fail> {
+    let taps = Taps::new(rt.alloc(), &[1; 33], 8, 32, 0, 16)?;
+    let bits = Bits::from_packed(rt.alloc(), &[0xff; 5], 40)?;
+    assert!(rt;
+        with_a_part(rt.alloc(), &taps, &bits, &[7])?.as_slice() == [7, 32, 24, 16].as_slice()
+    );
     Ok(())
 }
 

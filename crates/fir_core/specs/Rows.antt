@@ -36,6 +36,15 @@ pub record AreEntries (taps : List ℤ) (bytes : List ℕ) (p i number : ℕ) (e
   pub long : length entries ≡ number
   pub each : (k : ℕ) → k < number → slice_index_or entries k (pos 0) ≡ entry_of taps bytes p (i + k)
 
+-- what each of four bytes from p on adds to so many windows, the first of which begins at byte i
+pub record IsBlock (taps : List ℤ) (bytes : List ℕ) (p i number : ℕ) (a b c d : List ℤ) : Type 0 where
+  pub small : sum_by unsigned_abs taps ≤ 2 ^ 30
+  pub within : p + 4 ≤ length bytes
+  pub one : AreEntries taps bytes p i number a
+  pub two : AreEntries taps bytes (p + 1) i number b
+  pub three : AreEntries taps bytes (p + 2) i number c
+  pub four : AreEntries taps bytes (p + 3) i number d
+
 -- taps in whole groups of eight, and the rows of all bytes
 pub record IsLaid (taps sums : List ℤ) (span : ℕ) : Type 0 where
   pub whole : length taps % 8 ≡ 0

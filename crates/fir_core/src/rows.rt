@@ -4,7 +4,7 @@
 ghost use Rattle.std.specs.Prelude.{◌≡◌, ℕ, ◌+◌, ◌-◌, ◌*◌, ◌/◌, ◌^◌, ◌<◌, ◌≤◌, EachIndex, length, pos, slice_index_or, take, unsigned_abs};
 ghost use Rattle.std.specs.List.{sum_by};
 ghost use Rattle.fir_core.specs.Rows as Rows;
-ghost use Rattle.fir_core.specs.Rows.{AreEntries, IsLaid, entry_of};
+ghost use Rattle.fir_core.specs.Rows.{AreEntries, IsBlock, IsLaid, entry_of};
 ghost use Rattle.fir_core.specs.Windows.{window_sum, window_sums};
 
 /// How many windows four bytes reach, rounded up to whole fours.
@@ -58,96 +58,87 @@ fn add_byte(taps: &[i32], bytes: &[u8], p: usize, i: usize, entry: i32, sum: i32
     sum + entry
 }
 
-/// Four bytes from `p` on in the sum of the window that begins at byte `i`, to which each adds its
-/// entry.
-fn add_bytes(
-    taps: &[i32],
-    bytes: &[u8],
+/// Four bytes from `p` on, and what each of them adds to so many windows, the first of which begins at
+/// byte `start`: a part of its row.
+#[derive(Clone, Copy)]
+struct Block<'a> {
     p: usize,
-    i: usize,
-    one: i32,
-    two: i32,
-    three: i32,
-    four: i32,
-    sum: i32,
-) -> i32
-    requires small { sum_by unsigned_abs taps.now ≤ 2 ^ 30 }
-    requires within { p + 4 ≤ length bytes.now }
-    requires one { one ≡ entry_of taps.now bytes.now p i }
-    requires two { two ≡ entry_of taps.now bytes.now (p + 1) i }
-    requires three { three ≡ entry_of taps.now bytes.now (p + 2) i }
-    requires four { four ≡ entry_of taps.now bytes.now (p + 3) i }
-    requires so_far { sum ≡ window_sum (take (8 * (p - i)) taps.now) bytes.now i }
-    ensures { result ≡ window_sum (take (8 * (p + 4 - i)) taps.now) bytes.now i }
-{
-    let first = add_byte(taps, bytes, p, i, one, sum);
-    let second = add_byte(taps, bytes, p + 1, i, two, first);
-    let third = add_byte(taps, bytes, p + 2, i, three, second);
-    add_byte(taps, bytes, p + 3, i, four, third)
+    start: usize,
+    number: usize,
+    one: &'a [i32],
+    two: &'a [i32],
+    three: &'a [i32],
+    four: &'a [i32],
 }
 
-/// Four bytes from `p` on in the sums of four windows, the first of which begins at byte `i`, by the
-/// entries of each byte. All four sums are there before one is written, so that they become a vector.
-fn add_four_bytes(
+/// Four bytes from `p` on with the parts of their rows.
+fn block_of<'a>(
     taps: &[i32],
+    rows: &'a [i32],
+    span: usize,
     bytes: &[u8],
     p: usize,
-    i: usize,
-    one: &[i32],
-    two: &[i32],
-    three: &[i32],
-    four: &[i32],
-    sums: &mut [i32],
-)
-    requires small { sum_by unsigned_abs taps.now ≤ 2 ^ 30 }
+    start: usize,
+    number: usize,
+) -> Block<'a>
+    requires laid { IsLaid taps.now rows.now span }
     requires within { p + 4 ≤ length bytes.now }
-    requires inside { i + 4 ≤ length sums.old }
-    requires one { AreEntries taps.now bytes.now p i 4 one.now }
-    requires two { AreEntries taps.now bytes.now (p + 1) i 4 two.now }
-    requires three { AreEntries taps.now bytes.now (p + 2) i 4 three.now }
-    requires four { AreEntries taps.now bytes.now (p + 3) i 4 four.now }
-    requires done { (k : ℕ) → k < i → slice_index_or sums.old k (pos 0) ≡ window_sum (take (8 * (p + 4 - k)) taps.now) bytes.now k }
-    requires rest { EachIndex sums.old (λ k. i ≤ k → slice_index_or sums.old k (pos 0) ≡ window_sum (take (8 * (p - k)) taps.now) bytes.now k) }
-    ensures len { length sums.new ≡ length sums.old }
-    ensures done { (k : ℕ) → k < i + 4 → slice_index_or sums.new k (pos 0) ≡ window_sum (take (8 * (p + 4 - k)) taps.now) bytes.now k }
-    ensures rest { EachIndex sums.new (λ k. i + 4 ≤ k → slice_index_or sums.new k (pos 0) ≡ window_sum (take (8 * (p - k)) taps.now) bytes.now k) }
+    requires reached { p + 4 ≤ start + span }
+    requires near { start ≤ p + 3 }
+    requires last { start + number ≤ p + 4 }
+    ensures p { result.p ≡ p }
+    ensures start { result.start ≡ start }
+    ensures number { result.number ≡ number }
+    ensures rows { IsBlock taps.now bytes.now result.p result.start result.number result.one.now result.two.now result.three.now result.four.now }
 {
-    let first = add_bytes(
-        taps, bytes, p, i, one[0], two[0], three[0], four[0], sums[i],
-    );
-    let second = add_bytes(
-        taps,
-        bytes,
+    let one = row_part(taps, rows, span, bytes, p, start, number);
+    let two = row_part(taps, rows, span, bytes, p + 1, start, number);
+    let three = row_part(taps, rows, span, bytes, p + 2, start, number);
+    let four = row_part(taps, rows, span, bytes, p + 3, start, number);
+    Block {
         p,
-        i + 1,
-        one[1],
-        two[1],
-        three[1],
-        four[1],
-        sums[i + 1],
-    );
-    let third = add_bytes(
-        taps,
-        bytes,
-        p,
-        i + 2,
-        one[2],
-        two[2],
-        three[2],
-        four[2],
-        sums[i + 2],
-    );
-    let fourth = add_bytes(
-        taps,
-        bytes,
-        p,
-        i + 3,
-        one[3],
-        two[3],
-        three[3],
-        four[3],
-        sums[i + 3],
-    );
+        start,
+        number,
+        one,
+        two,
+        three,
+        four,
+    }
+}
+
+/// Four bytes in the sum of the window that begins at byte `i`, to which each adds its entry.
+fn add_bytes(taps: &[i32], bytes: &[u8], block: Block<'_>, i: usize, sum: i32) -> i32
+    requires rows { IsBlock taps.now bytes.now block.p block.start block.number block.one.now block.two.now block.three.now block.four.now }
+    requires from { block.start ≤ i }
+    requires to { i < block.start + block.number }
+    requires so_far { sum ≡ window_sum (take (8 * (block.p - i)) taps.now) bytes.now i }
+    ensures { result ≡ window_sum (take (8 * (block.entry.p + 4 - i)) taps.now) bytes.now i }
+{
+    let p = block.p;
+    let k = i - block.start;
+    let one = add_byte(taps, bytes, p, i, block.one[k], sum);
+    let two = add_byte(taps, bytes, p + 1, i, block.two[k], one);
+    let three = add_byte(taps, bytes, p + 2, i, block.three[k], two);
+    add_byte(taps, bytes, p + 3, i, block.four[k], three)
+}
+
+/// Four bytes in the sums of four windows, the first of which begins at byte `i`. All four sums are
+/// there before one is written, so that they become a vector.
+fn add_four(taps: &[i32], bytes: &[u8], block: Block<'_>, i: usize, sums: &mut [i32])
+    requires rows { IsBlock taps.now bytes.now block.p block.start block.number block.one.now block.two.now block.three.now block.four.now }
+    requires from { block.start ≤ i }
+    requires to { i + 4 ≤ block.start + block.number }
+    requires inside { i + 4 ≤ length sums.old }
+    requires done { (k : ℕ) → k < i → slice_index_or sums.old k (pos 0) ≡ window_sum (take (8 * (block.p + 4 - k)) taps.now) bytes.now k }
+    requires rest { EachIndex sums.old (λ k. i ≤ k → slice_index_or sums.old k (pos 0) ≡ window_sum (take (8 * (block.p - k)) taps.now) bytes.now k) }
+    ensures len { length sums.new ≡ length sums.old }
+    ensures done { (k : ℕ) → k < i + 4 → slice_index_or sums.new k (pos 0) ≡ window_sum (take (8 * (block.entry.p + 4 - k)) taps.now) bytes.now k }
+    ensures rest { EachIndex sums.new (λ k. i + 4 ≤ k → slice_index_or sums.new k (pos 0) ≡ window_sum (take (8 * (block.entry.p - k)) taps.now) bytes.now k) }
+{
+    let first = add_bytes(taps, bytes, block, i, sums[i]);
+    let second = add_bytes(taps, bytes, block, i + 1, sums[i + 1]);
+    let third = add_bytes(taps, bytes, block, i + 2, sums[i + 2]);
+    let fourth = add_bytes(taps, bytes, block, i + 3, sums[i + 3]);
     sums[i] = first;
     sums[i + 1] = second;
     sums[i + 2] = third;
@@ -165,24 +156,13 @@ fn add_block(taps: &[i32], rows: &[i32], span: usize, bytes: &[u8], p: usize, su
 {
     let start = (p + 4).saturating_sub(span);
     let number = (p + 4).min(sums.len()) - start;
-    let one = row_part(taps, rows, span, bytes, p, start, number);
-    let two = row_part(taps, rows, span, bytes, p + 1, start, number);
-    let three = row_part(taps, rows, span, bytes, p + 2, start, number);
-    let four = row_part(taps, rows, span, bytes, p + 3, start, number);
+    let block = block_of(taps, rows, span, bytes, p, start, number);
     let fours = number / 4;
     for turn in 0..fours {
-        let k = 4 * turn;
-        let one = &one[k..k + 4];
-        let two = &two[k..k + 4];
-        let three = &three[k..k + 4];
-        let four = &four[k..k + 4];
-        add_four_bytes(taps, bytes, p, start + k, one, two, three, four, sums);
+        add_four(taps, bytes, block, start + 4 * turn, sums);
     }
-    for k in 4 * fours..number {
-        let i = start + k;
-        sums[i] = add_bytes(
-            taps, bytes, p, i, one[k], two[k], three[k], four[k], sums[i],
-        );
+    for i in start + 4 * fours..start + number {
+        sums[i] = add_bytes(taps, bytes, block, i, sums[i]);
     }
 }
 

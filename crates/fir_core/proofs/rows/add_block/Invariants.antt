@@ -6,13 +6,13 @@ use Rattle.fir_core.proofs.rows.add_block.Given as goal
 abbrev pub invariant-loop-turn : goal.invariant-loop-turn
 invariant-loop-turn l = record {
   long : length l.sums ≡ length l.initial.sums;
-  done : (k : ℕ) → k < l.start + 4 * l.turn → get_or l.sums k (pos 0) ≡ window_sum (take (8 * (l.p + 4 - k)) l.taps) l.bytes k;
-  rest : (k : ℕ) → l.start + 4 * l.turn ≤ k → k < length l.sums → get_or l.sums k (pos 0) ≡ window_sum (take (8 * (l.p - k)) l.taps) l.bytes k;
+  done : (k : ℕ) → k < l.start + 4 * l.turn → get_or l.sums k (pos 0) ≡ window_sum (take (8 * (l.block.p + 4 - k)) l.taps) l.bytes k;
+  rest : (k : ℕ) → l.start + 4 * l.turn ≤ k → k < length l.sums → get_or l.sums k (pos 0) ≡ window_sum (take (8 * (l.block.p - k)) l.taps) l.bytes k;
 }
 
 -- the sums before this one are done, and the others are as they were
-abbrev pub invariant-loop-k : goal.invariant-loop-k
-invariant-loop-k l = record {
-  done : (k : ℕ) → k < l.start + l.k → get_or l.sums k (pos 0) ≡ window_sum (take (8 * (l.p + 4 - k)) l.taps) l.bytes k;
-  rest : (k : ℕ) → l.start + l.k ≤ k → k < length l.sums → get_or l.sums k (pos 0) ≡ window_sum (take (8 * (l.p - k)) l.taps) l.bytes k;
+abbrev pub invariant-loop-i : goal.invariant-loop-i
+invariant-loop-i l = record {
+  done : (k : ℕ) → k < l.i → get_or l.sums k (pos 0) ≡ window_sum (take (8 * (l.block.p + 4 - k)) l.taps) l.bytes k;
+  rest : (k : ℕ) → l.i ≤ k → k < length l.sums → get_or l.sums k (pos 0) ≡ window_sum (take (8 * (l.block.p - k)) l.taps) l.bytes k;
 }

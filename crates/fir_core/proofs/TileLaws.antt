@@ -119,6 +119,9 @@ late_enough i early late factor first count some is order h =
     let below : (i + early) * factor < count - first = below_ceil (i + early) (count - first) factor some (omega arith) in
     omega arith
 
+pub place_reaches : (i number factor first most : ℕ) → i ≤ number → number * factor + first ≤ most → i * factor + first ≤ most
+place_reaches i number factor first most h reach = let e : i * factor ≤ number * factor = mul-le-mul_right factor h in omega arith
+
 pub rest_reaches : (rest late number factor first most : ℕ) → rest + late ≡ number → number * factor + first ≤ most → rest * factor + (late * factor + first) ≤ most
 rest_reaches rest late number factor first most e reach = let f = ap (λ (x : ℕ). x * factor) e in omega arith
 

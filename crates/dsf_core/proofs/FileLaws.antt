@@ -12,7 +12,7 @@ use Rattle.dsf_core.specs.declared.fault.DsfFault.TheVariants.{BadPointer}
 use Rattle.dsf_core.specs.Fields.{id_at, FMT, DATA, first_size, pointer, format_size, version, format, channel_number, rate, bits_per_sample, count, block_size, data_place, data_size, needed, sound_end, tag_told}
 use Rattle.dsf_core.specs.Files.{bits_of, IsDsf}
 use Rattle.dsf_core.specs.Fronts.{HoldsHead}
-use Rattle.dsf_core.specs.Reading.{chunks_of, order_of, sound_of, tag_of, told, recording_of}
+use Rattle.dsf_core.specs.Reading.{chunks_of, order_of, order_told, sound_of, tag_of, told, recording_of}
 
 not_false : (b : Bool) → not b ≡ false → b ≡ true
 not_false true e = refl
@@ -93,7 +93,7 @@ pub record Limits (file : List ℕ) (order : BitOrder) : Type 0 where
   pub not_long : count file ≤ 2 ^ 36
 
 pub order_ok : (file : List ℕ) (order : BitOrder) → order_of file ≡ Ok order → Limits file order
-unfolding order_of told_order
+unfolding order_of order_told told_order
 order_ok file order e =
     let a = guard_ok _ _ _ _ e in
     let b = guard_ok _ _ _ _ a.1 in
@@ -120,7 +120,7 @@ bits_again bits LeastFirst e = rw e (refl, refl)
 bits_again bits MostFirst e = rw e (refl, refl)
 
 pub order_again : (file : List ℕ) (order : BitOrder) → Limits file order → order_of file ≡ Ok order
-unfolding order_of
+unfolding order_of order_told
 order_again file order h =
     let bits = bits_again (bits_per_sample file) order h.order_is in
     rw (eq-eqb (version file) 1 h.version_is, le-ltb (channel_number file) 1 h.some_channel, le-ltb 6 (channel_number file) h.six_channels, le-ltb (rate file) 1000000 h.rate_low, le-ltb 50000000 (rate file) h.rate_high, bits.0, eq-eqb (block_size file) 4096 h.block_is, le-ltb (2 ^ 36) (count file) h.not_long, bits.1) refl

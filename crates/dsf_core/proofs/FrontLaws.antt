@@ -25,7 +25,7 @@ use Rattle.dsf_core.specs.Fields.{id_at, u64_at, FMT, DATA, first_size, pointer,
 use Rattle.dsf_core.specs.Files.{IsDsf}
 use Rattle.dsf_core.specs.Fronts.{HoldsHead, IsAccepted, EndsAtSound, answer_of, sound_told, sound_in, sound_at}
 use Rattle.dsf_core.specs.Laws.{SoundDoesNotMatter}
-use Rattle.dsf_core.specs.Reading.{chunks_of, order_of, told}
+use Rattle.dsf_core.specs.Reading.{chunks_of, order_of, order_told, told}
 use Rattle.dsf_core.proofs.FileLaws.{Behind, Heads, Limits, chunks_again, chunks_ok, order_again, order_ok, heads_of, is_file, limits_of, same_again}
 
 -- ---- fields in the front of a file
@@ -208,7 +208,7 @@ chunks_whole front holds =
     (ok_whole (data_place front))))))))))
 
 order_whole : (front : List ℕ) → is_cut (order_of front) ≡ false
-unfolding order_of is_head_cut
+unfolding order_of order_told is_head_cut
 order_whole front =
     skip (not (eqb (version front) 1)) faults.BadVersion _ refl
     (skip (ltb (channel_number front) 1) faults.BadChannelNumber _ refl

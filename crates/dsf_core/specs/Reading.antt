@@ -25,18 +25,22 @@ chunks_of file =
     else if not (nat_eq (format file) 0) then Err BadFormat
     else Ok (data_place file)
 
+-- the order of the bits, where these numbers of the format chunk lie in their limits
+unfoldable pub order_told : ℕ → ℕ → ℕ → ℕ → ℕ → ℕ → Result BitOrder DsfFault
+order_told version number rate bits block count =
+    if not (nat_eq version 1) then Err BadVersion
+    else if nat_lt number 1 then Err BadChannelNumber
+    else if nat_lt 6 number then Err BadChannelNumber
+    else if nat_lt rate 1000000 then Err BadRate
+    else if nat_lt 50000000 rate then Err BadRate
+    else if not (nat_eq bits 1) && not (nat_eq bits 8) then Err BadBits
+    else if not (nat_eq block 4096) then Err BadBlock
+    else if nat_lt (2 ^ 36) count then Err TooLong
+    else Ok (if nat_eq bits 1 then LeastFirst else MostFirst)
+
 -- the order of the bits, where the fields lie in their limits
 unfoldable pub order_of : List ℕ → Result BitOrder DsfFault
-order_of file =
-    if not (nat_eq (version file) 1) then Err BadVersion
-    else if nat_lt (channel_number file) 1 then Err BadChannelNumber
-    else if nat_lt 6 (channel_number file) then Err BadChannelNumber
-    else if nat_lt (rate file) 1000000 then Err BadRate
-    else if nat_lt 50000000 (rate file) then Err BadRate
-    else if not (nat_eq (bits_per_sample file) 1) && not (nat_eq (bits_per_sample file) 8) then Err BadBits
-    else if not (nat_eq (block_size file) 4096) then Err BadBlock
-    else if nat_lt (2 ^ 36) (count file) then Err TooLong
-    else Ok (if nat_eq (bits_per_sample file) 1 then LeastFirst else MostFirst)
+order_of file = order_told (version file) (channel_number file) (rate file) (bits_per_sample file) (block_size file) (count file)
 
 -- where the needed sound bytes end
 unfoldable pub sound_of : List ℕ → Result ℕ DsfFault

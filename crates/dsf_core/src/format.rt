@@ -2,7 +2,7 @@
 
 ghost use Rattle.std.specs.Prelude.{◌≡◌, ◌≢◌, ◌≤◌, ◌^◌, length, IfOk};
 ghost use Rattle.dsf_core.specs.Fields.{channel_number, count, dsf_ids, layout_told, rate};
-ghost use Rattle.dsf_core.specs.Reading.{order_of};
+ghost use Rattle.dsf_core.specs.Reading.{order_of, order_told};
 ghost use Rattle.dsf_core.specs.Steps.{Gives};
 
 use crate::fault::DsfFault;
@@ -20,25 +20,47 @@ pub(crate) fn read_order(file: &[u8]) -> Result<BitOrder, DsfFault>
     ensures short { IfOk result (λ _. count file.now ≤ 2 ^ 36) }
     ensures no_memory { result ≢ Err DsfFault.Memory }
 {
-    if u32_at(file, 40) != 1 {
+    let version = u32_at(file, 40);
+    let number = u32_at(file, 52);
+    let rate = u32_at(file, 56);
+    let bits = u32_at(file, 60);
+    let block = u32_at(file, 72);
+    let count = u64_at(file, 64);
+    order_told(version, number, rate, bits, block, count)
+}
+
+// The order of the bits in a byte, where these numbers lie in their limits.
+#[tactic(auto, unfolding(crate::specs::Reading::order_told))]
+fn order_told(
+    version: u32,
+    number: u32,
+    rate: u32,
+    bits: u32,
+    block: u32,
+    count: u64,
+) -> Result<BitOrder, DsfFault>
+    ensures exact { Gives (λ x. x) result (order_told version number rate bits block count) }
+    ensures channels { IfOk result (λ _. (1 ≤ number) × (number ≤ 6)) }
+    ensures rate { IfOk result (λ _. (1000000 ≤ rate) × (rate ≤ 50000000)) }
+    ensures short { IfOk result (λ _. count ≤ 2 ^ 36) }
+    ensures no_memory { result ≢ Err DsfFault.Memory }
+{
+    if version != 1 {
         return Err(DsfFault::BadVersion);
     }
-    let number = u32_at(file, 52);
     if number < 1 || 6 < number {
         return Err(DsfFault::BadChannelNumber);
     }
-    let rate = u32_at(file, 56);
     if rate < 1_000_000 || 50_000_000 < rate {
         return Err(DsfFault::BadRate);
     }
-    let bits = u32_at(file, 60);
     if bits != 1 && bits != 8 {
         return Err(DsfFault::BadBits);
     }
-    if u32_at(file, 72) != 4096 {
+    if block != 4096 {
         return Err(DsfFault::BadBlock);
     }
-    if 1 << 36 < u64_at(file, 64) {
+    if 1 << 36 < count {
         return Err(DsfFault::TooLong);
     }
     if bits == 1 {

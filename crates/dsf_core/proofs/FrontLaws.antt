@@ -1,5 +1,5 @@
 -- The front of a file, and the files that begin with it.
-use Rattle.std.proofs.Common.{◌≡◌, ◌↔◌, replicate, ℕ, ◌+◌, ◌-◌, ◌^◌, ◌&&◌, ◌≤◌, ◌⊎◌, inl, inr, Bool, true, false, cond, ltb, eqb, not, List, ◌++◌, length, take, drop, Some, Result, Ok, Err, refl, sym, ap, subst, ◌∙◌, arith, eq-eqb}
+use Rattle.std.proofs.Common.{◌≡◌, ◌<◌, ◌↔◌, replicate, ℕ, ◌+◌, ◌-◌, ◌^◌, ◌&&◌, ◌≤◌, ◌⊎◌, inl, inr, Bool, true, false, cond, ltb, eqb, not, List, ◌++◌, length, take, drop, Some, Result, Ok, Err, refl, sym, ap, subst, ◌∙◌, arith, eq-eqb}
 use Rattle.std.proofs.lemmas.Bool.{cases_lt, lt-ltb, le-ltb, ltb-false}
 use Rattle.std.proofs.lemmas.List.{drop-append-le, take-append-le, length-append, length-drop, length-replicate}
 use Rattle.std.proofs.lemmas.List.FromFn.{length-map-range_with_len}
@@ -452,3 +452,18 @@ decides front size test h there again =
       λ e. ends_accepted front (replicate size 0) h (subst (Ends front) (sym long) (there e)),
       λ accepted. again (subst (Ends front) long (accepted_ends front (replicate size 0) h accepted)),
     )
+
+-- ---- a sound is found, or its blocks are cut
+pub sound_cut : (front : List ℕ) (data_at : ℕ) (order : BitOrder) (given wanted : ℕ) → chunks_of front ≡ Ok data_at → order_of front ≡ Ok order → given ≡ data_size front - 12 → wanted ≡ needed front → given < wanted
+    → sound_in front ≡ Err DataCut
+unfolding sound_in
+sound_cut front data_at order given wanted chunks fields given_is wanted_is cut =
+    let h : data_size front - 12 < needed front = subst (λ n. n < needed front) given_is (subst (λ n. given < n) wanted_is cut) in
+    rw (chunks, fields, lt-ltb (data_size front - 12) (needed front) h) refl
+
+pub sound_found : (front : List ℕ) (data_at : ℕ) (order : BitOrder) (s : Sound) (given wanted : ℕ) → chunks_of front ≡ Ok data_at → order_of front ≡ Ok order → given ≡ data_size front - 12 → wanted ≡ needed front → wanted ≤ given
+    → s ≡ sound_told front order → sound_in front ≡ Ok s
+unfolding sound_in
+sound_found front data_at order s given wanted chunks fields given_is wanted_is fits s_is =
+    let h : needed front ≤ data_size front - 12 = subst (λ n. needed front ≤ n) given_is (subst (λ n. n ≤ given) wanted_is fits) in
+    rw (chunks, fields, le-ltb (data_size front - 12) (needed front) h) (ap Ok (sym s_is))

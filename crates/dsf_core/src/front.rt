@@ -1,19 +1,20 @@
 //! Where the sound of a file stands, as its front tells, and at which length such a file ends.
 
-ghost use Rattle.std.specs.Prelude.{◌≡◌, ◌≢◌, ◌≤◌, ◌-◌, ◌++◌, ◌↔◌, List, ℕ, Some, length, replicate, true};
+ghost use Rattle.std.specs.Prelude.{◌≡◌, ◌≢◌, ◌≤◌, ◌+◌, ◌-◌, ◌^◌, ◌++◌, ◌↔◌, List, ℕ, Some, length, replicate, true};
 ghost use Rattle.dsd_bits.specs.declared.blocks.BitOrder.{BitOrder};
 ghost use Rattle.dsd_bits.specs.Contents.{Content};
 ghost use Rattle.dsd_bits.specs.Sounds.{HasSound, IfFound, IfMore, IfRefused, IsSound};
 ghost use Rattle.dsf_core.specs.Files.{IsDsf};
-ghost use Rattle.dsf_core.specs.Fronts.{EndsAtSound, HoldsHead, IsAccepted, sound_at, sound_in};
+ghost use Rattle.dsf_core.specs.Fields.{channel_number, count, data_place};
+ghost use Rattle.dsf_core.specs.Fronts.{EndsAtSound, HoldsHead, IsAccepted, sound_at, sound_in, sound_told};
 ghost use Rattle.dsf_core.specs.Steps.{Gives};
 
 use crate::chunks::find_data;
 use crate::fault::DsfFault;
 use crate::fields::{u32_at, u64_at};
 use crate::format::read_order;
-use crate::sound::needed_bytes;
-use dsd_bits::{Sound, SoundAt};
+use crate::sound::{data_bytes, needed_bytes};
+use dsd_bits::{BitOrder, Sound, SoundAt};
 
 /// Where the sound of a DSF 1.01 file stands, and what it is, told by the front of the file alone:
 /// - `More`: the front does not hold the whole head of the data chunk.
@@ -56,18 +57,29 @@ fn find_sound(front: &[u8]) -> Result<Sound, DsfFault>
 {
     let data_at = find_data(front)?;
     let order = read_order(front)?;
-    let size = needed_bytes(front);
-    if u64_at(front, data_at + 4) - 12 < size {
+    if data_bytes(front, data_at) < needed_bytes(front) {
         return Err(DsfFault::DataCut);
     }
-    Ok(Sound {
+    Ok(sound_told(front, data_at, order))
+}
+
+// The sound that the fields tell, its bits in this order.
+fn sound_told(front: &[u8], data_at: usize, order: BitOrder) -> Sound
+    requires long { 80 ≤ length front.now }
+    requires place { data_at ≡ data_place front.now }
+    requires inside { data_at + 12 ≤ length front.now }
+    requires channels { channel_number front.now ≤ 6 }
+    requires short { count front.now ≤ 2 ^ 36 }
+    ensures { result ≡ sound_told front.now order }
+{
+    Sound {
         rate: u32_at(front, 56),
         channels: u32_at(front, 52) as usize,
         count: u64_at(front, 64) as usize,
         start: data_at + 12,
-        size: size as usize,
+        size: needed_bytes(front) as usize,
         order: Some(order),
-    })
+    }
 }
 
 /// Whether a file of `total` bytes is accepted that begins with `front`, which ends where the sound starts:

@@ -1,6 +1,6 @@
 //! The sound in the data chunk, and the tag behind it.
 
-ghost use Rattle.std.specs.Prelude.{◌≡◌, ◌≤◌, ◌+◌, ◌^◌, length, IfOk};
+ghost use Rattle.std.specs.Prelude.{◌≡◌, ◌≤◌, ◌+◌, ◌-◌, ◌^◌, length, IfOk};
 ghost use Rattle.dsd_bits.specs.Blocks.{blocks_size, unblocked_all};
 ghost use Rattle.dsd_bits.specs.Channels.{IsLevel, count_of};
 ghost use Rattle.dsf_core.specs.Fields.{channel_number, count, data_place, data_size, needed, sound_end};
@@ -26,13 +26,23 @@ pub(crate) fn find_sound_end(file: &[u8], data_at: usize) -> Result<usize, DsfFa
     ensures end { IfOk result (λ n. n ≡ sound_end file.now) }
 {
     let size = needed_bytes(file);
-    if u64_at(file, data_at + 4) - 12 < size {
+    if data_bytes(file, data_at) < size {
         return Err(DsfFault::DataCut);
     }
     if ((file.len() - data_at - 12) as u64) < size {
         return Err(DsfFault::DataCut);
     }
     Ok(data_at + 12 + size as usize)
+}
+
+/// How many bytes the data chunk has behind its head, as it tells.
+pub(crate) fn data_bytes(file: &[u8], data_at: usize) -> u64
+    requires place { data_at ≡ data_place file.now }
+    requires inside { data_at + 12 ≤ length file.now }
+    requires size { 12 ≤ data_size file.now }
+    ensures { result ≡ data_size file.now - 12 }
+{
+    u64_at(file, data_at + 4) - 12
 }
 
 /// How many bytes the blocks have that the channels need.

@@ -1,6 +1,6 @@
 -- Reading and the relation, in both directions.
-use Rattle.std.proofs.Common.{◌≡◌, ℕ, ◌+◌, ◌-◌, ◌^◌, ◌≤◌, ◌⊎◌, inl, inr, Bool, true, false, cond, eqb, ltb, not, ◌&&◌, List, [], length, drop, Result, Ok, Err, refl, sym, ap, subst, ◌∙◌, arith, ne_eqb, eq-eqb}
-use Rattle.std.proofs.lemmas.Bool.{ltb-false, le-ltb, eqb-true, cases_eq, not_from_true}
+use Rattle.std.proofs.Common.{◌≡◌, ap₂, ◌<◌, ℕ, ◌+◌, ◌-◌, ◌^◌, ◌≤◌, ◌⊎◌, inl, inr, Bool, true, false, cond, eqb, ltb, not, ◌&&◌, List, [], length, drop, Result, Ok, Err, refl, sym, ap, subst, ◌∙◌, arith, ne_eqb, eq-eqb}
+use Rattle.std.proofs.lemmas.Bool.{ltb-false, le-ltb, lt-ltb, eqb-true, cases_eq, not_from_true}
 use Rattle.std.proofs.lemmas.Slice.Eq.{bytes_eq-Decides}
 use Rattle.chunk_core.proofs.Steps.{bind_then, guard_ok, chosen}
 use Rattle.dsd_bits.specs.declared.blocks.BitOrder.{BitOrder}
@@ -8,7 +8,7 @@ use Rattle.dsd_bits.specs.declared.blocks.BitOrder.TheVariants.{LeastFirst, Most
 use Rattle.dsd_bits.specs.Contents.{Content}
 use Rattle.dsd_bits.specs.Ids.{same_id, DSD}
 use Rattle.dsf_core.specs.declared.fault.DsfFault.{DsfFault}
-use Rattle.dsf_core.specs.declared.fault.DsfFault.TheVariants.{BadPointer}
+use Rattle.dsf_core.specs.declared.fault.DsfFault.TheVariants.{BadPointer, DataCut}
 use Rattle.dsf_core.specs.Fields.{id_at, FMT, DATA, first_size, pointer, format_size, version, format, channel_number, rate, bits_per_sample, count, block_size, data_place, data_size, needed, sound_end, tag_told}
 use Rattle.dsf_core.specs.Files.{bits_of, IsDsf}
 use Rattle.dsf_core.specs.Fronts.{HoldsHead}
@@ -133,6 +133,34 @@ sound_ok file n e =
     let a = guard_ok _ _ _ _ e in
     let b = guard_ok _ _ _ _ a.1 in
     (ltb-false _ _ a.0, ltb-false _ _ b.0)
+
+-- where it ends, by what is told of the data chunk and of the file
+module _ (file : List ℕ) (data_at given wanted : ℕ) (place_is : data_at ≡ data_place file) (given_is : given ≡ data_size file - 12) (wanted_is : wanted ≡ needed file) where
+  pub end_is : (data_at + 12) + wanted ≡ sound_end file
+  end_is = ap₂ (λ (m n : ℕ). (m + 12) + n) place_is wanted_is
+
+  fits_in_chunk : wanted ≤ given → needed file ≤ data_size file - 12
+  fits_in_chunk h = subst (λ n. needed file ≤ n) given_is (subst (λ n. n ≤ given) wanted_is h)
+
+  pub chunk_cut : given < wanted → sound_of file ≡ Err DataCut
+  unfolding sound_of
+  chunk_cut cut =
+      let h : data_size file - 12 < needed file = subst (λ n. n < needed file) given_is (subst (λ n. given < n) wanted_is cut) in
+      rw (lt-ltb (data_size file - 12) (needed file) h) refl
+
+  pub file_cut : wanted ≤ given → (length file - data_at) - 12 < wanted → data_at + 12 ≤ length file → sound_of file ≡ Err DataCut
+  unfolding sound_of
+  file_cut fits cut inside =
+      let past : length file < (data_at + 12) + wanted = omega (arith, cut, inside) in
+      let h : length file < sound_end file = subst (λ n. length file < n) end_is past in
+      rw (le-ltb (data_size file - 12) (needed file) (fits_in_chunk fits), lt-ltb (length file) (sound_end file) h) refl
+
+  pub sound_ends : wanted ≤ given → wanted ≤ (length file - data_at) - 12 → data_at + 12 ≤ length file → sound_of file ≡ Ok ((data_at + 12) + wanted)
+  unfolding sound_of
+  sound_ends fits held inside =
+      let within : (data_at + 12) + wanted ≤ length file = omega (arith, held, inside) in
+      let h : sound_end file ≤ length file = subst (λ n. n ≤ length file) end_is within in
+      rw (le-ltb (data_size file - 12) (needed file) (fits_in_chunk fits), le-ltb (length file) (sound_end file) h) (ap Ok (sym end_is))
 
 sound_again : (file : List ℕ) (r : Content) (order : BitOrder) → IsDsf file r order → sound_of file ≡ Ok (sound_end file)
 unfolding sound_of

@@ -2,7 +2,7 @@
 
 use fixtures::files::WAVE;
 use std::test::Fail;
-use wave_core::{Pcm, WaveFault, push_header, push_pad, push_sample, write};
+use wave_core::{Pcm, WaveFault, push_frames, push_header, push_pad, push_sample, write};
 
 #[test]
 fn writes_one_sample_of_16_bits(rt: HostRuntime) -> Result<(), Fail> {
@@ -67,6 +67,29 @@ fn spells_samples(rt: HostRuntime) -> Result<(), Fail> {
         push_sample(&mut wide, 24, *value)?;
     }
     assert!(rt; wide.as_slice() == [0xfe, 0xff, 0xff, 0xff, 0xff, 0x7f, 0, 0, 0x80].as_slice());
+    Ok(())
+}
+
+#[test]
+fn takes_samples_channel_by_channel(rt: HostRuntime) -> Result<(), Fail> {
+    // The first channel is 1, -2, the second 3, 4.
+    let samples = [1, -2, 3, 4];
+    let mut narrow = Vec::new(rt.alloc());
+    push_frames(&mut narrow, 16, &samples, 2)?;
+    assert!(rt; narrow.as_slice() == [1, 0, 3, 0, 0xfe, 0xff, 4, 0].as_slice());
+    let mut wide = Vec::new(rt.alloc());
+    push_frames(&mut wide, 24, &samples, 2)?;
+    assert!(rt; wide.as_slice() == [1, 0, 0, 3, 0, 0, 0xfe, 0xff, 0xff, 4, 0, 0].as_slice());
+    Ok(())
+}
+
+#[test]
+fn appends_frames_to_those_before(rt: HostRuntime) -> Result<(), Fail> {
+    let mut out = vec![in rt.alloc(); 9]?;
+    // A frame of three channels, and then two of one channel.
+    push_frames(&mut out, 16, &[5, -6, 7], 1)?;
+    push_frames(&mut out, 16, &[8, 256], 2)?;
+    assert!(rt; out.as_slice() == [9, 5, 0, 0xfa, 0xff, 7, 0, 8, 0, 0, 1].as_slice());
     Ok(())
 }
 

@@ -1,5 +1,5 @@
 -- Frames from samples that are made channel by channel, tile by tile.
-use Rattle.std.proofs.Common.{◌≡◌, ℕ, zero, suc, ◌+◌, ◌-◌, ◌*◌, ◌/◌, ◌<◌, ◌⊎◌, ℤ, pos, Bool, List, [], ◌∷◌, ◌++◌, All, length, get_or, map, take, sym, refl, ap, ap₂, ◌∙◌, arith, append_assoc, length-append, suc-mul, zero-mul}
+use Rattle.std.proofs.Common.{◌≡◌, ℕ, zero, suc, ◌+◌, ◌*◌, ◌/◌, ◌<◌, ◌⊎◌, ℤ, pos, Bool, List, [], ◌∷◌, ◌++◌, All, length, get_or, map, take, sym, refl, ap, ap₂, ◌∙◌, arith, append_assoc, length-append, suc-mul, zero-mul}
 use Rattle.std.specs.List.{flat_map, range_with_len}
 use Rattle.std.proofs.Math.Nat.{mul-div_cancel}
 use Rattle.std.proofs.lemmas.Grind.{flat_map-append}

@@ -1,11 +1,11 @@
 -- Rows that exceed nothing, eight states at a time.
-use Rattle.std.proofs.Common.{◌≡◌, ℕ, ◌+◌, ◌*◌, ◌-◌, ◌/◌, ◌%◌, ◌^◌, ◌<◌, ◌≤◌, Bool, true, false, refl, cond, ltb, eqb, List, map, take, drop, length, get_or, sym, ap, ◌∙◌, inl, inr, IsTrue, arith, rules, tests, w64, Fits}
+use Rattle.std.proofs.Common.{◌≡◌, ℕ, ◌+◌, ◌*◌, ◌-◌, ◌/◌, ◌%◌, ◌^◌, ◌<◌, ◌≤◌, Bool, true, false, refl, cond, ltb, eqb, List, map, take, drop, length, get_or, sym, ap, ◌∙◌, inl, inr, IsTrue, arith, rules, tests}
 use Rattle.std.specs.Simd.Lanes.{zip2, Each1, mask_l, top}
-use Rattle.std.proofs.lemmas.Bool.{cases_Bool, cases_lt, ltb-false}
+use Rattle.std.proofs.lemmas.Bool.{ltb-false}
 use Rattle.std.proofs.Math.Nat.{zero-div}
 use Rattle.std.proofs.lemmas.List.{get_or-take, get_or-drop, length-take-le, length-drop}
 use Rattle.std.proofs.lemmas.Simd.{bit_mask_l, get_or-chunk, Each1-from_get_or}
-use Rattle.cost_core.specs.Trellis.{Trellis, states, newest, before_by_0, before_by_1, IsBounded}
+use Rattle.cost_core.specs.Trellis.{Trellis, states, newest, before_by_1, IsBounded}
 use Rattle.cost_core.specs.Bridges.{Bridging}
 use Rattle.cost_core.specs.StateCosts.{step_of, step_row, trellis_of}
 use Rattle.cost_core.specs.Rows.{sums, seconds, twice}

@@ -1,4 +1,4 @@
-use Rattle.std.proofs.Common.{◌≡◌, ◌+◌, ◌-◌, ◌*◌, ◌<◌, ◌++◌, ◌∙◌, min, ap, arith}
+use Rattle.std.proofs.Common.{◌≡◌, ◌+◌, ◌*◌, ◌<◌, ◌++◌, ◌∙◌, min, ap, arith}
 use Rattle.std.specs.List.{flat_map}
 use Rattle.wave_core.specs.Frames.{frames_of}
 use Rattle.wave_core.specs.Texts.{sample_bytes}

@@ -1,4 +1,3 @@
-use Rattle.std.proofs.Common.{arith}
 use Rattle.cost_core.proofs.Lanes.{sums_fit}
 use Rattle.cert_core.proofs.Within.{is_zero, none_above}
 use Rattle.cert_core.proofs.rows.are_within.Goals as goal

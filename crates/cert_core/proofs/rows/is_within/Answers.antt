@@ -1,9 +1,7 @@
-use Rattle.std.proofs.Common.{refl, inl, inr, ◌≡◌, ℕ, ◌+◌, ◌*◌, ◌/◌, ◌<◌, ◌≤◌, ◌∙◌, ap, sym, arith, take, drop, length}
-use Rattle.std.specs.Simd.Lanes.{mask_l, put_chunk}
-use Rattle.std.proofs.lemmas.List.{take_all}
-use Rattle.cost_core.specs.Rows.{sums, seconds, least, twice, lower, upper}
-use Rattle.cost_core.proofs.Chunks.{each_chunk, at_chunk, chunk_of_least, chunk_of_seconds, rows_long}
-use Rattle.cost_core.proofs.Twice.{front_of, back_of, each_of, each_lower, each_upper, two_rows, two_choices, length-twice}
+use Rattle.std.proofs.Common.{refl, inl, inr, ℕ, ◌+◌, ◌*◌, ◌/◌, ◌<◌, ◌≤◌, arith, take, drop, length}
+use Rattle.cost_core.specs.Rows.{twice}
+use Rattle.cost_core.proofs.Chunks.{each_chunk, at_chunk}
+use Rattle.cost_core.proofs.Twice.{front_of, back_of, each_of, each_lower, each_upper}
 use Rattle.std.proofs.lemmas.Bool.{cases_lt}
 use Rattle.cert_core.proofs.Within.{eight_more}
 use Rattle.cert_core.proofs.rows.is_within.Goals as goal

@@ -7,19 +7,13 @@ use Rattle.archive_core.specs.declared.fault.ReadFault.{ReadFault}
 use Rattle.archive_core.specs.declared.fault.ReadFault.TheVariants as reads
 use Rattle.archive_core.specs.declared.form.Form.{Form}
 use Rattle.archive_core.specs.declared.opening.Opened.{Opened}
-use Rattle.archive_core.specs.Converting.{AnswersConverted, ConvertStandsFirst, Converts}
+use Rattle.archive_core.specs.Converting.{AnswersConverted, Converts}
 use Rattle.archive_core.specs.Faults.{fault_of_file}
 use Rattle.archive_core.specs.Forms.{Holds, text_in}
-use Rattle.archive_core.specs.Opening.{Opens, opened_of}
+use Rattle.archive_core.specs.Opening.{Opens}
 use Rattle.archive_core.specs.Writing.{IsWriteFault}
 
 -- ---- a file that is refused
-pub file_stands : (file : List ℕ) (form : Form) (e : ReadFault) → Opens (Err e) (opened_of file) → ConvertStandsFirst file form (fault_of_file e)
-file_stands file form reads.UnknownForm h = h
-file_stands file form (reads.Dsdiff fault) h = h
-file_stands file form (reads.Dsf fault) h = h
-file_stands file form reads.Memory h = tt
-
 pub file_refused : (file : List ℕ) (form : Form) (bytes : List ℕ) (dropped : ℕ) (e : ReadFault) → ((source : Form) (r : Content) → Holds file source r → Opens (Err e) (Ok (record { form = source; recording = r }))) → Converts file form bytes dropped
     → AnswersConverted (Err (fault_of_file e)) bytes dropped
 file_refused file form bytes dropped reads.UnknownForm h converts = let e = h converts.source converts.recording converts.file_holds in absurd cc
@@ -28,23 +22,6 @@ file_refused file form bytes dropped (reads.Dsf fault) h converts = let e = h co
 file_refused file form bytes dropped reads.Memory h converts = tt
 
 -- ---- a recording that is not written
-pub write_stands : (file : List ℕ) (form source : Form) (r : Content) (e : Fault) → Holds file source r → IsWriteFault form r e → ConvertStandsFirst file form e
-write_stands file form source r NotWholeBytes holds none = record { source = source; recording = r; file_holds = holds; no_text = none }
-write_stands file form source r Memory holds h = tt
-write_stands file form source r (Project f) holds h = absurd h
-write_stands file form source r NoDecimation holds h = absurd h
-write_stands file form source r NoSplice holds h = absurd h
-write_stands file form source r (FileUnread f) holds h = absurd h
-write_stands file form source r RateNotDivided holds h = absurd h
-write_stands file form source r TakeNumber holds h = absurd h
-write_stands file form source r (TakeUnread i f) holds h = absurd h
-write_stands file form source r (TakeMismatch i) holds h = absurd h
-write_stands file form source r (CueOutside i) holds h = absurd h
-write_stands file form source r MasterTooLong holds h = absurd h
-write_stands file form source r (NoRoomBefore i) holds h = absurd h
-write_stands file form source r (NoRoomAfter i) holds h = absurd h
-write_stands file form source r TooLarge holds h = absurd h
-
 pub write_refused : (form : Form) (r s : Content) (bytes : List ℕ) (dropped : ℕ) (e : Fault) → IsWriteFault form r e → r ≡ s → text_in form s ≡ Some bytes → AnswersConverted (Err e) bytes dropped
 write_refused form r s bytes dropped NotWholeBytes none same text = let some : text_in form r ≡ Some bytes = ap (text_in form) same ∙ text in absurd cc
 write_refused form r s bytes dropped Memory h same text = tt

@@ -1,7 +1,6 @@
 -- A channel of a master, part by part.
 use Rattle.std.proofs.Common.{◌≡◌, ℕ, zero, suc, ◌+◌, ◌-◌, ◌<◌, ◌≤◌, Bool, cond, eqb, List, [], ◌∷◌, ◌++◌, length, get_or, map, slice_get, slice_range, string_bytes, take, sum_by, append_assoc, add-one, refl, sym, ap, ◌∙◌, arith}
 use Rattle.std.specs.List.{All, AllZip, range_with_len}
-use Rattle.std.proofs.lemmas.Bool.{ne_eqb}
 use Rattle.std.proofs.lemmas.List.{get_or-map, length-map, nil_from_length, take_all, take_more}
 use Rattle.std.proofs.lemmas.List.Elements.{All-get_or}
 use Rattle.std.proofs.lemmas.List.Sums.{sum_by_more}
@@ -12,11 +11,10 @@ use Rattle.dsd_bits.specs.Shape.{HasShape}
 use Rattle.project_core.specs.Cues.{IsCueWithin, IsSplicing, bridge_or, last_bridge}
 use Rattle.project_core.specs.Splices.{SpliceContent, splice_content}
 use Rattle.project_core.specs.declared.splice.Splice.{Splice}
-use Rattle.cost_core.specs.Bridges.{IsFirstLeastBridge, bridge_cost}
+use Rattle.cost_core.specs.Bridges.{bridge_cost}
 use Rattle.cost_core.specs.Least.{IsFirstLeast, NotAfter}
 use Rattle.cost_core.specs.Channels.{AreJoined, FadesJoin, HaveLengths, Part, PlacesAreWindows, channel, channel_cost, unless_cut, windows_cost}
 use Rattle.cost_core.specs.Fade.{cue_at}
-use Rattle.cost_core.specs.Faults.{HasRoom}
 use Rattle.trellis_core.specs.declared.bridging.Chosen.{Chosen}
 use Rattle.archive_core.specs.Cuts.{IsBridged, IsChosen, IsCutWhole}
 use Rattle.archive_core.specs.Masters.{IsBest, IsBestFront, channels_at, cost_of, costs_from, cue_bits, part_at, parts_of, source_of, total}
@@ -67,14 +65,8 @@ nothing_first levels cost e = record { is_least = record { long = sym e; least =
 cut_free : (n k : ℕ) → n ≡ 0 → 0 ≡ cond (eqb n 0) 0 k
 cut_free n k e = rw e refl
 
-not_cut : (n k : ℕ) → (n ≡ 0 → ⊥) → cond (eqb n 0) 0 k ≡ k
-not_cut n k h = rw (ne_eqb n 0 h) refl
-
 pub chosen_nothing : (p : Part) → p.bridging.levels ≡ 0 → IsChosen p (record { bits = []; cost = 0 })
 chosen_nothing p e = record { best = nothing_first p.bridging.levels (bridge_cost p.bridging) e; cost_is = cut_free p.bridging.levels (bridge_cost p.bridging []) e }
-
-pub chosen_by : (p : Part) (x : Chosen) → IsFirstLeastBridge p.bridging x.bits → x.cost ≡ bridge_cost p.bridging x.bits → (p.bridging.levels ≡ 0 → ⊥) → IsChosen p x
-chosen_by p x best e some = record { best = best; cost_is = e ∙ sym (not_cut p.bridging.levels (bridge_cost p.bridging x.bits) some) }
 
 pub bridged_by : (p : Part) (before after : List Bool) (x : Chosen) → IsChosen p x → after ≡ before ++ slice_range x.bits 0 (length x.bits) → IsBridged p before after x.cost
 bridged_by p before after x chosen more = record {
@@ -146,10 +138,6 @@ whole_length splice fine i e =
   where
     last_place : (n i : ℕ) → i + 1 ≡ n → n - 1 ≡ i
     last_place n i e = omega arith
-
--- the room of a fade in one channel is its room in each
-pub room_alike : (splice : SpliceContent) (i : ℕ) (a b : List Bool) → length a ≡ length b → HasRoom splice i a → HasRoom splice i b
-room_alike splice i a b e room = record { before = room.before; after = omega (arith, room.after) }
 
 -- ---- all channels
 pub range_more : (a n : ℕ) → range_with_len a (n + 1) ≡ range_with_len a n ++ (a + n) ∷ []

@@ -13,28 +13,11 @@ use Rattle.archive_core.specs.declared.form.Form.{Form}
 use Rattle.archive_core.specs.declared.opening.Opened.{Opened}
 use Rattle.archive_core.specs.Faults.{fault_of_file, fault_of_wave}
 use Rattle.archive_core.specs.Forms.{Holds}
-use Rattle.archive_core.specs.Opening.{Opens, opened_of}
+use Rattle.archive_core.specs.Opening.{Opens}
 use Rattle.archive_core.specs.Playing.{Answers, Plays, StandsFirst, pcm}
-use Rattle.archive_core.specs.Projects.{AnswersThis, DecimatorStandsFirst, SaysDecimator}
+use Rattle.archive_core.specs.Projects.{AnswersThis, SaysDecimator}
 
 -- ---- a project that is refused
-pub project_stands : (project file : List ℕ) (e : Fault) → DecimatorStandsFirst project e → StandsFirst project file e
-project_stands project file (Project f) h = h
-project_stands project file NoDecimation h = h
-project_stands project file NoSplice h = absurd h
-project_stands project file (FileUnread f) h = absurd h
-project_stands project file RateNotDivided h = absurd h
-project_stands project file TakeNumber h = absurd h
-project_stands project file (TakeUnread i f) h = absurd h
-project_stands project file (TakeMismatch i) h = absurd h
-project_stands project file (CueOutside i) h = absurd h
-project_stands project file MasterTooLong h = absurd h
-project_stands project file (NoRoomBefore i) h = absurd h
-project_stands project file (NoRoomAfter i) h = absurd h
-project_stands project file TooLarge h = absurd h
-project_stands project file NotWholeBytes h = absurd h
-project_stands project file Memory h = tt
-
 pub project_refused : (project file bytes : List ℕ) (e : Fault) → ((d : Decimator) → SaysDecimator project d → AnswersThis (λ (t : Decimator). t) (Err e) d) → Plays project file bytes → Answers (Err e) bytes
 project_refused project file bytes (Project f) h plays = h plays.decimator plays.project_says
 project_refused project file bytes NoDecimation h plays = h plays.decimator plays.project_says
@@ -53,12 +36,6 @@ project_refused project file bytes NotWholeBytes h plays = h plays.decimator pla
 project_refused project file bytes Memory h plays = tt
 
 -- ---- a file that is refused
-pub file_stands : (project file : List ℕ) (d : Decimator) (e : ReadFault) → SaysDecimator project d → Opens (Err e) (opened_of file) → StandsFirst project file (fault_of_file e)
-file_stands project file d reads.UnknownForm says h = record { decimator = d; project_says = says; reading = h }
-file_stands project file d (reads.Dsdiff fault) says h = record { decimator = d; project_says = says; reading = h }
-file_stands project file d (reads.Dsf fault) says h = record { decimator = d; project_says = says; reading = h }
-file_stands project file d reads.Memory says h = tt
-
 pub file_refused : (project file bytes : List ℕ) (e : ReadFault) → ((form : Form) (r : Content) → Holds file form r → Opens (Err e) (Ok (record { form = form; recording = r }))) → Plays project file bytes → Answers (Err (fault_of_file e)) bytes
 file_refused project file bytes reads.UnknownForm h plays = let e = h plays.form plays.recording plays.file_holds in absurd cc
 file_refused project file bytes (reads.Dsdiff fault) h plays = let e = h plays.form plays.recording plays.file_holds in absurd cc

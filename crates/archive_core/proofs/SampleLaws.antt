@@ -36,13 +36,6 @@ is_sample width z (inr e) = rw e (more z)
     more (pos n) = omega arith
     more (negsuc n) = omega arith
 
--- a rate that is divided by eight or more
-pub low_rate : (rate factor : ℕ) → rate ≤ 50000000 → 8 ≤ factor → rate / factor ≤ 6250000
-low_rate rate factor high low = grind arith
-
-pub some_rate : (rate factor : ℕ) → 1000000 ≤ rate → 8 ≤ factor → factor ≤ 1024 → 1 ≤ rate / factor
-some_rate rate factor high low few = grind arith
-
 -- ---- the file of all samples, by its parts
 module _ (r : Content) (d : Decimator) (shape : HasShape r) (law : PartsJoin) where
   abbrev number : ℕ

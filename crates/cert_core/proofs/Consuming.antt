@@ -1,5 +1,5 @@
 -- What was consumed so far, and what is left.
-use Rattle.std.proofs.Common.{◌≡◌, ℕ, ◌+◌, ◌*◌, ◌<◌, ◌≤◌, List, [], ◌∷◌, ◌++◌, Option, None, Some, Result, Ok, Err, IfSome, refl, sym, subst, length, arith}
+use Rattle.std.proofs.Common.{◌≡◌, ℕ, ◌*◌, List, [], ◌∷◌, ◌++◌, Option, None, Some, Result, Ok, Err, IfSome, refl, sym, subst, length, arith}
 use Rattle.std.proofs.lemmas.List.{length-append}
 use Rattle.std.specs.Int.{w64, to_be_bytes}
 use Rattle.std.specs.Result.{IsErrAnd}
@@ -8,7 +8,7 @@ use Rattle.cert_core.specs.Text.{row_text}
 use Rattle.cert_core.specs.declared.verdict.CertReason.{CertReason}
 use Rattle.cert_core.specs.declared.stop.Stop.{Stop}
 use Rattle.cert_core.specs.declared.stop.Stop.TheVariants.{Reason, Device, Memory}
-use Rattle.cert_core.specs.Stops.{CutBelow, OnReason}
+use Rattle.cert_core.specs.Stops.{OnReason}
 
 pub row_text-length : (row : List ℕ) → length (row_text row) ≡ 8 * length row
 row_text-length [] = refl
@@ -26,10 +26,6 @@ passes {A} B (Ok x) stop P Q e f p = tt
 passes {A} B (Err s) (Reason reason) P Q e f p = subst (λ x. OnReason {T = A} (Err x) Q) (sym e) (f reason p)
 passes {A} B (Err s) Device P Q e f p = subst (λ x. OnReason {T = A} (Err x) Q) (sym e) tt
 passes {A} B (Err s) Memory P Q e f p = subst (λ x. OnReason {T = A} (Err x) Q) (sym e) tt
-
-pub cut_before : (a b : Option (List ℕ)) (bs : List ℕ) (n m : ℕ) → Consumes a b bs → length bs + n ≤ m → (reason : CertReason) → CutBelow b n reason → CutBelow a m reason
-cut_before a b bs n m c h reason (is, short) =
-    (is, before (λ rest. length rest < n) (λ all. length all < m) a b bs c (λ rest k. omega (arith, length-append bs rest)) short)
 
 -- what holds of what was consumed and anything after it
 pub after : (Q : List ℕ → Type 0) (a b : Option (List ℕ)) (bs : List ℕ) → Consumes a b bs → ((rest : List ℕ) → Q (bs ++ rest)) → IfSome a Q

@@ -1,5 +1,5 @@
 -- An entry as a whole: its start, its rows and its end.
-use Rattle.std.proofs.Common.{◌≡◌, ℕ, ◌+◌, ◌^◌, ◌<◌, ◌≤◌, Bool, List, ◌++◌, Option, None, Some, Result, Ok, Err, IfOk, refl, sym, ap, ◌∙◌, subst, length, get_or, inl, inr, arith}
+use Rattle.std.proofs.Common.{◌≡◌, ℕ, ◌+◌, ◌^◌, ◌<◌, ◌≤◌, Bool, List, ◌++◌, Option, Result, Ok, Err, IfOk, refl, sym, ap, ◌∙◌, subst, length, get_or, inr, arith}
 use Rattle.std.specs.List.{flat_map}
 use Rattle.std.specs.Int.{w64, to_be_bytes}
 use Rattle.std.specs.Io.KnownBytes.{Consumes}
@@ -17,8 +17,8 @@ use Rattle.cert_core.specs.declared.verdict.CertReason.{CertReason}
 use Rattle.cert_core.specs.declared.verdict.CertReason.TheVariants.{Cut, Head, Length, Bound, Start, Step, End, Cost, Extra}
 use Rattle.cert_core.specs.declared.stop.Stop.{Stop}
 use Rattle.cert_core.specs.Text.{entry_start, cert_entry}
-use Rattle.cert_core.specs.Reasons.{AreClean, FaultInRow, EndReason, ReasonAfter, StartReason, FirstReason}
-use Rattle.cert_core.specs.Stops.{InRows, InStart, InEnd, InEntry, ReadsRows, RowsReason}
+use Rattle.cert_core.specs.Reasons.{AreClean, EndReason, ReasonAfter, FirstReason}
+use Rattle.cert_core.specs.Stops.{InEnd, InEntry, ReadsRows}
 use Rattle.cert_core.specs.Entries.{ReadsEntry}
 use Rattle.cert_core.proofs.Consuming.{before}
 
@@ -44,21 +44,6 @@ entry_read (Ok v) t cue channel found x a b c d last p (rows, consumed, clean, n
 pub entry_least : (d : Bridging) (cue channel : ℕ) (x : List Bool) (a b : Option (List ℕ)) → IsBridging d → length x ≡ d.levels → ReadsEntry (trellis_of d) cue channel x a b → IsLeastBridge d x
 entry_least d cue channel x a b fine long (entry, consumed, (rows, stated, table, valid, is)) = least_from_valid d (value_in rows) stated x fine long valid
 
-fault_after : (t : Trellis) (found : ℕ) (bytes : List ℕ) (reason : CertReason) → FaultInRow t bytes reason → ReasonAfter t found bytes reason
-fault_after t found bytes Bound w = w
-fault_after t found bytes Start w = w
-fault_after t found bytes (Step l q) w = w
-fault_after t found bytes Cut w = absurd w.7
-fault_after t found bytes Head w = absurd w.7
-fault_after t found bytes Length w = absurd w.7
-fault_after t found bytes (End q) w = absurd w.7
-fault_after t found bytes Cost w = absurd w.7
-fault_after t found bytes Extra w = absurd w.7
-
-rows_after : (t : Trellis) (found : ℕ) (bytes : List ℕ) (reason : CertReason) → RowsReason t bytes reason → ReasonAfter t found bytes reason
-rows_after t found bytes reason (inl (is, cut)) = subst (ReasonAfter t found bytes) (sym is) (inl cut)
-rows_after t found bytes reason (inr w) = fault_after t found bytes reason w
-
 end_after : (t : Trellis) (found : ℕ) (rows : List (List ℕ)) (bytes : List ℕ) → found < 2 ^ 64 → AreClean t rows → length rows ≡ t.levels + 1
     → (reason : CertReason) → EndReason t (row_in rows t.levels) found bytes reason → ReasonAfter t found (flat_map row_text rows ++ bytes) reason
 end_after t found rows bytes small clean n Cut w = inr (rows, bytes, record { is = refl; are_clean = clean }, n, w)
@@ -72,15 +57,6 @@ end_after t found rows bytes small clean n Bound w = absurd w
 end_after t found rows bytes small clean n Start w = absurd w
 end_after t found rows bytes small clean n (Step l q) w = absurd w
 end_after t found rows bytes small clean n Extra w = absurd w
-
-pub start_first : (t : Trellis) (cue channel found n : ℕ) (a : Option (List ℕ)) → n ≡ t.levels → (reason : CertReason) → InStart a cue channel n reason → InEntry t cue channel found a reason
-start_first t cue channel found n None e reason w = tt
-start_first t cue channel found n (Some bytes) e reason w = inl (subst (λ k. StartReason cue channel k bytes reason) e w)
-
-pub rows_first : (t : Trellis) (cue channel found : ℕ) (a b : Option (List ℕ)) → Consumes a b (entry_start cue channel t.levels) → (reason : CertReason) → InRows t b reason → InEntry t cue channel found a reason
-rows_first t cue channel found a b consumed reason w =
-    before (λ rest. RowsReason t rest reason) (λ bytes. FirstReason t cue channel found bytes reason) a b (entry_start cue channel t.levels) consumed
-    (λ rest k. inr (rest, refl, rows_after t found rest reason k)) w
 
 pub end_first : (t : Trellis) (cue channel found : ℕ) (a b c : Option (List ℕ)) (last : List ℕ) → found < 2 ^ 64 → Consumes a b (entry_start cue channel t.levels) → ReadsRows t b c last
     → (reason : CertReason) → InEnd t last found c reason → InEntry t cue channel found a reason

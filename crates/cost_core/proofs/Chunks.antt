@@ -1,10 +1,9 @@
 -- One more state, and eight more.
-use Rattle.std.proofs.Common.{[], ◌∷◌, min, ◌≡◌, ◌++◌, ℕ, ◌+◌, ◌*◌, ◌/◌, ◌<◌, ◌≤◌, ◌^◌, ◌%◌, ◌-◌, List, Bool, true, false, ltb, cond, length, take, drop, get_or, set, refl, ap, sym, subst, ◌∙◌, arith, zero, suc, inl, inr, ◌≢◌}
+use Rattle.std.proofs.Common.{[], ◌∷◌, min, ◌≡◌, ◌++◌, ℕ, ◌+◌, ◌*◌, ◌/◌, ◌<◌, ◌≤◌, ◌^◌, ◌%◌, List, Bool, true, false, ltb, cond, length, take, drop, get_or, set, refl, ap, sym, subst, ◌∙◌, arith, zero, suc, inl, inr, ◌≢◌}
 use Rattle.std.specs.Int.{bit_at}
 use Rattle.std.specs.Simd.{first_chunks}
 use Rattle.std.specs.Simd.Lanes.{zip2, Each1, mask_l, put_chunk}
-use Rattle.std.proofs.lemmas.List.{take_more, take_more_set, length-take-le, drop-drop, drop-take, take-take, take-append-drop, get_or-set_same, get_or-set_other, get_or-take, get_or-drop, length-drop, drop_all, append-nil}
-use borrow.Rule.Slice.PartMut.{put_mid}
+use Rattle.std.proofs.lemmas.List.{take_more, take_more_set, length-take-le, drop-drop, drop-take, take-take, take-append-drop, get_or-set_same, get_or-set_other, get_or-take, get_or-drop, length-drop}
 use Rattle.std.proofs.lemmas.Simd.{get_or-zip2, length-zip2, bit_mask_l, mask_l-lt, take_more_put_chunk, Each1-chunk}
 use Rattle.std.proofs.lemmas.Bool.{cases_lt, lt-ltb, le-ltb}
 use Rattle.std.proofs.Math.Pow.{pow_mono}
@@ -164,18 +163,3 @@ at_chunk ws xs i e l = ap (λ w. get_or w i []) e ∙ nth_chunk 8 (length xs / 8
 
 pub each_chunk : (P : ℕ → Type 0) (ws : List (List ℕ)) (xs : List ℕ) (i : ℕ) → ws ≡ first_chunks 8 (length xs / 8) xs → i < length xs / 8 → Each1 P xs → Each1 P (get_or ws i [])
 each_chunk P ws xs i e l all = subst (Each1 P) (sym (at_chunk ws xs i e l)) (Each1-chunk P (8 * i) 8 xs all)
-
-pub rest_of_least : (n : ℕ) (a u b v : List ℕ) → least (sums (drop n a) (drop n u)) (sums (drop n b) (drop n v)) ≡ drop n (least (sums a u) (sums b v))
-rest_of_least n a u b v = (λ z. least (sym (drop-zip2 (λ x y. x + y) n a u) z) (sym (drop-zip2 (λ x y. x + y) n b v) z)) ∙ sym (drop-zip2 (λ x y. min (cond (ltb y x) y x) (2 ^ 63)) n (sums a u) (sums b v))
-
-pub rest_of_seconds : (n : ℕ) (a u b v : List ℕ) → seconds (sums (drop n a) (drop n u)) (sums (drop n b) (drop n v)) ≡ drop n (seconds (sums a u) (sums b v))
-rest_of_seconds n a u b v = (λ z. seconds (sym (drop-zip2 (λ x y. x + y) n a u) z) (sym (drop-zip2 (λ x y. x + y) n b v) z)) ∙ sym (drop-zip2 (λ x y. ltb y x) n (sums a u) (sums b v))
-
--- the row whose end was written last
-pub row_ends : (row ls ys : List ℕ) (at : ℕ) → take at row ≡ take at ls → ys ≡ drop at ls → at ≤ length row → put_mid at (length row - at) row ys ≡ ls
-row_ends row ls ys at before is l =
-    ap (λ t. take at row ++ (ys ++ t)) (drop_all (length row - at) (drop at row) (omega (arith, length-drop at row))) ∙ ap (λ t. take at row ++ t) (append-nil ys)
-    ∙ (λ i. before i ++ is i) ∙ take-append-drop at ls
-
-pub at_rest : (rest xs : List ℕ) (n i : ℕ) → rest ≡ drop (length xs / 8 * 8) xs → length xs ≡ n → n / 8 ≡ i → rest ≡ drop (8 * i) xs
-at_rest rest xs n i e l d = e ∙ (let m : length xs / 8 * 8 ≡ 8 * i = omega arith in ap (λ j. drop j xs) m)

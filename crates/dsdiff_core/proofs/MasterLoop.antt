@@ -15,10 +15,6 @@ use Rattle.dsdiff_core.proofs.Steps.{step_fails}
 abbrev pub with_front : List Span → Result (List Span) DsdiffFault → Result (List Span) DsdiffFault
 with_front front found = found >>= λ rest. Ok (front ++ rest)
 
-pub front_of_none : (found : Result (List Span) DsdiffFault) → with_front [] found ≡ found
-front_of_none (Ok x) = refl
-front_of_none (Err e) = refl
-
 regroup : (front inner : List Span) (found : Result (List Span) DsdiffFault) → with_front front (found >>= λ rest. Ok (inner ++ rest)) ≡ with_front (front ++ inner) found
 regroup front inner (Ok r) = ap (λ (ds : List Span). Ok ds) (simp append_assoc)
 regroup front inner (Err f) = refl

@@ -3,7 +3,7 @@ use Rattle.std.proofs.Common.{◌≡◌, ℕ, zero, suc, ◌+◌, ◌-◌, ◌*�
 use Rattle.std.proofs.Math.Nat.{mul-le-mul_right}
 use Rattle.std.proofs.lemmas.Bool.{cases_lt}
 use Rattle.std.proofs.lemmas.Int.{to_z-of_z, fits_signed_from_abs}
-use Rattle.std.proofs.lemmas.List.{drop_all, get_or-drop, get_or-take, length-take-le, take_all}
+use Rattle.std.proofs.lemmas.List.{get_or-drop, get_or-take, length-take-le, take_all}
 use Rattle.std.proofs.lemmas.List.FromFn.{get_or-map-range_with_len, length-map-range_with_len}
 use Rattle.std.proofs.lemmas.Nat.{div-mul-add, mod-mul-add}
 use Rattle.fir_core.specs.Rows.{AreEntries, IsLaid, last_group, row_entry, rows, span_of}
@@ -79,15 +79,6 @@ part_is hs sums span bytes p i number laid reached last small =
           ∙ entry_value hs sums span bytes p (i + k) laid (omega arith) (omega arith) small;
     }
 
--- four of a part
-pub four_entries : (hs : List ℤ) (bytes : List ℕ) (p i number : ℕ) (row : List ℤ) (k : ℕ) → AreEntries hs bytes p i number row → k + 4 ≤ number → AreEntries hs bytes p (i + k) 4 (take 4 (drop k row))
-four_entries hs bytes p i number row k entries within = record {
-  long = length-take-le 4 (drop k row) (omega (arith, length-drop k row, entries.long));
-  each = λ j h.
-      let same : p + 1 - (i + (k + j)) ≡ p + 1 - ((i + k) + j) = omega arith in
-      get_or-take 4 (drop k row) j (pos 0) h ∙ get_or-drop k row j (pos 0) ∙ entries.each (k + j) (omega arith) ∙ ap (λ (n : ℕ). last_group hs n (get_or bytes p 0)) same;
-}
-
 -- an entry in a sum
 module _ (hs : List ℤ) (bytes : List ℕ) (p i : ℕ) (small : sum_by unsigned_abs hs ≤ 2 ^ 30) (within : p < length bytes) (entry s : ℤ) (is : entry ≡ last_group hs (p + 1 - i) (get_or bytes p 0)) (so_far : s ≡ window_sum (take (8 * (p - i)) hs) bytes i) where
   entry_back : to_z w32 (of_z w32 entry) ≡ entry
@@ -109,9 +100,6 @@ module _ (hs : List ℤ) (bytes : List ℕ) (p i : ℕ) (small : sum_by unsigned
 pub all_groups : (hs : List ℤ) (bytes : List ℕ) (m n i : ℕ) → length hs ≤ 8 * m → length hs ≤ 8 * n → window_sum (take (8 * m) hs) bytes i ≡ window_sum (take (8 * n) hs) bytes i
 all_groups hs bytes m n i l k = ap (λ xs. window_sum xs bytes i) (take_all (8 * m) hs l ∙ sym (take_all (8 * n) hs k))
 
-pub no_groups : (hs : List ℤ) (bytes : List ℕ) (m n i : ℕ) → m ≡ 0 → n ≡ 0 → window_sum (take (8 * m) hs) bytes i ≡ window_sum (take (8 * n) hs) bytes i
-no_groups hs bytes m n i e f = ap (λ (k : ℕ). window_sum (take (8 * k) hs) bytes i) (e ∙ sym f)
-
 -- ---- the rows from the tables
 pub last_is : (hs table : List ℤ) (number byte : ℕ) → IsTabled hs table → 1 ≤ number → number ≤ length hs / 8 → byte < 256 → get_or table (256 * (number - 1) + byte) (pos 0) ≡ last_group hs number byte
 last_is hs table number byte tabled some within small =
@@ -128,11 +116,6 @@ pub last_read : (hs table : List ℤ) (number byte : ℕ) → IsTabled hs table 
 last_read hs table number byte tabled some within small =
     let is = last_is hs table number byte tabled some within small in
     to_z-of_z w32 _ (fits_signed_from_abs w32 _ (rw is (omega (arith, last_small hs number byte tabled.small)))) ∙ is
-
-pub last_none : (hs : List ℤ) (number byte : ℕ) → length hs % 8 ≡ 0 → length hs / 8 < number → last_group hs number byte ≡ pos 0
-last_none hs number byte whole past =
-    let last : number ≡ suc (number - 1) = omega arith in
-    ap (λ (n : ℕ). last_group hs n byte) last ∙ ap (λ xs. dot (take 8 xs) (bits_of_byte byte)) (drop_all (8 * (number - 1)) hs (omega arith))
 
 pub is_laid : (hs table sums : List ℤ) → IsTabled hs table → sums ≡ rows hs (span_of hs) → IsLaid hs sums (span_of hs)
 is_laid hs table sums tabled made = record {

@@ -18,13 +18,6 @@ regroup : {B : Type 0} (front : List B) (y : B) (read : Result (List B) ProjectF
 regroup {B = B} front y (Ok ys) = ap (λ (zs : List B). Ok zs) (sym (append_assoc front (y ∷ []) ys))
 regroup front y (Err f) = refl
 
-pub each_begins : {A B : Type 0} (f : ℕ → A → Result B ProjectFault) (xs : List A) → with_front [] (each f 0 (drop 0 xs)) ≡ each f 0 xs
-each_begins f xs = begins (each f 0 xs)
-  where
-    begins : {B : Type 0} (read : Result (List B) ProjectFault) → with_front [] read ≡ read
-    begins (Ok ys) = refl
-    begins (Err f) = refl
-
 pub each_goes_on : {A B : Type 0} (f : ℕ → A → Result B ProjectFault) (front : List B) (xs : List A) (i : ℕ) (d x : A) (y : B) (total : Result (List B) ProjectFault) → i < length xs → x ≡ get_or xs i d → f i x ≡ Ok y
     → with_front front (each f i (drop i xs)) ≡ total → with_front (front ++ y ∷ []) (each f (i + 1) (drop (i + 1) xs)) ≡ total
 each_goes_on f front xs i d x y total lt is h so_far =
@@ -45,12 +38,6 @@ fails_at LastBridge f front i x xs h = rw h
 pub each_ends : {A B : Type 0} (e : ProjectFault) (f : ℕ → A → Result B ProjectFault) (front : List B) (xs : List A) (i : ℕ) (d x : A) (total : Result (List B) ProjectFault) → i < length xs → x ≡ get_or xs i d → Fails e (f i x)
     → with_front front (each f i (drop i xs)) ≡ total → Fails e total
 each_ends e f front xs i d x total lt is h so_far = rw (← so_far, drop-cons xs i d, ← is) (fails_at e f front i x (drop (suc i) xs) h)
-
-pub each_is_done : {A B : Type 0} (f : ℕ → A → Result B ProjectFault) (front : List B) (xs : List A) (i : ℕ) (total : Result (List B) ProjectFault) → length xs ≤ i → with_front front (each f i (drop i xs)) ≡ total → total ≡ Ok front
-each_is_done {B = B} f front xs i total le so_far =
-    let gone : drop i xs ≡ [] = drop_all i xs le in
-    let one : with_front front (each f i (drop i xs)) ≡ Ok front = rw gone (ap (λ (ys : List B). Ok ys) (append-nil front)) in
-    sym so_far ∙ one
 
 -- The same over the values of an array.
 abbrev pub values_left : {B : Type 0} → (ℕ → Data → Result B ProjectFault) → List B → ℕ → List Value → Result (List B) ProjectFault

@@ -1,5 +1,5 @@
 -- What a table says is read.
-use Rattle.std.proofs.Common.{◌≡◌, ℕ, ◌+◌, ◌≤◌, ◌<◌, ◌^◌, ℤ, pos, negsuc, true, List, [], ◌∷◌, map, Some, Result, Ok, refl, arith, sum_by, unsigned_abs}
+use Rattle.std.proofs.Common.{◌≡◌, ℕ, ◌+◌, ◌≤◌, ◌<◌, ◌^◌, ℤ, pos, negsuc, true, List, [], ◌∷◌, map, Result, Ok, refl, arith, sum_by, unsigned_abs}
 use Rattle.std.specs.List.{AllByRecursion, AllZip}
 use Rattle.std.proofs.lemmas.Bool.{lt-ltb}
 use Rattle.std.proofs.lemmas.List.Sums.{sum_by-cons}
@@ -7,7 +7,7 @@ use Rattle.toml.specs.Data.{Data, string, integer, table, Members}
 use Rattle.project_core.specs.declared.key.Key.{Key}
 use Rattle.project_core.specs.declared.fault.ProjectFault.{ProjectFault}
 use Rattle.project_core.specs.Tables.{FindsOnly, Has, number, numbers, texts}
-use Rattle.project_core.specs.Reading.{value_at, integer_of, text_of, table_of, below, limited_at, unsigned_at, fits_i32, signed_of, integers_of, narrow, integers_at, texts_of, texts_at}
+use Rattle.project_core.specs.Reading.{value_at, integer_of, text_of, table_of, limited_at, unsigned_at, fits_i32, signed_of, integers_of, narrow, integers_at, texts_of, texts_at}
 use Rattle.project_core.specs.Steps.{each}
 use Rattle.project_core.proofs.KeyLaws.{has_only_from}
 use Rattle.project_core.proofs.TableLaws.{list_of-items_of}
@@ -19,9 +19,6 @@ table_again key keys t h = rw (has_only_from keys t h)
 pub value_again : (key : Key) (t : Members) (d : Data) → Has t key d → value_at key t ≡ Ok d
 unfolding value_at
 value_again key t d h = rw h
-
-pub below_again : (bound n : ℕ) → n < bound → below bound (pos n) ≡ Some n
-below_again bound n h = rw (lt-ltb n bound h)
 
 pub limited_again : (key : Key) (limit : ℕ) (t : Members) (n : ℕ) → Has t key (number n) → n ≤ limit → limited_at key limit t ≡ Ok n
 unfolding limited_at

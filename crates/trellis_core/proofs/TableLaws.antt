@@ -50,10 +50,6 @@ traced_step t (suc i) q bits whole h e =
     let n : suc i - 1 ≡ i = omega arith in
     rw (n, append_assoc) e
 
-pub traced_end : (t : Trellis) (q : ℕ) → traced t 0 q ≡ []
-unfolding traced
-traced_end t q = refl
-
 -- the end state
 pub stride_is : (w n : ℕ) → n ≤ w → 2 ^ w / 2 ^ n ≡ 2 ^ (w - n)
 stride_is w n h =

@@ -1,11 +1,15 @@
 //! The files, cuts and certificates that several examples are built of.
 
 use archive_core::{Edited, Fault, Form, edit};
-use chunk_core::push_chunk;
-use fixtures::files::{FILE, MONO, RATE, RAW, STEREO, dsf_of, file_of, marked, mono};
+use fixtures::files::{FILE, MONO, RATE, RAW, STEREO, dsf_of, file_of, marked, marked_with, mono};
 use fixtures::projects::SPLICE;
 use std::alloc::{AllocError, Global};
 use std::fmt::Write;
+
+/// Whether these are the expected bytes.
+pub(crate) fn equal(bytes: &[u8], expected: &[u8]) -> bool {
+    bytes == expected
+}
 
 /// Whether a fault has this name.
 pub(crate) fn is_named(alloc: Global, fault: Fault, expected: &str) -> Result<bool, AllocError> {
@@ -54,10 +58,7 @@ pub(crate) fn cut_off(alloc: Global) -> Result<Vec<u8>, AllocError> {
 /// `one`.
 pub(crate) fn titled(alloc: Global) -> Result<Vec<u8>, AllocError> {
     let fields = *b"\0\0\0\0\0\0\0\x09\0\0\0\0\0\0\0\0\0\0\0\0\0\x03one";
-    let mut mark = Vec::new(alloc);
-    push_chunk(&mut mark, *b"MARK", &fields)?;
-    let mut master = Vec::new(alloc);
-    push_chunk(&mut master, *b"DIIN", &mark)?;
+    let master = marked_with(alloc, &fields)?;
     file_of(alloc, &[&RATE, &MONO, &RAW], &[0xff, 0], &master)
 }
 
@@ -66,6 +67,49 @@ pub(crate) type CueNumbers = (usize, usize, usize, usize);
 
 /// The cue of the first 8 bits of take 0 and the cue of take 1 behind it, with a bridge of one bit.
 pub(crate) const CUES: [CueNumbers; 2] = [(0, 0, 8, 1), (1, 2, 9, 0)];
+
+/// A cut: its name, weights, cues, the sound that is cut, and its cost. A bridge of one bit between ones and
+/// zeros has the targets 0 and -2 times the sum of the weights; all numbers are times 2. By the weights 1 and
+/// 1 the bit 0 meets both: it costs 0. By 1 and 0 either bit is 2 off, which costs 4, and of both the 0 is
+/// taken. A bridge of two bits by 1 and 0, times 3, has the targets 1 and -1: the bits 1 and 0 are 2 off each,
+/// 8 in all. A plain cut costs nothing.
+pub(crate) const CUTS: [(&str, &str, &[CueNumbers], [u8; 2], u128); 5] = [
+    (
+        "one bit",
+        "1, 1",
+        &[(0, 0, 8, 1), (1, 2, 9, 0)],
+        [0xff, 0x00],
+        0,
+    ),
+    (
+        "one bit by the newest",
+        "1, 0",
+        &[(0, 0, 8, 1), (1, 2, 9, 0)],
+        [0xff, 0x00],
+        4,
+    ),
+    (
+        "two bits",
+        "1, 0",
+        &[(0, 0, 8, 2), (1, 3, 9, 0)],
+        [0xff, 0x80],
+        8,
+    ),
+    (
+        "there and back",
+        "1, 1",
+        &[(0, 0, 8, 1), (1, 2, 3, 1), (0, 2, 7, 0)],
+        [0xff, 0x3f],
+        0,
+    ),
+    (
+        "a plain cut",
+        "1, 1",
+        &[(0, 0, 8, 0), (1, 0, 8, 0)],
+        [0xff, 0x00],
+        0,
+    ),
+];
 
 /// A project of these weights and cues, whose takes are `a.dff` and `b.dff`.
 pub(crate) fn splice(
@@ -76,20 +120,26 @@ pub(crate) fn splice(
     let mut text = format!(in alloc;
         "[splice]\nweights = [{weights}]\ntakes = [\"a.dff\", \"b.dff\"]\n"
     )?;
-    for (take, start, stop, bridge) in cues {
-        write!(
-            text,
-            "[[splice.cue]]\ntake = {take}\nstart = {start}\nstop = {stop}\nbridge = {bridge}\n"
-        )?;
+    for cue in cues {
+        push_cue(&mut text, *cue)?;
     }
     Ok(text)
+}
+
+// Puts a cue behind a project's text.
+fn push_cue(text: &mut String, (take, start, stop, bridge): CueNumbers) -> Result<(), AllocError> {
+    write!(
+        text,
+        "[[splice.cue]]\ntake = {take}\nstart = {start}\nstop = {stop}\nbridge = {bridge}\n"
+    )?;
+    Ok(())
 }
 
 /// The text of a project and the files of its takes.
 #[derive(Drop)]
 pub(crate) struct Sources {
     pub(crate) text: String,
-    pub(crate) takes: Vec<Vec<u8>>,
+    pub(crate) takes: [Vec<u8>; 2],
 }
 
 impl Sources {
@@ -101,16 +151,14 @@ impl Sources {
 
 /// A project with these two files as its takes.
 pub(crate) fn sources_of(
-    alloc: Global,
     text: Result<String, AllocError>,
     first: Result<Vec<u8>, AllocError>,
     second: Result<Vec<u8>, AllocError>,
 ) -> Result<Sources, AllocError> {
-    let text = text?;
-    let mut takes = Vec::new(alloc);
-    takes.push(first?)?;
-    takes.push(second?)?;
-    Ok(Sources { text, takes })
+    Ok(Sources {
+        text: text?,
+        takes: [first?, second?],
+    })
 }
 
 /// A project of these weights and cues, with a take of 16 ones and a take of 16 zeros.
@@ -120,24 +168,19 @@ pub(crate) fn mono_sources(
     cues: &[CueNumbers],
 ) -> Result<Sources, AllocError> {
     let text = splice(alloc, weights, cues);
-    sources_of(alloc, text, mono(alloc, &[0xff; 2]), mono(alloc, &[0; 2]))
+    sources_of(text, mono(alloc, &[0xff; 2]), mono(alloc, &[0; 2]))
 }
 
 /// The project `SPLICE` with the same takes.
 pub(crate) fn titled_sources(alloc: Global) -> Result<Sources, AllocError> {
     let text: Result<_, _> = String::from_str(alloc, SPLICE);
-    sources_of(alloc, text, mono(alloc, &[0xff; 2]), mono(alloc, &[0; 2]))
+    sources_of(text, mono(alloc, &[0xff; 2]), mono(alloc, &[0; 2]))
 }
 
 /// The project of `CUES` by the weights 1 and 0, with takes of two channels of 16 ones and of 16 zeros.
 pub(crate) fn stereo_sources(alloc: Global) -> Result<Sources, AllocError> {
     let text = splice(alloc, "1, 0", &CUES);
-    sources_of(
-        alloc,
-        text,
-        stereo(alloc, &[0xff; 4]),
-        stereo(alloc, &[0; 4]),
-    )
+    sources_of(text, stereo(alloc, &[0xff; 4]), stereo(alloc, &[0; 4]))
 }
 
 /// The bytes with another one at a place.

@@ -1,7 +1,7 @@
 //! The certificates of small masters, number by number.
 
-use crate::builders::{CUES, CueNumbers, Sources, mono_sources, stereo_sources};
-use archive_core::Form;
+use crate::builders::{CUES, CueNumbers, Sources, equal, mono_sources, stereo_sources};
+use archive_core::{Fault, Form};
 use chunk_core::{Order, push_u16, push_u64};
 use std::alloc::{AllocError, Global};
 use std::test::Fail;
@@ -10,11 +10,10 @@ use std::test::Fail;
 fn certifies(
     alloc: Global,
     sources: Result<Sources, AllocError>,
-    cert: Result<Vec<u8>, AllocError>,
-) -> Result<bool, Fail> {
-    let cert = cert?;
+    cert: &[u8],
+) -> Result<bool, Fault> {
     let made = sources?.edit(alloc, Form::Dsdiff)?;
-    Ok(made.cert.as_slice() == cert.as_slice())
+    Ok(equal(&made.cert, cert))
 }
 
 // The certificate of one bridge of one bit between ones and zeros, by the weights 1 and 0: version 1, two
@@ -28,8 +27,7 @@ const CERT: [u8; 58] = *b"DSPC\0\x01\0\x02\0\0\0\x01\0\0\0\0\0\x01\
 #[test]
 fn certifies_a_bridge(rt: HostRuntime) -> Result<(), Fail> {
     let alloc = rt.alloc();
-    let cert: Result<_, _> = Vec::from_slice(alloc, &CERT);
-    assert!(rt; certifies(alloc, mono_sources(alloc, "1, 0", &CUES), cert)?);
+    assert!(rt; certifies(alloc, mono_sources(alloc, "1, 0", &CUES), &CERT)?);
     Ok(())
 }
 
@@ -64,17 +62,37 @@ pub(crate) fn cert_of(alloc: Global, entries: &[EntryNumbers]) -> Result<Vec<u8>
     Ok(bytes)
 }
 
-// There, and there and back; a plain cut has no entry.
+// Whether what is cut is certified by these entries.
+fn certifies_entries(
+    alloc: Global,
+    sources: Result<Sources, AllocError>,
+    entries: &[EntryNumbers],
+) -> Result<bool, Fault> {
+    let cert = cert_of(alloc, entries)?;
+    certifies(alloc, sources, &cert)
+}
+
+// The cues of bridges there, there and back, and of a plain cut, which has no entry.
+const CERTIFIED: [(&[CueNumbers], &[EntryNumbers]); 3] = [
+    (&[(0, 0, 8, 1), (1, 2, 9, 0)], &[(0, 0, FALLING)]),
+    (
+        &[(0, 0, 8, 1), (1, 2, 3, 1), (0, 2, 7, 0)],
+        &[(0, 0, FALLING), (1, 0, RISING)],
+    ),
+    (&[(0, 0, 8, 0), (1, 0, 8, 0)], &[]),
+];
+
 #[test]
 fn certifies_each_bridge(rt: HostRuntime) -> Result<(), Fail> {
     let alloc = rt.alloc();
-    let there = cert_of(alloc, &[(0, 0, FALLING)]);
-    assert!(rt; certifies(alloc, mono_sources(alloc, "1, 1", &CUES), there)?);
-    let both = mono_sources(alloc, "1, 1", &[(0, 0, 8, 1), (1, 2, 3, 1), (0, 2, 7, 0)]);
-    let back = cert_of(alloc, &[(0, 0, FALLING), (1, 0, RISING)]);
-    assert!(rt; certifies(alloc, both, back)?);
-    let plain = mono_sources(alloc, "1, 1", &[(0, 0, 8, 0), (1, 0, 8, 0)]);
-    assert!(rt; certifies(alloc, plain, cert_of(alloc, &[]))?);
+    for (cues, entries) in &CERTIFIED {
+        let number = entries.len();
+        let sources = mono_sources(alloc, "1, 1", cues);
+        assert!(rt;
+            certifies_entries(alloc, sources, entries)?,
+            "{number} entries"
+        );
+    }
     Ok(())
 }
 
@@ -84,6 +102,6 @@ fn certifies_each_channel(rt: HostRuntime) -> Result<(), Fail> {
     let alloc = rt.alloc();
     let entries = [(0, 0, LEVEL), (0, 1, LEVEL)];
     assert!(rt; cert_of(alloc, &entries)?.len() == 104);
-    assert!(rt; certifies(alloc, stereo_sources(alloc), cert_of(alloc, &entries))?);
+    assert!(rt; certifies_entries(alloc, stereo_sources(alloc), &entries)?);
     Ok(())
 }

@@ -1,7 +1,7 @@
 //! Masters accepted with their certificates, and which other certificates show the same.
 
 use crate::builders::{
-    CUES, CueNumbers, Sources, mono_sources, stereo_sources, titled_sources, with_byte,
+    CUES, CUTS, CueNumbers, Sources, mono_sources, stereo_sources, titled_sources, with_byte,
 };
 use archive_core::{Edited, Fault, Form, Verdict, check};
 use std::alloc::{AllocError, Global};
@@ -16,28 +16,22 @@ fn accepts(
 ) -> Result<bool, Fault> {
     let sources = sources?;
     let made = sources.edit(alloc, form)?;
-    Ok(verdict(alloc, &sources, &made, &made.cert)? == Verdict::Accepted { total })
+    Ok(cost(alloc, &sources, &made, &made.cert)? == Some(total))
 }
 
-// The verdict on the master that was cut and this certificate.
-fn verdict(alloc: Global, sources: &Sources, made: &Edited, cert: &[u8]) -> Result<Verdict, Fault> {
-    check(
-        alloc,
-        sources.text.as_bytes(),
-        &sources.takes,
-        &made.master,
-        cert,
-    )
+// At which cost the master that was cut is accepted with this certificate, if it is.
+fn cost(
+    alloc: Global,
+    sources: &Sources,
+    made: &Edited,
+    cert: &[u8],
+) -> Result<Option<u128>, Fault> {
+    let text = sources.text.as_bytes();
+    match check(alloc, text, &sources.takes, &made.master, cert)? {
+        Verdict::Accepted { total } => Ok(Some(total)),
+        Verdict::Rejected(_) => Ok(None),
+    }
 }
-
-// Weights and cues, and what their bridges cost, which is worked out where masters are cut.
-const ACCEPTED: [(&str, &[CueNumbers], u128); 5] = [
-    ("1, 1", &[(0, 0, 8, 1), (1, 2, 9, 0)], 0),
-    ("1, 0", &[(0, 0, 8, 1), (1, 2, 9, 0)], 4),
-    ("1, 0", &[(0, 0, 8, 2), (1, 3, 9, 0)], 8),
-    ("1, 1", &[(0, 0, 8, 1), (1, 2, 3, 1), (0, 2, 7, 0)], 0),
-    ("1, 1", &[(0, 0, 8, 0), (1, 0, 8, 0)], 0),
-];
 
 // Whether what these weights and cues cut is accepted at this cost, as DSDIFF and as DSF.
 fn accepts_cues(
@@ -52,14 +46,12 @@ fn accepts_cues(
     Ok(accepts(alloc, sources, Form::Dsdiff, total)? && least)
 }
 
+// The costs are worked out where these masters are cut.
 #[test]
 fn accepts_what_was_cut(rt: HostRuntime) -> Result<(), Fail> {
     let alloc = rt.alloc();
-    for (weights, cues, total) in &ACCEPTED {
-        assert!(rt;
-            accepts_cues(alloc, weights, cues, *total)?,
-            "{weights} {cues:?}"
-        );
+    for (case, weights, cues, _, total) in &CUTS {
+        assert!(rt; accepts_cues(alloc, weights, cues, *total)?, "{case}");
     }
     Ok(())
 }
@@ -84,8 +76,7 @@ fn accepts_flipped(
 ) -> Result<bool, Fault> {
     let byte = made.cert.get(place).copied().unwrap_or(0);
     let cert = with_byte(alloc, &made.cert, place, byte ^ bits)?;
-    let verdict = verdict(alloc, sources, made, &cert)?;
-    Ok(matches!(verdict, Verdict::Accepted { .. }))
+    Ok(cost(alloc, sources, made, &cert)?.is_some())
 }
 
 // Whether of all certificates that differ from a master's in one bit, just those with a bit of the list
@@ -98,11 +89,25 @@ fn accepts_just(
     let sources = sources?;
     let made = sources.edit(alloc, Form::Dsdiff)?;
     for place in 0..made.cert.len() {
-        for bit in [1, 2, 4, 8, 16, 32, 64, 128] {
-            let accepted = accepts_flipped(alloc, &sources, &made, (place, bit))?;
-            if accepted != bits.contains(&(place, bit)) {
-                return Ok(false);
-            }
+        if !accepts_just_at(alloc, &sources, &made, place, bits)? {
+            return Ok(false);
+        }
+    }
+    Ok(true)
+}
+
+// The same of the bits of one byte.
+fn accepts_just_at(
+    alloc: Global,
+    sources: &Sources,
+    made: &Edited,
+    place: usize,
+    bits: &[(usize, u8)],
+) -> Result<bool, Fault> {
+    for bit in &[1, 2, 4, 8, 16, 32, 64, 128] {
+        let accepted = accepts_flipped(alloc, sources, made, (place, *bit))?;
+        if accepted != bits.contains(&(place, *bit)) {
+            return Ok(false);
         }
     }
     Ok(true)

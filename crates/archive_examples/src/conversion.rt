@@ -1,6 +1,6 @@
 //! Recordings written in each form, and how many of their parts have no place there.
 
-use crate::builders::{file_in, is_named};
+use crate::builders::{equal, file_in, is_named};
 use archive_core::{Fault, Form, convert};
 use chunk_core::push_chunk;
 use fixtures::files::{MONO, RATE, RAW, dsf_of, file_of, marked};
@@ -15,10 +15,19 @@ fn converts(
     to: Result<Vec<u8>, AllocError>,
     dropped: u64,
 ) -> Result<bool, Fault> {
-    let from = from?;
-    let to = to?;
-    let made = convert(alloc, &from, form)?;
-    Ok(made.bytes.as_slice() == to.as_slice() && made.dropped == dropped)
+    converts_file(alloc, &from?, form, &to?, dropped)
+}
+
+// The same of files that were built.
+fn converts_file(
+    alloc: Global,
+    from: &[u8],
+    form: Form,
+    to: &[u8],
+    dropped: u64,
+) -> Result<bool, Fault> {
+    let made = convert(alloc, from, form)?;
+    Ok(equal(&made.bytes, to) && made.dropped == dropped)
 }
 
 // Each form to each form.

@@ -1,7 +1,7 @@
 //! Small masters cut from two takes, what their bridges cost, and the fault that comes first.
 
 use crate::builders::{
-    CUES, CueNumbers, Sources, cut_off, fast, is_named, mono_sources, sources_of, stereo,
+    CUTS, CueNumbers, Sources, cut_off, equal, fast, is_named, mono_sources, sources_of, stereo,
     stereo_sources, titled, titled_sources,
 };
 use archive_core::{Fault, Form, edit};
@@ -18,38 +18,30 @@ fn cuts(
     master: Result<Vec<u8>, AllocError>,
     total: u128,
 ) -> Result<bool, Fault> {
-    let master = master?;
-    let made = sources?.edit(alloc, form)?;
-    Ok(made.master.as_slice() == master.as_slice() && made.total == total)
+    cuts_file(alloc, &sources?, form, &master?, total)
 }
 
-// Weights, cues, the sound that is cut, and its cost. A bridge of one bit between ones and zeros has the
-// targets 0 and -2 times the sum of the weights; all numbers are times 2. By the weights 1 and 1 the bit 0
-// meets both: it costs 0. By 1 and 0 either bit is 2 off, which costs 4, and of both the 0 is taken. A
-// bridge of two bits by 1 and 0, times 3, has the targets 1 and -1: the bits 1 and 0 are 2 off each, 8 in
-// all. A plain cut costs nothing.
-const CUTS: [(&str, &[CueNumbers], [u8; 2], u128); 5] = [
-    ("1, 1", &[(0, 0, 8, 1), (1, 2, 9, 0)], [0xff, 0x00], 0),
-    ("1, 0", &[(0, 0, 8, 1), (1, 2, 9, 0)], [0xff, 0x00], 4),
-    ("1, 0", &[(0, 0, 8, 2), (1, 3, 9, 0)], [0xff, 0x80], 8),
-    (
-        "1, 1",
-        &[(0, 0, 8, 1), (1, 2, 3, 1), (0, 2, 7, 0)],
-        [0xff, 0x3f],
-        0,
-    ),
-    ("1, 1", &[(0, 0, 8, 0), (1, 0, 8, 0)], [0xff, 0x00], 0),
-];
+// The same of sources and a file that were built.
+fn cuts_file(
+    alloc: Global,
+    sources: &Sources,
+    form: Form,
+    master: &[u8],
+    total: u128,
+) -> Result<bool, Fault> {
+    let made = sources.edit(alloc, form)?;
+    Ok(equal(&made.master, master) && made.total == total)
+}
 
 #[test]
 fn cuts_masters(rt: HostRuntime) -> Result<(), Fail> {
     let alloc = rt.alloc();
-    for (weights, cues, sound, total) in &CUTS {
+    for (case, weights, cues, sound, total) in &CUTS {
         let sources = mono_sources(alloc, weights, cues);
         let master = mono(alloc, sound);
         assert!(rt;
             cuts(alloc, sources, Form::Dsdiff, master, *total)?,
-            "{weights} {cues:?}"
+            "{case}"
         );
     }
     Ok(())
@@ -127,15 +119,14 @@ fn is_take_refused(
     let text: Result<_, _> = String::from_str(alloc, SPLICE);
     is_refused(
         alloc,
-        sources_of(alloc, text, mono(alloc, &[0xff; 2]), other),
+        sources_of(text, mono(alloc, &[0xff; 2]), other),
         expected,
     )
 }
 
 // Whether a cut of the take of ones alone is refused for this fault.
 fn is_alone_refused(alloc: Global, text: &str, expected: &str) -> Result<bool, AllocError> {
-    let ones = mono(alloc, &[0xff; 2])?;
-    let takes = vec![in alloc; ones]?;
+    let takes = [mono(alloc, &[0xff; 2])?];
     match edit(alloc, text.as_bytes(), &takes, Form::Dsdiff) {
         Ok(_) => Ok(false),
         Err(fault) => is_named(alloc, fault, expected),

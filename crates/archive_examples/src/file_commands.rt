@@ -94,14 +94,8 @@ const PLAYED: [(&str, &str, &str); 4] = [
     ("p.toml", "p.toml", "fault: FileUnread UnknownForm"),
 ];
 
-// The same of a file that is converted or told of.
-const READ: [(&str, &str); 2] = [
-    ("none", "fault: ReadFailed"),
-    ("p.toml", "fault: FileUnread UnknownForm"),
-];
-
 #[test]
-fn refuses_and_creates_nothing(rt: HostRuntime) -> Result<(), Fail> {
+fn plays_nothing_else_and_creates_nothing(rt: HostRuntime) -> Result<(), Fail> {
     let alloc = rt.alloc();
     for (project, input, line) in &PLAYED {
         let task = playing(project, input);
@@ -110,61 +104,72 @@ fn refuses_and_creates_nothing(rt: HostRuntime) -> Result<(), Fail> {
             "{project} {input}"
         );
     }
-    for (input, line) in &READ {
-        let task = converting(Form::Dsf, input, "out");
-        assert!(rt;
-            is_refused(alloc, folder(alloc), task, line)?,
-            "convert {input}"
-        );
-        let task = Task::Info { file: input };
-        assert!(rt;
-            is_refused(alloc, folder(alloc), task, line)?,
-            "info {input}"
-        );
-    }
+    Ok(())
+}
+
+// Whether a file is neither converted nor told of, for this fault.
+fn is_unread(alloc: Global, input: &str, line: &str) -> Result<bool, AllocError> {
+    let task = converting(Form::Dsf, input, "out");
+    let converted = is_refused(alloc, folder(alloc), task, line)?;
+    Ok(converted && is_refused(alloc, folder(alloc), Task::Info { file: input }, line)?)
+}
+
+#[test]
+fn reads_nothing_else_and_creates_nothing(rt: HostRuntime) -> Result<(), Fail> {
+    let alloc = rt.alloc();
+    assert!(rt; is_unread(alloc, "none", "fault: ReadFailed")?);
+    assert!(rt; is_unread(alloc, "p.toml", "fault: FileUnread UnknownForm")?);
     Ok(())
 }
 
 // What fails, what is printed, and what the folder is asked for, and no more. A file that was created is
 // kept, whether it was written or not.
-const PLAYS: [(Option<Failure>, &str, &str); 8] = [
+const PLAYS: [(&str, Option<Failure>, &str, &str); 8] = [
     (
+        "nothing",
         None,
         "played 46 bytes",
         "open p.toml\nopen in.dff\ncreate out\nkeep out\n",
     ),
     (
-        Some(Failure::Open("p.toml")),
+        "opening the project",
+        Some(Failure::At("open", "p.toml")),
         "fault: ReadFailed",
         "open p.toml\n",
     ),
     (
-        Some(Failure::Read("p.toml")),
+        "reading the project",
+        Some(Failure::At("read", "p.toml")),
         "fault: ReadFailed",
         "open p.toml\n",
     ),
     (
-        Some(Failure::Open("in.dff")),
+        "opening the input",
+        Some(Failure::At("open", "in.dff")),
         "fault: ReadFailed",
         "open p.toml\nopen in.dff\n",
     ),
     (
-        Some(Failure::Read("in.dff")),
+        "reading the input",
+        Some(Failure::At("read", "in.dff")),
         "fault: ReadFailed",
         "open p.toml\nopen in.dff\n",
     ),
     (
-        Some(Failure::Create("out")),
+        "creating the output",
+        Some(Failure::At("create", "out")),
         "fault: WriteFailed",
         "open p.toml\nopen in.dff\ncreate out\n",
     ),
     (
+        "writing the output",
         Some(Failure::Write(0)),
         "fault: WriteFailed",
         "open p.toml\nopen in.dff\ncreate out\nkeep out\n",
     ),
     (
-        Some(Failure::Keep("out")),
+        "keeping the output",
+        Some(Failure::At("keep", "out")),
         "fault: WriteFailed",
         "open p.toml\nopen in.dff\ncreate out\nkeep out\n",
     ),
@@ -173,11 +178,11 @@ const PLAYS: [(Option<Failure>, &str, &str); 8] = [
 #[test]
 fn asks_for_files_in_order(rt: HostRuntime) -> Result<(), Fail> {
     let alloc = rt.alloc();
-    for (failure, line, calls) in &PLAYS {
+    for (case, failure, line, calls) in &PLAYS {
         let task = playing("p.toml", "in.dff");
         assert!(rt;
             asks(alloc, folder(alloc), *failure, task, (line, calls))?,
-            "{failure:?}"
+            "{case} fails"
         );
     }
     Ok(())

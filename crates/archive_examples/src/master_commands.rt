@@ -33,10 +33,20 @@ fn folder_with(
     second: Result<Vec<u8>, AllocError>,
 ) -> Result<MemoryFolder, AllocError> {
     let mut folder = MemoryFolder::new(alloc);
-    folder.put("e.toml", project.as_bytes())?;
-    put_built(&mut folder, "a.dff", mono(alloc, &[0xff; 2]))?;
-    put_built(&mut folder, "b.dff", second)?;
+    put_sources(alloc, &mut folder, project, &second?)?;
     Ok(folder)
+}
+
+// Puts this project, a take of ones and this second take.
+fn put_sources(
+    alloc: Global,
+    folder: &mut MemoryFolder,
+    project: &str,
+    second: &[u8],
+) -> Result<(), AllocError> {
+    folder.put("e.toml", project.as_bytes())?;
+    folder.put("b.dff", second)?;
+    put_built(folder, "a.dff", mono(alloc, &[0xff; 2]))
 }
 
 // Puts a file that was built under a name.
@@ -80,11 +90,23 @@ fn cuts_and_accepts(
     (line, accepted): (&str, &str),
 ) -> Result<bool, AllocError> {
     let mut folder = folder_by(alloc, weights, &CUES)?;
-    let cut = comes_to(alloc, &mut folder, CUT, 0, line)?;
-    let master = holds_built(&folder, "m.dff", mono(alloc, &[0xff, 0]))?;
-    let cert = holds_built(&folder, "c.cert", cert_of(alloc, &[(0, 0, numbers)]))?;
+    let cut = cuts_here(alloc, &mut folder, numbers, line)?;
     let checked = comes_to(alloc, &mut folder, CHECK, 0, accepted)?;
-    Ok(cut && master && cert && checked && folder.count() == 5)
+    Ok(cut && checked && folder.count() == 5)
+}
+
+// Whether the cut of the folder comes to this line and is ff, 00, with a certificate of one entry of these
+// numbers.
+fn cuts_here(
+    alloc: Global,
+    folder: &mut MemoryFolder,
+    numbers: [u64; 5],
+    line: &str,
+) -> Result<bool, AllocError> {
+    let cut = comes_to(alloc, folder, CUT, 0, line)?;
+    let master = holds_built(folder, "m.dff", mono(alloc, &[0xff, 0]))?;
+    let cert = holds_built(folder, "c.cert", cert_of(alloc, &[(0, 0, numbers)]))?;
+    Ok(cut && master && cert)
 }
 
 #[test]
@@ -97,19 +119,25 @@ fn cuts_a_master_and_accepts_it(rt: HostRuntime) -> Result<(), Fail> {
     Ok(())
 }
 
+// Cutting the master to the file that its certificate is written to behind it.
+const CUT_TO_ONE: Task = Task::Edit {
+    form: Form::Dsdiff,
+    project: "e.toml",
+    master: "m",
+    cert: "m",
+};
+
+// Whether the one file is the certificate then.
+fn keeps_the_certificate(alloc: Global) -> Result<bool, AllocError> {
+    let mut folder = folder_by(alloc, "1, 0", &CUES)?;
+    let cut = comes_to(alloc, &mut folder, CUT_TO_ONE, 0, "edited total 4")?;
+    let cert = holds_built(&folder, "m", cert_of(alloc, &[(0, 0, LEVEL)]))?;
+    Ok(cut && cert && folder.count() == 4)
+}
+
 #[test]
 fn keeps_the_certificate_under_one_name_for_both(rt: HostRuntime) -> Result<(), Fail> {
-    let alloc = rt.alloc();
-    let mut folder = folder_by(alloc, "1, 0", &CUES)?;
-    let task = Task::Edit {
-        form: Form::Dsdiff,
-        project: "e.toml",
-        master: "m",
-        cert: "m",
-    };
-    assert!(rt; comes_to(alloc, &mut folder, task, 0, "edited total 4")?);
-    assert!(rt; holds_built(&folder, "m", cert_of(alloc, &[(0, 0, LEVEL)]))?);
-    assert!(rt; folder.count() == 4);
+    assert!(rt; keeps_the_certificate(rt.alloc())?);
     Ok(())
 }
 
@@ -121,16 +149,26 @@ fn cuts_in(
     told: &str,
 ) -> Result<bool, AllocError> {
     let mut folder = folder_of(alloc, SPLICE)?;
+    cuts_to(alloc, &mut folder, form, &made?, told)
+}
+
+// The same of a folder and a file that were built.
+fn cuts_to(
+    alloc: Global,
+    folder: &mut MemoryFolder,
+    form: Form,
+    made: &[u8],
+    told: &str,
+) -> Result<bool, AllocError> {
     let task = Task::Edit {
         form,
         project: "e.toml",
         master: "m",
         cert: "c.cert",
     };
-    let cut = comes_to(alloc, &mut folder, task, 0, "edited total 0")?;
-    let master = holds_built(&folder, "m", made)?;
-    let info = comes_to(alloc, &mut folder, Task::Info { file: "m" }, 0, told)?;
-    Ok(cut && master && info)
+    let cut = comes_to(alloc, folder, task, 0, "edited total 0")?;
+    let info = comes_to(alloc, folder, Task::Info { file: "m" }, 0, told)?;
+    Ok(cut && info && holds(folder, "m", made))
 }
 
 // What is told of a DSDIFF master with a title, and of a DSF master, which has no marks.
@@ -200,34 +238,40 @@ fn refuses_takes_and_projects_and_creates_nothing(rt: HostRuntime) -> Result<(),
 
 // What fails, what is printed, and what the folder is asked for, and no more: takes by their numbers, and the
 // certificate is created once the master is written and kept.
-const CUTS: [(Option<Failure>, &str, &str); 6] = [
+const CUTS: [(&str, Option<Failure>, &str, &str); 6] = [
     (
+        "nothing",
         None,
         "edited total 0",
         "open e.toml\nopen a.dff\nopen b.dff\ncreate m.dff\nkeep m.dff\ncreate c.cert\nkeep c.cert\n",
     ),
     (
-        Some(Failure::Open("a.dff")),
+        "opening the first take",
+        Some(Failure::At("open", "a.dff")),
         "fault: ReadFailed",
         "open e.toml\nopen a.dff\n",
     ),
     (
-        Some(Failure::Open("b.dff")),
+        "opening the second take",
+        Some(Failure::At("open", "b.dff")),
         "fault: ReadFailed",
         "open e.toml\nopen a.dff\nopen b.dff\n",
     ),
     (
-        Some(Failure::Read("b.dff")),
+        "reading the second take",
+        Some(Failure::At("read", "b.dff")),
         "fault: ReadFailed",
         "open e.toml\nopen a.dff\nopen b.dff\n",
     ),
     (
+        "writing the master",
         Some(Failure::Write(100)),
         "fault: WriteFailed",
         "open e.toml\nopen a.dff\nopen b.dff\ncreate m.dff\nkeep m.dff\n",
     ),
     (
-        Some(Failure::Create("c.cert")),
+        "creating the certificate",
+        Some(Failure::At("create", "c.cert")),
         "fault: WriteFailed",
         "open e.toml\nopen a.dff\nopen b.dff\ncreate m.dff\nkeep m.dff\ncreate c.cert\n",
     ),
@@ -236,11 +280,11 @@ const CUTS: [(Option<Failure>, &str, &str); 6] = [
 #[test]
 fn asks_for_takes_by_number(rt: HostRuntime) -> Result<(), Fail> {
     let alloc = rt.alloc();
-    for (failure, line, calls) in &CUTS {
+    for (case, failure, line, calls) in &CUTS {
         let folder = folder_of(alloc, SPLICE);
         assert!(rt;
             asks(alloc, folder, *failure, CUT, (line, calls))?,
-            "{failure:?}"
+            "{case} fails"
         );
     }
     Ok(())
@@ -253,9 +297,14 @@ fn folder_with_master(
     master: Result<Vec<u8>, AllocError>,
 ) -> Result<MemoryFolder, AllocError> {
     let mut folder = folder?;
-    put_built(&mut folder, "m.dff", master)?;
-    folder.put("c.cert", b"")?;
+    put_master(&mut folder, &master?)?;
     Ok(folder)
+}
+
+// Puts this master and a certificate of no bytes.
+fn put_master(folder: &mut MemoryFolder, master: &[u8]) -> Result<(), AllocError> {
+    folder.put("m.dff", master)?;
+    folder.put("c.cert", b"")
 }
 
 // Which file can't be opened, and what the folder is asked for: the master and its certificate behind the
@@ -274,7 +323,7 @@ fn reads_a_master_and_its_certificate_behind_the_takes(rt: HostRuntime) -> Resul
     let alloc = rt.alloc();
     for (name, calls) in &CHECKS {
         let folder = folder_with_master(alloc, folder_of(alloc, SPLICE), Ok(Vec::new(alloc)));
-        let failure = Some(Failure::Open(*name));
+        let failure = Some(Failure::At("open", *name));
         assert!(rt;
             asks(alloc, folder, failure, CHECK, ("fault: ReadFailed", calls))?,
             "{name}"

@@ -4,7 +4,7 @@
 //! 0. A sample at the delay `d` is the first tap times the signal at `d`, the second times that at `d - 1`,
 //! and so on.
 
-use crate::builders::is_named;
+use crate::builders::{equal, is_named};
 use archive_core::{Fault, play};
 use fixtures::files::{FILE, MONO, RATE, RAW, STEREO, WAVE, dsf_of, file_of, mono};
 use fixtures::projects::DECIMATE;
@@ -25,7 +25,7 @@ fn project(alloc: Global, taps: &str, numbers: Numbers) -> Result<String, AllocE
 // Whether a file is played to these bytes.
 fn plays(alloc: Global, text: &str, file: &[u8], wave: &[u8]) -> Result<bool, Fault> {
     let made = play(alloc, text.as_bytes(), file)?;
-    Ok(made.as_slice() == wave)
+    Ok(equal(&made, wave))
 }
 
 // The WAVE file of one sample of 16 bits, its lower byte first.
@@ -187,7 +187,7 @@ fn plays_the_edges_of_33_taps(rt: HostRuntime) -> Result<(), Fail> {
     let alloc = rt.alloc();
     let wave = long_wave(alloc, 33, &[0xff; 5])?;
     let (_, samples) = wave.split_at(wave.len().min(44));
-    assert!(rt; samples == [33, 0, 32, 0, 24, 0, 16, 0, 8, 0].as_slice());
+    assert!(rt; equal(samples, &[33, 0, 32, 0, 24, 0, 16, 0, 8, 0]));
     Ok(())
 }
 
@@ -219,30 +219,45 @@ fn is_built_refused(
     is_refused(alloc, text?.as_bytes(), file, expected)
 }
 
-// There are at most 4096 taps, which are whole numbers, and a project is a text.
-#[test]
-fn names_the_first_fault_of_a_project(rt: HostRuntime) -> Result<(), Fail> {
-    let alloc = rt.alloc();
-    let letter = project(alloc, "[\"a\"]", (8, 3, 0, 16));
-    assert!(rt; is_built_refused(alloc, letter, &FILE, "Project WrongKind taps")?);
-    let many = with_ones(alloc, 4097);
-    assert!(rt; is_built_refused(alloc, many, &FILE, "Project OutOfLimit taps")?);
-    assert!(rt; is_refused(alloc, &[0xff], &FILE, "Project NotToml")?);
-    Ok(())
-}
+// Taps, numbers, a file, and the first fault. Taps are whole numbers; the project is read before the file,
+// and the factor is compared with the file's rate behind both: 1024 doesn't divide 2,822,400.
+const REFUSED: [(&str, Numbers, &[u8], &str); 4] = [
+    ("[\"a\"]", (8, 3, 0, 16), &FILE, "Project WrongKind taps"),
+    (
+        "[1, 2, 3, 4]",
+        (12, 4, 0, 16),
+        &[],
+        "Project OutOfLimit factor",
+    ),
+    (
+        "[1, 2, 3, 4]",
+        (1024, 3, 0, 16),
+        &[],
+        "FileUnread UnknownForm",
+    ),
+    ("[1, 2, 3, 4]", (1024, 3, 0, 16), &FILE, "RateNotDivided"),
+];
 
-// The project is read before the file, and the factor is compared with the file's rate behind both: 1024
-// doesn't divide 2,822,400.
 #[test]
 fn names_the_first_fault_of_playing(rt: HostRuntime) -> Result<(), Fail> {
     let alloc = rt.alloc();
-    let taps = "[1, 2, 3, 4]";
-    let odd = project(alloc, taps, (12, 4, 0, 16));
-    assert!(rt; is_built_refused(alloc, odd, &[], "Project OutOfLimit factor")?);
+    for (taps, numbers, file, expected) in &REFUSED {
+        let text = project(alloc, taps, *numbers);
+        assert!(rt;
+            is_built_refused(alloc, text, file, expected)?,
+            "{expected}"
+        );
+    }
+    Ok(())
+}
+
+// There are at most 4096 taps, and a project is a text, which says how to decimate.
+#[test]
+fn names_the_first_fault_of_a_project(rt: HostRuntime) -> Result<(), Fail> {
+    let alloc = rt.alloc();
+    let many = with_ones(alloc, 4097);
+    assert!(rt; is_built_refused(alloc, many, &FILE, "Project OutOfLimit taps")?);
+    assert!(rt; is_refused(alloc, &[0xff], &FILE, "Project NotToml")?);
     assert!(rt; is_refused(alloc, &[], &[], "NoDecimation")?);
-    let slow = project(alloc, taps, (1024, 3, 0, 16));
-    assert!(rt; is_built_refused(alloc, slow, &[], "FileUnread UnknownForm")?);
-    let slow = project(alloc, taps, (1024, 3, 0, 16));
-    assert!(rt; is_built_refused(alloc, slow, &FILE, "RateNotDivided")?);
     Ok(())
 }

@@ -1,5 +1,6 @@
 //! Files read whole: one, several in turn, and with a limit to the reads.
 
+use crate::builders::equal;
 use crate::watched_folder::WatchedFolder;
 use command_core::{MemoryFolder, Outcome, read_files, read_whole};
 use std::alloc::{AllocError, Global};
@@ -27,7 +28,7 @@ impl Read for Endless {
 fn reads_to_the_end(rt: HostRuntime) -> Result<(), Fail> {
     let bytes = read_whole(rt.alloc(), b"abc".as_slice(), 2);
     let bytes = bytes.ok().ok_or("bytes")?;
-    assert!(rt; bytes.as_slice() == b"abc".as_slice());
+    assert!(rt; equal(&bytes, b"abc"));
     Ok(())
 }
 
@@ -68,9 +69,7 @@ fn files(alloc: Global, texts: &[&str; 3]) -> Result<Vec<Vec<u8>>, Fail> {
 fn reads_files_in_turn(rt: HostRuntime) -> Result<(), Fail> {
     let files = files(rt.alloc(), &["b", "a", "b"])?;
     assert!(rt; files.len() == 3);
-    assert!(rt;
-        files[0].is_empty() && files[1].as_slice() == b"one".as_slice() && files[2].is_empty()
-    );
+    assert!(rt; files[0].is_empty() && equal(&files[1], b"one") && files[2].is_empty());
     Ok(())
 }
 

@@ -1,7 +1,7 @@
 //! Masters rejected, and the first reason in the certificate or in the master.
 
 use crate::builders::{CUES, Sources, fast, mono_sources, stereo, titled_sources, with_byte};
-use archive_core::{Form, Verdict, check};
+use archive_core::{Fault, Form, Verdict, check};
 use fixtures::files::mono;
 use std::alloc::{AllocError, Global};
 use std::test::Fail;
@@ -13,16 +13,20 @@ fn rejects(
     master: Result<Vec<u8>, AllocError>,
     cert: &[u8],
     expected: &str,
-) -> Result<bool, Fail> {
-    let sources = sources?;
-    let master = master?;
-    match check(
-        alloc,
-        sources.text.as_bytes(),
-        &sources.takes,
-        &master,
-        cert,
-    )? {
+) -> Result<bool, Fault> {
+    rejects_file(alloc, &sources?, &master?, cert, expected)
+}
+
+// The same of sources and a file that were built.
+fn rejects_file(
+    alloc: Global,
+    sources: &Sources,
+    master: &[u8],
+    cert: &[u8],
+    expected: &str,
+) -> Result<bool, Fault> {
+    let text = sources.text.as_bytes();
+    match check(alloc, text, &sources.takes, master, cert)? {
         Verdict::Accepted { .. } => Ok(false),
         Verdict::Rejected(reason) => Ok(reason.to_string(alloc)?.as_str() == expected),
     }
@@ -30,19 +34,19 @@ fn rejects(
 
 // The certificate of the master of `CUES` by these weights. That by 1 and 0 is worked out by hand in
 // docs/CERTIFICATES.md.
-fn cert_by(alloc: Global, weights: &str) -> Result<Vec<u8>, Fail> {
+fn cert_by(alloc: Global, weights: &str) -> Result<Vec<u8>, Fault> {
     let sources = mono_sources(alloc, weights, &CUES)?;
     Ok(sources.edit(alloc, Form::Dsdiff)?.cert)
 }
 
 // Whether the master is rejected for this reason with this certificate.
-fn rejects_cert(alloc: Global, cert: &[u8], expected: &str) -> Result<bool, Fail> {
+fn rejects_cert(alloc: Global, cert: &[u8], expected: &str) -> Result<bool, Fault> {
     let sources = mono_sources(alloc, "1, 0", &CUES);
     rejects(alloc, sources, mono(alloc, &[0xff, 0]), cert, expected)
 }
 
 // The same with its certificate with another byte at a place.
-fn rejects_byte(alloc: Global, place: usize, byte: u8, expected: &str) -> Result<bool, Fail> {
+fn rejects_byte(alloc: Global, place: usize, byte: u8, expected: &str) -> Result<bool, Fault> {
     let cert = cert_by(alloc, "1, 0")?;
     let changed = with_byte(alloc, &cert, place, byte)?;
     rejects_cert(alloc, &changed, expected)
@@ -75,17 +79,23 @@ fn names_the_first_reason_in_a_certificate(rt: HostRuntime) -> Result<(), Fail> 
 }
 
 // Whether the master is rejected for this reason with the first bytes of its certificate.
-fn rejects_front(alloc: Global, length: usize, expected: &str) -> Result<bool, Fail> {
+fn rejects_front(alloc: Global, length: usize, expected: &str) -> Result<bool, Fault> {
     let cert = cert_by(alloc, "1, 0")?;
     let (front, _) = cert.split_at(length.min(cert.len()));
     rejects_cert(alloc, front, expected)
 }
 
 // The same with a byte behind its certificate.
-fn rejects_longer(alloc: Global, expected: &str) -> Result<bool, Fail> {
-    let mut cert = cert_by(alloc, "1, 0")?;
-    cert.push(0)?;
-    rejects_cert(alloc, &cert, expected)
+fn rejects_longer(alloc: Global, expected: &str) -> Result<bool, Fault> {
+    let cert = cert_by(alloc, "1, 0")?;
+    rejects_cert(alloc, &longer(alloc, &cert)?, expected)
+}
+
+// The bytes with a zero behind them.
+fn longer(alloc: Global, bytes: &[u8]) -> Result<Vec<u8>, AllocError> {
+    let mut made = Vec::from_slice(alloc, bytes)?;
+    made.push(0)?;
+    Ok(made)
 }
 
 // The certificate cut off at each byte, in the head's 12 bytes first, and with one byte more.
@@ -108,7 +118,7 @@ fn rejects_master(
     sources: Result<Sources, AllocError>,
     master: Result<Vec<u8>, AllocError>,
     expected: &str,
-) -> Result<bool, Fail> {
+) -> Result<bool, Fault> {
     let cert = cert_by(alloc, "1, 1")?;
     rejects(alloc, sources, master, &cert, expected)
 }
@@ -118,7 +128,7 @@ fn rejects_made(
     alloc: Global,
     master: Result<Vec<u8>, AllocError>,
     expected: &str,
-) -> Result<bool, Fail> {
+) -> Result<bool, Fault> {
     rejects_master(alloc, mono_sources(alloc, "1, 1", &CUES), master, expected)
 }
 
@@ -131,9 +141,8 @@ const SOUNDS: [(&[u8], &str); 4] = [
     (&[0xff, 0x00, 0x00], "MasterLength"),
 ];
 
-// Behind these, what is no file, another rate, two channels, and no mark for a title.
 #[test]
-fn names_the_first_reason_in_a_master(rt: HostRuntime) -> Result<(), Fail> {
+fn names_the_first_reason_in_a_sound(rt: HostRuntime) -> Result<(), Fail> {
     let alloc = rt.alloc();
     for (sound, expected) in &SOUNDS {
         assert!(rt;
@@ -141,6 +150,13 @@ fn names_the_first_reason_in_a_master(rt: HostRuntime) -> Result<(), Fail> {
             "{expected}"
         );
     }
+    Ok(())
+}
+
+// What is no file, another rate, two channels, and no mark for a title.
+#[test]
+fn names_the_first_reason_in_a_master(rt: HostRuntime) -> Result<(), Fail> {
+    let alloc = rt.alloc();
     let unread: Result<_, _> = Vec::from_slice(alloc, &[1, 2, 3]);
     assert!(rt; rejects_made(alloc, unread, "MasterUnread")?);
     assert!(rt; rejects_made(alloc, fast(alloc, &[0xff, 0]), "MasterShape")?);

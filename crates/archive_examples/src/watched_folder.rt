@@ -9,18 +9,12 @@ use std::io;
 use std::io::{Cursor, ErrorKind, Read, Write};
 
 /// What fails.
-#[derive(Clone, Copy, Debug)]
+#[derive(Clone, Copy)]
 pub(crate) enum Failure {
-    /// Opening the file of this name.
-    Open(&'static str),
-    /// Reading the file of this name, at its end.
-    Read(&'static str),
-    /// Creating the file of this name.
-    Create(&'static str),
+    /// To `open`, `read`, `create` or `keep` the file of this name; a file is read up to its end.
+    At(&'static str, &'static str),
     /// Writing, after so many bytes.
     Write(usize),
-    /// Keeping the file of this name.
-    Keep(&'static str),
 }
 
 /// Files in memory, of which it tells nothing.
@@ -43,8 +37,28 @@ impl WatchedFolder {
         }
     }
 
+    // Notes a call, unless it fails.
     fn note(&mut self, call: &str, name: &str) -> Result<(), FolderFault> {
-        writeln!(self.calls, "{call} {name}").map_err(|_| FolderFault)
+        if writeln!(self.calls, "{call} {name}").is_err() || self.fails(call, name) {
+            return Err(FolderFault);
+        }
+        Ok(())
+    }
+
+    // Whether a call fails.
+    fn fails(&self, call: &str, name: &str) -> bool {
+        match self.failure {
+            Some(Failure::At(failing, at)) => failing == call && at == name,
+            _ => false,
+        }
+    }
+
+    // How many bytes a file has room for.
+    fn room(&self) -> usize {
+        match self.failure {
+            Some(Failure::Write(room)) => room,
+            _ => usize::MAX,
+        }
     }
 }
 
@@ -98,24 +112,14 @@ impl Folder for WatchedFolder {
 
     fn open(&mut self, name: &str) -> Result<WatchedInput, FolderFault> {
         self.note("open", name)?;
-        let failure = self.failure;
-        let fails = match failure {
-            Some(Failure::Open(failing)) if failing == name => return Err(FolderFault),
-            Some(Failure::Read(failing)) => failing == name,
-            _ => false,
-        };
+        let fails = self.fails("read", name);
         let bytes = self.files.open(name)?;
         Ok(WatchedInput { bytes, fails })
     }
 
     fn create(&mut self, name: &str) -> Result<WatchedOutput, FolderFault> {
         self.note("create", name)?;
-        let failure = self.failure;
-        let room = match failure {
-            Some(Failure::Create(failing)) if failing == name => return Err(FolderFault),
-            Some(Failure::Write(room)) => room,
-            _ => usize::MAX,
-        };
+        let room = self.room();
         let bytes = self.files.create(name)?;
         Ok(WatchedOutput { bytes, room })
     }
@@ -123,10 +127,6 @@ impl Folder for WatchedFolder {
     fn keep(&mut self, name: &str, out: WatchedOutput) -> Result<(), FolderFault> {
         let WatchedOutput { bytes, room: _ } = out;
         self.note("keep", name)?;
-        let failure = self.failure;
-        match failure {
-            Some(Failure::Keep(failing)) if failing == name => Err(FolderFault),
-            _ => self.files.keep(name, bytes),
-        }
+        self.files.keep(name, bytes)
     }
 }

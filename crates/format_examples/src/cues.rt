@@ -1,6 +1,6 @@
 //! The cues of a project's splice with their first fault.
 
-use crate::project_faults::{check_faults, fault_of_many};
+use crate::project_faults::{Repeated, check_faults, check_repeated};
 use std::test::Fail;
 
 // A splice of three weights and two takes, up to the parts of its first cue.
@@ -66,7 +66,10 @@ fn names_the_faults_of_what_a_cue_may_have(rt: HostRuntime) -> Result<(), Fail> 
     check_faults(&rt, rt.alloc(), (CUE, ", take = 0, start = 0}]}"), MAY_HAVE)
 }
 
-// Behind a first take, start and stop.
+// The same splice up to behind the take, the start and the stop of its first cue.
+const PLACED: &str =
+    "splice = {weights = [1, 1, 1], takes = [\"a\", \"b\"], cue = [{take = 0, start = 0, stop = 8, ";
+
 const SEVERAL: &[(&str, &str)] = &[
     ("bridge = 1}, {take = 1, start = 2, stop = 9}", "read"),
     ("bridge = 1}, {take = 2, start = 2, stop = 9}", "NoTake 1"),
@@ -92,21 +95,21 @@ const SEVERAL: &[(&str, &str)] = &[
 
 #[test]
 fn names_the_faults_of_several_cues(rt: HostRuntime) -> Result<(), Fail> {
-    let before = format!(in rt.alloc(); "{CUE}take = 0, start = 0, stop = 8, ")?;
-    check_faults(&rt, rt.alloc(), (before.as_str(), "]}"), SEVERAL)
+    check_faults(&rt, rt.alloc(), (PLACED, "]}"), SEVERAL)
 }
+
+// The same splice up to the first letter of its first cue's title.
+const TITLED: &str =
+    "splice = {weights = [1, 1, 1], takes = [\"a\", \"b\"], cue = [{take = 0, start = 0, stop = 2, title = \"a";
+
+// Each `é` has two bytes.
+const TITLES: &[Repeated] = &[
+    (TITLED, "é", 127, "\"}]}", "read"),
+    (TITLED, "é", 127, "a\"}]}", "OutOfLimit title"),
+    (TITLED, "é", 126, "aa\"}]}", "read"),
+];
 
 #[test]
 fn counts_the_bytes_of_titles(rt: HostRuntime) -> Result<(), Fail> {
-    let before = format!(in rt.alloc(); "{CUE}take = 0, start = 0, stop = 2, title = \"a")?;
-    // Each `é` has two bytes.
-    for (times, after, fault) in &[
-        (127, "\"}]}", "read"),
-        (127, "a\"}]}", "OutOfLimit title"),
-        (126, "aa\"}]}", "read"),
-    ] {
-        let found = fault_of_many(rt.alloc(), before.as_str(), ("é", *times), after)?;
-        assert!(rt; found.as_str() == *fault, "{times} and {after}");
-    }
-    Ok(())
+    check_repeated(&rt, rt.alloc(), TITLES)
 }

@@ -1,6 +1,6 @@
 //! The table `decimate` of a project with its first fault: an order of keys, then of limits.
 
-use crate::project_faults::{check_faults, fault_of_many};
+use crate::project_faults::{Repeated, check_faults, check_repeated};
 use std::test::Fail;
 
 const TAPS: &[(&str, &str)] = &[
@@ -110,12 +110,17 @@ fn names_the_faults_of_limits(rt: HostRuntime) -> Result<(), Fail> {
     check_faults(&rt, rt.alloc(), ("decimate = {taps = ", "}"), LIMITS)
 }
 
+// A first tap, and what stands behind all taps.
+const FIRST: &str = "decimate = {taps = [1";
+
+const REST: &str = "], factor = 8, delay = 0, shift = 0, width = 16}";
+
+const MANY_TAPS: &[Repeated] = &[
+    (FIRST, ", 1", 4095, REST, "read"),
+    (FIRST, ", 1", 4096, REST, "OutOfLimit taps"),
+];
+
 #[test]
 fn counts_taps(rt: HostRuntime) -> Result<(), Fail> {
-    let after = "], factor = 8, delay = 0, shift = 0, width = 16}";
-    for (times, fault) in &[(4095, "read"), (4096, "OutOfLimit taps")] {
-        let found = fault_of_many(rt.alloc(), "decimate = {taps = [1", (", 1", *times), after)?;
-        assert!(rt; found.as_str() == *fault, "{times} more taps");
-    }
-    Ok(())
+    check_repeated(&rt, rt.alloc(), MANY_TAPS)
 }

@@ -1,71 +1,93 @@
 //! What an inlet and an outlet make of a reader and a writer that do little at a time and fail.
 
+ghost use Rattle.std.specs.Prelude.{◌<◌, ◌≤◌, ◌+◌, ◌-◌, ◌^◌};
+ghost use Rattle.chunk_core.specs.Inlets.{inlet_failures};
+
+use crate::compared::{check_printed, equal};
 use chunk_core::{Device, Inlet, Outlet};
-use fixtures::devices::{drip, sip};
+use fixtures::devices::{Dripping, drip, sip};
+use std::alloc::Global;
 use std::test::Fail;
 
 const NEVER: u64 = 100;
+
+// What a pull gives, and then what is counted: failures, reads and bytes that were given.
+fn pulled(
+    inlet: &mut Inlet<Dripping<'_>>,
+    buffer: &mut [u8],
+) -> (Result<usize, Device>, u64, u64, u64)
+    requires { inlet_failures inlet.old < 2 ^ 64 - 1 }
+    ensures { inlet_failures inlet.new ≤ inlet_failures inlet.old + 1 }
+{
+    let answer = inlet.pull(buffer);
+    (answer, inlet.failures(), inlet.reads(), inlet.given())
+}
 
 #[test]
 fn a_failed_read_is_counted(rt: HostRuntime) {
     let mut inlet = Inlet::new(drip(b"abc", 1, 2));
     let mut buffer = [0; 8];
-    assert!(rt; inlet.pull(&mut buffer) == Ok(1));
-    assert!(rt; inlet.failures() == 0);
-    assert!(rt; inlet.pull(&mut buffer) == Err(Device));
-    assert!(rt; inlet.failures() == 1);
-    assert!(rt; inlet.pull(&mut buffer) == Ok(1));
+    assert!(rt; pulled(&mut inlet, &mut buffer) == (Ok(1), 0, 1, 1));
+    assert!(rt; pulled(&mut inlet, &mut buffer) == (Err(Device), 1, 2, 1));
+    assert!(rt; pulled(&mut inlet, &mut buffer) == (Ok(1), 1, 3, 2));
     assert!(rt; buffer[0] == b'b');
-    assert!(rt; (inlet.failures(), inlet.reads(), inlet.given()) == (1, 3, 2));
-    assert!(rt; inlet.into_inner().bytes == b"c".as_slice());
+    assert!(rt; equal(inlet.into_inner().bytes, b"c"));
 }
 
 #[test]
 fn the_end_is_no_failure(rt: HostRuntime) {
     let mut inlet = Inlet::new(drip(b"abc", 2, NEVER));
     let mut buffer = [0; 8];
-    assert!(rt; inlet.pull(&mut buffer) == Ok(2));
-    assert!(rt; inlet.pull(&mut buffer[2..]) == Ok(1));
-    assert!(rt; buffer == *b"abc\0\0\0\0\0");
-    assert!(rt; inlet.pull(&mut buffer) == Ok(0));
-    assert!(rt; (inlet.failures(), inlet.reads(), inlet.given()) == (0, 3, 3));
+    assert!(rt; pulled(&mut inlet, &mut buffer) == (Ok(2), 0, 1, 2));
+    assert!(rt; pulled(&mut inlet, &mut buffer[2..]) == (Ok(1), 0, 2, 3));
+    assert!(rt; equal(&buffer, b"abc\0\0\0\0\0"));
+    assert!(rt; pulled(&mut inlet, &mut buffer) == (Ok(0), 0, 3, 3));
 }
+
+// When a writer fails, from when on it takes nothing, and what it is given.
+type Given = (u64, u64, &'static str);
+
+// Whether a writer answers so to bytes of which it takes these in so many writes.
+fn takes(
+    alloc: Global,
+    given: Given,
+    answer: Result<(), Device>,
+    taken: &str,
+    writes: u64,
+) -> bool {
+    let (fails_at, full_from, bytes) = given;
+    let mut outlet = Outlet::new(sip(alloc, fails_at, full_from));
+    let answered = outlet.put_all(bytes.as_bytes());
+    let failures = outlet.failures();
+    let writer = outlet.into_inner();
+    answered == answer
+        && failures == answer.is_err() as u64
+        && writer.writes == writes
+        && equal(&writer.bytes, taken.as_bytes())
+}
+
+// Writers, what they answer, what they take, and in how many writes; no bytes take none.
+const WRITERS: [(Given, Result<(), Device>, &str, u64); 7] = [
+    ((NEVER, NEVER, "abcd"), Ok(()), "abcd", 4),
+    ((1, NEVER, "abcd"), Err(Device), "", 1),
+    ((2, NEVER, "abcd"), Err(Device), "a", 2),
+    ((3, NEVER, "abcd"), Err(Device), "ab", 3),
+    ((4, NEVER, "abcd"), Err(Device), "abc", 4),
+    ((NEVER, 3, "abcd"), Err(Device), "ab", 3),
+    ((1, 1, ""), Ok(()), "", 0),
+];
 
 #[test]
 fn a_writer_is_given_all_bytes_up_to_a_failure(rt: HostRuntime) {
-    for (fails_at, full_from, answer, taken, writes) in &[
-        (NEVER, NEVER, Ok(()), "abcd", 4),
-        (1, NEVER, Err(Device), "", 1),
-        (2, NEVER, Err(Device), "a", 2),
-        (3, NEVER, Err(Device), "ab", 3),
-        (4, NEVER, Err(Device), "abc", 4),
-        (NEVER, 3, Err(Device), "ab", 3),
-    ] {
-        let mut outlet = Outlet::new(sip(rt.alloc(), *fails_at, *full_from));
-        assert!(rt; outlet.put_all(b"abcd") == *answer, "{taken} of abcd");
+    for (given, answer, taken, writes) in &WRITERS {
         assert!(rt;
-            outlet.failures() == answer.is_err() as u64,
-            "{taken} of abcd"
+            takes(rt.alloc(), *given, *answer, taken, *writes),
+            "{taken} in {writes} writes"
         );
-        let writer = outlet.into_inner();
-        assert!(rt;
-            writer.bytes.as_slice() == taken.as_bytes(),
-            "{taken} of abcd"
-        );
-        assert!(rt; writer.writes == *writes, "{taken} of abcd");
     }
 }
 
 #[test]
-fn no_bytes_take_no_write(rt: HostRuntime) {
-    let mut outlet = Outlet::new(sip(rt.alloc(), 1, 1));
-    assert!(rt; outlet.put_all(b"") == Ok(()));
-    assert!(rt; outlet.failures() == 0);
-    assert!(rt; outlet.into_inner().writes == 0);
-}
-
-#[test]
 fn the_fault_has_its_name(rt: HostRuntime) -> Result<(), Fail> {
-    assert!(rt; format!(in rt.alloc(); "{Device}")?.as_str() == "Device");
-    Ok(())
+    check_printed(&rt, rt.alloc(), &[(Device, "Device")])
 }

@@ -1,10 +1,25 @@
 //! Marks of DSDIFF 1.5 edited masters: their fields, and the places that they mark, worked out by hand.
 
+use crate::compared::equal;
 use dsd_bits::{Mark, Recording};
 use dsdiff_core::{DsdiffFault, mark_at, place, read};
 use fixtures::files::{MONO, RATE, RAW, file_of, marked_with};
 use std::alloc::Global;
 use std::test::Fail;
+
+// Whether a mark has these hours, minutes and seconds, samples and offset, kind, channel and flags, and text.
+fn is_mark(
+    mark: &Mark,
+    clock: (u16, u8, u8),
+    samples: (u32, i32),
+    kinds: (u16, u16, u16),
+    text: &[u8],
+) -> bool {
+    (mark.hours, mark.minutes, mark.seconds) == clock
+        && (mark.samples, mark.offset) == samples
+        && (mark.kind, mark.channel, mark.flags) == kinds
+        && equal(&mark.text, text)
+}
 
 // What a file with a mark of these bytes holds.
 fn with_mark(alloc: Global, fields: &[u8]) -> Result<Recording, DsdiffFault> {
@@ -18,21 +33,19 @@ fn reads_marks(rt: HostRuntime) -> Result<(), Fail> {
     let fields = b"\0\x01\x02\x03\0\0\0\x04\xff\xff\xff\xfb\0\x06\0\x07\0\x08\0\0\0\x01x";
     let recording = with_mark(rt.alloc(), fields)?;
     assert!(rt; recording.marks().len() == 1);
-    let mark = &recording.marks()[0];
-    assert!(rt; (mark.hours, mark.minutes, mark.seconds) == (1, 2, 3));
-    assert!(rt; (mark.samples, mark.offset) == (4, -5));
-    assert!(rt; (mark.kind, mark.channel, mark.flags) == (6, 7, 8));
-    assert!(rt; mark.text.as_slice() == b"x".as_slice());
+    assert!(rt; is_mark(&recording.marks()[0], (1, 2, 3), (4, -5), (6, 7, 8), b"x"));
     Ok(())
 }
 
+// How many marks a file with a mark of these bytes has.
+fn marks_of(alloc: Global, fields: &[u8]) -> Result<usize, DsdiffFault> {
+    Ok(with_mark(alloc, fields)?.marks().len())
+}
+
 #[test]
-fn wants_whole_marks(rt: HostRuntime) -> Result<(), Fail> {
-    let recording = with_mark(rt.alloc(), &[0; 22])?;
-    assert!(rt; recording.marks().len() == 1);
-    let refused = with_mark(rt.alloc(), &[0; 21]).err();
-    assert!(rt; refused == Some(DsdiffFault::BadMark));
-    Ok(())
+fn wants_whole_marks(rt: HostRuntime) {
+    assert!(rt; marks_of(rt.alloc(), &[0; 22]) == Ok(1));
+    assert!(rt; marks_of(rt.alloc(), &[0; 21]) == Err(DsdiffFault::BadMark));
 }
 
 // A mark of so many hours, minutes and seconds each, five samples, and an offset.
@@ -61,10 +74,7 @@ fn finds_places(rt: HostRuntime) {
 #[test]
 fn marks_the_start_of_a_title(rt: HostRuntime) -> Result<(), Fail> {
     let mark = mark_at(rt.alloc(), 10332806405, 2822400, b"x")?;
-    assert!(rt; (mark.hours, mark.minutes, mark.seconds) == (1, 1, 1));
-    assert!(rt; (mark.samples, mark.offset) == (5, 0));
-    assert!(rt; (mark.kind, mark.channel, mark.flags) == (0, 0, 0));
-    assert!(rt; mark.text.as_slice() == b"x".as_slice());
+    assert!(rt; is_mark(&mark, (1, 1, 1), (5, 0), (0, 0, 0), b"x"));
     assert!(rt; place(&mark, 2822400) == 10332806405);
     Ok(())
 }

@@ -1,7 +1,8 @@
 //! DSDIFF 1.5 files with what they hold: channels, and chunks that are kept as they are.
 
-use crate::told::{Numbers, numbers_of, sound_of};
-use dsd_bits::{Other, Place, Recording};
+use crate::compared::equal;
+use crate::told::{Numbers, has_ids, has_sound, numbers_of};
+use dsd_bits::{Place, Recording};
 use dsdiff_core::{DsdiffFault, read};
 use fixtures::files::{FILE, MONO, RATE, RAW, STEREO, file_of};
 use std::alloc::Global;
@@ -34,16 +35,14 @@ fn reads_one_channel(rt: HostRuntime) -> Result<(), Fail> {
         tag: 0,
     };
     assert!(rt; numbers_of(&recording) == expected);
-    assert!(rt; sound_of(&recording, 0) == [0xf0].as_slice());
-    assert!(rt; recording.ids() == [*b"C000"].as_slice());
+    assert!(rt; has_sound(&recording, 0, &[0xf0]));
+    assert!(rt; has_ids(&recording, &[*b"C000"]));
     Ok(())
 }
 
 #[test]
 fn reads_two_channels(rt: HostRuntime) -> Result<(), Fail> {
-    let file = file_of(rt.alloc(), &[&RATE, &STEREO, &RAW], &[0xf0, 0x0f], &[])?;
-    assert!(rt; file.len() == 132);
-    let recording = read(rt.alloc(), &file)?;
+    let recording = holding(rt.alloc(), &[&RATE, &STEREO, &RAW], &[0xf0, 0x0f], &[])?;
     let expected = Numbers {
         rate: 2822400,
         layout: 2,
@@ -54,9 +53,9 @@ fn reads_two_channels(rt: HostRuntime) -> Result<(), Fail> {
         tag: 0,
     };
     assert!(rt; numbers_of(&recording) == expected);
-    assert!(rt; sound_of(&recording, 0) == [0xf0].as_slice());
-    assert!(rt; sound_of(&recording, 1) == [0x0f].as_slice());
-    assert!(rt; recording.ids() == [*b"SLFT", *b"SRGT"].as_slice());
+    assert!(rt; has_sound(&recording, 0, &[0xf0]));
+    assert!(rt; has_sound(&recording, 1, &[0x0f]));
+    assert!(rt; has_ids(&recording, &[*b"SLFT", *b"SRGT"]));
     Ok(())
 }
 
@@ -75,9 +74,9 @@ fn reads_six_channels(rt: HostRuntime) -> Result<(), Fail> {
         tag: 0,
     };
     assert!(rt; numbers_of(&recording) == expected);
-    for (c, bytes) in &[(0, [1, 7]), (3, [4, 10]), (5, [6, 12])] {
-        assert!(rt; sound_of(&recording, *c) == bytes.as_slice(), "channel {c}");
-    }
+    assert!(rt; has_sound(&recording, 0, &[1, 7]));
+    assert!(rt; has_sound(&recording, 3, &[4, 10]));
+    assert!(rt; has_sound(&recording, 5, &[6, 12]));
     Ok(())
 }
 
@@ -98,39 +97,52 @@ fn with_others(alloc: Global) -> Result<Recording, DsdiffFault> {
     holding(alloc, &parts, &[0xf0], BEHIND)
 }
 
-// Whether the chunk is kept at this place, of this ID and these bytes.
-fn is_kept(other: &Other, place: Place, id: [u8; 4], bytes: &[u8]) -> bool {
-    other.place == place && other.id == id && other.bytes.as_slice() == bytes
+// Whether the chunk of this number is kept at this place, of this ID and these bytes.
+fn keeps(recording: &Recording, i: usize, (place, id): (Place, [u8; 4]), bytes: &[u8]) -> bool {
+    match recording.others().get(i) {
+        Some(other) => other.place == place && other.id == id && equal(&other.bytes, bytes),
+        None => false,
+    }
 }
+
+// The chunks that are kept, in order.
+const KEPT: [(usize, Place, [u8; 4], &[u8]); 6] = [
+    (0, Place::Property, *b"LSCO", &[0, 0]),
+    (1, Place::Property, *b"ABSS", &[1]),
+    (2, Place::Master, *b"EMID", &[2]),
+    (3, Place::Master, *b"DIAR", &[3]),
+    (4, Place::Form, *b"COMT", &[4]),
+    (5, Place::Form, *b"MANF", &[5, 6]),
+];
 
 #[test]
 fn keeps_other_chunks_in_order(rt: HostRuntime) -> Result<(), Fail> {
     let recording = with_others(rt.alloc())?;
     assert!(rt; recording.marks().len() == 1);
-    let others = recording.others();
-    assert!(rt; others.len() == 6);
-    for (i, place, id, bytes) in &[
-        (0, Place::Property, *b"LSCO", [0, 0].as_slice()),
-        (1, Place::Property, *b"ABSS", &[1]),
-        (2, Place::Master, *b"EMID", &[2]),
-        (3, Place::Master, *b"DIAR", &[3]),
-        (4, Place::Form, *b"COMT", &[4]),
-        (5, Place::Form, *b"MANF", &[5, 6]),
-    ] {
-        assert!(rt; *i < others.len());
-        assert!(rt; is_kept(&others[*i], *place, *id, bytes), "chunk {i}");
+    assert!(rt; recording.others().len() == 6);
+    for (i, place, id, bytes) in &KEPT {
+        assert!(rt; keeps(&recording, *i, (*place, *id), bytes), "chunk {i}");
     }
     Ok(())
 }
 
+// How many bits a channel of the file has with this chunk of no compression.
+fn named_count(alloc: Global, compression: &[u8]) -> Result<usize, DsdiffFault> {
+    let recording = holding(alloc, &[&RATE, &MONO, compression], &[0xf0], &[])?;
+    Ok(recording.count())
+}
+
+// How many bits a channel of the file has with these bytes behind it.
+fn followed_count(alloc: Global, bytes: &[u8]) -> Result<usize, DsdiffFault> {
+    let mut file = FILE.to_vec(alloc)?;
+    file.extend_from_slice(bytes)?;
+    Ok(read(alloc, &file)?.count())
+}
+
 #[test]
-fn reads_a_long_name_and_a_form_without_its_last_pad(rt: HostRuntime) -> Result<(), Fail> {
+fn reads_a_long_name_and_a_form_without_its_last_pad(rt: HostRuntime) {
     let named = b"CMPR\0\0\0\0\0\0\0\x14DSD \x0fnot compressed.";
-    let recording = holding(rt.alloc(), &[&RATE, &MONO, named], &[0xf0], &[])?;
-    assert!(rt; recording.count() == 8);
+    assert!(rt; named_count(rt.alloc(), named) == Ok(8));
     assert!(rt; read(rt.alloc(), &FILE[..127]).is_ok());
-    let mut behind = FILE.to_vec(rt.alloc())?;
-    behind.extend_from_slice(&[1, 2, 3, 4, 5])?;
-    assert!(rt; read(rt.alloc(), &behind).is_ok());
-    Ok(())
+    assert!(rt; followed_count(rt.alloc(), &[1, 2, 3, 4, 5]) == Ok(8));
 }

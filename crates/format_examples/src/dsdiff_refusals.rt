@@ -2,6 +2,7 @@
 
 ghost use Rattle.std.specs.Prelude.{◌≤◌, ◌+◌, length};
 
+use crate::compared::check_printed;
 use chunk_core::ChunkFault;
 use dsdiff_core::{DsdiffFault, read};
 use fixtures::files::{FILE, changed};
@@ -16,17 +17,20 @@ fn is_refused(alloc: Global, at: usize, bytes: &[u8], fault: DsdiffFault) -> Res
     Ok(read(alloc, &file).err() == Some(fault))
 }
 
+// Other bytes, the place from which on they stand, and the fault.
+const CHANGES: [(usize, &[u8], DsdiffFault); 7] = [
+    (4, &[0xff; 8], DsdiffFault::FormCut),
+    (20, &[0xff; 8], DsdiffFault::Chunk(ChunkFault::DataCut(16))),
+    (125, &[100], DsdiffFault::Chunk(ChunkFault::DataCut(114))),
+    (82, b"FS  ", DsdiffFault::Twice(*b"FS  ")),
+    (76, &[0xff, 0xff], DsdiffFault::NoChannels),
+    (96, b"T", DsdiffFault::Compressed),
+    (77, &[0], DsdiffFault::BadChannelNumber),
+];
+
 #[test]
 fn refuses(rt: HostRuntime) -> Result<(), Fail> {
-    for (at, bytes, fault) in &[
-        (4, [0xff; 8].as_slice(), DsdiffFault::FormCut),
-        (20, &[0xff; 8], DsdiffFault::Chunk(ChunkFault::DataCut(16))),
-        (125, &[100], DsdiffFault::Chunk(ChunkFault::DataCut(114))),
-        (82, b"FS  ", DsdiffFault::Twice(*b"FS  ")),
-        (76, &[0xff, 0xff], DsdiffFault::NoChannels),
-        (96, b"T", DsdiffFault::Compressed),
-        (77, &[0], DsdiffFault::BadChannelNumber),
-    ] {
+    for (at, bytes, fault) in &CHANGES {
         assert!(rt; *at <= 125 && bytes.len() <= 128 - *at);
         assert!(rt; is_refused(rt.alloc(), *at, bytes, *fault)?, "at {at}");
     }
@@ -44,37 +48,34 @@ fn refuses_files_that_are_cut(rt: HostRuntime) {
     }
 }
 
+// Faults and what they are printed as.
+const NAMES: &[(DsdiffFault, &str)] = &[
+    (DsdiffFault::NotDsdiff, "NotDsdiff"),
+    (DsdiffFault::FormCut, "FormCut"),
+    (
+        DsdiffFault::Chunk(ChunkFault::DataCut(114)),
+        "Chunk DataCut 114",
+    ),
+    (DsdiffFault::NoVersion, "NoVersion"),
+    (DsdiffFault::BadVersion, "BadVersion"),
+    (DsdiffFault::Twice(*b"FS  "), "Twice 46532020"),
+    (DsdiffFault::Twice([0, 0, 0, 0xa]), "Twice 0000000a"),
+    (DsdiffFault::NoProperty, "NoProperty"),
+    (DsdiffFault::NoRate, "NoRate"),
+    (DsdiffFault::NoChannels, "NoChannels"),
+    (DsdiffFault::NoCompression, "NoCompression"),
+    (DsdiffFault::Compressed, "Compressed"),
+    (DsdiffFault::BadRate, "BadRate"),
+    (DsdiffFault::BadChannelNumber, "BadChannelNumber"),
+    (DsdiffFault::NoSound, "NoSound"),
+    (DsdiffFault::SoundBeforeProperty, "SoundBeforeProperty"),
+    (DsdiffFault::PartFrame, "PartFrame"),
+    (DsdiffFault::TooLong, "TooLong"),
+    (DsdiffFault::BadMark, "BadMark"),
+    (DsdiffFault::Memory, "Memory"),
+];
+
 #[test]
 fn names_faults(rt: HostRuntime) -> Result<(), Fail> {
-    for (fault, text) in &[
-        (DsdiffFault::NotDsdiff, "NotDsdiff"),
-        (DsdiffFault::FormCut, "FormCut"),
-        (
-            DsdiffFault::Chunk(ChunkFault::DataCut(114)),
-            "Chunk DataCut 114",
-        ),
-        (DsdiffFault::NoVersion, "NoVersion"),
-        (DsdiffFault::BadVersion, "BadVersion"),
-        (DsdiffFault::Twice(*b"FS  "), "Twice 46532020"),
-        (DsdiffFault::Twice([0, 0, 0, 0xa]), "Twice 0000000a"),
-        (DsdiffFault::NoProperty, "NoProperty"),
-        (DsdiffFault::NoRate, "NoRate"),
-        (DsdiffFault::NoChannels, "NoChannels"),
-        (DsdiffFault::NoCompression, "NoCompression"),
-        (DsdiffFault::Compressed, "Compressed"),
-        (DsdiffFault::BadRate, "BadRate"),
-        (DsdiffFault::BadChannelNumber, "BadChannelNumber"),
-        (DsdiffFault::NoSound, "NoSound"),
-        (DsdiffFault::SoundBeforeProperty, "SoundBeforeProperty"),
-        (DsdiffFault::PartFrame, "PartFrame"),
-        (DsdiffFault::TooLong, "TooLong"),
-        (DsdiffFault::BadMark, "BadMark"),
-        (DsdiffFault::Memory, "Memory"),
-    ] {
-        assert!(rt;
-            format!(in rt.alloc(); "{fault}")?.as_str() == *text,
-            "{text}"
-        );
-    }
-    Ok(())
+    check_printed(&rt, rt.alloc(), NAMES)
 }

@@ -1,7 +1,8 @@
 //! Recordings with the DSDIFF 1.5 files that they are written to, byte by byte, and why one is not written.
 
-ghost use Rattle.std.specs.Prelude.{◌≤◌, ◌^◌, length};
+ghost use Rattle.std.specs.Prelude.{◌≡◌, ◌<◌, ◌≤◌, ◌^◌, length};
 
+use crate::compared::{check_printed, equal};
 use dsd_bits::{Bits, Mark, Other, Place, Recording};
 use dsdiff_core::{WriteFault, write};
 use fixtures::files::FILE;
@@ -37,11 +38,15 @@ fn one_channel(alloc: Global, channel: Bits) -> Result<Recording, AllocError>
     ))
 }
 
+// Whether a recording is written as this file.
+fn writes(alloc: Global, recording: &Recording, file: &[u8]) -> Result<bool, WriteFault> {
+    Ok(equal(&write(alloc, recording)?, file))
+}
+
 #[test]
 fn writes_one_byte(rt: HostRuntime) -> Result<(), Fail> {
     let recording = one_channel(rt.alloc(), Bits::from_packed(rt.alloc(), &[0xf0], 8)?)?;
-    let file = write(rt.alloc(), &recording)?;
-    assert!(rt; file.as_slice() == FILE.as_slice());
+    assert!(rt; writes(rt.alloc(), &recording, &FILE)?);
     Ok(())
 }
 
@@ -51,27 +56,28 @@ fn refusal_of_one_bit(alloc: Global) -> Result<Option<WriteFault>, Fail> {
     Ok(write(alloc, &recording).err())
 }
 
+// Faults and what they are printed as.
+const NAMES: &[(WriteFault, &str)] = &[
+    (WriteFault::NotWholeBytes, "NotWholeBytes"),
+    (WriteFault::Memory, "Memory"),
+];
+
 #[test]
 fn writes_no_part_of_a_byte(rt: HostRuntime) -> Result<(), Fail> {
     assert!(rt; refusal_of_one_bit(rt.alloc())? == Some(WriteFault::NotWholeBytes));
-    for (fault, text) in &[
-        (WriteFault::NotWholeBytes, "NotWholeBytes"),
-        (WriteFault::Memory, "Memory"),
-    ] {
-        assert!(rt;
-            format!(in rt.alloc(); "{fault}")?.as_str() == *text,
-            "{text}"
-        );
-    }
-    Ok(())
+    check_printed(&rt, rt.alloc(), NAMES)
 }
 
-#[test]
-fn writes_marks_and_kept_chunks(rt: HostRuntime) -> Result<(), Fail> {
-    let alloc = rt.alloc();
-    let channel = Bits::from_packed(alloc, &[0xf0], 8)?;
-    let channels = vec![in alloc; channel]?;
-    let ids = vec![in alloc; *b"C000"]?;
+// The recording of one byte with a mark of this text, and with a kept chunk of these bytes at each place.
+fn with_parts(
+    alloc: Global,
+    text: Vec<u8>,
+    loudspeakers: Vec<u8>,
+    edited: Vec<u8>,
+    comment: Vec<u8>,
+) -> Result<Recording, Fail>
+    requires { length text.items < 2 ^ 32 }
+{
     let mark = Mark {
         hours: 1,
         minutes: 2,
@@ -81,27 +87,40 @@ fn writes_marks_and_kept_chunks(rt: HostRuntime) -> Result<(), Fail> {
         kind: 0,
         channel: 2,
         flags: 1,
-        text: b"x".to_vec(alloc)?,
+        text,
     };
-    let marks = vec![in alloc; mark]?;
-    let loudspeakers = Other {
-        place: Place::Property,
-        id: *b"LSCO",
-        bytes: [0, 3].to_vec(alloc)?,
-    };
-    let edited = Other {
-        place: Place::Master,
-        id: *b"EMID",
-        bytes: b"m".to_vec(alloc)?,
-    };
-    let comment = Other {
-        place: Place::Form,
-        id: *b"COMT",
-        bytes: b"made by hand".to_vec(alloc)?,
-    };
-    let others = vec![in alloc; loudspeakers, edited, comment]?;
-    let recording = Recording::new(2822400, channels, ids, 1, marks, others, Vec::new(alloc));
-    let file = write(alloc, &recording)?;
-    assert!(rt; file.as_slice() == WITH_PARTS.as_slice());
+    let loudspeakers = kept(Place::Property, *b"LSCO", loudspeakers);
+    let edited = kept(Place::Master, *b"EMID", edited);
+    let comment = kept(Place::Form, *b"COMT", comment);
+    Ok(Recording::new(
+        2822400,
+        vec![in alloc; Bits::from_packed(alloc, &[0xf0], 8)?]?,
+        vec![in alloc; *b"C000"]?,
+        1,
+        vec![in alloc; mark]?,
+        vec![in alloc; loudspeakers, edited, comment]?,
+        Vec::new(alloc),
+    ))
+}
+
+// A chunk that is kept.
+fn kept(place: Place, id: [u8; 4], bytes: Vec<u8>) -> Other
+    ensures { (result.place ≡ place) × (result.id ≡ id) × (result.bytes ≡ bytes) }
+{
+    Other { place, id, bytes }
+}
+
+// The recording of the file `WITH_PARTS`.
+fn recording(alloc: Global) -> Result<Recording, Fail> {
+    let text = b"x".to_vec(alloc)?;
+    let loudspeakers = [0, 3].to_vec(alloc)?;
+    let edited = b"m".to_vec(alloc)?;
+    let comment = b"made by hand".to_vec(alloc)?;
+    with_parts(alloc, text, loudspeakers, edited, comment)
+}
+
+#[test]
+fn writes_marks_and_kept_chunks(rt: HostRuntime) -> Result<(), Fail> {
+    assert!(rt; writes(rt.alloc(), &recording(rt.alloc())?, WITH_PARTS)?);
     Ok(())
 }

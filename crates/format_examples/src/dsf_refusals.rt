@@ -2,6 +2,7 @@
 
 ghost use Rattle.std.specs.Prelude.{◌≤◌, ◌+◌, length};
 
+use crate::compared::check_printed;
 use dsf_core::{DsfFault, read};
 use fixtures::files::{DSF_FRONT, changed, filled};
 use std::alloc::Global;
@@ -21,46 +22,52 @@ fn fault_with(alloc: Global, at: usize, bytes: &[u8]) -> Result<Option<DsfFault>
     fault_of(alloc, &front, 4188)
 }
 
+// How many bytes there are, and the fault.
+const CUTS: [(usize, DsfFault); 8] = [
+    (0, DsfFault::NotDsf),
+    (3, DsfFault::NotDsf),
+    (4, DsfFault::HeadCut),
+    (79, DsfFault::HeadCut),
+    (80, DsfFault::HeadCut),
+    (91, DsfFault::HeadCut),
+    (92, DsfFault::DataCut),
+    (4187, DsfFault::DataCut),
+];
+
 #[test]
 fn refuses_files_that_are_cut(rt: HostRuntime) -> Result<(), Fail> {
-    for (size, fault) in &[
-        (0, DsfFault::NotDsf),
-        (3, DsfFault::NotDsf),
-        (4, DsfFault::HeadCut),
-        (79, DsfFault::HeadCut),
-        (80, DsfFault::HeadCut),
-        (91, DsfFault::HeadCut),
-        (92, DsfFault::DataCut),
-        (4187, DsfFault::DataCut),
-    ] {
+    for (size, fault) in &CUTS {
         let found = fault_of(rt.alloc(), &DSF_FRONT, *size)?;
         assert!(rt; found == Some(*fault), "{size} bytes");
     }
     Ok(())
 }
 
+// Four other bytes, the place from which on they stand, and the fault.
+const FIELDS: [(usize, [u8; 4], DsfFault); 18] = [
+    (0, *b"RIFF", DsfFault::NotDsf),
+    (4, [29, 0, 0, 0], DsfFault::BadFormat),
+    (28, *b"FMT ", DsfFault::BadFormat),
+    (32, [51, 0, 0, 0], DsfFault::BadFormat),
+    (80, *b"DATA", DsfFault::BadFormat),
+    (84, [11, 0, 0, 0], DsfFault::BadFormat),
+    (44, [1, 0, 0, 0], DsfFault::BadFormat),
+    (40, [2, 0, 0, 0], DsfFault::BadVersion),
+    (52, [0, 0, 0, 0], DsfFault::BadChannelNumber),
+    (52, [7, 0, 0, 0], DsfFault::BadChannelNumber),
+    (56, [0x3f, 0x42, 0x0f, 0], DsfFault::BadRate),
+    (56, [0x81, 0xf0, 0xfa, 2], DsfFault::BadRate),
+    (60, [2, 0, 0, 0], DsfFault::BadBits),
+    (72, [0, 0x20, 0, 0], DsfFault::BadBlock),
+    (64, [1, 0x80, 0, 0], DsfFault::DataCut),
+    (84, [0x0b, 0x10, 0, 0], DsfFault::DataCut),
+    (20, [0x5b, 0x10, 0, 0], DsfFault::BadPointer),
+    (20, [0x5d, 0x10, 0, 0], DsfFault::BadPointer),
+];
+
 #[test]
 fn refuses_fields_out_of_their_limits(rt: HostRuntime) -> Result<(), Fail> {
-    for (at, bytes, fault) in &[
-        (0, *b"RIFF", DsfFault::NotDsf),
-        (4, [29, 0, 0, 0], DsfFault::BadFormat),
-        (28, *b"FMT ", DsfFault::BadFormat),
-        (32, [51, 0, 0, 0], DsfFault::BadFormat),
-        (80, *b"DATA", DsfFault::BadFormat),
-        (84, [11, 0, 0, 0], DsfFault::BadFormat),
-        (44, [1, 0, 0, 0], DsfFault::BadFormat),
-        (40, [2, 0, 0, 0], DsfFault::BadVersion),
-        (52, [0, 0, 0, 0], DsfFault::BadChannelNumber),
-        (52, [7, 0, 0, 0], DsfFault::BadChannelNumber),
-        (56, [0x3f, 0x42, 0x0f, 0], DsfFault::BadRate),
-        (56, [0x81, 0xf0, 0xfa, 2], DsfFault::BadRate),
-        (60, [2, 0, 0, 0], DsfFault::BadBits),
-        (72, [0, 0x20, 0, 0], DsfFault::BadBlock),
-        (64, [1, 0x80, 0, 0], DsfFault::DataCut),
-        (84, [0x0b, 0x10, 0, 0], DsfFault::DataCut),
-        (20, [0x5b, 0x10, 0, 0], DsfFault::BadPointer),
-        (20, [0x5d, 0x10, 0, 0], DsfFault::BadPointer),
-    ] {
+    for (at, bytes, fault) in &FIELDS {
         assert!(rt; *at <= 84);
         let found = fault_with(rt.alloc(), *at, bytes)?;
         assert!(rt; found == Some(*fault), "{bytes:?} at {at}");
@@ -68,15 +75,18 @@ fn refuses_fields_out_of_their_limits(rt: HostRuntime) -> Result<(), Fail> {
     Ok(())
 }
 
+// Eight other bytes, the place from which on they stand, and the fault.
+const SIZES: [(usize, [u8; 8], DsfFault); 5] = [
+    (32, [0xff; 8], DsfFault::HeadCut),
+    (64, [0xff; 8], DsfFault::TooLong),
+    (64, [1, 0, 0, 0, 0x10, 0, 0, 0], DsfFault::TooLong),
+    (64, [0, 0, 0, 0, 0x10, 0, 0, 0], DsfFault::DataCut),
+    (20, [0xff; 8], DsfFault::BadPointer),
+];
+
 #[test]
 fn refuses_huge_sizes(rt: HostRuntime) -> Result<(), Fail> {
-    for (at, bytes, fault) in &[
-        (32, [0xff; 8], DsfFault::HeadCut),
-        (64, [0xff; 8], DsfFault::TooLong),
-        (64, [1, 0, 0, 0, 0x10, 0, 0, 0], DsfFault::TooLong),
-        (64, [0, 0, 0, 0, 0x10, 0, 0, 0], DsfFault::DataCut),
-        (20, [0xff; 8], DsfFault::BadPointer),
-    ] {
+    for (at, bytes, fault) in &SIZES {
         assert!(rt; *at <= 64);
         let found = fault_with(rt.alloc(), *at, bytes)?;
         assert!(rt; found == Some(*fault), "{bytes:?} at {at}");
@@ -84,26 +94,23 @@ fn refuses_huge_sizes(rt: HostRuntime) -> Result<(), Fail> {
     Ok(())
 }
 
+// Faults and what they are printed as.
+const NAMES: &[(DsfFault, &str)] = &[
+    (DsfFault::NotDsf, "NotDsf"),
+    (DsfFault::HeadCut, "HeadCut"),
+    (DsfFault::BadFormat, "BadFormat"),
+    (DsfFault::BadVersion, "BadVersion"),
+    (DsfFault::BadChannelNumber, "BadChannelNumber"),
+    (DsfFault::BadRate, "BadRate"),
+    (DsfFault::BadBits, "BadBits"),
+    (DsfFault::BadBlock, "BadBlock"),
+    (DsfFault::TooLong, "TooLong"),
+    (DsfFault::DataCut, "DataCut"),
+    (DsfFault::BadPointer, "BadPointer"),
+    (DsfFault::Memory, "Memory"),
+];
+
 #[test]
 fn names_faults(rt: HostRuntime) -> Result<(), Fail> {
-    for (fault, text) in &[
-        (DsfFault::NotDsf, "NotDsf"),
-        (DsfFault::HeadCut, "HeadCut"),
-        (DsfFault::BadFormat, "BadFormat"),
-        (DsfFault::BadVersion, "BadVersion"),
-        (DsfFault::BadChannelNumber, "BadChannelNumber"),
-        (DsfFault::BadRate, "BadRate"),
-        (DsfFault::BadBits, "BadBits"),
-        (DsfFault::BadBlock, "BadBlock"),
-        (DsfFault::TooLong, "TooLong"),
-        (DsfFault::DataCut, "DataCut"),
-        (DsfFault::BadPointer, "BadPointer"),
-        (DsfFault::Memory, "Memory"),
-    ] {
-        assert!(rt;
-            format!(in rt.alloc(); "{fault}")?.as_str() == *text,
-            "{text}"
-        );
-    }
-    Ok(())
+    check_printed(&rt, rt.alloc(), NAMES)
 }

@@ -1,6 +1,7 @@
 //! Recordings with the DSF 1.01 files that they are written to, and read again.
 
-use crate::told::{Numbers, numbers_of, sound_of};
+use crate::compared::equal;
+use crate::told::{Numbers, has_ids, has_sound, numbers_of, sound_of};
 use dsd_bits::{BitOrder, Bits, BitsFault, Recording};
 use dsf_core::{read, write};
 use fixtures::files::{DSF_FRONT, filled};
@@ -37,32 +38,60 @@ fn two_channels(rt: &impl Abort, alloc: Global) -> Result<Recording, Fail> {
     ))
 }
 
-#[test]
-fn writes_two_groups_of_blocks(rt: HostRuntime) -> Result<(), Fail> {
-    let recording = two_channels(&rt, rt.alloc())?;
-    for (order, bits, first, last) in &[
-        (BitOrder::LeastFirst, 1, 0xac, 0x01),
-        (BitOrder::MostFirst, 8, 0x35, 0x80),
-    ] {
-        let file = write(rt.alloc(), &recording, *order)?;
-        assert!(rt; file.len() == 16479);
-        let shown = [file[60], file[92], file[4188], file[8284], file[12380]];
-        assert!(rt;
-            shown == [*bits, *first, *first, *last, 0],
-            "{bits} bits per sample"
-        );
-    }
-    Ok(())
-}
-
-// What a recording is read as that was written in this order of bits, and the order that is read.
-fn again(
+// Whether two groups of a block for each channel are written in this order: with so many bits per sample,
+// with this first byte of both blocks of the first group, and of the second group's with this one and 0.
+fn is_written(
     alloc: Global,
     recording: &Recording,
     order: BitOrder,
-) -> Result<(Recording, BitOrder), Fail> {
+    (bits, first, last): (u8, u8, u8),
+) -> Result<bool, AllocError> {
     let file = write(alloc, recording, order)?;
-    Ok(read(alloc, &file)?)
+    Ok(
+        file.len() == 16479
+            && byte(&file, 60) == bits
+            && byte(&file, 92) == first
+            && byte(&file, 4188) == first
+            && byte(&file, 8284) == last
+            && byte(&file, 12380) == 0,
+    )
+}
+
+// The byte at a place, 0xee where there is none.
+fn byte(file: &[u8], place: usize) -> u8 {
+    file.get(place).copied().unwrap_or(0xee)
+}
+
+#[test]
+fn writes_two_groups_of_blocks(rt: HostRuntime) -> Result<(), Fail> {
+    let recording = two_channels(&rt, rt.alloc())?;
+    let least = (1, 0xac, 0x01);
+    assert!(rt;
+        is_written(rt.alloc(), &recording, BitOrder::LeastFirst, least)?,
+        "1 bit per sample"
+    );
+    let most = (8, 0x35, 0x80);
+    assert!(rt;
+        is_written(rt.alloc(), &recording, BitOrder::MostFirst, most)?,
+        "8 bits per sample"
+    );
+    Ok(())
+}
+
+// Whether a recording is read as this one that was written, but for the IDs, which DSF has for two channels.
+fn is_same(read: &Recording, written: &Recording) -> bool {
+    numbers_of(read) == numbers_of(written)
+        && has_ids(read, &[*b"SLFT", *b"SRGT"])
+        && equal(read.tag(), b"ID3")
+        && has_sound(read, 0, sound_of(written, 0))
+        && has_sound(read, 1, sound_of(written, 1))
+}
+
+// Whether a recording that was written in this order of bits is read as the same, in the same order.
+fn is_read_again(alloc: Global, written: &Recording, order: BitOrder) -> Result<bool, Fail> {
+    let file = write(alloc, written, order)?;
+    let (again, order_read) = read(alloc, &file)?;
+    Ok(order_read == order && is_same(&again, written))
 }
 
 #[test]
@@ -77,24 +106,30 @@ fn reads_what_was_written(rt: HostRuntime) -> Result<(), Fail> {
         others: 0,
         tag: 3,
     };
-    for order in &[BitOrder::LeastFirst, BitOrder::MostFirst] {
-        let (read, order_read) = again(rt.alloc(), &written, *order)?;
-        assert!(rt; order_read == *order);
-        assert!(rt; numbers_of(&read) == expected, "{order:?}");
-        assert!(rt; read.ids() == [*b"SLFT", *b"SRGT"].as_slice(), "{order:?}");
-        assert!(rt; read.tag() == b"ID3".as_slice(), "{order:?}");
-        assert!(rt; sound_of(&read, 0) == sound_of(&written, 0), "{order:?}");
-        assert!(rt; sound_of(&read, 1) == sound_of(&written, 1), "{order:?}");
-    }
+    assert!(rt; numbers_of(&written) == expected);
+    assert!(rt;
+        is_read_again(rt.alloc(), &written, BitOrder::LeastFirst)?,
+        "least first"
+    );
+    assert!(rt;
+        is_read_again(rt.alloc(), &written, BitOrder::MostFirst)?,
+        "most first"
+    );
     Ok(())
 }
 
+// The file of a recording of the file that is read.
+fn written_again(alloc: Global, file: &[u8]) -> Result<Vec<u8>, Fail> {
+    let (recording, order) = read(alloc, file)?;
+    Ok(write(alloc, &recording, order)?)
+}
+
+// The bits of the byte 0f behind the first are no sound: zeros stand there.
 #[test]
 fn writes_the_one_bit_that_it_read(rt: HostRuntime) -> Result<(), Fail> {
     let mut expected = filled(rt.alloc(), &DSF_FRONT, 4188)?;
-    let (recording, order) = read(rt.alloc(), &expected)?;
-    let file = write(rt.alloc(), &recording, order)?;
+    let file = written_again(rt.alloc(), &expected)?;
     expected[92] = 0x01;
-    assert!(rt; file.as_slice() == expected.as_slice());
+    assert!(rt; equal(&file, &expected));
     Ok(())
 }

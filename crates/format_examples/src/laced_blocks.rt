@@ -1,6 +1,8 @@
 //! The sound bytes of DSF 1.01: a block of 4096 bytes of each channel in turn, the earliest bit of a byte at the
 //! one end or the other. All values are worked out by hand.
 
+use crate::compared::equal;
+use crate::told::has_bits;
 use dsd_bits::{BitOrder, LaceFault, lace_blocks, push_blocks, unlace_blocks, unlace_bytes};
 use fixtures::files::filled;
 use std::alloc::Global;
@@ -11,10 +13,8 @@ fn takes_blocks_apart(rt: HostRuntime) -> Result<(), Fail> {
     let bytes = filled(rt.alloc(), &[1], 8192)?;
     let channels = unlace_blocks(rt.alloc(), &bytes, 2, 1, BitOrder::LeastFirst)?;
     assert!(rt; channels.len() == 2);
-    assert!(rt; channels[0].as_bytes() == [0x80].as_slice());
-    assert!(rt; channels[1].as_bytes() == [0].as_slice());
-    assert!(rt; channels[0].len() == 1);
-    assert!(rt; channels[1].len() == 1);
+    assert!(rt; has_bits(&channels, 0, &[0x80], 1));
+    assert!(rt; has_bits(&channels, 1, &[0], 1));
     Ok(())
 }
 
@@ -28,7 +28,7 @@ fn turned(alloc: Global, bytes: &[u8]) -> Result<Vec<u8>, LaceFault> {
 fn puts_them_together_in_the_other_order(rt: HostRuntime) -> Result<(), Fail> {
     let laced = turned(rt.alloc(), &filled(rt.alloc(), &[1], 8192)?)?;
     let expected = filled(rt.alloc(), &[0x80], 8192)?;
-    assert!(rt; laced.as_slice() == expected.as_slice());
+    assert!(rt; equal(&laced, &expected));
     Ok(())
 }
 
@@ -46,6 +46,6 @@ fn pushes_blocks_behind_what_is_there(rt: HostRuntime) -> Result<(), Fail> {
     let mut out = [1].to_vec(rt.alloc())?;
     push_blocks(&mut out, &channels, BitOrder::LeastFirst)?;
     let expected = filled(rt.alloc(), &[1, 0x80], 4097)?;
-    assert!(rt; out.as_slice() == expected.as_slice());
+    assert!(rt; equal(&out, &expected));
     Ok(())
 }

@@ -4,6 +4,8 @@
 #[cfg(test)]
 mod chunks;
 #[cfg(test)]
+mod compared;
+#[cfg(test)]
 mod cues;
 #[cfg(test)]
 mod decimators;

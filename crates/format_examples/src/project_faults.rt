@@ -1,17 +1,33 @@
 //! How an example of a project's text is compared.
 
 use project_core::{ProjectFault, read};
-use std::alloc::Global;
+use std::alloc::{AllocError, Global};
 use std::process::Abort;
 use std::test::Fail;
 
-// The text of a project's fault, `read` where it has none.
-fn fault_of(alloc: Global, text: &str) -> Result<String, Fail> {
+// Whether a fault has this name.
+fn is_named(alloc: Global, fault: ProjectFault, name: &str) -> Result<bool, AllocError> {
+    Ok(fault.to_string(alloc)?.as_str() == name)
+}
+
+// Whether a project's text has the fault of this name, and for the name `read` none.
+fn has_fault(alloc: Global, text: &str, name: &str) -> Result<bool, AllocError> {
     match read(alloc, text.as_bytes()) {
-        Ok(_) => Ok(String::from_str(alloc, "read")?),
-        Err(ProjectFault::Memory) => Err("want of memory")?,
-        Err(fault) => Ok(fault.to_string(alloc)?),
+        Ok(_) => Ok(name == "read"),
+        Err(ProjectFault::Memory) => Err(AllocError),
+        Err(fault) => is_named(alloc, fault, name),
     }
+}
+
+// The same of a text between two others.
+fn has_fault_between(
+    alloc: Global,
+    (before, after): (&str, &str),
+    text: &str,
+    name: &str,
+) -> Result<bool, AllocError> {
+    let whole = format!(in alloc; "{before}{text}{after}")?;
+    has_fault(alloc, whole.as_str(), name)
 }
 
 // Each text, put between two others, has the fault that stands beside it.
@@ -22,21 +38,44 @@ pub(crate) fn check_faults(
     cases: &[(&str, &str)],
 ) -> Result<(), Fail> {
     for (text, fault) in cases {
-        let whole = format!(in alloc; "{before}{text}{after}")?;
-        let found = fault_of(alloc, whole.as_str())?;
-        assert!(rt; found.as_str() == *fault, "of {whole}");
+        assert!(rt;
+            has_fault_between(alloc, (before, after), text, fault)?,
+            "{fault} of {text}"
+        );
     }
     Ok(())
 }
 
-// The fault of one text, another a number of times, and a third.
-pub(crate) fn fault_of_many(
+/// A text, another that stands behind it a number of times, a third, and the fault of all together.
+pub(crate) type Repeated = (
+    &'static str,
+    &'static str,
+    usize,
+    &'static str,
+    &'static str,
+);
+
+// Whether such a text has its fault.
+fn has_fault_of_many(
     alloc: Global,
-    before: &str,
-    (middle, times): (&str, usize),
-    after: &str,
-) -> Result<String, Fail> {
+    (before, middle, times, after, fault): Repeated,
+) -> Result<bool, AllocError> {
     let many = middle.repeat(alloc, times)?;
-    let whole = format!(in alloc; "{before}{many}{after}")?;
-    fault_of(alloc, whole.as_str())
+    has_fault_between(alloc, (before, after), many.as_str(), fault)
+}
+
+/// Each text has its fault.
+pub(crate) fn check_repeated(
+    rt: &impl Abort,
+    alloc: Global,
+    cases: &[Repeated],
+) -> Result<(), Fail> {
+    for case in cases {
+        let (_, middle, times, after, _) = *case;
+        assert!(rt;
+            has_fault_of_many(alloc, *case)?,
+            "{times} times {middle} before {after}"
+        );
+    }
+    Ok(())
 }

@@ -1,7 +1,8 @@
 //! Projects' texts with what they say, and the faults of whole documents.
 
 use crate::project_faults::check_faults;
-use project_core::{Cue, ProjectFault, Target, read};
+use project_core::{Cue, ProjectFault, Splice, Target, read};
+use std::alloc::Global;
 use std::test::Fail;
 
 const EXAMPLE: &str = "[decimate]
@@ -31,42 +32,70 @@ fn numbers(cue: &Cue) -> (usize, usize, usize, usize, Target) {
     (cue.take, cue.start, cue.stop, cue.bridge, cue.target)
 }
 
+// The factor and the width of a text's decimator, if it has one.
+fn decimator(alloc: Global, text: &[u8]) -> Result<Option<(u32, u32)>, ProjectFault> {
+    let project = read(alloc, text)?;
+    match &project.decimate {
+        Some(taps) => Ok(Some((taps.factor(), taps.width()))),
+        None => Ok(None),
+    }
+}
+
+// The splice of a text, if it has one.
+fn splice(alloc: Global, text: &[u8]) -> Result<Option<Splice>, ProjectFault> {
+    Ok(read(alloc, text)?.splice)
+}
+
+const MOST: &[u8] =
+    b"decimate = {taps = [1, -1], factor = 1024, delay = 1, shift = 30, width = 24}";
+
 #[test]
 fn reads_the_decimator(rt: HostRuntime) -> Result<(), Fail> {
-    let project = read(rt.alloc(), EXAMPLE.as_bytes())?;
-    let taps = project.decimate.ok_or("no decimator")?;
-    assert!(rt; taps.factor() == 8);
-    assert!(rt; taps.width() == 16);
-    let text = b"decimate = {taps = [1, -1], factor = 1024, delay = 1, shift = 30, width = 24}";
-    let project = read(rt.alloc(), text)?;
-    assert!(rt; project.splice.is_none());
-    let taps = project.decimate.ok_or("no decimator")?;
-    assert!(rt; taps.factor() == 1024);
-    assert!(rt; taps.width() == 24);
+    assert!(rt; decimator(rt.alloc(), EXAMPLE.as_bytes())? == Some((8, 16)));
+    assert!(rt; decimator(rt.alloc(), MOST)? == Some((1024, 24)));
+    assert!(rt; splice(rt.alloc(), MOST)?.is_none());
     Ok(())
+}
+
+// Whether a splice has these weights and the two takes of the example.
+fn has_takes(splice: &Splice, weights: &[i32]) -> bool {
+    match splice.takes.as_slice() {
+        [first, second] => {
+            splice.weights.as_slice() == weights
+                && first.as_str() == "a.dff"
+                && second.as_str() == "b.dff"
+        }
+        _ => false,
+    }
+}
+
+// Whether the cue of this number has these numbers and this title.
+fn has_cue(
+    splice: &Splice,
+    i: usize,
+    expected: (usize, usize, usize, usize, Target),
+    title: Option<&str>,
+) -> bool {
+    match splice.cues.get(i) {
+        Some(cue) => numbers(cue) == expected && cue.title.as_deref() == title,
+        None => false,
+    }
 }
 
 #[test]
 fn reads_the_splice(rt: HostRuntime) -> Result<(), Fail> {
-    let project = read(rt.alloc(), EXAMPLE.as_bytes())?;
-    let splice = project.splice.ok_or("no splice")?;
-    assert!(rt; splice.weights.as_slice() == [1, 1].as_slice());
-    assert!(rt; splice.takes.len() == 2);
-    assert!(rt; splice.takes[0].as_str() == "a.dff");
-    assert!(rt; splice.takes[1].as_str() == "b.dff");
+    let splice = splice(rt.alloc(), EXAMPLE.as_bytes())?.ok_or("no splice")?;
+    assert!(rt; has_takes(&splice, &[1, 1]));
     assert!(rt; splice.cues.len() == 2);
-    assert!(rt; numbers(&splice.cues[0]) == (0, 0, 8, 1, Target::Fade));
-    assert!(rt; splice.cues[0].title.is_none());
-    assert!(rt; numbers(&splice.cues[1]) == (1, 2, 9, 0, Target::Fade));
-    assert!(rt; splice.cues[1].title.as_deref() == Some("one"));
+    assert!(rt; has_cue(&splice, 0, (0, 0, 8, 1, Target::Fade), None));
+    assert!(rt; has_cue(&splice, 1, (1, 2, 9, 0, Target::Fade), Some("one")));
     Ok(())
 }
 
 #[test]
 fn reads_no_tables(rt: HostRuntime) -> Result<(), Fail> {
-    let project = read(rt.alloc(), b"# nothing\n")?;
-    assert!(rt; project.decimate.is_none());
-    assert!(rt; project.splice.is_none());
+    assert!(rt; decimator(rt.alloc(), b"# nothing\n")? == None);
+    assert!(rt; splice(rt.alloc(), b"# nothing\n")?.is_none());
     Ok(())
 }
 

@@ -2,7 +2,8 @@
 
 ghost use Rattle.std.specs.Prelude.{◌<◌, ◌^◌, length};
 
-use crate::told::{Numbers, numbers_of};
+use crate::compared::equal;
+use crate::told::{Numbers, has_ids, numbers_of};
 use dsd_bits::{Bits, Mark, Other, Place, Recording};
 use std::alloc::Global;
 use std::test::Fail;
@@ -44,22 +45,32 @@ fn recording_of(
     ))
 }
 
-// The text of the first mark and the ID of the first chunk that is kept.
-fn first_parts(recording: &Recording) -> Option<(&[u8], [u8; 4])> {
-    let mark = recording.marks().first()?;
-    let other = recording.others().first()?;
-    Some((mark.text.as_slice(), other.id))
+// The recording of the mark `x`, the chunk `made by hand` and the tag `ID3`.
+fn recording(alloc: Global) -> Result<Recording, Fail> {
+    let text = b"x".to_vec(alloc)?;
+    let comment = b"made by hand".to_vec(alloc)?;
+    recording_of(alloc, text, comment, b"ID3".to_vec(alloc)?)
+}
+
+// Whether the first mark has this text.
+fn has_mark(recording: &Recording, text: &[u8]) -> bool {
+    match recording.marks().first() {
+        Some(mark) => equal(&mark.text, text),
+        None => false,
+    }
+}
+
+// Whether the first chunk that is kept has this ID.
+fn has_other(recording: &Recording, id: [u8; 4]) -> bool {
+    match recording.others().first() {
+        Some(other) => other.id == id,
+        None => false,
+    }
 }
 
 #[test]
 fn hands_out_its_parts(rt: HostRuntime) -> Result<(), Fail> {
-    let alloc = rt.alloc();
-    let recording = recording_of(
-        alloc,
-        b"x".to_vec(alloc)?,
-        b"made by hand".to_vec(alloc)?,
-        b"ID3".to_vec(alloc)?,
-    )?;
+    let recording = recording(rt.alloc())?;
     let expected = Numbers {
         rate: 2822400,
         layout: 1,
@@ -70,10 +81,9 @@ fn hands_out_its_parts(rt: HostRuntime) -> Result<(), Fail> {
         tag: 3,
     };
     assert!(rt; numbers_of(&recording) == expected);
-    assert!(rt; recording.ids() == [*b"C000"].as_slice());
-    let (text, id) = first_parts(&recording).ok_or("a mark and a chunk")?;
-    assert!(rt; text == b"x".as_slice());
-    assert!(rt; id == *b"COMT");
-    assert!(rt; recording.tag() == b"ID3".as_slice());
+    assert!(rt; has_ids(&recording, &[*b"C000"]));
+    assert!(rt; has_mark(&recording, b"x"));
+    assert!(rt; has_other(&recording, *b"COMT"));
+    assert!(rt; equal(recording.tag(), b"ID3"));
     Ok(())
 }

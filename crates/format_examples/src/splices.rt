@@ -1,6 +1,6 @@
 //! The table `splice` of a project with its first fault, up to its cues.
 
-use crate::project_faults::{check_faults, fault_of_many};
+use crate::project_faults::{Repeated, check_faults, check_repeated};
 use std::test::Fail;
 
 const SPLICES: &[(&str, &str)] = &[
@@ -58,19 +58,21 @@ fn names_the_faults_of_splices(rt: HostRuntime) -> Result<(), Fail> {
     check_faults(&rt, rt.alloc(), ("splice = {", "}"), SPLICES)
 }
 
+// Splices up to a first take, and up to the cues.
+const TAKES: &str = "splice = {weights = [1, 1], takes = [\"a\"";
+
+const CUES: &str = "splice = {weights = [1, 1], takes = [\"a\"], cue = [";
+
+const CUE: &str = "{take = 0, start = 0, stop = 2}, ";
+
+const MANY: &[Repeated] = &[
+    (TAKES, ", \"a\"", 15, "]}", "MissingKey cue"),
+    (TAKES, ", \"a\"", 16, "]}", "OutOfLimit takes"),
+    (CUES, CUE, 255, "{}]}", "MissingKey take"),
+    (CUES, CUE, 256, "{}]}", "OutOfLimit cue"),
+];
+
 #[test]
 fn counts_takes_and_cues(rt: HostRuntime) -> Result<(), Fail> {
-    let takes = "splice = {weights = [1, 1], takes = [\"a\"";
-    let cues = "splice = {weights = [1, 1], takes = [\"a\"], cue = [";
-    let cue = "{take = 0, start = 0, stop = 2}, ";
-    for (before, middle, times, after, fault) in &[
-        (takes, ", \"a\"", 15, "]}", "MissingKey cue"),
-        (takes, ", \"a\"", 16, "]}", "OutOfLimit takes"),
-        (cues, cue, 255, "{}]}", "MissingKey take"),
-        (cues, cue, 256, "{}]}", "OutOfLimit cue"),
-    ] {
-        let found = fault_of_many(rt.alloc(), before, (middle, *times), after)?;
-        assert!(rt; found.as_str() == *fault, "{times} times {middle}");
-    }
-    Ok(())
+    check_repeated(&rt, rt.alloc(), MANY)
 }

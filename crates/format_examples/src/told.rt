@@ -1,6 +1,7 @@
-//! What the examples tell of a recording.
+//! What the examples tell of recordings and their channels.
 
-use dsd_bits::Recording;
+use crate::compared::equal;
+use dsd_bits::{Bits, Recording};
 
 /// The numbers that a recording has.
 #[derive(Clone, Copy, PartialEq, Eq)]
@@ -35,5 +36,26 @@ pub(crate) fn sound_of(recording: &Recording, channel: usize) -> &[u8] {
     match recording.channels().get(channel) {
         Some(bits) => bits.as_bytes(),
         None => &[],
+    }
+}
+
+/// Whether a channel has these bytes.
+pub(crate) fn has_sound(recording: &Recording, channel: usize, bytes: &[u8]) -> bool {
+    match recording.channels().get(channel) {
+        Some(bits) => equal(bits.as_bytes(), bytes),
+        None => false,
+    }
+}
+
+/// Whether the channels have these IDs.
+pub(crate) fn has_ids(recording: &Recording, ids: &[[u8; 4]]) -> bool {
+    recording.ids() == ids
+}
+
+/// Whether of some channels one has these bytes and so many bits.
+pub(crate) fn has_bits(channels: &[Bits], channel: usize, bytes: &[u8], count: usize) -> bool {
+    match channels.get(channel) {
+        Some(bits) => equal(bits.as_bytes(), bytes) && bits.len() == count,
+        None => false,
     }
 }

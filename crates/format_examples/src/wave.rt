@@ -1,43 +1,58 @@
 //! RIFF WAVE files byte by byte, and the edges of sizes and widths.
 
+ghost use Rattle.std.specs.Prelude.{◌≡◌, ◌≤◌, ◌⊎◌};
+
+use crate::compared::{check_printed, equal};
 use fixtures::files::WAVE;
+use std::alloc::{AllocError, Global};
 use std::test::Fail;
 use wave_core::{Pcm, WaveFault, push_frames, push_header, push_pad, push_sample, write};
 
-#[test]
-fn writes_one_sample_of_16_bits(rt: HostRuntime) -> Result<(), Fail> {
-    let pcm = Pcm::new(1, 352_800, 16, vec![in rt.alloc(); 10]?);
-    let file = write(rt.alloc(), &pcm)?;
-    assert!(rt; file.as_slice() == WAVE.as_slice());
-    Ok(())
+// Whether these samples are written as this file.
+fn writes(alloc: Global, pcm: Pcm, file: &[u8]) -> Result<bool, WaveFault> {
+    Ok(equal(&write(alloc, &pcm)?, file))
 }
 
 #[test]
-fn writes_one_sample_of_24_bits(rt: HostRuntime) -> Result<(), Fail> {
-    let pcm = Pcm::new(1, 352_800, 24, vec![in rt.alloc(); 10]?);
-    let file = write(rt.alloc(), &pcm)?;
+fn writes_one_sample(rt: HostRuntime) -> Result<(), Fail> {
+    let narrow = Pcm::new(1, 352_800, 16, vec![in rt.alloc(); 10]?);
+    assert!(rt; writes(rt.alloc(), narrow, &WAVE)?, "16 bits");
+    let wide = Pcm::new(1, 352_800, 24, vec![in rt.alloc(); 10]?);
     let expected = b"RIFF\x28\0\0\0WAVEfmt \x10\0\0\0\x01\0\x01\0\x20\x62\x05\0\
         \x60\x26\x10\0\x03\0\x18\0data\x03\0\0\0\x0a\0\0\0";
-    assert!(rt; file.as_slice() == expected.as_slice());
+    assert!(rt; writes(rt.alloc(), wide, expected)?, "24 bits");
     Ok(())
 }
 
-#[test]
-fn writes_one_frame_of_two_channels(rt: HostRuntime) -> Result<(), Fail> {
-    let pcm = Pcm::new(2, 352_800, 16, vec![in rt.alloc(); 10, -10]?);
-    let file = write(rt.alloc(), &pcm)?;
-    assert!(rt; file.len() == 48);
-    assert!(rt; &file[..8] == b"RIFF\x28\0\0\0".as_slice());
-    assert!(rt; &file[40..] == [4, 0, 0, 0, 0x0a, 0, 0xf6, 0xff].as_slice());
-    Ok(())
+// Whether these samples are written as a file of so many bytes that begins with these eight, and has these
+// from the place 40 on.
+fn writes_ends(
+    alloc: Global,
+    pcm: Pcm,
+    size: usize,
+    (front, rest): (&[u8], &[u8]),
+) -> Result<bool, WaveFault> {
+    let file = write(alloc, &pcm)?;
+    Ok(file.len() == size && file.starts_with(front) && equal(behind(&file, 40), rest))
+}
+
+// The bytes from a place on.
+fn behind(file: &[u8], place: usize) -> &[u8] {
+    let (_, rest) = file.split_at(place.min(file.len()));
+    rest
 }
 
 #[test]
-fn writes_no_frames(rt: HostRuntime) -> Result<(), Fail> {
-    let file = write(rt.alloc(), &Pcm::new(6, 1, 24, Vec::new(rt.alloc())))?;
-    assert!(rt; file.len() == 44);
-    assert!(rt; &file[..8] == b"RIFF\x24\0\0\0".as_slice());
-    assert!(rt; &file[40..] == [0; 4].as_slice());
+fn writes_two_channels_and_no_frames(rt: HostRuntime) -> Result<(), Fail> {
+    let two = Pcm::new(2, 352_800, 16, vec![in rt.alloc(); 10, -10]?);
+    let ends = (
+        b"RIFF\x28\0\0\0".as_slice(),
+        [4, 0, 0, 0, 0x0a, 0, 0xf6, 0xff].as_slice(),
+    );
+    assert!(rt; writes_ends(rt.alloc(), two, 48, ends)?, "two channels");
+    let none = Pcm::new(6, 1, 24, Vec::new(rt.alloc()));
+    let ends = (b"RIFF\x24\0\0\0".as_slice(), [0; 4].as_slice());
+    assert!(rt; writes_ends(rt.alloc(), none, 44, ends)?, "no frames");
     Ok(())
 }
 
@@ -56,17 +71,12 @@ fn fills_a_riff_chunk(rt: HostRuntime) -> Result<(), Fail> {
 }
 
 #[test]
-fn spells_samples(rt: HostRuntime) -> Result<(), Fail> {
-    let mut narrow = Vec::new(rt.alloc());
+fn spells_samples_of_16_bits(rt: HostRuntime) -> Result<(), Fail> {
+    let mut out = Vec::new(rt.alloc());
     for value in &[-2, 32_767, -32_768] {
-        push_sample(&mut narrow, 16, *value)?;
+        push_sample(&mut out, 16, *value)?;
     }
-    assert!(rt; narrow.as_slice() == [0xfe, 0xff, 0xff, 0x7f, 0, 0x80].as_slice());
-    let mut wide = Vec::new(rt.alloc());
-    for value in &[-2, 8_388_607, -8_388_608] {
-        push_sample(&mut wide, 24, *value)?;
-    }
-    assert!(rt; wide.as_slice() == [0xfe, 0xff, 0xff, 0xff, 0xff, 0x7f, 0, 0, 0x80].as_slice());
+    assert!(rt; equal(&out, &[0xfe, 0xff, 0xff, 0x7f, 0, 0x80]));
     Ok(())
 }
 
@@ -76,10 +86,10 @@ fn takes_samples_channel_by_channel(rt: HostRuntime) -> Result<(), Fail> {
     let samples = [1, -2, 3, 4];
     let mut narrow = Vec::new(rt.alloc());
     push_frames(&mut narrow, 16, &samples, 2)?;
-    assert!(rt; narrow.as_slice() == [1, 0, 3, 0, 0xfe, 0xff, 4, 0].as_slice());
+    assert!(rt; equal(&narrow, &[1, 0, 3, 0, 0xfe, 0xff, 4, 0]), "16 bits");
     let mut wide = Vec::new(rt.alloc());
     push_frames(&mut wide, 24, &samples, 2)?;
-    assert!(rt; wide.as_slice() == [1, 0, 0, 3, 0, 0, 0xfe, 0xff, 0xff, 4, 0, 0].as_slice());
+    assert!(rt; equal(&wide, &[1, 0, 0, 3, 0, 0, 0xfe, 0xff, 0xff, 4, 0, 0]), "24 bits");
     Ok(())
 }
 
@@ -89,8 +99,34 @@ fn appends_frames_to_those_before(rt: HostRuntime) -> Result<(), Fail> {
     // A frame of three channels, and then two of one channel.
     push_frames(&mut out, 16, &[5, -6, 7], 1)?;
     push_frames(&mut out, 16, &[8, 256], 2)?;
-    assert!(rt; out.as_slice() == [9, 5, 0, 0xfa, 0xff, 7, 0, 8, 0, 0, 1].as_slice());
+    assert!(rt; equal(&out, &[9, 5, 0, 0xfa, 0xff, 7, 0, 8, 0, 0, 1]));
     Ok(())
+}
+
+#[test]
+fn spells_samples_of_24_bits(rt: HostRuntime) -> Result<(), Fail> {
+    let mut out = Vec::new(rt.alloc());
+    for value in &[-2, 8_388_607, -8_388_608] {
+        push_sample(&mut out, 24, *value)?;
+    }
+    assert!(rt; equal(&out, &[0xfe, 0xff, 0xff, 0xff, 0xff, 0x7f, 0, 0, 0x80]));
+    Ok(())
+}
+
+// Whether this is the pad behind so many frames.
+fn pads(
+    alloc: Global,
+    channels: u16,
+    width: u32,
+    frames: u64,
+    pad: &[u8],
+) -> Result<bool, AllocError>
+    requires channels { (1 ≤ channels) × (channels ≤ 6) }
+    requires width { (width ≡ 16) ⊎ (width ≡ 24) }
+{
+    let mut out = Vec::new(alloc);
+    push_pad(&mut out, channels, width, frames)?;
+    Ok(equal(&out, pad))
 }
 
 #[test]
@@ -102,23 +138,21 @@ fn pads_odd_samples(rt: HostRuntime) -> Result<(), Fail> {
         (2, 24, 1, &[]),
         (5, 24, u64::MAX, &[0]),
     ] {
-        let mut out = Vec::new(rt.alloc());
-        push_pad(&mut out, *channels, *width, *frames)?;
-        assert!(rt; out.as_slice() == *pad, "after {frames} frames");
+        assert!(rt;
+            pads(rt.alloc(), *channels, *width, *frames, pad)?,
+            "after {frames} frames of {channels} times {width} bits"
+        );
     }
     Ok(())
 }
 
+// Faults and what they are printed as.
+const NAMES: &[(WaveFault, &str)] = &[
+    (WaveFault::TooLarge, "TooLarge"),
+    (WaveFault::Memory, "Memory"),
+];
+
 #[test]
 fn names_faults(rt: HostRuntime) -> Result<(), Fail> {
-    for (fault, text) in &[
-        (WaveFault::TooLarge, "TooLarge"),
-        (WaveFault::Memory, "Memory"),
-    ] {
-        assert!(rt;
-            format!(in rt.alloc(); "{fault}")?.as_str() == *text,
-            "{text}"
-        );
-    }
-    Ok(())
+    check_printed(&rt, rt.alloc(), NAMES)
 }

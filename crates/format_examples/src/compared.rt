@@ -1,0 +1,28 @@
+//! How bytes and printed texts are compared.
+
+use std::alloc::{AllocError, Global};
+use std::fmt::Display;
+use std::process::Abort;
+use std::test::Fail;
+
+/// Whether these are the expected bytes.
+pub(crate) fn equal(bytes: &[u8], expected: &[u8]) -> bool {
+    bytes == expected
+}
+
+// Whether a value is printed as this text.
+fn prints<T: Display>(alloc: Global, value: &T, text: &str) -> Result<bool, AllocError> {
+    Ok(format!(in alloc; "{value}")?.as_str() == text)
+}
+
+/// Each value is printed as the text that stands beside it.
+pub(crate) fn check_printed<T: Display>(
+    rt: &impl Abort,
+    alloc: Global,
+    cases: &[(T, &str)],
+) -> Result<(), Fail> {
+    for (value, text) in cases {
+        assert!(rt; prints(alloc, value, text)?, "{text}");
+    }
+    Ok(())
+}

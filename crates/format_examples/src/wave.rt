@@ -89,7 +89,10 @@ fn takes_samples_channel_by_channel(rt: HostRuntime) -> Result<(), Fail> {
     assert!(rt; equal(&narrow, &[1, 0, 3, 0, 0xfe, 0xff, 4, 0]), "16 bits");
     let mut wide = Vec::new(rt.alloc());
     push_frames(&mut wide, 24, &samples, 2)?;
-    assert!(rt; equal(&wide, &[1, 0, 0, 3, 0, 0, 0xfe, 0xff, 0xff, 4, 0, 0]), "24 bits");
+    assert!(rt;
+        equal(&wide, &[1, 0, 0, 3, 0, 0, 0xfe, 0xff, 0xff, 4, 0, 0]),
+        "24 bits"
+    );
     Ok(())
 }
 

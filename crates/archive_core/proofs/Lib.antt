@@ -6,14 +6,12 @@ pub mod CompareLaws
 pub mod ConvertLaws
 pub mod CutLaws
 pub mod EditLaws
-pub mod FrameLaws
 pub mod FrontLaws
 pub mod MasterLaws
 pub mod OpeningLaws
 pub mod PlaceLaws
 pub mod PlayLaws
 pub mod ProjectLaws
-pub mod SampleLaws
 pub mod TakeLaws
 pub mod TitleLaws
 pub mod TotalLaws

@@ -5,6 +5,7 @@ use Rattle.fir_core.specs.Decimator.{Decimator}
 use Rattle.wave_core.specs.declared.fault.WaveFault.{WaveFault}
 use Rattle.wave_core.specs.declared.fault.WaveFault.TheVariants as waves
 use Rattle.wave_core.specs.Texts.{wave_text}
+use Rattle.player_core.specs.Samples.{pcm}
 use Rattle.archive_core.specs.declared.fault.Fault.{Fault}
 use Rattle.archive_core.specs.declared.fault.Fault.TheVariants.{Project, NoDecimation, NoSplice, TakeNumber, TakeUnread, TakeMismatch, CueOutside, MasterTooLong, NoRoomBefore, NoRoomAfter, FileUnread, RateNotDivided, TooLarge, NotWholeBytes, Memory}
 use Rattle.archive_core.specs.declared.fault.ReadFault.{ReadFault}
@@ -14,7 +15,7 @@ use Rattle.archive_core.specs.declared.opening.Opened.{Opened}
 use Rattle.archive_core.specs.Faults.{fault_of_file, fault_of_wave}
 use Rattle.archive_core.specs.Forms.{Holds}
 use Rattle.archive_core.specs.Opening.{Opens}
-use Rattle.archive_core.specs.Playing.{Answers, Plays, StandsFirst, pcm}
+use Rattle.archive_core.specs.Playing.{Answers, Plays, StandsFirst}
 use Rattle.archive_core.specs.Projects.{AnswersThis, SaysDecimator}
 
 -- ---- a project that is refused

@@ -6,7 +6,6 @@ pub mod Cuts
 pub mod Editing
 pub mod Faults
 pub mod Forms
-pub mod Frames
 pub mod Judging
 pub mod Masters
 pub mod Opening

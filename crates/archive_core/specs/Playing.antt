@@ -1,23 +1,18 @@
 -- What is played of a project and a file, and which fault stands first where nothing is.
-use Rattle.std.specs.Prelude.{◌≡◌, ◌≢◌, ℕ, ◌/◌, ◌%◌, List, length, Some, None, Result, Ok, Err, Vec}
+use Rattle.std.specs.Prelude.{◌≡◌, ◌≢◌, ℕ, ◌%◌, List, Some, None, Result, Ok, Err, Vec}
 use Rattle.std.specs.declared.alloc.Global.{Global}
 use Rattle.dsd_bits.specs.Contents.{Content}
 use Rattle.fir_core.specs.Decimator.{Decimator}
-use Rattle.wave_core.specs.Contents.{Pcm}
 use Rattle.wave_core.specs.Texts.{wave_text}
+use Rattle.player_core.specs.Samples.{pcm}
 use Rattle.archive_core.specs.declared.fault.Fault.{Fault}
 use Rattle.archive_core.specs.declared.fault.Fault.TheVariants.{Project, NoDecimation, FileUnread, RateNotDivided, TooLarge, Memory}
 use Rattle.archive_core.specs.declared.fault.ReadFault.{ReadFault}
 use Rattle.archive_core.specs.declared.fault.ReadFault.TheVariants as reads
 use Rattle.archive_core.specs.declared.form.Form.{Form}
 use Rattle.archive_core.specs.Forms.{Holds}
-use Rattle.archive_core.specs.Frames.{frames}
 use Rattle.archive_core.specs.Opening.{opened_of}
 use Rattle.archive_core.specs.Projects.{DecimatorStandsFirst, SaysDecimator}
-
--- the samples of a recording: its channels, at its rate divided by the decimation factor, frame by frame
-abbrev pub pcm : Content → Decimator → Pcm
-pcm r d = record { channels = length r.channels; rate = r.rate / d.factor; width = d.width; samples = frames d r.channels }
 
 -- the project's text says a decimator, the file holds a recording, and these bytes are the WAVE text of its samples
 pub record Plays (project file bytes : List ℕ) : Type 0 where

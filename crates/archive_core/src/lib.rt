@@ -41,7 +41,6 @@ mod rooms;
 mod takes;
 mod titles;
 mod verdict;
-mod wave_file;
 mod writing;
 
 pub use checking::check;

@@ -6,7 +6,7 @@ ghost use Rattle.archive_core.specs.Playing.{Answers, Plays, StandsFirst};
 use crate::fault::Fault;
 use crate::opening::{Opened, read_any};
 use crate::projects::decimator_of;
-use crate::wave_file::wave_of;
+use player_core::wave_of;
 use std::alloc::Global;
 
 /// The WAVE file of a recording: in each frame, for each channel in order, the whole-number convolution

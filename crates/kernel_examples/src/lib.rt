@@ -1,4 +1,4 @@
-//! Worked examples of decimation, of the costs and the bits of bridges, and of certificates.
+//! Worked examples of decimation, of frames, of the costs and the bits of bridges, and of certificates.
 #![tactic(auto)]
 
 #[cfg(test)]
@@ -17,6 +17,8 @@ mod decimators;
 mod kernels;
 #[cfg(test)]
 mod names;
+#[cfg(test)]
+mod players;
 #[cfg(test)]
 mod rows;
 #[cfg(test)]

@@ -1,5 +1,5 @@
 -- Frames from samples that are made channel by channel, tile by tile.
-use Rattle.std.proofs.Common.{◌≡◌, ℕ, zero, suc, ◌+◌, ◌*◌, ◌/◌, ◌<◌, ◌⊎◌, ℤ, pos, Bool, List, [], ◌∷◌, ◌++◌, All, length, get_or, map, take, sym, refl, ap, ap₂, ◌∙◌, arith, append_assoc, length-append, suc-mul, zero-mul}
+use Rattle.std.proofs.Common.{◌≡◌, ℕ, zero, suc, ◌+◌, ◌*◌, ◌/◌, ◌<◌, ◌⊎◌, ℤ, pos, Bool, List, [], ◌∷◌, ◌++◌, All, length, get_or, map, take, sym, refl, ap, ap₂, ◌∙◌, arith, append_assoc, add-one, length-append, suc-mul, zero-mul}
 use Rattle.std.specs.List.{flat_map, range_with_len}
 use Rattle.std.proofs.Math.Nat.{mul-div_cancel}
 use Rattle.std.proofs.lemmas.Grind.{flat_map-append}
@@ -10,16 +10,22 @@ use Rattle.std.proofs.lemmas.List.FromFn.{fill_by_all, get_or-map-range_with_len
 use Rattle.fir_core.specs.Decimator.{Decimator, sample_at, samples_of}
 use Rattle.wave_core.specs.Contents.{IsSample}
 use Rattle.wave_core.specs.Frames.{frame_of, frames_of}
-use Rattle.archive_core.proofs.CutLaws.{range_more}
-use Rattle.archive_core.specs.Frames.{frame, frames_below, tile_of}
-use Rattle.archive_core.proofs.SampleLaws.{is_sample}
+use Rattle.player_core.specs.Frames.{frame, frames_below, tile_of}
+use Rattle.player_core.proofs.SampleLaws.{is_sample}
 
 -- ---- lists one after the other
+range_more : (a n : ℕ) → range_with_len a (n + 1) ≡ range_with_len a n ++ (a + n) ∷ []
+range_more a n = rw (add-one n) (by_one a n)
+  where
+    by_one : (a n : ℕ) → range_with_len a (suc n) ≡ range_with_len a n ++ (a + n) ∷ []
+    by_one a zero = let e : a + 0 ≡ a = omega arith in rw e refl
+    by_one a (suc n) = let e : a + 1 + n ≡ a + suc n = omega arith in ap (λ (xs : List ℕ). a ∷ xs) (by_one (a + 1) n ∙ ap (λ (m : ℕ). range_with_len (a + 1) n ++ m ∷ []) e)
+
 one_after : {X : Type 0} (f : ℕ → List X) (a n : ℕ) → flat_map f (range_with_len a (n + 1)) ≡ flat_map f (range_with_len a n) ++ f (a + n)
 one_after f a n =
     ap (flat_map f) (range_more a n) ∙ flat_map-append f (range_with_len a n) ((a + n) ∷ []) ∙ ap (λ xs. flat_map f (range_with_len a n) ++ xs) (append-nil (f (a + n)))
 
-in_two : {X : Type 0} (f : ℕ → List X) (a n : ℕ) → flat_map f (range_with_len 0 (a + n)) ≡ flat_map f (range_with_len 0 a) ++ flat_map f (range_with_len a n)
+pub in_two : {X : Type 0} (f : ℕ → List X) (a n : ℕ) → flat_map f (range_with_len 0 (a + n)) ≡ flat_map f (range_with_len 0 a) ++ flat_map f (range_with_len a n)
 in_two f a zero = let e : a + 0 ≡ a = omega arith in ap (λ (m : ℕ). flat_map f (range_with_len 0 m)) e ∙ sym (append-nil (flat_map f (range_with_len 0 a)))
 in_two f a (suc n) =
     let e : a + suc n ≡ (a + n) + 1 = omega arith in
@@ -31,7 +37,7 @@ in_two f a (suc n) =
     ∙ ap (λ xs. flat_map f (range_with_len 0 a) ++ xs) (sym (one_after f a n) ∙ ap (λ (m : ℕ). flat_map f (range_with_len a m)) (sym more))
 
 -- the same lists from another number on
-moved : {X : Type 0} (f g : ℕ → List X) (a n : ℕ) → ((i : ℕ) → i < n → f i ≡ g (a + i)) → flat_map f (range_with_len 0 n) ≡ flat_map g (range_with_len a n)
+pub moved : {X : Type 0} (f g : ℕ → List X) (a n : ℕ) → ((i : ℕ) → i < n → f i ≡ g (a + i)) → flat_map f (range_with_len 0 n) ≡ flat_map g (range_with_len a n)
 moved f g a zero same = refl
 moved f g a (suc n) same =
     let more : suc n ≡ n + 1 = omega arith in
@@ -40,7 +46,7 @@ moved f g a (suc n) same =
     ∙ ap₂ (λ xs ys. xs ++ ys) (moved f g a n (λ i h. same i (omega arith))) (ap f place ∙ same n (omega arith))
     ∙ sym (ap (λ (m : ℕ). flat_map g (range_with_len a m)) more ∙ one_after g a n)
 
-length-equal : {X A : Type 0} (f : X → List A) (n : ℕ) (xs : List X) → ((x : X) → length (f x) ≡ n) → length (flat_map f xs) ≡ length xs * n
+pub length-equal : {X A : Type 0} (f : X → List A) (n : ℕ) (xs : List X) → ((x : X) → length (f x) ≡ n) → length (flat_map f xs) ≡ length xs * n
 length-equal f n [] each = sym (zero-mul n)
 length-equal f n (x ∷ xs) each = omega (arith, length-append (f x) (flat_map f xs), each x, length-equal f n xs each, suc-mul (length xs) n)
 
@@ -55,6 +61,10 @@ module _ (d : Decimator) (channels : List (List Bool)) (start number : ℕ) wher
   length-part : (bits : List Bool) → length (part bits) ≡ number
   unfolding part
   length-part bits = length-map-range_with_len (sample_at d bits) start number
+
+  pub length-tile : length (tile_of d channels start number) ≡ length channels * number
+  unfolding part
+  length-tile = length-equal part number channels length-part
 
   -- sample i of channel c
   at_place : (c i : ℕ) → c < length channels → i < number → get_or tile (c * number + i) (pos 0) ≡ sample_at d (get_or channels c []) (start + i)

@@ -3,9 +3,9 @@ use Rattle.std.proofs.lemmas.Result.{err_from_is_err_and}
 use Rattle.std.specs.List.{flat_map}
 use Rattle.wave_core.specs.Sizes.{FitsRiff}
 use Rattle.wave_core.specs.Texts.{header, pad_bytes, sample_bytes}
-use Rattle.archive_core.specs.Frames.{frame_count, frames_below}
-use Rattle.archive_core.proofs.SampleLaws.{answered, header_refused, memory_refused, text_is}
-use Rattle.archive_core.proofs.wave_file.wave_of.Goals as goal
+use Rattle.player_core.specs.Frames.{frame_count, frames_below}
+use Rattle.player_core.proofs.SampleLaws.{answered, header_refused, memory_refused, text_is}
+use Rattle.player_core.proofs.wave_file.wave_of.Goals as goal
 
 pub returns-in_err-push_header-clause-too_large : goal.returns-in_err-push_header-clause-too_large
 returns-in_err-push_header-clause-too_large c =

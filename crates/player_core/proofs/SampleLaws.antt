@@ -14,8 +14,8 @@ use Rattle.wave_core.specs.Contents.{IsSample}
 use Rattle.wave_core.specs.Laws.{IsJoined, PartsJoin}
 use Rattle.wave_core.specs.Sizes.{FitsRiff, riff_size}
 use Rattle.wave_core.specs.Texts.{header, pad_bytes, sample_bytes, wave_text}
-use Rattle.archive_core.specs.Frames.{frame, frame_count, frames_below}
-use Rattle.archive_core.specs.Playing.{pcm}
+use Rattle.player_core.specs.Frames.{frame, frame_count, frames_below}
+use Rattle.player_core.specs.Samples.{pcm}
 
 -- so many lists of one length, one after the other
 pub length-frames : {X : Type 0} (frame : ℕ → List X) (m a n : ℕ) → ((j : ℕ) → length (frame j) ≡ m) → length (flat_map frame (range_with_len a n)) ≡ n * m

@@ -2,9 +2,9 @@ use Rattle.std.proofs.Common.{◌≡◌, ◌+◌, ◌*◌, ◌<◌, ◌++◌, �
 use Rattle.std.specs.List.{flat_map}
 use Rattle.wave_core.specs.Frames.{frames_of}
 use Rattle.wave_core.specs.Texts.{sample_bytes}
-use Rattle.archive_core.specs.Frames.{frames_below}
-use Rattle.archive_core.proofs.FrameLaws.{all_samples, next_tile}
-use Rattle.archive_core.proofs.wave_file.push_tiles.Goals as goal
+use Rattle.player_core.specs.Frames.{frames_below}
+use Rattle.player_core.proofs.FrameLaws.{all_samples, next_tile}
+use Rattle.player_core.proofs.wave_file.push_tiles.Goals as goal
 
 pub push_frames-requires-clause-values : goal.push_frames-requires-clause-values
 push_frames-requires-clause-values c =

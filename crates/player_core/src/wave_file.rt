@@ -5,8 +5,8 @@ ghost use Rattle.std.specs.List.{flat_map};
 ghost use Rattle.dsd_bits.specs.Channels.{IsLevel};
 ghost use Rattle.wave_core.specs.Texts.{sample_bytes, wave_text};
 ghost use Rattle.fir_core.specs.Windows.{aligned};
-ghost use Rattle.archive_core.specs.Frames.{frame_count, frames_below, tile_of};
-ghost use Rattle.archive_core.specs.Playing.{pcm};
+ghost use Rattle.player_core.specs.Frames.{frame_count, frames_below, tile_of};
+ghost use Rattle.player_core.specs.Samples.{pcm};
 
 use dsd_bits::{Bits, Recording};
 use fir_core::{Tables, Taps, push_part};

@@ -1,0 +1,73 @@
+-- What is due after more sound bytes, and after all of them.
+use Rattle.std.proofs.Common.{◌≡◌, ℕ, ◌+◌, ◌*◌, ◌/◌, ◌<◌, ◌≤◌, min, List, ◌++◌, length, sym, ap, ap₂, ◌∙◌, arith, length-append}
+use Rattle.std.specs.List.{flat_map, range_with_len}
+use Rattle.std.specs.Int.{div_ceil}
+use Rattle.std.proofs.lemmas.Grind.{flat_map-append}
+use Rattle.std.proofs.lemmas.Nat.{div-mul-add}
+use Rattle.std.proofs.lemmas.Simd.{map-map}
+use Rattle.dsd_bits.specs.declared.sound.Sound.{Sound}
+use Rattle.dsd_bits.proofs.LacingLemmas.{map_range_same}
+use Rattle.fir_core.specs.Decimator.{Decimator, sample_at}
+use Rattle.dsd_bits.specs.Packing.{unpacked}
+use Rattle.fir_core.specs.Streams.{due_number, heard}
+use Rattle.wave_core.specs.Texts.{sample_bytes}
+use Rattle.player_core.specs.Due.{bytes_heard, channel_bits, channel_bytes, channels_heard, due_bytes, frames_due}
+use Rattle.player_core.specs.Frames.{frame, frames_below}
+use Rattle.player_core.specs.Groups.{channel_part, group_size, part_size}
+use Rattle.player_core.proofs.FeedLaws.{part_of_front, sample_stays}
+use Rattle.player_core.proofs.FrameLaws.{in_two, moved}
+
+-- ---- what stands behind the last whole group is not heard
+module _ (s : Sound) (front rest : List ℕ) (k : ℕ) (long : length front ≡ k * group_size s.order s.channels) (part : length rest < group_size s.order s.channels) where
+  pub whole : length (front ++ rest) / group_size s.order s.channels ≡ k
+  whole =
+      ap (λ n. n / group_size s.order s.channels) (length-append front rest ∙ ap (λ n. n + length rest) long) ∙ div-mul-add k (group_size s.order s.channels) (length rest) part
+
+  whole_front : length front / group_size s.order s.channels ≡ k
+  whole_front =
+      let more : k * group_size s.order s.channels ≡ k * group_size s.order s.channels + 0 = omega arith in
+      ap (λ n. n / group_size s.order s.channels) (long ∙ more) ∙ div-mul-add k (group_size s.order s.channels) 0 (omega (arith, part))
+
+  pub heard_of_front : bytes_heard s (length (front ++ rest)) ≡ bytes_heard s (length front)
+  heard_of_front = ap (λ n. min (div_ceil s.count 8) (n * part_size s.order)) (whole ∙ sym whole_front)
+
+  pub bytes_of_front : (c : ℕ) → c < s.channels → channel_bytes s (front ++ rest) c ≡ channel_bytes s front c
+  bytes_of_front c low =
+      part_of_front s.order s.channels front rest c k (bytes_heard s (length (front ++ rest))) low long
+      (let e = ap (λ n. n * part_size s.order) whole in omega (arith, e))
+      ∙ ap (channel_part s.order s.channels front c 0) heard_of_front
+
+  bits_of_front : (c : ℕ) → c < s.channels → channel_bits s (front ++ rest) c ≡ channel_bits s front c
+  bits_of_front c low = ap₂ (λ bs n. unpacked bs (heard s.count n)) (bytes_of_front c low) heard_of_front
+
+  channels_of_front : channels_heard s (front ++ rest) ≡ channels_heard s front
+  channels_of_front = map_range_same s.channels (channel_bits s (front ++ rest)) (channel_bits s front) bits_of_front
+
+  pub due_of_front : (d : Decimator) → due_bytes d s (front ++ rest) ≡ due_bytes d s front
+  due_of_front d =
+      ap₂ (λ channels n. flat_map (sample_bytes d.width) (frames_below d channels (due_number d s.count n))) channels_of_front heard_of_front
+
+-- ---- more whole groups
+module _ (d : Decimator) (s : Sound) (fed number : ℕ) (front groups : List ℕ) (k : ℕ) (long : length front ≡ k * group_size s.order s.channels)
+    (was : bytes_heard s (length front) ≡ fed) (is : bytes_heard s (length (front ++ groups)) ≡ fed + number) (least : 8 ≤ d.factor) where
+  abbrev all : List ℕ
+  all = front ++ groups
+
+  frame_stays : (j : ℕ) → j < frames_due d s (length front) → frame d (channels_heard s all) j ≡ frame d (channels_heard s front) j
+  frame_stays j h =
+      map-map (λ bits. sample_at d bits j) (channel_bits s all) (range_with_len 0 s.channels)
+      ∙ map_range_same s.channels (λ c. sample_at d (channel_bits s all c) j) (λ c. sample_at d (channel_bits s front c) j) (λ c low. sample_stays d s fed number front groups k c low long was is least j h)
+      ∙ sym (map-map (λ bits. sample_at d bits j) (channel_bits s front) (range_with_len 0 s.channels))
+
+  pub due_next : (n m : ℕ) → n ≡ frames_due d s (length front) → n + m ≡ frames_due d s (length all)
+      → due_bytes d s all ≡ due_bytes d s front ++ flat_map (sample_bytes d.width) (flat_map (frame d (channels_heard s all)) (range_with_len n m))
+  due_next n m first whole =
+      let bytes = flat_map (sample_bytes d.width) in
+      let old = flat_map (frame d (channels_heard s all)) (range_with_len 0 n) in
+      let new = flat_map (frame d (channels_heard s all)) (range_with_len n m) in
+      let stays : old ≡ frames_below d (channels_heard s front) n =
+      moved (frame d (channels_heard s all)) (frame d (channels_heard s front)) 0 n (λ i h. let place : 0 + i ≡ i = omega arith in frame_stays i (omega arith) ∙ ap (frame d (channels_heard s front)) (sym place)) in
+      ap (λ i. bytes (frames_below d (channels_heard s all) i)) (sym whole)
+      ∙ ap bytes (in_two (frame d (channels_heard s all)) n m)
+      ∙ flat_map-append (sample_bytes d.width) old new
+      ∙ ap (λ xs. bytes xs ++ bytes new) (stays ∙ ap (frames_below d (channels_heard s front)) first)

@@ -1,0 +1,11 @@
+pub mod GroupLaws
+pub mod FrameLaws
+pub mod FeedLaws
+pub mod LoopLaws
+pub mod DueLaws
+pub mod StepLaws
+pub mod NewLaws
+pub mod FinishLaws
+pub mod FinishLoop
+pub mod SampleLaws
+pub mod FrontLaws

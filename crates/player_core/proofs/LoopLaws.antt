@@ -1,0 +1,92 @@
+-- The streams of a sound, fed one after the other.
+use Rattle.std.proofs.Common.{◌≡◌, ◌≢◌, ℕ, ◌+◌, ◌-◌, ◌*◌, ◌<◌, ◌≤◌, ℤ, List, [], ◌++◌, map, length, get_or, set, refl, sym, subst, ap, ◌∙◌, inl, inr, arith, get_or-set_other, get_or-set_same, length-set}
+use Rattle.std.specs.List.{range_with_len}
+use Rattle.std.proofs.lemmas.Bool.{cases_lt}
+use Rattle.dsd_bits.specs.declared.sound.Sound.{Sound}
+use Rattle.fir_core.specs.Decimator.{Decimator, samples_of}
+use Rattle.fir_core.specs.Streams.{Feeds, Fits}
+use Rattle.fir_core.specs.StreamView.{IsStream, state_of}
+use Rattle.fir_core.specs.declared.stream.Stream.{Stream}
+use Rattle.player_core.specs.Due.{bytes_heard, channel_bits, channel_bytes, frames_due}
+use Rattle.player_core.specs.Frames.{tile_of}
+use Rattle.player_core.specs.Groups.{channel_part, group_size}
+use Rattle.player_core.specs.PlayerView.{AllFit, AreChannels, IsChannel}
+use Rattle.player_core.proofs.FeedLaws.{fits_all, gives, tile_more}
+
+-- the first streams were fed, and the others are as they were
+pub record FedUpTo (s : Sound) (number : ℕ) (groups : List ℕ) (old now : List Stream) (tile : List ℤ) (c : ℕ) : Type 0 where
+  pub long : length now ≡ length old
+  pub later : (k : ℕ) (t : Stream) → c ≤ k → get_or now k t ≡ get_or old k t
+  pub done : (d : Decimator) (fed : ℕ) → AreChannels d s.count fed old → (k : ℕ) (t : Stream) → k < c → IsChannel d s.count (fed + number) (get_or now k t)
+  pub fits : (d : Decimator) (fed : ℕ) → AreChannels d s.count fed old → (front : List ℕ) (k : ℕ) → length front ≡ k * group_size s.order s.channels
+      → bytes_heard s (length front) ≡ fed → bytes_heard s (length (front ++ groups)) ≡ fed + number → AllFit s old front
+      → ((i : ℕ) (t : Stream) → i < c → Fits (state_of (get_or now i t)) (channel_bytes s (front ++ groups) i))
+      × (tile ≡ tile_of d (map (channel_bits s (front ++ groups)) (range_with_len 0 c)) (frames_due d s (length front)) (frames_due d s (length (front ++ groups)) - frames_due d s (length front)))
+
+pub fed_none : (s : Sound) (number : ℕ) (groups : List ℕ) (old : List Stream) → FedUpTo s number groups old old [] 0
+fed_none s number groups old = record {
+  long = refl;
+  later = λ k t h. refl;
+  done = λ d fed are k t h. absurd (omega arith);
+  fits = λ d fed are front k long was is all. (λ i t h. absurd (omega arith), refl);
+}
+
+module _ (s : Sound) (number : ℕ) (groups : List ℕ) (old now : List Stream) (tile tile' : List ℤ) (c : ℕ) (new t : Stream)
+    (so_far : FedUpTo s number groups old now tile c) (low : c < length old) (few : length old ≤ s.channels)
+    (ready : IsStream new) (feeds : Feeds (state_of (get_or now c t)) (state_of new) (channel_part s.order s.channels groups c 0 number) tile tile')
+    (fed_is : new.fed ≡ (get_or now c t).fed + number) (filter : new.taps ≡ (get_or now c t).taps) (bits : new.count ≡ (get_or now c t).count) where
+  same : get_or now c t ≡ get_or old c t
+  same = so_far.later c t (omega arith)
+
+  set_to : List Stream
+  set_to = set now c new
+
+  here : (u : Stream) → get_or set_to c u ≡ new
+  unfolding set_to
+  here u = get_or-set_same now c new u (omega (arith, so_far.long))
+
+  other : (k : ℕ) (u : Stream) → k ≢ c → get_or set_to k u ≡ get_or now k u
+  unfolding set_to
+  other k u differs = get_or-set_other now c k new u differs
+
+  channel : (d : Decimator) (fed : ℕ) → AreChannels d s.count fed old → IsChannel d s.count fed (get_or now c t)
+  channel d fed are = subst (IsChannel d s.count fed) (sym same) (are c t low)
+
+  pub fed_next : FedUpTo s number groups old (set now c new) tile' (c + 1)
+  unfolding set_to
+  fed_next = record {
+    long = length-set now c new ∙ so_far.long;
+    later = λ k u h. other k u (omega arith) ∙ so_far.later k u (omega arith);
+    done = λ d fed are k u h. elim (cases_lt k c) [
+      | inl before ↦ subst (IsChannel d s.count (fed + number)) (sym (other k u (omega arith))) (so_far.done d fed are k u before)
+      | inr at ↦
+          let is : k ≡ c = omega arith in
+          let was = channel d fed are in
+          subst (λ (n : ℕ). IsChannel d s.count (fed + number) (get_or set_to n u)) (sym is)
+          (subst (IsChannel d s.count (fed + number)) (sym (here u)) (record {
+            ready = ready;
+            filter = filter ∙ was.filter;
+            bits = bits ∙ was.bits;
+            bytes = fed_is ∙ ap (λ n. n + number) was.bytes;
+          }))
+    ];
+    fits = λ d fed are front k long was is all.
+        let so = so_far.fits d fed are front k long was is all in
+        let chan = channel d fed are in
+        let fit : Fits (state_of (get_or now c t)) (channel_bytes s front c) = subst (λ (u : Stream). Fits (state_of u) (channel_bytes s front c)) (sym same) (all c t low) in
+        let least : 8 ≤ d.factor = subst (λ (e : Decimator). 8 ≤ e.factor) chan.filter chan.ready.limits.least_factor in
+        let within : c < s.channels = omega arith in
+        let n = frames_due d s (length front) in
+        let m = frames_due d s (length (front ++ groups)) - n in (
+          λ i u h. elim (cases_lt i c) [
+            | inl before ↦ subst (λ (v : Stream). Fits (state_of v) (channel_bytes s (front ++ groups) i)) (sym (other i u (omega arith))) (so.0 i u before)
+            | inr at ↦
+                let at_c : i ≡ c = omega arith in
+                subst (λ (j : ℕ). Fits (state_of (get_or set_to j u)) (channel_bytes s (front ++ groups) j)) (sym at_c)
+                (subst (λ (v : Stream). Fits (state_of v) (channel_bytes s (front ++ groups) c)) (sym (here u))
+                (fits_all d s fed number front groups k c within long was is (get_or now c t) new tile tile' chan.filter chan.bits feeds fit))
+          ],
+          gives d s fed number front groups k c within long was is (get_or now c t) new tile tile' least chan.filter chan.bits feeds fit
+              ∙ ap (λ xs. xs ++ samples_of d (channel_bits s (front ++ groups) c) n m) so.1 ∙ sym (tile_more d (channel_bits s (front ++ groups)) n m c),
+        );
+  }

@@ -1,0 +1,8 @@
+use Rattle.std.proofs.Common.{◌≡◌, ℕ, ◌+◌, ◌*◌, ◌<◌, length, slice_index}
+use Rattle.player_core.proofs.groups.pick.Given as goal
+
+abbrev pub invariant-loop-frame : goal.invariant-loop-frame
+invariant-loop-frame l = record {
+  size : length l.to ≡ length l.fn.to;
+  done : (j : ℕ) → j < l.frame → slice_index l.to j ≡ slice_index l.groups (j * l.channels + l.c);
+}

@@ -1,0 +1,20 @@
+use Rattle.std.proofs.Common.{◌≡◌, ◌∙◌, ap, arith, length}
+use Rattle.player_core.specs.Groups.{channel_part}
+use Rattle.player_core.proofs.GroupLaws.{length-part}
+use Rattle.player_core.proofs.player.feed_one.Goals as goal
+use Rattle.player_core.proofs.player.feed_one.Goals.{After-as_slice}
+
+bytes_are : (c : After-as_slice) → c.as_slice.result.now ≡ channel_part c.args.order c.args.channels c.args.groups.now c.args.c 0 c.args.number
+bytes_are c = c.as_slice.ensures.value ∙ c.in_ok-fill_channel.ensures
+
+number_is : (c : After-as_slice) → length c.as_slice.result.now ≡ c.args.number
+number_is c = ap length (bytes_are c) ∙ length-part c.args.order c.args.channels c.args.groups.now c.args.c 0 c.args.number
+
+pub feed-requires-clause-few : goal.feed-requires-clause-few
+feed-requires-clause-few c = omega (arith, number_is (goal.at.feed-requires-clause-few c).After-as_slice, c.requires.few)
+
+pub returns-clause-ok : goal.returns-clause-ok
+returns-clause-ok c = rw (← bytes_are (goal.at.returns-clause-ok c).After-as_slice) c.feed.ensures.ok
+
+pub returns-clause-fed : goal.returns-clause-fed
+returns-clause-fed c = rw (← number_is (goal.at.returns-clause-fed c).After-as_slice) c.feed.ensures.fed

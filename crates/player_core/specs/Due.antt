@@ -1,0 +1,43 @@
+-- The frames that are due after a front of the sound bytes.
+use Rattle.std.specs.Prelude.{ℕ, Bool, List, map, length}
+use Rattle.std.specs.List.{flat_map, range_with_len}
+use Rattle.dsd_bits.specs.declared.sound.Sound.{Sound}
+use Rattle.dsd_bits.specs.Packing.{unpacked}
+use Rattle.dsd_bits.specs.Sounds.{sound_channels}
+use Rattle.fir_core.specs.Decimator.{Decimator}
+use Rattle.fir_core.specs.Streams.{due_number, heard}
+use Rattle.wave_core.specs.Texts.{sample_bytes}
+use Rattle.player_core.specs.Frames.{frames, frames_below}
+use Rattle.player_core.specs.Groups.{channel_part, channel_size}
+
+-- how many bytes of each channel are heard after so many sound bytes
+abbrev pub bytes_heard : Sound → ℕ → ℕ
+bytes_heard s size = channel_size s.order s.channels s.count size
+
+-- those of channel c
+abbrev pub channel_bytes : Sound → List ℕ → ℕ → List ℕ
+channel_bytes s bytes c = channel_part s.order s.channels bytes c 0 (bytes_heard s (length bytes))
+
+-- the bits of channel c that are heard
+abbrev pub channel_bits : Sound → List ℕ → ℕ → List Bool
+channel_bits s bytes c = unpacked (channel_bytes s bytes c) (heard s.count (bytes_heard s (length bytes)))
+
+-- all bits of channel c, where all its bytes are heard
+abbrev pub channel_whole : Sound → List ℕ → ℕ → List Bool
+channel_whole s bytes c = unpacked (channel_bytes s bytes c) s.count
+
+-- the bits of every channel that are heard
+abbrev pub channels_heard : Sound → List ℕ → List (List Bool)
+channels_heard s bytes = map (channel_bits s bytes) (range_with_len 0 s.channels)
+
+-- how many frames are due: those whose place is among the bits that are heard
+abbrev pub frames_due : Decimator → Sound → ℕ → ℕ
+frames_due d s size = due_number d s.count (bytes_heard s size)
+
+-- the bytes of the frames that are due
+abbrev pub due_bytes : Decimator → Sound → List ℕ → List ℕ
+due_bytes d s bytes = flat_map (sample_bytes d.width) (frames_below d (channels_heard s bytes) (frames_due d s (length bytes)))
+
+-- the bytes of all frames of the sound
+abbrev pub all_bytes : Decimator → Sound → List ℕ → List ℕ
+all_bytes d s bytes = flat_map (sample_bytes d.width) (frames d (sound_channels s.order s.channels s.count bytes))

@@ -1,0 +1,5 @@
+pub mod Groups
+pub mod Frames
+pub mod Samples
+pub mod Due
+pub mod PlayerView

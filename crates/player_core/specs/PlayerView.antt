@@ -1,0 +1,89 @@
+-- What a `Player` stands for.
+use Rattle.std.specs.Prelude.{◌≡◌, ℕ, ◌+◌, ◌-◌, ◌*◌, ◌/◌, ◌%◌, ◌<◌, ◌≤◌, ℤ, List, [], ◌++◌, map, length, drop, slice_index_or, None}
+use Rattle.std.specs.Int.{div_ceil}
+use Rattle.std.specs.List.{range_with_len}
+use Rattle.dsd_bits.specs.declared.sound.Sound.{Sound}
+use Rattle.dsd_bits.specs.Sounds.{IsSound}
+use Rattle.fir_core.specs.Decimator.{Decimator}
+use Rattle.fir_core.specs.Streams.{Fits}
+use Rattle.fir_core.specs.StreamView.{IsStream, state_of}
+use Rattle.fir_core.specs.declared.stream.Stream.{Stream}
+use Rattle.player_core.specs.Due.{all_bytes, bytes_heard, channel_bytes, channel_whole, channels_heard, due_bytes, frames_due}
+use Rattle.player_core.specs.Frames.{tile_of}
+use Rattle.player_core.specs.Groups.{group_size}
+use Rattle.player_core.specs.declared.player.Player.{Player}
+
+-- the filter by which a player plays
+abbrev pub filter_of : Player → Decimator
+filter_of p = p.taps.now
+
+-- the sound that it plays
+abbrev pub sound_of : Player → Sound
+sound_of p = p.sound
+
+-- how many of the sound's bytes it was fed
+abbrev pub fed_of : Player → ℕ
+fed_of p = p.fed
+
+-- the stream of a channel of the sound, after so many of its bytes
+pub record IsChannel (d : Decimator) (count fed : ℕ) (t : Stream) : Type 0 where
+  pub ready : IsStream t
+  pub filter : t.taps ≡ d
+  pub bits : t.count ≡ count
+  pub bytes : t.fed ≡ fed
+
+-- streams of all channels, each after so many bytes
+abbrev pub AreChannels : Decimator → ℕ → ℕ → List Stream → Type 0
+AreChannels d count fed streams = (c : ℕ) (t : Stream) → c < length streams → IsChannel d count fed (slice_index_or streams c t)
+
+-- streams that can take so many bytes more
+abbrev pub AreReady : ℕ → List Stream → Type 0
+AreReady number streams = (c : ℕ) (t : Stream) → c < length streams → IsStream (slice_index_or streams c t) × ((slice_index_or streams c t).fed + number ≤ div_ceil (slice_index_or streams c t).count 8)
+
+-- streams before their first byte
+abbrev pub AreNew : Decimator → ℕ → List Stream → Type 0
+AreNew d count streams = (c : ℕ) (t : Stream) → c < length streams → IsChannel d count 0 (slice_index_or streams c t) × Fits (state_of (slice_index_or streams c t)) []
+
+-- streams that were fed all bytes of their channels
+abbrev pub AreWhole : List Stream → Type 0
+AreWhole streams = (c : ℕ) (t : Stream) → c < length streams → IsStream (slice_index_or streams c t) × ((slice_index_or streams c t).fed ≡ div_ceil (slice_index_or streams c t).count 8)
+
+-- each stream was fed its channel's part of these sound bytes
+abbrev pub AllFit : Sound → List Stream → List ℕ → Type 0
+AllFit s streams bytes = (c : ℕ) (t : Stream) → c < length streams → Fits (state_of (slice_index_or streams c t)) (channel_bytes s bytes c)
+
+-- the player was fed these sound bytes
+pub record IsFed (p : Player) (bytes : List ℕ) : Type 0 where
+  pub fed : p.fed ≡ length bytes
+  pub held : p.held.items ≡ drop (length bytes / group_size p.sound.order p.sound.channels * group_size p.sound.order p.sound.channels) bytes
+  pub each : AllFit p.sound p.streams.items bytes
+
+-- what each player keeps to: a stream for each channel, after some sound bytes
+pub record IsPlayer (p : Player) : Type 0 where
+  pub sound : IsSound p.sound
+  pub whole : p.sound.order ≡ None → p.sound.count % 8 ≡ 0
+  pub within : p.fed ≤ p.sound.size
+  pub number : length p.streams.items ≡ p.sound.channels
+  pub each : AreChannels p.taps.now p.sound.count (bytes_heard p.sound p.fed) p.streams.items
+  pub history : (bytes : List ℕ) × IsFed p bytes
+
+-- streams that fit whole groups of sound bytes, of which each channel has so many bytes, fit so many more behind them, and gave the samples that are due then and not before
+abbrev pub FeedAll : Decimator → Sound → ℕ → ℕ → List Stream → List Stream → List ℕ → List ℤ → Type 0
+FeedAll d s fed number old new groups tile = (front : List ℕ) (k : ℕ) → length front ≡ k * group_size s.order s.channels
+    → bytes_heard s (length front) ≡ fed → bytes_heard s (length (front ++ groups)) ≡ fed + number
+    → AllFit s old front → AllFit s new (front ++ groups) × (tile ≡ tile_of d (channels_heard s (front ++ groups)) (frames_due d s (length front)) (frames_due d s (length (front ++ groups)) - frames_due d s (length front)))
+
+-- streams that fit all sound bytes gave the rest of their samples
+abbrev pub FinishAll : Decimator → Sound → List Stream → List ℤ → Type 0
+FinishAll d s streams tile = (bytes : List ℕ) → AreChannels d s.count (bytes_heard s (length bytes)) streams → AllFit s streams bytes
+    → tile ≡ tile_of d (map (channel_whole s bytes) (range_with_len 0 s.channels)) (frames_due d s (length bytes)) (div_ceil s.count d.factor - frames_due d s (length bytes))
+
+-- after whatever sound bytes the player was fed, it was fed these, and gave the bytes that were due then and not before
+abbrev pub FeedsPlayer : Player → Player → List ℕ → List ℕ → List ℕ → Type 0
+FeedsPlayer old new bytes given_old given_new = (more : List ℕ) × (given_new ≡ given_old ++ more)
+    × ((before : List ℕ) → IsFed old before → IsFed new (before ++ bytes) × (due_bytes old.taps.now old.sound (before ++ bytes) ≡ due_bytes old.taps.now old.sound before ++ more))
+
+-- after all sound bytes, the player gave the rest of the frames' bytes
+abbrev pub FinishesPlayer : Player → List ℕ → List ℕ → Type 0
+FinishesPlayer old given_old given_new = (more : List ℕ) × (given_new ≡ given_old ++ more)
+    × ((before : List ℕ) → IsFed old before → all_bytes old.taps.now old.sound before ≡ due_bytes old.taps.now old.sound before ++ more)

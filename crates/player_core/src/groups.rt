@@ -1,0 +1,136 @@
+//! The bytes of one channel among sound bytes that hold several.
+
+ghost use Rattle.std.specs.Prelude.{◌≡◌, ℕ, ◌+◌, ◌-◌, ◌*◌, ◌/◌, ◌%◌, ◌<◌, ◌≤◌, ◌++◌, OnOk, Some, None, drop, length, map, slice_index};
+ghost use Rattle.std.specs.List.{range_with_len};
+ghost use Rattle.dsd_bits.specs.Blocks.{ordered};
+ghost use Rattle.player_core.specs.Due as Due;
+ghost use Rattle.player_core.specs.Groups as Groups;
+ghost use Rattle.player_core.specs.Groups.{channel_part, in_order};
+
+use dsd_bits::{BitOrder, Sound, turn};
+use std::alloc::AllocError;
+
+// The bytes of a block.
+const BLOCK: usize = 4096;
+
+/// How many bytes of a channel stand side by side: one in DSDIFF 1.5, a block in DSF 1.01.
+pub(crate) fn part_size(order: Option<BitOrder>) -> usize
+    ensures { result ≡ Groups.part_size order }
+{
+    match order {
+        None => 1,
+        Some(_) => BLOCK,
+    }
+}
+
+/// How many bytes a group of sound bytes has: for each channel in turn as many as stand side by side.
+pub(crate) fn group_size(sound: &Sound) -> usize
+    requires { sound.now.channels ≤ 6 }
+    ensures { result ≡ Groups.group_size sound.now.order sound.now.channels }
+{
+    sound.channels * part_size(sound.order)
+}
+
+/// How many bytes of each channel stand in the whole groups of so many sound bytes.
+pub(crate) fn bytes_heard(sound: &Sound, size: usize) -> usize
+    requires { (1 ≤ sound.now.channels) × (sound.now.channels ≤ 6) }
+    ensures { result ≡ Due.bytes_heard sound.now size }
+{
+    let whole = size / group_size(sound) * part_size(sound.order);
+    sound.count.div_ceil(8).min(whole)
+}
+
+/// The first bytes of channel `c` in whole groups of sound bytes, each with its earliest bit the most
+/// significant. They take the place of what `own` held.
+pub(crate) fn fill_channel(
+    own: &mut Vec<u8>,
+    groups: &[u8],
+    channels: usize,
+    c: usize,
+    order: Option<BitOrder>,
+    number: usize,
+) -> Result<(), AllocError>
+    requires channel { (c < channels) × (channels ≤ 6) }
+    requires enough { number ≤ length groups.now / Groups.group_size order channels * Groups.part_size order }
+    ensures { OnOk result (own.new.items ≡ channel_part order channels groups.now c 0 number) }
+{
+    own.clear();
+    match order {
+        None => fill_strided(own, groups, channels, c, number),
+        Some(order) => push_blocks(own, groups, channels, c, order, number),
+    }
+}
+
+// Byte `c` of each of the first frames of so many bytes, in the place of what `own` held.
+fn fill_strided(
+    own: &mut Vec<u8>,
+    groups: &[u8],
+    channels: usize,
+    c: usize,
+    number: usize,
+) -> Result<(), AllocError>
+    requires channel { c < channels }
+    requires enough { number * channels ≤ length groups.now }
+    ensures { OnOk result (own.new.items ≡ channel_part None channels groups.now c 0 number) }
+{
+    own.resize(number, 0)?;
+    pick(own.as_mut_slice(), groups, channels, c);
+    Ok(())
+}
+
+// Writes byte `c` of each frame of so many bytes.
+fn pick(to: &mut [u8], groups: &[u8], channels: usize, c: usize)
+    requires channel { c < channels }
+    requires enough { length to.old * channels ≤ length groups.now }
+    ensures { (frame : ℕ) → frame < length to.old → slice_index to.new frame ≡ slice_index groups.now (frame * channels + c) }
+{
+    for frame in 0..to.len() {
+        to[frame] = groups[frame * channels + c];
+    }
+}
+
+// Appends the first bytes of block `c` of each group of so many blocks.
+fn push_blocks(
+    own: &mut Vec<u8>,
+    groups: &[u8],
+    channels: usize,
+    c: usize,
+    order: BitOrder,
+    number: usize,
+) -> Result<(), AllocError>
+    requires channel { (c < channels) × (channels ≤ 6) }
+    requires enough { number ≤ length groups.now / (channels * 4096) * 4096 }
+    ensures { OnOk result (own.new.items ≡ own.old.items ++ channel_part (Some order) channels groups.now c 0 number) }
+{
+    for group in 0..number.div_ceil(BLOCK) {
+        let (_, block) = groups.split_at((group * channels + c) * BLOCK);
+        let (used, _) = block.split_at((number - BLOCK * group).min(BLOCK));
+        push_in_order(own, used, order)?;
+    }
+    Ok(())
+}
+
+// Appends bytes of which each is changed between this order of its bits and the most significant bit first.
+fn push_in_order(own: &mut Vec<u8>, bytes: &[u8], order: BitOrder) -> Result<(), AllocError>
+    ensures { OnOk result (own.new.items ≡ own.old.items ++ map (ordered order) bytes.now) }
+{
+    let kept = own.len();
+    own.extend_from_slice(bytes)?;
+    if order == BitOrder::LeastFirst {
+        let (_, added) = own.as_mut_slice().split_at_mut(kept);
+        turn(added);
+    }
+    Ok(())
+}
+
+/// Drops the first bytes.
+pub(crate) fn drop_front(held: &mut Vec<u8>, cut: usize)
+    requires { cut ≤ length held.old.items }
+    ensures { held.new.items ≡ drop cut held.old.items }
+{
+    let left = held.len() - cut;
+    for i in 0..left {
+        held[i] = held[i + cut];
+    }
+    held.truncate(left);
+}

@@ -1,0 +1,35 @@
+//! From sound to the frames of a WAVE file.
+//!
+//! [`wave_of`] makes the file of a recording, tile by tile. A [`Player`] takes the bytes of a sound piece by
+//! piece, as they stand in a DSDIFF 1.5 or DSF 1.01 file, and gives the bytes of each frame once its place has
+//! come: of the sound it holds a part of one group of blocks, and what each channel's filter still reads.
+//!
+//! The words of the contracts:
+//!
+//! - `frames d channels` are the samples of channels, frame by frame, `tile_of` some of them channel by channel
+//!   (`specs/Frames.antt`), and `pcm` what is played of a recording (`specs/Samples.antt`).
+//! - A group is for each channel in turn as many of its bytes as the form puts side by side; `channel_byte` is
+//!   where a channel's byte stands in groups (`specs/Groups.antt`).
+//! - `due_bytes d s bytes` are the bytes of the frames that are due after some sound bytes, those whose place is
+//!   among the bits that stand in whole groups of them; `all_bytes` those of all frames (`specs/Due.antt`).
+//! - `IsFed p bytes` says that a player was fed these bytes, `FeedsPlayer` what the next ones give, and
+//!   `FinishesPlayer` what is left (`specs/PlayerView.antt`).
+//!
+//! What it promises: whatever bytes a player was fed before, what [`Player::feed`] appends makes of the bytes
+//! that were due those that are due now, and what [`Player::finish`] appends makes of them those of all frames.
+//! So the pieces' sizes change nothing.
+//!
+//! ```text
+//! let mut player = Player::new(alloc, &taps, sound)?;
+//! player.feed(&bytes[..100], &mut out)?;     // the frames that are due after 100 bytes
+//! player.feed(&bytes[100..], &mut out)?;     // those that are due after all
+//! player.finish(&mut out)?;                  // the rest
+//! ```
+#![tactic(auto)]
+
+mod groups;
+mod player;
+mod wave_file;
+
+pub use player::Player;
+pub use wave_file::wave_of;

@@ -1,0 +1,209 @@
+//! Frames of a sound whose bytes come piece by piece.
+
+ghost use Rattle.std.specs.Prelude.{◌≡◌, ℕ, ◌+◌, ◌*◌, ◌/◌, ◌^◌, ◌≤◌, ◌<◌, ◌++◌, ◌⊎◌, All, IfOk, OnOk, length};
+ghost use Rattle.std.specs.List.{flat_map};
+ghost use Rattle.std.specs.Int.{div_ceil};
+ghost use Rattle.dsd_bits.specs.declared.sound.Sound.{Sound};
+ghost use Rattle.fir_core.specs.Decimator.{Decimator};
+ghost use Rattle.fir_core.specs.Streams.{Feeds};
+ghost use Rattle.fir_core.specs.StreamView.{IsStream, state_of};
+ghost use Rattle.wave_core.specs.Contents.{IsSample};
+ghost use Rattle.wave_core.specs.Frames.{frames_of};
+ghost use Rattle.wave_core.specs.Texts.{sample_bytes};
+ghost use Rattle.player_core.specs.Groups as Groups;
+ghost use Rattle.player_core.specs.Groups.{channel_part};
+ghost use Rattle.player_core.specs.PlayerView.{AreChannels, AreNew, AreReady, AreWhole, FeedAll, FinishAll};
+
+use crate::groups::{bytes_heard, drop_front, fill_channel, group_size};
+use dsd_bits::{BitOrder, Sound};
+use fir_core::{Stream, Taps};
+use std::alloc::{AllocError, Global};
+use wave_core::push_frames;
+
+/// The frames of a sound whose bytes come piece by piece, by a filter that it borrows. Of the sound it holds a
+/// part of one group, and in each channel's stream the bytes that a later sample reads.
+#[derive(Drop)]
+pub struct Player<'a> {
+    taps: &'a Taps,
+    sound: Sound,
+    fed: usize,
+    streams: Vec<Stream>,
+    held: Vec<u8>,
+    own: Vec<u8>,
+    tile: Vec<i32>,
+}
+
+impl<'a> Player<'a> {
+    ghost use Rattle.std.specs.Prelude.{◌≡◌, ◌+◌, ◌%◌, ◌≤◌, [], IfOk, None, OnOk, length};
+    ghost use Rattle.dsd_bits.specs.Sounds.{IsSound};
+    ghost use Rattle.player_core.specs.PlayerView.{FeedsPlayer, FinishesPlayer, IsFed, IsPlayer};
+
+    /// The player before the first byte of a sound: 1 to 6 channels of the same number of bits, whole bytes where
+    /// no order is told. It is refused only for want of memory.
+    pub fn new(alloc: Global, taps: &'a Taps, sound: Sound) -> Result<Player<'a>, AllocError>
+        requires sound { IsSound sound }
+        requires whole { sound.order ≡ None → sound.count % 8 ≡ 0 }
+        ensures ready { IfOk result IsPlayer }
+        ensures made { IfOk result (λ p. (p.taps.now ≡ taps.now) × (p.sound ≡ sound) × (p.fed ≡ 0)) }
+        ensures fed { IfOk result (λ p. IsFed p []) }
+    {
+        let streams = streams_of(alloc, taps, &sound)?;
+        Ok(Player {
+            taps,
+            sound,
+            fed: 0,
+            streams,
+            held: Vec::new(alloc),
+            own: Vec::new(alloc),
+            tile: Vec::new(alloc),
+        })
+    }
+
+    /// Takes the next bytes of the sound, and appends the bytes of each frame whose place lies among the bits
+    /// that came so far and that was not given yet. After `AllocError` the player is of no further use.
+    pub fn feed(&mut self, bytes: &[u8], out: &mut Vec<u8>) -> Result<(), AllocError>
+        requires ready { IsPlayer self.old }
+        requires few { self.old.fed + length bytes.now ≤ self.old.sound.size }
+        ensures ready { OnOk result (IsPlayer self.new) }
+        ensures same { (self.new.taps ≡ self.old.taps) × (self.new.sound ≡ self.old.sound) }
+        ensures fed { OnOk result (self.new.fed ≡ self.old.fed + length bytes.now) }
+        ensures ok { OnOk result (FeedsPlayer self.old self.new bytes.now out.old.items out.new.items) }
+    {
+        let fed = self.fed + bytes.len();
+        let number = bytes_heard(&self.sound, fed) - bytes_heard(&self.sound, self.fed);
+        self.held.extend_from_slice(bytes)?;
+        let size = group_size(&self.sound);
+        let whole = self.held.len() / size * size;
+        let (groups, _) = self.held.split_at(whole);
+        feed_all(
+            &mut self.streams,
+            &mut self.own,
+            &mut self.tile,
+            groups,
+            &self.sound,
+            number,
+        )?;
+        push_tile(
+            out,
+            self.taps.width(),
+            self.tile.as_slice(),
+            self.sound.channels,
+        )?;
+        drop_front(&mut self.held, whole);
+        self.fed = fed;
+        Ok(())
+    }
+
+    /// Appends the bytes of the rest of the frames. All bytes of the sound were fed, and after `Ok` or
+    /// `AllocError` the player is of no further use.
+    pub fn finish(&mut self, out: &mut Vec<u8>) -> Result<(), AllocError>
+        requires ready { IsPlayer self.old }
+        requires all { self.old.fed ≡ self.old.sound.size }
+        ensures ok { OnOk result (FinishesPlayer self.old out.old.items out.new.items) }
+    {
+        finish_all(&mut self.streams, &mut self.tile)?;
+        push_tile(
+            out,
+            self.taps.width(),
+            self.tile.as_slice(),
+            self.sound.channels,
+        )?;
+        Ok(())
+    }
+}
+
+// A stream for each channel, before its first byte.
+fn streams_of(alloc: Global, taps: &Taps, sound: &Sound) -> Result<Vec<Stream>, AllocError>
+    requires { sound.now.count ≤ 2 ^ 36 }
+    ensures number { IfOk result (λ streams. length streams.items ≡ sound.now.channels) }
+    ensures each { IfOk result (λ streams. AreNew taps.now sound.now.count streams.items) }
+{
+    let mut streams = Vec::new(alloc);
+    for _channel in 0..sound.channels {
+        let stream = Stream::new(alloc, taps, sound.count)?;
+        streams.push(stream)?;
+    }
+    Ok(streams)
+}
+
+// Appends the bytes of the frames of samples that are given channel by channel.
+fn push_tile(out: &mut Vec<u8>, width: u32, tile: &[i32], channels: usize) -> Result<(), AllocError>
+    requires channels { 1 ≤ channels }
+    requires width { (width ≡ 16) ⊎ (width ≡ 24) }
+    requires values { All (IsSample width) tile.now }
+    ensures { OnOk result (out.new.items ≡ out.old.items ++ flat_map (sample_bytes width) (frames_of tile.now (length tile.now / channels))) }
+{
+    let frames = tile.len() / channels;
+    if frames == 0 {
+        return Ok(());
+    }
+    push_frames(out, width, tile, frames)
+}
+
+// Feeds each stream its channel's first bytes in whole groups of sound bytes. The samples that become due take the
+// place of what `tile` held, channel by channel.
+fn feed_all(
+    streams: &mut [Stream],
+    own: &mut Vec<u8>,
+    tile: &mut Vec<i32>,
+    groups: &[u8],
+    sound: &Sound,
+    number: usize,
+) -> Result<(), AllocError>
+    requires channels { (length streams.old ≡ sound.now.channels) × (sound.now.channels ≤ 6) }
+    requires ready { AreReady number streams.old }
+    requires enough { number ≤ length groups.now / Groups.group_size sound.now.order sound.now.channels * Groups.part_size sound.now.order }
+    ensures channels { OnOk result ((d : Decimator) (fed : ℕ) → AreChannels d sound.now.count fed streams.old → AreChannels d sound.now.count (fed + number) streams.new) }
+    ensures fed { OnOk result ((d : Decimator) (fed : ℕ) → AreChannels d sound.now.count fed streams.old → FeedAll d sound.now fed number streams.old streams.new groups.now tile.new.items) }
+{
+    tile.clear();
+    for (c, stream) in streams.iter_mut().enumerate() {
+        feed_one(
+            stream,
+            own,
+            tile,
+            groups,
+            sound.channels,
+            c,
+            sound.order,
+            number,
+        )?;
+    }
+    Ok(())
+}
+
+// Feeds a stream the first bytes of channel `c` in whole groups of sound bytes.
+fn feed_one(
+    stream: &mut Stream,
+    own: &mut Vec<u8>,
+    tile: &mut Vec<i32>,
+    groups: &[u8],
+    channels: usize,
+    c: usize,
+    order: Option<BitOrder>,
+    number: usize,
+) -> Result<(), AllocError>
+    requires ready { IsStream stream.old }
+    requires few { stream.old.fed + number ≤ div_ceil stream.old.count 8 }
+    requires channel { (c < channels) × (channels ≤ 6) }
+    requires enough { number ≤ length groups.now / Groups.group_size order channels * Groups.part_size order }
+    ensures ready { IsStream stream.new }
+    ensures ok { OnOk result (Feeds (state_of stream.old) (state_of stream.new) (channel_part order channels groups.now c 0 number) tile.old.items tile.new.items) }
+    ensures fed { OnOk result (stream.new.fed ≡ stream.old.fed + number) }
+    ensures same { (stream.new.taps ≡ stream.old.taps) × (stream.new.count ≡ stream.old.count) }
+{
+    fill_channel(own, groups, channels, c, order, number)?;
+    stream.feed(own.as_slice(), tile)
+}
+
+// Gives the rest of each stream's samples. They take the place of what `tile` held, channel by channel.
+fn finish_all(streams: &mut [Stream], tile: &mut Vec<i32>) -> Result<(), AllocError>
+    requires ready { AreWhole streams.old }
+    ensures { OnOk result ((d : Decimator) (s : Sound) → length streams.old ≡ s.channels → FinishAll d s streams.old tile.new.items) }
+{
+    tile.clear();
+    for stream in streams.iter_mut() {
+        stream.finish(tile)?;
+    }
+    Ok(())
+}

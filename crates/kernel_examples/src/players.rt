@@ -61,7 +61,10 @@ const FRAMES: [u8; 20] = [
 fn plays_a_byte_of_each_channel_in_turn(rt: HostRuntime) -> Result<(), Fail> {
     let mut out = Vec::new(rt.alloc());
     // The first sample's place is 32, in the fifth byte of each channel.
-    assert!(rt; laced(rt.alloc(), &mut out)? == (0, 4), "when frames are due");
+    assert!(rt;
+        laced(rt.alloc(), &mut out)? == (0, 4),
+        "when frames are due"
+    );
     assert!(rt; out.as_slice() == FRAMES.as_slice(), "the frames");
     Ok(())
 }
@@ -89,7 +92,10 @@ fn blocked(alloc: Global, out: &mut Vec<u8>) -> Result<usize, Fail> {
 #[test]
 fn plays_blocks_once_they_are_whole(rt: HostRuntime) -> Result<(), Fail> {
     let mut out = Vec::new(rt.alloc());
-    assert!(rt; blocked(rt.alloc(), &mut out)? == 0, "nothing is due in a part of a block");
+    assert!(rt;
+        blocked(rt.alloc(), &mut out)? == 0,
+        "nothing is due in a part of a block"
+    );
     // The earliest bits are 1, 1, 1, 1.
     assert!(rt; out.as_slice() == [10, 0, 0].as_slice(), "one sample");
     Ok(())

@@ -129,8 +129,6 @@ pub(crate) fn drop_front(held: &mut Vec<u8>, cut: usize)
     ensures { held.new.items ≡ drop cut held.old.items }
 {
     let left = held.len() - cut;
-    for i in 0..left {
-        held[i] = held[i + cut];
-    }
+    held.copy_within(cut.., 0);
     held.truncate(left);
 }

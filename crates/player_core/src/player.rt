@@ -99,6 +99,7 @@ impl<'a> Player<'a> {
     pub fn finish(&mut self, out: &mut Vec<u8>) -> Result<(), AllocError>
         requires ready { IsPlayer self.old }
         requires all { self.old.fed ≡ self.old.sound.size }
+        ensures same { (self.new.taps ≡ self.old.taps) × (self.new.sound ≡ self.old.sound) × (self.new.fed ≡ self.old.fed) }
         ensures ok { OnOk result (FinishesPlayer self.old out.old.items out.new.items) }
     {
         finish_all(&mut self.streams, &mut self.tile)?;

@@ -39,15 +39,12 @@ push_tile-requires-clause-values c =
     rw c.as_slice.ensures.value (rest_in_range p.sound c.requires.ready.sound c.requires.ready.whole past.0 (sym past.1.fed ∙ c.requires.all) p.taps.now c.finish_all.new.tile.items c.width.result c.width.ensures.value (known p c.requires.ready).known_width
     (made (goal.at.push_tile-requires-clause-values c).After-as_slice past.0 past.1))
 
-pub returns : goal.returns
-returns c =
+pub returns-clause-ok : goal.returns-clause-ok
+returns-clause-ok c =
     let p = c.args.self.now in
     let s = p.sound in
-    let d = p.taps.now in
-    record {
-      ok = (
-        flat_map (sample_bytes d.width) (frames_of c.finish_all.new.tile.items (length c.finish_all.new.tile.items / s.channels)),
-        c.in_ok-push_tile.ensures ∙ ap₂ (λ (w : ℕ) (xs : List ℤ). c.args.out.now.items ++ flat_map (sample_bytes w) (frames_of xs (length xs / s.channels))) c.width.ensures.value c.as_slice.ensures.value,
-        λ before fed. gives_all s c.requires.ready.sound c.requires.ready.whole before (sym fed.fed ∙ c.requires.all) d c.finish_all.new.tile.items (known p c.requires.ready).least_factor (made (goal.at.returns c).After-as_slice before fed),
-      );
-    }
+    let d = p.taps.now in (
+      flat_map (sample_bytes d.width) (frames_of c.finish_all.new.tile.items (length c.finish_all.new.tile.items / s.channels)),
+      c.in_ok-push_tile.ensures ∙ ap₂ (λ (w : ℕ) (xs : List ℤ). c.args.out.now.items ++ flat_map (sample_bytes w) (frames_of xs (length xs / s.channels))) c.width.ensures.value c.as_slice.ensures.value,
+      λ before fed. gives_all s c.requires.ready.sound c.requires.ready.whole before (sym fed.fed ∙ c.requires.all) d c.finish_all.new.tile.items (known p c.requires.ready).least_factor (made (goal.at.returns-clause-ok c).After-as_slice before fed),
+    )

@@ -1,5 +1,5 @@
 -- The streams of a sound, finished one after the other.
-use Rattle.std.proofs.Common.{◌≡◌, ◌≢◌, ℕ, ◌+◌, ◌-◌, ◌<◌, ◌≤◌, ℤ, List, [], ◌++◌, map, length, get_or, set, refl, sym, subst, ap, ◌∙◌, arith, get_or-set_other, length-set}
+use Rattle.std.proofs.Common.{◌≡◌, ◌≢◌, ℕ, ◌+◌, ◌-◌, ◌<◌, ◌≤◌, ℤ, List, ◌++◌, map, length, get_or, set, sym, subst, ap, ◌∙◌, arith, get_or-set_other, length-set}
 use Rattle.std.specs.List.{range_with_len}
 use Rattle.std.specs.Int.{div_ceil}
 use Rattle.dsd_bits.specs.declared.sound.Sound.{Sound}
@@ -19,9 +19,6 @@ pub record FinishedUpTo (old now : List Stream) (tile : List ℤ) (c : ℕ) : Ty
   pub later : (k : ℕ) (t : Stream) → c ≤ k → get_or now k t ≡ get_or old k t
   pub given : (d : Decimator) (s : Sound) (bytes : List ℕ) → AreChannels d s.count (bytes_heard s (length bytes)) old → AllFit s old bytes
       → tile ≡ tile_of d (map (channel_whole s bytes) (range_with_len 0 c)) (frames_due d s (length bytes)) (div_ceil s.count d.factor - frames_due d s (length bytes))
-
-pub finished_none : (old : List Stream) → FinishedUpTo old old [] 0
-finished_none old = record { long = refl; later = λ k t h. refl; given = λ d s bytes are fits. refl }
 
 pub finished_next : (old now : List Stream) (tile tile' : List ℤ) (c : ℕ) (new t : Stream) → FinishedUpTo old now tile c → c < length old → Finishes (state_of (get_or now c t)) tile tile'
     → FinishedUpTo old (set now c new) tile' (c + 1)

@@ -1,5 +1,5 @@
 -- The streams of a sound, fed one after the other.
-use Rattle.std.proofs.Common.{◌≡◌, ◌≢◌, ℕ, ◌+◌, ◌-◌, ◌*◌, ◌<◌, ◌≤◌, ℤ, List, [], ◌++◌, map, length, get_or, set, refl, sym, subst, ap, ◌∙◌, inl, inr, arith, get_or-set_other, get_or-set_same, length-set}
+use Rattle.std.proofs.Common.{◌≡◌, ◌≢◌, ℕ, ◌+◌, ◌-◌, ◌*◌, ◌<◌, ◌≤◌, ℤ, List, ◌++◌, map, length, get_or, set, sym, subst, ap, ◌∙◌, inl, inr, arith, get_or-set_other, get_or-set_same, length-set}
 use Rattle.std.specs.List.{range_with_len}
 use Rattle.std.proofs.lemmas.Bool.{cases_lt}
 use Rattle.dsd_bits.specs.declared.sound.Sound.{Sound}
@@ -22,14 +22,6 @@ pub record FedUpTo (s : Sound) (number : ℕ) (groups : List ℕ) (old now : Lis
       → bytes_heard s (length front) ≡ fed → bytes_heard s (length (front ++ groups)) ≡ fed + number → AllFit s old front
       → ((i : ℕ) (t : Stream) → i < c → Fits (state_of (get_or now i t)) (channel_bytes s (front ++ groups) i))
       × (tile ≡ tile_of d (map (channel_bits s (front ++ groups)) (range_with_len 0 c)) (frames_due d s (length front)) (frames_due d s (length (front ++ groups)) - frames_due d s (length front)))
-
-pub fed_none : (s : Sound) (number : ℕ) (groups : List ℕ) (old : List Stream) → FedUpTo s number groups old old [] 0
-fed_none s number groups old = record {
-  long = refl;
-  later = λ k t h. refl;
-  done = λ d fed are k t h. absurd (omega arith);
-  fits = λ d fed are front k long was is all. (λ i t h. absurd (omega arith), refl);
-}
 
 module _ (s : Sound) (number : ℕ) (groups : List ℕ) (old now : List Stream) (tile tile' : List ℤ) (c : ℕ) (new t : Stream)
     (so_far : FedUpTo s number groups old now tile c) (low : c < length old) (few : length old ≤ s.channels)

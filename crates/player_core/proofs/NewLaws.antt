@@ -1,19 +1,12 @@
 -- Streams before their first byte.
-use Rattle.std.proofs.Common.{◌≡◌, ℕ, List, [], ◌∷◌, ◌++◌, length, get_or, refl, sym, subst, ap, ◌∙◌, inl, inr, arith, length-append, zero-mul, ◌-◌, ◌*◌, ◌/◌}
+use Rattle.std.proofs.Common.{◌≡◌, ℕ, List, [], ◌∷◌, ◌++◌, length, get_or, refl, sym, subst, ap, ◌∙◌, inl, inr, arith, length-append, ◌-◌}
 use Rattle.std.proofs.lemmas.Bool.{cases_lt}
 use Rattle.std.proofs.lemmas.List.{get_or_append_left, get_or-append_right}
-use Rattle.std.proofs.Math.Nat.{zero-div}
-use Rattle.dsd_bits.specs.declared.sound.Sound.{Sound}
 use Rattle.fir_core.specs.Decimator.{Decimator}
 use Rattle.fir_core.specs.Streams.{Fits}
 use Rattle.fir_core.specs.StreamView.{IsStream, state_of}
 use Rattle.fir_core.specs.declared.stream.Stream.{Stream}
-use Rattle.player_core.specs.Due.{bytes_heard}
-use Rattle.player_core.specs.Groups.{channel_part, part_size}
-use Rattle.player_core.specs.PlayerView.{AllFit, AreChannels, AreNew, IsChannel}
-
-pub none_new : (d : Decimator) (count : ℕ) → AreNew d count []
-none_new d count = λ c t h. absurd (omega arith)
+use Rattle.player_core.specs.PlayerView.{AreNew, IsChannel}
 
 pub one_new_more : (d : Decimator) (count : ℕ) (streams more : List Stream) (new : Stream) → more ≡ streams ++ new ∷ [] → AreNew d count streams
     → IsStream new → state_of new ≡ record { decimator = d; count = count; fed = 0; held = [] } → Fits (state_of new) [] → AreNew d count more
@@ -27,16 +20,3 @@ one_new_more d count streams more new is are ready made fits = subst (AreNew d c
       subst (λ (u : Stream). IsChannel d count 0 u × Fits (state_of u) []) (sym e)
       (record { ready = ready; filter = ap (λ s. s.decimator) made; bits = ap (λ s. s.count) made; bytes = ap (λ s. s.fed) made }, fits)
 ])
-
--- before the first byte nothing is heard
-pub nothing_heard : (s : Sound) → bytes_heard s 0 ≡ 0
-nothing_heard s =
-    let none : 0 / (s.channels * part_size s.order) ≡ 0 = zero-div (s.channels * part_size s.order) in
-    let parts : 0 / (s.channels * part_size s.order) * part_size s.order ≡ 0 = ap (λ n. n * part_size s.order) none ∙ zero-mul (part_size s.order) in
-    omega (arith, parts)
-
-pub new_channels : (d : Decimator) (s : Sound) (streams : List Stream) → AreNew d s.count streams → AreChannels d s.count (bytes_heard s 0) streams
-new_channels d s streams are = λ c t h. subst (λ (n : ℕ). IsChannel d s.count n (get_or streams c t)) (sym (nothing_heard s)) (are c t h).0
-
-pub new_fit : (d : Decimator) (s : Sound) (streams : List Stream) → AreNew d s.count streams → AllFit s streams []
-new_fit d s streams are = λ c t h. subst (Fits (state_of (get_or streams c t))) (sym (ap (channel_part s.order s.channels [] c 0) (nothing_heard s))) (are c t h).1

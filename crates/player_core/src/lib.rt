@@ -17,7 +17,8 @@
 //!
 //! What it promises: whatever bytes a player was fed before, what [`Player::feed`] appends makes of the bytes
 //! that were due those that are due now, and what [`Player::finish`] appends makes of them those of all frames.
-//! So the pieces' sizes change nothing.
+//! So the pieces' sizes change nothing. [`frames_of_a_front_come_first`] carries the law that what is due after a front
+//! of the sound is a front of all frames.
 //!
 //! ```text
 //! let mut player = Player::new(alloc, &taps, sound)?;
@@ -31,5 +32,5 @@ mod groups;
 mod player;
 mod wave_file;
 
-pub use player::Player;
+pub use player::{Player, frames_of_a_front_come_first};
 pub use wave_file::wave_of;

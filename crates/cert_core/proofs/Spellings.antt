@@ -1,7 +1,9 @@
 -- Bytes spell one number, one row, one list of rows.
-use Rattle.std.proofs.Common.{◌≡◌, ℕ, suc, ◌/◌, ◌%◌, ◌^◌, ◌<◌, ◌≤◌, List, [], ◌∷◌, ◌++◌, refl, sym, ap, ◌∙◌, append_assoc, length, take, drop, get_or, inl, inr, arith}
+use Rattle.std.proofs.Common.{◌≡◌, ℕ, suc, ◌+◌, ◌*◌, ◌/◌, ◌%◌, ◌^◌, ◌<◌, ◌≤◌, List, [], ◌∷◌, ◌++◌, refl, sym, ap, ap₂, ◌∙◌, append_assoc, length, take, drop, get_or, set, inl, inr, arith}
 use Rattle.std.proofs.lemmas.Bool.{cases_lt}
-use Rattle.std.proofs.lemmas.List.{get_or_past}
+use Rattle.std.proofs.lemmas.List.{append-nil, get_or_past, take_more_set}
+use Rattle.std.proofs.lemmas.Grind.{flat_map-append}
+use Rattle.cost_core.proofs.Chunks.{take_two}
 use Rattle.std.specs.List.{flat_map}
 use Rattle.std.proofs.lemmas.Nat.{from_be_bytes-to_be_bytes_8}
 use Rattle.std.specs.Int.{w64, to_be_bytes, from_be_bytes}
@@ -36,6 +38,14 @@ row_inj (v ∷ row) (v2 ∷ row2) n f f2 r r2 e =
     let w = number_inj v v2 (f 0) (f2 0) (row_text row ++ r) (row_text row2 ++ r2) e in
     let u = row_inj row row2 (omega arith) (λ q. f (suc q)) (λ q. f2 (suc q)) r r2 w.1 in
     (ap (λ x. x ∷ row) w.0 ∙ ap (λ l. v2 ∷ l) u.0, u.1)
+
+-- the text of a row with one more number
+pub text_more : (bytes row : List ℕ) (i v : ℕ) → take (8 * i) bytes ≡ row_text (take i row) → take 8 (drop (8 * i) bytes) ≡ to_be_bytes w64 v → i < length row
+    → take (8 * (i + 1)) bytes ≡ row_text (take (i + 1) (set row i v))
+text_more bytes row i v before is low =
+    let n : 8 * (i + 1) ≡ 8 * i + 8 = omega arith in
+    ap (λ m. take m bytes) n ∙ take_two (8 * i) 8 bytes ∙ ap₂ (λ xs ys. xs ++ ys) before is
+    ∙ sym (ap row_text (take_more_set row i v low) ∙ flat_map-append (to_be_bytes w64) (take i row) (v ∷ []) ∙ ap (λ xs. row_text (take i row) ++ xs) (append-nil (to_be_bytes w64 v)))
 
 -- rows of m values below 2 ^ 64
 abbrev pub AreRows : ℕ → List (List ℕ) → Type 0

@@ -71,18 +71,9 @@ pub fn take_row(bytes: &[u8], row: &mut [u64])
     requires { length bytes.now ≡ 8 * length row.old }
     ensures { bytes.now ≡ row_text row.new }
 {
+    let (numbers, _) = bytes.as_chunks::<8>();
     for place in 0..row.len() {
-        let at = 8 * place;
-        row[place] = number_in([
-            bytes[at],
-            bytes[at + 1],
-            bytes[at + 2],
-            bytes[at + 3],
-            bytes[at + 4],
-            bytes[at + 5],
-            bytes[at + 6],
-            bytes[at + 7],
-        ]);
+        row[place] = number_in(numbers[place]);
     }
 }
 

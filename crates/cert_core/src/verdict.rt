@@ -1,39 +1,43 @@
 //! What a reader of certificates answers.
 
+use std::{error, fmt};
 use thiserror::Error;
 
-/// Why a certificate is rejected.
-#[derive(Clone, Copy, Debug, PartialEq, Eq, Error)]
+/// Why a certificate is rejected. A reason's text is its name, and after a space each what it tells.
+#[derive(Clone, Copy, Debug, PartialEq, Eq)]
 pub enum CertReason {
     /// The bytes end too early.
-    #[error("Cut")]
     Cut,
     /// The head isn't the expected one, or an entry is of another cue or channel.
-    #[error("Head")]
     Head,
     /// The entry is of a bridge of another length.
-    #[error("Length")]
     Length,
     /// A value of a row is above `2^63`.
-    #[error("Bound")]
     Bound,
     /// The value of the start state at level 0 isn't 0.
-    #[error("Start")]
     Start,
     /// At this level the value of this state exceeds that of a state before it plus the cost of the
     /// step between them.
-    #[error("Step {0} {1}")]
     Step(usize, usize),
     /// The value of this state at the last level, plus the cost of ending there, is below the stated cost.
-    #[error("End {0}")]
     End(usize),
     /// The stated cost isn't that of the bits.
-    #[error("Cost")]
     Cost,
     /// Bytes follow the last entry.
-    #[error("Extra")]
     Extra,
 }
+
+impl fmt::Display for CertReason {
+    fn fmt<W: fmt::Write>(&self, f: &mut fmt::Formatter<W>) -> fmt::Result {
+        match self {
+            CertReason::Step(level, state) => write!(f, "Step {level} {state}"),
+            CertReason::End(state) => write!(f, "End {state}"),
+            _ => write!(f, "{self:?}"),
+        }
+    }
+}
+
+impl error::Error for CertReason {}
 
 /// Whether an entry shows the bits of a bridge to be least.
 #[derive(Clone, Copy, Debug, PartialEq, Eq)]

@@ -1,9 +1,10 @@
 -- Lemmas about bytes that are read from any bit on.
 use Rattle.std.proofs.Common.{◌≡◌, ℕ, ◌+◌, ◌-◌, ◌*◌, ◌/◌, ◌%◌, ◌^◌, ◌<◌, ◌≤◌, false, eqb, List, ◌++◌, max, length, get_or, slice_index, set, bit_or, slice_range, take, drop, get_or-take, get_or-drop, length-drop, length-take-le, length-append, eq-eqb, ne_eqb, refl, sym, ap, ◌∙◌, inl, inr, arith}
 use Rattle.std.proofs.Math.Nat.{max-zero, zero-max}
+use Rattle.std.proofs.Math.Seq.{take-append_seam}
 use Rattle.std.proofs.lemmas.Bool.{cases_lt, cases_eq}
 use Rattle.std.proofs.lemmas.Grind.{same_number_lists}
-use Rattle.std.proofs.lemmas.List.{get_or_append_left, get_or-append_right}
+use Rattle.std.proofs.lemmas.List.{get_or_append_left, get_or-append_right, take_all}
 use Rattle.std.proofs.lemmas.List.FromFn.{length-map-range_with_len, get_or-map-range_with_len}
 use Rattle.std.proofs.lemmas.Nat.{shr-shr}
 use Rattle.std.proofs.lemmas.Nat.Bits.{bit_at-lt, bit_at_or, bit_at_above, bit_at_cat_low, bit_at_cat_high}
@@ -83,6 +84,13 @@ pub written_back : (to rest : List ℕ) (n : ℕ) → length to ≡ n → take n
 written_back to rest n e =
     let size : length (take n (to ++ rest)) ≡ n = length-take-le n (to ++ rest) (omega (arith, length-append to rest)) in
     same_number_lists _ _ (size ∙ sym e) (λ k h. get_or-take n (to ++ rest) k 0 (omega arith) ∙ get_or_append_left to rest 0 k (omega arith))
+
+-- a slice behind the old bytes that was written
+pub written_behind : (old pad all front new rest : List ℕ) (kept n len : ℕ) → kept ≡ length old → kept ≤ n → all ≡ take n old ++ pad → front ≡ take kept all → length (front ++ new) ≡ len
+    → take len ((front ++ new) ++ rest) ≡ old ++ new
+written_behind old pad all front new rest kept n len k h all_is front_is size =
+    let whole = all_is ∙ ap (λ xs. xs ++ pad) (take_all n old (omega arith)) in
+    written_back (front ++ new) rest len size ∙ ap (λ xs. xs ++ new) (front_is ∙ ap (take kept) whole ∙ ap (λ m. take m (old ++ pad)) k ∙ take-append_seam old pad)
 
 -- bytes that are appended one by one
 pub appended : (old to source : List ℕ) (at size : ℕ) → length to ≡ length old + size → ((j : ℕ) → j < length old → slice_index to j ≡ slice_index old j)

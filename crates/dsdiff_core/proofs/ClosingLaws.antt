@@ -1,5 +1,5 @@
 -- What stands behind the sound of a file.
-use Rattle.std.proofs.Common.{◌≡◌, ◌↔◌, ℕ, ◌+◌, ◌-◌, ◌*◌, ◌/◌, ◌%◌, ◌^◌, ◌≤◌, inl, inr, min, Bool, true, false, cond, ltb, eqb, not, List, [], ◌∷◌, ◌++◌, append_assoc, length, map, take, drop, replicate, Some, Result, Ok, Err, refl, sym, ap, subst, ◌∙◌, arith}
+use Rattle.std.proofs.Common.{◌≡◌, ◌↔◌, ℕ, ◌+◌, ◌-◌, ◌*◌, ◌/◌, ◌%◌, ◌^◌, ◌≤◌, inl, inr, min, Bool, true, false, cond, ltb, eqb, not, List, [], ◌∷◌, ◌++◌, append_assoc, length, map, take, drop, replicate, Result, Ok, Err, refl, sym, ap, subst, ◌∙◌, arith}
 use Rattle.std.specs.Prelude.{filter, slice_range}
 use Rattle.std.proofs.lemmas.Bool.{cases_lt, eqb-true, le-ltb, ltb-false}
 use Rattle.std.proofs.lemmas.List.{drop_at, length-append, length-replicate, take_at}
@@ -23,7 +23,7 @@ use Rattle.dsdiff_core.specs.declared.fault.DsdiffFault.{DsdiffFault}
 use Rattle.dsdiff_core.specs.declared.fault.DsdiffFault.TheVariants as faults
 use Rattle.dsdiff_core.specs.Fields.{form_end, form_size}
 use Rattle.dsdiff_core.specs.Files.{joined}
-use Rattle.dsdiff_core.specs.Fronts.{EndsAt, IsAccepted, closes_of, closing_of, end_behind, form_of, frames_of, leading_of, sound_behind, is_known, later_of, left_behind, none_known, seek, size_at}
+use Rattle.dsdiff_core.specs.Fronts.{EndsAt, IsAccepted, closes_of, closing_of, end_behind, form_of, frames_of, leading_of, sound_behind, is_known, later_of, left_behind, none_known, size_at}
 use Rattle.dsdiff_core.specs.Kinds.{FRM8, has_id, is_property}
 use Rattle.dsdiff_core.specs.Forms.{version_of}
 use Rattle.dsdiff_core.specs.Marks.{mark_in}
@@ -37,18 +37,14 @@ use Rattle.dsdiff_core.proofs.OnceLaws.{Once, none_yet, once_ok}
 use Rattle.dsdiff_core.proofs.PropertyLaws.{IsProperty, IsTold, data_ok, property_ok}
 use Rattle.dsdiff_core.proofs.Steps.{not_false, walked_ok}
 use Rattle.dsdiff_core.specs.Masters.{has_no_cut_mark, is_no_cut_mark, masters_of}
-use Rattle.dsdiff_core.proofs.FrontLaws.{Leads, either, found_leads, only_properties, parted, sound_is_at, versioned}
+use Rattle.dsdiff_core.proofs.FrontLaws.{Leads, either, found_leads, only_properties, parted, sought_of, sound_is_at, versioned}
 use Rattle.dsdiff_core.proofs.KindLaws.{and_both, bool_cases, id_is, left_false, not_both, nothing_first, passes}
-use Rattle.dsdiff_core.proofs.LeadLaws.{At, Sought, number_front, part_front, range_joins, seek_ok}
+use Rattle.dsdiff_core.proofs.LeadLaws.{At, Sought, number_front, part_front, range_joins}
 use Rattle.dsdiff_core.proofs.MarkLaws.{none_cut_again, whole_marks}
 use Rattle.dsdiff_core.proofs.MasterLaws.{Each, front_uncut, masters_again, masters_ok}
 use Rattle.dsdiff_core.proofs.OtherSound.{all_join, led_there, tail_is}
 
 -- ---- what a front that ends at its sound holds
-
-sought_of : (front : List ℕ) (at : ℕ) → seek front ≡ Ok (Some at) → Sought front 16 (form_size front) at
-unfolding seek
-sought_of front at e = seek_ok (length front) 16 (form_size front) front at e
 
 pub record AtSound (front : List ℕ) (s : Sound) : Type 0 where
   pub lead : Leads front s

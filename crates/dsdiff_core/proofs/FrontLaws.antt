@@ -8,7 +8,7 @@ use Rattle.std.proofs.lemmas.List.Elements.{filter-append}
 use Rattle.std.proofs.lemmas.List.FromFn.{get_or-map-range_with_len, length-map-range_with_len}
 use Rattle.byteorder.specs.Endian.{big_number}
 use Rattle.chunk_core.specs.declared.layout.Span.{Span}
-use Rattle.chunk_core.specs.Chunks.{Chunk, width}
+use Rattle.chunk_core.specs.Chunks.{Chunk}
 use Rattle.chunk_core.specs.Places.{places, span_chunk}
 use Rattle.chunk_core.specs.Steps.{◌>>=◌}
 use Rattle.chunk_core.proofs.PlaceLaws.{spans_again}
@@ -25,14 +25,14 @@ use Rattle.dsdiff_core.specs.declared.fault.DsdiffFault.{DsdiffFault}
 use Rattle.dsdiff_core.specs.declared.fault.DsdiffFault.TheVariants as faults
 use Rattle.dsdiff_core.specs.Fields.{form_end, form_size}
 use Rattle.dsdiff_core.specs.Files.{IsDsdiff}
-use Rattle.dsdiff_core.specs.Fronts.{HoldsHead, IsAccepted, answer_of, behind, form_of, frames_of, leading_of, seek, size_at, sound_at, sound_behind, sound_from, sound_in, sound_told}
+use Rattle.dsdiff_core.specs.Fronts.{HoldsHead, IsAccepted, answer_of, form_of, frames_of, leading_of, seek, size_at, sound_at, sound_behind, sound_from, sound_in, sound_told}
 use Rattle.dsdiff_core.specs.Kinds.{FRM8, has_id, is_property}
 use Rattle.dsdiff_core.specs.Properties.{property_of}
 use Rattle.dsdiff_core.specs.Spans.{span_has, top_kinds}
 use Rattle.dsdiff_core.proofs.FileLaws.{is_property_of, stands}
 use Rattle.dsdiff_core.proofs.FormLaws.{version_again}
 use Rattle.dsdiff_core.proofs.KindLaws.{bool_cases, filter_chunks, no_property, not_both, nothing_first, order_again, passes}
-use Rattle.dsdiff_core.proofs.LeadLaws.{Led, number_front, part_front, seek_ends, seek_right}
+use Rattle.dsdiff_core.proofs.LeadLaws.{Led, Sought, behind_on, number_front, part_front, seek_ends, seek_ok, seek_right}
 use Rattle.dsdiff_core.proofs.OnceLaws.{once_again}
 use Rattle.dsdiff_core.proofs.PropertyLaws.{property_again, property_ok, told_by}
 use Rattle.dsdiff_core.proofs.Steps.{not_false}
@@ -255,7 +255,7 @@ more_of (Err f) e = absurd cc
 pub found_leads : (front : List ℕ) (s : Sound) → sound_at front ≡ Found s → Leads front s
 found_leads front s e = sound_ok front s (found_of (sound_in front) s e)
 
-sound_limits : (front : List ℕ) (at : ℕ) (s : Sound) → sound_behind front at ≡ Ok s → IsSound s × (s.order ≡ None)
+sound_limits : (front : List ℕ) (at : ℕ) (s : Sound) → sound_behind front at ≡ Ok s → IsSound s × (s.order ≡ None) × (s.count % 8 ≡ 0)
 unfolding sound_behind
 sound_limits front at s e =
     bind_then (leading_of front at) _ s e (λ top e1 h1.
@@ -270,7 +270,7 @@ sound_limits front at s e =
     let whole : size % n ≡ 0 = eqb-true _ _ (not_false _ a.0) in
     let eighth : 8 * (size / n) / 8 ≡ size / n = omega arith in
     let same : sound_told told.rate n at size ≡ s = cc (h3) in
-    subst (λ (t : Sound). IsSound t × (t.order ≡ None)) same (
+    subst (λ (t : Sound). IsSound t × (t.order ≡ None) × (t.count % 8 ≡ 0)) same (
       record {
         rate_low = p.is_told.rate_low;
         rate_high = p.is_told.rate_high;
@@ -280,6 +280,7 @@ sound_limits front at s e =
         size = (let even : size / n * n + 0 ≡ size / n * n = omega arith in sym (div-add-mod' size n) ∙ ap (λ (k : ℕ). size / n * n + k) whole ∙ even ∙ ap (λ (k : ℕ). k * n) (sym eighth));
       },
       refl,
+      omega arith,
     ))))
 
 -- where the sound starts, and its size
@@ -292,16 +293,26 @@ sound_is_at front at s e =
     let same : sound_told told.rate (length told.ids) at (size_at front at) ≡ s = cc (h3) in
     (ap (λ (x : Sound). x.start) (sym same), ap (λ (x : Sound). x.size) (sym same)))))
 
-pub in_limits : (front : List ℕ) (x : SoundAt) → x ≡ sound_at front → IfFound x (λ s. IsSound s × (s.order ≡ None))
+pub in_limits : (front : List ℕ) (x : SoundAt) → x ≡ sound_at front → IfFound x (λ s. IsSound s × (s.order ≡ None) × (s.count % 8 ≡ 0))
 in_limits front More e = tt
 in_limits front Refused e = tt
 in_limits front (Found s) e = let l = found_leads front s (sym e) in sound_limits front l.at s l.is
 
--- ---- where more bytes are wanted
+pub sought_of : (front : List ℕ) (at : ℕ) → seek front ≡ Ok (Some at) → Sought front 16 (form_size front) at
+unfolding seek
+sought_of front at e = seek_ok (length front) 16 (form_size front) front at e
 
-behind_on : (at : ℕ) (cs : List Chunk) → at ≤ behind at cs
-behind_on at [] = omega arith
-behind_on at (c ∷ cs) = omega (arith, behind_on (at + width c) cs)
+pub starts_inside : (front : List ℕ) (s : Sound) → sound_at front ≡ Found s → s.start ≤ length front
+starts_inside front s e =
+    let l = found_leads front s e in
+    omega (arith, (sound_is_at front l.at s l.is).0, (sought_of front l.at l.sought).whole)
+
+pub inside : (front : List ℕ) (x : SoundAt) → x ≡ sound_at front → IfFound x (λ s. s.start ≤ length front)
+inside front More e = tt
+inside front Refused e = tt
+inside front (Found s) e = starts_inside front s (sym e)
+
+-- ---- where more bytes are wanted
 
 some_none : (s : Sound) → done (Some s) ≡ done None → ⊥
 some_none s e = cc

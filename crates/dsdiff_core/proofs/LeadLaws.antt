@@ -191,6 +191,10 @@ none_first c cs e = elim (bool_cases (has_id DSD c)) [
   | inr other ↦ (other, rw other at e)
 ]
 
+pub behind_on : (at : ℕ) (cs : List Chunk) → at ≤ behind at cs
+behind_on at [] = omega arith
+behind_on at (c ∷ cs) = omega (arith, behind_on (at + width c) cs)
+
 -- more bytes are wanted only where the head of the sound is not there
 pub seek_ends : (steps from size : ℕ) (front : List ℕ) (at : ℕ) (before : List Chunk) → chunks (slice_range front from at) before → behind from before ≡ at → filter (has_id DSD) before ≡ [] → take 4 (drop at front) ≡ DSD → at + 12 ≤ length front
     → length front < from + steps → seek_for steps from front size ≡ Ok None → ⊥
@@ -299,3 +303,21 @@ seek_ok (suc steps) from size front at e = elim (cases_lt size from) [
     ]
   ]
 ]
+
+-- and such a head is found
+pub seek_again : (steps from size : ℕ) (front : List ℕ) (at : ℕ) (before : List Chunk) → chunks (slice_range front from at) before → behind from before ≡ at → filter (has_id DSD) before ≡ [] → take 4 (drop at front) ≡ DSD → at + 12 ≤ length front
+    → from ≤ at → at + size_at front at ≤ size → length front < from + steps → seek_for steps from front size ≡ Ok (Some at)
+unfolding seek_for
+seek_again zero from size front at before h gap none id whole onward fits enough = absurd (omega arith)
+seek_again (suc steps) from size front at [] h gap none id whole onward fits enough =
+    let is_sound : same_id (take 4 (drop from front)) DSD ≡ true = rw (gap, id) refl in
+    let fits_here : from + size_at front from ≤ size = subst (λ (k : ℕ). k + size_at front k ≤ size) (sym gap) fits in
+    rw (le-ltb size from (omega (arith, fits_here)), le-ltb (length front) (from + 12) (omega (arith, gap)), le-ltb size (from + size_at front from) fits_here, is_sound) (ap at_place gap)
+seek_again (suc steps) from size front at (c ∷ cs) h gap none id whole onward fits enough =
+    let p = range_parts front from at c cs h in
+    let passed = none_first c cs none in
+    let no_sound : same_id (take 4 (drop from front)) DSD ≡ false = rw p.0.id passed.0 in
+    let next : from + (12 + size_at front from + size_at front from % 2) ≡ from + width c = ap (λ (k : ℕ). from + (12 + k + k % 2)) p.0.size in
+    let further : from + width c ≤ at = omega (arith, behind_on (from + width c) cs, gap) in
+    rw (le-ltb size from (omega arith), le-ltb (length front) (from + 12) (omega (arith, p.0.inside)), le-ltb size (from + size_at front from) (omega (arith, p.0.fits, p.0.size)), no_sound, le-ltb (length front) (from + 12 + size_at front from) (omega (arith, p.0.inside, p.0.size)), next)
+    (seek_again steps (from + width c) size front at cs p.1 gap passed.1 id whole further fits (omega arith))

@@ -1,9 +1,14 @@
 -- Places of marks as signed numbers.
-use Rattle.std.proofs.Common.{◌≡◌, ℕ, ◌^◌, ◌<◌, arith}
+use Rattle.std.proofs.Common.{◌≡◌, ℕ, ◌+◌, ◌*◌, ◌^◌, ◌<◌, arith}
 use Rattle.std.specs.Prelude.{ℤ, pos, ◌+ℤ◌}
 use Rattle.std.specs.Int.{w32, w64, cast_signed, cast_unsigned}
 use Rattle.std.specs.Int.RustNames.{FitsSigned}
 use Rattle.std.proofs.lemmas.Int.{ints}
+
+-- the samples of a mark's time are few
+pub few_samples : (hours minutes seconds rate : ℕ) → hours < 2 ^ 16 → minutes < 2 ^ 8 → seconds < 2 ^ 8 → rate < 2 ^ 32
+    → ((hours * 60 + minutes) * 60 + seconds) * rate < 2 ^ 61
+few_samples hours minutes seconds rate h m s r = grind arith
 
 -- a number and a signed offset of 32 bits, added in 64 bits
 pub widened_sum : (n : ℕ) (offset : ℤ) → n < 2 ^ 62 → FitsSigned w32 offset

@@ -1,5 +1,5 @@
 -- Bytes that were appended piece by piece.
-use Rattle.std.proofs.Common.{◌≡◌, ℕ, ◌+◌, ◌*◌, ◌-◌, ◌%◌, ◌^◌, ◌<◌, ◌≤◌, All, List, [], ◌∷◌, ◌++◌, Some, flat_map, length, map, replicate, take, drop, get_or, Bool, true, false, refl, sym, ap, subst, ◌∙◌, append_assoc, arith}
+use Rattle.std.proofs.Common.{◌≡◌, ℕ, ◌+◌, ◌*◌, ◌-◌, ◌/◌, ◌%◌, ◌^◌, ◌<◌, ◌≤◌, All, List, [], ◌∷◌, ◌++◌, Some, flat_map, length, map, replicate, take, drop, get_or, Bool, true, false, refl, sym, ap, subst, ◌∙◌, append_assoc, arith, mul-le-mul_left}
 use Rattle.std.specs.Prelude.{if◌then◌else◌}
 use Rattle.std.proofs.lemmas.List.{append-nil, get_or-map, length-map, map-append, take_all, take_more}
 use Rattle.std.proofs.lemmas.List.Elements.{All-append, All-map, All-nil, All-push, All-same, filter-append}
@@ -46,6 +46,10 @@ four_more : (front a b c d : List ℕ) (now-0 now-1 now-2 now-3 now-4 : List ℕ
     → now-4 ≡ front ++ (a ++ (b ++ (c ++ d)))
 four_more front a b c d now-0 now-1 now-2 now-3 now-4 e-0 e-1 e-2 e-3 e-4 =
     e-4 ∙ ap (λ x. x ++ d) (e-3 ∙ ap (λ x. x ++ c) (e-2 ∙ ap (λ x. x ++ b) (e-1 ∙ ap (λ x. x ++ a) e-0))) ∙ simp append_assoc
+
+-- the sound's bytes are few
+pub few_bytes : (count number : ℕ) → count ≤ 2 ^ 36 → number ≤ 6 → count / 8 * number < 2 ^ 36
+few_bytes count number h n = omega (arith, mul-le-mul_left (count / 8) n)
 
 -- the sound's chunk, whose pad is written last
 pub sound_is : (channels : List (List Bool)) (old now-1 now-2 now-3 now-4 : List ℕ) (size n fill : ℕ) → size ≡ frames_of channels * length channels → now-1 ≡ old ++ DSD → now-2 ≡ now-1 ++ big_bytes 8 size → now-3 ≡ now-2 ++ laced channels

@@ -1,10 +1,12 @@
 -- What the words of the contracts have to do with each other.
-use Rattle.std.specs.Prelude.{◌≡◌, ℕ, List, ◌++◌, length}
+use Rattle.std.specs.Prelude.{◌≡◌, ◌≤◌, ◌↔◌, ℕ, ◌+◌, List, ◌++◌, length, take}
 use Rattle.dsd_bits.specs.declared.sound.Sound.{Sound}
+use Rattle.dsd_bits.specs.declared.sound.SoundAt.TheVariants.{Found}
 use Rattle.dsd_bits.specs.Contents.{Content}
 use Rattle.dsd_bits.specs.Lacing.{unlaced_all}
+use Rattle.dsdiff_core.specs.Fields.{form_size}
 use Rattle.dsdiff_core.specs.Files.{IsDsdiff}
-use Rattle.dsdiff_core.specs.Fronts.{EndsAt, HoldsHead, IsAccepted}
+use Rattle.dsdiff_core.specs.Fronts.{EndsAt, HoldsHead, IsAccepted, sound_at}
 
 -- a file holds one recording at most
 abbrev pub OneRecording : Type 0
@@ -19,3 +21,11 @@ OtherSound =
 -- a file that is accepted holds the head of its sound
 abbrev pub SoundHasHead : Type 0
 SoundHasHead = (file : List ℕ) → IsAccepted file → HoldsHead file
+
+-- the front of a file, cut where the sound that it tells of starts, tells of the same sound
+abbrev pub SoundEndsFront : Type 0
+SoundEndsFront = (front : List ℕ) (s : Sound) → sound_at front ≡ Found s → sound_at (take s.start front) ≡ Found s
+
+-- bytes behind the form, whose last pad is there, change nothing of what the file holds
+abbrev pub FormEnds : Type 0
+FormEnds = (file rest : List ℕ) (r : Content) → 12 + form_size file ≤ length file → IsDsdiff file r ↔ IsDsdiff (file ++ rest) r

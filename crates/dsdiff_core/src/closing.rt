@@ -4,15 +4,27 @@ ghost use Rattle.std.specs.Prelude.{◌≡◌, ◌≤◌, ◌+◌, ◌-◌, ◌+
 ghost use Rattle.chunk_core.specs.Places.{span_chunk};
 ghost use Rattle.dsd_bits.specs.declared.sound.Sound.{Sound};
 ghost use Rattle.dsdiff_core.specs.Fields.{form_size};
-ghost use Rattle.dsdiff_core.specs.Fronts.{EndsAt, EndsAtSound, IsAccepted, closes_of, closing_of, later_of, is_known, none_known, size_at};
+ghost use Rattle.dsdiff_core.specs.Fronts.{EndsAt, EndsAtSound, IsAccepted, closes_of, closing_of, later_of, left_behind, is_known, none_known, size_at};
 ghost use Rattle.dsdiff_core.specs.Spans.{StandsIn};
 ghost use Rattle.dsdiff_core.specs.Steps.{Gives};
 
 use crate::fault::DsdiffFault;
 use crate::masters::master_chunks;
 use crate::spans::is_sound_property;
-use chunk_core::{Order, Span, head, walk};
+use byteorder::{BigEndian, ByteOrder};
+use chunk_core::{Span, walk};
 use std::alloc::{AllocError, Global};
+
+/// How many bytes of the form stand behind the sound of a file that begins with `front`, which ends where the
+/// sound starts: its pad and the later chunks. The last of them may be missing, a last pad.
+///
+/// It takes no memory.
+pub fn bytes_behind(front: &[u8]) -> u64
+    requires { EndsAtSound front.now }
+    ensures { (s : Sound) → EndsAt front.now s → result ≡ left_behind front.now s.size }
+{
+    left_behind(front)
+}
 
 /// Whether a file is accepted that is `front`, which ends where the sound starts, so many zero bytes as the
 /// sound has, and `back`. Which bytes the sound has does not matter
@@ -62,18 +74,33 @@ fn later_chunks(alloc: Global, front: &[u8], back: &[u8]) -> Result<Vec<Span>, D
     ensures exact { Gives (λ v. v.items) result (later_of front.now (size_at front.now (length front.now - 12)) back.now) }
     ensures inside { IfOk result (λ v. All (StandsIn back.now) v.items) }
 {
-    let at = front.len() - 12;
-    let (Some(form), Some(sound)) = (head(Order::Big, front, 0), head(Order::Big, front, at)) else {
-        return Err(DsdiffFault::NotDsdiff);
-    };
-    let left = form.size - at as u64 - sound.size;
+    let left = left_behind(front);
     if (back.len() as u64) + 1 < left {
         return Err(DsdiffFault::FormCut);
     }
     let end = left.min(back.len() as u64) as usize;
-    let pad = (sound.size % 2) as usize;
+    let pad = (size_at(front, front.len() - 12) % 2) as usize;
     let later = walk(alloc, back, pad.min(end), end)?;
     Ok(later)
+}
+
+// How many bytes of the form stand behind the sound, by the sizes of both.
+fn left_behind(front: &[u8]) -> u64
+    requires long { 28 ≤ length front.now }
+    requires fits { length front.now + size_at front.now (length front.now - 12) ≤ 12 + form_size front.now }
+    ensures { result ≡ left_behind front.now (size_at front.now (length front.now - 12)) }
+{
+    let at = front.len() - 12;
+    size_at(front, 0) - at as u64 - size_at(front, at)
+}
+
+// The size in the head at a place.
+fn size_at(front: &[u8], at: usize) -> u64
+    requires { at + 12 ≤ length front.now }
+    ensures { result ≡ size_at front.now at }
+{
+    let (_, number) = front.split_at(at + 4);
+    BigEndian::read_u64(number)
 }
 
 // Whether no chunk is a version, a sound property or a sound.

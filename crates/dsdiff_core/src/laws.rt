@@ -1,7 +1,7 @@
 //! What the words of the contracts have to do with each other. The functions do nothing: a caller's
 //! proof cites what they ensure.
 
-ghost use Rattle.dsdiff_core.specs.Laws.{OneRecording, OtherSound, SoundHasHead};
+ghost use Rattle.dsdiff_core.specs.Laws.{FormEnds, OneRecording, OtherSound, SoundEndsFront, SoundHasHead};
 
 /// A file holds one recording at most.
 pub fn one_recording()
@@ -18,4 +18,16 @@ pub fn bytes_of_sound_do_not_matter()
 /// more bytes.
 pub fn accepted_files_have_a_head()
     ensures { SoundHasHead }
+{}
+
+/// The front of a file, cut where the sound that it tells of starts, tells of the same sound: the bytes from
+/// there on are not wanted for it.
+pub fn front_ends_at_sound()
+    ensures { SoundEndsFront }
+{}
+
+/// Bytes behind the form do not matter, where its last pad is there: with them the file holds a recording
+/// exactly where it does without them, and the same one.
+pub fn bytes_behind_the_form_do_not_matter()
+    ensures { FormEnds }
 {}

@@ -67,10 +67,13 @@ mod write_fault;
 mod writing;
 mod writing_laws;
 
-pub use closing::closes;
+pub use closing::{bytes_behind, closes};
 pub use fault::DsdiffFault;
 pub use front::sound_at;
-pub use laws::{accepted_files_have_a_head, bytes_of_sound_do_not_matter, one_recording};
+pub use laws::{
+    accepted_files_have_a_head, bytes_behind_the_form_do_not_matter, bytes_of_sound_do_not_matter,
+    front_ends_at_sound, one_recording,
+};
 pub use places::{mark_at, place};
 pub use reading::read;
 pub use write_fault::WriteFault;

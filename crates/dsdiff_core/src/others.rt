@@ -1,10 +1,11 @@
 //! Chunks that are kept as their bytes.
 
-ghost use Rattle.std.specs.Prelude.{◌≡◌, ◌++◌, All, OnOk, map};
+ghost use Rattle.std.specs.Prelude.{◌≡◌, ◌++◌, All, IfOk, OnOk, map};
 ghost use Rattle.chunk_core.specs.Places.{span_chunk};
 ghost use Rattle.dsd_bits.specs.Contents.{other_content};
 ghost use Rattle.dsd_bits.specs.Shape.{has_part};
 ghost use Rattle.dsdiff_core.specs.Others.{kept};
+ghost use Rattle.dsdiff_core.specs.Reading.{others_of};
 ghost use Rattle.dsdiff_core.specs.Spans.{StandsIn};
 
 use crate::spans::{data_of, is_sound_property};
@@ -12,8 +13,28 @@ use chunk_core::Span;
 use dsd_bits::{Other, Place};
 use std::alloc::{AllocError, Global};
 
-/// Appends those of a place's chunks that are kept.
-pub(crate) fn push_kept(
+/// What is kept of the chunks of the sound property, of the edited masters and of the form, in this order.
+pub(crate) fn kept_chunks(
+    alloc: Global,
+    file: &[u8],
+    parts: &[Span],
+    inner: &[Span],
+    top: &[Span],
+) -> Result<Vec<Other>, AllocError>
+    requires parts { All (StandsIn file.now) parts.now }
+    requires inner { All (StandsIn file.now) inner.now }
+    requires top { All (StandsIn file.now) top.now }
+    ensures { IfOk result (λ v. map other_content v.items ≡ others_of file.now parts.now inner.now top.now) }
+{
+    let mut others = Vec::new(alloc);
+    push_kept(alloc, &mut others, Place::Property, file, parts)?;
+    push_kept(alloc, &mut others, Place::Master, file, inner)?;
+    push_kept(alloc, &mut others, Place::Form, file, top)?;
+    Ok(others)
+}
+
+// Appends those of a place's chunks that are kept.
+fn push_kept(
     alloc: Global,
     others: &mut Vec<Other>,
     place: Place,

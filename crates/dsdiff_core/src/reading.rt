@@ -10,10 +10,10 @@ use crate::fault::DsdiffFault;
 use crate::form::form_chunks;
 use crate::marks::read_marks;
 use crate::masters::master_chunks;
-use crate::others::push_kept;
+use crate::others::kept_chunks;
 use crate::property::read_property;
 use crate::sound::{channels_of, find_sound};
-use dsd_bits::{Place, Recording, usual_layout};
+use dsd_bits::{Recording, usual_layout};
 use std::alloc::Global;
 
 /// The recording that a DSDIFF 1.5 file holds: its rate in hertz, a list of bits for each channel, the
@@ -62,10 +62,7 @@ fn read_in_order(alloc: Global, file: &[u8]) -> Result<Recording, DsdiffFault>
     let inner = master_chunks(alloc, file, &top)?;
     let channels = channels_of(alloc, sound, number)?;
     let marks = read_marks(alloc, file, &inner)?;
-    let mut others = Vec::new(alloc);
-    push_kept(alloc, &mut others, Place::Property, file, &told.parts)?;
-    push_kept(alloc, &mut others, Place::Master, file, &inner)?;
-    push_kept(alloc, &mut others, Place::Form, file, &top)?;
+    let others = kept_chunks(alloc, file, &told.parts, &inner, &top)?;
     Ok(Recording::new(
         told.rate,
         channels,

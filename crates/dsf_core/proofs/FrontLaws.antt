@@ -1,7 +1,7 @@
 -- The front of a file, and the files that begin with it.
-use Rattle.std.proofs.Common.{◌≡◌, ◌<◌, ◌↔◌, replicate, ℕ, ◌+◌, ◌-◌, ◌^◌, ◌&&◌, ◌≤◌, ◌⊎◌, inl, inr, Bool, true, false, cond, ltb, eqb, not, List, ◌++◌, length, take, drop, Some, Result, Ok, Err, refl, sym, ap, subst, ◌∙◌, arith, eq-eqb}
+use Rattle.std.proofs.Common.{◌≡◌, ◌<◌, ◌↔◌, replicate, ℕ, ◌+◌, ◌-◌, ◌^◌, ◌&&◌, ◌≤◌, ◌⊎◌, inl, inr, Bool, true, false, cond, ltb, eqb, not, List, ◌++◌, length, take, drop, Some, IsSome, Result, Ok, Err, refl, sym, ap, subst, ◌∙◌, arith, eq-eqb}
 use Rattle.std.proofs.lemmas.Bool.{cases_lt, lt-ltb, le-ltb, ltb-false}
-use Rattle.std.proofs.lemmas.List.{drop-append-le, take-append-le, length-append, length-drop, length-replicate}
+use Rattle.std.proofs.lemmas.List.{drop-append-le, take-append-drop, take-append-le, length-append, length-drop, length-replicate, length-take-le}
 use Rattle.std.proofs.lemmas.List.FromFn.{length-map-range_with_len}
 use Rattle.byteorder.specs.Endian.{little_number}
 use Rattle.byteorder.specs.Numbers.{little_from-take}
@@ -24,7 +24,7 @@ use Rattle.dsf_core.specs.declared.fault.DsfFault.TheVariants.{HeadCut, DataCut}
 use Rattle.dsf_core.specs.Fields.{id_at, u64_at, FMT, DATA, first_size, pointer, format_size, version, format, channel_number, rate, bits_per_sample, count, block_size, data_place, data_size, sound_place, needed, tag_told}
 use Rattle.dsf_core.specs.Files.{IsDsf}
 use Rattle.dsf_core.specs.Fronts.{HoldsHead, IsAccepted, EndsAtSound, answer_of, sound_told, sound_in, sound_at}
-use Rattle.dsf_core.specs.Laws.{SoundDoesNotMatter}
+use Rattle.dsf_core.specs.Laws.{SoundDoesNotMatter, SoundEndsFront}
 use Rattle.dsf_core.specs.Reading.{chunks_of, order_of, order_told, told}
 use Rattle.dsf_core.proofs.FileLaws.{Behind, Heads, Limits, chunks_again, chunks_ok, order_again, order_ok, heads_of, is_file, limits_of, same_again}
 
@@ -330,6 +330,9 @@ is_sound front s l = subst IsSound (sym l.told) (record {
   size = refl;
 })
 
+starts_inside : (front : List ℕ) (s : Sound) → Leads front s → s.start ≤ length front
+starts_inside front s l = subst (λ (t : Sound). t.start ≤ length front) (sym l.told) l.holds.head
+
 -- a file has the sound that its front tells
 told_sound : (front rest : List ℕ) (r : Content) (order : BitOrder) → HoldsHead front → IsDsf (front ++ rest) r order → HasSound (front ++ rest) r (sound_told front order)
 told_sound front rest r order holds h =
@@ -380,6 +383,16 @@ pub in_limits : (front : List ℕ) (x : SoundAt) → x ≡ sound_at front → If
 in_limits front More e = tt
 in_limits front Refused e = tt
 in_limits front (Found s) e = is_sound front s (found_leads front s (sym e))
+
+pub inside : (front : List ℕ) (x : SoundAt) → x ≡ sound_at front → IfFound x (λ s. s.start ≤ length front)
+inside front More e = tt
+inside front Refused e = tt
+inside front (Found s) e = starts_inside front s (found_leads front s (sym e))
+
+pub has_order : (front : List ℕ) (x : SoundAt) → x ≡ sound_at front → IfFound x (λ s. IsSome s.order)
+has_order front More e = tt
+has_order front Refused e = tt
+has_order front (Found s) e = let l = found_leads front s (sym e) in rw l.told refl
 
 pub if_refused : (front : List ℕ) (x : SoundAt) → x ≡ sound_at front → IfRefused x ((rest : List ℕ) → IsAccepted (front ++ rest) → ⊥)
 if_refused front More e = tt
@@ -452,6 +465,37 @@ decides front size test h there again =
       λ e. ends_accepted front (replicate size 0) h (subst (Ends front) (sym long) (there e)),
       λ accepted. again (subst (Ends front) long (accepted_ends front (replicate size 0) h accepted)),
     )
+
+-- ---- the front up to the sound
+
+-- a front with the same fields, that holds the head too, tells of the same sound
+same_told : (short front : List ℕ) (s : Sound) → HoldsHead short → SameFields short front → Leads front s → sound_at short ≡ Found s
+unfolding sound_at sound_in
+same_told short front s holds same l =
+    let fits : needed short ≤ data_size short - 12 = omega (arith, needed_same short front same, same.third_is, l.fits) in
+    let told : sound_told short l.order ≡ sound_told front l.order = λ i. record {
+      rate = same.rate_is i;
+      channels = same.number_is i;
+      count = same.count_is i;
+      start = ap (λ (k : ℕ). 28 + k + 12) same.second_is i;
+      size = needed_same short front same i;
+      order = Some l.order;
+    } in
+    rw (le-ltb (length short) 4 (omega (arith, holds.fields)), chunks_again short (heads_same short front same l.heads) holds.head, order_again short l.order (limits_same short front l.order same l.limits), le-ltb (data_size short - 12) (needed short) fits)
+    (ap found (told ∙ sym l.told))
+
+pub ends_front : SoundEndsFront
+ends_front front s e =
+    let l = found_leads front s e in
+    let short : List ℕ = take s.start front in
+    let rest : List ℕ = drop s.start front in
+    let whole : short ++ rest ≡ front = take-append-drop s.start front in
+    let start : s.start ≡ sound_place front = ap (λ (t : Sound). t.start) l.told in
+    let long : length short ≡ s.start = length-take-le s.start front (starts_inside front s l) in
+    let fields : 80 ≤ length short = omega (arith, long, start, l.heads.second_long) in
+    let size : format_size front ≡ format_size short = ap format_size (sym whole) ∙ number_front 8 32 short rest (omega (arith, fields)) in
+    let holds : HoldsHead short = record { fields = fields; head = omega (arith, long, start, size) } in
+    same_told short front s holds (same_back front short (subst (λ (bs : List ℕ). SameFields bs short) whole (same_fields short rest holds))) l
 
 -- ---- a sound is found, or its blocks are cut
 pub sound_cut : (front : List ℕ) (data_at : ℕ) (order : BitOrder) (given wanted : ℕ) → chunks_of front ≡ Ok data_at → order_of front ≡ Ok order → given ≡ data_size front - 12 → wanted ≡ needed front → given < wanted

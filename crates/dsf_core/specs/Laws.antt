@@ -1,9 +1,11 @@
 -- What the words of the contracts have to do with each other.
-use Rattle.std.specs.Prelude.{◌≡◌, ℕ, List, ◌++◌, length}
+use Rattle.std.specs.Prelude.{◌≡◌, ℕ, List, ◌++◌, length, take}
 use Rattle.dsd_bits.specs.declared.blocks.BitOrder.{BitOrder}
+use Rattle.dsd_bits.specs.declared.sound.Sound.{Sound}
+use Rattle.dsd_bits.specs.declared.sound.SoundAt.TheVariants.{Found}
 use Rattle.dsd_bits.specs.Contents.{Content}
 use Rattle.dsf_core.specs.Files.{IsDsf}
-use Rattle.dsf_core.specs.Fronts.{EndsAtSound, HoldsHead, IsAccepted}
+use Rattle.dsf_core.specs.Fronts.{EndsAtSound, HoldsHead, IsAccepted, sound_at}
 
 -- a file holds one recording at most, in one order of bits
 abbrev pub OneRecording : Type 0
@@ -16,3 +18,7 @@ SoundDoesNotMatter = (front rest other : List ℕ) → EndsAtSound front → len
 -- a file that is accepted holds the head of its sound
 abbrev pub SoundHasHead : Type 0
 SoundHasHead = (file : List ℕ) → IsAccepted file → HoldsHead file
+
+-- the front of a file, cut where the sound that it tells of starts, tells of the same sound
+abbrev pub SoundEndsFront : Type 0
+SoundEndsFront = (front : List ℕ) (s : Sound) → sound_at front ≡ Found s → sound_at (take s.start front) ≡ Found s

@@ -1,6 +1,6 @@
 //! Where the sound of a file stands, as its front tells, and at which length such a file ends.
 
-ghost use Rattle.std.specs.Prelude.{◌≡◌, ◌≢◌, ◌≤◌, ◌+◌, ◌-◌, ◌^◌, ◌++◌, ◌↔◌, List, ℕ, Some, length, replicate, true};
+ghost use Rattle.std.specs.Prelude.{◌≡◌, ◌≢◌, ◌≤◌, ◌+◌, ◌-◌, ◌^◌, ◌++◌, ◌↔◌, IsSome, List, ℕ, Some, length, replicate, true};
 ghost use Rattle.dsd_bits.specs.declared.blocks.BitOrder.{BitOrder};
 ghost use Rattle.dsd_bits.specs.Contents.{Content};
 ghost use Rattle.dsd_bits.specs.Sounds.{HasSound, IfFound, IfMore, IfRefused, IsSound};
@@ -26,6 +26,8 @@ use dsd_bits::{BitOrder, Sound, SoundAt};
 pub fn sound_at(front: &[u8]) -> SoundAt
     ensures found { IfFound result (λ s. (rest : List ℕ) (r : Content) (order : BitOrder) → IsDsf (front.now ++ rest) r order → HasSound (front.now ++ rest) r s × (s.order ≡ Some order)) }
     ensures limits { IfFound result IsSound }
+    ensures within { IfFound result (λ s. s.start ≤ length front.now) }
+    ensures order { IfFound result (λ s. IsSome s.order) }
     ensures refused { IfRefused result ((rest : List ℕ) → IsAccepted (front.now ++ rest) → ⊥) }
     ensures more { IfMore result (HoldsHead front.now → ⊥) }
     // By the order of refusals.

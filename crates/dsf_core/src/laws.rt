@@ -1,7 +1,7 @@
 //! What the words of the contracts have to do with each other. The functions do nothing: a caller's
 //! proof cites what they ensure.
 
-ghost use Rattle.dsf_core.specs.Laws.{OneRecording, SoundDoesNotMatter, SoundHasHead};
+ghost use Rattle.dsf_core.specs.Laws.{OneRecording, SoundDoesNotMatter, SoundEndsFront, SoundHasHead};
 
 /// A file holds one recording at most, in one order of bits.
 pub fn one_recording()
@@ -18,4 +18,10 @@ pub fn bytes_of_sound_do_not_matter()
 /// more bytes.
 pub fn accepted_files_have_a_head()
     ensures { SoundHasHead }
+{}
+
+/// The front of a file, cut where the sound that it tells of starts, tells of the same sound: the bytes from
+/// there on are not wanted for it.
+pub fn front_ends_at_sound()
+    ensures { SoundEndsFront }
 {}

@@ -51,7 +51,9 @@ mod writing_laws;
 
 pub use fault::DsfFault;
 pub use front::{closes, sound_at};
-pub use laws::{accepted_files_have_a_head, bytes_of_sound_do_not_matter, one_recording};
+pub use laws::{
+    accepted_files_have_a_head, bytes_of_sound_do_not_matter, front_ends_at_sound, one_recording,
+};
 pub use reading::read;
 pub use writing::write;
 pub use writing_laws::written_is_read_again;

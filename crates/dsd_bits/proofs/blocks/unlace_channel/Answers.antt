@@ -1,16 +1,35 @@
-use Rattle.std.proofs.Common.{◌≡◌, ◌+◌, ◌*◌, min, take, drop, length, map, length-drop, sym, ap, ◌∙◌, arith}
+use Rattle.std.proofs.Common.{◌≡◌, ◌+◌, ◌*◌, ◌≤◌, min, take, drop, length, map, length-drop, sym, ap, ◌∙◌, arith}
 use Rattle.std.specs.Int.{div_ceil}
 use Rattle.std.proofs.lemmas.List.{length-map, map-append}
+use Rattle.std.proofs.lemmas.Result.{IfOk-from_err}
 use Rattle.std.proofs.lemmas.List.FromFn.{length-map-range_with_len}
 use Rattle.dsd_bits.specs.Packing.{unpacked}
 use Rattle.dsd_bits.specs.Blocks.{ordered}
 use Rattle.dsd_bits.proofs.BlockLemmas.{block_inside, block_source, own_blocks, own_blocks_more, unblocked_is}
 use Rattle.dsd_bits.proofs.blocks.unlace_channel.Goals as goal
-use Rattle.dsd_bits.proofs.blocks.unlace_channel.Goals.{After-loop-group}
+use Rattle.dsd_bits.proofs.blocks.unlace_channel.Goals.{In-loop-group, After-loop-group}
+
+-- what the calls in the loop need
+place : (c : In-loop-group) → (c.loop-group.group * c.args.channels + c.args.c) * 4096 + 0 ≤ length c.args.bytes.now
+place c = block_inside c.args.channels c.args.c c.args.count c.loop-group.group 0 (length c.args.bytes.now) c.requires.channel.0 (omega arith) (omega arith) c.requires.enough
+
+pub overflow_mul-group : goal.overflow_mul-group
+overflow_mul-group c = omega (arith, place c)
+
+pub overflow_add-group : goal.overflow_add-group
+overflow_add-group c = omega (arith, place c)
+
+pub overflow_mul-group-in-loop-group : goal.overflow_mul-group-in-loop-group
+overflow_mul-group-in-loop-group c = omega (arith, place c)
 
 pub split_at-requires : goal.split_at-requires
-split_at-requires c =
-    omega (arith, block_inside c.args.channels c.args.c c.args.count c.loop-group.group 0 (length c.args.bytes.now) c.requires.channel.0 (omega arith) (omega arith) c.requires.enough)
+split_at-requires c = omega (arith, place c)
+
+pub overflow_mul-group-in-loop-group-2 : goal.overflow_mul-group-in-loop-group-2
+overflow_mul-group-in-loop-group-2 c = omega (arith, c.div_ceil-group-end.ensures, c.loop-group-test.true)
+
+pub overflow_sub-size : goal.overflow_sub-size
+overflow_sub-size c = omega (arith, c.div_ceil-size.ensures, c.div_ceil-group-end.ensures, c.loop-group-test.true)
 
 pub split_at-requires-in-loop-group : goal.split_at-requires-in-loop-group
 split_at-requires-in-loop-group c =
@@ -51,3 +70,9 @@ pub returns : goal.returns
 returns c =
     let w = (goal.at.returns c).After-loop-group in
     c.from_first_bits.ensures ∙ ap (λ bs. unpacked bs c.args.count) (made w) ∙ unblocked_is c.args.order c.args.bytes.now c.args.channels c.args.c c.args.count
+
+pub returns-in_err-own : goal.returns-in_err-own
+returns-in_err-own c = IfOk-from_err c.from_residual.result _ c.from_residual.ensures.0
+
+pub returns-in_err-push_in_order : goal.returns-in_err-push_in_order
+returns-in_err-push_in_order c = IfOk-from_err c.from_residual-in_err-push_in_order.result _ c.from_residual-in_err-push_in_order.ensures.0

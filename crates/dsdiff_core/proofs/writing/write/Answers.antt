@@ -1,7 +1,8 @@
-use Rattle.std.proofs.Common.{arith}
+use Rattle.std.proofs.Common.{◌*◌, ◌/◌, ◌^◌, ◌<◌, ap, length, arith}
 use Rattle.dsdiff_core.specs.ReadAgain.{FitsFields}
-use Rattle.dsdiff_core.proofs.WritingLemmas.{text_is, others_fit}
+use Rattle.dsdiff_core.proofs.WritingLemmas.{few_bytes, text_is, others_fit}
 use Rattle.dsdiff_core.proofs.writing.write.Goals as goal
+use Rattle.dsdiff_core.proofs.writing.write.Goals.{After-count-2}
 
 pub returns-clause-text : goal.returns-clause-text
 returns-clause-text c =
@@ -15,3 +16,18 @@ returns-clause-read_again c =
     let last = c.in_ok-last.ensures in
     let fits : FitsFields r = record { ids = first.ids_fit; marks = last.marks_fit; others = others_fit r c.channels-channels.ensures.shape first.properties_fit last.masters_fit last.forms_fit } in
     c.written_is_read_again.ensures r c.set_form_size.new.form.items c.channels-channels.ensures.shape fits (returns-clause-text c) (omega arith)
+
+few : (c : goal.After-count-2) → c.count-2.result / 8 * length c.channels-channels.result.now < 2 ^ 36
+few c = few_bytes c.count-2.result (length c.channels-channels.result.now) c.count-2.ensures.in_limit (omega (arith, ap length c.channels-channels.ensures.value, c.channels-channels.ensures.shape.six_channels))
+
+pub overflow_mul-sound : goal.overflow_mul-sound
+overflow_mul-sound c = omega (arith, few c)
+
+pub overflow_add-sound : goal.overflow_add-sound
+overflow_add-sound c = omega (arith, few (goal.at.overflow_add-sound c).After-count-2)
+
+pub overflow_add-sound-2 : goal.overflow_add-sound-2
+overflow_add-sound-2 c = omega (arith, few (goal.at.overflow_add-sound-2 c).After-count-2)
+
+pub overflow_add-sound-3 : goal.overflow_add-sound-3
+overflow_add-sound-3 c = omega (arith, few (goal.at.overflow_add-sound-3 c).After-count-2)

@@ -1,0 +1,162 @@
+-- The front of a file, cut where its sound starts.
+use Rattle.std.proofs.Common.{◌≡◌, ℕ, ◌+◌, ◌-◌, ◌≤◌, inl, inr, Bool, List, [], ◌∷◌, ◌++◌, length, map, take, drop, Option, Some, Ok, refl, sym, ap, subst, ◌∙◌, arith}
+use Rattle.std.specs.Prelude.{filter, find, slice_range}
+use Rattle.std.proofs.lemmas.Bool.{le-ltb}
+use Rattle.std.proofs.lemmas.List.{length-map, length-take-le, take-append-drop}
+use Rattle.chunk_core.specs.declared.layout.Span.{Span}
+use Rattle.chunk_core.specs.Chunks.{Chunk, chunks}
+use Rattle.chunk_core.specs.Places.{span_chunk}
+use Rattle.chunk_core.specs.Reading.{spans_in}
+use Rattle.chunk_core.proofs.PlaceLaws.{spans_again, spans_found}
+use Rattle.chunk_core.proofs.Steps.{bind_then}
+use Rattle.dsd_bits.specs.declared.sound.Sound.{Sound}
+use Rattle.dsd_bits.specs.Ids.{FS, CHNL, CMPR, DSD}
+use Rattle.dsdiff_core.specs.Fields.{form_size}
+use Rattle.dsdiff_core.specs.Forms.{version_of}
+use Rattle.dsdiff_core.specs.Fronts.{answer_of, form_of, frames_of, leading_of, seek, size_at, sound_behind, sound_in}
+use Rattle.dsdiff_core.specs.Kinds.{is_property}
+use Rattle.dsdiff_core.specs.Laws.{SoundEndsFront}
+use Rattle.dsdiff_core.specs.Properties.{Told, property_of}
+use Rattle.dsdiff_core.specs.Spans.{data_with, holds_property, once_each, span_has, top_kinds}
+use Rattle.dsdiff_core.specs.Steps.{walked}
+use Rattle.dsdiff_core.proofs.FileLaws.{behind_type}
+use Rattle.dsdiff_core.proofs.FrontLaws.{found_leads, sought_of, sound_is_at, starts_inside}
+use Rattle.dsdiff_core.proofs.KindLaws.{bool_cases, filter_chunks}
+use Rattle.dsdiff_core.proofs.LeadLaws.{Sought, number_front, part_front, seek_again}
+use Rattle.dsdiff_core.proofs.OnceLaws.{Once, none_yet, once_again, once_ok}
+use Rattle.dsdiff_core.proofs.PropertyLaws.{property_again, property_ok}
+use Rattle.dsdiff_core.proofs.Steps.{walked_ok}
+
+-- ---- spans that hold the same chunks in two files
+
+-- the spans hold the same chunks in both
+abbrev Same : List ℕ → List ℕ → List Span → Type 0
+Same short front ss = map (span_chunk short) ss ≡ map (span_chunk front) ss
+
+firsts : (c d : Chunk) (cs ds : List Chunk) → c ∷ cs ≡ d ∷ ds → (c ≡ d) × (cs ≡ ds)
+firsts c d cs ds e = (cc (e), cc (e))
+
+-- the spans of the same bytes are the same, and hold the same chunks
+same_spans : (short front : List ℕ) (start stop : ℕ) (ss : List Span) → slice_range short start stop ≡ slice_range front start stop → spans_in front start stop ≡ Ok ss → (spans_in short start stop ≡ Ok ss) × Same short front ss
+same_spans short front start stop ss same e =
+    let cs : List Chunk = map (span_chunk front) ss in
+    let found = spans_found front start stop ss e in
+    let again = spans_again short start stop cs (subst (λ (bs : List ℕ). chunks bs cs) (sym same) found.0) in
+    (again.0 ∙ ap (λ (xs : List Span). Ok xs) (sym found.1), ap (map (span_chunk short)) found.1 ∙ again.1)
+
+-- the first whose chunk passes a test is the same
+same_find : (short front : List ℕ) (test : Chunk → Bool) (ss : List Span) → Same short front ss → find (λ s. test (span_chunk short s)) ss ≡ find (λ s. test (span_chunk front s)) ss
+same_find short front test [] e = refl
+same_find short front test (s ∷ ss) e =
+    let p = firsts (span_chunk short s) (span_chunk front s) (map (span_chunk short) ss) (map (span_chunk front) ss) e in
+    rw (p.0, same_find short front test ss p.1) refl
+
+abbrev there : Span → Option Span
+there s = Some s
+
+some_same : (x s : Span) → there x ≡ there s → x ≡ s
+some_same x s e = cc
+
+-- the first that passes holds the same chunk
+same_chunk : (short front : List ℕ) (test : Span → Bool) (ss : List Span) (p : Span) → Same short front ss → find test ss ≡ Some p → span_chunk short p ≡ span_chunk front p
+same_chunk short front test [] p e f = absurd cc
+same_chunk short front test (s ∷ ss) p e f =
+    let h = firsts (span_chunk short s) (span_chunk front s) (map (span_chunk short) ss) (map (span_chunk front) ss) e in
+    elim (bool_cases (test s)) [
+      | inl y ↦ subst (λ (x : Span). span_chunk short x ≡ span_chunk front x) (some_same s p (rw y at f)) h.0
+      | inr other ↦ same_chunk short front test ss p h.1 (rw other at f)
+    ]
+
+-- the first with an ID has the same data
+same_data : (short front id : List ℕ) (ss : List Span) → Same short front ss → data_with short id ss ≡ data_with front id ss
+same_data short front id [] e = refl
+same_data short front id (s ∷ ss) e =
+    let h = firsts (span_chunk short s) (span_chunk front s) (map (span_chunk short) ss) (map (span_chunk front) ss) e in
+    elim (bool_cases (span_has id s)) [
+      | inl y ↦ rw y (ap (λ (c : Chunk). let r : Option (List ℕ) = Some c.content in r) h.0)
+      | inr other ↦ rw other (same_data short front id ss h.1)
+    ]
+
+-- how many chunks pass a test
+counted : (file : List ℕ) (test : Chunk → Bool) (ss : List Span) → length (filter (λ s. test (span_chunk file s)) ss) ≡ length (filter test (map (span_chunk file) ss))
+counted file test ss = sym (length-map (filter (λ s. test (span_chunk file s)) ss) (span_chunk file)) ∙ sym (ap length (filter_chunks file test ss))
+
+same_once : (short front : List ℕ) (ss : List Span) → Same short front ss → Once (top_kinds front) ss → Once (top_kinds short) ss
+same_once short front ss e o =
+    let count : length (filter (holds_property short) ss) ≡ length (filter (holds_property front) ss) = counted short is_property ss ∙ ap (λ (cs : List Chunk). length (filter is_property cs)) e ∙ sym (counted front is_property ss) in
+    (o.0, (omega (arith, count, o.1.0), o.1.1))
+
+-- ---- the sound behind them
+
+-- the property of the sound tells the same
+same_property : (short front : List ℕ) (ss : List Span) (told : Told) → Same short front ss → property_of front ss ≡ Ok told → property_of short ss ≡ Ok told
+same_property short front ss told e f =
+    let p = property_ok front ss told f in
+    let chunk = same_chunk short front (holds_property front) ss p.property e p.found in
+    let range : slice_range short (p.property.start + 4) (p.property.start + p.property.size) ≡ slice_range front (p.property.start + 4) (p.property.start + p.property.size) =
+    behind_type short p.property ∙ ap (λ (c : Chunk). drop 4 c.content) chunk ∙ sym (behind_type front p.property) in
+    let parts = same_spans short front (p.property.start + 4) (p.property.start + p.property.size) told.parts range p.spans in
+    property_again short ss told (record {
+      property = p.property;
+      found = same_find short front is_property ss e ∙ p.found;
+      spans = parts.0;
+      once = p.once;
+      rates = p.rates;
+      names = p.names;
+      kinds = p.kinds;
+      at_rates = same_data short front FS told.parts parts.1 ∙ p.at_rates;
+      at_names = same_data short front CHNL told.parts parts.1 ∙ p.at_names;
+      at_kinds = same_data short front CMPR told.parts parts.1 ∙ p.at_kinds;
+      is_told = p.is_told;
+    })
+
+same_behind : (short front : List ℕ) (at : ℕ) (s : Sound) → slice_range short 16 at ≡ slice_range front 16 at → size_at short at ≡ size_at front at → sound_behind front at ≡ Ok s → sound_behind short at ≡ Ok s
+unfolding sound_behind leading_of
+same_behind short front at s range size e =
+    bind_then (leading_of front at) _ s e (λ top e1 h1.
+    bind_then (property_of front top) _ s h1 (λ told e2 h2.
+    bind_then (frames_of (size_at front at) (length told.ids)) _ s h2 (λ u e3 h3.
+    bind_then (walked (spans_in front 16 at)) _ top e1 (λ found e4 h4.
+    bind_then (version_of (map (span_chunk front) found)) _ top h4 (λ v e5 h5.
+    bind_then (once_each (top_kinds front) [] found) _ top h5 (λ w e6 h6.
+    let is : found ≡ top = cc (h6) in
+    let spans = same_spans short front 16 at found range (walked_ok (spans_in front 16 at) found e4) in
+    let version : version_of (map (span_chunk short) found) ≡ Ok v = ap version_of spans.1 ∙ e5 in
+    let once = once_again (top_kinds short) [] found (same_once short front found spans.1 (once_ok (top_kinds front) [] found w e6 (none_yet (top_kinds front)))) in
+    let property : property_of short found ≡ Ok told = same_property short front found told spans.1 (ap (property_of front) is ∙ e2) in
+    rw (spans.0, version, once, property, size, e3) h3))))))
+
+-- ---- the law
+
+form_front : (front rest : List ℕ) → 16 ≤ length front → form_of (front ++ rest) ≡ form_of front
+unfolding form_of
+form_front front rest long = rw (part_front 4 0 front rest (omega arith), part_front 4 12 front rest (omega arith), number_front 8 4 front rest (omega arith)) refl
+
+-- the head of the sound that the whole leads to is found in a front that holds it
+found_again : (front rest : List ℕ) (at : ℕ) → at + 12 ≤ length front → Sought (front ++ rest) 16 (form_size (front ++ rest)) at → seek front ≡ Ok (Some at)
+unfolding seek
+found_again front rest at whole s =
+    let size : form_size (front ++ rest) ≡ form_size front = number_front 8 4 front rest (omega (arith, s.onward)) in
+    let range : slice_range (front ++ rest) 16 at ≡ slice_range front 16 at = part_front (at - 16) 16 front rest (omega (arith, s.onward)) in
+    let id : take 4 (drop at front) ≡ DSD = sym (part_front 4 at front rest (omega arith)) ∙ s.id in
+    let here : size_at (front ++ rest) at ≡ size_at front at = number_front 8 (at + 4) front rest (omega arith) in
+    seek_again (length front) 16 (form_size front) front at s.before (subst (λ (bs : List ℕ). chunks bs s.before) range s.are_before) s.no_gap s.none id whole s.onward (omega (arith, s.fits, here, size)) (omega arith)
+
+ends_at : (front rest : List ℕ) (at : ℕ) (s : Sound) → at + 12 ≤ length front → form_of (front ++ rest) ≡ Ok tt → Sought (front ++ rest) 16 (form_size (front ++ rest)) at → sound_behind (front ++ rest) at ≡ Ok s → sound_in front ≡ Ok (Some s)
+unfolding sound_in
+ends_at front rest at s whole form sought is =
+    let form_here : form_of front ≡ Ok tt = sym (form_front front rest (omega (arith, sought.onward))) ∙ form in
+    let range : slice_range front 16 at ≡ slice_range (front ++ rest) 16 at = sym (part_front (at - 16) 16 front rest (omega (arith, sought.onward))) in
+    let size : size_at front at ≡ size_at (front ++ rest) at = sym (number_front 8 (at + 4) front rest (omega arith)) in
+    rw (le-ltb (length front) 16 (omega (arith, sought.onward)), form_here, found_again front rest at whole sought, same_behind front (front ++ rest) at s range size is) refl
+
+pub ends_front : SoundEndsFront
+ends_front front s e =
+    let l = found_leads front s e in
+    let sought = sought_of front l.at l.sought in
+    let start = (sound_is_at front l.at s l.is).0 in
+    let short : List ℕ = take s.start front in
+    let rest : List ℕ = drop s.start front in
+    let whole : front ≡ short ++ rest = sym (take-append-drop s.start front) in
+    let long : length short ≡ s.start = length-take-le s.start front (starts_inside front s e) in
+    ap answer_of (ends_at short rest l.at s (omega (arith, long, start)) (ap form_of (sym whole) ∙ l.form) (subst (λ (bs : List ℕ). Sought bs 16 (form_size bs) l.at) whole sought) (ap (λ (bs : List ℕ). sound_behind bs l.at) (sym whole) ∙ l.is))

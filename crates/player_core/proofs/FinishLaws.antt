@@ -126,7 +126,7 @@ module _ (s : Sound) (is : IsSound s) (whole : s.order ≡ None → s.count % 8 
             ∙ unblocked_is order bytes s.channels c s.count
             ∙ ap (λ o. get_channel o s.channels s.count bytes c) (sym e)
 
-    channels_are : map (channel_whole s bytes) (range_with_len 0 s.channels) ≡ sound_channels s.order s.channels s.count bytes
+    pub channels_are : map (channel_whole s bytes) (range_with_len 0 s.channels) ≡ sound_channels s.order s.channels s.count bytes
     channels_are =
         map_range_same s.channels (channel_whole s bytes) (get_channel s.order s.channels s.count bytes) (λ c h. channel_is c)
         ∙ all_channels s.order s.channels s.count bytes
@@ -137,7 +137,7 @@ module _ (s : Sound) (is : IsSound s) (whole : s.order ≡ None → s.count % 8 
         map_range_same s.channels (channel_bits s bytes) (channel_whole s bytes)
         (λ c h. ap (unpacked (channel_bytes s bytes c)) (let full : heard s.count (bytes_heard s (length bytes)) ≡ s.count = omega (arith, heard_all) in full))
 
-    count_is : count_of (map (channel_whole s bytes) (range_with_len 0 s.channels)) ≡ s.count
+    pub count_is : count_of (map (channel_whole s bytes) (range_with_len 0 s.channels)) ≡ s.count
     count_is =
         ap length (get_or-map-range_with_len (channel_whole s bytes) 0 s.channels 0 0 [] is.some_channel refl)
         ∙ length-unpacked (channel_bytes s bytes 0) s.count

@@ -2,6 +2,7 @@
 use Rattle.std.proofs.Common.{◌≡◌, ℕ, zero, suc, ◌+◌, ◌*◌, ◌/◌, ◌<◌, ◌⊎◌, ℤ, pos, Bool, List, [], ◌∷◌, ◌++◌, All, length, get_or, map, take, sym, refl, ap, ap₂, ◌∙◌, arith, append_assoc, add-one, length-append, suc-mul, zero-mul}
 use Rattle.std.specs.List.{flat_map, range_with_len}
 use Rattle.std.proofs.Math.Nat.{mul-div_cancel}
+use Rattle.std.proofs.Math.Seq.{take-suc}
 use Rattle.std.proofs.lemmas.Grind.{flat_map-append}
 use Rattle.std.proofs.lemmas.List.{append-nil, get_or-map, length-map, length-take-le}
 use Rattle.std.proofs.lemmas.List.Concat.{get_or-flat_map}
@@ -49,6 +50,12 @@ moved f g a (suc n) same =
 pub length-equal : {X A : Type 0} (f : X → List A) (n : ℕ) (xs : List X) → ((x : X) → length (f x) ≡ n) → length (flat_map f xs) ≡ length xs * n
 length-equal f n [] each = sym (zero-mul n)
 length-equal f n (x ∷ xs) each = omega (arith, length-append (f x) (flat_map f xs), each x, length-equal f n xs each, suc-mul (length xs) n)
+
+-- one list more
+pub after_take : {X Y : Type 0} (f : X → List Y) (xs : List X) (i : ℕ) (x : X) → i < length xs → x ≡ get_or xs i x → flat_map f (take (i + 1) xs) ≡ flat_map f (take i xs) ++ f x
+after_take f xs i x low is =
+    let more : take (i + 1) xs ≡ take i xs ++ get_or xs i x ∷ [] = rw (add-one i) (take-suc xs i x low) in
+    ap (flat_map f) more ∙ flat_map-append f (take i xs) (get_or xs i x ∷ []) ∙ ap (λ ys. flat_map f (take i xs) ++ ys) (append-nil (f (get_or xs i x)) ∙ ap f (sym is))
 
 -- ---- a tile of so many frames from one on
 module _ (d : Decimator) (channels : List (List Bool)) (start number : ℕ) where

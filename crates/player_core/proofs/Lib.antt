@@ -9,3 +9,4 @@ pub mod FinishLaws
 pub mod FinishLoop
 pub mod SampleLaws
 pub mod FrontLaws
+pub mod SoundLaws

@@ -6,7 +6,6 @@ use Rattle.std.specs.Int.{saturate_to_bits}
 use Rattle.std.proofs.lemmas.List.{length-append}
 use Rattle.std.proofs.lemmas.List.{length-map}
 use Rattle.dsd_bits.specs.Contents.{Content}
-use Rattle.dsd_bits.specs.Shape.{HasShape}
 use Rattle.fir_core.specs.Decimator.{Decimator, sample_at}
 use Rattle.wave_core.specs.declared.fault.WaveFault.{WaveFault}
 use Rattle.wave_core.specs.declared.fault.WaveFault.TheVariants.{TooLarge, Memory}
@@ -37,12 +36,12 @@ is_sample width z (inr e) = rw e (more z)
     more (negsuc n) = omega arith
 
 -- ---- the file of all samples, by its parts
-module _ (r : Content) (d : Decimator) (shape : HasShape r) (law : PartsJoin) where
+module _ (r : Content) (d : Decimator) (some : 1 ≤ length r.channels) (law : PartsJoin) where
   abbrev number : ℕ
   number = frame_count d r.channels
 
   joined : IsJoined (pcm r d) number
-  joined = law (pcm r d) number shape.some_channel (length-frames (frame d r.channels) (length r.channels) 0 number (λ j. length-map r.channels (λ bits. sample_at d bits j)))
+  joined = law (pcm r d) number some (length-frames (frame d r.channels) (length r.channels) 0 number (λ j. length-map r.channels (λ bits. sample_at d bits j)))
 
   pub no_text : 2 ^ 32 ≤ riff_size (length r.channels) d.width number → wave_text (pcm r d) ≡ None
   no_text large = joined.too_large large

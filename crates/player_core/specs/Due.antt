@@ -1,9 +1,9 @@
 -- The frames that are due after a front of the sound bytes.
-use Rattle.std.specs.Prelude.{◌≡◌, ℕ, ◌%◌, ◌≤◌, Bool, List, ◌++◌, map, length, None}
+use Rattle.std.specs.Prelude.{ℕ, Bool, List, map, length}
 use Rattle.std.specs.List.{flat_map, range_with_len}
 use Rattle.dsd_bits.specs.declared.sound.Sound.{Sound}
 use Rattle.dsd_bits.specs.Packing.{unpacked}
-use Rattle.dsd_bits.specs.Sounds.{IsSound, sound_channels}
+use Rattle.dsd_bits.specs.Sounds.{sound_channels}
 use Rattle.fir_core.specs.Decimator.{Decimator}
 use Rattle.fir_core.specs.Streams.{due_number, heard}
 use Rattle.wave_core.specs.Texts.{sample_bytes}
@@ -41,8 +41,3 @@ due_bytes d s bytes = flat_map (sample_bytes d.width) (frames_below d (channels_
 -- the bytes of all frames of the sound
 abbrev pub all_bytes : Decimator → Sound → List ℕ → List ℕ
 all_bytes d s bytes = flat_map (sample_bytes d.width) (frames d (sound_channels s.order s.channels s.count bytes))
-
--- the bytes that are due after a front of the sound bytes are a front of those of all frames
-abbrev pub FrontComesFirst : Type 0
-FrontComesFirst = (d : Decimator) (s : Sound) (before bytes : List ℕ) → IsSound s → (s.order ≡ None → s.count % 8 ≡ 0) → 8 ≤ d.factor
-    → length (before ++ bytes) ≡ s.size → (more : List ℕ) × (all_bytes d s (before ++ bytes) ≡ due_bytes d s before ++ more)

@@ -3,3 +3,4 @@ pub mod Frames
 pub mod Samples
 pub mod Due
 pub mod PlayerView
+pub mod Laws

@@ -128,6 +128,9 @@ pub(crate) fn drop_front(held: &mut Vec<u8>, cut: usize)
     requires { cut ≤ length held.old.items }
     ensures { held.new.items ≡ drop cut held.old.items }
 {
+    if cut == 0 {
+        return;
+    }
     let left = held.len() - cut;
     held.copy_within(cut.., 0);
     held.truncate(left);

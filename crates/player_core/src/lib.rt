@@ -14,11 +14,17 @@
 //!   among the bits that stand in whole groups of them; `all_bytes` those of all frames (`specs/Due.antt`).
 //! - `IsFed p bytes` says that a player was fed these bytes, `FeedsPlayer` what the next ones give, and
 //!   `FinishesPlayer` what is left (`specs/PlayerView.antt`).
+//! - `file_around d s bytes` is a header, these bytes and a pad, `IsPlayed` what is played of a recording in a file
+//!   (`specs/Laws.antt`).
 //!
 //! What it promises: whatever bytes a player was fed before, what [`Player::feed`] appends makes of the bytes
 //! that were due those that are due now, and what [`Player::finish`] appends makes of them those of all frames.
-//! So the pieces' sizes change nothing. [`frames_of_a_front_come_first`] carries the law that what is due after a front
-//! of the sound is a front of all frames.
+//! So the pieces' sizes change nothing.
+//!
+//! Laws for whoever writes the file in parts: [`sound_is_played`], the WAVE text of a recording in a file is the header,
+//! the bytes of all frames of its sound, and the pad; [`frames_fill_the_data`] and [`file_has_its_size`], their numbers;
+//! [`nothing_is_due_at_first`]; and [`frames_of_a_front_come_first`], what is due after a front of the sound is a front of
+//! all.
 //!
 //! ```text
 //! let mut player = Player::new(alloc, &taps, sound)?;
@@ -29,8 +35,13 @@
 #![tactic(auto)]
 
 mod groups;
+mod laws;
 mod player;
 mod wave_file;
 
-pub use player::{Player, frames_of_a_front_come_first};
+pub use laws::{
+    file_has_its_size, frames_fill_the_data, frames_of_a_front_come_first, nothing_is_due_at_first,
+    sound_is_played,
+};
+pub use player::Player;
 pub use wave_file::wave_of;

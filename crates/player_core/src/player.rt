@@ -10,7 +10,6 @@ ghost use Rattle.fir_core.specs.StreamView.{IsStream, state_of};
 ghost use Rattle.wave_core.specs.Contents.{IsSample};
 ghost use Rattle.wave_core.specs.Frames.{frames_of};
 ghost use Rattle.wave_core.specs.Texts.{sample_bytes};
-ghost use Rattle.player_core.specs.Due.{FrontComesFirst};
 ghost use Rattle.player_core.specs.Groups as Groups;
 ghost use Rattle.player_core.specs.Groups.{channel_part};
 ghost use Rattle.player_core.specs.PlayerView.{AreChannels, AreNew, AreReady, AreWhole, FeedAll, FinishAll};
@@ -209,9 +208,3 @@ fn finish_all(streams: &mut [Stream], tile: &mut Vec<i32>) -> Result<(), AllocEr
     }
     Ok(())
 }
-
-/// The law of fronts: the bytes of the frames that are due after a front of the sound bytes are a front of those
-/// of all frames. The function does nothing: a caller's proof cites what it ensures.
-pub fn frames_of_a_front_come_first()
-    ensures { FrontComesFirst }
-{}

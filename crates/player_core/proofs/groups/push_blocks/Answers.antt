@@ -1,9 +1,11 @@
-use Rattle.std.proofs.Common.{◌≡◌, ◌+◌, ◌*◌, ◌++◌, ◌∙◌, min, take, drop, length, map, sym, ap, arith, append_assoc}
-use Rattle.std.proofs.lemmas.List.{map-append}
+use Rattle.std.proofs.Common.{◌≡◌, ◌+◌, ◌*◌, ◌≤◌, ◌++◌, ◌∙◌, min, take, drop, length, map, sym, ap, arith, append_assoc}
+use Rattle.std.proofs.lemmas.List.{append-nil, map-append}
+use Rattle.std.proofs.lemmas.Result.{IfOk-from_err}
 use Rattle.dsd_bits.specs.Blocks.{ordered}
 use Rattle.dsd_bits.proofs.BlockLemmas.{own_blocks, own_blocks_more}
 use Rattle.player_core.proofs.GroupLaws.{block_within, blocks_are}
 use Rattle.player_core.proofs.groups.push_blocks.Goals as goal
+use Rattle.player_core.proofs.groups.push_blocks.Goals.{In-loop-group}
 
 pub loop-group-preserved : goal.loop-group-preserved
 loop-group-preserved c =
@@ -26,3 +28,44 @@ returns c =
     let all : min (4096 * c.loop-group.group) c.args.number ≡ c.args.number = omega (arith, c.div_ceil-group-end.ensures, c.loop-group-test.false) in
     c.loop-group.invariant ∙ ap (λ n. c.args.own.now.items ++ map (ordered c.args.order) (own_blocks c.args.groups.now c.args.channels c.args.c n)) all
     ∙ ap (λ xs. c.args.own.now.items ++ xs) (blocks_are c.args.order c.args.channels c.args.groups.now c.args.c c.args.number)
+
+-- ---- what the calls in the loop need
+place : (c : In-loop-group) → (c.loop-group.group * c.args.channels + c.args.c) * 4096 + 0 ≤ length c.args.groups.now
+place c =
+    block_within c.args.channels c.args.c c.args.number c.loop-group.group 0 (length c.args.groups.now) c.requires.channel.0 (omega arith)
+    (omega (arith, c.div_ceil-group-end.ensures, c.loop-group-test.true)) c.requires.enough
+
+pub div_ceil-group-end-requires : goal.div_ceil-group-end-requires
+div_ceil-group-end-requires c = omega arith
+
+pub loop-group-init : goal.loop-group-init
+loop-group-init c =
+    let none : min 0 c.args.number ≡ 0 = omega arith in
+    sym (ap (λ n. c.args.own.now.items ++ map (ordered c.args.order) (own_blocks c.args.groups.now c.args.channels c.args.c n)) none ∙ append-nil c.args.own.now.items)
+
+pub overflow_mul-group : goal.overflow_mul-group
+overflow_mul-group c = omega (arith, place c)
+
+pub overflow_add-group : goal.overflow_add-group
+overflow_add-group c = omega (arith, place c)
+
+pub overflow_mul-group-in-loop-group : goal.overflow_mul-group-in-loop-group
+overflow_mul-group-in-loop-group c = omega (arith, place c)
+
+pub split_at-requires : goal.split_at-requires
+split_at-requires c = omega (arith, place c)
+
+pub overflow_mul-group-in-loop-group-2 : goal.overflow_mul-group-in-loop-group-2
+overflow_mul-group-in-loop-group-2 c = omega (arith, c.div_ceil-group-end.ensures, c.loop-group-test.true)
+
+pub overflow_sub-number : goal.overflow_sub-number
+overflow_sub-number c = omega (arith, c.div_ceil-group-end.ensures, c.loop-group-test.true)
+
+pub split_at-requires-in-loop-group : goal.split_at-requires-in-loop-group
+split_at-requires-in-loop-group c =
+    let within = block_within c.args.channels c.args.c c.args.number c.loop-group.group c.min.result (length c.args.groups.now) c.requires.channel.0 (omega (arith, c.min.ensures))
+    (omega (arith, c.div_ceil-group-end.ensures, c.loop-group-test.true)) c.requires.enough in
+    omega (arith, within, c.split_at.ensures.back_len)
+
+pub returns-in_err-push_in_order : goal.returns-in_err-push_in_order
+returns-in_err-push_in_order c = IfOk-from_err c.from_residual.result _ c.from_residual.ensures.0

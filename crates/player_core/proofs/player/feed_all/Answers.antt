@@ -1,4 +1,8 @@
-use Rattle.std.proofs.Common.{◌≡◌, ◌-◌, ◌++◌, ◌∙◌, ap, arith, length, map}
+use Rattle.std.proofs.Common.{◌≡◌, ◌+◌, ◌-◌, ◌≤◌, ◌++◌, ◌∙◌, refl, sym, subst, ap, arith, length, map}
+use Rattle.std.specs.Int.{div_ceil}
+use Rattle.std.proofs.lemmas.Result.{IfOk-from_err}
+use Rattle.fir_core.specs.StreamView.{IsStream}
+use Rattle.fir_core.specs.declared.stream.Stream.{Stream}
 use Rattle.std.specs.List.{range_with_len}
 use Rattle.player_core.specs.Due.{channel_bits, frames_due}
 use Rattle.player_core.specs.Frames.{tile_of}
@@ -23,3 +27,40 @@ returns-clause-fed c = λ d fed are front k long was is all.
       λ i t h. so.0 i t (omega (arith, c.loop-c.invariant.long, c.loop-c-test.false)),
       so.1 ∙ ap (λ n. tile_of d (map (channel_bits s (front ++ c.args.groups.now)) (range_with_len 0 n)) (frames_due d s (length front)) (frames_due d s (length (front ++ c.args.groups.now)) - frames_due d s (length front))) every,
     )
+
+pub loop-c-init : goal.loop-c-init
+loop-c-init c = record {
+  long = refl;
+  later = λ k t h. refl;
+  done = λ d fed are k t h. absurd (omega arith);
+  fits = λ d fed are front k long was is all. (λ i t h. absurd (omega arith), c.clear.ensures.items);
+}
+
+pub offset_bounds-streams-c : goal.offset_bounds-streams-c
+offset_bounds-streams-c c = omega (arith, c.loop-c-test.true, c.requires.channels.0, c.requires.channels.1)
+
+pub bounds-streams-c : goal.bounds-streams-c
+bounds-streams-c c = omega (arith, c.loop-c-test.true, c.loop-c.invariant.long)
+
+-- the next stream is as it was
+pub feed_one-requires-clause-ready : goal.feed_one-requires-clause-ready
+feed_one-requires-clause-ready c =
+    subst IsStream (sym (c.loop-c.invariant.later c.loop-c.c c.index-streams-c.result (omega arith)))
+    (c.requires.ready c.loop-c.c c.index-streams-c.result c.loop-c-test.true).0
+
+pub feed_one-requires-clause-few : goal.feed_one-requires-clause-few
+feed_one-requires-clause-few c =
+    subst (λ (t : Stream). t.fed + c.args.number ≤ div_ceil t.count 8) (sym (c.loop-c.invariant.later c.loop-c.c c.index-streams-c.result (omega arith)))
+    (c.requires.ready c.loop-c.c c.index-streams-c.result c.loop-c-test.true).1
+
+pub feed_one-requires-clause-channel : goal.feed_one-requires-clause-channel
+feed_one-requires-clause-channel c = (omega (arith, c.loop-c-test.true, c.requires.channels.0), c.requires.channels.1)
+
+pub feed_one-requires-clause-enough : goal.feed_one-requires-clause-enough
+feed_one-requires-clause-enough c = c.requires.enough
+
+pub returns-in_err-feed_one-clause-channels : goal.returns-in_err-feed_one-clause-channels
+returns-in_err-feed_one-clause-channels c = IfOk-from_err c.from_residual.result _ c.from_residual.ensures.0
+
+pub returns-in_err-feed_one-clause-fed : goal.returns-in_err-feed_one-clause-fed
+returns-in_err-feed_one-clause-fed c = IfOk-from_err c.from_residual.result _ c.from_residual.ensures.0

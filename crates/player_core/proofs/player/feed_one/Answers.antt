@@ -1,4 +1,5 @@
-use Rattle.std.proofs.Common.{◌≡◌, ◌∙◌, ap, arith, length}
+use Rattle.std.proofs.Common.{◌≡◌, ◌∙◌, ap, arith, length, refl}
+use Rattle.std.proofs.lemmas.Result.{IfOk-from_err}
 use Rattle.player_core.specs.Groups.{channel_part}
 use Rattle.player_core.proofs.GroupLaws.{length-part}
 use Rattle.player_core.proofs.player.feed_one.Goals as goal
@@ -18,3 +19,30 @@ returns-clause-ok c = rw (← bytes_are (goal.at.returns-clause-ok c).After-as_s
 
 pub returns-clause-fed : goal.returns-clause-fed
 returns-clause-fed c = rw (← number_is (goal.at.returns-clause-fed c).After-as_slice) c.feed.ensures.fed
+
+pub fill_channel-requires-clause-channel : goal.fill_channel-requires-clause-channel
+fill_channel-requires-clause-channel c = c.requires.channel
+
+pub fill_channel-requires-clause-enough : goal.fill_channel-requires-clause-enough
+fill_channel-requires-clause-enough c = c.requires.enough
+
+pub feed-requires-clause-ready : goal.feed-requires-clause-ready
+feed-requires-clause-ready c = c.requires.ready
+
+pub returns-in_err-fill_channel-clause-ready : goal.returns-in_err-fill_channel-clause-ready
+returns-in_err-fill_channel-clause-ready c = c.requires.ready
+
+pub returns-in_err-fill_channel-clause-ok : goal.returns-in_err-fill_channel-clause-ok
+returns-in_err-fill_channel-clause-ok c = IfOk-from_err c.from_residual.result _ c.from_residual.ensures.0
+
+pub returns-in_err-fill_channel-clause-fed : goal.returns-in_err-fill_channel-clause-fed
+returns-in_err-fill_channel-clause-fed c = IfOk-from_err c.from_residual.result _ c.from_residual.ensures.0
+
+pub returns-in_err-fill_channel-clause-same : goal.returns-in_err-fill_channel-clause-same
+returns-in_err-fill_channel-clause-same c = (refl, refl)
+
+pub returns-clause-ready : goal.returns-clause-ready
+returns-clause-ready c = c.feed.ensures.ready
+
+pub returns-clause-same : goal.returns-clause-same
+returns-clause-same c = c.feed.ensures.same

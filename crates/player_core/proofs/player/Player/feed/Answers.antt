@@ -1,12 +1,15 @@
-use Rattle.std.proofs.Common.{◌≡◌, ℕ, ℤ, ◌+◌, ◌-◌, ◌*◌, ◌/◌, ◌%◌, ◌++◌, ◌∙◌, List, length, length-append, take, drop, refl, sym, ap, ap₂, arith}
+use Rattle.std.proofs.Common.{◌≡◌, ℕ, ℤ, ◌+◌, ◌-◌, ◌*◌, ◌/◌, ◌%◌, ◌<◌, ◌++◌, ◌∙◌, List, length, length-append, take, drop, refl, sym, subst, ap, ap₂, arith}
 use Rattle.std.specs.List.{flat_map}
+use Rattle.std.proofs.Math.Nat.{div-mul-le_self}
 use Rattle.std.proofs.Math.Seq.{take-append_seam}
+use Rattle.std.proofs.lemmas.Result.{IfOk-from_err}
 use Rattle.fir_core.specs.Decimator.{IsWithinLimits}
 use Rattle.wave_core.specs.Frames.{frames_of}
 use Rattle.wave_core.specs.Texts.{sample_bytes}
 use Rattle.player_core.specs.Due.{bytes_heard}
-use Rattle.player_core.specs.Groups.{group_size}
+use Rattle.player_core.specs.Groups.{group_size, part_size}
 use Rattle.player_core.specs.PlayerView.{AreChannels, FeedAll, IsFed}
+use Rattle.player_core.proofs.FeedLaws.{mul_some, some_part}
 use Rattle.player_core.proofs.StepLaws.{all_fit, gives_due, groups_size, heard_grows, heard_more, held_next, filter_known, held_size, in_range, ready_more}
 use Rattle.player_core.proofs.player.Player.feed.Goals as goal
 use Rattle.player_core.proofs.player.Player.feed.Goals.{After-deref_mut, After-as_slice, After-drop_front}
@@ -120,3 +123,77 @@ returns-clause-ready c =
       each = rw (streams_back w, ← heard) (c.in_ok-feed_all.ensures.channels p.taps.now (bytes_heard s p.fed) (streams_are w));
       history = (past.0 ++ c.args.bytes.now, ((returns-clause-ok c).2 past.0 past.1).0);
     }
+
+pub bytes_heard-requires : goal.bytes_heard-requires
+bytes_heard-requires c = (c.requires.ready.sound.some_channel, c.requires.ready.sound.six_channels)
+
+pub bytes_heard-requires-2 : goal.bytes_heard-requires-2
+bytes_heard-requires-2 c = (c.requires.ready.sound.some_channel, c.requires.ready.sound.six_channels)
+
+pub group_size-size-requires : goal.group_size-size-requires
+group_size-size-requires c = c.requires.ready.sound.six_channels
+
+pub nonzero_div-whole : goal.nonzero_div-whole
+nonzero_div-whole c = subst (λ n. 0 < n) (sym c.group_size-size.ensures) (mul_some c.args.self.now.sound.channels (part_size c.args.self.now.sound.order) c.requires.ready.sound.some_channel (some_part c.args.self.now.sound.order))
+
+pub overflow_mul-whole : goal.overflow_mul-whole
+overflow_mul-whole c = omega (arith, div-mul-le_self c.len.result c.group_size-size.result)
+
+pub split_at-requires : goal.split_at-requires
+split_at-requires c = omega (arith, div-mul-le_self c.len.result c.group_size-size.result, c.len.ensures, c.deref.ensures.len)
+
+pub drop_front-requires : goal.drop_front-requires
+drop_front-requires c = omega (arith, div-mul-le_self c.len.result c.group_size-size.result, c.len.ensures, c.extend_from_slice.new.self.ok.0)
+
+pub feed_all-requires-clause-channels : goal.feed_all-requires-clause-channels
+feed_all-requires-clause-channels c = (ap length c.deref_mut.ensures.value ∙ c.requires.ready.number, c.requires.ready.sound.six_channels)
+
+pub push_tile-requires-clause-channels : goal.push_tile-requires-clause-channels
+push_tile-requires-clause-channels c = c.requires.ready.sound.some_channel
+
+pub push_tile-requires-clause-width : goal.push_tile-requires-clause-width
+push_tile-requires-clause-width c = c.width.ensures.known
+
+-- ---- the exits
+
+pub returns-clause-same : goal.returns-clause-same
+returns-clause-same c = (refl, refl)
+
+pub returns-clause-fed : goal.returns-clause-fed
+returns-clause-fed c = refl
+
+pub returns-in_err-extend_from_slice-clause-same : goal.returns-in_err-extend_from_slice-clause-same
+returns-in_err-extend_from_slice-clause-same c = (refl, refl)
+
+pub returns-in_err-extend_from_slice-clause-ready : goal.returns-in_err-extend_from_slice-clause-ready
+returns-in_err-extend_from_slice-clause-ready c = IfOk-from_err c.from_residual.result _ c.from_residual.ensures.0
+
+pub returns-in_err-extend_from_slice-clause-fed : goal.returns-in_err-extend_from_slice-clause-fed
+returns-in_err-extend_from_slice-clause-fed c = IfOk-from_err c.from_residual.result _ c.from_residual.ensures.0
+
+pub returns-in_err-extend_from_slice-clause-ok : goal.returns-in_err-extend_from_slice-clause-ok
+returns-in_err-extend_from_slice-clause-ok c = IfOk-from_err c.from_residual.result _ c.from_residual.ensures.0
+
+pub returns-in_err-feed_all-clause-same : goal.returns-in_err-feed_all-clause-same
+returns-in_err-feed_all-clause-same c = (refl, refl)
+
+pub returns-in_err-feed_all-clause-ready : goal.returns-in_err-feed_all-clause-ready
+returns-in_err-feed_all-clause-ready c = IfOk-from_err c.from_residual-in_err-feed_all.result _ c.from_residual-in_err-feed_all.ensures.0
+
+pub returns-in_err-feed_all-clause-fed : goal.returns-in_err-feed_all-clause-fed
+returns-in_err-feed_all-clause-fed c = IfOk-from_err c.from_residual-in_err-feed_all.result _ c.from_residual-in_err-feed_all.ensures.0
+
+pub returns-in_err-feed_all-clause-ok : goal.returns-in_err-feed_all-clause-ok
+returns-in_err-feed_all-clause-ok c = IfOk-from_err c.from_residual-in_err-feed_all.result _ c.from_residual-in_err-feed_all.ensures.0
+
+pub returns-in_err-push_tile-clause-same : goal.returns-in_err-push_tile-clause-same
+returns-in_err-push_tile-clause-same c = (refl, refl)
+
+pub returns-in_err-push_tile-clause-ready : goal.returns-in_err-push_tile-clause-ready
+returns-in_err-push_tile-clause-ready c = IfOk-from_err c.from_residual-in_err-push_tile.result _ c.from_residual-in_err-push_tile.ensures.0
+
+pub returns-in_err-push_tile-clause-fed : goal.returns-in_err-push_tile-clause-fed
+returns-in_err-push_tile-clause-fed c = IfOk-from_err c.from_residual-in_err-push_tile.result _ c.from_residual-in_err-push_tile.ensures.0
+
+pub returns-in_err-push_tile-clause-ok : goal.returns-in_err-push_tile-clause-ok
+returns-in_err-push_tile-clause-ok c = IfOk-from_err c.from_residual-in_err-push_tile.result _ c.from_residual-in_err-push_tile.ensures.0

@@ -1,8 +1,10 @@
 -- What a check answers is what master and certificate come to, or the reason or fault that stands first.
-use Rattle.std.proofs.Common.{◌≡◌, ℕ, zero, suc, ◌+◌, ◌-◌, ◌<◌, ◌≤◌, inl, inr, Bool, List, [], ◌∷◌, ◌++◌, length, get_or, map, take, sum_by, false, Option, Some, Ok, Err, refl, sym, ap, subst, ◌∙◌, arith}
+use Rattle.std.proofs.Common.{◌≡◌, ℕ, zero, suc, ◌+◌, ◌-◌, ◌<◌, ◌≤◌, inl, inr, Bool, List, [], ◌∷◌, ◌++◌, length, get_or, map, take, sum_by, false, Option, Some, Result, Ok, Err, refl, sym, ap, subst, ◌∙◌, arith}
 use Rattle.std.specs.Prelude.{MatchOption}
+use Rattle.std.specs.Result.{IsErr}
 use Rattle.std.specs.List.{All, AllZip, flat_map, range_with_len}
 use Rattle.std.proofs.lemmas.Bool.{cases_lt, ne_eqb}
+use Rattle.std.proofs.lemmas.Result.{IfOk-from_err}
 use Rattle.std.proofs.lemmas.List.{get_or-append-add, get_or-map, get_or_append_left, length-append, length-map, nil_from_length}
 use Rattle.std.proofs.lemmas.List.Elements.{All-get_or}
 use Rattle.std.proofs.lemmas.List.FromFn.{get_or-map-range_with_len, get_or-range_with_len, length-map-range_with_len, length-range_with_len}
@@ -19,7 +21,7 @@ use Rattle.cost_core.specs.Fade.{cue_at}
 use Rattle.cost_core.specs.Least.{IsLeast}
 use Rattle.cert_core.specs.Certificates.{Claim}
 use Rattle.archive_core.specs.declared.fault.Fault.{Fault}
-use Rattle.archive_core.specs.declared.fault.Fault.TheVariants.{Project, NoDecimation, NoSplice, TakeNumber, TakeUnread, TakeMismatch, CueOutside, MasterTooLong, NoRoomBefore, NoRoomAfter, FileUnread, RateNotDivided, TooLarge, NotWholeBytes, Memory}
+use Rattle.archive_core.specs.declared.fault.Fault.TheVariants.{Project, NoDecimation, NoSplice, TakeNumber, TakeUnread, TakeMismatch, CueOutside, MasterTooLong, NoRoomBefore, NoRoomAfter, FileUnread, RateNotDivided, TooLarge, NotWholeBytes, FileRefused, ReadFailed, WriteFailed, TurnLimit, Memory}
 use Rattle.archive_core.specs.declared.form.Form.{Form}
 use Rattle.archive_core.specs.declared.opening.Opened.{Opened}
 use Rattle.archive_core.specs.declared.places.BridgePlace.{BridgePlace}
@@ -27,15 +29,15 @@ use Rattle.archive_core.specs.declared.verdict.Reason.{Reason}
 use Rattle.archive_core.specs.declared.verdict.Reason.TheVariants.{MasterUnread, MasterShape, MasterLength, MasterMarks, CuedBit, CertHead, Cert, CertExtra}
 use Rattle.archive_core.specs.declared.verdict.Verdict.{Verdict}
 use Rattle.archive_core.specs.declared.verdict.Verdict.TheVariants.{Accepted, Rejected}
-use Rattle.archive_core.specs.Checking.{Accepts, AnswersAccepted, CutReason, IfAccepted, IfRejected, IsCut, IsLeastFront, IsLeastMaster, RejectsFirst, rebuilt}
+use Rattle.archive_core.specs.Checking.{Accepts, AnswersAccepted, CheckStandsFirst, CutReason, IfAccepted, IfRejected, IsCut, IsLeastFront, IsLeastMaster, RejectsFirst, rebuilt}
 use Rattle.archive_core.specs.Judging.{AreLeastBridges, IsNoRejection, JudgesMaster, WhereAccepted}
 use Rattle.archive_core.specs.Claims.{IsCertOf, bridge_bits, bridge_places, bridge_start, claim_at, places_behind}
 use Rattle.archive_core.specs.Editing.{IsMaster}
 use Rattle.archive_core.specs.Forms.{Holds}
 use Rattle.archive_core.specs.Masters.{AreFronts, IsFront, channel_numbers, channels_at, part_at, parts_of, total}
-use Rattle.archive_core.specs.Projects.{AnswersThis, SaysSplice}
+use Rattle.archive_core.specs.Projects.{AnswersThis, SaysSplice, SpliceStandsFirst}
 use Rattle.archive_core.specs.Rooms.{HaveRoom, RoomStandsFirst}
-use Rattle.archive_core.specs.Takes.{AreTakes, FitTakes, master_length, span, take_at}
+use Rattle.archive_core.specs.Takes.{AreTakes, FitTakes, TakesStandFirst, master_length, span, take_at}
 use Rattle.archive_core.proofs.EditLaws.{lacking}
 use Rattle.archive_core.proofs.TakeLaws.{zip_at}
 
@@ -54,6 +56,10 @@ check_refused view y (NoRoomAfter i) cost h = h
 check_refused view y (FileUnread f) cost h = h
 check_refused view y RateNotDivided cost h = h
 check_refused view y TooLarge cost h = h
+check_refused view y FileRefused cost h = h
+check_refused view y ReadFailed cost h = h
+check_refused view y WriteFailed cost h = h
+check_refused view y TurnLimit cost h = h
 check_refused view y NotWholeBytes cost h = h
 check_refused view y Memory cost h = tt
 
@@ -71,8 +77,87 @@ room_refused splice takes (NoRoomAfter i) cost h room = absurd (lacking splice t
 room_refused splice takes (FileUnread f) cost h room = absurd h
 room_refused splice takes RateNotDivided cost h room = absurd h
 room_refused splice takes TooLarge cost h room = absurd h
+room_refused splice takes FileRefused cost h room = absurd h
+room_refused splice takes ReadFailed cost h room = absurd h
+room_refused splice takes WriteFailed cost h room = absurd h
+room_refused splice takes TurnLimit cost h room = absurd h
 room_refused splice takes NotWholeBytes cost h room = absurd h
 room_refused splice takes Memory cost h room = absurd h
+
+-- ---- what is refused has no verdict
+pub refused_accepts : (r : Result Verdict Fault) (P : ℕ → Type 0) → IsErr r → IfAccepted r P
+refused_accepts (Ok v) P h = IfOk-from_err {E = Fault} (Ok v) (λ x. IfAccepted (Ok v) P) h
+refused_accepts (Err e) P h = tt
+
+pub refused_rejects : (r : Result Verdict Fault) (P : Reason → Type 0) → IsErr r → IfRejected r P
+refused_rejects (Ok v) P h = IfOk-from_err {E = Fault} (Ok v) (λ x. IfRejected (Ok v) P) h
+refused_rejects (Err e) P h = tt
+
+-- ---- a fault of a part stands first in the whole
+module _ (project : List ℕ) (files : List (List ℕ)) where
+  pub said_stands : (e : Fault) → SpliceStandsFirst project e → CheckStandsFirst project files e
+  said_stands (Project f) h = h
+  said_stands NoDecimation h = absurd h
+  said_stands NoSplice h = h
+  said_stands TakeNumber h = absurd h
+  said_stands (TakeUnread i f) h = absurd h
+  said_stands (TakeMismatch i) h = absurd h
+  said_stands (CueOutside i) h = absurd h
+  said_stands MasterTooLong h = absurd h
+  said_stands (NoRoomBefore i) h = absurd h
+  said_stands (NoRoomAfter i) h = absurd h
+  said_stands (FileUnread f) h = absurd h
+  said_stands RateNotDivided h = absurd h
+  said_stands TooLarge h = absurd h
+  said_stands FileRefused h = absurd h
+  said_stands ReadFailed h = absurd h
+  said_stands WriteFailed h = absurd h
+  said_stands TurnLimit h = absurd h
+  said_stands NotWholeBytes h = absurd h
+  said_stands Memory h = tt
+
+  module _ (splice : SpliceContent) (says : SaysSplice project splice) where
+    pub read_stands : (e : Fault) → TakesStandFirst splice files e → CheckStandsFirst project files e
+    read_stands (Project f) h = absurd h
+    read_stands NoDecimation h = absurd h
+    read_stands NoSplice h = absurd h
+    read_stands TakeNumber h = record { splice = splice; project_says = says; stands = h }
+    read_stands (TakeUnread i f) h = record { splice = splice; project_says = says; stands = h }
+    read_stands (TakeMismatch i) h = record { splice = splice; project_says = says; stands = h }
+    read_stands (CueOutside i) h = record { splice = splice; project_says = says; stands = h }
+    read_stands MasterTooLong h = record { splice = splice; project_says = says; stands = h }
+    read_stands (NoRoomBefore i) h = absurd h
+    read_stands (NoRoomAfter i) h = absurd h
+    read_stands (FileUnread f) h = absurd h
+    read_stands RateNotDivided h = absurd h
+    read_stands TooLarge h = absurd h
+    read_stands FileRefused h = absurd h
+    read_stands ReadFailed h = absurd h
+    read_stands WriteFailed h = absurd h
+    read_stands TurnLimit h = absurd h
+    read_stands NotWholeBytes h = absurd h
+    read_stands Memory h = tt
+
+    pub room_stands : (takes : List Content) (e : Fault) → AreTakes splice files takes → RoomStandsFirst splice takes e → CheckStandsFirst project files e
+    room_stands takes (Project f) hold h = absurd h
+    room_stands takes NoDecimation hold h = absurd h
+    room_stands takes NoSplice hold h = absurd h
+    room_stands takes TakeNumber hold h = absurd h
+    room_stands takes (TakeUnread i f) hold h = absurd h
+    room_stands takes (TakeMismatch i) hold h = absurd h
+    room_stands takes (CueOutside i) hold h = absurd h
+    room_stands takes MasterTooLong hold h = absurd h
+    room_stands takes (NoRoomBefore i) hold h = record { splice = splice; takes = takes; project_says = says; files_hold = hold; stands = h }
+    room_stands takes (NoRoomAfter i) hold h = record { splice = splice; takes = takes; project_says = says; files_hold = hold; stands = h }
+    room_stands takes (FileUnread f) hold h = absurd h
+    room_stands takes RateNotDivided hold h = absurd h
+    room_stands takes TooLarge hold h = absurd h
+    room_stands takes FileRefused hold h = absurd h
+    room_stands takes ReadFailed hold h = absurd h
+    room_stands takes WriteFailed hold h = absurd h
+    room_stands takes TurnLimit hold h = absurd h
+    room_stands takes NotWholeBytes hold h = absurd h
+    room_stands takes Memory hold h = absurd h
 
 -- ---- a reason against a master
 pub cut_reason_against : (splice : SpliceContent) (takes : List Content) (form : Form) (r : Content) (reason : Reason) → CutReason splice takes form r reason → IsCut splice takes form r → ⊥

@@ -66,7 +66,7 @@ writes_entry u v w x d cue channel levels chosen rows table valid long start mid
 
 -- ---- claims
 module _ (splice : SpliceContent) (takes : List Content) (i : ℕ) where
-  claim_cut : (c : ℕ) (bits : List Bool) → (cue_at splice i).bridge ≡ 0 → claim_of splice takes i c bits ≡ []
+  pub claim_cut : (c : ℕ) (bits : List Bool) → (cue_at splice i).bridge ≡ 0 → claim_of splice takes i c bits ≡ []
   claim_cut c bits e = rw e refl
 
   pub claims_more : (c : ℕ) (xs : List Chosen) (x : Chosen) → claims_from splice takes i c (xs ++ x ∷ []) ≡ claims_from splice takes i c xs ++ claim_of splice takes i (c + length xs) x.bits

@@ -2,7 +2,7 @@
 use Rattle.std.proofs.Common.{◌≡◌, ℕ, List, Some, Ok, Err, sym, ap, ◌∙◌}
 use Rattle.dsd_bits.specs.Contents.{Content}
 use Rattle.archive_core.specs.declared.fault.Fault.{Fault}
-use Rattle.archive_core.specs.declared.fault.Fault.TheVariants.{Project, NoDecimation, NoSplice, TakeNumber, TakeUnread, TakeMismatch, CueOutside, MasterTooLong, NoRoomBefore, NoRoomAfter, FileUnread, RateNotDivided, TooLarge, NotWholeBytes, Memory}
+use Rattle.archive_core.specs.declared.fault.Fault.TheVariants.{Project, NoDecimation, NoSplice, TakeNumber, TakeUnread, TakeMismatch, CueOutside, MasterTooLong, NoRoomBefore, NoRoomAfter, FileUnread, RateNotDivided, TooLarge, NotWholeBytes, FileRefused, ReadFailed, WriteFailed, TurnLimit, Memory}
 use Rattle.archive_core.specs.declared.fault.ReadFault.{ReadFault}
 use Rattle.archive_core.specs.declared.fault.ReadFault.TheVariants as reads
 use Rattle.archive_core.specs.declared.form.Form.{Form}
@@ -38,6 +38,10 @@ write_refused form r s bytes dropped MasterTooLong h same text = absurd h
 write_refused form r s bytes dropped (NoRoomBefore i) h same text = absurd h
 write_refused form r s bytes dropped (NoRoomAfter i) h same text = absurd h
 write_refused form r s bytes dropped TooLarge h same text = absurd h
+write_refused form r s bytes dropped FileRefused h same text = absurd h
+write_refused form r s bytes dropped ReadFailed h same text = absurd h
+write_refused form r s bytes dropped WriteFailed h same text = absurd h
+write_refused form r s bytes dropped TurnLimit h same text = absurd h
 
 -- the recording that was read is the one that the file holds
 pub same_recording : (x y : Opened) → Opens (Ok x) (Ok y) → x.recording ≡ y.recording

@@ -8,14 +8,14 @@ use Rattle.cost_core.specs.Fade.{cue_at}
 use Rattle.cost_core.specs.Faults.{HasRoom, first_fault}
 use Rattle.cost_core.specs.declared.fault.WindowFault.{WindowFault}
 use Rattle.archive_core.specs.declared.fault.Fault.{Fault}
-use Rattle.archive_core.specs.declared.fault.Fault.TheVariants.{Project, NoDecimation, NoSplice, TakeNumber, TakeUnread, TakeMismatch, CueOutside, MasterTooLong, NoRoomBefore, NoRoomAfter, FileUnread, RateNotDivided, TooLarge, NotWholeBytes, Memory}
+use Rattle.archive_core.specs.declared.fault.Fault.TheVariants.{Project, NoDecimation, NoSplice, TakeNumber, TakeUnread, TakeMismatch, CueOutside, MasterTooLong, NoRoomBefore, NoRoomAfter, FileUnread, RateNotDivided, TooLarge, NotWholeBytes, FileRefused, ReadFailed, WriteFailed, TurnLimit, Memory}
 use Rattle.archive_core.specs.declared.form.Form.{Form}
 use Rattle.archive_core.specs.declared.form.Form.TheVariants as forms
-use Rattle.archive_core.specs.Editing.{AnswersEdited}
+use Rattle.archive_core.specs.Editing.{AnswersEdited, EditStandsFirst}
 use Rattle.archive_core.specs.Forms.{text_in}
-use Rattle.archive_core.specs.Projects.{AnswersThis}
+use Rattle.archive_core.specs.Projects.{AnswersThis, SaysSplice, SpliceStandsFirst}
 use Rattle.archive_core.specs.Rooms.{CutStandsFirst, HaveRoom, IsWhole, LacksRoom}
-use Rattle.archive_core.specs.Takes.{master_length}
+use Rattle.archive_core.specs.Takes.{AreTakes, TakesStandFirst, master_length}
 use Rattle.archive_core.specs.Writing.{IsWriteFault}
 
 -- what was refused was not answered
@@ -33,6 +33,10 @@ edit_refused view y (NoRoomAfter i) master cost h = h
 edit_refused view y (FileUnread f) master cost h = h
 edit_refused view y RateNotDivided master cost h = h
 edit_refused view y TooLarge master cost h = h
+edit_refused view y FileRefused master cost h = h
+edit_refused view y ReadFailed master cost h = h
+edit_refused view y WriteFailed master cost h = h
+edit_refused view y TurnLimit master cost h = h
 edit_refused view y NotWholeBytes master cost h = h
 edit_refused view y Memory master cost h = tt
 
@@ -60,6 +64,10 @@ cut_refused splice takes form MasterTooLong master cost h whole room = absurd h
 cut_refused splice takes form (FileUnread f) master cost h whole room = absurd h
 cut_refused splice takes form RateNotDivided master cost h whole room = absurd h
 cut_refused splice takes form TooLarge master cost h whole room = absurd h
+cut_refused splice takes form FileRefused master cost h whole room = absurd h
+cut_refused splice takes form ReadFailed master cost h whole room = absurd h
+cut_refused splice takes form WriteFailed master cost h whole room = absurd h
+cut_refused splice takes form TurnLimit master cost h whole room = absurd h
 
 -- a master of whole bytes has a text
 even_text : (n : ℕ) (text : List ℕ) → n % 8 ≡ 0 → cond (eqb (n % 8) 0) (Some text) None ≡ None → ⊥
@@ -90,3 +98,73 @@ module _ (form : Form) (splice : SpliceContent) (r : Content) (whole : IsWhole f
   write_only_memory (FileUnread f) h = absurd h
   write_only_memory RateNotDivided h = absurd h
   write_only_memory TooLarge h = absurd h
+  write_only_memory FileRefused h = absurd h
+  write_only_memory ReadFailed h = absurd h
+  write_only_memory WriteFailed h = absurd h
+  write_only_memory TurnLimit h = absurd h
+
+-- ---- a fault of a part stands first in the whole
+module _ (project : List ℕ) (files : List (List ℕ)) (form : Form) where
+  pub splice_stands : (e : Fault) → SpliceStandsFirst project e → EditStandsFirst project files form e
+  splice_stands (Project f) h = h
+  splice_stands NoDecimation h = absurd h
+  splice_stands NoSplice h = h
+  splice_stands TakeNumber h = absurd h
+  splice_stands (TakeUnread i f) h = absurd h
+  splice_stands (TakeMismatch i) h = absurd h
+  splice_stands (CueOutside i) h = absurd h
+  splice_stands MasterTooLong h = absurd h
+  splice_stands (NoRoomBefore i) h = absurd h
+  splice_stands (NoRoomAfter i) h = absurd h
+  splice_stands (FileUnread f) h = absurd h
+  splice_stands RateNotDivided h = absurd h
+  splice_stands TooLarge h = absurd h
+  splice_stands FileRefused h = absurd h
+  splice_stands ReadFailed h = absurd h
+  splice_stands WriteFailed h = absurd h
+  splice_stands TurnLimit h = absurd h
+  splice_stands NotWholeBytes h = absurd h
+  splice_stands Memory h = tt
+
+  module _ (splice : SpliceContent) (says : SaysSplice project splice) where
+    pub takes_stand : (e : Fault) → TakesStandFirst splice files e → EditStandsFirst project files form e
+    takes_stand (Project f) h = absurd h
+    takes_stand NoDecimation h = absurd h
+    takes_stand NoSplice h = absurd h
+    takes_stand TakeNumber h = record { splice = splice; project_says = says; stands = h }
+    takes_stand (TakeUnread i f) h = record { splice = splice; project_says = says; stands = h }
+    takes_stand (TakeMismatch i) h = record { splice = splice; project_says = says; stands = h }
+    takes_stand (CueOutside i) h = record { splice = splice; project_says = says; stands = h }
+    takes_stand MasterTooLong h = record { splice = splice; project_says = says; stands = h }
+    takes_stand (NoRoomBefore i) h = absurd h
+    takes_stand (NoRoomAfter i) h = absurd h
+    takes_stand (FileUnread f) h = absurd h
+    takes_stand RateNotDivided h = absurd h
+    takes_stand TooLarge h = absurd h
+    takes_stand FileRefused h = absurd h
+    takes_stand ReadFailed h = absurd h
+    takes_stand WriteFailed h = absurd h
+    takes_stand TurnLimit h = absurd h
+    takes_stand NotWholeBytes h = absurd h
+    takes_stand Memory h = tt
+
+    pub cut_stands : (takes : List Content) (e : Fault) → AreTakes splice files takes → CutStandsFirst splice takes form e → EditStandsFirst project files form e
+    cut_stands takes (Project f) hold h = absurd h
+    cut_stands takes NoDecimation hold h = absurd h
+    cut_stands takes NoSplice hold h = absurd h
+    cut_stands takes TakeNumber hold h = absurd h
+    cut_stands takes (TakeUnread i f) hold h = absurd h
+    cut_stands takes (TakeMismatch i) hold h = absurd h
+    cut_stands takes (CueOutside i) hold h = absurd h
+    cut_stands takes MasterTooLong hold h = absurd h
+    cut_stands takes (NoRoomBefore i) hold h = record { splice = splice; takes = takes; project_says = says; files_hold = hold; stands = h }
+    cut_stands takes (NoRoomAfter i) hold h = record { splice = splice; takes = takes; project_says = says; files_hold = hold; stands = h }
+    cut_stands takes (FileUnread f) hold h = absurd h
+    cut_stands takes RateNotDivided hold h = absurd h
+    cut_stands takes TooLarge hold h = absurd h
+    cut_stands takes FileRefused hold h = absurd h
+    cut_stands takes ReadFailed hold h = absurd h
+    cut_stands takes WriteFailed hold h = absurd h
+    cut_stands takes TurnLimit hold h = absurd h
+    cut_stands takes NotWholeBytes hold h = record { splice = splice; takes = takes; project_says = says; files_hold = hold; stands = h }
+    cut_stands takes Memory hold h = tt

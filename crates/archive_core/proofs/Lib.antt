@@ -15,3 +15,4 @@ pub mod ProjectLaws
 pub mod TakeLaws
 pub mod TitleLaws
 pub mod TotalLaws
+pub mod StreamLaws

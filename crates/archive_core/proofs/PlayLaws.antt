@@ -7,7 +7,7 @@ use Rattle.wave_core.specs.declared.fault.WaveFault.TheVariants as waves
 use Rattle.wave_core.specs.Texts.{wave_text}
 use Rattle.player_core.specs.Samples.{pcm}
 use Rattle.archive_core.specs.declared.fault.Fault.{Fault}
-use Rattle.archive_core.specs.declared.fault.Fault.TheVariants.{Project, NoDecimation, NoSplice, TakeNumber, TakeUnread, TakeMismatch, CueOutside, MasterTooLong, NoRoomBefore, NoRoomAfter, FileUnread, RateNotDivided, TooLarge, NotWholeBytes, Memory}
+use Rattle.archive_core.specs.declared.fault.Fault.TheVariants.{Project, NoDecimation, NoSplice, TakeNumber, TakeUnread, TakeMismatch, CueOutside, MasterTooLong, NoRoomBefore, NoRoomAfter, FileUnread, RateNotDivided, TooLarge, NotWholeBytes, FileRefused, ReadFailed, WriteFailed, TurnLimit, Memory}
 use Rattle.archive_core.specs.declared.fault.ReadFault.{ReadFault}
 use Rattle.archive_core.specs.declared.fault.ReadFault.TheVariants as reads
 use Rattle.archive_core.specs.declared.form.Form.{Form}
@@ -33,6 +33,10 @@ project_refused project file bytes MasterTooLong h plays = h plays.decimator pla
 project_refused project file bytes (NoRoomBefore i) h plays = h plays.decimator plays.project_says
 project_refused project file bytes (NoRoomAfter i) h plays = h plays.decimator plays.project_says
 project_refused project file bytes TooLarge h plays = h plays.decimator plays.project_says
+project_refused project file bytes FileRefused h plays = h plays.decimator plays.project_says
+project_refused project file bytes ReadFailed h plays = h plays.decimator plays.project_says
+project_refused project file bytes WriteFailed h plays = h plays.decimator plays.project_says
+project_refused project file bytes TurnLimit h plays = h plays.decimator plays.project_says
 project_refused project file bytes NotWholeBytes h plays = h plays.decimator plays.project_says
 project_refused project file bytes Memory h plays = tt
 

@@ -42,6 +42,10 @@ refused_alike view y other w faults.MasterTooLong h = h
 refused_alike view y other w (faults.NoRoomBefore i) h = h
 refused_alike view y other w (faults.NoRoomAfter i) h = h
 refused_alike view y other w faults.TooLarge h = h
+refused_alike view y other w faults.FileRefused h = h
+refused_alike view y other w faults.ReadFailed h = h
+refused_alike view y other w faults.WriteFailed h = h
+refused_alike view y other w faults.TurnLimit h = h
 refused_alike view y other w faults.NotWholeBytes h = h
 refused_alike view y other w faults.Memory h = tt
 

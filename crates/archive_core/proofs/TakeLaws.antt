@@ -3,6 +3,9 @@ use Rattle.std.proofs.Common.{◌≡◌, ℕ, zero, suc, ◌+◌, ◌<◌, ◌�
 use Rattle.std.specs.List.{AllZip}
 use Rattle.std.proofs.lemmas.List.{get_or-map, take_all, take_more}
 use Rattle.dsd_bits.specs.Contents.{Content}
+use Rattle.project_core.specs.Splices.{SpliceContent}
+use Rattle.archive_core.specs.declared.fault.Fault.{Fault}
+use Rattle.archive_core.specs.declared.fault.Fault.TheVariants.{Project, NoDecimation, NoSplice, TakeNumber, TakeUnread, TakeMismatch, CueOutside, MasterTooLong, NoRoomBefore, NoRoomAfter, FileUnread, RateNotDivided, TooLarge, NotWholeBytes, FileRefused, ReadFailed, WriteFailed, TurnLimit, Memory}
 use Rattle.archive_core.specs.declared.fault.ReadFault.{ReadFault}
 use Rattle.archive_core.specs.declared.fault.ReadFault.TheVariants as reads
 use Rattle.archive_core.specs.declared.form.Form.{Form}
@@ -10,7 +13,7 @@ use Rattle.archive_core.specs.Faults.{fault_of_take}
 use Rattle.archive_core.specs.Forms.{Holds}
 use Rattle.archive_core.specs.Opening.{Opens}
 use Rattle.archive_core.specs.Projects.{AnswersThis}
-use Rattle.archive_core.specs.Takes.{HoldsSome, bytes_of}
+use Rattle.archive_core.specs.Takes.{HoldsSome, TakesStandFirst, UnreadStandsFirst, bytes_of}
 
 -- one pair more
 pub zip_more : {A B : Type 0} (R : A → B → Type 0) (xs : List A) (ys : List B) (x : A) (y : B) → AllZip R xs ys → R x y → AllZip R (xs ++ x ∷ []) (ys ++ y ∷ [])
@@ -60,3 +63,25 @@ module _ (files : List (List ℕ)) (made : List Content) (i : ℕ) (file : List 
 
 pub same_all : (files : List (List ℕ)) (made : List Content) (i : ℕ) → length files ≤ i → ((takes : List Content) → AllZip HoldsSome files takes → made ≡ take i takes) → (takes : List Content) → AllZip HoldsSome files takes → made ≡ takes
 same_all files made i ge same takes held = same takes held ∙ take_all i takes (omega (arith, zip_long HoldsSome files takes held))
+
+-- a file that isn't read stands first of the faults of the takes
+pub unread_stands : (splice : SpliceContent) (files : List (List ℕ)) (e : Fault) → length files ≡ length splice.takes → UnreadStandsFirst files e → TakesStandFirst splice files e
+unread_stands splice files (Project f) many h = absurd h
+unread_stands splice files NoDecimation many h = absurd h
+unread_stands splice files NoSplice many h = absurd h
+unread_stands splice files TakeNumber many h = absurd h
+unread_stands splice files (TakeUnread i f) many h = (many, h)
+unread_stands splice files (TakeMismatch i) many h = absurd h
+unread_stands splice files (CueOutside i) many h = absurd h
+unread_stands splice files MasterTooLong many h = absurd h
+unread_stands splice files (NoRoomBefore i) many h = absurd h
+unread_stands splice files (NoRoomAfter i) many h = absurd h
+unread_stands splice files (FileUnread f) many h = absurd h
+unread_stands splice files RateNotDivided many h = absurd h
+unread_stands splice files TooLarge many h = absurd h
+unread_stands splice files FileRefused many h = absurd h
+unread_stands splice files ReadFailed many h = absurd h
+unread_stands splice files WriteFailed many h = absurd h
+unread_stands splice files TurnLimit many h = absurd h
+unread_stands splice files NotWholeBytes many h = absurd h
+unread_stands splice files Memory many h = tt

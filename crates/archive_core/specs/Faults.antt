@@ -8,12 +8,14 @@ use Rattle.dsf_core.specs.declared.fault.DsfFault.{DsfFault}
 use Rattle.dsf_core.specs.declared.fault.DsfFault.TheVariants as dsfs
 use Rattle.project_core.specs.declared.fault.ProjectFault.{ProjectFault}
 use Rattle.project_core.specs.declared.fault.ProjectFault.TheVariants as projects
+use Rattle.stream_core.specs.declared.fault.StreamFault.{StreamFault}
+use Rattle.stream_core.specs.declared.fault.StreamFault.TheVariants as streams
 use Rattle.wave_core.specs.declared.fault.WaveFault.{WaveFault}
 use Rattle.wave_core.specs.declared.fault.WaveFault.TheVariants as waves
 use Rattle.archive_core.specs.declared.fault.ReadFault.{ReadFault}
 use Rattle.archive_core.specs.declared.fault.ReadFault.TheVariants as reads
 use Rattle.archive_core.specs.declared.fault.Fault.{Fault}
-use Rattle.archive_core.specs.declared.fault.Fault.TheVariants.{Project, FileUnread, TakeUnread, TooLarge, NotWholeBytes, Memory}
+use Rattle.archive_core.specs.declared.fault.Fault.TheVariants.{Project, FileUnread, TakeUnread, RateNotDivided, TooLarge, NotWholeBytes, FileRefused, ReadFailed, WriteFailed, TurnLimit, Memory}
 
 -- of a DSDIFF file: one that isn't a DSDIFF file has no form that is known
 abbrev pub dsdiff_fault : DsdiffFault → ReadFault
@@ -51,3 +53,13 @@ fault_of_wave waves.Memory = Memory
 abbrev pub fault_of_writing : WriteFault → Fault
 fault_of_writing writes.NotWholeBytes = NotWholeBytes
 fault_of_writing writes.Memory = Memory
+
+-- of a file that is played from a reader
+abbrev pub fault_of_stream : StreamFault → Fault
+fault_of_stream streams.FileRefused = FileRefused
+fault_of_stream streams.RateNotDivided = RateNotDivided
+fault_of_stream streams.TooLarge = TooLarge
+fault_of_stream streams.ReadFailed = ReadFailed
+fault_of_stream streams.WriteFailed = WriteFailed
+fault_of_stream streams.TurnLimit = TurnLimit
+fault_of_stream streams.Memory = Memory

@@ -12,6 +12,7 @@ pub mod Opening
 pub mod Playing
 pub mod Projects
 pub mod Rooms
+pub mod Streaming
 pub mod Takes
 pub mod Titles
 pub mod Writing

@@ -1,13 +1,14 @@
 //! Why a call is refused.
 
 ghost use Rattle.std.specs.Prelude.{◌≡◌};
-ghost use Rattle.archive_core.specs.Faults.{dsdiff_fault, dsf_fault, fault_of_file, fault_of_project, fault_of_wave, fault_of_writing};
+ghost use Rattle.archive_core.specs.Faults.{dsdiff_fault, dsf_fault, fault_of_file, fault_of_project, fault_of_stream, fault_of_wave, fault_of_writing};
 ghost use Rattle.archive_core.specs.declared.fault.Fault.TheVariants as faults;
 
 use dsdiff_core::{DsdiffFault, WriteFault};
 use dsf_core::DsfFault;
 use project_core::ProjectFault;
 use std::alloc::AllocError;
+use stream_core::StreamFault;
 use thiserror::Error;
 use wave_core::WaveFault;
 
@@ -98,6 +99,18 @@ pub enum Fault {
     /// A DSDIFF file holds whole bytes of each channel, and the channels end inside one.
     #[error("NotWholeBytes")]
     NotWholeBytes,
+    /// A reader's bytes are neither a DSDIFF file nor a DSF file that holds a recording.
+    #[error("FileRefused")]
+    FileRefused,
+    /// A read failed.
+    #[error("ReadFailed")]
+    ReadFailed,
+    /// A write failed, or took nothing.
+    #[error("WriteFailed")]
+    WriteFailed,
+    /// There were `2^40` reads, and the file wasn't at its end.
+    #[error("TurnLimit")]
+    TurnLimit,
     /// Want of memory.
     #[error("Memory")]
     Memory,
@@ -151,6 +164,22 @@ impl From<WriteFault> for Fault {
         match fault {
             WriteFault::Memory => Fault::Memory,
             WriteFault::NotWholeBytes => Fault::NotWholeBytes,
+        }
+    }
+}
+
+impl From<StreamFault> for Fault {
+    ghost from_gives = { λ f e. e ≡ fault_of_stream f };
+
+    fn from(fault: StreamFault) -> Fault {
+        match fault {
+            StreamFault::FileRefused => Fault::FileRefused,
+            StreamFault::RateNotDivided => Fault::RateNotDivided,
+            StreamFault::TooLarge => Fault::TooLarge,
+            StreamFault::ReadFailed => Fault::ReadFailed,
+            StreamFault::WriteFailed => Fault::WriteFailed,
+            StreamFault::TurnLimit => Fault::TurnLimit,
+            StreamFault::Memory => Fault::Memory,
         }
     }
 }

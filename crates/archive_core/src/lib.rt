@@ -2,9 +2,9 @@
 //! it, cutting masters from takes by cue lists, and checking masters.
 //!
 //! [`read_any`] reads a DSDIFF 1.5 or DSF 1.01 file, [`convert`] writes its recording in another [`Form`],
-//! and [`play`] makes a RIFF WAVE file of it, decimated as a project text says. [`take_names`] tells which
-//! takes a project text cuts, [`edit`] cuts its master from them and certifies it, and [`check`] judges a
-//! master and its certificate, whoever made them.
+//! and [`play`] makes a RIFF WAVE file of it, decimated as a project text says; [`play_stream`] does so from a
+//! reader to a writer. [`take_names`] tells which takes a project text cuts, [`edit`] cuts its master from them
+//! and certifies it, and [`check`] judges a master and its certificate, whoever made them.
 //!
 //! The words of its contracts: `Holds file form recording` says that the file has this form and holds this
 //! recording; `Converts file form bytes dropped` that these bytes are the file of the form that is written
@@ -49,6 +49,6 @@ pub use editing::{Edited, edit};
 pub use fault::{Fault, ReadFault};
 pub use form::Form;
 pub use opening::{Opened, read_any};
-pub use player::play;
+pub use player::{play, play_stream};
 pub use projects::take_names;
 pub use verdict::{Reason, Verdict};

@@ -86,23 +86,41 @@ fn tells_of_a_file(rt: HostRuntime) -> Result<(), Fail> {
     Ok(())
 }
 
-// A project and an input that are no such, one that is not there, and what is printed.
-const PLAYED: [(&str, &str, &str); 4] = [
-    ("none", "in.dff", "fault: ReadFailed"),
-    ("in.dff", "none", "fault: ReadFailed"),
-    ("in.dff", "p.toml", "fault: Project NotToml"),
-    ("p.toml", "p.toml", "fault: FileUnread UnknownForm"),
-];
+// A project and an input of which one is not there.
+const NOT_THERE: [(&str, &str); 2] = [("none", "in.dff"), ("in.dff", "none")];
 
 #[test]
-fn plays_nothing_else_and_creates_nothing(rt: HostRuntime) -> Result<(), Fail> {
+fn plays_no_missing_file_and_creates_nothing(rt: HostRuntime) -> Result<(), Fail> {
     let alloc = rt.alloc();
-    for (project, input, line) in &PLAYED {
+    for (project, input) in &NOT_THERE {
         let task = playing(project, input);
         assert!(rt;
-            is_refused(alloc, folder(alloc), task, line)?,
+            is_refused(alloc, folder(alloc), task, "fault: ReadFailed")?,
             "{project} {input}"
         );
+    }
+    Ok(())
+}
+
+// A project and an input that are no such, and what is printed.
+const NOT_PLAYED: [(&str, &str, &str); 2] = [
+    ("in.dff", "p.toml", "fault: Project NotToml"),
+    ("p.toml", "p.toml", "fault: FileRefused"),
+];
+
+// Whether playing comes to this line, and leaves an empty file.
+fn leaves_none(alloc: Global, task: Task, line: &str) -> Result<bool, AllocError> {
+    let mut folder = folder(alloc)?;
+    let refused = comes_to(alloc, &mut folder, task, 2, line)?;
+    Ok(refused && holds(&folder, "out", &[]) && folder.count() == 3)
+}
+
+#[test]
+fn leaves_an_empty_file_where_nothing_is_played(rt: HostRuntime) -> Result<(), Fail> {
+    let alloc = rt.alloc();
+    for (project, input, line) in &NOT_PLAYED {
+        let task = playing(project, input);
+        assert!(rt; leaves_none(alloc, task, line)?, "{project} {input}");
     }
     Ok(())
 }
@@ -153,7 +171,7 @@ const PLAYS: [(&str, Option<Failure>, &str, &str); 8] = [
         "reading the input",
         Some(Failure::At("read", "in.dff")),
         "fault: ReadFailed",
-        "open p.toml\nopen in.dff\n",
+        "open p.toml\nopen in.dff\ncreate out\nkeep out\n",
     ),
     (
         "creating the output",

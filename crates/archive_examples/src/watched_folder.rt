@@ -11,7 +11,7 @@ use std::io::{Cursor, ErrorKind, Read, Write};
 /// What fails.
 #[derive(Clone, Copy)]
 pub(crate) enum Failure {
-    /// To `open`, `read`, `create` or `keep` the file of this name; a file is read up to its end.
+    /// To `open`, `read`, `create` or `keep` the file of this name.
     At(&'static str, &'static str),
     /// Writing, after so many bytes.
     Write(usize),
@@ -62,7 +62,7 @@ impl WatchedFolder {
     }
 }
 
-/// A file that may fail at its end.
+/// A file of which each read may fail.
 #[derive(Drop)]
 pub(crate) struct WatchedInput {
     bytes: Cursor<Vec<u8>>,
@@ -71,11 +71,10 @@ pub(crate) struct WatchedInput {
 
 impl Read for WatchedInput {
     fn read(&mut self, buffer: &mut [u8]) -> io::Result<usize> {
-        let count = self.bytes.read(buffer)?;
-        if count == 0 && self.fails {
+        if self.fails {
             return Err(io::Error::from(ErrorKind::TimedOut));
         }
-        Ok(count)
+        self.bytes.read(buffer)
     }
 }
 

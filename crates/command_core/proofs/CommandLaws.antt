@@ -1,63 +1,102 @@
 -- What becomes of files that are written, or could not be.
-use Rattle.std.proofs.Common.{◌≡◌, ℕ, List, Bool, IsTrue, Some, length, subst, sym, ◌∙◌, inl, inr, ◌≢◌}
+use Rattle.std.proofs.Common.{◌≡◌, ◌≢◌, ℕ, ◌⊎◌, inl, inr, List, [], ◌++◌, Bool, false, IsTrue, IsOk, is_ok, OnOk, OnErr, Option, None, Some, Result, Ok, Err, length, subst, sym, ap, ◌∙◌}
 use Rattle.archive_core.specs.Checking.{Accepts}
 use Rattle.archive_core.specs.Converting.{Converts}
 use Rattle.archive_core.specs.Editing.{Edits}
 use Rattle.archive_core.specs.Playing.{Plays}
+use Rattle.archive_core.specs.declared.fault.Fault as calls
 use Rattle.archive_core.specs.declared.form.Form.{Form}
-use Rattle.command_core.specs.Commands.{AreSources, ConvertComesTo, Cut, CutsFile, EditComesTo, PlayComesTo, PlaysFiles}
-use Rattle.command_core.specs.Files.{Files, IsFront, KeepsOthers}
+use Rattle.archive_core.specs.Streaming.{IsBeforeWriting, OnlyFromOutside, PlaysFile, StreamStands, WritesFront}
+use Rattle.chunk_core.specs.Outlets.{AppendsFront}
+use Rattle.command_core.specs.Commands.{AreSources, ConvertComesTo, Cut, CutsFile, EditComesTo, Ends, EndsPlaying, LeavesFront, PlayComesTo, PlayedComesTo}
+use Rattle.command_core.specs.Files.{Files, IsFront, IsGiven, KeepsOthers}
+use Rattle.command_core.specs.declared.folder.FolderFault.{FolderFault}
 use Rattle.command_core.specs.declared.outcome.Outcome.{Outcome}
-use Rattle.command_core.specs.declared.outcome.Outcome.TheVariants.{WriteFailed}
+use Rattle.command_core.specs.declared.outcome.Outcome.TheVariants.{Played, Converted, Edited, Accepted, Rejected, Info, Fault, ReadFailed, WriteFailed, WrongWords, UnknownFormName}
 
--- two files are read, and what they play is written
-pub played : (old first second new : Files) (told told_first told_second : Bool)
-    (project_name file_name output_name project file bytes : List ℕ) (count : ℕ)
-    → first ≡ old → second ≡ first → told_first ≡ told → told_second ≡ told_first
-    → (IsTrue told → old project_name ≡ Some project)
-    → (IsTrue told_first → first file_name ≡ Some file)
-    → (IsTrue told_second → new output_name ≡ Some bytes)
-    → KeepsOthers output_name second new → Plays project file bytes → count ≡ length bytes
-    → IsTrue told → PlaysFiles project_name file_name output_name old new count
-played old first second new told told_first told_second project_name file_name output_name project file bytes count
-    same_first same_second tells_first tells_second project_stands file_stands output_stands others plays counted is_told =
-    let is_told_first = subst IsTrue (sym tells_first) is_told in
-    let is_told_second = subst IsTrue (sym tells_second) is_told_first in
-    record {
-      project = project;
-      file = file;
-      bytes = bytes;
-      project_stands = project_stands is_told;
-      file_stands = subst (λ (f : Files). f file_name ≡ Some file) same_first (file_stands is_told_first);
-      output_stands = output_stands is_told_second;
-      others = subst (λ (f : Files). KeepsOthers output_name f new) (same_second ∙ same_first) others;
-      plays = plays;
-      counted = counted;
-    }
+-- ---- a file that is played
+module _ (project output : List ℕ) (old new : Files) (keeps : Result (Unit {0}) FolderFault) (told : Bool) (remaining held written : Option (List ℕ))
+    (others : KeepsOthers output old new) (kept : OnOk keeps (IsTrue told → new output ≡ written)) (refused : OnErr keeps (new output ≡ old output)) where
+  -- all of it was written, and handed back
+  pub played : (n : ℕ) → IsOk keeps → PlaysFile remaining project held written n → IsTrue told → PlayedComesTo project remaining held output old new (Played n)
+  played n is_kept plays is_told = λ file left empty. (others, by written (subst (λ o. PlaysFile o project (Some []) written n) left (subst (λ o. PlaysFile remaining project o written n) empty plays)) (at_ok keeps is_kept kept is_told))
+    where
+      at_ok : {P : Type 0} (r : Result (Unit {0}) FolderFault) → IsOk r → OnOk r P → P
+      at_ok (Ok x) is p = p
+      at_ok (Err e) is p = absurd cc
 
--- and could not be written
-pub play_unwritten : (old first second new : Files) (told told_first told_second : Bool)
-    (project_name file_name output_name project file bytes : List ℕ) (fault : Outcome)
-    → first ≡ old → second ≡ first → told_first ≡ told → told_second ≡ told_first
-    → (IsTrue told → old project_name ≡ Some project)
-    → (IsTrue told_first → first file_name ≡ Some file)
-    → (IsTrue told_second → IsFront (second output_name) (new output_name) bytes)
-    → KeepsOthers output_name second new → Plays project file bytes → fault ≡ WriteFailed
-    → IsTrue told → PlayComesTo project_name file_name output_name old new fault
-play_unwritten old first second new told told_first told_second project_name file_name output_name project file bytes fault
-    same_first same_second tells_first tells_second project_stands file_stands front others plays is is_told =
-    let is_told_first = subst IsTrue (sym tells_first) is_told in
-    let is_told_second = subst IsTrue (sym tells_second) is_told_first in
-    subst (λ (o : Outcome). PlayComesTo project_name file_name output_name old new o) (sym is) (record {
-      project = project;
-      file = file;
-      bytes = bytes;
-      project_stands = project_stands is_told;
-      file_stands = subst (λ (f : Files). f file_name ≡ Some file) same_first (file_stands is_told_first);
-      front = subst (λ (f : Files). IsFront (f output_name) (new output_name) bytes) (same_second ∙ same_first) (front is_told_second);
-      others = subst (λ (f : Files). KeepsOthers output_name f new) (same_second ∙ same_first) others;
-      plays = plays;
-    })
+      by : {file : List ℕ} (w : Option (List ℕ)) → PlaysFile (Some file) project (Some []) w n → new output ≡ w → (bytes : List ℕ) × (new output ≡ Some bytes) × Plays project file bytes × (n ≡ length bytes)
+      by None h stands = absurd h.3
+      by (Some w) h stands = (h.0, stands ∙ ap (λ xs. Some xs) h.3, h.1, h.2)
+
+  -- it was not handed back
+  pub unkept : is_ok keeps ≡ false → KeepsOthers output old new × (new output ≡ old output)
+  unkept lost = (others, at_err keeps lost refused)
+    where
+      at_err : {P : Type 0} (r : Result (Unit {0}) FolderFault) → is_ok r ≡ false → OnErr r P → P
+      at_err (Ok x) is p = absurd cc
+      at_err (Err e) is p = p
+
+  -- a fault ended it, and a front was handed back, or not even that
+  pub ended : (fault : calls.Fault) → StreamStands remaining project fault → OnlyFromOutside remaining project fault → WritesFront remaining project held written → (IsBeforeWriting fault → written ≡ held) → IsTrue told
+      → (file : List ℕ) → remaining ≡ Some file → held ≡ Some [] → EndsPlaying project file output old new fault
+  ended fault stands outside front unwritten is_told file left empty = record {
+    stands = subst (λ o. StreamStands o project fault) left stands;
+    outside = subst (λ o. OnlyFromOutside o project fault) left outside;
+    front = by keeps kept refused;
+    others = others;
+  }
+    where
+      own : WritesFront (Some file) project (Some []) written
+      own = subst (λ o. WritesFront o project (Some []) written) left (subst (λ o. WritesFront remaining project o written) empty front)
+
+      front_of : (w : Option (List ℕ)) (bytes : List ℕ) → new output ≡ w → AppendsFront (Some []) w bytes → (front : List ℕ) × (back : List ℕ) × (new output ≡ Some front) × (bytes ≡ front ++ back)
+      front_of None bytes is h = absurd h.3
+      front_of (Some w) bytes is h = (h.0, h.1, is ∙ ap (λ xs. Some xs) h.3, h.2)
+
+      rest : (w : Option (List ℕ)) → WritesFront (Some file) project (Some []) w → (IsBeforeWriting fault → w ≡ Some []) → new output ≡ w → LeavesFront project file fault (old output) (new output)
+      rest w h none is = inr (λ bytes plays. front_of w bytes is (h bytes plays), λ before. is ∙ none before)
+
+      by : (r : Result (Unit {0}) FolderFault) → OnOk r (IsTrue told → new output ≡ written) → OnErr r (new output ≡ old output) → LeavesFront project file fault (old output) (new output)
+      by (Ok x) kept refused = rest written own (λ before. unwritten before ∙ empty) (kept is_told)
+      by (Err e) kept refused = inl refused
+
+-- ---- the same under the files' names
+module _ (project_name file_name output_name project : List ℕ) (old mid new : Files) (left held : Option (List ℕ)) (project_stands : old project_name ≡ Some project) (given : IsGiven (old file_name) left) (empty : held ≡ Some []) (same : mid ≡ old) where
+  plays_files : (o : Outcome) → PlayedComesTo project left held output_name mid new o → PlayComesTo project_name file_name output_name old new o
+  plays_files (Played n) h =
+      let made = h given.0 given.2 empty in
+      record {
+        project = project;
+        file = given.0;
+        bytes = made.1.0;
+        project_stands = project_stands;
+        file_stands = given.1;
+        output_stands = made.1.1;
+        others = subst (λ (f : Files). KeepsOthers output_name f new) same made.0;
+        plays = made.1.2;
+        counted = made.1.3;
+      }
+  plays_files (Fault fault) h = inr (record {
+    project = project;
+    file = given.0;
+    project_stands = project_stands;
+    file_stands = given.1;
+    ended = subst (λ (f : Files). EndsPlaying project given.0 output_name f new fault) same (h given.0 given.2 empty);
+  })
+  plays_files WriteFailed h = subst (λ (f : Files). KeepsOthers output_name f new × (new output_name ≡ f output_name)) same h
+  plays_files ReadFailed h = absurd h
+  plays_files (Converted n) h = absurd h
+  plays_files (Edited n) h = absurd h
+  plays_files (Accepted n) h = absurd h
+  plays_files (Rejected r) h = absurd h
+  plays_files (Info x) h = absurd h
+  plays_files WrongWords h = absurd h
+  plays_files UnknownFormName h = absurd h
+
+  pub play_ends : (r : Result Outcome Outcome) → Ends r (PlayedComesTo project left held output_name mid new) → Ends r (PlayComesTo project_name file_name output_name old new)
+  play_ends (Ok o) h = plays_files o h
+  play_ends (Err o) h = plays_files o h
 
 -- a file is read, and what it is converted to could not be written
 pub convert_unwritten : (old read new : Files) (told told_read : Bool) (form : Form) (file_name output_name file bytes : List ℕ) (dropped : ℕ) (fault : Outcome)

@@ -1,5 +1,5 @@
 -- What a command does to the files of a folder that tells them, whose names it is given.
-use Rattle.std.specs.Prelude.{◌≡◌, ◌≢◌, ℕ, List, length, Some, ◌⊎◌, Result, Err, MatchResult}
+use Rattle.std.specs.Prelude.{◌≡◌, ◌≢◌, ℕ, List, [], ◌++◌, length, Option, Some, ◌⊎◌, Result, Err, MatchResult}
 use Rattle.archive_core.specs.declared.fault.Fault as calls
 use Rattle.archive_core.specs.declared.fault.Fault.TheVariants.{Memory}
 use Rattle.archive_core.specs.declared.fault.ReadFault.{ReadFault}
@@ -12,8 +12,9 @@ use Rattle.archive_core.specs.Converting.{ConvertStandsFirst, Converts}
 use Rattle.archive_core.specs.Editing.{EditStandsFirst, Edits}
 use Rattle.archive_core.specs.Faults.{fault_of_file}
 use Rattle.archive_core.specs.Opening.{IsOpened, Opens, opened_of}
-use Rattle.archive_core.specs.Playing.{Plays, StandsFirst}
+use Rattle.archive_core.specs.Playing.{Plays}
 use Rattle.archive_core.specs.Projects.{SaysTakes, SpliceStandsFirst}
+use Rattle.archive_core.specs.Streaming.{IsBeforeWriting, OnlyFromOutside, StreamStands}
 use Rattle.command_core.specs.Files.{AreFiles, Files, IsFront, KeepsAllBut, KeepsOthers}
 use Rattle.command_core.specs.declared.outcome.Outcome.{Outcome}
 use Rattle.command_core.specs.declared.outcome.Outcome.TheVariants.{Played, Converted, Edited, Accepted, Rejected, Info, Fault, ReadFailed, WriteFailed, WrongWords, UnknownFormName}
@@ -32,16 +33,24 @@ pub record PlaysFiles (project_name file_name output_name : List ℕ) (old new :
   pub plays : Plays project file bytes
   pub counted : count ≡ length bytes
 
--- the output is as it was, or holds a front of what the project plays of the file of a recording; no other file changed
-pub record PlaysFront (project_name file_name output_name : List ℕ) (old new : Files) : Type 0 where
+-- the output is as it was, or holds a front of what project and file play, where they do, and nothing where the fault comes before the first write
+abbrev pub LeavesFront : List ℕ → List ℕ → calls.Fault → Option (List ℕ) → Option (List ℕ) → Type 0
+LeavesFront project file fault old new = (new ≡ old) ⊎ (((bytes : List ℕ) → Plays project file bytes → (front : List ℕ) × (back : List ℕ) × (new ≡ Some front) × (bytes ≡ front ++ back)) × (IsBeforeWriting fault → new ≡ Some []))
+
+-- a fault ended the playing of a file, and stands; a file that is played is refused for memory, a device or the number of reads alone
+pub record EndsPlaying (project file output_name : List ℕ) (old new : Files) (fault : calls.Fault) : Type 0 where
+  pub stands : StreamStands (Some file) project fault
+  pub outside : OnlyFromOutside (Some file) project fault
+  pub front : LeavesFront project file fault (old output_name) (new output_name)
+  pub others : KeepsOthers output_name old new
+
+-- the same of a project and a file under their names
+pub record LeavesOutput (project_name file_name output_name : List ℕ) (old new : Files) (fault : calls.Fault) : Type 0 where
   pub project : List ℕ
   pub file : List ℕ
-  pub bytes : List ℕ
   pub project_stands : old project_name ≡ Some project
   pub file_stands : old file_name ≡ Some file
-  pub front : IsFront (old output_name) (new output_name) bytes
-  pub others : KeepsOthers output_name old new
-  pub plays : Plays project file bytes
+  pub ended : EndsPlaying project file output_name old new fault
 
 -- the output holds now what the file of a recording is converted to, without so many parts of it; no other file changed
 pub record ConvertsFile (form : Form) (file_name output_name : List ℕ) (old new : Files) (dropped : ℕ) : Type 0 where
@@ -139,14 +148,6 @@ pub record TellsFile (file_name : List ℕ) (old new : Files) (opened : Opened) 
   pub holds : IsOpened file opened
   pub same : new ≡ old
 
--- this fault stands first where the project and the file of a recording are played
-pub record IsUnplayed (project_name file_name : List ℕ) (old : Files) (fault : calls.Fault) : Type 0 where
-  pub project : List ℕ
-  pub file : List ℕ
-  pub project_stands : old project_name ≡ Some project
-  pub file_stands : old file_name ≡ Some file
-  pub first : StandsFirst project file fault
-
 -- this fault stands first where the file of a recording is converted
 pub record IsUnconverted (form : Form) (file_name : List ℕ) (old : Files) (fault : calls.Fault) : Type 0 where
   pub file : List ℕ
@@ -181,12 +182,20 @@ pub record IsUntold (file_name : List ℕ) (old : Files) (fault : calls.Fault) :
   pub reading : Opens (Err cause) (opened_of file)
   pub named : fault ≡ fault_of_file cause
 
+-- a file of these bytes that is played to an empty one came to this: what was written is handed back, also after a fault
+abbrev pub PlayedComesTo : List ℕ → Option (List ℕ) → Option (List ℕ) → List ℕ → Files → Files → Outcome → Type 0
+PlayedComesTo project left held output old new (Played count) = (file : List ℕ) → left ≡ Some file → held ≡ Some []
+    → KeepsOthers output old new × ((bytes : List ℕ) × (new output ≡ Some bytes) × Plays project file bytes × (count ≡ length bytes))
+PlayedComesTo project left held output old new (Fault fault) = (file : List ℕ) → left ≡ Some file → held ≡ Some [] → EndsPlaying project file output old new fault
+PlayedComesTo project left held output old new WriteFailed = KeepsOthers output old new × (new output ≡ old output)
+PlayedComesTo project left held output old new _ = ⊥
+
 -- the files before and after `play PROJECT IN OUT` came to this
 abbrev pub PlayComesTo : List ℕ → List ℕ → List ℕ → Files → Files → Outcome → Type 0
 PlayComesTo project input output old new (Played count) = PlaysFiles project input output old new count
-PlayComesTo project input output old new (Fault fault) = (new ≡ old) × ((fault ≡ Memory) ⊎ IsUnplayed project input old fault)
+PlayComesTo project input output old new (Fault fault) = ((new ≡ old) × (fault ≡ Memory)) ⊎ LeavesOutput project input output old new fault
 PlayComesTo project input output old new ReadFailed = new ≡ old
-PlayComesTo project input output old new WriteFailed = PlaysFront project input output old new
+PlayComesTo project input output old new WriteFailed = KeepsOthers output old new × (new output ≡ old output)
 PlayComesTo project input output old new _ = ⊥
 
 -- the files before and after `convert FORM IN OUT` came to this

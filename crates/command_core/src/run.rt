@@ -2,13 +2,14 @@
 
 ghost use Rattle.std.specs.Prelude.{◌≡◌, IfErr, IfOk, IsTrue};
 ghost use Rattle.archive_core.specs.Takes.{bytes_of};
-ghost use Rattle.command_core.specs.Commands.{AreSources, CheckComesTo, ConvertComesTo, EditComesTo, Ends, InfoComesTo, PlayComesTo, SourcesUnread, TaskComesTo};
+ghost use Rattle.command_core.specs.Commands.{AreSources, CheckComesTo, ConvertComesTo, EditComesTo, Ends, InfoComesTo, PlayComesTo, PlayedComesTo, SourcesUnread, TaskComesTo};
 
 use crate::files::{read_file, read_files, write_file};
 use crate::folder::Folder;
 use crate::outcome::Outcome;
 use crate::task::Task;
-use archive_core::{Fault, Form, Verdict, check, convert, edit, play, read_any, take_names};
+use archive_core::{Fault, Form, Verdict, check, convert, edit, play_stream, read_any, take_names};
+use chunk_core::{Inlet, Outlet};
 use std::alloc::Global;
 
 // The text of a project, and the files of the takes that it names.
@@ -20,7 +21,9 @@ struct Sources {
 
 /// Does a command. Each file is opened and read whole in the order in which the command names it, and a
 /// project's takes behind it by their numbers; the call of `archive_core` comes next, and only where it
-/// answers is a file created. The first fault is what the command comes to.
+/// answers is a file created. But the recording that is played is opened, the WAVE file created, and the one then
+/// read and the other written piece by piece: after a fault of the playing the WAVE file is there and may hold a
+/// front. The first fault is what the command comes to.
 pub fn perform<F: Folder>(alloc: Global, task: Task, folder: &mut F) -> Result<Outcome, Outcome>
     ensures { IsTrue (F.is_told folder.old) → Ends result (TaskComesTo task.entry (F.file folder.old) (F.file folder.new)) }
 {
@@ -50,7 +53,7 @@ pub fn perform<F: Folder>(alloc: Global, task: Task, folder: &mut F) -> Result<O
     }
 }
 
-// Reads the project, then the recording, plays it and only then creates the WAVE file.
+// Reads the project, opens the recording, creates the WAVE file and plays the one to the other.
 fn play_files<F: Folder>(
     alloc: Global,
     folder: &mut F,
@@ -61,10 +64,35 @@ fn play_files<F: Folder>(
     ensures { IsTrue (F.is_told folder.old) → Ends result (PlayComesTo project.now input.now output.now (F.file folder.old) (F.file folder.new)) }
 {
     let project = read_file(alloc, folder, project)?;
-    let input = read_file(alloc, folder, input)?;
-    let wave = play(alloc, &project, &input)?;
-    write_file(folder, output, &wave)?;
-    Ok(Outcome::Played(wave.len() as u64))
+    let Ok(file) = folder.open(input) else {
+        return Err(Outcome::ReadFailed);
+    };
+    let Ok(wave) = folder.create(output) else {
+        return Err(Outcome::WriteFailed);
+    };
+    play_to(alloc, folder, &project, file, output, wave)
+}
+
+// Plays a file to one that was created, and hands this back, also after a fault.
+fn play_to<F: Folder>(
+    alloc: Global,
+    folder: &mut F,
+    project: &[u8],
+    file: F::In,
+    output: &str,
+    wave: F::Out,
+) -> Result<Outcome, Outcome>
+    ensures { IsTrue (F.is_told folder.old) → Ends result (PlayedComesTo project.now (F.In.remaining file) (F.Out.contents wave) output.now (F.file folder.old) (F.file folder.new)) }
+{
+    let mut inlet = Inlet::new(file);
+    let mut outlet = Outlet::new(wave);
+    let played = play_stream(alloc, project, &mut inlet, &mut outlet);
+    let kept = folder.keep(output, outlet.into_inner());
+    match played {
+        Ok(count) if kept.is_ok() => Ok(Outcome::Played(count)),
+        Ok(_) => Err(Outcome::WriteFailed),
+        Err(fault) => Err(fault.into()),
+    }
 }
 
 // Reads a recording, converts it and only then creates the file in the other form.

@@ -1,4 +1,5 @@
 use Rattle.std.proofs.Common.{◌≡◌, ◌∙◌, IfOk, Some, ap, length, subst}
+use Rattle.std.proofs.lemmas.Result.{IfOk-from_err}
 use Rattle.std.specs.List.{All}
 use Rattle.chunk_core.specs.Inlets.{inlet_reader}
 use Rattle.project_core.specs.Splices.{splice_content}
@@ -17,3 +18,9 @@ returns-clause-judged c =
     let whole = places_are_total splice takes zs (splicing c.args.splice.now) c.requires.fit c.requires.shaped c.requires.alike long c.requires.cued c.fades_join.ensures c.places_are_windows.ensures in
     let known = ap inlet_reader c.new-reader.ensures ∙ c.new.ensures.reader in
     judged_whole splice takes zs c.args.cert.now c.check_all.result whole (subst (λ b. IfOk c.check_all.result (JudgesBytes splice takes zs (Some b.now))) known c.check_all.ensures)
+
+pub returns-in_err-places-clause-judged : goal.returns-in_err-places-clause-judged
+returns-in_err-places-clause-judged c = IfOk-from_err c.from_residual.result _ c.from_residual.ensures.0
+
+pub returns-in_err-places-clause-least : goal.returns-in_err-places-clause-least
+returns-in_err-places-clause-least c = IfOk-from_err c.from_residual.result _ c.from_residual.ensures.0

@@ -1,4 +1,5 @@
 use Rattle.std.proofs.Common.{◌≡◌, ◌<◌, ◌∙◌, ap, arith, get_or, length, map, subst, sum_by, sym, take}
+use Rattle.std.proofs.lemmas.Result.{IfOk-from_err}
 use Rattle.std.specs.List.{All}
 use Rattle.std.proofs.lemmas.List.{get_or-map, length-map, take_all}
 use Rattle.std.proofs.lemmas.List.Elements.{All-more}
@@ -59,3 +60,9 @@ returns-clause-judged g c =
       cost_is = subst (λ l. c.loop-k.total ≡ sum_by claim_cost l) all so.cost_is;
       least = subst (λ l. All IsLeastClaim l) all so.least;
     }
+
+pub returns-in_err-cost-clause-judged : goal.returns-in_err-cost-clause-judged
+returns-in_err-cost-clause-judged g c = IfOk-from_err c.from_residual.result _ c.from_residual.ensures.0
+
+pub returns-in_err-cost-clause-failures : goal.returns-in_err-cost-clause-failures
+returns-in_err-cost-clause-failures g c = IfOk-from_err c.from_residual.result _ c.from_residual.ensures.0

@@ -8,7 +8,7 @@ use Rattle.archive_core.specs.Claims.{IsCertOf}
 use Rattle.archive_core.specs.Opening.{IsOpened}
 use Rattle.archive_core.specs.Rooms.{HaveRoom}
 use Rattle.archive_core.specs.Takes.{AreTakes, bytes_of, items_of}
-use Rattle.archive_core.proofs.CheckLaws.{check_refused, judged_found, judged_least, judged_master, judged_only, judged_rejected, again, room_refused, same_some, some_is}
+use Rattle.archive_core.proofs.CheckLaws.{again, check_refused, judged_found, judged_least, judged_master, judged_only, judged_rejected, read_stands, refused_accepts, refused_rejects, room_refused, room_stands, said_stands, same_some, some_is}
 use Rattle.archive_core.proofs.CutLaws.{splicing}
 use Rattle.archive_core.proofs.checking.check.Goals as goal
 
@@ -93,3 +93,100 @@ returns-clause-only c = λ cost accepts.
     let back = again splice accepts.splice takes accepts.takes opened accepts.form accepts.recording c.args.cert.now cost same read one accepts.cut accepts.shown accepts.cost_is in
     let no = c.in_ok-judge.ensures.only (subst (λ (ts : List Content). IsCut splice ts opened.form opened.recording) (sym c.deref-2.ensures.value) back.0) (subst (λ (ts : List Content). IsCertOf splice ts opened.recording.channels c.args.cert.now) (sym c.deref-2.ensures.value) back.1) in
     judged_only splice takes opened.form opened.recording c.args.cert.now cost c.in_ok-judge.field-0 judged no back.2
+
+-- ---- what is refused has no verdict
+
+pub returns-in_err-splice-clause-found : goal.returns-in_err-splice-clause-found
+returns-in_err-splice-clause-found c = refused_accepts c.from_residual.result _ c.from_residual.ensures.0
+
+pub returns-in_err-splice-clause-master : goal.returns-in_err-splice-clause-master
+returns-in_err-splice-clause-master c = refused_accepts c.from_residual.result _ c.from_residual.ensures.0
+
+pub returns-in_err-splice-clause-least : goal.returns-in_err-splice-clause-least
+returns-in_err-splice-clause-least c = refused_accepts c.from_residual.result _ c.from_residual.ensures.0
+
+pub returns-in_err-splice-clause-rejected : goal.returns-in_err-splice-clause-rejected
+returns-in_err-splice-clause-rejected c = refused_rejects c.from_residual.result _ c.from_residual.ensures.0
+
+pub returns-in_err-takes-clause-found : goal.returns-in_err-takes-clause-found
+returns-in_err-takes-clause-found c = refused_accepts c.from_residual-in_err-takes.result _ c.from_residual-in_err-takes.ensures.0
+
+pub returns-in_err-takes-clause-master : goal.returns-in_err-takes-clause-master
+returns-in_err-takes-clause-master c = refused_accepts c.from_residual-in_err-takes.result _ c.from_residual-in_err-takes.ensures.0
+
+pub returns-in_err-takes-clause-least : goal.returns-in_err-takes-clause-least
+returns-in_err-takes-clause-least c = refused_accepts c.from_residual-in_err-takes.result _ c.from_residual-in_err-takes.ensures.0
+
+pub returns-in_err-takes-clause-rejected : goal.returns-in_err-takes-clause-rejected
+returns-in_err-takes-clause-rejected c = refused_rejects c.from_residual-in_err-takes.result _ c.from_residual-in_err-takes.ensures.0
+
+pub returns-in_err-have_room-clause-found : goal.returns-in_err-have_room-clause-found
+returns-in_err-have_room-clause-found c = refused_accepts c.from_residual-in_err-have_room.result _ c.from_residual-in_err-have_room.ensures.0
+
+pub returns-in_err-have_room-clause-master : goal.returns-in_err-have_room-clause-master
+returns-in_err-have_room-clause-master c = refused_accepts c.from_residual-in_err-have_room.result _ c.from_residual-in_err-have_room.ensures.0
+
+pub returns-in_err-have_room-clause-least : goal.returns-in_err-have_room-clause-least
+returns-in_err-have_room-clause-least c = refused_accepts c.from_residual-in_err-have_room.result _ c.from_residual-in_err-have_room.ensures.0
+
+pub returns-in_err-have_room-clause-rejected : goal.returns-in_err-have_room-clause-rejected
+returns-in_err-have_room-clause-rejected c = refused_rejects c.from_residual-in_err-have_room.result _ c.from_residual-in_err-have_room.ensures.0
+
+pub returns-in_err-opened-clause-found : goal.returns-in_err-opened-clause-found
+returns-in_err-opened-clause-found c = refused_accepts c.from_residual-in_err-opened.result _ c.from_residual-in_err-opened.ensures.0
+
+pub returns-in_err-opened-clause-master : goal.returns-in_err-opened-clause-master
+returns-in_err-opened-clause-master c = refused_accepts c.from_residual-in_err-opened.result _ c.from_residual-in_err-opened.ensures.0
+
+pub returns-in_err-opened-clause-least : goal.returns-in_err-opened-clause-least
+returns-in_err-opened-clause-least c = refused_accepts c.from_residual-in_err-opened.result _ c.from_residual-in_err-opened.ensures.0
+
+pub returns-in_err-opened-clause-rejected : goal.returns-in_err-opened-clause-rejected
+returns-in_err-opened-clause-rejected c = refused_rejects c.from_residual-in_err-opened.result _ c.from_residual-in_err-opened.ensures.0
+
+pub returns-in_err-judge-clause-found : goal.returns-in_err-judge-clause-found
+returns-in_err-judge-clause-found c = refused_accepts c.from_residual-in_err-judge.result _ c.from_residual-in_err-judge.ensures.0
+
+pub returns-in_err-judge-clause-master : goal.returns-in_err-judge-clause-master
+returns-in_err-judge-clause-master c = refused_accepts c.from_residual-in_err-judge.result _ c.from_residual-in_err-judge.ensures.0
+
+pub returns-in_err-judge-clause-least : goal.returns-in_err-judge-clause-least
+returns-in_err-judge-clause-least c = refused_accepts c.from_residual-in_err-judge.result _ c.from_residual-in_err-judge.ensures.0
+
+pub returns-in_err-judge-clause-rejected : goal.returns-in_err-judge-clause-rejected
+returns-in_err-judge-clause-rejected c = refused_rejects c.from_residual-in_err-judge.result _ c.from_residual-in_err-judge.ensures.0
+
+-- ---- which fault stands first, at each exit
+
+pub returns-in_err-splice-clause-refused : goal.returns-in_err-splice-clause-refused
+returns-in_err-splice-clause-refused c =
+    let p = err_from_is_err_and c.from_residual.result c.from_residual.ensures.1 in
+    rw (p.1, p.2) (said_stands c.args.project.now (bytes_of c.args.takes.now) c.in_err-splice.field-0.0 c.in_err-splice.ensures.refused)
+
+pub returns-in_err-takes-clause-refused : goal.returns-in_err-takes-clause-refused
+returns-in_err-takes-clause-refused c =
+    let p = err_from_is_err_and c.from_residual-in_err-takes.result c.from_residual-in_err-takes.ensures.1 in
+    rw (p.1, p.2) (read_stands c.args.project.now (bytes_of c.args.takes.now) (splice_content c.in_ok-splice.splice) c.in_ok-splice.ensures.found c.in_err-takes.field-0.0 c.in_err-takes.ensures.refused)
+
+pub returns-in_err-have_room-clause-refused : goal.returns-in_err-have_room-clause-refused
+returns-in_err-have_room-clause-refused c =
+    let p = err_from_is_err_and c.from_residual-in_err-have_room.result c.from_residual-in_err-have_room.ensures.1 in
+    let files = bytes_of c.args.takes.now in
+    let splice = splice_content c.in_ok-splice.splice in
+    let hold = subst (AreTakes splice files) (sym c.deref.ensures.value) c.in_ok-takes.ensures.found in
+    rw (p.1, p.2) (room_stands c.args.project.now files splice c.in_ok-splice.ensures.found c.deref.result.now c.in_err-have_room.field-0.0 hold c.in_err-have_room.ensures.refused)
+
+pub returns-in_err-opened-clause-refused : goal.returns-in_err-opened-clause-refused
+returns-in_err-opened-clause-refused c =
+    let p = err_from_is_err_and c.from_residual-in_err-opened.result c.from_residual-in_err-opened.ensures.1 in
+    rw (p.1, p.2) tt
+
+pub returns-in_err-judge-clause-refused : goal.returns-in_err-judge-clause-refused
+returns-in_err-judge-clause-refused c =
+    let p = err_from_is_err_and c.from_residual-in_err-judge.result c.from_residual-in_err-judge.ensures.1 in
+    rw (p.1, p.2) tt
+
+pub returns-in_err-opened-clause-only : goal.returns-in_err-opened-clause-only
+returns-in_err-opened-clause-only c = λ cost accepts.
+    let p = err_from_is_err_and c.from_residual-in_err-opened.result c.from_residual-in_err-opened.ensures.1 in
+    rw (p.1, p.2) tt

@@ -1,4 +1,5 @@
 use Rattle.std.proofs.Common.{◌≡◌, ◌+◌, ◌∷◌, [], ◌++◌, ◌∙◌, ap, arith, get_or, length, sym, take}
+use Rattle.std.proofs.lemmas.Result.{IfOk-from_err}
 use Rattle.std.specs.List.{range_with_len}
 use Rattle.std.proofs.lemmas.List.{take_more}
 use Rattle.project_core.specs.Splices.{splice_content}
@@ -21,3 +22,6 @@ loop-c-preserved c =
     let zero : 0 + n ≡ n = omega arith in
     let cued : z ≡ rebuilt splice (channels_at takes n) z = c.in_default.ensures ∙ c.in_ok-cued.ensures.cued in
     record { cued = rw (range_more 0 n, zero, more) (zip_more (λ k x. x ≡ rebuilt splice (channels_at takes k) x) (range_with_len 0 n) (take n zs) n z c.loop-c.invariant.cued cued) }
+
+pub returns-in_err-cued : goal.returns-in_err-cued
+returns-in_err-cued c = IfOk-from_err c.from_residual.result _ c.from_residual.ensures.0

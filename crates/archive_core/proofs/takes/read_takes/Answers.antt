@@ -1,7 +1,7 @@
 use Rattle.std.proofs.Common.{◌∙◌, ◌∷◌, [], arith, get_or, sym, Vec, Global}
 use Rattle.std.proofs.lemmas.List.{length-map}
 use Rattle.std.proofs.lemmas.List.Elements.{All-append, All-cons, All-nil}
-use Rattle.std.proofs.lemmas.Result.{err_from_is_err_and}
+use Rattle.std.proofs.lemmas.Result.{IfOk-from_err, err_from_is_err_and}
 use Rattle.dsd_bits.specs.Contents.{Content}
 use Rattle.dsd_bits.specs.Shape.{HasShape}
 use Rattle.archive_core.specs.Takes.{bytes_of, items_of}
@@ -37,3 +37,15 @@ loop-number-preserved c =
 
 pub returns-clause-only : goal.returns-clause-only
 returns-clause-only c = same_all (bytes_of c.args.files.now) c.loop-number.takes.items c.loop-number.number (omega (arith, length-map c.args.files.now (λ (f : Vec _ Global). f.items))) c.loop-number.invariant.same
+
+pub returns-in_err-takes-clause-found : goal.returns-in_err-takes-clause-found
+returns-in_err-takes-clause-found c = IfOk-from_err c.from_residual.result _ c.from_residual.ensures.0
+
+pub returns-in_err-takes-clause-shaped : goal.returns-in_err-takes-clause-shaped
+returns-in_err-takes-clause-shaped c = IfOk-from_err c.from_residual.result _ c.from_residual.ensures.0
+
+pub returns-in_err-read_take-clause-found : goal.returns-in_err-read_take-clause-found
+returns-in_err-read_take-clause-found c = IfOk-from_err c.from_residual-in_err-read_take.result _ c.from_residual-in_err-read_take.ensures.0
+
+pub returns-in_err-read_take-clause-shaped : goal.returns-in_err-read_take-clause-shaped
+returns-in_err-read_take-clause-shaped c = IfOk-from_err c.from_residual-in_err-read_take.result _ c.from_residual-in_err-read_take.ensures.0

@@ -1,7 +1,9 @@
-use Rattle.std.proofs.Common.{arith, string_bytes, Vec, Global}
+use Rattle.std.proofs.Common.{◌≡◌, arith, length, string_bytes, Vec, Global}
+use Rattle.std.proofs.lemmas.Result.{IfOk-from_err, err_from_is_err_and}
 use Rattle.std.proofs.lemmas.List.{length-map}
+use Rattle.project_core.specs.Splices.{splice_content}
 use Rattle.archive_core.specs.Takes.{HoldsSome, bytes_of}
-use Rattle.archive_core.proofs.TakeLaws.{zip_long}
+use Rattle.archive_core.proofs.TakeLaws.{unread_stands, zip_long}
 use Rattle.archive_core.proofs.takes.takes_of.Goals as goal
 
 pub first_outside-requires : goal.first_outside-requires
@@ -24,3 +26,21 @@ returns-clause-found c =
         in_limit = omega arith;
       };
     }
+
+pub returns-in_err-takes-clause-found : goal.returns-in_err-takes-clause-found
+returns-in_err-takes-clause-found c = IfOk-from_err c.from_residual.result _ c.from_residual.ensures.0
+
+pub returns-in_err-takes-clause-shaped : goal.returns-in_err-takes-clause-shaped
+returns-in_err-takes-clause-shaped c = IfOk-from_err c.from_residual.result _ c.from_residual.ensures.0
+
+pub returns-in_err-takes-clause-only : goal.returns-in_err-takes-clause-only
+returns-in_err-takes-clause-only c = λ takes are.
+    let p = err_from_is_err_and c.from_residual.result c.from_residual.ensures.1 in
+    rw (p.1, p.2) (c.in_err-takes.ensures.only takes are.are_read.held)
+
+pub returns-in_err-takes-clause-refused : goal.returns-in_err-takes-clause-refused
+returns-in_err-takes-clause-refused c =
+    let p = err_from_is_err_and c.from_residual.result c.from_residual.ensures.1 in
+    let files = c.args.files.now in
+    let many : length (bytes_of files) ≡ length (splice_content c.args.splice.now).takes = omega (arith, length-map c.args.splice.now.takes.items string_bytes, length-map files (λ (f : Vec _ Global). f.items)) in
+    rw (p.1, p.2) (unread_stands (splice_content c.args.splice.now) (bytes_of files) c.in_err-takes.field-0.0 many c.in_err-takes.ensures.refused)

@@ -1,12 +1,29 @@
-use Rattle.std.proofs.Common.{◌<◌, ◌∙◌, ◌++◌, ◌+◌, ap, arith, length, map, sum_by, sym, take}
-use Rattle.std.proofs.lemmas.List.Sums.{sum_by_more}
+use Rattle.std.proofs.Common.{◌<◌, ◌≤◌, ◌∙◌, ◌++◌, ◌+◌, ap, arith, length, map, sum_by, sym, take}
+use Rattle.std.proofs.lemmas.Result.{IfOk-from_err}
+use Rattle.std.proofs.lemmas.List.Sums.{sum_by_more, sum_by_more_le}
 use Rattle.dsd_bits.specs.Contents.{mark_content}
 use Rattle.project_core.specs.Cues.{CueContent}
 use Rattle.project_core.specs.Splices.{splice_content}
-use Rattle.archive_core.specs.Takes.{span}
+use Rattle.cost_core.specs.Fade.{cue_at}
+use Rattle.archive_core.specs.Takes.{master_length, span}
 use Rattle.archive_core.specs.Titles.{title_at, titles}
 use Rattle.archive_core.proofs.TitleLaws.{titled_all, titled_more}
 use Rattle.archive_core.proofs.titles.title_marks.Goals as goal
+use Rattle.archive_core.proofs.titles.title_marks.Goals.{In-loop-i}
+
+-- the cue and the bridge behind it end within the master
+within : (c : In-loop-i) → c.loop-i.place + span (cue_at (splice_content c.args.splice.now) c.loop-i.i) ≤ master_length (splice_content c.args.splice.now).cues
+within c =
+    let cues = (splice_content c.args.splice.now).cues in
+    let lt : c.loop-i.i < length cues = omega (arith, c.cue_number-i-end.ensures.value) in
+    let most : sum_by span (take c.loop-i.i cues) + span (cue_at (splice_content c.args.splice.now) c.loop-i.i) ≤ master_length cues = sum_by_more_le span cues c.loop-i.i _ lt in
+    omega (arith, c.loop-i.invariant.place, most)
+
+pub push_title-requires-clause-place : goal.push_title-requires-clause-place
+push_title-requires-clause-place c = omega (arith, within (goal.at.push_title-requires-clause-place c).In-loop-i, c.requires.in_limit)
+
+pub overflow_add-place : goal.overflow_add-place
+overflow_add-place c = omega (arith, within (goal.at.overflow_add-place c).In-loop-i, c.span_at-place.ensures.value, c.requires.in_limit)
 
 pub loop-i-preserved : goal.loop-i-preserved
 loop-i-preserved c =
@@ -23,3 +40,6 @@ pub returns : goal.returns
 returns c =
     let cues = (splice_content c.args.splice.now).cues in
     titled_all c.args.rate c.loop-i.place c.loop-i.i cues (map mark_content c.loop-i.marks.items) (titles c.args.rate cues) (omega (arith, c.cue_number-i-end.ensures.value)) c.loop-i.invariant.marked
+
+pub returns-in_err-push_title : goal.returns-in_err-push_title
+returns-in_err-push_title c = IfOk-from_err c.from_residual.result _ c.from_residual.ensures.0

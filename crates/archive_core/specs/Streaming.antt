@@ -1,0 +1,82 @@
+-- What is played from a reader to a writer, and which faults stand.
+use Rattle.std.specs.Prelude.{◌≡◌, ℕ, ◌⊎◌, List, length, Option, IfSome, Result, Ok, Err, ⊤}
+use Rattle.std.specs.Io.KnownBytes.{Appends}
+use Rattle.chunk_core.specs.Inlets.{inlet_reader}
+use Rattle.chunk_core.specs.Outlets.{AppendsFront}
+use Rattle.chunk_core.specs.declared.inlet.Inlet.{Inlet}
+use Rattle.dsd_bits.specs.Contents.{Content}
+use Rattle.fir_core.specs.Decimator.{Decimator}
+use Rattle.stream_core.specs.Playing as streams
+use Rattle.stream_core.specs.Reads.{Reads}
+use Rattle.archive_core.specs.declared.fault.Fault.{Fault}
+use Rattle.archive_core.specs.declared.fault.Fault.TheVariants.{Project, NoDecimation, RateNotDivided, TooLarge, FileRefused, ReadFailed, WriteFailed, TurnLimit, Memory}
+use Rattle.archive_core.specs.declared.form.Form.{Form}
+use Rattle.archive_core.specs.Forms.{Holds}
+use Rattle.archive_core.specs.Playing.{Plays}
+use Rattle.archive_core.specs.Projects.{DecimatorStandsFirst, SaysDecimator}
+
+-- whatever file stands there, so many bytes were written, those that project and file play
+abbrev pub PlaysFile : Option (List ℕ) → List ℕ → Option (List ℕ) → Option (List ℕ) → ℕ → Type 0
+PlaysFile left project held_old held_new n = IfSome left (λ file. (bytes : List ℕ) × Plays project file bytes × (n ≡ length bytes) × Appends held_old held_new bytes)
+
+-- a reader that does not tell its bytes gave some, and what they play was written
+abbrev pub PlaysGiven : {R : Type 0} → (R → Option (List ℕ)) → Inlet R → Inlet R → List ℕ → Option (List ℕ) → Option (List ℕ) → ℕ → Type 0
+PlaysGiven left old new project held_old held_new n = (read : List ℕ) × (bytes : List ℕ) × Reads left old new read × Plays project read bytes × (n ≡ length bytes) × Appends held_old held_new bytes
+
+-- whatever project and file play, a front of it was written
+abbrev pub WritesFront : Option (List ℕ) → List ℕ → Option (List ℕ) → Option (List ℕ) → Type 0
+WritesFront left project held_old held_new = IfSome left (λ file. (bytes : List ℕ) → Plays project file bytes → AppendsFront held_old held_new bytes)
+
+-- a file that is played is refused for memory, a device or the number of reads alone
+abbrev pub IsFromOutside : Fault → Type 0
+IsFromOutside ReadFailed = ⊤
+IsFromOutside WriteFailed = ⊤
+IsFromOutside TurnLimit = ⊤
+IsFromOutside Memory = ⊤
+IsFromOutside _ = ⊥
+
+abbrev pub OnlyFromOutside : Option (List ℕ) → List ℕ → Fault → Type 0
+OnlyFromOutside left project fault = IfSome left (λ file. (bytes : List ℕ) → Plays project file bytes → IsFromOutside fault)
+
+-- the file is neither a DSDIFF nor a DSF file that holds a recording
+abbrev pub IsNoRecording : List ℕ → Type 0
+IsNoRecording file = (form : Form) (r : Content) → Holds file form r → ⊥
+
+-- the project says a decimator, and of the sound that the file's front tells of this stands
+abbrev pub StandsBy : (Decimator → List ℕ → Type 0) → List ℕ → List ℕ → Type 0
+StandsBy P project file = (d : Decimator) × SaysDecimator project d × P d file
+
+-- this fault stands; a device, the number of reads and memory know nothing of project and file
+abbrev pub StreamStands : Option (List ℕ) → List ℕ → Fault → Type 0
+StreamStands left project (Project fault) = DecimatorStandsFirst project (Project fault)
+StreamStands left project NoDecimation = DecimatorStandsFirst project NoDecimation
+StreamStands left project FileRefused = IfSome left IsNoRecording
+StreamStands left project RateNotDivided = IfSome left (StandsBy streams.IsNotDivided project)
+StreamStands left project TooLarge = IfSome left (StandsBy streams.IsTooLarge project)
+StreamStands left project ReadFailed = ⊤
+StreamStands left project WriteFailed = ⊤
+StreamStands left project TurnLimit = ⊤
+StreamStands left project Memory = ⊤
+StreamStands left project _ = ⊥
+
+-- a fault that comes before the first write
+abbrev pub IsBeforeWriting : Fault → Type 0
+IsBeforeWriting (Project fault) = ⊤
+IsBeforeWriting NoDecimation = ⊤
+IsBeforeWriting RateNotDivided = ⊤
+IsBeforeWriting TooLarge = ⊤
+IsBeforeWriting _ = ⊥
+
+-- how many reads failed, by what was answered
+abbrev pub failed_reads : {X : Type 0} → Result X Fault → ℕ
+failed_reads (Err ReadFailed) = 1
+failed_reads _ = 0
+
+-- how many writes failed, by what was answered
+abbrev pub failed_writes : {X : Type 0} → Result X Fault → ℕ
+failed_writes (Err WriteFailed) = 1
+failed_writes _ = 0
+
+-- the project says no decimator: it is refused, or has none
+abbrev pub SaysNone : List ℕ → Type 0
+SaysNone project = (d : Decimator) → SaysDecimator project d → ⊥

@@ -1,0 +1,29 @@
+use Rattle.std.proofs.Common.{◌∙◌, arith, subst, sym}
+use Rattle.stream_core.specs.Files.{IsRefused}
+use Rattle.stream_core.specs.Reads.{Reads}
+use Rattle.stream_core.proofs.ReadLaws.{after, at_end, reads_on}
+use Rattle.stream_core.proofs.front.read_front.Goals as goal
+
+pub returns-then-count-eq0-clause-fault : goal.returns-then-count-eq0-clause-fault
+returns-then-count-eq0-clause-fault g c =
+    let read = c.in_ok-count.ensures.read in
+    at_end g.R.Read.remaining c.args.inlet.now c.loop-count.inlet c.read_more.new.inlet c.loop-count.front.items read.0 IsRefused c.loop-count.invariant.0 read.1 (omega (arith, read.2, c.if-count-eq0.true)) (c.in_ok-count.ensures.end c.if-count-eq0.true) c.loop-count.invariant.1
+
+pub returns-in-Refused-clause-fault : goal.returns-in-Refused-clause-fault
+returns-in-Refused-clause-fault g c =
+    let read = c.in_ok-count.ensures.read in
+    let front = reads_on g.R.Read.remaining c.args.inlet.now c.loop-count.inlet c.read_more.new.inlet c.loop-count.front.items read.0 c.loop-count.invariant.0 read.1 in
+    let refused = rw c.in-Refused.is at c.in_ok-sound.ensures.refused in
+    after IsRefused _ _ _ front.consumed (rw (c.deref.ensures.value ∙ read.3) at refused)
+
+pub loop-count-preserved : goal.loop-count-preserved
+loop-count-preserved g c =
+    let so_far = c.loop-count.invariant in
+    let read = c.in_ok-count.ensures.read in
+    let more = rw c.in-More.is at c.in_ok-sound.ensures.more in (
+      subst (Reads g.R.Read.remaining c.args.inlet.now c.read_more.new.inlet) (sym read.3) (reads_on g.R.Read.remaining c.args.inlet.now c.loop-count.inlet c.read_more.new.inlet c.loop-count.front.items read.0 so_far.0 read.1),
+      subst IsRefused c.deref.ensures.value more,
+      c.in_ok-count.ensures.budget.0,
+      c.read_more.ensures.size,
+      omega (arith, so_far.4, c.in_ok-count.ensures.failures),
+    )

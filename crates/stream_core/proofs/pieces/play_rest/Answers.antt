@@ -1,0 +1,55 @@
+use Rattle.std.proofs.Common.{◌≡◌, ◌+◌, ◌-◌, ◌∙◌, arith, subst, refl}
+use Rattle.std.proofs.lemmas.Result.{err_from_is_err_and}
+use Rattle.chunk_core.specs.Outlets.{outlet_writer}
+use Rattle.stream_core.specs.Pieces.{PlaysPart}
+use Rattle.stream_core.proofs.PieceLaws.{any_err}
+use Rattle.stream_core.proofs.RestLaws.{part_fault, part_front, part_more, part_none}
+use Rattle.stream_core.proofs.pieces.play_rest.Goals as goal
+
+pub loop-left-init : goal.loop-left-init
+loop-left-init g c =
+    let none : 0 ≡ c.args.wanted - c.args.wanted = omega arith in
+    let held = g.W.Write.contents (outlet_writer c.args.outlet.now) in (
+      subst (λ n. PlaysPart g.R.Read.remaining c.args.inlet.now c.args.inlet.now c.args.player.now c.args.player.now c.args.wanted n c.args.back.now.items c.args.back.now.items held held) none
+          (part_none g.R.Read.remaining c.args.inlet.now c.args.player.now c.args.wanted c.args.back.now.items held),
+      omega arith,
+      c.requires.player,
+      refl,
+      refl,
+      refl,
+      c.requires.budget,
+      c.requires.size,
+      refl,
+      refl,
+    )
+
+pub returns-in_err-left-clause-front : goal.returns-in_err-left-clause-front
+returns-in_err-left-clause-front g c =
+    let so_far = c.loop-left.invariant in
+    any_err c.from_residual.result (part_front g.R.Read.remaining _ _ _ _ _ _ _ _ _ _ so_far.0 (omega (arith, so_far.1)) so_far.3 so_far.4 c.loop-left.left _ (omega (arith, so_far.1)) (omega (arith, so_far.1, so_far.5)) c.in_err-left.ensures.front)
+
+pub returns-in_err-left-clause-fault : goal.returns-in_err-left-clause-fault
+returns-in_err-left-clause-fault g c =
+    let so_far = c.loop-left.invariant in
+    let p = err_from_is_err_and c.from_residual.result c.from_residual.ensures.1 in
+    rw (p.1, p.2) (part_fault g.R.Read.remaining _ _ _ _ _ _ _ _ _ _ so_far.0 (omega (arith, so_far.1)) so_far.3 so_far.4 c.loop-left.left c.in_err-left.field-0.0 (omega (arith, so_far.1)) c.in_err-left.ensures.fault)
+
+pub loop-left-preserved : goal.loop-left-preserved
+loop-left-preserved g c =
+    let so_far = c.loop-left.invariant in
+    let n = c.in_ok-left.field-0 in
+    let some = c.in_ok-left.ensures.some in
+    let same = c.in_ok-left.ensures.same in
+    let sum : c.args.wanted - c.loop-left.left + n ≡ c.args.wanted - (c.loop-left.left - n) = omega (arith, so_far.1, some) in (
+      subst (λ k. PlaysPart g.R.Read.remaining c.args.inlet.now c.play_read.new.inlet c.args.player.now c.play_read.new.player c.args.wanted k c.args.back.now.items c.play_read.new.back.items (g.W.Write.contents (outlet_writer c.args.outlet.now)) (g.W.Write.contents (outlet_writer c.play_read.new.outlet))) sum
+          (part_more g.R.Read.remaining _ _ _ _ _ _ _ _ _ _ so_far.0 (omega (arith, so_far.1)) so_far.3 so_far.4 _ _ c.loop-left.left n _ _ (omega (arith, so_far.1)) c.in_ok-left.ensures.ok),
+      omega (arith, so_far.1),
+      c.in_ok-left.ensures.player,
+      same.0 ∙ so_far.3,
+      same.1 ∙ so_far.4,
+      omega (arith, so_far.5, same.2, some),
+      c.in_ok-left.ensures.budget,
+      c.play_read.ensures.size,
+      omega (arith, so_far.8, c.in_ok-left.ensures.read_failed),
+      omega (arith, so_far.9, c.in_ok-left.ensures.write_failed),
+    )

@@ -1,0 +1,27 @@
+use Rattle.std.proofs.lemmas.Result.{IfErr-weaker, IfOk-weaker, err_from_is_err_and}
+use Rattle.chunk_core.specs.Inlets.{inlet_reader}
+use Rattle.chunk_core.specs.Outlets.{outlet_writer}
+use Rattle.stream_core.proofs.PieceLaws.{any_err}
+use Rattle.stream_core.proofs.PlayLaws.{found_outside, front_outside, none_front, plays_file, plays_given}
+use Rattle.stream_core.proofs.playing.play.Goals as goal
+
+pub returns-in_err-block-clause-front : goal.returns-in_err-block-clause-front
+returns-in_err-block-clause-front g c = any_err c.from_residual.result (none_front (g.R.Read.remaining (inlet_reader c.args.inlet.now)) c.args.taps.now (g.W.Write.contents (outlet_writer c.args.outlet.now)))
+
+pub returns-in_err-sound-clause-front : goal.returns-in_err-sound-clause-front
+returns-in_err-sound-clause-front g c = any_err c.from_residual-in_err-sound.result (none_front (g.R.Read.remaining (inlet_reader c.args.inlet.now)) c.args.taps.now (g.W.Write.contents (outlet_writer c.args.outlet.now)))
+
+pub returns-clause-ok : goal.returns-clause-ok
+returns-clause-ok g c = IfOk-weaker c.play_found.result _ _ (plays_file g.R.Read.remaining _ _ _ c.args.taps.now _ _ c.as_slice.ensures.value _ _ c.in_ok-sound.ensures.read) c.play_found.ensures.ok
+
+pub returns-clause-any_reader : goal.returns-clause-any_reader
+returns-clause-any_reader g c = IfOk-weaker c.play_found.result _ _ (plays_given g.R.Read.remaining _ _ _ c.args.taps.now _ _ c.as_slice.ensures.value _ _ c.in_ok-sound.ensures.read) c.play_found.ensures.ok
+
+pub returns-in_err-sound-clause-cause : goal.returns-in_err-sound-clause-cause
+returns-in_err-sound-clause-cause g c =
+    let e = err_from_is_err_and c.from_residual-in_err-sound.result c.from_residual-in_err-sound.ensures.1 in
+    rw (e.1, e.2) (front_outside (g.R.Read.remaining (inlet_reader c.args.inlet.now)) c.args.taps.now c.in_err-sound.field-0.0 c.in_err-sound.ensures.fault)
+
+pub returns-clause-cause : goal.returns-clause-cause
+returns-clause-cause g c =
+    IfErr-weaker c.play_found.result _ _ (λ f. found_outside c.sound_is_played.ensures _ _ c.args.taps.now _ _ f c.in_ok-sound.ensures.read.consumed c.as_slice.ensures.value) c.play_found.ensures.fault

@@ -1,0 +1,46 @@
+-- The files that are played: what they hold, and what their fronts tell.
+use Rattle.std.specs.Prelude.{◌≡◌, ℕ, ◌%◌, ◌≤◌, ◌⊎◌, List, ◌++◌, length, Option, Some, None, IfSome, ⊤}
+use Rattle.dsd_bits.specs.declared.blocks.BitOrder.{BitOrder}
+use Rattle.dsd_bits.specs.declared.sound.Sound.{Sound}
+use Rattle.dsd_bits.specs.declared.sound.SoundAt.TheVariants.{Found}
+use Rattle.dsd_bits.specs.Contents.{Content}
+use Rattle.dsd_bits.specs.Sounds.{HasSound, IsSound}
+use Rattle.dsdiff_core.specs.Files.{IsDsdiff}
+use Rattle.dsdiff_core.specs.Fronts as dsdiff
+use Rattle.dsf_core.specs.Files.{IsDsf}
+use Rattle.dsf_core.specs.Fronts as dsf
+use Rattle.stream_core.specs.declared.fault.StreamFault.{StreamFault}
+use Rattle.stream_core.specs.declared.fault.StreamFault.TheVariants.{FileRefused, ReadFailed, TurnLimit, Memory}
+
+-- the file is a DSDIFF or a DSF file that holds this recording
+abbrev pub HoldsRecording : List ℕ → Content → Type 0
+HoldsRecording file r = IsDsdiff file r ⊎ ((order : BitOrder) × IsDsf file r order)
+
+-- the file holds a recording
+abbrev pub IsAccepted : List ℕ → Type 0
+IsAccepted file = (r : Content) × HoldsRecording file r
+
+-- the file holds none
+abbrev pub IsRefused : List ℕ → Type 0
+IsRefused file = (r : Content) → HoldsRecording file r → ⊥
+
+-- the front of a DSDIFF file, or where an order is told of a DSF file, leads to this sound
+abbrev pub LeadsTo : Option BitOrder → List ℕ → Sound → Type 0
+LeadsTo None front s = dsdiff.sound_at front ≡ Found s
+LeadsTo (Some order) front s = dsf.sound_at front ≡ Found s
+
+-- the front of a file tells of this sound: it stands behind it or in it, and every recording of a file that begins so has it
+pub record TellsSound (front : List ℕ) (s : Sound) : Type 0 where
+  pub leads : LeadsTo s.order front s
+  pub is_sound : IsSound s
+  pub whole : s.order ≡ None → s.count % 8 ≡ 0
+  pub within : s.start ≤ length front
+  pub has : (rest : List ℕ) (r : Content) → HoldsRecording (front ++ rest) r → HasSound (front ++ rest) r s
+
+-- a fault of reading the front of a file: the file that the reader has holds no recording, or one of reading
+abbrev pub IsFrontFault : Option (List ℕ) → StreamFault → Type 0
+IsFrontFault left_old FileRefused = IfSome left_old IsRefused
+IsFrontFault left_old ReadFailed = ⊤
+IsFrontFault left_old TurnLimit = ⊤
+IsFrontFault left_old Memory = ⊤
+IsFrontFault left_old _ = ⊥

@@ -1,0 +1,80 @@
+-- What is played of a reader's file, and which faults stand.
+use Rattle.std.specs.Prelude.{◌≡◌, ◌≢◌, ℕ, ◌%◌, ◌≤◌, ◌^◌, List, ◌++◌, length, Option, Some, IfSome, ⊤}
+use Rattle.std.specs.Io.KnownBytes.{Appends}
+use Rattle.chunk_core.specs.Inlets.{inlet_reader}
+use Rattle.chunk_core.specs.Outlets.{AppendsFront}
+use Rattle.chunk_core.specs.declared.inlet.Inlet.{Inlet}
+use Rattle.dsd_bits.specs.declared.sound.Sound.{Sound}
+use Rattle.dsd_bits.specs.Contents.{Content}
+use Rattle.fir_core.specs.Decimator.{Decimator}
+use Rattle.player_core.specs.Laws.{total_frames}
+use Rattle.player_core.specs.Samples.{pcm}
+use Rattle.wave_core.specs.Sizes.{riff_size}
+use Rattle.wave_core.specs.Texts.{wave_text}
+use Rattle.stream_core.specs.Faults.{IsFromOutside}
+use Rattle.stream_core.specs.Files.{HoldsRecording, IsRefused, TellsSound}
+use Rattle.stream_core.specs.Reads.{Reads}
+use Rattle.stream_core.specs.declared.fault.StreamFault.{StreamFault}
+use Rattle.stream_core.specs.declared.fault.StreamFault.TheVariants.{FileRefused, RateNotDivided, TooLarge, ReadFailed, WriteFailed, TurnLimit, Memory}
+
+-- the file holds a recording whose rate the factor divides, and these bytes are the WAVE text of its samples
+pub record PlaysBy (d : Decimator) (file bytes : List ℕ) : Type 0 where
+  pub recording : Content
+  pub file_holds : HoldsRecording file recording
+  pub rate_divided : recording.rate % d.factor ≡ 0
+  pub text : wave_text (pcm recording d) ≡ Some bytes
+
+-- the front of the file tells of a sound whose rate the factor does not divide
+pub record IsNotDivided (d : Decimator) (file : List ℕ) : Type 0 where
+  pub front : List ℕ
+  pub rest : List ℕ
+  pub sound : Sound
+  pub file_is : file ≡ front ++ rest
+  pub tells : TellsSound front sound
+  pub not_divided : sound.rate % d.factor ≢ 0
+
+-- the front of the file tells of a sound whose rate the factor divides, and the sizes of its WAVE file do not fit
+pub record IsTooLarge (d : Decimator) (file : List ℕ) : Type 0 where
+  pub front : List ℕ
+  pub rest : List ℕ
+  pub sound : Sound
+  pub file_is : file ≡ front ++ rest
+  pub tells : TellsSound front sound
+  pub divided : sound.rate % d.factor ≡ 0
+  pub large : 2 ^ 32 ≤ riff_size sound.channels d.width (total_frames d sound)
+
+-- this fault stands; a device, the number of reads and memory know nothing of the file
+abbrev pub Stands : Decimator → List ℕ → StreamFault → Type 0
+Stands d file FileRefused = IsRefused file
+Stands d file RateNotDivided = IsNotDivided d file
+Stands d file TooLarge = IsTooLarge d file
+Stands d file ReadFailed = ⊤
+Stands d file WriteFailed = ⊤
+Stands d file TurnLimit = ⊤
+Stands d file Memory = ⊤
+
+-- behind bytes that were read before, a file was read to where it closes, and played
+pub record PlaysRead {R : Type 0} (left : R → Option (List ℕ)) (old new : Inlet R) (d : Decimator) (front : List ℕ) (held_old held_new : Option (List ℕ)) (n : ℕ) : Type 0 where
+  pub read : List ℕ
+  pub bytes : List ℕ
+  pub reads : Reads left old new read
+  pub plays : PlaysBy d (front ++ read) bytes
+  pub goes_on : (rest : List ℕ) → left (inlet_reader new) ≡ Some rest → PlaysBy d (front ++ (read ++ rest)) bytes
+  pub size : n ≡ length bytes
+  pub written : Appends held_old held_new bytes
+
+-- whatever file stands there, so many bytes were written, those that it plays
+abbrev pub PlaysFile : Option (List ℕ) → Decimator → Option (List ℕ) → Option (List ℕ) → ℕ → Type 0
+PlaysFile left_old d held_old held_new n = IfSome left_old (λ file. (bytes : List ℕ) × PlaysBy d file bytes × (n ≡ length bytes) × Appends held_old held_new bytes)
+
+-- a reader that does not tell its bytes gave some, and what they play was written
+abbrev pub PlaysGiven : {R : Type 0} → (R → Option (List ℕ)) → Inlet R → Inlet R → Decimator → Option (List ℕ) → Option (List ℕ) → ℕ → Type 0
+PlaysGiven left old new d held_old held_new n = (read : List ℕ) × (bytes : List ℕ) × Reads left old new read × PlaysBy d read bytes × (n ≡ length bytes) × Appends held_old held_new bytes
+
+-- whatever these bytes and those that are left play, a front of it was written
+abbrev pub WritesFront : Option (List ℕ) → Decimator → List ℕ → Option (List ℕ) → Option (List ℕ) → Type 0
+WritesFront left_old d front held_old held_new = IfSome left_old (λ left. (bytes : List ℕ) → PlaysBy d (front ++ left) bytes → AppendsFront held_old held_new bytes)
+
+-- a file that is played is refused for memory, a device or the number of reads alone
+abbrev pub OnlyFromOutside : Option (List ℕ) → Decimator → StreamFault → Type 0
+OnlyFromOutside left_old d f = IfSome left_old (λ file. (bytes : List ℕ) → PlaysBy d file bytes → IsFromOutside f)

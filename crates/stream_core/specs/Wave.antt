@@ -1,0 +1,35 @@
+-- The WAVE file of a sound in parts, and how it begins.
+use Rattle.std.specs.Prelude.{◌≡◌, ◌≢◌, ℕ, ◌+◌, ◌/◌, ◌%◌, ◌≤◌, ◌^◌, List, Option, ⊤}
+use Rattle.std.specs.Io.KnownBytes.{Appends}
+use Rattle.dsd_bits.specs.declared.sound.Sound.{Sound}
+use Rattle.fir_core.specs.Decimator.{Decimator}
+use Rattle.player_core.specs.Laws.{total_frames}
+use Rattle.wave_core.specs.Sizes.{FitsRiff, data_size, pad_size, riff_size}
+use Rattle.wave_core.specs.Texts.{header, pad_bytes}
+use Rattle.stream_core.specs.declared.fault.StreamFault.{StreamFault}
+use Rattle.stream_core.specs.declared.fault.StreamFault.TheVariants.{RateNotDivided, TooLarge, WriteFailed, Memory}
+
+-- what stands before the frames, and behind them
+abbrev pub header_of : Decimator → Sound → List ℕ
+header_of d s = header s.channels (s.rate / d.factor) d.width (total_frames d s)
+
+abbrev pub pad_of : Decimator → Sound → List ℕ
+pad_of d s = pad_bytes s.channels d.width (total_frames d s)
+
+-- how many bytes the file has
+abbrev pub file_size : Decimator → Sound → ℕ
+file_size d s = 44 + data_size s.channels d.width (total_frames d s) + pad_size s.channels d.width (total_frames d s)
+
+-- the factor divides the rate, the sizes fit, and the header was written
+pub record OpensWave (d : Decimator) (s : Sound) (held_old held_new : Option (List ℕ)) : Type 0 where
+  pub divided : s.rate % d.factor ≡ 0
+  pub fits : FitsRiff s.channels d.width (total_frames d s)
+  pub written : Appends held_old held_new (header_of d s)
+
+-- a fault of the header: the factor does not divide the rate, the sizes do not fit, or the header is not written
+abbrev pub IsOpeningFault : Decimator → Sound → StreamFault → Type 0
+IsOpeningFault d s RateNotDivided = s.rate % d.factor ≢ 0
+IsOpeningFault d s TooLarge = (s.rate % d.factor ≡ 0) × (2 ^ 32 ≤ riff_size s.channels d.width (total_frames d s))
+IsOpeningFault d s WriteFailed = ⊤
+IsOpeningFault d s Memory = ⊤
+IsOpeningFault d s _ = ⊥

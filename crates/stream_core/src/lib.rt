@@ -1,0 +1,38 @@
+//! Playing from a reader to a writer.
+//!
+//! [`play`] reads a DSDIFF 1.5 or DSF 1.01 file piece by piece and writes its RIFF WAVE file. Of the sound it holds
+//! at most one block of 65,536 bytes, a part of one group of the channels' blocks, and what each channel's filter
+//! still reads; what stands before the sound is held whole, and so is what a DSDIFF form has behind it. `playing.rt`
+//! shows the whole way, and each stage has a module: reads (`pulling.rt`), the front up to the sound (`front.rt`),
+//! the sound piece by piece (`pieces.rt`), what stands behind it (`closing.rt`), and what is written around the
+//! frames (`wave.rt`).
+//!
+//! The words of the contracts:
+//!
+//! - `HoldsRecording file r` says that the file is a DSDIFF or a DSF file that holds this recording, `TellsSound front
+//!   s` that the front of a file tells of this sound (`specs/Files.antt`).
+//! - `PlaysBy d file bytes` says that these bytes are the WAVE text of the file's recording by this decimator,
+//!   `Stands d file fault` that a fault stands (`specs/Playing.antt`).
+//! - `Reads left old new bytes` says that an inlet gave these bytes and counted them (`specs/Reads.antt`).
+//!
+//! What it promises: Ok means that exactly the bytes that the reader's file plays were written, however its reads are
+//! cut; a fault stands that is named; and a file that is played is refused only for memory, a device or the number of
+//! reads, after a front of its WAVE file.
+//!
+//! ```text
+//! let mut inlet = Inlet::new(file);
+//! let mut outlet = Outlet::new(wave);
+//! let count = play(alloc, &taps, &mut inlet, &mut outlet)?;    // so many bytes were written
+//! ```
+#![tactic(auto)]
+
+mod closing;
+mod fault;
+mod front;
+mod pieces;
+mod playing;
+mod pulling;
+mod wave;
+
+pub use fault::StreamFault;
+pub use playing::play;

@@ -1,0 +1,106 @@
+//! What is written around the frames, and how bytes go out.
+
+ghost use Rattle.std.specs.Prelude.{◌≡◌, ◌+◌, ◌-◌, ◌<◌, ◌≤◌, ◌^◌, IfErr, IfOk, OnErr, OnOk};
+ghost use Rattle.std.specs.Io.KnownBytes.{Appends};
+ghost use Rattle.chunk_core.specs.Outlets.{AppendsFront, outlet_failures, outlet_writer};
+ghost use Rattle.dsd_bits.specs.Sounds.{IsSound};
+ghost use Rattle.player_core.specs.Laws.{total_frames};
+ghost use Rattle.stream_core.specs.Faults.{IsBeforeWriting, IsWritingFault, failed_writes};
+ghost use Rattle.stream_core.specs.Wave.{IsOpeningFault, OpensWave, file_size, header_of, pad_of};
+
+use crate::fault::StreamFault;
+use chunk_core::Outlet;
+use dsd_bits::Sound;
+use fir_core::Taps;
+use std::io::Write;
+use wave_core::{push_header, push_pad};
+
+/// Writes these bytes.
+///
+/// Refusal: `WriteFailed`; a front of them went out.
+pub(crate) fn put<W: Write>(outlet: &mut Outlet<W>, bytes: &[u8]) -> Result<(), StreamFault>
+    requires ready { outlet_failures outlet.old < 2 ^ 64 - 1 }
+    ensures ok { OnOk result (Appends (W.contents (outlet_writer outlet.old)) (W.contents (outlet_writer outlet.new)) bytes.now) }
+    ensures err { OnErr result (AppendsFront (W.contents (outlet_writer outlet.old)) (W.contents (outlet_writer outlet.new)) bytes.now) }
+    ensures failures { outlet_failures outlet.new ≡ outlet_failures outlet.old + failed_writes result }
+    ensures fault { IfErr result IsWritingFault }
+{
+    match outlet.put_all(bytes) {
+        Ok(()) => Ok(()),
+        Err(_) => Err(StreamFault::WriteFailed),
+    }
+}
+
+// How many frames are played of a sound.
+fn total_frames(taps: &Taps, sound: &Sound) -> u64
+    ensures { result ≡ total_frames taps.now sound.now }
+{
+    sound.count.div_ceil(taps.factor() as usize) as u64
+}
+
+/// How many bytes the WAVE file of a sound has.
+pub(crate) fn file_size(taps: &Taps, sound: &Sound) -> u64
+    requires { IsSound sound.now }
+    ensures { result ≡ file_size taps.now sound.now }
+{
+    let frame = sound.channels as u64 * u64::from(taps.width() / 8);
+    let data = total_frames(taps, sound) * frame;
+    44 + data + data % 2
+}
+
+/// Writes the header of the WAVE file of a sound.
+///
+/// Refusals, in this order: `RateNotDivided`, `TooLarge`, before anything is written; `Memory`, `WriteFailed`.
+pub(crate) fn put_header<W: Write>(
+    taps: &Taps,
+    sound: &Sound,
+    out: &mut Vec<u8>,
+    outlet: &mut Outlet<W>,
+) -> Result<(), StreamFault>
+    requires sound { IsSound sound.now }
+    requires ready { outlet_failures outlet.old < 2 ^ 64 - 1 }
+    ensures ok { OnOk result (OpensWave taps.now sound.now (W.contents (outlet_writer outlet.old)) (W.contents (outlet_writer outlet.new))) }
+    ensures err { OnErr result (AppendsFront (W.contents (outlet_writer outlet.old)) (W.contents (outlet_writer outlet.new)) (header_of taps.now sound.now)) }
+    ensures fault { IfErr result (IsOpeningFault taps.now sound.now) }
+    ensures unwritten { IfErr result (λ f. IsBeforeWriting f → outlet_writer outlet.new ≡ outlet_writer outlet.old) }
+    ensures failures { outlet_failures outlet.new ≡ outlet_failures outlet.old + failed_writes result }
+{
+    if !taps.rate_fits(sound.rate) {
+        return Err(StreamFault::RateNotDivided);
+    }
+    out.clear();
+    push_header(
+        out,
+        sound.channels as u16,
+        sound.rate / taps.factor(),
+        taps.width(),
+        total_frames(taps, sound),
+    )?;
+    put(outlet, out.as_slice())
+}
+
+/// Writes what stands behind the frames of a sound: a byte where their bytes are odd.
+///
+/// Refusals: `Memory`, `WriteFailed`.
+pub(crate) fn put_pad<W: Write>(
+    taps: &Taps,
+    sound: &Sound,
+    out: &mut Vec<u8>,
+    outlet: &mut Outlet<W>,
+) -> Result<(), StreamFault>
+    requires sound { IsSound sound.now }
+    requires ready { outlet_failures outlet.old < 2 ^ 64 - 1 }
+    ensures ok { OnOk result (Appends (W.contents (outlet_writer outlet.old)) (W.contents (outlet_writer outlet.new)) (pad_of taps.now sound.now)) }
+    ensures err { OnErr result (AppendsFront (W.contents (outlet_writer outlet.old)) (W.contents (outlet_writer outlet.new)) (pad_of taps.now sound.now)) }
+    ensures fault { IfErr result IsWritingFault }
+    ensures failures { outlet_failures outlet.new ≡ outlet_failures outlet.old + failed_writes result }
+{
+    out.clear();
+    push_pad(
+        out,
+        sound.channels as u16,
+        taps.width(),
+        total_frames(taps, sound),
+    )?;
+    put(outlet, out.as_slice())
+}

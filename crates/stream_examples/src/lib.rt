@@ -1,0 +1,13 @@
+//! Worked examples of playing from a reader to a writer.
+#![tactic(auto)]
+
+#[cfg(test)]
+mod failing;
+#[cfg(test)]
+mod long_sounds;
+#[cfg(test)]
+mod played;
+#[cfg(test)]
+mod refused;
+#[cfg(test)]
+mod small_files;

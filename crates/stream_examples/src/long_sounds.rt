@@ -1,0 +1,125 @@
+//! Sounds of more than one block of 65,536 bytes: what is written is what is made in memory.
+
+use crate::played::{NEVER, Numbers, play_by, play_from, plays, project, with_ones};
+use archive_core::{Fault, play};
+use fixtures::devices::{drip, sip};
+use fixtures::files::{MONO, RATE, RAW, STEREO, dsf_of, file_of, mono};
+use fixtures::projects::DECIMATE;
+use std::alloc::{AllocError, Global};
+use std::test::Fail;
+
+// So many bytes, in no order.
+fn noise(alloc: Global, size: usize) -> Result<Vec<u8>, AllocError> {
+    let mut bytes = vec![in alloc; 0u8; size]?;
+    let mut state = 1u32;
+    for byte in &mut bytes {
+        state = state.wrapping_mul(1_664_525).wrapping_add(1_013_904_223);
+        *byte = (state >> 24) as u8;
+    }
+    Ok(bytes)
+}
+
+// Whether a project plays a file to a writer as in memory, read by 1, by 7, by 4096 and by 65,536 bytes.
+fn is_same(
+    alloc: Global,
+    text: Result<String, AllocError>,
+    file: Result<Vec<u8>, AllocError>,
+) -> Result<bool, Fault> {
+    let text = text?;
+    let file = file?;
+    let wave = play(alloc, text.as_bytes(), &file)?;
+    let by_blocks = play_by(alloc, text.as_bytes(), &file, 65_536);
+    Ok(by_blocks.gives(&wave) && plays(alloc, &text, &file, &wave))
+}
+
+// A DSDIFF file of one or of two channels with so many sound bytes.
+fn laced(alloc: Global, channels: &[u8], size: usize) -> Result<Vec<u8>, AllocError> {
+    let sound = noise(alloc, size)?;
+    file_of(alloc, &[&RATE, channels, &RAW], &sound, &[])
+}
+
+// A DSF file of so many channels, bits per sample and bits a channel, with so many bytes of blocks, more than it
+// needs.
+fn blocks(alloc: Global, numbers: (u32, u32, u64), size: usize) -> Result<Vec<u8>, AllocError> {
+    let sound = noise(alloc, size)?;
+    dsf_of(alloc, numbers, &sound, size, b"a tag")
+}
+
+// The factor, delay, shift and width of projects, and their taps.
+const PROJECTS: [(&str, Numbers); 3] = [
+    ("[1, 2, 3, 4]", (8, 3, 0, 16)),
+    ("[5, -7, 11, 2, 9, 4, -1, 8, 6, 3]", (16, 9, 1, 24)),
+    (
+        "[1, 0, 0, 0, 0, 0, 0, 0, 0, 0, 0, 0, 0, 0, 0, 0, 1]",
+        (64, 0, 0, 24),
+    ),
+];
+
+#[test]
+fn plays_laced_bytes_as_in_memory(rt: HostRuntime) -> Result<(), Fail> {
+    let alloc = rt.alloc();
+    for (taps, numbers) in &PROJECTS {
+        let mono = laced(alloc, &MONO, 4099);
+        let mono = is_same(alloc, project(alloc, taps, *numbers), mono);
+        assert!(rt; mono?, "mono by {taps}");
+        let stereo = laced(alloc, &STEREO, 8198);
+        let stereo = is_same(alloc, project(alloc, taps, *numbers), stereo);
+        assert!(rt; stereo?, "stereo by {taps}");
+    }
+    Ok(())
+}
+
+// The first block of 65,536 bytes holds the first 65,410 bytes of the sound, and the second the rest.
+#[test]
+fn plays_two_blocks_as_in_memory(rt: HostRuntime) -> Result<(), Fail> {
+    let alloc = rt.alloc();
+    let text = project(alloc, "[1, 2, 3, 4]", (64, 3, 0, 16));
+    assert!(rt; is_same(alloc, text, laced(alloc, &MONO, 65_411))?);
+    Ok(())
+}
+
+// Two groups of blocks, of which the second has one bit, or all but one; two groups of 8 bits per sample, and
+// bytes behind them; and no bit.
+const BLOCKS: [((u32, u32, u64), usize); 4] = [
+    ((2, 1, 32_769), 16_384),
+    ((1, 1, 65_535), 8192),
+    ((1, 8, 40_000), 9000),
+    ((6, 1, 0), 5),
+];
+
+#[test]
+fn plays_blocks_as_in_memory(rt: HostRuntime) -> Result<(), Fail> {
+    let alloc = rt.alloc();
+    for (numbers, size) in &BLOCKS {
+        for (taps, decimator) in &PROJECTS {
+            let text = project(alloc, taps, *decimator);
+            let same = is_same(alloc, text, blocks(alloc, *numbers, *size))?;
+            assert!(rt; same, "{numbers:?} by {taps}");
+        }
+    }
+    Ok(())
+}
+
+#[test]
+fn plays_4096_taps_as_in_memory(rt: HostRuntime) -> Result<(), Fail> {
+    let alloc = rt.alloc();
+    assert!(rt; is_same(alloc, with_ones(alloc, 4096), mono(alloc, &[0xff; 512]))?);
+    assert!(rt; is_same(alloc, with_ones(alloc, 4096), laced(alloc, &STEREO, 600))?);
+    Ok(())
+}
+
+// A reader of 32,789 bytes at a time fails behind 196,734 of 262,270 bytes: 196,608 of them are of the sound. What was
+// written lags behind by at most 131,072 bytes of the sound, each of which makes a sample of two bytes.
+#[test]
+fn writes_before_all_is_read(rt: HostRuntime) -> Result<(), Fail> {
+    let alloc = rt.alloc();
+    let sound = vec![in alloc; 0xffu8; 262_144]?;
+    let file = mono(alloc, &sound)?;
+    let wave = play(alloc, DECIMATE.as_bytes(), &file)?;
+    assert!(rt; wave.len() == 524_332);
+    let reader = drip(&file, 32_789, 7);
+    let played = play_from(alloc, DECIMATE.as_bytes(), reader, sip(alloc, NEVER, NEVER));
+    assert!(rt; played.stops_reading(&wave));
+    assert!(rt; played.bytes.len() >= 131_116);
+    Ok(())
+}

@@ -1,0 +1,309 @@
+//! What is refused before anything is read, before anything is written, and for the file's sake.
+
+use crate::played::{Numbers, Played, play_by, plays, project};
+use fixtures::files::{
+    DSF_FRONT, FILE, MONO, RATE, RAW, WAVE, dsf_of, file_of, marked, marked_with,
+};
+use fixtures::projects::{DECIMATE, SPLICE};
+use std::alloc::{AllocError, Global};
+use std::test::Fail;
+
+// Whether a project is refused for this fault, and nothing was read or written.
+fn is_unread(alloc: Global, text: &[u8], expected: &str) -> Result<bool, AllocError> {
+    let played = play_by(alloc, text, &FILE, 1);
+    let is_refused = played.is_refused(alloc, expected)?;
+    Ok(is_refused && played.reads == 0 && played.bytes.is_empty())
+}
+
+// Texts of projects, and the first fault of each.
+const UNREAD: [(&[u8], &str); 4] = [
+    (b"", "NoDecimation"),
+    (b"\xff", "Project NotToml"),
+    (b"[decimate]\ntaps = [\"a\"]", "Project WrongKind taps"),
+    (b"taps = [1]", "Project UnknownKey"),
+];
+
+#[test]
+fn a_project_is_refused_before_the_first_read(rt: HostRuntime) -> Result<(), Fail> {
+    let alloc = rt.alloc();
+    for (text, expected) in &UNREAD {
+        assert!(rt; is_unread(alloc, text, expected)?, "{expected}");
+    }
+    assert!(rt;
+        is_unread(alloc, SPLICE.as_bytes(), "NoDecimation")?,
+        "a splice"
+    );
+    Ok(())
+}
+
+// Whether a file is refused for this fault, read by 1, by 7 and by 4096 bytes, and no more than so many bytes were
+// written.
+fn is_refused(
+    alloc: Global,
+    text: &str,
+    file: &[u8],
+    expected: &str,
+    written: usize,
+) -> Result<bool, AllocError> {
+    let by_1 = is_played(
+        alloc,
+        play_by(alloc, text.as_bytes(), file, 1),
+        expected,
+        written,
+    );
+    let by_7 = is_played(
+        alloc,
+        play_by(alloc, text.as_bytes(), file, 7),
+        expected,
+        written,
+    );
+    let by_4096 = is_played(
+        alloc,
+        play_by(alloc, text.as_bytes(), file, 4096),
+        expected,
+        written,
+    );
+    Ok(by_1? && by_7? && by_4096?)
+}
+
+// Whether playing was refused for this fault, no read or write failed, and at most so many bytes were written.
+fn is_played(
+    alloc: Global,
+    played: Played,
+    expected: &str,
+    written: usize,
+) -> Result<bool, AllocError> {
+    let is_refused = played.is_refused(alloc, expected)?;
+    Ok(is_refused && played.failures == (0, 0) && played.bytes.len() <= written)
+}
+
+// The same of a project and a file that were built.
+fn is_built_refused(
+    alloc: Global,
+    text: Result<String, AllocError>,
+    file: Result<Vec<u8>, AllocError>,
+    expected: &str,
+    written: usize,
+) -> Result<bool, AllocError> {
+    is_refused(alloc, &text?, &file?, expected, written)
+}
+
+// 1024 doesn't divide 2,822,400.
+#[test]
+fn a_rate_is_refused_before_the_first_write(rt: HostRuntime) -> Result<(), Fail> {
+    let alloc = rt.alloc();
+    let text = project(alloc, "[1, 2, 3, 4]", (1024, 3, 0, 16))?;
+    assert!(rt; is_refused(alloc, &text, &FILE, "RateNotDivided", 0)?);
+    assert!(rt;
+        is_refused(alloc, &text, &FILE[..126], "RateNotDivided", 0)?,
+        "no sound"
+    );
+    Ok(())
+}
+
+// The head of a DSF file without its sound: so many channels, so many bits each, and the size of the chunk `data`.
+fn head_of(alloc: Global, (number, count, size): Claim) -> Result<Vec<u8>, AllocError> {
+    let mut head = DSF_FRONT;
+    head[48..52].copy_from_slice(&number.to_le_bytes());
+    head[52..56].copy_from_slice(&number.to_le_bytes());
+    head[64..72].copy_from_slice(&count.to_le_bytes());
+    head[84..92].copy_from_slice(&size.to_le_bytes());
+    Vec::from_slice(alloc, &head[..92])
+}
+
+// What a head claims.
+type Claim = (u32, u64, u64);
+
+// What a head claims, the numbers of a project, the fault, and how many bytes may be written. A group of blocks has
+// 32,768 bits of each channel in 4096 bytes. `2^36` bits in 6 channels are `2^33` frames of 18 bytes. In one channel
+// of 16 bits 2,147,483,629 frames are `2^32-38` bytes, which with 36 bytes around them are just fewer than `2^32`: the
+// header goes out before the sound is missed. With a bit more there is a frame more.
+const CLAIMS: [(Claim, Numbers, &str, usize); 4] = [
+    ((6, 1 << 36, 51_539_607_564), (8, 3, 0, 24), "TooLarge", 0),
+    (
+        (6, 1 << 36, 51_539_607_564),
+        (1024, 3, 0, 24),
+        "RateNotDivided",
+        0,
+    ),
+    (
+        (1, 17_179_869_033, 2_147_483_660),
+        (8, 3, 0, 16),
+        "TooLarge",
+        0,
+    ),
+    (
+        (1, 17_179_869_032, 2_147_483_660),
+        (8, 3, 0, 16),
+        "FileRefused",
+        44,
+    ),
+];
+
+#[test]
+fn a_size_is_refused_before_the_first_write(rt: HostRuntime) -> Result<(), Fail> {
+    let alloc = rt.alloc();
+    for (claim, numbers, expected, written) in &CLAIMS {
+        let text = project(alloc, "[1, 2, 3, 4]", *numbers);
+        let head = head_of(alloc, *claim);
+        assert!(rt;
+            is_built_refused(alloc, text, head, expected, *written)?,
+            "{expected} {claim:?}"
+        );
+    }
+    Ok(())
+}
+
+// Whether `DECIMATE` doesn't play a file, for its own sake, and writes no more than so many bytes.
+fn is_no_file(
+    alloc: Global,
+    file: Result<Vec<u8>, AllocError>,
+    written: usize,
+) -> Result<bool, AllocError> {
+    is_refused(alloc, DECIMATE, &file?, "FileRefused", written)
+}
+
+// The front of `FILE`: nothing, a form's head cut, chunks' heads and data cut, the sound's head cut, and no sound.
+#[test]
+fn a_cut_file_is_refused(rt: HostRuntime) -> Result<(), Fail> {
+    let alloc = rt.alloc();
+    for end in 0..127 {
+        // The header may stand where the sound's head does.
+        let written = if end < 126 { 0 } else { 44 };
+        let file = Vec::from_slice(alloc, &FILE[..end]);
+        assert!(rt; is_no_file(alloc, file, written)?, "{end} bytes");
+    }
+    Ok(())
+}
+
+// A place of `FILE`, other bytes there, and how many bytes may be written: another ID of the form; another type; a
+// version 2; a property that is no sound's; a rate below 1,000,000 hertz; no channel; a compression; a sound of 100
+// bytes; a form that ends in the sound's head; a form that is longer than the file, which its end shows.
+const CHANGES: [(usize, &[u8], usize); 10] = [
+    (0, b"FORM", 0),
+    (12, b"AIFF", 0),
+    (28, &[2], 0),
+    (44, b"SNX ", 0),
+    (60, &[0, 0, 0xac, 0x44], 0),
+    (76, &[0, 0], 0),
+    (94, b"DST ", 0),
+    (125, &[100], 0),
+    (11, &[110], 0),
+    (11, &[120], 46),
+];
+
+#[test]
+fn a_changed_file_is_refused(rt: HostRuntime) -> Result<(), Fail> {
+    let alloc = rt.alloc();
+    for (place, bytes, written) in &CHANGES {
+        let file = with_bytes(alloc, *place, bytes);
+        assert!(rt; is_no_file(alloc, file, *written)?, "{place} {bytes:?}");
+    }
+    Ok(())
+}
+
+// `FILE` with other bytes at a place.
+fn with_bytes(alloc: Global, place: usize, bytes: &[u8]) -> Result<Vec<u8>, AllocError> {
+    let mut file = Vec::from_slice(alloc, &FILE)?;
+    for (at, byte) in bytes.iter().enumerate() {
+        if let Some(old) = file.get_mut(place.saturating_add(at)) {
+            *old = *byte;
+        }
+    }
+    Ok(file)
+}
+
+// A DSDIFF file with these chunks in its sound property, and these behind its sound of one byte.
+fn built(alloc: Global, parts: &[&[u8]], rest: &[u8]) -> Result<Vec<u8>, AllocError> {
+    file_of(alloc, parts, &[0xf0], rest)
+}
+
+// Two rates, and no channels; behind the sound, a mark of 21 bytes and one of a text that goes past its end, another
+// sound, and a chunk's head cut.
+#[test]
+fn a_file_of_other_chunks_is_refused(rt: HostRuntime) -> Result<(), Fail> {
+    let alloc = rt.alloc();
+    let parts: [&[u8]; 3] = [&RATE, &MONO, &RAW];
+    assert!(rt;
+        is_no_file(alloc, built(alloc, &[&RATE, &RATE, &MONO, &RAW], b""), 0)?,
+        "two rates"
+    );
+    assert!(rt;
+        is_no_file(alloc, built(alloc, &[&RATE, &RAW], b""), 0)?,
+        "no channels"
+    );
+    assert!(rt;
+        is_no_file(alloc, built(alloc, &parts, &marked(alloc, 21)?), 46)?,
+        "a short mark"
+    );
+    assert!(rt;
+        is_no_file(alloc, built(alloc, &parts, &long_text(alloc)?), 46)?,
+        "a long text"
+    );
+    assert!(rt;
+        is_no_file(alloc, built(alloc, &parts, &SOUND), 46)?,
+        "two sounds"
+    );
+    assert!(rt;
+        is_no_file(alloc, built(alloc, &parts, &SOUND[..11]), 46)?,
+        "a head cut"
+    );
+    Ok(())
+}
+
+// A chunk of a sound of one byte.
+const SOUND: [u8; 14] = *b"DSD \0\0\0\0\0\0\0\x01\xf0\0";
+
+// A mark that tells of a text of one byte, and ends before it.
+fn long_text(alloc: Global) -> Result<Vec<u8>, AllocError> {
+    marked_with(
+        alloc,
+        &[
+            0, 0, 0, 0, 0, 0, 0, 0, 0, 0, 0, 0, 0, 0, 0, 0, 0, 0, 0, 0, 0, 1,
+        ],
+    )
+}
+
+// The DSF file of 4188 bytes with one bit, and this pointer to a tag.
+fn pointing(alloc: Global, pointer: u64) -> Result<Vec<u8>, AllocError> {
+    let file = dsf_of(alloc, (1, 1, 1), &[0x0f], 4096, b"")?;
+    let mut made = Vec::new(alloc);
+    made.extend_from_slice(&file[..file.len().min(20)])?;
+    made.extend_from_slice(&pointer.to_le_bytes())?;
+    made.extend_from_slice(&file[file.len().min(28)..])?;
+    Ok(made)
+}
+
+// The same file with fewer bytes.
+fn cut_blocks(alloc: Global, length: usize) -> Result<Vec<u8>, AllocError> {
+    let mut file = dsf_of(alloc, (1, 1, 1), &[0x0f], 4096, b"")?;
+    file.truncate(length);
+    Ok(file)
+}
+
+// The WAVE file of one sample, 4.
+fn four() -> [u8; 46] {
+    let mut wave = WAVE;
+    wave[44] = 4;
+    wave
+}
+
+// A tag begins behind the sound, at the file's end at the latest.
+#[test]
+fn a_dsf_file_without_its_whole_is_refused(rt: HostRuntime) -> Result<(), Fail> {
+    let alloc = rt.alloc();
+    for pointer in [1, 4187, 4189, u64::MAX] {
+        assert!(rt;
+            is_no_file(alloc, pointing(alloc, pointer), 46)?,
+            "to {pointer}"
+        );
+    }
+    assert!(rt; plays(alloc, DECIMATE, &pointing(alloc, 4188)?, &four()));
+    for length in [4, 79, 80, 91, 92, 93, 4187] {
+        assert!(rt;
+            is_no_file(alloc, cut_blocks(alloc, length), 46)?,
+            "{length} bytes"
+        );
+    }
+    Ok(())
+}

@@ -1,73 +1,47 @@
--- What an edit answers is what project and takes come to, or the fault that stands first.
-use Rattle.std.proofs.Common.{◌≡◌, ℕ, ◌+◌, ◌%◌, Bool, List, length, Some, None, Err, refl, sym, ap, ◌∙◌, cond, eqb}
-use Rattle.std.proofs.lemmas.Bool.{le-ltb}
+-- What is edited is what a project and takes come to, and which fault stands first.
+use Rattle.std.proofs.Common.{◌≡◌, ℕ, ◌%◌, cond, eqb, Bool, List, length, Option, None, Some, refl, sym, ap, subst, ◌∙◌}
 use Rattle.dsd_bits.specs.Channels.{count_of}
 use Rattle.dsd_bits.specs.Contents.{Content}
+use Rattle.dsdiff_core.specs.declared.write_fault.WriteFault.{WriteFault}
+use Rattle.dsdiff_core.specs.declared.write_fault.WriteFault.TheVariants as writes
 use Rattle.project_core.specs.Splices.{SpliceContent}
-use Rattle.cost_core.specs.Fade.{cue_at}
-use Rattle.cost_core.specs.Faults.{HasRoom, first_fault}
-use Rattle.cost_core.specs.declared.fault.WindowFault.{WindowFault}
-use Rattle.archive_core.specs.declared.fault.Fault.{Fault}
-use Rattle.archive_core.specs.declared.fault.Fault.TheVariants.{Project, NoDecimation, NoSplice, TakeNumber, TakeUnread, TakeMismatch, CueOutside, MasterTooLong, NoRoomBefore, NoRoomAfter, FileUnread, RateNotDivided, TooLarge, NotWholeBytes, FileRefused, ReadFailed, WriteFailed, TurnLimit, Memory}
-use Rattle.archive_core.specs.declared.form.Form.{Form}
-use Rattle.archive_core.specs.declared.form.Form.TheVariants as forms
-use Rattle.archive_core.specs.Editing.{AnswersEdited, EditStandsFirst}
-use Rattle.archive_core.specs.Forms.{text_in}
-use Rattle.archive_core.specs.Projects.{AnswersThis, SaysSplice, SpliceStandsFirst}
-use Rattle.archive_core.specs.Rooms.{CutStandsFirst, HaveRoom, IsWhole, LacksRoom}
-use Rattle.archive_core.specs.Takes.{AreTakes, TakesStandFirst, master_length}
-use Rattle.archive_core.specs.Writing.{IsWriteFault}
+use Rattle.form_core.specs.declared.form.Form.{Form}
+use Rattle.form_core.specs.declared.form.Form.TheVariants as forms
+use Rattle.form_core.specs.Forms.{text_in}
+use Rattle.form_core.specs.Writing.{HoldsSound, IsWriteFault}
+use Rattle.cut_core.specs.Cuts.{CutContent, master_length, take_at}
+use Rattle.cut_core.specs.Opening.{IsWhole}
+use Rattle.master_core.specs.Checking.{HoldCues, IsMasterOf}
+use Rattle.master_core.specs.Claims.{IsCertOf, windows_total}
+use Rattle.master_core.specs.Masters.{AreMasterChannels, IsBestMaster, channel_numbers, total_cost}
+use Rattle.master_core.proofs.MasterLaws.{one_master}
+use Rattle.archive_core.specs.Checking.{Accepts}
+use Rattle.archive_core.specs.Editing.{CostsWindows, IsMaster}
+use Rattle.archive_core.specs.Cutting.{SaysCut}
 
--- what was refused was not answered
-pub edit_refused : {X Y : Type 0} (view : X → Y) (y : Y) (e : Fault) (master : List ℕ) (cost : ℕ) → AnswersThis view (Err e) y → AnswersEdited (Err e) master cost
-edit_refused view y (Project f) master cost h = h
-edit_refused view y NoDecimation master cost h = h
-edit_refused view y NoSplice master cost h = h
-edit_refused view y TakeNumber master cost h = h
-edit_refused view y (TakeUnread i f) master cost h = h
-edit_refused view y (TakeMismatch i) master cost h = h
-edit_refused view y (CueOutside i) master cost h = h
-edit_refused view y MasterTooLong master cost h = h
-edit_refused view y (NoRoomBefore i) master cost h = h
-edit_refused view y (NoRoomAfter i) master cost h = h
-edit_refused view y (FileUnread f) master cost h = h
-edit_refused view y RateNotDivided master cost h = h
-edit_refused view y TooLarge master cost h = h
-edit_refused view y FileRefused master cost h = h
-edit_refused view y ReadFailed master cost h = h
-edit_refused view y WriteFailed master cost h = h
-edit_refused view y TurnLimit master cost h = h
-edit_refused view y NotWholeBytes master cost h = h
-edit_refused view y Memory master cost h = tt
+-- no form is none that is asked for
+no_form : (form : Form) → None ≡ Some form → ⊥
+no_form form e = absurd cc
 
--- a fade with room wants none
-wants_none : (splice : SpliceContent) (i : ℕ) (a : List Bool) → HasRoom splice i a → first_fault splice i a ≡ None
-wants_none splice i a room =
-    rw (le-ltb ((cue_at splice (i + 1)).start + 1) ((cue_at splice i).bridge + length splice.weights) room.before, le-ltb (length a) ((cue_at splice i).stop + (cue_at splice i).bridge) room.after) refl
+-- a cut into a file of a form is a cut
+pub any_form : (project : List ℕ) (files : List (List ℕ)) (form : Form) (cut : CutContent) → SaysCut project files (Some form) cut → SaysCut project files None cut
+any_form project files form cut says = record {
+  splice = says.splice;
+  project_says = says.project_says;
+  opens = record { splice_is = says.opens.splice_is; read = says.opens.read; fit = says.opens.fit; whole = λ e. absurd (no_form forms.Dsdiff e); room = says.opens.room };
+}
 
-pub lacking : (splice : SpliceContent) (takes : List Content) (i : ℕ) (w : WindowFault) → LacksRoom splice takes i w → HaveRoom splice takes → ⊥
-lacking splice takes i w lacks room = let none = wants_none splice i _ (room i lacks.there lacks.wants.0) in let some = lacks.wants.1 in absurd cc
+-- a best master costs what its whole channels cost
+pub costs_whole : (cut : CutContent) (form : Form) (r : Content) (cost : ℕ) → IsBestMaster cut form r cost → cost ≡ total_cost cut r.channels
+costs_whole cut form r cost best = best.cost_is ∙ ap (λ (x : Content). total_cost cut x.channels) (sym best.recording_is)
 
-pub cut_refused : (splice : SpliceContent) (takes : List Content) (form : Form) (e : Fault) (master : List ℕ) (cost : ℕ) → CutStandsFirst splice takes form e → IsWhole form splice → HaveRoom splice takes → AnswersEdited (Err e) master cost
-cut_refused splice takes form NotWholeBytes master cost h whole room = absurd (h.1 (whole h.0))
-cut_refused splice takes form (NoRoomBefore i) master cost h whole room = absurd (lacking splice takes i _ h.1 room)
-cut_refused splice takes form (NoRoomAfter i) master cost h whole room = absurd (lacking splice takes i _ h.1 room)
-cut_refused splice takes form Memory master cost h whole room = tt
-cut_refused splice takes form (Project f) master cost h whole room = absurd h
-cut_refused splice takes form NoDecimation master cost h whole room = absurd h
-cut_refused splice takes form NoSplice master cost h whole room = absurd h
-cut_refused splice takes form TakeNumber master cost h whole room = absurd h
-cut_refused splice takes form (TakeUnread i f) master cost h whole room = absurd h
-cut_refused splice takes form (TakeMismatch i) master cost h whole room = absurd h
-cut_refused splice takes form (CueOutside i) master cost h whole room = absurd h
-cut_refused splice takes form MasterTooLong master cost h whole room = absurd h
-cut_refused splice takes form (FileUnread f) master cost h whole room = absurd h
-cut_refused splice takes form RateNotDivided master cost h whole room = absurd h
-cut_refused splice takes form TooLarge master cost h whole room = absurd h
-cut_refused splice takes form FileRefused master cost h whole room = absurd h
-cut_refused splice takes form ReadFailed master cost h whole room = absurd h
-cut_refused splice takes form WriteFailed master cost h whole room = absurd h
-cut_refused splice takes form TurnLimit master cost h whole room = absurd h
+-- one cut comes to one master
+pub one_answer : (s t : CutContent) (form : Form) (p q : Content) (made file : List ℕ) (m n : ℕ) → s ≡ t → IsBestMaster s form p m → IsBestMaster t form q n → text_in form p ≡ Some made → text_in form q ≡ Some file → (made ≡ file) × (m ≡ n)
+one_answer s t form p q made file m n e h k text told =
+    let both = one_master t form p q m n (subst (λ (x : CutContent). IsBestMaster x form p m) e h) k in
+    let texts : Some made ≡ Some file = sym text ∙ ap (text_in form) both.0 ∙ told in
+    let same : made ≡ file = cc in
+    (same, both.1)
 
 -- a master of whole bytes has a text
 even_text : (n : ℕ) (text : List ℕ) → n % 8 ≡ 0 → cond (eqb (n % 8) 0) (Some text) None ≡ None → ⊥
@@ -76,95 +50,55 @@ even_text n text e none =
     let both : Some text ≡ None = sym some ∙ none in
     absurd cc
 
-has_text : (form : Form) (splice : SpliceContent) (r : Content) → IsWhole form splice → count_of r.channels ≡ master_length splice.cues → text_in form r ≡ None → ⊥
+has_text : (form : Form) (splice : SpliceContent) (r : Content) → IsWhole (Some form) splice → count_of r.channels ≡ master_length splice.cues → text_in form r ≡ None → ⊥
 has_text forms.Dsdiff splice r whole long none = even_text (count_of r.channels) _ (ap (λ n. n % 8) long ∙ whole refl) none
 has_text forms.Dsf splice r whole long none = absurd cc
 has_text forms.Dsf8 splice r whole long none = absurd cc
 
-module _ (form : Form) (splice : SpliceContent) (r : Content) (whole : IsWhole form splice) (long : count_of r.channels ≡ master_length splice.cues) where
-  pub write_only_memory : (e : Fault) → IsWriteFault form r e → e ≡ Memory
-  write_only_memory NotWholeBytes none = absurd (has_text form splice r whole long none)
-  write_only_memory Memory h = refl
-  write_only_memory (Project f) h = absurd h
-  write_only_memory NoDecimation h = absurd h
-  write_only_memory NoSplice h = absurd h
-  write_only_memory TakeNumber h = absurd h
-  write_only_memory (TakeUnread i f) h = absurd h
-  write_only_memory (TakeMismatch i) h = absurd h
-  write_only_memory (CueOutside i) h = absurd h
-  write_only_memory MasterTooLong h = absurd h
-  write_only_memory (NoRoomBefore i) h = absurd h
-  write_only_memory (NoRoomAfter i) h = absurd h
-  write_only_memory (FileUnread f) h = absurd h
-  write_only_memory RateNotDivided h = absurd h
-  write_only_memory TooLarge h = absurd h
-  write_only_memory FileRefused h = absurd h
-  write_only_memory ReadFailed h = absurd h
-  write_only_memory WriteFailed h = absurd h
-  write_only_memory TurnLimit h = absurd h
+pub write_only_memory : (form : Form) (splice : SpliceContent) (r : Content) → IsWhole (Some form) splice → count_of r.channels ≡ master_length splice.cues → (e : WriteFault) → IsWriteFault form r e → e ≡ writes.Memory
+write_only_memory form splice r whole long writes.NotWholeBytes none = absurd (has_text form splice r whole long none)
+write_only_memory form splice r whole long writes.Memory h = refl
 
--- ---- a fault of a part stands first in the whole
-module _ (project : List ℕ) (files : List (List ℕ)) (form : Form) where
-  pub splice_stands : (e : Fault) → SpliceStandsFirst project e → EditStandsFirst project files form e
-  splice_stands (Project f) h = h
-  splice_stands NoDecimation h = absurd h
-  splice_stands NoSplice h = h
-  splice_stands TakeNumber h = absurd h
-  splice_stands (TakeUnread i f) h = absurd h
-  splice_stands (TakeMismatch i) h = absurd h
-  splice_stands (CueOutside i) h = absurd h
-  splice_stands MasterTooLong h = absurd h
-  splice_stands (NoRoomBefore i) h = absurd h
-  splice_stands (NoRoomAfter i) h = absurd h
-  splice_stands (FileUnread f) h = absurd h
-  splice_stands RateNotDivided h = absurd h
-  splice_stands TooLarge h = absurd h
-  splice_stands FileRefused h = absurd h
-  splice_stands ReadFailed h = absurd h
-  splice_stands WriteFailed h = absurd h
-  splice_stands TurnLimit h = absurd h
-  splice_stands NotWholeBytes h = absurd h
-  splice_stands Memory h = tt
+-- a file with the sound of a master is a master
+module _ (project : List ℕ) (files : List (List ℕ)) (cut : CutContent) (says : SaysCut project files None cut) (form : Form) (r : Content) (is : IsMasterOf cut form r) (file : List ℕ) (sound : HoldsSound form r file) where
+  again : IsMasterOf cut form sound.again
+  again = record {
+    shape = record { same_rate = sound.same_rate ∙ is.shape.same_rate; as_many_channels = ap length sound.same_channels ∙ is.shape.as_many_channels };
+    long = ap count_of sound.same_channels ∙ is.long;
+    titled = λ e. sound.same_marks e ∙ is.titled e;
+    cued = subst (HoldCues cut (channel_numbers cut)) (sym sound.same_channels) is.cued;
+  }
 
-  module _ (splice : SpliceContent) (says : SaysSplice project splice) where
-    pub takes_stand : (e : Fault) → TakesStandFirst splice files e → EditStandsFirst project files form e
-    takes_stand (Project f) h = absurd h
-    takes_stand NoDecimation h = absurd h
-    takes_stand NoSplice h = absurd h
-    takes_stand TakeNumber h = record { splice = splice; project_says = says; stands = h }
-    takes_stand (TakeUnread i f) h = record { splice = splice; project_says = says; stands = h }
-    takes_stand (TakeMismatch i) h = record { splice = splice; project_says = says; stands = h }
-    takes_stand (CueOutside i) h = record { splice = splice; project_says = says; stands = h }
-    takes_stand MasterTooLong h = record { splice = splice; project_says = says; stands = h }
-    takes_stand (NoRoomBefore i) h = absurd h
-    takes_stand (NoRoomAfter i) h = absurd h
-    takes_stand (FileUnread f) h = absurd h
-    takes_stand RateNotDivided h = absurd h
-    takes_stand TooLarge h = absurd h
-    takes_stand FileRefused h = absurd h
-    takes_stand ReadFailed h = absurd h
-    takes_stand WriteFailed h = absurd h
-    takes_stand TurnLimit h = absurd h
-    takes_stand NotWholeBytes h = absurd h
-    takes_stand Memory h = tt
+  pub file_is_master : AreMasterChannels cut r.channels → IsMaster project files file
+  file_is_master made = record {
+    cut = cut;
+    says = says;
+    form = form;
+    recording = sound.again;
+    file_holds = sound.holds;
+    same_rate = again.shape.same_rate;
+    made = subst (AreMasterChannels cut) (sym sound.same_channels) made;
+    titled = again.titled;
+  }
 
-    pub cut_stands : (takes : List Content) (e : Fault) → AreTakes splice files takes → CutStandsFirst splice takes form e → EditStandsFirst project files form e
-    cut_stands takes (Project f) hold h = absurd h
-    cut_stands takes NoDecimation hold h = absurd h
-    cut_stands takes NoSplice hold h = absurd h
-    cut_stands takes TakeNumber hold h = absurd h
-    cut_stands takes (TakeUnread i f) hold h = absurd h
-    cut_stands takes (TakeMismatch i) hold h = absurd h
-    cut_stands takes (CueOutside i) hold h = absurd h
-    cut_stands takes MasterTooLong hold h = absurd h
-    cut_stands takes (NoRoomBefore i) hold h = record { splice = splice; takes = takes; project_says = says; files_hold = hold; stands = h }
-    cut_stands takes (NoRoomAfter i) hold h = record { splice = splice; takes = takes; project_says = says; files_hold = hold; stands = h }
-    cut_stands takes (FileUnread f) hold h = absurd h
-    cut_stands takes RateNotDivided hold h = absurd h
-    cut_stands takes TooLarge hold h = absurd h
-    cut_stands takes FileRefused hold h = absurd h
-    cut_stands takes ReadFailed hold h = absurd h
-    cut_stands takes WriteFailed hold h = absurd h
-    cut_stands takes TurnLimit hold h = absurd h
-    cut_stands takes NotWholeBytes hold h = record { splice = splice; takes = takes; project_says = says; files_hold = hold; stands = h }
-    cut_stands takes Memory hold h = tt
+  pub file_is_accepted : (cert : List ℕ) (cost : ℕ) → IsCertOf cut r.channels cert → cost ≡ total_cost cut r.channels → Accepts project files file cert cost
+  file_is_accepted cert cost shown is_cost = record {
+    cut = cut;
+    says = says;
+    form = form;
+    recording = sound.again;
+    master_holds = sound.holds;
+    is_master = again;
+    shown = subst (λ (zs : List (List Bool)). IsCertOf cut zs cert) (sym sound.same_channels) shown;
+    cost_is = is_cost ∙ ap (total_cost cut) (sym sound.same_channels);
+  }
+
+  pub file_costs : (cost : ℕ) → cost ≡ windows_total cut r.channels → CostsWindows project files file cost
+  file_costs cost is_cost = record {
+    cut = cut;
+    says = says;
+    form = form;
+    recording = sound.again;
+    file_holds = sound.holds;
+    cost_is = is_cost ∙ ap (windows_total cut) (sym sound.same_channels);
+  }

@@ -1,11 +1,8 @@
 -- What is played from a reader by a project's decimator is what project and file play.
-use Rattle.std.proofs.Common.{◌≡◌, ℕ, ◌%◌, inl, inr, List, [], Option, None, Some, IfSome, Err, sym, subst}
-use Rattle.chunk_core.specs.Inlets.{inlet_reader}
+use Rattle.std.proofs.Common.{◌≡◌, ◌⊎◌, ℕ, inl, inr, List, [], Option, None, Some, IfSome, Ok, Err, subst}
 use Rattle.chunk_core.specs.declared.inlet.Inlet.{Inlet}
-use Rattle.dsd_bits.specs.declared.blocks.BitOrder.{BitOrder}
 use Rattle.dsd_bits.specs.declared.blocks.BitOrder.TheVariants.{LeastFirst, MostFirst}
 use Rattle.dsd_bits.specs.Contents.{Content}
-use Rattle.dsf_core.specs.Files.{IsDsf}
 use Rattle.fir_core.specs.Decimator.{Decimator}
 use Rattle.stream_core.specs.Faults.{IsFromOutside as IsOutside}
 use Rattle.stream_core.specs.Files.{HoldsRecording}
@@ -13,25 +10,23 @@ use Rattle.stream_core.specs.Playing as streams
 use Rattle.stream_core.specs.Playing.{PlaysBy}
 use Rattle.stream_core.specs.declared.fault.StreamFault.{StreamFault}
 use Rattle.stream_core.specs.declared.fault.StreamFault.TheVariants as faults
+use Rattle.form_core.specs.declared.form.Form.{Form}
+use Rattle.form_core.specs.declared.form.Form.TheVariants as forms
+use Rattle.form_core.specs.Forms.{Holds, form_of}
+use Rattle.form_core.proofs.OpeningLaws.{holds_dsf}
 use Rattle.archive_core.specs.declared.fault.Fault.{Fault}
 use Rattle.archive_core.specs.declared.fault.Fault.TheVariants as fault
-use Rattle.archive_core.specs.declared.form.Form.{Form}
-use Rattle.archive_core.specs.declared.form.Form.TheVariants as forms
 use Rattle.archive_core.specs.Faults.{fault_of_stream}
-use Rattle.archive_core.specs.Forms.{Holds}
 use Rattle.archive_core.specs.Playing.{Plays}
-use Rattle.archive_core.specs.Projects.{AnswersThis, SaysDecimator}
+use Rattle.archive_core.specs.Projects.{SaysDecimator, decimator_of}
+use Rattle.archive_core.proofs.ReadingLaws.{says_decimator}
 use Rattle.stream_core.proofs.PieceLaws.{front_nil}
 use Rattle.archive_core.specs.Streaming.{IsFromOutside, OnlyFromOutside, PlaysFile, PlaysGiven, StreamStands, WritesFront}
 
 -- ---- the form of a file
 form_held : (file : List ℕ) (r : Content) → HoldsRecording file r → (form : Form) × Holds file form r
 form_held file r (inl is) = (forms.Dsdiff, is)
-form_held file r (inr held) = by held.0 held.1
-  where
-    by : (order : BitOrder) → IsDsf file r order → (form : Form) × Holds file form r
-    by LeastFirst is = (forms.Dsf, is)
-    by MostFirst is = (forms.Dsf8, is)
+form_held file r (inr held) = (form_of held.0, holds_dsf file r held.0 held.1)
 
 recording_held : (file : List ℕ) (form : Form) (r : Content) → Holds file form r → HoldsRecording file r
 recording_held file forms.Dsdiff r is = inl is
@@ -77,14 +72,17 @@ module _ (project : List ℕ) (d : Decimator) (says : SaysDecimator project d) w
   stands (Some file) faults.Memory h = tt
 
 -- ---- of the one decimator that a project says
-module _ (project : List ℕ) (d : Decimator) (only : (e : Decimator) → SaysDecimator project e → d ≡ e) where
+module _ (project : List ℕ) (d : Decimator) (is_said : decimator_of project ≡ Ok d) where
   played : (file bytes : List ℕ) → Plays project file bytes → PlaysBy d file bytes
-  played file bytes is = subst (λ e. PlaysBy e file bytes) (sym (only is.decimator is.project_says)) (record {
-    recording = is.recording;
-    file_holds = recording_held file is.form is.recording is.file_holds;
-    rate_divided = is.rate_divided;
-    text = is.text;
-  })
+  played file bytes is =
+      let said = says_decimator project is.decimator is.project_says in
+      let same : is.decimator ≡ d = cc in
+      subst (λ e. PlaysBy e file bytes) same (record {
+        recording = is.recording;
+        file_holds = recording_held file is.form is.recording is.file_holds;
+        rate_divided = is.rate_divided;
+        text = is.text;
+      })
 
   pub only_outside : (left : Option (List ℕ)) (f : StreamFault) → streams.OnlyFromOutside left d f → OnlyFromOutside left project (fault_of_stream f)
   only_outside None f h = tt
@@ -104,30 +102,10 @@ module _ (project : List ℕ) (d : Decimator) (only : (e : Decimator) → SaysDe
   writes_front (Some file) a b h = λ bytes is. h bytes (played file bytes is)
 
 -- ---- a project that is refused
-pub project_outside : (left : Option (List ℕ)) (project : List ℕ) (e : Fault) → ((d : Decimator) → SaysDecimator project d → AnswersThis (λ (t : Decimator). t) (Err e) d) → OnlyFromOutside left project e
+pub project_outside : (left : Option (List ℕ)) (project : List ℕ) (e : Fault) → (e ≡ fault.Memory) ⊎ (decimator_of project ≡ Err e) → OnlyFromOutside left project e
 project_outside None project e h = tt
-project_outside (Some file) project e h = λ bytes is. by is.decimator e (h is.decimator is.project_says)
-  where
-    by : (d : Decimator) (e : Fault) → AnswersThis (λ (t : Decimator). t) (Err e) d → IsFromOutside e
-    by d (fault.Project f) h = h
-    by d fault.NoDecimation h = h
-    by d fault.NoSplice h = h
-    by d (fault.FileUnread f) h = h
-    by d fault.TakeNumber h = h
-    by d (fault.TakeUnread i f) h = h
-    by d (fault.TakeMismatch i) h = h
-    by d (fault.CueOutside i) h = h
-    by d fault.MasterTooLong h = h
-    by d (fault.NoRoomBefore i) h = h
-    by d (fault.NoRoomAfter i) h = h
-    by d fault.RateNotDivided h = h
-    by d fault.TooLarge h = h
-    by d fault.NotWholeBytes h = h
-    by d fault.FileRefused h = h
-    by d fault.ReadFailed h = tt
-    by d fault.WriteFailed h = tt
-    by d fault.TurnLimit h = tt
-    by d fault.Memory h = tt
+project_outside (Some file) project e (inl is) = λ bytes plays. rw is tt
+project_outside (Some file) project e (inr is) = λ bytes plays. let says = says_decimator project plays.decimator plays.project_says in absurd cc
 
 pub nothing_written : (left : Option (List ℕ)) (project : List ℕ) (a : Option (List ℕ)) → WritesFront left project a a
 nothing_written None project a = tt

@@ -1,13 +1,16 @@
--- What a file is converted to, and which fault stands first where it isn't.
-use Rattle.std.specs.Prelude.{◌≡◌, ℕ, List, Some, None, Result, Ok, Err}
+-- What a file is converted to.
+use Rattle.std.specs.Prelude.{◌≡◌, ℕ, List, Some, Result, Ok}
+use Rattle.std.specs.Option.{ok_or}
+use Rattle.chunk_core.specs.Steps.{◌>>=◌}
 use Rattle.dsd_bits.specs.Contents.{Content}
+use Rattle.form_core.specs.declared.form.Form.{Form}
+use Rattle.form_core.specs.Forms.{Holds, dropped_in, text_in}
+use Rattle.form_core.specs.Opening.{opened_of}
 use Rattle.archive_core.specs.declared.converting.Converted.{Converted}
 use Rattle.archive_core.specs.declared.fault.Fault.{Fault}
-use Rattle.archive_core.specs.declared.fault.Fault.TheVariants.{FileUnread, NotWholeBytes, Memory}
-use Rattle.archive_core.specs.declared.fault.ReadFault.TheVariants as reads
-use Rattle.archive_core.specs.declared.form.Form.{Form}
-use Rattle.archive_core.specs.Forms.{Holds, dropped_in, text_in}
-use Rattle.archive_core.specs.Opening.{opened_of}
+use Rattle.archive_core.specs.declared.fault.Fault.TheVariants.{NotWholeBytes}
+use Rattle.archive_core.specs.Faults.{fault_of_file}
+use Rattle.form_core.specs.Steps.{map_err}
 
 -- the bytes are the file of the form that is written for the recording in a file, and so many parts of it are not in them
 pub record Converts (file : List ℕ) (form : Form) (bytes : List ℕ) (dropped : ℕ) : Type 0 where
@@ -35,23 +38,13 @@ pub record KeepsSound (file : List ℕ) (form : Form) (bytes : List ℕ) : Type 
 abbrev pub IsKept : List ℕ → Form → Converted → Type 0
 IsKept file form made = KeepsSound file form made.bytes.items
 
--- the file is read, and the form has no text for its recording
-pub record IsNotWholeBytes (file : List ℕ) (form : Form) : Type 0 where
-  pub source : Form
-  pub recording : Content
-  pub file_holds : Holds file source recording
-  pub no_text : text_in form recording ≡ None
+-- the bytes of an answer, and how many parts of the recording are not in them
+abbrev pub contents : Converted → List ℕ × ℕ
+contents made = (made.bytes.items, made.dropped)
 
--- this fault stands, and none before it in the order: file, whole bytes. Want of memory may come at any point
-abbrev pub ConvertStandsFirst : List ℕ → Form → Fault → Type 0
-ConvertStandsFirst file form (FileUnread reads.Memory) = ⊥
-ConvertStandsFirst file form (FileUnread fault) = opened_of file ≡ Err fault
-ConvertStandsFirst file form NotWholeBytes = IsNotWholeBytes file form
-ConvertStandsFirst file form Memory = Unit {0}
-ConvertStandsFirst file form _ = ⊥
-
--- these bytes and this number were answered, want of memory aside
-abbrev pub AnswersConverted : Result Converted Fault → List ℕ → ℕ → Type 0
-AnswersConverted (Ok made) bytes dropped = (made.bytes.items ≡ bytes) × (made.dropped ≡ dropped)
-AnswersConverted (Err Memory) bytes dropped = Unit {0}
-AnswersConverted (Err _) bytes dropped = ⊥
+-- what a file is converted to, or the first fault: file, whole bytes
+unfoldable pub converted_of : List ℕ → Form → Result (List ℕ × ℕ) Fault
+converted_of file form = do
+  opened ← map_err fault_of_file (opened_of file)
+  bytes ← ok_or (text_in form opened.recording) NotWholeBytes
+  Ok (bytes, dropped_in form opened.recording)

@@ -1,19 +1,18 @@
 -- What is played from a reader to a writer, and which faults stand.
-use Rattle.std.specs.Prelude.{◌≡◌, ℕ, ◌⊎◌, List, length, Option, IfSome, Result, Ok, Err, ⊤}
+use Rattle.std.specs.Prelude.{◌≡◌, ℕ, List, length, Option, IfSome, Result, Err, ⊤}
 use Rattle.std.specs.Io.KnownBytes.{Appends}
-use Rattle.chunk_core.specs.Inlets.{inlet_reader}
 use Rattle.chunk_core.specs.Outlets.{AppendsFront}
 use Rattle.chunk_core.specs.declared.inlet.Inlet.{Inlet}
 use Rattle.dsd_bits.specs.Contents.{Content}
 use Rattle.fir_core.specs.Decimator.{Decimator}
 use Rattle.stream_core.specs.Playing as streams
 use Rattle.stream_core.specs.Reads.{Reads}
+use Rattle.form_core.specs.declared.form.Form.{Form}
+use Rattle.form_core.specs.Forms.{Holds}
 use Rattle.archive_core.specs.declared.fault.Fault.{Fault}
 use Rattle.archive_core.specs.declared.fault.Fault.TheVariants.{Project, NoDecimation, RateNotDivided, TooLarge, FileRefused, ReadFailed, WriteFailed, TurnLimit, Memory}
-use Rattle.archive_core.specs.declared.form.Form.{Form}
-use Rattle.archive_core.specs.Forms.{Holds}
 use Rattle.archive_core.specs.Playing.{Plays}
-use Rattle.archive_core.specs.Projects.{DecimatorStandsFirst, SaysDecimator}
+use Rattle.archive_core.specs.Projects.{SaysDecimator, decimator_of}
 
 -- whatever file stands there, so many bytes were written, those that project and file play
 abbrev pub PlaysFile : Option (List ℕ) → List ℕ → Option (List ℕ) → Option (List ℕ) → ℕ → Type 0
@@ -48,8 +47,8 @@ StandsBy P project file = (d : Decimator) × SaysDecimator project d × P d file
 
 -- this fault stands; a device, the number of reads and memory know nothing of project and file
 abbrev pub StreamStands : Option (List ℕ) → List ℕ → Fault → Type 0
-StreamStands left project (Project fault) = DecimatorStandsFirst project (Project fault)
-StreamStands left project NoDecimation = DecimatorStandsFirst project NoDecimation
+StreamStands left project (Project fault) = decimator_of project ≡ Err (Project fault)
+StreamStands left project NoDecimation = decimator_of project ≡ Err NoDecimation
 StreamStands left project FileRefused = IfSome left IsNoRecording
 StreamStands left project RateNotDivided = IfSome left (StandsBy streams.IsNotDivided project)
 StreamStands left project TooLarge = IfSome left (StandsBy streams.IsTooLarge project)

@@ -1,30 +1,21 @@
 //! Whether a file is the master of a project and takes, and its bridges are the best there are.
 
-ghost use Rattle.std.specs.Prelude.{◌≡◌, All, IfErr, IfOk, MatchOption, Some, ℕ};
+ghost use Rattle.std.specs.Prelude.{◌≡◌, IfErr, IfOk, MatchOption, None, Some, ℕ};
+ghost use Rattle.archive_core.specs.Checking as checks;
+ghost use Rattle.archive_core.specs.Checking.{Accepts, AnswersAccepted, HoldsNothing, IfAccepted, IfRejected, IsLeastMaster, RejectsFirst};
+ghost use Rattle.archive_core.specs.Cutting.{IsRefusedCut};
+ghost use Rattle.archive_core.specs.Editing.{CostsWindows, IsMaster};
+ghost use Rattle.cut_core.specs.Opening.{bytes_of};
 ghost use Rattle.dsd_bits.specs.Contents.{Content};
-ghost use Rattle.dsd_bits.specs.Shape.{HasShape};
-ghost use Rattle.project_core.specs.Splices.{splice_content};
-ghost use Rattle.archive_core.specs.declared.form.Form.{Form};
-ghost use Rattle.archive_core.specs.Judging as judging;
-ghost use Rattle.archive_core.specs.Checking.{Accepts, AnswersAccepted, CheckStandsFirst, HoldsNothing, IfAccepted, IfRejected, IsCut, IsLeastMaster, RejectsFirst};
-ghost use Rattle.archive_core.specs.Judging.{AreLeastBridges, IsNoRejection, JudgesMaster, WhereAccepted};
-ghost use Rattle.archive_core.specs.Claims.{IsCertOf};
-ghost use Rattle.archive_core.specs.Editing.{IsMaster};
-ghost use Rattle.archive_core.specs.Forms.{Holds};
-ghost use Rattle.archive_core.specs.Opening.{IsOpened};
-ghost use Rattle.archive_core.specs.Rooms.{HaveRoom};
-ghost use Rattle.archive_core.specs.Takes.{FitTakes, bytes_of};
+ghost use Rattle.form_core.specs.declared.form.Form.{Form};
+ghost use Rattle.form_core.specs.Forms.{Holds};
+ghost use Rattle.form_core.specs.Opening.{IsOpened};
 
-use crate::certifying::check_certificate;
-use crate::comparing::cut_reason;
-use crate::fault::{Fault, ReadFault};
-use crate::opening::{Opened, read_any};
+use crate::fault::Fault;
 use crate::projects::splice_of;
-use crate::rooms::have_room;
-use crate::takes::{has_shape, takes_of};
-use crate::verdict::{Reason, Verdict};
-use dsd_bits::Recording;
-use project_core::Splice;
+use cut_core::Cut;
+use form_core::{Opened, ReadFault, read_any};
+use master_core::{Reason, Verdict, judge};
 use std::alloc::{AllocError, Global};
 
 /// Whether a file is the master of a project and its takes, and a certificate shows that no bridge in it
@@ -50,20 +41,21 @@ pub fn check(
     // It is a master of the project and the takes, and each of its bridges is least.
     ensures master { IfAccepted result (λ _. IsMaster project.now (bytes_of takes.now) master.now) }
     ensures least { IfAccepted result (λ _. IsLeastMaster project.now (bytes_of takes.now) master.now) }
+    // What it is accepted at is the sum over all bridges of what their bits cost over their windows.
+    ensures windows { IfAccepted result (CostsWindows project.now (bytes_of takes.now) master.now) }
     // Such a master and certificate are accepted, want of memory aside.
     ensures only { (cost : ℕ) → Accepts project.now (bytes_of takes.now) master.now cert.now cost → AnswersAccepted result cost }
     // Which reason it is: the first that stands.
     ensures rejected { IfRejected result (RejectsFirst project.now (bytes_of takes.now) master.now cert.now) }
-    // Which fault it is: the first that stands.
-    ensures refused { IfErr result (CheckStandsFirst project.now (bytes_of takes.now)) }
+    // Which fault it is: the first of the project, its splice and its cut.
+    ensures refused { IfErr result (IsRefusedCut project.now (bytes_of takes.now) None) }
 {
     let splice = splice_of(alloc, project)?;
-    let takes = takes_of(alloc, &splice, takes)?;
-    have_room(&splice, &takes)?;
+    let cut = Cut::open(alloc, splice, takes, None)?;
     let Some(opened) = open_master(alloc, master)? else {
         return Ok(Verdict::Rejected(Reason::MasterUnread));
     };
-    Ok(judge(alloc, &splice, &takes, &opened, cert)?)
+    Ok(judge(alloc, &cut, &opened, cert)?)
 }
 
 // The form and the recording of a file, if it is a DSDIFF or DSF file that can be read.
@@ -80,33 +72,10 @@ fn open_master(alloc: Global, file: &[u8]) -> Result<Option<Opened>, AllocError>
 
 // Whether a refusal is want of memory.
 fn is_memory(fault: &ReadFault) -> bool
-    ensures { result ≡ judging.is_memory fault.now }
+    ensures { result ≡ checks.is_memory fault.now }
 {
     match fault {
         ReadFault::Memory => true,
         _ => false,
     }
-}
-
-// Whether a recording is the master, and the certificate shows its bridges to be least.
-fn judge(
-    alloc: Global,
-    splice: &Splice,
-    takes: &[Recording],
-    opened: &Opened,
-    cert: &[u8],
-) -> Result<Verdict, AllocError>
-    requires fit { FitTakes (splice_content splice.now) takes.now }
-    requires shaped { All HasShape takes.now }
-    requires room { HaveRoom (splice_content splice.now) takes.now }
-    ensures judged { IfOk result (JudgesMaster (splice_content splice.now) takes.now opened.now.form opened.now.recording cert.now) }
-    ensures shape { IfOk result (λ _. HasShape opened.now.recording) }
-    ensures least { IfOk result (λ verdict. WhereAccepted verdict (AreLeastBridges (splice_content splice.now) takes.now opened.now.recording.channels)) }
-    ensures only { IsCut (splice_content splice.now) takes.now opened.now.form opened.now.recording → IsCertOf (splice_content splice.now) takes.now opened.now.recording.channels cert.now → IfOk result IsNoRejection }
-{
-    has_shape(&opened.recording);
-    if let Some(reason) = cut_reason(alloc, splice, takes, opened)? {
-        return Ok(Verdict::Rejected(reason));
-    }
-    check_certificate(alloc, splice, takes, &opened.recording, cert)
 }

@@ -1,12 +1,11 @@
 //! A recording from one form to another.
 
-ghost use Rattle.std.specs.Prelude.{ℕ, List, IfErr, IfOk};
-ghost use Rattle.archive_core.specs.Converting.{AnswersConverted, ConvertStandsFirst, Converts, IsConverted, IsKept};
+ghost use Rattle.std.specs.Prelude.{IfOk};
+ghost use Rattle.archive_core.specs.Converting.{IsConverted, IsKept, contents, converted_of};
+ghost use Rattle.form_core.specs.Steps.{Gives};
 
 use crate::fault::Fault;
-use crate::form::Form;
-use crate::opening::read_any;
-use crate::writing::{dropped_in, write_in};
+use form_core::{Form, dropped_in, read_any, write_in};
 use std::alloc::Global;
 
 /// A recording's file in another form.
@@ -24,15 +23,14 @@ pub struct Converted {
 ///
 /// Refusals, in this order: `FileUnread`; `NotWholeBytes` where `form` is DSDIFF and the number of each
 /// channel's bits isn't a multiple of 8. Every want of memory is `Memory`.
+#[tactic(auto, unfolding(crate::specs::Converting::converted_of))]
 pub fn convert(alloc: Global, file: &[u8], form: Form) -> Result<Converted, Fault>
     // What is answered is the text of the file's recording in the form.
     ensures found { IfOk result (IsConverted file.now form) }
     // It holds the same sound again.
     ensures kept { IfOk result (IsKept file.now form) }
-    // What a file converts to is answered, want of memory aside.
-    ensures only { (bytes : List ℕ) (dropped : ℕ) → Converts file.now form bytes dropped → AnswersConverted result bytes dropped }
-    // Which fault it is: the first that stands.
-    ensures refused { IfErr result (ConvertStandsFirst file.now form) }
+    // What is answered or refused is what reading in order comes to, want of memory aside.
+    ensures exact { Gives Fault.Memory contents result (converted_of file.now form) }
 {
     let opened = read_any(alloc, file)?;
     let bytes = write_in(alloc, &opened.recording, form)?;

@@ -1,28 +1,17 @@
 //! Masters cut from takes by cue lists.
 
-ghost use Rattle.std.specs.Prelude.{◌≡◌, All, IfErr, IfOk, List, ℕ};
-ghost use Rattle.dsd_bits.specs.Channels.{count_of};
-ghost use Rattle.dsd_bits.specs.Shape.{HasShape};
-ghost use Rattle.project_core.specs.Splices.{splice_content};
+ghost use Rattle.std.specs.Prelude.{IfErr, IfOk, List, Some, ℕ};
 ghost use Rattle.archive_core.specs.Checking.{Accepts};
-ghost use Rattle.archive_core.specs.Choosing.{AreChosen};
-ghost use Rattle.archive_core.specs.Editing.{AnswersEdited, EditStandsFirst, Edits, IsBestMaster, IsEdited, IsMaster};
-ghost use Rattle.archive_core.specs.Takes.{FitTakes, bytes_of, master_length};
+ghost use Rattle.archive_core.specs.Editing.{AnswersEdited, CostsWindows, Edits, IsEdited, IsMaster};
+ghost use Rattle.archive_core.specs.Cutting.{IsRefusedCut};
+ghost use Rattle.cut_core.specs.Opening.{bytes_of};
 
-use crate::choosing::{ChosenBridges, choose_bridges};
-use crate::cues::first_take;
-use crate::cutting::{CutChannels, cut_channels};
 use crate::fault::Fault;
-use crate::form::Form;
 use crate::projects::splice_of;
-use crate::rooms::can_cut;
-use crate::takes::takes_of;
-use crate::titles::marks_in;
-use crate::writing::write_in;
-use dsd_bits::Recording;
-use project_core::Splice;
-use std::alloc::{AllocError, Global};
-use trellis_core::Chosen;
+use cut_core::Cut;
+use form_core::{Form, write_in};
+use master_core::{Made, make};
+use std::alloc::Global;
 
 /// A master that was cut.
 #[derive(Drop)]
@@ -33,13 +22,6 @@ pub struct Edited {
     pub cert: Vec<u8>,
     /// What its bridges cost: the sum over all bridges of all channels.
     pub total: u128,
-}
-
-// A master's recording, and what its bridges cost.
-#[derive(Drop)]
-struct Master {
-    recording: Recording,
-    cost: u128,
 }
 
 /// The master of a project: in each channel the cues of its splice in turn, cut from the takes, and behind
@@ -61,50 +43,24 @@ pub fn edit(alloc: Global, project: &[u8], takes: &[Vec<u8>], form: Form) -> Res
     ensures master { IfOk result (λ made. IsMaster project.now (bytes_of takes.now) made.master.items) }
     // The certificate shows each bridge of the master to be least, and so much do they cost.
     ensures accepted { IfOk result (λ made. Accepts project.now (bytes_of takes.now) made.master.items made.cert.items made.total) }
+    // It is the sum over all bridges of what their bits cost over their windows.
+    ensures windows { IfOk result (λ made. CostsWindows project.now (bytes_of takes.now) made.master.items made.total) }
     // What a project and takes come to is answered, want of memory aside.
     ensures only { (master : List ℕ) (cost : ℕ) → Edits project.now (bytes_of takes.now) form master cost → AnswersEdited result master cost }
-    // Which fault it is: the first that stands.
-    ensures refused { IfErr result (EditStandsFirst project.now (bytes_of takes.now) form) }
+    // Which fault it is: the first of the project, its splice and its cut.
+    ensures refused { IfErr result (IsRefusedCut project.now (bytes_of takes.now) (Some form)) }
 {
     let splice = splice_of(alloc, project)?;
-    let takes = takes_of(alloc, &splice, takes)?;
-    can_cut(&splice, &takes, form)?;
-    let ChosenBridges { bridges, cert } = choose_bridges(alloc, &splice, &takes)?;
-    let made = master_of(alloc, &splice, &takes, &bridges, form)?;
-    let master = write_in(alloc, &made.recording, form)?;
+    let cut = Cut::open(alloc, splice, takes, Some(form))?;
+    let Made {
+        recording,
+        cert,
+        total,
+    } = make(alloc, &cut, form)?;
+    let master = write_in(alloc, &recording, form)?;
     Ok(Edited {
         master,
         cert,
-        total: made.cost,
+        total,
     })
-}
-
-// The recording of the master.
-fn master_of(
-    alloc: Global,
-    splice: &Splice,
-    takes: &[Recording],
-    bridges: &[Vec<Chosen>],
-    form: Form,
-) -> Result<Master, AllocError>
-    requires fit { FitTakes (splice_content splice.now) takes.now }
-    requires shaped { All HasShape takes.now }
-    requires chosen { AreChosen (splice_content splice.now) takes.now bridges.now }
-    ensures best { IfOk result (λ made. IsBestMaster (splice_content splice.now) takes.now form made.recording made.cost) }
-    ensures long { IfOk result (λ made. count_of made.recording.channels ≡ master_length (splice_content splice.now).cues) }
-{
-    let CutChannels { channels, cost } = cut_channels(alloc, splice, takes, bridges)?;
-    let first = first_take(splice, takes);
-    let ids = Vec::from_slice(alloc, first.ids())?;
-    let marks = marks_in(alloc, splice, first.rate(), form)?;
-    let recording = Recording::new(
-        first.rate(),
-        channels,
-        ids,
-        first.layout(),
-        marks,
-        Vec::new(alloc),
-        Vec::new(alloc),
-    );
-    Ok(Master { recording, cost })
 }

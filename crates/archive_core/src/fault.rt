@@ -1,57 +1,16 @@
 //! Why a call is refused.
 
 ghost use Rattle.std.specs.Prelude.{◌≡◌};
-ghost use Rattle.archive_core.specs.Faults.{dsdiff_fault, dsf_fault, fault_of_file, fault_of_project, fault_of_stream, fault_of_wave, fault_of_writing};
+ghost use Rattle.archive_core.specs.Faults.{fault_of_cut, fault_of_file, fault_of_project, fault_of_stream, fault_of_wave, fault_of_writing};
 ghost use Rattle.archive_core.specs.declared.fault.Fault.TheVariants as faults;
 
-use dsdiff_core::{DsdiffFault, WriteFault};
-use dsf_core::DsfFault;
+use cut_core::CutFault;
+use form_core::{ReadFault, WriteFault};
 use project_core::ProjectFault;
 use std::alloc::AllocError;
 use stream_core::StreamFault;
 use thiserror::Error;
 use wave_core::WaveFault;
-
-/// Why a file is not read as a recording.
-#[derive(Clone, Copy, Debug, PartialEq, Eq, Error)]
-pub enum ReadFault {
-    /// The file is neither a DSDIFF file nor a DSF file.
-    #[error("UnknownForm")]
-    UnknownForm,
-    /// The file is a DSDIFF file that holds no recording that can be read.
-    #[error("Dsdiff {0}")]
-    Dsdiff(DsdiffFault),
-    /// The file is a DSF file that holds no recording that can be read.
-    #[error("Dsf {0}")]
-    Dsf(DsfFault),
-    /// Want of memory.
-    #[error("Memory")]
-    Memory,
-}
-
-impl From<DsdiffFault> for ReadFault {
-    ghost from_gives = { λ f e. e ≡ dsdiff_fault f };
-
-    fn from(fault: DsdiffFault) -> ReadFault {
-        match fault {
-            DsdiffFault::NotDsdiff => ReadFault::UnknownForm,
-            DsdiffFault::Memory => ReadFault::Memory,
-            fault => ReadFault::Dsdiff(fault),
-        }
-    }
-}
-
-impl From<DsfFault> for ReadFault {
-    ghost from_gives = { λ f e. e ≡ dsf_fault f };
-
-    fn from(fault: DsfFault) -> ReadFault {
-        match fault {
-            DsfFault::NotDsf => ReadFault::UnknownForm,
-            DsfFault::Memory => ReadFault::Memory,
-            fault => ReadFault::Dsf(fault),
-        }
-    }
-}
 
 /// Why a call is refused: the first fault that stands, in the order that the call states. Every want of
 /// memory is `Memory`.
@@ -142,6 +101,24 @@ impl From<ReadFault> for Fault {
         match fault {
             ReadFault::Memory => Fault::Memory,
             fault => Fault::FileUnread(fault),
+        }
+    }
+}
+
+impl From<CutFault> for Fault {
+    ghost from_gives = { λ f e. e ≡ fault_of_cut f };
+
+    fn from(fault: CutFault) -> Fault {
+        match fault {
+            CutFault::TakeNumber => Fault::TakeNumber,
+            CutFault::TakeUnread(take, fault) => Fault::TakeUnread(take, fault),
+            CutFault::TakeMismatch(take) => Fault::TakeMismatch(take),
+            CutFault::CueOutside(cue) => Fault::CueOutside(cue),
+            CutFault::MasterTooLong => Fault::MasterTooLong,
+            CutFault::NotWholeBytes => Fault::NotWholeBytes,
+            CutFault::NoRoomBefore(cue) => Fault::NoRoomBefore(cue),
+            CutFault::NoRoomAfter(cue) => Fault::NoRoomAfter(cue),
+            CutFault::Memory => Fault::Memory,
         }
     }
 }

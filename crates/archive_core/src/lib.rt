@@ -1,19 +1,28 @@
-//! From the bytes of files to the bytes of files: reading a recording of any form, converting it, playing
-//! it, cutting masters from takes by cue lists, and checking masters.
+//! From the bytes of files to the bytes of files: reading a recording of any form, converting it, playing it, cutting
+//! masters from takes by cue lists, and checking masters.
 //!
-//! [`read_any`] reads a DSDIFF 1.5 or DSF 1.01 file, [`convert`] writes its recording in another [`Form`],
-//! and [`play`] makes a RIFF WAVE file of it, decimated as a project text says; [`play_stream`] does so from a
-//! reader to a writer. [`take_names`] tells which takes a project text cuts, [`edit`] cuts its master from them
-//! and certifies it, and [`check`] judges a master and its certificate, whoever made them.
+//! [`read_any`] reads a DSDIFF 1.5 or DSF 1.01 file ([`form_core`]), [`convert`] writes its recording in another
+//! [`Form`], and [`play`] makes a RIFF WAVE file of it, decimated as a project text says; [`play_stream`] does so from
+//! a reader to a writer. [`take_names`] tells which takes a project text cuts, [`edit`] cuts its master from them and
+//! certifies it, and [`check`] judges a master and its certificate, whoever made them. Cuts are [`cut_core`]'s, masters
+//! [`master_core`]'s: here stand the calls whole, from project and files on.
 //!
-//! The words of its contracts: `Holds file form recording` says that the file has this form and holds this
-//! recording; `Converts file form bytes dropped` that these bytes are the file of the form that is written
-//! for the file's recording; `Plays project file bytes` that these bytes are the WAVE text of its samples;
-//! `Edits project files form master cost` that these bytes are the file of the master with the first least
-//! bridges, which cost so much; `IsMaster project files file` that a file is a master, whatever its bridges;
-//! `Accepts project files master cert cost` that it is, and that the certificate shows each bridge to be
-//! least. Beside each stands the relation that says which fault, or which reason, stands first where there
-//! is none.
+//! The words of the contracts:
+//!
+//! - `Converts file form bytes dropped` says that these bytes are the file of the form that is written for the file's
+//!   recording (`specs/Converting.antt`); `Plays project file bytes` that these bytes are the WAVE text of the samples
+//!   of the file's recording (`specs/Playing.antt`); `specs/Streaming.antt` says it of a reader and a writer.
+//! - `SaysTakes text names` says that a project text cuts the takes of these names (`specs/Projects.antt`), `SaysCut
+//!   project files form cut` that project and files come to this cut (`specs/Cutting.antt`).
+//! - `Edits project files form master cost` says that these bytes are the file of the master with the first least
+//!   bridges, which cost so much; `IsMaster project files file` that a file is a master, whatever its bridges
+//!   (`specs/Editing.antt`); `Accepts project files master cert cost` that it is, and that the certificate shows each
+//!   bridge to be least (`specs/Checking.antt`).
+//!
+//! Beside the first three stands a reading in the order of the refusals, to what is answered or the first fault:
+//! `converted_of`, `played_of`, `take_names_of`. A call gives what its reading comes to, want of memory aside, and the
+//! law on [`read_in_order`] joins relation and reading. Which fault refuses a cut says `IsRefusedCut`: that of the
+//! project or its splice, and then the one that stands first of the cut.
 //!
 //! ```text
 //! let converted = convert(alloc, &file, Form::Dsf)?;
@@ -23,32 +32,20 @@
 //! ```
 #![tactic(auto)]
 
-mod certifying;
 mod checking;
-mod choosing;
-mod comparing;
 mod converting;
-mod cues;
-mod cutting;
 mod editing;
 mod fault;
-mod form;
-mod opening;
-mod places;
-mod player;
+mod laws;
+mod playing;
 mod projects;
-mod rooms;
-mod takes;
-mod titles;
-mod verdict;
-mod writing;
 
 pub use checking::check;
 pub use converting::{Converted, convert};
 pub use editing::{Edited, edit};
-pub use fault::{Fault, ReadFault};
-pub use form::Form;
-pub use opening::{Opened, read_any};
-pub use player::{play, play_stream};
+pub use fault::Fault;
+pub use form_core::{Form, Opened, ReadFault, read_any};
+pub use laws::read_in_order;
+pub use master_core::{Reason, Verdict};
+pub use playing::{play, play_stream};
 pub use projects::take_names;
-pub use verdict::{Reason, Verdict};

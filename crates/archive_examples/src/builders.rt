@@ -1,15 +1,10 @@
 //! The files, cuts and certificates that several examples are built of.
 
 use archive_core::{Edited, Fault, Form, edit};
-use fixtures::files::{FILE, MONO, RATE, RAW, STEREO, dsf_of, file_of, marked, marked_with, mono};
+use fixtures::files::{FILE, MONO, RATE, RAW, dsf_of, file_of, marked_with, mono, stereo};
 use fixtures::projects::SPLICE;
 use std::alloc::{AllocError, Global};
 use std::fmt::Write;
-
-/// Whether these are the expected bytes.
-pub(crate) fn equal(bytes: &[u8], expected: &[u8]) -> bool {
-    bytes == expected
-}
 
 /// Whether a fault has this name.
 pub(crate) fn is_named(alloc: Global, fault: Fault, expected: &str) -> Result<bool, AllocError> {
@@ -24,18 +19,6 @@ pub(crate) fn file_in(alloc: Global, form: Form) -> Result<Vec<u8>, AllocError> 
         Form::Dsf => dsf_of(alloc, (1, 1, 8), &[0x0f], 4096, &[]),
         Form::Dsf8 => dsf_of(alloc, (1, 8, 8), &[0xf0], 4096, &[]),
     }
-}
-
-/// A DSDIFF file of one channel and the sound byte f0, with a mark of so many zero bytes behind it. A mark
-/// has at least 22 bytes (DSDIFF 1.5).
-pub(crate) fn noted(alloc: Global, size: usize) -> Result<Vec<u8>, AllocError> {
-    let mark = marked(alloc, size)?;
-    file_of(alloc, &[&RATE, &MONO, &RAW], &[0xf0], &mark)
-}
-
-/// A DSDIFF file of two channels with this sound, a byte of each in turn.
-pub(crate) fn stereo(alloc: Global, sound: &[u8]) -> Result<Vec<u8>, AllocError> {
-    file_of(alloc, &[&RATE, &STEREO, &RAW], sound, &[])
 }
 
 /// A DSDIFF file of one channel with this sound, at 5,644,800 Hz, twice the usual rate.

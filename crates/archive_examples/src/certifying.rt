@@ -1,8 +1,9 @@
 //! The certificates of small masters, number by number.
 
-use crate::builders::{CUES, CueNumbers, Sources, equal, mono_sources, stereo_sources};
+use crate::builders::{CUES, CueNumbers, Sources, mono_sources, stereo_sources};
 use archive_core::{Fault, Form};
 use chunk_core::{Order, push_u16, push_u64};
+use fixtures::compared::equal;
 use std::alloc::{AllocError, Global};
 use std::test::Fail;
 

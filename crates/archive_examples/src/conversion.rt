@@ -1,8 +1,9 @@
 //! Recordings written in each form, and how many of their parts have no place there.
 
-use crate::builders::{equal, file_in, is_named};
+use crate::builders::{file_in, is_named};
 use archive_core::{Fault, Form, convert};
 use chunk_core::push_chunk;
+use fixtures::compared::equal;
 use fixtures::files::{MONO, RATE, RAW, dsf_of, file_of, marked};
 use std::alloc::{AllocError, Global};
 use std::test::Fail;

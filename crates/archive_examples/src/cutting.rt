@@ -1,11 +1,12 @@
 //! Small masters cut from two takes, what their bridges cost, and the fault that comes first.
 
 use crate::builders::{
-    CUTS, CueNumbers, Sources, cut_off, equal, fast, is_named, mono_sources, sources_of, stereo,
+    CUES, CUTS, CueNumbers, Sources, cut_off, fast, is_named, mono_sources, sources_of, splice,
     stereo_sources, titled, titled_sources,
 };
 use archive_core::{Fault, Form, edit};
-use fixtures::files::{dsf_of, mono};
+use fixtures::compared::equal;
+use fixtures::files::{dsf_of, mono, stereo};
 use fixtures::projects::SPLICE;
 use std::alloc::{AllocError, Global};
 use std::test::Fail;
@@ -44,6 +45,18 @@ fn cuts_masters(rt: HostRuntime) -> Result<(), Fail> {
             "{case}"
         );
     }
+    Ok(())
+}
+
+// From zeros to ones by the weights 0 and 1: at its own place either bit costs 4, and behind it 0 costs 16 and 1
+// nothing. So 1 is taken.
+#[test]
+fn cuts_by_what_a_bit_costs_behind_it(rt: HostRuntime) -> Result<(), Fail> {
+    let alloc = rt.alloc();
+    let text = splice(alloc, "0, 1", &CUES);
+    let sources = sources_of(text, mono(alloc, &[0; 2]), mono(alloc, &[0xff; 2]));
+    let master = mono(alloc, &[0x00, 0xff]);
+    assert!(rt; cuts(alloc, sources, Form::Dsdiff, master, 4)?);
     Ok(())
 }
 

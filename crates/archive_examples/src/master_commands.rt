@@ -236,6 +236,21 @@ fn refuses_takes_and_projects_and_creates_nothing(rt: HostRuntime) -> Result<(),
     Ok(())
 }
 
+// A folder with the project of `CUES` by the weights 1 and 0, which has no title, and with its first take alone.
+fn folder_of_one_take(alloc: Global) -> Result<MemoryFolder, AllocError> {
+    let mut folder = MemoryFolder::new(alloc);
+    folder.put("e.toml", splice(alloc, "1, 0", &CUES)?.as_bytes())?;
+    put_built(&mut folder, "a.dff", mono(alloc, &[0xff; 2]))?;
+    Ok(folder)
+}
+
+#[test]
+fn cuts_nothing_where_a_take_is_missing(rt: HostRuntime) -> Result<(), Fail> {
+    let alloc = rt.alloc();
+    assert!(rt; is_refused(alloc, folder_of_one_take(alloc), CUT, "fault: ReadFailed")?);
+    Ok(())
+}
+
 // What fails, what is printed, and what the folder is asked for, and no more: takes by their numbers, and the
 // certificate is created once the master is written and kept.
 const CUTS: [(&str, Option<Failure>, &str, &str); 6] = [

@@ -1,8 +1,13 @@
-//! Files told apart by their first bytes, and the first fault of those that hold no recording.
+//! Files told apart by their first bytes, and the first fault of those that hold no recording, as it is named and as
+//! it is printed.
 
-use crate::builders::{file_in, noted, with_byte};
-use archive_core::{Form, read_any};
-use fixtures::files::{FILE, MONO, RATE, RAW, dsf_of, file_of};
+use crate::builders::{file_in, with_byte};
+use crate::folders;
+use crate::outcomes::prints;
+use archive_core::{Form, play, read_any};
+use command_core::{MemoryFolder, Outcome, Task};
+use fixtures::files::{FILE, MONO, RATE, RAW, dsf_of, file_of, noted};
+use fixtures::projects::DECIMATE;
 use std::alloc::{AllocError, Global};
 use std::test::Fail;
 
@@ -30,16 +35,43 @@ fn tells_each_form(rt: HostRuntime) -> Result<(), Fail> {
     Ok(())
 }
 
-// Whether a file is refused for this fault.
+// Whether a file is refused for this fault, which is printed where it is played and where it is told of.
 fn is_refused(
     alloc: Global,
     file: Result<Vec<u8>, AllocError>,
     expected: &str,
 ) -> Result<bool, AllocError> {
-    match read_any(alloc, &file?) {
+    let file = file?;
+    let line = format!(in alloc; "fault: FileUnread {expected}")?;
+    Ok(
+        is_unread(alloc, &file, expected)?
+            && is_unplayed(alloc, &file, &line)?
+            && is_untold(alloc, &file, &line)?,
+    )
+}
+
+// Whether a file is not read for this fault.
+fn is_unread(alloc: Global, file: &[u8], expected: &str) -> Result<bool, AllocError> {
+    match read_any(alloc, file) {
         Ok(_) => Ok(false),
         Err(fault) => Ok(fault.to_string(alloc)?.as_str() == expected),
     }
+}
+
+// Whether `play` refuses a file with this line. That is the call: the command of this name reads its file piece by
+// piece, and has one fault for every file that it refuses.
+fn is_unplayed(alloc: Global, file: &[u8], line: &str) -> Result<bool, AllocError> {
+    match play(alloc, DECIMATE.as_bytes(), file) {
+        Ok(_) => Ok(false),
+        Err(fault) => prints(alloc, Outcome::Fault(fault), 2, line),
+    }
+}
+
+// Whether `info` refuses a file with this line.
+fn is_untold(alloc: Global, file: &[u8], line: &str) -> Result<bool, AllocError> {
+    let mut folder = MemoryFolder::new(alloc);
+    folder.put("in", file)?;
+    folders::is_refused(alloc, Ok(folder), Task::Info { file: "in" }, line)
 }
 
 // The first bytes of `FILE`, with another byte at a place.

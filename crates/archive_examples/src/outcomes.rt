@@ -1,9 +1,10 @@
 //! The lines and the statuses of all that a command can come to.
 
-use crate::builders::{file_in, noted};
+use crate::builders::file_in;
 use archive_core::{Fault, Form, ReadFault, Reason, read_any};
 use cert_core::CertReason;
 use command_core::{Outcome, form_named, name_of, outcome_line, status};
+use fixtures::files::noted;
 use std::alloc::{AllocError, Global};
 use std::test::Fail;
 
@@ -12,8 +13,13 @@ use std::test::Fail;
 pub(crate) const TOLD: &str =
     "form dsdiff\nrate 2822400\nchannels 1\nsamples 8\nids 43303030\nlayout 1\nmarks 0\nothers 0\ntag 0";
 
-// Whether an outcome has this status and this line.
-fn prints(alloc: Global, outcome: Outcome, number: u8, line: &str) -> Result<bool, AllocError> {
+/// Whether an outcome has this status and this line.
+pub(crate) fn prints(
+    alloc: Global,
+    outcome: Outcome,
+    number: u8,
+    line: &str,
+) -> Result<bool, AllocError> {
     let said = outcome_line(alloc, &outcome)?;
     Ok(status(&outcome) == number && said.as_str() == line)
 }

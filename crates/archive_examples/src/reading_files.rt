@@ -1,8 +1,8 @@
 //! Files read whole: one, several in turn, and with a limit to the reads.
 
-use crate::builders::equal;
 use crate::watched_folder::WatchedFolder;
 use command_core::{MemoryFolder, Outcome, read_files, read_whole};
+use fixtures::compared::equal;
 use std::alloc::{AllocError, Global};
 use std::io;
 use std::io::Read;

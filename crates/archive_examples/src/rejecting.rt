@@ -1,8 +1,8 @@
 //! Masters rejected, and the first reason in the certificate or in the master.
 
-use crate::builders::{CUES, Sources, fast, mono_sources, stereo, titled_sources, with_byte};
+use crate::builders::{CUES, Sources, fast, mono_sources, titled_sources, with_byte};
 use archive_core::{Fault, Form, Verdict, check};
-use fixtures::files::mono;
+use fixtures::files::{mono, stereo};
 use std::alloc::{AllocError, Global};
 use std::test::Fail;
 

@@ -4,7 +4,6 @@ pub mod Entries
 pub mod Exact
 pub mod Heads
 pub mod OneReason
-pub mod Pulls
 pub mod Spellings
 pub mod Steps
 pub mod Whole

@@ -29,9 +29,6 @@ module _ (t : Trellis) (some : 0 < t.width) where
   halves : states t ≡ 2 ^ (t.width - 1) + 2 ^ (t.width - 1)
   halves = pow_double t.width some
 
-  pub high_in : (q n : ℕ) → n ≡ states t → q < states t → q / 2 + n / 2 < states t
-  high_in q n en h = omega (arith, halves)
-
   high_is : (q n : ℕ) → n ≡ states t → q / 2 + n / 2 ≡ before_by_1 t.width q
   high_is q n en = omega (arith, halves)
 

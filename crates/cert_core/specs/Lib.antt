@@ -2,7 +2,6 @@ pub mod Certificates
 pub mod Composing
 pub mod Entries
 pub mod Faults
-pub mod Fillings
 pub mod FusedOutlets
 pub mod Readers
 pub mod Reasons

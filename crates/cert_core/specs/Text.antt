@@ -1,4 +1,4 @@
--- The text of a certificate of version 1, in bytes. Each number has its highest byte first.
+-- The text of a certificate, in bytes. Each number has its highest byte first.
 use Rattle.std.specs.Prelude.{ℕ, List, [], ◌∷◌, ◌++◌, length, flat_map}
 use Rattle.std.specs.Int.{w16, w32, w64, to_be_bytes}
 
@@ -22,9 +22,13 @@ entry_start cue channel levels = to_be_bytes w16 cue ++ (to_be_bytes w16 channel
 abbrev pub cert_entry : Entry → List ℕ
 cert_entry e = entry_start e.cue e.channel e.levels ++ (flat_map row_text e.rows ++ to_be_bytes w64 e.cost)
 
+-- the version of a certificate
+abbrev pub version : ℕ
+version = 1
+
 -- the first twelve bytes: `DSPC`, the version, the number of weights, and that of the entries
 abbrev pub cert_head : ℕ → ℕ → List ℕ
-cert_head weights entries = (68 ∷ 83 ∷ 80 ∷ 67 ∷ []) ++ (to_be_bytes w16 1 ++ (to_be_bytes w16 weights ++ to_be_bytes w32 entries))
+cert_head weights entries = (68 ∷ 83 ∷ 80 ∷ 67 ∷ []) ++ (to_be_bytes w16 version ++ (to_be_bytes w16 weights ++ to_be_bytes w32 entries))
 
 -- a certificate: the head, and then its entries
 abbrev pub cert_text : ℕ → List Entry → List ℕ

@@ -12,7 +12,6 @@ ghost use Rattle.cert_core.specs.Entries.{ReadsEntry};
 ghost use Rattle.cert_core.specs.Reasons.{RowBounded};
 ghost use Rattle.cert_core.specs.Stops.{OnReason, failed_stops, CutBelow, InStart, InRows, InEnd, InEntry, ReadsRows};
 
-use crate::filling::fill;
 use crate::numbers::{make_buffer, number_in, start_numbers, take_row};
 use crate::rows::{low_end, row_reason};
 use crate::stop::Stop;
@@ -31,7 +30,7 @@ fn read_number<R: Read>(inlet: &mut Inlet<R>) -> Result<u64, Stop>
     ensures failures { inlet_failures inlet.new ≡ inlet_failures inlet.old + failed_stops result }
 {
     let mut bytes = [0u8; 8];
-    let count = fill(inlet, &mut bytes)?;
+    let count = inlet.fill(&mut bytes)?;
     if count < 8 {
         return Err(Stop::Reason(CertReason::Cut));
     }
@@ -53,7 +52,7 @@ fn read_row<R: Read>(
     ensures cut { OnReason result (CutBelow (R.remaining (inlet_reader inlet.old)) (8 * length row.old.items)) }
     ensures failures { inlet_failures inlet.new ≡ inlet_failures inlet.old + failed_stops result }
 {
-    let count = fill(inlet, bytes)?;
+    let count = inlet.fill(bytes)?;
     if count < bytes.len() {
         return Err(Stop::Reason(CertReason::Cut));
     }
@@ -74,7 +73,7 @@ fn read_start<R: Read>(
     ensures failures { inlet_failures inlet.new ≡ inlet_failures inlet.old + failed_stops result }
 {
     let mut bytes = [0u8; 6];
-    let count = fill(inlet, &mut bytes)?;
+    let count = inlet.fill(&mut bytes)?;
     if count < 6 {
         return Err(Stop::Reason(CertReason::Cut));
     }

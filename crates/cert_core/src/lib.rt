@@ -48,7 +48,6 @@
 #![tactic(auto)]
 
 mod entry;
-mod filling;
 mod fused;
 mod laws;
 mod numbers;

@@ -6,16 +6,20 @@ ghost use Rattle.cert_core.specs.Text.{row_text, entry_start, cert_head};
 
 use std::alloc::{AllocError, Global};
 
-/// The head of a certificate of version 1.
+// The version of a certificate.
+const VERSION: u16 = 1;
+
+/// The head of a certificate.
 pub fn head_bytes(weights: usize, entries: u32) -> [u8; 12]
     requires { weights ≤ 12 }
     ensures { result ≡ cert_head weights entries }
 {
+    let version = VERSION.to_be_bytes();
     let weights = (weights as u16).to_be_bytes();
     let entries = entries.to_be_bytes();
     [
-        b'D', b'S', b'P', b'C', 0, 1, weights[0], weights[1], entries[0], entries[1], entries[2],
-        entries[3],
+        b'D', b'S', b'P', b'C', version[0], version[1], weights[0], weights[1], entries[0],
+        entries[1], entries[2], entries[3],
     ]
 }
 

@@ -10,7 +10,6 @@ ghost use Rattle.cert_core.specs.Entries.{BeginsValid, ReadsEntry};
 ghost use Rattle.cert_core.specs.Stops.{InEntry};
 
 use crate::entry::read_entry;
-use crate::filling::fill;
 use crate::numbers::head_bytes;
 use crate::stop::Stop;
 use crate::verdict::{CertReason, CertVerdict, CheckFault};
@@ -60,7 +59,7 @@ impl<R: Read> CertReader<R> {
         ensures memory { IsErrOf result CheckFault.Memory → ⊥ }
     {
         let mut bytes = [0u8; 12];
-        let Ok(count) = fill(&mut self.inlet, &mut bytes) else {
+        let Ok(count) = self.inlet.fill(&mut bytes) else {
             return Err(CheckFault::Device);
         };
         if count < 12 {
@@ -124,7 +123,7 @@ impl<R: Read> CertReader<R> {
         ensures memory { IsErrOf result CheckFault.Memory → ⊥ }
     {
         let mut bytes = [0u8; 1];
-        let Ok(count) = fill(&mut self.inlet, &mut bytes) else {
+        let Ok(count) = self.inlet.fill(&mut bytes) else {
             return Err(CheckFault::Device);
         };
         if count == 0 {

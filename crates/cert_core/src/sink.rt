@@ -10,14 +10,14 @@ use std::io::Write;
 impl<W: Write> LevelSink for CertWriter<W> {
     ghost use Rattle.std.specs.Prelude.{ℕ};
     ghost use Rattle.chunk_core.specs.Outlets.{outlet_writer};
-    ghost use Rattle.cert_core.specs.Text.{row_text};
+    ghost use Rattle.cert_core.specs.Text.{row_text, version};
     ghost use Rattle.cert_core.specs.Writers.{Stage, cert_outlet, has_failed, row_length, rows_left, stage};
 
     ghost rows_left = { λ writer. rows_left writer };
 
     ghost row_length = { λ writer. row_length writer };
 
-    ghost kind = { λ _. 1 };
+    ghost kind = { λ _. version };
 
     ghost text = { λ writer. W.contents (outlet_writer (cert_outlet writer)) };
 

@@ -2,5 +2,6 @@ pub mod Steps
 pub mod Ranges
 pub mod ReadingLaws
 pub mod PlaceLaws
+pub mod Pulls
 pub mod SpelledAgain
 pub mod WalkLoop

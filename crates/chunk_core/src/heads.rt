@@ -4,8 +4,7 @@ ghost use Rattle.std.specs.Prelude.{◌<◌, ◌+◌, length, MatchOption};
 ghost use Rattle.chunk_core.specs.Heads.{IsHeadAt};
 
 use crate::layout::Head;
-use crate::numbers::Order;
-use byteorder::{BigEndian, ByteOrder, LittleEndian};
+use crate::numbers::{Order, id_at, u64_at};
 
 /// The head that stands at the place `at`, with its size in this order of bytes: `Big` for DSDIFF 1.5,
 /// `Little` for DSF 1.01.
@@ -17,13 +16,8 @@ pub fn head(order: Order, bytes: &[u8], at: usize) -> Option<Head>
     if bytes.len() < 12 || bytes.len() - 12 < at {
         return None;
     }
-    let (_, here) = bytes.split_at(at);
-    let (front, rest) = here.split_at(4);
-    let mut id = [0; 4];
-    id.copy_from_slice(front);
-    let size = match order {
-        Order::Big => BigEndian::read_u64(rest),
-        Order::Little => LittleEndian::read_u64(rest),
-    };
-    Some(Head { id, size })
+    Some(Head {
+        id: id_at(bytes, at),
+        size: u64_at(order, bytes, at + 4),
+    })
 }

@@ -1,14 +1,14 @@
 //! A reader whose failures, reads and bytes are counted.
 
-ghost use Rattle.std.specs.Prelude.{◌≡◌, ◌+◌, ◌-◌, ◌<◌, ◌≤◌, ◌^◌, length, MatchResult, IfOk};
-ghost use Rattle.std.specs.Io.KnownBytes.{ReadConsumes};
+ghost use Rattle.std.specs.Prelude.{◌≡◌, ◌+◌, ◌-◌, ◌<◌, ◌≤◌, ◌^◌, length, take, MatchResult, IfOk};
+ghost use Rattle.std.specs.Io.KnownBytes.{Consumes, IsAtEnd, ReadConsumes};
 ghost use Rattle.std.specs.Io.Iter.{u64_saturate};
 
 use crate::device::Device;
 use std::io::Read;
 
-/// A reader with three counts: the reads that failed, the calls of [`pull`](Inlet::pull), and the bytes
-/// that they gave. It takes no memory.
+/// A reader with three counts: the reads that failed, the reads, and the bytes that they gave. It takes no
+/// memory.
 #[derive(Drop)]
 pub struct Inlet<R> {
     reader: R,
@@ -18,7 +18,7 @@ pub struct Inlet<R> {
 }
 
 impl<R: Read> Inlet<R> {
-    ghost use Rattle.chunk_core.specs.Inlets.{inlet_reader, inlet_failures, inlet_reads, inlet_given};
+    ghost use Rattle.chunk_core.specs.Inlets.{inlet_reader, inlet_failures, inlet_reads, inlet_given, PullsBehind};
 
     /// An inlet over this reader, whose counts are 0.
     pub fn new(reader: R) -> Inlet<R>
@@ -67,6 +67,45 @@ impl<R: Read> Inlet<R> {
         }
     }
 
+    /// Reads until the buffer is full or nothing is left, in as many reads as it takes. Its answer is how
+    /// many bytes they gave, which stand at the buffer's front. After `Device`, and behind the bytes that
+    /// were given, what the buffer holds is open.
+    ///
+    /// Refusal: `Device` at the first read that answers an error, whichever it is.
+    pub fn fill(&mut self, buffer: &mut [u8]) -> Result<usize, Device>
+        requires { inlet_failures self.old < 2 ^ 64 - 1 }
+        ensures bytes { IfOk result (λ n. (n ≤ length buffer.new)
+            × Consumes (R.remaining (inlet_reader self.old)) (R.remaining (inlet_reader self.new)) (take n buffer.new)) }
+        ensures end { IfOk result (λ n. n < length buffer.new → IsAtEnd (R.remaining (inlet_reader self.new))) }
+        ensures failures { MatchResult result
+            (λ _. inlet_failures self.new ≡ inlet_failures self.old)
+            (λ _. inlet_failures self.new ≡ inlet_failures self.old + 1) }
+        ensures given { IfOk result (λ n. inlet_given self.new ≡ u64_saturate (inlet_given self.old + n)) }
+    {
+        let mut filled = 0;
+        while filled < buffer.len() {
+            let count = self.pull_behind(buffer, filled)?;
+            if count == 0 {
+                return Ok(filled);
+            }
+            filled += count;
+        }
+        Ok(filled)
+    }
+
+    // One read, to the place behind the first `filled` bytes of the buffer.
+    fn pull_behind(&mut self, buffer: &mut [u8], filled: usize) -> Result<usize, Device>
+        requires ready { inlet_failures self.old < 2 ^ 64 - 1 }
+        requires room { filled < length buffer.old }
+        ensures bytes { PullsBehind (R.remaining (inlet_reader self.old)) (R.remaining (inlet_reader self.new)) result filled buffer.old buffer.new }
+        ensures failures { MatchResult result
+            (λ _. inlet_failures self.new ≡ inlet_failures self.old)
+            (λ _. inlet_failures self.new ≡ inlet_failures self.old + 1) }
+        ensures given { IfOk result (λ n. inlet_given self.new ≡ u64_saturate (inlet_given self.old + n)) }
+    {
+        self.pull(&mut buffer[filled..])
+    }
+
     /// How many reads failed.
     pub fn failures(&self) -> u64
         ensures { result ≡ inlet_failures self.now }
@@ -74,7 +113,7 @@ impl<R: Read> Inlet<R> {
         self.failures
     }
 
-    /// How many calls of [`pull`](Inlet::pull) there were; it stays at `2^64-1`.
+    /// How many reads there were; it stays at `2^64-1`.
     pub fn reads(&self) -> u64
         ensures { result ≡ inlet_reads self.now }
     {

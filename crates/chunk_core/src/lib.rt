@@ -6,13 +6,13 @@
 //! the head nor the pad.
 //!
 //! [`head`] reads one head, [`walk`] finds the DSDIFF chunks that a range of bytes is made of, and
-//! [`push_chunk`], [`push_u16`], [`push_u32`] and [`push_u64`] write chunks and numbers at the end of
-//! some bytes. What is read is never trusted for its size: a size goes up to `2^64-1`, and nothing
+//! [`u16_at`], [`u32_at`], [`u64_at`] and [`id_at`] read what stands at a place. [`push_chunk`],
+//! [`push_u16`], [`push_u32`] and [`push_u64`] write chunks and numbers at the end of some bytes. What is read is never trusted for its size: a size goes up to `2^64-1`, and nothing
 //! is allocated for data that were only announced.
 //!
 //! An [`Inlet`] is any reader with counts of its failed reads, its reads and the bytes that they gave; an
-//! [`Outlet`] is any writer with a count of its failures. [`Inlet::pull`] reads once, [`Outlet::put_all`]
-//! writes the whole of a slice, and [`Device`] is the one fault of both: it is answered exactly where the
+//! [`Outlet`] is any writer with a count of its failures. [`Inlet::pull`] reads once, [`Inlet::fill`]
+//! until a buffer is full, [`Outlet::put_all`] writes the whole of a slice, and [`Device`] is the one fault of both: it is answered exactly where the
 //! count of failures rose in the call. Neither takes memory of its own.
 //!
 //! The words of its contracts:
@@ -22,8 +22,8 @@
 //!   `span_chunk bytes` the way back, from a span to the chunk whose data stand there.
 //! - `spans_in bytes start stop` (`specs/Reading.antt`): the spans of a range or the first fault in
 //!   it, chunk by chunk.
-//! - `number_of`, `bytes_of` (`specs/Numbers.antt`) and `IsHeadAt` (`specs/Heads.antt`): numbers and
-//!   heads in either order.
+//! - `number_at`, `bytes_of`, `id_at` (`specs/Numbers.antt`) and `IsHeadAt` (`specs/Heads.antt`): numbers
+//!   and heads in either order, and IDs.
 //! - `>>=`, `Gives` (`specs/Steps.antt`): steps that may fail, and what a function gives of them when
 //!   memory may run out.
 //! - `inlet_reader`, `inlet_failures`, `inlet_reads`, `inlet_given` (`specs/Inlets.antt`), `outlet_writer`
@@ -70,7 +70,7 @@ pub use heads::head;
 pub use inlet::Inlet;
 pub use laws::{one_list, spans_again, spans_found, spelled_again};
 pub use layout::{Head, Span};
-pub use numbers::{Order, push_u16, push_u32, push_u64};
+pub use numbers::{Order, id_at, push_u16, push_u32, push_u64, u16_at, u32_at, u64_at, u64_bytes};
 pub use outlet::Outlet;
 pub use spelling::push_chunk;
 pub use walking::walk;

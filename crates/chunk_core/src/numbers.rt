@@ -1,7 +1,7 @@
-//! Unsigned numbers of a fixed width, in either order of bytes.
+//! Unsigned numbers of a fixed width, in either order of bytes, and IDs.
 
-ghost use Rattle.std.specs.Prelude.{◌≡◌, ◌++◌, OnOk, OnErr};
-ghost use Rattle.chunk_core.specs.Numbers.{bytes_of};
+ghost use Rattle.std.specs.Prelude.{◌≡◌, ◌≤◌, ◌+◌, ◌++◌, OnOk, OnErr, length};
+ghost use Rattle.chunk_core.specs.Numbers.{bytes_of, id_at, number_at};
 
 use byteorder::{BigEndian, ByteOrder, LittleEndian};
 use std::alloc::AllocError;
@@ -11,8 +11,68 @@ use std::alloc::AllocError;
 pub enum Order {
     /// The highest byte first, as in IFF and DSDIFF 1.5.
     Big,
-    /// The lowest byte first, as in DSF 1.01.
+    /// The lowest byte first, as in RIFF and DSF 1.01.
     Little,
+}
+
+/// The four bytes of the ID that stands at the place `at`.
+pub fn id_at(bytes: &[u8], at: usize) -> [u8; 4]
+    requires { at + 4 ≤ length bytes.now }
+    ensures { result ≡ id_at bytes.now at }
+{
+    let (_, here) = bytes.split_at(at);
+    let (front, _) = here.split_at(4);
+    let mut id = [0; 4];
+    id.copy_from_slice(front);
+    id
+}
+
+/// The number of two bytes that stands at the place `at`.
+pub fn u16_at(order: Order, bytes: &[u8], at: usize) -> u16
+    requires { at + 2 ≤ length bytes.now }
+    ensures { result ≡ number_at order 2 bytes.now at }
+{
+    let (_, here) = bytes.split_at(at);
+    match order {
+        Order::Big => BigEndian::read_u16(here),
+        Order::Little => LittleEndian::read_u16(here),
+    }
+}
+
+/// The number of four bytes that stands at the place `at`.
+pub fn u32_at(order: Order, bytes: &[u8], at: usize) -> u32
+    requires { at + 4 ≤ length bytes.now }
+    ensures { result ≡ number_at order 4 bytes.now at }
+{
+    let (_, here) = bytes.split_at(at);
+    match order {
+        Order::Big => BigEndian::read_u32(here),
+        Order::Little => LittleEndian::read_u32(here),
+    }
+}
+
+/// The number of eight bytes that stands at the place `at`.
+pub fn u64_at(order: Order, bytes: &[u8], at: usize) -> u64
+    requires { at + 8 ≤ length bytes.now }
+    ensures { result ≡ number_at order 8 bytes.now at }
+{
+    let (_, here) = bytes.split_at(at);
+    match order {
+        Order::Big => BigEndian::read_u64(here),
+        Order::Little => LittleEndian::read_u64(here),
+    }
+}
+
+/// The eight bytes of `value`.
+pub fn u64_bytes(order: Order, value: u64) -> [u8; 8]
+    ensures { result ≡ bytes_of order 8 value }
+{
+    let mut bytes = [0; 8];
+    match order {
+        Order::Big => BigEndian::write_u64(&mut bytes, value),
+        Order::Little => LittleEndian::write_u64(&mut bytes, value),
+    }
+    bytes
 }
 
 /// Appends the two bytes of `value`. A refused growth leaves `out` as it was.
@@ -46,10 +106,5 @@ pub fn push_u64(out: &mut Vec<u8>, order: Order, value: u64) -> Result<(), Alloc
     ensures ok { OnOk result (out.new.items ≡ out.old.items ++ bytes_of order 8 value) }
     ensures err { OnErr result (out.new.items ≡ out.old.items) }
 {
-    let mut bytes = [0; 8];
-    match order {
-        Order::Big => BigEndian::write_u64(&mut bytes, value),
-        Order::Little => LittleEndian::write_u64(&mut bytes, value),
-    }
-    out.extend_from_slice(&bytes)
+    out.extend_from_slice(&u64_bytes(order, value))
 }

@@ -3,7 +3,7 @@
 ghost use Rattle.std.specs.Prelude.{◌≡◌, ◌++◌, OnOk, OnErr};
 ghost use Rattle.chunk_core.specs.Chunks.{spelled};
 
-use byteorder::{BigEndian, ByteOrder};
+use crate::numbers::{Order, u64_bytes};
 use std::alloc::AllocError;
 
 /// Appends a DSDIFF chunk (DSDIFF 1.5): the ID, the number of data bytes, the data, and one zero byte
@@ -14,10 +14,8 @@ pub fn push_chunk(out: &mut Vec<u8>, id: [u8; 4], content: &[u8]) -> Result<(), 
 {
     let pad = content.len() % 2;
     out.reserve(12 + content.len() + pad)?;
-    let mut size = [0; 8];
-    BigEndian::write_u64(&mut size, content.len() as u64);
     out.extend_from_slice(&id)?;
-    out.extend_from_slice(&size)?;
+    out.extend_from_slice(&u64_bytes(Order::Big, content.len() as u64))?;
     out.extend_from_slice(content)?;
     if pad == 1 {
         out.push_reserved(0);

@@ -5,7 +5,7 @@ use Rattle.archive_core.specs.Converting.{Converts}
 use Rattle.archive_core.specs.Editing.{Edits}
 use Rattle.archive_core.specs.Playing.{Plays}
 use Rattle.archive_core.specs.declared.fault.Fault as calls
-use Rattle.archive_core.specs.declared.form.Form.{Form}
+use Rattle.form_core.specs.declared.form.Form.{Form}
 use Rattle.archive_core.specs.Streaming.{IsBeforeWriting, OnlyFromOutside, PlaysFile, StreamStands, WritesFront}
 use Rattle.chunk_core.specs.Outlets.{AppendsFront}
 use Rattle.command_core.specs.Commands.{AreSources, ConvertComesTo, Cut, CutsFile, EditComesTo, Ends, EndsPlaying, LeavesFront, PlayComesTo, PlayedComesTo}

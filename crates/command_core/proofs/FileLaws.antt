@@ -2,7 +2,7 @@
 use Rattle.std.proofs.Common.{◌≡◌, ℕ, ◌+◌, ◌<◌, ◌++◌, ◌∷◌, ◌∙◌, [], List, Some, Vec, Global, String, ap, get_or, length, map, sym, take}
 use Rattle.std.specs.Prelude.{string_bytes}
 use Rattle.std.proofs.lemmas.List.{map-append, take_more}
-use Rattle.archive_core.specs.Takes.{bytes_of}
+use Rattle.cut_core.specs.Opening.{bytes_of}
 use Rattle.command_core.specs.Files.{AreFiles, Files}
 
 pub one_file_more : (old : Files) (names : List (String Global)) (i : ℕ) (name : String Global) (files more : List (Vec ℕ Global)) → i < length names → name ≡ get_or names i name → AreFiles old (map string_bytes (take i names)) (bytes_of files)

@@ -1,19 +1,21 @@
 -- What a command does to the files of a folder that tells them, whose names it is given.
-use Rattle.std.specs.Prelude.{◌≡◌, ◌≢◌, ℕ, List, [], ◌++◌, length, Option, Some, ◌⊎◌, Result, Err, MatchResult}
+use Rattle.std.specs.Prelude.{◌≡◌, ◌≢◌, ℕ, List, [], ◌++◌, length, Option, None, Some, ◌⊎◌, Result, Err, MatchResult}
 use Rattle.archive_core.specs.declared.fault.Fault as calls
 use Rattle.archive_core.specs.declared.fault.Fault.TheVariants.{Memory}
-use Rattle.archive_core.specs.declared.fault.ReadFault.{ReadFault}
-use Rattle.archive_core.specs.declared.form.Form.{Form}
-use Rattle.archive_core.specs.declared.opening.Opened.{Opened}
-use Rattle.archive_core.specs.declared.verdict.Verdict.{Verdict}
-use Rattle.archive_core.specs.declared.verdict.Verdict.TheVariants as verdicts
-use Rattle.archive_core.specs.Checking.{Accepts, CheckStandsFirst, RejectsFirst}
-use Rattle.archive_core.specs.Converting.{ConvertStandsFirst, Converts}
-use Rattle.archive_core.specs.Editing.{EditStandsFirst, Edits}
+use Rattle.form_core.specs.declared.fault.ReadFault.{ReadFault}
+use Rattle.form_core.specs.declared.form.Form.{Form}
+use Rattle.form_core.specs.declared.opening.Opened.{Opened}
+use Rattle.master_core.specs.declared.verdict.Verdict.{Verdict}
+use Rattle.master_core.specs.declared.verdict.Verdict.TheVariants as verdicts
+use Rattle.archive_core.specs.Checking.{Accepts, RejectsFirst}
+use Rattle.archive_core.specs.Converting.{Converts, converted_of}
+use Rattle.archive_core.specs.Cutting.{IsRefusedCut}
+use Rattle.form_core.specs.Steps.{Fails}
+use Rattle.archive_core.specs.Editing.{Edits}
 use Rattle.archive_core.specs.Faults.{fault_of_file}
-use Rattle.archive_core.specs.Opening.{IsOpened, Opens, opened_of}
+use Rattle.form_core.specs.Opening.{IsOpened, Opens, opened_of}
 use Rattle.archive_core.specs.Playing.{Plays}
-use Rattle.archive_core.specs.Projects.{SaysTakes, SpliceStandsFirst}
+use Rattle.archive_core.specs.Projects.{SaysTakes, take_names_of}
 use Rattle.archive_core.specs.Streaming.{IsBeforeWriting, OnlyFromOutside, StreamStands}
 use Rattle.command_core.specs.Files.{AreFiles, Files, IsFront, KeepsAllBut, KeepsOthers}
 use Rattle.command_core.specs.declared.outcome.Outcome.{Outcome}
@@ -152,27 +154,27 @@ pub record TellsFile (file_name : List ℕ) (old new : Files) (opened : Opened) 
 pub record IsUnconverted (form : Form) (file_name : List ℕ) (old : Files) (fault : calls.Fault) : Type 0 where
   pub file : List ℕ
   pub file_stands : old file_name ≡ Some file
-  pub first : ConvertStandsFirst file form fault
+  pub first : Fails Memory fault (converted_of file form)
 
 -- this fault stands first where the takes that the project names are asked for
 pub record IsUnnamed (project_name : List ℕ) (old : Files) (fault : calls.Fault) : Type 0 where
   pub project : List ℕ
   pub project_stands : old project_name ≡ Some project
-  pub first : SpliceStandsFirst project fault
+  pub first : Fails Memory fault (take_names_of project)
 
 -- this fault stands first where a master is cut from the project and the files of the takes that it names
 pub record IsUncut (form : Form) (project_name : List ℕ) (old : Files) (fault : calls.Fault) : Type 0 where
   pub project : List ℕ
   pub takes : List (List ℕ)
   pub sources : AreSources project_name old project takes
-  pub first : EditStandsFirst project takes form fault
+  pub first : IsRefusedCut project takes (Some form) fault
 
 -- this fault stands first where a master is judged by the project and the files of the takes that it names
 pub record IsUnjudged (project_name : List ℕ) (old : Files) (fault : calls.Fault) : Type 0 where
   pub project : List ℕ
   pub takes : List (List ℕ)
   pub sources : AreSources project_name old project takes
-  pub first : CheckStandsFirst project takes fault
+  pub first : IsRefusedCut project takes None fault
 
 -- the file is not read as a recording for this fault
 pub record IsUntold (file_name : List ℕ) (old : Files) (fault : calls.Fault) : Type 0 where

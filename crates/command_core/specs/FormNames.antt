@@ -1,8 +1,8 @@
 -- The names of forms.
 use Rattle.std.specs.Prelude.{ℕ, List, Option, Some, None, codes, if◌then◌else◌}
 use Rattle.std.specs.Str.{bytes_eq}
-use Rattle.archive_core.specs.declared.form.Form.{Form}
-use Rattle.archive_core.specs.declared.form.Form.TheVariants.{Dsdiff, Dsf, Dsf8}
+use Rattle.form_core.specs.declared.form.Form.{Form}
+use Rattle.form_core.specs.declared.form.Form.TheVariants.{Dsdiff, Dsf, Dsf8}
 
 -- the name of a form
 abbrev pub name_of : Form → List ℕ

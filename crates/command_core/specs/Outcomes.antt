@@ -2,14 +2,16 @@
 use Rattle.std.specs.Prelude.{◌≡◌, ℕ, List, ◌++◌, codes}
 use Rattle.std.specs.Fmt.{decimal}
 use Rattle.command_core.specs.declared.outcome.Outcome.{Outcome}
+use Rattle.command_core.specs.Infos.{info_text}
 use Rattle.command_core.specs.declared.outcome.Outcome.TheVariants.{Played, Converted, Edited, Accepted, Rejected, Info, Fault, ReadFailed, WriteFailed, WrongWords, UnknownFormName}
 
--- the line of a file that was played names its bytes, that of one that was converted what was dropped, that of a master that was cut or accepted what it costs; of other texts nothing is said
+-- the line of a file that was played names its bytes, that of one that was converted what was dropped, that of a master that was cut or accepted what it costs, and the lines of a file that was read tell of its recording; of other texts nothing is said
 abbrev pub ShowsDone : Outcome → List ℕ → Type 0
 ShowsDone (Played n) line = line ≡ codes "played " ++ decimal n ++ codes " bytes"
 ShowsDone (Converted n) line = line ≡ codes "converted dropped " ++ decimal n
 ShowsDone (Edited n) line = line ≡ codes "edited total " ++ decimal n
 ShowsDone (Accepted n) line = line ≡ codes "accepted total " ++ decimal n
+ShowsDone (Info opened) line = line ≡ info_text opened.form opened.recording
 ShowsDone _ line = Unit {0}
 
 -- done: 0; a master that is rejected: 1; a fault: 2; words that are no command or name no form: 3

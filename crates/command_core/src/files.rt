@@ -1,7 +1,7 @@
 //! Files of a folder, read and written whole.
 
 ghost use Rattle.std.specs.Prelude.{◌≡◌, [], ◌∷◌, ◌++◌, Some, IfErr, IfOk, IfSome, IsTrue, OnErr, OnOk, map, string_bytes};
-ghost use Rattle.archive_core.specs.Takes.{bytes_of};
+ghost use Rattle.cut_core.specs.Opening.{bytes_of};
 ghost use Rattle.command_core.specs.Files.{AreFiles, IsFront, IsReadFault, KeepsOthers};
 ghost use Rattle.command_core.specs.declared.outcome.Outcome.TheVariants as outcomes;
 

@@ -1,7 +1,7 @@
 //! Commands over the files of a folder.
 
 ghost use Rattle.std.specs.Prelude.{◌≡◌, IfErr, IfOk, IsTrue};
-ghost use Rattle.archive_core.specs.Takes.{bytes_of};
+ghost use Rattle.cut_core.specs.Opening.{bytes_of};
 ghost use Rattle.command_core.specs.Commands.{AreSources, CheckComesTo, ConvertComesTo, EditComesTo, Ends, InfoComesTo, PlayComesTo, PlayedComesTo, SourcesUnread, TaskComesTo};
 
 use crate::files::{read_file, read_files, write_file};

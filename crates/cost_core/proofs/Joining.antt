@@ -1,17 +1,10 @@
--- The window of a fade is made of the ends of the two cues.
-use Rattle.std.proofs.Common.{◌≡◌, ℕ, ◌+◌, ◌-◌, ◌<◌, ◌≤◌, ℤ, Bool, List, length, take, drop, slice_range, sym, ap, ◌∙◌, arith}
+-- The window of a bridge is made of the ends of its two cues.
+use Rattle.std.proofs.Common.{◌≡◌, ℕ, ◌+◌, ◌-◌, ◌≤◌, Bool, List, length, take, drop, slice_range, sym, ap, ◌∙◌, arith}
 use Rattle.std.proofs.lemmas.List.{drop-drop, drop-take, take-take}
-use Rattle.std.proofs.lemmas.List.Elements.{All-get_or}
 use Rattle.dsd_bits.proofs.PackingLemmas.{length-slice_range}
-use Rattle.project_core.specs.Cues.{AreWeights, IsCueWithin, IsSplicing}
-use Rattle.project_core.specs.Splices.{SpliceContent}
-use Rattle.cost_core.specs.Channels.{Joins, FadesJoin}
-use Rattle.cost_core.specs.Fade.{faded, cue_at}
-use Rattle.cost_core.proofs.Fades.{preceding_length, following_length}
-
--- each cue is within the limits
-cue_fits : (splice : SpliceContent) → IsSplicing splice.weights (length splice.takes) splice.cues → (i : ℕ) → i < length splice.cues → IsCueWithin (length splice.weights) (length splice.takes) (cue_at splice i)
-cue_fits splice fine i h = All-get_or (IsCueWithin (length splice.weights) (length splice.takes)) splice.cues i _ h fine.each_fits
+use Rattle.cost_core.specs.Channels.{FadesJoin}
+use Rattle.cost_core.specs.Windows.{cue_at}
+use Rattle.cost_core.proofs.Windows.{cue_fits, preceding_many, following_many}
 
 module _ (xs : List Bool) where
   -- the last n bits of a range
@@ -29,27 +22,25 @@ module _ (xs : List Bool) where
       let many : s + n - s ≡ n = omega arith in
       ap (λ m. take m (drop s xs)) many ∙ sym (take-take n (t - s) (drop s xs) (omega arith))
 
-module _ (weights : List ℤ) (fine : AreWeights weights) (a : List Bool) (first stop : ℕ) (b : List Bool) (start last levels : ℕ)
-    (long : first + length weights ≤ stop + 1) (inside : stop ≤ length a) (next_long : start + length weights ≤ last + 1) (next_inside : last ≤ length b) where
-  pub ranges_join : Joins (slice_range a first stop) (record { bridging = faded weights a stop b start levels; cue = slice_range b start last })
-  ranges_join =
-      let n = length weights - 1 in
-      let some = fine.two_weights in
-      let before = preceding_length weights fine a stop (omega arith) inside in
-      let behind = following_length weights fine b start (omega arith) in
-      let cue = length-slice_range a first stop inside in
-      let next = length-slice_range b start last next_inside in
-      let place : stop - first - n ≡ length (slice_range a first stop) - length (slice_range a (stop - n) stop) = omega arith in
-      record {
-        as_many = omega arith;
-        before_in = omega arith;
-        before_is = last_of_range a first stop n (omega arith) inside ∙ ap (λ m. drop m (slice_range a first stop)) place;
-        after_in = omega arith;
-        after_is = first_of_range b start last n (omega arith) ∙ ap (λ m. take m (slice_range b start last)) (sym behind);
-      }
-
 pub fades_join : FadesJoin
 fades_join splice i a b fine h inside next_inside =
-    let here = cue_fits splice fine i (omega arith) in
-    let next = cue_fits splice fine (i + 1) h in
-    ranges_join splice.weights fine.weights_fit a (cue_at splice i).start (cue_at splice i).stop b (cue_at splice (i + 1)).start (cue_at splice (i + 1)).stop (cue_at splice i).bridge here.long_enough inside next.long_enough next_inside
+    let n = length splice.weights - 1 in
+    let first = (cue_at splice i).start in
+    let stop = (cue_at splice i).stop in
+    let start = (cue_at splice (i + 1)).start in
+    let last = (cue_at splice (i + 1)).stop in
+    let some = fine.weights_fit.two_weights in
+    let here = (cue_fits splice fine i (omega arith)).long_enough in
+    let next = (cue_fits splice fine (i + 1) h).long_enough in
+    let before = preceding_many splice fine i a b h inside next_inside in
+    let behind = following_many splice fine i a b h inside next_inside in
+    let cue = length-slice_range a first stop inside in
+    let next_cue = length-slice_range b start last next_inside in
+    let place : stop - first - n ≡ length (slice_range a first stop) - length (slice_range a (stop - n) stop) = omega arith in
+    record {
+      as_many = omega arith;
+      before_in = omega arith;
+      before_is = last_of_range a first stop n (omega arith) inside ∙ ap (λ m. drop m (slice_range a first stop)) place;
+      after_in = omega arith;
+      after_is = first_of_range b start last n (omega arith) ∙ ap (λ m. take m (slice_range b start last)) (sym behind);
+    }

@@ -45,12 +45,6 @@ module _ (d : Bridging) (i q n : ℕ) (steps : List ℕ) (es : steps ≡ step_ro
   pub steps_length : length steps ≡ states (trellis_of d) + states (trellis_of d)
   steps_length = ap length es ∙ length-append (part before_by_0) (part before_by_1) ∙ omega (arith, part_length before_by_0, part_length before_by_1)
 
-  pub step_0_in : q < length steps
-  step_0_in = omega (arith, steps_length)
-
-  pub step_1_in : n + q < length steps
-  step_1_in = omega (arith, steps_length)
-
   pub step_0 : get_or steps q 0 ≡ step_of d i (q / 2) (newest q)
   step_0 = ap (λ l. get_or l q 0) es ∙ get_or_append_left (part before_by_0) (part before_by_1) 0 q (omega (arith, part_length before_by_0)) ∙ part_at before_by_0
 

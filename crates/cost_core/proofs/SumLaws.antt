@@ -50,14 +50,11 @@ part_kept n z h k =
 
 -- one step of the loop that weighs bits: the sum fits, and it is the sum so far
 module _ (weights : List ℤ) (bit : ℕ → Bool) (small : sum_by unsigned_abs weights ≤ 4096) (k : ℕ) (below : k < length weights) where
-  pub weight_in : unsigned_abs (get_or weights k (pos 0)) ≤ 4096
+  weight_in : unsigned_abs (get_or weights k (pos 0)) ≤ 4096
   weight_in = omega (arith, get_or-le-sum_by unsigned_abs weights k (pos 0) below)
 
-  pub weight_kept : to_z w32 (of_z w32 (get_or weights k (pos 0))) ≡ get_or weights k (pos 0)
+  weight_kept : to_z w32 (of_z w32 (get_or weights k (pos 0))) ≡ get_or weights k (pos 0)
   weight_kept = kept (get_or weights k (pos 0)) (omega (arith, weight_in))
-
-  pub read_weight_in : unsigned_abs (to_z w32 (of_z w32 (get_or weights k (pos 0)))) ≤ 4096
-  read_weight_in = rw weight_kept weight_in
 
   module _ (s r : ℤ) (so_far : s ≡ sum_below k (weight_term weights bit)) (added : r ≡ to_z w32 (of_z w32 (get_or weights k (pos 0))) *ℤ sign (bit k)) where
     added_term : r ≡ weight_term weights bit k

@@ -2,7 +2,7 @@
 use Rattle.std.specs.Prelude.{◌≡◌, ℕ, suc, ◌+◌, ◌-◌, ◌<◌, ◌≤◌, ◌==◌, if◌then◌else◌, Bool, List, [], ◌∷◌, ◌++◌, length, take, drop}
 use Rattle.project_core.specs.Cues.{IsSplicing}
 use Rattle.project_core.specs.Splices.{SpliceContent}
-use Rattle.cost_core.specs.Fade.{cue_at, cued, bridging}
+use Rattle.cost_core.specs.Windows.{cue_at, cued, bridging}
 use Rattle.cost_core.specs.Bridges.{Bridging, places_cost, bridge_cost, IsLeastBridge}
 
 -- a bridge and the cue after it
@@ -69,7 +69,7 @@ LeastTogether =
     (cue : List Bool) (ps : List Part) (xs ys : List (List Bool)) → AreJoined cue ps → HaveLengths ps xs → HaveLengths ps ys → AreLeast ps xs →
     channel_cost (channel cue ps xs) (length cue) ps ≤ channel_cost (channel cue ps ys) (length cue) ps
 
--- the window of the fade after a cue joins that cue and the next one, whatever its length
+-- the window of the bridge after a cue joins that cue and the next one, whatever its length and its target
 abbrev pub FadesJoin : Type 0
 FadesJoin =
     (splice : SpliceContent) (i : ℕ) (a b : List Bool) → IsSplicing splice.weights (length splice.takes) splice.cues → i + 1 < length splice.cues →

@@ -1,24 +1,31 @@
--- The room that a fade needs, and which want of it comes first.
-use Rattle.std.specs.Prelude.{ℕ, ◌+◌, ◌≤◌, Bool, List, length, Option, Some, None, nat_lt, if◌then◌else◌}
+-- The room that a bridge needs, and which want of it comes first.
+use Rattle.std.specs.Prelude.{ℕ, ◌+◌, ◌≤◌, length, Option, Some, None, nat_lt, if◌then◌else◌}
 use Rattle.project_core.specs.Splices.{SpliceContent}
+use Rattle.cost_core.specs.declared.fault.RoomFault.{RoomFault}
+use Rattle.cost_core.specs.declared.fault.RoomFault.TheVariants as rooms
 use Rattle.cost_core.specs.declared.fault.WindowFault.{WindowFault}
 use Rattle.cost_core.specs.declared.fault.WindowFault.TheVariants.{NoRoomBefore, NoRoomAfter, Memory}
-use Rattle.cost_core.specs.Fade.{cue_at}
+use Rattle.cost_core.specs.Targets.{Reach, reach_of}
+use Rattle.cost_core.specs.Windows.{cue_at}
 
--- the fade after cue i has room: its bits and as many as there are weights but one stand before the next cue in its take, and its bits after cue i in its take a
-pub record HasRoom (splice : SpliceContent) (i : ℕ) (a : List Bool) : Type 0 where
-  pub before : (cue_at splice i).bridge + length splice.weights ≤ (cue_at splice (i + 1)).start + 1
-  pub after : (cue_at splice i).stop + (cue_at splice i).bridge ≤ length a
+-- how many bits beyond its cues the target of the bridge after cue i reads
+abbrev pub reach_at : SpliceContent → ℕ → Reach
+reach_at splice i = reach_of (cue_at splice i).target (length splice.weights) (cue_at splice i).bridge
+
+-- the bridge after cue i has room, where the take of cue i has so many bits: what its target reads stands before the next cue in its take, and after cue i in its own
+pub record HasRoom (splice : SpliceContent) (i count : ℕ) : Type 0 where
+  pub before : (reach_at splice i).before ≤ (cue_at splice (i + 1)).start
+  pub after : (cue_at splice i).stop + (reach_at splice i).after ≤ count
 
 -- which of the two is wanting first
-abbrev pub first_fault : SpliceContent → ℕ → List Bool → Option WindowFault
-first_fault splice i a =
-    let before = cue_at splice i in
-    let after = cue_at splice (i + 1) in
-    if nat_lt (after.start + 1) (before.bridge + length splice.weights) then Some NoRoomBefore
-    else (if nat_lt (length a) (before.stop + before.bridge) then Some NoRoomAfter else None)
+abbrev pub first_fault : SpliceContent → ℕ → ℕ → Option RoomFault
+first_fault splice i count =
+    let reach = reach_at splice i in
+    if nat_lt (cue_at splice (i + 1)).start reach.before then Some rooms.NoRoomBefore
+    else (if nat_lt count ((cue_at splice i).stop + reach.after) then Some rooms.NoRoomAfter else None)
 
 -- the want of room that a fault names: none where memory was wanting
-abbrev pub named : WindowFault → Option WindowFault
+abbrev pub named : WindowFault → Option RoomFault
+named NoRoomBefore = Some rooms.NoRoomBefore
+named NoRoomAfter = Some rooms.NoRoomAfter
 named Memory = None
-named fault = Some fault

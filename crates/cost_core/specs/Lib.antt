@@ -8,7 +8,9 @@ pub mod Rows
 pub mod Sinks
 pub mod StateCosts
 pub mod Tables
+pub mod Targets
 pub mod Trellis
 pub mod Validity
 pub mod View
 pub mod Weighted
+pub mod Windows

@@ -1,9 +1,8 @@
 //! The targets of a linear fade.
 
-ghost use Rattle.std.specs.Prelude.{◌≡◌, ◌+◌, ◌*◌, ◌-◌, ◌<◌, ◌≤◌, map, length, pos, ◌+ℤ◌, ◌*ℤ◌, unsigned_abs, IfOk};
-ghost use Rattle.std.specs.List.{range_with_len};
+ghost use Rattle.std.specs.Prelude.{◌≡◌, ◌+◌, ◌*◌, ◌-◌, ◌<◌, ◌≤◌, length, pos, ◌+ℤ◌, ◌*ℤ◌, unsigned_abs, IfOk};
 ghost use Rattle.cost_core.specs.Limits.{CanFade};
-ghost use Rattle.cost_core.specs.Fade.{fade};
+ghost use Rattle.cost_core.specs.Fade as fades;
 
 use crate::sums::{scale, weighted_at};
 use dsd_bits::Bits;
@@ -33,7 +32,7 @@ fn fade_at(
     requires room { CanFade weights.now a.now stop b.now start levels }
     requires first { 1 ≤ i }
     requires last { i < levels + length weights.now }
-    ensures { result ≡ fade weights.now a.now stop b.now start levels i }
+    ensures { result ≡ fades.fade weights.now a.now stop b.now start levels i }
 {
     if i <= levels {
         blend(
@@ -58,7 +57,7 @@ pub fn fade_targets(
     levels: usize,
 ) -> Result<Vec<i32>, AllocError>
     requires { CanFade weights.now a.now stop b.now start levels }
-    ensures { IfOk result (λ made. made.items ≡ map (fade weights.now a.now stop b.now start levels) (range_with_len 1 (levels + (length weights.now - 1)))) }
+    ensures { IfOk result (λ made. made.items ≡ fades.fade_targets weights.now a.now stop b.now start levels) }
 {
     (1..levels + weights.len())
         .map(|i| fade_at(weights, a, stop, b, start, levels, i))

@@ -32,7 +32,8 @@ pub fn places_are_windows()
     ensures { PlacesAreWindows }
 {}
 
-/// The window of the fade after a cue is made of the ends of that cue and the next one.
+/// The window of the bridge after a cue, whatever its target, is made of the ends of that cue and the
+/// next one.
 pub fn fades_join()
     ensures { FadesJoin }
 {}

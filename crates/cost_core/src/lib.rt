@@ -2,9 +2,10 @@
 //!
 //! At each place of a bridge's window (its own bits, and those after it that a weight still reads) the
 //! weighted sum of the newest bits is held against a target; the cost is the sum of the squared
-//! deviations. The target of a fade goes in a straight line from the weighted sum of the take before
-//! to that of the take after. All sums are of whole numbers, times one more than the bridge's length,
-//! so nothing is rounded.
+//! deviations. All sums are of whole numbers, times one more than the bridge's length, so nothing is
+//! rounded. Which targets they are is asked for by the cue before the bridge (`project_core::Target`):
+//! those of a fade go in a straight line from the weighted sum of the take before to that of the take
+//! after, and so read bits of both takes beyond the cues. [`has_room`] tells whether those bits are there.
 //!
 //! A [`Window`] holds what decides the cost of one bridge in one channel. It tells the cost of any bits
 //! ([`Window::cost_of`]), and the same step by step for a trellis search as of Viterbi, over the states
@@ -13,7 +14,10 @@
 //!
 //! The words of the contracts, all over lists and numbers without bounds:
 //!
-//! - `weighted w z n` is the sum over `k` of `w[k] * sign(z[n - k])`, `fade` the target of a place.
+//! - `weighted w z n` is the sum over `k` of `w[k] * sign(z[n - k])`.
+//! - `targets_of` gives the targets of a bridge's places by its cue's target, `fade` that of one place of a
+//!   fade; `reach_of` says how many bits beyond the cues they read, `HasRoom splice i count` that the takes
+//!   have them, where that of cue `i` has `count` bits, and `first_fault` which of them are wanting first.
 //! - `Bridging` is what a window holds; `bridge_cost d x` is the sum of the squared deviations over its
 //!   places, `IsLeastBridge d x` says that no bits of its length cost less, `IsFirstLeastBridge d x`
 //!   that of those they come first, read from the last bit to the first.
@@ -43,16 +47,19 @@
 mod fading;
 mod fault;
 mod laws;
+mod room;
 mod rows;
 mod sink;
 mod sums;
+mod targets;
 mod window;
 
-pub use fault::WindowFault;
+pub use fault::{RoomFault, WindowFault};
 pub use laws::{
     costs_in_bounds, cut_is_valid, fades_join, least_from_valid, least_together,
     places_are_windows, steps_are_cost,
 };
+pub use room::has_room;
 pub use rows::doubled;
 pub use sink::{LevelSink, SinkFault};
 pub use window::Window;

@@ -5,13 +5,14 @@ ghost use Rattle.project_core.specs.Splices.{splice_content};
 ghost use Rattle.cost_core.specs.Trellis.{states, cost, IsBounded};
 ghost use Rattle.cost_core.specs.Bridges.{bridge_cost};
 ghost use Rattle.cost_core.specs.StateCosts.{step_of, step_row, trellis_of};
-ghost use Rattle.cost_core.specs.Fade.{cue_at, bridging, faded};
-ghost use Rattle.cost_core.specs.Limits.{CanFade, IsBridging, greatest_step};
+ghost use Rattle.cost_core.specs.Windows.{bridging, cue_at};
+ghost use Rattle.cost_core.specs.Limits.{IsBridging, greatest_step};
 ghost use Rattle.cost_core.specs.Faults.{HasRoom, first_fault, named};
 
-use crate::fading::fade_targets;
 use crate::fault::WindowFault;
+use crate::room::has_room;
 use crate::sums::{read_state, scaled_sums, squared_difference, squared_differences};
+use crate::targets::targets_after;
 use dsd_bits::Bits;
 use project_core::Splice;
 use std::alloc::{AllocError, Global};
@@ -43,12 +44,12 @@ impl Model for Window {
 }
 
 impl Window {
-    /// The window of the bridge after cue `cue`, whose target is a linear fade from the channel `a` of
-    /// its take to the channel `b` of the next cue's take.
+    /// The window of the bridge after cue `cue`, whose target leads from the channel `a` of its take to the
+    /// channel `b` of the next cue's take.
     ///
-    /// Refusals, in this order: `NoRoomBefore` where the next cue starts less than the bridge's length
-    /// and the number of weights but one after the start of `b`, `NoRoomAfter` where the cue stops less
-    /// than the bridge's length before the end of `a`, `Memory`.
+    /// Refusals, in this order: `NoRoomBefore` where the next cue starts too early in its take for what the
+    /// target reads before it, `NoRoomAfter` where the cue stops too late in its own for what it reads after
+    /// it ([`has_room`]), `Memory`.
     pub fn new(
         alloc: Global,
         splice: &Splice,
@@ -63,45 +64,40 @@ impl Window {
         ensures ok { IfOk result (λ window. window ≡ bridging (splice_content splice.now) cue a.now b.now) }
 
         // It is made exactly where there is room, want of memory aside.
-        ensures found { OnOk result (HasRoom (splice_content splice.now) cue a.now) }
-        ensures only { HasRoom (splice_content splice.now) cue a.now → IsOkUnless result WindowFault.Memory }
+        ensures found { OnOk result (HasRoom (splice_content splice.now) cue (length a.now)) }
+        ensures only { HasRoom (splice_content splice.now) cue (length a.now) → IsOkUnless result WindowFault.Memory }
 
         // Which fault it is: the first want of room.
-        ensures order { MatchResult result (λ _. first_fault (splice_content splice.now) cue a.now ≡ None) (λ fault. first_fault (splice_content splice.now) cue a.now ≡ named fault) }
+        ensures order { MatchResult result (λ _. first_fault (splice_content splice.now) cue (length a.now) ≡ None) (λ fault. first_fault (splice_content splice.now) cue (length a.now) ≡ named fault) }
     {
-        let weights = splice.weights.as_slice();
-        let stop = splice.cues[cue].stop;
-        let levels = splice.cues[cue].bridge;
-        let start = splice.cues[cue + 1].start;
-        if start + 1 < levels + weights.len() {
-            return Err(WindowFault::NoRoomBefore);
-        }
-        if a.len() < stop + levels {
-            return Err(WindowFault::NoRoomAfter);
-        }
-        Ok(Window::faded(alloc, weights, a, stop, b, start, levels)?)
+        has_room(splice, cue, a.len())?;
+        Ok(Window::with_room(alloc, splice, a, b, cue)?)
     }
 
-    // The window of a fade of `levels` bits, from the end `stop` of a cue in `a` to the start of a cue
-    // in `b`.
-    fn faded(
+    // The window of a bridge that has room.
+    fn with_room(
         alloc: Global,
-        weights: &[i32],
+        splice: &Splice,
         a: &Bits,
-        stop: usize,
         b: &Bits,
-        start: usize,
-        levels: usize,
+        cue: usize,
     ) -> Result<Window, AllocError>
-        requires { CanFade weights.now a.now stop b.now start levels }
-        ensures { IfOk result (λ window. window ≡ faded weights.now a.now stop b.now start levels) }
+        requires cues { cue + 1 < length (splice_content splice.now).cues }
+        requires before { (cue_at (splice_content splice.now) cue).stop ≤ length a.now }
+        requires after { (cue_at (splice_content splice.now) (cue + 1)).stop ≤ length b.now }
+        requires room { HasRoom (splice_content splice.now) cue (length a.now) }
+        ensures { IfOk result (λ window. window ≡ bridging (splice_content splice.now) cue a.now b.now) }
     {
+        let weights = splice.weights.as_slice();
         let width = weights.len() - 1;
+        let stop = splice.cues[cue].stop;
         let mut preceding = Bits::new(alloc);
         preceding.push_range(a, stop - width, stop)?;
+        let after = splice.cues[cue + 1].start;
         let mut following = Bits::new(alloc);
-        following.push_range(b, start, start + width)?;
-        let targets = fade_targets(alloc, weights, a, stop, b, start, levels)?;
+        following.push_range(b, after, after + width)?;
+        let targets = targets_after(alloc, splice, a, b, cue)?;
+        let levels = splice.cues[cue].bridge;
         let scaled = scaled_sums(alloc, weights, levels)?;
         let weights = Vec::from_slice(alloc, weights)?;
         let start = read_state(&preceding);

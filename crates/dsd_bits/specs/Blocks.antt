@@ -5,12 +5,13 @@ use Rattle.std.specs.Int.{bit_at, div_ceil}
 use Rattle.dsd_bits.specs.declared.blocks.BitOrder.{BitOrder}
 use Rattle.dsd_bits.specs.declared.blocks.BitOrder.TheVariants.{LeastFirst, MostFirst}
 use Rattle.dsd_bits.specs.Channels.{IsLevel, count_of}
+use Rattle.dsd_bits.specs.Limits.{block_bits, block_bytes}
 use Rattle.dsd_bits.specs.Packing.{packed_byte}
 use Rattle.dsd_bits.specs.Turning.{turned}
 
 -- the sound byte in which bit i of channel c stands
 abbrev pub block_place : ℕ → ℕ → ℕ → ℕ
-block_place channels c i = (i / 32768 * channels + c) * 4096 + i % 32768 / 8
+block_place channels c i = (i / block_bits * channels + c) * block_bytes + i % block_bits / 8
 
 -- which bit of that byte it is, the least significant being bit 0
 abbrev pub bit_number : BitOrder → ℕ → ℕ
@@ -23,7 +24,7 @@ block_bit order bytes channels c i = bit_at (slice_index bytes (block_place chan
 
 -- how many sound bytes there are for channels of so many bits: whole groups of blocks
 abbrev pub blocks_size : ℕ → ℕ → ℕ
-blocks_size channels count = div_ceil count 32768 * channels * 4096
+blocks_size channels count = div_ceil count block_bits * channels * block_bytes
 
 -- the first bits of channel c of the sound bytes
 abbrev pub unblocked : BitOrder → List ℕ → ℕ → ℕ → ℕ → List Bool
@@ -41,8 +42,8 @@ ordered MostFirst b = b
 -- the sound byte at a place; behind a channel's end it is zero
 abbrev pub block_byte : BitOrder → List (List Bool) → ℕ → ℕ
 block_byte order channels place =
-    let block = place / 4096 in
-    ordered order (packed_byte (slice_index_or channels (block % length channels) []) (block / length channels * 4096 + place % 4096))
+    let block = place / block_bytes in
+    ordered order (packed_byte (slice_index_or channels (block % length channels) []) (block / length channels * block_bytes + place % block_bytes))
 
 -- the sound bytes of the channels
 abbrev pub blocked : BitOrder → List (List Bool) → List ℕ
@@ -51,7 +52,7 @@ blocked order channels = map (block_byte order channels) (range_with_len 0 (bloc
 -- each bit of each channel stands at its place, and the bits behind the channels' end are zeros
 pub record AreBlocks (order : BitOrder) (channels : List (List Bool)) (bytes : List ℕ) : Type 0 where
   pub size : length bytes ≡ blocks_size (length channels) (count_of channels)
-  pub at : (c i : ℕ) → c < length channels → i < 32768 * div_ceil (count_of channels) 32768 → block_bit order bytes (length channels) c i ≡ slice_index_or (slice_index_or channels c []) i false
+  pub at : (c i : ℕ) → c < length channels → i < block_bits * div_ceil (count_of channels) block_bits → block_bit order bytes (length channels) c i ≡ slice_index_or (slice_index_or channels c []) i false
 
 -- channels that are laced in blocks are read again, whatever stands behind the blocks
 abbrev pub BlocksReadAgain : Type 0

@@ -4,6 +4,7 @@ pub mod Contents
 pub mod Ids
 pub mod Lacing
 pub mod Layouts
+pub mod Limits
 pub mod Packing
 pub mod Shape
 pub mod Shifting

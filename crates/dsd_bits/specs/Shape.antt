@@ -7,6 +7,7 @@ use Rattle.dsd_bits.specs.Channels.{IsLevel, count_of}
 use Rattle.dsd_bits.specs.Contents.{Content, OtherContent}
 use Rattle.dsd_bits.specs.Ids.{same_id, FVER, PROP, SND, FS, CHNL, CMPR, DSD, DIIN, MARK}
 use Rattle.dsd_bits.specs.Layouts.{layout_channels}
+use Rattle.dsd_bits.specs.Limits.{most_bits, least_rate, greatest_rate}
 
 -- the two places are the same
 abbrev pub same_place : Place → Place → Bool
@@ -27,12 +28,12 @@ has_part Form id bytes = same_id id FVER || same_id id DSD || same_id id DIIN ||
 
 -- what the parts of a recording keep to
 pub record HasShape (r : Content) : Type 0 where
-  pub rate_low : 1000000 ≤ r.rate
-  pub rate_high : r.rate ≤ 50000000
+  pub rate_low : least_rate ≤ r.rate
+  pub rate_high : r.rate ≤ greatest_rate
   pub some_channel : 1 ≤ length r.channels
   pub six_channels : length r.channels ≤ 6
   pub level : IsLevel r.channels
-  pub in_limit : count_of r.channels ≤ 2 ^ 36
+  pub in_limit : count_of r.channels ≤ most_bits
   pub id_for_each : length r.ids ≡ length r.channels
   pub layout_fits : layout_channels r.layout ≡ length r.channels
   pub short_texts : All (λ mark. length mark.text < 2 ^ 32) r.marks

@@ -1,5 +1,5 @@
 -- The sound of a file: what it is, and where its bytes stand.
-use Rattle.std.specs.Prelude.{◌≡◌, ◌≤◌, ℕ, ◌+◌, ◌*◌, ◌/◌, ◌^◌, Bool, List, length, take, drop, Option, Some, None}
+use Rattle.std.specs.Prelude.{◌≡◌, ◌≤◌, ℕ, ◌+◌, ◌*◌, ◌/◌, Bool, List, length, take, drop, Option, Some, None}
 use Rattle.dsd_bits.specs.declared.blocks.BitOrder.{BitOrder}
 use Rattle.dsd_bits.specs.declared.sound.Sound.{Sound}
 use Rattle.dsd_bits.specs.declared.sound.SoundAt.{SoundAt}
@@ -8,6 +8,7 @@ use Rattle.dsd_bits.specs.Blocks.{blocks_size, unblocked_all}
 use Rattle.dsd_bits.specs.Channels.{count_of}
 use Rattle.dsd_bits.specs.Contents.{Content}
 use Rattle.dsd_bits.specs.Lacing.{unlaced_all}
+use Rattle.dsd_bits.specs.Limits.{most_bits, least_rate, greatest_rate}
 
 -- how many sound bytes channels of so many bits need: a byte of each channel in turn where no order is told, else blocks
 abbrev pub sound_size : Option BitOrder → ℕ → ℕ → ℕ
@@ -21,11 +22,11 @@ sound_channels (Some order) channels count bytes = unblocked_all order bytes cha
 
 -- the sound lies within the limits of a recording, and its size is what its channels need
 pub record IsSound (s : Sound) : Type 0 where
-  pub rate_low : 1000000 ≤ s.rate
-  pub rate_high : s.rate ≤ 50000000
+  pub rate_low : least_rate ≤ s.rate
+  pub rate_high : s.rate ≤ greatest_rate
   pub some_channel : 1 ≤ s.channels
   pub six_channels : s.channels ≤ 6
-  pub in_limit : s.count ≤ 2 ^ 36
+  pub in_limit : s.count ≤ most_bits
   pub size : s.size ≡ sound_size s.order s.channels s.count
 
 -- the bytes of the sound in a file

@@ -1,7 +1,8 @@
 //! Lists of bits, packed eight to a byte.
 
-ghost use Rattle.std.specs.Prelude.{◌≡◌, ◌-◌, ◌*◌, ◌+◌, ◌^◌, ◌<◌, ◌≤◌, ◌++◌, ◌∷◌, ◌↔◌, [], Bool, false, List, length, vec_len, IfOk, OnErr, OnOk, slice_index_or, slice_range};
+ghost use Rattle.std.specs.Prelude.{◌≡◌, ◌-◌, ◌*◌, ◌+◌, ◌<◌, ◌≤◌, ◌++◌, ◌∷◌, ◌↔◌, [], Bool, false, List, length, vec_len, IfOk, OnErr, OnOk, slice_index_or, slice_range};
 ghost use Rattle.std.specs.Int.{div_ceil};
+ghost use Rattle.dsd_bits.specs.Limits.{most_bits};
 ghost use Rattle.dsd_bits.specs.Packing.{IsTight, packed, unpacked};
 
 use crate::fault::BitsFault;
@@ -41,7 +42,7 @@ impl Bits {
     ///
     /// Refusals, in this order: `TooFewBytes` where the bytes hold fewer than `count` bits, `Memory`.
     pub fn from_packed(alloc: Global, bytes: &[u8], count: usize) -> Result<Bits, BitsFault>
-        requires { count ≤ 2 ^ 36 }
+        requires { count ≤ most_bits }
         ensures ok { IfOk result (λ bits. bits ≡ unpacked bytes.now count) }
         ensures too_few { (result ≡ Err BitsFault.TooFewBytes) ↔ (8 * length bytes.now < count) }
     {
@@ -55,7 +56,7 @@ impl Bits {
 
     // The first bits of the bytes, which are no more than these bits take.
     pub(crate) fn from_first_bits(bytes: Vec<u8>, count: usize) -> Bits
-        requires in_limit { count ≤ 2 ^ 36 }
+        requires in_limit { count ≤ most_bits }
         requires size { vec_len bytes ≡ div_ceil count 8 }
         ensures { result ≡ unpacked bytes.items count }
     {
@@ -66,7 +67,7 @@ impl Bits {
 
     // All the bits of the bytes.
     pub(crate) fn from_whole_bytes(bytes: Vec<u8>) -> Bits
-        requires { 8 * vec_len bytes ≤ 2 ^ 36 }
+        requires { 8 * vec_len bytes ≤ most_bits }
         ensures { result ≡ unpacked bytes.items (8 * vec_len bytes) }
     {
         let count = 8 * bytes.len();
@@ -76,7 +77,7 @@ impl Bits {
     /// How many bits there are.
     pub fn len(&self) -> usize
         ensures value { result ≡ length self.now }
-        ensures in_limit { length self.now ≤ 2 ^ 36 }
+        ensures in_limit { length self.now ≤ most_bits }
     {
         self.count
     }
@@ -101,7 +102,7 @@ impl Bits {
 
     /// Adds a bit at the end. Where there is no memory for it the bits stay as they were.
     pub fn push_bit(&mut self, bit: bool) -> Result<(), AllocError>
-        requires { length self.old < 2 ^ 36 }
+        requires { length self.old < most_bits }
         ensures ok { OnOk result (self.new ≡ self.old ++ bit ∷ []) }
         ensures err { OnErr result (self.new ≡ self.old) }
     {
@@ -116,7 +117,7 @@ impl Bits {
     pub fn push_range(&mut self, source: &Bits, start: usize, stop: usize) -> Result<(), AllocError>
         requires in_order { start ≤ stop }
         requires in_source { stop ≤ length source.now }
-        requires in_limit { length self.old + (stop - start) ≤ 2 ^ 36 }
+        requires in_limit { length self.old + (stop - start) ≤ most_bits }
         ensures ok { OnOk result (self.new ≡ self.old ++ slice_range source.now start stop) }
         ensures err { OnErr result (self.new ≡ self.old) }
     {

@@ -1,13 +1,15 @@
 //! Channels laced into blocks of sound bytes, as the data chunk of DSF 1.01 holds them, and taken apart
 //! again.
 
-ghost use Rattle.std.specs.Prelude.{◌≡◌, ◌≢◌, ◌+◌, ◌*◌, ◌^◌, ◌<◌, ◌≤◌, ◌++◌, ◌↔◌, IfOk, IsOk, OnOk, if◌then◌else◌, is_ok, length, map, slice_index, vec_capacity, vec_len};
+ghost use Rattle.std.specs.Prelude.{◌≡◌, ◌≢◌, ◌+◌, ◌*◌, ◌<◌, ◌≤◌, ◌++◌, ◌↔◌, IfOk, IsOk, OnOk, if◌then◌else◌, is_ok, length, map, slice_index, vec_capacity, vec_len};
 ghost use Rattle.std.specs.List.{range_with_len};
 ghost use Rattle.dsd_bits.specs.Blocks.{AreBlocks, BlocksReadAgain, blocked, blocks_size, ordered, unblocked, unblocked_all};
 ghost use Rattle.dsd_bits.specs.Channels.{IsLevel, count_of};
+ghost use Rattle.dsd_bits.specs.Limits.{block_bytes, most_bits};
 
 use crate::bits::Bits;
 use crate::fault::LaceFault;
+use crate::limits::{BLOCK_BITS, BLOCK_BYTES};
 use crate::turning::turn;
 use std::alloc::{AllocError, Global};
 
@@ -33,14 +35,14 @@ pub fn unlace_blocks(
     order: BitOrder,
 ) -> Result<Vec<Bits>, LaceFault>
     requires channel_number { (1 ≤ channels) × (channels ≤ 6) }
-    requires in_limit { count ≤ 2 ^ 36 }
+    requires in_limit { count ≤ most_bits }
     ensures ok { IfOk result (λ made. made.items ≡ unblocked_all order bytes.now channels count) }
     ensures level { IfOk result (λ made. IsLevel made.items) }
     ensures count { IfOk result (λ made. count_of made.items ≡ count) }
     ensures too_few { (result ≡ Err LaceFault.TooFewBytes) ↔ (length bytes.now < blocks_size channels count) }
     ensures no_part_frame { result ≢ Err LaceFault.PartFrame }
 {
-    if bytes.len() < count.div_ceil(32768) * channels * 4096 {
+    if bytes.len() < blocks_size(channels, count) {
         return Err(LaceFault::TooFewBytes);
     }
     let mut made = Vec::with_capacity(alloc, channels)?;
@@ -48,6 +50,17 @@ pub fn unlace_blocks(
         made.push_reserved(unlace_channel(alloc, bytes, channels, c, count, order)?);
     }
     Ok(made)
+}
+
+/// How many sound bytes of DSF 1.01 there are for one to six channels of so many bits, at most `2^36`: whole
+/// groups of blocks.
+pub fn blocks_size(channels: usize, count: usize) -> usize
+    requires channel_number { channels ≤ 6 }
+    requires in_limit { count ≤ most_bits }
+    ensures value { result ≡ blocks_size channels count }
+    ensures in_limit { result ≤ 51539607552 }
+{
+    count.div_ceil(BLOCK_BITS) * channels * BLOCK_BYTES
 }
 
 // Channel `c` of sound bytes in blocks.
@@ -61,14 +74,14 @@ fn unlace_channel(
 ) -> Result<Bits, AllocError>
     requires channel { (c < channels) × (channels ≤ 6) }
     requires enough { blocks_size channels count ≤ length bytes.now }
-    requires in_limit { count ≤ 2 ^ 36 }
+    requires in_limit { count ≤ most_bits }
     ensures { IfOk result (λ bits. bits ≡ unblocked order bytes.now channels count c) }
 {
     let size = count.div_ceil(8);
     let mut own = Vec::with_capacity(alloc, size)?;
-    for group in 0..count.div_ceil(32768) {
-        let (_, block) = bytes.split_at((group * channels + c) * 4096);
-        let (used, _) = block.split_at((size - 4096 * group).min(4096));
+    for group in 0..count.div_ceil(BLOCK_BITS) {
+        let (_, block) = bytes.split_at((group * channels + c) * BLOCK_BYTES);
+        let (used, _) = block.split_at((size - BLOCK_BYTES * group).min(BLOCK_BYTES));
         push_in_order(&mut own, used, order)?;
     }
     Ok(Bits::from_first_bits(own, count))
@@ -95,8 +108,8 @@ pub fn push_blocks(out: &mut Vec<u8>, channels: &[Bits], order: BitOrder) -> Res
     ensures text { out.new.items ≡
         (if is_ok result then out.old.items ++ blocked order channels.now else out.old.items) }
 {
-    let blocks = channels[0].len().div_ceil(32768) * channels.len();
-    out.reserve(4096 * blocks)?;
+    let blocks = channels[0].len().div_ceil(BLOCK_BITS) * channels.len();
+    out.reserve(BLOCK_BYTES * blocks)?;
     for block in 0..blocks {
         let bytes = channels[block % channels.len()].as_bytes();
         push_block(out, bytes, block / channels.len(), order)?;
@@ -112,17 +125,17 @@ fn push_block(
     group: usize,
     order: BitOrder,
 ) -> Result<(), AllocError>
-    requires { 4096 * group ≤ length bytes.now }
+    requires { block_bytes * group ≤ length bytes.now }
     ensures ok { OnOk result (out.new.items ≡
-        out.old.items ++ map (ordered order) (map (slice_index bytes.now) (range_with_len (4096 * group) 4096))) }
+        out.old.items ++ map (ordered order) (map (slice_index bytes.now) (range_with_len (block_bytes * group) block_bytes))) }
     ensures capacity { vec_capacity out.old ≤ vec_capacity out.new }
-    ensures succeeds { vec_len out.old + 4096 ≤ vec_capacity out.old → IsOk result }
+    ensures succeeds { vec_len out.old + block_bytes ≤ vec_capacity out.old → IsOk result }
 {
-    let (_, rest) = bytes.split_at(4096 * group);
-    let (used, _) = rest.split_at(rest.len().min(4096));
+    let (_, rest) = bytes.split_at(BLOCK_BYTES * group);
+    let (used, _) = rest.split_at(rest.len().min(BLOCK_BYTES));
     let kept = out.len();
     out.extend_from_slice(used)?;
-    out.resize(kept + 4096, 0)?;
+    out.resize(kept + BLOCK_BYTES, 0)?;
     let (_, block) = out.as_mut_slice().split_at_mut(kept);
     put_in_order(block, order);
     Ok(())

@@ -1,8 +1,9 @@
 //! Channels laced into sound bytes, as the sound chunk of DSDIFF 1.5 holds them, and taken apart again.
 
-ghost use Rattle.std.specs.Prelude.{◌≡◌, ◌≢◌, ℕ, ◌+◌, ◌*◌, ◌/◌, ◌%◌, ◌^◌, ◌<◌, ◌≤◌, ◌++◌, ◌↔◌, IfOk, IsOk, OnOk, if◌then◌else◌, is_ok, length, slice_index, vec_capacity, vec_len};
+ghost use Rattle.std.specs.Prelude.{◌≡◌, ◌≢◌, ℕ, ◌+◌, ◌*◌, ◌/◌, ◌%◌, ◌<◌, ◌≤◌, ◌++◌, ◌↔◌, IfOk, IsOk, OnOk, if◌then◌else◌, is_ok, length, slice_index, vec_capacity, vec_len};
 ghost use Rattle.dsd_bits.specs.Channels.{IsLevel, count_of};
 ghost use Rattle.dsd_bits.specs.Lacing.{AreLaced, LacedReadAgain, frames_of, laced, laced_part, picked, unlaced, unlaced_all};
+ghost use Rattle.dsd_bits.specs.Limits.{most_bits};
 ghost use Rattle.dsd_bits.specs.Packing.{packed};
 
 use crate::bits::Bits;
@@ -16,7 +17,7 @@ use std::simd::prelude::*;
 /// Refusals, in this order: `PartFrame` where the bytes are no whole number of frames, `Memory`.
 pub fn unlace_bytes(alloc: Global, bytes: &[u8], channels: usize) -> Result<Vec<Bits>, LaceFault>
     requires channel_number { (1 ≤ channels) × (channels ≤ 6) }
-    requires in_limit { 8 * (length bytes.now / channels) ≤ 2 ^ 36 }
+    requires in_limit { 8 * (length bytes.now / channels) ≤ most_bits }
     ensures ok { IfOk result (λ made. made.items ≡ unlaced_all bytes.now channels) }
     ensures part_frame { (result ≡ Err LaceFault.PartFrame) ↔ (length bytes.now % channels ≢ 0) }
     ensures no_too_few { result ≢ Err LaceFault.TooFewBytes }
@@ -37,7 +38,7 @@ pub fn unlace_bytes(alloc: Global, bytes: &[u8], channels: usize) -> Result<Vec<
 // Both channels of laced sound bytes.
 fn unlace_two(alloc: Global, bytes: &[u8]) -> Result<Vec<Bits>, AllocError>
     requires whole_frames { length bytes.now % 2 ≡ 0 }
-    requires in_limit { 8 * (length bytes.now / 2) ≤ 2 ^ 36 }
+    requires in_limit { 8 * (length bytes.now / 2) ≤ most_bits }
     ensures { IfOk result (λ made. made.items ≡ unlaced_all bytes.now 2) }
 {
     let frames = bytes.len() / 2;
@@ -123,7 +124,7 @@ fn unlace_channel(
     c: usize,
 ) -> Result<Bits, AllocError>
     requires channel { c < channels }
-    requires in_limit { 8 * (length bytes.now / channels) ≤ 2 ^ 36 }
+    requires in_limit { 8 * (length bytes.now / channels) ≤ most_bits }
     ensures { IfOk result (λ bits. bits ≡ unlaced bytes.now channels c) }
 {
     if channels == 1 {

@@ -15,6 +15,9 @@
 //! its marks, the chunks that it keeps as they are, and its tag. A [`Sound`] says what the sound of a file
 //! is and where its bytes stand, and [`SoundAt`] what the front of the file tells of it.
 //!
+//! [`MOST_BITS`], [`LEAST_RATE`] and [`GREATEST_RATE`] are the limits of a recording, [`BLOCK_BYTES`] and
+//! [`BLOCK_BITS`] the size of a block; contracts have words of the same names (`specs/Limits.antt`).
+//!
 //! The words of the contracts:
 //!
 //! - `unpacked bytes n` is the list of the first `n` bits of some bytes, `packed bits` the bytes of a
@@ -48,6 +51,7 @@ mod blocks;
 mod fault;
 mod lacing;
 mod layouts;
+mod limits;
 mod marks;
 mod packing;
 mod recording;
@@ -55,10 +59,13 @@ mod sound;
 mod turning;
 
 pub use bits::Bits;
-pub use blocks::{BitOrder, lace_blocks, laced_blocks_are_read_again, push_blocks, unlace_blocks};
+pub use blocks::{
+    BitOrder, blocks_size, lace_blocks, laced_blocks_are_read_again, push_blocks, unlace_blocks,
+};
 pub use fault::{BitsFault, LaceFault};
 pub use lacing::{lace_bytes, laced_channels_are_read_again, push_laced, unlace_bytes};
 pub use layouts::{layout_channels, usual_layout};
+pub use limits::{BLOCK_BITS, BLOCK_BYTES, GREATEST_RATE, LEAST_RATE, MOST_BITS};
 pub use marks::{Mark, Other, Place};
 pub use recording::Recording;
 pub use sound::{Sound, SoundAt};

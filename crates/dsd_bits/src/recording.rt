@@ -1,8 +1,9 @@
 //! A recording: its sound, and what is told of it.
 
-ghost use Rattle.std.specs.Prelude.{◌≡◌, ◌^◌, ◌≤◌, map};
+ghost use Rattle.std.specs.Prelude.{◌≡◌, ◌≤◌, map};
 ghost use Rattle.dsd_bits.specs.Channels.{count_of};
 ghost use Rattle.dsd_bits.specs.Contents.{content_of, mark_content, other_content};
+ghost use Rattle.dsd_bits.specs.Limits.{IsRate, most_bits};
 ghost use Rattle.dsd_bits.specs.Shape.{HasShape};
 
 use crate::bits::Bits;
@@ -70,7 +71,7 @@ impl Recording {
     /// Bits a second of each channel, in hertz.
     pub fn rate(&self) -> u32
         ensures value { result ≡ self.now.rate }
-        ensures in_limits { (1000000 ≤ result) × (result ≤ 50000000) }
+        ensures in_limits { IsRate result }
     {
         self.rate
     }
@@ -87,7 +88,7 @@ impl Recording {
     /// How many bits each channel has.
     pub fn count(&self) -> usize
         ensures value { result ≡ count_of self.now.channels }
-        ensures in_limit { result ≤ 2 ^ 36 }
+        ensures in_limit { result ≤ most_bits }
     {
         self.channels[0].len()
     }

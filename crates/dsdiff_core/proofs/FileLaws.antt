@@ -23,7 +23,7 @@ use Rattle.dsdiff_core.specs.Marks.{IsWholeMark, mark_in}
 use Rattle.dsdiff_core.specs.Masters.{masters_of}
 use Rattle.dsdiff_core.specs.Others.{kept}
 use Rattle.dsdiff_core.specs.Properties.{Told, property_of}
-use Rattle.dsdiff_core.specs.Reading.{marks_of, others_of, recording_of}
+use Rattle.dsdiff_core.specs.Reading.{marks_of, others_told, recording_of}
 use Rattle.dsdiff_core.specs.Sounds.{sound_leads, sound_of}
 use Rattle.dsdiff_core.specs.Spans.{data_with, holds_property, span_has}
 use Rattle.dsdiff_core.proofs.FormLaws.{IsTop, top_ok, top_again}
@@ -42,7 +42,7 @@ made_of file top told sound inner = record {
   ids = told.ids;
   layout = usual_layout (length told.ids);
   marks = marks_of file inner;
-  others = others_of file told.parts inner top;
+  others = others_told file told.parts inner top;
   tag = [];
 }
 
@@ -271,7 +271,7 @@ parts_from file r h =
       not_long = subst (λ (n : ℕ). 8 * (length h.sound.content / n) ≤ 2 ^ 36) (sym number) h.not_long;
     } in
     let m = masters_again file top h.masters (rw back h.are_masters) (none_cut_again (joined h.masters) h.whole_marks) in
-    let others_are : others_of file parts m.0 top ≡ r.others = rw (parts_back, m.2, back) (sym h.others) in
+    let others_are : others_told file parts m.0 top ≡ r.others = rw (parts_back, m.2, back) (sym h.others) in
     record {
       top = top;
       at_top = top_again file top (is_top file r h top refl back);

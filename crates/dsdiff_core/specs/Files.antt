@@ -1,5 +1,5 @@
 -- What a file of DSDIFF 1.5 that holds a recording is, in lists of chunks.
-use Rattle.std.specs.Prelude.{◌≡◌, ◌≤◌, ℕ, ◌+◌, ◌*◌, ◌/◌, ◌%◌, ◌^◌, true, ◌||◌, List, [], ◌∷◌, ◌++◌, All, filter, flat_map, length, map, take, drop, slice_range, slice_index}
+use Rattle.std.specs.Prelude.{◌≡◌, ◌≤◌, ℕ, ◌+◌, ◌*◌, ◌/◌, ◌%◌, true, ◌||◌, List, [], ◌∷◌, ◌++◌, All, filter, flat_map, length, map, take, drop, slice_range, slice_index}
 use Rattle.std.specs.List.{AllZip}
 use Rattle.byteorder.specs.Endian.{big_number}
 use Rattle.chunk_core.specs.Chunks.{Chunk, chunks}
@@ -8,6 +8,7 @@ use Rattle.dsd_bits.specs.Contents.{Content}
 use Rattle.dsd_bits.specs.Ids.{FVER, FS, CHNL, CMPR, DSD, DIIN, MARK}
 use Rattle.dsd_bits.specs.Lacing.{unlaced_all}
 use Rattle.dsd_bits.specs.Layouts.{usual_layout}
+use Rattle.dsd_bits.specs.Limits.{most_bits, least_rate, greatest_rate}
 use Rattle.dsdiff_core.specs.Fields.{form_size, form_end, ids_in}
 use Rattle.dsdiff_core.specs.Kinds.{FRM8, has_id, is_property}
 use Rattle.dsdiff_core.specs.Marks.{IsWholeMark, mark_in}
@@ -51,8 +52,8 @@ pub record IsDsdiff (file : List ℕ) (r : Content) : Type 0 where
   -- rate, channels and their names, and no compression
   pub rate_long : 4 ≤ length rates.content
   pub rate : r.rate ≡ big_number 4 rates.content
-  pub rate_low : 1000000 ≤ r.rate
-  pub rate_high : r.rate ≤ 50000000
+  pub rate_low : least_rate ≤ r.rate
+  pub rate_high : r.rate ≤ greatest_rate
   pub number : ℕ
   pub number_is : number ≡ big_number 2 names.content
   pub some_channel : 1 ≤ number
@@ -62,7 +63,7 @@ pub record IsDsdiff (file : List ℕ) (r : Content) : Type 0 where
   pub raw : take 4 kinds.content ≡ DSD
   -- whole frames of sound, one byte of each channel in turn
   pub whole : length sound.content % number ≡ 0
-  pub not_long : 8 * (length sound.content / number) ≤ 2 ^ 36
+  pub not_long : 8 * (length sound.content / number) ≤ most_bits
   pub channels : r.channels ≡ unlaced_all sound.content number
   -- the chunks of each edited master, and the marks among them
   pub masters : List (List Chunk)

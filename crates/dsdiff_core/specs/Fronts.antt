@@ -1,5 +1,5 @@
 -- Where the sound of a file stands, as the front of the file tells.
-use Rattle.std.specs.Prelude.{◌≡◌, ◌≤◌, ℕ, zero, suc, ◌+◌, ◌*◌, ◌/◌, ◌%◌, ◌^◌, ◌-◌, min, Bool, true, false, ◌&&◌, ◌||◌, not, List, [], ◌∷◌, filter, length, map, take, drop, slice_range, Option, Some, None, Result, Ok, Err, nat_eq, nat_lt, if◌then◌else◌}
+use Rattle.std.specs.Prelude.{◌≡◌, ◌≤◌, ℕ, zero, suc, ◌+◌, ◌*◌, ◌/◌, ◌%◌, ◌-◌, min, Bool, true, false, ◌&&◌, ◌||◌, not, List, [], ◌∷◌, filter, length, map, take, drop, slice_range, Option, Some, None, Result, Ok, Err, nat_eq, nat_lt, if◌then◌else◌}
 use Rattle.byteorder.specs.Endian.{big_number}
 use Rattle.chunk_core.specs.declared.fault.ChunkFault.TheVariants.{DataCut}
 use Rattle.chunk_core.specs.declared.layout.Span.{Span}
@@ -12,6 +12,7 @@ use Rattle.dsd_bits.specs.declared.sound.SoundAt.{SoundAt}
 use Rattle.dsd_bits.specs.declared.sound.SoundAt.TheVariants.{More, Refused, Found}
 use Rattle.dsd_bits.specs.Contents.{Content}
 use Rattle.dsd_bits.specs.Ids.{same_id, FVER, DSD}
+use Rattle.dsd_bits.specs.Limits.{most_bits}
 use Rattle.dsdiff_core.specs.declared.fault.DsdiffFault.{DsdiffFault}
 use Rattle.dsdiff_core.specs.declared.fault.DsdiffFault.TheVariants.{NotDsdiff, FormCut, Chunk as ChunkFails, NoSound, PartFrame, TooLong}
 use Rattle.dsdiff_core.specs.Fields.{form_size}
@@ -73,7 +74,7 @@ form_of front =
 abbrev pub frames_of : ℕ → ℕ → Result (Unit {0}) DsdiffFault
 frames_of size number =
     if not (nat_eq (size % number) 0) then Err PartFrame
-    else if nat_lt (2 ^ 36) (8 * (size / number)) then Err TooLong
+    else if nat_lt most_bits (8 * (size / number)) then Err TooLong
     else Ok tt
 
 -- the sound of this rate, channel number and size whose head stands at a place

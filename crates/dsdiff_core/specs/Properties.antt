@@ -5,6 +5,7 @@ use Rattle.chunk_core.specs.declared.layout.Span.{Span}
 use Rattle.chunk_core.specs.Reading.{spans_in}
 use Rattle.chunk_core.specs.Steps.{◌>>=◌}
 use Rattle.dsd_bits.specs.Ids.{same_id, FS, CHNL, CMPR, DSD}
+use Rattle.dsd_bits.specs.Limits.{least_rate, greatest_rate}
 use Rattle.dsdiff_core.specs.declared.fault.DsdiffFault.{DsdiffFault}
 use Rattle.dsdiff_core.specs.declared.fault.DsdiffFault.TheVariants.{NoProperty, NoRate, NoChannels, NoCompression, Compressed, BadRate, BadChannelNumber}
 use Rattle.dsdiff_core.specs.declared.property.SoundProperty.{SoundProperty}
@@ -46,8 +47,8 @@ raw_of (Some bytes) =
 -- rate and channel number lie in their limits
 abbrev pub limits_of : ℕ → ℕ → Result (Unit {0}) DsdiffFault
 limits_of rate number =
-    if nat_lt rate 1000000 then Err BadRate
-    else if nat_lt 50000000 rate then Err BadRate
+    if nat_lt rate least_rate then Err BadRate
+    else if nat_lt greatest_rate rate then Err BadRate
     else if nat_lt number 1 then Err BadChannelNumber
     else if nat_lt 6 number then Err BadChannelNumber
     else Ok tt

@@ -23,8 +23,8 @@ abbrev pub marks_of : List ℕ → List Span → List MarkContent
 marks_of file inner = map mark_in (filter (has_id MARK) (map (span_chunk file) inner))
 
 -- what is kept of the chunks of the sound property, of the edited masters and of the form
-abbrev pub others_of : List ℕ → List Span → List Span → List Span → List OtherContent
-others_of file parts inner top =
+abbrev pub others_told : List ℕ → List Span → List Span → List Span → List OtherContent
+others_told file parts inner top =
     kept Property (map (span_chunk file) parts) ++ (kept Master (map (span_chunk file) inner) ++ kept Form (map (span_chunk file) top))
 
 -- the recording in a file, or the first fault
@@ -40,6 +40,6 @@ recording_of file = do
     ids = told.ids;
     layout = usual_layout (length told.ids);
     marks = marks_of file inner;
-    others = others_of file told.parts inner top;
+    others = others_told file told.parts inner top;
     tag = [];
   })

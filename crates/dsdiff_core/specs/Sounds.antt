@@ -1,7 +1,8 @@
 -- The sound among the form's chunks.
-use Rattle.std.specs.Prelude.{ℕ, ◌*◌, ◌/◌, ◌%◌, ◌^◌, Bool, true, false, not, List, [], ◌∷◌, length, Option, Some, None, Result, Ok, Err, nat_eq, nat_lt, if◌then◌else◌}
+use Rattle.std.specs.Prelude.{ℕ, ◌*◌, ◌/◌, ◌%◌, Bool, true, false, not, List, [], ◌∷◌, length, Option, Some, None, Result, Ok, Err, nat_eq, nat_lt, if◌then◌else◌}
 use Rattle.chunk_core.specs.Chunks.{Chunk}
 use Rattle.dsd_bits.specs.Ids.{DSD}
+use Rattle.dsd_bits.specs.Limits.{most_bits}
 use Rattle.dsdiff_core.specs.declared.fault.DsdiffFault.{DsdiffFault}
 use Rattle.dsdiff_core.specs.declared.fault.DsdiffFault.TheVariants.{NoSound, SoundBeforeProperty, PartFrame, TooLong}
 use Rattle.dsdiff_core.specs.Kinds.{has_id, is_property}
@@ -17,5 +18,5 @@ sound_of leads None number = Err NoSound
 sound_of leads (Some bytes) number =
     if leads then Err SoundBeforeProperty
     else if not (nat_eq (length bytes % number) 0) then Err PartFrame
-    else if nat_lt (2 ^ 36) (8 * (length bytes / number)) then Err TooLong
+    else if nat_lt most_bits (8 * (length bytes / number)) then Err TooLong
     else Ok bytes

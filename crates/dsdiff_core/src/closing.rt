@@ -11,8 +11,7 @@ ghost use Rattle.dsdiff_core.specs.Steps.{Gives};
 use crate::fault::DsdiffFault;
 use crate::masters::master_chunks;
 use crate::spans::is_sound_property;
-use byteorder::{BigEndian, ByteOrder};
-use chunk_core::{Span, walk};
+use chunk_core::{Order, Span, u64_at, walk};
 use std::alloc::{AllocError, Global};
 
 /// How many bytes of the form stand behind the sound of a file that begins with `front`, which ends where the
@@ -99,8 +98,7 @@ fn size_at(front: &[u8], at: usize) -> u64
     requires { at + 12 ≤ length front.now }
     ensures { result ≡ size_at front.now at }
 {
-    let (_, number) = front.split_at(at + 4);
-    BigEndian::read_u64(number)
+    u64_at(Order::Big, front, at + 4)
 }
 
 // Whether no chunk is a version, a sound property or a sound.

@@ -10,7 +10,7 @@ ghost use Rattle.dsdiff_core.specs.Steps.{Gives};
 use crate::fault::DsdiffFault;
 use crate::once::refuse_second_in_form;
 use crate::spans::data_of;
-use chunk_core::{Order, Span, head, walk};
+use chunk_core::{Order, Span, head, id_at, walk};
 use std::alloc::Global;
 
 /// The chunks of the form: the first is a version 1, and none is a second version, sound property or
@@ -58,11 +58,7 @@ fn form_end(file: &[u8]) -> Result<usize, DsdiffFault>
     let Some(form) = head(Order::Big, file, 0) else {
         return Err(DsdiffFault::NotDsdiff);
     };
-    let (_, behind_head) = file.split_at(12);
-    let (name, _) = behind_head.split_at(4);
-    let mut kind = [0; 4];
-    kind.copy_from_slice(name);
-    if form.id != *b"FRM8" || kind != *b"DSD " {
+    if form.id != *b"FRM8" || id_at(file, 12) != *b"DSD " {
         return Err(DsdiffFault::NotDsdiff);
     }
     if form.size < 4 || ((file.len() - 11) as u64) < form.size {

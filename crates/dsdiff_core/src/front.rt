@@ -13,8 +13,8 @@ ghost use Rattle.dsdiff_core.specs.Steps.{Gives};
 use crate::fault::DsdiffFault;
 use crate::form::leading_chunks;
 use crate::property::read_property;
-use chunk_core::{ChunkFault, Order, head};
-use dsd_bits::{Sound, SoundAt};
+use chunk_core::{ChunkFault, Order, head, id_at};
+use dsd_bits::{MOST_BITS, Sound, SoundAt};
 use std::alloc::{AllocError, Global};
 
 /// Where the sound of a DSDIFF 1.5 file stands, and what it is, told by the front of the file alone:
@@ -74,11 +74,7 @@ fn form_size(front: &[u8]) -> Result<u64, DsdiffFault>
     let Some(form) = head(Order::Big, front, 0) else {
         return Err(DsdiffFault::NotDsdiff);
     };
-    let (_, behind_head) = front.split_at(12);
-    let (name, _) = behind_head.split_at(4);
-    let mut kind = [0; 4];
-    kind.copy_from_slice(name);
-    if form.id != *b"FRM8" || kind != *b"DSD " {
+    if form.id != *b"FRM8" || id_at(front, 12) != *b"DSD " {
         return Err(DsdiffFault::NotDsdiff);
     }
     if form.size < 4 {
@@ -145,7 +141,7 @@ fn check_frames(size: u64, number: usize) -> Result<(), DsdiffFault>
     if size % number as u64 != 0 {
         return Err(DsdiffFault::PartFrame);
     }
-    if (1 << 36) / 8 < size / number as u64 {
+    if size / number as u64 > (MOST_BITS / 8) as u64 {
         return Err(DsdiffFault::TooLong);
     }
     Ok(())

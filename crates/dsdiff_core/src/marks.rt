@@ -1,7 +1,6 @@
 //! The marks of the edited masters.
 
-ghost use Rattle.std.specs.Prelude.{◌≡◌, ◌≤◌, ◌<◌, ◌+◌, ◌^◌, All, IfOk, drop, length, map, true};
-ghost use Rattle.byteorder.specs.Endian.{big_number};
+ghost use Rattle.std.specs.Prelude.{◌≡◌, ◌≤◌, ◌<◌, ◌+◌, ◌^◌, All, IfOk, length, map, true};
 ghost use Rattle.chunk_core.specs.Places.{span_chunk};
 ghost use Rattle.dsd_bits.specs.Contents.{mark_content};
 ghost use Rattle.dsdiff_core.specs.Marks.{mark_of_bytes, text_size};
@@ -10,10 +9,13 @@ ghost use Rattle.dsdiff_core.specs.Reading.{marks_of};
 ghost use Rattle.dsdiff_core.specs.Spans.{StandsIn};
 
 use crate::spans::data_of;
-use byteorder::{BigEndian, ByteOrder};
-use chunk_core::Span;
+use chunk_core::Order::Big;
+use chunk_core::{Span, u16_at, u32_at};
 use dsd_bits::Mark;
 use std::alloc::{AllocError, Global};
+
+/// How many bytes the fields of a mark have, before its text.
+pub(crate) const MARK_FIELDS: usize = 22;
 
 /// The marks among the chunks of the edited masters.
 pub(crate) fn read_marks(
@@ -42,35 +44,27 @@ fn read_mark(alloc: Global, bytes: &[u8]) -> Result<Mark, AllocError>
     ensures mark { IfOk result (λ mark. mark_content mark ≡ mark_of_bytes bytes.now) }
     ensures short { IfOk result (λ mark. length mark.text.items < 2 ^ 32) }
 {
-    let size = u32_at(bytes, 18) as usize;
-    let (_, behind) = bytes.split_at(22);
+    let size = text_size(bytes) as usize;
+    let (_, behind) = bytes.split_at(MARK_FIELDS);
     let (text, _) = behind.split_at(size);
     let text = Vec::from_slice(alloc, text)?;
     Ok(Mark {
-        hours: u16_at(bytes, 0),
+        hours: u16_at(Big, bytes, 0),
         minutes: bytes[2],
         seconds: bytes[3],
-        samples: u32_at(bytes, 4),
-        offset: u32_at(bytes, 8).cast_signed(),
-        kind: u16_at(bytes, 12),
-        channel: u16_at(bytes, 14),
-        flags: u16_at(bytes, 16),
+        samples: u32_at(Big, bytes, 4),
+        offset: u32_at(Big, bytes, 8).cast_signed(),
+        kind: u16_at(Big, bytes, 12),
+        channel: u16_at(Big, bytes, 14),
+        flags: u16_at(Big, bytes, 16),
         text,
     })
 }
 
-fn u16_at(bytes: &[u8], at: usize) -> u16
-    requires { at + 2 ≤ length bytes.now }
-    ensures { result ≡ big_number 2 (drop at bytes.now) }
+/// How many bytes of text the fields of a mark name.
+pub(crate) fn text_size(bytes: &[u8]) -> u32
+    requires { 22 ≤ length bytes.now }
+    ensures { result ≡ text_size bytes.now }
 {
-    let (_, here) = bytes.split_at(at);
-    BigEndian::read_u16(here)
-}
-
-fn u32_at(bytes: &[u8], at: usize) -> u32
-    requires { at + 4 ≤ length bytes.now }
-    ensures { result ≡ big_number 4 (drop at bytes.now) }
-{
-    let (_, here) = bytes.split_at(at);
-    BigEndian::read_u32(here)
+    u32_at(Big, bytes, 18)
 }

@@ -7,8 +7,8 @@ ghost use Rattle.dsdiff_core.specs.Spans.{StandsIn};
 ghost use Rattle.dsdiff_core.specs.Steps.{Gives};
 
 use crate::fault::DsdiffFault;
+use crate::marks::{MARK_FIELDS, text_size};
 use crate::spans::data_of;
-use byteorder::{BigEndian, ByteOrder};
 use chunk_core::{Span, walk};
 use std::alloc::Global;
 
@@ -68,9 +68,8 @@ fn is_cut_mark(file: &[u8], span: Span) -> bool
         return false;
     }
     let data = data_of(file, span);
-    if data.len() < 22 {
+    if data.len() < MARK_FIELDS {
         return true;
     }
-    let (_, count) = data.split_at(18);
-    data.len() - 22 < BigEndian::read_u32(count) as usize
+    data.len() - MARK_FIELDS < text_size(data) as usize
 }

@@ -5,7 +5,7 @@ ghost use Rattle.chunk_core.specs.Places.{span_chunk};
 ghost use Rattle.dsd_bits.specs.Contents.{other_content};
 ghost use Rattle.dsd_bits.specs.Shape.{has_part};
 ghost use Rattle.dsdiff_core.specs.Others.{kept};
-ghost use Rattle.dsdiff_core.specs.Reading.{others_of};
+ghost use Rattle.dsdiff_core.specs.Reading.{others_told};
 ghost use Rattle.dsdiff_core.specs.Spans.{StandsIn};
 
 use crate::spans::{data_of, is_sound_property};
@@ -24,7 +24,7 @@ pub(crate) fn kept_chunks(
     requires parts { All (StandsIn file.now) parts.now }
     requires inner { All (StandsIn file.now) inner.now }
     requires top { All (StandsIn file.now) top.now }
-    ensures { IfOk result (λ v. map other_content v.items ≡ others_of file.now parts.now inner.now top.now) }
+    ensures { IfOk result (λ v. map other_content v.items ≡ others_told file.now parts.now inner.now top.now) }
 {
     let mut others = Vec::new(alloc);
     push_kept(alloc, &mut others, Place::Property, file, parts)?;

@@ -1,7 +1,8 @@
 //! Where marks are.
 
-ghost use Rattle.std.specs.Prelude.{◌≡◌, ◌≤◌, ◌^◌, IfOk};
+ghost use Rattle.std.specs.Prelude.{◌≡◌, ◌≤◌, IfOk};
 ghost use Rattle.dsd_bits.specs.Contents.{mark_content};
+ghost use Rattle.dsd_bits.specs.Limits.{IsRate, most_bits};
 ghost use Rattle.dsdiff_core.specs.MarkPlaces.{IsAt, place_of, title_mark};
 
 use dsd_bits::Mark;
@@ -31,8 +32,8 @@ pub fn place(mark: &Mark, rate: u32) -> i64
 ///
 /// It is refused only for want of memory.
 pub fn mark_at(alloc: Global, pos: usize, rate: u32, text: &[u8]) -> Result<Mark, AllocError>
-    requires pos { pos ≤ 2 ^ 36 }
-    requires rate { (1000000 ≤ rate) × (rate ≤ 50000000) }
+    requires pos { pos ≤ most_bits }
+    requires rate { IsRate rate }
     ensures made { IfOk result (λ mark. mark_content mark ≡ title_mark pos rate text.now) }
     ensures place { IfOk result (λ mark. IsAt (mark_content mark) rate pos) }
 {

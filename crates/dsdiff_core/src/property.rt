@@ -1,6 +1,7 @@
 //! The property of the sound: its rate, its channels and that it is not compressed.
 
 ghost use Rattle.std.specs.Prelude.{◌≡◌, ◌≤◌, ◌<◌, ◌*◌, All, IfOk, length, option_map};
+ghost use Rattle.dsd_bits.specs.Limits.{IsRate};
 ghost use Rattle.dsdiff_core.specs.Fields.{ids_in};
 ghost use Rattle.dsdiff_core.specs.Properties.{fields_of, limits_of, names_of, property_of, rate_of, raw_of, told_of};
 ghost use Rattle.dsdiff_core.specs.Spans.{StandsIn};
@@ -9,8 +10,8 @@ ghost use Rattle.dsdiff_core.specs.Steps.{Gives};
 use crate::fault::DsdiffFault;
 use crate::once::refuse_second_in_property;
 use crate::spans::{data_with, first_sound_property};
-use byteorder::{BigEndian, ByteOrder};
-use chunk_core::{Span, walk};
+use chunk_core::{Order, Span, id_at, u16_at, u32_at, walk};
+use dsd_bits::{GREATEST_RATE, LEAST_RATE};
 use std::alloc::Global;
 
 /// What the property of the sound tells.
@@ -34,7 +35,7 @@ pub(crate) fn read_property(
     requires { All (StandsIn file.now) top.now }
     ensures exact { Gives told_of result (property_of file.now top.now) }
     ensures inside { IfOk result (λ p. All (StandsIn file.now) p.parts.items) }
-    ensures rate { IfOk result (λ p. (1000000 ≤ p.rate) × (p.rate ≤ 50000000)) }
+    ensures rate { IfOk result (λ p. IsRate p.rate) }
     ensures number { IfOk result (λ p. (1 ≤ length p.ids.items) × (length p.ids.items ≤ 6)) }
 {
     let Some(property) = first_sound_property(file, top) else {
@@ -65,7 +66,7 @@ fn read_fields(
     kinds: Option<&[u8]>,
 ) -> Result<(u32, Vec<[u8; 4]>), DsdiffFault>
     ensures exact { Gives (λ x. (x.0, x.1.items)) result (fields_of (option_map (λ x. x.now) rates.entry) (option_map (λ x. x.now) names.entry) (option_map (λ x. x.now) kinds.entry)) }
-    ensures rate { IfOk result (λ x. (1000000 ≤ x.0) × (x.0 ≤ 50000000)) }
+    ensures rate { IfOk result (λ x. IsRate x.0) }
     ensures number { IfOk result (λ x. (1 ≤ length x.1.items) × (length x.1.items ≤ 6)) }
 {
     let rate = read_rate(rates)?;
@@ -85,7 +86,7 @@ fn read_rate(bytes: Option<&[u8]>) -> Result<u32, DsdiffFault>
     if bytes.len() < 4 {
         return Err(DsdiffFault::NoRate);
     }
-    Ok(BigEndian::read_u32(bytes))
+    Ok(u32_at(Order::Big, bytes, 0))
 }
 
 // The channel number, and the bytes of the IDs and behind them.
@@ -99,7 +100,7 @@ fn read_names(bytes: Option<&[u8]>) -> Result<(u16, &[u8]), DsdiffFault>
     if bytes.len() < 2 {
         return Err(DsdiffFault::NoChannels);
     }
-    let number = BigEndian::read_u16(bytes);
+    let number = u16_at(Order::Big, bytes, 0);
     if bytes.len() < 2 + 4 * number as usize {
         return Err(DsdiffFault::NoChannels);
     }
@@ -117,10 +118,7 @@ fn refuse_compression(bytes: Option<&[u8]>) -> Result<(), DsdiffFault>
     if bytes.len() < 4 {
         return Err(DsdiffFault::NoCompression);
     }
-    let (name, _) = bytes.split_at(4);
-    let mut kind = [0; 4];
-    kind.copy_from_slice(name);
-    if kind == *b"DSD " {
+    if id_at(bytes, 0) == *b"DSD " {
         Ok(())
     } else {
         Err(DsdiffFault::Compressed)
@@ -129,10 +127,10 @@ fn refuse_compression(bytes: Option<&[u8]>) -> Result<(), DsdiffFault>
 
 fn check_limits(rate: u32, number: u16) -> Result<(), DsdiffFault>
     ensures exact { Gives (λ _. tt) result (limits_of rate number) }
-    ensures rate { IfOk result (λ _. (1000000 ≤ rate) × (rate ≤ 50000000)) }
+    ensures rate { IfOk result (λ _. IsRate rate) }
     ensures number { IfOk result (λ _. (1 ≤ number) × (number ≤ 6)) }
 {
-    if rate < 1_000_000 || 50_000_000 < rate {
+    if rate < LEAST_RATE || GREATEST_RATE < rate {
         return Err(DsdiffFault::BadRate);
     }
     if number < 1 || 6 < number {
@@ -148,11 +146,7 @@ fn read_ids(alloc: Global, number: u16, bytes: &[u8]) -> Result<Vec<[u8; 4]>, Ds
 {
     let mut ids = Vec::new(alloc);
     for k in 0..number as usize {
-        let mut id = [0; 4];
-        let (_, rest) = bytes.split_at(4 * k);
-        let (front, _) = rest.split_at(4);
-        id.copy_from_slice(front);
-        ids.push(id)?;
+        ids.push(id_at(bytes, 4 * k))?;
     }
     Ok(ids)
 }

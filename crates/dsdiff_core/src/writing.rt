@@ -16,8 +16,7 @@ ghost use Rattle.dsdiff_core.specs.Writing.{channels_chunk, dsdiff_text, first_b
 
 use crate::write_fault::WriteFault;
 use crate::writing_laws::written_is_read_again;
-use byteorder::{BigEndian, ByteOrder};
-use chunk_core::{Order, push_chunk, push_u16, push_u32, push_u64};
+use chunk_core::{Order, push_chunk, push_u16, push_u32, push_u64, u64_bytes};
 use dsd_bits::{Bits, Mark, Other, Place, Recording, push_laced};
 use std::alloc::{AllocError, Global};
 
@@ -66,7 +65,8 @@ fn set_form_size(form: &mut Vec<u8>)
 {
     let size = (form.len() - 12) as u64;
     let (_, rest) = form.as_mut_slice().split_at_mut(4);
-    BigEndian::write_u64(rest, size);
+    let (number, _) = rest.split_at_mut(8);
+    number.copy_from_slice(&u64_bytes(Order::Big, size));
 }
 
 // The head of the form, its size still zero, its type, and the chunks before the sound.

@@ -9,7 +9,8 @@ use Rattle.dsd_bits.specs.Contents.{Content}
 use Rattle.dsd_bits.specs.Ids.{same_id, DSD}
 use Rattle.dsf_core.specs.declared.fault.DsfFault.{DsfFault}
 use Rattle.dsf_core.specs.declared.fault.DsfFault.TheVariants.{BadPointer, DataCut}
-use Rattle.dsf_core.specs.Fields.{id_at, FMT, DATA, first_size, pointer, format_size, version, format, channel_number, rate, bits_per_sample, count, block_size, data_place, data_size, needed, sound_end, tag_told}
+use Rattle.chunk_core.specs.Numbers.{id_at}
+use Rattle.dsf_core.specs.Fields.{FMT, DATA, first_size, pointer, format_size, version, format, channel_number, rate, bits_per_sample, count, block_size, data_place, data_size, needed, sound_end, tag_told}
 use Rattle.dsf_core.specs.Files.{bits_of, IsDsf}
 use Rattle.dsf_core.specs.Fronts.{HoldsHead}
 use Rattle.dsf_core.specs.Reading.{chunks_of, order_of, order_told, sound_of, tag_of, told, recording_of}

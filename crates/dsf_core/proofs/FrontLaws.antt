@@ -21,7 +21,8 @@ use Rattle.dsd_bits.specs.Ids.{same_id, DSD}
 use Rattle.dsf_core.specs.declared.fault.DsfFault.{DsfFault}
 use Rattle.dsf_core.specs.declared.fault.DsfFault.TheVariants as faults
 use Rattle.dsf_core.specs.declared.fault.DsfFault.TheVariants.{HeadCut, DataCut}
-use Rattle.dsf_core.specs.Fields.{id_at, u64_at, FMT, DATA, first_size, pointer, format_size, version, format, channel_number, rate, bits_per_sample, count, block_size, data_place, data_size, sound_place, needed, tag_told}
+use Rattle.chunk_core.specs.Numbers.{id_at}
+use Rattle.dsf_core.specs.Fields.{u64_at, FMT, DATA, first_size, pointer, format_size, version, format, channel_number, rate, bits_per_sample, count, block_size, data_place, data_size, sound_place, needed, tag_told}
 use Rattle.dsf_core.specs.Files.{IsDsf}
 use Rattle.dsf_core.specs.Fronts.{HoldsHead, IsAccepted, EndsAtSound, answer_of, sound_told, sound_in, sound_at}
 use Rattle.dsf_core.specs.Laws.{SoundDoesNotMatter, SoundEndsFront}

@@ -8,22 +8,17 @@ use Rattle.std.specs.Int.{div_ceil}
 use Rattle.byteorder.specs.Numbers.{little_number-reads_back}
 use Rattle.dsd_bits.specs.declared.blocks.BitOrder.{BitOrder}
 use Rattle.dsd_bits.specs.declared.blocks.BitOrder.TheVariants.{LeastFirst, MostFirst}
-use Rattle.byteorder.specs.Endian.{little_bytes}
 use Rattle.dsd_bits.specs.Blocks.{BlocksReadAgain, block_byte, blocked, blocks_size, unblocked_all}
 use Rattle.dsd_bits.specs.Channels.{count_of}
-use Rattle.dsd_bits.specs.Ids.{DSD}
 use Rattle.dsd_bits.specs.Layouts.{layout_channels}
-use Rattle.dsf_core.specs.Fields.{FMT, DATA, pointer, data_size, channel_type, channel_number, rate, bits_per_sample, count, needed, sound_end, dsf_ids, tag_told}
+use Rattle.dsf_core.specs.Fields.{pointer, data_size, channel_type, channel_number, rate, bits_per_sample, count, needed, sound_end, dsf_ids, tag_told}
 use Rattle.dsf_core.specs.Files.{bits_of}
 use Rattle.dsf_core.specs.ReadAgain.{WrittenReadAgain}
-use Rattle.dsf_core.specs.Writing.{sound_size, tag_place, head_text, dsf_text}
+use Rattle.dsf_core.specs.Writing.{sound_size, tag_place, first_text, format_text, data_text, head_text, dsf_text}
 
 -- the 92 bytes before the sound, of these numbers
 abbrev dsf_head : ℕ → ℕ → ℕ → ℕ → ℕ → ℕ → ℕ → ℕ → List ℕ
-dsf_head total pointer layout number rate bits count size =
-    DSD ++ (little_bytes 8 28 ++ (little_bytes 8 total ++ little_bytes 8 pointer))
-    ++ (FMT ++ (little_bytes 8 52 ++ (little_bytes 4 1 ++ (little_bytes 4 0 ++ (little_bytes 4 layout ++ (little_bytes 4 number ++ (little_bytes 4 rate ++ (little_bytes 4 bits ++ (little_bytes 8 count ++ (little_bytes 4 4096 ++ little_bytes 4 0)))))))))
-    ++ (DATA ++ little_bytes 8 size))
+dsf_head total pointer layout number rate bits count size = first_text total pointer ++ (format_text layout number rate bits count ++ data_text size)
 
 -- the fields that are not the same in every file
 record HeadReads (file : List ℕ) (p l n ra b c s : ℕ) : Type 0 where

@@ -1,21 +1,18 @@
 -- The fields of a DSF 1.01 file at their offsets. Numbers have the lowest byte first, and the size of a chunk counts the 12 bytes of its head.
-use Rattle.std.specs.Prelude.{ℕ, ◌+◌, List, [], ◌∷◌, ◌++◌, codes, map, take, drop, nat_eq, if◌then◌else◌}
+use Rattle.std.specs.Prelude.{ℕ, ◌+◌, List, [], ◌∷◌, ◌++◌, codes, map, drop, nat_eq, if◌then◌else◌}
 use Rattle.std.specs.List.{range_with_len}
-use Rattle.byteorder.specs.Endian.{little_number}
+use Rattle.chunk_core.specs.declared.numbers.Order.TheVariants.{Little}
+use Rattle.chunk_core.specs.Numbers.{number_at}
 use Rattle.dsd_bits.specs.Blocks.{blocks_size}
 use Rattle.dsd_bits.specs.Layouts.{layout_channels, usual_layout}
 
--- the ID at an offset
-abbrev pub id_at : List ℕ → ℕ → List ℕ
-id_at file at = take 4 (drop at file)
-
 -- the number of four bytes at an offset
 abbrev pub u32_at : List ℕ → ℕ → ℕ
-u32_at file at = little_number 4 (drop at file)
+u32_at file at = number_at Little 4 file at
 
 -- the number of eight bytes at an offset
 abbrev pub u64_at : List ℕ → ℕ → ℕ
-u64_at file at = little_number 8 (drop at file)
+u64_at file at = number_at Little 8 file at
 
 -- ---- the first chunk
 

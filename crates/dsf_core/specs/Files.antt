@@ -1,11 +1,13 @@
 -- What a file of DSF 1.01 that holds a recording is, field by field.
-use Rattle.std.specs.Prelude.{◌≡◌, ◌≤◌, ℕ, ◌-◌, ◌^◌, ◌⊎◌, List, [], length, drop}
+use Rattle.std.specs.Prelude.{◌≡◌, ◌≤◌, ℕ, ◌-◌, ◌⊎◌, List, [], length, drop}
+use Rattle.chunk_core.specs.Numbers.{id_at}
 use Rattle.dsd_bits.specs.declared.blocks.BitOrder.{BitOrder}
 use Rattle.dsd_bits.specs.declared.blocks.BitOrder.TheVariants.{LeastFirst, MostFirst}
 use Rattle.dsd_bits.specs.Blocks.{unblocked_all}
 use Rattle.dsd_bits.specs.Contents.{Content}
 use Rattle.dsd_bits.specs.Ids.{DSD}
-use Rattle.dsf_core.specs.Fields.{id_at, FMT, DATA, first_size, pointer, format_size, version, format, channel_type, channel_number, rate, bits_per_sample, count, block_size, data_place, data_size, sound_place, needed, sound_end, layout_told, dsf_ids, tag_told}
+use Rattle.dsd_bits.specs.Limits.{most_bits, least_rate, greatest_rate, block_bytes}
+use Rattle.dsf_core.specs.Fields.{FMT, DATA, first_size, pointer, format_size, version, format, channel_type, channel_number, rate, bits_per_sample, count, block_size, data_place, data_size, sound_place, needed, sound_end, layout_told, dsf_ids, tag_told}
 
 -- the bits per sample that tell an order
 abbrev pub bits_of : BitOrder → ℕ
@@ -26,11 +28,11 @@ pub record IsDsf (file : List ℕ) (r : Content) (order : BitOrder) : Type 0 whe
   pub format_is : format file ≡ 0
   pub some_channel : 1 ≤ channel_number file
   pub six_channels : channel_number file ≤ 6
-  pub rate_low : 1000000 ≤ rate file
-  pub rate_high : rate file ≤ 50000000
+  pub rate_low : least_rate ≤ rate file
+  pub rate_high : rate file ≤ greatest_rate
   pub order_is : bits_per_sample file ≡ bits_of order
-  pub block_is : block_size file ≡ 4096
-  pub not_long : count file ≤ 2 ^ 36
+  pub block_is : block_size file ≡ block_bytes
+  pub not_long : count file ≤ most_bits
   -- the needed sound bytes stand in the data chunk and in the file, and the tag behind them
   pub in_chunk : needed file ≤ data_size file - 12
   pub in_file : sound_end file ≤ length file

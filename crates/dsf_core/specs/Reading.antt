@@ -1,14 +1,16 @@
 -- Reading a file in a fixed order, to a recording or the first fault.
-use Rattle.std.specs.Prelude.{ℕ, ◌+◌, ◌-◌, ◌^◌, ◌&&◌, not, List, [], length, drop, Result, Ok, Err, nat_eq, nat_lt, if◌then◌else◌}
+use Rattle.std.specs.Prelude.{ℕ, ◌+◌, ◌-◌, ◌&&◌, not, List, [], length, drop, Result, Ok, Err, nat_eq, nat_lt, if◌then◌else◌}
+use Rattle.chunk_core.specs.Numbers.{id_at}
 use Rattle.chunk_core.specs.Steps.{◌>>=◌}
 use Rattle.dsd_bits.specs.declared.blocks.BitOrder.{BitOrder}
 use Rattle.dsd_bits.specs.declared.blocks.BitOrder.TheVariants.{LeastFirst, MostFirst}
 use Rattle.dsd_bits.specs.Blocks.{unblocked_all}
 use Rattle.dsd_bits.specs.Contents.{Content}
 use Rattle.dsd_bits.specs.Ids.{same_id, DSD}
+use Rattle.dsd_bits.specs.Limits.{most_bits, least_rate, greatest_rate, block_bytes}
 use Rattle.dsf_core.specs.declared.fault.DsfFault.{DsfFault}
 use Rattle.dsf_core.specs.declared.fault.DsfFault.TheVariants.{NotDsf, HeadCut, BadFormat, BadVersion, BadChannelNumber, BadRate, BadBits, BadBlock, TooLong, DataCut, BadPointer}
-use Rattle.dsf_core.specs.Fields.{id_at, FMT, DATA, first_size, pointer, format_size, version, format, channel_type, channel_number, rate, bits_per_sample, count, block_size, data_place, data_size, sound_place, needed, sound_end, layout_told, dsf_ids}
+use Rattle.dsf_core.specs.Fields.{FMT, DATA, first_size, pointer, format_size, version, format, channel_type, channel_number, rate, bits_per_sample, count, block_size, data_place, data_size, sound_place, needed, sound_end, layout_told, dsf_ids}
 
 -- where the data chunk stands, behind the other two
 unfoldable pub chunks_of : List ℕ → Result ℕ DsfFault
@@ -31,11 +33,11 @@ order_told version number rate bits block count =
     if not (nat_eq version 1) then Err BadVersion
     else if nat_lt number 1 then Err BadChannelNumber
     else if nat_lt 6 number then Err BadChannelNumber
-    else if nat_lt rate 1000000 then Err BadRate
-    else if nat_lt 50000000 rate then Err BadRate
+    else if nat_lt rate least_rate then Err BadRate
+    else if nat_lt greatest_rate rate then Err BadRate
     else if not (nat_eq bits 1) && not (nat_eq bits 8) then Err BadBits
-    else if not (nat_eq block 4096) then Err BadBlock
-    else if nat_lt (2 ^ 36) count then Err TooLong
+    else if not (nat_eq block block_bytes) then Err BadBlock
+    else if nat_lt most_bits count then Err TooLong
     else Ok (if nat_eq bits 1 then LeastFirst else MostFirst)
 
 -- the order of the bits, where the fields lie in their limits

@@ -6,6 +6,7 @@ use Rattle.dsd_bits.specs.Blocks.{blocked, blocks_size}
 use Rattle.dsd_bits.specs.Channels.{count_of}
 use Rattle.dsd_bits.specs.Contents.{Content}
 use Rattle.dsd_bits.specs.Ids.{DSD}
+use Rattle.dsd_bits.specs.Limits.{block_bytes}
 use Rattle.dsf_core.specs.Fields.{FMT, DATA}
 use Rattle.dsf_core.specs.Files.{bits_of}
 
@@ -18,23 +19,25 @@ abbrev pub tag_place : Content → ℕ
 tag_place r = if nat_eq (length r.tag) 0 then 0 else 92 + sound_size r
 
 -- the first chunk: its size, the file's, and where the tag stands
-abbrev pub first_text : Content → List ℕ
-first_text r = DSD ++ (little_bytes 8 28 ++ (little_bytes 8 (92 + sound_size r + length r.tag) ++ little_bytes 8 (tag_place r)))
+abbrev pub first_text : ℕ → ℕ → List ℕ
+first_text total pointer = DSD ++ (little_bytes 8 28 ++ (little_bytes 8 total ++ little_bytes 8 pointer))
 
 -- the format chunk: its size, version 1, raw sound, the layout, the channel number, the rate, the bits per sample, the count, the block size, and four bytes that mean nothing
-abbrev pub format_text : Content → BitOrder → List ℕ
-format_text r order =
+abbrev pub format_text : ℕ → ℕ → ℕ → ℕ → ℕ → List ℕ
+format_text layout number rate bits count =
     FMT ++ (little_bytes 8 52 ++ (little_bytes 4 1 ++ (little_bytes 4 0
-    ++ (little_bytes 4 r.layout ++ (little_bytes 4 (length r.channels) ++ (little_bytes 4 r.rate ++ (little_bytes 4 (bits_of order) ++ (little_bytes 8 (count_of r.channels)
-    ++ (little_bytes 4 4096 ++ little_bytes 4 0)))))))))
+    ++ (little_bytes 4 layout ++ (little_bytes 4 number ++ (little_bytes 4 rate ++ (little_bytes 4 bits ++ (little_bytes 8 count
+    ++ (little_bytes 4 block_bytes ++ little_bytes 4 0)))))))))
 
--- the head of the data chunk
-abbrev pub data_text : Content → List ℕ
-data_text r = DATA ++ little_bytes 8 (12 + sound_size r)
+-- the head of the data chunk: its size
+abbrev pub data_text : ℕ → List ℕ
+data_text size = DATA ++ little_bytes 8 size
 
 -- the 92 bytes before the sound
 abbrev pub head_text : Content → BitOrder → List ℕ
-head_text r order = first_text r ++ (format_text r order ++ data_text r)
+head_text r order =
+    first_text (92 + sound_size r + length r.tag) (tag_place r)
+    ++ (format_text r.layout (length r.channels) r.rate (bits_of order) (count_of r.channels) ++ data_text (12 + sound_size r))
 
 -- the whole file
 abbrev pub dsf_text : Content → BitOrder → List ℕ

@@ -6,7 +6,9 @@ ghost use Rattle.dsf_core.specs.Reading.{chunks_of};
 ghost use Rattle.dsf_core.specs.Steps.{Gives};
 
 use crate::fault::DsfFault;
-use crate::fields::{has_id, u32_at, u64_at};
+use crate::fields::{
+    FIRST_SIZE, FORMAT_SIZE, HEAD_SIZE, RAW_DSD, data_size, first_size, format, format_size, has_id,
+};
 
 /// Where the data chunk stands.
 #[tactic(auto, unfolding(crate::specs::Reading::chunks_of))]
@@ -24,30 +26,30 @@ pub(crate) fn find_data(file: &[u8]) -> Result<usize, DsfFault>
     if !has_id(file, 0, *b"DSD ") {
         return Err(DsfFault::NotDsf);
     }
-    if file.len() < 80 {
+    if file.len() < FIRST_SIZE + FORMAT_SIZE {
         return Err(DsfFault::HeadCut);
     }
-    if u64_at(file, 4) != 28 {
+    if first_size(file) != FIRST_SIZE as u64 {
         return Err(DsfFault::BadFormat);
     }
-    if !has_id(file, 28, *b"fmt ") {
+    if !has_id(file, FIRST_SIZE, *b"fmt ") {
         return Err(DsfFault::BadFormat);
     }
-    let size = u64_at(file, 32);
-    if size < 52 {
+    let size = format_size(file);
+    if size < FORMAT_SIZE as u64 {
         return Err(DsfFault::BadFormat);
     }
-    if ((file.len() - 40) as u64) < size {
+    if ((file.len() - (FIRST_SIZE + HEAD_SIZE)) as u64) < size {
         return Err(DsfFault::HeadCut);
     }
-    let data_at = 28 + size as usize;
+    let data_at = FIRST_SIZE + size as usize;
     if !has_id(file, data_at, *b"data") {
         return Err(DsfFault::BadFormat);
     }
-    if u64_at(file, data_at + 4) < 12 {
+    if data_size(file, data_at) < HEAD_SIZE as u64 {
         return Err(DsfFault::BadFormat);
     }
-    if u32_at(file, 44) != 0 {
+    if format(file) != RAW_DSD {
         return Err(DsfFault::BadFormat);
     }
     Ok(data_at)

@@ -1,13 +1,16 @@
 //! The fields of the format chunk: their limits and what they mean.
 
-ghost use Rattle.std.specs.Prelude.{◌≡◌, ◌≢◌, ◌≤◌, ◌^◌, length, IfOk};
+ghost use Rattle.std.specs.Prelude.{◌≡◌, ◌≢◌, ◌≤◌, length, IfOk};
+ghost use Rattle.dsd_bits.specs.Limits.{IsRate, most_bits};
 ghost use Rattle.dsf_core.specs.Fields.{channel_number, count, dsf_ids, layout_told, rate};
 ghost use Rattle.dsf_core.specs.Reading.{order_of, order_told};
 ghost use Rattle.dsf_core.specs.Steps.{Gives};
 
 use crate::fault::DsfFault;
-use crate::fields::{u32_at, u64_at};
-use dsd_bits::{BitOrder, layout_channels, usual_layout};
+use crate::fields::{VERSION, bits_per_sample, block_size, channel_number, count, rate, version};
+use dsd_bits::{
+    BLOCK_BYTES, BitOrder, GREATEST_RATE, LEAST_RATE, MOST_BITS, layout_channels, usual_layout,
+};
 use std::alloc::{AllocError, Global};
 
 /// The order of the bits in a byte, where the fields lie in their limits.
@@ -16,17 +19,18 @@ pub(crate) fn read_order(file: &[u8]) -> Result<BitOrder, DsfFault>
     requires { 80 ≤ length file.now }
     ensures exact { Gives (λ x. x) result (order_of file.now) }
     ensures channels { IfOk result (λ _. (1 ≤ channel_number file.now) × (channel_number file.now ≤ 6)) }
-    ensures rate { IfOk result (λ _. (1000000 ≤ rate file.now) × (rate file.now ≤ 50000000)) }
-    ensures short { IfOk result (λ _. count file.now ≤ 2 ^ 36) }
+    ensures rate { IfOk result (λ _. IsRate (rate file.now)) }
+    ensures short { IfOk result (λ _. count file.now ≤ most_bits) }
     ensures no_memory { result ≢ Err DsfFault.Memory }
 {
-    let version = u32_at(file, 40);
-    let number = u32_at(file, 52);
-    let rate = u32_at(file, 56);
-    let bits = u32_at(file, 60);
-    let block = u32_at(file, 72);
-    let count = u64_at(file, 64);
-    order_told(version, number, rate, bits, block, count)
+    order_told(
+        version(file),
+        channel_number(file),
+        rate(file),
+        bits_per_sample(file),
+        block_size(file),
+        count(file),
+    )
 }
 
 // The order of the bits in a byte, where these numbers lie in their limits.
@@ -41,26 +45,26 @@ fn order_told(
 ) -> Result<BitOrder, DsfFault>
     ensures exact { Gives (λ x. x) result (order_told version number rate bits block count) }
     ensures channels { IfOk result (λ _. (1 ≤ number) × (number ≤ 6)) }
-    ensures rate { IfOk result (λ _. (1000000 ≤ rate) × (rate ≤ 50000000)) }
-    ensures short { IfOk result (λ _. count ≤ 2 ^ 36) }
+    ensures rate { IfOk result (λ _. IsRate rate) }
+    ensures short { IfOk result (λ _. count ≤ most_bits) }
     ensures no_memory { result ≢ Err DsfFault.Memory }
 {
-    if version != 1 {
+    if version != VERSION {
         return Err(DsfFault::BadVersion);
     }
     if number < 1 || 6 < number {
         return Err(DsfFault::BadChannelNumber);
     }
-    if rate < 1_000_000 || 50_000_000 < rate {
+    if rate < LEAST_RATE || GREATEST_RATE < rate {
         return Err(DsfFault::BadRate);
     }
     if bits != 1 && bits != 8 {
         return Err(DsfFault::BadBits);
     }
-    if block != 4096 {
+    if block as usize != BLOCK_BYTES {
         return Err(DsfFault::BadBlock);
     }
-    if 1 << 36 < count {
+    if count > MOST_BITS as u64 {
         return Err(DsfFault::TooLong);
     }
     if bits == 1 {

@@ -1,8 +1,9 @@
 //! Where the sound of a file stands, as its front tells, and at which length such a file ends.
 
-ghost use Rattle.std.specs.Prelude.{◌≡◌, ◌≢◌, ◌≤◌, ◌+◌, ◌-◌, ◌^◌, ◌++◌, ◌↔◌, IsSome, List, ℕ, Some, length, replicate, true};
+ghost use Rattle.std.specs.Prelude.{◌≡◌, ◌≢◌, ◌≤◌, ◌+◌, ◌-◌, ◌++◌, ◌↔◌, IsSome, List, ℕ, Some, length, replicate, true};
 ghost use Rattle.dsd_bits.specs.declared.blocks.BitOrder.{BitOrder};
 ghost use Rattle.dsd_bits.specs.Contents.{Content};
+ghost use Rattle.dsd_bits.specs.Limits.{most_bits};
 ghost use Rattle.dsd_bits.specs.Sounds.{HasSound, IfFound, IfMore, IfRefused, IsSound};
 ghost use Rattle.dsf_core.specs.Files.{IsDsf};
 ghost use Rattle.dsf_core.specs.Fields.{channel_number, count, data_place};
@@ -11,7 +12,7 @@ ghost use Rattle.dsf_core.specs.Steps.{Gives};
 
 use crate::chunks::find_data;
 use crate::fault::DsfFault;
-use crate::fields::{u32_at, u64_at};
+use crate::fields::{HEAD_SIZE, channel_number, count, pointer, rate};
 use crate::format::read_order;
 use crate::sound::{data_bytes, needed_bytes};
 use dsd_bits::{BitOrder, Sound, SoundAt};
@@ -71,14 +72,14 @@ fn sound_told(front: &[u8], data_at: usize, order: BitOrder) -> Sound
     requires place { data_at ≡ data_place front.now }
     requires inside { data_at + 12 ≤ length front.now }
     requires channels { channel_number front.now ≤ 6 }
-    requires short { count front.now ≤ 2 ^ 36 }
+    requires short { count front.now ≤ most_bits }
     ensures { result ≡ sound_told front.now order }
 {
     Sound {
-        rate: u32_at(front, 56),
-        channels: u32_at(front, 52) as usize,
-        count: u64_at(front, 64) as usize,
-        start: data_at + 12,
+        rate: rate(front),
+        channels: channel_number(front) as usize,
+        count: count(front) as usize,
+        start: data_at + HEAD_SIZE,
         size: needed_bytes(front) as usize,
         order: Some(order),
     }
@@ -100,6 +101,6 @@ pub fn closes(front: &[u8], total: u64) -> bool
     if total - start < size {
         return false;
     }
-    let pointer = u64_at(front, 20);
+    let pointer = pointer(front);
     pointer == 0 || start + size <= pointer && pointer <= total
 }

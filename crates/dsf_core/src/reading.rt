@@ -9,7 +9,7 @@ ghost use Rattle.dsf_core.specs.Steps.{Gives};
 
 use crate::chunks::find_data;
 use crate::fault::DsfFault;
-use crate::fields::{u32_at, u64_at};
+use crate::fields::{HEAD_SIZE, channel_number, channel_type, count, rate};
 use crate::format::{channel_ids, layout, read_order};
 use crate::sound::{channels_of, find_sound_end, find_tag};
 use dsd_bits::{BitOrder, Recording};
@@ -54,17 +54,17 @@ fn read_in_order(alloc: Global, file: &[u8]) -> Result<(Recording, BitOrder), Ds
     let order = read_order(file)?;
     let end = find_sound_end(file, data_at)?;
     let tag = find_tag(file, end)?;
-    let number = u32_at(file, 52);
-    let count = u64_at(file, 64) as usize;
-    let (_, sound) = file.split_at(data_at + 12);
+    let number = channel_number(file);
+    let count = count(file) as usize;
+    let (_, sound) = file.split_at(data_at + HEAD_SIZE);
     let channels = channels_of(alloc, sound, number as usize, count, order)?;
     let ids = channel_ids(alloc, number)?;
     let tag = Vec::from_slice(alloc, tag)?;
     let recording = Recording::new(
-        u32_at(file, 56),
+        rate(file),
         channels,
         ids,
-        layout(u32_at(file, 48), number),
+        layout(channel_type(file), number),
         Vec::new(alloc),
         Vec::new(alloc),
         tag,

@@ -1,13 +1,21 @@
 //! From a recording to the bytes of a file.
 
-ghost use Rattle.std.specs.Prelude.{◌≡◌, ◌≤◌, IfOk};
+ghost use Rattle.std.specs.Prelude.{◌≡◌, ◌≤◌, ◌++◌, IfOk, OnOk};
 ghost use Rattle.dsf_core.specs.Files.{IsDsf, bits_of};
 ghost use Rattle.dsf_core.specs.ReadAgain.{as_told};
-ghost use Rattle.dsf_core.specs.Writing.{dsf_text, head_text, sound_size};
+ghost use Rattle.dsf_core.specs.Writing.{data_text, dsf_text, first_text, format_text, head_text, sound_size, tag_place};
 
+use crate::fields::{FIRST_SIZE, FORMAT_SIZE, HEAD_SIZE, RAW_DSD, VERSION};
 use crate::writing_laws::written_is_read_again;
-use dsd_bits::{BitOrder, Recording, push_blocks};
+use chunk_core::{Order, push_u32, push_u64};
+use dsd_bits::{BLOCK_BYTES, BitOrder, Recording, blocks_size, push_blocks};
 use std::alloc::{AllocError, Global};
+
+// How many bytes stand before the sound: two chunks, and the head of the third.
+const FRONT_SIZE: usize = FIRST_SIZE + FORMAT_SIZE + HEAD_SIZE;
+
+// What the "Reserved" field of the format chunk holds.
+const RESERVED: u32 = 0;
 
 /// The bytes of the DSF 1.01 file that holds the recording, in this order of bits: 1 bit per sample for
 /// [`BitOrder::LeastFirst`], 8 for [`BitOrder::MostFirst`]. Numbers have the lowest byte first.
@@ -21,53 +29,102 @@ pub fn write(alloc: Global, recording: &Recording, order: BitOrder) -> Result<Ve
     // What is read from it is the recording, but for what a file does not tell.
     ensures read_again { IfOk result (λ file. IsDsf file.items (as_told recording.now) order) }
 {
-    let size = sound_size(recording);
+    let channels = recording.channels();
     let tag = recording.tag();
-    let mut out = Vec::with_capacity(alloc, 92 + size + tag.len())?;
-    out.extend_from_slice(&head(recording, order, size as u64))?;
-    push_blocks(&mut out, recording.channels(), order)?;
+    let size = blocks_size(channels.len(), recording.count());
+    let mut out = Vec::with_capacity(alloc, FRONT_SIZE + size + tag.len())?;
+    push_front(&mut out, recording, order, size as u64)?;
+    push_blocks(&mut out, channels, order)?;
     out.extend_from_slice(tag)?;
     written_is_read_again();
     Ok(out)
 }
 
-// How many sound bytes there are.
-fn sound_size(recording: &Recording) -> usize
-    ensures value { result ≡ sound_size recording.now }
-    ensures in_limit { result ≤ 51539607552 }
-{
-    let groups = recording.count().div_ceil(32768);
-    groups * recording.channels().len() * 4096
-}
-
-// The 92 bytes before the sound, which has so many bytes.
-fn head(recording: &Recording, order: BitOrder, size: u64) -> [u8; 92]
+// Appends the bytes before the sound, which has so many bytes.
+fn push_front(
+    out: &mut Vec<u8>,
+    recording: &Recording,
+    order: BitOrder,
+    size: u64,
+) -> Result<(), AllocError>
     requires size { size ≡ sound_size recording.now }
     requires in_limit { size ≤ 51539607552 }
-    ensures { result ≡ head_text recording.now order }
+    ensures { OnOk result (out.new.items ≡ out.old.items ++ head_text recording.now order) }
 {
-    let end = 92 + size;
-    let tag = recording.tag().len() as u64;
-    let number = recording.channels().len() as u32;
-    let bits = bits_per_sample(order);
-    let [t0, t1, t2, t3, t4, t5, t6, t7] = (end + tag).to_le_bytes();
-    let [p0, p1, p2, p3, p4, p5, p6, p7] = (if tag == 0 { 0 } else { end }).to_le_bytes();
-    let [l0, l1, l2, l3] = recording.layout().to_le_bytes();
-    let [n0, n1, n2, n3] = number.to_le_bytes();
-    let [r0, r1, r2, r3] = recording.rate().to_le_bytes();
-    let [c0, c1, c2, c3, c4, c5, c6, c7] = (recording.count() as u64).to_le_bytes();
-    let [s0, s1, s2, s3, s4, s5, s6, s7] = (12 + size).to_le_bytes();
-    [
-        b'D', b'S', b'D', b' ', 28, 0, 0, 0, 0, 0, 0, 0, t0, t1, t2, t3, t4, t5, t6, t7, p0, p1,
-        p2, p3, p4, p5, p6, p7, b'f', b'm', b't', b' ', 52, 0, 0, 0, 0, 0, 0, 0, 1, 0, 0, 0, 0, 0,
-        0, 0, l0, l1, l2, l3, n0, n1, n2, n3, r0, r1, r2, r3, bits, 0, 0, 0, c0, c1, c2, c3, c4,
-        c5, c6, c7, 0, 16, 0, 0, 0, 0, 0, 0, b'd', b'a', b't', b'a', s0, s1, s2, s3, s4, s5, s6,
-        s7,
-    ]
+    let total = FRONT_SIZE as u64 + size + recording.tag().len() as u64;
+    let pointer = tag_place(recording, size);
+    push_first(out, total, pointer)?;
+    push_format(
+        out,
+        recording.layout(),
+        recording.channels().len() as u32,
+        recording.rate(),
+        bits_per_sample(order),
+        recording.count() as u64,
+    )?;
+    push_data_head(out, HEAD_SIZE as u64 + size)?;
+    Ok(())
+}
+
+// Where the tag stands behind so many sound bytes, and 0 for none.
+fn tag_place(recording: &Recording, size: u64) -> u64
+    requires size { size ≡ sound_size recording.now }
+    requires in_limit { size ≤ 51539607552 }
+    ensures { result ≡ tag_place recording.now }
+{
+    if recording.tag().is_empty() {
+        return 0;
+    }
+    FRONT_SIZE as u64 + size
+}
+
+// Appends the first chunk, of a file of so many bytes.
+fn push_first(out: &mut Vec<u8>, total: u64, pointer: u64) -> Result<(), AllocError>
+    ensures { OnOk result (out.new.items ≡ out.old.items ++ first_text total pointer) }
+{
+    out.extend_from_slice(b"DSD ")?;
+    push_u64(out, Order::Little, FIRST_SIZE as u64)?;
+    push_u64(out, Order::Little, total)?;
+    push_u64(out, Order::Little, pointer)?;
+    Ok(())
+}
+
+// Appends the format chunk.
+fn push_format(
+    out: &mut Vec<u8>,
+    channel_type: u32,
+    channel_number: u32,
+    rate: u32,
+    bits_per_sample: u32,
+    count: u64,
+) -> Result<(), AllocError>
+    ensures { OnOk result (out.new.items ≡ out.old.items ++ format_text channel_type channel_number rate bits_per_sample count) }
+{
+    out.extend_from_slice(b"fmt ")?;
+    push_u64(out, Order::Little, FORMAT_SIZE as u64)?;
+    push_u32(out, Order::Little, VERSION)?;
+    push_u32(out, Order::Little, RAW_DSD)?;
+    push_u32(out, Order::Little, channel_type)?;
+    push_u32(out, Order::Little, channel_number)?;
+    push_u32(out, Order::Little, rate)?;
+    push_u32(out, Order::Little, bits_per_sample)?;
+    push_u64(out, Order::Little, count)?;
+    push_u32(out, Order::Little, BLOCK_BYTES as u32)?;
+    push_u32(out, Order::Little, RESERVED)?;
+    Ok(())
+}
+
+// Appends the head of the data chunk, which has so many bytes.
+fn push_data_head(out: &mut Vec<u8>, size: u64) -> Result<(), AllocError>
+    ensures { OnOk result (out.new.items ≡ out.old.items ++ data_text size) }
+{
+    out.extend_from_slice(b"data")?;
+    push_u64(out, Order::Little, size)?;
+    Ok(())
 }
 
 // The bits per sample that tell an order.
-fn bits_per_sample(order: BitOrder) -> u8
+fn bits_per_sample(order: BitOrder) -> u32
     ensures { result ≡ bits_of order }
 {
     match order {

@@ -2,10 +2,11 @@
 
 ghost use Rattle.std.specs.Prelude.{◌≤◌};
 
-use crate::compared::{check_printed, equal};
+use crate::compared::check_printed;
 use chunk_core::{
     ChunkFault, Head, Order, Span, head, push_chunk, push_u16, push_u32, push_u64, walk,
 };
+use fixtures::compared::equal;
 use std::alloc::Global;
 use std::test::Fail;
 

@@ -1,14 +1,9 @@
-//! How bytes and printed texts are compared.
+//! How printed texts are compared.
 
 use std::alloc::{AllocError, Global};
 use std::fmt::Display;
 use std::process::Abort;
 use std::test::Fail;
-
-/// Whether these are the expected bytes.
-pub(crate) fn equal(bytes: &[u8], expected: &[u8]) -> bool {
-    bytes == expected
-}
 
 // Whether a value is printed as this text.
 fn prints<T: Display>(alloc: Global, value: &T, text: &str) -> Result<bool, AllocError> {

@@ -3,8 +3,9 @@
 ghost use Rattle.std.specs.Prelude.{◌<◌, ◌≤◌, ◌+◌, ◌-◌, ◌^◌};
 ghost use Rattle.chunk_core.specs.Inlets.{inlet_failures};
 
-use crate::compared::{check_printed, equal};
+use crate::compared::check_printed;
 use chunk_core::{Device, Inlet, Outlet};
+use fixtures::compared::equal;
 use fixtures::devices::{Dripping, drip, sip};
 use std::alloc::Global;
 use std::test::Fail;

@@ -1,9 +1,9 @@
 //! DSDIFF 1.5 files with what they hold: channels, and chunks that are kept as they are.
 
-use crate::compared::equal;
 use crate::told::{Numbers, has_ids, has_sound, numbers_of};
 use dsd_bits::{Place, Recording};
 use dsdiff_core::{DsdiffFault, read};
+use fixtures::compared::equal;
 use fixtures::files::{FILE, MONO, RATE, RAW, STEREO, file_of};
 use std::alloc::Global;
 use std::test::Fail;

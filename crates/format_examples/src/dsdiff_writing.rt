@@ -2,9 +2,10 @@
 
 ghost use Rattle.std.specs.Prelude.{◌≡◌, ◌<◌, ◌≤◌, ◌^◌, length};
 
-use crate::compared::{check_printed, equal};
+use crate::compared::check_printed;
 use dsd_bits::{Bits, Mark, Other, Place, Recording};
 use dsdiff_core::{WriteFault, write};
+use fixtures::compared::equal;
 use fixtures::files::FILE;
 use std::alloc::{AllocError, Global};
 use std::test::Fail;

@@ -2,10 +2,10 @@
 
 ghost use Rattle.std.specs.Prelude.{◌≤◌, ◌+◌, length};
 
-use crate::compared::equal;
 use crate::told::{Numbers, has_ids, has_sound, numbers_of};
 use dsd_bits::{BitOrder, Recording};
 use dsf_core::read;
+use fixtures::compared::equal;
 use fixtures::files::{DSF_FRONT, changed, filled};
 use std::alloc::Global;
 use std::test::Fail;

@@ -1,9 +1,9 @@
 //! Recordings with the DSF 1.01 files that they are written to, and read again.
 
-use crate::compared::equal;
 use crate::told::{Numbers, has_ids, has_sound, numbers_of, sound_of};
 use dsd_bits::{BitOrder, Bits, BitsFault, Recording};
 use dsf_core::{read, write};
+use fixtures::compared::equal;
 use fixtures::files::{DSF_FRONT, filled};
 use std::alloc::{AllocError, Global};
 use std::process::Abort;

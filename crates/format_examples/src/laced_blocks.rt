@@ -1,9 +1,9 @@
 //! The sound bytes of DSF 1.01: a block of 4096 bytes of each channel in turn, the earliest bit of a byte at the
 //! one end or the other. All values are worked out by hand.
 
-use crate::compared::equal;
 use crate::told::has_bits;
 use dsd_bits::{BitOrder, LaceFault, lace_blocks, push_blocks, unlace_blocks, unlace_bytes};
+use fixtures::compared::equal;
 use fixtures::files::filled;
 use std::alloc::Global;
 use std::test::Fail;

@@ -1,8 +1,9 @@
 //! Bits packed eight to a byte: the first bits of some bytes, bits put behind others, and bytes turned round.
 //! All values are worked out by hand.
 
-use crate::compared::{check_printed, equal};
+use crate::compared::check_printed;
 use dsd_bits::{Bits, BitsFault, turn, turn_byte};
+use fixtures::compared::equal;
 use std::alloc::Global;
 use std::process::Abort;
 use std::test::Fail;

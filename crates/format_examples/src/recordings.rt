@@ -2,9 +2,9 @@
 
 ghost use Rattle.std.specs.Prelude.{◌<◌, ◌^◌, length};
 
-use crate::compared::equal;
 use crate::told::{Numbers, has_ids, numbers_of};
 use dsd_bits::{Bits, Mark, Other, Place, Recording};
+use fixtures::compared::equal;
 use std::alloc::Global;
 use std::test::Fail;
 

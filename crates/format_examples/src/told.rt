@@ -1,7 +1,7 @@
 //! What the examples tell of recordings and their channels.
 
-use crate::compared::equal;
 use dsd_bits::{Bits, Recording};
+use fixtures::compared::equal;
 
 /// The numbers that a recording has.
 #[derive(Clone, Copy, PartialEq, Eq)]

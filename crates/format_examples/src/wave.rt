@@ -2,7 +2,8 @@
 
 ghost use Rattle.std.specs.Prelude.{◌≡◌, ◌≤◌, ◌⊎◌};
 
-use crate::compared::{check_printed, equal};
+use crate::compared::check_printed;
+use fixtures::compared::equal;
 use fixtures::files::WAVE;
 use std::alloc::{AllocError, Global};
 use std::test::Fail;

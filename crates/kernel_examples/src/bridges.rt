@@ -4,7 +4,7 @@ ghost use Rattle.std.specs.Prelude.{◌≡◌, ◌+◌, ◌<◌, ◌≤◌};
 ghost use Rattle.project_core.specs.Cues.{AreWeights};
 
 use cost_core::{Window, WindowFault};
-use fixtures::windows::{Part, bits_of, by_equal, by_newest, ones, window, zeros};
+use fixtures::windows::{Part, bits_of, by_equal, by_newest, by_older, ones, window, zeros};
 use std::alloc::Global;
 use std::process::Abort;
 use std::test::Fail;
@@ -45,6 +45,9 @@ fn chooses_the_bits_of_small_bridges(rt: HostRuntime) -> Result<(), Fail> {
         chooses_in(alloc, longer, 0x80, 8)?,
         "two bits by the newest"
     );
+    // At its own place either bit costs 4, and behind it 0 costs 16 and 1 nothing.
+    let older = by_older(alloc, zeros(0, 8), 1, ones(2, 9));
+    assert!(rt; chooses_in(alloc, older, 0x80, 4)?, "one bit by the older");
     let there = by_equal(alloc, ones(0, 8), 1, zeros(2, 3));
     assert!(rt; chooses_in(alloc, there, 0x00, 0)?, "to a cue of one bit");
     let back = by_equal(alloc, zeros(0, 3), 1, ones(2, 7));

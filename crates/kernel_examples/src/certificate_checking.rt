@@ -96,6 +96,27 @@ fn least_bits_are_accepted(rt: HostRuntime) -> Result<(), Fail> {
     Ok(())
 }
 
+// What the head of the worked certificate, the bridge behind it and the end come to, each by its own call.
+fn in_turn(
+    alloc: Global,
+    window: Result<Window, WindowFault>,
+) -> Result<(Option<CertReason>, CertVerdict, Option<CertReason>), Fail> {
+    let window = window?;
+    let bits = bits_of(alloc, &window, 0x00)?;
+    let mut reader = CertReader::new(Inlet::new(WORKED.as_slice()));
+    let head = reader.read_head(2, 1)?;
+    let bridge = reader.check_bridge(alloc, 0, 0, &window, &bits)?;
+    Ok((head, bridge, reader.at_end()?))
+}
+
+#[test]
+fn a_bridge_is_accepted_at_its_cost_behind_the_head(rt: HostRuntime) -> Result<(), Fail> {
+    let alloc = rt.alloc();
+    let four = CertVerdict::Accepted { cost: 4 };
+    assert!(rt; in_turn(alloc, newest(alloc))? == (None, four, None));
+    Ok(())
+}
+
 #[test]
 fn dearer_bits_are_rejected(rt: HostRuntime) -> Result<(), Fail> {
     let cost = Ok(CertVerdict::Rejected(CertReason::Cost));

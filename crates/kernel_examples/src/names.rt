@@ -1,7 +1,7 @@
 //! The names by which faults and reasons are told.
 
 use cert_core::{CertFault, CertReason, CheckFault};
-use cost_core::{SinkFault, WindowFault};
+use cost_core::{RoomFault, SinkFault, WindowFault};
 use fir_core::TapsFault;
 use std::alloc::Global;
 use std::fmt::Display;
@@ -37,6 +37,8 @@ fn refusals_of_decimators_and_bridges(rt: HostRuntime) -> Result<(), Fail> {
             "TapNumber;TapSum;Factor;Delay;Shift;Width;Memory;"
         )?
     );
+    let rooms = [RoomFault::NoRoomBefore, RoomFault::NoRoomAfter];
+    assert!(rt; are_told(alloc, &rooms, "NoRoomBefore;NoRoomAfter;")?);
     let windows = [
         WindowFault::NoRoomBefore,
         WindowFault::NoRoomAfter,

@@ -3,7 +3,7 @@
 ghost use Rattle.std.specs.Prelude.{◌≡◌, ◌+◌, ◌<◌, ◌≤◌};
 
 use cost_core::{Window, WindowFault};
-use fixtures::windows::{bits_of, by_equal, by_newest, ones, zeros};
+use fixtures::windows::{bits_of, by_equal, by_newest, by_older, ones, zeros};
 use std::alloc::Global;
 use std::test::Fail;
 
@@ -89,6 +89,19 @@ fn costs_of_whole_bridges(rt: HostRuntime) -> Result<(), Fail> {
     }
     let longer = by_newest(alloc, ones(0, 8), 2, zeros(3, 9));
     assert!(rt; cost(alloc, longer, 0x80)? == 8, "two bits");
+    Ok(())
+}
+
+// By the weights 0 and 1 a bridge of one bit from zeros to ones has the targets 0 and 2. At its own place the zero
+// before it counts, which is 2 off whichever the bit is: that costs 4. Behind it the bit itself counts: a 1 meets the
+// target, a 0 is 4 off.
+#[test]
+fn a_bit_costs_at_the_place_behind_it(rt: HostRuntime) -> Result<(), Fail> {
+    let alloc = rt.alloc();
+    for (byte, expected) in [(0x00, 20), (0x80, 4)] {
+        let window = by_older(alloc, zeros(0, 8), 1, ones(2, 9));
+        assert!(rt; cost(alloc, window, byte)? == expected, "{byte}");
+    }
     Ok(())
 }
 

@@ -1,10 +1,10 @@
 //! Readers and writers that fail: the fault is named, and what was written is a front of the WAVE file.
 
-use crate::played::{NEVER, ONES, Played, play_from, with_ones};
+use crate::played::{NEVER, ONES, Played, play_from};
 use archive_core::{Fault, play};
 use fixtures::devices::{drip, sip};
 use fixtures::files::{dsf_of, mono};
-use fixtures::projects::DECIMATE;
+use fixtures::projects::{DECIMATE, with_ones};
 use std::alloc::{AllocError, Global};
 use std::test::Fail;
 

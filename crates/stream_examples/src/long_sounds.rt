@@ -1,10 +1,10 @@
 //! Sounds of more than one block of 65,536 bytes: what is written is what is made in memory.
 
-use crate::played::{NEVER, Numbers, play_by, play_from, plays, project, with_ones};
+use crate::played::{NEVER, play_by, play_from, plays};
 use archive_core::{Fault, play};
 use fixtures::devices::{drip, sip};
 use fixtures::files::{MONO, RATE, RAW, STEREO, dsf_of, file_of, mono};
-use fixtures::projects::DECIMATE;
+use fixtures::projects::{DECIMATE, Numbers, project, with_ones};
 use std::alloc::{AllocError, Global};
 use std::test::Fail;
 

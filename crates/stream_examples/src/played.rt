@@ -1,4 +1,4 @@
-//! What came of playing a reader's file to a writer, and the projects and files that several examples play.
+//! What came of playing a reader's file to a writer, and a file that several examples play.
 
 ghost use Rattle.std.specs.Prelude.{◌<◌};
 
@@ -9,27 +9,6 @@ use std::alloc::{AllocError, Global};
 
 /// A read or write that never comes.
 pub(crate) const NEVER: u64 = u64::MAX;
-
-/// The factor, delay, shift and width of a project.
-pub(crate) type Numbers = (u32, u32, u32, u32);
-
-/// A project of these taps and numbers.
-pub(crate) fn project(alloc: Global, taps: &str, numbers: Numbers) -> Result<String, AllocError> {
-    let (factor, delay, shift, width) = numbers;
-    format!(in alloc;
-        "[decimate]\ntaps = {taps}\nfactor = {factor}\ndelay = {delay}\nshift = {shift}\nwidth = {width}\n"
-    )
-}
-
-/// A project of so many taps that are 1, and a delay of all of them but one.
-pub(crate) fn with_ones(alloc: Global, number: u32) -> Result<String, AllocError> {
-    let mut taps = String::from_str(alloc, "[")?;
-    for _ in 0..number {
-        taps.push_str("1, ")?;
-    }
-    taps.push_str("]")?;
-    project(alloc, &taps, (8, number.saturating_sub(1), 0, 16))
-}
 
 /// What 33 taps of 1 make of 40 ones. They see the bits 0 to 32 at the first sample, at the second 8 to 39, the last
 /// one, and from then on 8 fewer each time: 33, 32, 24, 16, 8.

@@ -1,10 +1,9 @@
 //! What is refused before anything is read, before anything is written, and for the file's sake.
 
-use crate::played::{Numbers, Played, play_by, plays, project};
-use fixtures::files::{
-    DSF_FRONT, FILE, MONO, RATE, RAW, WAVE, dsf_of, file_of, marked, marked_with,
-};
-use fixtures::projects::{DECIMATE, SPLICE};
+use crate::played::{Played, play_by, plays};
+use fixtures::files::{DSF_FRONT, FILE, MONO, RATE, RAW, file_of, marked, marked_with, one_bit};
+use fixtures::projects::{DECIMATE, Numbers, SPLICE, project};
+use fixtures::waves::sample;
 use std::alloc::{AllocError, Global};
 use std::test::Fail;
 
@@ -266,7 +265,7 @@ fn long_text(alloc: Global) -> Result<Vec<u8>, AllocError> {
 
 // The DSF file of 4188 bytes with one bit, and this pointer to a tag.
 fn pointing(alloc: Global, pointer: u64) -> Result<Vec<u8>, AllocError> {
-    let file = dsf_of(alloc, (1, 1, 1), &[0x0f], 4096, b"")?;
+    let file = one_bit(alloc, b"")?;
     let mut made = Vec::new(alloc);
     made.extend_from_slice(&file[..file.len().min(20)])?;
     made.extend_from_slice(&pointer.to_le_bytes())?;
@@ -276,16 +275,9 @@ fn pointing(alloc: Global, pointer: u64) -> Result<Vec<u8>, AllocError> {
 
 // The same file with fewer bytes.
 fn cut_blocks(alloc: Global, length: usize) -> Result<Vec<u8>, AllocError> {
-    let mut file = dsf_of(alloc, (1, 1, 1), &[0x0f], 4096, b"")?;
+    let mut file = one_bit(alloc, b"")?;
     file.truncate(length);
     Ok(file)
-}
-
-// The WAVE file of one sample, 4.
-fn four() -> [u8; 46] {
-    let mut wave = WAVE;
-    wave[44] = 4;
-    wave
 }
 
 // A tag begins behind the sound, at the file's end at the latest.
@@ -298,7 +290,7 @@ fn a_dsf_file_without_its_whole_is_refused(rt: HostRuntime) -> Result<(), Fail> 
             "to {pointer}"
         );
     }
-    assert!(rt; plays(alloc, DECIMATE, &pointing(alloc, 4188)?, &four()));
+    assert!(rt; plays(alloc, DECIMATE, &pointing(alloc, 4188)?, &sample([4, 0])));
     for length in [4, 79, 80, 91, 92, 93, 4187] {
         assert!(rt;
             is_no_file(alloc, cut_blocks(alloc, length), 46)?,

@@ -1,26 +1,15 @@
 //! Small files played from a reader that gives 1, 7 or 4096 bytes at a time: what is written doesn't hang on how
 //! the reads are cut.
-//!
-//! A stored 1 counts +1, a stored 0 counts -1, and what lies before the first bit and behind the last counts
-//! 0. A sample at the delay `d` is the first tap times the signal at `d`, the second times that at `d - 1`,
-//! and so on.
 
-use crate::played::{NEVER, Numbers, ONES, plays, project, with_ones};
+use crate::played::{NEVER, ONES, plays};
 use archive_core::{play, play_stream};
 use chunk_core::{Inlet, Outlet};
 use fixtures::devices::{drip, sip};
-use fixtures::files::{FILE, MONO, RATE, RAW, STEREO, WAVE, dsf_of, file_of, marked, mono};
-use fixtures::projects::DECIMATE;
+use fixtures::files::{FILE, WAVE, followed, mono, noted, one_bit, stereo, with_sound};
+use fixtures::projects::{DECIMATE, project, with_ones};
+use fixtures::waves::{SAMPLES, TWO_CHANNELS, WIDE, sample};
 use std::alloc::{AllocError, Global};
 use std::test::Fail;
-
-// The WAVE file of one sample of 16 bits, its lower byte first.
-fn sample([low, high]: [u8; 2]) -> [u8; 46] {
-    let mut wave = WAVE;
-    wave[44] = low;
-    wave[45] = high;
-    wave
-}
 
 // Whether a file of one sound byte is played to one sample.
 fn plays_byte(
@@ -29,30 +18,8 @@ fn plays_byte(
     sound: u8,
     bytes: [u8; 2],
 ) -> Result<bool, AllocError> {
-    let mut file = FILE;
-    file[126] = sound;
-    Ok(plays(alloc, &text?, &file, &sample(bytes)))
+    Ok(plays(alloc, &text?, &with_sound(sound), &sample(bytes)))
 }
-
-// Taps, numbers, the sound's byte and the sample. Of f0, four ones and four zeros: 1+2+3+4 = 10 at the delay
-// 3; 1+2 = 3 at the delay 1; -10 with other signs; 10/4 = 2.5 is rounded upwards to 3, and -2.5 to -2; 32768
-// is clipped to 32767, and of 0f it is -32768; nine taps at the delay 8 take in all eight bits, which sum
-// to 0.
-const SAMPLES: [(&str, Numbers, u8, [u8; 2]); 8] = [
-    ("[1, 2, 3, 4]", (8, 3, 0, 16), 0xf0, [0x0a, 0x00]),
-    ("[1, 2, 3, 4]", (8, 1, 0, 16), 0xf0, [0x03, 0x00]),
-    ("[-1, -2, -3, -4]", (8, 3, 0, 16), 0xf0, [0xf6, 0xff]),
-    ("[1, 2, 3, 4]", (8, 3, 2, 16), 0xf0, [0x03, 0x00]),
-    ("[-1, -2, -3, -4]", (8, 3, 2, 16), 0xf0, [0xfe, 0xff]),
-    ("[32768]", (8, 0, 0, 16), 0xf0, [0xff, 0x7f]),
-    ("[32768]", (8, 0, 0, 16), 0x0f, [0x00, 0x80]),
-    (
-        "[1, 1, 1, 1, 1, 1, 1, 1, 1]",
-        (8, 8, 0, 16),
-        0xf0,
-        [0x00, 0x00],
-    ),
-];
 
 #[test]
 fn plays_one_sample(rt: HostRuntime) -> Result<(), Fail> {
@@ -86,32 +53,15 @@ fn plays_built(
     Ok(plays(alloc, DECIMATE, &file?, wave))
 }
 
-// One sound byte for each of two channels.
-fn two_channels(alloc: Global) -> Result<Vec<u8>, AllocError> {
-    file_of(alloc, &[&RATE, &STEREO, &RAW], &[0xf0, 0x0f], &[])
-}
-
-// The WAVE file of two channels of one sample: the second's sound 0f begins with four zeros, which make -10.
-const TWO_CHANNELS: [u8; 48] =
-    *b"RIFF\x28\0\0\0WAVEfmt \x10\0\0\0\x01\0\x02\0\x20\x62\x05\0\x80\x88\x15\0\x04\0\x10\0data\x04\0\0\0\x0a\0\xf6\xff";
-
-// A DSF file of the first bit alone, the lowest of its byte, which is 1: the fourth tap reads it.
-fn one_bit(alloc: Global, tag: &[u8]) -> Result<Vec<u8>, AllocError> {
-    dsf_of(alloc, (1, 1, 1), &[0x0f], 4096, tag)
-}
-
+// Of the DSF file's first byte the first bit alone counts, which the fourth tap reads.
 #[test]
 fn plays_two_channels_and_dsf(rt: HostRuntime) -> Result<(), Fail> {
     let alloc = rt.alloc();
-    assert!(rt; plays_built(alloc, two_channels(alloc), &TWO_CHANNELS)?);
+    assert!(rt; plays_built(alloc, stereo(alloc, &[0xf0, 0x0f]), &TWO_CHANNELS)?);
     assert!(rt; plays_built(alloc, one_bit(alloc, b""), &sample([4, 0]))?);
     assert!(rt; plays_built(alloc, one_bit(alloc, b"a tag"), &sample([4, 0]))?);
     Ok(())
 }
-
-// The WAVE file of one sample of 24 bits: it has three bytes, and a pad follows it.
-const WIDE: [u8; 48] =
-    *b"RIFF\x28\0\0\0WAVEfmt \x10\0\0\0\x01\0\x01\0\x20\x62\x05\0\x60\x26\x10\0\x03\0\x18\0data\x03\0\0\0\x0a\0\0\0";
 
 #[test]
 fn plays_24_bits(rt: HostRuntime) -> Result<(), Fail> {
@@ -119,19 +69,6 @@ fn plays_24_bits(rt: HostRuntime) -> Result<(), Fail> {
     let text = project(alloc, "[1, 2, 3, 4]", (8, 3, 0, 24))?;
     assert!(rt; plays(alloc, &text, &FILE, &WIDE));
     Ok(())
-}
-
-// The file with five bytes behind its form.
-fn followed(alloc: Global) -> Result<Vec<u8>, AllocError> {
-    let mut file = Vec::from_slice(alloc, &FILE)?;
-    file.extend_from_slice(&[1, 2, 3, 4, 5])?;
-    Ok(file)
-}
-
-// The file with a mark of no text behind its sound.
-fn noted(alloc: Global) -> Result<Vec<u8>, AllocError> {
-    let mark = marked(alloc, 22)?;
-    file_of(alloc, &[&RATE, &MONO, &RAW], &[0xf0], &mark)
 }
 
 // The pad counted in the size of the chunk `CMPR`, no pad behind the last chunk, bytes behind the form, and a mark
@@ -144,7 +81,7 @@ fn plays_files_of_usual_writers(rt: HostRuntime) -> Result<(), Fail> {
     assert!(rt; plays(alloc, DECIMATE, &long_name, &WAVE));
     assert!(rt; plays(alloc, DECIMATE, &FILE[..127], &WAVE));
     assert!(rt; plays_built(alloc, followed(alloc), &WAVE)?);
-    assert!(rt; plays_built(alloc, noted(alloc), &WAVE)?);
+    assert!(rt; plays_built(alloc, noted(alloc, 22), &WAVE)?);
     Ok(())
 }
 

@@ -6,13 +6,24 @@ use Rattle.chunk_core.specs.Numbers.{bytes_of}
 use Rattle.wave_core.specs.Contents.{Pcm}
 use Rattle.wave_core.specs.Sizes.{block_align, data_size, pad_size, riff_size}
 
+-- the head of the RIFF chunk, and its type
+abbrev pub riff_head : ℕ → List ℕ
+riff_head size = codes "RIFF" ++ bytes_of Little 4 size ++ codes "WAVE"
+
+-- the format chunk: its size, the tag of integer samples, the channels, the frames and the bytes a second, the bytes of a frame, and the bits of a sample
+abbrev pub format_chunk : ℕ → ℕ → ℕ → List ℕ
+format_chunk channels rate width =
+    codes "fmt " ++ bytes_of Little 4 16 ++ bytes_of Little 2 1 ++ bytes_of Little 2 channels ++ bytes_of Little 4 rate
+    ++ bytes_of Little 4 (rate * block_align channels width) ++ bytes_of Little 2 (block_align channels width) ++ bytes_of Little 2 width
+
+-- the head of the data chunk
+abbrev pub data_head : ℕ → List ℕ
+data_head size = codes "data" ++ bytes_of Little 4 size
+
 -- all that stands before the samples of so many frames
 unfoldable pub header : ℕ → ℕ → ℕ → ℕ → List ℕ
 header channels rate width frames =
-    codes "RIFF" ++ bytes_of Little 4 (riff_size channels width frames) ++ codes "WAVE"
-    ++ codes "fmt " ++ bytes_of Little 4 16 ++ bytes_of Little 2 1 ++ bytes_of Little 2 channels ++ bytes_of Little 4 rate
-    ++ bytes_of Little 4 (rate * block_align channels width) ++ bytes_of Little 2 (block_align channels width) ++ bytes_of Little 2 width
-    ++ codes "data" ++ bytes_of Little 4 (data_size channels width frames)
+    riff_head (riff_size channels width frames) ++ (format_chunk channels rate width ++ data_head (data_size channels width frames))
 
 -- the number that stands for a value in two's complement of so many bits (negsuc n is -1 - n)
 abbrev pub twos_complement : ℕ → ℤ → ℕ

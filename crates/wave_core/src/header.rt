@@ -1,10 +1,21 @@
 //! What stands before the samples.
 
-ghost use Rattle.std.specs.Prelude.{◌≡◌, ◌≤◌, ℕ, ◌^◌, ◌++◌, ◌⊎◌, ◌↔◌, IfSome, IfNone, OnOk, OnErr};
+ghost use Rattle.std.specs.Prelude.{◌≡◌, ◌≤◌, ◌^◌, ◌++◌, ◌⊎◌, ◌↔◌, IfSome, IfNone, OnOk, OnErr};
 ghost use Rattle.wave_core.specs.Sizes.{FitsRiff, block_align, data_size, riff_size};
-ghost use Rattle.wave_core.specs.Texts.{header};
+ghost use Rattle.wave_core.specs.Texts.{data_head, format_chunk, header, riff_head};
 
 use crate::fault::WaveFault;
+use chunk_core::{Order, push_u16, push_u32};
+use std::alloc::AllocError;
+
+// How many bytes stand before the samples.
+const HEADER_SIZE: usize = 44;
+
+// How many bytes of data the format chunk has.
+const FORMAT_SIZE: u32 = 16;
+
+// The format tag of integer samples.
+const PCM: u16 = 1;
 
 // The greatest size that a chunk can name.
 const LARGEST_SIZE: u64 = 0xffff_ffff;
@@ -24,6 +35,7 @@ pub(crate) struct Sizes {
 ///
 /// Refusals, in this order: `TooLarge` where the size of the RIFF chunk would not fit 32 bits, `Memory`.
 /// After a refusal nothing was appended.
+#[tactic(auto, unfolding(crate::specs::Texts::header))]
 pub fn push_header(
     out: &mut Vec<u8>,
     channels: u16,
@@ -42,7 +54,9 @@ pub fn push_header(
     let Some(sizes) = sizes_of(channels, width, frames) else {
         return Err(WaveFault::TooLarge);
     };
-    out.extend_from_slice(&header_bytes(channels, rate, width, &sizes))?;
+    let mut header = Vec::with_capacity(*out.allocator(), HEADER_SIZE)?;
+    push_fields(&mut header, channels, rate, width, &sizes)?;
+    out.extend_from_slice(&header)?;
     Ok(())
 }
 
@@ -78,25 +92,61 @@ pub(crate) fn block_align(channels: u16, width: u32) -> u16
     channels * (width / 8) as u16
 }
 
-// What stands before the samples of so many frames, whose sizes these are.
-#[tactic(auto, unfolding(crate::specs::Texts::header))]
-pub(crate) fn header_bytes(channels: u16, rate: u32, width: u32, sizes: &Sizes) -> [u8; 44]
+// Appends what stands before the samples of frames whose sizes these are.
+pub(crate) fn push_fields(
+    out: &mut Vec<u8>,
+    channels: u16,
+    rate: u32,
+    width: u32,
+    sizes: &Sizes,
+) -> Result<(), AllocError>
     requires channels { channels ≤ 6 }
     requires rate { rate ≤ 6250000 }
     requires width { (width ≡ 16) ⊎ (width ≡ 24) }
-    ensures { (frames : ℕ) → sizes.now.data_size ≡ data_size channels width frames → sizes.now.riff_size ≡ riff_size channels width frames → result ≡ header channels rate width frames }
+    ensures { OnOk result (out.new.items ≡ out.old.items
+        ++ (riff_head sizes.now.riff_size ++ (format_chunk channels rate width ++ data_head sizes.now.data_size))) }
 {
-    let block = block_align(channels, width);
-    let [r0, r1, r2, r3] = sizes.riff_size.to_le_bytes();
-    let [c0, c1] = channels.to_le_bytes();
-    let [f0, f1, f2, f3] = rate.to_le_bytes();
-    let [s0, s1, s2, s3] = (rate * u32::from(block)).to_le_bytes();
-    let [b0, b1] = block.to_le_bytes();
-    let [w0, w1] = (width as u16).to_le_bytes();
-    let [d0, d1, d2, d3] = sizes.data_size.to_le_bytes();
-    [
-        b'R', b'I', b'F', b'F', r0, r1, r2, r3, b'W', b'A', b'V', b'E', b'f', b'm', b't', b' ', 16,
-        0, 0, 0, 1, 0, c0, c1, f0, f1, f2, f3, s0, s1, s2, s3, b0, b1, w0, w1, b'd', b'a', b't',
-        b'a', d0, d1, d2, d3,
-    ]
+    push_riff_head(out, sizes.riff_size)?;
+    push_format(out, channels, rate, width)?;
+    push_data_head(out, sizes.data_size)?;
+    Ok(())
+}
+
+// Appends the head of the RIFF chunk and its type.
+fn push_riff_head(out: &mut Vec<u8>, riff_size: u32) -> Result<(), AllocError>
+    ensures { OnOk result (out.new.items ≡ out.old.items ++ riff_head riff_size) }
+{
+    out.extend_from_slice(b"RIFF")?;
+    push_u32(out, Order::Little, riff_size)?;
+    out.extend_from_slice(b"WAVE")?;
+    Ok(())
+}
+
+// Appends the format chunk.
+fn push_format(out: &mut Vec<u8>, channels: u16, rate: u32, width: u32) -> Result<(), AllocError>
+    requires channels { channels ≤ 6 }
+    requires rate { rate ≤ 6250000 }
+    requires width { (width ≡ 16) ⊎ (width ≡ 24) }
+    ensures { OnOk result (out.new.items ≡ out.old.items ++ format_chunk channels rate width) }
+{
+    let block_align = block_align(channels, width);
+    let byte_rate = rate * u32::from(block_align);
+    out.extend_from_slice(b"fmt ")?;
+    push_u32(out, Order::Little, FORMAT_SIZE)?;
+    push_u16(out, Order::Little, PCM)?;
+    push_u16(out, Order::Little, channels)?;
+    push_u32(out, Order::Little, rate)?;
+    push_u32(out, Order::Little, byte_rate)?;
+    push_u16(out, Order::Little, block_align)?;
+    push_u16(out, Order::Little, width as u16)?;
+    Ok(())
+}
+
+// Appends the head of the data chunk.
+fn push_data_head(out: &mut Vec<u8>, data_size: u32) -> Result<(), AllocError>
+    ensures { OnOk result (out.new.items ≡ out.old.items ++ data_head data_size) }
+{
+    out.extend_from_slice(b"data")?;
+    push_u32(out, Order::Little, data_size)?;
+    Ok(())
 }

@@ -7,7 +7,7 @@ ghost use Rattle.wave_core.specs.Laws.{PartsJoin};
 ghost use Rattle.wave_core.specs.Texts.{sample_bytes, wave_text};
 
 use crate::fault::WaveFault;
-use crate::header::{header_bytes, sizes_of};
+use crate::header::{push_fields, sizes_of};
 use crate::pcm::Pcm;
 use crate::sound::{push_pad, push_sample};
 use std::alloc::{AllocError, Global};
@@ -17,6 +17,7 @@ use std::alloc::{AllocError, Global};
 ///
 /// Refusals, in this order: `TooLarge` where the size of the RIFF chunk would not fit 32 bits, for which no
 /// memory is needed; `Memory`.
+#[tactic(auto, unfolding(crate::specs::Texts::header))]
 pub fn write(alloc: Global, pcm: &Pcm) -> Result<Vec<u8>, WaveFault>
     ensures text { IfOk result (λ file. wave_text pcm.now ≡ Some file.items) }
     ensures too_large { (result ≡ Err WaveFault.TooLarge) ↔ (wave_text pcm.now ≡ None) }
@@ -26,7 +27,7 @@ pub fn write(alloc: Global, pcm: &Pcm) -> Result<Vec<u8>, WaveFault>
         return Err(WaveFault::TooLarge);
     };
     let mut out = Vec::with_capacity(alloc, 8 + sizes.riff_size as usize)?;
-    out.extend_from_slice(&header_bytes(pcm.channels, pcm.rate, pcm.width, &sizes))?;
+    push_fields(&mut out, pcm.channels, pcm.rate, pcm.width, &sizes)?;
     push_samples(&mut out, pcm)?;
     push_pad(&mut out, pcm.channels, pcm.width, frames)?;
     Ok(out)

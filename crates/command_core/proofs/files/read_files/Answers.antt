@@ -1,7 +1,7 @@
 use Rattle.std.proofs.Common.{◌++◌, ◌∷◌, ◌∙◌, [], List, IsTrue, Some, ap, map, subst, sym}
 use Rattle.std.specs.Prelude.{string_bytes}
 use Rattle.std.proofs.lemmas.List.{take_all}
-use Rattle.archive_core.specs.Takes.{bytes_of}
+use Rattle.cut_core.specs.Opening.{bytes_of}
 use Rattle.command_core.specs.Files.{AreFiles}
 use Rattle.command_core.proofs.FileLaws.{one_file_more}
 use Rattle.command_core.proofs.files.read_files.Goals as goal

@@ -1,6 +1,6 @@
 use Rattle.std.proofs.Common.{◌≡◌, IsTrue, map, take}
 use Rattle.std.specs.Prelude.{string_bytes}
-use Rattle.archive_core.specs.Takes.{bytes_of}
+use Rattle.cut_core.specs.Opening.{bytes_of}
 use Rattle.command_core.specs.Files.{AreFiles}
 use Rattle.command_core.proofs.files.read_files.Given as goal
 

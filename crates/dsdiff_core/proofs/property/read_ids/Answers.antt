@@ -6,7 +6,7 @@ pub loop-k-preserved : goal.loop-k-preserved
 loop-k-preserved c =
     let f : ℕ → List ℕ = λ k. take 4 (drop (4 * k) c.args.bytes.now) in
     let more = map-range_with_len_more f 0 c.loop-k.k c.loop-k.k (omega arith) in
-    rw (more, c.in_ok-push.ensures.items, c.loop-k.invariant, c.copy_from_slice.ensures.after, c.split_at-in-loop-k.ensures.front, c.split_at.ensures.back) refl
+    rw (more, c.in_ok-push.ensures.items, c.loop-k.invariant, c.id_at.ensures) refl
 
 pub returns-clause-number : goal.returns-clause-number
 returns-clause-number c =

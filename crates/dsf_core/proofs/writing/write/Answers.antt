@@ -7,7 +7,7 @@ use Rattle.dsf_core.proofs.writing.write.Goals as goal
 pub returns-clause-read_again : goal.returns-clause-read_again
 returns-clause-read_again c =
     let r = c.args.recording.now in
-    let out = c.extend_from_slice-2.new.self in
+    let out = c.extend_from_slice.new.self in
     let text : out.items ≡ dsf_text r c.args.order = search rules in
     let short : length (dsf_text r c.args.order) < 2 ^ 63 = omega (arith, ap length text, out.ok.0) in
-    subst (λ file. IsDsf file (as_told r) c.args.order) (sym text) (c.written_is_read_again.ensures r c.args.order c.channels.ensures.shape short)
+    subst (λ file. IsDsf file (as_told r) c.args.order) (sym text) (c.written_is_read_again.ensures r c.args.order c.channels-channels.ensures.shape short)

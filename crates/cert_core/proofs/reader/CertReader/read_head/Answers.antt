@@ -10,7 +10,7 @@ pub returns-then-count-lt12-clause-only : goal.returns-then-count-lt12-clause-on
 returns-then-count-lt12-clause-only g c =
     let bytes = take c.in-Ok.count c.fill.new.buffer in
     let n : length c.fill.new.buffer ≡ 12 = c.fill.auto.buffer in
-    short_head (g.R.Read.remaining (inlet_reader (cert_inlet c.args.self.now))) (g.R.Read.remaining (inlet_reader c.fill.new.inlet)) c.args.weights c.args.entries bytes c.in-Ok.ensures.bytes.1
+    short_head (g.R.Read.remaining (inlet_reader (cert_inlet c.args.self.now))) (g.R.Read.remaining (inlet_reader c.fill.new.self)) c.args.weights c.args.entries bytes c.in-Ok.ensures.bytes.1
     (c.in-Ok.ensures.end (omega arith)) (omega (arith, length-take-le c.in-Ok.count c.fill.new.buffer c.in-Ok.ensures.bytes.0))
 
 pub returns-then-ne-clause-only : goal.returns-then-ne-clause-only
@@ -19,5 +19,5 @@ returns-then-ne-clause-only g c =
     let n : length c.fill.new.buffer ≡ 12 = c.fill.auto.buffer in
     let other : c.fill.new.buffer ≢ cert_head c.args.weights c.args.entries = search rules in
     let long : length bytes ≡ 12 = length-take-le c.in-Ok.count c.fill.new.buffer c.in-Ok.ensures.bytes.0 ∙ omega (arith, c.in-Ok.ensures.bytes.0) in
-    other_head (g.R.Read.remaining (inlet_reader (cert_inlet c.args.self.now))) (g.R.Read.remaining (inlet_reader c.fill.new.inlet)) c.args.weights c.args.entries bytes c.in-Ok.ensures.bytes.1
+    other_head (g.R.Read.remaining (inlet_reader (cert_inlet c.args.self.now))) (g.R.Read.remaining (inlet_reader c.fill.new.self)) c.args.weights c.args.entries bytes c.in-Ok.ensures.bytes.1
     long (λ e. other (sym (take_all c.in-Ok.count c.fill.new.buffer (omega arith)) ∙ e))

@@ -1,0 +1,11 @@
+use Rattle.archive_core.proofs.ReadingLaws.{converts, plays, says_takes}
+use Rattle.archive_core.proofs.laws.read_in_order.Goals as goal
+
+pub returns-clause-converts : goal.returns-clause-converts
+returns-clause-converts c = converts
+
+pub returns-clause-plays : goal.returns-clause-plays
+returns-clause-plays c = plays
+
+pub returns-clause-takes : goal.returns-clause-takes
+returns-clause-takes c = says_takes

@@ -1,0 +1,64 @@
+-- The window of a bridge between two cues lies within the limits.
+use Rattle.std.proofs.Common.{◌≡◌, ℕ, ◌+◌, ◌-◌, ◌<◌, ◌≤◌, ℤ, Bool, List, length, get_or, sym, ap, ◌∙◌, arith}
+use Rattle.std.specs.Prelude.{string_bytes}
+use Rattle.std.proofs.lemmas.List.{get_or-map, length-map}
+use Rattle.std.proofs.lemmas.List.Elements.{All-get_or}
+use Rattle.dsd_bits.proofs.PackingLemmas.{length-slice_range}
+use Rattle.project_core.specs.Cues.{IsCueWithin, IsSplicing, cue_content}
+use Rattle.project_core.specs.Splices.{SpliceContent, splice_content}
+use Rattle.project_core.specs.declared.cue.Cue.{Cue}
+use Rattle.project_core.specs.declared.splice.Splice.{Splice}
+use Rattle.cost_core.specs.Limits.{IsBridging}
+use Rattle.cost_core.specs.Windows.{bridging, cue_at}
+use Rattle.cost_core.proofs.TargetLaws.{targets_number, targets_small}
+
+-- what a splice keeps of itself
+pub splicing : (splice : Splice) → IsSplicing (splice_content splice).weights (length (splice_content splice).takes) (splice_content splice).cues
+splicing splice = rw (length-map splice.takes.items string_bytes) splice.limits
+
+-- a cue that was read is that of the splice
+pub cue_read : (splice : Splice) (i : ℕ) (c : Cue) → i < length (splice_content splice).cues → c ≡ get_or splice.cues.items i c → cue_content c ≡ cue_at (splice_content splice) i
+cue_read splice i c h e =
+    let there : i < length splice.cues.items = omega (arith, length-map splice.cues.items cue_content) in
+    ap cue_content e ∙ sym (get_or-map cue_content splice.cues.items i c _ there)
+
+module _ (splice : SpliceContent) (fine : IsSplicing splice.weights (length splice.takes) splice.cues) where
+  -- each cue is within the limits
+  pub cue_fits : (i : ℕ) → i < length splice.cues → IsCueWithin (length splice.weights) (length splice.takes) (cue_at splice i)
+  cue_fits i h = All-get_or (IsCueWithin (length splice.weights) (length splice.takes)) splice.cues i _ h fine.each_fits
+
+  module _ (i : ℕ) (a b : List Bool) (there : i + 1 < length splice.cues) (inside : (cue_at splice i).stop ≤ length a) (next_inside : (cue_at splice (i + 1)).stop ≤ length b) where
+    before : IsCueWithin (length splice.weights) (length splice.takes) (cue_at splice i)
+    before = cue_fits i (omega arith)
+
+    next : IsCueWithin (length splice.weights) (length splice.takes) (cue_at splice (i + 1))
+    next = cue_fits (i + 1) there
+
+    pub preceding_many : length (bridging splice i a b).preceding ≡ length splice.weights - 1
+    preceding_many =
+        let stop = (cue_at splice i).stop in
+        length-slice_range a (stop - (length splice.weights - 1)) stop inside ∙ omega (arith, fine.weights_fit.two_weights, before.long_enough)
+
+    pub following_many : length (bridging splice i a b).following ≡ length splice.weights - 1
+    following_many =
+        let start = (cue_at splice (i + 1)).start in
+        length-slice_range b start (start + (length splice.weights - 1)) (omega (arith, fine.weights_fit.two_weights, next.long_enough)) ∙ omega arith
+
+    pub bridging_limits : IsBridging (bridging splice i a b)
+    bridging_limits =
+        let some = fine.weights_fit.two_weights in
+        record {
+          weights_in = fine.weights_fit;
+          before = omega (arith, preceding_many);
+          after = omega (arith, following_many);
+          levels_in = before.bridge_fits;
+          target_in = λ k. targets_small (cue_at splice i).target splice.weights fine.weights_fit a (cue_at splice i).stop b (cue_at splice (i + 1)).start (cue_at splice i).bridge (k - 1);
+        }
+
+    pub targets_many : length (bridging splice i a b).targets ≡ (bridging splice i a b).levels + length (bridging splice i a b).following
+    targets_many = targets_number (cue_at splice i).target splice.weights a (cue_at splice i).stop b (cue_at splice (i + 1)).start (cue_at splice i).bridge ∙ omega (arith, following_many)
+
+-- equal parts make equal limits
+pub limits_of : (w x : List ℤ) (k l : ℕ) (p q f g : List Bool) (t u : List ℤ) → w ≡ x → k ≡ l → p ≡ q → f ≡ g → t ≡ u → IsBridging (record { weights = x; levels = l; preceding = q; following = g; targets = u }) →
+    IsBridging (record { weights = w; levels = k; preceding = p; following = f; targets = t })
+limits_of w x k l p q f g t u ew el ep ef et i = rw (ew, el, ep, ef, et) i

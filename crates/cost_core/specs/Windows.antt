@@ -1,0 +1,29 @@
+-- The cues of a splice, and what the window of the bridge between two of them holds.
+use Rattle.std.specs.Prelude.{ℕ, ◌+◌, ◌-◌, Bool, List, length, slice_range, slice_index_or, None}
+use Rattle.project_core.specs.Cues.{CueContent}
+use Rattle.project_core.specs.Splices.{SpliceContent}
+use Rattle.project_core.specs.declared.cue.Target.TheVariants as targets
+use Rattle.cost_core.specs.Bridges.{Bridging}
+use Rattle.cost_core.specs.Targets.{targets_of}
+
+-- cue i of a splice; past the last one a cue of no bits
+abbrev pub cue_at : SpliceContent → ℕ → CueContent
+cue_at splice i = slice_index_or splice.cues i (record { take = 0; start = 0; stop = 0; bridge = 0; target = targets.Fade; title = None })
+
+-- the bits of cue i in its take a
+abbrev pub cued : SpliceContent → ℕ → List Bool → List Bool
+cued splice i a = slice_range a (cue_at splice i).start (cue_at splice i).stop
+
+-- the bridge after cue i, from its take a to the take b of the next cue: the last bits before it and the first after it that a weight reads, and the targets of its places
+abbrev pub bridging : SpliceContent → ℕ → List Bool → List Bool → Bridging
+bridging splice i a b =
+    let before = cue_at splice i in
+    let after = cue_at splice (i + 1) in
+    let width = length splice.weights - 1 in
+    record {
+      weights = splice.weights;
+      levels = before.bridge;
+      preceding = slice_range a (before.stop - width) before.stop;
+      following = slice_range b after.start (after.start + width);
+      targets = targets_of before.target splice.weights a before.stop b after.start before.bridge;
+    }

@@ -1,0 +1,19 @@
+use Rattle.std.proofs.Common.{◌≡◌, ◌+◌, ◌++◌, ◌∷◌, [], ◌∙◌, ap, arith, flat_map, sym}
+use Rattle.std.specs.List.{range_with_len}
+use Rattle.std.proofs.lemmas.List.{append-nil}
+use Rattle.std.proofs.lemmas.Grind.{flat_map-append}
+use Rattle.cut_core.specs.Bridges.{places_behind}
+use Rattle.cut_core.proofs.BridgeLaws.{range_more}
+use Rattle.cut_core.proofs.bridges.bridge_places.Goals as goal
+
+pub loop-cue-preserved : goal.loop-cue-preserved
+loop-cue-preserved c =
+    let i = c.loop-cue.cue in
+    let none : 0 + i ≡ i = omega arith in
+    let behind = places_behind c.args.cut.now in
+    let pushed = c.in_ok-push_places.ensures in
+    record {
+      places = pushed.appended ∙ ap (λ (l : _). l ++ behind i) c.loop-cue.invariant.places ∙ sym (rw (range_more 0 i, none) (flat_map-append behind (range_with_len 0 i) (i ∷ []) ∙ ap (λ (l : _). flat_map behind (range_with_len 0 i) ++ l) (append-nil (behind i))));
+      each = pushed.each c.loop-cue.invariant.each;
+      few = omega (arith, pushed.few, c.loop-cue.invariant.few);
+    }

@@ -1,0 +1,48 @@
+//! The cues of a splice, and the takes that they are cut from.
+
+ghost use Rattle.std.specs.Prelude.{◌≡◌, ◌+◌, ◌^◌, ◌<◌, ◌≤◌, length};
+ghost use Rattle.project_core.specs.Cues.{IsCueWithin, cue_content};
+ghost use Rattle.project_core.specs.Splices.{splice_content};
+ghost use Rattle.cost_core.specs.Windows as fades;
+ghost use Rattle.cut_core.specs.Cuts.{span, take_at};
+
+use dsd_bits::Recording;
+use project_core::{Cue, Splice};
+
+/// How many cues a splice has.
+pub fn cue_number(splice: &Splice) -> usize
+    ensures value { result ≡ length (splice_content splice.now).cues }
+    ensures some { 1 ≤ result }
+    ensures few { result ≤ 256 }
+{
+    splice.cues.len()
+}
+
+/// Cue `i` of a splice.
+pub fn cue_at(splice: &Splice, i: usize) -> &Cue
+    requires { i < length (splice_content splice.now).cues }
+    ensures value { cue_content result.now ≡ fades.cue_at (splice_content splice.now) i }
+    ensures fits { IsCueWithin (length (splice_content splice.now).weights) (length (splice_content splice.now).takes) (cue_content result.now) }
+{
+    &splice.cues[i]
+}
+
+/// How many bits of the master cue `i` and the bridge behind it take.
+pub fn span_at(splice: &Splice, i: usize) -> usize
+    requires { i < length (splice_content splice.now).cues }
+    ensures value { result ≡ span (fades.cue_at (splice_content splice.now) i) }
+    ensures bound { result ≤ 2 ^ 36 + 4096 }
+{
+    let cue = cue_at(splice, i);
+    cue.stop - cue.start + cue.bridge
+}
+
+/// The take that cue `i` is cut from.
+pub fn take_of<'a>(splice: &Splice, takes: &'a [Recording], i: usize) -> &'a Recording
+    requires cue { i < length (splice_content splice.now).cues }
+    requires takes { length takes.now ≡ length (splice_content splice.now).takes }
+    ensures value { result.now ≡ take_at takes.now (fades.cue_at (splice_content splice.now) i).take }
+    ensures there { (fades.cue_at (splice_content splice.now) i).take < length takes.now }
+{
+    &takes[cue_at(splice, i).take]
+}

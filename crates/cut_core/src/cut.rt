@@ -1,0 +1,177 @@
+//! A splice with its takes.
+
+ghost use Rattle.std.specs.Prelude.{◌≡◌, ◌+◌, ◌^◌, ◌<◌, ◌≤◌, All, IfErr, IfOk, length, map};
+ghost use Rattle.dsd_bits.specs.Contents.{mark_content};
+ghost use Rattle.project_core.specs.Cues.{IsCueWithin, cue_content};
+ghost use Rattle.project_core.specs.Splices.{splice_content};
+ghost use Rattle.cut_core.specs.Bridges as places;
+ghost use Rattle.cut_core.specs.Bridges.{IsPlace};
+ghost use Rattle.cut_core.specs.Cuts as cuts;
+ghost use Rattle.cut_core.specs.Cuts.{CutContent, cue_at, master_length, span, take_at};
+ghost use Rattle.cut_core.specs.Keeping.{CanCut};
+ghost use Rattle.cut_core.specs.Opening.{AnswersThis, CutStandsFirst, OpensCut, bytes_of};
+ghost use Rattle.cut_core.specs.Titles.{titles_of};
+
+use crate::bridges::{BridgePlace, bridge_places};
+use crate::cues;
+use crate::fault::CutFault;
+use crate::rooms::can_cut;
+use crate::takes::{self, takes_of};
+use crate::titles::title_marks;
+use cost_core::Window;
+use dsd_bits::{Bits, Mark, Recording};
+use form_core::Form;
+use project_core::{Cue, Splice};
+use std::alloc::{AllocError, Global};
+use std::marker::Model;
+
+/// A splice with the recordings of its takes, from which a master can be cut: the takes are of one sample rate and one
+/// number of channels, each cue ends within its take, the master has at most `2^36` bits a channel, and each bridge has
+/// room in both its takes.
+#[derive(Drop)]
+pub struct Cut {
+    splice: Splice,
+    takes: Vec<Recording>,
+}
+
+impl Model for Cut {
+    ghost use Rattle.cut_core.specs.Cuts.{CutContent};
+    ghost use Rattle.cut_core.specs.View.{KeepsCut, cut_of};
+
+    ghost Value = { CutContent };
+
+    ghost view = { cut_of };
+
+    ghost invariant = { KeepsCut };
+}
+
+impl Cut {
+    /// A splice with its takes, read from their files, DSDIFF or DSF, in the order of their numbers. `form` is the form
+    /// of the file that is to be cut, where one is.
+    ///
+    /// Refusals, in this order: `TakeNumber` where there are not as many files as takes, `TakeUnread` of the first file
+    /// that isn't read, `TakeMismatch` of the first take that isn't like take 0, `CueOutside` of the first cue that
+    /// stops behind the end of its take, `MasterTooLong` where the master would have more than `2^36` bits a channel,
+    /// `NotWholeBytes` where the form is DSDIFF and the master's channels would end inside a byte, then by rising cue
+    /// `NoRoomBefore` and `NoRoomAfter`. Every want of memory is `Memory`.
+    pub fn open(
+        alloc: Global,
+        splice: Splice,
+        files: &[Vec<u8>],
+        form: Option<Form>,
+    ) -> Result<Cut, CutFault>
+        ensures found { IfOk result (OpensCut (splice_content splice) (bytes_of files.now) form) }
+        ensures only { (cut : CutContent) → OpensCut (splice_content splice) (bytes_of files.now) form cut → AnswersThis (λ x. x) result cut }
+        ensures refused { IfErr result (CutStandsFirst (splice_content splice) (bytes_of files.now) form) }
+    {
+        let takes = takes_of(alloc, &splice, files)?;
+        can_cut(&splice, &takes, form)?;
+        Ok(Cut { splice, takes })
+    }
+
+    /// What a cut keeps, for those who build on it. It does nothing.
+    pub fn can_cut(&self)
+        ensures { CanCut self.now }
+    {
+        let _ = self.takes.len();
+    }
+
+    /// How many cues there are.
+    pub fn cue_number(&self) -> usize
+        ensures value { result ≡ length self.now.splice.cues }
+        ensures some { 1 ≤ result }
+        ensures few { result ≤ 256 }
+    {
+        cues::cue_number(&self.splice)
+    }
+
+    /// Cue `i`.
+    pub fn cue(&self, i: usize) -> &Cue
+        requires { i < length self.now.splice.cues }
+        ensures value { cue_content result.now ≡ cue_at self.now i }
+        ensures fits { IsCueWithin (length self.now.splice.weights) (length self.now.splice.takes) (cue_content result.now) }
+    {
+        cues::cue_at(&self.splice, i)
+    }
+
+    /// How many bits of the master cue `i` and the bridge behind it take.
+    pub fn span(&self, i: usize) -> usize
+        requires { i < length self.now.splice.cues }
+        ensures value { result ≡ span (cue_at self.now i) }
+        ensures bound { result ≤ 2 ^ 36 + 4096 }
+    {
+        cues::span_at(&self.splice, i)
+    }
+
+    /// How many weights there are: 2 to 12.
+    pub fn weight_number(&self) -> usize
+        ensures value { result ≡ length self.now.splice.weights }
+        ensures some { 2 ≤ result }
+        ensures few { result ≤ 12 }
+    {
+        self.splice.weights.len()
+    }
+
+    /// How many bits each channel of the master has.
+    pub fn length(&self) -> usize
+        ensures value { result ≡ master_length self.now.splice.cues }
+        ensures in_limit { result ≤ 2 ^ 36 }
+    {
+        takes::master_length(&self.splice)
+    }
+
+    /// The first take, whose sample rate, channel IDs and layout the master has.
+    pub fn first(&self) -> &Recording
+        ensures { result.now ≡ take_at self.now.takes 0 }
+    {
+        &self.takes[0]
+    }
+
+    /// How many channels the takes have, and so the master: 1 to 6.
+    pub fn channel_number(&self) -> usize
+        ensures value { result ≡ cuts.channel_number self.now }
+        ensures few { result ≤ 6 }
+    {
+        self.first().channels().len()
+    }
+
+    /// Channel `c` of the take of cue `i`.
+    pub fn source(&self, c: usize, i: usize) -> &Bits
+        requires channel { c < cuts.channel_number self.now }
+        requires cue { i < length self.now.splice.cues }
+        ensures value { result.now ≡ cuts.source self.now c i }
+        ensures inside { (cue_at self.now i).stop ≤ length result.now }
+    {
+        let take = cues::take_of(&self.splice, &self.takes, i);
+        &take.channels()[c]
+    }
+
+    /// The places of all bridges, by rising cue and then by rising channel. A plain cut is no bridge. Err is want of
+    /// memory.
+    pub fn bridges(&self, alloc: Global) -> Result<Vec<BridgePlace>, AllocError>
+        ensures places { IfOk result (λ made. made.items ≡ places.bridges self.now) }
+        ensures each { IfOk result (λ made. All (IsPlace self.now) made.items) }
+        ensures few { IfOk result (λ made. length made.items ≤ 1536) }
+    {
+        bridge_places(alloc, self)
+    }
+
+    /// The window of the bridge at a place. Err is want of memory.
+    pub fn window(&self, alloc: Global, place: BridgePlace) -> Result<Window, AllocError>
+        requires { IsPlace self.now place }
+        ensures { IfOk result (λ window. window ≡ cuts.window self.now place.channel place.cue) }
+    {
+        self.can_cut();
+        let BridgePlace { cue, channel } = place;
+        let a = self.source(channel, cue);
+        let b = self.source(channel, cue + 1);
+        Window::new(alloc, &self.splice, a, b, cue).map_err(|_| AllocError)
+    }
+
+    /// The marks of the titles: one at the first bit of the master of each cue that has a title. Err is want of memory.
+    pub fn titles(&self, alloc: Global) -> Result<Vec<Mark>, AllocError>
+        ensures { IfOk result (λ made. map mark_content made.items ≡ titles_of self.now) }
+    {
+        title_marks(alloc, &self.splice, self.first().rate())
+    }
+}

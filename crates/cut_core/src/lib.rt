@@ -1,0 +1,33 @@
+//! A splice with the recordings of its takes, ready to be cut: what masters are made of and judged by.
+//!
+//! [`Cut::open`] reads the takes of a splice from their files and asks all that a cut needs: that the takes are
+//! alike, each cue ends within its take, the master is within its limit and each bridge has room. What it answers keeps
+//! this, so that whoever has a [`Cut`] has a cue, its take, the window of a bridge, the list of all bridges and the
+//! marks of the titles for the asking.
+//!
+//! The words of the contracts: `CutContent` is a splice and its takes, `CanCut` what a cut keeps; `OpensCut splice
+//! files form cut` says that the files hold these takes, and that a file of the form, if one is asked for, can be cut
+//! from them (`specs/Opening.antt`); `CutStandsFirst` which fault stands first where not. `source cut c i`, `cue_bits
+//! cut c i` and `window cut c i` are the channel, the bits of cue `i` and the window of the bridge behind it in channel
+//! `c` (`specs/Cuts.antt`); `bridges cut` are the places of all bridges in their one order (`specs/Bridges.antt`).
+//!
+//! ```text
+//! let cut = Cut::open(alloc, splice, &files, Some(Form::Dsdiff))?;
+//! for place in cut.bridges(alloc)?.iter() {
+//!     let window = cut.window(alloc, *place)?;
+//! }
+//! ```
+#![tactic(auto)]
+
+mod bridges;
+mod cues;
+mod cut;
+mod fault;
+mod rooms;
+mod takes;
+mod titles;
+
+pub use bridges::BridgePlace;
+pub use cut::Cut;
+pub use fault::CutFault;
+pub use takes::differ;

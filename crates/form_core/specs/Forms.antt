@@ -1,0 +1,39 @@
+-- The forms that a recording is kept in.
+use Rattle.std.specs.Prelude.{ℕ, List, Option, Some, ◌+◌, length, nat_eq, if◌then◌else◌}
+use Rattle.dsd_bits.specs.declared.blocks.BitOrder.{BitOrder}
+use Rattle.dsd_bits.specs.declared.blocks.BitOrder.TheVariants.{LeastFirst, MostFirst}
+use Rattle.dsd_bits.specs.Contents.{Content}
+use Rattle.dsdiff_core.specs.Files.{IsDsdiff}
+use Rattle.dsdiff_core.specs.Writing.{dsdiff_text}
+use Rattle.dsf_core.specs.Files.{IsDsf}
+use Rattle.dsf_core.specs.Writing.{dsf_text}
+use Rattle.form_core.specs.declared.form.Form.{Form}
+use Rattle.form_core.specs.declared.form.Form.TheVariants.{Dsdiff, Dsf, Dsf8}
+
+-- the file has this form and holds this recording
+abbrev pub Holds : List ℕ → Form → Content → Type 0
+Holds file Dsdiff r = IsDsdiff file r
+Holds file Dsf r = IsDsf file r LeastFirst
+Holds file Dsf8 r = IsDsf file r MostFirst
+
+-- the file has some form and holds this recording
+pub record HoldsSome (file : List ℕ) (recording : Content) : Type 0 where
+  pub form : Form
+  pub holds : Holds file form recording
+
+-- the form of a DSF file whose bits stand in this order
+abbrev pub form_of : BitOrder → Form
+form_of LeastFirst = Dsf
+form_of MostFirst = Dsf8
+
+-- the file of this form that is written for a recording; DSDIFF has none for part of a byte
+abbrev pub text_in : Form → Content → Option (List ℕ)
+text_in Dsdiff r = dsdiff_text r
+text_in Dsf r = Some (dsf_text r LeastFirst)
+text_in Dsf8 r = Some (dsf_text r MostFirst)
+
+-- how many parts of a recording a file of this form has no place for: a tag, or each mark and each kept chunk
+abbrev pub dropped_in : Form → Content → ℕ
+dropped_in Dsdiff r = if nat_eq (length r.tag) 0 then 0 else 1
+dropped_in Dsf r = length r.marks + length r.others
+dropped_in Dsf8 r = length r.marks + length r.others

@@ -1,0 +1,6 @@
+pub mod Faults
+pub mod Forms
+pub mod Laws
+pub mod Opening
+pub mod Steps
+pub mod Writing

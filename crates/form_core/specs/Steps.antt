@@ -1,0 +1,16 @@
+-- Steps that may fail, and what a call answers of them.
+use Rattle.std.specs.Prelude.{◌≡◌, ◌⊎◌, Result, Ok, Err}
+
+-- the same steps, with each fault under another name
+abbrev pub map_err : {X E F : Type 0} → (E → F) → Result X E → Result X F
+map_err f (Ok x) = Ok x
+map_err f (Err e) = Err (f e)
+
+-- a call is refused as the steps are, want of memory aside
+abbrev pub Fails : {Y E : Type 0} → E → E → Result Y E → Type 0
+Fails memory e steps = (e ≡ memory) ⊎ (steps ≡ Err e)
+
+-- what a call answered, its value seen by view, is what the steps come to, want of memory aside
+abbrev pub Gives : {X Y E : Type 0} → E → (X → Y) → Result X E → Result Y E → Type 0
+Gives memory view (Ok x) steps = steps ≡ Ok (view x)
+Gives memory view (Err e) steps = Fails memory e steps

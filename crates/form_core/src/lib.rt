@@ -1,0 +1,41 @@
+//! The forms of file that hold a one-bit recording.
+//!
+//! [`read_any`] reads a DSDIFF 1.5 or DSF 1.01 file, and [`write_in`] makes the file of a [`Form`] that holds
+//! a recording; [`dropped_in`] counts what such a file has no place for.
+//!
+//! The words of its contracts:
+//!
+//! - `Holds file form r` says that the file has this form and holds this recording, `HoldsSome file r` the same
+//!   of some form; `text_in form r` is the file of the form that is written for the recording
+//!   (`specs/Forms.antt`).
+//! - `opened_of file` is the reading in a fixed order, to the form and the recording or the first fault; `Opens`
+//!   says that a call answered it, want of memory aside (`specs/Opening.antt`). That what a file holds is what
+//!   reading it comes to is the law on [`held_is_opened`].
+//! - `HoldsSound form r bytes` says that the bytes are a file of the form with the recording's sound
+//!   (`specs/Writing.antt`).
+//!
+//! What it promises: what is read is what the file holds; whatever recording a file of either format holds is
+//! read; any other file is refused with the first fault that stands. What is written is exactly `text_in`, is
+//! refused where there is none, and is read again with the same sound. `Memory` alone may come in place of
+//! each of these.
+//!
+//! ```text
+//! let opened = read_any(alloc, &file)?;
+//! let bytes = write_in(alloc, &opened.recording, Form::Dsf)?;
+//! ```
+#![tactic(auto)]
+
+mod fault;
+mod form;
+mod laws;
+mod opening;
+mod shape;
+mod writing;
+
+pub use dsdiff_core::WriteFault;
+pub use fault::ReadFault;
+pub use form::Form;
+pub use laws::held_is_opened;
+pub use opening::{Opened, read_any};
+pub use shape::has_shape;
+pub use writing::{dropped_in, write_in};

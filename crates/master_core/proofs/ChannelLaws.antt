@@ -1,0 +1,210 @@
+-- A channel of a master, part by part, and where its bridges stand.
+use Rattle.std.proofs.Common.{◌≡◌, ℕ, zero, suc, ◌+◌, ◌-◌, ◌<◌, ◌≤◌, Bool, List, [], ◌∷◌, ◌++◌, length, get_or, map, slice_get, take, drop, slice_range, sum_by, append_assoc, refl, sym, ap, subst, ◌∙◌, arith}
+use Rattle.std.specs.List.{AllZip, range_with_len}
+use Rattle.std.proofs.Math.Seq.{drop-append_seam, take-append_seam}
+use Rattle.std.proofs.lemmas.List.{ext_get_or, length-append, length-take-le, nil_from_length, take_all, take_more}
+use Rattle.std.proofs.lemmas.List.Sums.{sum_by_more}
+use Rattle.std.proofs.lemmas.List.FromFn.{get_or-map-range_with_len, length-map-range_with_len}
+use Rattle.std.proofs.lemmas.Option.{slice_get-get_or}
+use Rattle.dsd_bits.proofs.PackingLemmas.{length-slice_range}
+use Rattle.project_core.specs.Cues.{bridge_or, last_bridge}
+use Rattle.cost_core.specs.Bridges.{bridge_cost}
+use Rattle.cost_core.specs.Channels.{AreJoined, FadesJoin, HaveLengths, Part, channel}
+use Rattle.cost_core.specs.Least.{IsFirstLeast, NotAfter}
+use Rattle.cut_core.specs.Cuts.{CutContent, channel_number, cue_at, cue_bits, master_length, source, span}
+use Rattle.cut_core.specs.Keeping.{CanCut}
+use Rattle.cut_core.proofs.CutLaws.{source_inside}
+use Rattle.cut_core.proofs.ZipLaws.{zip_long, zip_more}
+use Rattle.trellis_core.specs.declared.bridging.Chosen.{Chosen}
+use Rattle.master_core.specs.Assembling.{IsAssembled, IsBridged}
+use Rattle.master_core.specs.Checking.{rebuilt}
+use Rattle.master_core.specs.Choosing.{IsChosen}
+use Rattle.master_core.specs.Claims.{bridge_bits, bridge_start}
+use Rattle.master_core.specs.Masters.{IsBestChannel, IsFirstLeastPart, master_channel, part_at, parts_of}
+
+-- no part
+pub channel_none : (cue : List Bool) → cue ≡ channel cue [] []
+unfolding channel
+channel_none cue = refl
+
+-- a part more
+pub channel_on : (cue : List Bool) (ps : List Part) (xs : List (List Bool)) (p : Part) (x : List Bool) → length xs ≡ length ps → channel cue (ps ++ p ∷ []) (xs ++ x ∷ []) ≡ channel cue ps xs ++ (x ++ p.cue)
+unfolding channel
+channel_on cue [] [] p x h = refl
+channel_on cue [] (y ∷ xs) p x h = absurd (omega arith)
+channel_on cue (q ∷ ps) [] p x h = absurd (omega arith)
+channel_on cue (q ∷ ps) (y ∷ xs) p x h =
+    let rest = channel q.cue ps xs in
+    ap (λ l. cue ++ (y ++ l)) (channel_on q.cue ps xs p x (omega arith)) ∙ ap (λ l. cue ++ l) (sym (append_assoc y rest (x ++ p.cue))) ∙ sym (append_assoc cue (y ++ rest) (x ++ p.cue))
+
+pub lengths_as_many : (ps : List Part) (xs : List (List Bool)) → HaveLengths ps xs → length xs ≡ length ps
+unfolding HaveLengths
+lengths_as_many [] [] h = refl
+lengths_as_many [] (x ∷ xs) h = absurd h
+lengths_as_many (p ∷ ps) [] h = absurd h
+lengths_as_many (p ∷ ps) (x ∷ xs) h = ap suc (lengths_as_many ps xs h.1)
+
+pub length_at : (ps : List Part) (xs : List (List Bool)) (i : ℕ) (d : Part) (e : List Bool) → HaveLengths ps xs → i < length ps → length (get_or xs i e) ≡ (get_or ps i d).bridging.levels
+unfolding HaveLengths
+length_at [] xs i d e h lt = absurd (omega arith)
+length_at (p ∷ ps) [] i d e h lt = absurd h
+length_at (p ∷ ps) (x ∷ xs) zero d e h lt = h.0
+length_at (p ∷ ps) (x ∷ xs) (suc i) d e h lt = length_at ps xs i d e h.1 (omega arith)
+
+-- what stands before a bridge, the bridge, and what stands behind it
+split_at : (cue : List Bool) (ps : List Part) (xs : List (List Bool)) (i : ℕ) → length xs ≡ length ps → i < length ps → (rest : List Bool) × (channel cue ps xs ≡ channel cue (take i ps) (take i xs) ++ (get_or xs i [] ++ rest))
+unfolding channel
+split_at cue [] xs i e lt = absurd (omega arith)
+split_at cue (p ∷ ps) [] i e lt = absurd (omega arith)
+split_at cue (p ∷ ps) (x ∷ xs) zero e lt = (channel p.cue ps xs, refl)
+split_at cue (p ∷ ps) (x ∷ xs) (suc i) e lt =
+    let (rest, is) = split_at p.cue ps xs i (omega arith) (omega arith) in
+    let before = channel p.cue (take i ps) (take i xs) in
+    let behind = get_or xs i [] ++ rest in
+    (rest, ap (λ l. cue ++ (x ++ l)) is ∙ ap (λ l. cue ++ l) (sym (append_assoc x before behind)) ∙ sym (append_assoc cue (x ++ before) behind))
+
+-- a part of a list
+part_of : (a x rest : List Bool) (n m : ℕ) → length a ≡ n → length x ≡ m → slice_range (a ++ (x ++ rest)) n (n + m) ≡ x
+part_of a x rest n m e f =
+    let count : n + m - n ≡ length x = omega arith in
+    ap (λ k. take k (drop n (a ++ (x ++ rest)))) count ∙ ap (λ k. take (length x) (drop k (a ++ (x ++ rest)))) (sym e) ∙ ap (take (length x)) (drop-append_seam a (x ++ rest)) ∙ take-append_seam x rest
+
+-- ---- a channel in the making
+pub assembled_nothing : (cue : List Bool) → IsAssembled cue [] cue
+unfolding channel
+assembled_nothing cue = record { bridges = []; best = tt; made = refl }
+
+pub assembled_more : (cue : List Bool) (ps : List Part) (i : ℕ) (p : Part) (z z1 z2 : List Bool) → i < length ps → get_or ps i p ≡ p → IsAssembled cue (take i ps) z → IsBridged p z z1 → z2 ≡ z1 ++ p.cue → IsAssembled cue (take (i + 1) ps) z2
+assembled_more cue ps i p z z1 z2 lt is so_far bridged next =
+    let x = bridged.bits in
+    let more : take (i + 1) ps ≡ take i ps ++ p ∷ [] = take_more ps i p lt ∙ ap (λ q. take i ps ++ q ∷ []) is in
+    let many = zip_long IsFirstLeastPart (take i ps) so_far.bridges so_far.best in
+    rw more (record {
+      bridges = so_far.bridges ++ x ∷ [];
+      best = zip_more IsFirstLeastPart (take i ps) so_far.bridges p x so_far.best bridged.first_least;
+      made = next ∙ ap (λ l. l ++ p.cue) (bridged.appended ∙ ap (λ l. l ++ x) so_far.made) ∙ append_assoc (channel cue (take i ps) so_far.bridges) x p.cue ∙ sym (channel_on cue (take i ps) so_far.bridges p x many);
+    })
+
+pub best_of : (cut : CutContent) (c i : ℕ) (z : List Bool) → length cut.splice.cues - 1 ≤ i → IsAssembled (cue_bits cut c 0) (take i (parts_of cut c)) z → IsBestChannel cut c z
+best_of cut c i z ge made =
+    let all : take i (parts_of cut c) ≡ parts_of cut c = take_all i (parts_of cut c) (omega (arith, length-map-range_with_len (part_at cut c) 0 (length cut.splice.cues - 1))) in
+    let whole = subst (λ ps. IsAssembled (cue_bits cut c 0) ps z) all made in
+    record { bridges = whole.bridges; best = whole.best; made = whole.made }
+
+-- a plain cut
+nothing_first : (levels : ℕ) (cost : List Bool → ℕ) → levels ≡ 0 → IsFirstLeast levels cost []
+unfolding NotAfter
+nothing_first levels cost e = record { is_least = record { long = sym e; least = λ y h. let none : y ≡ [] = nil_from_length y (h ∙ e) in rw none (omega arith) }; first = λ y h same. tt }
+
+pub bridged_nothing : (p : Part) (before : List Bool) → p.bridging.levels ≡ 0 → before ≡ before ++ [] → IsBridged p before before
+bridged_nothing p before e same = record { bits = []; first_least = nothing_first p.bridging.levels (bridge_cost p.bridging) e; appended = same }
+
+pub bridged_by : (p : Part) (before after : List Bool) (x : Chosen) → IsChosen p.bridging x → after ≡ before ++ slice_range x.bits 0 (length x.bits) → IsBridged p before after
+bridged_by p before after x chosen more = record {
+  bits = x.bits;
+  first_least = chosen.first_least;
+  appended = let e : length x.bits - 0 ≡ length x.bits = omega arith in more ∙ ap (λ l. before ++ l) (ap (λ n. take n x.bits) e ∙ take_all (length x.bits) x.bits (omega arith));
+}
+
+-- first least bits have the bridges' lengths
+pub best_lengths : (ps : List Part) (xs : List (List Bool)) → AllZip IsFirstLeastPart ps xs → HaveLengths ps xs
+unfolding HaveLengths
+best_lengths [] [] h = tt
+best_lengths [] (x ∷ xs) h = absurd h
+best_lengths (p ∷ ps) [] h = absurd h
+best_lengths (p ∷ ps) (x ∷ xs) h = (h.0.is_least.long, best_lengths ps xs h.1)
+
+-- the spans before the last cue and the last cue are the whole master
+pub whole_length : (cut : CutContent) → CanCut cut → (i : ℕ) → i + 1 ≡ length cut.splice.cues
+    → sum_by span (take i cut.splice.cues) + ((cue_at cut i).stop - (cue_at cut i).start) ≡ master_length cut.splice.cues
+whole_length cut can i e =
+    let cues = cut.splice.cues in
+    let lt : i < length cues = omega arith in
+    let last_is : last_bridge cues ≡ (cue_at cut i).bridge = ap (λ n. bridge_or (slice_get cues n)) (last_place (length cues) i e) ∙ ap bridge_or (slice_get-get_or cues i _ lt) in
+    let all : take (i + 1) cues ≡ cues = take_all (i + 1) cues (omega arith) in
+    let more : sum_by span (take (i + 1) cues) ≡ sum_by span (take i cues) + span (cue_at cut i) = sum_by_more span cues i _ lt in
+    let whole : sum_by span (take (i + 1) cues) ≡ master_length cues = ap (sum_by span) all in
+    omega (arith, last_is, can.splicing.no_last_bridge, more, whole)
+  where
+    last_place : (n i : ℕ) → i + 1 ≡ n → n - 1 ≡ i
+    last_place n i e = omega arith
+
+module _ (cut : CutContent) (can : CanCut cut) (c : ℕ) (there : c < channel_number cut) where
+  abbrev ps : List Part
+  ps = parts_of cut c
+
+  pub part_number : length ps ≡ length cut.splice.cues - 1
+  part_number = length-map-range_with_len (part_at cut c) 0 (length cut.splice.cues - 1)
+
+  pub part_is : (i : ℕ) (d : Part) → i < length cut.splice.cues - 1 → get_or ps i d ≡ part_at cut c i
+  part_is i d lt = get_or-map-range_with_len (part_at cut c) 0 (length cut.splice.cues - 1) i i d lt (omega arith)
+
+  pub cue_long : (i : ℕ) → i < length cut.splice.cues → length (cue_bits cut c i) ≡ (cue_at cut i).stop - (cue_at cut i).start
+  cue_long i lt = length-slice_range _ (cue_at cut i).start (cue_at cut i).stop (source_inside cut can c there i lt)
+
+  -- what stands before the bridge behind cue i has as many bits as are before it in the master
+  pub before_long : (xs : List (List Bool)) → HaveLengths ps xs → (i : ℕ) → i < length cut.splice.cues → length (channel (cue_bits cut c 0) (take i ps) (take i xs)) ≡ bridge_start cut i
+  unfolding channel
+  before_long xs h zero lt = omega (arith, cue_long 0 lt)
+  before_long xs h (suc i) lt =
+      let d = part_at cut c i in
+      let x = get_or xs i [] in
+      let below : i < length cut.splice.cues = omega arith in
+      let inside : i < length ps = omega (arith, part_number) in
+      let many = lengths_as_many ps xs h in
+      let short : length (take i xs) ≡ length (take i ps) = length-take-le i xs (omega arith) ∙ sym (length-take-le i ps (omega arith)) in
+      let p_more : take (i + 1) ps ≡ take i ps ++ d ∷ [] = take_more ps i d inside ∙ ap (λ q. take i ps ++ q ∷ []) (part_is i d (omega arith)) in
+      let x_more : take (i + 1) xs ≡ take i xs ++ x ∷ [] = take_more xs i [] (omega arith) in
+      let long : length x ≡ (cue_at cut i).bridge = length_at ps xs i d [] h inside ∙ ap (λ (q : Part). q.bridging.levels) (part_is i d (omega arith)) in
+      let one : channel (cue_bits cut c 0) (take (i + 1) ps) (take (i + 1) xs) ≡ channel (cue_bits cut c 0) (take i ps) (take i xs) ++ (x ++ cue_bits cut c (i + 1)) = rw (p_more, x_more) (channel_on (cue_bits cut c 0) (take i ps) (take i xs) d x short) in
+      let sums : sum_by span (take (i + 1) cut.splice.cues) ≡ sum_by span (take i cut.splice.cues) + span (cue_at cut i) = sum_by_more span cut.splice.cues i _ below in
+      let next : i + 1 ≡ suc i = omega arith in
+      let whole : length (channel (cue_bits cut c 0) (take (i + 1) ps) (take (i + 1) xs)) ≡ bridge_start cut (i + 1) =
+      omega (arith, ap length one, length-append (channel (cue_bits cut c 0) (take i ps) (take i xs)) (x ++ cue_bits cut c (i + 1)), length-append x (cue_bits cut c (i + 1)), long, before_long xs h i below, cue_long (i + 1) (omega arith), sums) in
+      subst (λ n. length (channel (cue_bits cut c 0) (take n ps) (take n xs)) ≡ bridge_start cut n) next whole
+
+  -- the bits that stand in the master for a bridge are the bridge's
+  pub bridge_in_channel : (z : List Bool) (xs : List (List Bool)) → HaveLengths ps xs → z ≡ master_channel cut c xs → (i : ℕ) → i < length cut.splice.cues - 1 → bridge_bits cut z i ≡ get_or xs i []
+  bridge_in_channel z xs h is i lt =
+      let inside : i < length ps = omega (arith, part_number) in
+      let (rest, split) = split_at (cue_bits cut c 0) ps xs i (lengths_as_many ps xs h) inside in
+      let d = part_at cut c i in
+      let long : length (get_or xs i []) ≡ (cue_at cut i).bridge = length_at ps xs i d [] h inside ∙ ap (λ (q : Part). q.bridging.levels) (part_is i d lt) in
+      ap (λ l. slice_range l (bridge_start cut i) (bridge_start cut i + (cue_at cut i).bridge)) (is ∙ split) ∙ part_of (channel (cue_bits cut c 0) (take i ps) (take i xs)) (get_or xs i []) rest (bridge_start cut i) (cue_at cut i).bridge (before_long xs h i (omega arith)) long
+
+  -- a channel of cues and bridges is rebuilt of them
+  pub is_rebuilt : (z : List Bool) (xs : List (List Bool)) → HaveLengths ps xs → z ≡ master_channel cut c xs → z ≡ rebuilt cut c z
+  is_rebuilt z xs h is =
+      let n = length cut.splice.cues - 1 in
+      let own = map (bridge_bits cut z) (range_with_len 0 n) in
+      let many : length xs ≡ length own = omega (arith, lengths_as_many ps xs h, part_number, length-map-range_with_len (bridge_bits cut z) 0 n) in
+      let same : xs ≡ own = ext_get_or [] xs own many (λ i lt.
+      let below : i < n = omega (arith, lengths_as_many ps xs h, part_number) in
+      sym (get_or-map-range_with_len (bridge_bits cut z) 0 n i i [] below (omega arith) ∙ bridge_in_channel z xs h is i below)) in
+      is ∙ ap (master_channel cut c) same
+
+  -- a channel is rebuilt part by part
+  pub rebuilt_more : (z bits more next : List Bool) (i : ℕ) → i < length cut.splice.cues - 1 → bits ≡ channel (cue_bits cut c 0) (take i ps) (take i (map (bridge_bits cut z) (range_with_len 0 (length cut.splice.cues - 1)))) → more ≡ bits ++ bridge_bits cut z i
+      → next ≡ more ++ cue_bits cut c (i + 1) → next ≡ channel (cue_bits cut c 0) (take (i + 1) ps) (take (i + 1) (map (bridge_bits cut z) (range_with_len 0 (length cut.splice.cues - 1))))
+  rebuilt_more z bits more next i lt so_far bridged cued =
+      let n = length cut.splice.cues - 1 in
+      let own = map (bridge_bits cut z) (range_with_len 0 n) in
+      let d = part_at cut c i in
+      let x = bridge_bits cut z i in
+      let many = length-map-range_with_len (bridge_bits cut z) 0 n in
+      let p_more : take (i + 1) ps ≡ take i ps ++ d ∷ [] = take_more ps i d (omega (arith, part_number)) ∙ ap (λ q. take i ps ++ q ∷ []) (part_is i d lt) in
+      let x_more : take (i + 1) own ≡ take i own ++ x ∷ [] = take_more own i x (omega (arith, many)) ∙ ap (λ q. take i own ++ q ∷ []) (get_or-map-range_with_len (bridge_bits cut z) 0 n i i x lt (omega arith)) in
+      let short : length (take i own) ≡ length (take i ps) = length-take-le i own (omega (arith, many)) ∙ sym (length-take-le i ps (omega (arith, part_number))) in
+      rw (p_more, x_more) (cued ∙ ap (λ l. l ++ cue_bits cut c (i + 1)) (bridged ∙ ap (λ l. l ++ x) so_far) ∙ append_assoc (channel (cue_bits cut c 0) (take i ps) (take i own)) x (cue_bits cut c (i + 1)) ∙ sym (channel_on (cue_bits cut c 0) (take i ps) (take i own) d x short))
+
+  pub rebuilt_all : (z bits : List Bool) (i : ℕ) → length cut.splice.cues - 1 ≤ i → bits ≡ channel (cue_bits cut c 0) (take i ps) (take i (map (bridge_bits cut z) (range_with_len 0 (length cut.splice.cues - 1)))) → bits ≡ rebuilt cut c z
+  rebuilt_all z bits i ge h =
+      let n = length cut.splice.cues - 1 in
+      let own = map (bridge_bits cut z) (range_with_len 0 n) in
+      h ∙ ap (λ l. channel (cue_bits cut c 0) l (take i own)) (take_all i ps (omega (arith, part_number))) ∙ ap (λ l. channel (cue_bits cut c 0) ps l) (take_all i own (omega (arith, length-map-range_with_len (bridge_bits cut z) 0 n)))
+
+  -- the bridges join the cues
+  pub joined : FadesJoin → (n i : ℕ) → i + n < length cut.splice.cues → AreJoined (cue_bits cut c i) (map (part_at cut c) (range_with_len i n))
+  unfolding AreJoined
+  joined law zero i lt = tt
+  joined law (suc n) i lt = (law cut.splice i (source cut c i) (source cut c (i + 1)) can.splicing (omega arith) (source_inside cut can c there i (omega arith)) (source_inside cut can c there (i + 1) (omega arith)), joined law n (i + 1) (omega arith))

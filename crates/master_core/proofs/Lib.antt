@@ -1,0 +1,7 @@
+pub mod ChannelLaws
+pub mod ChoiceLaws
+pub mod CompareLaws
+pub mod EntryLaws
+pub mod JudgeLaws
+pub mod MasterLaws
+pub mod TotalLaws

@@ -1,0 +1,67 @@
+use Rattle.std.proofs.Common.{◌≡◌, ◌<◌, ◌∙◌, ap, arith, get_or, length, map, subst, sum_by, sym, take}
+use Rattle.std.proofs.lemmas.Result.{IfOk-from_err}
+use Rattle.std.specs.List.{All}
+use Rattle.std.proofs.lemmas.List.{get_or-map, length-map, take_all}
+use Rattle.std.proofs.lemmas.List.Elements.{All-more}
+use Rattle.std.proofs.lemmas.List.Sums.{sum_by_more}
+use Rattle.chunk_core.specs.Inlets.{inlet_reader}
+use Rattle.cert_core.specs.Readers.{cert_inlet}
+use Rattle.master_core.specs.Judging.{JudgesClaim, LacksClaim, ReadsEntries, ShowsClaim}
+use Rattle.master_core.specs.Claims.{IsLeastClaim, claim_at, claim_cost}
+use Rattle.master_core.proofs.EntryLaws.{lacks_one, shown_more}
+use Rattle.master_core.proofs.entries.judge_entries.Goals as goal
+
+pub returns-in-Rejected-clause-judged : goal.returns-in-Rejected-clause-judged
+returns-in-Rejected-clause-judged g c =
+    let f = claim_at c.args.cut.now c.args.recording.now.channels in
+    let places = c.args.places.now in
+    let k = c.loop-k.k in
+    let claim = f (get_or places k (record { cue = 0; channel = 0 })) in
+    let from = g.R.Read.remaining (inlet_reader (cert_inlet c.args.reader.now)) in
+    let here = g.R.Read.remaining (inlet_reader (cert_inlet c.loop-k.reader)) in
+    let to = g.R.Read.remaining (inlet_reader (cert_inlet c.judge_entry.new.reader)) in
+    let lt : k < length (map f places) = omega (arith, length-map places f) in
+    let is : get_or (map f places) k claim ≡ claim = get_or-map f places k (record { cue = 0; channel = 0 }) claim (omega arith) in
+    let lacks : LacksClaim claim here c.in-Rejected.reason = subst (λ v. JudgesClaim claim here to v) c.in-Rejected.is c.in_ok-cost.ensures.judged in
+    lacks_one (map f places) k claim lt is from here c.loop-k.invariant.entries c.cert_goes_on.ensures.next c.in-Rejected.reason lacks
+
+pub loop-k-preserved : goal.loop-k-preserved
+loop-k-preserved g c =
+    let f = claim_at c.args.cut.now c.args.recording.now.channels in
+    let places = c.args.places.now in
+    let k = c.loop-k.k in
+    let claim = f (get_or places k (record { cue = 0; channel = 0 })) in
+    let from = g.R.Read.remaining (inlet_reader (cert_inlet c.args.reader.now)) in
+    let here = g.R.Read.remaining (inlet_reader (cert_inlet c.loop-k.reader)) in
+    let to = g.R.Read.remaining (inlet_reader (cert_inlet c.judge_entry.new.reader)) in
+    let lt : k < length (map f places) = omega (arith, length-map places f) in
+    let is : get_or (map f places) k claim ≡ claim = get_or-map f places k (record { cue = 0; channel = 0 }) claim (omega arith) in
+    let shows : ShowsClaim claim here to c.in-Accepted.cost = subst (λ v. JudgesClaim claim here to v) c.in-Accepted.is c.in_ok-cost.ensures.judged in
+    let so = c.loop-k.invariant in
+    record {
+      entries = shown_more (map f places) k claim lt is from here so.entries c.read_is_cert.ensures.more to shows.entry;
+      cost_is = omega (arith, so.cost_is, c.from-total.ensures, shows.cost_is, sum_by_more claim_cost (map f places) k claim lt, ap claim_cost is);
+      bound = omega (arith, so.bound, c.from-total.ensures);
+      least = All-more IsLeastClaim (map f places) k claim lt so.least (subst IsLeastClaim (sym is) shows.least);
+      failures = c.in_ok-cost.ensures.failures ∙ so.failures;
+    }
+
+pub returns-clause-judged : goal.returns-clause-judged
+returns-clause-judged g c =
+    let f = claim_at c.args.cut.now c.args.recording.now.channels in
+    let places = c.args.places.now in
+    let from = g.R.Read.remaining (inlet_reader (cert_inlet c.args.reader.now)) in
+    let here = g.R.Read.remaining (inlet_reader (cert_inlet c.loop-k.reader)) in
+    let so = c.loop-k.invariant in
+    let all : take c.loop-k.k (map f places) ≡ map f places = take_all c.loop-k.k (map f places) (omega (arith, length-map places f)) in
+    record {
+      entries = subst (λ l. ReadsEntries l from here) all so.entries;
+      cost_is = subst (λ l. c.loop-k.total ≡ sum_by claim_cost l) all so.cost_is;
+      least = subst (λ l. All IsLeastClaim l) all so.least;
+    }
+
+pub returns-in_err-cost-clause-judged : goal.returns-in_err-cost-clause-judged
+returns-in_err-cost-clause-judged g c = IfOk-from_err c.from_residual.result _ c.from_residual.ensures.0
+
+pub returns-in_err-cost-clause-failures : goal.returns-in_err-cost-clause-failures
+returns-in_err-cost-clause-failures g c = IfOk-from_err c.from_residual.result _ c.from_residual.ensures.0

@@ -1,0 +1,12 @@
+use Rattle.chunk_core.specs.Inlets.{inlet_reader}
+use Rattle.std.proofs.Common.{subst}
+use Rattle.cert_core.specs.Readers.{cert_inlet}
+use Rattle.master_core.specs.Judging.{JudgesHead}
+use Rattle.master_core.proofs.EntryLaws.{head_judged}
+use Rattle.master_core.proofs.entries.judge_head.Goals as goal
+
+pub returns-clause-judged : goal.returns-clause-judged
+returns-clause-judged g c =
+    let from = g.R.Read.remaining (inlet_reader (cert_inlet c.args.reader.now)) in
+    let to = g.R.Read.remaining (inlet_reader (cert_inlet c.read_head.new.self)) in
+    subst (λ n. JudgesHead n c.args.entries from to c.in-Ok.reason) c.weight_number.ensures.value (head_judged c.weight_number.result c.args.entries from to c.in-Ok.reason c.in-Ok.ensures.none c.in-Ok.ensures.reason c.in-Ok.ensures.only)

@@ -1,0 +1,33 @@
+-- The bits that were chosen for a master's bridges.
+use Rattle.std.specs.Prelude.{◌≡◌, ℕ, List, [], ◌∷◌}
+use Rattle.std.specs.List.{AllZip, sum_by}
+use Rattle.cost_core.specs.Bridges.{Bridging, IsFirstLeastBridge, bridge_cost}
+use Rattle.cert_core.specs.Certificates.{Claim}
+use Rattle.trellis_core.specs.declared.bridging.Chosen.{Chosen}
+use Rattle.cut_core.specs.Bridges.{bridges}
+use Rattle.cut_core.specs.Cuts.{CutContent, window}
+use Rattle.cut_core.specs.declared.bridges.BridgePlace.{BridgePlace}
+use Rattle.master_core.specs.Claims.{claim_of}
+
+-- the first least bits of a bridge, and what they cost
+pub record IsChosen (d : Bridging) (chosen : Chosen) : Type 0 where
+  pub first_least : IsFirstLeastBridge d chosen.bits
+  pub cost_is : chosen.cost ≡ bridge_cost d chosen.bits
+
+-- those of the bridge at a place
+abbrev pub IsChosenAt : CutContent → BridgePlace → Chosen → Type 0
+IsChosenAt cut p chosen = IsChosen (window cut p.channel p.cue) chosen
+
+-- those of each bridge, in their order
+abbrev pub AreChosen : CutContent → List Chosen → Type 0
+AreChosen cut xs = AllZip (IsChosenAt cut) (bridges cut) xs
+
+-- what is to be shown of chosen bits, place by place
+unfoldable pub chosen_claims : CutContent → List BridgePlace → List Chosen → List Claim
+chosen_claims cut [] xs = []
+chosen_claims cut (p ∷ ps) [] = []
+chosen_claims cut (p ∷ ps) (x ∷ xs) = claim_of cut p x.bits ∷ chosen_claims cut ps xs
+
+-- what chosen bits cost together
+abbrev pub chosen_cost : List Chosen → ℕ
+chosen_cost xs = sum_by (λ (x : Chosen). x.cost) xs

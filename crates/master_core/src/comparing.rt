@@ -1,0 +1,164 @@
+//! Whether a recording is the master of a cut, whatever its bridges.
+
+ghost use Rattle.std.specs.Prelude.{◌≡◌, ◌≢◌, ◌+◌, ◌<◌, ◌≤◌, ◌^◌, ◌++◌, All, IfOk, MatchOption, OnOk, false, length, map, slice_index, true, ℕ};
+ghost use Rattle.dsd_bits.specs.Contents.{mark_content};
+ghost use Rattle.form_core.specs.declared.form.Form.TheVariants.{Dsdiff};
+ghost use Rattle.cut_core.specs.Cuts.{channel_number, cue_at, master_length};
+ghost use Rattle.cut_core.specs.Titles.{titles_of};
+ghost use Rattle.master_core.specs.Checking.{HaveShape, HoldCues, IsFirstDifference, IsMasterOf, IsTitled, MasterReason};
+ghost use Rattle.master_core.specs.Checking as checks;
+ghost use Rattle.master_core.specs.Claims.{bridge_bits, bridge_start};
+ghost use Rattle.master_core.specs.Judging.{IsCuedBit};
+ghost use Rattle.master_core.specs.Masters.{channel_numbers};
+
+use crate::assembling::push_cue;
+use crate::verdict::Reason;
+use cut_core::{Cut, differ};
+use dsd_bits::{Bits, Mark, Recording};
+use form_core::{Form, Opened, has_shape};
+use std::alloc::{AllocError, Global};
+
+/// The first reason why a recording isn't the master of the cut, if there is one: its rate or number of
+/// channels, its length, in a DSDIFF file its marks, a bit that isn't that of the cue there, by rising
+/// channel and then by rising place. Err is want of memory.
+pub fn master_reason(
+    alloc: Global,
+    cut: &Cut,
+    opened: &Opened,
+) -> Result<Option<Reason>, AllocError>
+    ensures { IfOk result (λ found. MatchOption found (IsMasterOf cut.now opened.now.form opened.now.recording) (MasterReason cut.now opened.now.form opened.now.recording)) }
+{
+    let recording = &opened.recording;
+    has_shape(recording);
+    if differ(cut.first(), recording) {
+        return Ok(Some(Reason::MasterShape));
+    }
+    if recording.count() != cut.length() {
+        return Ok(Some(Reason::MasterLength));
+    }
+    if !is_titled(alloc, cut, opened)? {
+        return Ok(Some(Reason::MasterMarks));
+    }
+    first_cued_bit(alloc, cut, recording)
+}
+
+// Whether a DSDIFF file has the marks of the titles and no others.
+fn is_titled(alloc: Global, cut: &Cut, opened: &Opened) -> Result<bool, AllocError>
+    ensures yes { IfOk result (λ titled. titled ≡ true → IsTitled cut.now opened.now.form opened.now.recording) }
+    ensures no { IfOk result (λ titled. titled ≡ false → (opened.now.form ≡ Dsdiff) × (opened.now.recording.marks ≢ titles_of cut.now)) }
+{
+    match opened.form {
+        Form::Dsdiff => {
+            let recording = &opened.recording;
+            let titles = cut.titles(alloc)?;
+            Ok(same_marks(recording.marks(), &titles))
+        }
+        Form::Dsf | Form::Dsf8 => Ok(true),
+    }
+}
+
+// Whether two lists of marks hold the same.
+fn same_marks(a: &[Mark], b: &[Mark]) -> bool
+    ensures yes { result ≡ true → map mark_content a.now ≡ map mark_content b.now }
+    ensures no { result ≡ false → map mark_content a.now ≢ map mark_content b.now }
+{
+    if a.len() != b.len() {
+        return false;
+    }
+    for i in 0..a.len() {
+        if !same_mark(&a[i], &b[i]) {
+            return false;
+        }
+    }
+    true
+}
+
+// Whether two marks hold the same.
+fn same_mark(a: &Mark, b: &Mark) -> bool
+    ensures yes { result ≡ true → mark_content a.now ≡ mark_content b.now }
+    ensures no { result ≡ false → mark_content a.now ≢ mark_content b.now }
+{
+    a == b
+}
+
+// The first bit that isn't that of the cue there.
+fn first_cued_bit(
+    alloc: Global,
+    cut: &Cut,
+    recording: &Recording,
+) -> Result<Option<Reason>, AllocError>
+    requires shape { HaveShape cut.now recording.now.channels }
+    ensures { IfOk result (λ found. MatchOption found (HoldCues cut.now (channel_numbers cut.now) recording.now.channels) (IsCuedBit cut.now recording.now)) }
+{
+    let channels = recording.channels();
+    for c in 0..channels.len() {
+        let channel = &channels[c];
+        let cued = rebuild(alloc, cut, channel, c)?;
+        if let Some(place) = first_difference(channel, &cued) {
+            return Ok(Some(Reason::CuedBit(c, place)));
+        }
+    }
+    Ok(None)
+}
+
+// Channel `c` of the cues, and between them the bits that stand in this channel of the master.
+fn rebuild(alloc: Global, cut: &Cut, channel: &Bits, c: usize) -> Result<Bits, AllocError>
+    requires there { c < channel_number cut.now }
+    requires long { length channel.now ≡ master_length cut.now.splice.cues }
+    ensures cued { IfOk result (λ bits. bits ≡ checks.rebuilt cut.now c channel.now) }
+    ensures long { IfOk result (λ bits. length bits ≡ length channel.now) }
+{
+    cut.can_cut();
+    let mut bits = Bits::new(alloc);
+    push_cue(&mut bits, cut, c, 0)?;
+    for i in 0..cut.cue_number() - 1 {
+        push_own_bridge(&mut bits, cut, channel, i)?;
+        push_cue(&mut bits, cut, c, i + 1)?;
+    }
+    Ok(bits)
+}
+
+// Appends the bits that stand in a channel of the master for the bridge behind cue `i`, where they belong.
+fn push_own_bridge(out: &mut Bits, cut: &Cut, channel: &Bits, i: usize) -> Result<(), AllocError>
+    requires cue { i < length cut.now.splice.cues }
+    requires place { length out.old ≡ bridge_start cut.now i }
+    requires long { length channel.now ≡ master_length cut.now.splice.cues }
+    ensures appended { OnOk result (out.new ≡ out.old ++ bridge_bits cut.now channel.now i) }
+    ensures long { OnOk result (length out.new ≡ length out.old + (cue_at cut.now i).bridge) }
+{
+    cut.can_cut();
+    let start = out.len();
+    out.push_range(channel, start, start + cut.cue(i).bridge)?;
+    Ok(())
+}
+
+// The first place where two lists of bits of one length differ. Whole bytes are compared first.
+fn first_difference(a: &Bits, b: &Bits) -> Option<usize>
+    requires { length a.now ≡ length b.now }
+    ensures { MatchOption result (a.now ≡ b.now) (IsFirstDifference a.now b.now) }
+{
+    if a.as_bytes() == b.as_bytes() {
+        return None;
+    }
+    let start = 8 * equal_bytes(a.as_bytes(), b.as_bytes());
+    for place in start..a.len() {
+        if a.get(place) != b.get(place) {
+            return Some(place);
+        }
+    }
+    None
+}
+
+// How many bytes two lists of one length have alike before the first that differ.
+fn equal_bytes(a: &[u8], b: &[u8]) -> usize
+    requires { length a.now ≡ length b.now }
+    ensures inside { result ≤ length a.now }
+    ensures alike { (i : ℕ) → i < result → slice_index a.now i ≡ slice_index b.now i }
+{
+    for place in 0..a.len() {
+        if a[place] != b[place] {
+            return place;
+        }
+    }
+    a.len()
+}

@@ -1,0 +1,35 @@
+//! Masters of a cut: made with least bridges and their certificate, and judged, whoever made them.
+//!
+//! [`make`] searches each bridge of a [`Cut`](cut_core::Cut), writes the certificate that shows them to be least, and
+//! puts cues and bridges together; [`judge`] says whether a recording is such a master and a certificate shows that no
+//! bridge of it could cost less. Both walk one list, the bridges of the cut by rising cue and then by rising channel:
+//! `choosing.rt` searches them, `certifying.rt` writes their entries, `entries.rt` judges entries, and what they cost
+//! together is the sum over that list. `assembling.rt` makes a channel of cues and bridges, `comparing.rt` tells the
+//! first bit of a channel that isn't that of its cue.
+//!
+//! The words of the contracts:
+//!
+//! - `IsBestMaster cut form recording cost`: the master whose every bridge is the first least one, and its cost;
+//!   `IsMasterOf cut form recording`: a master, whatever its bridges (`specs/Masters.antt`, `specs/Checking.antt`).
+//! - `claims cut channels`: what a certificate is to show of these channels, bridge by bridge; `IsCertOf` that it
+//!   does; `windows_total` the sum over the bridges, `total_cost` the sum over whole channels (`specs/Claims.antt`).
+//! - `JudgesMaster cut form recording cert verdict`: what a verdict says (`specs/Judging.antt`).
+//!
+//! ```text
+//! let made = make(alloc, &cut, Form::Dsdiff)?;
+//! judge(alloc, &cut, &opened, &made.cert)?    // Accepted { total: made.total }, where made.recording was opened
+//! ```
+#![tactic(auto)]
+
+mod assembling;
+mod certifying;
+mod choosing;
+mod comparing;
+mod entries;
+mod judging;
+mod making;
+mod verdict;
+
+pub use judging::judge;
+pub use making::{Made, make};
+pub use verdict::{Reason, Verdict};

@@ -6,7 +6,7 @@ use Rattle.std.proofs.lemmas.Result.{IfOk-from_err}
 use Rattle.dsd_bits.specs.Contents.{Content}
 use Rattle.form_core.specs.declared.form.Form.{Form}
 use Rattle.form_core.specs.declared.opening.Opened.{Opened}
-use Rattle.form_core.specs.Forms.{Holds}
+use Rattle.form_core.specs.Forms.{HoldsAs}
 use Rattle.cut_core.specs.Cuts.{CutContent}
 use Rattle.master_core.specs.declared.verdict.Reason.{Reason}
 use Rattle.master_core.specs.declared.verdict.Verdict.{Verdict}
@@ -34,7 +34,7 @@ pub some_is : {X : Type 0} (P : Type 0) (Q : X → Type 0) (o : Option X) (x : X
 some_is P Q o x e h = subst (λ k. MatchOption k P Q) e h
 
 -- ---- the verdict on a file
-module _ (project : List ℕ) (files : List (List ℕ)) (master cert : List ℕ) (cut : CutContent) (says : SaysCut project files None cut) (form : Form) (r : Content) (holds : Holds master form r) where
+module _ (project : List ℕ) (files : List (List ℕ)) (master cert : List ℕ) (cut : CutContent) (says : SaysCut project files None cut) (form : Form) (r : Content) (holds : HoldsAs master form r) where
   pub judged_found : (v : Verdict) → JudgesMaster cut form r cert v → IfAccepted (Ok v) (Accepts project files master cert)
   judged_found (Accepted cost) h = record { cut = cut; says = says; form = form; recording = r; master_holds = holds; is_master = h.0; shown = h.1; cost_is = h.2 }
   judged_found (Rejected reason) h = tt

@@ -12,7 +12,7 @@ use Rattle.stream_core.specs.declared.fault.StreamFault.{StreamFault}
 use Rattle.stream_core.specs.declared.fault.StreamFault.TheVariants as faults
 use Rattle.form_core.specs.declared.form.Form.{Form}
 use Rattle.form_core.specs.declared.form.Form.TheVariants as forms
-use Rattle.form_core.specs.Forms.{Holds, form_of}
+use Rattle.form_core.specs.Forms.{HoldsAs, form_of}
 use Rattle.form_core.proofs.OpeningLaws.{holds_dsf}
 use Rattle.archive_core.specs.declared.fault.Fault.{Fault}
 use Rattle.archive_core.specs.declared.fault.Fault.TheVariants as fault
@@ -24,11 +24,11 @@ use Rattle.stream_core.proofs.PieceLaws.{front_nil}
 use Rattle.archive_core.specs.Streaming.{IsFromOutside, OnlyFromOutside, PlaysFile, PlaysGiven, StreamStands, WritesFront}
 
 -- ---- the form of a file
-form_held : (file : List ℕ) (r : Content) → HoldsRecording file r → (form : Form) × Holds file form r
+form_held : (file : List ℕ) (r : Content) → HoldsRecording file r → (form : Form) × HoldsAs file form r
 form_held file r (inl is) = (forms.Dsdiff, is)
 form_held file r (inr held) = (form_of held.0, holds_dsf file r held.0 held.1)
 
-recording_held : (file : List ℕ) (form : Form) (r : Content) → Holds file form r → HoldsRecording file r
+recording_held : (file : List ℕ) (form : Form) (r : Content) → HoldsAs file form r → HoldsRecording file r
 recording_held file forms.Dsdiff r is = inl is
 recording_held file forms.Dsf r is = inr (LeastFirst, is)
 recording_held file forms.Dsf8 r is = inr (MostFirst, is)

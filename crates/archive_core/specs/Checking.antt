@@ -4,7 +4,7 @@ use Rattle.dsd_bits.specs.Contents.{Content}
 use Rattle.form_core.specs.declared.fault.ReadFault.{ReadFault}
 use Rattle.form_core.specs.declared.fault.ReadFault.TheVariants as reads
 use Rattle.form_core.specs.declared.form.Form.{Form}
-use Rattle.form_core.specs.Forms.{Holds}
+use Rattle.form_core.specs.Forms.{HoldsAs}
 use Rattle.cut_core.specs.Cuts.{CutContent}
 use Rattle.master_core.specs.declared.verdict.Reason.{Reason}
 use Rattle.master_core.specs.declared.verdict.Reason.TheVariants.{MasterUnread}
@@ -28,7 +28,7 @@ pub record Accepts (project : List ℕ) (files : List (List ℕ)) (master cert :
   pub says : SaysCut project files None cut
   pub form : Form
   pub recording : Content
-  pub master_holds : Holds master form recording
+  pub master_holds : HoldsAs master form recording
   pub is_master : IsMasterOf cut form recording
   pub shown : IsCertOf cut recording.channels cert
   pub cost_is : cost ≡ total_cost cut recording.channels
@@ -39,19 +39,19 @@ pub record IsLeastMaster (project : List ℕ) (files : List (List ℕ)) (file : 
   pub says : SaysCut project files None cut
   pub form : Form
   pub recording : Content
-  pub file_holds : Holds file form recording
+  pub file_holds : HoldsAs file form recording
   pub least : AreLeastChannels cut recording.channels
 
 -- no file of any form
 abbrev pub HoldsNothing : List ℕ → Type 0
-HoldsNothing file = (form : Form) (r : Content) → Holds file form r → ⊥
+HoldsNothing file = (form : Form) (r : Content) → HoldsAs file form r → ⊥
 
 -- there is a cut, and this reason stands first against the master: it is no file of any form, or what is wrong with its recording or its certificate
 pub record RejectsFirst (project : List ℕ) (files : List (List ℕ)) (master cert : List ℕ) (reason : Reason) : Type 0 where
   pub cut : CutContent
   pub says : SaysCut project files None cut
   pub stands : ((reason ≡ MasterUnread) × HoldsNothing master)
-      ⊎ ((form : Form) × (r : Content) × Holds master form r × StandsAgainst cut form r cert reason)
+      ⊎ ((form : Form) × (r : Content) × HoldsAs master form r × StandsAgainst cut form r cert reason)
 
 -- P of the cost, where the master was accepted
 abbrev pub IfAccepted : Result Verdict Fault → (ℕ → Type 0) → Type 0

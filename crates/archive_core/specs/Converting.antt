@@ -4,7 +4,7 @@ use Rattle.std.specs.Option.{ok_or}
 use Rattle.chunk_core.specs.Steps.{◌>>=◌}
 use Rattle.dsd_bits.specs.Contents.{Content}
 use Rattle.form_core.specs.declared.form.Form.{Form}
-use Rattle.form_core.specs.Forms.{Holds, dropped_in, text_in}
+use Rattle.form_core.specs.Forms.{HoldsAs, dropped_in, text_in}
 use Rattle.form_core.specs.Opening.{opened_of}
 use Rattle.archive_core.specs.declared.converting.Converted.{Converted}
 use Rattle.archive_core.specs.declared.fault.Fault.{Fault}
@@ -16,7 +16,7 @@ use Rattle.form_core.specs.Steps.{map_err}
 pub record Converts (file : List ℕ) (form : Form) (bytes : List ℕ) (dropped : ℕ) : Type 0 where
   pub source : Form
   pub recording : Content
-  pub file_holds : Holds file source recording
+  pub file_holds : HoldsAs file source recording
   pub text : text_in form recording ≡ Some bytes
   pub dropped_is : dropped ≡ dropped_in form recording
 
@@ -29,8 +29,8 @@ pub record KeepsSound (file : List ℕ) (form : Form) (bytes : List ℕ) : Type 
   pub source : Form
   pub before : Content
   pub after : Content
-  pub file_holds : Holds file source before
-  pub bytes_hold : Holds bytes form after
+  pub file_holds : HoldsAs file source before
+  pub bytes_hold : HoldsAs bytes form after
   pub same_rate : after.rate ≡ before.rate
   pub same_channels : after.channels ≡ before.channels
 

@@ -2,7 +2,7 @@
 use Rattle.std.specs.Prelude.{◌≡◌, ℕ, List, None, Some, Result, Ok, Err}
 use Rattle.dsd_bits.specs.Contents.{Content}
 use Rattle.form_core.specs.declared.form.Form.{Form}
-use Rattle.form_core.specs.Forms.{Holds, text_in}
+use Rattle.form_core.specs.Forms.{HoldsAs, text_in}
 use Rattle.cut_core.specs.Cuts.{CutContent, take_at}
 use Rattle.master_core.specs.Checking.{IsTitled}
 use Rattle.master_core.specs.Claims.{windows_total}
@@ -30,7 +30,7 @@ pub record IsMaster (project : List ℕ) (files : List (List ℕ)) (file : List 
   pub says : SaysCut project files None cut
   pub form : Form
   pub recording : Content
-  pub file_holds : Holds file form recording
+  pub file_holds : HoldsAs file form recording
   pub same_rate : recording.rate ≡ (take_at cut.takes 0).rate
   pub made : AreMasterChannels cut recording.channels
   pub titled : IsTitled cut form recording
@@ -41,7 +41,7 @@ pub record CostsWindows (project : List ℕ) (files : List (List ℕ)) (file : L
   pub says : SaysCut project files None cut
   pub form : Form
   pub recording : Content
-  pub file_holds : Holds file form recording
+  pub file_holds : HoldsAs file form recording
   pub cost_is : cost ≡ windows_total cut recording.channels
 
 -- this master and this cost were answered, want of memory aside

@@ -7,7 +7,7 @@ use Rattle.fir_core.specs.Decimator.{Decimator}
 use Rattle.wave_core.specs.Texts.{wave_text}
 use Rattle.player_core.specs.Samples.{pcm}
 use Rattle.form_core.specs.declared.form.Form.{Form}
-use Rattle.form_core.specs.Forms.{Holds}
+use Rattle.form_core.specs.Forms.{HoldsAs}
 use Rattle.form_core.specs.Opening.{opened_of}
 use Rattle.archive_core.specs.declared.fault.Fault.{Fault}
 use Rattle.archive_core.specs.declared.fault.Fault.TheVariants.{RateNotDivided, TooLarge}
@@ -21,7 +21,7 @@ pub record Plays (project file bytes : List ℕ) : Type 0 where
   pub form : Form
   pub recording : Content
   pub project_says : SaysDecimator project decimator
-  pub file_holds : Holds file form recording
+  pub file_holds : HoldsAs file form recording
   pub rate_divided : recording.rate % decimator.factor ≡ 0
   pub text : wave_text (pcm recording decimator) ≡ Some bytes
 

@@ -8,7 +8,7 @@ use Rattle.fir_core.specs.Decimator.{Decimator}
 use Rattle.stream_core.specs.Playing as streams
 use Rattle.stream_core.specs.Reads.{Reads}
 use Rattle.form_core.specs.declared.form.Form.{Form}
-use Rattle.form_core.specs.Forms.{Holds}
+use Rattle.form_core.specs.Forms.{HoldsAs}
 use Rattle.archive_core.specs.declared.fault.Fault.{Fault}
 use Rattle.archive_core.specs.declared.fault.Fault.TheVariants.{Project, NoDecimation, RateNotDivided, TooLarge, FileRefused, ReadFailed, WriteFailed, TurnLimit, Memory}
 use Rattle.archive_core.specs.Playing.{Plays}
@@ -39,7 +39,7 @@ OnlyFromOutside left project fault = IfSome left (λ file. (bytes : List ℕ) �
 
 -- the file is neither a DSDIFF nor a DSF file that holds a recording
 abbrev pub IsNoRecording : List ℕ → Type 0
-IsNoRecording file = (form : Form) (r : Content) → Holds file form r → ⊥
+IsNoRecording file = (form : Form) (r : Content) → HoldsAs file form r → ⊥
 
 -- the project says a decimator, and of the sound that the file's front tells of this stands
 abbrev pub StandsBy : (Decimator → List ℕ → Type 0) → List ℕ → List ℕ → Type 0

@@ -5,10 +5,10 @@ ghost use Rattle.archive_core.specs.Checking as checks;
 ghost use Rattle.archive_core.specs.Checking.{Accepts, AnswersAccepted, HoldsNothing, IfAccepted, IfRejected, IsLeastMaster, RejectsFirst};
 ghost use Rattle.archive_core.specs.Cutting.{IsRefusedCut};
 ghost use Rattle.archive_core.specs.Editing.{CostsWindows, IsMaster};
-ghost use Rattle.cut_core.specs.Opening.{bytes_of};
+ghost use Rattle.cut_core.specs.Opening.{file_bytes};
 ghost use Rattle.dsd_bits.specs.Contents.{Content};
 ghost use Rattle.form_core.specs.declared.form.Form.{Form};
-ghost use Rattle.form_core.specs.Forms.{Holds};
+ghost use Rattle.form_core.specs.Forms.{HoldsAs};
 ghost use Rattle.form_core.specs.Opening.{IsOpened};
 
 use crate::fault::Fault;
@@ -37,18 +37,18 @@ pub fn check(
     cert: &[u8],
 ) -> Result<Verdict, Fault>
     // What is accepted is a master with a certificate of its own bits.
-    ensures found { IfAccepted result (Accepts project.now (bytes_of takes.now) master.now cert.now) }
+    ensures found { IfAccepted result (Accepts project.now (file_bytes takes.now) master.now cert.now) }
     // It is a master of the project and the takes, and each of its bridges is least.
-    ensures master { IfAccepted result (λ _. IsMaster project.now (bytes_of takes.now) master.now) }
-    ensures least { IfAccepted result (λ _. IsLeastMaster project.now (bytes_of takes.now) master.now) }
+    ensures master { IfAccepted result (λ _. IsMaster project.now (file_bytes takes.now) master.now) }
+    ensures least { IfAccepted result (λ _. IsLeastMaster project.now (file_bytes takes.now) master.now) }
     // What it is accepted at is the sum over all bridges of what their bits cost over their windows.
-    ensures windows { IfAccepted result (CostsWindows project.now (bytes_of takes.now) master.now) }
+    ensures windows { IfAccepted result (CostsWindows project.now (file_bytes takes.now) master.now) }
     // Such a master and certificate are accepted, want of memory aside.
-    ensures only { (cost : ℕ) → Accepts project.now (bytes_of takes.now) master.now cert.now cost → AnswersAccepted result cost }
+    ensures only { (cost : ℕ) → Accepts project.now (file_bytes takes.now) master.now cert.now cost → AnswersAccepted result cost }
     // Which reason it is: the first that stands.
-    ensures rejected { IfRejected result (RejectsFirst project.now (bytes_of takes.now) master.now cert.now) }
+    ensures rejected { IfRejected result (RejectsFirst project.now (file_bytes takes.now) master.now cert.now) }
     // Which fault it is: the first of the project, its splice and its cut.
-    ensures refused { IfErr result (IsRefusedCut project.now (bytes_of takes.now) None) }
+    ensures refused { IfErr result (IsRefusedCut project.now (file_bytes takes.now) None) }
 {
     let splice = splice_of(alloc, project)?;
     let cut = Cut::open(alloc, splice, takes, None)?;
@@ -61,7 +61,7 @@ pub fn check(
 // The form and the recording of a file, if it is a DSDIFF or DSF file that can be read.
 fn open_master(alloc: Global, file: &[u8]) -> Result<Option<Opened>, AllocError>
     ensures opened { IfOk result (λ found. MatchOption found (HoldsNothing file.now) (IsOpened file.now)) }
-    ensures only { (form : Form) (r : Content) → Holds file.now form r → IfOk result (λ found. found ≡ Some (record { form = form; recording = r })) }
+    ensures only { (form : Form) (r : Content) → HoldsAs file.now form r → IfOk result (λ found. found ≡ Some (record { form = form; recording = r })) }
 {
     match read_any(alloc, file) {
         Ok(opened) => Ok(Some(opened)),

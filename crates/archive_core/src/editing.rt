@@ -4,7 +4,7 @@ ghost use Rattle.std.specs.Prelude.{IfErr, IfOk, List, Some, ℕ};
 ghost use Rattle.archive_core.specs.Checking.{Accepts};
 ghost use Rattle.archive_core.specs.Editing.{AnswersEdited, CostsWindows, Edits, IsEdited, IsMaster};
 ghost use Rattle.archive_core.specs.Cutting.{IsRefusedCut};
-ghost use Rattle.cut_core.specs.Opening.{bytes_of};
+ghost use Rattle.cut_core.specs.Opening.{file_bytes};
 
 use crate::fault::Fault;
 use crate::projects::splice_of;
@@ -38,17 +38,17 @@ pub struct Edited {
 /// `NoRoomAfter`. Every want of memory is `Memory`.
 pub fn edit(alloc: Global, project: &[u8], takes: &[Vec<u8>], form: Form) -> Result<Edited, Fault>
     // What is answered is the file of the cues and the first least bridges, and what they cost.
-    ensures found { IfOk result (IsEdited project.now (bytes_of takes.now) form) }
+    ensures found { IfOk result (IsEdited project.now (file_bytes takes.now) form) }
     // The file is a master of the project and the takes.
-    ensures master { IfOk result (λ made. IsMaster project.now (bytes_of takes.now) made.master.items) }
+    ensures master { IfOk result (λ made. IsMaster project.now (file_bytes takes.now) made.master.items) }
     // The certificate shows each bridge of the master to be least, and so much do they cost.
-    ensures accepted { IfOk result (λ made. Accepts project.now (bytes_of takes.now) made.master.items made.cert.items made.total) }
+    ensures accepted { IfOk result (λ made. Accepts project.now (file_bytes takes.now) made.master.items made.cert.items made.total) }
     // It is the sum over all bridges of what their bits cost over their windows.
-    ensures windows { IfOk result (λ made. CostsWindows project.now (bytes_of takes.now) made.master.items made.total) }
+    ensures windows { IfOk result (λ made. CostsWindows project.now (file_bytes takes.now) made.master.items made.total) }
     // What a project and takes come to is answered, want of memory aside.
-    ensures only { (master : List ℕ) (cost : ℕ) → Edits project.now (bytes_of takes.now) form master cost → AnswersEdited result master cost }
+    ensures only { (master : List ℕ) (cost : ℕ) → Edits project.now (file_bytes takes.now) form master cost → AnswersEdited result master cost }
     // Which fault it is: the first of the project, its splice and its cut.
-    ensures refused { IfErr result (IsRefusedCut project.now (bytes_of takes.now) (Some form)) }
+    ensures refused { IfErr result (IsRefusedCut project.now (file_bytes takes.now) (Some form)) }
 {
     let splice = splice_of(alloc, project)?;
     let cut = Cut::open(alloc, splice, takes, Some(form))?;

@@ -2,11 +2,11 @@
 use Rattle.std.proofs.Common.{◌≡◌, ℕ, ◌+◌, ◌<◌, ◌++◌, ◌∷◌, ◌∙◌, [], List, Some, Vec, Global, String, ap, get_or, length, map, sym, take}
 use Rattle.std.specs.Prelude.{string_bytes}
 use Rattle.std.proofs.lemmas.List.{map-append, take_more}
-use Rattle.cut_core.specs.Opening.{bytes_of}
+use Rattle.cut_core.specs.Opening.{file_bytes}
 use Rattle.command_core.specs.Files.{AreFiles, Files}
 
-pub one_file_more : (old : Files) (names : List (String Global)) (i : ℕ) (name : String Global) (files more : List (Vec ℕ Global)) → i < length names → name ≡ get_or names i name → AreFiles old (map string_bytes (take i names)) (bytes_of files)
-    → map (λ (bytes : List ℕ). Some bytes) (bytes_of more) ≡ map (λ (bytes : List ℕ). Some bytes) (bytes_of files) ++ old (string_bytes name) ∷ [] → AreFiles old (map string_bytes (take (i + 1) names)) (bytes_of more)
+pub one_file_more : (old : Files) (names : List (String Global)) (i : ℕ) (name : String Global) (files more : List (Vec ℕ Global)) → i < length names → name ≡ get_or names i name → AreFiles old (map string_bytes (take i names)) (file_bytes files)
+    → map (λ (bytes : List ℕ). Some bytes) (file_bytes more) ≡ map (λ (bytes : List ℕ). Some bytes) (file_bytes files) ++ old (string_bytes name) ∷ [] → AreFiles old (map string_bytes (take (i + 1) names)) (file_bytes more)
 one_file_more old names i name files more lt is before next =
     let last : take (i + 1) names ≡ take i names ++ name ∷ [] = take_more names i name lt ∙ ap (λ n. take i names ++ n ∷ []) (sym is) in
     ap (λ l. map old (map string_bytes l)) last

@@ -1,7 +1,7 @@
 //! Files of a folder, read and written whole.
 
 ghost use Rattle.std.specs.Prelude.{◌≡◌, [], ◌∷◌, ◌++◌, Some, IfErr, IfOk, IfSome, IsTrue, OnErr, OnOk, map, string_bytes};
-ghost use Rattle.cut_core.specs.Opening.{bytes_of};
+ghost use Rattle.cut_core.specs.Opening.{file_bytes};
 ghost use Rattle.command_core.specs.Files.{AreFiles, IsFront, IsReadFault, KeepsOthers};
 ghost use Rattle.command_core.specs.declared.outcome.Outcome.TheVariants as outcomes;
 
@@ -42,7 +42,7 @@ pub fn read_files<F: Folder>(
 ) -> Result<Vec<Vec<u8>>, Outcome>
     ensures same { F.file folder.new ≡ F.file folder.old }
     ensures told { F.is_told folder.new ≡ F.is_told folder.old }
-    ensures bytes { IfOk result (λ files. IsTrue (F.is_told folder.old) → AreFiles (F.file folder.old) (map string_bytes names.now) (bytes_of files.items)) }
+    ensures bytes { IfOk result (λ files. IsTrue (F.is_told folder.old) → AreFiles (F.file folder.old) (map string_bytes names.now) (file_bytes files.items)) }
     ensures fault { IfErr result IsReadFault }
 {
     let mut files = Vec::new(alloc);
@@ -61,7 +61,7 @@ fn push_file<F: Folder>(
 ) -> Result<(), Outcome>
     ensures same { F.file folder.new ≡ F.file folder.old }
     ensures told { F.is_told folder.new ≡ F.is_told folder.old }
-    ensures bytes { OnOk result (IsTrue (F.is_told folder.old) → map (λ bytes. Some bytes) (bytes_of files.new.items) ≡ map (λ bytes. Some bytes) (bytes_of files.old.items) ++ F.file folder.old name.now ∷ []) }
+    ensures bytes { OnOk result (IsTrue (F.is_told folder.old) → map (λ bytes. Some bytes) (file_bytes files.new.items) ≡ map (λ bytes. Some bytes) (file_bytes files.old.items) ++ F.file folder.old name.now ∷ []) }
     ensures fault { IfErr result IsReadFault }
 {
     let file = read_file(alloc, folder, name)?;

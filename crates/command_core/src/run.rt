@@ -1,7 +1,7 @@
 //! Commands over the files of a folder.
 
 ghost use Rattle.std.specs.Prelude.{◌≡◌, IfErr, IfOk, IsTrue};
-ghost use Rattle.cut_core.specs.Opening.{bytes_of};
+ghost use Rattle.cut_core.specs.Opening.{file_bytes};
 ghost use Rattle.command_core.specs.Commands.{AreSources, CheckComesTo, ConvertComesTo, EditComesTo, Ends, InfoComesTo, PlayComesTo, PlayedComesTo, SourcesUnread, TaskComesTo};
 
 use crate::files::{read_file, read_files, write_file};
@@ -115,7 +115,7 @@ fn convert_file<F: Folder>(
 fn read_sources<F: Folder>(alloc: Global, folder: &mut F, project: &str) -> Result<Sources, Outcome>
     ensures same { F.file folder.new ≡ F.file folder.old }
     ensures told { F.is_told folder.new ≡ F.is_told folder.old }
-    ensures sources { IfOk result (λ found. IsTrue (F.is_told folder.old) → AreSources project.now (F.file folder.old) found.project.items (bytes_of found.takes.items)) }
+    ensures sources { IfOk result (λ found. IsTrue (F.is_told folder.old) → AreSources project.now (F.file folder.old) found.project.items (file_bytes found.takes.items)) }
     ensures fault { IfErr result (λ fault. IsTrue (F.is_told folder.old) → SourcesUnread project.now (F.file folder.old) (F.file folder.new) fault) }
 {
     let project = read_file(alloc, folder, project)?;

@@ -1,5 +1,6 @@
 pub mod BridgeLaws
 pub mod CutLaws
-pub mod TakeLaws
+pub mod OpeningLaws
+pub mod Steps
 pub mod TitleLaws
 pub mod ZipLaws

@@ -1,5 +1,5 @@
 -- A splice with the recordings of its takes, and what stands in it.
-use Rattle.std.specs.Prelude.{ℕ, ◌+◌, ◌-◌, ◌≤◌, ◌^◌, ◌≡◌, Bool, List, [], All, length, slice_index_or}
+use Rattle.std.specs.Prelude.{ℕ, ◌+◌, ◌-◌, ◌≤◌, ◌^◌, ◌≡◌, ◌==◌, ◌&&◌, Bool, List, [], All, length, slice_index_or}
 use Rattle.std.specs.List.{sum_by}
 use Rattle.dsd_bits.specs.Channels.{count_of}
 use Rattle.dsd_bits.specs.Contents.{Content}
@@ -41,6 +41,10 @@ cue_bits cut c i = fades.cued cut.splice i (source cut c i)
 abbrev pub window : CutContent → ℕ → ℕ → Bridging
 window cut c i = fades.bridging cut.splice i (source cut c i) (source cut c (i + 1))
 
+-- how many bits each channel of the take of cue i has
+abbrev pub count_at : CutContent → ℕ → ℕ
+count_at cut i = count_of (take_at cut.takes (cue_at cut i).take).channels
+
 -- how many bits of a channel a cue and the bridge behind it take
 abbrev pub span : CueContent → ℕ
 span cue = (cue.stop - cue.start) + cue.bridge
@@ -53,6 +57,10 @@ master_length cues = sum_by span cues
 pub record AreAlike (first r : Content) : Type 0 where
   pub same_rate : r.rate ≡ first.rate
   pub as_many_channels : length r.channels ≡ length first.channels
+
+-- the same as a test
+abbrev pub are_alike : Content → Content → Bool
+are_alike first r = r.rate == first.rate && length r.channels == length first.channels
 
 -- a recording is like the first of the takes
 abbrev pub IsAlike : List Content → Content → Type 0

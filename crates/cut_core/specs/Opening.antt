@@ -1,25 +1,25 @@
--- The takes of a splice, opened: what is asked of their files, and which fault stands first where it isn't met.
-use Rattle.std.specs.Prelude.{◌≡◌, ◌≢◌, ℕ, ◌%◌, ◌<◌, ◌^◌, List, [], All, Result, Ok, Err, Option, Some, Vec, length, map, slice_index_or, take}
+-- The takes of a splice, opened: what is asked of their files, and the reading in order, to the cut or the first fault.
+use Rattle.std.specs.Prelude.{◌≡◌, ℕ, zero, suc, ◌-◌, ◌%◌, ◌^◌, ◌==◌, Bool, true, false, List, [], ◌∷◌, ◌++◌, Result, Ok, Err, Option, Some, Vec, length, map, nat_le, slice_index_or, ⊤}
 use Rattle.std.specs.declared.alloc.Global.{Global}
 use Rattle.std.specs.List.{AllZip}
-use Rattle.dsd_bits.specs.Channels.{count_of}
+use Rattle.chunk_core.specs.Steps.{◌>>=◌}
 use Rattle.dsd_bits.specs.Contents.{Content}
 use Rattle.project_core.specs.Splices.{SpliceContent}
 use Rattle.form_core.specs.Forms.{HoldsSome}
 use Rattle.form_core.specs.Opening.{opened_of}
+use Rattle.form_core.specs.Steps.{map_err}
 use Rattle.form_core.specs.declared.fault.ReadFault.{ReadFault}
 use Rattle.form_core.specs.declared.fault.ReadFault.TheVariants as reads
 use Rattle.form_core.specs.declared.form.Form.{Form}
 use Rattle.form_core.specs.declared.form.Form.TheVariants.{Dsdiff}
-use Rattle.cost_core.specs.declared.fault.RoomFault.TheVariants as rooms
-use Rattle.cut_core.specs.Cuts.{CutContent, FitTakes, IsAlike, IsInside, cue_at, cut_with, master_length, take_at}
-use Rattle.cut_core.specs.Rooms.{HaveRoom, LacksRoom}
+use Rattle.cut_core.specs.Cuts.{CutContent, FitTakes, are_alike, count_at, cue_at, cut_with, master_length, take_at}
+use Rattle.cut_core.specs.Rooms.{HaveRoom, room_at}
 use Rattle.cut_core.specs.declared.fault.CutFault.{CutFault}
-use Rattle.cut_core.specs.declared.fault.CutFault.TheVariants.{TakeNumber, TakeUnread, TakeMismatch, CueOutside, MasterTooLong, NotWholeBytes, NoRoomBefore, NoRoomAfter, Memory}
+use Rattle.cut_core.specs.declared.fault.CutFault.TheVariants.{TakeNumber, TakeUnread, TakeMismatch, CueOutside, MasterTooLong, NotWholeBytes, Memory}
 
 -- the bytes of files
-abbrev pub bytes_of : List (Vec ℕ Global) → List (List ℕ)
-bytes_of files = map (λ (file : Vec ℕ Global). file.items) files
+abbrev pub file_bytes : List (Vec ℕ Global) → List (List ℕ)
+file_bytes files = map (λ (file : Vec ℕ Global). file.items) files
 
 -- the recordings in memory
 abbrev pub items_of : Vec Content Global → List Content
@@ -47,58 +47,64 @@ pub record OpensCut (splice : SpliceContent) (files : List (List ℕ)) (form : O
   pub whole : IsWhole form splice
   pub room : HaveRoom cut
 
--- the files before file i hold recordings, and reading file i comes to this fault
-pub record IsFirstUnread (files : List (List ℕ)) (i : ℕ) (fault : ReadFault) : Type 0 where
-  pub there : i < length files
-  pub before : List Content
-  pub held : AllZip HoldsSome (take i files) before
-  pub reading : opened_of (slice_index_or files i []) ≡ Err fault
+-- ---- the reading in the order of the faults
+-- a test that has to be met, or this fault
+abbrev pub required : Bool → CutFault → Result ⊤ CutFault
+required true fault = Ok tt
+required false fault = Err fault
 
--- the takes before take i are like the first, and take i isn't
-pub record IsFirstOther (takes : List Content) (i : ℕ) : Type 0 where
-  pub there : i < length takes
-  pub alike : All (IsAlike takes) (take i takes)
-  pub differs : IsAlike takes (take_at takes i) → ⊥
+-- the steps of the numbers below n in turn, to the first fault
+abbrev pub each_before : ℕ → (ℕ → Result ⊤ CutFault) → Result ⊤ CutFault
+each_before zero step = Ok tt
+each_before (suc n) step = do
+  before ← each_before n step
+  step n
 
--- the cues before cue i end within their takes, and cue i doesn't
-pub record IsFirstOutside (cut : CutContent) (i : ℕ) : Type 0 where
-  pub there : i < length cut.splice.cues
-  pub inside : All (IsInside cut.takes) (take i cut.splice.cues)
-  pub outside : count_of (take_at cut.takes (cue_at cut i).take).channels < (cue_at cut i).stop
+-- the recording that file i holds
+abbrev pub take_from : List (List ℕ) → ℕ → Result Content CutFault
+take_from files i = do
+  opened ← map_err (fault_of_take i) (opened_of (slice_index_or files i []))
+  Ok opened.recording
 
--- the files hold takes of which P stands
-pub record WhereRead (splice : SpliceContent) (files : List (List ℕ)) (P : CutContent → Type 0) : Type 0 where
-  pub takes : List Content
-  pub read : AreRead splice files takes
-  pub so : P (cut_with splice takes)
+-- the recordings that the first n files hold
+abbrev pub takes_before : List (List ℕ) → ℕ → Result (List Content) CutFault
+takes_before files zero = Ok []
+takes_before files (suc n) = do
+  before ← takes_before files n
+  last ← take_from files n
+  Ok (before ++ last ∷ [])
 
--- reading the file of the take of a number comes to this fault. Want of memory may come at any point
-abbrev pub IsUnread : List ℕ → ℕ → CutFault → Type 0
-IsUnread file number (TakeUnread i reads.Memory) = ⊥
-IsUnread file number (TakeUnread i fault) = (i ≡ number) × (opened_of file ≡ Err fault)
-IsUnread file number Memory = Unit {0}
-IsUnread file number _ = ⊥
+-- take i is like the first
+abbrev pub alike_at : List Content → ℕ → Result ⊤ CutFault
+alike_at takes i = required (are_alike (take_at takes 0) (take_at takes i)) (TakeMismatch i)
 
--- a file that isn't read is this fault, and the files before it are read. Want of memory may come at any point
-abbrev pub UnreadStandsFirst : List (List ℕ) → CutFault → Type 0
-UnreadStandsFirst files (TakeUnread i reads.Memory) = ⊥
-UnreadStandsFirst files (TakeUnread i fault) = IsFirstUnread files i fault
-UnreadStandsFirst files Memory = Unit {0}
-UnreadStandsFirst files _ = ⊥
+-- cue i ends within its take
+abbrev pub inside_at : CutContent → ℕ → Result ⊤ CutFault
+inside_at cut i = required (nat_le (cue_at cut i).stop (count_at cut i)) (CueOutside i)
 
--- this fault stands, and none before it in the order: number of takes, reading, likeness, cues, the master's length, whole bytes, room by rising cue. Want of memory may come at any point
-abbrev pub CutStandsFirst : SpliceContent → List (List ℕ) → Option Form → CutFault → Type 0
-CutStandsFirst splice files form TakeNumber = length files ≢ length splice.takes
-CutStandsFirst splice files form (TakeUnread i fault) = (length files ≡ length splice.takes) × UnreadStandsFirst files (TakeUnread i fault)
-CutStandsFirst splice files form (TakeMismatch i) = WhereRead splice files (λ cut. IsFirstOther cut.takes i)
-CutStandsFirst splice files form (CueOutside i) = WhereRead splice files (λ cut. All (IsAlike cut.takes) cut.takes × IsFirstOutside cut i)
-CutStandsFirst splice files form MasterTooLong = WhereRead splice files (λ cut. All (IsAlike cut.takes) cut.takes × All (IsInside cut.takes) splice.cues × (2 ^ 36 < master_length splice.cues))
-CutStandsFirst splice files form NotWholeBytes = WhereRead splice files (λ cut. FitTakes cut × (form ≡ Some Dsdiff) × (master_length splice.cues % 8 ≢ 0))
-CutStandsFirst splice files form (NoRoomBefore i) = WhereRead splice files (λ cut. FitTakes cut × IsWhole form splice × LacksRoom cut i rooms.NoRoomBefore)
-CutStandsFirst splice files form (NoRoomAfter i) = WhereRead splice files (λ cut. FitTakes cut × IsWhole form splice × LacksRoom cut i rooms.NoRoomAfter)
-CutStandsFirst splice files form Memory = Unit {0}
+-- the channels of a file of the form, if one is asked for, end with a whole byte
+abbrev pub whole_in : Option Form → SpliceContent → Bool
+whole_in (Some Dsdiff) splice = master_length splice.cues % 8 == 0
+whole_in form splice = true
 
--- this was answered, want of memory aside
-abbrev pub AnswersThis : {X Y : Type 0} → (X → Y) → Result X CutFault → Y → Type 0
-AnswersThis view (Ok made) y = view made ≡ y
-AnswersThis view (Err fault) y = fault ≡ Memory
+-- a splice and takes can be cut, into a file of the form where one is asked for
+unfoldable pub fitting : Option Form → CutContent → Result ⊤ CutFault
+fitting form cut = do
+  alike ← each_before (length cut.takes) (alike_at cut.takes)
+  inside ← each_before (length cut.splice.cues) (inside_at cut)
+  in_limit ← required (nat_le (master_length cut.splice.cues) (2 ^ 36)) MasterTooLong
+  whole ← required (whole_in form cut.splice) NotWholeBytes
+  each_before (length cut.splice.cues - 1) (room_at cut)
+
+-- the takes of a splice
+unfoldable pub takes_of : SpliceContent → List (List ℕ) → Result (List Content) CutFault
+takes_of splice files = do
+  as_many ← required (length files == length splice.takes) TakeNumber
+  takes_before files (length files)
+
+-- the cut of a splice and files, or the first fault: number of takes, reading, likeness, cues, the master's length, whole bytes, room by rising cue
+unfoldable pub cut_of : SpliceContent → List (List ℕ) → Option Form → Result CutContent CutFault
+cut_of splice files form = do
+  takes ← takes_of splice files
+  fits ← fitting form (cut_with splice takes)
+  Ok (cut_with splice takes)

@@ -1,22 +1,23 @@
 //! A splice with its takes.
 
-ghost use Rattle.std.specs.Prelude.{◌≡◌, ◌+◌, ◌^◌, ◌<◌, ◌≤◌, All, IfErr, IfOk, length, map};
+ghost use Rattle.std.specs.Prelude.{◌≡◌, ◌+◌, ◌^◌, ◌<◌, ◌≤◌, All, IfOk, length, map};
 ghost use Rattle.dsd_bits.specs.Contents.{mark_content};
 ghost use Rattle.project_core.specs.Cues.{IsCueWithin, cue_content};
 ghost use Rattle.project_core.specs.Splices.{splice_content};
+ghost use Rattle.form_core.specs.Steps.{Gives};
 ghost use Rattle.cut_core.specs.Bridges as places;
 ghost use Rattle.cut_core.specs.Bridges.{IsPlace};
 ghost use Rattle.cut_core.specs.Cuts as cuts;
 ghost use Rattle.cut_core.specs.Cuts.{CutContent, cue_at, master_length, span, take_at};
 ghost use Rattle.cut_core.specs.Keeping.{CanCut};
-ghost use Rattle.cut_core.specs.Opening.{AnswersThis, CutStandsFirst, OpensCut, bytes_of};
+ghost use Rattle.cut_core.specs.Opening.{OpensCut, cut_of, file_bytes};
 ghost use Rattle.cut_core.specs.Titles.{titles_of};
 
 use crate::bridges::{BridgePlace, bridge_places};
 use crate::cues;
 use crate::fault::CutFault;
-use crate::rooms::can_cut;
-use crate::takes::{self, takes_of};
+use crate::fitting::{self, fits};
+use crate::takes::takes_of;
 use crate::titles::title_marks;
 use cost_core::Window;
 use dsd_bits::{Bits, Mark, Recording};
@@ -36,11 +37,11 @@ pub struct Cut {
 
 impl Model for Cut {
     ghost use Rattle.cut_core.specs.Cuts.{CutContent};
-    ghost use Rattle.cut_core.specs.View.{KeepsCut, cut_of};
+    ghost use Rattle.cut_core.specs.View.{KeepsCut, cut_content};
 
     ghost Value = { CutContent };
 
-    ghost view = { cut_of };
+    ghost view = { cut_content };
 
     ghost invariant = { KeepsCut };
 }
@@ -54,18 +55,18 @@ impl Cut {
     /// stops behind the end of its take, `MasterTooLong` where the master would have more than `2^36` bits a channel,
     /// `NotWholeBytes` where the form is DSDIFF and the master's channels would end inside a byte, then by rising cue
     /// `NoRoomBefore` and `NoRoomAfter`. Every want of memory is `Memory`.
+    #[tactic(auto, unfolding(crate::specs::Opening::cut_of))]
     pub fn open(
         alloc: Global,
         splice: Splice,
         files: &[Vec<u8>],
         form: Option<Form>,
     ) -> Result<Cut, CutFault>
-        ensures found { IfOk result (OpensCut (splice_content splice) (bytes_of files.now) form) }
-        ensures only { (cut : CutContent) → OpensCut (splice_content splice) (bytes_of files.now) form cut → AnswersThis (λ x. x) result cut }
-        ensures refused { IfErr result (CutStandsFirst (splice_content splice) (bytes_of files.now) form) }
+        ensures found { IfOk result (OpensCut (splice_content splice) (file_bytes files.now) form) }
+        ensures exact { Gives CutFault.Memory (λ cut. cut) result (cut_of (splice_content splice) (file_bytes files.now) form) }
     {
         let takes = takes_of(alloc, &splice, files)?;
-        can_cut(&splice, &takes, form)?;
+        fits(&splice, &takes, form)?;
         Ok(Cut { splice, takes })
     }
 
@@ -117,7 +118,7 @@ impl Cut {
         ensures value { result ≡ master_length self.now.splice.cues }
         ensures in_limit { result ≤ 2 ^ 36 }
     {
-        takes::master_length(&self.splice)
+        fitting::master_length(&self.splice)
     }
 
     /// The first take, whose sample rate, channel IDs and layout the master has.

@@ -23,11 +23,13 @@ mod bridges;
 mod cues;
 mod cut;
 mod fault;
-mod rooms;
+mod fitting;
+mod laws;
 mod takes;
 mod titles;
 
 pub use bridges::BridgePlace;
 pub use cut::Cut;
 pub use fault::CutFault;
-pub use takes::differ;
+pub use fitting::differ;
+pub use laws::opens_in_order;

@@ -19,7 +19,7 @@ use Rattle.form_core.specs.declared.form.Form.TheVariants as forms
 use Rattle.form_core.specs.declared.opening.Opened.{Opened}
 use Rattle.form_core.specs.declared.fault.ReadFault.{ReadFault}
 use Rattle.form_core.specs.Faults.{dsdiff_fault}
-use Rattle.form_core.specs.Forms.{Holds, form_of}
+use Rattle.form_core.specs.Forms.{HoldsAs, form_of}
 use Rattle.form_core.specs.Opening.{IsOpened, Opens, from_dsdiff, from_dsf, is_other, opened_of}
 
 -- ---- a DSF file is no DSDIFF file
@@ -30,7 +30,7 @@ no_dsdiff file r order h =
     rw (le-ltb (length file) 16 long, h.first) refl
 
 -- ---- what a file holds is what reading comes to
-pub holds_dsf : (file : List ℕ) (r : Content) (order : BitOrder) → IsDsf file r order → Holds file (form_of order) r
+pub holds_dsf : (file : List ℕ) (r : Content) (order : BitOrder) → IsDsf file r order → HoldsAs file (form_of order) r
 holds_dsf file r LeastFirst h = h
 holds_dsf file r MostFirst h = h
 
@@ -38,7 +38,7 @@ opened_dsf : (file : List ℕ) (r : Content) (order : BitOrder) → IsDsf file r
 unfolding opened_of
 opened_dsf file r order h = rw (no_dsdiff file r order h, dsf_is_read file r order h) refl
 
-pub held_is_opened : (file : List ℕ) (form : Form) (r : Content) → Holds file form r → opened_of file ≡ Ok (record { form = form; recording = r })
+pub held_is_opened : (file : List ℕ) (form : Form) (r : Content) → HoldsAs file form r → opened_of file ≡ Ok (record { form = form; recording = r })
 unfolding opened_of
 held_is_opened file forms.Dsdiff r h = rw (parts_again file r (parts_from file r h)) refl
 held_is_opened file forms.Dsf r h = opened_dsf file r LeastFirst h

@@ -11,15 +11,15 @@ use Rattle.form_core.specs.declared.form.Form.{Form}
 use Rattle.form_core.specs.declared.form.Form.TheVariants.{Dsdiff, Dsf, Dsf8}
 
 -- the file has this form and holds this recording
-abbrev pub Holds : List ℕ → Form → Content → Type 0
-Holds file Dsdiff r = IsDsdiff file r
-Holds file Dsf r = IsDsf file r LeastFirst
-Holds file Dsf8 r = IsDsf file r MostFirst
+abbrev pub HoldsAs : List ℕ → Form → Content → Type 0
+HoldsAs file Dsdiff r = IsDsdiff file r
+HoldsAs file Dsf r = IsDsf file r LeastFirst
+HoldsAs file Dsf8 r = IsDsf file r MostFirst
 
 -- the file has some form and holds this recording
 pub record HoldsSome (file : List ℕ) (recording : Content) : Type 0 where
   pub form : Form
-  pub holds : Holds file form recording
+  pub holds : HoldsAs file form recording
 
 -- the form of a DSF file whose bits stand in this order
 abbrev pub form_of : BitOrder → Form

@@ -12,7 +12,7 @@ use Rattle.form_core.specs.declared.fault.ReadFault.TheVariants.{UnknownForm, Ds
 use Rattle.form_core.specs.declared.form.Form.TheVariants as forms
 use Rattle.form_core.specs.declared.opening.Opened.{Opened}
 use Rattle.form_core.specs.Faults.{dsdiff_fault, dsf_fault}
-use Rattle.form_core.specs.Forms.{Holds, form_of}
+use Rattle.form_core.specs.Forms.{HoldsAs, form_of}
 
 -- a reading of DSF as a reading of any form
 abbrev pub from_dsf : Result (Content × BitOrder) DsfFault → Result Opened ReadFault
@@ -43,4 +43,4 @@ Opens (Err (Dsf fault)) reading = reading ≡ Err (Dsf fault)
 
 -- an answer is what the file holds
 abbrev pub IsOpened : List ℕ → Opened → Type 0
-IsOpened file x = Holds file x.form x.recording
+IsOpened file x = HoldsAs file x.form x.recording

@@ -5,12 +5,12 @@ use Rattle.dsdiff_core.specs.declared.write_fault.WriteFault.{WriteFault}
 use Rattle.dsdiff_core.specs.declared.write_fault.WriteFault.TheVariants.{NotWholeBytes, Memory}
 use Rattle.form_core.specs.declared.form.Form.{Form}
 use Rattle.form_core.specs.declared.form.Form.TheVariants.{Dsdiff}
-use Rattle.form_core.specs.Forms.{Holds, text_in}
+use Rattle.form_core.specs.Forms.{HoldsAs, text_in}
 
 -- the bytes are a file of the form with the rate and the channels of the recording, and with its marks where the form has marks
 pub record HoldsSound (form : Form) (recording : Content) (bytes : List ℕ) : Type 0 where
   pub again : Content
-  pub holds : Holds bytes form again
+  pub holds : HoldsAs bytes form again
   pub same_rate : again.rate ≡ recording.rate
   pub same_channels : again.channels ≡ recording.channels
   pub same_marks : form ≡ Dsdiff → again.marks ≡ recording.marks

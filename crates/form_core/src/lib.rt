@@ -5,7 +5,7 @@
 //!
 //! The words of its contracts:
 //!
-//! - `Holds file form r` says that the file has this form and holds this recording, `HoldsSome file r` the same
+//! - `HoldsAs file form r` says that the file has this form and holds this recording, `HoldsSome file r` the same
 //!   of some form; `text_in form r` is the file of the form that is written for the recording
 //!   (`specs/Forms.antt`).
 //! - `opened_of file` is the reading in a fixed order, to the form and the recording or the first fault; `Opens`

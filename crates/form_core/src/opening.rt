@@ -5,7 +5,7 @@ ghost use Rattle.dsd_bits.specs.Contents.{Content};
 ghost use Rattle.dsf_core.specs.Reading.{recording_of};
 ghost use Rattle.form_core.specs.declared.form.Form.{Form};
 ghost use Rattle.form_core.specs.Forms as forms;
-ghost use Rattle.form_core.specs.Forms.{Holds};
+ghost use Rattle.form_core.specs.Forms.{HoldsAs};
 ghost use Rattle.form_core.specs.Opening as openings;
 ghost use Rattle.form_core.specs.Opening.{IsOpened, Opens, from_dsf, opened_of};
 
@@ -32,7 +32,7 @@ pub fn read_any(alloc: Global, file: &[u8]) -> Result<Opened, ReadFault>
     // What is read is what the file holds.
     ensures found { IfOk result (IsOpened file.now) }
     // What a file holds is read, want of memory aside.
-    ensures only { (form : Form) (r : Content) → Holds file.now form r → Opens result (Ok (record { form = form; recording = r })) }
+    ensures only { (form : Form) (r : Content) → HoldsAs file.now form r → Opens result (Ok (record { form = form; recording = r })) }
     // Which fault it is.
     ensures exact { Opens result (opened_of file.now) }
 {

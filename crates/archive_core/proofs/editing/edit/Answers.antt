@@ -2,7 +2,7 @@ use Rattle.std.proofs.Common.{◌≡◌, ◌∙◌, ap, inl, None, Some, refl}
 use Rattle.std.proofs.lemmas.Result.{err_from_is_err_and}
 use Rattle.project_core.specs.Splices.{SpliceContent, splice_content}
 use Rattle.cut_core.specs.Cuts.{master_length}
-use Rattle.cut_core.specs.Opening.{bytes_of}
+use Rattle.cut_core.specs.Opening.{file_bytes}
 use Rattle.archive_core.specs.declared.fault.Fault.TheVariants.{Memory}
 use Rattle.archive_core.specs.Cutting.{SaysCut}
 use Rattle.archive_core.specs.Faults.{fault_of_cut, fault_of_writing}
@@ -25,12 +25,12 @@ returns-in_err-splice-clause-only c = λ master cost edits.
 pub returns-in_err-cut-clause-refused : goal.returns-in_err-cut-clause-refused
 returns-in_err-cut-clause-refused c =
     let p = err_from_is_err_and c.from_residual-in_err-cut.result c.from_residual-in_err-cut.ensures.1 in
-    rw (p.1, p.2) (cut_refused c.args.project.now (bytes_of c.args.takes.now) (Some c.args.form) (splice_content c.in_ok-splice.splice) c.in_ok-splice.ensures.found c.in_err-cut.field-0.0 c.in_err-cut.ensures.refused)
+    rw (p.1, p.2) (cut_refused c.args.project.now (file_bytes c.args.takes.now) (Some c.args.form) (splice_content c.in_ok-splice.splice) c.in_ok-splice.ensures.found c.in_err-cut.field-0.0 c.in_err-cut.ensures.refused)
 
 pub returns-in_err-cut-clause-only : goal.returns-in_err-cut-clause-only
 returns-in_err-cut-clause-only c = λ master cost edits.
     let p = err_from_is_err_and c.from_residual-in_err-cut.result c.from_residual-in_err-cut.ensures.1 in
-    rw (p.1, p.2) (ap fault_of_cut (c.in_err-cut.ensures.only edits.cut (opens_of c.args.project.now (bytes_of c.args.takes.now) (Some c.args.form) edits.cut (splice_content c.in_ok-splice.splice) c.in_ok-splice.ensures.exact edits.says)))
+    rw (p.1, p.2) (ap fault_of_cut (c.in_err-cut.ensures.only edits.cut (opens_of c.args.project.now (file_bytes c.args.takes.now) (Some c.args.form) edits.cut (splice_content c.in_ok-splice.splice) c.in_ok-splice.ensures.exact edits.says)))
 
 pub returns-in_err-recording-clause-refused : goal.returns-in_err-recording-clause-refused
 returns-in_err-recording-clause-refused c =
@@ -60,11 +60,11 @@ returns-in_err-master-clause-only c = λ master cost edits.
     rw (p.1, p.2) (unwritten (goal.at.returns-in_err-master-clause-only c).In_err-master)
 
 -- ---- what is answered
-says : (c : In_ok-cut) → SaysCut c.args.project.now (bytes_of c.args.takes.now) (Some c.args.form) c.in_ok-cut.cut
+says : (c : In_ok-cut) → SaysCut c.args.project.now (file_bytes c.args.takes.now) (Some c.args.form) c.in_ok-cut.cut
 says c = record { splice = splice_content c.in_ok-splice.splice; project_says = c.in_ok-splice.ensures.found; opens = c.in_ok-cut.ensures.found }
 
-says_any : (c : In_ok-cut) → SaysCut c.args.project.now (bytes_of c.args.takes.now) None c.in_ok-cut.cut
-says_any c = any_form c.args.project.now (bytes_of c.args.takes.now) c.args.form c.in_ok-cut.cut (says c)
+says_any : (c : In_ok-cut) → SaysCut c.args.project.now (file_bytes c.args.takes.now) None c.in_ok-cut.cut
+says_any c = any_form c.args.project.now (file_bytes c.args.takes.now) c.args.form c.in_ok-cut.cut (says c)
 
 pub returns-clause-found : goal.returns-clause-found
 returns-clause-found c = record {
@@ -77,21 +77,21 @@ returns-clause-found c = record {
 
 pub returns-clause-master : goal.returns-clause-master
 returns-clause-master c =
-    file_is_master c.args.project.now (bytes_of c.args.takes.now) c.in_ok-cut.cut (says_any (goal.at.returns-clause-master c).In_ok-cut) c.args.form c.in_ok-recording.field-0.recording c.in_ok-recording.ensures.master c.in_ok-master.master.items c.in_ok-master.ensures.read_again
+    file_is_master c.args.project.now (file_bytes c.args.takes.now) c.in_ok-cut.cut (says_any (goal.at.returns-clause-master c).In_ok-cut) c.args.form c.in_ok-recording.field-0.recording c.in_ok-recording.ensures.master c.in_ok-master.master.items c.in_ok-master.ensures.read_again
     c.in_ok-recording.ensures.channels
 
 pub returns-clause-accepted : goal.returns-clause-accepted
 returns-clause-accepted c =
     let best = c.in_ok-recording.ensures.best in
-    file_is_accepted c.args.project.now (bytes_of c.args.takes.now) c.in_ok-cut.cut (says_any (goal.at.returns-clause-accepted c).In_ok-cut) c.args.form c.in_ok-recording.field-0.recording c.in_ok-recording.ensures.master c.in_ok-master.master.items c.in_ok-master.ensures.read_again
+    file_is_accepted c.args.project.now (file_bytes c.args.takes.now) c.in_ok-cut.cut (says_any (goal.at.returns-clause-accepted c).In_ok-cut) c.args.form c.in_ok-recording.field-0.recording c.in_ok-recording.ensures.master c.in_ok-master.master.items c.in_ok-master.ensures.read_again
     c.in_ok-recording.field-0.cert.items c.in_ok-recording.field-0.total c.in_ok-recording.ensures.shown (costs_whole c.in_ok-cut.cut c.args.form c.in_ok-recording.field-0.recording c.in_ok-recording.field-0.total best)
 
 pub returns-clause-windows : goal.returns-clause-windows
 returns-clause-windows c =
-    file_costs c.args.project.now (bytes_of c.args.takes.now) c.in_ok-cut.cut (says_any (goal.at.returns-clause-windows c).In_ok-cut) c.args.form c.in_ok-recording.field-0.recording c.in_ok-recording.ensures.master c.in_ok-master.master.items c.in_ok-master.ensures.read_again
+    file_costs c.args.project.now (file_bytes c.args.takes.now) c.in_ok-cut.cut (says_any (goal.at.returns-clause-windows c).In_ok-cut) c.args.form c.in_ok-recording.field-0.recording c.in_ok-recording.ensures.master c.in_ok-master.master.items c.in_ok-master.ensures.read_again
     c.in_ok-recording.field-0.total c.in_ok-recording.ensures.windows
 
 pub returns-clause-only : goal.returns-clause-only
 returns-clause-only c = λ master cost edits.
-    let same = c.in_ok-cut.ensures.only edits.cut (opens_of c.args.project.now (bytes_of c.args.takes.now) (Some c.args.form) edits.cut (splice_content c.in_ok-splice.splice) c.in_ok-splice.ensures.exact edits.says) in
+    let same = c.in_ok-cut.ensures.only edits.cut (opens_of c.args.project.now (file_bytes c.args.takes.now) (Some c.args.form) edits.cut (splice_content c.in_ok-splice.splice) c.in_ok-splice.ensures.exact edits.says) in
     one_answer c.in_ok-cut.cut edits.cut c.args.form c.in_ok-recording.field-0.recording edits.recording c.in_ok-master.master.items master c.in_ok-recording.field-0.total cost same c.in_ok-recording.ensures.best edits.best c.in_ok-master.ensures.text edits.text

@@ -1,7 +1,7 @@
 use Rattle.std.proofs.Common.{◌++◌, ◌∷◌, ◌∙◌, [], List, IsTrue, Some, ap, map, subst, sym}
 use Rattle.std.specs.Prelude.{string_bytes}
 use Rattle.std.proofs.lemmas.List.{take_all}
-use Rattle.cut_core.specs.Opening.{bytes_of}
+use Rattle.cut_core.specs.Opening.{file_bytes}
 use Rattle.command_core.specs.Files.{AreFiles}
 use Rattle.command_core.proofs.FileLaws.{one_file_more}
 use Rattle.command_core.proofs.files.read_files.Goals as goal
@@ -15,7 +15,7 @@ loop-name-preserved g c =
       same = read.same ∙ so_far.same;
       told = read.told ∙ so_far.told;
       bytes = λ told.
-          let files = map (λ (bytes : List _). Some bytes) (bytes_of c.loop-name.files.items) in
+          let files = map (λ (bytes : List _). Some bytes) (file_bytes c.loop-name.files.items) in
           one_file_more old c.args.names.now c.loop-name.name-index c.name-item.result c.loop-name.files.items c.push_file.new.files.items c.loop-name-test.true c.name-item.is (so_far.bytes told)
           (read.bytes (subst IsTrue (sym so_far.told) told)
           ∙ ap (λ f. files ++ f c.deref.result.now ∷ []) so_far.same
@@ -24,4 +24,4 @@ loop-name-preserved g c =
 
 pub returns-clause-bytes : goal.returns-clause-bytes
 returns-clause-bytes g c = λ told.
-    subst (λ names. AreFiles (g.F.Folder.file c.args.folder.now) (map string_bytes names) (bytes_of c.loop-name.files.items)) (take_all c.loop-name.name-index c.args.names.now c.loop-name-test.false) (c.loop-name.invariant.bytes told)
+    subst (λ names. AreFiles (g.F.Folder.file c.args.folder.now) (map string_bytes names) (file_bytes c.loop-name.files.items)) (take_all c.loop-name.name-index c.args.names.now c.loop-name-test.false) (c.loop-name.invariant.bytes told)

@@ -2,7 +2,7 @@ use Rattle.std.proofs.Common.{◌≡◌, ◌≤◌, ◌+◌, ◌*◌, ◌^◌, t
 use Rattle.std.specs.List.{sum_by}
 use Rattle.project_core.specs.Splices.{splice_content}
 use Rattle.cut_core.specs.Cuts.{span}
-use Rattle.cut_core.proofs.takes.master_length.Given as goal
+use Rattle.cut_core.proofs.fitting.master_length.Given as goal
 
 abbrev pub invariant-loop-i : goal.invariant-loop-i
 invariant-loop-i l = record {

@@ -1,7 +1,9 @@
 -- Whatever the relations of the calls say is what their readings in order come to.
-use Rattle.std.specs.Prelude.{◌≡◌, ℕ, List, Ok}
+use Rattle.std.specs.Prelude.{◌≡◌, ℕ, List, Ok, Option}
 use Rattle.form_core.specs.declared.form.Form.{Form}
+use Rattle.cut_core.specs.Cuts.{CutContent}
 use Rattle.archive_core.specs.Converting.{Converts, converted_of}
+use Rattle.archive_core.specs.Cutting.{SaysCut, said_cut}
 use Rattle.archive_core.specs.Playing.{Plays, played_of}
 use Rattle.archive_core.specs.Projects.{SaysTakes, take_names_of}
 
@@ -16,3 +18,7 @@ PlaysInOrder = (project file bytes : List ℕ) → Plays project file bytes → 
 -- which takes a text cuts
 abbrev pub SaysTakesInOrder : Type 0
 SaysTakesInOrder = (text : List ℕ) (names : List (List ℕ)) → SaysTakes text names → take_names_of text ≡ Ok names
+
+-- which cut a project and files come to
+abbrev pub SaysCutInOrder : Type 0
+SaysCutInOrder = (project : List ℕ) (files : List (List ℕ)) (form : Option Form) (cut : CutContent) → SaysCut project files form cut → said_cut project files form ≡ Ok cut

@@ -3,17 +3,17 @@
 ghost use Rattle.std.specs.Prelude.{◌≡◌, IfErr, IfOk, MatchOption, None, Some, ℕ};
 ghost use Rattle.archive_core.specs.Checking as checks;
 ghost use Rattle.archive_core.specs.Checking.{Accepts, AnswersAccepted, HoldsNothing, IfAccepted, IfRejected, IsLeastMaster, RejectsFirst};
-ghost use Rattle.archive_core.specs.Cutting.{IsRefusedCut};
+ghost use Rattle.archive_core.specs.Cutting.{said_cut};
 ghost use Rattle.archive_core.specs.Editing.{CostsWindows, IsMaster};
 ghost use Rattle.cut_core.specs.Opening.{file_bytes};
 ghost use Rattle.dsd_bits.specs.Contents.{Content};
 ghost use Rattle.form_core.specs.declared.form.Form.{Form};
 ghost use Rattle.form_core.specs.Forms.{HoldsAs};
 ghost use Rattle.form_core.specs.Opening.{IsOpened};
+ghost use Rattle.form_core.specs.Steps.{Fails};
 
+use crate::cutting::cut_from;
 use crate::fault::Fault;
-use crate::projects::splice_of;
-use cut_core::Cut;
 use form_core::{Opened, ReadFault, read_any};
 use master_core::{Reason, Verdict, judge};
 use std::alloc::{AllocError, Global};
@@ -48,10 +48,9 @@ pub fn check(
     // Which reason it is: the first that stands.
     ensures rejected { IfRejected result (RejectsFirst project.now (file_bytes takes.now) master.now cert.now) }
     // Which fault it is: the first of the project, its splice and its cut.
-    ensures refused { IfErr result (IsRefusedCut project.now (file_bytes takes.now) None) }
+    ensures refused { IfErr result (λ fault. Fails Fault.Memory fault (said_cut project.now (file_bytes takes.now) None)) }
 {
-    let splice = splice_of(alloc, project)?;
-    let cut = Cut::open(alloc, splice, takes, None)?;
+    let cut = cut_from(alloc, project, takes, None)?;
     let Some(opened) = open_master(alloc, master)? else {
         return Ok(Verdict::Rejected(Reason::MasterUnread));
     };

@@ -3,12 +3,12 @@
 ghost use Rattle.std.specs.Prelude.{IfErr, IfOk, List, Some, ℕ};
 ghost use Rattle.archive_core.specs.Checking.{Accepts};
 ghost use Rattle.archive_core.specs.Editing.{AnswersEdited, CostsWindows, Edits, IsEdited, IsMaster};
-ghost use Rattle.archive_core.specs.Cutting.{IsRefusedCut};
+ghost use Rattle.archive_core.specs.Cutting.{said_cut};
 ghost use Rattle.cut_core.specs.Opening.{file_bytes};
+ghost use Rattle.form_core.specs.Steps.{Fails};
 
+use crate::cutting::cut_from;
 use crate::fault::Fault;
-use crate::projects::splice_of;
-use cut_core::Cut;
 use form_core::{Form, write_in};
 use master_core::{Made, make};
 use std::alloc::Global;
@@ -48,10 +48,9 @@ pub fn edit(alloc: Global, project: &[u8], takes: &[Vec<u8>], form: Form) -> Res
     // What a project and takes come to is answered, want of memory aside.
     ensures only { (master : List ℕ) (cost : ℕ) → Edits project.now (file_bytes takes.now) form master cost → AnswersEdited result master cost }
     // Which fault it is: the first of the project, its splice and its cut.
-    ensures refused { IfErr result (IsRefusedCut project.now (file_bytes takes.now) (Some form)) }
+    ensures refused { IfErr result (λ fault. Fails Fault.Memory fault (said_cut project.now (file_bytes takes.now) (Some form))) }
 {
-    let splice = splice_of(alloc, project)?;
-    let cut = Cut::open(alloc, splice, takes, Some(form))?;
+    let cut = cut_from(alloc, project, takes, Some(form))?;
     let Made {
         recording,
         cert,

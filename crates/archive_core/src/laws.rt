@@ -1,12 +1,13 @@
 //! What the words of the contracts have to do with each other. The functions do nothing: a caller's
 //! proof cites what they ensure.
 
-ghost use Rattle.archive_core.specs.Laws.{ConvertsInOrder, PlaysInOrder, SaysTakesInOrder};
+ghost use Rattle.archive_core.specs.Laws.{ConvertsInOrder, PlaysInOrder, SaysCutInOrder, SaysTakesInOrder};
 
-/// What a file converts to, what project and file play and which takes a text cuts is what reading them in the
-/// order of the refusals comes to.
+/// What a file converts to, what project and file play, which takes a text cuts and which cut it comes to is what
+/// reading them in the order of the refusals comes to.
 pub fn read_in_order()
     ensures converts { ConvertsInOrder }
     ensures plays { PlaysInOrder }
     ensures takes { SaysTakesInOrder }
+    ensures cuts { SaysCutInOrder }
 {}

@@ -19,10 +19,9 @@
 //!   (`specs/Editing.antt`); `Accepts project files master cert cost` that it is, and that the certificate shows each
 //!   bridge to be least (`specs/Checking.antt`).
 //!
-//! Beside the first three stands a reading in the order of the refusals, to what is answered or the first fault:
-//! `converted_of`, `played_of`, `take_names_of`. A call gives what its reading comes to, want of memory aside, and the
-//! law on [`read_in_order`] joins relation and reading. Which fault refuses a cut says `IsRefusedCut`: that of the
-//! project or its splice, and then the one that stands first of the cut.
+//! Beside `Converts`, `Plays`, `SaysTakes` and `SaysCut` stands a reading in the order of the refusals, to what is
+//! answered or the first fault: `converted_of`, `played_of`, `take_names_of`, `said_cut`. A call gives what its reading
+//! comes to, or is refused as it is, want of memory aside, and the law on [`read_in_order`] joins relation and reading.
 //!
 //! ```text
 //! let converted = convert(alloc, &file, Form::Dsf)?;
@@ -34,6 +33,7 @@
 
 mod checking;
 mod converting;
+mod cutting;
 mod editing;
 mod fault;
 mod laws;

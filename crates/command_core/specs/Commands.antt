@@ -9,7 +9,7 @@ use Rattle.master_core.specs.declared.verdict.Verdict.{Verdict}
 use Rattle.master_core.specs.declared.verdict.Verdict.TheVariants as verdicts
 use Rattle.archive_core.specs.Checking.{Accepts, RejectsFirst}
 use Rattle.archive_core.specs.Converting.{Converts, converted_of}
-use Rattle.archive_core.specs.Cutting.{IsRefusedCut}
+use Rattle.archive_core.specs.Cutting.{said_cut}
 use Rattle.form_core.specs.Steps.{Fails}
 use Rattle.archive_core.specs.Editing.{Edits}
 use Rattle.archive_core.specs.Faults.{fault_of_file}
@@ -167,14 +167,14 @@ pub record IsUncut (form : Form) (project_name : List ℕ) (old : Files) (fault 
   pub project : List ℕ
   pub takes : List (List ℕ)
   pub sources : AreSources project_name old project takes
-  pub first : IsRefusedCut project takes (Some form) fault
+  pub first : Fails Memory fault (said_cut project takes (Some form))
 
 -- this fault stands first where a master is judged by the project and the files of the takes that it names
 pub record IsUnjudged (project_name : List ℕ) (old : Files) (fault : calls.Fault) : Type 0 where
   pub project : List ℕ
   pub takes : List (List ℕ)
   pub sources : AreSources project_name old project takes
-  pub first : IsRefusedCut project takes None fault
+  pub first : Fails Memory fault (said_cut project takes None)
 
 -- the file is not read as a recording for this fault
 pub record IsUntold (file_name : List ℕ) (old : Files) (fault : calls.Fault) : Type 0 where

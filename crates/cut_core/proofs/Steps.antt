@@ -14,9 +14,6 @@ met false fault x e = absurd cc
 
 -- ---- the steps of rising numbers
 module _ (step : ℕ → Result ⊤ CutFault) where
-  pub each_more : (n : ℕ) → each_before n step ≡ Ok tt → step n ≡ Ok tt → each_before (n + 1) step ≡ Ok tt
-  each_more n before here = rw (add-one n, before) here
-
   pub each_stops : (n i : ℕ) (e : CutFault) → i < n → each_before i step ≡ Ok tt → step i ≡ Err e → each_before n step ≡ Err e
   each_stops zero i e lt before here = absurd (omega arith)
   each_stops (suc n) i e lt before here = elim (cases_lt i n) [

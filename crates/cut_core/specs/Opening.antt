@@ -21,10 +21,6 @@ use Rattle.cut_core.specs.declared.fault.CutFault.TheVariants.{TakeNumber, TakeU
 abbrev pub file_bytes : List (Vec ℕ Global) → List (List ℕ)
 file_bytes files = map (λ (file : Vec ℕ Global). file.items) files
 
--- the recordings in memory
-abbrev pub items_of : Vec Content Global → List Content
-items_of takes = takes.items
-
 -- a file's fault as the fault of the take of a number
 abbrev pub fault_of_take : ℕ → ReadFault → CutFault
 fault_of_take number reads.Memory = Memory

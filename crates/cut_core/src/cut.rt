@@ -62,7 +62,9 @@ impl Cut {
         files: &[Vec<u8>],
         form: Option<Form>,
     ) -> Result<Cut, CutFault>
+        // What is answered is the splice with takes that the files hold, and can be cut.
         ensures found { IfOk result (OpensCut (splice_content splice) (file_bytes files.now) form) }
+        // What is answered or refused is what reading in order comes to, want of memory aside.
         ensures exact { Gives CutFault.Memory (λ cut. cut) result (cut_of (splice_content splice) (file_bytes files.now) form) }
     {
         let takes = takes_of(alloc, &splice, files)?;

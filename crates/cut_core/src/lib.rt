@@ -7,9 +7,10 @@
 //!
 //! The words of the contracts: `CutContent` is a splice and its takes, `CanCut` what a cut keeps; `OpensCut splice
 //! files form cut` says that the files hold these takes, and that a file of the form, if one is asked for, can be cut
-//! from them (`specs/Opening.antt`); `CutStandsFirst` which fault stands first where not. `source cut c i`, `cue_bits
-//! cut c i` and `window cut c i` are the channel, the bits of cue `i` and the window of the bridge behind it in channel
-//! `c` (`specs/Cuts.antt`); `bridges cut` are the places of all bridges in their one order (`specs/Bridges.antt`).
+//! from them, and `cut_of splice files form` is the reading in the order of the refusals, to the cut or the first fault
+//! (`specs/Opening.antt`): both say the same of a cut, by the law on [`opens_in_order`]. `source cut c i`, `cue_bits cut c
+//! i` and `window cut c i` are the channel, the bits of cue `i` and the window of the bridge behind it in channel `c`
+//! (`specs/Cuts.antt`); `bridges cut` are the places of all bridges in their one order (`specs/Bridges.antt`).
 //!
 //! ```text
 //! let cut = Cut::open(alloc, splice, &files, Some(Form::Dsdiff))?;

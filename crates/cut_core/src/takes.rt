@@ -5,7 +5,7 @@ ghost use Rattle.dsd_bits.specs.Shape.{HasShape};
 ghost use Rattle.project_core.specs.Splices.{splice_content};
 ghost use Rattle.form_core.specs.Steps.{Gives};
 ghost use Rattle.cut_core.specs.Opening as specs;
-ghost use Rattle.cut_core.specs.Opening.{fault_of_take, file_bytes, items_of, take_from, takes_before};
+ghost use Rattle.cut_core.specs.Opening.{fault_of_take, file_bytes, take_from, takes_before};
 
 use crate::fault::CutFault;
 use dsd_bits::Recording;
@@ -23,7 +23,7 @@ pub fn takes_of(
     splice: &Splice,
     files: &[Vec<u8>],
 ) -> Result<Vec<Recording>, CutFault>
-    ensures exact { Gives CutFault.Memory items_of result (specs.takes_of (splice_content splice.now) (file_bytes files.now)) }
+    ensures exact { Gives CutFault.Memory (λ takes. takes.items) result (specs.takes_of (splice_content splice.now) (file_bytes files.now)) }
     ensures shaped { IfOk result (λ takes. All HasShape takes.items) }
     ensures as_many { IfOk result (λ takes. length takes.items ≡ length (splice_content splice.now).takes) }
 {
@@ -36,7 +36,7 @@ pub fn takes_of(
 // The recordings of files.
 #[tactic(auto, using(crate::proofs::Steps::takes_stop))]
 fn read_takes(alloc: Global, files: &[Vec<u8>]) -> Result<Vec<Recording>, CutFault>
-    ensures exact { Gives CutFault.Memory items_of result (takes_before (file_bytes files.now) (length files.now)) }
+    ensures exact { Gives CutFault.Memory (λ takes. takes.items) result (takes_before (file_bytes files.now) (length files.now)) }
     ensures shaped { IfOk result (λ takes. All HasShape takes.items) }
     ensures as_many { IfOk result (λ takes. length takes.items ≡ length files.now) }
 {

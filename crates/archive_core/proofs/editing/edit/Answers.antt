@@ -1,41 +1,28 @@
 use Rattle.std.proofs.Common.{◌≡◌, ◌∙◌, ap, inl, None, Some, refl}
 use Rattle.std.proofs.lemmas.Result.{err_from_is_err_and}
-use Rattle.project_core.specs.Splices.{SpliceContent, splice_content}
+use Rattle.project_core.specs.Splices.{SpliceContent}
 use Rattle.cut_core.specs.Cuts.{master_length}
 use Rattle.cut_core.specs.Opening.{file_bytes}
 use Rattle.archive_core.specs.declared.fault.Fault.TheVariants.{Memory}
-use Rattle.archive_core.specs.Cutting.{SaysCut}
-use Rattle.archive_core.specs.Faults.{fault_of_cut, fault_of_writing}
-use Rattle.archive_core.proofs.CuttingLaws.{cut_refused, opens_of, splice_only_memory}
+use Rattle.archive_core.specs.Cutting.{SaysCut, said_cut}
+use Rattle.archive_core.specs.Faults.{fault_of_writing}
+use Rattle.archive_core.proofs.CuttingLaws.{only_memory, same_ok, says_cut}
 use Rattle.archive_core.proofs.EditLaws.{any_form, costs_whole, file_costs, file_is_accepted, file_is_master, one_answer, write_only_memory}
 use Rattle.archive_core.proofs.editing.edit.Goals as goal
 use Rattle.archive_core.proofs.editing.edit.Goals.{In_err-master, In_ok-cut}
 
 -- ---- refusals
-pub returns-in_err-splice-clause-refused : goal.returns-in_err-splice-clause-refused
-returns-in_err-splice-clause-refused c =
-    let p = err_from_is_err_and c.from_residual.result c.from_residual.ensures.1 in
-    rw (p.1, p.2) (inl c.in_err-splice.ensures.exact)
-
-pub returns-in_err-splice-clause-only : goal.returns-in_err-splice-clause-only
-returns-in_err-splice-clause-only c = λ master cost edits.
-    let p = err_from_is_err_and c.from_residual.result c.from_residual.ensures.1 in
-    rw (p.1, p.2) (splice_only_memory c.args.project.now edits.says.splice edits.says.project_says c.in_err-splice.field-0.0 c.in_err-splice.ensures.exact)
-
-pub returns-in_err-cut-clause-refused : goal.returns-in_err-cut-clause-refused
-returns-in_err-cut-clause-refused c =
-    let p = err_from_is_err_and c.from_residual-in_err-cut.result c.from_residual-in_err-cut.ensures.1 in
-    rw (p.1, p.2) (cut_refused c.args.project.now (file_bytes c.args.takes.now) (Some c.args.form) (splice_content c.in_ok-splice.splice) c.in_ok-splice.ensures.found c.in_err-cut.field-0.0 c.in_err-cut.ensures.refused)
-
 pub returns-in_err-cut-clause-only : goal.returns-in_err-cut-clause-only
 returns-in_err-cut-clause-only c = λ master cost edits.
-    let p = err_from_is_err_and c.from_residual-in_err-cut.result c.from_residual-in_err-cut.ensures.1 in
-    rw (p.1, p.2) (ap fault_of_cut (c.in_err-cut.ensures.only edits.cut (opens_of c.args.project.now (file_bytes c.args.takes.now) (Some c.args.form) edits.cut (splice_content c.in_ok-splice.splice) c.in_ok-splice.ensures.exact edits.says)))
+    let p = err_from_is_err_and c.from_residual.result c.from_residual.ensures.1 in
+    let project = c.args.project.now in
+    let files = file_bytes c.args.takes.now in
+    rw (p.1, p.2) (only_memory Memory c.in_err-cut.field-0.0 (said_cut project files (Some c.args.form)) edits.cut (says_cut project files (Some c.args.form) edits.cut edits.says) c.in_err-cut.ensures.exact)
 
 pub returns-in_err-recording-clause-refused : goal.returns-in_err-recording-clause-refused
 returns-in_err-recording-clause-refused c =
     let p = err_from_is_err_and c.from_residual-in_err-recording.result c.from_residual-in_err-recording.ensures.1 in
-    rw (p.1, p.2) (inl (inl refl))
+    rw (p.1, p.2) (inl refl)
 
 pub returns-in_err-recording-clause-only : goal.returns-in_err-recording-clause-only
 returns-in_err-recording-clause-only c = λ master cost edits.
@@ -45,14 +32,14 @@ returns-in_err-recording-clause-only c = λ master cost edits.
 -- a master that is cut into whole bytes is written, want of memory aside
 unwritten : (c : In_err-master) → fault_of_writing c.in_err-master.field-0.0 ≡ Memory
 unwritten c =
-    let cut = c.in_ok-cut.ensures.found in
-    let long = c.in_ok-recording.ensures.master.long ∙ ap (λ (s : SpliceContent). master_length s.cues) cut.splice_is in
-    ap fault_of_writing (write_only_memory c.args.form (splice_content c.in_ok-splice.splice) c.in_ok-recording.field-0.recording cut.whole long c.in_err-master.field-0.0 c.in_err-master.ensures.refused)
+    let says = c.in_ok-cut.ensures.found in
+    let long = c.in_ok-recording.ensures.master.long ∙ ap (λ (s : SpliceContent). master_length s.cues) says.opens.splice_is in
+    ap fault_of_writing (write_only_memory c.args.form says.splice c.in_ok-recording.field-0.recording says.opens.whole long c.in_err-master.field-0.0 c.in_err-master.ensures.refused)
 
 pub returns-in_err-master-clause-refused : goal.returns-in_err-master-clause-refused
 returns-in_err-master-clause-refused c =
     let p = err_from_is_err_and c.from_residual-in_err-master.result c.from_residual-in_err-master.ensures.1 in
-    rw (p.1, p.2) (inl (inl (unwritten (goal.at.returns-in_err-master-clause-refused c).In_err-master)))
+    rw (p.1, p.2) (inl (unwritten (goal.at.returns-in_err-master-clause-refused c).In_err-master))
 
 pub returns-in_err-master-clause-only : goal.returns-in_err-master-clause-only
 returns-in_err-master-clause-only c = λ master cost edits.
@@ -60,16 +47,13 @@ returns-in_err-master-clause-only c = λ master cost edits.
     rw (p.1, p.2) (unwritten (goal.at.returns-in_err-master-clause-only c).In_err-master)
 
 -- ---- what is answered
-says : (c : In_ok-cut) → SaysCut c.args.project.now (file_bytes c.args.takes.now) (Some c.args.form) c.in_ok-cut.cut
-says c = record { splice = splice_content c.in_ok-splice.splice; project_says = c.in_ok-splice.ensures.found; opens = c.in_ok-cut.ensures.found }
-
 says_any : (c : In_ok-cut) → SaysCut c.args.project.now (file_bytes c.args.takes.now) None c.in_ok-cut.cut
-says_any c = any_form c.args.project.now (file_bytes c.args.takes.now) c.args.form c.in_ok-cut.cut (says c)
+says_any c = any_form c.args.project.now (file_bytes c.args.takes.now) c.args.form c.in_ok-cut.cut c.in_ok-cut.ensures.found
 
 pub returns-clause-found : goal.returns-clause-found
 returns-clause-found c = record {
   cut = c.in_ok-cut.cut;
-  says = says (goal.at.returns-clause-found c).In_ok-cut;
+  says = c.in_ok-cut.ensures.found;
   recording = c.in_ok-recording.field-0.recording;
   best = c.in_ok-recording.ensures.best;
   text = c.in_ok-master.ensures.text;
@@ -93,5 +77,7 @@ returns-clause-windows c =
 
 pub returns-clause-only : goal.returns-clause-only
 returns-clause-only c = λ master cost edits.
-    let same = c.in_ok-cut.ensures.only edits.cut (opens_of c.args.project.now (file_bytes c.args.takes.now) (Some c.args.form) edits.cut (splice_content c.in_ok-splice.splice) c.in_ok-splice.ensures.exact edits.says) in
+    let project = c.args.project.now in
+    let files = file_bytes c.args.takes.now in
+    let same = same_ok (said_cut project files (Some c.args.form)) c.in_ok-cut.cut edits.cut c.in_ok-cut.ensures.exact (says_cut project files (Some c.args.form) edits.cut edits.says) in
     one_answer c.in_ok-cut.cut edits.cut c.args.form c.in_ok-recording.field-0.recording edits.recording c.in_ok-master.master.items master c.in_ok-recording.field-0.total cost same c.in_ok-recording.ensures.best edits.best c.in_ok-master.ensures.text edits.text

@@ -1,3 +1,4 @@
+use Rattle.archive_core.proofs.CuttingLaws.{says_cut}
 use Rattle.archive_core.proofs.ReadingLaws.{converts, plays, says_takes}
 use Rattle.archive_core.proofs.laws.read_in_order.Goals as goal
 
@@ -9,3 +10,6 @@ returns-clause-plays c = plays
 
 pub returns-clause-takes : goal.returns-clause-takes
 returns-clause-takes c = says_takes
+
+pub returns-clause-cuts : goal.returns-clause-cuts
+returns-clause-cuts c = says_cut

@@ -1,5 +1,5 @@
 -- What is edited is what a project and takes come to, and which fault stands first.
-use Rattle.std.proofs.Common.{◌≡◌, ℕ, ◌%◌, cond, eqb, Bool, List, length, Option, None, Some, refl, sym, ap, subst, ◌∙◌}
+use Rattle.std.proofs.Common.{◌≡◌, ℕ, ◌%◌, cond, eqb, Bool, List, length, None, Some, refl, sym, ap, subst, ◌∙◌}
 use Rattle.dsd_bits.specs.Channels.{count_of}
 use Rattle.dsd_bits.specs.Contents.{Content}
 use Rattle.dsdiff_core.specs.declared.write_fault.WriteFault.{WriteFault}
@@ -9,7 +9,7 @@ use Rattle.form_core.specs.declared.form.Form.{Form}
 use Rattle.form_core.specs.declared.form.Form.TheVariants as forms
 use Rattle.form_core.specs.Forms.{text_in}
 use Rattle.form_core.specs.Writing.{HoldsSound, IsWriteFault}
-use Rattle.cut_core.specs.Cuts.{CutContent, master_length, take_at}
+use Rattle.cut_core.specs.Cuts.{CutContent, master_length}
 use Rattle.cut_core.specs.Opening.{IsWhole}
 use Rattle.master_core.specs.Checking.{HoldCues, IsMasterOf}
 use Rattle.master_core.specs.Claims.{IsCertOf, windows_total}

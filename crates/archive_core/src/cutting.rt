@@ -16,7 +16,7 @@ use std::alloc::Global;
 ///
 /// Refusals, in this order: `Project`, `NoSplice`, then those of [`Cut::open`]. Every want of memory is `Memory`.
 #[tactic(auto, unfolding(crate::specs::Cutting::said_cut))]
-pub fn cut_from(
+pub(crate) fn cut_from(
     alloc: Global,
     project: &[u8],
     takes: &[Vec<u8>],

@@ -2,11 +2,9 @@ use Rattle.std.proofs.Common.{◌≡◌, None, refl}
 use Rattle.std.proofs.lemmas.Result.{err_from_is_err_and}
 use Rattle.form_core.specs.Opening.{IsOpened}
 use Rattle.cut_core.specs.Opening.{file_bytes}
-use Rattle.archive_core.specs.declared.fault.Fault.TheVariants.{Memory}
 use Rattle.archive_core.specs.Checking.{HoldsNothing}
-use Rattle.archive_core.specs.Cutting.{said_cut}
-use Rattle.archive_core.proofs.CheckLaws.{judged_again, judged_found, judged_least, judged_master, judged_only, judged_rejected, judged_windows, refused_accepts, refused_rejects, same_some, some_is}
-use Rattle.archive_core.proofs.CuttingLaws.{only_memory, same_ok, says_cut}
+use Rattle.archive_core.proofs.CheckLaws.{judged_again, judged_found, judged_least, judged_master, judged_only, judged_rejected, judged_windows, same_some, some_is}
+use Rattle.archive_core.proofs.CuttingLaws.{one_cut, only_memory}
 use Rattle.archive_core.proofs.checking.check.Goals as goal
 use Rattle.archive_core.proofs.checking.check.Goals.{In-Some}
 
@@ -14,9 +12,7 @@ use Rattle.archive_core.proofs.checking.check.Goals.{In-Some}
 pub returns-in_err-cut-clause-only : goal.returns-in_err-cut-clause-only
 returns-in_err-cut-clause-only c = λ cost accepts.
     let p = err_from_is_err_and c.from_residual.result c.from_residual.ensures.1 in
-    let project = c.args.project.now in
-    let files = file_bytes c.args.takes.now in
-    rw (p.1, p.2) (only_memory Memory c.in_err-cut.field-0.0 (said_cut project files None) accepts.cut (says_cut project files None accepts.cut accepts.says) c.in_err-cut.ensures.exact)
+    rw (p.1, p.2) (only_memory c.args.project.now (file_bytes c.args.takes.now) None accepts.cut accepts.says c.in_err-cut.field-0.0 c.in_err-cut.ensures.exact)
 
 pub returns-in_err-opened-clause-only : goal.returns-in_err-opened-clause-only
 returns-in_err-opened-clause-only c = λ cost accepts.
@@ -56,9 +52,7 @@ pub returns-clause-only : goal.returns-clause-only
 returns-clause-only c = λ cost accepts.
     let cut = c.in_ok-cut.cut in
     let opened = c.in-Some.opened in
-    let project = c.args.project.now in
-    let files = file_bytes c.args.takes.now in
-    let same = same_ok (said_cut project files None) cut accepts.cut c.in_ok-cut.ensures.exact (says_cut project files None accepts.cut accepts.says) in
+    let same = one_cut c.args.project.now (file_bytes c.args.takes.now) None accepts.cut accepts.says cut c.in_ok-cut.ensures.exact in
     let one : opened ≡ record { form = accepts.form; recording = accepts.recording } = same_some c.in_ok-opened.field-0 opened _ c.in-Some.is (c.in_ok-opened.ensures.only accepts.form accepts.recording accepts.master_holds) in
     let again = judged_again cut accepts.cut opened accepts.form accepts.recording c.args.cert.now cost same one accepts.is_master accepts.shown accepts.cost_is in
     judged_only cut opened.form opened.recording c.args.cert.now cost c.in_ok-judge.field-0 c.in_ok-judge.ensures.judged (c.in_ok-judge.ensures.only again.0 again.1) again.2

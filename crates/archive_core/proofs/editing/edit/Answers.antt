@@ -4,9 +4,9 @@ use Rattle.project_core.specs.Splices.{SpliceContent}
 use Rattle.cut_core.specs.Cuts.{master_length}
 use Rattle.cut_core.specs.Opening.{file_bytes}
 use Rattle.archive_core.specs.declared.fault.Fault.TheVariants.{Memory}
-use Rattle.archive_core.specs.Cutting.{SaysCut, said_cut}
+use Rattle.archive_core.specs.Cutting.{SaysCut}
 use Rattle.archive_core.specs.Faults.{fault_of_writing}
-use Rattle.archive_core.proofs.CuttingLaws.{only_memory, same_ok, says_cut}
+use Rattle.archive_core.proofs.CuttingLaws.{one_cut, only_memory}
 use Rattle.archive_core.proofs.EditLaws.{any_form, costs_whole, file_costs, file_is_accepted, file_is_master, one_answer, write_only_memory}
 use Rattle.archive_core.proofs.editing.edit.Goals as goal
 use Rattle.archive_core.proofs.editing.edit.Goals.{In_err-master, In_ok-cut}
@@ -15,9 +15,7 @@ use Rattle.archive_core.proofs.editing.edit.Goals.{In_err-master, In_ok-cut}
 pub returns-in_err-cut-clause-only : goal.returns-in_err-cut-clause-only
 returns-in_err-cut-clause-only c = λ master cost edits.
     let p = err_from_is_err_and c.from_residual.result c.from_residual.ensures.1 in
-    let project = c.args.project.now in
-    let files = file_bytes c.args.takes.now in
-    rw (p.1, p.2) (only_memory Memory c.in_err-cut.field-0.0 (said_cut project files (Some c.args.form)) edits.cut (says_cut project files (Some c.args.form) edits.cut edits.says) c.in_err-cut.ensures.exact)
+    rw (p.1, p.2) (only_memory c.args.project.now (file_bytes c.args.takes.now) (Some c.args.form) edits.cut edits.says c.in_err-cut.field-0.0 c.in_err-cut.ensures.exact)
 
 pub returns-in_err-recording-clause-refused : goal.returns-in_err-recording-clause-refused
 returns-in_err-recording-clause-refused c =
@@ -77,7 +75,5 @@ returns-clause-windows c =
 
 pub returns-clause-only : goal.returns-clause-only
 returns-clause-only c = λ master cost edits.
-    let project = c.args.project.now in
-    let files = file_bytes c.args.takes.now in
-    let same = same_ok (said_cut project files (Some c.args.form)) c.in_ok-cut.cut edits.cut c.in_ok-cut.ensures.exact (says_cut project files (Some c.args.form) edits.cut edits.says) in
+    let same = one_cut c.args.project.now (file_bytes c.args.takes.now) (Some c.args.form) edits.cut edits.says c.in_ok-cut.cut c.in_ok-cut.ensures.exact in
     one_answer c.in_ok-cut.cut edits.cut c.args.form c.in_ok-recording.field-0.recording edits.recording c.in_ok-master.master.items master c.in_ok-recording.field-0.total cost same c.in_ok-recording.ensures.best edits.best c.in_ok-master.ensures.text edits.text

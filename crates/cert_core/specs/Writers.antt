@@ -1,5 +1,5 @@
 -- What contracts see of a writer of certificates.
-use Rattle.std.specs.Prelude.{ℕ, ◌-◌, ◌^◌, Bool}
+use Rattle.std.specs.Prelude.{ℕ, ◌-◌, ◌^◌, Bool, if◌then◌else◌}
 use Rattle.chunk_core.specs.declared.outlet.Outlet.{Outlet}
 use Rattle.cert_core.specs.declared.writer.CertWriter.{CertWriter}
 use Rattle.cert_core.specs.FusedOutlets.{fused_outlet, fused_failed}
@@ -23,6 +23,10 @@ row_length writer = 2 ^ (writer.weights - 1)
 -- how many rows of an entry are still to come
 abbrev pub rows_left : {W : Type 0} → CertWriter W → ℕ
 rows_left writer = writer.rows_left
+
+-- how many rows it still takes or refuses as a sink: those that are still to come, and once a write failed as many as an entry can have
+abbrev pub rows_taken : {W : Type 0} → CertWriter W → ℕ
+rows_taken writer = if has_failed writer then 2 ^ 16 else rows_left writer
 
 -- what no row changes: the number of weights, whether the head was written, how many entries are still to begin, whether an entry was begun and not ended
 pub record Stage : Type 0 where

@@ -6,14 +6,14 @@ use std::io::Write;
 
 /// Its kind is the version of its certificate, its text is what its writer holds, and a row has the
 /// spelling of that version: its values, eight bytes each. A row is refused where a write fails, or
-/// failed before.
+/// failed before; a writer that failed may be asked for as many rows as an entry can have.
 impl<W: Write> LevelSink for CertWriter<W> {
     ghost use Rattle.std.specs.Prelude.{ℕ};
     ghost use Rattle.chunk_core.specs.Outlets.{outlet_writer};
     ghost use Rattle.cert_core.specs.Text.{row_text, version};
-    ghost use Rattle.cert_core.specs.Writers.{Stage, cert_outlet, has_failed, row_length, rows_left, stage};
+    ghost use Rattle.cert_core.specs.Writers.{Stage, cert_outlet, has_failed, row_length, rows_taken, stage};
 
-    ghost rows_left = { λ writer. rows_left writer };
+    ghost rows_left = { λ writer. rows_taken writer };
 
     ghost row_length = { λ writer. row_length writer };
 

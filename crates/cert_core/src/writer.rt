@@ -15,8 +15,10 @@ use std::io::Write;
 
 /// A certificate that is written to an outlet: [`begin`](CertWriter::begin), then for each entry
 /// [`begin_bridge`](CertWriter::begin_bridge), [`level`](CertWriter::level) for each row, and
-/// [`end_bridge`](CertWriter::end_bridge); last [`finish`](CertWriter::finish). After `Device` it writes
-/// nothing more. It holds the bytes of one row.
+/// [`end_bridge`](CertWriter::end_bridge); last [`finish`](CertWriter::finish). It holds the bytes of one row.
+///
+/// After `Device` each call but `finish` may be made in whatever order: it answers `Failed`, writes nothing
+/// and leaves the writer as it is.
 #[derive(Drop)]
 pub struct CertWriter<W> {
     outlet: FusedOutlet<W>,
@@ -62,9 +64,10 @@ impl<W: Write> CertWriter<W> {
     /// Writes the head, which announces so many entries.
     ///
     /// Refusals of this and each later call that writes: `Device` where a write fails, and a front of the
-    /// part went out, not all of it; `Failed` after a `Device`, and nothing is written.
+    /// part went out, not all of it; `Failed` after a `Device`, and nothing is written. Where a call stands
+    /// in the order is asked only of a writer that hasn't failed.
     pub fn begin(&mut self, entries: u32) -> Result<(), CertFault>
-        requires { has_head self.old ≡ false }
+        requires head { has_failed self.old ≡ false → has_head self.old ≡ false }
         ensures ok { OnOk result (Appends (W.contents (outlet_writer (cert_outlet self.old))) (W.contents (outlet_writer (cert_outlet self.new))) (cert_head (cert_weights self.old) entries)) }
         ensures device { IsErrOf result CertFault.Device → AppendsPart (W.contents (outlet_writer (cert_outlet self.old))) (W.contents (outlet_writer (cert_outlet self.new))) (cert_head (cert_weights self.old) entries) }
         ensures failed { IsErrOf result CertFault.Failed ↔ (has_failed self.old ≡ true) }
@@ -84,9 +87,9 @@ impl<W: Write> CertWriter<W> {
     /// Writes the start of the entry of the bridge after `cue` in `channel`, which announces a row for
     /// each level of a bridge of `length` bits.
     pub fn begin_bridge(&mut self, cue: u16, channel: u16, length: u16) -> Result<(), CertFault>
-        requires head { has_head self.old ≡ true }
-        requires entries { 0 < entries_left self.old }
-        requires open { is_open self.old ≡ false }
+        requires head { has_failed self.old ≡ false → has_head self.old ≡ true }
+        requires entries { has_failed self.old ≡ false → 0 < entries_left self.old }
+        requires open { has_failed self.old ≡ false → is_open self.old ≡ false }
         ensures ok { OnOk result (Appends (W.contents (outlet_writer (cert_outlet self.old))) (W.contents (outlet_writer (cert_outlet self.new))) (entry_start cue channel length)) }
         ensures device { IsErrOf result CertFault.Device → AppendsPart (W.contents (outlet_writer (cert_outlet self.old))) (W.contents (outlet_writer (cert_outlet self.new))) (entry_start cue channel length) }
         ensures failed { IsErrOf result CertFault.Failed ↔ (has_failed self.old ≡ true) }
@@ -106,20 +109,22 @@ impl<W: Write> CertWriter<W> {
     }
 
     /// Writes the row of the next level: `2^(K-1)` values by rising state, `K` being the number of weights.
-    /// After `Failed` the outlet is as it was.
     pub fn level(&mut self, row: &[u64]) -> Result<(), CertFault>
-        requires rows { 0 < rows_left self.old }
+        requires rows { has_failed self.old ≡ false → 0 < rows_left self.old }
         requires row { length row.now ≡ row_length self.old }
         ensures ok { OnOk result (Appends (W.contents (outlet_writer (cert_outlet self.old))) (W.contents (outlet_writer (cert_outlet self.new))) (row_text row.now)) }
         ensures device { IsErrOf result CertFault.Device → AppendsPart (W.contents (outlet_writer (cert_outlet self.old))) (W.contents (outlet_writer (cert_outlet self.new))) (row_text row.now) }
         ensures failed { IsErrOf result CertFault.Failed ↔ (has_failed self.old ≡ true) }
-        ensures unchanged { IsErrOf result CertFault.Failed → cert_outlet self.new ≡ cert_outlet self.old }
+        ensures unchanged { IsErrOf result CertFault.Failed → self.new ≡ self.old }
         ensures failures { outlet_failures (cert_outlet self.new) ≡ outlet_failures (cert_outlet self.old) + failed_parts result }
         ensures refused { has_failed self.new ≡ not (is_ok result) }
         ensures kept { stage self.new ≡ stage self.old }
         ensures rows { OnOk result (rows_left self.new + 1 ≡ rows_left self.old) }
         ensures rows_kept { OnErr result (rows_left self.new ≡ rows_left self.old) }
     {
+        if self.has_failed() {
+            return Err(CertFault::Failed);
+        }
         put_row(row, &mut self.buffer);
         self.outlet.put_all(&self.buffer)?;
         self.rows_left -= 1;
@@ -128,8 +133,8 @@ impl<W: Write> CertWriter<W> {
 
     /// Writes the cost of the bridge's bits, after all rows of its entry.
     pub fn end_bridge(&mut self, cost: u64) -> Result<(), CertFault>
-        requires open { is_open self.old ≡ true }
-        requires rows { rows_left self.old ≡ 0 }
+        requires open { has_failed self.old ≡ false → is_open self.old ≡ true }
+        requires rows { has_failed self.old ≡ false → rows_left self.old ≡ 0 }
         ensures ok { OnOk result (Appends (W.contents (outlet_writer (cert_outlet self.old))) (W.contents (outlet_writer (cert_outlet self.new))) (to_be_bytes w64 cost)) }
         ensures device { IsErrOf result CertFault.Device → AppendsPart (W.contents (outlet_writer (cert_outlet self.old))) (W.contents (outlet_writer (cert_outlet self.new))) (to_be_bytes w64 cost) }
         ensures failed { IsErrOf result CertFault.Failed ↔ (has_failed self.old ≡ true) }

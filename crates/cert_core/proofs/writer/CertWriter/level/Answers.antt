@@ -9,9 +9,6 @@ use Rattle.cert_core.proofs.writer.CertWriter.level.Given.{Over}
 use Rattle.cert_core.proofs.writer.CertWriter.level.Goals as goal
 use Rattle.cert_core.proofs.writer.CertWriter.level.Goals.{After-deref}
 
-pub overflow_sub-self : goal.overflow_sub-self
-overflow_sub-self g c = c.requires.rows
-
 -- what the buffer holds
 text : (g : Over) (c : After-deref g) → c.deref.result.now ≡ row_text c.args.row.now
 text g c = c.deref.ensures.value ∙ written_back c.put_row.new.buffer _ c.args.self.now.buffer.len (omega arith) ∙ c.put_row.ensures

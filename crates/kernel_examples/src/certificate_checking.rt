@@ -198,3 +198,31 @@ fn a_failed_read_is_no_reason(rt: HostRuntime) -> Result<(), Fail> {
     }
     Ok(())
 }
+
+// What is said of the bridge behind the head of the worked certificate, where a byte comes by each read and one
+// read fails.
+fn behind_the_head(
+    alloc: Global,
+    window: Result<Window, WindowFault>,
+    read: u64,
+) -> Result<Result<CertVerdict, CheckFault>, Fail> {
+    let window = window?;
+    let bits = bits_of(alloc, &window, 0x00)?;
+    let mut reader = CertReader::new(Inlet::new(drip(&WORKED, 1, read)));
+    if let Some(reason) = reader.read_head(2, 1)? {
+        return Ok(Ok(CertVerdict::Rejected(reason)));
+    }
+    Ok(reader.check_bridge(alloc, 0, 0, &window, &bits))
+}
+
+#[test]
+fn a_failed_read_behind_the_head_is_no_reason(rt: HostRuntime) -> Result<(), Fail> {
+    let alloc = rt.alloc();
+    for read in 13..59 {
+        assert!(rt;
+            behind_the_head(alloc, newest(alloc), read)? == Err(CheckFault::Device),
+            "read {read}"
+        );
+    }
+    Ok(())
+}

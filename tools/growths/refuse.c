@@ -1,0 +1,48 @@
+/* Preloaded into a program, it refuses growths: the one whose number, counted from 1, stands in GROWTH, and with
+   GROWTH_ON all later ones too. At the first a byte goes to the file of number GROWTH_TOLD. */
+#include <errno.h>
+#include <stdlib.h>
+#include <unistd.h>
+
+extern void *__libc_malloc(size_t size);
+extern void *__libc_calloc(size_t count, size_t size);
+extern void *__libc_realloc(void *block, size_t size);
+
+static long refused_growth = -1;
+static long growths = 0;
+
+static long number(const char *name)
+{
+    const char *text = getenv(name);
+    return text ? strtol(text, NULL, 10) : 0;
+}
+
+static int is_refused(void)
+{
+    if (refused_growth < 0)
+        refused_growth = number("GROWTH");
+    growths += 1;
+    if (growths < refused_growth || refused_growth == 0)
+        return 0;
+    if (growths == refused_growth && write((int)number("GROWTH_TOLD"), "r", 1) != 1)
+        _exit(125);
+    if (growths > refused_growth && !number("GROWTH_ON"))
+        return 0;
+    errno = ENOMEM;
+    return 1;
+}
+
+void *malloc(size_t size)
+{
+    return is_refused() ? NULL : __libc_malloc(size);
+}
+
+void *calloc(size_t count, size_t size)
+{
+    return is_refused() ? NULL : __libc_calloc(count, size);
+}
+
+void *realloc(void *block, size_t size)
+{
+    return is_refused() ? NULL : __libc_realloc(block, size);
+}

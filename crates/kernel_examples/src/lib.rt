@@ -14,6 +14,8 @@ mod decimation;
 #[cfg(test)]
 mod decimators;
 #[cfg(test)]
+mod growths;
+#[cfg(test)]
 mod kernels;
 #[cfg(test)]
 mod names;

@@ -1,0 +1,196 @@
+//! Each call of these crates that takes memory, for `tools/growths`, which refuses their growths in turn: what was
+//! refused is handed out as it was answered.
+
+ghost use Rattle.std.specs.Prelude.{◌≡◌, ◌+◌, ◌≤◌, None, OnOk, false};
+ghost use Rattle.cost_core.specs.StateCosts.{trellis_of};
+ghost use Rattle.cost_core.specs.Trellis.{states};
+ghost use Rattle.fir_core.specs.StreamView.{IsStream, state_of};
+
+use crate::certificates::WORKED;
+use cert_core::{CertReader, CertVerdict, CertWriter};
+use chunk_core::{Inlet, Outlet};
+use cost_core::{LevelSink, SinkFault, Window, WindowFault};
+use dsd_bits::Bits;
+use fir_core::{Kernel, Stream, Taps, decimate, decimate_with};
+use fixtures::windows::{bits_of, by_newest, ones, zeros};
+use std::alloc::{AllocError, Global};
+use std::test::Fail;
+use trellis_core::{bridge, bridge_into};
+
+// Counts the rows of a window.
+#[derive(Drop)]
+struct Counted {
+    left: usize,
+    width: usize,
+}
+
+impl LevelSink for Counted {
+    ghost rows_left = { λ sink. sink.left };
+
+    ghost row_length = { λ sink. sink.width };
+
+    ghost kind = { λ _. 0 };
+
+    ghost text = { λ _. None };
+
+    ghost spelling = { λ _ row. row };
+
+    ghost has_refused = { λ _. false };
+
+    ghost kept = { λ _. tt };
+
+    fn level(&mut self, _row: &[u64]) -> Result<(), SinkFault> {
+        self.left -= 1;
+        Ok(())
+    }
+
+    fn refused(&self) -> bool {
+        false
+    }
+}
+
+// A sink for the rows of a window.
+fn sink_for(window: &Window) -> Counted
+    ensures left { result.left ≡ window.now.levels + 1 }
+    ensures width { result.width ≡ states (trellis_of window.now) }
+{
+    Counted {
+        left: window.length() + 1,
+        width: window.states(),
+    }
+}
+
+// A decimator by a factor of 8.
+fn ten_taps(alloc: Global) -> Result<Taps, Fail> {
+    Ok(Taps::new(alloc, &[5, -7, 11, 2, 9, 4, -1, 8, 6, 3], 8, 4, 1, 16)?)
+}
+
+// A channel of which it makes 17 samples, one for each 8 bits that it begins.
+fn channel(alloc: Global) -> Result<Bits, Fail> {
+    Ok(Bits::from_packed(alloc, b"a channel of bits", 132)?)
+}
+
+// The bridge of so many bits by the weights 1, 0 from ones to zeros.
+fn window(alloc: Global, bridge: usize) -> Result<Window, WindowFault>
+    requires { (1 ≤ bridge) × (bridge ≤ 4096) }
+{
+    by_newest(alloc, ones(0, 8), bridge, zeros(3, 9))
+}
+
+// What a stream answers to all its bytes; where memory is refused they are fed again, and its refusal then is Err.
+fn feed_again(
+    stream: &mut Stream,
+    made: &mut Vec<i32>,
+) -> Result<Result<(), AllocError>, AllocError>
+    requires ready { IsStream stream.old }
+    requires fed { (state_of stream.old).fed ≡ 0 }
+    requires count { (state_of stream.old).count ≡ 132 }
+    ensures ready { IsStream stream.new }
+    ensures fed { OnOk result ((state_of stream.new).fed ≡ 17) }
+    ensures count { (state_of stream.new).count ≡ 132 }
+{
+    let bytes = b"a channel of bits".as_slice();
+    match stream.feed(bytes, made) {
+        Ok(()) => Ok(Ok(())),
+        Err(refused) => {
+            stream.feed(bytes, made)?;
+            Ok(Err(refused))
+        }
+    }
+}
+
+// What a stream answers at its end; where memory is refused it is finished again, and its refusal then is Err.
+fn finish_again(
+    stream: &mut Stream,
+    made: &mut Vec<i32>,
+) -> Result<Result<(), AllocError>, AllocError>
+    requires ready { IsStream stream.old }
+    requires fed { (state_of stream.old).fed ≡ 17 }
+    requires count { (state_of stream.old).count ≡ 132 }
+{
+    match stream.finish(made) {
+        Ok(()) => Ok(Ok(())),
+        Err(refused) => {
+            stream.finish(made)?;
+            Ok(Err(refused))
+        }
+    }
+}
+
+// The first refusal of a new stream that goes on after it.
+fn stream_whole(
+    alloc: Global,
+    taps: &Taps,
+    made: &mut Vec<i32>,
+) -> Result<Result<(), AllocError>, AllocError> {
+    let mut stream = Stream::new(alloc, taps, 132)?;
+    let fed = feed_again(&mut stream, made)?;
+    Ok(fed.and(finish_again(&mut stream, made)?))
+}
+
+#[test]
+fn a_channel_is_decimated(rt: HostRuntime) -> Result<(), Fail> {
+    let alloc = rt.alloc();
+    let taps = ten_taps(alloc)?;
+    let bits = channel(alloc)?;
+    assert!(rt; decimate(alloc, &taps, &bits)?.len() == 17);
+    for kernel in [Kernel::Plain, Kernel::Table, Kernel::Lanes] {
+        assert!(rt; decimate_with(alloc, &taps, &bits, kernel)?.len() == 17);
+    }
+    Ok(())
+}
+
+#[test]
+fn a_stream_goes_on_after_a_refusal(rt: HostRuntime) -> Result<(), Fail> {
+    let alloc = rt.alloc();
+    let taps = ten_taps(alloc)?;
+    let whole = decimate(alloc, &taps, &channel(alloc)?)?;
+    let mut made = Vec::new(alloc);
+    let result = stream_whole(alloc, &taps, &mut made)?;
+    assert!(rt; made.as_slice() == whole.as_slice());
+    Ok(result?)
+}
+
+#[test]
+fn a_bridge_is_chosen(rt: HostRuntime) -> Result<(), Fail> {
+    let alloc = rt.alloc();
+    let window = window(alloc, 2)?;
+    assert!(rt; bridge(alloc, &window)?.cost == 8);
+    Ok(())
+}
+
+#[test]
+fn a_bridge_is_handed_over(rt: HostRuntime) -> Result<(), Fail> {
+    let alloc = rt.alloc();
+    let window = window(alloc, 2)?;
+    let mut sink = sink_for(&window);
+    assert!(rt; bridge_into(alloc, &window, &mut sink)?.cost == 8);
+    assert!(rt; sink.left == 0);
+    Ok(())
+}
+
+// How many failures a new writer of certificates has.
+fn new_failures(alloc: Global) -> Result<u64, AllocError> {
+    match CertWriter::new(alloc, Outlet::new(Vec::<u8>::new(alloc)), 2) {
+        Ok(writer) => Ok(writer.finish().failures()),
+        Err(_) => Err(AllocError),
+    }
+}
+
+#[test]
+fn a_writer_is_made(rt: HostRuntime) -> Result<(), Fail> {
+    assert!(rt; new_failures(rt.alloc())? == 0);
+    Ok(())
+}
+
+#[test]
+fn a_bridge_is_checked(rt: HostRuntime) -> Result<(), Fail> {
+    let alloc = rt.alloc();
+    let window = by_newest(alloc, ones(0, 8), 1, zeros(2, 9))?;
+    let bits = bits_of(alloc, &window, 0x00)?;
+    let mut reader = CertReader::new(Inlet::new(WORKED.as_slice()));
+    let head = reader.read_head(2, 1)?;
+    let bridge = reader.check_bridge(alloc, 0, 0, &window, &bits)?;
+    assert!(rt; (head, bridge) == (None, CertVerdict::Accepted { cost: 4 }));
+    Ok(())
+}

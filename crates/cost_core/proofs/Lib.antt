@@ -12,6 +12,7 @@ pub mod Reading
 pub mod StepRows
 pub mod SumLaws
 pub mod Tables
+pub mod Tails
 pub mod TargetLaws
 pub mod Twice
 pub mod Walks

@@ -35,6 +35,10 @@ step_row d level =
     map (λ q. step_of d level (before_by_0 width q) (newest q)) (range_with_len 0 (2 ^ width))
     ++ map (λ q. step_of d level (before_by_1 width q) (newest q)) (range_with_len 0 (2 ^ width))
 
+-- the costs of ending in each state
+abbrev pub tail_row : Bridging → List ℕ
+tail_row d = map (trellis_of d).tail (range_with_len 0 (2 ^ length d.preceding))
+
 -- steps along a bridge's bits and the end where they lead add up to the sum over places
 abbrev pub StepsAreCost : Type 0
 StepsAreCost = (d : Bridging) (x : List Bool) → IsBridging d → length x ≡ d.levels → cost (trellis_of d) x ≡ bridge_cost d x

@@ -9,8 +9,9 @@
 //!
 //! A [`Window`] holds what decides the cost of one bridge in one channel. It tells the cost of any bits
 //! ([`Window::cost_of`]), and the same step by step for a trellis search as of Viterbi, over the states
-//! that are made of the last bits ([`Window::step_cost`], [`Window::tail_cost`]). What takes the rows of
-//! such a search, a level at a time, is a [`LevelSink`].
+//! that are made of the last bits ([`Window::step_cost`], [`Window::tail_cost`]; for all states at once
+//! [`Window::step_costs`], [`Window::tail_costs`]). What takes the rows of such a search, a level at a time,
+//! is a [`LevelSink`].
 //!
 //! The words of the contracts, all over lists and numbers without bounds:
 //!
@@ -23,7 +24,8 @@
 //!   that of those they come first, read from the last bit to the first.
 //! - `Trellis` is states, steps and ends; `trellis_of d` is that of a bridge, `cost` the sum of the
 //!   steps along some bits and of the end where they lead, `next`, `before_by_0` and `before_by_1` the
-//!   states after and before a state.
+//!   states after and before a state; `step_row d level` is a level's steps by the state that they lead to,
+//!   `tail_row d` the cost of ending in each state.
 //! - `IsValid t bound c x` says by five plain facts that a table of forward bounds shows that no bits
 //!   cost less than `x`; `IsBounded t` that no number leaves 64 bits.
 //! - `IsTable t rows` says that a list of rows is such a table, `value_in rows` gives its bounds by level

@@ -1,6 +1,6 @@
 //! Weighted sums of bits.
 
-ghost use Rattle.std.specs.Prelude.{◌≡◌, ℕ, ◌+◌, ◌*◌, ◌^◌, ◌<◌, ◌≤◌, map, length, slice_index, slice_index_or, pos, ◌*ℤ◌, ◌-ℤ◌, unsigned_abs, IfOk};
+ghost use Rattle.std.specs.Prelude.{◌≡◌, ℕ, ◌+◌, ◌*◌, ◌%◌, ◌^◌, ◌<◌, ◌≤◌, map, length, slice_index, slice_index_or, pos, ◌*ℤ◌, ◌-ℤ◌, unsigned_abs, IfOk};
 ghost use Rattle.std.specs.List.{range_with_len};
 ghost use Rattle.dsd_bits.specs.Sums.{sign};
 ghost use Rattle.project_core.specs.Cues.{AreWeights};
@@ -78,6 +78,30 @@ pub fn squared_differences(sums: &[i32], other: i32, squares: &mut [u64])
 {
     for i in 0..squares.len() {
         squares[i] = squared_difference(sums[i], other);
+    }
+}
+
+/// Adds to each number of a row the square of the difference of a scaled sum and another one: to number `k`
+/// that of the sum at `first` plus `k * 2^shift`, round the table of sums.
+pub fn add_squared_differences(
+    sums: &[i32],
+    first: usize,
+    shift: usize,
+    other: i32,
+    row: &mut [u64],
+)
+    requires whole { (n : ℕ) × (length sums.now ≡ 2 ^ n) }
+    requires sums { (k : ℕ) → k < length sums.now → unsigned_abs (slice_index_or sums.now k (pos 0)) ≤ greatest_sum }
+    requires first { first ≤ 4096 }
+    requires shift { shift ≤ 12 }
+    requires other { unsigned_abs other ≤ greatest_sum }
+    requires short { length row.old ≤ 2048 }
+    requires row { (k : ℕ) → k < length row.old → slice_index row.old k ≤ 2 ^ 62 }
+    ensures { (k : ℕ) → k < length row.old → slice_index row.new k ≡ slice_index row.old k + square (slice_index_or sums.now ((k * 2 ^ shift + first) % length sums.now) (pos 0) -ℤ other) }
+{
+    let last = sums.len() - 1;
+    for k in 0..row.len() {
+        row[k] += squared_difference(sums[((k << shift) + first) & last], other);
     }
 }
 

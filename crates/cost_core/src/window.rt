@@ -4,14 +4,16 @@ ghost use Rattle.std.specs.Prelude.{◌≡◌, ◌+◌, ◌*◌, ◌^◌, ◌<�
 ghost use Rattle.project_core.specs.Splices.{splice_content};
 ghost use Rattle.cost_core.specs.Trellis.{states, cost, IsBounded};
 ghost use Rattle.cost_core.specs.Bridges.{bridge_cost};
-ghost use Rattle.cost_core.specs.StateCosts.{step_of, step_row, trellis_of};
+ghost use Rattle.cost_core.specs.StateCosts.{step_of, step_row, tail_row, trellis_of};
 ghost use Rattle.cost_core.specs.Windows.{bridging, cue_at};
 ghost use Rattle.cost_core.specs.Limits.{IsBridging, greatest_step};
 ghost use Rattle.cost_core.specs.Faults.{HasRoom, first_fault, named};
 
 use crate::fault::WindowFault;
 use crate::room::has_room;
-use crate::sums::{read_state, scaled_sums, squared_difference, squared_differences};
+use crate::sums::{
+    add_squared_differences, read_state, scaled_sums, squared_difference, squared_differences,
+};
 use crate::targets::targets_after;
 use dsd_bits::Bits;
 use project_core::Splice;
@@ -195,6 +197,23 @@ impl Window {
     {
         let target = self.targets[level];
         squared_differences(&self.scaled, target, row);
+    }
+
+    /// Writes the tail costs of all states, state 0 first: the places after a bridge one by one, each over the
+    /// whole row.
+    pub fn tail_costs(&self, row: &mut [u64])
+        requires { length row.old ≡ states (trellis_of self.now) }
+        ensures { row.new ≡ tail_row self.now }
+    {
+        row.fill(0);
+        // The state after the bits so far, from state 0.
+        let mut ending = 0;
+        for place in 0..self.following.len() {
+            let code = 2 * ending + usize::from(self.following.get(place));
+            let target = self.targets[self.levels + place];
+            add_squared_differences(&self.scaled, code, place + 1, target, row);
+            ending = code % self.states();
+        }
     }
 
     // The squared deviation at the place after `level`, also after the bridge.

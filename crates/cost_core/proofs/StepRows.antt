@@ -8,7 +8,7 @@ use Rattle.std.proofs.Math.Pow.{pow_mono}
 use Rattle.std.specs.List.{range_with_len}
 use Rattle.cost_core.specs.Trellis.{Trellis, states, newest, before_by_0, before_by_1}
 use Rattle.cost_core.specs.Bridges.{Bridging}
-use Rattle.cost_core.specs.StateCosts.{step_of, step_row, trellis_of}
+use Rattle.cost_core.specs.StateCosts.{step_of, step_row, tail_row, trellis_of}
 use Rattle.cost_core.proofs.Numbers.{pow_double}
 
 pub high_is : (t : Trellis) → 0 < t.width → (q n : ℕ) → n ≡ states t → q / 2 + n / 2 ≡ before_by_1 t.width q
@@ -52,3 +52,7 @@ module _ (d : Bridging) (i q n : ℕ) (steps : List ℕ) (es : steps ≡ step_ro
   step_1 some =
       ap (λ l. get_or l (n + q) 0) es ∙ ap (λ k. get_or (part before_by_0 ++ part before_by_1) (k + q) 0) (en ∙ sym (part_length before_by_0))
       ∙ get_or-append-add (part before_by_0) (part before_by_1) q 0 ∙ part_at before_by_1 ∙ ap (λ p. step_of d i p (newest q)) (sym (high_is (trellis_of d) some q n en))
+
+-- and the ends of all states
+pub tail_at : (d : Bridging) (q : ℕ) (row : List ℕ) → row ≡ tail_row d → q < states (trellis_of d) → get_or row q 0 ≡ (trellis_of d).tail q
+tail_at d q row e h = ap (λ l. get_or l q 0) e ∙ get_or-map-range_with_len (trellis_of d).tail 0 (2 ^ length d.preceding) q q 0 h (omega arith)

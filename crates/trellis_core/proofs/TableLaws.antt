@@ -4,8 +4,9 @@ use Rattle.std.proofs.lemmas.Bool.{lt-ltb, le-ltb, cases_Bool, cases_lt}
 use Rattle.std.proofs.lemmas.Nat.{pow_pos, pow-add}
 use Rattle.std.proofs.Math.Nat.{mul-div_left, two-pow-succ, pow-le-pow_right}
 use Rattle.std.proofs.lemmas.List.{append-nil, length-append, length-take, length-drop, drop_all, take_all}
+use Rattle.std.proofs.lemmas.List.FromFn.{fill_by_all, length-map-range_with_len, get_or-map-range_with_len}
 use Rattle.cost_core.specs.Trellis.{Trellis, states, newest, IsBounded}
-use Rattle.trellis_core.specs.Best.{by_0, by_1, best, best_row, before, total, traced, final}
+use Rattle.trellis_core.specs.Best.{by_0, by_1, best, best_row, before, total, total_row, traced, final}
 use Rattle.trellis_core.proofs.Bests.{best_le}
 use Rattle.trellis_core.proofs.RowLaws.{row_length, row_at, before_0_in, before_1_in}
 
@@ -28,7 +29,7 @@ before_in t some i q h =
       | inr e ↦ rw e (before_0_in t q h)
     ]
 
--- a total, as it is read from the last row
+-- a total, as it is made of a tail and the last row
 module _ (t : Trellis) (fine : IsBounded t) (q : ℕ) (row : List ℕ) (e : row ≡ best_row t t.levels) (h : q < states t) where
   pub total_in : q < length row
   total_in = rw (e, row_length) h
@@ -36,11 +37,24 @@ module _ (t : Trellis) (fine : IsBounded t) (q : ℕ) (row : List ℕ) (e : row 
   value : get_or row q 0 ≡ best t t.levels q
   value = ap (λ l. get_or l q 0) e ∙ row_at t t.levels q h
 
-  pub total_is : (s : ℕ) → s ≡ t.tail q → get_or row q 0 + s ≡ total t q
+  pub total_is : (s : ℕ) → s ≡ t.tail q → s + get_or row q 0 ≡ total t q
   total_is s es = omega (arith, value)
 
-  pub total_fits : (s : ℕ) → s ≡ t.tail q → get_or row q 0 + s < 2 ^ 64
+  pub total_fits : (s : ℕ) → s ≡ t.tail q → s + get_or row q 0 < 2 ^ 64
   total_fits s es = omega (arith, value, best_le t fine.some_state t.levels q, fine.tail_in q h)
+
+-- the row of totals, as it is read
+pub total_at : (t : Trellis) (row : List ℕ) → row ≡ total_row t → (q : ℕ) → q < states t → get_or row q 0 ≡ total t q
+unfolding total_row
+total_at t row e q h = ap (λ l. get_or l q 0) e ∙ get_or-map-range_with_len (total t) 0 (states t) q q 0 h (omega arith)
+
+pub totals_length : (t : Trellis) → length (total_row t) ≡ states t
+unfolding total_row
+totals_length t = length-map-range_with_len (total t) 0 (states t)
+
+pub totals_are : (t : Trellis) (row : List ℕ) → length row ≡ states t → ((q : ℕ) → q < states t → get_or row q 0 ≡ total t q) → row ≡ total_row t
+unfolding total_row
+totals_are t row long each = fill_by_all (total t) row (states t) 0 long each
 
 -- a step on the way back
 pub traced_step : (t : Trellis) (i q : ℕ) (bits whole : List Bool) → 0 < i → bits ++ traced t i q ≡ whole → (bits ++ (newest q ∷ [])) ++ traced t (i - 1) (before t (i - 1) q) ≡ whole

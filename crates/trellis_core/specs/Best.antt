@@ -36,6 +36,10 @@ traced t (suc level) q = newest q ∷ traced t level (before t level q)
 abbrev pub total : Trellis → ℕ → ℕ
 total t q = best t t.levels q + t.tail q
 
+-- these costs by state
+unfoldable pub total_row : Trellis → List ℕ
+total_row t = map (total t) (range_with_len 0 (states t))
+
 -- of the states whose bits but for the n oldest are those of q, the one of the least total: on a tie the one with 0 at the newest bit that differs
 unfoldable pub final : Trellis → ℕ → ℕ → ℕ
 final t zero q = q

@@ -4,11 +4,11 @@ ghost use Rattle.std.specs.Prelude.{◌≡◌, ◌+◌, ◌*◌, ◌<◌, ◌≤
 ghost use Rattle.cost_core.specs.Trellis.{states};
 ghost use Rattle.cost_core.specs.StateCosts.{trellis_of};
 ghost use Rattle.cost_core.specs.Bridges.{bridge_cost, IsFirstLeastBridge};
-ghost use Rattle.trellis_core.specs.Best.{best_row};
+ghost use Rattle.trellis_core.specs.Best.{total_row};
 ghost use Rattle.trellis_core.specs.Decisions.{AreAllDecisions};
 ghost use Rattle.trellis_core.specs.Handing.{HandsOverAll, HandsOverSome, HandsOverUpTo};
 
-use crate::ends::{end_state, total};
+use crate::ends::end_state;
 use crate::fault::BridgeFault;
 use crate::rows::{Searched, forward};
 use crate::tracing::{reversed, trace};
@@ -73,15 +73,15 @@ pub fn bridge_into<S: LevelSink>(
 
 // The bits that a search leads to, and their cost.
 fn choose(alloc: Global, window: &Window, searched: &Searched) -> Result<Chosen, AllocError>
-    requires last { searched.now.last.items ≡ best_row (trellis_of window.now) (trellis_of window.now).levels }
+    requires totals { searched.now.totals.items ≡ total_row (trellis_of window.now) }
     requires decisions { AreAllDecisions (trellis_of window.now) (trellis_of window.now).levels searched.now.decisions.items }
     ensures first_least { IfOk result (λ chosen. IsFirstLeastBridge window.now chosen.bits) }
     ensures cost { IfOk result (λ chosen. chosen.cost ≡ bridge_cost window.now chosen.bits) }
 {
-    let end = end_state(window, &searched.last, window.width(), 0);
+    let end = end_state(window, &searched.totals, window.width(), 0);
     let newest_first = trace(alloc, window, &searched.decisions, end)?;
     Ok(Chosen {
         bits: reversed(alloc, &newest_first)?,
-        cost: total(window, &searched.last, end),
+        cost: searched.totals[end],
     })
 }

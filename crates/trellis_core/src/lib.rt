@@ -23,8 +23,9 @@
 //!   those of the first ones, `HandsOverUpTo` by those and a front of the next.
 //!
 //! Two rows are held at once, and one bit for each state and level, which says whence its least sum came:
-//! at most 1 MB. A row is made eight states at a time (`choosing`), or one at a time where there are fewer than
-//! sixteen.
+//! at most 1 MB, asked for before the first level. A row is made eight states at a time (`choosing`), or one at
+//! a time where there are fewer than sixteen. After the last level the costs of ending are added to its row,
+//! and the end is chosen from these totals (`ends`).
 //!
 //! ```text
 //! // Weights 1, 0; 8 bits of a take of ones, a bridge of 2 bits, then a take of zeros from bit 3 on.

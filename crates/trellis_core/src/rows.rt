@@ -3,19 +3,20 @@
 ghost use Rattle.std.specs.Prelude.{◌≡◌, ◌+◌, ◌*◌, ◌<◌, ◌≤◌, ◌↔◌, true, false, length, IfOk, OnOk, IsErrOf};
 ghost use Rattle.cost_core.specs.Trellis.{states};
 ghost use Rattle.cost_core.specs.StateCosts.{trellis_of};
-ghost use Rattle.trellis_core.specs.Best.{best_row};
+ghost use Rattle.trellis_core.specs.Best.{best_row, total_row};
 ghost use Rattle.trellis_core.specs.Decisions.{AreAllDecisions, AreDecisions, decision_bytes};
 ghost use Rattle.trellis_core.specs.Handing.{HandsOverAll, HandsOverSome, HandsOverUpTo};
 
 use crate::choosing::{NO_WAY, choose};
+use crate::ends::write_totals;
 use crate::fault::BridgeFault;
 use cost_core::{LevelSink, Window};
 use std::alloc::{AllocError, Global};
 
-/// What a search leaves: the least sums of the last level, and the decisions of all levels.
+/// What a search leaves: by state the least cost of the bits that end in it, and the decisions of all levels.
 #[derive(Drop)]
 pub struct Searched {
-    pub last: Vec<u64>,
+    pub totals: Vec<u64>,
     pub decisions: Vec<u8>,
 }
 
@@ -56,7 +57,8 @@ fn next_row(
     choose(row, lows, highs, following, decisions);
 }
 
-/// Searches all levels. Each row is handed over when it is made; two rows are held.
+/// Searches all levels. Each row is handed over when it is made; two rows are held, and nothing is allocated
+/// from the first level on.
 pub fn forward<S: LevelSink>(
     alloc: Global,
     window: &Window,
@@ -65,7 +67,7 @@ pub fn forward<S: LevelSink>(
     requires rows { window.now.levels + 1 ≤ S.rows_left sink.old }
     requires row_length { S.row_length sink.old ≡ states (trellis_of window.now) }
     requires ready { S.has_refused sink.old ≡ false }
-    ensures last { IfOk result (λ searched. searched.last.items ≡ best_row (trellis_of window.now) (trellis_of window.now).levels) }
+    ensures totals { IfOk result (λ searched. searched.totals.items ≡ total_row (trellis_of window.now)) }
     ensures decisions { IfOk result (λ searched. AreAllDecisions (trellis_of window.now) (trellis_of window.now).levels searched.decisions.items) }
     ensures rows { OnOk result (HandsOverAll (trellis_of window.now) (S.spelling (S.kind sink.old)) (S.text sink.old) (S.text sink.new)) }
     ensures memory { IsErrOf result BridgeFault.Memory → HandsOverSome (trellis_of window.now) (S.spelling (S.kind sink.old)) (S.text sink.old) (S.text sink.new) }
@@ -81,7 +83,7 @@ pub fn forward<S: LevelSink>(
     let mut row = first_row(alloc, window)?;
     let mut following = vec![in alloc; 0; states]?;
     let mut decided = vec![in alloc; 0; states.div_ceil(8)]?;
-    let mut decisions = Vec::new(alloc);
+    let mut decisions = Vec::with_capacity(alloc, window.length() * decided.len())?;
     for level in 0..window.length() {
         sink.level(&row)?;
         next_row(
@@ -96,8 +98,9 @@ pub fn forward<S: LevelSink>(
         std::mem::swap(&mut row, &mut following);
     }
     sink.level(&row)?;
+    write_totals(window, &row, &mut following);
     Ok(Searched {
-        last: row,
+        totals: following,
         decisions,
     })
 }

@@ -1,5 +1,5 @@
-use Rattle.std.proofs.Common.{arith}
-use Rattle.trellis_core.proofs.TableLaws.{shift_in, opened, stride_at, final_zero, final_takes_0, final_takes_1}
+use Rattle.std.proofs.Common.{ap, length, ◌∙◌, arith}
+use Rattle.trellis_core.proofs.TableLaws.{shift_in, opened, stride_at, final_zero, final_takes_0, final_takes_1, total_at, totals_length}
 use Rattle.cost_core.specs.StateCosts.{trellis_of}
 use Rattle.trellis_core.proofs.ends.+end_state.Goals as goal
 
@@ -16,7 +16,7 @@ pub end_state-with_0-requires : goal.end_state-with_0-requires
 end_state-with_0-requires m c =
     let t = trellis_of c.args.window.now in
     let o = opened t.width c.args.rest c.args.low c.states.result (omega arith) c.requires.rest c.requires.low c.states.ensures.value in
-    (omega arith, (c.requires.bounded, (c.requires.row, (omega arith, o.0))))
+    (omega arith, (c.requires.bounded, (c.requires.totals, (omega arith, o.0))))
 
 pub overflow_add-low : goal.overflow_add-low
 overflow_add-low m c =
@@ -27,16 +27,22 @@ pub end_state-with_1-requires : goal.end_state-with_1-requires
 end_state-with_1-requires m c =
     let t = trellis_of c.args.window.now in
     let o = opened t.width c.args.rest c.args.low c.states.result (omega arith) c.requires.rest c.requires.low c.states.ensures.value in
-    (omega arith, (c.requires.bounded, (c.requires.row, (omega arith, o.1))))
+    (omega arith, (c.requires.bounded, (c.requires.totals, (omega arith, o.1))))
 
-pub returns-then-total-clause-chosen : goal.returns-then-total-clause-chosen
-returns-then-total-clause-chosen m c =
+pub returns-then-totals-with_1-clause-chosen : goal.returns-then-totals-with_1-clause-chosen
+returns-then-totals-with_1-clause-chosen m c =
     let t = trellis_of c.args.window.now in
     final_takes_1 t c.args.rest c.args.low _ _ _ (omega arith) (stride_at t.width c.args.rest c.states.result c.states.ensures.value c.requires.rest)
-    c.end_state-with_0.ensures.chosen c.end_state-with_1.ensures.chosen (omega (arith, c.total.ensures, c.total-2.ensures))
+    c.end_state-with_0.ensures.chosen c.end_state-with_1.ensures.chosen (omega (arith, total_at t c.args.totals.now c.requires.totals c.end_state-with_0.result c.end_state-with_0.ensures.in_range, total_at t c.args.totals.now c.requires.totals c.end_state-with_1.result c.end_state-with_1.ensures.in_range))
 
-pub returns-else-total-clause-chosen : goal.returns-else-total-clause-chosen
-returns-else-total-clause-chosen m c =
+pub returns-else-totals-with_1-clause-chosen : goal.returns-else-totals-with_1-clause-chosen
+returns-else-totals-with_1-clause-chosen m c =
     let t = trellis_of c.args.window.now in
     final_takes_0 t c.args.rest c.args.low _ _ _ (omega arith) (stride_at t.width c.args.rest c.states.result c.states.ensures.value c.requires.rest)
-    c.end_state-with_0.ensures.chosen c.end_state-with_1.ensures.chosen (omega (arith, c.total.ensures, c.total-2.ensures))
+    c.end_state-with_0.ensures.chosen c.end_state-with_1.ensures.chosen (omega (arith, total_at t c.args.totals.now c.requires.totals c.end_state-with_0.result c.end_state-with_0.ensures.in_range, total_at t c.args.totals.now c.requires.totals c.end_state-with_1.result c.end_state-with_1.ensures.in_range))
+
+pub bounds-totals-with_1 : goal.bounds-totals-with_1
+bounds-totals-with_1 m c = omega (arith, ap length c.requires.totals ∙ totals_length (trellis_of c.args.window.now), c.end_state-with_1.ensures.in_range)
+
+pub bounds-totals-with_0 : goal.bounds-totals-with_0
+bounds-totals-with_0 m c = omega (arith, ap length c.requires.totals ∙ totals_length (trellis_of c.args.window.now), c.end_state-with_0.ensures.in_range)

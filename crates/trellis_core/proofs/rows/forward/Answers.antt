@@ -21,6 +21,9 @@ returns-in_err-following-clause-memory g c = λ _. hands_none (trellis_of c.args
 pub returns-in_err-decided-clause-memory : goal.returns-in_err-decided-clause-memory
 returns-in_err-decided-clause-memory g c = λ _. hands_none (trellis_of c.args.window.now) c.states-states.ensures.bounded (g.S.LevelSink.spelling (g.S.LevelSink.kind c.args.sink.now)) (g.S.LevelSink.text c.args.sink.now)
 
+pub returns-in_err-decisions-clause-memory : goal.returns-in_err-decisions-clause-memory
+returns-in_err-decisions-clause-memory g c = λ _. hands_none (trellis_of c.args.window.now) c.states-states.ensures.bounded (g.S.LevelSink.spelling (g.S.LevelSink.kind c.args.sink.now)) (g.S.LevelSink.text c.args.sink.now)
+
 pub level-requires-clause-row : goal.level-requires-clause-row
 level-requires-clause-row g c =
     let t = trellis_of c.args.window.now in

@@ -3,6 +3,7 @@ pub mod Consuming
 pub mod Entries
 pub mod Exact
 pub mod Heads
+pub mod Marks
 pub mod OneReason
 pub mod Spellings
 pub mod Steps

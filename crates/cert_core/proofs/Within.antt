@@ -1,46 +1,26 @@
 -- Rows that exceed nothing, eight states at a time.
-use Rattle.std.proofs.Common.{◌≡◌, ℕ, ◌+◌, ◌*◌, ◌-◌, ◌/◌, ◌%◌, ◌^◌, ◌<◌, ◌≤◌, Bool, true, false, refl, cond, ltb, eqb, List, map, take, drop, length, get_or, sym, ap, ◌∙◌, inl, inr, IsTrue, arith, rules, tests}
-use Rattle.std.specs.Simd.Lanes.{zip2, Each1, mask_l, top}
-use Rattle.std.proofs.lemmas.Bool.{ltb-false}
-use Rattle.std.proofs.Math.Nat.{zero-div}
+use Rattle.std.proofs.Common.{◌≡◌, ℕ, ◌+◌, ◌*◌, ◌-◌, ◌/◌, ◌^◌, ◌<◌, ◌≤◌, List, take, drop, length, get_or, sym, ap, ◌∙◌, inl, inr, arith}
+use Rattle.std.specs.Simd.Lanes.{Each1}
 use Rattle.std.proofs.lemmas.List.{get_or-take, get_or-drop, length-take-le, length-drop}
-use Rattle.std.proofs.lemmas.Simd.{bit_mask_l, get_or-chunk, Each1-from_get_or}
+use Rattle.std.proofs.lemmas.Simd.{get_or-chunk, Each1-from_get_or}
 use Rattle.cost_core.specs.Trellis.{Trellis, states, newest, before_by_1, IsBounded}
 use Rattle.cost_core.specs.Bridges.{Bridging}
 use Rattle.cost_core.specs.StateCosts.{step_of, step_row, trellis_of}
-use Rattle.cost_core.specs.Rows.{sums, seconds, twice}
-use Rattle.cost_core.proofs.Lanes.{choices_are, length-sums}
-use Rattle.cost_core.proofs.Chunks.{at_seconds, at_sums}
+use Rattle.cost_core.specs.Rows.{sums, twice}
+use Rattle.cost_core.proofs.Lanes.{length-sums}
+use Rattle.cost_core.proofs.Chunks.{at_sums}
 use Rattle.cost_core.proofs.Twice.{at_twice}
 use Rattle.cost_core.proofs.StepRows.{high_is, states_even, step_0, step_1, steps_length}
 use Rattle.cert_core.specs.Reasons.{RowBounded, Exceeds}
 use Rattle.cert_core.specs.Within.{WithinBoth}
+use Rattle.cert_core.proofs.Marks.{marked, none_over}
 use Rattle.cert_core.proofs.Steps.{one_exceeds}
-
-pub is_zero : (m : ℕ) → IsTrue (eqb m 0) → m ≡ 0
-is_zero m h = search (rules, tests)
-
-no_bit : (m k : ℕ) → m ≡ 0 → m / 2 ^ k % 2 ≡ 0
-no_bit m k e = rw e (ap (λ n. n % 2) (zero-div (2 ^ k)))
-
-unmarked : (b : Bool) (n : ℕ) → n ≡ cond b 1 0 → n ≡ 0 → b ≡ false
-unmarked false n e z = refl
-unmarked true n e z = absurd (omega arith)
-
-abbrev marked : List ℕ → List ℕ → ℕ
-marked row by = mask_l (map (top 63) (zip2 (λ a b. cond (ltb a b) (2 ^ 64 - 1) 0) by row)) % 2 ^ 64
 
 -- where no lane is marked, no value is above the sum of its way
 pub none_above : (row xs ys : List ℕ) → length row ≡ 8 → length xs ≡ 8 → length ys ≡ 8 → marked row (sums xs ys) ≡ 0 → (k : ℕ) → k < 8 → get_or row k 0 ≤ get_or xs k 0 + get_or ys k 0
 none_above row xs ys lr lx ly e k h =
-    let by = sums xs ys in
-    let lb : length by ≡ 8 = length-sums xs ys (lx ∙ sym ly) ∙ lx in
-    let ss = seconds row by in
-    let z : mask_l ss ≡ 0 = sym (choices_are row by lr lb).0 ∙ e in
-    let at : get_or ss k false ≡ ltb (get_or by k 0) (get_or row k 0) = at_seconds row by k (omega arith) (omega arith) in
-    let not : get_or ss k false ≡ false = unmarked (get_or ss k false) (mask_l ss / 2 ^ k % 2) (bit_mask_l ss k) (no_bit (mask_l ss) k z) in
-    let le = ltb-false (get_or by k 0) (get_or row k 0) (sym at ∙ not) in
-    omega (arith, at_sums xs ys k (omega arith) (omega arith))
+    let lb : length (sums xs ys) ≡ 8 = length-sums xs ys (lx ∙ sym ly) ∙ lx in
+    omega (arith, none_over row (sums xs ys) lr lb e k h, at_sums xs ys k (omega arith) (omega arith))
 
 -- from eight lanes to the rows that they are of
 module _ (at : ℕ) (a u b v r a8 u8 b8 v8 r8 : List ℕ) (ea : a8 ≡ take 8 (drop at a)) (eu : u8 ≡ take 8 (drop at u)) (eb : b8 ≡ take 8 (drop at b)) (ev : v8 ≡ take 8 (drop at v)) (er : r8 ≡ take 8 (drop at r)) where

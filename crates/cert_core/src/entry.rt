@@ -99,8 +99,11 @@ fn read_rows<R: Read>(
     alloc: Global,
     inlet: &mut Inlet<R>,
     window: &Window,
+    steps: &mut [u64],
 ) -> Result<Vec<u64>, Stop>
     requires ready { inlet_failures inlet.old < 2 ^ 64 - 1 }
+    requires steps { length steps.old ≡ 2 * states (trellis_of window.now) }
+    ensures steps { length steps.new ≡ length steps.old }
     ensures ok { IfOk result (λ last. ReadsRows (trellis_of window.now) (R.remaining (inlet_reader inlet.old)) (R.remaining (inlet_reader inlet.new)) last.items) }
     ensures reason { OnReason result (InRows (trellis_of window.now) (R.remaining (inlet_reader inlet.old))) }
     ensures failures { inlet_failures inlet.new ≡ inlet_failures inlet.old + failed_stops result }
@@ -109,10 +112,9 @@ fn read_rows<R: Read>(
     let mut previous = make_row(alloc, states)?;
     let mut row = make_row(alloc, states)?;
     let mut bytes = make_buffer(alloc, 8 * row.len())?;
-    let mut steps = make_row(alloc, 2 * states)?;
     for level in 0..window.length() + 1 {
         read_row(inlet, &mut bytes, &mut row)?;
-        if let Some(reason) = row_reason(window, level, &previous, &row, &mut steps) {
+        if let Some(reason) = row_reason(window, level, &previous, &row, steps) {
             return Err(Stop::Reason(reason));
         }
         std::mem::swap(&mut previous, &mut row);
@@ -120,17 +122,20 @@ fn read_rows<R: Read>(
     Ok(previous)
 }
 
-// The cost, which has to be `found`, that of the bits, and no more than any end of the last row.
+// The cost, which has to be `found`, that of the bits, and no more than any end of the last row. `tails` is
+// overwritten.
 fn read_end<R: Read>(
     inlet: &mut Inlet<R>,
     window: &Window,
     last: &[u64],
+    tails: &mut [u64],
     found: u64,
 ) -> Result<u64, Stop>
     requires ready { inlet_failures inlet.old < 2 ^ 64 - 1 }
     requires bounded { IsBounded (trellis_of window.now) }
     requires last { length last.now ≡ states (trellis_of window.now) }
     requires limit { RowBounded (trellis_of window.now) last.now }
+    requires tails { length tails.old ≡ states (trellis_of window.now) }
     ensures ok { IfOk result (λ cost. Consumes (R.remaining (inlet_reader inlet.old)) (R.remaining (inlet_reader inlet.new)) (to_be_bytes w64 cost)) }
     ensures cost { IfOk result (λ cost. cost ≡ found) }
     ensures ends { IfOk result (λ cost. (q : ℕ) → q < states (trellis_of window.now) → cost ≤ slice_index_or last.now q 0 + (trellis_of window.now).tail q) }
@@ -141,7 +146,7 @@ fn read_end<R: Read>(
     if stated != found {
         return Err(Stop::Reason(CertReason::Cost));
     }
-    match low_end(window, last, stated) {
+    match low_end(window, last, stated, tails) {
         Some(state) => Err(Stop::Reason(CertReason::End(state))),
         None => Ok(stated),
     }
@@ -165,6 +170,9 @@ pub fn read_entry<R: Read>(
     ensures failures { inlet_failures inlet.new ≡ inlet_failures inlet.old + failed_stops result }
 {
     read_start(inlet, cue, channel, window.length())?;
-    let last = read_rows(alloc, inlet, window)?;
-    read_end(inlet, window, &last, window.cost_of(bits))
+    let states = window.states();
+    let mut steps = make_row(alloc, 2 * states)?;
+    let last = read_rows(alloc, inlet, window, &mut steps)?;
+    let (tails, _) = steps.split_at_mut(states);
+    read_end(inlet, window, &last, tails, window.cost_of(bits))
 }

@@ -14,13 +14,30 @@ use std::simd::prelude::*;
 // The greatest bound.
 const GREATEST: u64 = 1 << 63;
 
+// Whether a value of eight states is above the greatest bound.
+fn are_above(values: &[u64; 8]) -> bool
+    ensures above { IsTrue result → (k : ℕ) × (k < 8) × (2 ^ 63 < slice_index values.now k) }
+    ensures within { result ≡ false → (k : ℕ) → k < 8 → slice_index values.now k ≤ 2 ^ 63 }
+{
+    u64x8::from_array(*values)
+        .simd_gt(u64x8::splat(GREATEST))
+        .to_bitmask()
+        != 0
+}
+
 // Whether a value is above the greatest bound.
 fn is_above(row: &[u64]) -> bool
     ensures above { IsTrue result → (q : ℕ) × (q < length row.now) × (2 ^ 63 < slice_index row.now q) }
     ensures within { result ≡ false → (q : ℕ) → q < length row.now → slice_index row.now q ≤ 2 ^ 63 }
 {
-    for value in row {
-        if *value > GREATEST {
+    let (eights, rest) = row.as_chunks::<8>();
+    for i in 0..eights.len() {
+        if are_above(&eights[i]) {
+            return true;
+        }
+    }
+    for i in 0..rest.len() {
+        if rest[i] > GREATEST {
             return true;
         }
     }
@@ -191,18 +208,56 @@ pub fn row_reason(
     }
 }
 
-/// The lowest state of the last row whose value plus the cost of ending there is below `stated`.
-pub fn low_end(window: &Window, last: &[u64], stated: u64) -> Option<usize>
+// Whether no end of eight states is below the stated cost.
+fn reach_stated(last: &[u64; 8], tails: &[u64; 8], stated: u64) -> bool
+    requires last { Each1 (λ x. x ≤ 2 ^ 63) last.now }
+    requires tails { Each1 (λ x. x < 2 ^ 63) tails.now }
+    ensures { IsTrue result → (k : ℕ) → k < 8 → stated ≤ slice_index last.now k + slice_index tails.now k }
+{
+    let ends = u64x8::from_array(*last).strict_add(u64x8::from_array(*tails));
+    u64x8::splat(stated).simd_gt(ends).to_bitmask() == 0
+}
+
+// Whether no end is below the stated cost.
+fn all_reach(last: &[u64], tails: &[u64], stated: u64) -> bool
+    requires as_many { length tails.now ≡ length last.now }
+    requires last { Each1 (λ x. x ≤ 2 ^ 63) last.now }
+    requires tails { Each1 (λ x. x < 2 ^ 63) tails.now }
+    ensures { IsTrue result → (q : ℕ) → q < length last.now → stated ≤ slice_index last.now q + slice_index tails.now q }
+{
+    let (eights, rest) = last.as_chunks::<8>();
+    let (eight_tails, rest_tails) = tails.as_chunks::<8>();
+    for i in 0..eights.len() {
+        if !reach_stated(&eights[i], &eight_tails[i], stated) {
+            return false;
+        }
+    }
+    for i in 0..rest.len() {
+        if rest[i] + rest_tails[i] < stated {
+            return false;
+        }
+    }
+    true
+}
+
+/// The lowest state of the last row whose value plus the cost of ending there is below `stated`. `tails` is
+/// overwritten.
+pub fn low_end(window: &Window, last: &[u64], stated: u64, tails: &mut [u64]) -> Option<usize>
     requires bounded { IsBounded (trellis_of window.now) }
     requires last { length last.now ≡ states (trellis_of window.now) }
     requires limit { RowBounded (trellis_of window.now) last.now }
+    requires tails { length tails.old ≡ states (trellis_of window.now) }
     ensures { MatchOption result
         ((q : ℕ) → q < states (trellis_of window.now) → stated ≤ slice_index last.now q + (trellis_of window.now).tail q)
         (λ q. (q < states (trellis_of window.now)) × (slice_index last.now q + (trellis_of window.now).tail q < stated)
         × ((k : ℕ) → k < q → stated ≤ slice_index last.now k + (trellis_of window.now).tail k)) }
 {
-    for state in 0..window.states() {
-        if last[state] + window.tail_cost(state) < stated {
+    window.tail_costs(tails);
+    if all_reach(last, tails, stated) {
+        return None;
+    }
+    for state in 0..last.len() {
+        if last[state] + tails[state] < stated {
             return Some(state);
         }
     }

@@ -1,5 +1,6 @@
 use Rattle.cost_core.proofs.Lanes.{sums_fit}
-use Rattle.cert_core.proofs.Within.{is_zero, none_above}
+use Rattle.cert_core.proofs.Marks.{is_zero}
+use Rattle.cert_core.proofs.Within.{none_above}
 use Rattle.cert_core.proofs.rows.are_within.Goals as goal
 
 pub overflow_add-by_0 : goal.overflow_add-by_0

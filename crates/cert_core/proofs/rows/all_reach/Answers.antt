@@ -1,0 +1,21 @@
+use Rattle.std.proofs.Common.{◌+◌, ◌/◌, ◌<◌, ◌≤◌, refl, length, get_or, arith}
+use Rattle.cost_core.proofs.Chunks.{each_chunk}
+use Rattle.cert_core.proofs.Marks.{in_eight, eight_places}
+use Rattle.cert_core.proofs.rows.all_reach.Goals as goal
+
+pub reach_stated-requires-clause-last : goal.reach_stated-requires-clause-last
+reach_stated-requires-clause-last c = each_chunk (λ x. x ≤ 9223372036854775808) c.as_chunks.result.0.now c.args.last.now c.loop-i.i c.as_chunks.ensures.front (omega (arith, c.loop-i-test.true, c.as_chunks.ensures.front_len)) c.requires.last
+
+pub reach_stated-requires-clause-tails : goal.reach_stated-requires-clause-tails
+reach_stated-requires-clause-tails c =
+    each_chunk (λ x. x < 9223372036854775808) c.as_chunks-2.result.0.now c.args.tails.now c.loop-i.i c.as_chunks-2.ensures.front (omega (arith, c.loop-i-test.true, c.as_chunks.ensures.front_len, c.requires.as_many)) c.requires.tails
+
+pub loop-i-preserved : goal.loop-i-preserved
+loop-i-preserved c =
+    let i = c.loop-i.i in
+    let last = c.args.last.now in
+    let tails = c.args.tails.now in
+    let few : i < length last / 8 = omega (arith, c.loop-i-test.true, c.as_chunks.ensures.front_len) in
+    let few_tails : i < length tails / 8 = omega (arith, few, c.requires.as_many) in
+    eight_places (λ k. c.args.stated ≤ get_or last k 0 + get_or tails k 0) i c.loop-i.invariant
+    (λ m h. omega (arith, c.if-not-reach_stated.ensures refl m h, in_eight c.as_chunks.result.0.now last i m c.as_chunks.ensures.front few h, in_eight c.as_chunks-2.result.0.now tails i m c.as_chunks-2.ensures.front few_tails h))

@@ -1,14 +1,13 @@
 -- Chosen bits, their entries, and that they stand in the master.
-use Rattle.std.proofs.Common.{◌≡◌, ℕ, zero, suc, ◌+◌, ◌-◌, ◌<◌, ◌≤◌, Bool, List, [], ◌∷◌, ◌++◌, Vec, Global, length, get_or, map, flat_map, sum_by, take, append_assoc, refl, sym, ap, subst, ◌∙◌, arith}
+use Rattle.std.proofs.Common.{◌≡◌, ℕ, suc, ◌+◌, ◌-◌, ◌<◌, Bool, List, [], ◌∷◌, ◌++◌, Vec, Global, length, get_or, map, flat_map, sum_by, take, append_assoc, refl, sym, ap, subst, ◌∙◌, arith}
 use Rattle.std.specs.Int.{w64, to_be_bytes}
 use Rattle.std.specs.List.{All, AllZip}
-use Rattle.std.proofs.lemmas.List.{append-nil, length-append, length-take-le, take_all, take_more}
+use Rattle.std.proofs.lemmas.List.{append-nil, length-append, length-take-le, take_more}
 use Rattle.std.proofs.lemmas.List.Sums.{sum_by-cons, sum_by_push}
 use Rattle.cost_core.specs.Bridges.{Bridging, bridge_cost}
 use Rattle.cost_core.specs.StateCosts.{trellis_of}
 use Rattle.cost_core.specs.Tables.{IsTable, value_in}
 use Rattle.cost_core.specs.Validity.{IsValid}
-use Rattle.cost_core.specs.Channels.{Part}
 use Rattle.trellis_core.specs.declared.bridging.Chosen.{Chosen}
 use Rattle.cert_core.specs.Text.{cert_head, entry_start, row_text}
 use Rattle.cert_core.specs.declared.writer.CertWriter.{CertWriter}
@@ -19,7 +18,7 @@ use Rattle.cut_core.specs.Bridges.{IsPlace, bridges}
 use Rattle.cut_core.specs.Cuts.{CutContent, window}
 use Rattle.cut_core.specs.Keeping.{CanCut}
 use Rattle.cut_core.specs.declared.bridges.BridgePlace.{BridgePlace}
-use Rattle.cut_core.proofs.ZipLaws.{zip_at, zip_long, zip_more, zip_number}
+use Rattle.cut_core.proofs.ZipLaws.{zip_at, zip_more, zip_number}
 use Rattle.master_core.specs.Certifying.{Writes, written}
 use Rattle.master_core.specs.Choosing.{AreChosen, IsChosenAt, chosen_claims, chosen_cost}
 use Rattle.master_core.specs.Claims.{bridge_bits, claim_at, claim_cost, claim_of, claims, windows_total}

@@ -1,6 +1,6 @@
 -- What the bridges of a master cost: bridge by bridge, and channel by channel.
-use Rattle.std.proofs.Common.{◌≡◌, ℕ, zero, suc, ◌+◌, ◌-◌, ◌<◌, ◌≤◌, Bool, cond, eqb, List, [], ◌∷◌, ◌++◌, length, get_or, map, flat_map, sum_by, take, inl, inr, refl, sym, ap, subst, ◌∙◌, arith}
-use Rattle.std.specs.List.{All, range_with_len}
+use Rattle.std.proofs.Common.{◌≡◌, ℕ, zero, suc, ◌+◌, ◌-◌, ◌<◌, ◌≤◌, Bool, cond, eqb, List, [], ◌∷◌, length, get_or, map, flat_map, sum_by, take, inl, inr, refl, sym, ap, ◌∙◌, arith}
+use Rattle.std.specs.List.{range_with_len}
 use Rattle.std.proofs.lemmas.Bool.{cases_lt, ne_eqb}
 use Rattle.std.proofs.lemmas.List.Elements.{All-get_or}
 use Rattle.std.proofs.lemmas.List.Sums.{sum_by-append, sum_by-cons, sum_by_more_le}
@@ -13,7 +13,7 @@ use Rattle.cut_core.specs.Keeping.{CanCut}
 use Rattle.cut_core.proofs.BridgeLaws.{behind_none, behind_some, place_of}
 use Rattle.cut_core.proofs.ZipLaws.{zip_number}
 use Rattle.master_core.specs.Checking.{HaveShape, HoldCues, rebuilt}
-use Rattle.master_core.specs.Claims.{bridge_bits, bridge_start, claim_at, claim_cost, claims, windows_total}
+use Rattle.master_core.specs.Claims.{bridge_bits, bridge_start, claim_at, claim_cost, windows_total}
 use Rattle.master_core.specs.Masters.{channel_numbers, cost_of, part_at, parts_of, total_cost}
 use Rattle.master_core.proofs.ChannelLaws.{joined}
 

@@ -15,7 +15,7 @@ use Rattle.cut_core.specs.Cuts.{CutContent, IsAlike, channel_number, master_leng
 use Rattle.cut_core.specs.Titles.{titles_of}
 use Rattle.master_core.specs.declared.verdict.Reason.{Reason}
 use Rattle.master_core.specs.declared.verdict.Reason.TheVariants.{MasterShape, MasterLength, MasterMarks, CuedBit, CertHead, Cert, CertExtra}
-use Rattle.master_core.specs.Claims.{IsCertOf, bridge_bits, claims}
+use Rattle.master_core.specs.Claims.{bridge_bits, claims}
 use Rattle.master_core.specs.Masters.{channel_numbers, master_channel}
 
 -- there are as many channels as a master has, and each of them is as long

@@ -1,5 +1,5 @@
 -- The bridges of a master, by their places: the bits that stand there, and what a certificate is to show of them.
-use Rattle.std.specs.Prelude.{◌≡◌, ℕ, ◌+◌, ◌-◌, Bool, List, [], All, length, map, slice_index_or, slice_range, take}
+use Rattle.std.specs.Prelude.{ℕ, ◌+◌, ◌-◌, Bool, List, [], All, length, map, slice_index_or, slice_range, take}
 use Rattle.std.specs.List.{sum_by}
 use Rattle.cost_core.specs.Bridges.{IsLeastBridge, bridge_cost}
 use Rattle.cert_core.specs.Certificates.{Claim, IsCert}

@@ -1,10 +1,9 @@
 use Rattle.std.proofs.Common.{◌≡◌, ◌≤◌, ◌<◌, ◌+◌, ◌-◌, ◌∙◌, ap, arith, length, sum_by, take}
-use Rattle.std.proofs.lemmas.List.{take_all}
 use Rattle.std.proofs.lemmas.List.Sums.{sum_by_more, sum_by_more_le}
 use Rattle.std.proofs.lemmas.List.FromFn.{get_or-map-range_with_len, length-map-range_with_len}
 use Rattle.cut_core.specs.Cuts.{cue_at, cue_bits, master_length, span}
 use Rattle.master_core.specs.Masters.{part_at, parts_of}
-use Rattle.master_core.proofs.ChannelLaws.{assembled_more, assembled_nothing, best_of, part_is, part_number, whole_length}
+use Rattle.master_core.proofs.ChannelLaws.{assembled_more, assembled_nothing, best_of, whole_length}
 use Rattle.master_core.proofs.assembling.assemble_channel.Goals as goal
 
 pub loop-i-init : goal.loop-i-init

@@ -4,7 +4,6 @@ use Rattle.cost_core.specs.Tables.{value_in}
 use Rattle.cost_core.specs.Validity.{IsValid}
 use Rattle.cert_core.specs.Writers.{Stage}
 use Rattle.master_core.specs.Certifying.{Writes}
-use Rattle.master_core.specs.Choosing.{IsChosen}
 use Rattle.master_core.proofs.ChoiceLaws.{record_of, writes_entry}
 use Rattle.master_core.proofs.certifying.write_entry.Goals as goal
 

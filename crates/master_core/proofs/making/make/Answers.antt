@@ -6,8 +6,7 @@ use Rattle.cert_core.specs.Certificates.{Claim, IsCert}
 use Rattle.cut_core.specs.Bridges.{IsPlace, bridges}
 use Rattle.cut_core.specs.Cuts.{take_at}
 use Rattle.cut_core.specs.declared.bridges.BridgePlace.{BridgePlace}
-use Rattle.master_core.specs.Checking.{IsMasterOf}
-use Rattle.master_core.specs.Choosing.{AreChosen, chosen_claims}
+use Rattle.master_core.specs.Choosing.{chosen_claims}
 use Rattle.master_core.specs.Claims.{IsCertOf, windows_total}
 use Rattle.master_core.specs.Masters.{AreMasterChannels, master_of}
 use Rattle.master_core.proofs.ChoiceLaws.{claims_stand, costs_stand}

@@ -8,8 +8,9 @@
 //!
 //! A [`CertWriter`] writes a certificate to an outlet, part by part; as a `LevelSink` it takes the rows of
 //! a search. A [`CertReader`] reads one from an inlet, two rows at a time, and
-//! [`check_bridge`](CertReader::check_bridge) judges the bits of a bridge by the next entry. This crate
-//! knows nothing of the search.
+//! [`check_bridge`](CertReader::check_bridge) judges the bits of a bridge by the next entry: bounds, steps and
+//! ends eight states at a time, and one at a time what is left, and where something is wrong (`rows`). This
+//! crate knows nothing of the search.
 //!
 //! The words of its contracts, all over lists and numbers without bounds:
 //!

@@ -6,6 +6,8 @@ mod bridges;
 #[cfg(test)]
 mod certificate_checking;
 #[cfg(test)]
+mod certificate_rows;
+#[cfg(test)]
 mod certificate_writing;
 #[cfg(test)]
 mod certificates;

@@ -34,12 +34,15 @@ fn steps(window: &Window, level: usize) -> Option<([u64; 4], [u64; 4])> {
     Some((single, row))
 }
 
-// What the bits behind the bridge cost after state 0 and after state 1.
-fn tails(window: &Window) -> Option<[u64; 2]> {
+// What the bits behind the bridge cost after state 0 and after state 1: one by one, and as a row. None where there are
+// other states.
+fn tails(window: &Window) -> Option<([u64; 2], [u64; 2])> {
     if window.states() != 2 {
         return None;
     }
-    Some([window.tail_cost(0), window.tail_cost(1)])
+    let mut row = [0; 2];
+    window.tail_costs(&mut row);
+    Some(([window.tail_cost(0), window.tail_cost(1)], row))
 }
 
 #[test]
@@ -48,7 +51,7 @@ fn steps_of_a_bridge_of_one_bit(rt: HostRuntime) -> Result<(), Fail> {
     assert!(rt; shape(&window) == [1, 2, 1, 1]);
     let costs = [16, 0, 0, 16];
     assert!(rt; steps(&window, 0) == Some((costs, costs)));
-    assert!(rt; tails(&window) == Some([0, 16]));
+    assert!(rt; tails(&window) == Some(([0, 16], [0, 16])));
     Ok(())
 }
 
@@ -61,7 +64,7 @@ fn steps_of_a_bridge_of_two_bits(rt: HostRuntime) -> Result<(), Fail> {
     assert!(rt; steps(&window, 0) == Some((first, first)));
     let second = [4, 16, 4, 16];
     assert!(rt; steps(&window, 1) == Some((second, second)));
-    assert!(rt; tails(&window) == Some([0, 0]));
+    assert!(rt; tails(&window) == Some(([0, 0], [0, 0])));
     Ok(())
 }
 

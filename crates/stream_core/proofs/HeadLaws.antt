@@ -18,7 +18,7 @@ use Rattle.stream_core.specs.Files.{IsRefused, LeadsTo, TellsSound}
 
 -- ---- a DSF file is no DSDIFF file
 -- a form begins otherwise
-other_head : (front : List ℕ) → 16 ≤ length front → take 4 front ≡ DSD → dsdiff.sound_at front ≡ Refused
+pub other_head : (front : List ℕ) → 16 ≤ length front → take 4 front ≡ DSD → dsdiff.sound_at front ≡ Refused
 unfolding dsdiff.sound_in dsdiff.form_of
 other_head front long id = rw (le-ltb (length front) 16 long, id) refl
 

@@ -5,3 +5,5 @@ pub mod HeadLaws
 pub mod SoundLaws
 pub mod ClosingLaws
 pub mod PlayLaws
+pub mod PlaceLaws
+pub mod ToldLaws

@@ -58,3 +58,9 @@ IsFromOutside WriteFailed = ⊤
 IsFromOutside TurnLimit = ⊤
 IsFromOutside Memory = ⊤
 IsFromOutside _ = ⊥
+
+-- a fault that ends the reading: a read failed, or there were too many
+abbrev pub StopsReading : StreamFault → Type 0
+StopsReading ReadFailed = ⊤
+StopsReading TurnLimit = ⊤
+StopsReading _ = ⊥

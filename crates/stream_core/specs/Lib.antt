@@ -5,3 +5,4 @@ pub mod Wave
 pub mod Pieces
 pub mod Closing
 pub mod Playing
+pub mod Pace

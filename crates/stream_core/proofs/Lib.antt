@@ -7,3 +7,4 @@ pub mod ClosingLaws
 pub mod PlayLaws
 pub mod PlaceLaws
 pub mod ToldLaws
+pub mod PaceLaws

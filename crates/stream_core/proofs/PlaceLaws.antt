@@ -1,5 +1,5 @@
 -- Frames whose places stand in a front of the sound are due, and how many bytes they are.
-use Rattle.std.proofs.Common.{◌≡◌, ℕ, zero, suc, ◌+◌, ◌-◌, ◌*◌, ◌/◌, ◌%◌, ◌<◌, ◌≤◌, ◌⊎◌, inl, inr, min, List, length, Option, None, Some, refl, sym, subst, ap, ap₂, ◌∙◌, arith}
+use Rattle.std.proofs.Common.{◌≡◌, ℕ, zero, suc, ◌+◌, ◌-◌, ◌*◌, ◌/◌, ◌%◌, ◌<◌, ◌≤◌, inl, inr, min, List, length, Option, None, Some, refl, sym, subst, ap, ◌∙◌, arith}
 use Rattle.std.specs.Int.{bytes_low_first, div_ceil}
 use Rattle.std.proofs.Math.Nat.{div-add-mod', mul-le-mul_right, mul_assoc}
 use Rattle.std.proofs.lemmas.Bool.{cases_lt}
@@ -15,7 +15,7 @@ use Rattle.fir_core.specs.Streams.{heard}
 use Rattle.wave_core.specs.Texts.{sample_bytes, twos_complement}
 use Rattle.player_core.specs.Due.{bytes_heard, channel_bits, channels_heard, due_bytes, frames_due}
 use Rattle.player_core.specs.Frames.{frame, frames_below}
-use Rattle.player_core.specs.Groups.{group_size, part_size, place_in}
+use Rattle.player_core.specs.Groups.{part_size, place_in}
 use Rattle.player_core.specs.Laws.{total_frames}
 use Rattle.player_core.proofs.FrameLaws.{length-equal}
 use Rattle.player_core.proofs.SampleLaws.{length-frames}

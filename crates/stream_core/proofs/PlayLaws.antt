@@ -56,12 +56,12 @@ module _ (law : SoundIsPlayed) (d : Decimator) (front : List ℕ) (s : Sound) (t
   size_at left = omega (arith, length-append front left, length-append ahead left, length-drop s.start front, tells.within)
 
   -- what a file that begins so plays
-  record IsText (left bytes : List ℕ) : Type 0 where
-    divided : s.rate % d.factor ≡ 0
-    enough : s.size ≤ length (ahead ++ left)
-    is : bytes ≡ file_around d s (all_bytes d s (take s.size (ahead ++ left)))
+  pub record IsText (left bytes : List ℕ) : Type 0 where
+    pub divided : s.rate % d.factor ≡ 0
+    pub enough : s.size ≤ length (ahead ++ left)
+    pub is : bytes ≡ file_around d s (all_bytes d s (take s.size (ahead ++ left)))
 
-  text_of : (left bytes : List ℕ) → PlaysBy d (front ++ left) bytes → IsText left bytes
+  pub text_of : (left bytes : List ℕ) → PlaysBy d (front ++ left) bytes → IsText left bytes
   text_of left bytes plays =
       let r = plays.recording in
       let has : HasSound (front ++ left) r s = tells.has left r plays.file_holds in
@@ -113,7 +113,7 @@ module _ (law : SoundIsPlayed) (d : Decimator) (front : List ℕ) (s : Sound) (t
 
     -- so begins what is left
     module _ (xs : List ℕ) (known : left (inlet_reader i) ≡ Some xs) where
-      begins : (rest : List ℕ) × (xs ≡ played.read ++ rest) × (left (inlet_reader j) ≡ Some rest)
+      pub begins : (rest : List ℕ) × (xs ≡ played.read ++ rest) × (left (inlet_reader j) ≡ Some rest)
       begins = by (left (inlet_reader j)) refl (subst (λ o. Consumes o (left (inlet_reader j)) played.read) known played.reads.consumed)
         where
           by : (o : Option (List ℕ)) → left (inlet_reader j) ≡ o → Consumes (Some xs) o played.read → (rest : List ℕ) × (xs ≡ played.read ++ rest) × (left (inlet_reader j) ≡ Some rest)
@@ -123,13 +123,13 @@ module _ (law : SoundIsPlayed) (d : Decimator) (front : List ℕ) (s : Sound) (t
     parted : (rest : List ℕ) → ahead ++ (played.read ++ rest) ≡ played.sound ++ (back ++ rest)
     parted rest = sym (append_assoc ahead played.read rest) ∙ ap (λ zs. zs ++ rest) played.parts ∙ append_assoc played.sound back rest
 
-    sound_is : (rest : List ℕ) → take s.size (ahead ++ (played.read ++ rest)) ≡ played.sound
+    pub sound_is : (rest : List ℕ) → take s.size (ahead ++ (played.read ++ rest)) ≡ played.sound
     sound_is rest = ap₂ take (sym played.length_is) (parted rest) ∙ take-append_seam played.sound (back ++ rest)
 
     file_is : (rest : List ℕ) → front ++ (played.read ++ rest) ≡ head ++ (played.sound ++ (back ++ rest))
     file_is rest = ap (λ zs. zs ++ (played.read ++ rest)) (sym front_is) ∙ append_assoc head ahead (played.read ++ rest) ∙ ap (λ zs. head ++ zs) (parted rest)
 
-    written : Appends a c (header_of d s ++ all_bytes d s played.sound)
+    pub written : Appends a c (header_of d s ++ all_bytes d s played.sound)
     written = Appends-trans a b c (header_of d s) (all_bytes d s played.sound) opens.written played.written
 
     -- all but the pad was written, and a front of it

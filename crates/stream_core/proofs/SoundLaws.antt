@@ -22,7 +22,7 @@ use Rattle.stream_core.proofs.RestLaws.{due_on, front_on}
 
 -- ---- bytes that were read before, and those that are left
 -- of both, so many are those before and the rest of the others
-whole_is : (size : ℕ) (xs ys : List ℕ) → take size (xs ++ ys) ≡ take size xs ++ take (size - length (take size xs)) ys
+pub whole_is : (size : ℕ) (xs ys : List ℕ) → take size (xs ++ ys) ≡ take size xs ++ take (size - length (take size xs)) ys
 whole_is size xs ys = elim (cases_lt size (length xs)) [
   | inl less ↦ (let none : size - length (take size xs) ≡ 0 = omega (arith, length-take size xs) in
       take-append-le size xs ys (omega arith) ∙ sym (append-nil (take size xs)) ∙ ap (λ n. take size xs ++ take n ys) (sym none))

@@ -1,6 +1,6 @@
 -- The one sound that a file tells of, whichever front of it was read.
-use Rattle.std.proofs.Common.{◌≡◌, ℕ, ◌+◌, ◌-◌, ◌≤◌, inl, inr, List, [], ◌++◌, length, take, drop, Option, Some, None, refl, sym, subst, ap, ap₂, ◌∙◌, arith, append-nil, length-append, length-take-le, take-append-drop}
-use Rattle.std.specs.Prelude.{Result, Ok, filter, slice_range}
+use Rattle.std.proofs.Common.{◌≡◌, ℕ, ◌+◌, ◌-◌, ◌≤◌, inl, inr, List, [], ◌++◌, length, take, drop, Option, Some, None, sym, subst, ap, ◌∙◌, arith, append-nil, length-append, take-append-drop}
+use Rattle.std.specs.Prelude.{Result, Ok, slice_range}
 use Rattle.std.proofs.lemmas.Bool.{cases_lt}
 use Rattle.std.proofs.lemmas.List.{take-append-le}
 use Rattle.chunk_core.specs.Chunks.{chunks}
@@ -22,7 +22,7 @@ use Rattle.dsf_core.specs.Fields.{sound_place}
 use Rattle.dsf_core.specs.Files.{IsDsf}
 use Rattle.dsf_core.specs.Fronts as dsf
 use Rattle.dsf_core.proofs.FrontLaws as blocks
-use Rattle.stream_core.specs.Files.{HoldsRecording, IsAccepted, IsRefused, LeadsTo, TellsSound}
+use Rattle.stream_core.specs.Files.{HoldsRecording, IsAccepted, LeadsTo, TellsSound}
 use Rattle.stream_core.specs.Pace.{IsBeforeSound}
 use Rattle.stream_core.proofs.HeadLaws.{never_found, other_head}
 
@@ -175,5 +175,6 @@ dsf_wanted front no_form x more = by x more
         of rest t accepted None f = absurd (never rest t accepted.0 accepted.1 f)
         of rest t accepted (Some o) f = dsf_later front rest t more f
 
-pub before_all : IsBeforeSound []
-before_all = λ rest t accepted tells. omega arith
+-- before the first byte
+pub before_first : (front : List ℕ) → front ≡ [] → IsBeforeSound front
+before_first front none = λ rest t accepted tells. let e : length front ≡ 0 = ap length none in omega (arith, e)

@@ -60,5 +60,4 @@ pub record PlaysGivenPart (left_old : Option (List ℕ)) (given_old given_new : 
 pub record PlaysGivenSound (left_old : Option (List ℕ)) (given_old given_new : ℕ) (d : Decimator) (s : Sound) (ahead : List ℕ) (held_old held_new : Option (List ℕ)) : Type 0 where
   pub read : List ℕ
   pub gives : Gives left_old given_old given_new read
-  pub least : 8 ≤ d.factor
   pub written : Appends held_old held_new (due_bytes d s (take s.size (ahead ++ read)))

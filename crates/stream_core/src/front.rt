@@ -1,10 +1,11 @@
 //! The front of a file, up to its sound.
 
 ghost use Rattle.std.specs.Prelude.{◌≡◌, ◌+◌, ◌-◌, ◌<◌, ◌^◌, ◌++◌, [], List, ℕ, IfErr, IfOk, IsErrOf, OnOk, length};
-ghost use Rattle.chunk_core.specs.Inlets.{inlet_failures, inlet_reader, inlet_reads};
+ghost use Rattle.chunk_core.specs.Inlets.{inlet_failures, inlet_given, inlet_reader, inlet_reads};
 ghost use Rattle.dsd_bits.specs.Sounds.{IfFound, IfMore, IfRefused};
-ghost use Rattle.stream_core.specs.Faults.{failed_reads};
+ghost use Rattle.stream_core.specs.Faults.{StopsReading, failed_reads};
 ghost use Rattle.stream_core.specs.Files.{IsFrontFault, IsRefused, TellsSound};
+ghost use Rattle.stream_core.specs.Pace.{GivesNone, IsBeforeSound};
 ghost use Rattle.stream_core.specs.Reads.{HasBudget, Reads};
 
 use crate::fault::StreamFault;
@@ -19,6 +20,7 @@ use std::io::Read;
 ///
 /// Refusals: `FileRefused` where no file that begins so holds a recording, or the reader is at its end; those of
 /// [`read_more`].
+#[tactic(auto, using(crate::proofs::ToldLaws::before_first))]
 pub(crate) fn read_front<R: Read>(
     alloc: Global,
     inlet: &mut Inlet<R>,
@@ -37,6 +39,7 @@ pub(crate) fn read_front<R: Read>(
     ensures failures { inlet_failures inlet.new ≡ inlet_failures inlet.old + failed_reads result }
     ensures turns { IsErrOf result StreamFault.TurnLimit → inlet_reads inlet.new ≡ limit }
     ensures fault { IfErr result (IsFrontFault (R.remaining (inlet_reader inlet.old))) }
+    ensures stopped { IfErr result (λ f. StopsReading f → GivesNone (R.remaining (inlet_reader inlet.old)) (inlet_given inlet.old) (inlet_given inlet.new)) }
 {
     loop {
         let count = read_more(inlet, limit, block, front)?;
@@ -56,6 +59,7 @@ fn told_by(alloc: Global, front: &[u8]) -> Result<SoundAt, AllocError>
     ensures found { IfOk result (λ x. IfFound x (TellsSound front.now)) }
     ensures refused { IfOk result (λ x. IfRefused x ((rest : List ℕ) → IsRefused (front.now ++ rest))) }
     ensures more { IfOk result (λ x. IfMore x (IsRefused front.now)) }
+    ensures before { IfOk result (λ x. IfMore x (IsBeforeSound front.now)) }
 {
     match dsdiff_core::sound_at(alloc, front)? {
         SoundAt::Refused => Ok(dsf_core::sound_at(front)),

@@ -1,11 +1,12 @@
 //! The sound, read and played piece by piece.
 
 ghost use Rattle.std.specs.Prelude.{◌≡◌, ◌+◌, ◌-◌, ◌%◌, ◌<◌, ◌≤◌, ◌^◌, ◌++◌, [], IfErr, IfOk, IsErrOf, OnErr, OnOk, None, drop, length, take};
-ghost use Rattle.chunk_core.specs.Inlets.{inlet_failures, inlet_reader, inlet_reads};
+ghost use Rattle.chunk_core.specs.Inlets.{inlet_failures, inlet_given, inlet_reader, inlet_reads};
 ghost use Rattle.chunk_core.specs.Outlets.{outlet_failures, outlet_writer};
 ghost use Rattle.dsd_bits.specs.Sounds.{IsSound};
 ghost use Rattle.player_core.specs.PlayerView.{IsPlayer, fed_of, filter_of, sound_of};
-ghost use Rattle.stream_core.specs.Faults.{IsWritingFault, failed_reads, failed_writes};
+ghost use Rattle.stream_core.specs.Faults.{IsWritingFault, StopsReading, failed_reads, failed_writes};
+ghost use Rattle.stream_core.specs.Pace.{PlaysGivenPart, PlaysGivenSound};
 ghost use Rattle.stream_core.specs.Pieces.{IsPieceFault, IsSoundFault, PlaysFront, PlaysPart, PlaysSound, PutsDue, PutsFrontLeft, PutsFrontOf, PutsRest};
 ghost use Rattle.stream_core.specs.Reads.{HasBudget};
 
@@ -45,6 +46,7 @@ pub(crate) fn play_sound<R: Read, W: Write>(
     ensures budget { OnOk result (HasBudget limit inlet.new) }
     ensures front { OnErr result (PlaysFront (R.remaining (inlet_reader inlet.old)) taps.now sound.now ahead.now (W.contents (outlet_writer outlet.old)) (W.contents (outlet_writer outlet.new))) }
     ensures fault { IfErr result (IsSoundFault (R.remaining (inlet_reader inlet.old)) ahead.now sound.now) }
+    ensures stopped { IfErr result (λ f. StopsReading f → PlaysGivenSound (R.remaining (inlet_reader inlet.old)) (inlet_given inlet.old) (inlet_given inlet.new) taps.now sound.now ahead.now (W.contents (outlet_writer outlet.old)) (W.contents (outlet_writer outlet.new))) }
     ensures read_failed { inlet_failures inlet.new ≡ inlet_failures inlet.old + failed_reads result }
     ensures write_failed { outlet_failures outlet.new ≡ outlet_failures outlet.old + failed_writes result }
     ensures turns { IsErrOf result StreamFault.TurnLimit → inlet_reads inlet.new ≡ limit }
@@ -132,6 +134,7 @@ fn play_rest<R: Read, W: Write>(
     ensures budget { OnOk result (HasBudget limit inlet.new) }
     ensures front { OnErr result (PutsFrontLeft (R.remaining (inlet_reader inlet.old)) player.old wanted (W.contents (outlet_writer outlet.old)) (W.contents (outlet_writer outlet.new))) }
     ensures fault { IfErr result (IsPieceFault (R.remaining (inlet_reader inlet.old)) wanted) }
+    ensures stopped { IfErr result (λ f. StopsReading f → PlaysGivenPart (R.remaining (inlet_reader inlet.old)) (inlet_given inlet.old) (inlet_given inlet.new) player.old wanted (W.contents (outlet_writer outlet.old)) (W.contents (outlet_writer outlet.new))) }
     ensures read_failed { inlet_failures inlet.new ≡ inlet_failures inlet.old + failed_reads result }
     ensures write_failed { outlet_failures outlet.new ≡ outlet_failures outlet.old + failed_writes result }
     ensures turns { IsErrOf result StreamFault.TurnLimit → inlet_reads inlet.new ≡ limit }
@@ -169,6 +172,7 @@ fn play_read<R: Read, W: Write>(
     ensures budget { OnOk result (HasBudget limit inlet.new) }
     ensures front { OnErr result (PutsFrontLeft (R.remaining (inlet_reader inlet.old)) player.old wanted (W.contents (outlet_writer outlet.old)) (W.contents (outlet_writer outlet.new))) }
     ensures fault { IfErr result (IsPieceFault (R.remaining (inlet_reader inlet.old)) wanted) }
+    ensures stopped { IfErr result (λ f. StopsReading f → (outlet_writer outlet.new ≡ outlet_writer outlet.old) × (inlet_given inlet.new ≡ inlet_given inlet.old)) }
     ensures read_failed { inlet_failures inlet.new ≡ inlet_failures inlet.old + failed_reads result }
     ensures write_failed { outlet_failures outlet.new ≡ outlet_failures outlet.old + failed_writes result }
     ensures turns { IsErrOf result StreamFault.TurnLimit → inlet_reads inlet.new ≡ limit }

@@ -3,8 +3,9 @@
 ghost use Rattle.std.specs.Prelude.{◌≡◌, ◌+◌, ◌-◌, ◌<◌, ◌≤◌, ◌^◌, ◌++◌, [], IfErr, IfOk, IfSome, IsErrOf, OnErr, OnOk, length};
 ghost use Rattle.chunk_core.specs.Inlets.{inlet_failures, inlet_given, inlet_reader, inlet_reads};
 ghost use Rattle.chunk_core.specs.Outlets.{outlet_failures, outlet_writer};
-ghost use Rattle.stream_core.specs.Faults.{IsBeforeWriting, failed_reads, failed_writes};
+ghost use Rattle.stream_core.specs.Faults.{IsBeforeWriting, StopsReading, failed_reads, failed_writes};
 ghost use Rattle.stream_core.specs.Files.{TellsSound};
+ghost use Rattle.stream_core.specs.Pace.{KeepsUp};
 ghost use Rattle.stream_core.specs.Playing.{OnlyFromOutside, PlaysFile, PlaysGiven, PlaysRead, Stands, WritesFront};
 ghost use Rattle.stream_core.specs.Reads.{HasBudget};
 
@@ -42,6 +43,8 @@ pub fn play<R: Read, W: Write>(
     // Of a sound that isn't played nothing is written.
     ensures unwritten { IfErr result (λ f. IsBeforeWriting f → outlet_writer outlet.new ≡ outlet_writer outlet.old) }
     ensures front { OnErr result (WritesFront (R.remaining (inlet_reader inlet.old)) taps.now [] (W.contents (outlet_writer outlet.old)) (W.contents (outlet_writer outlet.new))) }
+    // Where the reading stops, what was written lags behind by at most 131,072 bytes of the sound.
+    ensures keeps_up { IfErr result (λ f. StopsReading f → KeepsUp (R.remaining (inlet_reader inlet.old)) taps.now [] (inlet_given inlet.new - inlet_given inlet.old) (W.contents (outlet_writer outlet.old)) (W.contents (outlet_writer outlet.new))) }
     ensures read_failed { inlet_failures inlet.new ≡ inlet_failures inlet.old + failed_reads result }
     ensures write_failed { outlet_failures outlet.new ≡ outlet_failures outlet.old + failed_writes result }
     ensures turn_limit { IsErrOf result StreamFault.TurnLimit → inlet_reads inlet.new ≡ inlet_reads inlet.old + 2 ^ 40 }
@@ -87,6 +90,7 @@ fn play_found<R: Read, W: Write>(
     ensures fault { IfErr result (λ f. IfSome (R.remaining (inlet_reader inlet.old)) (λ left. Stands taps.now (front.now ++ left) f)) }
     ensures unwritten { IfErr result (λ f. IsBeforeWriting f → outlet_writer outlet.new ≡ outlet_writer outlet.old) }
     ensures front { OnErr result (WritesFront (R.remaining (inlet_reader inlet.old)) taps.now front.now (W.contents (outlet_writer outlet.old)) (W.contents (outlet_writer outlet.new))) }
+    ensures keeps_up { IfErr result (λ f. StopsReading f → KeepsUp (R.remaining (inlet_reader inlet.old)) taps.now front.now (inlet_given inlet.new - given) (W.contents (outlet_writer outlet.old)) (W.contents (outlet_writer outlet.new))) }
     ensures read_failed { inlet_failures inlet.new ≡ inlet_failures inlet.old + failed_reads result }
     ensures write_failed { outlet_failures outlet.new ≡ outlet_failures outlet.old + failed_writes result }
     ensures turn_limit { IsErrOf result StreamFault.TurnLimit → inlet_reads inlet.new ≡ limit }

@@ -2,8 +2,8 @@
 
 ghost use Rattle.std.specs.Prelude.{◌≡◌, ◌+◌, ◌-◌, ◌<◌, ◌≤◌, ◌^◌, ◌++◌, ◌⊎◌, List, ℕ, IfErr, IfOk, IsErrOf, OnOk, length, take};
 ghost use Rattle.std.specs.Io.KnownBytes.{IsAtEnd};
-ghost use Rattle.chunk_core.specs.Inlets.{inlet_failures, inlet_reader, inlet_reads};
-ghost use Rattle.stream_core.specs.Faults.{IsReadingFault, failed_reads};
+ghost use Rattle.chunk_core.specs.Inlets.{inlet_failures, inlet_given, inlet_reader, inlet_reads};
+ghost use Rattle.stream_core.specs.Faults.{IsReadingFault, StopsReading, failed_reads};
 ghost use Rattle.stream_core.specs.Reads.{HasBudget, Reads, ReadsToEnd, ReadsUntil};
 
 use crate::fault::StreamFault;
@@ -40,6 +40,7 @@ pub(crate) fn pull_block<R: Read>(
     ensures read { IfOk result (λ n. Reads R.remaining inlet.old inlet.new (take n block.new.items)) }
     ensures end { IfOk result (λ n. n ≡ 0 → IsAtEnd (R.remaining (inlet_reader inlet.new))) }
     ensures budget { IfOk result (λ n. HasBudget limit inlet.new × (inlet_reads inlet.new ≡ inlet_reads inlet.old + 1)) }
+    ensures none { IfErr result (λ f. inlet_given inlet.new ≡ inlet_given inlet.old) }
     ensures failures { inlet_failures inlet.new ≡ inlet_failures inlet.old + failed_reads result }
     ensures turns { IsErrOf result StreamFault.TurnLimit → inlet_reads inlet.new ≡ limit }
     ensures fault { IfErr result IsReadingFault }
@@ -69,6 +70,7 @@ pub(crate) fn read_more<R: Read>(
     ensures read { IfOk result (λ n. (read : List ℕ) × Reads R.remaining inlet.old inlet.new read × (n ≡ length read) × (bytes.new.items ≡ bytes.old.items ++ read)) }
     ensures end { IfOk result (λ n. n ≡ 0 → IsAtEnd (R.remaining (inlet_reader inlet.new))) }
     ensures budget { IfOk result (λ n. HasBudget limit inlet.new × (inlet_reads inlet.new ≡ inlet_reads inlet.old + 1)) }
+    ensures none { IfErr result (λ f. StopsReading f → inlet_given inlet.new ≡ inlet_given inlet.old) }
     ensures failures { inlet_failures inlet.new ≡ inlet_failures inlet.old + failed_reads result }
     ensures turns { IsErrOf result StreamFault.TurnLimit → inlet_reads inlet.new ≡ limit }
     ensures fault { IfErr result IsReadingFault }

@@ -61,6 +61,7 @@ pub(crate) fn put_header<W: Write>(
     requires ready { outlet_failures outlet.old < 2 ^ 64 - 1 }
     ensures ok { OnOk result (OpensWave taps.now sound.now (W.contents (outlet_writer outlet.old)) (W.contents (outlet_writer outlet.new))) }
     ensures err { OnErr result (AppendsFront (W.contents (outlet_writer outlet.old)) (W.contents (outlet_writer outlet.new)) (header_of taps.now sound.now)) }
+    ensures least { OnOk result (8 ≤ taps.now.factor) }
     ensures fault { IfErr result (IsOpeningFault taps.now sound.now) }
     ensures unwritten { IfErr result (λ f. IsBeforeWriting f → outlet_writer outlet.new ≡ outlet_writer outlet.old) }
     ensures failures { outlet_failures outlet.new ≡ outlet_failures outlet.old + failed_writes result }

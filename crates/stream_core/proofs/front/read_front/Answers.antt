@@ -1,8 +1,18 @@
 use Rattle.std.proofs.Common.{◌∙◌, arith, subst, sym}
+use Rattle.std.proofs.lemmas.Result.{err_from_is_err_and}
+use Rattle.chunk_core.specs.Inlets.{inlet_given}
 use Rattle.stream_core.specs.Files.{IsRefused}
+use Rattle.stream_core.specs.Pace.{IsBeforeSound}
 use Rattle.stream_core.specs.Reads.{Reads}
+use Rattle.stream_core.proofs.PaceLaws.{gives_none}
 use Rattle.stream_core.proofs.ReadLaws.{after, at_end, reads_on}
 use Rattle.stream_core.proofs.front.read_front.Goals as goal
+
+pub returns-in_err-count-clause-stopped : goal.returns-in_err-count-clause-stopped
+returns-in_err-count-clause-stopped g c =
+    let so_far = c.loop-count.invariant in
+    let e = err_from_is_err_and c.from_residual.result c.from_residual.ensures.1 in
+    rw (e.1, e.2) (λ stops. gives_none g.R.Read.remaining c.args.inlet.now c.loop-count.inlet (inlet_given c.read_more.new.inlet) c.loop-count.front.items so_far.0 so_far.5 (c.in_err-count.ensures.none stops))
 
 pub returns-then-count-eq0-clause-fault : goal.returns-then-count-eq0-clause-fault
 returns-then-count-eq0-clause-fault g c =
@@ -20,10 +30,12 @@ pub loop-count-preserved : goal.loop-count-preserved
 loop-count-preserved g c =
     let so_far = c.loop-count.invariant in
     let read = c.in_ok-count.ensures.read in
-    let more = rw c.in-More.is at c.in_ok-sound.ensures.more in (
+    let more = rw c.in-More.is at c.in_ok-sound.ensures.more in
+    let before = rw c.in-More.is at c.in_ok-sound.ensures.before in (
       subst (Reads g.R.Read.remaining c.args.inlet.now c.read_more.new.inlet) (sym read.3) (reads_on g.R.Read.remaining c.args.inlet.now c.loop-count.inlet c.read_more.new.inlet c.loop-count.front.items read.0 so_far.0 read.1),
       subst IsRefused c.deref.ensures.value more,
       c.in_ok-count.ensures.budget.0,
       c.read_more.ensures.size,
       omega (arith, so_far.4, c.in_ok-count.ensures.failures),
+      subst IsBeforeSound c.deref.ensures.value before,
     )

@@ -1,4 +1,5 @@
 use Rattle.stream_core.proofs.HeadLaws.{dsdiff_found, dsdiff_more, dsf_found, dsf_more, dsf_refused, not_refused}
+use Rattle.stream_core.proofs.ToldLaws.{dsf_wanted, form_wanted}
 use Rattle.stream_core.proofs.front.told_by.Goals as goal
 
 pub returns-in-Refused-clause-found : goal.returns-in-Refused-clause-found
@@ -17,6 +18,11 @@ returns-in-Refused-clause-more c =
     let no_form = rw c.in-Refused.is at c.in_ok-told.ensures.refused in
     dsf_more c.args.front.now no_form c.sound_at-in-Refused.result c.sound_at-in-Refused.ensures.exact c.sound_at-in-Refused.ensures.more
 
+pub returns-in-Refused-clause-before : goal.returns-in-Refused-clause-before
+returns-in-Refused-clause-before c =
+    let no_form = rw c.in-Refused.is at c.in_ok-told.ensures.refused in
+    dsf_wanted c.args.front.now no_form c.sound_at-in-Refused.result c.sound_at-in-Refused.ensures.more
+
 pub returns-in_default : goal.returns-in_default
 returns-in_default c =
     let told = c.in_ok-told in
@@ -24,4 +30,5 @@ returns-in_default c =
       found = dsdiff_found c.args.front.now told.told told.ensures.exact told.ensures.found told.ensures.limits told.ensures.within;
       refused = not_refused told.told _ c.in_default.not-Refused;
       more = dsdiff_more c.args.front.now told.told told.ensures.exact told.ensures.more;
+      before = form_wanted c.args.front.now told.told told.ensures.exact told.ensures.more;
     }

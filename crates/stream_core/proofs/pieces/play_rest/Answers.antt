@@ -1,7 +1,8 @@
-use Rattle.std.proofs.Common.{◌≡◌, ◌+◌, ◌-◌, ◌∙◌, arith, subst, refl}
+use Rattle.std.proofs.Common.{◌≡◌, ◌+◌, ◌-◌, ◌∙◌, ap, arith, subst, refl}
 use Rattle.std.proofs.lemmas.Result.{err_from_is_err_and}
 use Rattle.chunk_core.specs.Outlets.{outlet_writer}
 use Rattle.stream_core.specs.Pieces.{PlaysPart}
+use Rattle.stream_core.proofs.PaceLaws.{part_given}
 use Rattle.stream_core.proofs.PieceLaws.{any_err}
 use Rattle.stream_core.proofs.RestLaws.{part_fault, part_front, part_more, part_none}
 use Rattle.stream_core.proofs.pieces.play_rest.Goals as goal
@@ -33,6 +34,12 @@ returns-in_err-left-clause-fault g c =
     let so_far = c.loop-left.invariant in
     let p = err_from_is_err_and c.from_residual.result c.from_residual.ensures.1 in
     rw (p.1, p.2) (part_fault g.R.Read.remaining _ _ _ _ _ _ _ _ _ _ so_far.0 (omega (arith, so_far.1)) so_far.3 so_far.4 c.loop-left.left c.in_err-left.field-0.0 (omega (arith, so_far.1)) c.in_err-left.ensures.fault)
+
+pub returns-in_err-left-clause-stopped : goal.returns-in_err-left-clause-stopped
+returns-in_err-left-clause-stopped g c =
+    let so_far = c.loop-left.invariant in
+    let p = err_from_is_err_and c.from_residual.result c.from_residual.ensures.1 in
+    rw (p.1, p.2) (λ stops. (let kept = c.in_err-left.ensures.stopped stops in part_given g.R.Read.remaining _ _ _ _ _ _ _ _ _ _ _ _ so_far.0 (omega (arith, so_far.1)) (ap (λ w. g.W.Write.contents w) kept.0) kept.1))
 
 pub loop-left-preserved : goal.loop-left-preserved
 loop-left-preserved g c =

@@ -1,10 +1,12 @@
 use Rattle.std.proofs.Common.{◌≡◌, ℕ, List, ◌++◌, ◌-◌, ◌∙◌, drop, take, length, length-take, ap, arith, sym, subst}
 use Rattle.std.proofs.lemmas.List.{nil_from_length}
 use Rattle.std.proofs.lemmas.Result.{err_from_is_err_and}
-use Rattle.chunk_core.specs.Inlets.{inlet_reader}
+use Rattle.chunk_core.specs.Inlets.{inlet_given, inlet_reader}
 use Rattle.chunk_core.specs.Outlets.{outlet_writer}
 use Rattle.dsd_bits.specs.declared.sound.Sound.{Sound}
+use Rattle.stream_core.specs.Pace.{PlaysGivenSound}
 use Rattle.stream_core.specs.Pieces.{IsPieceFault, IsSoundFault, PlaysFront, PlaysPart, PlaysSound, PutsDue, PutsFrontLeft, PutsFrontOf}
+use Rattle.stream_core.proofs.PaceLaws.{sound_so_far}
 use Rattle.stream_core.proofs.PieceLaws.{any_err, on_err, on_ok}
 use Rattle.stream_core.proofs.SoundLaws.{ahead_front, end_front, front_of_none, rest_fault, rest_front, said, sound_played}
 use Rattle.stream_core.proofs.pieces.play_sound.Given.{Over}
@@ -55,6 +57,24 @@ returns-in_err-play_rest-clause-fault g c =
     let stands = rest_fault p c.in_ok-player.ensures.fed ahead left (g.W.Write.contents (outlet_writer c.args.outlet.now)) f (subst (λ n. IsPieceFault left n f) wanted c.in_err-play_rest.ensures.fault) in
     let e = err_from_is_err_and c.from_residual-in_err-play_rest.result c.from_residual-in_err-play_rest.ensures.1 in
     rw (e.1, e.2) (subst (λ s. IsSoundFault left ahead s f) made.1 stands)
+
+pub returns-in_err-play_rest-clause-stopped : goal.returns-in_err-play_rest-clause-stopped
+returns-in_err-play_rest-clause-stopped g c =
+    let p = c.in_ok-player.player in
+    let q = c.play_bytes.new.player in
+    let made = c.in_ok-player.ensures.made in
+    let same = c.in_ok-first.ensures.same in
+    let ahead = c.args.ahead.now in
+    let left = g.R.Read.remaining (inlet_reader c.args.inlet.now) in
+    let a = g.W.Write.contents (outlet_writer c.args.outlet.now) in
+    let b = g.W.Write.contents (outlet_writer c.play_bytes.new.outlet) in
+    let e = g.W.Write.contents (outlet_writer c.play_rest.new.outlet) in
+    let number : c.in_ok-first.first ≡ length (take p.sound.size ahead) = c.in_ok-first.ensures.number ∙ ap (λ (s : Sound). length (take s.size ahead)) (sym made.1) in
+    let wanted : c.args.sound.now.size - c.in_ok-first.first ≡ p.sound.size - length (take p.sound.size ahead) = omega (arith, number, ap (λ (s : Sound). s.size) made.1) in
+    let puts = subst (λ (s : Sound). PutsDue p q (take s.size ahead) a b) (sym made.1) c.in_ok-first.ensures.ok in
+    let x = err_from_is_err_and c.from_residual-in_err-play_rest.result c.from_residual-in_err-play_rest.ensures.1 in
+    rw (x.1, x.2) (λ stops. said (λ d s. PlaysGivenSound left (inlet_given c.args.inlet.now) (inlet_given c.play_rest.new.inlet) d s ahead a e) made.0 made.1
+    (sound_so_far p q c.in_ok-player.ensures.fed ahead left a b e _ _ _ puts same.0 same.1 wanted (c.in_err-play_rest.ensures.stopped stops)))
 
 -- what was read behind the bytes before, and played
 rest_is : (g : Over) (c : After-put_rest g) → PlaysPart g.R.Read.remaining c.args.inlet.now c.play_rest.new.inlet c.play_bytes.new.player c.play_rest.new.player (c.in_ok-player.player.sound.size - c.in_ok-first.first) (c.in_ok-player.player.sound.size - c.in_ok-first.first)

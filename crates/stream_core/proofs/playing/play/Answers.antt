@@ -1,6 +1,9 @@
+use Rattle.std.proofs.Common.{◌-◌, subst}
 use Rattle.std.proofs.lemmas.Result.{IfErr-weaker, IfOk-weaker, err_from_is_err_and}
-use Rattle.chunk_core.specs.Inlets.{inlet_reader}
+use Rattle.chunk_core.specs.Inlets.{inlet_given, inlet_reader}
 use Rattle.chunk_core.specs.Outlets.{outlet_writer}
+use Rattle.stream_core.specs.Pace.{KeepsUp}
+use Rattle.stream_core.proofs.PaceLaws.{keeps_file, keeps_front}
 use Rattle.stream_core.proofs.PieceLaws.{any_err}
 use Rattle.stream_core.proofs.PlayLaws.{found_outside, front_outside, none_front, plays_file, plays_given}
 use Rattle.stream_core.proofs.playing.play.Goals as goal
@@ -25,3 +28,18 @@ returns-in_err-sound-clause-cause g c =
 pub returns-clause-cause : goal.returns-clause-cause
 returns-clause-cause g c =
     IfErr-weaker c.play_found.result _ _ (λ f. found_outside c.sound_is_played.ensures _ _ c.args.taps.now _ _ f c.in_ok-sound.ensures.read.consumed c.as_slice.ensures.value) c.play_found.ensures.fault
+
+pub returns-in_err-sound-clause-keeps_up : goal.returns-in_err-sound-clause-keeps_up
+returns-in_err-sound-clause-keeps_up g c =
+    let a = g.W.Write.contents (outlet_writer c.args.outlet.now) in
+    let e = err_from_is_err_and c.from_residual-in_err-sound.result c.from_residual-in_err-sound.ensures.1 in
+    rw (e.1, e.2) (λ stops. keeps_front (g.R.Read.remaining (inlet_reader c.args.inlet.now)) a a c.args.taps.now _ _ (c.in_err-sound.ensures.stopped stops))
+
+pub returns-clause-keeps_up : goal.returns-clause-keeps_up
+returns-clause-keeps_up g c =
+    let new = g.R.Read.remaining (inlet_reader c.read_front.new.inlet) in
+    let a = g.W.Write.contents (outlet_writer c.args.outlet.now) in
+    let b = g.W.Write.contents (outlet_writer c.play_found.new.outlet) in
+    let front = c.as_slice.result.now in
+    IfErr-weaker c.play_found.result _ _ (λ f keeps stops. keeps_file (g.R.Read.remaining (inlet_reader c.args.inlet.now)) new a b c.args.taps.now front _ _ c.in_ok-sound.ensures.read.consumed c.as_slice.ensures.value
+    (subst (λ n. KeepsUp new c.args.taps.now front (inlet_given c.play_found.new.inlet - n) a b) c.given-given.ensures (keeps stops))) c.play_found.ensures.keeps_up

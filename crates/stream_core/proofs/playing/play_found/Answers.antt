@@ -1,11 +1,13 @@
 use Rattle.std.proofs.Common.{◌∙◌, ◌+◌, take, drop, sym, subst, ap, length}
 use Rattle.std.proofs.lemmas.Result.{err_from_is_err_and}
-use Rattle.chunk_core.specs.Inlets.{inlet_reader}
+use Rattle.chunk_core.specs.Inlets.{inlet_given, inlet_reader}
 use Rattle.chunk_core.specs.Outlets.{outlet_writer}
 use Rattle.stream_core.specs.Closing.{Closes, EndsAt}
+use Rattle.stream_core.specs.Pace.{PlaysGivenSound}
 use Rattle.stream_core.specs.Pieces.{IsSoundFault, PlaysFront, PlaysSound}
 use Rattle.stream_core.specs.Playing.{WritesFront}
 use Rattle.stream_core.specs.Wave.{pad_of}
+use Rattle.stream_core.proofs.PaceLaws.{keeps_all, keeps_part}
 use Rattle.stream_core.proofs.PieceLaws.{any_err, front_nil}
 use Rattle.stream_core.proofs.PlayLaws.{ends_at, given_is, header_part, not_closed, pad_part, plays_read, sound_part, sound_stands}
 use Rattle.stream_core.proofs.playing.play_found.Given.{Over}
@@ -32,6 +34,16 @@ returns-in_err-play_sound-clause-front g c =
     any_err c.from_residual-in_err-play_sound.result (sound_part c.sound_is_played.ensures c.args.taps.now c.args.front.now c.args.sound.now c.requires.tells left a b e c.in_ok-put_header.ensures.ok.written
     (subst (λ xs. PlaysFront left c.args.taps.now c.args.sound.now xs b e) c.split_at.ensures.back c.in_err-play_sound.ensures.front))
 
+pub returns-in_err-play_sound-clause-keeps_up : goal.returns-in_err-play_sound-clause-keeps_up
+returns-in_err-play_sound-clause-keeps_up g c =
+    let left = g.R.Read.remaining (inlet_reader c.args.inlet.now) in
+    let a = g.W.Write.contents (outlet_writer c.args.outlet.now) in
+    let b = g.W.Write.contents (outlet_writer c.put_header.new.outlet) in
+    let e = g.W.Write.contents (outlet_writer c.play_sound.new.outlet) in
+    let x = err_from_is_err_and c.from_residual-in_err-play_sound.result c.from_residual-in_err-play_sound.ensures.1 in
+    rw (x.1, x.2) (λ stops. keeps_part c.sound_is_played.ensures c.args.taps.now c.args.front.now c.args.sound.now c.requires.tells c.in_ok-put_header.ensures.least left a b e c.args.given _ _ c.requires.given c.in_ok-put_header.ensures.ok.written
+    (subst (λ xs. PlaysGivenSound left (inlet_given c.args.inlet.now) (inlet_given c.play_sound.new.inlet) c.args.taps.now c.args.sound.now xs b e) c.split_at.ensures.back (c.in_err-play_sound.ensures.stopped stops)))
+
 pub closes-requires-clause-at_sound : goal.closes-requires-clause-at_sound
 closes-requires-clause-at_sound g c = subst (λ xs. EndsAt xs c.args.sound.now) (sym c.split_at.ensures.front) (ends_at c.args.front.now c.args.sound.now c.requires.tells)
 
@@ -52,6 +64,12 @@ closes-requires-clause-given g c =
 
 pub returns-in_err-closes-clause-front : goal.returns-in_err-closes-clause-front
 returns-in_err-closes-clause-front g c = any_err c.from_residual-in_err-closes.result (whole_is g (goal.at.returns-in_err-closes-clause-front g c).In_ok-play_sound)
+
+pub returns-in_err-closes-clause-keeps_up : goal.returns-in_err-closes-clause-keeps_up
+returns-in_err-closes-clause-keeps_up g c =
+    let k = (goal.at.returns-in_err-closes-clause-keeps_up g c).In_ok-play_sound in
+    let x = err_from_is_err_and c.from_residual-in_err-closes.result c.from_residual-in_err-closes.ensures.1 in
+    rw (x.1, x.2) (λ stops. keeps_all c.sound_is_played.ensures c.args.taps.now c.args.front.now c.args.sound.now c.requires.tells c.in_ok-put_header.ensures.least g.R.Read.remaining _ _ _ _ _ _ c.in_ok-put_header.ensures.ok (played_is g k) _)
 
 -- what stands behind the sound, seen from the head
 closes_is : (g : Over) (c : In_ok-closes g) → Closes g.R.Read.remaining c.play_sound.new.inlet c.closes.new.inlet (take c.args.sound.now.start c.args.front.now) c.args.sound.now c.play_sound.new.back.items c.in_ok-closes.field-0

@@ -1,11 +1,14 @@
 -- What is played from a reader by a project's decimator is what project and file play.
-use Rattle.std.proofs.Common.{◌≡◌, ◌⊎◌, ℕ, inl, inr, List, [], Option, None, Some, IfSome, Ok, Err, subst}
+use Rattle.std.proofs.Common.{◌≡◌, ◌⊎◌, ◌-◌, ℕ, inl, inr, List, [], Option, None, Some, IfSome, Ok, Err, subst}
 use Rattle.chunk_core.specs.declared.inlet.Inlet.{Inlet}
 use Rattle.dsd_bits.specs.declared.blocks.BitOrder.TheVariants.{LeastFirst, MostFirst}
 use Rattle.dsd_bits.specs.Contents.{Content}
 use Rattle.fir_core.specs.Decimator.{Decimator}
 use Rattle.stream_core.specs.Faults.{IsFromOutside as IsOutside}
+use Rattle.stream_core.specs.Faults as reading
 use Rattle.stream_core.specs.Files.{HoldsRecording}
+use Rattle.stream_core.specs.Pace as pace
+use Rattle.stream_core.specs.Pace.{WritesFrames, sound_given}
 use Rattle.stream_core.specs.Playing as streams
 use Rattle.stream_core.specs.Playing.{PlaysBy}
 use Rattle.stream_core.specs.declared.fault.StreamFault.{StreamFault}
@@ -21,7 +24,7 @@ use Rattle.archive_core.specs.Playing.{Plays}
 use Rattle.archive_core.specs.Projects.{SaysDecimator, decimator_of}
 use Rattle.archive_core.proofs.ReadingLaws.{says_decimator}
 use Rattle.stream_core.proofs.PieceLaws.{front_nil}
-use Rattle.archive_core.specs.Streaming.{IsFromOutside, OnlyFromOutside, PlaysFile, PlaysGiven, StreamStands, WritesFront}
+use Rattle.archive_core.specs.Streaming.{IsFromOutside, KeepsUp, OnlyFromOutside, PlaysFile, PlaysGiven, StopsReading, StreamStands, WritesFront}
 
 -- ---- the form of a file
 form_held : (file : List ℕ) (r : Content) → HoldsRecording file r → (form : Form) × HoldsAs file form r
@@ -100,6 +103,24 @@ module _ (project : List ℕ) (d : Decimator) (is_said : decimator_of project �
   pub writes_front : (left a b : Option (List ℕ)) → streams.WritesFront left d [] a b → WritesFront left project a b
   writes_front None a b h = tt
   writes_front (Some file) a b h = λ bytes is. h bytes (played file bytes is)
+
+  -- the one that the file plays by
+  same_decimator : (file bytes : List ℕ) (is : Plays project file bytes) → d ≡ is.decimator
+  same_decimator file bytes is = let said = says_decimator project is.decimator is.project_says in cc
+
+  pub keeps_up : (left a b : Option (List ℕ)) (n : ℕ) → pace.KeepsUp left d [] n a b → KeepsUp left project n a b
+  keeps_up None a b n h = tt
+  keeps_up (Some file) a b n h = λ bytes s is told much. subst (λ e. WritesFrames e s (sound_given s n - 131072) bytes a b) (same_decimator file bytes is) (h bytes s (played file bytes is) told much)
+
+-- ---- the reading that stops
+pub stops : (f : StreamFault) → StopsReading (fault_of_stream f) → reading.StopsReading f
+stops faults.FileRefused h = absurd h
+stops faults.RateNotDivided h = absurd h
+stops faults.TooLarge h = absurd h
+stops faults.ReadFailed h = tt
+stops faults.WriteFailed h = absurd h
+stops faults.TurnLimit h = tt
+stops faults.Memory h = absurd h
 
 -- ---- a project that is refused
 pub project_outside : (left : Option (List ℕ)) (project : List ℕ) (e : Fault) → (e ≡ fault.Memory) ⊎ (decimator_of project ≡ Err e) → OnlyFromOutside left project e

@@ -1,10 +1,13 @@
 -- What is played from a reader to a writer, and which faults stand.
-use Rattle.std.specs.Prelude.{◌≡◌, ℕ, List, length, Option, IfSome, Result, Err, ⊤}
+use Rattle.std.specs.Prelude.{◌≡◌, ℕ, ◌-◌, ◌<◌, List, length, Option, IfSome, Result, Err, ⊤}
 use Rattle.std.specs.Io.KnownBytes.{Appends}
 use Rattle.chunk_core.specs.Outlets.{AppendsFront}
 use Rattle.chunk_core.specs.declared.inlet.Inlet.{Inlet}
+use Rattle.dsd_bits.specs.declared.sound.Sound.{Sound}
 use Rattle.dsd_bits.specs.Contents.{Content}
 use Rattle.fir_core.specs.Decimator.{Decimator}
+use Rattle.stream_core.specs.Files.{TellsSound}
+use Rattle.stream_core.specs.Pace.{WritesFrames, sound_given}
 use Rattle.stream_core.specs.Playing as streams
 use Rattle.stream_core.specs.Reads.{Reads}
 use Rattle.form_core.specs.declared.form.Form.{Form}
@@ -36,6 +39,17 @@ IsFromOutside _ = ⊥
 
 abbrev pub OnlyFromOutside : Option (List ℕ) → List ℕ → Fault → Type 0
 OnlyFromOutside left project fault = IfSome left (λ file. (bytes : List ℕ) → Plays project file bytes → IsFromOutside fault)
+
+-- a fault that ends the reading: a read failed, or there were too many
+abbrev pub StopsReading : Fault → Type 0
+StopsReading ReadFailed = ⊤
+StopsReading TurnLimit = ⊤
+StopsReading _ = ⊥
+
+-- where more than 131,072 bytes of the sound of a file that is played were given, what was written lags behind by no more of them: it holds the header, and each frame whose place stands in those before
+abbrev pub KeepsUp : Option (List ℕ) → List ℕ → ℕ → Option (List ℕ) → Option (List ℕ) → Type 0
+KeepsUp left project given held_old held_new = IfSome left (λ file. (bytes : List ℕ) (s : Sound) (plays : Plays project file bytes) → TellsSound file s → 131072 < sound_given s given
+    → WritesFrames plays.decimator s (sound_given s given - 131072) bytes held_old held_new)
 
 -- the file is neither a DSDIFF nor a DSF file that holds a recording
 abbrev pub IsNoRecording : List ℕ → Type 0

@@ -5,7 +5,7 @@ ghost use Rattle.chunk_core.specs.Inlets.{inlet_failures, inlet_given, inlet_rea
 ghost use Rattle.chunk_core.specs.Outlets.{outlet_failures, outlet_writer};
 ghost use Rattle.archive_core.specs.Playing.{Plays, played_of};
 ghost use Rattle.form_core.specs.Steps.{Gives};
-ghost use Rattle.archive_core.specs.Streaming.{IsBeforeWriting, OnlyFromOutside, PlaysFile, PlaysGiven, SaysNone, StreamStands, WritesFront, failed_reads, failed_writes};
+ghost use Rattle.archive_core.specs.Streaming.{IsBeforeWriting, KeepsUp, OnlyFromOutside, PlaysFile, PlaysGiven, SaysNone, StopsReading, StreamStands, WritesFront, failed_reads, failed_writes};
 
 use crate::fault::Fault;
 use crate::projects::decimator_of;
@@ -64,6 +64,8 @@ pub fn play_stream<R: Read, W: Write>(
     // What is played is refused from outside alone, and a front of it was written.
     ensures cause { IfErr result (OnlyFromOutside (R.remaining (inlet_reader inlet.old)) project.now) }
     ensures front { OnErr result (WritesFront (R.remaining (inlet_reader inlet.old)) project.now (W.contents (outlet_writer outlet.old)) (W.contents (outlet_writer outlet.new))) }
+    // Where the reading stops, what was written lags behind by at most 131,072 bytes of the sound.
+    ensures keeps_up { IfErr result (λ fault. StopsReading fault → KeepsUp (R.remaining (inlet_reader inlet.old)) project.now (inlet_given inlet.new - inlet_given inlet.old) (W.contents (outlet_writer outlet.old)) (W.contents (outlet_writer outlet.new))) }
     // A fault stands that is named.
     ensures refused { IfErr result (StreamStands (R.remaining (inlet_reader inlet.old)) project.now) }
     ensures read_failed { inlet_failures inlet.new ≡ inlet_failures inlet.old + failed_reads result }

@@ -4,15 +4,8 @@ use Rattle.chunk_core.specs.Inlets.{inlet_given, inlet_reader}
 use Rattle.chunk_core.specs.Outlets.{outlet_writer}
 use Rattle.stream_core.specs.Pace.{KeepsUp}
 use Rattle.stream_core.proofs.PaceLaws.{keeps_file, keeps_front}
-use Rattle.stream_core.proofs.PieceLaws.{any_err}
-use Rattle.stream_core.proofs.PlayLaws.{found_outside, front_outside, none_front, plays_file, plays_given}
+use Rattle.stream_core.proofs.PlayLaws.{found_outside, front_outside, plays_file, plays_given}
 use Rattle.stream_core.proofs.playing.play.Goals as goal
-
-pub returns-in_err-block-clause-front : goal.returns-in_err-block-clause-front
-returns-in_err-block-clause-front g c = any_err c.from_residual.result (none_front (g.R.Read.remaining (inlet_reader c.args.inlet.now)) c.args.taps.now (g.W.Write.contents (outlet_writer c.args.outlet.now)))
-
-pub returns-in_err-sound-clause-front : goal.returns-in_err-sound-clause-front
-returns-in_err-sound-clause-front g c = any_err c.from_residual-in_err-sound.result (none_front (g.R.Read.remaining (inlet_reader c.args.inlet.now)) c.args.taps.now (g.W.Write.contents (outlet_writer c.args.outlet.now)))
 
 pub returns-clause-ok : goal.returns-clause-ok
 returns-clause-ok g c = IfOk-weaker c.play_found.result _ _ (plays_file g.R.Read.remaining _ _ _ c.args.taps.now _ _ c.as_slice.ensures.value _ _ c.in_ok-sound.ensures.read) c.play_found.ensures.ok

@@ -123,3 +123,19 @@ fn writes_before_all_is_read(rt: HostRuntime) -> Result<(), Fail> {
     assert!(rt; played.bytes.len() >= 131_116);
     Ok(())
 }
+
+// Ten groups of six blocks are 245,760 bytes behind a head of 92. A reader of 40,000 bytes at a time fails behind
+// 200,000: 199,908 of them are of the sound, and the first 68,836 hold two whole groups, 65,536 bits of each channel.
+// They make 8192 frames of six samples of two bytes.
+#[test]
+fn writes_blocks_before_all_is_read(rt: HostRuntime) -> Result<(), Fail> {
+    let alloc = rt.alloc();
+    let file = blocks(alloc, (6, 1, 327_680), 245_760)?;
+    let wave = play(alloc, DECIMATE.as_bytes(), &file)?;
+    assert!(rt; wave.len() == 491_564);
+    let reader = drip(&file, 40_000, 6);
+    let played = play_from(alloc, DECIMATE.as_bytes(), reader, sip(alloc, NEVER, NEVER));
+    assert!(rt; played.stops_reading(&wave));
+    assert!(rt; played.bytes.len() >= 98_348);
+    Ok(())
+}

@@ -47,6 +47,10 @@ pub fn play(alloc: Global, project: &[u8], file: &[u8]) -> Result<Vec<u8>, Fault
 /// a DSF file that holds a recording; `RateNotDivided`, `TooLarge`, before the first write; `ReadFailed`,
 /// `WriteFailed`; `TurnLimit` after `2^40` reads; `Memory`. Where several stand, which of them is named is open, but
 /// for a file that [`play`] plays it is none of the file.
+///
+/// Of a file that [`play`] plays a front of its WAVE file was then written. After `ReadFailed` and `TurnLimit`, where
+/// more than 131,072 bytes of the sound were given, it holds the header and each frame whose place stands, for every
+/// channel, in all but the last 131,072 of them.
 pub fn play_stream<R: Read, W: Write>(
     alloc: Global,
     project: &[u8],

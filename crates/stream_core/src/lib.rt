@@ -13,11 +13,13 @@
 //!   s` that the front of a file tells of this sound (`specs/Files.antt`).
 //! - `PlaysBy d file bytes` says that these bytes are the WAVE text of the file's recording by this decimator,
 //!   `Stands d file fault` that a fault stands (`specs/Playing.antt`).
+//! - `KeepsUp left d front given old new` says that what was written lags behind what was given by at most 131,072
+//!   bytes of the sound (`specs/Pace.antt`).
 //! - `Reads left old new bytes` says that an inlet gave these bytes and counted them (`specs/Reads.antt`).
 //!
 //! What it promises: Ok means that exactly the bytes that the reader's file plays were written, however its reads are
 //! cut; a fault stands that is named; and a file that is played is refused only for memory, a device or the number of
-//! reads, after a front of its WAVE file.
+//! reads, after a front of its WAVE file, which keeps up with the reading where that stops.
 //!
 //! ```text
 //! let mut inlet = Inlet::new(file);

@@ -1,0 +1,275 @@
+#!/usr/bin/python3
+"""Plays a test tone by the built program and measures the WAVE: tone.py [--program PROGRAM] [--exact] [FILTER ..].
+
+The tone is a sine of 1 kHz at -6 dB, made by a delta-sigma modulator (modulate.c, compiled with CC or cc) at the stored
+rate of each filter, 6 seconds of one channel as DSDIFF. Where ffmpeg is installed, it decodes the same tone to the same
+rate and width, by its own resampler and by soxr. Without names it takes the filters for 24 bits at 0 dB of DSD64 and
+DSD128. With --exact ffmpeg is left out, and every sample is compared with a convolution of scipy; the status is 1 where
+one differs. The program is bin/dsdarc, or what DSDARC or --program names."""
+import argparse
+import os
+import shutil
+import struct
+import subprocess
+import sys
+import tempfile
+import tomllib
+from dataclasses import dataclass
+from pathlib import Path
+
+os.environ.setdefault("OMP_NUM_THREADS", "1")
+
+import numpy as np
+from numpy.polynomial import legendre
+from scipy import optimize, signal
+
+FOLDER = Path(__file__).resolve().parent
+HERTZ = 1000
+DECIBELS = -6.0
+SECONDS = 6
+SKIPPED = 1  # seconds at both ends of a WAVE file that are not measured
+SKIPPED_OF_BITS = 2  # of the stored bits
+LOW, HIGH = 20, 20_000  # the audio band, in Hz
+NEAR = 25  # bins (of 1/4 Hz in a WAVE file) to both sides that belong to a line of the window's spectrum
+SHAPE = 38.0  # of the Kaiser window: what is away from a line is some 300 dB down
+
+
+@dataclass(frozen=True)
+class Modulator:
+    """A noise transfer: its order, its greatest gain, and what is added before the quantizer (triangular, at most)."""
+
+    order: int
+    gain: float
+    dither: float
+
+
+@dataclass(frozen=True)
+class Figures:
+    """What is seen of the tone: dB, of noise and peak to full scale (noise to that of a sine), and microseconds."""
+
+    level_error: float
+    distortion_and_noise: float
+    noise: float
+    peak: float
+    late: float
+
+
+def modulator_for(rate: int) -> Modulator:
+    """Order 7 for DSD64, so that the tone is cleaner than what is measured; else order 5 is enough."""
+    return Modulator(7, 1.4, 0.1) if rate < 4_000_000 else Modulator(5, 1.5, 0.1)
+
+
+def noise_transfer(modulator: Modulator, rate: int) -> tuple[np.ndarray, np.ndarray]:
+    """Numerator and denominator: Butterworth's poles, and the zeros of a Legendre polynomial over the audio band."""
+    order = modulator.order
+    zeros = np.exp(2j * np.pi * HIGH / rate * legendre.legroots([0] * order + [1]))
+
+    def excess(turn: float) -> float:
+        return 1 / signal.butter(order, turn, "high")[0][0] - modulator.gain
+
+    turn = optimize.brentq(excess, 1e-3, 0.9)
+    poles = signal.butter(order, turn, "high", output="zpk")[1]
+    return np.real(np.poly(zeros)), np.real(np.poly(poles))
+
+
+def compiled(folder: Path) -> Path:
+    program = folder / "modulate"
+    compiler = os.environ.get("CC", "cc")
+    subprocess.run([compiler, "-O2", "-o", program, FOLDER / "modulate.c", "-lm"], check=True)
+    return program
+
+
+def chunk(name: bytes, data: bytes) -> bytes:
+    return name + struct.pack(">Q", len(data)) + data + b"\0" * (len(data) % 2)
+
+
+def write_dsdiff(path: Path, rate: int, sound: bytes) -> None:
+    prop = (
+        b"SND "
+        + chunk(b"FS  ", struct.pack(">I", rate))
+        + chunk(b"CHNL", struct.pack(">H", 1) + b"C000")
+        + chunk(b"CMPR", b"DSD \x0enot compressed")
+    )
+    body = chunk(b"FVER", bytes([1, 5, 0, 0])) + chunk(b"PROP", prop) + chunk(b"DSD ", sound)
+    path.write_bytes(b"FRM8" + struct.pack(">Q", 4 + len(body)) + b"DSD " + body)
+
+
+def make_tone(program: Path, path: Path, rate: int) -> None:
+    """Writes the tone, and says how far the modulator went."""
+    modulator = modulator_for(rate)
+    zeros, poles = noise_transfer(modulator, rate)
+    numbers = [*poles[1:], *zeros[1:]]
+    ends = [rate, HERTZ, 10 ** (DECIBELS / 20), modulator.dither, rate * SECONDS // 8]
+    words = [program, str(modulator.order), *(repr(float(it)) for it in numbers), *(str(it) for it in ends)]
+    done = subprocess.run(words, capture_output=True, check=True)
+    largest = float(done.stderr)
+    if not largest < 3:
+        raise RuntimeError(f"the modulator is not stable: {largest} before the quantizer")
+    write_dsdiff(path, rate, done.stdout)
+    print(f"tone at {rate} Hz: order {modulator.order}, at most {largest} before the quantizer", file=sys.stderr)
+
+
+def read_wave(path: Path) -> tuple[int, int, np.ndarray]:
+    """Rate, width and samples of a WAVE file of one channel, full scale being 1."""
+    data = path.read_bytes()
+    place, rate, width, sound = 12, 0, 0, b""
+    while place + 8 <= len(data):
+        name, size = data[place : place + 4], struct.unpack_from("<I", data, place + 4)[0]
+        if name == b"fmt ":
+            rate = struct.unpack_from("<I", data, place + 12)[0]
+            width = struct.unpack_from("<H", data, place + 22)[0]
+        elif name == b"data":
+            sound = data[place + 8 : place + 8 + size]
+        place += 8 + size + size % 2
+    if width == 16:
+        return rate, width, np.frombuffer(sound, "<i2") / 2.0**15
+    parts = np.frombuffer(sound, np.uint8).reshape(-1, 3).astype(np.int32)
+    whole = parts[:, 0] << 8 | parts[:, 1] << 16 | parts[:, 2] << 24
+    return rate, width, (whole >> 8) / 2.0**23
+
+
+def measure(samples: np.ndarray, rate: int, skipped: int, gain: float) -> Figures:
+    """The figures of the tone but for so many seconds at both ends; the gain is that at which it was played, in dB."""
+    first, number = skipped * rate, (SECONDS - 2 * skipped) * rate
+    part = samples[first : first + number]
+    window = signal.windows.kaiser(number, SHAPE, sym=False)
+    turns = np.exp(-2j * np.pi * HERTZ * np.arange(first, first + number) / rate)
+    tone = 2 * (part * window * turns).sum() / window.sum()
+    power = np.abs(np.fft.rfft(part * window)) ** 2 * 2 / ((window**2).sum() * number)
+    hertz = np.fft.rfftfreq(number, 1 / rate)
+    away = NEAR * rate / number
+    rest = (hertz >= LOW) & (hertz <= HIGH) & (np.abs(hertz - HERTZ) > away)
+    quiet = rest & (np.abs(hertz - np.rint(hertz / HERTZ) * HERTZ) > away)
+    level = np.abs(tone)
+    return Figures(
+        level_error=20 * np.log10(level) - DECIBELS - gain,
+        distortion_and_noise=10 * np.log10(power[rest].sum() / (level**2 / 2)),
+        noise=10 * np.log10(2 * power[quiet].sum()),
+        peak=20 * np.log10(np.abs(part).max()),
+        late=-np.angle(tone * 1j) / (2 * np.pi * HERTZ) * 1e6,
+    )
+
+
+def measure_wave(path: Path, gain: float) -> Figures:
+    rate, _, samples = read_wave(path)
+    return measure(samples, rate, SKIPPED, gain)
+
+
+def measure_tone(path: Path, rate: int) -> Figures:
+    """The figures of the stored bits themselves, of fewer seconds."""
+    return measure(stored_bits(path, rate), rate, SKIPPED_OF_BITS, 0.0)
+
+
+def stored_bits(path: Path, rate: int) -> np.ndarray:
+    """The tone's signal, -1 and 1."""
+    return np.unpackbits(np.frombuffer(path.read_bytes()[-rate * SECONDS // 8 :], np.uint8)) * 2.0 - 1.0
+
+
+def differing(table: dict, bits: np.ndarray, played: np.ndarray) -> int:
+    """How many samples aren't those of docs/PLAYING.md, by a convolution whose error is far below 1."""
+    sums = np.rint(signal.oaconvolve(bits, np.array(table["taps"], dtype=float))).astype(np.int64)
+    due = sums[np.arange(0, len(bits), table["factor"]) + table["delay"]]
+    most = 2 ** (table["width"] - 1)
+    right = np.clip((due + (1 << table["shift"] >> 1)) >> table["shift"], -most, most - 1)
+    return int((right != np.rint(played * most)).sum()) if len(right) == len(played) else max(len(right), len(played))
+
+
+def row(name: str, way: str, figures: Figures) -> str:
+    cells = [
+        name,
+        way,
+        f"{round(figures.level_error, 4) + 0.0:.4f} dB",
+        f"{figures.distortion_and_noise:.1f} dB",
+        f"{figures.noise:.1f} dB",
+        f"{figures.peak + 0.0:.2f} dB",
+        f"{round(figures.late, 2) + 0.0:.2f} µs",
+    ]
+    return "| " + " | ".join(cells) + " |"
+
+
+def play(program: str, project: Path, tone: Path, out: Path) -> None:
+    subprocess.run([program, "play", project, tone, out], check=True, stdout=subprocess.DEVNULL)
+
+
+def decode(tone: Path, out: Path, rate: int, width: int, options: str) -> None:
+    words = ["ffmpeg", "-v", "error", "-y", "-threads", "1", "-i", tone, "-af", f"aresample={rate}{options}"]
+    subprocess.run([*words, "-c:a", f"pcm_s{width}le", out], check=True)
+
+
+def table_of(project: Path) -> dict:
+    return tomllib.loads(project.read_text(encoding="utf-8"))["decimate"]
+
+
+def compare(program: str, project: Path, tone: Path, out: Path) -> list[str]:
+    """The rows of a filter: the program's, and those of ffmpeg."""
+    table = table_of(project)
+    gain = 20 * np.log10(abs(sum(table["taps"])) / 2.0 ** (table["width"] - 1 + table["shift"]))
+    play(program, project, tone, out)
+    name = f"`{project.stem}`"
+    rows = [row(name, "`dsdarc`", measure_wave(out, gain))]
+    if shutil.which("ffmpeg"):
+        rate, width, _ = read_wave(out)
+        for way, options in (("FFmpeg", ""), ("FFmpeg, soxr", ":resampler=soxr:precision=28")):
+            decode(tone, out, rate, width, options)
+            rows.append(row(name, way, measure_wave(out, 0.0)))
+    return rows
+
+
+def compare_exactly(program: str, project: Path, tone: Path, out: Path) -> int:
+    """How many samples differ, which it prints."""
+    play(program, project, tone, out)
+    _, _, samples = read_wave(out)
+    number = differing(table_of(project), stored_bits(tone, stored_rate(project)), samples)
+    print(f"{project.stem}: {len(samples)} samples, {number} differ", flush=True)
+    return number
+
+
+def stored_rate(project: Path) -> int:
+    """The rate of a filter's recordings: the new one, which its name says, times its factor."""
+    return int(project.stem.split("-to-")[1].split("-")[0]) * table_of(project)["factor"]
+
+
+def usual() -> list[Path]:
+    filters = [*FOLDER.glob("dsd64-to-*-24.toml"), *FOLDER.glob("dsd128-to-*-24.toml")]
+    return sorted(filters, key=lambda path: (stored_rate(path), int(path.stem.split("-")[2])))
+
+
+def tone_for(modulate: Path, rate: int) -> Path:
+    """The tone at a rate, made where it isn't there yet."""
+    tone = modulate.parent / f"{rate}.dff"
+    if not tone.exists():
+        make_tone(modulate, tone, rate)
+    return tone
+
+
+def print_figures(program: str, filters: list[Path], modulate: Path) -> None:
+    print("| filter | played by | level error | THD+N | noise | peak | late by |\n" + "|" + "---|" * 7)
+    told = set()
+    for project in filters:
+        rate = stored_rate(project)
+        tone = tone_for(modulate, rate)
+        if rate not in told:
+            print(row(f"{rate} Hz", "(the stored bits)", measure_tone(tone, rate)))
+            told.add(rate)
+        print("\n".join(compare(program, project, tone, modulate.parent / "out.wav")), flush=True)
+
+
+def main() -> int:
+    words = argparse.ArgumentParser(description=__doc__.split("\n")[0])
+    words.add_argument("filters", nargs="*", type=Path, help="projects of this folder")
+    words.add_argument("--program", default=os.environ.get("DSDARC", str(FOLDER.parent / "bin" / "dsdarc")))
+    words.add_argument("--exact", action="store_true", help="compare each sample with a convolution of scipy")
+    asked = words.parse_args()
+    filters = asked.filters or usual()
+    with tempfile.TemporaryDirectory() as name:
+        modulate = compiled(Path(name))
+        if not asked.exact:
+            print_figures(asked.program, filters, modulate)
+            return 0
+        out = Path(name) / "out.wav"
+        wrong = [compare_exactly(asked.program, it, tone_for(modulate, stored_rate(it)), out) for it in filters]
+        return 1 if any(wrong) else 0
+
+
+if __name__ == "__main__":
+    sys.exit(main())

@@ -130,7 +130,7 @@ def passband(project: Project, hertz: np.ndarray, magnitudes: np.ndarray) -> flo
     folds = (hertz > project.out / 2) & (decibels(magnitudes) > -target.down)
     half = project.out / 2
     beyond = min(hertz[ripples].min(initial=half), folded_to(project, hertz[folds]).min(initial=half))
-    return float(np.ceil(beyond / 100) - 1) * 100
+    return max(0.0, float(np.ceil(beyond / 100) - 1) * 100)
 
 
 def measured(project: Project) -> Measured:

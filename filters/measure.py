@@ -83,7 +83,7 @@ def read(path: Path) -> Project:
 
 
 def broken_limits(project: Project) -> list[str]:
-    """The limits of projects that the file breaks, and whether its sound would start late."""
+    """The limits of projects that the file breaks, and what else its name or this folder promises of its numbers."""
     limits = {
         "taps": 1 <= len(project.taps) <= 4096 and int(np.abs(project.taps).max()) < 2**31,
         "sum of taps": int(np.abs(project.taps).sum()) <= 2**30,
@@ -92,6 +92,7 @@ def broken_limits(project: Project) -> list[str]:
         "shift": 0 <= project.shift <= 30,
         "width": project.width in (16, 24),
         "symmetry": bool(np.array_equal(project.taps, project.taps[::-1])),
+        "gain": abs(gain_of(project) - (6.0206 if project.name.endswith("-plus6") else 0.0)) < 0.0001,
         "delay in the middle": 2 * project.delay == len(project.taps) - 1,
     }
     return [f"{project.name}: {name}" for name, kept in limits.items() if not kept]
@@ -99,6 +100,11 @@ def broken_limits(project: Project) -> list[str]:
 
 def decibels(ratio: np.ndarray | float) -> np.ndarray:
     return 20 * np.log10(np.maximum(ratio, LOWEST))
+
+
+def gain_of(project: Project) -> float:
+    """The level at which stored ones alone would play, in dB to full scale."""
+    return float(decibels(abs(float(project.taps.sum())) / project.full()))
 
 
 def response(project: Project) -> tuple[np.ndarray, np.ndarray]:
@@ -148,7 +154,7 @@ def measured(project: Project) -> Measured:
 
 
 def missed(project: Project, seen: Measured) -> list[str]:
-    """The targets that the file misses."""
+    """The targets that the filter misses."""
     target = project.target()
     limits = {
         "passband": seen.passing >= target.passing,
@@ -184,7 +190,7 @@ def response_row(project: Project, seen: Measured) -> str:
 
 
 def level_row(project: Project) -> str:
-    gain = round(float(decibels(abs(float(project.taps.sum())) / project.full())), 4) + 0.0
+    gain = round(gain_of(project), 4) + 0.0
     worst = float(decibels(float(np.abs(project.taps).sum()) / project.full()))
     numbers = [len(project.taps), project.factor, project.delay, project.shift]
     cells = [f"`{project.name}.toml`", f"{gain:.4f} dB", f"{worst:+.2f} dB", *(str(number) for number in numbers)]

@@ -1,0 +1,251 @@
+// Cuts a DSDIFF master from DSDIFF takes and writes its certificate, as a C programmer would write it: rows of 64-bit
+// numbers, a byte for each level and state that tells which of the two ways was less, and a plain loop over the states.
+// What it writes is what `dsdarc edit dsdiff` writes of the same project without titles: master and certificate are
+// equal byte by byte.
+//
+// edit_peer PLAN MASTER [CERT], where PLAN is what make_project.py writes: the names of the takes, two lines; the number
+// of weights and the weights; the number of cues, and for each its take, start, stop and bridge. It prints what the
+// bridges cost together. Without CERT it only searches.
+#include <inttypes.h>
+#include <stdint.h>
+#include <stdio.h>
+#include <stdlib.h>
+#include <string.h>
+
+#define TAKES 2
+#define NO_WAY (UINT64_C(1) << 63)
+
+struct take {
+    uint32_t rate, channels;
+    uint8_t ids[24];
+    uint64_t count;
+    uint8_t *bits[6];
+};
+
+struct cue {
+    uint64_t start, stop;
+    int take, bridge;
+};
+
+static struct take takes[TAKES];
+static struct cue cues[256];
+static int number, width, weights[12];
+
+static void *room(size_t size) {
+    void *made = calloc(size, 1);
+    if (!made) exit(2);
+    return made;
+}
+
+static uint64_t big(const uint8_t *at, int size) {
+    uint64_t value = 0;
+    for (int k = 0; k < size; k++) value = value << 8 | at[k];
+    return value;
+}
+
+static void put(FILE *file, uint64_t value, int size) {
+    uint8_t bytes[8];
+    for (int k = 0; k < size; k++) bytes[k] = (uint8_t)(value >> 8 * (size - 1 - k));
+    fwrite(bytes, 1, (size_t)size, file);
+}
+
+static int bit_at(const uint8_t *bits, uint64_t place) { return bits[place / 8] >> (7 - place % 8) & 1; }
+
+static void read_property(struct take *take, const uint8_t *at, const uint8_t *end) {
+    while (at + 12 <= end) {
+        uint64_t size = big(at + 4, 8);
+        if (!memcmp(at, "FS  ", 4)) take->rate = (uint32_t)big(at + 12, 4);
+        if (!memcmp(at, "CHNL", 4)) {
+            take->channels = (uint32_t)big(at + 12, 2);
+            if (take->channels < 1 || take->channels > 6) exit(2);
+            memcpy(take->ids, at + 14, 4 * take->channels);
+        }
+        at += 12 + size + size % 2;
+    }
+}
+
+static void read_take(struct take *take, const char *name) {
+    FILE *file = fopen(name, "rb");
+    if (!file) exit(2);
+    fseek(file, 0, SEEK_END);
+    size_t size = (size_t)ftell(file);
+    rewind(file);
+    uint8_t *bytes = room(size);
+    if (fread(bytes, 1, size, file) != size) exit(2);
+    fclose(file);
+    for (size_t at = 16; at + 12 <= size;) {
+        uint64_t part = big(bytes + at + 4, 8);
+        if (!memcmp(bytes + at, "PROP", 4)) read_property(take, bytes + at + 16, bytes + at + 12 + part);
+        if (!memcmp(bytes + at, "DSD ", 4)) {
+            uint64_t frames = part / take->channels;
+            take->count = 8 * frames;
+            for (uint32_t c = 0; c < take->channels; c++) {
+                take->bits[c] = room(frames);
+                for (uint64_t i = 0; i < frames; i++) take->bits[c][i] = bytes[at + 12 + i * take->channels + c];
+            }
+        }
+        at += 12 + part + part % 2;
+    }
+    free(bytes);
+}
+
+static void read_plan(const char *name) {
+    FILE *file = fopen(name, "r");
+    char line[4096];
+    if (!file) exit(2);
+    for (int t = 0; t < TAKES; t++) {
+        if (!fgets(line, sizeof line, file)) exit(2);
+        line[strcspn(line, "\n")] = 0;
+        read_take(&takes[t], line);
+    }
+    if (fscanf(file, "%d", &width) != 1 || width < 2 || width > 12) exit(2);
+    for (int k = 0; k < width; k++)
+        if (fscanf(file, "%d", &weights[k]) != 1) exit(2);
+    if (fscanf(file, "%d", &number) != 1 || number < 1 || number > 256) exit(2);
+    for (struct cue *cue = cues; cue < cues + number; cue++)
+        if (fscanf(file, "%d%" SCNu64 "%" SCNu64 "%d", &cue->take, &cue->start, &cue->stop, &cue->bridge) != 4) exit(2);
+    fclose(file);
+}
+
+static int32_t weighted(const uint8_t *bits, uint64_t place) {
+    int32_t sum = 0;
+    for (int k = 0; k < width; k++) sum += bit_at(bits, place - (uint64_t)k) ? weights[k] : -weights[k];
+    return sum;
+}
+
+static uint64_t squared(int32_t difference) { return (uint64_t)((int64_t)difference * difference); }
+
+// Whether a state comes before another one, read from the newest bit to the oldest.
+static int is_before(uint32_t a, uint32_t b) {
+    uint32_t differs = a ^ b;
+    return (a & (differs & -differs)) == 0;
+}
+
+// The least bits of the bridge behind a cue in one channel, the earliest first, a byte each, and what they cost.
+static uint64_t search(int at, uint32_t channel, uint8_t *found, FILE *cert) {
+    const struct cue *cue = &cues[at], *next = cue + 1;
+    const uint8_t *a = takes[cue->take].bits[channel], *b = takes[next->take].bits[channel];
+    int levels = cue->bridge, places = levels + width - 1;
+    uint32_t states = 1u << (width - 1), half = states / 2, start = 0;
+    int32_t *targets = room((size_t)places * sizeof *targets), *sums = room(2 * states * sizeof *sums);
+    uint64_t *row = room(states * sizeof *row), *following = room(states * sizeof *following);
+    uint8_t *decisions = room((size_t)levels * states), *spelled = room(states * sizeof(uint64_t));
+
+    for (int i = 1; i <= places; i++)
+        targets[i - 1] = i <= levels ? (levels + 1 - i) * weighted(a, cue->stop + (uint64_t)i - 1) + i * weighted(b, next->start - (uint64_t)levels + (uint64_t)i - 1)
+                                     : (levels + 1) * weighted(b, next->start + (uint64_t)(i - levels) - 1);
+    for (uint32_t code = 0; code < 2 * states; code++) {
+        int32_t sum = 0;
+        for (int k = 0; k < width; k++) sum += code >> k & 1 ? weights[k] : -weights[k];
+        sums[code] = (levels + 1) * sum;
+    }
+    for (int k = width - 1; k > 0; k--) start = 2 * start + (uint32_t)bit_at(a, cue->stop - (uint64_t)k);
+    for (uint32_t q = 0; q < states; q++) row[q] = q == start ? 0 : NO_WAY;
+
+    if (cert) put(cert, (uint64_t)at, 2), put(cert, channel, 2), put(cert, (uint64_t)levels, 2);
+    for (int level = 0;; level++) {
+        if (cert) {
+            for (uint32_t q = 0; q < states; q++) {
+                uint64_t turned = __builtin_bswap64(row[q]);
+                memcpy(spelled + 8 * q, &turned, 8);
+            }
+            fwrite(spelled, 8, states, cert);
+        }
+        if (level == levels) break;
+        int32_t target = targets[level];
+        uint8_t *decision = decisions + (size_t)level * states;
+        for (uint32_t q = 0; q < states; q++) {
+            uint64_t first = row[q / 2] + squared(sums[q] - target);
+            uint64_t second = row[half + q / 2] + squared(sums[states + q] - target);
+            uint64_t least = second < first ? second : first;
+            decision[q] = second < first;
+            following[q] = least < NO_WAY ? least : NO_WAY;
+        }
+        uint64_t *old = row;
+        row = following, following = old;
+    }
+
+    uint32_t end = 0;
+    uint64_t cost = UINT64_MAX;
+    for (uint32_t q = 0; q < states; q++) {
+        uint64_t total = row[q];
+        uint32_t state = q;
+        for (int i = 0; i < width - 1; i++) {
+            uint32_t code = 2 * state + (uint32_t)bit_at(b, next->start + (uint64_t)i);
+            total += squared(sums[code] - targets[levels + i]);
+            state = code % states;
+        }
+        if (total < cost || (total == cost && is_before(q, end))) cost = total, end = q;
+    }
+    for (int level = levels; level > 0; level--) {
+        found[level - 1] = end & 1;
+        end = end / 2 + (decisions[(size_t)(level - 1) * states + end] ? half : 0);
+    }
+    if (cert) put(cert, cost, 8);
+    free(targets), free(sums), free(row), free(following), free(decisions), free(spelled);
+    return cost;
+}
+
+static void put_bit(uint8_t *sound, uint32_t channel, uint64_t place, int bit) {
+    sound[place / 8 * takes[0].channels + channel] |= (uint8_t)(bit << (7 - place % 8));
+}
+
+static int write_master(const char *name, const uint8_t *sound, uint64_t size) {
+    uint32_t channels = takes[0].channels;
+    uint64_t property = 4 + 16 + 12 + 2 + 4 * channels + 12 + 20;
+    FILE *file = fopen(name, "wb");
+    if (!file) return 0;
+    fputs("FRM8", file), put(file, 4 + 16 + 12 + property + 12 + size + size % 2, 8), fputs("DSD ", file);
+    fputs("FVER", file), put(file, 4, 8), put(file, 0x01050000, 4);
+    fputs("PROP", file), put(file, property, 8), fputs("SND ", file);
+    fputs("FS  ", file), put(file, 4, 8), put(file, takes[0].rate, 4);
+    fputs("CHNL", file), put(file, 2 + 4 * channels, 8), put(file, channels, 2), fwrite(takes[0].ids, 4, channels, file);
+    fputs("CMPR", file), put(file, 19, 8), fputs("DSD \016not compressed", file), put(file, 0, 1);
+    fputs("DSD ", file), put(file, size, 8), fwrite(sound, 1, size, file);
+    if (size % 2) put(file, 0, 1);
+    return !fclose(file);
+}
+
+static void print_total(unsigned __int128 total) {
+    char digits[40];
+    int at = 39;
+    digits[at] = 0;
+    do digits[--at] = (char)('0' + (int)(total % 10)), total /= 10;
+    while (total);
+    printf("edited total %s\n", digits + at);
+}
+
+int main(int words, char **word) {
+    if (words != 3 && words != 4) return 2;
+    read_plan(word[1]);
+    uint32_t channels = takes[0].channels;
+    FILE *cert = NULL;
+    uint64_t count = 0, entries = 0;
+    for (int k = 0; k < number; k++) {
+        count += cues[k].stop - cues[k].start + (uint64_t)cues[k].bridge;
+        if (cues[k].bridge) entries += channels;
+    }
+    if (count % 8) return 2;
+    uint8_t *sound = room(count / 8 * channels), *found = room(4096);
+    if (words == 4) {
+        if (!(cert = fopen(word[3], "wb"))) return 2;
+        setvbuf(cert, NULL, _IOFBF, 1 << 20);
+        fputs("DSPC", cert), put(cert, 1, 2), put(cert, (uint64_t)width, 2), put(cert, entries, 4);
+    }
+
+    unsigned __int128 total = 0;
+    uint64_t place = 0;
+    for (int k = 0; k < number; k++) {
+        const struct cue *cue = &cues[k];
+        uint64_t length = cue->stop - cue->start;
+        for (uint32_t c = 0; c < channels; c++) {
+            for (uint64_t i = 0; i < length; i++) put_bit(sound, c, place + i, bit_at(takes[cue->take].bits[c], cue->start + i));
+            if (cue->bridge) total += search(k, c, found, cert);
+            for (int i = 0; i < cue->bridge; i++) put_bit(sound, c, place + length + (uint64_t)i, found[i]);
+        }
+        place += length + (uint64_t)cue->bridge;
+    }
+    print_total(total);
+    if (cert && (ferror(cert) | fclose(cert))) return 2;
+    return write_master(word[2], sound, count / 8 * channels) ? 0 : 2;
+}

@@ -1,0 +1,491 @@
+"""The cases: each makes files, runs commands over them and demands what has to hold of them together."""
+import os
+import re
+import struct
+import tomllib
+from collections import namedtuple
+
+import bases
+import mutating
+import reading
+from judging import Failure, cert_size, converted, demand, fault_of, judge_run, told, wave_head
+from running import MEGABYTE
+
+# How much memory a run may take: so many times the bytes that it reads and writes, and so much more.
+TIMES = 12
+MORE = 4 * MEGABYTE
+FORMS = ("dsdiff", "dsf", "dsf8")
+OLD = b"what stood here before"
+
+
+class Case:
+    """One case: its files, its runs and what was done to the files."""
+
+    def __init__(self, program, rng, tell):
+        self.program, self.rng, self.tell = program, rng, tell
+        self.changes = []
+        self.files = {}
+        self.limit_part = None
+        for name in os.listdir(program.folder):
+            os.remove(os.path.join(program.folder, name))
+
+    def path(self, name):
+        return os.path.join(self.program.folder, name)
+
+    def put(self, name, data):
+        self.files[name] = data
+        with open(self.path(name), "wb") as file:
+            file.write(data)
+
+    def get(self, name):
+        with open(self.path(name), "rb") as file:
+            return file.read()
+
+    def has(self, name):
+        return os.path.exists(self.path(name))
+
+    def take(self, name):
+        """A file that the program wrote: it is one of the case's files from now on."""
+        self.files[name] = self.get(name)
+        return self.files[name]
+
+    def run(self, words, made=(), more=0, source=None):
+        """Runs the program, and demands what holds of every run. `made` are the files that it may make or write, `more`
+        bytes of memory that the files' sizes don't tell."""
+        read = sum(map(len, self.files.values()))
+        need = TIMES * (read + more) + MORE
+        limit = self.program.start + (need if self.limit_part is None else int(need * self.limit_part))
+        run = self.program.run(words, limit, source and self.path(source))
+        self.tell(run)
+        judge_run(run, self.limit_part is not None)
+        for name, data in self.files.items():
+            if name not in made:
+                demand(self.get(name) == data, f"{name} was changed")
+        extra = set(os.listdir(self.program.folder)) - set(self.files) - set(made)
+        demand(not extra, f"made {extra}")
+        return run
+
+    def demand_unmade(self, run, *names):
+        """After a fault no file is made, and one that was there is as it was."""
+        for name in names:
+            if name in self.files:
+                demand(self.get(name) == self.files[name], f"{name} was written, though {run.err!r}")
+            else:
+                demand(not self.has(name), f"{name} was made, though {run.err!r}")
+
+    def demand_made(self, *names):
+        for name in names:
+            demand(self.has(name), f"{name} isn't there")
+            self.take(name)
+
+
+def name_now_and_then(case, name):
+    """Something stands under an output's name before, now and then."""
+    if case.rng.random() < 0.1:
+        case.put(name, OLD)
+    return name
+
+
+# Recordings.
+
+
+def a_recording(case):
+    base = case.rng.choice(bases.recordings(case.rng))
+    if case.rng.random() < 0.1:
+        case.changes = [base.name, "change_sound"]
+        return base, mutating.change_sound(case.rng, base), True
+    data, names = mutating.mutate_recording(case.rng, base)
+    case.changes = [base.name, *names]
+    return base, data, False
+
+
+def convert(case, info, form, source, out):
+    """Converts a file that is read as `info`. Answers what is read of the other file, or None where there is none."""
+    run = case.run(["convert", form, source, out], made=[out], more=6 * 4096)
+    if form == "dsdiff" and info["samples"] % 8:
+        demand(run.err == b"fault: NotWholeBytes\n", "a channel ends inside a byte")
+        case.demand_unmade(run, out)
+        return None
+    expected, dropped = converted(info, form)
+    demand(run.out == b"converted dropped %d\n" % dropped, f"{dropped} parts have no place there")
+    case.demand_made(out)
+    there = told(case.run(["info", out]))
+    demand(there == expected, f"the written file tells {there}, not {expected}")
+    return there
+
+
+def convert_and_back(case, info, source):
+    """Converts a file, back, and once more: the first and the last are equal."""
+    form = case.rng.choice(FORMS)
+    there = convert(case, info, form, source, name_now_and_then(case, "out"))
+    if there:
+        back = convert(case, there, info["form"], "out", "back")
+        if back:
+            convert(case, back, form, "back", "again")
+            demand(case.get("again") == case.get("out"), "converted, back, and once more is another file")
+    return there
+
+
+def play(case, info, source, out, factor, width):
+    """Plays a file that is read as `info` by a project that stands."""
+    through = case.rng.random() < 0.1
+    run = case.run(["play", "project", "/dev/stdin" if through else source, out], made=[out], source=source if through else None)
+    if info["rate"] % factor:
+        demand(run.err == b"fault: RateNotDivided\n", "the factor doesn't divide the rate")
+        demand(case.get(out) == b"", "written before the rate was looked at")
+        return None
+    head, size = wave_head(info, factor, width)
+    demand(run.out == b"played %d bytes\n" % size, f"{size} bytes are played")
+    wave = case.get(out)
+    demand(wave.startswith(head) and len(wave) == size, "the WAVE file isn't of that sound")
+    return wave
+
+
+def refuse_to_play(case, run, out):
+    """What is left of a WAVE file after a fault: nothing where it comes before the first write, else a front."""
+    demand(run.status == 2, "played, but not read")
+    left = case.get(out)
+    if run.err != b"fault: FileRefused\n":
+        demand(left == b"", "written before the first fault was looked for")
+    demand(left[:4] == b"RIFF"[: len(left)], "what is left is no front of a WAVE file")
+
+
+def told_of(case, name, data, is_sound):
+    """What `info` tells of a file, or None: as a plain reading of it has it, the refusal too."""
+    run = case.run(["info", name])
+    try:
+        expected = reading.read(data)
+    except reading.Refused as refused:
+        demand(not is_sound, "only the sound was changed")
+        demand(run.err.decode() == f"fault: FileUnread {refused}\n", f"not refused as {refused}")
+        return run, None
+    demand(run.status == 0, f"refused, but it holds {expected}")
+    demand(told(run) == expected, f"it holds {expected}")
+    return run, expected
+
+
+def recording_case(case):
+    """A recording's file: told of, converted, back, and played."""
+    base, data, is_sound = a_recording(case)
+    case.put("in", data)
+    text, factor, width = case.rng.choice(bases.filters())
+    case.put("project", text.encode())
+    seen, info = told_of(case, "in", data, is_sound)
+    if info is None:
+        form = case.rng.choice(FORMS)
+        run = case.run(["convert", form, "in", name_now_and_then(case, "out")], made=["out"])
+        demand(run.status == 2 and run.err == seen.err, "info and convert name two faults")
+        case.demand_unmade(run, "out")
+        run = case.run(["play", "project", "in", "wave"], made=["wave"])
+        refuse_to_play(case, run, "wave")
+        demand(fault_of(run) in ("FileRefused", "RateNotDivided", "TooLarge"), "refused for another cause")
+        return
+    if is_sound:
+        demand(info == reading.read(base.data), "other sound, and something else is told")
+    there = convert_and_back(case, info, "in")
+    wave = play(case, info, "in", "wave", factor, width)
+    if there and wave is not None:
+        other = play(case, there, "out", "other", factor, width)
+        demand(wave == other, "the converted file plays other samples")
+
+
+def filter_case(case):
+    """A project that plays, changed, and a file that stands."""
+    text, _, _ = case.rng.choice(bases.filters())
+    data, names = mutating.mutate_project(case.rng, text.encode())
+    base = case.rng.choice(bases.recordings(case.rng))
+    case.changes = [base.name, *names]
+    case.put("project", data)
+    case.put("in", base.data)
+    run = case.run(["play", "project", "in", "wave"], made=["wave"], more=4096 * 256)
+    if run.status == 0:
+        wave = case.get("wave")
+        demand(run.out == b"played %d bytes\n" % len(wave), "another number of bytes was written")
+        demand(wave[:4] == b"RIFF" and struct.unpack("<I", wave[4:8])[0] == len(wave) - 8, "no WAVE file")
+        return
+    demand(case.get("wave") == b"", "written before the project was read")
+    other = case.run(["edit", "dsf", "project", "master", "cert"], made=[])
+    if fault_of(run).startswith("Project"):
+        demand(other.err == run.err, "play and edit name two faults of one project")
+    else:
+        demand(fault_of(other) == "NoSplice" or "splice" in data.decode(errors="replace"), "cut without a splice")
+
+
+# Masters.
+
+
+Plan = namedtuple("Plan", "weights cues bridges")
+
+
+def plan_of(data):
+    """The number of weights, and the lengths of the cues and bridges, of a project's text: None where it is none."""
+    try:
+        splice = tomllib.loads(data.decode().removeprefix("\ufeff"))["splice"]
+        plan = Plan(
+            len(splice["weights"]),
+            [it["stop"] - it["start"] for it in splice["cue"]],
+            [it.get("bridge", 0) for it in splice["cue"]],
+        )
+    except (AttributeError, KeyError, TypeError, ValueError, RecursionError):
+        return None
+    numbers = plan.cues + plan.bridges
+    is_plan = all(type(it) is int and 0 <= it <= 2**36 for it in numbers) and 2 <= plan.weights <= 12
+    return plan if is_plan else None
+
+
+def room_of(case, name):
+    """How much a master and its certificate may take beyond what the files tell. No cue or bridge that is longer than a
+    take comes so far."""
+    plan = plan_of(case.files[name])
+    if plan is None:
+        return 8 * MEGABYTE
+    longest = 8 * max(map(len, case.files.values()))
+    bits = sum(it for it in plan.cues + plan.bridges if it <= longest)
+    return cert_size(plan.weights, 6, [it for it in plan.bridges if it <= min(4096, longest)]) + 6 * (bits // 8 + 2 * 4096)
+
+
+def put_takes(case, cut, can_change):
+    for name, base in cut.takes.items():
+        data = base.data
+        if can_change and case.rng.random() < 0.5:
+            data, names = mutating.mutate_recording(case.rng, base)
+            case.changes.append(names)
+        case.put(name, data)
+
+
+def cut_case(case):
+    """A project that cuts or its takes, changed: cut, cut again, and checked."""
+    cut = case.rng.choice(bases.cuts(case.rng))
+    data = cut.project.encode()
+    case.changes = [cut.name]
+    which = case.rng.random()
+    if which < 0.7:
+        data, names = mutating.mutate_project(case.rng, data)
+        case.changes += names
+    put_takes(case, cut, which >= 0.6)
+    case.put("project", data)
+    room = room_of(case, "project")
+    form = case.rng.choice(FORMS)
+    master, cert = name_now_and_then(case, "master"), name_now_and_then(case, "cert")
+    run = case.run(["edit", form, "project", master, cert], made=[master, cert], more=room)
+    if run.status == 2:
+        case.demand_unmade(run, master, cert)
+        return
+    case.demand_made(master, cert)
+    judge_cut(case, data, form, run, room)
+
+
+def judge_cut(case, data, form, run, room):
+    """A master that was cut: what is told of it, that it is accepted, and that it is cut again."""
+    info = told(case.run(["info", "master"], more=room))
+    demand(info["form"] == form and info["others"] == 0 and info["tag"] == 0, "another master")
+    plan = plan_of(data)
+    if plan:
+        demand(info["samples"] == sum(plan.cues + plan.bridges), "another length than the cues and bridges have")
+        size = cert_size(plan.weights, info["channels"], plan.bridges)
+        demand(len(case.files["cert"]) == size, "another length of the certificate")
+    total = run.out.decode().split()[-1]
+    checked = case.run(["check", "project", "master", "cert"], more=room)
+    demand(checked.out.decode() == f"accepted total {total}\n", "the own master isn't accepted")
+    if case.rng.random() < 0.2:
+        case.run(["edit", form, "project", "master", "cert"], made=["master", "cert"], more=room)
+        demand(case.get("master") == case.files["master"] and case.get("cert") == case.files["cert"], "cut again it is another")
+
+
+def check_case(case):
+    """A master and its certificate, either changed: judged."""
+    cut = case.rng.choice(bases.cuts(case.rng))
+    form = case.rng.choice(cut.forms)
+    put_takes(case, cut, False)
+    case.put("project", cut.project.encode())
+    room = room_of(case, "project")
+    run = case.run(["edit", form, "project", "master", "cert"], made=["master", "cert"], more=room)
+    demand(run.status == 0, "a project that stands isn't cut")
+    case.demand_made("master", "cert")
+    total = run.out.decode().split()[-1]
+    case.changes = [cut.name, form]
+    change = case.rng.choice((cut_certificate, lengthened_certificate, changed_certificate, changed_certificate, changed_master, bit_of_master))
+    expected = change(case, cut, form)
+    run = case.run(["check", "project", "master", "cert"], more=room)
+    demand(run.status in (0, 1), "a fault, though project and takes stand")
+    if run.status == 0:
+        # No other bits cost less than those of a least master, so every master that is accepted costs the same.
+        demand(run.out.decode() == f"accepted total {total}\n", "accepted at another total")
+    if expected is not None:
+        demand(re.fullmatch(expected, run.out.decode()), f"not {expected!r}")
+
+
+def cut_certificate(case, cut, form):
+    """The front of a certificate: which entry is cut is known."""
+    data = case.files["cert"]
+    size = case.rng.randrange(len(data))
+    case.changes.append(f"cut to {size}")
+    case.put("cert", data[:size])
+    if size < 12:
+        return "rejected CertHead Cut\n"
+    plan = plan_of(case.files["project"])
+    stop, entry = 12, 0
+    for length in filter(None, plan.bridges):
+        for _ in range(channels_of(cut)):
+            stop += cert_size(plan.weights, 1, [length]) - 12
+            if size < stop:
+                return f"rejected Cert {entry} Cut\n"
+            entry += 1
+    raise Failure("a certificate that is longer than its entries")
+
+
+def lengthened_certificate(case, cut, form):
+    case.changes.append("lengthened")
+    case.put("cert", case.files["cert"] + case.rng.randbytes(case.rng.choice((1, 8, 5000))))
+    return "rejected CertExtra\n"
+
+
+def changed_certificate(case, cut, form):
+    data, names = mutating.mutate_certificate(case.rng, case.files["cert"])
+    case.changes += names
+    case.put("cert", data)
+    return None
+
+
+def master_base(case, form):
+    """The master as a file to be mutated: as written, the sound of a DSDIFF master stands behind `DSD ` and its size."""
+    data = case.files["master"]
+    if form != "dsdiff":
+        return bases.Base("master", "dsf", data, None, (92, len(data)))
+    at = data.index(b"DSD ", data.index(b"not compressed"))
+    size = int.from_bytes(data[at + 4 : at + 12], "big")
+    return bases.Base("master", "dsdiff", data, None, (at + 12, at + 12 + size))
+
+
+def changed_master(case, cut, form):
+    data, names = mutating.mutate_recording(case.rng, master_base(case, form))
+    case.changes += names
+    case.put("master", data)
+    return None
+
+
+def channels_of(cut):
+    """How many channels a cut's takes have."""
+    tree = next(iter(cut.takes.values())).tree
+    (channels,) = (node[1][:2] for node in tree[2][1][2] if node[0] == b"CHNL")
+    return int.from_bytes(channels, "big")
+
+
+def bit_of_master(case, cut, form):
+    """One bit of a master turned: in a cue its place is told, in a bridge the certificate doesn't show it to be least,
+    unless it costs as little."""
+    base = master_base(case, form)
+    plan, channels = plan_of(case.files["project"]), channels_of(cut)
+    channel, place = case.rng.randrange(channels), case.rng.randrange(sum(plan.cues + plan.bridges))
+    case.changes.append(f"bit {place} of channel {channel}")
+    if form == "dsdiff":
+        at, bit = place // 8 * channels + channel, 7 - place % 8
+    else:
+        at = ((place // 32768) * channels + channel) * 4096 + place % 32768 // 8
+        bit = place % 8 if form == "dsf" else 7 - place % 8
+    data = bytearray(base.data)
+    data[base.sound[0] + at] ^= 1 << bit
+    case.put("master", bytes(data))
+    if is_in_cue(plan, place):
+        return f"rejected CuedBit {channel} {place}\n"
+    return r"accepted total \d+\n|rejected Cert \d+ Cost\n"
+
+
+def is_in_cue(plan, place):
+    for cue, bridge in zip(plan.cues, plan.bridges):
+        if place < cue + bridge:
+            return place < cue
+        place -= cue + bridge
+    raise Failure("a place behind the master's end")
+
+
+# Words and devices.
+
+
+def words_case(case):
+    """Words that are no command, and files that can't be read or written."""
+    base = case.rng.choice(bases.recordings(case.rng))
+    cut = case.rng.choice(bases.cuts(case.rng)[:2])
+    put_takes(case, cut, False)
+    case.put("in", base.data)
+    case.put("project", bases.filters()[0][0].encode())
+    case.put("cutting", cut.project.encode())
+    words, status, err = case.rng.choice(WORDS)
+    case.changes = [base.name, "words"]
+    kept = ["master"] if words[-1] == "/dev/full" and words[0] == "edit" else ["wave"] if words[:2] == ["play", "in"] else []
+    run = case.run(words, made=kept, more=room_of(case, "cutting"))
+    demand(run.status == status, f"the status isn't {status}")
+    if err:
+        demand(run.err.decode() == f"fault: {err}\n", f"the fault isn't {err}")
+    for name in kept:
+        demand(case.has(name), f"{name} isn't there")
+
+
+WORDS = [
+    ([], 3, "WrongWords"),
+    (["inform", "in"], 3, "WrongWords"),
+    (["info"], 3, "WrongWords"),
+    (["info", "in", "in"], 3, "WrongWords"),
+    (["info", "--help"], 3, "WrongWords"),
+    (["--version"], 3, "WrongWords"),
+    (["convert", "wav", "in", "out"], 3, "UnknownFormName"),
+    (["convert", "", "in", "out"], 3, "UnknownFormName"),
+    (["convert", "DSF", "in", "out"], 3, "UnknownFormName"),
+    (["convert", "dsf", "in"], 3, "WrongWords"),
+    (["edit", "dsf9", "cutting", "master", "cert"], 3, "UnknownFormName"),
+    (["edit", "dsf", "cutting", "master"], 3, "WrongWords"),
+    (["check", "cutting", "master", "cert", "x"], 3, "WrongWords"),
+    (["info", "missing"], 2, "ReadFailed"),
+    (["info", "."], 2, "ReadFailed"),
+    (["info", "--", "-x"], 2, "ReadFailed"),
+    (["info", ""], 2, "ReadFailed"),
+    (["info", "x" * 5000], 2, "ReadFailed"),
+    (["info", "/dev/null"], 2, "FileUnread UnknownForm"),
+    (["convert", "dsf", "missing", "out"], 2, "ReadFailed"),
+    (["convert", "dsf", "in", "missing/out"], 2, "WriteFailed"),
+    (["convert", "dsf", "in", "."], 2, "WriteFailed"),
+    (["convert", "dsf", "in", "/dev/full"], 2, "WriteFailed"),
+    (["play", "missing", "in", "wave"], 2, "ReadFailed"),
+    (["play", "project", "missing", "wave"], 2, "ReadFailed"),
+    (["play", "project", "in", "missing/wave"], 2, "WriteFailed"),
+    (["play", "project", "in", "/dev/full"], 2, "WriteFailed"),
+    (["play", "in", "in", "wave"], 2, "Project NotToml"),
+    (["edit", "dsf", "project", "master", "cert"], 2, "NoSplice"),
+    (["edit", "dsf", "missing", "master", "cert"], 2, "ReadFailed"),
+    (["edit", "dsf", "cutting", "/dev/full", "cert"], 2, "WriteFailed"),
+    (["edit", "dsf", "cutting", "missing/master", "cert"], 2, "WriteFailed"),
+    (["edit", "dsf", "cutting", "master", "/dev/full"], 2, "WriteFailed"),
+    (["check", "cutting", "missing", "cert"], 2, "ReadFailed"),
+    (["check", "cutting", "in", "missing"], 2, "ReadFailed"),
+    (["check", "cutting", "project", "in"], 1, None),
+]
+
+
+def scarce_case(case):
+    """Any of these under less memory than it may take: it may say that memory was wanting, or nothing at all, but it
+    ends by itself, and makes no file then."""
+    case.limit_part = case.rng.random() ** 3
+    base, data, _ = a_recording(case)
+    cut = case.rng.choice(bases.cuts(case.rng))
+    put_takes(case, cut, False)
+    case.put("in", data if case.rng.random() < 0.5 else base.data)
+    case.put("project", case.rng.choice(bases.filters())[0].encode())
+    case.put("cutting", cut.project.encode())
+    form = case.rng.choice(FORMS)
+    room = room_of(case, "cutting")
+    words = case.rng.choice(
+        (
+            ["info", "in"],
+            ["convert", form, "in", "out"],
+            ["play", "project", "in", "wave"],
+            ["edit", form, "cutting", "master", "cert"],
+            ["check", "cutting", "in", "in"],
+        )
+    )
+    run = case.run(words, made=["out", "wave", "master", "cert"], more=room)
+    if run.status == 2 and words[0] != "play":
+        case.demand_unmade(run, "out", "master", "cert")
+
+
+# How often each case comes.
+KINDS = [(recording_case, 40), (filter_case, 12), (cut_case, 20), (check_case, 20), (words_case, 2), (scarce_case, 6)]

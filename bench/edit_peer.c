@@ -13,6 +13,9 @@
 #include <string.h>
 
 #define TAKES 2
+#define LEVELS 4096
+#define WIDTH 12
+#define STATES (1 << (WIDTH - 1))
 #define NO_WAY (UINT64_C(1) << 63)
 
 struct take {
@@ -29,7 +32,12 @@ struct cue {
 
 static struct take takes[TAKES];
 static struct cue cues[256];
-static int number, width, weights[12];
+static int number, width, weights[WIDTH];
+
+// What a search needs, kept from one to the next.
+static int32_t targets[LEVELS + WIDTH - 1], sums[2 * STATES];
+static uint64_t rows[2][STATES];
+static uint8_t decisions[LEVELS * STATES], spelled[8 * STATES], found[LEVELS];
 
 static void *room(size_t size) {
     void *made = calloc(size, 1);
@@ -98,12 +106,12 @@ static void read_plan(const char *name) {
         line[strcspn(line, "\n")] = 0;
         read_take(&takes[t], line);
     }
-    if (fscanf(file, "%d", &width) != 1 || width < 2 || width > 12) exit(2);
+    if (fscanf(file, "%d", &width) != 1 || width < 2 || width > WIDTH) exit(2);
     for (int k = 0; k < width; k++)
         if (fscanf(file, "%d", &weights[k]) != 1) exit(2);
     if (fscanf(file, "%d", &number) != 1 || number < 1 || number > 256) exit(2);
     for (struct cue *cue = cues; cue < cues + number; cue++)
-        if (fscanf(file, "%d%" SCNu64 "%" SCNu64 "%d", &cue->take, &cue->start, &cue->stop, &cue->bridge) != 4) exit(2);
+        if (fscanf(file, "%d%" SCNu64 "%" SCNu64 "%d", &cue->take, &cue->start, &cue->stop, &cue->bridge) != 4 || cue->bridge > LEVELS) exit(2);
     fclose(file);
 }
 
@@ -121,15 +129,13 @@ static int is_before(uint32_t a, uint32_t b) {
     return (a & (differs & -differs)) == 0;
 }
 
-// The least bits of the bridge behind a cue in one channel, the earliest first, a byte each, and what they cost.
-static uint64_t search(int at, uint32_t channel, uint8_t *found, FILE *cert) {
+// Finds the least bits of the bridge behind a cue in one channel, the earliest first, a byte each, and what they cost.
+static uint64_t search(int at, uint32_t channel, FILE *cert) {
     const struct cue *cue = &cues[at], *next = cue + 1;
     const uint8_t *a = takes[cue->take].bits[channel], *b = takes[next->take].bits[channel];
     int levels = cue->bridge, places = levels + width - 1;
     uint32_t states = 1u << (width - 1), half = states / 2, start = 0;
-    int32_t *targets = room((size_t)places * sizeof *targets), *sums = room(2 * states * sizeof *sums);
-    uint64_t *row = room(states * sizeof *row), *following = room(states * sizeof *following);
-    uint8_t *decisions = room((size_t)levels * states), *spelled = room(states * sizeof(uint64_t));
+    uint64_t *row = rows[0], *following = rows[1];
 
     for (int i = 1; i <= places; i++)
         targets[i - 1] = i <= levels ? (levels + 1 - i) * weighted(a, cue->stop + (uint64_t)i - 1) + i * weighted(b, next->start - (uint64_t)levels + (uint64_t)i - 1)
@@ -182,7 +188,6 @@ static uint64_t search(int at, uint32_t channel, uint8_t *found, FILE *cert) {
         end = end / 2 + (decisions[(size_t)(level - 1) * states + end] ? half : 0);
     }
     if (cert) put(cert, cost, 8);
-    free(targets), free(sums), free(row), free(following), free(decisions), free(spelled);
     return cost;
 }
 
@@ -226,7 +231,7 @@ int main(int words, char **word) {
         if (cues[k].bridge) entries += channels;
     }
     if (count % 8) return 2;
-    uint8_t *sound = room(count / 8 * channels), *found = room(4096);
+    uint8_t *sound = room(count / 8 * channels);
     if (words == 4) {
         if (!(cert = fopen(word[3], "wb"))) return 2;
         setvbuf(cert, NULL, _IOFBF, 1 << 20);
@@ -240,7 +245,7 @@ int main(int words, char **word) {
         uint64_t length = cue->stop - cue->start;
         for (uint32_t c = 0; c < channels; c++) {
             for (uint64_t i = 0; i < length; i++) put_bit(sound, c, place + i, bit_at(takes[cue->take].bits[c], cue->start + i));
-            if (cue->bridge) total += search(k, c, found, cert);
+            if (cue->bridge) total += search(k, c, cert);
             for (int i = 0; i < cue->bridge; i++) put_bit(sound, c, place + length + (uint64_t)i, found[i]);
         }
         place += length + (uint64_t)cue->bridge;

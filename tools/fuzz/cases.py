@@ -12,8 +12,8 @@ from judging import Failure, cert_size, converted, demand, fault_of, judge_run, 
 from running import MEGABYTE
 
 # How much memory a run may take: so many times the bytes that it reads and writes, and so much more.
-TIMES = 12
-MORE = 4 * MEGABYTE
+TIMES = 4
+MORE = 1 * MEGABYTE
 FORMS = ("dsdiff", "dsf", "dsf8")
 OLD = b"what stood here before"
 
@@ -25,6 +25,7 @@ class Case:
         self.program, self.rng, self.tell = program, rng, tell
         self.changes = []
         self.files = {}
+        self.made = set()
         self.limit_part = None
         for name in os.listdir(program.folder):
             os.remove(os.path.join(program.folder, name))
@@ -38,6 +39,7 @@ class Case:
             file.write(data)
 
     def get(self, name):
+        demand(self.has(name), f"{name} isn't there")
         with open(self.path(name), "rb") as file:
             return file.read()
 
@@ -47,7 +49,6 @@ class Case:
     def take(self, name):
         """A file that the program wrote: it is one of the case's files from now on."""
         self.files[name] = self.get(name)
-        return self.files[name]
 
     def run(self, words, made=(), more=0, source=None):
         """Runs the program, and demands what holds of every run. `made` are the files that it may make or write, `more`
@@ -61,7 +62,8 @@ class Case:
         for name, data in self.files.items():
             if name not in made:
                 demand(self.get(name) == data, f"{name} was changed")
-        extra = set(os.listdir(self.program.folder)) - set(self.files) - set(made)
+        self.made |= set(made)
+        extra = set(os.listdir(self.program.folder)) - set(self.files) - self.made
         demand(not extra, f"made {extra}")
         return run
 
@@ -75,7 +77,6 @@ class Case:
 
     def demand_made(self, *names):
         for name in names:
-            demand(self.has(name), f"{name} isn't there")
             self.take(name)
 
 

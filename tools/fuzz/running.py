@@ -66,8 +66,8 @@ class Program:
     def read(file):
         return os.pread(file, os.fstat(file).st_size, 0)
 
-    def find_start(self, words):
-        """The least limit, to 64 KB, under which these words are done: what the program needs to begin at all."""
+    def find_least(self, words):
+        """The least limit of memory, to 64 KB, under which these words are done."""
         low, high = 0, 1 << 34
         while high - low > 1 << 16:
             middle = (low + high) // 2
@@ -75,5 +75,4 @@ class Program:
                 high = middle
             else:
                 low = middle
-        self.start = high
         return high

@@ -1,0 +1,46 @@
+"""How much memory each command takes of large files that stand: as a multiple of the files that it reads and writes."""
+import os
+import random
+
+import bases
+from running import MEGABYTE
+
+FRAMES = 2 * MEGABYTE
+
+
+def put(folder, name, data):
+    with open(os.path.join(folder, name), "wb") as file:
+        file.write(data)
+
+
+def make_files(folder):
+    """Stereo takes of 4 MB, and a project that puts a bridge between them."""
+    rng = random.Random(0)
+    for name in ("a.dff", "b.dff"):
+        put(folder, name, bases.dsdiff(rng, name, 2, FRAMES).data)
+    put(folder, "c.dsf", bases.dsf(rng, "c", 2, 8 * FRAMES, tag=b"ID3").data)
+    bits = 8 * FRAMES
+    cues = [(0, 0, bits - 64, 64), (1, 1024, bits - 64)]
+    put(folder, "cutting", bases.splice_text([1, 2, 2, 1], ("a.dff", "b.dff"), cues).encode())
+    put(folder, "project", bases.filters()[0][0].encode())
+
+
+# The words of each command, and the files that are read and written.
+COMMANDS = (
+    (["info", "a.dff"], ("a.dff",)),
+    (["info", "c.dsf"], ("c.dsf",)),
+    (["convert", "dsf", "a.dff", "out"], ("a.dff", "out")),
+    (["convert", "dsdiff", "c.dsf", "out"], ("c.dsf", "out")),
+    (["play", "project", "a.dff", "wave"], ("a.dff", "wave")),
+    (["edit", "dsdiff", "cutting", "master", "cert"], ("a.dff", "b.dff", "master", "cert")),
+    (["check", "cutting", "master", "cert"], ("a.dff", "b.dff", "master", "cert")),
+)
+
+
+def multiples(program):
+    """For each command its words and the multiple, with what it needs to start not counted."""
+    make_files(program.folder)
+    for words, names in COMMANDS:
+        least = program.find_least(words)
+        size = sum(os.path.getsize(os.path.join(program.folder, name)) for name in names)
+        yield words, (least - program.start) / size

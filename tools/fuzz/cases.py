@@ -14,6 +14,8 @@ from running import MEGABYTE
 # How much memory a run may take: so many times the bytes that it reads and writes, and so much more.
 TIMES = 4
 MORE = 1 * MEGABYTE
+# The tables of a filter of 4096 taps, for six channels: some 1.1 MB each.
+TABLES = 7 * MEGABYTE // TIMES
 FORMS = ("dsdiff", "dsf", "dsf8")
 OLD = b"what stood here before"
 
@@ -198,7 +200,7 @@ def filter_case(case):
     case.changes = [base.name, *names]
     case.put("project", data)
     case.put("in", base.data)
-    run = case.run(["play", "project", "in", "wave"], made=["wave"], more=4096 * 256)
+    run = case.run(["play", "project", "in", "wave"], made=["wave"], more=TABLES)
     if run.status == 0:
         wave = case.get("wave")
         demand(run.out == b"played %d bytes\n" % len(wave), "another number of bytes was written")
@@ -413,7 +415,7 @@ def words_case(case):
     case.put("cutting", cut.project.encode())
     words, status, err = case.rng.choice(WORDS)
     case.changes = [base.name, "words"]
-    kept = ["master"] if words[-1] == "/dev/full" and words[0] == "edit" else ["wave"] if words[:2] == ["play", "in"] else []
+    kept = ["master"] if words[-2:] == ["master", "/dev/full"] else ["wave"] if words[:2] == ["play", "in"] else []
     run = case.run(words, made=kept, more=room_of(case, "cutting"))
     demand(run.status == status, f"the status isn't {status}")
     if err:

@@ -108,12 +108,13 @@ def decimate_text(taps, factor, delay, shift, width):
 
 
 def filters():
-    """Projects that play, and what the file that is played depends on: factor and width."""
+    """Projects that play."""
     return [
-        (decimate_text([1, 2, 3, 4], 8, 3, 0, 16), 8, 16),
-        (decimate_text([-7, 100, 2000, 100, -7], 16, 2, 3, 24), 16, 24),
-        (decimate_text([1] * 33, 64, 32, 0, 16), 64, 16),
-        (decimate_text([5] * 300, 32, 150, 1, 24), 32, 24),
+        decimate_text([1, 2, 3, 4], 8, 3, 0, 16),
+        decimate_text([-7, 100, 2000, 100, -7], 16, 2, 3, 24),
+        decimate_text([1] * 33, 64, 32, 0, 16),
+        decimate_text([5 * k % 37 - 9 for k in range(300)], 32, 150, 1, 24),
+        decimate_text([2**20, -(2**20), 2**21], 8, 0, 0, 16),
     ]
 
 

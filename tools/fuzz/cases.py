@@ -129,15 +129,15 @@ def convert_and_back(case, info, source):
     return there
 
 
-def play(case, info, source, out, factor, width):
+def play(case, info, source, out, decimate):
     """Plays a file that is read as `info` by a project that stands."""
     through = case.rng.random() < 0.1
     run = case.run(["play", "project", "/dev/stdin" if through else source, out], made=[out], source=source if through else None)
-    if info["rate"] % factor:
+    if info["rate"] % decimate["factor"]:
         demand(run.err == b"fault: RateNotDivided\n", "the factor doesn't divide the rate")
         demand(case.get(out) == b"", "written before the rate was looked at")
         return None
-    head, size = wave_head(info, factor, width)
+    head, size = wave_head(info, decimate["factor"], decimate["width"])
     demand(run.out == b"played %d bytes\n" % size, f"{size} bytes are played")
     wave = case.get(out)
     demand(wave.startswith(head) and len(wave) == size, "the WAVE file isn't of that sound")
@@ -157,23 +157,45 @@ def told_of(case, name, data, is_sound):
     """What `info` tells of a file, or None: as a plain reading of it has it, the refusal too."""
     run = case.run(["info", name])
     try:
-        expected = reading.read(data)
+        expected, bit_at = reading.read(data)
     except reading.Refused as refused:
         demand(not is_sound, "only the sound was changed")
         demand(run.err.decode() == f"fault: FileUnread {refused}\n", f"not refused as {refused}")
-        return run, None
+        return run, None, None
     demand(run.status == 0, f"refused, but it holds {expected}")
     demand(told(run) == expected, f"it holds {expected}")
-    return run, expected
+    return run, expected, bit_at
+
+
+def judge_bits(case, info, bit_at, name):
+    """Whether another file of the same recording has the same bits: at some places of each channel."""
+    _, other = reading.read(case.get(name))
+    count = info["samples"]
+    for channel in range(info["channels"] if count else 0):
+        for place in {0, count - 1, *(case.rng.randrange(count) for _ in range(20))}:
+            demand(bit_at(channel, place) == other(channel, place), f"another bit of channel {channel} at place {place}")
+
+
+def judge_samples(case, info, bit_at, decimate, wave):
+    """Whether a WAVE file holds the samples of a recording: some of each channel."""
+    channels, factor, size = info["channels"], decimate["factor"], decimate["width"] // 8
+    frames = -(-info["samples"] // factor)
+    for channel in range(channels if frames else 0):
+        for number in {0, frames - 1, case.rng.randrange(frames)}:
+            at = 44 + (number * channels + channel) * size
+            found = int.from_bytes(wave[at : at + size], "little", signed=True)
+            expected = reading.sample(info, bit_at, decimate, channel, number)
+            demand(found == expected, f"sample {number} of channel {channel} is {found}, not {expected}")
 
 
 def recording_case(case):
     """A recording's file: told of, converted, back, and played."""
     base, data, is_sound = a_recording(case)
     case.put("in", data)
-    text, factor, width = case.rng.choice(bases.filters())
+    text = case.rng.choice(bases.filters())
+    decimate = tomllib.loads(text)["decimate"]
     case.put("project", text.encode())
-    seen, info = told_of(case, "in", data, is_sound)
+    seen, info, bit_at = told_of(case, "in", data, is_sound)
     if info is None:
         form = case.rng.choice(FORMS)
         run = case.run(["convert", form, "in", name_now_and_then(case, "out")], made=["out"])
@@ -184,18 +206,19 @@ def recording_case(case):
         demand(fault_of(run) in ("FileRefused", "RateNotDivided", "TooLarge"), "refused for another cause")
         return
     if is_sound:
-        demand(info == reading.read(base.data), "other sound, and something else is told")
+        demand(info == reading.read(base.data)[0], "other sound, and something else is told")
     there = convert_and_back(case, info, "in")
-    wave = play(case, info, "in", "wave", factor, width)
-    if there and wave is not None:
-        other = play(case, there, "out", "other", factor, width)
-        demand(wave == other, "the converted file plays other samples")
+    wave = play(case, info, "in", "wave", decimate)
+    if wave is not None:
+        judge_samples(case, info, bit_at, decimate, wave)
+    if there:
+        judge_bits(case, info, bit_at, "out")
+        demand(wave == play(case, there, "out", "other", decimate), "the converted file plays other samples")
 
 
 def filter_case(case):
     """A project that plays, changed, and a file that stands."""
-    text, _, _ = case.rng.choice(bases.filters())
-    data, names = mutating.mutate_project(case.rng, text.encode())
+    data, names = mutating.mutate_project(case.rng, case.rng.choice(bases.filters()).encode())
     base = case.rng.choice(bases.recordings(case.rng))
     case.changes = [base.name, *names]
     case.put("project", data)
@@ -411,7 +434,7 @@ def words_case(case):
     cut = case.rng.choice(bases.cuts(case.rng)[:2])
     put_takes(case, cut, False)
     case.put("in", base.data)
-    case.put("project", bases.filters()[0][0].encode())
+    case.put("project", bases.filters()[0].encode())
     case.put("cutting", cut.project.encode())
     words, status, err = case.rng.choice(WORDS)
     case.changes = [base.name, "words"]
@@ -465,29 +488,33 @@ WORDS = [
 
 
 def scarce_case(case):
-    """Any of these under less memory than it may take: it may say that memory was wanting, or nothing at all, but it
-    ends by itself, and makes no file then."""
-    case.limit_part = case.rng.random() ** 3
-    base, data, _ = a_recording(case)
-    cut = case.rng.choice(bases.cuts(case.rng))
-    put_takes(case, cut, False)
-    case.put("in", data if case.rng.random() < 0.5 else base.data)
-    case.put("project", case.rng.choice(bases.filters())[0].encode())
-    case.put("cutting", cut.project.encode())
-    form = case.rng.choice(FORMS)
-    room = room_of(case, "cutting")
+    """Larger files under less memory than they take: a run may say that memory was wanting, or nothing at all, but it ends
+    by itself and makes no file then. `play` leaves a front."""
+    frames = case.rng.randrange(1000, 200_000)
+    for name in ("a.dff", "b.dff"):
+        case.put(name, bases.dsdiff(case.rng, name, 1, frames, is_rich=True).data)
+    case.put("c.dsf", bases.dsf(case.rng, "c", 2, 4 * frames, tag=b"ID3").data)
+    case.put("project", case.rng.choice(bases.filters()).encode())
+    cues = [(0, 0, 8 * frames - 2000, 200, "a title"), (1, 3000, 8 * frames)]
+    case.put("cutting", bases.splice_text([1] * case.rng.randint(2, 12), ("a.dff", "b.dff"), cues).encode())
+    source, form = case.rng.choice(("a.dff", "c.dsf")), case.rng.choice(FORMS)
     words = case.rng.choice(
         (
-            ["info", "in"],
-            ["convert", form, "in", "out"],
-            ["play", "project", "in", "wave"],
+            ["info", source],
+            ["convert", form, source, "out"],
+            ["play", "project", source, "wave"],
             ["edit", form, "cutting", "master", "cert"],
-            ["check", "cutting", "in", "in"],
+            ["check", "cutting", "a.dff", "b.dff"],
         )
     )
-    run = case.run(words, made=["out", "wave", "master", "cert"], more=room)
-    if run.status == 2 and words[0] != "play":
-        case.demand_unmade(run, "out", "master", "cert")
+    case.limit_part = case.rng.random()
+    run = case.run(words, made=["out", "wave", "master", "cert"])
+    if words[0] != "play":
+        if run.status == 2:
+            case.demand_unmade(run, "out", "master", "cert")
+    elif case.has("wave"):
+        left = case.get("wave")
+        demand(left[:4] == b"RIFF"[: len(left)], "what is left is no front of a WAVE file")
 
 
 # How often each case comes.

@@ -22,7 +22,7 @@ def make_files(folder):
     bits = 8 * FRAMES
     cues = [(0, 0, bits - 64, 64), (1, 1024, bits - 64)]
     put(folder, "cutting", bases.splice_text([1, 2, 2, 1], ("a.dff", "b.dff"), cues).encode())
-    put(folder, "project", bases.filters()[0][0].encode())
+    put(folder, "project", bases.filters()[0].encode())
 
 
 # The words of each command, and the files that are read and written.
@@ -38,9 +38,12 @@ COMMANDS = (
 
 
 def multiples(program):
-    """For each command its words and the multiple, with what it needs to start not counted."""
+    """For each command its words and the multiple, with what it needs to start not counted: None where it isn't done."""
     make_files(program.folder)
     for words, names in COMMANDS:
+        if program.run(words).status != 0:
+            yield words, None
+            continue
         least = program.find_least(words)
         size = sum(os.path.getsize(os.path.join(program.folder, name)) for name in names)
         yield words, (least - program.start) / size

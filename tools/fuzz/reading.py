@@ -1,5 +1,5 @@
-"""What `info` has to tell of a file, by a plain reading of docs/DSDIFF.md and docs/DSF.md: the recording, or the first
-refusal. It shares nothing with the program."""
+"""A plain reading of files by docs/DSDIFF.md and docs/DSF.md: what `info` has to tell, and the bits; or the first refusal.
+Samples of them by docs/PROJECTS.md. It shares nothing with the program."""
 import struct
 
 from judging import LAYOUTS
@@ -19,7 +19,7 @@ def refuse(stands, text):
 
 
 def read(data):
-    """What is told of a file. Refused where it isn't read."""
+    """What is told of a file, and a function that answers the bit of a channel at a place. Refused where it isn't read."""
     if len(data) >= 16 and data[:4] == b"FRM8" and data[12:16] == b"DSD ":
         return read_dsdiff(data)
     refuse(data[:4] != b"DSD ", "UnknownForm")
@@ -72,7 +72,12 @@ def read_dsdiff(data):
     others += sum(name not in (b"FS  ", b"CHNL", b"CMPR") for name, _, _ in inner)
     others += sum(name not in (b"FVER", b"DSD ", b"DIIN", b"PROP") for name, _, _ in top)
     others += sum(name == b"PROP" and it[:4] != b"SND " for name, _, it in top)
-    return info | {"form": "dsdiff", "marks": len(marks), "mark": marks, "others": others, "tag": 0}
+    start, channels = found[b"DSD "][0] + 12, info["channels"]
+
+    def bit_at(channel, place):
+        return data[start + place // 8 * channels + channel] >> (7 - place % 8) & 1
+
+    return info | {"form": "dsdiff", "marks": len(marks), "mark": marks, "others": others, "tag": 0}, bit_at
 
 
 def read_property(chunks):
@@ -132,7 +137,13 @@ def read_dsf(data):
     refuse(stop - behind > room or stop > len(data), "Dsf DataCut")
     refuse(pointer and not stop <= pointer <= len(data), "Dsf BadPointer")
     ids = [b"SLFT", b"SRGT"] if channels == 2 else [b"C%03d" % c for c in range(channels)]
-    return {
+
+
+    def bit_at(channel, place):
+        byte = data[behind + 12 + (place // 32768 * channels + channel) * 4096 + place % 32768 // 8]
+        return byte >> (place % 8 if per_sample == 1 else 7 - place % 8) & 1
+
+    info = {
         "form": "dsf" if per_sample == 1 else "dsf8",
         "rate": rate,
         "channels": channels,
@@ -144,3 +155,18 @@ def read_dsf(data):
         "others": 0,
         "tag": len(data) - pointer if pointer else 0,
     }
+    return info, bit_at
+
+
+# Samples.
+
+
+def sample(info, bit_at, decimate, channel, number):
+    """A sample of what a recording plays."""
+    taps, shift, most = decimate["taps"], decimate["shift"], 1 << (decimate["width"] - 1)
+    place = number * decimate["factor"] + decimate["delay"]
+    total = 0
+    for k, tap in enumerate(taps):
+        if 0 <= place - k < info["samples"]:
+            total += tap if bit_at(channel, place - k) else -tap
+    return max(-most, min(most - 1, (total + (1 << shift >> 1)) >> shift))

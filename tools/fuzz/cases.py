@@ -517,5 +517,33 @@ def scarce_case(case):
         demand(left[:4] == b"RIFF"[: len(left)], "what is left is no front of a WAVE file")
 
 
+LARGE = 2**31
+
+
+def large_case(case):
+    """A file of two gigabytes that holds only its front, the rest being zeros that stand nowhere: it is not played, as
+    its WAVE file would be too large, and to read it whole memory is wanting."""
+    if case.rng.random() < 0.5:
+        front = bases.dsdiff(case.rng, "large", 1, 0).data
+        sizes = ((4, len(front) - 12 + LARGE, "big"), (len(front) - 8, LARGE, "big"))
+    else:
+        front = bases.dsf(case.rng, "large", 1, 0).data
+        sizes = ((64, 8 * LARGE, "little"), (84, 12 + LARGE, "little"))
+    for at, size, order in sizes:
+        front = mutating.put_number(front, at, 8, size, order)
+    with open(case.path("large"), "wb") as file:
+        file.write(front)
+        file.truncate(len(front) + LARGE)
+    case.made.add("large")
+    case.put("project", bases.filters()[0].encode())
+    run = case.run(["play", "project", "large", "wave"], made=["wave"])
+    demand(run.err == b"fault: TooLarge\n" and case.get("wave") == b"", "a WAVE file of 4 GB")
+    case.limit_part = 1.0
+    words = case.rng.choice((["info", "large"], ["convert", "dsf", "large", "out"], ["play", "large", "project", "wave"]))
+    run = case.run(words, made=["wave"])
+    demand(run.err == b"fault: Memory\n", "two gigabytes within a few megabytes")
+
+
 # How often each case comes.
-KINDS = [(recording_case, 40), (filter_case, 12), (cut_case, 20), (check_case, 20), (words_case, 2), (scarce_case, 6)]
+KINDS = [(recording_case, 40), (filter_case, 12), (cut_case, 20), (check_case, 20), (words_case, 2), (scarce_case, 5)]
+KINDS += [(large_case, 1)]

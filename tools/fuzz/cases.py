@@ -7,6 +7,7 @@ from collections import namedtuple
 
 import bases
 import mutating
+import projects
 import reading
 from judging import Failure, cert_size, converted, demand, fault_of, judge_run, told, wave_head
 from running import MEGABYTE
@@ -216,6 +217,39 @@ def recording_case(case):
         demand(wave == play(case, there, "out", "other", decimate), "the converted file plays other samples")
 
 
+UNKNOWN = object()
+
+
+def play_fault(data, info):
+    """The fault of playing a file that is read as `info` by a project: None where it is played, UNKNOWN where that isn't
+    known."""
+    try:
+        document = projects.read(data)
+    except projects.Fault as fault:
+        return f"Project {fault}"
+    except projects.Unknown:
+        return UNKNOWN
+    if "decimate" not in document:
+        return "NoDecimation"
+    return "RateNotDivided" if info["rate"] % document["decimate"]["factor"] else None
+
+
+def edit_fault(case, data, form):
+    try:
+        return projects.edit_fault(data, case.program.folder, form)
+    except projects.Unknown:
+        return UNKNOWN
+
+
+def judge_refusal(run, expected):
+    if expected is UNKNOWN:
+        return
+    if expected is None:
+        demand(run.status == 0, "refused, though nothing is wrong with it")
+    else:
+        demand(run.err.decode() == f"fault: {expected}\n", f"not refused as {expected}")
+
+
 def filter_case(case):
     """A project that plays, changed, and a file that stands."""
     data, names = mutating.mutate_project(case.rng, case.rng.choice(bases.filters()).encode())
@@ -224,6 +258,7 @@ def filter_case(case):
     case.put("project", data)
     case.put("in", base.data)
     run = case.run(["play", "project", "in", "wave"], made=["wave"], more=TABLES)
+    judge_refusal(run, play_fault(data, reading.read(base.data)[0]))
     if run.status == 0:
         wave = case.get("wave")
         demand(run.out == b"played %d bytes\n" % len(wave), "another number of bytes was written")
@@ -293,7 +328,9 @@ def cut_case(case):
     room = room_of(case, "project")
     form = case.rng.choice(FORMS)
     master, cert = name_now_and_then(case, "master"), name_now_and_then(case, "cert")
+    expected = edit_fault(case, data, form)
     run = case.run(["edit", form, "project", master, cert], made=[master, cert], more=room)
+    judge_refusal(run, expected)
     if run.status == 2:
         case.demand_unmade(run, master, cert)
         return

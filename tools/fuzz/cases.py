@@ -133,7 +133,8 @@ def convert_and_back(case, info, source):
 def play(case, info, source, out, decimate):
     """Plays a file that is read as `info` by a project that stands."""
     through = case.rng.random() < 0.1
-    run = case.run(["play", "project", "/dev/stdin" if through else source, out], made=[out], source=source if through else None)
+    words = ["play", "project", "/dev/stdin" if through else source, out]
+    run = case.run(words, made=[out], source=source if through else None)
     if info["rate"] % decimate["factor"]:
         demand(run.err == b"fault: RateNotDivided\n", "the factor doesn't divide the rate")
         demand(case.get(out) == b"", "written before the rate was looked at")
@@ -367,7 +368,7 @@ def check_case(case):
     case.demand_made("master", "cert")
     total = run.out.decode().split()[-1]
     case.changes = [cut.name, form]
-    change = case.rng.choice((cut_certificate, lengthened_certificate, changed_certificate, changed_certificate, changed_master, bit_of_master))
+    change = case.rng.choice(CHECK_CHANGES)
     expected = change(case, cut, form)
     run = case.run(["check", "project", "master", "cert"], more=room)
     demand(run.status in (0, 1), "a fault, though project and takes stand")
@@ -460,6 +461,9 @@ def is_in_cue(plan, place):
             return place < cue
         place -= cue + bridge
     raise Failure("a place behind the master's end")
+
+
+CHECK_CHANGES = (cut_certificate, lengthened_certificate, changed_certificate, changed_certificate, changed_master, bit_of_master)
 
 
 # Words and devices.

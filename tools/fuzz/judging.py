@@ -32,7 +32,8 @@ DONE = {
     "check": r"accepted total \d+\n",
 }
 CERT_REASON = r"(Cut|Head|Length|Bound|Start|Step \d+ \d+|End \d+|Cost)"
-REJECTED = rf"rejected (MasterUnread|MasterShape|MasterLength|MasterMarks|CuedBit \d \d+|CertHead (Cut|Head)|Cert \d+ {CERT_REASON}|CertExtra)\n"
+REJECTED = r"rejected (MasterUnread|MasterShape|MasterLength|MasterMarks|CuedBit \d \d+|CertHead (Cut|Head)"
+REJECTED += rf"|Cert \d+ {CERT_REASON}|CertExtra)\n"
 
 LAYOUTS = (1, 2, 3, 4, 6, 7)
 

@@ -2,6 +2,7 @@
 
 A DSDIFF file is also handed out as a tree of chunks, (ID, data) or (ID, type, chunks), so that chunks can be moved and
 the sizes round them mended."""
+import random
 import struct
 from collections import namedtuple
 
@@ -54,6 +55,13 @@ def dsdiff_tree(rng, channels, frames, rate, is_rich):
             (b"MANF", b"abcdsecret"),
         ]
     return (b"FRM8", b"DSD ", chunks)
+
+
+def dsdiff_of(channels, sound):
+    """The DSDIFF file of a sound."""
+    tree = dsdiff_tree(random.Random(0), channels, 0, RATES[0], False)
+    tree[2][-1] = (b"DSD ", sound)
+    return chunk_bytes(tree)
 
 
 def find_sound(tree):

@@ -1,4 +1,5 @@
 """The cases: each makes files, runs commands over them and demands what has to hold of them together."""
+import itertools
 import os
 import re
 import struct
@@ -6,6 +7,7 @@ import tomllib
 from collections import namedtuple
 
 import bases
+import bridging
 import mutating
 import projects
 import reading
@@ -463,6 +465,54 @@ def is_in_cue(plan, place):
     raise Failure("a place behind the master's end")
 
 
+def small_takes(rng, channels):
+    """Two takes of 128 bits a channel, their channels as lists too: bits by chance, or such as leave bridges that tie."""
+    kind = rng.randrange(3)
+    takes = []
+    for _ in range(2):
+        words = [rng.randbytes(16) if kind == 0 else bytes([rng.choice((0, 255, 85))] * 16) for _ in range(channels)]
+        bits = [[byte >> (7 - k) & 1 for byte in word for k in range(8)] for word in words]
+        takes.append((bytes(itertools.chain.from_iterable(zip(*words))), bits))
+    return takes
+
+
+def small_cues(rng, weights):
+    """Up to three cues, whose bridges are short enough to try all lists of bits."""
+    number = rng.randint(1, 3)
+    cues = []
+    for k in range(number):
+        start = rng.randint(20, 60)
+        length = rng.randint(0, 6) if k < number - 1 else 0
+        cues.append((rng.randrange(2), start, start + rng.randint(weights - 1, 20), length))
+    return cues
+
+
+def bridge_case(case):
+    """A small project that stands: its master, certificate and total are those that trying all lists of bits finds."""
+    rng = case.rng
+    weights = [rng.choice((0, 1, -1, 2, rng.randint(-800, 800))) for _ in range(rng.randint(2, 5))]
+    takes, cues, form = small_takes(rng, rng.randint(1, 3)), small_cues(rng, len(weights)), rng.choice(FORMS)
+    for name, (sound, bits) in zip(("a.dff", "b.dff"), takes):
+        case.put(name, bases.dsdiff_of(len(bits), sound))
+    case.put("project", bases.splice_text(weights, ("a.dff", "b.dff"), cues).encode())
+    case.changes = ["bridges"]
+    channels, cert, total = bridging.master(weights, [bits for _, bits in takes], cues)
+    room = room_of(case, "project")
+    run = case.run(["edit", form, "project", "master", "cert"], made=["master", "cert"], more=room)
+    if form == "dsdiff" and len(channels[0]) % 8:
+        demand(run.err == b"fault: NotWholeBytes\n", "a master that ends inside a byte")
+        return
+    demand(run.out == b"edited total %d\n" % total, f"the bridges cost {total}")
+    case.demand_made("master", "cert")
+    demand(case.files["cert"] == cert, "another certificate")
+    info, bit_at = reading.read(case.files["master"])
+    demand(info["samples"] == len(channels[0]), "another length")
+    for number, bits in enumerate(channels):
+        demand([bit_at(number, place) for place in range(len(bits))] == bits, f"other bits of channel {number}")
+    run = case.run(["check", "project", "master", "cert"], more=room)
+    demand(run.out == b"accepted total %d\n" % total, "not accepted")
+
+
 CHECK_CHANGES = (cut_certificate, lengthened_certificate, changed_certificate, changed_certificate, changed_master, bit_of_master)
 
 
@@ -587,4 +637,4 @@ def large_case(case):
 
 # How often each case comes.
 KINDS = [(recording_case, 40), (filter_case, 12), (cut_case, 20), (check_case, 20), (words_case, 2), (scarce_case, 5)]
-KINDS += [(large_case, 1)]
+KINDS += [(bridge_case, 3), (large_case, 1)]

@@ -1,0 +1,112 @@
+#!/usr/bin/env python3
+"""Makes an archive of a hundred small DSD files to try a workflow on: make_archive.py FOLDER.
+
+DSDIFF files are written here, DSF files by dsdarc (or what DSDARC names) from these. Fourteen are broken or of a kind
+that is refused, two of a rate that the usual filters don't have, and two end inside a byte.
+"""
+import os
+import random
+import struct
+import subprocess
+import sys
+
+ROOT = os.path.dirname(os.path.dirname(os.path.abspath(__file__)))
+PROGRAM = os.environ.get("DSDARC", os.path.join(ROOT, "bin", "dsdarc"))
+RATES = [2_822_400, 2_822_400, 5_644_800, 3_072_000, 11_289_600, 6_144_000]
+IDS = {1: [b"C000"], 2: [b"SLFT", b"SRGT"], 5: [b"MLFT", b"MRGT", b"C   ", b"LS  ", b"RS  "]}
+NAMES = ["{nr:02} track.dff", "{nr:02} - Größe & Maß.dff", "{nr:02} it's \"quoted\".DFF", "{nr:02} [live] {{take}}.dff",
+         "{nr:02} 100% $HOME `x`.dff", "-{nr:02} first.dff"]
+
+
+def chunk(name, data):
+    return name + struct.pack(">Q", len(data)) + data + b"\0" * (len(data) % 2)
+
+
+def dsdiff(rate, channels, sound, compression=b"DSD ", more=b""):
+    ids = IDS.get(channels, [b"C%03d" % channel for channel in range(channels)])
+    prop = (b"SND " + chunk(b"FS  ", struct.pack(">I", rate))
+            + chunk(b"CHNL", struct.pack(">H", channels) + b"".join(ids))
+            + chunk(b"CMPR", compression + b"\x0enot compressed"))
+    body = chunk(b"FVER", bytes([1, 5, 0, 0])) + chunk(b"PROP", prop) + chunk(b"DSD ", sound) + more
+    return b"FRM8" + struct.pack(">Q", 4 + len(body)) + b"DSD " + body
+
+
+def mark(rate, seconds, text):
+    fields = struct.pack(">HBBIiHHHI", 0, 0, seconds, 0, 0, 0, 0, 0, len(text))
+    return chunk(b"DIIN", chunk(b"MARK", fields + text))
+
+
+def write(name, data):
+    os.makedirs(os.path.dirname(name), exist_ok=True)
+    with open(name, "wb") as file:
+        file.write(data)
+
+
+def to_dsf(name, form):
+    """Puts a DSF file in the place of a DSDIFF file."""
+    made = os.path.splitext(name)[0] + ".dsf"
+    subprocess.run([PROGRAM, "convert", form, name, made], check=True, stdout=subprocess.DEVNULL)
+    os.remove(name)
+    return made
+
+
+def good(folder, number, chance):
+    """A whole file: its form, rate, channels and length go by its number."""
+    rate = RATES[number % len(RATES)]
+    channels = [2, 2, 1, 6, 5, 2, 3, 4][number % 8]
+    count = 2 ** 11 + chance.randrange(2 ** 15)
+    more = mark(rate, 0, b"one") + chunk(b"COMT", b"\0\0") if number % 7 == 0 else b""
+    place = ["", "Artist A/Disc 1", "Artist A/Disc 2", "Künstler Ö/an album/CD 1"][number % 4]
+    name = os.path.join(folder, place, NAMES[number % len(NAMES)].format(nr=number))
+    write(name, dsdiff(rate, channels, chance.randbytes(channels * count), more=more))
+    if number % 3:
+        to_dsf(name, "dsf" if number % 2 else "dsf8")
+
+
+def patched(data, at, new):
+    return data[:at] + new + data[at + len(new):]
+
+
+def broken(folder, chance):
+    """Files that are refused, each for its own reason."""
+    stereo = chance.randbytes(40_000)
+    whole = dsdiff(2_822_400, 2, stereo)
+    name = os.path.join(folder, "broken", "x.dff")
+    write(name, whole)
+    made = to_dsf(name, "dsf")
+    with open(made, "rb") as file:
+        dsf = file.read()
+    os.remove(made)
+    for name, data in {
+        "empty.dff": b"",
+        "a text.dsf": b"no sound here\n",
+        "cut in the sound.dff": whole[:20_000],
+        "cut in the head.dff": whole[:40],
+        "packed (DST).dff": dsdiff(2_822_400, 2, stereo, compression=b"DST "),
+        "part frame.dff": dsdiff(2_822_400, 2, stereo[:-1]),
+        "seven channels.dff": dsdiff(2_822_400, 7, stereo[:7 * 5000]),
+        "slow rate.dff": dsdiff(44_100, 2, stereo),
+        "cut mark.dff": dsdiff(2_822_400, 2, stereo, more=chunk(b"DIIN", chunk(b"MARK", b"short"))),
+        "cut in the sound.dsf": dsf[:20_000],
+        "cut in the head.dsf": dsf[:50],
+        "two bits.dsf": patched(dsf, 60, struct.pack("<I", 2)),
+        "other blocks.dsf": patched(dsf, 72, struct.pack("<I", 1024)),
+        "tag behind the end.dsf": patched(dsf, 20, struct.pack("<Q", len(dsf) + 1)),
+    }.items():
+        write(os.path.join(folder, "broken", name), data)
+    for name, bits in {"odd end.dsf": 159_997, "one bit.dsf": 1}.items():
+        write(os.path.join(folder, "odd", name), patched(dsf, 64, struct.pack("<Q", bits)))
+    for name, rate in {"other rate.dff": 2_822_401, "fast rate.dff": 22_579_200}.items():
+        write(os.path.join(folder, "odd", name), dsdiff(rate, 2, stereo))
+
+
+def main():
+    folder, chance = sys.argv[1], random.Random(1)
+    broken(folder, chance)
+    for number in range(82):
+        good(folder, number, chance)
+    print(f"{sum(len(files) for _, _, files in os.walk(folder))} files")
+
+
+if __name__ == "__main__":
+    main()

@@ -22,11 +22,12 @@ def chunk(name, data):
     return name + struct.pack(">Q", len(data)) + data + b"\0" * (len(data) % 2)
 
 
-def dsdiff(rate, channels, sound, compression=b"DSD ", more=b""):
+def dsdiff(rate, channels, sound, compression=b"DSD ", more=b"", kept=b""):
+    """A DSDIFF file, with more chunks of the form behind its sound, and kept ones in its property."""
     ids = IDS.get(channels, [b"C%03d" % channel for channel in range(channels)])
     prop = (b"SND " + chunk(b"FS  ", struct.pack(">I", rate))
             + chunk(b"CHNL", struct.pack(">H", channels) + b"".join(ids))
-            + chunk(b"CMPR", compression + b"\x0enot compressed"))
+            + chunk(b"CMPR", compression + b"\x0enot compressed") + kept)
     body = chunk(b"FVER", bytes([1, 5, 0, 0])) + chunk(b"PROP", prop) + chunk(b"DSD ", sound) + more
     return b"FRM8" + struct.pack(">Q", 4 + len(body)) + b"DSD " + body
 

@@ -1,9 +1,11 @@
 //! Masters accepted with their certificates, and which other certificates show the same.
 
 use crate::builders::{
-    CUES, CUTS, CueNumbers, Sources, mono_sources, stereo_sources, titled_sources, with_byte,
+    CUES, CUTS, CueNumbers, Sources, mono_sources, sources_of, splice, stereo_sources,
+    titled_sources, with_byte,
 };
 use archive_core::{Edited, Fault, Form, Verdict, check};
+use fixtures::files::mono;
 use std::alloc::{AllocError, Global};
 use std::test::Fail;
 
@@ -64,6 +66,23 @@ fn accepts_titles_and_channels(rt: HostRuntime) -> Result<(), Fail> {
     assert!(rt; accepts(alloc, titled_sources(alloc), Form::Dsf, 0)?);
     assert!(rt; accepts(alloc, titled_sources(alloc), Form::Dsf8, 0)?);
     assert!(rt; accepts(alloc, stereo_sources(alloc), Form::Dsdiff, 8)?);
+    Ok(())
+}
+
+// A bridge of 4096 bits from ones to zeros by twelve weights, whose sum is 4096.
+const LONGEST: [CueNumbers; 2] = [(0, 0, 4096, 4096), (1, 4107, 4123, 0)];
+
+// A master of 8208 bits; 4097 rows of 2048 numbers in its certificate, between 18 bytes and 8.
+#[test]
+fn accepts_the_longest_bridge(rt: HostRuntime) -> Result<(), Fail> {
+    let alloc = rt.alloc();
+    let weights = "341, 341, 341, 341, 341, 341, 341, 341, 341, 341, 341, 345";
+    let text = splice(alloc, weights, &LONGEST);
+    let sources = sources_of(text, mono(alloc, &[0xff; 1024]), mono(alloc, &[0; 1024]))?;
+    let made = sources.edit(alloc, Form::Dsdiff)?;
+    assert!(rt; made.master.len() == 1152);
+    assert!(rt; made.cert.len() == 67_125_274);
+    assert!(rt; cost(alloc, &sources, &made, &made.cert)? == Some(made.total));
     Ok(())
 }
 

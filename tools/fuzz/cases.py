@@ -290,7 +290,7 @@ def plan_of(data):
             [it["stop"] - it["start"] for it in splice["cue"]],
             [it.get("bridge", 0) for it in splice["cue"]],
         )
-    except (AttributeError, KeyError, TypeError, ValueError, RecursionError):
+    except (ArithmeticError, AttributeError, KeyError, TypeError, ValueError, RecursionError):
         return None
     numbers = plan.cues + plan.bridges
     is_plan = all(type(it) is int and 0 <= it <= 2**36 for it in numbers) and 2 <= plan.weights <= 12

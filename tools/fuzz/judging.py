@@ -65,8 +65,6 @@ def judge_run(run, is_scarce=False):
     demand(run.signal == 0, f"ended by signal {run.signal}")
     demand(run.status in (0, 1, 2, 3), f"status {run.status}")
     out, err = run.out.decode(), run.err.decode()
-    if is_scarce and not out and not err:
-        return
     command = run.words[0] if run.words else ""
     if run.status == 0:
         demand(command in DONE and re.fullmatch(DONE[command], out) and not err, "done, but the lines aren't those of it")

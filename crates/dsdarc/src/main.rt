@@ -28,8 +28,7 @@ fn main(rt: HostRuntime) -> ExitCode {
         Err(error) if error.kind() == io::ErrorKind::OutOfMemory => Fault::Memory.into(),
         Err(_) => Outcome::WrongWords,
     };
-    let _ = print(&rt, &outcome);
-    ExitCode::from(status(&outcome))
+    ExitCode::from(status(&tell(&rt, outcome)))
 }
 
 fn given_words(rt: &HostRuntime) -> io::Result<Vec<String>> {
@@ -37,15 +36,31 @@ fn given_words(rt: &HostRuntime) -> io::Result<Vec<String>> {
     Ok(words)
 }
 
-// What was done or judged goes to standard output, a fault to standard error.
-fn print(rt: &HostRuntime, outcome: &Outcome) -> io::Result<()> {
-    let line = outcome_line(rt.alloc(), outcome)?;
-    match outcome {
-        Outcome::Fault(_)
-        | Outcome::ReadFailed
-        | Outcome::WriteFailed
-        | Outcome::WrongWords
-        | Outcome::UnknownFormName => eprintln!(rt; "{line}"),
-        _ => println!(rt; "{line}"),
+// What a command came to once it is told of: an outcome whose line there is no room for is want of memory, and an
+// answer that standard output doesn't take is a failed write. The fault itself needs no one to read it.
+fn tell(rt: &HostRuntime, outcome: Outcome) -> Outcome {
+    match outcome_line(rt.alloc(), &outcome) {
+        Ok(line) if is_answer(&outcome) => match println!(rt; "{line}") {
+            Ok(()) => outcome,
+            Err(_) => untold(rt, Outcome::WriteFailed),
+        },
+        Ok(line) => {
+            let _ = eprintln!(rt; "{line}");
+            outcome
+        }
+        Err(_) => untold(rt, Fault::Memory.into()),
     }
+}
+
+// What was done or judged goes to standard output, a fault to standard error.
+fn is_answer(outcome: &Outcome) -> bool {
+    status(outcome) < 2
+}
+
+// The fault that nothing was told, told of where there is room for its line.
+fn untold(rt: &HostRuntime, fault: Outcome) -> Outcome {
+    if let Ok(line) = outcome_line(rt.alloc(), &fault) {
+        let _ = eprintln!(rt; "{line}");
+    }
+    fault
 }

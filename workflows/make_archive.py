@@ -4,11 +4,11 @@
 DSDIFF files are written here, DSF files by dsdarc (or what DSDARC names) from these. Fourteen are broken or of a kind
 that is refused, two of a rate that the usual filters don't have, and two end inside a byte.
 """
+import argparse
 import os
 import random
 import struct
 import subprocess
-import sys
 
 ROOT = os.path.dirname(os.path.dirname(os.path.abspath(__file__)))
 PROGRAM = os.environ.get("DSDARC", os.path.join(ROOT, "bin", "dsdarc"))
@@ -102,7 +102,9 @@ def broken(folder, chance):
 
 
 def main():
-    folder, chance = sys.argv[1], random.Random(1)
+    parser = argparse.ArgumentParser(description=__doc__.partition(": ")[0] + ".")
+    parser.add_argument("folder", help="the folder to make, or to add to")
+    folder, chance = parser.parse_args().folder, random.Random(1)
     broken(folder, chance)
     for number in range(82):
         good(folder, number, chance)

@@ -9,8 +9,8 @@ use fixtures::files::mono;
 use std::alloc::{AllocError, Global};
 use std::test::Fail;
 
-// Whether what is cut is accepted at this cost.
-fn accepts(
+/// Whether what is cut is accepted at this cost.
+pub(crate) fn accepts(
     alloc: Global,
     sources: Result<Sources, AllocError>,
     form: Form,

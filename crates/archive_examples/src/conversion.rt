@@ -8,8 +8,8 @@ use fixtures::files::{MONO, RATE, RAW, dsf_of, file_of, marked};
 use std::alloc::{AllocError, Global};
 use std::test::Fail;
 
-// Whether a file is converted to these bytes, without so many parts of its recording.
-fn converts(
+/// Whether a file is converted to these bytes, without so many parts of its recording.
+pub(crate) fn converts(
     alloc: Global,
     from: Result<Vec<u8>, AllocError>,
     form: Form,
@@ -85,8 +85,8 @@ fn converts_channels_that_end_inside_a_byte(rt: HostRuntime) -> Result<(), Fail>
     Ok(())
 }
 
-// The file of one byte of sound with a mark, and a comment chunk of no comments, behind it.
-fn commented(alloc: Global) -> Result<Vec<u8>, AllocError> {
+/// The file of one byte of sound with a mark, and a comment chunk of no comments, behind it.
+pub(crate) fn commented(alloc: Global) -> Result<Vec<u8>, AllocError> {
     let mut rest = marked(alloc, 22)?;
     push_chunk(&mut rest, *b"COMT", &[0, 0])?;
     file_of(alloc, &[&RATE, &MONO, &RAW], &[0xf0], &rest)
@@ -102,8 +102,8 @@ fn counts_what_has_no_place_in_dsf(rt: HostRuntime) -> Result<(), Fail> {
     Ok(())
 }
 
-// The DSF file of one byte of sound with a tag.
-fn tagged(alloc: Global, bits: u32, first: u8) -> Result<Vec<u8>, AllocError> {
+/// The DSF file of one byte of sound with a tag.
+pub(crate) fn tagged(alloc: Global, bits: u32, first: u8) -> Result<Vec<u8>, AllocError> {
     dsf_of(alloc, (1, bits, 8), &[first], 4096, b"ID3")
 }
 

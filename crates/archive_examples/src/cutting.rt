@@ -11,8 +11,8 @@ use fixtures::projects::SPLICE;
 use std::alloc::{AllocError, Global};
 use std::test::Fail;
 
-// Whether the master that is cut is this file, at this cost.
-fn cuts(
+/// Whether the master that is cut is this file, at this cost.
+pub(crate) fn cuts(
     alloc: Global,
     sources: Result<Sources, AllocError>,
     form: Form,

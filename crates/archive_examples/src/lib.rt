@@ -16,6 +16,8 @@ mod file_commands;
 #[cfg(test)]
 mod folders;
 #[cfg(test)]
+mod growths;
+#[cfg(test)]
 mod master_commands;
 #[cfg(test)]
 mod opening;

@@ -11,16 +11,16 @@ use fixtures::projects::SPLICE;
 use std::alloc::{AllocError, Global};
 use std::test::Fail;
 
-// Cutting the master of `e.toml` to `m.dff` and `c.cert`.
-const CUT: Task = Task::Edit {
+/// Cutting the master of `e.toml` to `m.dff` and `c.cert`.
+pub(crate) const CUT: Task = Task::Edit {
     form: Form::Dsdiff,
     project: "e.toml",
     master: "m.dff",
     cert: "c.cert",
 };
 
-// Checking it.
-const CHECK: Task = Task::Check {
+/// Checking it.
+pub(crate) const CHECK: Task = Task::Check {
     project: "e.toml",
     master: "m.dff",
     cert: "c.cert",

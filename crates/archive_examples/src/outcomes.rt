@@ -119,10 +119,11 @@ fn tells(alloc: Global, file: Result<Vec<u8>, AllocError>, lines: &str) -> Resul
     Ok(prints(alloc, Outcome::Info(opened), 0, lines)?)
 }
 
-// What is told of a DSDIFF file with a mark, and of DSF files.
-const MARKED: &str =
+/// What is told of a DSDIFF file with a mark.
+pub(crate) const MARKED: &str =
     "form dsdiff\nrate 2822400\nchannels 1\nsamples 8\nids 43303030\nlayout 1\nmarks 1\nmark 0 type 0 channel 0\nothers 0\ntag 0";
 
+// What is told of DSF files.
 const LEAST: &str =
     "form dsf\nrate 2822400\nchannels 1\nsamples 8\nids 43303030\nlayout 1\nmarks 0\nothers 0\ntag 0";
 

@@ -51,8 +51,8 @@ fn plays_no_sound(rt: HostRuntime) -> Result<(), Fail> {
     Ok(())
 }
 
-// Whether a file that was built is played to these bytes by `DECIMATE`.
-fn plays_built(
+/// Whether a file that was built is played to these bytes by `DECIMATE`.
+pub(crate) fn plays_built(
     alloc: Global,
     file: Result<Vec<u8>, AllocError>,
     wave: &[u8],

@@ -1,0 +1,335 @@
+//! Each call of whole files and of commands, for `tools/growths`, which refuses their growths in turn: what was refused
+//! is handed out as it was answered.
+
+ghost use Rattle.std.specs.Prelude.{None, false};
+
+use crate::builders::{CUES, file_in, mono_sources, stereo_sources, titled, titled_sources};
+use crate::certifying::{LEVEL, cert_of};
+use crate::checking::accepts;
+use crate::conversion::{commented, converts, tagged};
+use crate::cutting::cuts;
+use crate::master_commands::{CHECK, CUT};
+use crate::outcomes::{MARKED, prints};
+use crate::playing::plays_built;
+use archive_core::{Fault, Form, Reason, play_stream, read_any, take_names};
+use chunk_core::{Inlet, Outlet};
+use command_core::{
+    Folder, FolderFault, MemoryFolder, Outcome, Task, outcome_line, perform, read_files, read_whole,
+};
+use fixtures::files::{FILE, WAVE, mono, noted, stereo};
+use fixtures::projects::{DECIMATE, SPLICE};
+use fixtures::waves::TWO_CHANNELS;
+use std::alloc::{AllocError, Global};
+use std::io;
+use std::io::{ErrorKind, Read, Write};
+use std::test::Fail;
+
+// A writer that takes just these bytes, in their order, and no memory: what was written is a front of them.
+#[derive(Drop)]
+struct Awaited<'a> {
+    left: &'a [u8],
+}
+
+impl Write for Awaited<'_> {
+    fn write(&mut self, buffer: &[u8]) -> io::Result<usize> {
+        let (front, left) = self.left.split_at(buffer.len().min(self.left.len()));
+        if front != buffer {
+            return Err(io::Error::from(ErrorKind::InvalidData));
+        }
+        self.left = left;
+        Ok(buffer.len())
+    }
+
+    fn flush(&mut self) -> io::Result<()> {
+        Ok(())
+    }
+}
+
+// Files that are read, and written, as they stand. It takes no memory, so what is refused is the command's.
+#[derive(Drop)]
+struct Shelf<'a> {
+    files: &'a [(&'a str, &'a [u8])],
+    // How many files were written whole.
+    written: usize,
+}
+
+impl<'a> Shelf<'a> {
+    // The bytes of a name.
+    fn bytes(&self, name: &str) -> Result<&'a [u8], FolderFault> {
+        for (other, bytes) in self.files {
+            if *other == name {
+                return Ok(*bytes);
+            }
+        }
+        Err(FolderFault)
+    }
+}
+
+impl<'a> Folder for Shelf<'a> {
+    type In = &'a [u8];
+
+    type Out = Awaited<'a>;
+
+    ghost file = { λ f n. None };
+
+    ghost is_told = { λ f. false };
+
+    fn open(&mut self, name: &str) -> Result<&'a [u8], FolderFault> {
+        self.bytes(name)
+    }
+
+    fn create(&mut self, name: &str) -> Result<Awaited<'a>, FolderFault> {
+        let left = self.bytes(name)?;
+        Ok(Awaited { left })
+    }
+
+    fn keep(&mut self, name: &str, out: Awaited<'a>) -> Result<(), FolderFault> {
+        let _ = name;
+        if out.left.is_empty() {
+            self.written = self.written.saturating_add(1);
+        }
+        Ok(())
+    }
+}
+
+// The fault of a command that was refused.
+fn fault_of(outcome: Outcome) -> Fault {
+    match outcome {
+        Outcome::Fault(fault) => fault,
+        Outcome::WriteFailed => Fault::WriteFailed,
+        _ => Fault::ReadFailed,
+    }
+}
+
+// Whether a task over these files comes to this line, and writes so many of them.
+fn comes_to(
+    alloc: Global,
+    files: &[(&str, &[u8])],
+    task: Task,
+    line: &str,
+    written: usize,
+) -> Result<bool, Fail> {
+    let mut shelf = Shelf { files, written: 0 };
+    match perform(alloc, task, &mut shelf) {
+        Ok(outcome) => {
+            Ok(outcome_line(alloc, &outcome)?.as_str() == line && shelf.written == written)
+        }
+        Err(outcome) => Err(fault_of(outcome))?,
+    }
+}
+
+// How many parts a file has beside its sound.
+fn parts(alloc: Global, file: Result<Vec<u8>, AllocError>) -> Result<usize, Fail> {
+    let opened = read_any(alloc, &file?)?;
+    let recording = &opened.recording;
+    Ok(recording.marks().len() + recording.others().len() + recording.tag().len())
+}
+
+#[test]
+fn a_file_is_read(rt: HostRuntime) -> Result<(), Fail> {
+    let alloc = rt.alloc();
+    assert!(rt; parts(alloc, commented(alloc))? == 2);
+    assert!(rt; parts(alloc, tagged(alloc, 1, 0x0f))? == 3);
+    Ok(())
+}
+
+#[test]
+fn takes_are_named(rt: HostRuntime) -> Result<(), Fail> {
+    assert!(rt; take_names(rt.alloc(), SPLICE.as_bytes())?.len() == 2);
+    Ok(())
+}
+
+#[test]
+fn a_file_is_converted_to_dsdiff(rt: HostRuntime) -> Result<(), Fail> {
+    let alloc = rt.alloc();
+    assert!(rt; converts(alloc, commented(alloc), Form::Dsdiff, commented(alloc), 0)?);
+    Ok(())
+}
+
+#[test]
+fn a_file_is_converted_to_dsf(rt: HostRuntime) -> Result<(), Fail> {
+    let alloc = rt.alloc();
+    let turned = tagged(alloc, 8, 0xf0);
+    assert!(rt; converts(alloc, tagged(alloc, 1, 0x0f), Form::Dsf8, turned, 0)?);
+    Ok(())
+}
+
+#[test]
+fn a_file_is_played(rt: HostRuntime) -> Result<(), Fail> {
+    let alloc = rt.alloc();
+    assert!(rt; plays_built(alloc, stereo(alloc, &[0xf0, 0x0f]), &TWO_CHANNELS)?);
+    Ok(())
+}
+
+// Whether a reader's file is played to this WAVE file, of which a front was written where it isn't.
+fn streams(alloc: Global, file: &[u8], wave: &[u8]) -> Result<bool, Fault> {
+    let mut inlet = Inlet::new(file);
+    let mut outlet = Outlet::new(Awaited { left: wave });
+    let played = play_stream(alloc, DECIMATE.as_bytes(), &mut inlet, &mut outlet);
+    let rest = outlet.into_inner();
+    played?;
+    Ok(rest.left.is_empty())
+}
+
+#[test]
+fn a_reader_is_played(rt: HostRuntime) -> Result<(), Fail> {
+    let alloc = rt.alloc();
+    assert!(rt; streams(alloc, &stereo(alloc, &[0xf0, 0x0f])?, &TWO_CHANNELS)?);
+    assert!(rt; streams(alloc, &file_in(alloc, Form::Dsf)?, &WAVE)?);
+    Ok(())
+}
+
+#[test]
+fn a_master_is_cut(rt: HostRuntime) -> Result<(), Fail> {
+    let alloc = rt.alloc();
+    let master = stereo(alloc, &[0xff, 0xff, 0, 0]);
+    assert!(rt; cuts(alloc, stereo_sources(alloc), Form::Dsdiff, master, 8)?);
+    Ok(())
+}
+
+#[test]
+fn a_master_is_marked(rt: HostRuntime) -> Result<(), Fail> {
+    let alloc = rt.alloc();
+    assert!(rt; cuts(alloc, titled_sources(alloc), Form::Dsdiff, titled(alloc), 0)?);
+    Ok(())
+}
+
+#[test]
+fn a_master_is_accepted(rt: HostRuntime) -> Result<(), Fail> {
+    let alloc = rt.alloc();
+    assert!(rt; accepts(alloc, stereo_sources(alloc), Form::Dsdiff, 8)?);
+    assert!(rt; accepts(alloc, titled_sources(alloc), Form::Dsdiff, 0)?);
+    Ok(())
+}
+
+#[test]
+fn a_line_is_made(rt: HostRuntime) -> Result<(), Fail> {
+    let alloc = rt.alloc();
+    let rejected = Outcome::Rejected(Reason::CuedBit(0, 0));
+    assert!(rt; prints(alloc, rejected, 1, "rejected CuedBit 0 0")?);
+    assert!(rt; prints(alloc, Outcome::Fault(Fault::NoSplice), 2, "fault: NoSplice")?);
+    assert!(rt; prints(alloc, Outcome::ReadFailed, 2, "fault: ReadFailed")?);
+    Ok(())
+}
+
+// Whether a task over `FILE`, a project and what it is played to comes to this line, and writes one of them.
+fn comes_to_over_file(alloc: Global, task: Task, line: &str) -> Result<bool, Fail> {
+    let project = DECIMATE.as_bytes();
+    let files: [(&str, &[u8]); 3] = [("p.toml", project), ("in.dff", &FILE), ("out", &WAVE)];
+    comes_to(alloc, &files, task, line, 1)
+}
+
+#[test]
+fn the_command_play_ends(rt: HostRuntime) -> Result<(), Fail> {
+    let task = Task::Play {
+        project: "p.toml",
+        input: "in.dff",
+        output: "out",
+    };
+    assert!(rt; comes_to_over_file(rt.alloc(), task, "played 46 bytes")?);
+    Ok(())
+}
+
+#[test]
+fn the_command_convert_ends(rt: HostRuntime) -> Result<(), Fail> {
+    let task = Task::Convert {
+        form: Form::Dsdiff,
+        input: "in.dff",
+        output: "in.dff",
+    };
+    assert!(rt; comes_to_over_file(rt.alloc(), task, "converted dropped 0")?);
+    Ok(())
+}
+
+// Whether a task over the files of a cut comes to this line, and writes so many of them.
+fn comes_to_over_master(
+    alloc: Global,
+    task: Task,
+    line: &str,
+    written: usize,
+) -> Result<bool, Fail> {
+    let sources = mono_sources(alloc, "1, 0", &CUES)?;
+    let master = mono(alloc, &[0xff, 0])?;
+    let cert = cert_of(alloc, &[(0, 0, LEVEL)])?;
+    let [first, second] = &sources.takes;
+    let files: [(&str, &[u8]); 5] = [
+        ("e.toml", sources.text.as_bytes()),
+        ("a.dff", first),
+        ("b.dff", second),
+        ("m.dff", &master),
+        ("c.cert", &cert),
+    ];
+    comes_to(alloc, &files, task, line, written)
+}
+
+#[test]
+fn the_command_edit_ends(rt: HostRuntime) -> Result<(), Fail> {
+    assert!(rt; comes_to_over_master(rt.alloc(), CUT, "edited total 4", 2)?);
+    Ok(())
+}
+
+#[test]
+fn the_command_check_ends(rt: HostRuntime) -> Result<(), Fail> {
+    assert!(rt; comes_to_over_master(rt.alloc(), CHECK, "accepted total 4", 0)?);
+    Ok(())
+}
+
+// Whether a file is told of by this line.
+fn tells(alloc: Global, file: &[u8], line: &str) -> Result<bool, Fail> {
+    comes_to(alloc, &[("in", file)], Task::Info { file: "in" }, line, 0)
+}
+
+#[test]
+fn the_command_info_ends(rt: HostRuntime) -> Result<(), Fail> {
+    let alloc = rt.alloc();
+    assert!(rt; tells(alloc, &noted(alloc, 22)?, MARKED)?);
+    Ok(())
+}
+
+// How many bytes a reader has.
+fn length_of(alloc: Global, bytes: &[u8]) -> Result<usize, Fault> {
+    match read_whole(alloc, bytes, 8) {
+        Ok(whole) => Ok(whole.len()),
+        Err(outcome) => Err(fault_of(outcome)),
+    }
+}
+
+// How many files are read of those that `SPLICE` names.
+fn number_read(alloc: Global, files: &[(&str, &[u8])]) -> Result<usize, Fault> {
+    let names = take_names(alloc, SPLICE.as_bytes())?;
+    match read_files(alloc, &mut Shelf { files, written: 0 }, &names) {
+        Ok(read) => Ok(read.len()),
+        Err(outcome) => Err(fault_of(outcome)),
+    }
+}
+
+#[test]
+fn files_are_read_whole(rt: HostRuntime) -> Result<(), Fail> {
+    let alloc = rt.alloc();
+    assert!(rt; length_of(alloc, &FILE)? == 128);
+    assert!(rt; number_read(alloc, &[("a.dff", &FILE), ("b.dff", &[])])? == 2);
+    Ok(())
+}
+
+// Puts the file `a`, and keeps a file `b` of no bytes.
+fn fill(alloc: Global, folder: &mut MemoryFolder) -> Result<(), AllocError> {
+    folder.put("a", &FILE)?;
+    folder.keep("b", Vec::new(alloc)).map_err(|_| AllocError)
+}
+
+// How many bytes are read of the file `a` of a folder and how many files it has. A folder in memory where the file is
+// fails for want of memory alone, and has one fault for everything.
+fn held(alloc: Global) -> Result<(usize, usize), Fail> {
+    let mut folder = MemoryFolder::new(alloc);
+    fill(alloc, &mut folder)?;
+    let mut opened = folder.open("a").map_err(|_| AllocError)?;
+    let mut bytes = [0; 128];
+    let count = opened.read(&mut bytes)?;
+    Ok((count, folder.count()))
+}
+
+#[test]
+fn a_folder_holds_files(rt: HostRuntime) -> Result<(), Fail> {
+    assert!(rt; held(rt.alloc())? == (128, 2));
+    Ok(())
+}

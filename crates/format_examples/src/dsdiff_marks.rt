@@ -48,6 +48,12 @@ fn wants_whole_marks(rt: HostRuntime) {
     assert!(rt; marks_of(rt.alloc(), &[0; 21]) == Err(DsdiffFault::BadMark));
 }
 
+#[test]
+fn wants_the_text_that_is_counted(rt: HostRuntime) {
+    let lying = b"\0\x01\x02\x03\0\0\0\x04\xff\xff\xff\xfb\0\x06\0\x07\0\x08\xff\xff\xff\xffx";
+    assert!(rt; marks_of(rt.alloc(), lying) == Err(DsdiffFault::BadMark));
+}
+
 // A mark of so many hours, minutes and seconds each, five samples, and an offset.
 fn mark_of(alloc: Global, hours: u8, offset: i32) -> Mark {
     Mark {

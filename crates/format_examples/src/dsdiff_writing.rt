@@ -10,8 +10,8 @@ use fixtures::files::FILE;
 use std::alloc::{AllocError, Global};
 use std::test::Fail;
 
-// The file of one channel of the byte f0 with a mark, and with a kept chunk at each place.
-const WITH_PARTS: &[u8; 228] = b"FRM8\0\0\0\0\0\0\0\xd8DSD \
+/// The file of one channel of the byte f0 with a mark, and with a kept chunk at each place.
+pub(crate) const WITH_PARTS: &[u8; 228] = b"FRM8\0\0\0\0\0\0\0\xd8DSD \
     FVER\0\0\0\0\0\0\0\x04\x01\x05\0\0\
     PROP\0\0\0\0\0\0\0\x54SND \
     FS  \0\0\0\0\0\0\0\x04\0\x2b\x11\0\

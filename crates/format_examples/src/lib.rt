@@ -30,6 +30,8 @@ mod dsf_refusals;
 #[cfg(test)]
 mod dsf_writing;
 #[cfg(test)]
+mod growths;
+#[cfg(test)]
 mod laced_blocks;
 #[cfg(test)]
 mod laced_bytes;

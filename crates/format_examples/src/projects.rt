@@ -5,7 +5,8 @@ use project_core::{Cue, ProjectFault, Splice, Target, read};
 use std::alloc::Global;
 use std::test::Fail;
 
-const EXAMPLE: &str = "[decimate]
+/// A project of a decimator and a splice.
+pub(crate) const EXAMPLE: &str = "[decimate]
 taps = [1, 2, 3, 4]
 factor = 8
 delay = 3

@@ -1,0 +1,242 @@
+//! Each call of these crates that takes memory, for `tools/growths`, which refuses their growths in turn: what was
+//! refused is handed out as it was answered.
+
+use crate::dsdiff_writing::WITH_PARTS;
+use crate::projects::EXAMPLE;
+use chunk_core::{Order, push_chunk, push_u16, push_u32, push_u64, walk};
+use dsd_bits::{
+    BitOrder, Bits, SoundAt, lace_blocks, lace_bytes, push_blocks, push_laced, unlace_blocks,
+    unlace_bytes,
+};
+use fixtures::files::{FILE, one_bit};
+use std::alloc::Global;
+use std::test::Fail;
+use wave_core::{Pcm, push_frames, push_header, push_pad, push_sample};
+
+#[test]
+fn chunks_are_found(rt: HostRuntime) -> Result<(), Fail> {
+    let alloc = rt.alloc();
+    let bytes = b"AAAA\0\0\0\0\0\0\0\0".repeat(alloc, 5)?;
+    assert!(rt; walk(alloc, &bytes, 0, bytes.len())?.len() == 5);
+    Ok(())
+}
+
+#[test]
+fn a_chunk_is_appended(rt: HostRuntime) -> Result<(), Fail> {
+    let mut out = Vec::new(rt.alloc());
+    push_chunk(&mut out, *b"AAAA", &[0xff])?;
+    assert!(rt; out.len() == 14);
+    Ok(())
+}
+
+#[test]
+fn numbers_are_appended(rt: HostRuntime) -> Result<(), Fail> {
+    let mut two = Vec::new(rt.alloc());
+    push_u16(&mut two, Order::Big, 1)?;
+    let mut four = Vec::new(rt.alloc());
+    push_u32(&mut four, Order::Big, 1)?;
+    let mut eight = Vec::new(rt.alloc());
+    push_u64(&mut eight, Order::Big, 1)?;
+    assert!(rt; (two.len(), four.len(), eight.len()) == (2, 4, 8));
+    Ok(())
+}
+
+// Twelve bits.
+fn bits(alloc: Global) -> Result<Bits, Fail> {
+    Ok(Bits::from_packed(alloc, &[0xf0, 0xff], 12)?)
+}
+
+#[test]
+fn bits_are_taken(rt: HostRuntime) -> Result<(), Fail> {
+    assert!(rt; bits(rt.alloc())?.len() == 12);
+    Ok(())
+}
+
+#[test]
+fn a_bit_is_added(rt: HostRuntime) -> Result<(), Fail> {
+    let mut bits = Bits::new(rt.alloc());
+    bits.push_bit(true)?;
+    assert!(rt; bits.len() == 1);
+    Ok(())
+}
+
+#[test]
+fn ranges_are_added(rt: HostRuntime) -> Result<(), Fail> {
+    let source = bits(rt.alloc())?;
+    assert!(rt; source.len() == 12);
+    for start in &[0, 2] {
+        let mut bits = Bits::new(rt.alloc());
+        bits.push_range(&source, *start, 10)?;
+        assert!(rt; bits.len() == 10 - *start);
+    }
+    Ok(())
+}
+
+#[test]
+fn bytes_are_taken_apart(rt: HostRuntime) -> Result<(), Fail> {
+    for channels in &[1, 2, 3] {
+        let made = unlace_bytes(rt.alloc(), b"abcdef", *channels)?;
+        assert!(rt; made.len() == *channels);
+    }
+    Ok(())
+}
+
+#[test]
+fn bytes_are_laced(rt: HostRuntime) -> Result<(), Fail> {
+    let alloc = rt.alloc();
+    let one = unlace_bytes(alloc, b"abcdef", 1)?;
+    assert!(rt; lace_bytes(alloc, &one)?.len() == 6);
+    let two = unlace_bytes(alloc, b"abcdef", 2)?;
+    assert!(rt; lace_bytes(alloc, &two)?.len() == 6);
+    Ok(())
+}
+
+#[test]
+fn laced_bytes_are_appended(rt: HostRuntime) -> Result<(), Fail> {
+    let alloc = rt.alloc();
+    let three = unlace_bytes(alloc, b"abcdef", 3)?;
+    let mut out = [7].to_vec(alloc)?;
+    push_laced(&mut out, &three)?;
+    assert!(rt; out.len() == 7);
+    Ok(())
+}
+
+#[test]
+fn blocks_are_taken_apart(rt: HostRuntime) -> Result<(), Fail> {
+    let blocks = vec![in rt.alloc(); 1u8; 8192]?;
+    for order in &[BitOrder::LeastFirst, BitOrder::MostFirst] {
+        let made = unlace_blocks(rt.alloc(), &blocks, 2, 9, *order)?;
+        assert!(rt; made.len() == 2);
+    }
+    Ok(())
+}
+
+#[test]
+fn blocks_are_laced(rt: HostRuntime) -> Result<(), Fail> {
+    let alloc = rt.alloc();
+    let two = unlace_bytes(alloc, b"abcdef", 2)?;
+    for order in &[BitOrder::LeastFirst, BitOrder::MostFirst] {
+        assert!(rt; lace_blocks(alloc, &two, *order)?.len() == 8192);
+    }
+    Ok(())
+}
+
+#[test]
+fn blocks_are_appended(rt: HostRuntime) -> Result<(), Fail> {
+    let one = unlace_bytes(rt.alloc(), b"abcdef", 1)?;
+    let mut out = [7].to_vec(rt.alloc())?;
+    push_blocks(&mut out, &one, BitOrder::LeastFirst)?;
+    assert!(rt; out.len() == 4097);
+    Ok(())
+}
+
+#[test]
+fn a_dsdiff_file_is_read(rt: HostRuntime) -> Result<(), Fail> {
+    let recording = dsdiff_core::read(rt.alloc(), WITH_PARTS)?;
+    assert!(rt; (recording.marks().len(), recording.others().len()) == (1, 3));
+    Ok(())
+}
+
+#[test]
+fn a_dsdiff_file_is_written(rt: HostRuntime) -> Result<(), Fail> {
+    let recording = dsdiff_core::read(rt.alloc(), WITH_PARTS)?;
+    assert!(rt; dsdiff_core::write(rt.alloc(), &recording)?.len() == 228);
+    Ok(())
+}
+
+#[test]
+fn a_mark_is_made(rt: HostRuntime) -> Result<(), Fail> {
+    let mark = dsdiff_core::mark_at(rt.alloc(), 5, 2_822_400, b"x")?;
+    assert!(rt; mark.samples == 5);
+    Ok(())
+}
+
+#[test]
+fn a_front_leads_to_its_sound(rt: HostRuntime) -> Result<(), Fail> {
+    let found = dsdiff_core::sound_at(rt.alloc(), &FILE)?;
+    assert!(rt; matches!(found, SoundAt::Found(sound) if sound.start == 126));
+    Ok(())
+}
+
+// Whether `WITH_PARTS` closes behind its sound, with a mark and kept chunks.
+fn closes(alloc: Global) -> Result<bool, Fail> {
+    let (front, rest) = WITH_PARTS.split_at(140);
+    match dsdiff_core::sound_at(alloc, front)? {
+        SoundAt::Found(sound) if sound.start == front.len() => {
+            Ok(dsdiff_core::closes(alloc, front, &rest[1..])?)
+        }
+        _ => Err("a front that ends at its sound")?,
+    }
+}
+
+#[test]
+fn an_end_closes_a_file(rt: HostRuntime) -> Result<(), Fail> {
+    assert!(rt; closes(rt.alloc())?);
+    Ok(())
+}
+
+#[test]
+fn a_dsf_file_is_read(rt: HostRuntime) -> Result<(), Fail> {
+    let file = one_bit(rt.alloc(), b"a tag")?;
+    let (recording, _) = dsf_core::read(rt.alloc(), &file)?;
+    assert!(rt; (recording.count(), recording.tag().len()) == (1, 5));
+    Ok(())
+}
+
+#[test]
+fn a_dsf_file_is_written(rt: HostRuntime) -> Result<(), Fail> {
+    let recording = dsdiff_core::read(rt.alloc(), &FILE)?;
+    let file = dsf_core::write(rt.alloc(), &recording, BitOrder::LeastFirst)?;
+    assert!(rt; file.len() == 4188);
+    Ok(())
+}
+
+#[test]
+fn a_header_is_appended(rt: HostRuntime) -> Result<(), Fail> {
+    let mut out = Vec::new(rt.alloc());
+    push_header(&mut out, 1, 352_800, 16, 1)?;
+    assert!(rt; out.len() == 44);
+    Ok(())
+}
+
+#[test]
+fn samples_are_appended(rt: HostRuntime) -> Result<(), Fail> {
+    let mut narrow = Vec::new(rt.alloc());
+    push_sample(&mut narrow, 16, 5)?;
+    let mut wide = Vec::new(rt.alloc());
+    push_sample(&mut wide, 24, 5)?;
+    assert!(rt; (narrow.len(), wide.len()) == (2, 3));
+    Ok(())
+}
+
+#[test]
+fn frames_are_appended(rt: HostRuntime) -> Result<(), Fail> {
+    let mut out = Vec::new(rt.alloc());
+    push_frames(&mut out, 24, &[1, -2, 3, 4, 5, -6], 2)?;
+    assert!(rt; out.len() == 18);
+    Ok(())
+}
+
+#[test]
+fn a_pad_is_appended(rt: HostRuntime) -> Result<(), Fail> {
+    let mut out = Vec::new(rt.alloc());
+    push_pad(&mut out, 1, 24, 1)?;
+    assert!(rt; out.len() == 1);
+    Ok(())
+}
+
+#[test]
+fn a_wave_file_is_written(rt: HostRuntime) -> Result<(), Fail> {
+    let samples = Pcm::new(1, 352_800, 24, vec![in rt.alloc(); 10]?);
+    assert!(rt; wave_core::write(rt.alloc(), &samples)?.len() == 48);
+    Ok(())
+}
+
+#[test]
+fn a_project_is_read(rt: HostRuntime) -> Result<(), Fail> {
+    let project = project_core::read(rt.alloc(), EXAMPLE.as_bytes())?;
+    let splice = project.splice.ok_or("no splice")?;
+    assert!(rt; project.decimate.is_some());
+    assert!(rt; (splice.weights.len(), splice.takes.len(), splice.cues.len()) == (2, 2, 2));
+    Ok(())
+}

@@ -10,12 +10,23 @@ use crate::certificates::WORKED;
 use cert_core::{CertReader, CertVerdict, CertWriter};
 use chunk_core::{Inlet, Outlet};
 use cost_core::{LevelSink, SinkFault, Window, WindowFault};
-use dsd_bits::Bits;
+use dsd_bits::{Bits, Sound};
 use fir_core::{Kernel, Stream, Taps, decimate, decimate_with};
 use fixtures::windows::{bits_of, by_newest, ones, zeros};
+use player_core::Player;
 use std::alloc::{AllocError, Global};
 use std::test::Fail;
 use trellis_core::{bridge, bridge_into};
+
+// One channel of 40 bits, as in DSDIFF 1.5.
+const FORTY: Sound = Sound {
+    rate: 2_822_400,
+    channels: 1,
+    count: 40,
+    start: 0,
+    size: 5,
+    order: None,
+};
 
 // Counts the rows of a window.
 #[derive(Drop)]
@@ -149,6 +160,24 @@ fn a_stream_goes_on_after_a_refusal(rt: HostRuntime) -> Result<(), Fail> {
     let result = stream_whole(alloc, &taps, &mut made)?;
     assert!(rt; made.as_slice() == whole.as_slice());
     Ok(result?)
+}
+
+// Plays 40 ones by 33 taps: how many bytes of frames there are behind the sound's last byte, before the end.
+fn play_ones(alloc: Global, out: &mut Vec<u8>) -> Result<usize, Fail> {
+    let taps = Taps::new(alloc, &[1; 33], 8, 32, 0, 16)?;
+    let mut player = Player::new(alloc, &taps, FORTY)?;
+    player.feed(&[0xff; 5], out)?;
+    let early = out.len();
+    player.finish(out)?;
+    Ok(early)
+}
+
+#[test]
+fn a_sound_is_played(rt: HostRuntime) -> Result<(), Fail> {
+    let mut out = Vec::new(rt.alloc());
+    assert!(rt; play_ones(rt.alloc(), &mut out)? == 2);
+    assert!(rt; out.len() == 10);
+    Ok(())
 }
 
 #[test]

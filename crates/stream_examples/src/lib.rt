@@ -4,6 +4,8 @@
 #[cfg(test)]
 mod failing;
 #[cfg(test)]
+mod growths;
+#[cfg(test)]
 mod long_sounds;
 #[cfg(test)]
 mod played;

@@ -1,0 +1,56 @@
+//! Playing from a reader to a writer, for `tools/growths`, which refuses its growths in turn: what was refused is
+//! handed out as it was answered, and a front of the WAVE file was written.
+
+use crate::played::{NEVER, ONES, play_from};
+use archive_core::play;
+use fixtures::devices::{Sipping, drip, sip};
+use fixtures::files::{WAVE, dsf_of, mono, noted};
+use fixtures::projects::{DECIMATE, with_ones};
+use std::alloc::{AllocError, Global};
+use std::process::Abort;
+use std::test::Fail;
+
+// A writer that takes so many bytes without a growth: of one that is refused it would say that the write failed.
+fn roomy(alloc: Global, size: usize) -> Result<Sipping, AllocError> {
+    let mut writer = sip(alloc, NEVER, NEVER);
+    writer.bytes.reserve(size)?;
+    Ok(writer)
+}
+
+// What a project makes of a file that is read so many bytes at a time, as the WAVE file or a front of it.
+fn check_played(
+    rt: &impl Abort,
+    alloc: Global,
+    (text, file): (&str, &[u8]),
+    wave: &[u8],
+) -> Result<(), Fail> {
+    let writer = roomy(alloc, wave.len())?;
+    let played = play_from(alloc, text.as_bytes(), drip(file, 100, NEVER), writer);
+    assert!(rt; wave.starts_with(&played.bytes));
+    assert!(rt; played.answer? == wave.len() as u64);
+    Ok(())
+}
+
+#[test]
+fn laced_bytes_are_played(rt: HostRuntime) -> Result<(), Fail> {
+    let alloc = rt.alloc();
+    let text = with_ones(alloc, 33)?;
+    let file = mono(alloc, &[0xff; 5])?;
+    check_played(&rt, alloc, (text.as_str(), &file), &ONES)
+}
+
+#[test]
+fn bytes_behind_the_sound_are_kept(rt: HostRuntime) -> Result<(), Fail> {
+    let alloc = rt.alloc();
+    let file = noted(alloc, 200)?;
+    check_played(&rt, alloc, (DECIMATE, &file), &WAVE)
+}
+
+// Two groups of blocks, of which the second has one bit.
+#[test]
+fn blocks_are_played(rt: HostRuntime) -> Result<(), Fail> {
+    let alloc = rt.alloc();
+    let file = dsf_of(alloc, (2, 1, 32_769), b"some bits", 16_384, b"a tag")?;
+    let wave = play(alloc, DECIMATE.as_bytes(), &file)?;
+    check_played(&rt, alloc, (DECIMATE, &file), &wave)
+}

@@ -9,6 +9,7 @@ pub mod Limits
 pub mod Numbers
 pub mod Places
 pub mod Reading
+pub mod Squares
 pub mod StepRows
 pub mod SumLaws
 pub mod Tables

@@ -64,8 +64,9 @@ pub fn squared_difference(a: i32, b: i32) -> u64
     ensures value { result ≡ square (a -ℤ b) }
     ensures bound { result ≤ greatest_step }
 {
-    let size = u64::from((a - b).unsigned_abs());
-    size * size
+    // Squared with its sign: lanes multiply signed numbers, so no size is taken first.
+    let difference = i64::from(a - b);
+    (difference * difference) as u64
 }
 
 /// Writes the squares of the differences of some scaled sums and another one. (A plain loop over two slices,

@@ -1,5 +1,7 @@
 """A plain reading of projects by docs/PROJECTS.md: the first fault, or what the project says. What TOML is, Python's own
-`tomllib` decides, which knows TOML 1.0 alone: of a text that it refuses nothing is said."""
+`tomllib` decides, which knows TOML 1.0 alone: of a text that it refuses nothing is said, and nothing of one with a number
+that is infinite, as it takes 1e999 for one."""
+import math
 import os
 import tomllib
 
@@ -34,10 +36,10 @@ def are_whole(values):
 
 
 def numbers_and_depth(value):
-    """All whole numbers in a value, and how deep it is nested."""
+    """All numbers in a value, and how deep it is nested."""
     inner = value.values() if isinstance(value, dict) else value if isinstance(value, list) else None
     if inner is None:
-        return [value] if is_whole(value) else [], 0
+        return [value] if is_whole(value) or type(value) is float else [], 0
     found = [numbers_and_depth(it) for it in inner]
     return [it for numbers, _ in found for it in numbers], 1 + max((depth for _, depth in found), default=0)
 
@@ -48,9 +50,9 @@ def document_of(data):
         numbers, depth = numbers_and_depth(document)
     except (ValueError, RecursionError) as refused:
         raise Unknown from refused
-    if depth > DEEPEST:
+    if depth > DEEPEST or any(type(it) is float and math.isinf(it) for it in numbers):
         raise Unknown
-    demand(all(it in WHOLE for it in numbers), "NotToml")
+    demand(all(it in WHOLE for it in numbers if is_whole(it)), "NotToml")
     return document
 
 

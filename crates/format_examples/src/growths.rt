@@ -227,8 +227,10 @@ fn a_pad_is_appended(rt: HostRuntime) -> Result<(), Fail> {
 
 #[test]
 fn a_wave_file_is_written(rt: HostRuntime) -> Result<(), Fail> {
-    let samples = Pcm::new(1, 352_800, 24, vec![in rt.alloc(); 10]?);
-    assert!(rt; wave_core::write(rt.alloc(), &samples)?.len() == 48);
+    let mut samples = Vec::new(rt.alloc());
+    samples.extend_from_slice(&[10])?;
+    let pcm = Pcm::new(1, 352_800, 24, samples);
+    assert!(rt; wave_core::write(rt.alloc(), &pcm)?.len() == 48);
     Ok(())
 }
 

@@ -55,9 +55,6 @@ one_over row by lr lb ne =
     (w.0, h, ltb-true (get_or by w.0 0) (get_or row w.0 0) (sym at ∙ w.2))
 
 -- the same against one value
-pub none_over_value : (row : List ℕ) (v : ℕ) → length row ≡ 8 → marked row (replicate 8 v) ≡ 0 → (k : ℕ) → k < 8 → get_or row k 0 ≤ v
-none_over_value row v lr e k h = omega (arith, none_over row (replicate 8 v) lr refl e k h, get_or-replicate 8 k v 0 h)
-
 pub one_over_value : (row : List ℕ) (v : ℕ) → length row ≡ 8 → marked row (replicate 8 v) ≢ 0 → (k : ℕ) × (k < 8) × (v < get_or row k 0)
 one_over_value row v lr ne =
     let w = one_over row (replicate 8 v) lr refl ne in

@@ -63,7 +63,3 @@ opened_is_held file x e = by_dsdiff (dsdiff.recording_of file) (λ r h. is_dsdif
 pub is_found : (file : List ℕ) (result : Result Opened ReadFault) → Opens result (opened_of file) → IfOk result (IsOpened file)
 is_found file (Ok x) h = opened_is_held file x h
 is_found file (Err e) h = tt
-
--- the recording that was read is the one that the file holds
-pub same_recording : (x y : Opened) → Opens (Ok x) (Ok y) → x.recording ≡ y.recording
-same_recording x y e = cc

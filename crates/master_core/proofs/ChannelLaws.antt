@@ -15,10 +15,8 @@ use Rattle.cut_core.specs.Cuts.{CutContent, channel_number, cue_at, cue_bits, ma
 use Rattle.cut_core.specs.Keeping.{CanCut}
 use Rattle.cut_core.proofs.CutLaws.{source_inside}
 use Rattle.cut_core.proofs.ZipLaws.{zip_long, zip_more}
-use Rattle.trellis_core.specs.declared.bridging.Chosen.{Chosen}
 use Rattle.master_core.specs.Assembling.{IsAssembled, IsBridged}
 use Rattle.master_core.specs.Checking.{rebuilt}
-use Rattle.master_core.specs.Choosing.{IsChosen}
 use Rattle.master_core.specs.Claims.{bridge_bits, bridge_start}
 use Rattle.master_core.specs.Masters.{IsBestChannel, IsFirstLeastPart, master_channel, part_at, parts_of}
 
@@ -98,13 +96,6 @@ nothing_first levels cost e = record { is_least = record { long = sym e; least =
 
 pub bridged_nothing : (p : Part) (before : List Bool) → p.bridging.levels ≡ 0 → before ≡ before ++ [] → IsBridged p before before
 bridged_nothing p before e same = record { bits = []; first_least = nothing_first p.bridging.levels (bridge_cost p.bridging) e; appended = same }
-
-pub bridged_by : (p : Part) (before after : List Bool) (x : Chosen) → IsChosen p.bridging x → after ≡ before ++ slice_range x.bits 0 (length x.bits) → IsBridged p before after
-bridged_by p before after x chosen more = record {
-  bits = x.bits;
-  first_least = chosen.first_least;
-  appended = let e : length x.bits - 0 ≡ length x.bits = omega arith in more ∙ ap (λ l. before ++ l) (ap (λ n. take n x.bits) e ∙ take_all (length x.bits) x.bits (omega arith));
-}
 
 -- first least bits have the bridges' lengths
 pub best_lengths : (ps : List Part) (xs : List (List Bool)) → AllZip IsFirstLeastPart ps xs → HaveLengths ps xs

@@ -46,10 +46,6 @@ module _ (t : Trellis) where
         ];
       }
 
-  pub byte_inside : (levels level q : ℕ) (bytes : List ℕ) → AreAllDecisions t levels bytes → level < levels → q < states t → level * decision_bytes (states t) + q / 8 < length bytes
-  byte_inside levels level q bytes all h i =
-      omega (arith, all.long, part_in level levels (decision_bytes (states t)) (q / 8) h (byte_in (states t) q i))
-
   pub before_high : 0 < t.width → (i q n b : ℕ) → n ≡ states t → b ≡ digit (decision t i q) → b ≡ 1 → q / 2 + n / 2 ≡ before t i q
   unfolding before
   before_high some i q n b en e one =

@@ -7,7 +7,6 @@ use Rattle.cost_core.specs.Trellis.{Trellis, states, newest, before_by_0, before
 use Rattle.cost_core.proofs.Numbers.{pow_double}
 use Rattle.cost_core.proofs.StepRows.{high_is}
 use Rattle.trellis_core.specs.Best.{by_0, by_1, best, best_row}
-use Rattle.trellis_core.proofs.Bests.{best_le}
 
 pub row_length : (t : Trellis) (i : ℕ) → length (best_row t i) ≡ states t
 unfolding best_row
@@ -44,14 +43,8 @@ before_1_in t some q h = omega (arith, pow_double t.width some)
 
 -- the sums by either state before a state, as they are read from a row
 module _ (t : Trellis) (fine : IsBounded t) (i q n : ℕ) (row : List ℕ) (en : n ≡ states t) (er : row ≡ best_row t i) (hq : q < states t) where
-  pub low_in : q / 2 < length row
-  low_in = rw (er, row_length) (before_0_in t q hq)
-
   high : q / 2 + n / 2 ≡ before_by_1 t.width q
   high = high_is t fine.some_state q n en
-
-  pub high_in : q / 2 + n / 2 < length row
-  high_in = rw (er, row_length, high) (before_1_in t fine.some_state q hq)
 
   pub low_state : q / 2 < states t
   low_state = before_0_in t q hq
@@ -67,9 +60,3 @@ module _ (t : Trellis) (fine : IsBounded t) (i q n : ℕ) (row : List ℕ) (en :
 
   pub sum_1 : (s : ℕ) → s ≡ t.step i (q / 2 + n / 2) (newest q) → get_or row (q / 2 + n / 2) 0 + s ≡ by_1 t i (best t i) q
   sum_1 s es = ap (λ p. get_or row p 0 + s) high ∙ omega (arith, at (before_by_1 t.width q) (before_1_in t fine.some_state q hq), es ∙ ap (λ p. t.step i p (newest q)) high)
-
-  pub sum_0_fits : (s : ℕ) → s ≡ t.step i (q / 2) (newest q) → i < t.levels → get_or row (q / 2) 0 + s < 2 ^ 64
-  sum_0_fits s es hi = omega (arith, at (q / 2) low_state, best_le t fine.some_state i (q / 2), fine.step_in i (q / 2) (newest q) hi low_state)
-
-  pub sum_1_fits : (s : ℕ) → s ≡ t.step i (q / 2 + n / 2) (newest q) → i < t.levels → get_or row (q / 2 + n / 2) 0 + s < 2 ^ 64
-  sum_1_fits s es hi = omega (arith, at (q / 2 + n / 2) high_state, best_le t fine.some_state i (q / 2 + n / 2), fine.step_in i (q / 2 + n / 2) (newest q) hi high_state)

@@ -2,7 +2,7 @@
 use Rattle.std.proofs.Common.{◌≡◌, ℕ, List, Ok, refl}
 use Rattle.fir_core.specs.Decimator.{Decimator}
 use Rattle.project_core.proofs.ProjectLaws.{project_again}
-use Rattle.project_core.specs.Splices.{SpliceContent}
+use Rattle.splice_core.specs.Splices.{SpliceContent}
 use Rattle.form_core.proofs.OpeningLaws.{held_is_opened}
 use Rattle.archive_core.specs.Converting.{converted_of}
 use Rattle.archive_core.specs.Laws.{ConvertsInOrder, PlaysInOrder, SaysTakesInOrder}

@@ -1,7 +1,7 @@
 -- The cut that a project and the files of its takes come to.
 use Rattle.std.specs.Prelude.{ℕ, List, Option, Result}
 use Rattle.chunk_core.specs.Steps.{◌>>=◌}
-use Rattle.project_core.specs.Splices.{SpliceContent}
+use Rattle.splice_core.specs.Splices.{SpliceContent}
 use Rattle.form_core.specs.declared.form.Form.{Form}
 use Rattle.form_core.specs.Steps.{map_err}
 use Rattle.cut_core.specs.Cuts.{CutContent}

@@ -8,7 +8,7 @@ use Rattle.fir_core.specs.Decimator.{Decimator}
 use Rattle.project_core.specs.Meaning.{IsProject}
 use Rattle.project_core.specs.Projects.{ProjectContent}
 use Rattle.project_core.specs.ReadingProject.{project_at}
-use Rattle.project_core.specs.Splices.{SpliceContent}
+use Rattle.splice_core.specs.Splices.{SpliceContent}
 use Rattle.archive_core.specs.declared.fault.Fault.{Fault}
 use Rattle.archive_core.specs.declared.fault.Fault.TheVariants.{Project, NoDecimation, NoSplice, Memory}
 use Rattle.archive_core.specs.Faults.{fault_of_project}

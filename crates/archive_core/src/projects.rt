@@ -1,7 +1,7 @@
 //! What a project text says that a call needs.
 
 ghost use Rattle.std.specs.Prelude.{IfErr, IfOk};
-ghost use Rattle.project_core.specs.Splices.{splice_content};
+ghost use Rattle.splice_core.specs.Splices.{splice_content};
 ghost use Rattle.archive_core.specs.Projects as specs;
 ghost use Rattle.archive_core.specs.Projects.{IsOfDecimator, SaysDecimator, SaysSplice, SaysTakes, names_of, take_names_of};
 ghost use Rattle.form_core.specs.Steps.{Gives};

@@ -4,7 +4,7 @@ use Rattle.std.proofs.lemmas.Bool.{leb-true, cases_lt}
 use Rattle.std.proofs.lemmas.List.{get_or_past}
 use Rattle.std.proofs.lemmas.List.FromFn.{length-map-range_with_len, get_or-map-range_with_len}
 use Rattle.dsd_bits.proofs.SumLaws.{abs_add}
-use Rattle.project_core.specs.Cues.{AreWeights}
+use Rattle.splice_core.specs.Cues.{AreWeights}
 use Rattle.cost_core.specs.Weighted.{weighted}
 use Rattle.cost_core.specs.Fade.{fade, fade_targets}
 use Rattle.cost_core.proofs.SumLaws.{weighed_in, part_in}

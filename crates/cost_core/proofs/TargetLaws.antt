@@ -1,9 +1,9 @@
 -- What holds of the targets of a bridge, whichever its cue asks for.
 use Rattle.std.proofs.Common.{◌≡◌, ℕ, ◌+◌, ◌-◌, ◌*◌, ◌≤◌, Bool, List, length, get_or, ℤ, pos, unsigned_abs}
 use Rattle.std.proofs.lemmas.List.FromFn.{length-map-range_with_len}
-use Rattle.project_core.specs.Cues.{AreWeights}
-use Rattle.project_core.specs.declared.cue.Target.{Target}
-use Rattle.project_core.specs.declared.cue.Target.TheVariants.{Fade}
+use Rattle.splice_core.specs.Cues.{AreWeights}
+use Rattle.splice_core.specs.declared.cue.Target.{Target}
+use Rattle.splice_core.specs.declared.cue.Target.TheVariants.{Fade}
 use Rattle.cost_core.specs.Fade.{fade}
 use Rattle.cost_core.specs.Targets.{targets_of}
 use Rattle.cost_core.proofs.Fades.{fade_targets_in}

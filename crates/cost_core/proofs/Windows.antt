@@ -4,10 +4,10 @@ use Rattle.std.specs.Prelude.{string_bytes}
 use Rattle.std.proofs.lemmas.List.{get_or-map, length-map}
 use Rattle.std.proofs.lemmas.List.Elements.{All-get_or}
 use Rattle.dsd_bits.proofs.PackingLemmas.{length-slice_range}
-use Rattle.project_core.specs.Cues.{IsCueWithin, IsSplicing, cue_content}
-use Rattle.project_core.specs.Splices.{SpliceContent, splice_content}
-use Rattle.project_core.specs.declared.cue.Cue.{Cue}
-use Rattle.project_core.specs.declared.splice.Splice.{Splice}
+use Rattle.splice_core.specs.Cues.{IsCueWithin, IsSplicing, cue_content}
+use Rattle.splice_core.specs.Splices.{SpliceContent, splice_content}
+use Rattle.splice_core.specs.declared.cue.Cue.{Cue}
+use Rattle.splice_core.specs.declared.splice.Splice.{Splice}
 use Rattle.cost_core.specs.Limits.{IsBridging}
 use Rattle.cost_core.specs.Windows.{bridging, cue_at}
 use Rattle.cost_core.proofs.TargetLaws.{targets_number, targets_small}

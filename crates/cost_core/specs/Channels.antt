@@ -1,7 +1,7 @@
 -- A whole channel of a master: cues and bridges in turn, and the cost of its places.
 use Rattle.std.specs.Prelude.{◌≡◌, ℕ, suc, ◌+◌, ◌-◌, ◌<◌, ◌≤◌, ◌==◌, if◌then◌else◌, Bool, List, [], ◌∷◌, ◌++◌, length, take, drop}
-use Rattle.project_core.specs.Cues.{IsSplicing}
-use Rattle.project_core.specs.Splices.{SpliceContent}
+use Rattle.splice_core.specs.Cues.{IsSplicing}
+use Rattle.splice_core.specs.Splices.{SpliceContent}
 use Rattle.cost_core.specs.Windows.{cue_at, cued, bridging}
 use Rattle.cost_core.specs.Bridges.{Bridging, places_cost, bridge_cost, IsLeastBridge}
 

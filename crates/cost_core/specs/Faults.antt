@@ -1,6 +1,6 @@
 -- The room that a bridge needs, and which want of it comes first.
 use Rattle.std.specs.Prelude.{ℕ, ◌+◌, ◌≤◌, length, Option, Some, None, nat_lt, if◌then◌else◌}
-use Rattle.project_core.specs.Splices.{SpliceContent}
+use Rattle.splice_core.specs.Splices.{SpliceContent}
 use Rattle.cost_core.specs.declared.fault.RoomFault.{RoomFault}
 use Rattle.cost_core.specs.declared.fault.RoomFault.TheVariants as rooms
 use Rattle.cost_core.specs.declared.fault.WindowFault.{WindowFault}

@@ -1,6 +1,6 @@
 -- The limits of a bridge's window.
 use Rattle.std.specs.Prelude.{◌≡◌, ℕ, suc, ◌+◌, ◌*◌, ◌^◌, ◌≤◌, ℤ, Bool, List, length, unsigned_abs}
-use Rattle.project_core.specs.Cues.{AreWeights}
+use Rattle.splice_core.specs.Cues.{AreWeights}
 use Rattle.cost_core.specs.Bridges.{Bridging, target}
 
 -- a bridge within the limits: as many bits on either side as there are weights but one, a target no greater than the weights allow

@@ -1,7 +1,7 @@
 -- What a bridge is held against, by the target of the cue before it, and the bits that this reads.
 use Rattle.std.specs.Prelude.{ℕ, ◌+◌, ◌-◌, ℤ, Bool, List}
-use Rattle.project_core.specs.declared.cue.Target.{Target}
-use Rattle.project_core.specs.declared.cue.Target.TheVariants.{Fade}
+use Rattle.splice_core.specs.declared.cue.Target.{Target}
+use Rattle.splice_core.specs.declared.cue.Target.TheVariants.{Fade}
 use Rattle.cost_core.specs.Fade.{fade_targets}
 
 -- the targets of all places of a bridge of so many bits, from the end `stop` of a cue in the take a to the start of a cue in the take b

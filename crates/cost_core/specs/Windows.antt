@@ -1,8 +1,8 @@
 -- The cues of a splice, and what the window of the bridge between two of them holds.
 use Rattle.std.specs.Prelude.{ℕ, ◌+◌, ◌-◌, Bool, List, length, slice_range, slice_index_or, None}
-use Rattle.project_core.specs.Cues.{CueContent}
-use Rattle.project_core.specs.Splices.{SpliceContent}
-use Rattle.project_core.specs.declared.cue.Target.TheVariants as targets
+use Rattle.splice_core.specs.Cues.{CueContent}
+use Rattle.splice_core.specs.Splices.{SpliceContent}
+use Rattle.splice_core.specs.declared.cue.Target.TheVariants as targets
 use Rattle.cost_core.specs.Bridges.{Bridging}
 use Rattle.cost_core.specs.Targets.{targets_of}
 

@@ -3,7 +3,7 @@
 //! At each place of a bridge's window (its own bits, and those after it that a weight still reads) the
 //! weighted sum of the newest bits is held against a target; the cost is the sum of the squared
 //! deviations. All sums are of whole numbers, times one more than the bridge's length, so nothing is
-//! rounded. Which targets they are is asked for by the cue before the bridge (`project_core::Target`):
+//! rounded. Which targets they are is asked for by the cue before the bridge (`splice_core::Target`):
 //! those of a fade go in a straight line from the weighted sum of the take before to that of the take
 //! after, and so read bits of both takes beyond the cues. [`has_room`] tells whether those bits are there.
 //!

@@ -1,11 +1,11 @@
 //! The room that a bridge needs in the takes.
 
 ghost use Rattle.std.specs.Prelude.{◌≡◌, ◌+◌, ◌<◌, length, IsOk, MatchResult, None, OnOk, Some};
-ghost use Rattle.project_core.specs.Splices.{splice_content};
+ghost use Rattle.splice_core.specs.Splices.{splice_content};
 ghost use Rattle.cost_core.specs.Faults.{HasRoom, first_fault};
 
 use crate::fault::RoomFault;
-use project_core::{Splice, Target};
+use splice_core::{Splice, Target};
 
 /// Whether the bridge after cue `cue` has room, where each channel of that cue's take has `count` bits: a
 /// fade of `L` bits by `K` weights reads `L + K - 1` bits before the next cue and `L` bits after its own.

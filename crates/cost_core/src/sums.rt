@@ -3,7 +3,7 @@
 ghost use Rattle.std.specs.Prelude.{◌≡◌, ℕ, ◌+◌, ◌*◌, ◌%◌, ◌^◌, ◌<◌, ◌≤◌, map, length, slice_index, slice_index_or, pos, ◌*ℤ◌, ◌-ℤ◌, unsigned_abs, IfOk};
 ghost use Rattle.std.specs.List.{range_with_len};
 ghost use Rattle.dsd_bits.specs.Sums.{sign};
-ghost use Rattle.project_core.specs.Cues.{AreWeights};
+ghost use Rattle.splice_core.specs.Cues.{AreWeights};
 ghost use Rattle.cost_core.specs.Limits.{greatest_step, greatest_sum};
 ghost use Rattle.cost_core.specs.Trellis.{state_after};
 ghost use Rattle.cost_core.specs.Weighted.{weighted, weighted_code, square};

@@ -1,13 +1,13 @@
 //! The targets of a bridge's places.
 
 ghost use Rattle.std.specs.Prelude.{◌≡◌, ◌+◌, ◌<◌, ◌≤◌, length, IfOk};
-ghost use Rattle.project_core.specs.Splices.{splice_content};
+ghost use Rattle.splice_core.specs.Splices.{splice_content};
 ghost use Rattle.cost_core.specs.Faults.{HasRoom};
 ghost use Rattle.cost_core.specs.Windows.{bridging, cue_at};
 
 use crate::fading::fade_targets;
 use dsd_bits::Bits;
-use project_core::{Splice, Target};
+use splice_core::{Splice, Target};
 use std::alloc::{AllocError, Global};
 
 /// The targets of all places of the bridge after cue `cue`, from the channel `a` of its take to the channel

@@ -1,7 +1,7 @@
 //! The window of a bridge.
 
 ghost use Rattle.std.specs.Prelude.{◌≡◌, ◌+◌, ◌*◌, ◌^◌, ◌<◌, ◌≤◌, length, IfOk, OnOk, IsOkUnless, MatchResult, None};
-ghost use Rattle.project_core.specs.Splices.{splice_content};
+ghost use Rattle.splice_core.specs.Splices.{splice_content};
 ghost use Rattle.cost_core.specs.Trellis.{states, cost, IsBounded};
 ghost use Rattle.cost_core.specs.Bridges.{bridge_cost};
 ghost use Rattle.cost_core.specs.StateCosts.{step_of, step_row, tail_row, trellis_of};
@@ -16,7 +16,7 @@ use crate::sums::{
 };
 use crate::targets::targets_after;
 use dsd_bits::Bits;
-use project_core::Splice;
+use splice_core::Splice;
 use std::alloc::{AllocError, Global};
 use std::marker::Model;
 

@@ -3,7 +3,7 @@ use Rattle.std.proofs.Common.{◌≡◌, ℕ, ◌<◌, ◌≤◌, [], length, ar
 use Rattle.std.proofs.lemmas.List.Elements.{All-get_or}
 use Rattle.dsd_bits.specs.Channels.{count_of}
 use Rattle.dsd_bits.specs.Shape.{HasShape}
-use Rattle.project_core.specs.Cues.{IsCueWithin}
+use Rattle.splice_core.specs.Cues.{IsCueWithin}
 use Rattle.cut_core.specs.Cuts.{CutContent, IsAlike, IsInside, channel_number, cue_at, source, take_at}
 use Rattle.cut_core.specs.Keeping.{CanCut}
 

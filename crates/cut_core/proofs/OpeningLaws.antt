@@ -6,7 +6,7 @@ use Rattle.std.proofs.lemmas.List.{get_or_default, take_all, take_more}
 use Rattle.chunk_core.proofs.Steps.{bind_then}
 use Rattle.chunk_core.specs.Steps.{◌>>=◌}
 use Rattle.dsd_bits.specs.Contents.{Content}
-use Rattle.project_core.specs.Splices.{SpliceContent}
+use Rattle.splice_core.specs.Splices.{SpliceContent}
 use Rattle.cost_core.specs.Faults as costs
 use Rattle.cost_core.specs.declared.fault.RoomFault.{RoomFault}
 use Rattle.cost_core.specs.declared.fault.RoomFault.TheVariants as rooms

@@ -3,8 +3,8 @@ use Rattle.std.specs.Prelude.{ℕ, ◌+◌, ◌-◌, ◌≤◌, ◌^◌, ◌≡�
 use Rattle.std.specs.List.{sum_by}
 use Rattle.dsd_bits.specs.Channels.{count_of}
 use Rattle.dsd_bits.specs.Contents.{Content}
-use Rattle.project_core.specs.Cues.{CueContent}
-use Rattle.project_core.specs.Splices.{SpliceContent}
+use Rattle.splice_core.specs.Cues.{CueContent}
+use Rattle.splice_core.specs.Splices.{SpliceContent}
 use Rattle.cost_core.specs.Bridges.{Bridging}
 use Rattle.cost_core.specs.Windows as fades
 

@@ -1,7 +1,7 @@
 -- What a cut keeps.
 use Rattle.std.specs.Prelude.{All, length}
 use Rattle.dsd_bits.specs.Shape.{HasShape}
-use Rattle.project_core.specs.Cues.{IsSplicing}
+use Rattle.splice_core.specs.Cues.{IsSplicing}
 use Rattle.cut_core.specs.Cuts.{CutContent, FitTakes}
 use Rattle.cut_core.specs.Rooms.{HaveRoom}
 

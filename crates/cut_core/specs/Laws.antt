@@ -1,6 +1,6 @@
 -- Which cut files and a splice come to is what reading them in order comes to.
 use Rattle.std.specs.Prelude.{◌≡◌, ◌↔◌, ℕ, List, Ok, Option}
-use Rattle.project_core.specs.Splices.{SpliceContent}
+use Rattle.splice_core.specs.Splices.{SpliceContent}
 use Rattle.form_core.specs.declared.form.Form.{Form}
 use Rattle.cut_core.specs.Cuts.{CutContent}
 use Rattle.cut_core.specs.Opening.{OpensCut, cut_of}

@@ -2,7 +2,7 @@
 use Rattle.std.specs.Prelude.{ℕ, ◌+◌, List, [], ◌∷◌, ◌++◌, Option, Some, None}
 use Rattle.dsd_bits.specs.Contents.{MarkContent}
 use Rattle.dsdiff_core.specs.MarkPlaces.{title_mark}
-use Rattle.project_core.specs.Cues.{CueContent}
+use Rattle.splice_core.specs.Cues.{CueContent}
 use Rattle.cut_core.specs.Cuts.{CutContent, span, take_at}
 
 -- the mark of a title at a place, if there is a title

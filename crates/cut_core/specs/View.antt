@@ -1,5 +1,5 @@
 -- What a `Cut` stands for.
-use Rattle.project_core.specs.Splices.{splice_content}
+use Rattle.splice_core.specs.Splices.{splice_content}
 use Rattle.cut_core.specs.declared.cut.Cut.TheInside.{Inside}
 use Rattle.cut_core.specs.Cuts.{CutContent}
 use Rattle.cut_core.specs.Keeping.{CanCut}

@@ -1,13 +1,13 @@
 //! The cues of a splice, and the takes that they are cut from.
 
 ghost use Rattle.std.specs.Prelude.{◌≡◌, ◌+◌, ◌^◌, ◌<◌, ◌≤◌, length};
-ghost use Rattle.project_core.specs.Cues.{IsCueWithin, cue_content};
-ghost use Rattle.project_core.specs.Splices.{splice_content};
+ghost use Rattle.splice_core.specs.Cues.{IsCueWithin, cue_content};
+ghost use Rattle.splice_core.specs.Splices.{splice_content};
 ghost use Rattle.cost_core.specs.Windows as fades;
 ghost use Rattle.cut_core.specs.Cuts.{span, take_at};
 
 use dsd_bits::Recording;
-use project_core::{Cue, Splice};
+use splice_core::{Cue, Splice};
 
 /// How many cues a splice has.
 pub fn cue_number(splice: &Splice) -> usize

@@ -2,8 +2,8 @@
 
 ghost use Rattle.std.specs.Prelude.{◌≡◌, ◌+◌, ◌^◌, ◌<◌, ◌≤◌, All, IfOk, length, map};
 ghost use Rattle.dsd_bits.specs.Contents.{mark_content};
-ghost use Rattle.project_core.specs.Cues.{IsCueWithin, cue_content};
-ghost use Rattle.project_core.specs.Splices.{splice_content};
+ghost use Rattle.splice_core.specs.Cues.{IsCueWithin, cue_content};
+ghost use Rattle.splice_core.specs.Splices.{splice_content};
 ghost use Rattle.form_core.specs.Steps.{Gives};
 ghost use Rattle.cut_core.specs.Bridges as places;
 ghost use Rattle.cut_core.specs.Bridges.{IsPlace};
@@ -22,7 +22,7 @@ use crate::titles::title_marks;
 use cost_core::Window;
 use dsd_bits::{Bits, Mark, Recording};
 use form_core::Form;
-use project_core::{Cue, Splice};
+use splice_core::{Cue, Splice};
 use std::alloc::{AllocError, Global};
 use std::marker::Model;
 

@@ -1,7 +1,7 @@
 //! Whether a splice and its takes can be cut.
 
 ghost use Rattle.std.specs.Prelude.{◌≡◌, ◌+◌, ◌-◌, ◌<◌, length, true, false};
-ghost use Rattle.project_core.specs.Splices.{splice_content};
+ghost use Rattle.splice_core.specs.Splices.{splice_content};
 ghost use Rattle.cut_core.specs.Cuts as cuts;
 ghost use Rattle.cut_core.specs.Cuts.{AreAlike, cut_with};
 ghost use Rattle.cut_core.specs.Opening as specs;
@@ -13,7 +13,7 @@ use crate::fault::CutFault;
 use cost_core::{RoomFault, has_room};
 use dsd_bits::Recording;
 use form_core::Form;
-use project_core::Splice;
+use splice_core::Splice;
 
 /// Whether takes, as many as the splice has, can be cut, into a file of the form where one is asked for.
 ///

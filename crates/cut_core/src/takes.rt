@@ -2,7 +2,7 @@
 
 ghost use Rattle.std.specs.Prelude.{◌≡◌, ◌<◌, All, IfOk, length};
 ghost use Rattle.dsd_bits.specs.Shape.{HasShape};
-ghost use Rattle.project_core.specs.Splices.{splice_content};
+ghost use Rattle.splice_core.specs.Splices.{splice_content};
 ghost use Rattle.form_core.specs.Steps.{Gives};
 ghost use Rattle.cut_core.specs.Opening as specs;
 ghost use Rattle.cut_core.specs.Opening.{fault_of_take, file_bytes, take_from, takes_before};
@@ -10,7 +10,7 @@ ghost use Rattle.cut_core.specs.Opening.{fault_of_take, file_bytes, take_from, t
 use crate::fault::CutFault;
 use dsd_bits::Recording;
 use form_core::{Opened, ReadFault, has_shape, read_any};
-use project_core::Splice;
+use splice_core::Splice;
 use std::alloc::Global;
 
 /// The takes of a splice, read from their files.

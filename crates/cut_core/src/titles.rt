@@ -2,15 +2,15 @@
 
 ghost use Rattle.std.specs.Prelude.{◌≡◌, ◌≤◌, ◌^◌, ◌++◌, IfOk, OnOk, map};
 ghost use Rattle.dsd_bits.specs.Contents.{mark_content};
-ghost use Rattle.project_core.specs.Cues.{cue_content};
-ghost use Rattle.project_core.specs.Splices.{splice_content};
+ghost use Rattle.splice_core.specs.Cues.{cue_content};
+ghost use Rattle.splice_core.specs.Splices.{splice_content};
 ghost use Rattle.cut_core.specs.Cuts.{master_length};
 ghost use Rattle.cut_core.specs.Titles.{mark_of_title, titles};
 
 use crate::cues::{cue_at, cue_number, span_at};
 use dsd_bits::Mark;
 use dsdiff_core::mark_at;
-use project_core::{Cue, Splice};
+use splice_core::{Cue, Splice};
 use std::alloc::{AllocError, Global};
 
 /// The marks of all titles.

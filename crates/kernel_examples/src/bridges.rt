@@ -1,7 +1,7 @@
 //! The bits that are chosen: worked bridges, and small ones compared with all lists of their length.
 
 ghost use Rattle.std.specs.Prelude.{◌≡◌, ◌+◌, ◌<◌, ◌≤◌};
-ghost use Rattle.project_core.specs.Cues.{AreWeights};
+ghost use Rattle.splice_core.specs.Cues.{AreWeights};
 
 use cost_core::{Window, WindowFault};
 use fixtures::windows::{Part, bits_of, by_equal, by_newest, by_older, ones, window, zeros};

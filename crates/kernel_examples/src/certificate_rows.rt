@@ -5,7 +5,7 @@
 //! of the second row may be higher, and none lower.
 
 ghost use Rattle.std.specs.Prelude.{◌≡◌, ◌<◌, ◌≤◌, length};
-ghost use Rattle.project_core.specs.Cues.{AreWeights};
+ghost use Rattle.splice_core.specs.Cues.{AreWeights};
 
 use cert_core::{CertReader, CertReason, CertVerdict};
 use chunk_core::Inlet;

@@ -8,7 +8,7 @@ use Rattle.dsd_bits.specs.Contents.{Content, MarkContent, content_of, mark_conte
 use Rattle.dsd_bits.specs.Shape.{HasShape}
 use Rattle.dsd_bits.specs.declared.marks.Mark.{Mark}
 use Rattle.dsd_bits.specs.declared.marks.Other.{Other}
-use Rattle.project_core.specs.Cues.{CueContent, IsCueWithin}
+use Rattle.splice_core.specs.Cues.{CueContent, IsCueWithin}
 use Rattle.cost_core.specs.Channels.{Part}
 use Rattle.cost_core.specs.Least.{IsFirstLeast, NotAfter}
 use Rattle.form_core.specs.declared.form.Form.{Form}

@@ -6,14 +6,14 @@ use Rattle.std.proofs.lemmas.Bool.{ltb-false, lt-ltb, le-ltb}
 use Rattle.std.proofs.lemmas.Slice.Eq.{bytes_eq-Decides}
 use Rattle.toml.specs.Data.{Data, string, integer, table, Members, get_member}
 use Rattle.project_core.specs.declared.key.Key.TheVariants as keys
-use Rattle.project_core.specs.declared.cue.Target.{Target}
-use Rattle.project_core.specs.declared.cue.Target.TheVariants.{Fade}
+use Rattle.splice_core.specs.declared.cue.Target.{Target}
+use Rattle.splice_core.specs.declared.cue.Target.TheVariants.{Fade}
 use Rattle.project_core.specs.declared.fault.ProjectFault.{ProjectFault}
 use Rattle.project_core.specs.declared.fault.ProjectFault.TheVariants.{OutOfLimit, NoTake, ShortCue}
 use Rattle.project_core.specs.Keys.{name_of, cue_keys}
 use Rattle.project_core.specs.Steps.{◌>>=◌, optional}
 use Rattle.project_core.specs.Reading.{table_of, integer_of, text_of, below, limited_at}
-use Rattle.project_core.specs.Cues.{CueContent, IsCueWithin}
+use Rattle.splice_core.specs.Cues.{CueContent, IsCueWithin}
 use Rattle.project_core.specs.ReadingCue.{take_at, bridge_of, bridge_at, target_of, target_at, title_of, title_at, cue_of}
 use Rattle.project_core.specs.Tables.{Has, number}
 use Rattle.project_core.specs.Meaning.{IsCue}

@@ -11,7 +11,7 @@ use Rattle.project_core.specs.Keys.{name_of, top_keys}
 use Rattle.project_core.specs.Steps.{◌>>=◌, Gives, optional}
 use Rattle.project_core.specs.Tables.{has_only, table_in}
 use Rattle.project_core.specs.ReadingDecimate.{decimate_of}
-use Rattle.project_core.specs.Splices.{SpliceContent}
+use Rattle.splice_core.specs.Splices.{SpliceContent}
 use Rattle.project_core.specs.ReadingSplice.{splice_of}
 use Rattle.project_core.specs.Projects.{ProjectContent, project_content}
 use Rattle.project_core.specs.ReadingProject.{document, decimate_in, splice_in, project_of, project_at}

@@ -13,10 +13,10 @@ use Rattle.project_core.specs.declared.fault.ProjectFault.TheVariants.{OutOfLimi
 use Rattle.project_core.specs.Steps.{◌>>=◌, each}
 use Rattle.project_core.specs.Reading.{table_of, value_at, array_of, integers_at, texts_at}
 use Rattle.project_core.specs.Tables.{list_of, Has, numbers, texts}
-use Rattle.project_core.specs.Cues.{CueContent, AreWeights, last_bridge, IsCueWithin, IsSplicing}
+use Rattle.splice_core.specs.Cues.{CueContent, AreWeights, last_bridge, IsCueWithin, IsSplicing}
 use Rattle.project_core.specs.ReadingCue.{cue_of}
 use Rattle.project_core.specs.ReadingSplice.{are_weights, is_number, weights_at, takes_at, cues_of, cues_at, splice_of}
-use Rattle.project_core.specs.Splices.{SpliceContent}
+use Rattle.splice_core.specs.Splices.{SpliceContent}
 use Rattle.project_core.specs.Keys.{splice_keys}
 use Rattle.project_core.specs.Meaning.{IsCue, IsSplice}
 use Rattle.project_core.proofs.TableLaws.{bind_ok, passed, tested, value_ok, array_ok, table_ok, each_ok, zip_right, items_of-list_of, list_of-items_of, integers_ok, texts_ok}

@@ -1,7 +1,5 @@
 pub mod Keys
 pub mod Faults
-pub mod Cues
-pub mod Splices
 pub mod Projects
 pub mod Steps
 pub mod Tables

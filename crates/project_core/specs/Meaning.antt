@@ -7,8 +7,8 @@ use Rattle.fir_core.specs.Decimator.{Decimator, IsWithinLimits}
 use Rattle.project_core.specs.declared.key.Key.TheVariants as keys
 use Rattle.project_core.specs.Keys.{name_of, top_keys, decimate_keys, splice_keys, cue_keys}
 use Rattle.project_core.specs.Tables.{FindsOnly, Has, Lacks, number, numbers, table_in, texts}
-use Rattle.project_core.specs.Cues.{CueContent, IsCueWithin, IsSplicing}
-use Rattle.project_core.specs.Splices.{SpliceContent}
+use Rattle.splice_core.specs.Cues.{CueContent, IsCueWithin, IsSplicing}
+use Rattle.splice_core.specs.Splices.{SpliceContent}
 use Rattle.project_core.specs.Projects.{ProjectContent}
 
 -- a table says this decimator

@@ -2,7 +2,7 @@
 use Rattle.std.specs.Prelude.{Option, option_map}
 use Rattle.fir_core.specs.Decimator.{Decimator}
 use Rattle.project_core.specs.declared.project.Project.{Project}
-use Rattle.project_core.specs.Splices.{SpliceContent, splice_content}
+use Rattle.splice_core.specs.Splices.{SpliceContent, splice_content}
 
 -- a project: how a recording is played, and how takes are cut together
 pub record ProjectContent : Type 0 where

@@ -4,12 +4,12 @@ use Rattle.std.specs.Option.{ok_or}
 use Rattle.std.specs.Str.{bytes_eq}
 use Rattle.toml.specs.Data.{Data, Members, get_member}
 use Rattle.project_core.specs.declared.key.Key.TheVariants as keys
-use Rattle.project_core.specs.declared.cue.Target.{Target}
-use Rattle.project_core.specs.declared.cue.Target.TheVariants.{Fade}
+use Rattle.splice_core.specs.declared.cue.Target.{Target}
+use Rattle.splice_core.specs.declared.cue.Target.TheVariants.{Fade}
 use Rattle.project_core.specs.declared.fault.ProjectFault.{ProjectFault}
 use Rattle.project_core.specs.declared.fault.ProjectFault.TheVariants.{OutOfLimit, NoTake, ShortCue}
 use Rattle.project_core.specs.Keys.{name_of, cue_keys}
-use Rattle.project_core.specs.Cues.{CueContent}
+use Rattle.splice_core.specs.Cues.{CueContent}
 use Rattle.project_core.specs.Steps.{◌>>=◌, optional}
 use Rattle.project_core.specs.Reading.{below, integer_of, limited_at, table_of, text_of, value_at}
 

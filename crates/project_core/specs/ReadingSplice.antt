@@ -6,8 +6,8 @@ use Rattle.project_core.specs.declared.key.Key.TheVariants as keys
 use Rattle.project_core.specs.declared.fault.ProjectFault.{ProjectFault}
 use Rattle.project_core.specs.declared.fault.ProjectFault.TheVariants.{OutOfLimit, LastBridge}
 use Rattle.project_core.specs.Keys.{splice_keys}
-use Rattle.project_core.specs.Cues.{CueContent, last_bridge}
-use Rattle.project_core.specs.Splices.{SpliceContent}
+use Rattle.splice_core.specs.Cues.{CueContent, last_bridge}
+use Rattle.splice_core.specs.Splices.{SpliceContent}
 use Rattle.project_core.specs.Steps.{◌>>=◌, each}
 use Rattle.project_core.specs.Tables.{list_of}
 use Rattle.project_core.specs.Reading.{array_of, integers_at, table_of, texts_at, value_at}

@@ -2,14 +2,14 @@
 
 ghost use Rattle.std.specs.Prelude.{◌≤◌, option_map, string_bytes};
 ghost use Rattle.toml.specs.View.{view, table_view};
-ghost use Rattle.project_core.specs.Cues.{cue_content};
+ghost use Rattle.splice_core.specs.Cues.{cue_content};
 ghost use Rattle.project_core.specs.Steps.{Gives};
 ghost use Rattle.project_core.specs.ReadingCue.{bridge_at, cue_of, take_at, target_at, title_at, title_of};
 
-use crate::cue::{Cue, Target};
 use crate::fault::ProjectFault;
 use crate::key::Key;
 use crate::table::{below, find, integer_of, limited_at, table_of, text_of, value_at};
+use splice_core::{Cue, Target};
 use std::alloc::Global;
 use toml::{Table, Value};
 

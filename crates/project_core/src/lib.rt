@@ -55,7 +55,6 @@
 //! ```
 #![tactic(auto)]
 
-mod cue;
 mod cue_table;
 mod decimate_table;
 mod fault;
@@ -63,14 +62,12 @@ mod key;
 mod laws;
 mod project;
 mod reading;
-mod splice;
 mod splice_table;
 mod table;
 
-pub use cue::{Cue, Target};
 pub use fault::ProjectFault;
 pub use key::Key;
 pub use laws::{one_project, read_as_said};
 pub use project::Project;
 pub use reading::read;
-pub use splice::Splice;
+pub use splice_core::{Cue, Splice, Target};

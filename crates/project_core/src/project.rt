@@ -1,7 +1,7 @@
 //! Projects.
 
-use crate::splice::Splice;
 use fir_core::Taps;
+use splice_core::Splice;
 
 /// What a project text says.
 #[derive(Drop)]

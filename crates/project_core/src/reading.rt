@@ -2,7 +2,7 @@
 
 ghost use Rattle.std.specs.Prelude.{IfOk, Ok, option_map};
 ghost use Rattle.toml.specs.View.{table_view};
-ghost use Rattle.project_core.specs.Splices.{splice_content};
+ghost use Rattle.splice_core.specs.Splices.{splice_content};
 ghost use Rattle.project_core.specs.Projects.{ProjectContent, project_content};
 ghost use Rattle.project_core.specs.Steps.{Gives};
 ghost use Rattle.project_core.specs.Meaning.{IsProject};
@@ -12,10 +12,10 @@ use crate::decimate_table::decimate_of;
 use crate::fault::ProjectFault;
 use crate::key::Key;
 use crate::project::Project;
-use crate::splice::Splice;
 use crate::splice_table::splice_of;
 use crate::table::{find, has_only};
 use fir_core::Taps;
+use splice_core::Splice;
 use std::alloc::Global;
 use toml::Table;
 

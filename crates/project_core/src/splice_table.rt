@@ -3,18 +3,17 @@
 ghost use Rattle.std.specs.Prelude.{◌≡◌, ◌≤◌, length, map, string_bytes, unsigned_abs};
 ghost use Rattle.std.specs.List.{sum_by};
 ghost use Rattle.toml.specs.View.{view, table_view, items_view};
-ghost use Rattle.project_core.specs.Cues.{cue_content, last_bridge};
-ghost use Rattle.project_core.specs.Splices.{splice_content};
+ghost use Rattle.splice_core.specs.Cues.{cue_content, last_bridge};
+ghost use Rattle.splice_core.specs.Splices.{splice_content};
 ghost use Rattle.project_core.specs.Steps.{Gives};
 ghost use Rattle.project_core.specs.Tables.{list_of};
 ghost use Rattle.project_core.specs.ReadingSplice.{cues_at, cues_of, splice_of, takes_at, weights_at};
 
-use crate::cue::Cue;
 use crate::cue_table::cue_of;
 use crate::fault::ProjectFault;
 use crate::key::Key;
-use crate::splice::Splice;
 use crate::table::{integers_at, table_of, texts_at, value_at};
+use splice_core::{Cue, Splice};
 use std::alloc::Global;
 use toml::{Table, Value};
 

@@ -1,6 +1,6 @@
 use Rattle.std.proofs.Common.{◌≡◌, ◌∙◌, ap, inl, None, Some, refl}
 use Rattle.std.proofs.lemmas.Result.{err_from_is_err_and}
-use Rattle.project_core.specs.Splices.{SpliceContent}
+use Rattle.splice_core.specs.Splices.{SpliceContent}
 use Rattle.cut_core.specs.Cuts.{master_length}
 use Rattle.cut_core.specs.Opening.{file_bytes}
 use Rattle.archive_core.specs.declared.fault.Fault.TheVariants.{Memory}

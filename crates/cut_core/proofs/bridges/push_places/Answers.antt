@@ -3,7 +3,7 @@ use Rattle.std.specs.List.{range_with_len}
 use Rattle.std.proofs.lemmas.List.{append-nil, length-append}
 use Rattle.std.proofs.lemmas.List.Elements.{All-append}
 use Rattle.std.proofs.lemmas.List.FromFn.{map-range_with_len_more}
-use Rattle.project_core.specs.Cues.{CueContent}
+use Rattle.splice_core.specs.Cues.{CueContent}
 use Rattle.cut_core.specs.Cuts.{channel_number}
 use Rattle.cut_core.specs.Bridges.{IsPlace}
 use Rattle.cut_core.proofs.BridgeLaws.{behind_none, behind_some, each_place, place_of}

@@ -1,7 +1,7 @@
 use Rattle.std.proofs.Common.{◌≡◌, ◌∙◌, ap, arith, get_or, length, map, string_bytes, subst, sym}
 use Rattle.std.proofs.lemmas.List.{get_or-map, length-map}
 use Rattle.std.proofs.lemmas.List.Elements.{All-get_or}
-use Rattle.project_core.specs.Cues.{CueContent, IsCueWithin, cue_content}
+use Rattle.splice_core.specs.Cues.{CueContent, IsCueWithin, cue_content}
 use Rattle.cut_core.proofs.cues.cue_at.Goals as goal
 
 pub returns-clause-fits : goal.returns-clause-fits

@@ -1,5 +1,5 @@
 use Rattle.std.proofs.Common.{◌≡◌, Ok}
-use Rattle.project_core.specs.Splices.{splice_content}
+use Rattle.splice_core.specs.Splices.{splice_content}
 use Rattle.cut_core.specs.Cuts.{cut_with}
 use Rattle.cut_core.specs.Opening.{each_before, inside_at}
 use Rattle.cut_core.proofs.fitting.are_inside.Given as goal

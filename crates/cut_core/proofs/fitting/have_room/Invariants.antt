@@ -1,5 +1,5 @@
 use Rattle.std.proofs.Common.{◌≡◌, Ok}
-use Rattle.project_core.specs.Splices.{splice_content}
+use Rattle.splice_core.specs.Splices.{splice_content}
 use Rattle.cut_core.specs.Cuts.{cut_with}
 use Rattle.cut_core.specs.Opening.{each_before}
 use Rattle.cut_core.specs.Rooms.{room_at}

@@ -1,6 +1,6 @@
 use Rattle.std.proofs.Common.{◌≡◌, ◌≤◌, ◌+◌, ◌*◌, ◌^◌, take}
 use Rattle.std.specs.List.{sum_by}
-use Rattle.project_core.specs.Splices.{splice_content}
+use Rattle.splice_core.specs.Splices.{splice_content}
 use Rattle.cut_core.specs.Cuts.{span}
 use Rattle.cut_core.proofs.fitting.master_length.Given as goal
 

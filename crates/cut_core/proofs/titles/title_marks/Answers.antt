@@ -2,8 +2,8 @@ use Rattle.std.proofs.Common.{◌<◌, ◌≤◌, ◌∙◌, ◌++◌, ◌+◌, 
 use Rattle.std.proofs.lemmas.Result.{IfOk-from_err}
 use Rattle.std.proofs.lemmas.List.Sums.{sum_by_more, sum_by_more_le}
 use Rattle.dsd_bits.specs.Contents.{mark_content}
-use Rattle.project_core.specs.Cues.{CueContent}
-use Rattle.project_core.specs.Splices.{splice_content}
+use Rattle.splice_core.specs.Cues.{CueContent}
+use Rattle.splice_core.specs.Splices.{splice_content}
 use Rattle.cost_core.specs.Windows.{cue_at}
 use Rattle.cut_core.specs.Cuts.{master_length, span}
 use Rattle.cut_core.specs.Titles.{mark_of_title, titles}

@@ -1,7 +1,7 @@
 use Rattle.std.proofs.Common.{◌≡◌, ◌++◌, drop, map, take}
 use Rattle.std.specs.List.{sum_by}
 use Rattle.dsd_bits.specs.Contents.{mark_content}
-use Rattle.project_core.specs.Splices.{splice_content}
+use Rattle.splice_core.specs.Splices.{splice_content}
 use Rattle.cut_core.specs.Cuts.{span}
 use Rattle.cut_core.specs.Titles.{titles, titles_from}
 use Rattle.cut_core.proofs.titles.title_marks.Given as goal

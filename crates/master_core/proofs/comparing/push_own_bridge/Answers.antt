@@ -2,7 +2,7 @@ use Rattle.std.proofs.Common.{◌≡◌, ◌≤◌, ◌+◌, ◌++◌, ◌∙◌
 use Rattle.std.proofs.lemmas.List.{length-append}
 use Rattle.std.proofs.lemmas.List.Sums.{sum_by_more_le}
 use Rattle.dsd_bits.proofs.PackingLemmas.{length-slice_range}
-use Rattle.project_core.specs.Cues.{CueContent}
+use Rattle.splice_core.specs.Cues.{CueContent}
 use Rattle.cut_core.specs.Cuts.{cue_at, master_length, span}
 use Rattle.master_core.specs.Claims.{bridge_bits, bridge_start}
 use Rattle.master_core.proofs.comparing.push_own_bridge.Goals as goal

@@ -1,6 +1,6 @@
 use Rattle.std.proofs.Common.{◌≡◌, ◌≤◌, ◌+◌, ap, arith, sum_by, take}
 use Rattle.std.proofs.lemmas.List.Sums.{sum_by_more_le}
-use Rattle.project_core.specs.Cues.{CueContent}
+use Rattle.splice_core.specs.Cues.{CueContent}
 use Rattle.cut_core.specs.Cuts.{cue_at, master_length, span}
 use Rattle.master_core.proofs.entries.bridge_start.Goals as goal
 

@@ -1,7 +1,7 @@
 use Rattle.std.proofs.Common.{◌≡◌, ◌∷◌, [], ◌++◌, map}
 use Rattle.std.proofs.lemmas.List.{map_push}
 use Rattle.std.proofs.lemmas.Result.{err_from_is_err_and}
-use Rattle.project_core.specs.Cues.{cue_content}
+use Rattle.splice_core.specs.Cues.{cue_content}
 use Rattle.project_core.specs.ReadingCue.{cue_of}
 use Rattle.project_core.proofs.Each.{values_go_on, values_end, values_done}
 use Rattle.project_core.proofs.splice_table.cues_of.Goals as goal

@@ -1,7 +1,7 @@
 use Rattle.std.proofs.Common.{◌≡◌, map}
 use Rattle.toml.specs.View.{items_view}
 use Rattle.project_core.specs.Tables.{list_of}
-use Rattle.project_core.specs.Cues.{cue_content}
+use Rattle.splice_core.specs.Cues.{cue_content}
 use Rattle.project_core.specs.ReadingCue.{cue_of}
 use Rattle.project_core.specs.ReadingSplice.{cues_of}
 use Rattle.project_core.proofs.Each.{values_left}

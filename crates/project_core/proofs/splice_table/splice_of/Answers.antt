@@ -1,6 +1,6 @@
 use Rattle.std.proofs.Common.{arith, map, length, string_bytes, ◌≡◌, sym, ◌∙◌}
 use Rattle.std.proofs.lemmas.List.{length-map}
-use Rattle.project_core.specs.Cues.{cue_content, last_bridge}
+use Rattle.splice_core.specs.Cues.{cue_content, last_bridge}
 use Rattle.project_core.proofs.SpliceLaws.{weights_ok, takes_ok, cues_ok}
 use Rattle.project_core.proofs.splice_table.splice_of.Goals as goal
 

@@ -1,6 +1,6 @@
 use Rattle.std.proofs.Common.{◌<◌, ◌+◌, ◌-◌, ◌++◌, ◌∙◌, sym, ap, length, slice_range, arith}
-use Rattle.project_core.specs.Cues.{CueContent}
-use Rattle.project_core.specs.Splices.{splice_content}
+use Rattle.splice_core.specs.Cues.{CueContent}
+use Rattle.splice_core.specs.Splices.{splice_content}
 use Rattle.cost_core.proofs.Windows.{bridging_limits, cue_read, limits_of, splicing, targets_many}
 use Rattle.cost_core.proofs.window.Window.with_room.Goals as goal
 

@@ -1,6 +1,6 @@
 use Rattle.std.proofs.Common.{string_bytes}
 use Rattle.std.proofs.lemmas.List.{length-map}
-use Rattle.project_core.specs.Splices.{splice_content}
+use Rattle.splice_core.specs.Splices.{splice_content}
 use Rattle.cut_core.specs.Cuts.{cut_with}
 use Rattle.cut_core.specs.Opening.{OpensCut, file_bytes}
 use Rattle.cut_core.proofs.OpeningLaws.{opened}

@@ -1,7 +1,7 @@
 -- What a splice holds.
 use Rattle.std.specs.Prelude.{ℕ, ℤ, List, map, string_bytes}
-use Rattle.project_core.specs.declared.splice.Splice.{Splice}
-use Rattle.project_core.specs.Cues.{CueContent, cue_content}
+use Rattle.splice_core.specs.declared.splice.Splice.{Splice}
+use Rattle.splice_core.specs.Cues.{CueContent, cue_content}
 
 -- a splice: its weights, the bytes of the takes' names, and its cues
 pub record SpliceContent : Type 0 where

@@ -1,8 +1,8 @@
 -- Cues, and the limits of a splice.
 use Rattle.std.specs.Prelude.{◌≡◌, ℕ, ◌+◌, ◌-◌, ◌^◌, ◌<◌, ◌≤◌, ℤ, unsigned_abs, List, length, slice_get, All, Option, Some, None, option_map, string_bytes}
 use Rattle.std.specs.List.{sum_by}
-use Rattle.project_core.specs.declared.cue.Cue.{Cue}
-use Rattle.project_core.specs.declared.cue.Target.{Target}
+use Rattle.splice_core.specs.declared.cue.Cue.{Cue}
+use Rattle.splice_core.specs.declared.cue.Target.{Target}
 
 -- a cue: the number of its take, its first bit and the place after its last, the length of its bridge, what the bridge leads to, and its title's bytes
 pub record CueContent : Type 0 where

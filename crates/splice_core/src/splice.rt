@@ -1,7 +1,7 @@
 //! Splices.
 
 ghost use Rattle.std.specs.Prelude.{map, length};
-ghost use Rattle.project_core.specs.Cues.{cue_content, IsSplicing};
+ghost use Rattle.splice_core.specs.Cues.{cue_content, IsSplicing};
 
 use crate::cue::Cue;
 

@@ -1,10 +1,10 @@
 //! What an inlet and an outlet make of a reader and a writer that do little at a time and fail.
 
 ghost use Rattle.std.specs.Prelude.{◌<◌, ◌≤◌, ◌+◌, ◌-◌, ◌^◌};
-ghost use Rattle.chunk_core.specs.Inlets.{inlet_failures};
+ghost use Rattle.device_core.specs.Inlets.{inlet_failures};
 
 use crate::compared::check_printed;
-use chunk_core::{Device, Inlet, Outlet};
+use device_core::{Device, Inlet, Outlet};
 use fixtures::compared::equal;
 use fixtures::devices::{Dripping, drip, sip};
 use std::alloc::Global;

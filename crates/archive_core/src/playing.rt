@@ -1,15 +1,15 @@
 //! From a project and a file to a WAVE file: in memory, or from a reader to a writer.
 
 ghost use Rattle.std.specs.Prelude.{◌≡◌, ℕ, ◌+◌, ◌-◌, ◌<◌, ◌^◌, List, IfErr, IfOk, IsErrOf, OnErr};
-ghost use Rattle.chunk_core.specs.Inlets.{inlet_failures, inlet_given, inlet_reader, inlet_reads};
-ghost use Rattle.chunk_core.specs.Outlets.{outlet_failures, outlet_writer};
+ghost use Rattle.device_core.specs.Inlets.{inlet_failures, inlet_given, inlet_reader, inlet_reads};
+ghost use Rattle.device_core.specs.Outlets.{outlet_failures, outlet_writer};
 ghost use Rattle.archive_core.specs.Playing.{Plays, played_of};
 ghost use Rattle.form_core.specs.Steps.{Gives};
 ghost use Rattle.archive_core.specs.Streaming.{IsBeforeWriting, KeepsUp, OnlyFromOutside, PlaysFile, PlaysGiven, SaysNone, StopsReading, StreamStands, WritesFront, failed_reads, failed_writes};
 
 use crate::fault::Fault;
 use crate::projects::decimator_of;
-use chunk_core::{Inlet, Outlet};
+use device_core::{Inlet, Outlet};
 use form_core::{Opened, read_any};
 use player_core::wave_of;
 use std::alloc::Global;

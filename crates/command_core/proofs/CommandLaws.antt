@@ -7,7 +7,7 @@ use Rattle.archive_core.specs.Playing.{Plays}
 use Rattle.archive_core.specs.declared.fault.Fault as calls
 use Rattle.form_core.specs.declared.form.Form.{Form}
 use Rattle.archive_core.specs.Streaming.{IsBeforeWriting, OnlyFromOutside, PlaysFile, StreamStands, WritesFront}
-use Rattle.chunk_core.specs.Outlets.{AppendsFront}
+use Rattle.device_core.specs.Outlets.{AppendsFront}
 use Rattle.command_core.specs.Commands.{AreSources, ConvertComesTo, Cut, CutsFile, EditComesTo, Ends, EndsPlaying, LeavesFront, PlayComesTo, PlayedComesTo}
 use Rattle.command_core.specs.Files.{Files, IsFront, IsGiven, KeepsOthers}
 use Rattle.command_core.specs.declared.folder.FolderFault.{FolderFault}

@@ -6,10 +6,9 @@ ghost use Rattle.command_core.specs.Files.{AreFiles, IsFront, IsReadFault, Keeps
 ghost use Rattle.command_core.specs.declared.outcome.Outcome.TheVariants as outcomes;
 
 use crate::folder::Folder;
-use crate::limited::Limited;
 use crate::outcome::Outcome;
 use archive_core::Fault;
-use chunk_core::Outlet;
+use device_core::{FusedInlet, Outlet};
 use std::alloc::Global;
 use std::io::Read;
 
@@ -78,7 +77,7 @@ pub fn read_whole<R: Read + Drop>(alloc: Global, reader: R, most: u64) -> Result
     ensures bytes { IfOk result (λ bytes. IfSome (R.remaining reader) (λ left. bytes.items ≡ left)) }
     ensures fault { IfErr result IsReadFault }
 {
-    let mut reader = Limited::new(reader, most);
+    let mut reader = FusedInlet::new(reader, most);
     let mut bytes = Vec::new(alloc);
     match reader.read_to_end(&mut bytes) {
         Ok(_) => Ok(bytes),

@@ -5,7 +5,6 @@ mod files;
 mod folder;
 mod form_names;
 mod info;
-mod limited;
 mod memory_folder;
 mod outcome;
 mod run;

@@ -9,7 +9,7 @@ use crate::folder::Folder;
 use crate::outcome::Outcome;
 use crate::task::Task;
 use archive_core::{Fault, Form, Verdict, check, convert, edit, play_stream, read_any, take_names};
-use chunk_core::{Inlet, Outlet};
+use device_core::{Inlet, Outlet};
 use std::alloc::Global;
 
 // The text of a project, and the files of the takes that it names.

@@ -4,7 +4,7 @@ use Rattle.std.proofs.Math.Seq.{take-append-add}
 use Rattle.std.proofs.lemmas.Slice.{take-put_mid}
 use Rattle.std.specs.Io.KnownBytes.{ReadConsumes}
 use borrow.Rule.Slice.PartMut.{put_mid}
-use Rattle.chunk_core.specs.Inlets.{PullsBehind}
+use Rattle.device_core.specs.Inlets.{PullsBehind}
 
 -- the front of a buffer whose end was filled with ys, up to n of them
 take-filled : (a k n : ℕ) (xs ys : List ℕ) → a ≤ length xs → n ≤ length ys → take (a + n) (put_mid a k xs ys) ≡ take a xs ++ take n ys

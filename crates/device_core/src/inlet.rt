@@ -18,7 +18,7 @@ pub struct Inlet<R> {
 }
 
 impl<R: Read> Inlet<R> {
-    ghost use Rattle.chunk_core.specs.Inlets.{inlet_reader, inlet_failures, inlet_reads, inlet_given, PullsBehind};
+    ghost use Rattle.device_core.specs.Inlets.{inlet_reader, inlet_failures, inlet_reads, inlet_given, PullsBehind};
 
     /// An inlet over this reader, whose counts are 0.
     pub fn new(reader: R) -> Inlet<R>

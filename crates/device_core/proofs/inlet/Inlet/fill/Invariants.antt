@@ -2,8 +2,8 @@
 use Rattle.std.proofs.Common.{◌≡◌, ◌+◌, ◌-◌, ◌≤◌, length, take}
 use Rattle.std.specs.Io.KnownBytes.{Consumes}
 use Rattle.std.specs.Io.Iter.{u64_saturate}
-use Rattle.chunk_core.specs.Inlets.{inlet_reader, inlet_failures, inlet_given}
-use Rattle.chunk_core.proofs.inlet.Inlet.fill.Given as goal
+use Rattle.device_core.specs.Inlets.{inlet_reader, inlet_failures, inlet_given}
+use Rattle.device_core.proofs.inlet.Inlet.fill.Given as goal
 
 abbrev pub invariant-loop-filled : goal.invariant-loop-filled
 invariant-loop-filled g l = (l.filled ≤ length l.buffer) × Consumes (g.R.Read.remaining (inlet_reader l.initial.self)) (g.R.Read.remaining (inlet_reader l.self)) (take l.filled l.buffer)

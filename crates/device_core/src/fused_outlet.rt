@@ -2,16 +2,16 @@
 
 ghost use Rattle.std.specs.Prelude.{◌≡◌, ◌+◌, ◌-◌, ◌<◌, ◌^◌, true, false, not, is_ok, ◌↔◌, IsErrOf, OnOk};
 ghost use Rattle.std.specs.Io.KnownBytes.{Appends};
-ghost use Rattle.chunk_core.specs.Outlets.{outlet_writer, outlet_failures, AppendsPart};
+ghost use Rattle.device_core.specs.Outlets.{outlet_writer, outlet_failures, AppendsPart};
 
-use chunk_core::Outlet;
+use crate::outlet::Outlet;
 use std::io::Write;
 use thiserror::Error;
 
-/// Why a part of a certificate wasn't written.
+/// Why bytes weren't written, or not all of them.
 #[derive(Clone, Copy, Debug, PartialEq, Eq, Error)]
-pub enum CertFault {
-    /// A write failed. A front of the part went out.
+pub enum FusedFault {
+    /// A write failed. A front of the bytes went out.
     #[error("Device")]
     Device,
     /// An earlier write failed. Nothing went out.
@@ -28,8 +28,7 @@ pub struct FusedOutlet<W> {
 }
 
 impl<W: Write> FusedOutlet<W> {
-    ghost use Rattle.cert_core.specs.FusedOutlets.{fused_outlet, fused_failed};
-    ghost use Rattle.cert_core.specs.Faults.{failed_parts};
+    ghost use Rattle.device_core.specs.FusedOutlets.{failed_parts, fused_failed, fused_outlet};
 
     /// An outlet that didn't fail yet.
     pub fn new(outlet: Outlet<W>) -> FusedOutlet<W>
@@ -43,23 +42,26 @@ impl<W: Write> FusedOutlet<W> {
         }
     }
 
-    /// Writes all of the bytes.
-    pub fn put_all(&mut self, bytes: &[u8]) -> Result<(), CertFault>
+    /// Writes all of the bytes, in as many writes as it takes.
+    ///
+    /// Refusals: `Device` at the first write that answers an error or takes nothing, and a front of the bytes
+    /// went out, not all of them; `Failed` after a `Device`, and nothing is written.
+    pub fn put_all(&mut self, bytes: &[u8]) -> Result<(), FusedFault>
         ensures ok { OnOk result (Appends (W.contents (outlet_writer (fused_outlet self.old))) (W.contents (outlet_writer (fused_outlet self.new))) bytes.now) }
-        ensures device { IsErrOf result CertFault.Device → AppendsPart (W.contents (outlet_writer (fused_outlet self.old))) (W.contents (outlet_writer (fused_outlet self.new))) bytes.now }
-        ensures failed { IsErrOf result CertFault.Failed ↔ (fused_failed self.old ≡ true) }
-        ensures unchanged { IsErrOf result CertFault.Failed → self.new ≡ self.old }
+        ensures device { IsErrOf result FusedFault.Device → AppendsPart (W.contents (outlet_writer (fused_outlet self.old))) (W.contents (outlet_writer (fused_outlet self.new))) bytes.now }
+        ensures failed { IsErrOf result FusedFault.Failed ↔ (fused_failed self.old ≡ true) }
+        ensures unchanged { IsErrOf result FusedFault.Failed → self.new ≡ self.old }
         ensures failures { outlet_failures (fused_outlet self.new) ≡ outlet_failures (fused_outlet self.old) + failed_parts result }
         ensures refused { fused_failed self.new ≡ not (is_ok result) }
     {
         if self.has_failed {
-            return Err(CertFault::Failed);
+            return Err(FusedFault::Failed);
         }
         match self.outlet.put_all(bytes) {
             Ok(()) => Ok(()),
             Err(_) => {
                 self.has_failed = true;
-                Err(CertFault::Device)
+                Err(FusedFault::Device)
             }
         }
     }

@@ -1,7 +1,7 @@
 -- What contracts see of an inlet.
 use Rattle.std.specs.Prelude.{◌≡◌, ℕ, ◌+◌, ◌≤◌, List, ◌++◌, length, take, Option, Result, MatchResult}
 use Rattle.std.specs.Io.KnownBytes.{Consumes, Keeps, IsAtEnd}
-use Rattle.chunk_core.specs.declared.inlet.Inlet.{Inlet}
+use Rattle.device_core.specs.declared.inlet.Inlet.{Inlet}
 
 -- the reader, as it stands
 abbrev pub inlet_reader : {R : Type 0} → Inlet R → R

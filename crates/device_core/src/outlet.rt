@@ -15,7 +15,7 @@ pub struct Outlet<W> {
 }
 
 impl<W: Write> Outlet<W> {
-    ghost use Rattle.chunk_core.specs.Outlets.{outlet_writer, outlet_failures, AppendsPart};
+    ghost use Rattle.device_core.specs.Outlets.{outlet_writer, outlet_failures, AppendsPart};
 
     /// An outlet over this writer, without failures.
     pub fn new(writer: W) -> Outlet<W>

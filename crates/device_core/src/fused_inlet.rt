@@ -1,27 +1,28 @@
 //! A reader with an end to its reads.
 
 ghost use Rattle.std.specs.Prelude.{◌≡◌, ◌↔◌, IsTrue};
-ghost use Rattle.command_core.specs.Limits.{HasFailed, limited_most, limited_reader};
+ghost use Rattle.device_core.specs.FusedInlets.{HasFailed, fused_most, fused_reader};
 
-use chunk_core::{Device, Inlet};
+use crate::device::Device;
+use crate::inlet::Inlet;
 use std::io;
 use std::io::{ErrorKind, Read};
 
 /// A reader that is read so many times at most, and not again after a read that failed: every later read
 /// fails.
 #[derive(Drop)]
-pub struct Limited<R> {
+pub struct FusedInlet<R> {
     inlet: Inlet<R>,
     most: u64,
 }
 
-impl<R: Read> Limited<R> {
+impl<R: Read> FusedInlet<R> {
     /// This reader, for so many reads.
-    pub fn new(reader: R, most: u64) -> Limited<R>
-        ensures reader { limited_reader result ≡ reader }
-        ensures most { limited_most result ≡ most }
+    pub fn new(reader: R, most: u64) -> FusedInlet<R>
+        ensures reader { fused_reader result ≡ reader }
+        ensures most { fused_most result ≡ most }
     {
-        Limited {
+        FusedInlet {
             inlet: Inlet::new(reader),
             most,
         }
@@ -35,8 +36,8 @@ impl<R: Read> Limited<R> {
     }
 }
 
-impl<R: Read> Read for Limited<R> {
-    ghost remaining = { λ l. R.remaining (limited_reader l) };
+impl<R: Read> Read for FusedInlet<R> {
+    ghost remaining = { λ fused. R.remaining (fused_reader fused) };
 
     fn read(&mut self, buffer: &mut [u8]) -> io::Result<usize> {
         if self.has_failed() {

@@ -1,7 +1,7 @@
 -- What contracts see of an outlet, and of bytes that went out in part.
 use Rattle.std.specs.Prelude.{◌≡◌, ℕ, ◌<◌, List, ◌++◌, length, Option}
 use Rattle.std.specs.Io.KnownBytes.{Appends}
-use Rattle.chunk_core.specs.declared.outlet.Outlet.{Outlet}
+use Rattle.device_core.specs.declared.outlet.Outlet.{Outlet}
 
 -- the writer, as it stands
 abbrev pub outlet_writer : {W : Type 0} → Outlet W → W

@@ -1,6 +1,6 @@
 -- What is known of the files of a folder, and what is read and written of them.
 use Rattle.std.specs.Prelude.{◌≡◌, ◌≢◌, ℕ, List, ◌++◌, map, Option, Some, ◌⊎◌}
-use Rattle.archive_core.specs.declared.fault.Fault.TheVariants.{Memory}
+use Rattle.transfer_core.specs.declared.fault.Fault.TheVariants.{Memory}
 use Rattle.command_core.specs.declared.outcome.Outcome.{Outcome}
 use Rattle.command_core.specs.declared.outcome.Outcome.TheVariants.{Fault, ReadFailed}
 

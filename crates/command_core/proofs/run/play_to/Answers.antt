@@ -1,6 +1,6 @@
 use Rattle.std.proofs.Common.{◌≡◌, ◌∙◌, List, ℕ, Option, OnOk, IsTrue, sym, subst, ap}
-use Rattle.archive_core.specs.Streaming.{OnlyFromOutside, PlaysFile, StreamStands, WritesFront}
-use Rattle.archive_core.specs.declared.fault.Fault as calls
+use Rattle.transfer_core.specs.Streaming.{OnlyFromOutside, PlaysFile, StreamStands, WritesFront}
+use Rattle.transfer_core.specs.declared.fault.Fault as calls
 use Rattle.device_core.specs.Inlets.{inlet_reader}
 use Rattle.device_core.specs.Outlets.{outlet_writer}
 use Rattle.command_core.specs.Commands.{PlayedComesTo}

@@ -3,9 +3,9 @@
 ghost use Rattle.std.specs.Prelude.{◌≡◌, ℕ, ◌+◌, ◌-◌, ◌<◌, ◌^◌, List, IfErr, IfOk, IsErrOf, OnErr};
 ghost use Rattle.device_core.specs.Inlets.{inlet_failures, inlet_given, inlet_reader, inlet_reads};
 ghost use Rattle.device_core.specs.Outlets.{outlet_failures, outlet_writer};
-ghost use Rattle.archive_core.specs.Playing.{Plays, played_of};
+ghost use Rattle.transfer_core.specs.Playing.{Plays, played_of};
 ghost use Rattle.form_core.specs.Steps.{Gives};
-ghost use Rattle.archive_core.specs.Streaming.{IsBeforeWriting, KeepsUp, OnlyFromOutside, PlaysFile, PlaysGiven, SaysNone, StopsReading, StreamStands, WritesFront, failed_reads, failed_writes};
+ghost use Rattle.transfer_core.specs.Streaming.{IsBeforeWriting, KeepsUp, OnlyFromOutside, PlaysFile, PlaysGiven, SaysNone, StopsReading, StreamStands, WritesFront, failed_reads, failed_writes};
 
 use crate::fault::Fault;
 use crate::projects::decimator_of;

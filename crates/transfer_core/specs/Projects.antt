@@ -9,9 +9,9 @@ use Rattle.project_core.specs.Meaning.{IsProject}
 use Rattle.project_core.specs.Projects.{ProjectContent}
 use Rattle.project_core.specs.ReadingProject.{project_at}
 use Rattle.splice_core.specs.Splices.{SpliceContent}
-use Rattle.archive_core.specs.declared.fault.Fault.{Fault}
-use Rattle.archive_core.specs.declared.fault.Fault.TheVariants.{Project, NoDecimation, NoSplice, Memory}
-use Rattle.archive_core.specs.Faults.{fault_of_project}
+use Rattle.transfer_core.specs.declared.fault.Fault.{Fault}
+use Rattle.transfer_core.specs.declared.fault.Fault.TheVariants.{Project, NoDecimation, NoSplice, Memory}
+use Rattle.transfer_core.specs.Faults.{fault_of_project}
 use Rattle.form_core.specs.Steps.{map_err}
 
 -- the text says a project with this decimator

@@ -9,10 +9,10 @@ use Rattle.player_core.specs.Samples.{pcm}
 use Rattle.form_core.specs.declared.form.Form.{Form}
 use Rattle.form_core.specs.Forms.{HoldsAs}
 use Rattle.form_core.specs.Opening.{opened_of}
-use Rattle.archive_core.specs.declared.fault.Fault.{Fault}
-use Rattle.archive_core.specs.declared.fault.Fault.TheVariants.{RateNotDivided, TooLarge}
-use Rattle.archive_core.specs.Faults.{fault_of_file}
-use Rattle.archive_core.specs.Projects.{SaysDecimator, decimator_of}
+use Rattle.transfer_core.specs.declared.fault.Fault.{Fault}
+use Rattle.transfer_core.specs.declared.fault.Fault.TheVariants.{RateNotDivided, TooLarge}
+use Rattle.transfer_core.specs.Faults.{fault_of_file}
+use Rattle.transfer_core.specs.Projects.{SaysDecimator, decimator_of}
 use Rattle.form_core.specs.Steps.{map_err}
 
 -- the project's text says a decimator, the file holds a recording, and these bytes are the WAVE text of its samples

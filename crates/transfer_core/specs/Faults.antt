@@ -11,8 +11,8 @@ use Rattle.form_core.specs.declared.fault.ReadFault.{ReadFault}
 use Rattle.form_core.specs.declared.fault.ReadFault.TheVariants as reads
 use Rattle.cut_core.specs.declared.fault.CutFault.{CutFault}
 use Rattle.cut_core.specs.declared.fault.CutFault.TheVariants as cuts
-use Rattle.archive_core.specs.declared.fault.Fault.{Fault}
-use Rattle.archive_core.specs.declared.fault.Fault.TheVariants.{Project, FileUnread, TakeNumber, TakeUnread, TakeMismatch, CueOutside, MasterTooLong, NoRoomBefore, NoRoomAfter, RateNotDivided, TooLarge, NotWholeBytes, FileRefused, ReadFailed, WriteFailed, TurnLimit, Memory}
+use Rattle.transfer_core.specs.declared.fault.Fault.{Fault}
+use Rattle.transfer_core.specs.declared.fault.Fault.TheVariants.{Project, FileUnread, TakeNumber, TakeUnread, TakeMismatch, CueOutside, MasterTooLong, NoRoomBefore, NoRoomAfter, RateNotDivided, TooLarge, NotWholeBytes, FileRefused, ReadFailed, WriteFailed, TurnLimit, Memory}
 
 -- of a project
 abbrev pub fault_of_project : ProjectFault → Fault

@@ -2,8 +2,8 @@
 
 ghost use Rattle.std.specs.Prelude.{IfErr, IfOk};
 ghost use Rattle.splice_core.specs.Splices.{splice_content};
-ghost use Rattle.archive_core.specs.Projects as specs;
-ghost use Rattle.archive_core.specs.Projects.{IsOfDecimator, SaysDecimator, SaysSplice, SaysTakes, names_of, take_names_of};
+ghost use Rattle.transfer_core.specs.Projects as specs;
+ghost use Rattle.transfer_core.specs.Projects.{IsOfDecimator, SaysDecimator, SaysSplice, SaysTakes, names_of, take_names_of};
 ghost use Rattle.form_core.specs.Steps.{Gives};
 
 use crate::fault::Fault;
@@ -27,9 +27,12 @@ pub fn take_names(alloc: Global, project: &[u8]) -> Result<Vec<String>, Fault>
     Ok(takes)
 }
 
-// The splice of a project text.
+/// The splice that a project text has.
+///
+/// Refusals, in this order: `Project`, `NoSplice` where the text has no splice. Every want of memory is
+/// `Memory`.
 #[tactic(auto, unfolding(crate::specs::Projects::splice_of))]
-pub(crate) fn splice_of(alloc: Global, project: &[u8]) -> Result<Splice, Fault>
+pub fn splice_of(alloc: Global, project: &[u8]) -> Result<Splice, Fault>
     ensures found { IfOk result (λ s. SaysSplice project.now (splice_content s)) }
     ensures exact { Gives Fault.Memory splice_content result (specs.splice_of project.now) }
 {

@@ -2,8 +2,8 @@ use Rattle.std.proofs.lemmas.Result.{err_from_is_err_and}
 use Rattle.device_core.specs.Inlets.{inlet_reader}
 use Rattle.device_core.specs.Outlets.{outlet_writer}
 use Rattle.stream_core.proofs.PieceLaws.{any_err}
-use Rattle.archive_core.proofs.StreamLaws.{keeps_up, nothing_written, only_outside, plays_file, plays_given, project_outside, stands, stops, writes_front}
-use Rattle.archive_core.proofs.playing.play_stream.Goals as goal
+use Rattle.transfer_core.proofs.StreamLaws.{keeps_up, nothing_written, only_outside, plays_file, plays_given, project_outside, stands, stops, writes_front}
+use Rattle.transfer_core.proofs.playing.play_stream.Goals as goal
 
 pub returns-in_err-taps-clause-cause : goal.returns-in_err-taps-clause-cause
 returns-in_err-taps-clause-cause g c =

@@ -1,4 +1,4 @@
-use Rattle.archive_core.proofs.converting.convert.Goals as goal
+use Rattle.transfer_core.proofs.converting.convert.Goals as goal
 
 pub returns-clause-kept : goal.returns-clause-kept
 returns-clause-kept c =

@@ -12,10 +12,10 @@ use Rattle.stream_core.specs.Playing as streams
 use Rattle.stream_core.specs.Reads.{Reads}
 use Rattle.form_core.specs.declared.form.Form.{Form}
 use Rattle.form_core.specs.Forms.{HoldsAs}
-use Rattle.archive_core.specs.declared.fault.Fault.{Fault}
-use Rattle.archive_core.specs.declared.fault.Fault.TheVariants.{Project, NoDecimation, RateNotDivided, TooLarge, FileRefused, ReadFailed, WriteFailed, TurnLimit, Memory}
-use Rattle.archive_core.specs.Playing.{Plays}
-use Rattle.archive_core.specs.Projects.{SaysDecimator, decimator_of}
+use Rattle.transfer_core.specs.declared.fault.Fault.{Fault}
+use Rattle.transfer_core.specs.declared.fault.Fault.TheVariants.{Project, NoDecimation, RateNotDivided, TooLarge, FileRefused, ReadFailed, WriteFailed, TurnLimit, Memory}
+use Rattle.transfer_core.specs.Playing.{Plays}
+use Rattle.transfer_core.specs.Projects.{SaysDecimator, decimator_of}
 
 -- whatever file stands there, so many bytes were written, those that project and file play
 abbrev pub PlaysFile : Option (List ℕ) → List ℕ → Option (List ℕ) → Option (List ℕ) → ℕ → Type 0

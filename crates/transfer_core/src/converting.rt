@@ -1,7 +1,7 @@
 //! A recording from one form to another.
 
 ghost use Rattle.std.specs.Prelude.{IfOk};
-ghost use Rattle.archive_core.specs.Converting.{IsConverted, IsKept, contents, converted_of};
+ghost use Rattle.transfer_core.specs.Converting.{IsConverted, IsKept, contents, converted_of};
 ghost use Rattle.form_core.specs.Steps.{Gives};
 
 use crate::fault::Fault;

@@ -1,8 +1,8 @@
 //! Why a call is refused.
 
 ghost use Rattle.std.specs.Prelude.{◌≡◌};
-ghost use Rattle.archive_core.specs.Faults.{fault_of_cut, fault_of_file, fault_of_project, fault_of_stream, fault_of_wave, fault_of_writing};
-ghost use Rattle.archive_core.specs.declared.fault.Fault.TheVariants as faults;
+ghost use Rattle.transfer_core.specs.Faults.{fault_of_cut, fault_of_file, fault_of_project, fault_of_stream, fault_of_wave, fault_of_writing};
+ghost use Rattle.transfer_core.specs.declared.fault.Fault.TheVariants as faults;
 
 use cut_core::CutFault;
 use form_core::{ReadFault, WriteFault};

@@ -17,14 +17,14 @@ use Rattle.form_core.specs.declared.form.Form.{Form}
 use Rattle.form_core.specs.declared.form.Form.TheVariants as forms
 use Rattle.form_core.specs.Forms.{HoldsAs, form_of}
 use Rattle.form_core.proofs.OpeningLaws.{holds_dsf}
-use Rattle.archive_core.specs.declared.fault.Fault.{Fault}
-use Rattle.archive_core.specs.declared.fault.Fault.TheVariants as fault
-use Rattle.archive_core.specs.Faults.{fault_of_stream}
-use Rattle.archive_core.specs.Playing.{Plays}
-use Rattle.archive_core.specs.Projects.{SaysDecimator, decimator_of}
-use Rattle.archive_core.proofs.ReadingLaws.{says_decimator}
+use Rattle.transfer_core.specs.declared.fault.Fault.{Fault}
+use Rattle.transfer_core.specs.declared.fault.Fault.TheVariants as fault
+use Rattle.transfer_core.specs.Faults.{fault_of_stream}
+use Rattle.transfer_core.specs.Playing.{Plays}
+use Rattle.transfer_core.specs.Projects.{SaysDecimator, decimator_of}
+use Rattle.transfer_core.proofs.ReadingLaws.{says_decimator}
 use Rattle.stream_core.proofs.PieceLaws.{front_nil}
-use Rattle.archive_core.specs.Streaming.{IsFromOutside, KeepsUp, OnlyFromOutside, PlaysFile, PlaysGiven, StopsReading, StreamStands, WritesFront}
+use Rattle.transfer_core.specs.Streaming.{IsFromOutside, KeepsUp, OnlyFromOutside, PlaysFile, PlaysGiven, StopsReading, StreamStands, WritesFront}
 
 -- ---- the form of a file
 form_held : (file : List ℕ) (r : Content) → HoldsRecording file r → (form : Form) × HoldsAs file form r

@@ -4,10 +4,10 @@ use Rattle.fir_core.specs.Decimator.{Decimator}
 use Rattle.project_core.proofs.ProjectLaws.{project_again}
 use Rattle.splice_core.specs.Splices.{SpliceContent}
 use Rattle.form_core.proofs.OpeningLaws.{held_is_opened}
-use Rattle.archive_core.specs.Converting.{converted_of}
-use Rattle.archive_core.specs.Laws.{ConvertsInOrder, PlaysInOrder, SaysTakesInOrder}
-use Rattle.archive_core.specs.Playing.{played_of}
-use Rattle.archive_core.specs.Projects.{SaysDecimator, SaysSplice, decimator_of, splice_of, take_names_of}
+use Rattle.transfer_core.specs.Converting.{converted_of}
+use Rattle.transfer_core.specs.Laws.{ConvertsInOrder, PlaysInOrder, SaysTakesInOrder}
+use Rattle.transfer_core.specs.Playing.{played_of}
+use Rattle.transfer_core.specs.Projects.{SaysDecimator, SaysSplice, decimator_of, splice_of, take_names_of}
 
 pub converts : ConvertsInOrder
 unfolding converted_of

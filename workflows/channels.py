@@ -5,17 +5,29 @@ The bits are hashed as bytes, the earliest bit the most significant, with zeros 
 the same sums in DSDIFF and in both kinds of DSF. This reads files by its own means, not by dsdarc: what both agree on
 was seen twice. It expects whole files, as dsdarc accepts them.
 """
+import dataclasses
 import hashlib
+import os
 import struct
 import sys
 
-PIECE = 1 << 16
 BLOCK = 4096
 TURNED = bytes(int(f"{byte:08b}"[::-1], 2) for byte in range(256))
 
 
 class Unread(Exception):
     """The file isn't read."""
+
+
+@dataclasses.dataclass
+class Sound:
+    """What a file's sound is and where it stands: `width` bits per sample in blocks, or `None` in DSDIFF."""
+    rate: int
+    count: int
+    bits: int
+    width: int | None
+    start: int
+    stop: int
 
 
 def take(file, count):
@@ -41,32 +53,28 @@ def property_of(data):
     return rate, struct.unpack_from(">H", found[b"CHNL"])[0]
 
 
-def read_dsdiff(file):
-    """Rate, and of each channel its bits and their sum; the file stands behind FRM8, its size and its type."""
+def dsdiff_sound(file):
+    """The sound of a DSDIFF file, which stands behind FRM8, its size and its type."""
     shape = None
     while True:
         name, size = struct.unpack(">4sQ", take(file, 12))
         if name == b"DSD ":
             break
-        data = take(file, size)
-        file.read(size % 2)
-        if name == b"PROP" and data[:4] == b"SND ":
-            shape = property_of(data)
+        if name == b"PROP":
+            data = take(file, size)
+            if data[:4] == b"SND ":
+                shape = property_of(data)
+            file.seek(size % 2, os.SEEK_CUR)
+        else:
+            file.seek(size + size % 2, os.SEEK_CUR)
     if shape is None:
         raise Unread("the sound stands before its property")
     rate, count = shape
-    sums = [hashlib.sha256() for _ in range(count)]
-    left = size
-    while left > 0:
-        data = take(file, min(left, PIECE * count))
-        left -= len(data)
-        for channel, total in enumerate(sums):
-            total.update(data[channel::count])
-    return rate, [(size // count * 8, total.hexdigest()) for total in sums]
+    return Sound(rate, count, size // count * 8, None, file.tell(), file.tell() + size)
 
 
-def read_dsf(file):
-    """The same of DSF; the file stands behind its first chunk."""
+def dsf_sound(file):
+    """The sound of a DSF file, which stands behind its first chunk."""
     name, size = struct.unpack("<4sQ", take(file, 12))
     if name != b"fmt ":
         raise Unread("it has no format")
@@ -75,32 +83,55 @@ def read_dsf(file):
     if block != BLOCK:
         raise Unread("its blocks have another size")
     take(file, 12)
-    sums = [hashlib.sha256() for _ in range(count)]
-    left = bits
+    groups = -(-bits // (8 * BLOCK))
+    return Sound(rate, count, bits, width, file.tell(), file.tell() + groups * count * BLOCK)
+
+
+def sound_of(file):
+    """The sound of a file that stands at its start."""
+    head = file.read(4)
+    if head == b"FRM8":
+        take(file, 12)
+        return dsdiff_sound(file)
+    if head == b"DSD ":
+        take(file, 24)
+        return dsf_sound(file)
+    raise Unread("it is neither DSDIFF nor DSF")
+
+
+def pieces(file, sound):
+    """The sound's bits, at most a block of each channel at a time: bytes, the earliest bit the most significant."""
+    file.seek(sound.start)
+    left = sound.bits
     while left > 0:
-        here = min(left, BLOCK * 8)
+        here = min(left, 8 * BLOCK)
+        size = (here + 7) // 8
         left -= here
-        for total in sums:
-            data = take(file, BLOCK)[: (here + 7) // 8]
-            if width == 1:
-                data = data.translate(TURNED)
-            if here % 8:
-                data = data[:-1] + bytes([data[-1] & 0xFF00 >> here % 8])
-            total.update(data)
-    return rate, [(bits, total.hexdigest()) for total in sums]
+        if sound.width is None:
+            data = take(file, size * sound.count)
+            yield [data[channel :: sound.count] for channel in range(sound.count)]
+        else:
+            yield [cleared(take(file, BLOCK)[:size], sound.width, here) for _ in range(sound.count)]
+
+
+def cleared(data, width, bits):
+    """A block of DSF with its earliest bit first, and zeros behind the last."""
+    if width == 1:
+        data = data.translate(TURNED)
+    if bits % 8:
+        data = data[:-1] + bytes([data[-1] & 0xFF00 >> bits % 8])
+    return data
 
 
 def read(name):
     """Rate of a file, and for each channel its number of bits and their SHA-256."""
     with open(name, "rb") as file:
-        head = file.read(4)
-        if head == b"FRM8":
-            take(file, 12)
-            return read_dsdiff(file)
-        if head == b"DSD ":
-            take(file, 24)
-            return read_dsf(file)
-    raise Unread("it is neither DSDIFF nor DSF")
+        sound = sound_of(file)
+        sums = [hashlib.sha256() for _ in range(sound.count)]
+        for piece in pieces(file, sound):
+            for total, data in zip(sums, piece):
+                total.update(data)
+    return sound.rate, [(sound.bits, total.hexdigest()) for total in sums]
 
 
 def main():

@@ -1,16 +1,17 @@
 #!/usr/bin/env python3
-"""The steps of the workflow, each over one file: steps.py look|convert|play .., and what is made of all: plan, lists.
+"""The steps of the workflow, in OUT: steps.py look|convert|play KEY over one file, steps.py plan|lists over all.
 
-`Snakefile` has the words of each. A file that is written has its name only once it is whole.
+`names.py` has the keys, and the names behind them. The notes in `work/` are what Snakemake knows; a step writes its note
+last, and a file that is written has its name only once it is whole.
 """
-import hashlib
-import json
 import os
 import subprocess
 import sys
 import tomllib
 
 import channels
+import restore
+from names import KINDS, SETTINGS, TABLE, keep, load, remove, result, shown, sum_line, sum_of
 
 ROOT = os.path.dirname(os.path.dirname(os.path.abspath(__file__)))
 PROGRAM = os.environ.get("DSDARC", os.path.join(ROOT, "bin", "dsdarc"))
@@ -24,85 +25,97 @@ def run(*words):
     return done.returncode, (done.stdout if done.returncode == 0 else done.stderr).strip()
 
 
-def must(*words):
+def must(entry, *words):
     """The line of a command that has to be done."""
     status, line = run(*words)
     if status != 0:
-        sys.exit(f"{line or f'status {status}'}: {words[-2]}")
+        sys.exit(f"{line or f'status {status}'}: {entry['name']!r}")
     return line
 
 
-def sum_of(name):
-    with open(name, "rb") as file:
-        return hashlib.file_digest(file, "sha256").hexdigest()
+def entry_of(key):
+    return load(TABLE)["files"][key]
 
 
-def keep(name, data):
-    """Writes a text or an object as JSON, whole or not at all."""
-    part = name + ".part"
-    with open(part, "w", encoding="utf-8", errors="surrogateescape") as file:
-        if isinstance(data, str):
-            file.write(data)
-        else:
-            json.dump(data, file, indent=1, sort_keys=True)
-            file.write("\n")
-    os.replace(part, name)
+def source_of(key):
+    return f"work/links/{key}"
 
 
-def load(name):
-    with open(name, encoding="utf-8") as file:
-        return json.load(file)
+def look_of(key):
+    return f"work/looks/{key}.json"
 
 
-def remove(*names):
-    for name in names:
-        if os.path.exists(name):
-            os.remove(name)
+def note_of(step, key, form):
+    """The note of what was converted or played."""
+    return f"work/played/{key}.json" if step == "play" else f"work/converted/{key}.{ENDINGS[form]}.json"
 
 
-def look(source, out):
+def look(key):
     """What the program tells of a file, or the fault that it is refused for, and the sum of its bytes."""
-    status, text = run("info", source)
+    status, text = run("info", source_of(key))
     if status == 0:
         lines = [line.split(" ", 1) for line in text.splitlines()]
-        told = {key: value for key, value in lines if key not in ("mark", "ids")}
-        found = {key: value if key == "form" else int(value) for key, value in told.items()}
+        told = {word: value for word, value in lines if word not in ("mark", "ids")}
+        found = {word: value if word == "form" else int(value) for word, value in told.items()}
     elif status in (2, 3) and text != "fault: Memory":
         found = {"fault": text.removeprefix("fault: ")}
     else:
-        sys.exit(f"{text or f'status {status}'}: {source}")
-    keep(out, found | {"sha256": sum_of(source)})
+        sys.exit(f"{text or f'status {status}'}: {entry_of(key)['name']!r}")
+    keep(look_of(key), found | {"sha256": sum_of(source_of(key))})
 
 
-def convert(form, source, looked, out, compared):
-    """Converts a file and back to its own form, and compares rate and bits of all channels of all three."""
-    part, back = out + ".part", out + ".back.part"
+def placed(parts):
+    """Puts files that are whole in their places, and tells of each its size and sum."""
+    results = {}
+    for path, part in parts.items():
+        results[path] = {"bytes": os.path.getsize(part), "sha256": sum_of(part)}
+        os.makedirs(os.path.dirname(path), exist_ok=True)
+        os.replace(part, path)
+    return results
+
+
+def compare(entry, source, sum_before, part, back, kept):
+    """Rate and sums of a file's channels, once those of the converted ones are equal and it can be made again."""
+    first = channels.read(source)
+    for word, file in (("converted", part), ("back", back)):
+        if channels.read(file) != first:
+            sys.exit(f"the {word} file has other bits: {entry['name']!r}")
+    if restore.sum_of_pieces(restore.made_again(part, kept)) != sum_before:
+        sys.exit(f"what is kept doesn't make the file again: {entry['name']!r}")
+    return first
+
+
+def convert(key):
+    """Converts a file and back to its own form, keeps all but its sound, and compares what comes of both."""
+    form, entry, source, looked = load(SETTINGS)["form"], entry_of(key), source_of(key), load(look_of(key))
+    front = f"work/parts/{key}"
+    part, back = f"{front}.{ENDINGS[form]}", f"{front}.back"
     try:
-        dropped = must("convert", form, source, part)
-        must("convert", load(looked)["form"], part, back)
-        first = channels.read(source)
-        for name, file in (("converted", part), ("back", back)):
-            if channels.read(file) != first:
-                sys.exit(f"the {name} file has other bits: {source}")
-        rate, sums = first
-        keep(compared, {
+        dropped = must(entry, "convert", form, source, part)
+        must(entry, "convert", looked["form"], part, back)
+        kept = restore.keep_all_but_sound(source, front)
+        rate, sums = compare(entry, source, looked["sha256"], part, back, kept)
+        remove(*(result("kept", entry, ending) for ending in KINDS["kept"]))
+        made = {result("converted", entry, f".{ENDINGS[form]}"): part}
+        made |= {result("kept", entry, ending): file for ending, file in kept.items()}
+        keep(note_of("convert", key, form), {
             "rate": rate,
             "channels": [{"bits": bits, "sha256": total} for bits, total in sums],
             "dropped": int(dropped.split()[-1]),
-            "sha256": sum_of(part),
+            "renamed": entry["renamed"],
+            "results": placed(made),
         })
-        os.replace(part, out)
     finally:
-        remove(part, back)
+        remove(part, back, *(front + ending for ending in KINDS["kept"]))
 
 
-def play(project, source, out, played):
-    """Plays a file to a WAVE file."""
-    part = out + ".part"
+def play(key):
+    """Plays a file to a WAVE file, by the filter for its rate."""
+    settings, entry, part = load(SETTINGS), entry_of(key), f"work/parts/{key}.wav"
     try:
-        must("play", project, source, part)
-        keep(played, {"bytes": os.path.getsize(part), "sha256": sum_of(part)})
-        os.replace(part, out)
+        must(entry, "play", settings["filters"][str(load(look_of(key))["rate"])], source_of(key), part)
+        results = placed({result("pcm", entry, ".wav"): part})
+        keep(note_of("play", key, settings["form"]), {"renamed": entry["renamed"], "results": results})
     finally:
         remove(part)
 
@@ -126,62 +139,83 @@ def unplayable(found, filters):
     return "TooLarge" if 36 + size + size % 2 >= WAVE_LIMIT else None
 
 
-def plan(form, filters, names, out, refused):
+def plan():
     """What is done with each file, and the list of what is refused."""
-    filters, steps, lines = json.loads(filters), {}, []
-    found_names = load(names)
-    for name in found_names["unnamed"]:
-        lines.append(f"info\tWrongWords\t{shown(name)}\n")
-    for name, real in found_names["names"].items():
-        found = load(f"looks/{name}.json")
+    settings, table, steps = load(SETTINGS), load(TABLE), {}
+    lines = [f"{'folder' if fault == 'FolderUnread' else 'info'}\t{fault}\t{shown(name)}\n"
+             for fault, name in table["refused"]]
+    for key, entry in by_name(table):
+        found = load(look_of(key))
         faults = {"info": found["fault"]} if "fault" in found else {
-            "convert": unconvertible(found, form),
-            "play": unplayable(found, filters),
+            "convert": unconvertible(found, settings["form"]),
+            "play": unplayable(found, settings["filters"]),
         }
-        lines += [f"{step}\t{fault}\t{shown(real)}\n" for step, fault in faults.items() if fault]
-        steps[name] = {
+        lines += [f"{step}\t{fault}\t{shown(entry['name'])}\n" for step, fault in faults.items() if fault]
+        steps[key] = {
             "convert": "info" not in faults and not faults["convert"],
             "play": "info" not in faults and not faults["play"],
             "rate": found.get("rate"),
         }
-    keep(refused, "".join(lines))
-    keep(out, steps)
+    keep("refused.tsv", "".join(lines))
+    keep("work/plan.json", steps)
 
 
-def shown(name):
-    """A name on one line, as sha256sum writes it."""
-    return name.replace("\\", "\\\\").replace("\n", "\\n").replace("\r", "\\r")
+def by_name(table):
+    """The keys and entries of a table in the order of the names."""
+    return sorted(table["files"].items(), key=lambda item: item[1]["name"])
 
 
-def sum_line(total, name):
-    return f"{chr(92) if shown(name) != name else ''}{total}  {shown(name)}\n"
+def told(key, todo, form):
+    """The notes of what was made of a file, and what `results.json` tells of it."""
+    notes = {step: load(note_of(step, key, form)) for step in ("convert", "play") if todo[step]}
+    results = {step: sorted(note["results"]) for step, note in notes.items()}
+    converted = [path for path in results.get("convert", []) if os.path.splitext(path)[1] not in KINDS["kept"]]
+    return notes, {
+        "sha256": load(look_of(key))["sha256"],
+        "converted": converted[0] if converted else None,
+        "kept": [path for path in results.get("convert", []) if path not in converted],
+        "dropped": notes["convert"]["dropped"] if converted else 0,
+        "pcm": results["play"][0] if "play" in results else None,
+    }
 
 
-def lists(form, names, planned, refused):
+def lists():
     """The lists of sums of the sources and of what was made, of the channels, and the counts of all."""
-    sources, made, sounds = [], [], []
-    steps, found = load(planned), load(names)
-    for name, todo in sorted(steps.items()):
-        sources.append(sum_line(load(f"looks/{name}.json")["sha256"], found["names"][name]))
-        if todo["convert"]:
-            compared = load(f"compared/{name}.json")
-            made.append(sum_line(compared["sha256"], f"converted/{name}.{ENDINGS[form]}"))
-            for number, channel in enumerate(compared["channels"]):
-                sounds.append(f"{channel['sha256']}\t{compared['rate']}\t{channel['bits']}\t{number}\t{shown(found['names'][name])}\n")
-        if todo["play"]:
-            made.append(sum_line(load(f"played/{name}.json")["sha256"], f"pcm/{name}.wav"))
+    table, steps, form = load(TABLE), load("work/plan.json"), load(SETTINGS)["form"]
+    sources, made, sounds, results = [], {}, [], {}
+    for key, entry in by_name(table):
+        notes, results[entry["name"]] = told(key, steps[key], form)
+        sources.append(sum_line(results[entry["name"]]["sha256"], entry["name"]))
+        for note in notes.values():
+            made |= note["results"]
+        if "convert" in notes:
+            rate, name = notes["convert"]["rate"], shown(entry["name"])
+            sounds += [f"{channel['sha256']}\t{rate}\t{channel['bits']}\t{number}\t{name}\n"
+                       for number, channel in enumerate(notes["convert"]["channels"])]
     keep("SOURCES.SHA256SUMS", "".join(sources))
-    keep("SHA256SUMS", "".join(made))
+    keep("SHA256SUMS", "".join(sum_line(file["sha256"], path) for path, file in sorted(made.items())))
     keep("channels.tsv", "".join(sounds))
-    with open(refused, encoding="utf-8", errors="surrogateescape") as file:
+    keep("dropped.tsv", "".join(
+        f"{found['dropped']}\t{shown(name)}\n" for name, found in results.items() if found["dropped"]))
+    keep("results.json", results)
+    keep("report.txt", report(table, steps, results, len(sounds)))
+
+
+def report(table, steps, results, sounds):
+    """The counts of all."""
+    with open("refused.tsv", encoding="utf-8", errors="surrogateescape") as file:
         kinds = [line.split("\t")[0] for line in file]
     converted = sum(todo["convert"] for todo in steps.values())
-    keep("report.txt",
-         f"files {len(steps) + len(found['unnamed'])}\n"
-         f"refused {kinds.count('info')}\n"
-         f"converted and compared {converted}, not converted {kinds.count('convert')}\n"
-         f"played {sum(todo['play'] for todo in steps.values())}, not played {kinds.count('play')}\n"
-         f"channels with equal bits {len(sounds)}\n")
+    dropped = sum(found["dropped"] > 0 for found in results.values())
+    named = sum(entry["renamed"] is not None for entry in table["files"].values())
+    return (
+        f"files {len(steps) + len(table['refused']) - kinds.count('folder')}\n"
+        f"refused {kinds.count('info')}, folders that can't be listed {kinds.count('folder')}\n"
+        f"converted and compared {converted}, not converted {kinds.count('convert')}\n"
+        f"can be made again byte for byte {converted}, of which marks, chunks or a tag were dropped {dropped}\n"
+        f"played {sum(todo['play'] for todo in steps.values())}, not played {kinds.count('play')}\n"
+        f"channels with equal bits {sounds}\n"
+        f"results under other names {named}\n")
 
 
 STEPS = {step.__name__: step for step in (look, convert, play, plan, lists)}

@@ -15,7 +15,7 @@ use Rattle.master_core.specs.Checking.{IsMasterOf}
 use Rattle.master_core.specs.Claims.{IsCertOf}
 use Rattle.master_core.specs.Judging.{IsNoRejection, JudgesMaster, WhereAccepted}
 use Rattle.master_core.specs.Masters.{AreLeastChannels, AreMasterChannels, total_cost}
-use Rattle.archive_core.specs.declared.fault.Fault.{Fault}
+use Rattle.transfer_core.specs.declared.fault.Fault.{Fault}
 use Rattle.archive_core.specs.Checking.{Accepts, AnswersAccepted, IfAccepted, IfRejected, IsLeastMaster, RejectsFirst}
 use Rattle.archive_core.specs.Editing.{CostsWindows, IsMaster}
 use Rattle.archive_core.specs.Cutting.{SaysCut}

@@ -4,11 +4,11 @@ use Rattle.form_core.specs.declared.form.Form.{Form}
 use Rattle.form_core.specs.Steps.{Fails}
 use Rattle.cut_core.specs.Cuts.{CutContent}
 use Rattle.cut_core.proofs.OpeningLaws.{opens_in_order}
-use Rattle.archive_core.specs.declared.fault.Fault.{Fault}
-use Rattle.archive_core.specs.declared.fault.Fault.TheVariants.{Memory}
+use Rattle.transfer_core.specs.declared.fault.Fault.{Fault}
+use Rattle.transfer_core.specs.declared.fault.Fault.TheVariants.{Memory}
 use Rattle.archive_core.specs.Cutting.{SaysCut, said_cut}
 use Rattle.archive_core.specs.Laws.{SaysCutInOrder}
-use Rattle.archive_core.proofs.ReadingLaws.{says_splice}
+use Rattle.transfer_core.proofs.ReadingLaws.{says_splice}
 
 pub says_cut : SaysCutInOrder
 unfolding said_cut

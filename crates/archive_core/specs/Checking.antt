@@ -13,8 +13,8 @@ use Rattle.master_core.specs.declared.verdict.Verdict.TheVariants.{Accepted, Rej
 use Rattle.master_core.specs.Checking.{IsMasterOf, StandsAgainst}
 use Rattle.master_core.specs.Claims.{IsCertOf}
 use Rattle.master_core.specs.Masters.{AreLeastChannels, total_cost}
-use Rattle.archive_core.specs.declared.fault.Fault.{Fault}
-use Rattle.archive_core.specs.declared.fault.Fault.TheVariants.{Memory}
+use Rattle.transfer_core.specs.declared.fault.Fault.{Fault}
+use Rattle.transfer_core.specs.declared.fault.Fault.TheVariants.{Memory}
 use Rattle.archive_core.specs.Cutting.{SaysCut}
 
 -- a refusal of reading is want of memory

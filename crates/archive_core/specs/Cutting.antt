@@ -6,9 +6,9 @@ use Rattle.form_core.specs.declared.form.Form.{Form}
 use Rattle.form_core.specs.Steps.{map_err}
 use Rattle.cut_core.specs.Cuts.{CutContent}
 use Rattle.cut_core.specs.Opening.{OpensCut, cut_of}
-use Rattle.archive_core.specs.declared.fault.Fault.{Fault}
-use Rattle.archive_core.specs.Faults.{fault_of_cut}
-use Rattle.archive_core.specs.Projects.{SaysSplice, splice_of}
+use Rattle.transfer_core.specs.declared.fault.Fault.{Fault}
+use Rattle.transfer_core.specs.Faults.{fault_of_cut}
+use Rattle.transfer_core.specs.Projects.{SaysSplice, splice_of}
 
 -- the project's text says a splice, and the files hold takes that it can be cut from, into a file of the form where one is asked for
 pub record SaysCut (project : List ℕ) (files : List (List ℕ)) (form : Option Form) (cut : CutContent) : Type 0 where

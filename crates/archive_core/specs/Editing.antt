@@ -8,8 +8,8 @@ use Rattle.master_core.specs.Checking.{IsTitled}
 use Rattle.master_core.specs.Claims.{windows_total}
 use Rattle.master_core.specs.Masters.{AreMasterChannels, IsBestMaster}
 use Rattle.archive_core.specs.declared.editing.Edited.{Edited}
-use Rattle.archive_core.specs.declared.fault.Fault.{Fault}
-use Rattle.archive_core.specs.declared.fault.Fault.TheVariants.{Memory}
+use Rattle.transfer_core.specs.declared.fault.Fault.{Fault}
+use Rattle.transfer_core.specs.declared.fault.Fault.TheVariants.{Memory}
 use Rattle.archive_core.specs.Cutting.{SaysCut}
 
 -- these bytes are the file of the master whose every bridge is the first least one, at this cost

@@ -1,23 +1,8 @@
--- Whatever the relations of the calls say is what their readings in order come to.
+-- Whatever a project and files say of a cut is what their reading in order comes to.
 use Rattle.std.specs.Prelude.{◌≡◌, ℕ, List, Ok, Option}
 use Rattle.form_core.specs.declared.form.Form.{Form}
 use Rattle.cut_core.specs.Cuts.{CutContent}
-use Rattle.archive_core.specs.Converting.{Converts, converted_of}
 use Rattle.archive_core.specs.Cutting.{SaysCut, said_cut}
-use Rattle.archive_core.specs.Playing.{Plays, played_of}
-use Rattle.archive_core.specs.Projects.{SaysTakes, take_names_of}
-
--- what a file converts to
-abbrev pub ConvertsInOrder : Type 0
-ConvertsInOrder = (file : List ℕ) (form : Form) (bytes : List ℕ) (dropped : ℕ) → Converts file form bytes dropped → converted_of file form ≡ Ok (bytes, dropped)
-
--- what project and file play
-abbrev pub PlaysInOrder : Type 0
-PlaysInOrder = (project file bytes : List ℕ) → Plays project file bytes → played_of project file ≡ Ok bytes
-
--- which takes a text cuts
-abbrev pub SaysTakesInOrder : Type 0
-SaysTakesInOrder = (text : List ℕ) (names : List (List ℕ)) → SaysTakes text names → take_names_of text ≡ Ok names
 
 -- which cut a project and files come to
 abbrev pub SaysCutInOrder : Type 0

@@ -1,9 +1,4 @@
 pub mod Checking
-pub mod Converting
 pub mod Cutting
 pub mod Editing
-pub mod Faults
 pub mod Laws
-pub mod Playing
-pub mod Projects
-pub mod Streaming

@@ -13,10 +13,10 @@ ghost use Rattle.form_core.specs.Opening.{IsOpened};
 ghost use Rattle.form_core.specs.Steps.{Fails};
 
 use crate::cutting::cut_from;
-use crate::fault::Fault;
 use form_core::{Opened, ReadFault, read_any};
 use master_core::{Reason, Verdict, judge};
 use std::alloc::{AllocError, Global};
+use transfer_core::Fault;
 
 /// Whether a file is the master of a project and its takes, and a certificate shows that no bridge in it
 /// could cost less, whoever wrote them. It is accepted exactly where this is so, with the sum of what the

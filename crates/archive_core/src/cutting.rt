@@ -5,11 +5,10 @@ ghost use Rattle.form_core.specs.Steps.{Gives};
 ghost use Rattle.cut_core.specs.Opening.{file_bytes};
 ghost use Rattle.archive_core.specs.Cutting.{SaysCut, said_cut};
 
-use crate::fault::Fault;
-use crate::projects::splice_of;
 use cut_core::Cut;
 use form_core::Form;
 use std::alloc::Global;
+use transfer_core::{Fault, splice_of};
 
 /// The cut of a project text and the files of its takes, in the order of their numbers. `form` is the form of the file
 /// that is to be cut, where one is.

@@ -8,10 +8,10 @@ ghost use Rattle.cut_core.specs.Opening.{file_bytes};
 ghost use Rattle.form_core.specs.Steps.{Fails};
 
 use crate::cutting::cut_from;
-use crate::fault::Fault;
 use form_core::{Form, write_in};
 use master_core::{Made, make};
 use std::alloc::Global;
+use transfer_core::Fault;
 
 /// A master that was cut.
 #[derive(Drop)]

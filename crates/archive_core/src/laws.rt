@@ -1,7 +1,8 @@
 //! What the words of the contracts have to do with each other. The functions do nothing: a caller's
 //! proof cites what they ensure.
 
-ghost use Rattle.archive_core.specs.Laws.{ConvertsInOrder, PlaysInOrder, SaysCutInOrder, SaysTakesInOrder};
+ghost use Rattle.archive_core.specs.Laws.{SaysCutInOrder};
+ghost use Rattle.transfer_core.specs.Laws.{ConvertsInOrder, PlaysInOrder, SaysTakesInOrder};
 
 /// What a file converts to, what project and file play, which takes a text cuts and which cut it comes to is what
 /// reading them in the order of the refusals comes to.

@@ -4,16 +4,15 @@
 //! [`read_any`] reads a DSDIFF 1.5 or DSF 1.01 file ([`form_core`]), [`convert`] writes its recording in another
 //! [`Form`], and [`play`] makes a RIFF WAVE file of it, decimated as a project text says; [`play_stream`] does so from
 //! a reader to a writer. [`take_names`] tells which takes a project text cuts, [`edit`] cuts its master from them and
-//! certifies it, and [`check`] judges a master and its certificate, whoever made them. Cuts are [`cut_core`]'s, masters
-//! [`master_core`]'s: here stand the calls whole, from project and files on.
+//! certifies it, and [`check`] judges a master and its certificate, whoever made them. What is done with one recording is
+//! [`transfer_core`]'s; cuts are [`cut_core`]'s, masters [`master_core`]'s: here stand the calls over them whole, from
+//! project and files on.
 //!
 //! The words of the contracts:
 //!
-//! - `Converts file form bytes dropped` says that these bytes are the file of the form that is written for the file's
-//!   recording (`specs/Converting.antt`); `Plays project file bytes` that these bytes are the WAVE text of the samples
-//!   of the file's recording (`specs/Playing.antt`); `specs/Streaming.antt` says it of a reader and a writer.
-//! - `SaysTakes text names` says that a project text cuts the takes of these names (`specs/Projects.antt`), `SaysCut
-//!   project files form cut` that project and files come to this cut (`specs/Cutting.antt`).
+//! - `Converts`, `Plays` and `SaysTakes` (`transfer_core`): what a file converts to, what project and file play, and which
+//!   takes a text cuts.
+//! - `SaysCut project files form cut` says that project and files come to this cut (`specs/Cutting.antt`).
 //! - `Edits project files form master cost` says that these bytes are the file of the master with the first least
 //!   bridges, which cost so much; `IsMaster project files file` that a file is a master, whatever its bridges
 //!   (`specs/Editing.antt`); `Accepts project files master cert cost` that it is, and that the certificate shows each
@@ -32,20 +31,13 @@
 #![tactic(auto)]
 
 mod checking;
-mod converting;
 mod cutting;
 mod editing;
-mod fault;
 mod laws;
-mod playing;
-mod projects;
 
 pub use checking::check;
-pub use converting::{Converted, convert};
 pub use editing::{Edited, edit};
-pub use fault::Fault;
 pub use form_core::{Form, Opened, ReadFault, read_any};
 pub use laws::read_in_order;
 pub use master_core::{Reason, Verdict};
-pub use playing::{play, play_stream};
-pub use projects::take_names;
+pub use transfer_core::{Converted, Fault, convert, play, play_stream, take_names};

@@ -12,10 +12,10 @@ use crate::master_commands::{CHECK, CUT};
 use crate::outcomes::{MARKED, prints};
 use crate::playing::plays_built;
 use archive_core::{Fault, Form, Reason, play_stream, read_any, take_names};
-use chunk_core::{Inlet, Outlet};
 use command_core::{
     Folder, FolderFault, MemoryFolder, Outcome, Task, outcome_line, perform, read_files, read_whole,
 };
+use device_core::{Inlet, Outlet};
 use fixtures::files::{FILE, WAVE, mono, noted, stereo};
 use fixtures::projects::{DECIMATE, SPLICE};
 use fixtures::waves::TWO_CHANNELS;

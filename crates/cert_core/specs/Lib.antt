@@ -1,8 +1,6 @@
 pub mod Certificates
 pub mod Composing
 pub mod Entries
-pub mod Faults
-pub mod FusedOutlets
 pub mod Readers
 pub mod Reasons
 pub mod Stops

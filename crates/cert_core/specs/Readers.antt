@@ -1,6 +1,6 @@
 -- What contracts see of a reader of certificates and of its answers.
 use Rattle.std.specs.Prelude.{◌≡◌, ◌<◌, ℕ, List, length, Option, None, Some, Result, Ok, Err, ⊤, IfSome}
-use Rattle.chunk_core.specs.declared.inlet.Inlet.{Inlet}
+use Rattle.device_core.specs.declared.inlet.Inlet.{Inlet}
 use Rattle.cert_core.specs.declared.reader.CertReader.{CertReader}
 use Rattle.cert_core.specs.declared.verdict.CertReason.{CertReason}
 use Rattle.cert_core.specs.declared.verdict.CertReason.TheVariants.{Extra}

@@ -1,8 +1,8 @@
 -- What contracts see of a writer of certificates.
 use Rattle.std.specs.Prelude.{ℕ, ◌-◌, ◌^◌, Bool, if◌then◌else◌}
-use Rattle.chunk_core.specs.declared.outlet.Outlet.{Outlet}
+use Rattle.device_core.specs.declared.outlet.Outlet.{Outlet}
 use Rattle.cert_core.specs.declared.writer.CertWriter.{CertWriter}
-use Rattle.cert_core.specs.FusedOutlets.{fused_outlet, fused_failed}
+use Rattle.device_core.specs.FusedOutlets.{fused_outlet, fused_failed}
 
 -- the outlet, as it stands
 abbrev pub cert_outlet : {W : Type 0} → CertWriter W → Outlet W

@@ -3,7 +3,7 @@
 ghost use Rattle.std.specs.Prelude.{◌≡◌, ℕ, ◌+◌, ◌*◌, ◌-◌, ◌^◌, ◌<◌, ◌≤◌, length, slice_index_or, IfOk, OnOk};
 ghost use Rattle.std.specs.Int.{w64, to_be_bytes};
 ghost use Rattle.std.specs.Io.KnownBytes.{Consumes};
-ghost use Rattle.chunk_core.specs.Inlets.{inlet_reader, inlet_failures};
+ghost use Rattle.device_core.specs.Inlets.{inlet_reader, inlet_failures};
 ghost use Rattle.cost_core.specs.Trellis.{states, cost, IsBounded};
 ghost use Rattle.cost_core.specs.StateCosts.{trellis_of};
 ghost use Rattle.cost_core.specs.Limits.{IsBridging};
@@ -16,8 +16,8 @@ use crate::numbers::{make_buffer, number_in, start_numbers, take_row};
 use crate::rows::{low_end, row_reason};
 use crate::stop::Stop;
 use crate::verdict::CertReason;
-use chunk_core::Inlet;
 use cost_core::Window;
+use device_core::Inlet;
 use dsd_bits::Bits;
 use std::alloc::{AllocError, Global};
 use std::io::Read;

@@ -49,7 +49,6 @@
 #![tactic(auto)]
 
 mod entry;
-mod fused;
 mod laws;
 mod numbers;
 mod reader;
@@ -59,7 +58,7 @@ mod stop;
 mod verdict;
 mod writer;
 
-pub use fused::CertFault;
+pub use device_core::FusedFault as CertFault;
 pub use laws::{cert_goes_on, one_reason, parts_join, read_is_cert, shown_is_least, shown_is_read};
 pub use reader::CertReader;
 pub use verdict::{CertReason, CertVerdict, CheckFault};

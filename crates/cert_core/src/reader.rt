@@ -2,7 +2,7 @@
 
 ghost use Rattle.std.specs.Prelude.{◌≡◌, ◌+◌, ◌-◌, ◌^◌, ◌<◌, ◌≤◌, ◌++◌, List, ℕ, length, IfSome, IsErrOf};
 ghost use Rattle.std.specs.Io.KnownBytes.{Consumes, IsAtEnd};
-ghost use Rattle.chunk_core.specs.Inlets.{inlet_reader, inlet_failures};
+ghost use Rattle.device_core.specs.Inlets.{inlet_reader, inlet_failures};
 ghost use Rattle.cost_core.specs.StateCosts.{trellis_of};
 ghost use Rattle.cost_core.specs.Bridges.{bridge_cost, IsLeastBridge};
 ghost use Rattle.cert_core.specs.Text.{cert_head};
@@ -13,8 +13,8 @@ use crate::entry::read_entry;
 use crate::numbers::head_bytes;
 use crate::stop::Stop;
 use crate::verdict::{CertReason, CertVerdict, CheckFault};
-use chunk_core::Inlet;
 use cost_core::Window;
+use device_core::Inlet;
 use dsd_bits::Bits;
 use std::alloc::Global;
 use std::io::Read;

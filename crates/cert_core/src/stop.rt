@@ -1,7 +1,7 @@
 //! Why a reading stops before its end.
 
 use crate::verdict::CertReason;
-use chunk_core::Device;
+use device_core::Device;
 use std::alloc::AllocError;
 
 /// A reason for a rejection, a read that failed, or want of memory.

@@ -3,13 +3,13 @@
 ghost use Rattle.std.specs.Prelude.{◌≡◌, true, false, ◌+◌, ◌*◌, ◌-◌, ◌<◌, ◌≤◌, ◌^◌, length, not, is_ok, ◌↔◌, IsErrOf, OnOk, OnErr, IfOk, IfErr};
 ghost use Rattle.std.specs.Int.{w64, to_be_bytes};
 ghost use Rattle.std.specs.Io.KnownBytes.{Appends};
-ghost use Rattle.chunk_core.specs.Outlets.{outlet_writer, outlet_failures, AppendsPart};
+ghost use Rattle.device_core.specs.FusedOutlets.{failed_parts};
+ghost use Rattle.device_core.specs.Outlets.{outlet_writer, outlet_failures, AppendsPart};
 ghost use Rattle.cert_core.specs.Text.{row_text, entry_start, cert_head};
-ghost use Rattle.cert_core.specs.Faults.{failed_parts};
 
-use crate::fused::{CertFault, FusedOutlet};
+use crate::CertFault;
 use crate::numbers::{head_bytes, make_buffer, put_row, start_bytes};
-use chunk_core::Outlet;
+use device_core::{FusedOutlet, Outlet};
 use std::alloc::Global;
 use std::io::Write;
 

@@ -2,6 +2,5 @@ pub mod Steps
 pub mod Ranges
 pub mod ReadingLaws
 pub mod PlaceLaws
-pub mod Pulls
 pub mod SpelledAgain
 pub mod WalkLoop

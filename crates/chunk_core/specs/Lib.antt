@@ -1,9 +1,7 @@
 pub mod Chunks
 pub mod Heads
-pub mod Inlets
 pub mod Laws
 pub mod Numbers
-pub mod Outlets
 pub mod Places
 pub mod Reading
 pub mod Steps

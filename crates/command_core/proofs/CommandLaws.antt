@@ -1,16 +1,16 @@
 -- What becomes of files that are written, or could not be.
 use Rattle.std.proofs.Common.{◌≡◌, ◌≢◌, ℕ, ◌⊎◌, inl, inr, List, [], ◌++◌, Bool, false, IsTrue, IsOk, is_ok, OnOk, OnErr, Option, None, Some, Result, Ok, Err, length, subst, sym, ap, ◌∙◌}
 use Rattle.archive_core.specs.Checking.{Accepts}
-use Rattle.archive_core.specs.Converting.{Converts}
+use Rattle.transfer_core.specs.Converting.{Converts}
 use Rattle.archive_core.specs.Editing.{Edits}
-use Rattle.archive_core.specs.Playing.{Plays}
-use Rattle.archive_core.specs.declared.fault.Fault as calls
+use Rattle.transfer_core.specs.Playing.{Plays}
+use Rattle.transfer_core.specs.declared.fault.Fault as calls
 use Rattle.form_core.specs.declared.form.Form.{Form}
-use Rattle.archive_core.specs.Streaming.{IsBeforeWriting, OnlyFromOutside, PlaysFile, StreamStands, WritesFront}
-use Rattle.chunk_core.specs.Outlets.{AppendsFront}
+use Rattle.transfer_core.specs.Streaming.{IsBeforeWriting, OnlyFromOutside, PlaysFile, StreamStands, WritesFront}
+use Rattle.device_core.specs.Outlets.{AppendsFront}
 use Rattle.command_core.specs.Commands.{AreSources, ConvertComesTo, Cut, CutsFile, EditComesTo, Ends, EndsPlaying, LeavesFront, PlayComesTo, PlayedComesTo}
-use Rattle.command_core.specs.Files.{Files, IsFront, IsGiven, KeepsOthers}
-use Rattle.command_core.specs.declared.folder.FolderFault.{FolderFault}
+use Rattle.folder_core.specs.Files.{Files, IsFront, IsGiven, KeepsOthers}
+use Rattle.folder_core.specs.declared.folder.FolderFault.{FolderFault}
 use Rattle.command_core.specs.declared.outcome.Outcome.{Outcome}
 use Rattle.command_core.specs.declared.outcome.Outcome.TheVariants.{Played, Converted, Edited, Accepted, Rejected, Info, Fault, ReadFailed, WriteFailed, WrongWords, UnknownFormName}
 

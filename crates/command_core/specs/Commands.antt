@@ -1,27 +1,27 @@
 -- What a command does to the files of a folder that tells them, whose names it is given.
 use Rattle.std.specs.Prelude.{◌≡◌, ◌≢◌, ℕ, List, [], ◌++◌, length, Option, None, Some, ◌⊎◌, Result, Err, MatchResult}
-use Rattle.archive_core.specs.declared.fault.Fault as calls
-use Rattle.archive_core.specs.declared.fault.Fault.TheVariants.{Memory}
+use Rattle.transfer_core.specs.declared.fault.Fault as calls
+use Rattle.transfer_core.specs.declared.fault.Fault.TheVariants.{Memory}
 use Rattle.form_core.specs.declared.fault.ReadFault.{ReadFault}
 use Rattle.form_core.specs.declared.form.Form.{Form}
 use Rattle.form_core.specs.declared.opening.Opened.{Opened}
 use Rattle.master_core.specs.declared.verdict.Verdict.{Verdict}
 use Rattle.master_core.specs.declared.verdict.Verdict.TheVariants as verdicts
 use Rattle.archive_core.specs.Checking.{Accepts, RejectsFirst}
-use Rattle.archive_core.specs.Converting.{Converts, converted_of}
+use Rattle.transfer_core.specs.Converting.{Converts, converted_of}
 use Rattle.archive_core.specs.Cutting.{said_cut}
 use Rattle.form_core.specs.Steps.{Fails}
 use Rattle.archive_core.specs.Editing.{Edits}
-use Rattle.archive_core.specs.Faults.{fault_of_file}
+use Rattle.transfer_core.specs.Faults.{fault_of_file}
 use Rattle.form_core.specs.Opening.{IsOpened, Opens, opened_of}
-use Rattle.archive_core.specs.Playing.{Plays}
-use Rattle.archive_core.specs.Projects.{SaysTakes, take_names_of}
-use Rattle.archive_core.specs.Streaming.{IsBeforeWriting, OnlyFromOutside, StreamStands}
-use Rattle.command_core.specs.Files.{AreFiles, Files, IsFront, KeepsAllBut, KeepsOthers}
+use Rattle.transfer_core.specs.Playing.{Plays}
+use Rattle.transfer_core.specs.Projects.{SaysTakes, take_names_of}
+use Rattle.transfer_core.specs.Streaming.{IsBeforeWriting, OnlyFromOutside, StreamStands}
+use Rattle.folder_core.specs.Files.{AreFiles, Files, IsFront, KeepsAllBut, KeepsOthers}
 use Rattle.command_core.specs.declared.outcome.Outcome.{Outcome}
 use Rattle.command_core.specs.declared.outcome.Outcome.TheVariants.{Played, Converted, Edited, Accepted, Rejected, Info, Fault, ReadFailed, WriteFailed, WrongWords, UnknownFormName}
-use Rattle.command_core.specs.declared.task.Task.{Task}
-use Rattle.command_core.specs.declared.task.Task.TheVariants as tasks
+use Rattle.words_core.specs.declared.task.Task.{Task}
+use Rattle.words_core.specs.declared.task.Task.TheVariants as tasks
 
 -- the output holds so many bytes now, which are what the project plays of the file of a recording; no other file changed
 pub record PlaysFiles (project_name file_name output_name : List ℕ) (old new : Files) (count : ℕ) : Type 0 where

@@ -2,7 +2,12 @@
 use Rattle.std.specs.Prelude.{◌≡◌, ℕ, List, ◌++◌, codes}
 use Rattle.std.specs.Fmt.{decimal}
 use Rattle.command_core.specs.declared.outcome.Outcome.{Outcome}
-use Rattle.command_core.specs.Infos.{info_text}
+use Rattle.info_core.specs.Infos.{info_text}
+use Rattle.folder_core.specs.declared.fault.FileFault.{FileFault}
+use Rattle.folder_core.specs.declared.fault.FileFault.TheVariants as files
+use Rattle.words_core.specs.declared.fault.WordsFault.{WordsFault}
+use Rattle.words_core.specs.declared.fault.WordsFault.TheVariants as words
+use Rattle.transfer_core.specs.declared.fault.Fault.TheVariants.{Memory}
 use Rattle.command_core.specs.declared.outcome.Outcome.TheVariants.{Played, Converted, Edited, Accepted, Rejected, Info, Fault, ReadFailed, WriteFailed, WrongWords, UnknownFormName}
 
 -- the line of a file that was played names its bytes, that of one that was converted what was dropped, that of a master that was cut or accepted what it costs, and the lines of a file that was read tell of its recording; of other texts nothing is said
@@ -27,3 +32,15 @@ status_of ReadFailed = 2
 status_of WriteFailed = 2
 status_of WrongWords = 3
 status_of UnknownFormName = 3
+
+-- what a command comes to by a file that is not read or not written
+abbrev pub of_file : FileFault → Outcome
+of_file files.ReadFailed = ReadFailed
+of_file files.WriteFailed = WriteFailed
+of_file files.Memory = Fault Memory
+
+-- what a command line comes to that asks for nothing
+abbrev pub of_words : WordsFault → Outcome
+of_words words.WrongWords = WrongWords
+of_words words.UnknownFormName = UnknownFormName
+of_words words.Memory = Fault Memory

@@ -1,12 +1,14 @@
 //! What a command came to: the line that is printed and the status that the program ends with.
 
 ghost use Rattle.std.specs.Prelude.{◌≡◌, IfOk, string_bytes};
-ghost use Rattle.command_core.specs.Outcomes.{ShowsDone, status_of};
+ghost use Rattle.command_core.specs.Outcomes.{ShowsDone, of_file, of_words, status_of};
 ghost use Rattle.command_core.specs.declared.outcome.Outcome.TheVariants as outcomes;
 
-use crate::info::info_lines;
 use archive_core::{Fault, Opened, Reason};
+use folder_core::FileFault;
+use info_core::info_lines;
 use std::alloc::{AllocError, Global};
+use words_core::WordsFault;
 
 /// What a command came to.
 #[derive(Drop)]
@@ -40,6 +42,30 @@ impl From<Fault> for Outcome {
 
     fn from(fault: Fault) -> Outcome {
         Outcome::Fault(fault)
+    }
+}
+
+impl From<FileFault> for Outcome {
+    ghost from_gives = { λ fault outcome. outcome ≡ of_file fault };
+
+    fn from(fault: FileFault) -> Outcome {
+        match fault {
+            FileFault::ReadFailed => Outcome::ReadFailed,
+            FileFault::WriteFailed => Outcome::WriteFailed,
+            FileFault::Memory => Outcome::Fault(Fault::Memory),
+        }
+    }
+}
+
+impl From<WordsFault> for Outcome {
+    ghost from_gives = { λ fault outcome. outcome ≡ of_words fault };
+
+    fn from(fault: WordsFault) -> Outcome {
+        match fault {
+            WordsFault::WrongWords => Outcome::WrongWords,
+            WordsFault::UnknownFormName => Outcome::UnknownFormName,
+            WordsFault::Memory => Outcome::Fault(Fault::Memory),
+        }
     }
 }
 

@@ -4,13 +4,12 @@ ghost use Rattle.std.specs.Prelude.{◌≡◌, IfErr, IfOk, IsTrue};
 ghost use Rattle.cut_core.specs.Opening.{file_bytes};
 ghost use Rattle.command_core.specs.Commands.{AreSources, CheckComesTo, ConvertComesTo, EditComesTo, Ends, InfoComesTo, PlayComesTo, PlayedComesTo, SourcesUnread, TaskComesTo};
 
-use crate::files::{read_file, read_files, write_file};
-use crate::folder::Folder;
 use crate::outcome::Outcome;
-use crate::task::Task;
 use archive_core::{Fault, Form, Verdict, check, convert, edit, play_stream, read_any, take_names};
-use chunk_core::{Inlet, Outlet};
+use device_core::{Inlet, Outlet};
+use folder_core::{Folder, read_file, read_files, write_file};
 use std::alloc::Global;
+use words_core::Task;
 
 // The text of a project, and the files of the takes that it names.
 #[derive(Drop)]

@@ -6,8 +6,7 @@ ghost use Rattle.folder_core.specs.declared.fault.FileFault.TheVariants as fault
 
 use crate::fault::FileFault;
 use crate::folder::Folder;
-use crate::limited::Limited;
-use chunk_core::Outlet;
+use device_core::{FusedInlet, Outlet};
 use std::alloc::Global;
 use std::io::Read;
 
@@ -76,7 +75,7 @@ pub fn read_whole<R: Read + Drop>(alloc: Global, reader: R, most: u64) -> Result
     ensures bytes { IfOk result (λ bytes. IfSome (R.remaining reader) (λ left. bytes.items ≡ left)) }
     ensures fault { IfErr result IsReadFault }
 {
-    let mut reader = Limited::new(reader, most);
+    let mut reader = FusedInlet::new(reader, most);
     let mut bytes = Vec::new(alloc);
     match reader.read_to_end(&mut bytes) {
         Ok(_) => Ok(bytes),

@@ -24,7 +24,6 @@ mod disk;
 mod fault;
 mod files;
 mod folder;
-mod limited;
 mod memory_folder;
 
 pub use disk::Disk;

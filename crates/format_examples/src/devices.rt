@@ -1,13 +1,14 @@
-//! What an inlet and an outlet make of a reader and a writer that do little at a time and fail.
+//! What inlets and outlets, plain and fused, make of readers and writers that do little at a time and fail.
 
 ghost use Rattle.std.specs.Prelude.{◌<◌, ◌≤◌, ◌+◌, ◌-◌, ◌^◌};
-ghost use Rattle.chunk_core.specs.Inlets.{inlet_failures};
+ghost use Rattle.device_core.specs.Inlets.{inlet_failures};
 
 use crate::compared::check_printed;
-use chunk_core::{Device, Inlet, Outlet};
+use device_core::{Device, FusedFault, FusedInlet, FusedOutlet, Inlet, Outlet};
 use fixtures::compared::equal;
 use fixtures::devices::{Dripping, drip, sip};
 use std::alloc::Global;
+use std::io::Read;
 use std::test::Fail;
 
 const NEVER: u64 = 100;
@@ -86,6 +87,34 @@ fn a_writer_is_given_all_bytes_up_to_a_failure(rt: HostRuntime) {
             "{taken} in {writes} writes"
         );
     }
+}
+
+// What three reads give of a reader that gives a byte at a time, fails at one of them, and is read so many times at
+// most.
+fn three_reads(fails_at: u64, most: u64) -> [Option<usize>; 3] {
+    let mut reader = FusedInlet::new(drip(b"abcd", 1, fails_at), most);
+    let mut buffer = [0; 8];
+    let first = reader.read(&mut buffer).ok();
+    let second = reader.read(&mut buffer).ok();
+    [first, second, reader.read(&mut buffer).ok()]
+}
+
+#[test]
+fn a_fused_inlet_is_read_no_more(rt: HostRuntime) {
+    assert!(rt; three_reads(NEVER, 3) == [Some(1), Some(1), Some(1)]);
+    assert!(rt; three_reads(NEVER, 2) == [Some(1), Some(1), None]);
+    assert!(rt; three_reads(2, 3) == [Some(1), None, None]);
+}
+
+#[test]
+fn a_fused_outlet_writes_no_more(rt: HostRuntime) {
+    let mut outlet = FusedOutlet::new(Outlet::new(sip(rt.alloc(), 3, NEVER)));
+    assert!(rt; outlet.put_all(b"ab") == Ok(()));
+    assert!(rt; outlet.put_all(b"cd") == Err(FusedFault::Device));
+    assert!(rt; outlet.put_all(b"ef") == Err(FusedFault::Failed));
+    assert!(rt; outlet.has_failed());
+    let writer = outlet.into_inner().into_inner();
+    assert!(rt; writer.writes == 3 && equal(&writer.bytes, b"ab"));
 }
 
 #[test]

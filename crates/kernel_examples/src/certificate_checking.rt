@@ -1,13 +1,13 @@
 //! What is found in the certificate of a bridge of one bit, in changed ones and in fronts of it.
 
 ghost use Rattle.std.specs.Prelude.{◌≡◌, length};
-ghost use Rattle.chunk_core.specs.Inlets.{inlet_failures};
+ghost use Rattle.device_core.specs.Inlets.{inlet_failures};
 ghost use Rattle.cert_core.specs.Readers.{cert_inlet};
 
 use crate::certificates::{EQUAL, WORKED};
 use cert_core::{CertReader, CertReason, CertVerdict, CheckFault};
-use chunk_core::Inlet;
 use cost_core::{Window, WindowFault};
+use device_core::Inlet;
 use dsd_bits::Bits;
 use fixtures::devices::drip;
 use fixtures::windows::{bits_of, by_equal, by_newest, ones, zeros};

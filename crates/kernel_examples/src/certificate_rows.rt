@@ -8,7 +8,7 @@ ghost use Rattle.std.specs.Prelude.{◌≡◌, ◌<◌, ◌≤◌, length};
 ghost use Rattle.splice_core.specs.Cues.{AreWeights};
 
 use cert_core::{CertReader, CertReason, CertVerdict};
-use chunk_core::Inlet;
+use device_core::Inlet;
 use fixtures::windows::{bits_of, ones, window, zeros};
 use std::alloc::{AllocError, Global};
 use std::process::Abort;

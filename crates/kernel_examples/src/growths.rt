@@ -8,8 +8,8 @@ ghost use Rattle.fir_core.specs.StreamView.{IsStream, state_of};
 
 use crate::certificates::WORKED;
 use cert_core::{CertReader, CertVerdict, CertWriter};
-use chunk_core::{Inlet, Outlet};
 use cost_core::{LevelSink, SinkFault, Window, WindowFault};
+use device_core::{Inlet, Outlet};
 use dsd_bits::{Bits, Sound};
 use fir_core::{Kernel, Stream, Taps, decimate, decimate_with};
 use fixtures::windows::{bits_of, by_newest, ones, zeros};

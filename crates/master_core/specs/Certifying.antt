@@ -2,7 +2,7 @@
 use Rattle.std.specs.Prelude.{◌≡◌, ℕ, ◌+◌, ◌-◌, ◌*◌, ◌^◌, true, false, List, ◌++◌, Vec, length}
 use Rattle.std.specs.List.{sum_by}
 use Rattle.std.specs.declared.alloc.Global.{Global}
-use Rattle.chunk_core.specs.Outlets.{outlet_writer}
+use Rattle.device_core.specs.Outlets.{outlet_writer}
 use Rattle.cert_core.specs.declared.writer.CertWriter.{CertWriter}
 use Rattle.cert_core.specs.Certificates.{AreEntries, Claim}
 use Rattle.cut_core.specs.Cuts.{CutContent, cue_at}

@@ -11,8 +11,8 @@ ghost use Rattle.master_core.specs.Choosing.{IsChosenAt};
 ghost use Rattle.master_core.specs.Claims.{claim_of};
 
 use cert_core::{CertWriter, parts_join};
-use chunk_core::Outlet;
 use cut_core::{BridgePlace, Cut};
+use device_core::Outlet;
 use std::alloc::{AllocError, Global};
 use trellis_core::{Chosen, best_rows_are_valid, bridge_into};
 

@@ -2,7 +2,7 @@
 
 ghost use Rattle.std.specs.Prelude.{◌≡◌, ◌+◌, ◌-◌, ◌^◌, ◌<◌, ◌≤◌, All, IfOk, IfSome, OnOk, Some, [], false, length, map, slice_index_or, true};
 ghost use Rattle.std.specs.Io.KnownBytes.{IsAtEnd};
-ghost use Rattle.chunk_core.specs.Inlets.{inlet_failures, inlet_reader};
+ghost use Rattle.device_core.specs.Inlets.{inlet_failures, inlet_reader};
 ghost use Rattle.cert_core.specs.Readers.{cert_inlet};
 ghost use Rattle.cut_core.specs.Bridges as lists;
 ghost use Rattle.cut_core.specs.Bridges.{IsPlace};
@@ -15,9 +15,9 @@ ghost use Rattle.master_core.specs.Masters.{channel_numbers};
 
 use crate::verdict::{Reason, Verdict};
 use cert_core::{CertReader, CertReason, CertVerdict, cert_goes_on, read_is_cert};
-use chunk_core::Inlet;
 use cost_core::{fades_join, places_are_windows};
 use cut_core::{BridgePlace, Cut};
+use device_core::Inlet;
 use dsd_bits::{Bits, Recording};
 use std::alloc::{AllocError, Global};
 use std::io::Read;

@@ -33,14 +33,14 @@
 //! The words of its contracts:
 //! - `IsProject bytes p` (`specs/Meaning.antt`): the bytes are a text that says the project `p`. It is
 //!   said in what the tables have (`IsDecimate`, `IsSplice`, `IsCue`), and nothing in it reads.
-//! - `IsWithinLimits` (`fir_core`), `IsSplicing`, `AreWeights` and `IsCueWithin` (`specs/Cues.antt`): the
-//!   limits. Each [`Splice`] keeps its own.
+//! - `IsWithinLimits` (`fir_core`), `IsSplicing`, `AreWeights` and `IsCueWithin` (`splice_core`): the limits. Each
+//!   [`Splice`] keeps its own.
 //! - `project_at bytes` (`specs/ReadingProject.antt`): the reading in a fixed order, to the project or
 //!   the first fault; its steps are `decimate_of` (`specs/ReadingDecimate.antt`), `splice_of`
 //!   (`specs/ReadingSplice.antt`), `cue_of` (`specs/ReadingCue.antt`), and single keys
 //!   (`specs/Reading.antt`).
-//! - `project_content`, `splice_content` and `cue_content` (`specs/Projects.antt`, `specs/Splices.antt`,
-//!   `specs/Cues.antt`): what is held, as lists and numbers.
+//! - `project_content` (`specs/Projects.antt`), `splice_content` and `cue_content` (`splice_core`): what is held, as
+//!   lists and numbers.
 //! - `Gives` (`specs/Steps.antt`): what a function gives of a reading when memory may run out.
 //!
 //! What it promises: what is read is what the text says; whatever a text says is read; any other text is

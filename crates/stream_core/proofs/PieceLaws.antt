@@ -3,7 +3,7 @@ use Rattle.std.proofs.Common.{◌≡◌, ℕ, ◌+◌, ◌-◌, ◌≤◌, min, 
 use Rattle.std.specs.Io.KnownBytes.{Appends, Consumes}
 use Rattle.std.proofs.KnownBytes.{Appends-nil}
 use Rattle.std.proofs.lemmas.List.{drop-take, drop_min, nil_from_length, take-append-le, take_min}
-use Rattle.chunk_core.specs.Outlets.{AppendsFront}
+use Rattle.device_core.specs.Outlets.{AppendsFront}
 use Rattle.player_core.specs.Due.{all_bytes, bytes_heard, due_bytes}
 use Rattle.player_core.specs.PlayerView.{FeedsPlayer, FinishesPlayer, IsFed, IsPlayer, filter_of, sound_of}
 use Rattle.player_core.specs.declared.player.Player.{Player}

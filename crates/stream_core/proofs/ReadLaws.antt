@@ -3,8 +3,8 @@ use Rattle.std.proofs.Common.{◌≡◌, ℕ, List, [], ◌++◌, length, Option
 use Rattle.std.specs.Io.KnownBytes.{Consumes, IsAtEnd}
 use Rattle.std.proofs.KnownBytes.{Consumes-nil, Consumes-trans, Consumes-whole}
 use Rattle.std.proofs.lemmas.List.{nil_from_length}
-use Rattle.chunk_core.specs.Inlets.{inlet_reader}
-use Rattle.chunk_core.specs.declared.inlet.Inlet.{Inlet}
+use Rattle.device_core.specs.Inlets.{inlet_reader}
+use Rattle.device_core.specs.declared.inlet.Inlet.{Inlet}
 use Rattle.stream_core.specs.Reads.{Reads}
 
 pub reads_none : {R : Type 0} (left : R → Option (List ℕ)) (inlet : Inlet R) → Reads left inlet inlet []

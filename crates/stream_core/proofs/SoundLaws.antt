@@ -5,9 +5,9 @@ use Rattle.std.proofs.lemmas.List.{nil_from_length, take-append-le, take_min}
 use Rattle.std.proofs.Math.Seq.{take-append-add, take-append_seam}
 use Rattle.std.specs.Io.KnownBytes.{Appends, Consumes}
 use Rattle.std.proofs.KnownBytes.{Appends-trans}
-use Rattle.chunk_core.specs.Inlets.{inlet_reader}
-use Rattle.chunk_core.specs.Outlets.{AppendsFront}
-use Rattle.chunk_core.specs.declared.inlet.Inlet.{Inlet}
+use Rattle.device_core.specs.Inlets.{inlet_reader}
+use Rattle.device_core.specs.Outlets.{AppendsFront}
+use Rattle.device_core.specs.declared.inlet.Inlet.{Inlet}
 use Rattle.dsd_bits.specs.declared.sound.Sound.{Sound}
 use Rattle.fir_core.specs.Decimator.{Decimator}
 use Rattle.player_core.specs.Due.{all_bytes, due_bytes}

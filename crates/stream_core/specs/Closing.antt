@@ -1,7 +1,7 @@
 -- Whether the bytes behind a sound close its file.
 use Rattle.std.specs.Prelude.{◌≡◌, ℕ, Bool, true, false, List, ◌++◌, length, Option, Some}
-use Rattle.chunk_core.specs.Inlets.{inlet_reader}
-use Rattle.chunk_core.specs.declared.inlet.Inlet.{Inlet}
+use Rattle.device_core.specs.Inlets.{inlet_reader}
+use Rattle.device_core.specs.declared.inlet.Inlet.{Inlet}
 use Rattle.dsd_bits.specs.declared.sound.Sound.{Sound}
 use Rattle.stream_core.specs.Files.{IsAccepted, IsRefused, LeadsTo}
 use Rattle.stream_core.specs.Reads.{Reads}

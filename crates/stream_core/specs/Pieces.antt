@@ -1,8 +1,8 @@
 -- A sound that is read and played piece by piece.
 use Rattle.std.specs.Prelude.{◌≡◌, ℕ, ◌+◌, ◌<◌, ◌≤◌, List, [], ◌++◌, length, take, Option, IfSome, ⊤}
 use Rattle.std.specs.Io.KnownBytes.{Appends}
-use Rattle.chunk_core.specs.Outlets.{AppendsFront}
-use Rattle.chunk_core.specs.declared.inlet.Inlet.{Inlet}
+use Rattle.device_core.specs.Outlets.{AppendsFront}
+use Rattle.device_core.specs.declared.inlet.Inlet.{Inlet}
 use Rattle.dsd_bits.specs.declared.sound.Sound.{Sound}
 use Rattle.fir_core.specs.Decimator.{Decimator}
 use Rattle.player_core.specs.Due.{all_bytes, due_bytes}

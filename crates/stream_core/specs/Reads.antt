@@ -1,8 +1,8 @@
 -- What was read of a reader whose reads are counted.
 use Rattle.std.specs.Prelude.{◌≡◌, ℕ, ◌+◌, ◌-◌, ◌*◌, ◌<◌, ◌≤◌, ◌^◌, ◌⊎◌, List, ◌++◌, length, Option}
 use Rattle.std.specs.Io.KnownBytes.{Consumes, IsAtEnd}
-use Rattle.chunk_core.specs.Inlets.{inlet_given, inlet_reader, inlet_reads}
-use Rattle.chunk_core.specs.declared.inlet.Inlet.{Inlet}
+use Rattle.device_core.specs.Inlets.{inlet_given, inlet_reader, inlet_reads}
+use Rattle.device_core.specs.declared.inlet.Inlet.{Inlet}
 
 -- up to so many reads of a block each, no count comes to its end
 pub record HasBudget {R : Type 0} (limit : ℕ) (inlet : Inlet R) : Type 0 where

@@ -1,14 +1,14 @@
 //! What stands behind the sound.
 
 ghost use Rattle.std.specs.Prelude.{◌≡◌, ◌+◌, ◌-◌, ◌<◌, ◌≤◌, ◌^◌, IfErr, IfOk, IsErrOf, length};
-ghost use Rattle.chunk_core.specs.Inlets.{inlet_failures, inlet_given, inlet_reader, inlet_reads};
+ghost use Rattle.device_core.specs.Inlets.{inlet_failures, inlet_given, inlet_reader, inlet_reads};
 ghost use Rattle.stream_core.specs.Closing.{Closes, EndsAt};
 ghost use Rattle.stream_core.specs.Faults.{IsReadingFault, failed_reads};
 ghost use Rattle.stream_core.specs.Reads.{HasBudget};
 
 use crate::fault::StreamFault;
 use crate::pulling::{read_to_end, read_until};
-use chunk_core::Inlet;
+use device_core::Inlet;
 use dsd_bits::Sound;
 use std::alloc::Global;
 use std::io::Read;

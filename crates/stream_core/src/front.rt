@@ -1,7 +1,7 @@
 //! The front of a file, up to its sound.
 
 ghost use Rattle.std.specs.Prelude.{◌≡◌, ◌+◌, ◌-◌, ◌<◌, ◌^◌, ◌++◌, [], List, ℕ, IfErr, IfOk, IsErrOf, OnOk, length};
-ghost use Rattle.chunk_core.specs.Inlets.{inlet_failures, inlet_given, inlet_reader, inlet_reads};
+ghost use Rattle.device_core.specs.Inlets.{inlet_failures, inlet_given, inlet_reader, inlet_reads};
 ghost use Rattle.dsd_bits.specs.Sounds.{IfFound, IfMore, IfRefused};
 ghost use Rattle.stream_core.specs.Faults.{StopsReading, failed_reads};
 ghost use Rattle.stream_core.specs.Files.{IsFrontFault, IsRefused, TellsSound};
@@ -10,7 +10,7 @@ ghost use Rattle.stream_core.specs.Reads.{HasBudget, Reads};
 
 use crate::fault::StreamFault;
 use crate::pulling::read_more;
-use chunk_core::Inlet;
+use device_core::Inlet;
 use dsd_bits::{Sound, SoundAt};
 use std::alloc::{AllocError, Global};
 use std::io::Read;

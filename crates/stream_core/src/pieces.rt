@@ -1,8 +1,8 @@
 //! The sound, read and played piece by piece.
 
 ghost use Rattle.std.specs.Prelude.{◌≡◌, ◌+◌, ◌-◌, ◌%◌, ◌<◌, ◌≤◌, ◌^◌, ◌++◌, [], IfErr, IfOk, IsErrOf, OnErr, OnOk, None, drop, length, take};
-ghost use Rattle.chunk_core.specs.Inlets.{inlet_failures, inlet_given, inlet_reader, inlet_reads};
-ghost use Rattle.chunk_core.specs.Outlets.{outlet_failures, outlet_writer};
+ghost use Rattle.device_core.specs.Inlets.{inlet_failures, inlet_given, inlet_reader, inlet_reads};
+ghost use Rattle.device_core.specs.Outlets.{outlet_failures, outlet_writer};
 ghost use Rattle.dsd_bits.specs.Sounds.{IsSound};
 ghost use Rattle.player_core.specs.PlayerView.{IsPlayer, fed_of, filter_of, sound_of};
 ghost use Rattle.stream_core.specs.Faults.{IsWritingFault, StopsReading, failed_reads, failed_writes};
@@ -13,7 +13,7 @@ ghost use Rattle.stream_core.specs.Reads.{HasBudget};
 use crate::fault::StreamFault;
 use crate::pulling::pull_block;
 use crate::wave::put;
-use chunk_core::{Inlet, Outlet};
+use device_core::{Inlet, Outlet};
 use dsd_bits::Sound;
 use fir_core::Taps;
 use player_core::Player;

@@ -1,8 +1,8 @@
 //! The way of a file's bytes, from a reader to the frames at a writer.
 
 ghost use Rattle.std.specs.Prelude.{◌≡◌, ◌+◌, ◌-◌, ◌<◌, ◌≤◌, ◌^◌, ◌++◌, [], IfErr, IfOk, IfSome, IsErrOf, OnErr, OnOk, length};
-ghost use Rattle.chunk_core.specs.Inlets.{inlet_failures, inlet_given, inlet_reader, inlet_reads};
-ghost use Rattle.chunk_core.specs.Outlets.{outlet_failures, outlet_writer};
+ghost use Rattle.device_core.specs.Inlets.{inlet_failures, inlet_given, inlet_reader, inlet_reads};
+ghost use Rattle.device_core.specs.Outlets.{outlet_failures, outlet_writer};
 ghost use Rattle.stream_core.specs.Faults.{IsBeforeWriting, StopsReading, failed_reads, failed_writes};
 ghost use Rattle.stream_core.specs.Files.{TellsSound};
 ghost use Rattle.stream_core.specs.Pace.{KeepsUp};
@@ -15,7 +15,7 @@ use crate::front::read_front;
 use crate::pieces::play_sound;
 use crate::pulling::{MOST_READS, new_block};
 use crate::wave::{file_size, put_header, put_pad};
-use chunk_core::{Inlet, Outlet};
+use device_core::{Inlet, Outlet};
 use dsd_bits::Sound;
 use fir_core::Taps;
 use player_core::sound_is_played;

@@ -2,12 +2,12 @@
 
 ghost use Rattle.std.specs.Prelude.{◌≡◌, ◌+◌, ◌-◌, ◌<◌, ◌≤◌, ◌^◌, ◌++◌, ◌⊎◌, List, ℕ, IfErr, IfOk, IsErrOf, OnOk, length, take};
 ghost use Rattle.std.specs.Io.KnownBytes.{IsAtEnd};
-ghost use Rattle.chunk_core.specs.Inlets.{inlet_failures, inlet_given, inlet_reader, inlet_reads};
+ghost use Rattle.device_core.specs.Inlets.{inlet_failures, inlet_given, inlet_reader, inlet_reads};
 ghost use Rattle.stream_core.specs.Faults.{IsReadingFault, StopsReading, failed_reads};
 ghost use Rattle.stream_core.specs.Reads.{HasBudget, Reads, ReadsToEnd, ReadsUntil};
 
 use crate::fault::StreamFault;
-use chunk_core::Inlet;
+use device_core::Inlet;
 use std::alloc::{AllocError, Global};
 use std::io::Read;
 

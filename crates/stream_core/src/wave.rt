@@ -2,14 +2,14 @@
 
 ghost use Rattle.std.specs.Prelude.{◌≡◌, ◌+◌, ◌-◌, ◌<◌, ◌≤◌, ◌^◌, IfErr, IfOk, OnErr, OnOk};
 ghost use Rattle.std.specs.Io.KnownBytes.{Appends};
-ghost use Rattle.chunk_core.specs.Outlets.{AppendsFront, outlet_failures, outlet_writer};
+ghost use Rattle.device_core.specs.Outlets.{AppendsFront, outlet_failures, outlet_writer};
 ghost use Rattle.dsd_bits.specs.Sounds.{IsSound};
 ghost use Rattle.player_core.specs.Laws.{total_frames};
 ghost use Rattle.stream_core.specs.Faults.{IsBeforeWriting, IsWritingFault, failed_writes};
 ghost use Rattle.stream_core.specs.Wave.{IsOpeningFault, OpensWave, file_size, header_of, pad_of};
 
 use crate::fault::StreamFault;
-use chunk_core::Outlet;
+use device_core::Outlet;
 use dsd_bits::Sound;
 use fir_core::Taps;
 use std::io::Write;

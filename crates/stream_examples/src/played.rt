@@ -3,7 +3,7 @@
 ghost use Rattle.std.specs.Prelude.{◌<◌};
 
 use archive_core::{Fault, play_stream};
-use chunk_core::{Inlet, Outlet};
+use device_core::{Inlet, Outlet};
 use fixtures::devices::{Dripping, Sipping, drip, sip};
 use std::alloc::{AllocError, Global};
 

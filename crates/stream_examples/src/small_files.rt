@@ -3,7 +3,7 @@
 
 use crate::played::{NEVER, ONES, plays};
 use archive_core::{play, play_stream};
-use chunk_core::{Inlet, Outlet};
+use device_core::{Inlet, Outlet};
 use fixtures::devices::{drip, sip};
 use fixtures::files::{FILE, WAVE, followed, mono, noted, one_bit, stereo, with_sound};
 use fixtures::projects::{DECIMATE, project, with_ones};

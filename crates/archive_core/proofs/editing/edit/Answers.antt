@@ -3,9 +3,9 @@ use Rattle.std.proofs.lemmas.Result.{err_from_is_err_and}
 use Rattle.splice_core.specs.Splices.{SpliceContent}
 use Rattle.cut_core.specs.Cuts.{master_length}
 use Rattle.cut_core.specs.Opening.{file_bytes}
-use Rattle.archive_core.specs.declared.fault.Fault.TheVariants.{Memory}
+use Rattle.transfer_core.specs.declared.fault.Fault.TheVariants.{Memory}
 use Rattle.archive_core.specs.Cutting.{SaysCut}
-use Rattle.archive_core.specs.Faults.{fault_of_writing}
+use Rattle.transfer_core.specs.Faults.{fault_of_writing}
 use Rattle.archive_core.proofs.CuttingLaws.{one_cut, only_memory}
 use Rattle.archive_core.proofs.EditLaws.{any_form, costs_whole, file_costs, file_is_accepted, file_is_master, one_answer, write_only_memory}
 use Rattle.archive_core.proofs.editing.edit.Goals as goal

@@ -1,5 +1,5 @@
 use Rattle.archive_core.proofs.CuttingLaws.{says_cut}
-use Rattle.archive_core.proofs.ReadingLaws.{converts, plays, says_takes}
+use Rattle.transfer_core.proofs.ReadingLaws.{converts, plays, says_takes}
 use Rattle.archive_core.proofs.laws.read_in_order.Goals as goal
 
 pub returns-clause-converts : goal.returns-clause-converts

@@ -1,5 +1,5 @@
 use Rattle.std.proofs.Common.{◌+◌, ap, sym, ◌∙◌, subst, refl, length, arith}
-use Rattle.chunk_core.specs.Inlets.{inlet_reader}
+use Rattle.device_core.specs.Inlets.{inlet_reader}
 use Rattle.cost_core.specs.StateCosts.{trellis_of}
 use Rattle.cert_core.specs.Reasons.{RowBounded}
 use Rattle.cert_core.specs.Reasons.{RowClean, RowReason}

@@ -1,5 +1,5 @@
 use Rattle.std.proofs.Common.{◌≡◌, ◌∙◌, IsTrue, sym, subst, ap}
-use Rattle.command_core.specs.Files.{Files, IsGiven}
+use Rattle.folder_core.specs.Files.{Files, IsGiven}
 use Rattle.command_core.specs.Commands.{Ends, PlayedComesTo}
 use Rattle.command_core.proofs.CommandLaws.{play_ends}
 use Rattle.command_core.proofs.run.play_files.Goals as goal

@@ -1,8 +1,8 @@
 use Rattle.std.proofs.Common.{◌≡◌, ◌∙◌, List, ℕ, Option, OnOk, IsTrue, sym, subst, ap}
-use Rattle.archive_core.specs.Streaming.{OnlyFromOutside, PlaysFile, StreamStands, WritesFront}
-use Rattle.archive_core.specs.declared.fault.Fault as calls
-use Rattle.chunk_core.specs.Inlets.{inlet_reader}
-use Rattle.chunk_core.specs.Outlets.{outlet_writer}
+use Rattle.transfer_core.specs.Streaming.{OnlyFromOutside, PlaysFile, StreamStands, WritesFront}
+use Rattle.transfer_core.specs.declared.fault.Fault as calls
+use Rattle.device_core.specs.Inlets.{inlet_reader}
+use Rattle.device_core.specs.Outlets.{outlet_writer}
 use Rattle.command_core.specs.Commands.{PlayedComesTo}
 use Rattle.command_core.specs.declared.outcome.Outcome.{Outcome}
 use Rattle.command_core.proofs.CommandLaws.{ended, played, unkept}

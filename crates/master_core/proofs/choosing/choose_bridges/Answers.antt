@@ -1,6 +1,6 @@
 use Rattle.std.proofs.Common.{◌≡◌, ◌<◌, ◌∙◌, Vec, Global, ap, arith, get_or, length, refl, subst, sym, take, ℕ}
 use Rattle.std.proofs.lemmas.List.{take_all}
-use Rattle.chunk_core.specs.Outlets.{outlet_writer}
+use Rattle.device_core.specs.Outlets.{outlet_writer}
 use Rattle.cert_core.specs.Writers.{entries_left}
 use Rattle.master_core.specs.Certifying.{Writes}
 use Rattle.master_core.specs.Choosing.{chosen_claims}

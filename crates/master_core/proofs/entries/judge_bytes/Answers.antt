@@ -1,5 +1,5 @@
 use Rattle.std.proofs.Common.{None, Some}
-use Rattle.chunk_core.specs.Inlets.{inlet_reader}
+use Rattle.device_core.specs.Inlets.{inlet_reader}
 use Rattle.cert_core.specs.Readers.{cert_inlet}
 use Rattle.master_core.specs.declared.verdict.Verdict.TheVariants.{Accepted, Rejected}
 use Rattle.master_core.proofs.EntryLaws.{all_accepted, claims_at, entries_rejected, head_at, head_rejected, more_rejected}

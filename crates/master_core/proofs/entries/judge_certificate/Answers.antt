@@ -1,6 +1,6 @@
 use Rattle.std.proofs.Common.{◌∙◌, IfOk, Some, ap, subst}
 use Rattle.std.proofs.lemmas.Result.{IfOk-from_err}
-use Rattle.chunk_core.specs.Inlets.{inlet_reader}
+use Rattle.device_core.specs.Inlets.{inlet_reader}
 use Rattle.master_core.specs.Judging.{JudgesBytes}
 use Rattle.master_core.proofs.JudgeLaws.{judged_whole}
 use Rattle.master_core.proofs.TotalLaws.{windows_are_total}

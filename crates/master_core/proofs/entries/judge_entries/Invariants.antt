@@ -1,6 +1,6 @@
 use Rattle.std.proofs.Common.{◌≡◌, ◌≤◌, ◌*◌, ◌^◌, map, take}
 use Rattle.std.specs.List.{All, sum_by}
-use Rattle.chunk_core.specs.Inlets.{inlet_failures, inlet_reader}
+use Rattle.device_core.specs.Inlets.{inlet_failures, inlet_reader}
 use Rattle.cert_core.specs.Readers.{cert_inlet}
 use Rattle.master_core.specs.Judging.{ReadsEntries}
 use Rattle.master_core.specs.Claims.{IsLeastClaim, claim_at, claim_cost}

@@ -1,5 +1,5 @@
 use Rattle.std.proofs.Common.{arith, get_or, subst, []}
-use Rattle.chunk_core.specs.Inlets.{inlet_reader}
+use Rattle.device_core.specs.Inlets.{inlet_reader}
 use Rattle.cert_core.specs.Readers.{cert_inlet}
 use Rattle.cut_core.specs.Cuts as cuts
 use Rattle.cut_core.proofs.CutLaws.{first_shape}

@@ -1,6 +1,6 @@
 use Rattle.std.proofs.Common.{◌∙◌, arith, subst, sym}
 use Rattle.std.proofs.lemmas.Result.{err_from_is_err_and}
-use Rattle.chunk_core.specs.Inlets.{inlet_given}
+use Rattle.device_core.specs.Inlets.{inlet_given}
 use Rattle.stream_core.specs.Files.{IsRefused}
 use Rattle.stream_core.specs.Pace.{IsBeforeSound}
 use Rattle.stream_core.specs.Reads.{Reads}

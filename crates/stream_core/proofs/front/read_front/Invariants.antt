@@ -1,6 +1,6 @@
 -- What was read so far is the front, which is no file that holds a recording, and holds nothing of the sound.
 use Rattle.std.proofs.Common.{◌≡◌, ◌-◌, length}
-use Rattle.chunk_core.specs.Inlets.{inlet_failures, inlet_reads}
+use Rattle.device_core.specs.Inlets.{inlet_failures, inlet_reads}
 use Rattle.stream_core.specs.Files.{IsRefused}
 use Rattle.stream_core.specs.Pace.{IsBeforeSound}
 use Rattle.stream_core.specs.Reads.{HasBudget, Reads}

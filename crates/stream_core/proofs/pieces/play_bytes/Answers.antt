@@ -1,5 +1,5 @@
 use Rattle.std.proofs.Common.{◌++◌, ◌∙◌, ap, subst}
-use Rattle.chunk_core.specs.Outlets.{outlet_writer}
+use Rattle.device_core.specs.Outlets.{outlet_writer}
 use Rattle.stream_core.specs.Pieces.{PutsDue, PutsFrontOf}
 use Rattle.stream_core.proofs.PieceLaws.{any_err, as_dropped, as_taken, due_front}
 use Rattle.stream_core.proofs.pieces.play_bytes.Goals as goal

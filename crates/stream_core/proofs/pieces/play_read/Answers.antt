@@ -1,5 +1,5 @@
 use Rattle.std.proofs.Common.{take, ap, ◌∙◌, subst}
-use Rattle.chunk_core.specs.Outlets.{outlet_writer}
+use Rattle.device_core.specs.Outlets.{outlet_writer}
 use Rattle.stream_core.specs.Pieces.{PutsFrontOf}
 use Rattle.stream_core.proofs.PieceLaws.{any_err, none_left, on_err, part_left}
 use Rattle.stream_core.proofs.pieces.play_read.Goals as goal

@@ -1,6 +1,6 @@
 use Rattle.std.proofs.Common.{◌≡◌, ◌+◌, ◌-◌, ◌∙◌, ap, arith, subst, refl}
 use Rattle.std.proofs.lemmas.Result.{err_from_is_err_and}
-use Rattle.chunk_core.specs.Outlets.{outlet_writer}
+use Rattle.device_core.specs.Outlets.{outlet_writer}
 use Rattle.stream_core.specs.Pieces.{PlaysPart}
 use Rattle.stream_core.proofs.PaceLaws.{part_given}
 use Rattle.stream_core.proofs.PieceLaws.{any_err}

@@ -1,7 +1,7 @@
 -- What was read so far was played, and what was read behind the sound is kept.
 use Rattle.std.proofs.Common.{◌≡◌, ◌+◌, ◌-◌, ◌≤◌, length}
-use Rattle.chunk_core.specs.Inlets.{inlet_failures}
-use Rattle.chunk_core.specs.Outlets.{outlet_failures, outlet_writer}
+use Rattle.device_core.specs.Inlets.{inlet_failures}
+use Rattle.device_core.specs.Outlets.{outlet_failures, outlet_writer}
 use Rattle.player_core.specs.PlayerView.{IsPlayer, fed_of, filter_of, sound_of}
 use Rattle.stream_core.specs.Pieces.{PlaysPart}
 use Rattle.stream_core.specs.Reads.{HasBudget}

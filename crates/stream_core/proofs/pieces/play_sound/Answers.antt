@@ -1,8 +1,8 @@
 use Rattle.std.proofs.Common.{◌≡◌, ℕ, List, ◌++◌, ◌-◌, ◌∙◌, drop, take, length, length-take, ap, arith, sym, subst}
 use Rattle.std.proofs.lemmas.List.{nil_from_length}
 use Rattle.std.proofs.lemmas.Result.{err_from_is_err_and}
-use Rattle.chunk_core.specs.Inlets.{inlet_given, inlet_reader}
-use Rattle.chunk_core.specs.Outlets.{outlet_writer}
+use Rattle.device_core.specs.Inlets.{inlet_given, inlet_reader}
+use Rattle.device_core.specs.Outlets.{outlet_writer}
 use Rattle.dsd_bits.specs.declared.sound.Sound.{Sound}
 use Rattle.stream_core.specs.Pace.{PlaysGivenSound}
 use Rattle.stream_core.specs.Pieces.{IsPieceFault, IsSoundFault, PlaysFront, PlaysPart, PlaysSound, PutsDue, PutsFrontLeft, PutsFrontOf}

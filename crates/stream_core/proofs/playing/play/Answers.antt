@@ -1,7 +1,7 @@
 use Rattle.std.proofs.Common.{◌-◌, subst}
 use Rattle.std.proofs.lemmas.Result.{IfErr-weaker, IfOk-weaker, err_from_is_err_and}
-use Rattle.chunk_core.specs.Inlets.{inlet_given, inlet_reader}
-use Rattle.chunk_core.specs.Outlets.{outlet_writer}
+use Rattle.device_core.specs.Inlets.{inlet_given, inlet_reader}
+use Rattle.device_core.specs.Outlets.{outlet_writer}
 use Rattle.stream_core.specs.Pace.{KeepsUp}
 use Rattle.stream_core.proofs.PaceLaws.{keeps_file, keeps_front}
 use Rattle.stream_core.proofs.PlayLaws.{found_outside, front_outside, plays_file, plays_given}

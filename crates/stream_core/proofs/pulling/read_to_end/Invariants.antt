@@ -1,6 +1,6 @@
 -- What was read so far.
 use Rattle.std.proofs.Common.{◌≡◌, ℕ, ◌-◌, List, length}
-use Rattle.chunk_core.specs.Inlets.{inlet_failures, inlet_reads}
+use Rattle.device_core.specs.Inlets.{inlet_failures, inlet_reads}
 use Rattle.stream_core.specs.Reads.{HasBudget, Reads}
 use Rattle.stream_core.proofs.pulling.read_to_end.Given as goal
 

@@ -1,6 +1,6 @@
 use Rattle.std.proofs.Common.{◌≡◌, ◌≢◌, sym, ◌∙◌, length, take, length-take-le, arith, rules}
 use Rattle.std.proofs.lemmas.List.{take_all}
-use Rattle.chunk_core.specs.Inlets.{inlet_reader}
+use Rattle.device_core.specs.Inlets.{inlet_reader}
 use Rattle.cert_core.specs.Text.{cert_head}
 use Rattle.cert_core.specs.Readers.{cert_inlet}
 use Rattle.cert_core.proofs.Heads.{short_head, other_head}

@@ -1,8 +1,8 @@
 use Rattle.std.proofs.Common.{subst}
 use Rattle.std.specs.Io.KnownBytes.{Appends}
 use Rattle.std.proofs.lemmas.Result.{err_from_is_err_and}
-use Rattle.chunk_core.specs.Outlets.{outlet_writer, AppendsPart}
-use Rattle.cert_core.specs.FusedOutlets.{fused_outlet}
+use Rattle.device_core.specs.Outlets.{outlet_writer, AppendsPart}
+use Rattle.device_core.specs.FusedOutlets.{fused_outlet}
 use Rattle.cert_core.proofs.writer.CertWriter.begin.Goals as goal
 
 pub returns-in_err-put_all-clause-device : goal.returns-in_err-put_all-clause-device

@@ -2,8 +2,8 @@ use Rattle.std.proofs.Common.{◌≡◌, ◌∙◌, subst, arith}
 use Rattle.std.specs.Io.KnownBytes.{Appends}
 use Rattle.std.proofs.lemmas.Result.{err_from_is_err_and}
 use Rattle.dsd_bits.proofs.ShiftingLemmas.{written_back}
-use Rattle.chunk_core.specs.Outlets.{outlet_writer, AppendsPart}
-use Rattle.cert_core.specs.FusedOutlets.{fused_outlet}
+use Rattle.device_core.specs.Outlets.{outlet_writer, AppendsPart}
+use Rattle.device_core.specs.FusedOutlets.{fused_outlet}
 use Rattle.cert_core.specs.Text.{row_text}
 use Rattle.cert_core.proofs.writer.CertWriter.level.Given.{Over}
 use Rattle.cert_core.proofs.writer.CertWriter.level.Goals as goal

@@ -1,0 +1,27 @@
+-- What contracts see of an inlet.
+use Rattle.std.specs.Prelude.{◌≡◌, ℕ, ◌+◌, ◌≤◌, List, ◌++◌, length, take, Option, Result, MatchResult}
+use Rattle.std.specs.Io.KnownBytes.{Consumes, Keeps, IsAtEnd}
+use Rattle.device_core.specs.declared.inlet.Inlet.{Inlet}
+
+-- the reader, as it stands
+abbrev pub inlet_reader : {R : Type 0} → Inlet R → R
+inlet_reader inlet = inlet.reader
+
+-- how many reads failed
+abbrev pub inlet_failures : {R : Type 0} → Inlet R → ℕ
+inlet_failures inlet = inlet.failures
+
+-- how many reads there were, at most 2^64-1
+abbrev pub inlet_reads : {R : Type 0} → Inlet R → ℕ
+inlet_reads inlet = inlet.reads
+
+-- how many bytes the reads gave, at most 2^64-1
+abbrev pub inlet_given : {R : Type 0} → Inlet R → ℕ
+inlet_given inlet = inlet.given
+
+-- the read put what it gave behind the first `filled` bytes, and gave nothing only at the end
+abbrev pub PullsBehind : {E : Type 0} → Option (List ℕ) → Option (List ℕ) → Result ℕ E → ℕ → List ℕ → List ℕ → Type 0
+PullsBehind old new result filled buffer_old buffer_new = MatchResult result
+    (λ n. (bytes : List ℕ) × (length bytes ≡ n) × (filled + n ≤ length buffer_new) × (take (filled + n) buffer_new ≡ take filled buffer_old ++ bytes)
+    × Consumes old new bytes × (n ≡ 0 → IsAtEnd new))
+    (λ _. Keeps old new)

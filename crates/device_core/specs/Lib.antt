@@ -1,0 +1,4 @@
+pub mod FusedInlets
+pub mod FusedOutlets
+pub mod Inlets
+pub mod Outlets

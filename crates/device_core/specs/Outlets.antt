@@ -1,0 +1,20 @@
+-- What contracts see of an outlet, and of bytes that went out in part.
+use Rattle.std.specs.Prelude.{◌≡◌, ℕ, ◌<◌, List, ◌++◌, length, Option}
+use Rattle.std.specs.Io.KnownBytes.{Appends}
+use Rattle.device_core.specs.declared.outlet.Outlet.{Outlet}
+
+-- the writer, as it stands
+abbrev pub outlet_writer : {W : Type 0} → Outlet W → W
+outlet_writer outlet = outlet.writer
+
+-- how many writes failed, or took nothing of some bytes
+abbrev pub outlet_failures : {W : Type 0} → Outlet W → ℕ
+outlet_failures outlet = outlet.failures
+
+-- known bytes grow by a front of these
+abbrev pub AppendsFront : Option (List ℕ) → Option (List ℕ) → List ℕ → Type 0
+AppendsFront old new all = (front : List ℕ) × (back : List ℕ) × (all ≡ front ++ back) × Appends old new front
+
+-- known bytes grow by a front of these, and not by all of them
+abbrev pub AppendsPart : Option (List ℕ) → Option (List ℕ) → List ℕ → Type 0
+AppendsPart old new all = (front : List ℕ) × (back : List ℕ) × (all ≡ front ++ back) × (0 < length back) × Appends old new front

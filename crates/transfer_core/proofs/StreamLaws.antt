@@ -1,0 +1,133 @@
+-- What is played from a reader by a project's decimator is what project and file play.
+use Rattle.std.proofs.Common.{◌≡◌, ◌⊎◌, ◌-◌, ℕ, inl, inr, List, [], Option, None, Some, IfSome, Ok, Err, subst}
+use Rattle.device_core.specs.declared.inlet.Inlet.{Inlet}
+use Rattle.dsd_bits.specs.declared.blocks.BitOrder.TheVariants.{LeastFirst, MostFirst}
+use Rattle.dsd_bits.specs.Contents.{Content}
+use Rattle.fir_core.specs.Decimator.{Decimator}
+use Rattle.stream_core.specs.Faults.{IsFromOutside as IsOutside}
+use Rattle.stream_core.specs.Faults as reading
+use Rattle.stream_core.specs.Files.{HoldsRecording}
+use Rattle.stream_core.specs.Pace as pace
+use Rattle.stream_core.specs.Pace.{WritesFrames, sound_given}
+use Rattle.stream_core.specs.Playing as streams
+use Rattle.stream_core.specs.Playing.{PlaysBy}
+use Rattle.stream_core.specs.declared.fault.StreamFault.{StreamFault}
+use Rattle.stream_core.specs.declared.fault.StreamFault.TheVariants as faults
+use Rattle.form_core.specs.declared.form.Form.{Form}
+use Rattle.form_core.specs.declared.form.Form.TheVariants as forms
+use Rattle.form_core.specs.Forms.{HoldsAs, form_of}
+use Rattle.form_core.proofs.OpeningLaws.{holds_dsf}
+use Rattle.transfer_core.specs.declared.fault.Fault.{Fault}
+use Rattle.transfer_core.specs.declared.fault.Fault.TheVariants as fault
+use Rattle.transfer_core.specs.Faults.{fault_of_stream}
+use Rattle.transfer_core.specs.Playing.{Plays}
+use Rattle.transfer_core.specs.Projects.{SaysDecimator, decimator_of}
+use Rattle.transfer_core.proofs.ReadingLaws.{says_decimator}
+use Rattle.stream_core.proofs.PieceLaws.{front_nil}
+use Rattle.transfer_core.specs.Streaming.{IsFromOutside, KeepsUp, OnlyFromOutside, PlaysFile, PlaysGiven, StopsReading, StreamStands, WritesFront}
+
+-- ---- the form of a file
+form_held : (file : List ℕ) (r : Content) → HoldsRecording file r → (form : Form) × HoldsAs file form r
+form_held file r (inl is) = (forms.Dsdiff, is)
+form_held file r (inr held) = (form_of held.0, holds_dsf file r held.0 held.1)
+
+recording_held : (file : List ℕ) (form : Form) (r : Content) → HoldsAs file form r → HoldsRecording file r
+recording_held file forms.Dsdiff r is = inl is
+recording_held file forms.Dsf r is = inr (LeastFirst, is)
+recording_held file forms.Dsf8 r is = inr (MostFirst, is)
+
+-- ---- by a project's decimator
+module _ (project : List ℕ) (d : Decimator) (says : SaysDecimator project d) where
+  plays : (file bytes : List ℕ) → PlaysBy d file bytes → Plays project file bytes
+  plays file bytes by =
+      let held = form_held file by.recording by.file_holds in
+      record {
+        decimator = d;
+        form = held.0;
+        recording = by.recording;
+        project_says = says;
+        file_holds = held.1;
+        rate_divided = by.rate_divided;
+        text = by.text;
+      }
+
+  pub plays_file : (left a b : Option (List ℕ)) (n : ℕ) → streams.PlaysFile left d a b n → PlaysFile left project a b n
+  plays_file None a b n h = tt
+  plays_file (Some file) a b n h = (h.0, plays file h.0 h.1, h.2, h.3)
+
+  pub plays_given : {R : Type 0} (left : R → Option (List ℕ)) (old new : Inlet R) (a b : Option (List ℕ)) (n : ℕ) → streams.PlaysGiven left old new d a b n → PlaysGiven left old new project a b n
+  plays_given left old new a b n h = (h.0, h.1, h.2, plays h.0 h.1 h.3, h.4, h.5)
+
+  pub stands : (left : Option (List ℕ)) (f : StreamFault) → IfSome left (λ file. streams.Stands d file f) → StreamStands left project (fault_of_stream f)
+  stands None faults.FileRefused h = tt
+  stands None faults.RateNotDivided h = tt
+  stands None faults.TooLarge h = tt
+  stands None faults.ReadFailed h = tt
+  stands None faults.WriteFailed h = tt
+  stands None faults.TurnLimit h = tt
+  stands None faults.Memory h = tt
+  stands (Some file) faults.FileRefused h = λ form r holds. h r (recording_held file form r holds)
+  stands (Some file) faults.RateNotDivided h = (d, says, h)
+  stands (Some file) faults.TooLarge h = (d, says, h)
+  stands (Some file) faults.ReadFailed h = tt
+  stands (Some file) faults.WriteFailed h = tt
+  stands (Some file) faults.TurnLimit h = tt
+  stands (Some file) faults.Memory h = tt
+
+-- ---- of the one decimator that a project says
+module _ (project : List ℕ) (d : Decimator) (is_said : decimator_of project ≡ Ok d) where
+  played : (file bytes : List ℕ) → Plays project file bytes → PlaysBy d file bytes
+  played file bytes is =
+      let said = says_decimator project is.decimator is.project_says in
+      let same : is.decimator ≡ d = cc in
+      subst (λ e. PlaysBy e file bytes) same (record {
+        recording = is.recording;
+        file_holds = recording_held file is.form is.recording is.file_holds;
+        rate_divided = is.rate_divided;
+        text = is.text;
+      })
+
+  pub only_outside : (left : Option (List ℕ)) (f : StreamFault) → streams.OnlyFromOutside left d f → OnlyFromOutside left project (fault_of_stream f)
+  only_outside None f h = tt
+  only_outside (Some file) f h = λ bytes is. told f (h bytes (played file bytes is))
+    where
+      told : (f : StreamFault) → IsOutside f → IsFromOutside (fault_of_stream f)
+      told faults.FileRefused h = h
+      told faults.RateNotDivided h = h
+      told faults.TooLarge h = h
+      told faults.ReadFailed h = tt
+      told faults.WriteFailed h = tt
+      told faults.TurnLimit h = tt
+      told faults.Memory h = tt
+
+  pub writes_front : (left a b : Option (List ℕ)) → streams.WritesFront left d [] a b → WritesFront left project a b
+  writes_front None a b h = tt
+  writes_front (Some file) a b h = λ bytes is. h bytes (played file bytes is)
+
+  -- the one that the file plays by
+  same_decimator : (file bytes : List ℕ) (is : Plays project file bytes) → d ≡ is.decimator
+  same_decimator file bytes is = let said = says_decimator project is.decimator is.project_says in cc
+
+  pub keeps_up : (left a b : Option (List ℕ)) (n : ℕ) → pace.KeepsUp left d [] n a b → KeepsUp left project n a b
+  keeps_up None a b n h = tt
+  keeps_up (Some file) a b n h = λ bytes s is told much. subst (λ e. WritesFrames e s (sound_given s n - 131072) bytes a b) (same_decimator file bytes is) (h bytes s (played file bytes is) told much)
+
+-- ---- the reading that stops
+pub stops : (f : StreamFault) → StopsReading (fault_of_stream f) → reading.StopsReading f
+stops faults.FileRefused h = absurd h
+stops faults.RateNotDivided h = absurd h
+stops faults.TooLarge h = absurd h
+stops faults.ReadFailed h = tt
+stops faults.WriteFailed h = absurd h
+stops faults.TurnLimit h = tt
+stops faults.Memory h = absurd h
+
+-- ---- a project that is refused
+pub project_outside : (left : Option (List ℕ)) (project : List ℕ) (e : Fault) → (e ≡ fault.Memory) ⊎ (decimator_of project ≡ Err e) → OnlyFromOutside left project e
+project_outside None project e h = tt
+project_outside (Some file) project e (inl is) = λ bytes plays. rw is tt
+project_outside (Some file) project e (inr is) = λ bytes plays. let says = says_decimator project plays.decimator plays.project_says in absurd cc
+
+pub nothing_written : (left : Option (List ℕ)) (project : List ℕ) (a : Option (List ℕ)) → WritesFront left project a a
+nothing_written None project a = tt
+nothing_written (Some file) project a = λ bytes is. front_nil a bytes

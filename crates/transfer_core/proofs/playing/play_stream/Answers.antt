@@ -1,0 +1,41 @@
+use Rattle.std.proofs.lemmas.Result.{err_from_is_err_and}
+use Rattle.device_core.specs.Inlets.{inlet_reader}
+use Rattle.device_core.specs.Outlets.{outlet_writer}
+use Rattle.stream_core.proofs.PieceLaws.{any_err}
+use Rattle.transfer_core.proofs.StreamLaws.{keeps_up, nothing_written, only_outside, plays_file, plays_given, project_outside, stands, stops, writes_front}
+use Rattle.transfer_core.proofs.playing.play_stream.Goals as goal
+
+pub returns-in_err-taps-clause-cause : goal.returns-in_err-taps-clause-cause
+returns-in_err-taps-clause-cause g c =
+    let e = err_from_is_err_and c.from_residual.result c.from_residual.ensures.1 in
+    rw (e.1, e.2) (project_outside (g.R.Read.remaining (inlet_reader c.args.inlet.now)) c.args.project.now c.in_err-taps.field-0.0 c.in_err-taps.ensures.exact)
+
+pub returns-in_err-taps-clause-front : goal.returns-in_err-taps-clause-front
+returns-in_err-taps-clause-front g c = any_err c.from_residual.result (nothing_written (g.R.Read.remaining (inlet_reader c.args.inlet.now)) c.args.project.now (g.W.Write.contents (outlet_writer c.args.outlet.now)))
+
+pub returns-in_err-play-clause-cause : goal.returns-in_err-play-clause-cause
+returns-in_err-play-clause-cause g c =
+    let e = err_from_is_err_and c.from_residual-in_err-play.result c.from_residual-in_err-play.ensures.1 in
+    rw (e.1, e.2) (only_outside c.args.project.now c.in_ok-taps.taps c.in_ok-taps.ensures.exact (g.R.Read.remaining (inlet_reader c.args.inlet.now)) c.in_err-play.field-0.0 c.in_err-play.ensures.cause)
+
+pub returns-in_err-play-clause-front : goal.returns-in_err-play-clause-front
+returns-in_err-play-clause-front g c =
+    any_err c.from_residual-in_err-play.result (writes_front c.args.project.now c.in_ok-taps.taps c.in_ok-taps.ensures.exact (g.R.Read.remaining (inlet_reader c.args.inlet.now)) (g.W.Write.contents (outlet_writer c.args.outlet.now)) (g.W.Write.contents (outlet_writer c.play.new.outlet)) c.in_err-play.ensures.front)
+
+pub returns-in_err-play-clause-keeps_up : goal.returns-in_err-play-clause-keeps_up
+returns-in_err-play-clause-keeps_up g c =
+    let e = err_from_is_err_and c.from_residual-in_err-play.result c.from_residual-in_err-play.ensures.1 in
+    rw (e.1, e.2) (λ stop. keeps_up c.args.project.now c.in_ok-taps.taps c.in_ok-taps.ensures.exact (g.R.Read.remaining (inlet_reader c.args.inlet.now)) (g.W.Write.contents (outlet_writer c.args.outlet.now)) (g.W.Write.contents (outlet_writer c.play.new.outlet)) _ (c.in_err-play.ensures.keeps_up (stops c.in_err-play.field-0.0 stop)))
+
+pub returns-in_err-play-clause-refused : goal.returns-in_err-play-clause-refused
+returns-in_err-play-clause-refused g c =
+    let e = err_from_is_err_and c.from_residual-in_err-play.result c.from_residual-in_err-play.ensures.1 in
+    rw (e.1, e.2) (stands c.args.project.now c.in_ok-taps.taps c.in_ok-taps.ensures.found (g.R.Read.remaining (inlet_reader c.args.inlet.now)) c.in_err-play.field-0.0 c.in_err-play.ensures.fault)
+
+pub returns-clause-ok : goal.returns-clause-ok
+returns-clause-ok g c =
+    plays_file c.args.project.now c.in_ok-taps.taps c.in_ok-taps.ensures.found (g.R.Read.remaining (inlet_reader c.args.inlet.now)) (g.W.Write.contents (outlet_writer c.args.outlet.now)) (g.W.Write.contents (outlet_writer c.play.new.outlet)) c.in_ok-play.field-0 c.in_ok-play.ensures.ok
+
+pub returns-clause-any_reader : goal.returns-clause-any_reader
+returns-clause-any_reader g c =
+    plays_given c.args.project.now c.in_ok-taps.taps c.in_ok-taps.ensures.found g.R.Read.remaining c.args.inlet.now c.play.new.inlet (g.W.Write.contents (outlet_writer c.args.outlet.now)) (g.W.Write.contents (outlet_writer c.play.new.outlet)) c.in_ok-play.field-0 c.in_ok-play.ensures.any_reader

@@ -1,0 +1,6 @@
+pub mod Converting
+pub mod Faults
+pub mod Laws
+pub mod Playing
+pub mod Projects
+pub mod Streaming

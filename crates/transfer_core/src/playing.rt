@@ -1,0 +1,84 @@
+//! From a project and a file to a WAVE file: in memory, or from a reader to a writer.
+
+ghost use Rattle.std.specs.Prelude.{◌≡◌, ℕ, ◌+◌, ◌-◌, ◌<◌, ◌^◌, List, IfErr, IfOk, IsErrOf, OnErr};
+ghost use Rattle.device_core.specs.Inlets.{inlet_failures, inlet_given, inlet_reader, inlet_reads};
+ghost use Rattle.device_core.specs.Outlets.{outlet_failures, outlet_writer};
+ghost use Rattle.transfer_core.specs.Playing.{Plays, played_of};
+ghost use Rattle.form_core.specs.Steps.{Gives};
+ghost use Rattle.transfer_core.specs.Streaming.{IsBeforeWriting, KeepsUp, OnlyFromOutside, PlaysFile, PlaysGiven, SaysNone, StopsReading, StreamStands, WritesFront, failed_reads, failed_writes};
+
+use crate::fault::Fault;
+use crate::projects::decimator_of;
+use device_core::{Inlet, Outlet};
+use form_core::{Opened, read_any};
+use player_core::wave_of;
+use std::alloc::Global;
+use std::io::{Read, Write};
+
+/// The WAVE file of a recording: in each frame, for each channel in order, the whole-number convolution
+/// of the channel's stored bits with the project's taps, rounded and clipped by the project's shift and
+/// width.
+///
+/// `project` is a project text, `file` a DSDIFF or DSF file of 1 to 6 channels. Refusals, in this order:
+/// `Project`, `NoDecimation`, `FileUnread`, `RateNotDivided`, `TooLarge`; every want of memory is `Memory`.
+#[tactic(auto, unfolding(crate::specs::Playing::played_of))]
+pub fn play(alloc: Global, project: &[u8], file: &[u8]) -> Result<Vec<u8>, Fault>
+    // What is answered is the WAVE text of the samples of the stored bits.
+    ensures found { IfOk result (λ bytes. Plays project.now file.now bytes.items) }
+    // What is answered or refused is what reading in order comes to, want of memory aside.
+    ensures exact { Gives Fault.Memory (λ bytes. bytes.items) result (played_of project.now file.now) }
+{
+    let taps = decimator_of(alloc, project)?;
+    let Opened { recording, .. } = read_any(alloc, file)?;
+    if !taps.rate_fits(recording.rate()) {
+        return Err(Fault::RateNotDivided);
+    }
+    Ok(wave_of(alloc, &taps, &recording)?)
+}
+
+/// Plays a reader's file to a writer, and answers the number of bytes that were written: those that [`play`]
+/// answers for the file, however its reads are cut. Of the sound at most one block of 65,536 bytes and one group of
+/// the channels' blocks is held; what stands before the sound is held whole, and so is what a DSDIFF form has behind
+/// it. The reading may stop at a DSDIFF form's end.
+///
+/// The inlet counts fewer than `2^63` reads and bytes at entry.
+///
+/// Refusals: `Project`, `NoDecimation`, before the first read; `FileRefused` where the bytes are neither a DSDIFF nor
+/// a DSF file that holds a recording; `RateNotDivided`, `TooLarge`, before the first write; `ReadFailed`,
+/// `WriteFailed`; `TurnLimit` after `2^40` reads; `Memory`. Where several stand, which of them is named is open, but
+/// for a file that [`play`] plays it is none of the file.
+///
+/// Of a file that [`play`] plays a front of its WAVE file was then written. After `ReadFailed` and `TurnLimit`, where
+/// more than 131,072 bytes of the sound were given, it holds the header and each frame whose place stands, for every
+/// channel, in all but the last 131,072 of them.
+pub fn play_stream<R: Read, W: Write>(
+    alloc: Global,
+    project: &[u8],
+    inlet: &mut Inlet<R>,
+    outlet: &mut Outlet<W>,
+) -> Result<u64, Fault>
+    requires inlet_ready { inlet_failures inlet.old < 2 ^ 64 - 1 }
+    requires outlet_ready { outlet_failures outlet.old < 2 ^ 64 - 1 }
+    requires reads_low { inlet_reads inlet.old < 2 ^ 63 }
+    requires given_low { inlet_given inlet.old < 2 ^ 63 }
+    // What project and file play was written, however the reads are cut.
+    ensures ok { IfOk result (PlaysFile (R.remaining (inlet_reader inlet.old)) project.now (W.contents (outlet_writer outlet.old)) (W.contents (outlet_writer outlet.new))) }
+    // The same of what was read, where the reader doesn't tell its bytes.
+    ensures any_reader { IfOk result (PlaysGiven R.remaining inlet.old inlet.new project.now (W.contents (outlet_writer outlet.old)) (W.contents (outlet_writer outlet.new))) }
+    // What is played is refused from outside alone, and a front of it was written.
+    ensures cause { IfErr result (OnlyFromOutside (R.remaining (inlet_reader inlet.old)) project.now) }
+    ensures front { OnErr result (WritesFront (R.remaining (inlet_reader inlet.old)) project.now (W.contents (outlet_writer outlet.old)) (W.contents (outlet_writer outlet.new))) }
+    // Where the reading stops, what was written lags behind by at most 131,072 bytes of the sound.
+    ensures keeps_up { IfErr result (λ fault. StopsReading fault → KeepsUp (R.remaining (inlet_reader inlet.old)) project.now (inlet_given inlet.new - inlet_given inlet.old) (W.contents (outlet_writer outlet.old)) (W.contents (outlet_writer outlet.new))) }
+    // A fault stands that is named.
+    ensures refused { IfErr result (StreamStands (R.remaining (inlet_reader inlet.old)) project.now) }
+    ensures read_failed { inlet_failures inlet.new ≡ inlet_failures inlet.old + failed_reads result }
+    ensures write_failed { outlet_failures outlet.new ≡ outlet_failures outlet.old + failed_writes result }
+    ensures turn_limit { IsErrOf result Fault.TurnLimit → inlet_reads inlet.new ≡ inlet_reads inlet.old + 2 ^ 40 }
+    // What comes before the first read, and before the first write.
+    ensures unread { SaysNone project.now → inlet_reads inlet.new ≡ inlet_reads inlet.old }
+    ensures unwritten { IfErr result (λ fault. IsBeforeWriting fault → outlet_writer outlet.new ≡ outlet_writer outlet.old) }
+{
+    let taps = decimator_of(alloc, project)?;
+    Ok(stream_core::play(alloc, &taps, inlet, outlet)?)
+}

@@ -1,0 +1,52 @@
+//! What a project text says that a call needs.
+
+ghost use Rattle.std.specs.Prelude.{IfErr, IfOk};
+ghost use Rattle.splice_core.specs.Splices.{splice_content};
+ghost use Rattle.transfer_core.specs.Projects as specs;
+ghost use Rattle.transfer_core.specs.Projects.{IsOfDecimator, SaysDecimator, SaysSplice, SaysTakes, names_of, take_names_of};
+ghost use Rattle.form_core.specs.Steps.{Gives};
+
+use crate::fault::Fault;
+use fir_core::Taps;
+use project_core::{Project, Splice};
+use std::alloc::Global;
+
+/// The names of the takes that a project text cuts, in their order.
+///
+/// Refusals, in this order: `Project`, `NoSplice` where the text has no splice. Every want of memory is
+/// `Memory`.
+#[tactic(auto, unfolding(crate::specs::Projects::take_names_of))]
+pub fn take_names(alloc: Global, project: &[u8]) -> Result<Vec<String>, Fault>
+    // What is answered is what the text says.
+    ensures found { IfOk result (λ names. SaysTakes project.now (names_of names)) }
+    // What is answered or refused is what reading in order comes to, want of memory aside.
+    ensures exact { Gives Fault.Memory names_of result (take_names_of project.now) }
+{
+    let splice = splice_of(alloc, project)?;
+    let Splice { takes, .. } = splice;
+    Ok(takes)
+}
+
+/// The splice that a project text has.
+///
+/// Refusals, in this order: `Project`, `NoSplice` where the text has no splice. Every want of memory is
+/// `Memory`.
+#[tactic(auto, unfolding(crate::specs::Projects::splice_of))]
+pub fn splice_of(alloc: Global, project: &[u8]) -> Result<Splice, Fault>
+    ensures found { IfOk result (λ s. SaysSplice project.now (splice_content s)) }
+    ensures exact { Gives Fault.Memory splice_content result (specs.splice_of project.now) }
+{
+    let Project { splice, .. } = project_core::read(alloc, project)?;
+    splice.ok_or(Fault::NoSplice)
+}
+
+// The decimator of a project text.
+#[tactic(auto, unfolding(crate::specs::Projects::decimator_of))]
+pub(crate) fn decimator_of(alloc: Global, project: &[u8]) -> Result<Taps, Fault>
+    ensures found { IfOk result (SaysDecimator project.now) }
+    ensures exact { Gives Fault.Memory (λ t. t) result (specs.decimator_of project.now) }
+    ensures cause { IfErr result IsOfDecimator }
+{
+    let Project { decimate, .. } = project_core::read(alloc, project)?;
+    decimate.ok_or(Fault::NoDecimation)
+}

@@ -1,0 +1,150 @@
+#!/usr/bin/env python3
+"""Makes an archive again from what the workflow made of it: restore.py OUT FOLDER.
+
+For each file that was converted OUT keeps all but its sound, as it stood: `.head` is what stands before the sound,
+`.id3` or `.tail` what stands behind it, and `.fill` the last blocks of a DSF file whose fill isn't zero. With the sound
+of the converted file that is the old file, byte for byte. This writes it into FOLDER under its old name, once its
+SHA-256 is the old one's. It reads `results.json`, `converted/`, `kept/` and `renamed/`, and does without dsdarc.
+"""
+import dataclasses
+import hashlib
+import os
+import struct
+import sys
+import tempfile
+
+import channels
+import names
+
+PIECE = 1 << 20
+# Where the head of a DSF file has its bits per sample.
+WIDTH_AT = 60
+
+
+def copied(file, count=None):
+    """The next bytes of a file, piece by piece."""
+    while count is None or count > 0:
+        data = file.read(PIECE if count is None else min(PIECE, count))
+        if not data:
+            return
+        if count is not None:
+            count -= len(data)
+        yield data
+
+
+def laced(piece, width):
+    """A piece of all channels as a DSF file of so many bits per sample has it, or a DSDIFF file."""
+    if width is None:
+        data = bytearray(len(piece) * len(piece[0]))
+        for channel, part in enumerate(piece):
+            data[channel :: len(piece)] = part
+        return bytes(data)
+    turned = (part.translate(channels.TURNED) if width == 1 else part for part in piece)
+    return b"".join(part.ljust(channels.BLOCK, b"\0") for part in turned)
+
+
+def width_of(head):
+    """Bits per sample of the file that a head is of, or None of a DSDIFF file."""
+    with open(head, "rb") as file:
+        data = file.read(WIDTH_AT + 4)
+    return None if data[:4] == b"FRM8" else struct.unpack_from("<I", data, WIDTH_AT)[0]
+
+
+def made_again(converted, kept):
+    """The bytes of an old file, piece by piece; `kept` has the names of what was kept of it by their endings."""
+    width = width_of(kept[".head"])
+    with open(kept[".head"], "rb") as file:
+        yield from copied(file)
+    with open(converted, "rb") as file:
+        sound, last = channels.sound_of(file), None
+        for piece in channels.pieces(file, sound):
+            if last is not None:
+                yield last
+            last = laced(piece, width)
+    for ending, other in ((".fill", last), (".id3", None), (".tail", None)):
+        if ending in kept:
+            with open(kept[ending], "rb") as file:
+                yield from copied(file)
+        elif other is not None:
+            yield other
+
+
+def write(name, data):
+    with open(name, "wb") as file:
+        for piece in data:
+            file.write(piece)
+    return name
+
+
+def last_of(file, sound):
+    """The last blocks of a DSF file, where their fill isn't zero; else None."""
+    if sound.width is None or sound.bits == 0:
+        return None
+    size = sound.count * channels.BLOCK
+    group = dataclasses.replace(sound, start=sound.stop - size, bits=(sound.bits - 1) % (8 * channels.BLOCK) + 1)
+    last = next(channels.pieces(file, group))
+    file.seek(group.start)
+    data = file.read(size)
+    return None if data == laced(last, sound.width) else data
+
+
+def keep_all_but_sound(source, front):
+    """Writes what a file has besides its sound, by the endings of what was written."""
+    with open(source, "rb") as file:
+        sound = channels.sound_of(file)
+        file.seek(0)
+        kept = {".head": write(front + ".head", copied(file, sound.start))}
+        last = last_of(file, sound)
+        if last is not None:
+            kept[".fill"] = write(front + ".fill", [last])
+        file.seek(sound.stop)
+        start = file.read(3)
+        if start:
+            ending = ".id3" if start == b"ID3" else ".tail"
+            file.seek(sound.stop)
+            kept[ending] = write(front + ending, copied(file))
+    return kept
+
+
+def sum_of_pieces(data):
+    total = hashlib.sha256()
+    for piece in data:
+        total.update(piece)
+    return total.hexdigest()
+
+
+def restore(out, name, found, part, folder):
+    """Writes one file again; it has its name only where it is the old one."""
+    if os.path.isabs(name) or ".." in name.split("/"):
+        raise channels.Unread("its name leads out of the folder")
+    kept = {os.path.splitext(path)[1]: os.path.join(out, path) for path in found["kept"]}
+    write(part, made_again(os.path.join(out, found["converted"]), kept))
+    if names.sum_of(part) != found["sha256"]:
+        raise channels.Unread("it would have another sum")
+    path = os.path.join(folder, name)
+    os.makedirs(os.path.dirname(path), exist_ok=True)
+    os.replace(part, path)
+
+
+def main(out, folder):
+    """Restores all that was converted, and says how many."""
+    os.makedirs(folder, exist_ok=True)
+    done = wrong = 0
+    with tempfile.TemporaryDirectory(prefix=".restore-", dir=folder) as parts:
+        for name, found in names.load(os.path.join(out, "results.json")).items():
+            if not found["converted"]:
+                continue
+            try:
+                restore(out, name, found, os.path.join(parts, "part"), folder)
+                done += 1
+            except (OSError, channels.Unread) as error:
+                wrong += 1
+                print(f"not made again: {name!r}: {error}", file=sys.stderr)
+    print(f"made again {done}, not {wrong}")
+    return 1 if wrong else 0
+
+
+if __name__ == "__main__":
+    if len(sys.argv) != 3:
+        sys.exit(__doc__.partition("\n")[0])
+    sys.exit(main(*sys.argv[1:]))

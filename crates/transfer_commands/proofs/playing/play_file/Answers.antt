@@ -1,8 +1,8 @@
 use Rattle.std.proofs.Common.{◌≡◌, ◌∙◌, IsTrue, sym, subst, ap}
 use Rattle.folder_core.specs.Files.{Files, IsGiven}
-use Rattle.command_core.specs.Commands.{Ends, PlayedComesTo}
-use Rattle.command_core.proofs.CommandLaws.{play_ends}
-use Rattle.command_core.proofs.run.play_files.Goals as goal
+use Rattle.transfer_commands.specs.Playing.{PlayedComesTo}
+use Rattle.transfer_commands.proofs.PlayLaws.{play_ends}
+use Rattle.transfer_commands.proofs.playing.play_file.Goals as goal
 
 pub returns : goal.returns
 returns g c =
@@ -13,6 +13,6 @@ returns g c =
     let told_open = subst IsTrue (sym c.in-Ok.ensures.told) told_read in
     let told_create = subst IsTrue (sym c.in-Ok-create.ensures.told) told_open in
     let given = subst (λ (f : Files). IsGiven (f c.args.input.now) (g.F.In.Read.remaining c.in-Ok.file)) c.read_file.ensures.same (c.in-Ok.ensures.bytes told_read) in
-    let came = subst (λ project. Ends c.play_to.result (PlayedComesTo project (g.F.In.Read.remaining c.in-Ok.file) (g.F.Out.Write.contents c.in-Ok-create.wave) c.args.output.now (g.F.Folder.file c.create.new.self) (g.F.Folder.file c.play_to.new.folder))) c.deref.ensures.value (c.play_to.ensures told_create) in
+    let came = subst (λ project. PlayedComesTo project (g.F.In.Read.remaining c.in-Ok.file) (g.F.Out.Write.contents c.in-Ok-create.wave) c.args.output.now (g.F.Folder.file c.create.new.self) (g.F.Folder.file c.play_to.new.folder) c.play_to.result) c.deref.ensures.value (c.play_to.ensures told_create) in
     play_ends c.args.project.now c.args.input.now c.args.output.now c.in_ok-project.project.items old (g.F.Folder.file c.create.new.self) (g.F.Folder.file c.play_to.new.folder) (g.F.In.Read.remaining c.in-Ok.file) (g.F.Out.Write.contents c.in-Ok-create.wave)
     (c.in_ok-project.ensures.bytes told) given (c.in-Ok-create.ensures.empty told_open) same c.play_to.result came

@@ -3,12 +3,10 @@ use Rattle.transfer_core.specs.Streaming.{OnlyFromOutside, PlaysFile, StreamStan
 use Rattle.transfer_core.specs.declared.fault.Fault as calls
 use Rattle.device_core.specs.Inlets.{inlet_reader}
 use Rattle.device_core.specs.Outlets.{outlet_writer}
-use Rattle.command_core.specs.Commands.{PlayedComesTo}
-use Rattle.command_core.specs.declared.outcome.Outcome.{Outcome}
-use Rattle.command_core.proofs.CommandLaws.{ended, played, unkept}
-use Rattle.command_core.proofs.run.play_to.Given.{Over}
-use Rattle.command_core.proofs.run.play_to.Goals as goal
-use Rattle.command_core.proofs.run.play_to.Goals.{After-keep-kept}
+use Rattle.transfer_commands.proofs.PlayLaws.{ended, played, unkept}
+use Rattle.transfer_commands.proofs.playing.play_to.Given.{Over}
+use Rattle.transfer_commands.proofs.playing.play_to.Goals as goal
+use Rattle.transfer_commands.proofs.playing.play_to.Goals.{After-keep-kept}
 
 -- what was written is what is handed back
 kept : (g : Over) (c : After-keep-kept g) → OnOk c.keep-kept.result (IsTrue (g.F.Folder.is_told c.args.folder.now) → g.F.Folder.file c.keep-kept.new.self c.args.output.now ≡ g.F.Out.Write.contents (outlet_writer c.play_stream-played.new.outlet))
@@ -40,7 +38,6 @@ returns g c =
     let left = ap g.F.In.Read.remaining c.new-inlet.ensures.reader in
     let held = ap g.F.Out.Write.contents c.new-outlet.ensures.writer in
     let front = subst (λ o. WritesFront o project (g.F.Out.Write.contents c.args.wave) written) left (subst (λ o. WritesFront (g.F.In.Read.remaining (inlet_reader c.new-inlet.result)) project o written) held c.in-Err.ensures.front) in
-    λ told. subst (λ (o : Outcome). PlayedComesTo project (g.F.In.Read.remaining c.args.file) (g.F.Out.Write.contents c.args.wave) c.args.output.now (g.F.Folder.file c.args.folder.now) (g.F.Folder.file c.keep-kept.new.self) o) (sym c.into.ensures)
-    (ended project c.args.output.now (g.F.Folder.file c.args.folder.now) (g.F.Folder.file c.keep-kept.new.self) c.keep-kept.result (g.F.Folder.is_told c.args.folder.now) (g.F.In.Read.remaining c.args.file) (g.F.Out.Write.contents c.args.wave) written
+    λ told. ended project c.args.output.now (g.F.Folder.file c.args.folder.now) (g.F.Folder.file c.keep-kept.new.self) c.keep-kept.result (g.F.Folder.is_told c.args.folder.now) (g.F.In.Read.remaining c.args.file) (g.F.Out.Write.contents c.args.wave) written
     c.keep-kept.ensures.others (kept g k) c.keep-kept.ensures.refused fault (subst (λ o. StreamStands o project fault) left c.in-Err.ensures.refused) (subst (λ o. OnlyFromOutside o project fault) left c.in-Err.ensures.cause) front
-    (λ before. ap g.F.Out.Write.contents (c.in-Err.ensures.unwritten before) ∙ held) told)
+    (λ before. ap g.F.Out.Write.contents (c.in-Err.ensures.unwritten before) ∙ held) told

@@ -1,6 +1,6 @@
 use Rattle.std.proofs.lemmas.Result.{err_from_is_err_and}
-use Rattle.command_core.proofs.CommandLaws.{convert_unwritten}
-use Rattle.command_core.proofs.run.convert_file.Goals as goal
+use Rattle.transfer_commands.proofs.ConvertLaws.{convert_unwritten}
+use Rattle.transfer_commands.proofs.converting.convert_file.Goals as goal
 
 pub returns-in_err-write_file : goal.returns-in_err-write_file
 returns-in_err-write_file g c = λ told.

@@ -1,30 +1,35 @@
--- What becomes of files that are written, or could not be.
-use Rattle.std.proofs.Common.{◌≡◌, ◌≢◌, ℕ, ◌⊎◌, inl, inr, List, [], ◌++◌, Bool, false, IsTrue, IsOk, is_ok, OnOk, OnErr, Option, None, Some, Result, Ok, Err, length, subst, sym, ap, ◌∙◌}
-use Rattle.archive_core.specs.Checking.{Accepts}
-use Rattle.transfer_core.specs.Converting.{Converts}
+-- What becomes of the files of a master and its certificate that could not be written, and what a command says.
+use Rattle.std.proofs.Common.{◌≡◌, ◌≢◌, ℕ, inl, inr, List, Bool, IsTrue, Some, Result, Ok, Err, subst, sym, ◌∙◌}
+use Rattle.archive_core.specs.Checking.{Accepts, IfAccepted, IfRejected, RejectsFirst}
 use Rattle.archive_core.specs.Editing.{Edits}
-use Rattle.transfer_core.specs.Playing.{Plays}
-use Rattle.transfer_core.specs.declared.fault.Fault as calls
-use Rattle.form_core.specs.declared.form.Form.{Form}
-use Rattle.transfer_core.specs.Streaming.{IsBeforeWriting, OnlyFromOutside, PlaysFile, StreamStands, WritesFront}
-use Rattle.device_core.specs.Outlets.{AppendsFront}
-use Rattle.command_core.specs.Commands.{AreSources, ConvertComesTo, Cut, CutsFile, EditComesTo, Ends, EndsPlaying, LeavesFront, PlayComesTo, PlayedComesTo}
-use Rattle.folder_core.specs.Files.{Files, IsFront, IsGiven, KeepsOthers}
-use Rattle.folder_core.specs.declared.folder.FolderFault.{FolderFault}
+use Rattle.folder_core.specs.Files.{Files, IsFront, KeepsOthers}
+use Rattle.folder_core.specs.declared.fault.FileFault.{FileFault}
+use Rattle.folder_core.specs.declared.fault.FileFault.TheVariants as files
+use Rattle.transfer_commands.specs.Faults.{of_file}
+use Rattle.transfer_commands.specs.Sources.{AreSources}
+use Rattle.transfer_commands.specs.declared.fault.CommandFault.{CommandFault}
+use Rattle.master_core.specs.declared.verdict.Verdict.{Verdict}
+use Rattle.master_core.specs.declared.verdict.Verdict.TheVariants as verdicts
+use Rattle.command_core.specs.Commands.{ChecksFiles, Cut, CutsFile, EditComesTo, Ends, Judges, Says}
+use Rattle.command_core.specs.Outcomes.{outcome_of}
 use Rattle.command_core.specs.declared.outcome.Outcome.{Outcome}
-use Rattle.command_core.specs.declared.outcome.Outcome.TheVariants.{Played, Converted, Edited, Accepted, Rejected, Info, Fault, ReadFailed, WriteFailed, WrongWords, UnknownFormName}
+
+-- a command came to this, and its outcome is answered
+pub says : {T : Type 0} (done : T → Outcome) (P : Result T CommandFault → Type 0) (came : Result T CommandFault) → P came → (r : Result Outcome Outcome) → Ends r (λ outcome. outcome ≡ outcome_of done came) → Ends r (Says done P)
+says done P came holds (Ok outcome) is = (came, is, holds)
+says done P came holds (Err outcome) is = (came, is, holds)
 
 -- a master is cut, and could not be written
-pub cut_unwritten : (cut : Cut) (old read new : Files) (told told_read : Bool) (project master : List ℕ) (takes : List (List ℕ)) (total : ℕ) (fault : Outcome)
+pub cut_unwritten : (cut : Cut) (old read new : Files) (told told_read : Bool) (project master : List ℕ) (takes : List (List ℕ)) (total : ℕ) (fault : FileFault)
     → read ≡ old → told_read ≡ told
     → (IsTrue told → AreSources cut.project_name old project takes)
     → Edits project takes cut.form master total
     → KeepsOthers cut.master_name read new
     → (IsTrue told_read → IsFront (read cut.master_name) (new cut.master_name) master)
-    → fault ≡ WriteFailed → IsTrue told → EditComesTo cut old new fault
+    → fault ≡ files.WriteFailed → IsTrue told → EditComesTo cut old new (Err (of_file fault))
 cut_unwritten cut old read new told told_read project master takes total fault
     same tells sources edits others front is is_told =
-    subst (λ (o : Outcome). EditComesTo cut old new o) (sym is) (inl (record {
+    subst (λ (f : FileFault). EditComesTo cut old new (Err (of_file f))) (sym is) (inl (record {
       project = project;
       takes = takes;
       master = master;
@@ -36,7 +41,7 @@ cut_unwritten cut old read new told told_read project master takes total fault
     }))
 
 -- a master is written, and its certificate could not be
-pub cert_unwritten : (cut : Cut) (old read written new : Files) (told told_read told_written : Bool) (project master cert : List ℕ) (takes : List (List ℕ)) (total : ℕ) (fault : Outcome)
+pub cert_unwritten : (cut : Cut) (old read written new : Files) (told told_read told_written : Bool) (project master cert : List ℕ) (takes : List (List ℕ)) (total : ℕ) (fault : FileFault)
     → read ≡ old → told_read ≡ told → told_written ≡ told_read
     → (IsTrue told → AreSources cut.project_name old project takes)
     → Edits project takes cut.form master total
@@ -45,7 +50,7 @@ pub cert_unwritten : (cut : Cut) (old read written new : Files) (told told_read 
     → KeepsOthers cut.cert_name written new
     → (IsTrue told_written → IsFront (written cut.cert_name) (new cut.cert_name) cert)
     → Accepts project takes master cert total
-    → fault ≡ WriteFailed → IsTrue told → EditComesTo cut old new fault
+    → fault ≡ files.WriteFailed → IsTrue told → EditComesTo cut old new (Err (of_file fault))
 cert_unwritten cut old read written new told told_read told_written project master cert takes total fault
     same tells tells_written sources edits others master_stands others_second front accepted is is_told =
     let is_told_read = subst IsTrue (sym tells) is_told in
@@ -57,7 +62,7 @@ cert_unwritten cut old read written new told told_read told_written project mast
           others_second other differs_second ∙ kept other differs;
       edits = edits;
     } in
-    subst (λ (o : Outcome). EditComesTo cut old new o) (sym is) (inr (record {
+    subst (λ (f : FileFault). EditComesTo cut old new (Err (of_file f))) (sym is) (inr (record {
       project = project;
       takes = takes;
       master = master;
@@ -67,3 +72,26 @@ cert_unwritten cut old read written new told told_read told_written project mast
       front = λ (differs : cut.cert_name ≢ cut.master_name). subst (λ x. IsFront x (new cut.cert_name) cert) (kept cut.cert_name differs) (front (subst IsTrue (sym tells_written) is_told_read));
       accepted = accepted;
     }))
+
+-- a master is judged by the project and its takes, and no file changes
+pub judged : (project_name master_name cert_name : List ℕ) (old read held new : Files) (project : List ℕ) (takes : List (List ℕ)) (master cert : List ℕ)
+    → read ≡ old → held ≡ read → new ≡ held
+    → AreSources project_name old project takes → read master_name ≡ Some master → held cert_name ≡ Some cert
+    → (verdict : Verdict) → IfAccepted (Ok verdict) (Accepts project takes master cert) → IfRejected (Ok verdict) (RejectsFirst project takes master cert)
+    → ChecksFiles project_name master_name cert_name old new verdict
+judged project_name master_name cert_name old read held new project takes master cert
+    same_read same_held same_new sources master_stands cert_stands verdict accepted rejected = record {
+      project = project;
+      takes = takes;
+      master = master;
+      cert = cert;
+      sources = sources;
+      master_stands = subst (λ (f : Files). f master_name ≡ Some master) same_read master_stands;
+      cert_stands = subst (λ (f : Files). f cert_name ≡ Some cert) (same_held ∙ same_read) cert_stands;
+      judges = by verdict accepted rejected;
+      same = same_new ∙ (same_held ∙ same_read);
+    }
+    where
+      by : (v : Verdict) → IfAccepted (Ok v) (Accepts project takes master cert) → IfRejected (Ok v) (RejectsFirst project takes master cert) → Judges project takes master cert v
+      by (verdicts.Accepted cost) accepted rejected = accepted
+      by (verdicts.Rejected reason) accepted rejected = rejected

@@ -1,13 +1,13 @@
 //! What a command came to: the line that is printed and the status that the program ends with.
 
 ghost use Rattle.std.specs.Prelude.{◌≡◌, IfOk, string_bytes};
-ghost use Rattle.command_core.specs.Outcomes.{ShowsDone, of_file, of_words, status_of};
+ghost use Rattle.command_core.specs.Outcomes.{ShowsDone, of_command, of_words, status_of};
 ghost use Rattle.command_core.specs.declared.outcome.Outcome.TheVariants as outcomes;
 
 use archive_core::{Fault, Opened, Reason};
-use folder_core::FileFault;
 use info_core::info_lines;
 use std::alloc::{AllocError, Global};
+use transfer_commands::CommandFault;
 use words_core::WordsFault;
 
 /// What a command came to.
@@ -45,14 +45,14 @@ impl From<Fault> for Outcome {
     }
 }
 
-impl From<FileFault> for Outcome {
-    ghost from_gives = { λ fault outcome. outcome ≡ of_file fault };
+impl From<CommandFault> for Outcome {
+    ghost from_gives = { λ fault outcome. outcome ≡ of_command fault };
 
-    fn from(fault: FileFault) -> Outcome {
+    fn from(fault: CommandFault) -> Outcome {
         match fault {
-            FileFault::ReadFailed => Outcome::ReadFailed,
-            FileFault::WriteFailed => Outcome::WriteFailed,
-            FileFault::Memory => Outcome::Fault(Fault::Memory),
+            CommandFault::Call(fault) => Outcome::Fault(fault),
+            CommandFault::ReadFailed => Outcome::ReadFailed,
+            CommandFault::WriteFailed => Outcome::WriteFailed,
         }
     }
 }

@@ -1,8 +1,15 @@
 -- What is printed of an outcome, and the status that the program ends with.
-use Rattle.std.specs.Prelude.{◌≡◌, ℕ, List, ◌++◌, codes}
+use Rattle.std.specs.Prelude.{◌≡◌, ℕ, List, ◌++◌, codes, Result, Ok, Err}
 use Rattle.std.specs.Fmt.{decimal}
 use Rattle.command_core.specs.declared.outcome.Outcome.{Outcome}
-use Rattle.command_core.specs.Infos.{info_text}
+use Rattle.info_core.specs.Infos.{info_text}
+use Rattle.master_core.specs.declared.verdict.Verdict.{Verdict}
+use Rattle.master_core.specs.declared.verdict.Verdict.TheVariants as verdicts
+use Rattle.transfer_commands.specs.declared.fault.CommandFault.{CommandFault}
+use Rattle.transfer_commands.specs.declared.fault.CommandFault.TheVariants as faults
+use Rattle.words_core.specs.declared.fault.WordsFault.{WordsFault}
+use Rattle.words_core.specs.declared.fault.WordsFault.TheVariants as words
+use Rattle.transfer_core.specs.declared.fault.Fault.TheVariants.{Memory}
 use Rattle.command_core.specs.declared.outcome.Outcome.TheVariants.{Played, Converted, Edited, Accepted, Rejected, Info, Fault, ReadFailed, WriteFailed, WrongWords, UnknownFormName}
 
 -- the line of a file that was played names its bytes, that of one that was converted what was dropped, that of a master that was cut or accepted what it costs, and the lines of a file that was read tell of its recording; of other texts nothing is said
@@ -27,3 +34,25 @@ status_of ReadFailed = 2
 status_of WriteFailed = 2
 status_of WrongWords = 3
 status_of UnknownFormName = 3
+
+-- the outcome of a master that is judged
+abbrev pub verdict_of : Verdict → Outcome
+verdict_of (verdicts.Accepted total) = Accepted total
+verdict_of (verdicts.Rejected reason) = Rejected reason
+
+-- the outcome of a command that was refused
+abbrev pub of_command : CommandFault → Outcome
+of_command (faults.Call fault) = Fault fault
+of_command faults.ReadFailed = ReadFailed
+of_command faults.WriteFailed = WriteFailed
+
+-- the outcome of a command that came to this: what was done, or the fault
+abbrev pub outcome_of : {T : Type 0} → (T → Outcome) → Result T CommandFault → Outcome
+outcome_of done (Ok x) = done x
+outcome_of done (Err fault) = of_command fault
+
+-- the outcome of words that ask for nothing
+abbrev pub of_words : WordsFault → Outcome
+of_words words.WrongWords = WrongWords
+of_words words.UnknownFormName = UnknownFormName
+of_words words.Memory = Fault Memory

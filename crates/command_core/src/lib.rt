@@ -1,19 +1,23 @@
-//! Commands over the files of a folder, and what is said of them.
+//! Commands over the files of a folder, what is said of them, and the program: [`perform`] does a [`Task`] over a
+//! [`Folder`], [`outcome_line`] and [`status`] say what it came to, and [`run_words`] does what the words of a command line
+//! ask for. [`run_program`] is the whole of it on a runtime's words, its disk and its output.
+//!
+//! The words of the contracts:
+//!
+//! - `TaskComesTo task old new outcome` says what the files of a folder that tells them came to by a command, `old`
+//!   before and `new` after it; `ComesTo old new outcome` the same of words, which may ask for nothing
+//!   (`specs/Commands.antt`).
+//! - `ShowsDone outcome line` is the line of a command that was done, `status_of` the status that the program ends with
+//!   (`specs/Outcomes.antt`).
 #![tactic(auto)]
 
-mod files;
-mod folder;
-mod form_names;
-mod info;
-mod memory_folder;
 mod outcome;
+mod program;
 mod run;
-mod task;
 
-pub use files::{read_files, read_whole};
-pub use folder::{Folder, FolderFault};
-pub use form_names::{form_named, name_of};
-pub use memory_folder::MemoryFolder;
+pub use folder_core::{Folder, FolderFault, MemoryFolder, read_files, read_whole};
+pub use info_core::{form_named, name_of};
 pub use outcome::{Outcome, outcome_line, status};
+pub use program::{run_program, run_words};
 pub use run::perform;
-pub use task::Task;
+pub use words_core::Task;

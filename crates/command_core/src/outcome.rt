@@ -1,12 +1,14 @@
 //! What a command came to: the line that is printed and the status that the program ends with.
 
 ghost use Rattle.std.specs.Prelude.{◌≡◌, IfOk, string_bytes};
-ghost use Rattle.command_core.specs.Outcomes.{ShowsDone, status_of};
+ghost use Rattle.command_core.specs.Outcomes.{ShowsDone, of_command, of_words, status_of};
 ghost use Rattle.command_core.specs.declared.outcome.Outcome.TheVariants as outcomes;
 
-use crate::info::info_lines;
 use archive_core::{Fault, Opened, Reason};
+use info_core::info_lines;
 use std::alloc::{AllocError, Global};
+use transfer_commands::CommandFault;
+use words_core::WordsFault;
 
 /// What a command came to.
 #[derive(Drop)]
@@ -40,6 +42,30 @@ impl From<Fault> for Outcome {
 
     fn from(fault: Fault) -> Outcome {
         Outcome::Fault(fault)
+    }
+}
+
+impl From<CommandFault> for Outcome {
+    ghost from_gives = { λ fault outcome. outcome ≡ of_command fault };
+
+    fn from(fault: CommandFault) -> Outcome {
+        match fault {
+            CommandFault::Call(fault) => Outcome::Fault(fault),
+            CommandFault::ReadFailed => Outcome::ReadFailed,
+            CommandFault::WriteFailed => Outcome::WriteFailed,
+        }
+    }
+}
+
+impl From<WordsFault> for Outcome {
+    ghost from_gives = { λ fault outcome. outcome ≡ of_words fault };
+
+    fn from(fault: WordsFault) -> Outcome {
+        match fault {
+            WordsFault::WrongWords => Outcome::WrongWords,
+            WordsFault::UnknownFormName => Outcome::UnknownFormName,
+            WordsFault::Memory => Outcome::Fault(Fault::Memory),
+        }
     }
 }
 

@@ -1,0 +1,72 @@
+//! The program: what its words ask for, done over its files and told of.
+
+ghost use Rattle.std.specs.Prelude.{IsTrue};
+ghost use Rattle.command_core.specs.Commands.{ComesTo};
+
+use crate::outcome::{Outcome, outcome_line, status};
+use crate::run::perform;
+use archive_core::Fault;
+use folder_core::{Disk, Folder};
+use std::alloc::Global;
+use std::io;
+use std::process::ExitCode;
+use std::rt::{Env, Files};
+use words_core::task_of;
+
+/// Does what the words of a runtime ask for on its disk, tells it on its output, and answers the status that the
+/// program ends with. What was done or judged goes to standard output, a fault to standard error.
+pub fn run_program<R: Env + Files + Print + Eprint + AllocGlobal>(rt: &R) -> ExitCode {
+    let outcome = match given_words(rt) {
+        Ok(words) => run_words(rt.alloc(), words.as_slice(), &mut Disk::new(rt)),
+        Err(error) if error.kind() == io::ErrorKind::OutOfMemory => Fault::Memory.into(),
+        Err(_) => Outcome::WrongWords,
+    };
+    ExitCode::from(status(&tell(rt, outcome)))
+}
+
+/// Does the command that the words ask for, the program's name first, by [`perform`]. The first fault is what the
+/// command comes to.
+pub fn run_words<F: Folder>(alloc: Global, words: &[String], folder: &mut F) -> Outcome
+    ensures { IsTrue (F.is_told folder.old) → ComesTo (F.file folder.old) (F.file folder.new) result }
+{
+    match task_of(alloc, words) {
+        Ok(task) => match perform(alloc, task, folder) {
+            Ok(outcome) | Err(outcome) => outcome,
+        },
+        Err(fault) => fault.into(),
+    }
+}
+
+fn given_words<R: Env + AllocGlobal>(rt: &R) -> io::Result<Vec<String>> {
+    let words: Vec<String> = std::env::args(rt)?.collect(rt.alloc())?;
+    Ok(words)
+}
+
+// What a command came to once it is told of: an outcome whose line there is no room for is want of memory, and an
+// answer that standard output doesn't take is a failed write. The fault itself needs no one to read it.
+fn tell<R: Print + Eprint + AllocGlobal>(rt: &R, outcome: Outcome) -> Outcome {
+    match outcome_line(rt.alloc(), &outcome) {
+        Ok(line) if is_answer(&outcome) => match println!(rt; "{line}") {
+            Ok(()) => outcome,
+            Err(_) => untold(rt, Outcome::WriteFailed),
+        },
+        Ok(line) => {
+            let _ = eprintln!(rt; "{line}");
+            outcome
+        }
+        Err(_) => untold(rt, Fault::Memory.into()),
+    }
+}
+
+// What was done or judged goes to standard output, a fault to standard error.
+fn is_answer(outcome: &Outcome) -> bool {
+    status(outcome) < 2
+}
+
+// The fault that nothing was told, told of where there is room for its line.
+fn untold<R: Eprint + AllocGlobal>(rt: &R, fault: Outcome) -> Outcome {
+    if let Ok(line) = outcome_line(rt.alloc(), &fault) {
+        let _ = eprintln!(rt; "{line}");
+    }
+    fault
+}

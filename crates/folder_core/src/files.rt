@@ -1,0 +1,108 @@
+//! Files of a folder, read and written whole.
+
+ghost use Rattle.std.specs.Prelude.{◌≡◌, [], ◌∷◌, ◌++◌, Some, IfErr, IfOk, IfSome, IsTrue, OnErr, OnOk, map, string_bytes};
+ghost use Rattle.folder_core.specs.Files.{AreFiles, IsFront, IsReadFault, KeepsOthers};
+ghost use Rattle.folder_core.specs.declared.fault.FileFault.TheVariants as faults;
+
+use crate::fault::FileFault;
+use crate::folder::Folder;
+use device_core::{FusedInlet, Outlet};
+use std::alloc::Global;
+use std::io::Read;
+
+/// How many reads a file may take to come to its end.
+const MOST_READS: u64 = 1 << 40;
+
+/// The bytes of a file, opened and read to its end.
+///
+/// Refusals: `ReadFailed` where it can't be opened, a read fails, or it isn't at its end after `2^40` reads;
+/// `Memory`.
+pub fn read_file<F: Folder>(alloc: Global, folder: &mut F, name: &str) -> Result<Vec<u8>, FileFault>
+    ensures same { F.file folder.new ≡ F.file folder.old }
+    ensures told { F.is_told folder.new ≡ F.is_told folder.old }
+    ensures bytes { IfOk result (λ bytes. IsTrue (F.is_told folder.old) → F.file folder.old name.now ≡ Some bytes.items) }
+    ensures fault { IfErr result IsReadFault }
+{
+    match folder.open(name) {
+        Ok(file) => read_whole(alloc, file, MOST_READS),
+        Err(_) => Err(FileFault::ReadFailed),
+    }
+}
+
+/// The bytes of the files of these names, each opened and read to its end before the next is opened.
+///
+/// Refusals: as of [`read_file`], at the first file that isn't read.
+pub fn read_files<F: Folder>(
+    alloc: Global,
+    folder: &mut F,
+    names: &[String],
+) -> Result<Vec<Vec<u8>>, FileFault>
+    ensures same { F.file folder.new ≡ F.file folder.old }
+    ensures told { F.is_told folder.new ≡ F.is_told folder.old }
+    ensures bytes { IfOk result (λ files. IsTrue (F.is_told folder.old) → AreFiles (F.file folder.old) (map string_bytes names.now) (map (λ file. file.items) files.items)) }
+    ensures fault { IfErr result IsReadFault }
+{
+    let mut files = Vec::new(alloc);
+    for name in names {
+        push_file(alloc, folder, name, &mut files)?;
+    }
+    Ok(files)
+}
+
+// Reads one file more.
+fn push_file<F: Folder>(
+    alloc: Global,
+    folder: &mut F,
+    name: &str,
+    files: &mut Vec<Vec<u8>>,
+) -> Result<(), FileFault>
+    ensures same { F.file folder.new ≡ F.file folder.old }
+    ensures told { F.is_told folder.new ≡ F.is_told folder.old }
+    ensures bytes { OnOk result (IsTrue (F.is_told folder.old) → map (λ bytes. Some bytes) (map (λ file. file.items) files.new.items) ≡ map (λ bytes. Some bytes) (map (λ file. file.items) files.old.items) ++ F.file folder.old name.now ∷ []) }
+    ensures fault { IfErr result IsReadFault }
+{
+    let file = read_file(alloc, folder, name)?;
+    match files.push(file) {
+        Ok(()) => Ok(()),
+        Err(_) => Err(FileFault::Memory),
+    }
+}
+
+/// What a reader has left, read to its end.
+///
+/// Refusals: `ReadFailed` where a read fails, or so many reads don't come to the end; `Memory`.
+pub fn read_whole<R: Read + Drop>(alloc: Global, reader: R, most: u64) -> Result<Vec<u8>, FileFault>
+    ensures bytes { IfOk result (λ bytes. IfSome (R.remaining reader) (λ left. bytes.items ≡ left)) }
+    ensures fault { IfErr result IsReadFault }
+{
+    let mut reader = FusedInlet::new(reader, most);
+    let mut bytes = Vec::new(alloc);
+    match reader.read_to_end(&mut bytes) {
+        Ok(_) => Ok(bytes),
+        Err(_) if reader.has_failed() => Err(FileFault::ReadFailed),
+        Err(_) => Err(FileFault::Memory),
+    }
+}
+
+/// Creates a file, writes these bytes to it and hands it back, also after a write that failed.
+///
+/// Refusal: `WriteFailed` where it can't be created, written or kept; it may hold a front of the bytes then.
+pub fn write_file<F: Folder>(folder: &mut F, name: &str, bytes: &[u8]) -> Result<(), FileFault>
+    ensures others { KeepsOthers name.now (F.file folder.old) (F.file folder.new) }
+    ensures told { F.is_told folder.new ≡ F.is_told folder.old }
+    ensures bytes { OnOk result (IsTrue (F.is_told folder.old) → F.file folder.new name.now ≡ Some bytes.now) }
+    ensures refused { OnErr result (IsTrue (F.is_told folder.old) → IsFront (F.file folder.old name.now) (F.file folder.new name.now) bytes.now) }
+    ensures fault { IfErr result (λ fault. fault ≡ faults.WriteFailed) }
+{
+    let Ok(file) = folder.create(name) else {
+        return Err(FileFault::WriteFailed);
+    };
+    let mut outlet = Outlet::new(file);
+    let written = outlet.put_all(bytes).is_ok();
+    let kept = folder.keep(name, outlet.into_inner()).is_ok();
+    if written && kept {
+        Ok(())
+    } else {
+        Err(FileFault::WriteFailed)
+    }
+}

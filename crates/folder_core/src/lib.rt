@@ -1,0 +1,33 @@
+//! Files under names: a folder of them, on a disk or in memory, and files of it read and written whole.
+//!
+//! A [`Folder`] opens files, creates them and takes back what was created. [`Disk`] is the operating system's, and
+//! [`MemoryFolder`] one in memory, which tells what stands in it. [`read_file`] reads a file to its end, [`read_files`]
+//! several in turn, [`write_file`] creates one and writes it; [`read_whole`] reads what any reader has left.
+//!
+//! The words of the contracts, all of `specs/Files.antt`:
+//!
+//! - `Files` are the bytes that are known under each name; a folder that tells its files has them as `F.file`.
+//! - `KeepsOthers name old new` says that only the file of this name may have changed, `IsFront old new bytes` that a
+//!   file is as it was or holds a front of these bytes, `AreFiles files names contents` which bytes stand under names.
+//!
+//! What it promises: over a folder that tells its files, what is read is what stands there, and what was written stands
+//! there then; a write that failed leaves a front of it, and no other file is touched. Every reader comes to an end: one
+//! that goes on for ever is given up.
+//!
+//! ```text
+//! let project = read_file(alloc, &mut folder, "project.toml")?;
+//! write_file(&mut folder, "out.dsf", &bytes)?;
+//! ```
+#![tactic(auto)]
+
+mod disk;
+mod fault;
+mod files;
+mod folder;
+mod memory_folder;
+
+pub use disk::Disk;
+pub use fault::FileFault;
+pub use files::{read_file, read_files, read_whole, write_file};
+pub use folder::{Folder, FolderFault};
+pub use memory_folder::MemoryFolder;

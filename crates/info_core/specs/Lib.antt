@@ -1,0 +1,2 @@
+pub mod FormNames
+pub mod Infos

@@ -1,0 +1,5 @@
+pub mod Converting
+pub mod Faults
+pub mod Playing
+pub mod Sources
+pub mod Telling

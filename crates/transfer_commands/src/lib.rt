@@ -1,0 +1,26 @@
+//! Commands over a folder that need no cut: one recording is played, converted or told of; and what every cut begins with
+//! is read, its project and the files of its takes.
+//!
+//! [`play_file`] reads a project, opens a recording, and writes its WAVE file piece by piece; [`convert_file`] reads a
+//! recording whole, and only then creates the file in the other form; [`open_file`] reads one to be told of.
+//! [`read_sources`] reads a project and then its takes by their numbers. The calls are `transfer_core`'s, the files
+//! `folder_core`'s. The first fault is what a command comes to.
+//!
+//! The words of the contracts, over the files of a folder that tells them, `old` before and `new` after:
+//!
+//! - `PlayComesTo`, `ConvertComesTo` and `TellComesTo` say what became of the files by a command and what it answered,
+//!   whether it was done or refused (`specs/Playing.antt`, `specs/Converting.antt`, `specs/Telling.antt`).
+//! - `AreSources` says that a project and its takes were read, `SourcesUnread` why not (`specs/Sources.antt`).
+#![tactic(auto)]
+
+mod converting;
+mod fault;
+mod playing;
+mod sources;
+mod telling;
+
+pub use converting::convert_file;
+pub use fault::CommandFault;
+pub use playing::play_file;
+pub use sources::{Sources, read_sources};
+pub use telling::open_file;

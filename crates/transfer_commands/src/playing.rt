@@ -1,0 +1,53 @@
+//! Playing a file of a folder to another.
+
+ghost use Rattle.std.specs.Prelude.{IsTrue};
+ghost use Rattle.transfer_commands.specs.Playing.{PlayComesTo, PlayedComesTo};
+
+use crate::fault::CommandFault;
+use device_core::{Inlet, Outlet};
+use folder_core::{Folder, read_file};
+use std::alloc::Global;
+use transfer_core::play_stream;
+
+/// Reads the project, opens the recording, creates the WAVE file and plays the one to the other: how many bytes the WAVE
+/// file has. After a fault of the playing the WAVE file is there and may hold a front.
+pub fn play_file<F: Folder>(
+    alloc: Global,
+    folder: &mut F,
+    project: &str,
+    input: &str,
+    output: &str,
+) -> Result<u64, CommandFault>
+    ensures { IsTrue (F.is_told folder.old) → PlayComesTo project.now input.now output.now (F.file folder.old) (F.file folder.new) result }
+{
+    let project = read_file(alloc, folder, project)?;
+    let Ok(file) = folder.open(input) else {
+        return Err(CommandFault::ReadFailed);
+    };
+    let Ok(wave) = folder.create(output) else {
+        return Err(CommandFault::WriteFailed);
+    };
+    play_to(alloc, folder, &project, file, output, wave)
+}
+
+// Plays a file to one that was created, and hands this back, also after a fault.
+fn play_to<F: Folder>(
+    alloc: Global,
+    folder: &mut F,
+    project: &[u8],
+    file: F::In,
+    output: &str,
+    wave: F::Out,
+) -> Result<u64, CommandFault>
+    ensures { IsTrue (F.is_told folder.old) → PlayedComesTo project.now (F.In.remaining file) (F.Out.contents wave) output.now (F.file folder.old) (F.file folder.new) result }
+{
+    let mut inlet = Inlet::new(file);
+    let mut outlet = Outlet::new(wave);
+    let played = play_stream(alloc, project, &mut inlet, &mut outlet);
+    let kept = folder.keep(output, outlet.into_inner());
+    match played {
+        Ok(count) if kept.is_ok() => Ok(count),
+        Ok(_) => Err(CommandFault::WriteFailed),
+        Err(fault) => Err(CommandFault::Call(fault)),
+    }
+}

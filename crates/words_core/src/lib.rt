@@ -1,0 +1,16 @@
+//! The words of a command line: [`task_of`] reads which [`Task`] they ask for, with the names of its files.
+//!
+//! ```text
+//! match task_of(alloc, &words) {
+//!     Ok(Task::Info { file }) => ..
+//!     Err(WordsFault::WrongWords) => ..
+//! ```
+#![tactic(auto)]
+
+mod fault;
+mod task;
+mod words;
+
+pub use fault::WordsFault;
+pub use task::Task;
+pub use words::task_of;

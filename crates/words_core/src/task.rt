@@ -1,0 +1,37 @@
+//! What a command is asked to do.
+
+use form_core::Form;
+
+/// What a command line asks for, with the names of the files.
+#[derive(Clone, Copy, Debug, PartialEq, Eq)]
+pub enum Task<'a> {
+    /// `play PROJECT IN OUT`
+    Play {
+        project: &'a str,
+        input: &'a str,
+        output: &'a str,
+    },
+    /// `convert FORM IN OUT`
+    Convert {
+        form: Form,
+        input: &'a str,
+        output: &'a str,
+    },
+    /// `edit FORM PROJECT MASTER CERT`
+    Edit {
+        form: Form,
+        project: &'a str,
+        master: &'a str,
+        cert: &'a str,
+    },
+    /// `check PROJECT MASTER CERT`
+    Check {
+        project: &'a str,
+        master: &'a str,
+        cert: &'a str,
+    },
+    /// `info FILE`
+    Info {
+        file: &'a str,
+    },
+}

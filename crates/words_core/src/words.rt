@@ -1,0 +1,141 @@
+//! The words of a command line.
+
+ghost use Rattle.std.specs.Prelude.{◌≡◌, IfErr};
+ghost use Rattle.words_core.specs.declared.fault.WordsFault.TheVariants as faults;
+
+use crate::fault::WordsFault;
+use crate::task::Task;
+use clap::error::ErrorKind;
+use clap::{Arg, ArgAction, ArgMatches, Command, Error};
+use form_core::Form;
+use info_core::form_named;
+use std::alloc::{AllocError, Global};
+
+// The commands, each with the names of its words in their order.
+const COMMANDS: [(&str, &[&str]); 5] = [
+    ("info", &["FILE"]),
+    ("convert", &["FORM", "IN", "OUT"]),
+    ("play", &["PROJECT", "IN", "OUT"]),
+    ("edit", &["FORM", "PROJECT", "MASTER", "CERT"]),
+    ("check", &["PROJECT", "MASTER", "CERT"]),
+];
+
+/// What the words ask for, the program's name first. Other words than those of a command are
+/// `WrongWords`, and another form than `dsdiff`, `dsf` or `dsf8` is `UnknownFormName`.
+pub fn task_of<'a>(alloc: Global, words: &'a [String]) -> Result<Task<'a>, WordsFault> {
+    match matches_of(alloc, words) {
+        Ok(matches) => task_in(&matches),
+        Err(error) if error.kind() == ErrorKind::OutOfMemory => Err(WordsFault::Memory),
+        Err(_) => Err(WordsFault::WrongWords),
+    }
+}
+
+// What was read asks for. It is borrowed here, so that no exit has to let go of it.
+fn task_in<'a>(matches: &ArgMatches<'a>) -> Result<Task<'a>, WordsFault> {
+    match matches.subcommand() {
+        Some(("info", info)) => info_task(info),
+        Some(("convert", convert)) => convert_task(convert),
+        Some(("play", play)) => play_task(play),
+        Some(("edit", edit)) => edit_task(edit),
+        Some(("check", check)) => check_task(check),
+        _ => Err(WordsFault::WrongWords),
+    }
+}
+
+fn play_task<'a>(play: &ArgMatches<'a>) -> Result<Task<'a>, WordsFault> {
+    Ok(Task::Play {
+        project: name_at(play, "PROJECT")?,
+        input: name_at(play, "IN")?,
+        output: name_at(play, "OUT")?,
+    })
+}
+
+fn convert_task<'a>(convert: &ArgMatches<'a>) -> Result<Task<'a>, WordsFault> {
+    Ok(Task::Convert {
+        form: form_at(convert)?,
+        input: name_at(convert, "IN")?,
+        output: name_at(convert, "OUT")?,
+    })
+}
+
+fn edit_task<'a>(edit: &ArgMatches<'a>) -> Result<Task<'a>, WordsFault> {
+    Ok(Task::Edit {
+        form: form_at(edit)?,
+        project: name_at(edit, "PROJECT")?,
+        master: name_at(edit, "MASTER")?,
+        cert: name_at(edit, "CERT")?,
+    })
+}
+
+fn check_task<'a>(check: &ArgMatches<'a>) -> Result<Task<'a>, WordsFault> {
+    Ok(Task::Check {
+        project: name_at(check, "PROJECT")?,
+        master: name_at(check, "MASTER")?,
+        cert: name_at(check, "CERT")?,
+    })
+}
+
+fn info_task<'a>(info: &ArgMatches<'a>) -> Result<Task<'a>, WordsFault> {
+    Ok(Task::Info {
+        file: name_at(info, "FILE")?,
+    })
+}
+
+// The name that a command was given.
+fn name_at<'a>(matches: &ArgMatches<'a>, id: &str) -> Result<&'a str, WordsFault>
+    ensures { IfErr result (λ fault. fault ≡ faults.WrongWords) }
+{
+    matches.get_str(id).ok_or(WordsFault::WrongWords)
+}
+
+// The form that a command was given.
+fn form_at(matches: &ArgMatches) -> Result<Form, WordsFault> {
+    form_named(name_at(matches, "FORM")?).ok_or(WordsFault::UnknownFormName)
+}
+
+fn matches_of<'a>(alloc: Global, words: &'a [String]) -> Result<ArgMatches<'a>, Error> {
+    let command = command(alloc)?;
+    command.try_get_matches_from(words)
+}
+
+fn command<'a>(alloc: Global) -> Result<Command<'a>, AllocError> {
+    let mut root = Ok(Command::new(alloc, "dsdarc").subcommand_required(true));
+    for (name, ids) in COMMANDS {
+        root = with(root, subcommand(alloc, name, ids));
+    }
+    root
+}
+
+fn subcommand<'a>(
+    alloc: Global,
+    name: &'a str,
+    ids: &[&'a str],
+) -> Result<Command<'a>, AllocError> {
+    let mut command = Ok(Command::new(alloc, name));
+    for id in ids {
+        command = naming(alloc, command, id);
+    }
+    command
+}
+
+// A command with one subcommand more. The results go in and out as they are: each `?` in a caller would be
+// an exit at which every command that it holds is let go of, and the check pays for each.
+fn with<'a>(
+    root: Result<Command<'a>, AllocError>,
+    part: Result<Command<'a>, AllocError>,
+) -> Result<Command<'a>, AllocError> {
+    root?.subcommand(part?)
+}
+
+// A command with one name more.
+fn naming<'a>(
+    alloc: Global,
+    command: Result<Command<'a>, AllocError>,
+    id: &'a str,
+) -> Result<Command<'a>, AllocError> {
+    command?.arg(positional(alloc, id))
+}
+
+fn positional<'a>(alloc: Global, id: &'a str) -> Arg<'a> {
+    Arg::new(alloc, id).required(true).action(ArgAction::Set)
+}

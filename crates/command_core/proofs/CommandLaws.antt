@@ -91,7 +91,7 @@ judged project_name master_name cert_name old read held new project takes master
       judges = by verdict accepted rejected;
       same = same_new ∙ (same_held ∙ same_read);
     }
-    where
-      by : (v : Verdict) → IfAccepted (Ok v) (Accepts project takes master cert) → IfRejected (Ok v) (RejectsFirst project takes master cert) → Judges project takes master cert v
-      by (verdicts.Accepted cost) accepted rejected = accepted
-      by (verdicts.Rejected reason) accepted rejected = rejected
+  where
+    by : (v : Verdict) → IfAccepted (Ok v) (Accepts project takes master cert) → IfRejected (Ok v) (RejectsFirst project takes master cert) → Judges project takes master cert v
+    by (verdicts.Accepted cost) accepted rejected = accepted
+    by (verdicts.Rejected reason) accepted rejected = rejected

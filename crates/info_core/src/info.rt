@@ -6,9 +6,9 @@ ghost use Rattle.info_core.specs.Infos as infos;
 ghost use Rattle.info_core.specs.Infos.{hexadecimal, id_text, ids_line, info_text, mark_line};
 
 use crate::form_names::name_of;
-use form_core::Opened;
 use dsd_bits::Mark;
 use dsdiff_core::place;
+use form_core::Opened;
 use std::alloc::{AllocError, Global};
 use std::fmt::Write;
 

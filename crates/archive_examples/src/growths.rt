@@ -19,6 +19,7 @@ use device_core::{Inlet, Outlet};
 use fixtures::files::{FILE, WAVE, mono, noted, stereo};
 use fixtures::projects::{DECIMATE, SPLICE};
 use fixtures::waves::TWO_CHANNELS;
+use folder_core::FileFault;
 use std::alloc::{AllocError, Global};
 use std::io;
 use std::io::{ErrorKind, Read, Write};
@@ -287,20 +288,14 @@ fn the_command_info_ends(rt: HostRuntime) -> Result<(), Fail> {
 }
 
 // How many bytes a reader has.
-fn length_of(alloc: Global, bytes: &[u8]) -> Result<usize, Fault> {
-    match read_whole(alloc, bytes, 8) {
-        Ok(whole) => Ok(whole.len()),
-        Err(outcome) => Err(fault_of(outcome)),
-    }
+fn length_of(alloc: Global, bytes: &[u8]) -> Result<usize, FileFault> {
+    Ok(read_whole(alloc, bytes, 8)?.len())
 }
 
 // How many files are read of those that `SPLICE` names.
-fn number_read(alloc: Global, files: &[(&str, &[u8])]) -> Result<usize, Fault> {
+fn number_read(alloc: Global, files: &[(&str, &[u8])]) -> Result<usize, Fail> {
     let names = take_names(alloc, SPLICE.as_bytes())?;
-    match read_files(alloc, &mut Shelf { files, written: 0 }, &names) {
-        Ok(read) => Ok(read.len()),
-        Err(outcome) => Err(fault_of(outcome)),
-    }
+    Ok(read_files(alloc, &mut Shelf { files, written: 0 }, &names)?.len())
 }
 
 #[test]

@@ -8,6 +8,8 @@ mod certifying;
 #[cfg(test)]
 mod checking;
 #[cfg(test)]
+mod command_lines;
+#[cfg(test)]
 mod conversion;
 #[cfg(test)]
 mod cutting;
@@ -33,3 +35,5 @@ mod rejecting;
 mod take_names;
 #[cfg(test)]
 mod watched_folder;
+#[cfg(test)]
+mod words;

@@ -1,8 +1,9 @@
 //! Files read whole: one, several in turn, and with a limit to the reads.
 
 use crate::watched_folder::WatchedFolder;
-use command_core::{MemoryFolder, Outcome, read_files, read_whole};
+use command_core::{MemoryFolder, read_files, read_whole};
 use fixtures::compared::equal;
+use folder_core::FileFault;
 use std::alloc::{AllocError, Global};
 use std::io;
 use std::io::Read;
@@ -35,9 +36,9 @@ fn reads_to_the_end(rt: HostRuntime) -> Result<(), Fail> {
 #[test]
 fn gives_up_a_file_that_has_no_end(rt: HostRuntime) {
     let one = read_whole(rt.alloc(), b"abc".as_slice(), 1);
-    assert!(rt; matches!(&one, Err(Outcome::ReadFailed)));
+    assert!(rt; matches!(&one, Err(FileFault::ReadFailed)));
     let many = read_whole(rt.alloc(), Endless, 1000);
-    assert!(rt; matches!(&many, Err(Outcome::ReadFailed)));
+    assert!(rt; matches!(&many, Err(FileFault::ReadFailed)));
 }
 
 // A folder with the file `a` of three bytes and the file `b` of none.
@@ -78,7 +79,7 @@ fn stops_at_the_second(alloc: Global) -> Result<bool, AllocError> {
     let names = names(alloc, &["a", "c", "a"])?;
     let mut folder = WatchedFolder::over(alloc, folder(alloc)?, None);
     let refused = read_files(alloc, &mut folder, &names);
-    let failed = matches!(&refused, Err(Outcome::ReadFailed));
+    let failed = matches!(&refused, Err(FileFault::ReadFailed));
     Ok(failed && folder.calls.as_str() == "open a\nopen c\n")
 }
 

@@ -1,8 +1,8 @@
 #!/usr/bin/python3
 """Plays a test tone by the built program and measures the WAVE: tone.py [--program PROGRAM] [--exact] [FILTER ..].
 
-The tone is a sine of 1 kHz at -6 dB, made by a delta-sigma modulator (modulate.c, compiled with CC or cc) at the stored
-rate of each filter, 6 seconds of one channel as DSDIFF. Where ffmpeg is installed, it decodes the same tone to the same
+The tone is a sine of 1 kHz at -6 dB, made by a delta-sigma modulator (modulator/modulate.c, compiled with CC or cc) at
+the stored rate of each filter, 6 seconds of one channel as DSDIFF. Where ffmpeg is installed, it decodes the same tone to the same
 rate and width, by its own resampler and by soxr. Without names it takes the filters for 24 bits at 0 dB of DSD64 and
 DSD128. With --exact ffmpeg is left out, and every sample is compared with a convolution of scipy; the status is 1 where
 one differs. The program is bin/dsdarc, or what DSDARC or --program names."""
@@ -20,10 +20,13 @@ from pathlib import Path
 os.environ.setdefault("OMP_NUM_THREADS", "1")
 
 import numpy as np
-from numpy.polynomial import legendre
-from scipy import optimize, signal
+from scipy import signal
 
 FOLDER = Path(__file__).resolve().parent
+sys.path[:0] = [str(FOLDER.parent / name) for name in ("workflows", "modulator")]
+import modulators  # noqa: E402
+import waves  # noqa: E402
+
 HERTZ = 1000
 DECIBELS = -6.0
 SECONDS = 6
@@ -35,15 +38,6 @@ SHAPE = 38.0  # of the Kaiser window: what is away from a line is some 300 dB do
 
 
 @dataclass(frozen=True)
-class Modulator:
-    """A noise transfer: its order, its greatest gain, and what is added before the quantizer (triangular, at most)."""
-
-    order: int
-    gain: float
-    dither: float
-
-
-@dataclass(frozen=True)
 class Figures:
     """What is seen of the tone: dB, of noise and peak to full scale (noise to that of a sine), and microseconds."""
 
@@ -52,31 +46,6 @@ class Figures:
     noise: float
     peak: float
     late: float
-
-
-def modulator_for(rate: int) -> Modulator:
-    """Order 7 for DSD64, so that the tone is cleaner than what is measured; else order 5 is enough."""
-    return Modulator(7, 1.4, 0.1) if rate < 4_000_000 else Modulator(5, 1.5, 0.1)
-
-
-def noise_transfer(modulator: Modulator, rate: int) -> tuple[np.ndarray, np.ndarray]:
-    """Numerator and denominator: Butterworth's poles, and the zeros of a Legendre polynomial over the audio band."""
-    order = modulator.order
-    zeros = np.exp(2j * np.pi * HIGH / rate * legendre.legroots([0] * order + [1]))
-
-    def excess(turn: float) -> float:
-        return 1 / signal.butter(order, turn, "high")[0][0] - modulator.gain
-
-    turn = optimize.brentq(excess, 1e-3, 0.9)
-    poles = signal.butter(order, turn, "high", output="zpk")[1]
-    return np.real(np.poly(zeros)), np.real(np.poly(poles))
-
-
-def compiled(folder: Path) -> Path:
-    program = folder / "modulate"
-    compiler = os.environ.get("CC", "cc")
-    subprocess.run([compiler, "-O2", "-o", program, FOLDER / "modulate.c", "-lm"], check=True)
-    return program
 
 
 def chunk(name: bytes, data: bytes) -> bytes:
@@ -96,36 +65,21 @@ def write_dsdiff(path: Path, rate: int, sound: bytes) -> None:
 
 def make_tone(program: Path, path: Path, rate: int) -> None:
     """Writes the tone, and says how far the modulator went."""
-    modulator = modulator_for(rate)
-    zeros, poles = noise_transfer(modulator, rate)
-    numbers = [*poles[1:], *zeros[1:]]
-    ends = [rate, HERTZ, 10 ** (DECIBELS / 20), modulator.dither, rate * SECONDS // 8]
-    words = [program, str(modulator.order), *(repr(float(it)) for it in numbers), *(str(it) for it in ends)]
-    done = subprocess.run(words, capture_output=True, check=True)
-    largest = float(done.stderr)
-    if not largest < 3:
-        raise RuntimeError(f"the modulator is not stable: {largest} before the quantizer")
-    write_dsdiff(path, rate, done.stdout)
+    modulator = modulators.modulator_for(rate)
+    words = [modulators.SEED, rate * SECONDS // 8, rate, HERTZ, 10 ** (DECIBELS / 20)]
+    sound, largest = modulators.run(program, modulator, rate, words)
+    write_dsdiff(path, rate, sound)
     print(f"tone at {rate} Hz: order {modulator.order}, at most {largest} before the quantizer", file=sys.stderr)
 
 
 def read_wave(path: Path) -> tuple[int, int, np.ndarray]:
     """Rate, width and samples of a WAVE file of one channel, full scale being 1."""
-    data = path.read_bytes()
-    place, rate, width, sound = 12, 0, 0, b""
-    while place + 8 <= len(data):
-        name, size = data[place : place + 4], struct.unpack_from("<I", data, place + 4)[0]
-        if name == b"fmt ":
-            rate = struct.unpack_from("<I", data, place + 12)[0]
-            width = struct.unpack_from("<H", data, place + 22)[0]
-        elif name == b"data":
-            sound = data[place + 8 : place + 8 + size]
-        place += 8 + size + size % 2
-    if width == 16:
-        return rate, width, np.frombuffer(sound, "<i2") / 2.0**15
-    parts = np.frombuffer(sound, np.uint8).reshape(-1, 3).astype(np.int32)
+    wave = waves.read(path.read_bytes())
+    if wave.width == 16:
+        return wave.rate, wave.width, np.frombuffer(wave.samples, "<i2") / 2.0**15
+    parts = np.frombuffer(wave.samples, np.uint8).reshape(-1, 3).astype(np.int32)
     whole = parts[:, 0] << 8 | parts[:, 1] << 16 | parts[:, 2] << 24
-    return rate, width, (whole >> 8) / 2.0**23
+    return wave.rate, wave.width, (whole >> 8) / 2.0**23
 
 
 def measure(samples: np.ndarray, rate: int, skipped: int, gain: float) -> Figures:
@@ -262,7 +216,7 @@ def main() -> int:
     asked = words.parse_args()
     filters = asked.filters or usual()
     with tempfile.TemporaryDirectory() as name:
-        modulate = compiled(Path(name))
+        modulate = modulators.compiled(Path(name))
         if not asked.exact:
             print_figures(asked.program, filters, modulate)
             return 0

@@ -114,6 +114,14 @@ def pieces(file, sound):
             yield [cleared(take(file, BLOCK)[:size], sound.width, here) for _ in range(sound.count)]
 
 
+def span(file, sound, first, stop):
+    """Of each channel the bytes of the bits `first`, a multiple of 8, to `stop` - 1, which the sound has."""
+    skipped = first // 8 if sound.width is None else first // (8 * BLOCK) * BLOCK
+    part = dataclasses.replace(sound, start=sound.start + skipped * sound.count, bits=stop - 8 * skipped)
+    joined = [b"".join(it) for it in zip(*pieces(file, part))]
+    return [it[first // 8 - skipped :] for it in joined]
+
+
 def cleared(data, width, bits):
     """A block of DSF with its earliest bit first, and zeros behind the last."""
     if width == 1:

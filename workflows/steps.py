@@ -11,12 +11,12 @@ import tomllib
 
 import channels
 import restore
+import waves
 from names import KINDS, SETTINGS, TABLE, keep, load, remove, result, shown, sum_line, sum_of
 
 ROOT = os.path.dirname(os.path.dirname(os.path.abspath(__file__)))
 PROGRAM = os.environ.get("DSDARC", os.path.join(ROOT, "bin", "dsdarc"))
 ENDINGS = {"dsdiff": "dff", "dsf": "dsf", "dsf8": "dsf"}
-WAVE_LIMIT = 2**32
 
 
 def run(*words):
@@ -135,8 +135,8 @@ def unplayable(found, filters):
     if found["rate"] % project["factor"]:
         return "RateNotDivided"
     frames = -(-found["samples"] // project["factor"])
-    size = frames * found["channels"] * project["width"] // 8
-    return "TooLarge" if 36 + size + size % 2 >= WAVE_LIMIT else None
+    size = waves.riff_size(found["channels"], project["width"], frames)
+    return "TooLarge" if size >= waves.SIZE_LIMIT else None
 
 
 def plan():

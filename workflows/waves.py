@@ -1,0 +1,90 @@
+#!/usr/bin/env python3
+"""Tells what WAVE files hold: waves.py FILE..
+
+Rate, channels, bits of a sample and frames are told, and the channel mask of an extensible format chunk. Such files are
+read and what stands before their samples is made here by docs/WAVE.md alone, not by dsdarc: what both agree on was seen
+twice.
+"""
+import struct
+import sys
+from collections import namedtuple
+
+PLAIN, EXTENSIBLE = 1, 0xFFFE
+PCM_SUBFORMAT = bytes.fromhex("0100000000001000800000aa00389b71")
+# No size is as large as this.
+SIZE_LIMIT = 2**32
+
+# What a file holds. The mask is None in a plain format chunk; the samples are bytes, as they stand there.
+Wave = namedtuple("Wave", "rate channels width mask samples")
+
+
+class Unread(Exception):
+    """The file isn't read."""
+
+
+def chunks(data):
+    """The chunks of a file: ID and data."""
+    at = 12
+    while at + 8 <= len(data):
+        name, size = struct.unpack_from("<4sI", data, at)
+        yield name, data[at + 8 : at + 8 + size]
+        at += 8 + size + size % 2
+
+
+def mask_of(form, width):
+    """The channel mask of a format chunk's data, None of a plain one."""
+    tag = struct.unpack_from("<H", form)[0]
+    if tag == PLAIN:
+        return None
+    if tag != EXTENSIBLE:
+        raise Unread(f"its format is {tag:#x}")
+    extension, valid, mask = struct.unpack_from("<HHI", form, 16)
+    if (extension, valid, form[24:]) != (22, width, PCM_SUBFORMAT):
+        raise Unread("its samples are no whole numbers of that width")
+    return mask
+
+
+def read(data):
+    """What a file's bytes hold."""
+    if data[:4] != b"RIFF" or data[8:12] != b"WAVE":
+        raise Unread("it is no WAVE file")
+    found = dict(chunks(data))
+    if b"fmt " not in found or b"data" not in found:
+        raise Unread("it has no format, or no samples")
+    _, channels, rate, _, _, width = struct.unpack_from("<HHIIHH", found[b"fmt "])
+    return Wave(rate, channels, width, mask_of(found[b"fmt "], width), found[b"data"])
+
+
+def format_of(rate, channels, width):
+    """The data of the format chunk that is written: extensible for 24 bits, or more than two channels."""
+    block = channels * width // 8
+    fields = struct.pack("<HIIHH", channels, rate, rate * block, block, width)
+    if width == 24 or channels > 2:
+        return struct.pack("<H", EXTENSIBLE) + fields + struct.pack("<HHI", 22, width, 0) + PCM_SUBFORMAT
+    return struct.pack("<H", PLAIN) + fields
+
+
+def riff_size(channels, width, frames):
+    """The size that the RIFF chunk of so many frames has: of the file but its first 8 bytes."""
+    data = frames * channels * width // 8
+    return 20 + len(format_of(0, channels, width)) + data + data % 2
+
+
+def head_of(rate, channels, width, frames):
+    """What stands before the samples of so many frames."""
+    form = format_of(rate, channels, width)
+    head = b"RIFF" + struct.pack("<I", riff_size(channels, width, frames)) + b"WAVEfmt " + struct.pack("<I", len(form))
+    return head + form + b"data" + struct.pack("<I", frames * channels * width // 8)
+
+
+def main():
+    for name in sys.argv[1:]:
+        with open(name, "rb") as file:
+            wave = read(file.read())
+        frames = len(wave.samples) // (wave.channels * wave.width // 8)
+        mask = "" if wave.mask is None else f" mask {wave.mask:#x}"
+        print(f"rate {wave.rate} channels {wave.channels} bits {wave.width} frames {frames}{mask}  {name}")
+
+
+if __name__ == "__main__":
+    main()

@@ -9,6 +9,9 @@
 #include <stdlib.h>
 #include <string.h>
 
+// How many bytes stand before the samples.
+#define HEAD 68
+
 static int32_t taps[8192];
 static size_t number;
 
@@ -32,6 +35,16 @@ static uint64_t big(const uint8_t *at, int size) {
 
 static void little(uint8_t *at, uint32_t value, int size) {
     for (int k = 0; k < size; k++) at[k] = (uint8_t)(value >> 8 * k);
+}
+
+// Writes them: an extensible format chunk, as files of 24 bits have it.
+static void write_head(uint8_t *at, uint32_t rate, uint32_t channels, uint32_t data) {
+    static const uint8_t pcm[16] = {1, 0, 0, 0, 0, 0, 0x10, 0, 0x80, 0, 0, 0xaa, 0, 0x38, 0x9b, 0x71};
+    memcpy(at, "RIFF", 4), little(at + 4, HEAD - 8 + data + data % 2, 4), memcpy(at + 8, "WAVEfmt ", 8);
+    little(at + 16, 40, 4), little(at + 20, 0xfffe, 2), little(at + 22, channels, 2);
+    little(at + 24, rate, 4), little(at + 28, rate * channels * 3, 4), little(at + 32, channels * 3, 2);
+    little(at + 34, 24, 2), little(at + 36, 22, 2), little(at + 38, 24, 2), little(at + 40, 0, 4);
+    memcpy(at + 44, pcm, 16), memcpy(at + 60, "data", 4), little(at + 64, data, 4);
 }
 
 // The sum at a place, bit by bit: for the edges.
@@ -88,18 +101,15 @@ int main(int words, char **word) {
         }
 
     int64_t frames_in = (int64_t)(bytes / channels), count = 8 * frames_in, frames = (count + factor - 1) / factor;
-    size_t data = (size_t)frames * channels * 3, whole = 44 + data + data % 2;
+    size_t data = (size_t)frames * channels * 3, whole = HEAD + data + data % 2;
     uint8_t *wave = malloc(whole);
     uint8_t *own = malloc((size_t)frames_in);
     if (!wave || !own) return 2;
-    memcpy(wave, "RIFF", 4), little(wave + 4, (uint32_t)(whole - 8), 4), memcpy(wave + 8, "WAVEfmt ", 8);
-    little(wave + 16, 16, 4), little(wave + 20, 1, 2), little(wave + 22, channels, 2);
-    little(wave + 24, rate / (uint32_t)factor, 4), little(wave + 28, rate / (uint32_t)factor * channels * 3, 4);
-    little(wave + 32, channels * 3, 2), little(wave + 34, 24, 2), memcpy(wave + 36, "data", 4), little(wave + 40, (uint32_t)data, 4);
+    write_head(wave, rate / (uint32_t)factor, channels, (uint32_t)data);
     if (data % 2) wave[whole - 1] = 0;
     for (uint32_t c = 0; c < channels; c++) {
         for (int64_t i = 0; i < frames_in; i++) own[i] = sound[(size_t)i * channels + c];
-        uint8_t *out = wave + 44 + 3 * c;
+        uint8_t *out = wave + HEAD + 3 * c;
         for (int64_t j = 0; j < frames; j++, out += 3 * channels) {
             int64_t place = j * factor + delay, first = place / 8 + 1 - groups;
             int32_t sum = 0;

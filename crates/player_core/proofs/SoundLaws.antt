@@ -1,7 +1,7 @@
 -- The file around the frames of a sound.
-use Rattle.std.proofs.Common.{◌≡◌, ℕ, zero, suc, ◌+◌, ◌-◌, ◌*◌, ◌/◌, ◌≤◌, min, [], ◌++◌, length, sym, refl, ap, ap₂, ◌∙◌, arith, length-append}
+use Rattle.std.proofs.Common.{◌≡◌, ℕ, ◌+◌, ◌-◌, ◌*◌, ◌/◌, ◌≤◌, min, [], ◌++◌, length, sym, ap, ap₂, ◌∙◌, arith, length-append}
 use Rattle.std.specs.List.{flat_map}
-use Rattle.std.specs.Int.{bytes_low_first, div_ceil}
+use Rattle.std.specs.Int.{div_ceil}
 use Rattle.std.proofs.Math.Nat.{mul_assoc, zero-div, zero-mod}
 use Rattle.std.proofs.lemmas.List.{length-map, length-replicate}
 use Rattle.std.proofs.lemmas.List.FromFn.{length-map-range_with_len}
@@ -10,12 +10,12 @@ use Rattle.fir_core.specs.Decimator.{sample_at}
 use Rattle.fir_core.specs.Streams.{due_number, heard}
 use Rattle.wave_core.specs.Laws.{PartsJoin}
 use Rattle.wave_core.specs.Sizes.{pad_size, riff_size}
-use Rattle.wave_core.specs.Texts.{header, pad_bytes, sample_bytes, twos_complement}
+use Rattle.wave_core.specs.Texts.{header, pad_bytes, sample_bytes}
+use Rattle.wave_core.proofs.SizeLaws.{length_of_header, length_of_samples}
 use Rattle.player_core.specs.Due.{all_bytes, bytes_heard, channel_whole, channels_heard}
 use Rattle.player_core.specs.Frames.{frame, frame_count, frames, frames_below}
 use Rattle.player_core.specs.Laws.{FileHasSize, FramesFill, NothingIsDue, SoundIsPlayed, file_around, total_frames}
 use Rattle.player_core.proofs.FinishLaws.{channels_are, count_is}
-use Rattle.player_core.proofs.FrameLaws.{length-equal}
 use Rattle.player_core.proofs.NewLaws.{none_heard}
 use Rattle.player_core.proofs.SampleLaws.{length-frames, no_text, text_is}
 
@@ -38,10 +38,6 @@ sound_is_played law file r s d has is =
     }
 
 -- ---- sizes
-length-low : (i k n : ℕ) → length (bytes_low_first i k n) ≡ k
-length-low i zero n = refl
-length-low i (suc k) n = ap (λ (m : ℕ). suc m) (length-low (suc i) k n)
-
 pub frames_fill : FramesFill
 frames_fill d s bytes is whole all =
     let channels = sound_channels s.order s.channels s.count bytes in
@@ -50,20 +46,16 @@ frames_fill d s bytes is whole all =
     let number : length channels ≡ s.channels = ap length (sym same) ∙ length-map-range_with_len (channel_whole s bytes) 0 s.channels in
     let samples : length (frames d channels) ≡ total_frames d s * s.channels
     = length-frames (frame d channels) (length channels) 0 (frame_count d channels) (λ j. length-map channels (λ bits. sample_at d bits j)) ∙ ap₂ (λ a b. a * b) count number in
-    length-equal (sample_bytes d.width) (d.width / 8) (frames d channels) (λ z. length-low 0 (d.width / 8) (twos_complement d.width z))
+    length_of_samples d.width (frames d channels)
     ∙ ap (λ k. k * (d.width / 8)) samples
     ∙ mul_assoc (total_frames d s) s.channels (d.width / 8)
-
-length-header : (channels rate width n : ℕ) → length (header channels rate width n) ≡ 44
-unfolding header
-length-header channels rate width n = refl
 
 pub file_has_size : FileHasSize
 file_has_size d s bytes long =
     let n = total_frames d s in
     let head = header s.channels (s.rate / d.factor) d.width n in
     let pad = pad_bytes s.channels d.width n in
-    omega (arith, long, length-append head (bytes ++ pad), length-append bytes pad, length-header s.channels (s.rate / d.factor) d.width n, length-replicate {A = ℕ} (pad_size s.channels d.width n) 0)
+    omega (arith, long, length-append head (bytes ++ pad), length-append bytes pad, length_of_header s.channels (s.rate / d.factor) d.width n, length-replicate {A = ℕ} (pad_size s.channels d.width n) 0)
 
 -- ---- nothing is due before the first byte
 pub nothing_is_due : NothingIsDue

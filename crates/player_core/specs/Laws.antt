@@ -1,11 +1,11 @@
 -- Laws of a file that a player fills: its header, what the player gives, its pad.
-use Rattle.std.specs.Prelude.{◌≡◌, ℕ, ◌+◌, ◌/◌, ◌%◌, ◌^◌, ◌≤◌, List, [], ◌++◌, length, Some, None}
+use Rattle.std.specs.Prelude.{◌≡◌, ℕ, ◌/◌, ◌%◌, ◌^◌, ◌≤◌, List, [], ◌++◌, length, Some, None}
 use Rattle.std.specs.Int.{div_ceil}
 use Rattle.dsd_bits.specs.declared.sound.Sound.{Sound}
 use Rattle.dsd_bits.specs.Contents.{Content}
 use Rattle.dsd_bits.specs.Sounds.{HasSound, IsSound, sound_bytes}
 use Rattle.fir_core.specs.Decimator.{Decimator}
-use Rattle.wave_core.specs.Sizes.{FitsRiff, data_size, pad_size, riff_size}
+use Rattle.wave_core.specs.Sizes.{FitsRiff, data_size, file_size, riff_size}
 use Rattle.wave_core.specs.Texts.{header, pad_bytes, wave_text}
 use Rattle.player_core.specs.Due.{all_bytes, due_bytes}
 use Rattle.player_core.specs.Samples.{pcm}
@@ -33,10 +33,10 @@ abbrev pub FramesFill : Type 0
 FramesFill = (d : Decimator) (s : Sound) (bytes : List ℕ) → IsSound s → (s.order ≡ None → s.count % 8 ≡ 0)
     → length bytes ≡ s.size → length (all_bytes d s bytes) ≡ data_size s.channels d.width (total_frames d s)
 
--- a file around so many bytes has 44 bytes more and the pad
+-- a file around so many bytes has its size
 abbrev pub FileHasSize : Type 0
 FileHasSize = (d : Decimator) (s : Sound) (bytes : List ℕ) → length bytes ≡ data_size s.channels d.width (total_frames d s)
-    → length (file_around d s bytes) ≡ 44 + data_size s.channels d.width (total_frames d s) + pad_size s.channels d.width (total_frames d s)
+    → length (file_around d s bytes) ≡ file_size s.channels d.width (total_frames d s)
 
 -- before the first sound byte nothing is due
 abbrev pub NothingIsDue : Type 0

@@ -17,7 +17,7 @@ pub fn frames_fill_the_data()
     ensures { FramesFill }
 {}
 
-/// The law of the size: header, data and pad are 44 bytes, as many as the header tells, and one or none.
+/// The law of the size: header, data and pad are as many bytes as the file has.
 pub fn file_has_its_size()
     ensures { FileHasSize }
 {}

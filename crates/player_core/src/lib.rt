@@ -1,6 +1,6 @@
 //! From sound to the frames of a WAVE file.
 //!
-//! [`wave_of`] makes the file of a recording, tile by tile. A [`Player`] takes the bytes of a sound piece by
+//! [`wave_spec`] is what the file tells. [`wave_of`] makes the file of a recording, tile by tile. A [`Player`] takes the bytes of a sound piece by
 //! piece, as they stand in a DSDIFF 1.5 or DSF 1.01 file, and gives the bytes of each frame once its place has
 //! come: of the sound it holds a part of one group of blocks, and what each channel's filter still reads.
 //!
@@ -37,6 +37,7 @@
 mod groups;
 mod laws;
 mod player;
+mod spec;
 mod wave_file;
 
 pub use laws::{
@@ -44,4 +45,5 @@ pub use laws::{
     sound_is_played,
 };
 pub use player::Player;
+pub use spec::wave_spec;
 pub use wave_file::wave_of;

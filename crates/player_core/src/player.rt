@@ -1,13 +1,13 @@
 //! Frames of a sound whose bytes come piece by piece.
 
-ghost use Rattle.std.specs.Prelude.{◌≡◌, ℕ, ◌+◌, ◌*◌, ◌/◌, ◌^◌, ◌≤◌, ◌<◌, ◌++◌, ◌⊎◌, All, IfOk, OnOk, length};
+ghost use Rattle.std.specs.Prelude.{◌≡◌, ℕ, ◌+◌, ◌*◌, ◌/◌, ◌^◌, ◌≤◌, ◌<◌, ◌++◌, All, IfOk, OnOk, length};
 ghost use Rattle.std.specs.List.{flat_map};
 ghost use Rattle.std.specs.Int.{div_ceil};
 ghost use Rattle.dsd_bits.specs.declared.sound.Sound.{Sound};
 ghost use Rattle.fir_core.specs.Decimator.{Decimator};
 ghost use Rattle.fir_core.specs.Streams.{Feeds};
 ghost use Rattle.fir_core.specs.StreamView.{IsStream, state_of};
-ghost use Rattle.wave_core.specs.Contents.{IsSample};
+ghost use Rattle.wave_core.specs.Contents.{IsSample, IsWidth};
 ghost use Rattle.wave_core.specs.Frames.{frames_of};
 ghost use Rattle.wave_core.specs.Texts.{sample_bytes};
 ghost use Rattle.player_core.specs.Groups as Groups;
@@ -130,7 +130,7 @@ fn streams_of(alloc: Global, taps: &Taps, sound: &Sound) -> Result<Vec<Stream>, 
 // Appends the bytes of the frames of samples that are given channel by channel.
 fn push_tile(out: &mut Vec<u8>, width: u32, tile: &[i32], channels: usize) -> Result<(), AllocError>
     requires channels { 1 ≤ channels }
-    requires width { (width ≡ 16) ⊎ (width ≡ 24) }
+    requires width { IsWidth width }
     requires values { All (IsSample width) tile.now }
     ensures { OnOk result (out.new.items ≡ out.old.items ++ flat_map (sample_bytes width) (frames_of tile.now (length tile.now / channels))) }
 {

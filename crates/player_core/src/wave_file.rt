@@ -8,10 +8,11 @@ ghost use Rattle.fir_core.specs.Windows.{aligned};
 ghost use Rattle.player_core.specs.Frames.{frame_count, frames_below, tile_of};
 ghost use Rattle.player_core.specs.Samples.{pcm};
 
+use crate::spec::wave_spec;
 use dsd_bits::{Bits, Recording};
 use fir_core::{Tables, Taps, push_part};
 use std::alloc::{AllocError, Global};
-use wave_core::{WaveFault, parts_join, push_frames, push_header, push_pad};
+use wave_core::{WaveFault, parts_join, push_frames};
 
 // How many frames are made at a time, so that their samples stay in the cache.
 const TILE: usize = 4096;
@@ -29,19 +30,13 @@ pub fn wave_of(alloc: Global, taps: &Taps, recording: &Recording) -> Result<Vec<
     let factor = taps.factor();
     let width = taps.width();
     let channels = recording.channels();
-    let number = channels.len() as u16;
+    let spec = wave_spec(taps, channels.len(), recording.rate());
     let count = recording.count().div_ceil(factor as usize);
     let mut wave = Vec::new(alloc);
-    push_header(
-        &mut wave,
-        number,
-        recording.rate() / factor,
-        width,
-        count as u64,
-    )?;
+    spec.push_header(&mut wave, count as u64)?;
     wave.reserve_exact(count * (channels.len() * (width / 8) as usize) + 1)?;
     push_tiles(alloc, &mut wave, taps, channels, count)?;
-    push_pad(&mut wave, number, width, count as u64)?;
+    spec.push_pad(&mut wave, count as u64)?;
     Ok(wave)
 }
 

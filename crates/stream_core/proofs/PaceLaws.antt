@@ -13,39 +13,18 @@ use Rattle.player_core.specs.PlayerView.{IsFed, filter_of, sound_of}
 use Rattle.player_core.specs.declared.player.Player.{Player}
 use Rattle.player_core.proofs.FrontLaws.{front_of_all}
 use Rattle.player_core.proofs.SoundLaws.{frames_fill, nothing_is_due}
-use Rattle.wave_core.specs.Texts.{header}
-use Rattle.stream_core.specs.Faults.{IsWritingFault, StopsReading}
+use Rattle.wave_core.specs.Sizes.{header_size}
+use Rattle.wave_core.proofs.SizeLaws.{length_of_header}
 use Rattle.stream_core.specs.Files.{IsAccepted, TellsSound}
 use Rattle.stream_core.specs.Pace.{Gives, GivesNone, IsBeforeSound, KeepsUp, PlaysGivenPart, PlaysGivenSound, StandsIn, WritesFrames, sound_given}
 use Rattle.stream_core.specs.Pieces.{PlaysPart, PlaysSound, PutsDue}
 use Rattle.stream_core.specs.Playing.{PlaysBy}
 use Rattle.stream_core.specs.Reads.{Reads}
-use Rattle.stream_core.specs.Wave.{IsOpeningFault, OpensWave, header_of, pad_of}
-use Rattle.stream_core.specs.declared.fault.StreamFault.{StreamFault}
-use Rattle.stream_core.specs.declared.fault.StreamFault.TheVariants.{FileRefused, RateNotDivided, TooLarge, ReadFailed, WriteFailed, TurnLimit, Memory}
+use Rattle.stream_core.specs.Wave.{OpensWave, header_of, pad_of}
 use Rattle.stream_core.proofs.PlaceLaws.{frame_due, frame_there, frames_held, length-due}
 use Rattle.stream_core.proofs.PlayLaws.{begins, sound_is, text_of, written}
 use Rattle.stream_core.proofs.SoundLaws.{whole_is}
 use Rattle.stream_core.proofs.ToldLaws.{told_once}
-
--- ---- faults that don't stop the reading
-pub writing_goes_on : {P : Type 0} (f : StreamFault) → IsWritingFault f → StopsReading f → P
-writing_goes_on FileRefused h stops = absurd h
-writing_goes_on RateNotDivided h stops = absurd h
-writing_goes_on TooLarge h stops = absurd h
-writing_goes_on ReadFailed h stops = absurd h
-writing_goes_on WriteFailed h stops = absurd stops
-writing_goes_on TurnLimit h stops = absurd h
-writing_goes_on Memory h stops = absurd stops
-
-pub opening_goes_on : {P : Type 0} (d : Decimator) (s : Sound) (f : StreamFault) → IsOpeningFault d s f → StopsReading f → P
-opening_goes_on d s FileRefused h stops = absurd h
-opening_goes_on d s RateNotDivided h stops = absurd stops
-opening_goes_on d s TooLarge h stops = absurd stops
-opening_goes_on d s ReadFailed h stops = absurd h
-opening_goes_on d s WriteFailed h stops = absurd stops
-opening_goes_on d s TurnLimit h stops = absurd h
-opening_goes_on d s Memory h stops = absurd stops
 
 -- ---- what was given
 pub gives_read : {R : Type 0} (left : R → Option (List ℕ)) (i j : Inlet R) (n : ℕ) (xs : List ℕ) → Reads left i j xs → n ≡ inlet_given j → Gives (left (inlet_reader i)) (inlet_given i) n xs
@@ -99,10 +78,6 @@ sound_so_far p q new ahead left a b c g h wanted puts filter sound size rest =
     }
 
 -- ---- a file whose front was read
-length-header : (channels rate width n : ℕ) → length (header channels rate width n) ≡ 44
-unfolding header
-length-header channels rate width n = refl
-
 -- the header and what is due are a front of the file
 parted : (head due more pad : List ℕ) → head ++ ((due ++ more) ++ pad) ≡ (head ++ due) ++ (more ++ pad)
 parted head due more pad = ap (λ xs. head ++ xs) (append_assoc due more pad) ∙ sym (append_assoc head due (more ++ pad))
@@ -123,8 +98,8 @@ module _ (law : SoundIsPlayed) (d : Decimator) (front : List ℕ) (s : Sound) (t
     due_written before rest size all is out =
         let more = front_of_all d s before rest tells.is_sound tells.whole least all in
         let first = header_of d s ++ due_bytes d s before in
-        let long : length first ≡ 44 + frames_due d s (length before) * (s.channels * (d.width / 8))
-        = length-append (header_of d s) (due_bytes d s before) ∙ ap₂ (λ m n. m + n) (length-header s.channels (s.rate / d.factor) d.width (total_frames d s)) (length-due d s before) in (
+        let long : length first ≡ header_size s.channels d.width + frames_due d s (length before) * (s.channels * (d.width / 8))
+        = length-append (header_of d s) (due_bytes d s before) ∙ ap₂ (λ m n. m + n) (length_of_header s.channels (s.rate / d.factor) d.width (total_frames d s)) (length-due d s before) in (
           first,
           more.0 ++ pad_of d s,
           is ∙ ap (file_around d s) more.1 ∙ parted (header_of d s) (due_bytes d s before) more.0 (pad_of d s),
@@ -138,8 +113,8 @@ module _ (law : SoundIsPlayed) (d : Decimator) (front : List ℕ) (s : Sound) (t
     unfolding u
     all_written sound all is out =
         let first = header_of d s ++ all_bytes d s sound in
-        let long : length first ≡ 44 + total_frames d s * (s.channels * (d.width / 8))
-        = length-append (header_of d s) (all_bytes d s sound) ∙ ap₂ (λ m n. m + n) (length-header s.channels (s.rate / d.factor) d.width (total_frames d s)) (frames_fill d s sound tells.is_sound tells.whole all) in (
+        let long : length first ≡ header_size s.channels d.width + total_frames d s * (s.channels * (d.width / 8))
+        = length-append (header_of d s) (all_bytes d s sound) ∙ ap₂ (λ m n. m + n) (length_of_header s.channels (s.rate / d.factor) d.width (total_frames d s)) (frames_fill d s sound tells.is_sound tells.whole all) in (
           first,
           pad_of d s,
           is ∙ sym (append_assoc (header_of d s) (all_bytes d s sound) (pad_of d s)),

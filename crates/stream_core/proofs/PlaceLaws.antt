@@ -1,6 +1,6 @@
 -- Frames whose places stand in a front of the sound are due, and how many bytes they are.
-use Rattle.std.proofs.Common.{◌≡◌, ℕ, zero, suc, ◌+◌, ◌-◌, ◌*◌, ◌/◌, ◌%◌, ◌<◌, ◌≤◌, inl, inr, min, List, length, Option, None, Some, refl, sym, subst, ap, ◌∙◌, arith}
-use Rattle.std.specs.Int.{bytes_low_first, div_ceil}
+use Rattle.std.proofs.Common.{◌≡◌, ℕ, ◌+◌, ◌-◌, ◌*◌, ◌/◌, ◌%◌, ◌<◌, ◌≤◌, inl, inr, min, List, length, Option, None, Some, refl, sym, subst, ap, ◌∙◌, arith}
+use Rattle.std.specs.Int.{div_ceil}
 use Rattle.std.proofs.Math.Nat.{div-add-mod', mul-le-mul_right, mul_assoc}
 use Rattle.std.proofs.lemmas.Bool.{cases_lt}
 use Rattle.std.proofs.lemmas.Grind.{div_ceil_times}
@@ -12,12 +12,12 @@ use Rattle.dsd_bits.specs.declared.sound.Sound.{Sound}
 use Rattle.dsd_bits.specs.Sounds.{IsSound, sound_size}
 use Rattle.fir_core.specs.Decimator.{Decimator, sample_at}
 use Rattle.fir_core.specs.Streams.{heard}
-use Rattle.wave_core.specs.Texts.{sample_bytes, twos_complement}
+use Rattle.wave_core.specs.Sizes.{header_size}
+use Rattle.wave_core.proofs.SizeLaws.{length_of_samples}
 use Rattle.player_core.specs.Due.{bytes_heard, channel_bits, channels_heard, due_bytes, frames_due}
 use Rattle.player_core.specs.Frames.{frame, frames_below}
 use Rattle.player_core.specs.Groups.{part_size, place_in}
 use Rattle.player_core.specs.Laws.{total_frames}
-use Rattle.player_core.proofs.FrameLaws.{length-equal}
 use Rattle.player_core.proofs.SampleLaws.{length-frames}
 use Rattle.stream_core.specs.Pace.{HoldsFrames, StandsIn}
 
@@ -123,10 +123,6 @@ module _ (d : Decimator) (s : Sound) (is : IsSound s) (least : 8 ≤ d.factor) (
   frame_there = some_more j s.count d.factor (omega (arith, least)) (omega (arith, place))
 
 -- ---- their bytes
-length-low : (i k n : ℕ) → length (bytes_low_first i k n) ≡ k
-length-low i zero n = refl
-length-low i (suc k) n = ap (λ (m : ℕ). suc m) (length-low (suc i) k n)
-
 pub length-due : (d : Decimator) (s : Sound) (bytes : List ℕ) → length (due_bytes d s bytes) ≡ frames_due d s (length bytes) * (s.channels * (d.width / 8))
 length-due d s bytes =
     let channels = channels_heard s bytes in
@@ -134,12 +130,12 @@ length-due d s bytes =
     let number : length channels ≡ s.channels = length-map-range_with_len (channel_bits s bytes) 0 s.channels in
     let samples : length (frames_below d channels n) ≡ n * s.channels
     = length-frames (frame d channels) (length channels) 0 n (λ j. length-map channels (λ bits. sample_at d bits j)) ∙ ap (λ m. n * m) number in
-    length-equal (sample_bytes d.width) (d.width / 8) (frames_below d channels n) (λ z. length-low 0 (d.width / 8) (twos_complement d.width z))
+    length_of_samples d.width (frames_below d channels n)
     ∙ ap (λ k. k * (d.width / 8)) samples
     ∙ mul_assoc n s.channels (d.width / 8)
 
 -- a front of a WAVE file that holds so many frames
-pub frames_held : (d : Decimator) (s : Sound) (n m size : ℕ) → size ≡ 44 + m * (s.channels * (d.width / 8)) → ((j : ℕ) → StandsIn s n (j * d.factor + d.delay) → j < m) → HoldsFrames d s n size
+pub frames_held : (d : Decimator) (s : Sound) (n m size : ℕ) → size ≡ header_size s.channels d.width + m * (s.channels * (d.width / 8)) → ((j : ℕ) → StandsIn s n (j * d.factor + d.delay) → j < m) → HoldsFrames d s n size
 frames_held d s n m size is each = record {
   header = omega (arith, is);
   frames = λ j stands. (let most : (j + 1) * (s.channels * (d.width / 8)) ≤ m * (s.channels * (d.width / 8)) = mul-le-mul_right (s.channels * (d.width / 8)) (omega (arith, each j stands)) in omega (arith, most, is));

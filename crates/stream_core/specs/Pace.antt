@@ -7,6 +7,7 @@ use Rattle.player_core.specs.Due.{due_bytes}
 use Rattle.player_core.specs.Groups.{place_in}
 use Rattle.player_core.specs.PlayerView.{IsFed, filter_of, sound_of}
 use Rattle.player_core.specs.declared.player.Player.{Player}
+use Rattle.wave_core.specs.Sizes.{block_align, header_size}
 use Rattle.stream_core.specs.Files.{IsAccepted, TellsSound}
 use Rattle.stream_core.specs.Playing.{PlaysBy}
 
@@ -20,8 +21,8 @@ StandsIn s n i = (c : ℕ) → c < s.channels → place_in s.order s.channels c 
 
 -- so many first bytes of a WAVE file hold its header, and each frame j whose place stands in the first n bytes of the sound
 pub record HoldsFrames (d : Decimator) (s : Sound) (n size : ℕ) : Type 0 where
-  pub header : 44 ≤ size
-  pub frames : (j : ℕ) → StandsIn s n (j * d.factor + d.delay) → 44 + (j + 1) * (s.channels * (d.width / 8)) ≤ size
+  pub header : header_size s.channels d.width ≤ size
+  pub frames : (j : ℕ) → StandsIn s n (j * d.factor + d.delay) → header_size s.channels d.width + (j + 1) * block_align s.channels d.width ≤ size
 
 -- of these bytes a front was written that holds them
 abbrev pub WritesFrames : Decimator → Sound → ℕ → List ℕ → Option (List ℕ) → Option (List ℕ) → Type 0

@@ -1,10 +1,11 @@
 -- The WAVE file of a sound in parts, and how it begins.
-use Rattle.std.specs.Prelude.{◌≡◌, ◌≢◌, ℕ, ◌+◌, ◌/◌, ◌%◌, ◌≤◌, ◌^◌, List, Option, ⊤}
+use Rattle.std.specs.Prelude.{◌≡◌, ◌≢◌, ℕ, ◌/◌, ◌%◌, ◌≤◌, ◌^◌, List, Option, ⊤}
 use Rattle.std.specs.Io.KnownBytes.{Appends}
 use Rattle.dsd_bits.specs.declared.sound.Sound.{Sound}
 use Rattle.fir_core.specs.Decimator.{Decimator}
 use Rattle.player_core.specs.Laws.{total_frames}
-use Rattle.wave_core.specs.Sizes.{FitsRiff, data_size, pad_size, riff_size}
+use Rattle.wave_core.specs.Sizes as sizes
+use Rattle.wave_core.specs.Sizes.{FitsRiff, riff_size}
 use Rattle.wave_core.specs.Texts.{header, pad_bytes}
 use Rattle.stream_core.specs.declared.fault.StreamFault.{StreamFault}
 use Rattle.stream_core.specs.declared.fault.StreamFault.TheVariants.{RateNotDivided, TooLarge, WriteFailed, Memory}
@@ -18,7 +19,7 @@ pad_of d s = pad_bytes s.channels d.width (total_frames d s)
 
 -- how many bytes the file has
 abbrev pub file_size : Decimator → Sound → ℕ
-file_size d s = 44 + data_size s.channels d.width (total_frames d s) + pad_size s.channels d.width (total_frames d s)
+file_size d s = sizes.file_size s.channels d.width (total_frames d s)
 
 -- the factor divides the rate, the sizes fit, and the header was written
 pub record OpensWave (d : Decimator) (s : Sound) (held_old held_new : Option (List ℕ)) : Type 0 where

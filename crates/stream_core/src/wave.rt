@@ -1,10 +1,11 @@
 //! What is written around the frames, and how bytes go out.
 
-ghost use Rattle.std.specs.Prelude.{◌≡◌, ◌+◌, ◌-◌, ◌<◌, ◌≤◌, ◌^◌, IfErr, IfOk, OnErr, OnOk};
+ghost use Rattle.std.specs.Prelude.{◌≡◌, ◌+◌, ◌-◌, ◌/◌, ◌<◌, ◌≤◌, ◌^◌, IfErr, IfOk, OnErr, OnOk};
 ghost use Rattle.std.specs.Io.KnownBytes.{Appends};
 ghost use Rattle.device_core.specs.Outlets.{AppendsFront, outlet_failures, outlet_writer};
 ghost use Rattle.dsd_bits.specs.Sounds.{IsSound};
 ghost use Rattle.player_core.specs.Laws.{total_frames};
+ghost use Rattle.wave_core.specs.Contents.{spec_of};
 ghost use Rattle.stream_core.specs.Faults.{IsBeforeWriting, IsWritingFault, failed_writes};
 ghost use Rattle.stream_core.specs.Wave.{IsOpeningFault, OpensWave, file_size, header_of, pad_of};
 
@@ -12,8 +13,9 @@ use crate::fault::StreamFault;
 use device_core::Outlet;
 use dsd_bits::Sound;
 use fir_core::Taps;
+use player_core::wave_spec;
 use std::io::Write;
-use wave_core::{push_header, push_pad};
+use wave_core::WaveSpec;
 
 /// Writes these bytes.
 ///
@@ -38,14 +40,21 @@ fn total_frames(taps: &Taps, sound: &Sound) -> u64
     sound.count.div_ceil(taps.factor() as usize) as u64
 }
 
+// What the WAVE file of a sound tells.
+fn spec_of(taps: &Taps, sound: &Sound) -> WaveSpec
+    requires { IsSound sound.now }
+    ensures spec { result ≡ spec_of sound.now.channels (sound.now.rate / taps.now.factor) taps.now.width }
+    ensures factor { 8 ≤ taps.now.factor }
+{
+    wave_spec(taps, sound.channels, sound.rate)
+}
+
 /// How many bytes the WAVE file of a sound has.
 pub(crate) fn file_size(taps: &Taps, sound: &Sound) -> u64
     requires { IsSound sound.now }
     ensures { result ≡ file_size taps.now sound.now }
 {
-    let frame = sound.channels as u64 * u64::from(taps.width() / 8);
-    let data = total_frames(taps, sound) * frame;
-    44 + data + data % 2
+    spec_of(taps, sound).file_size(total_frames(taps, sound))
 }
 
 /// Writes the header of the WAVE file of a sound.
@@ -70,13 +79,7 @@ pub(crate) fn put_header<W: Write>(
         return Err(StreamFault::RateNotDivided);
     }
     out.clear();
-    push_header(
-        out,
-        sound.channels as u16,
-        sound.rate / taps.factor(),
-        taps.width(),
-        total_frames(taps, sound),
-    )?;
+    spec_of(taps, sound).push_header(out, total_frames(taps, sound))?;
     put(outlet, out.as_slice())
 }
 
@@ -97,11 +100,6 @@ pub(crate) fn put_pad<W: Write>(
     ensures failures { outlet_failures outlet.new ≡ outlet_failures outlet.old + failed_writes result }
 {
     out.clear();
-    push_pad(
-        out,
-        sound.channels as u16,
-        taps.width(),
-        total_frames(taps, sound),
-    )?;
+    spec_of(taps, sound).push_pad(out, total_frames(taps, sound))?;
     put(outlet, out.as_slice())
 }

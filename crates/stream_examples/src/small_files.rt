@@ -5,9 +5,9 @@ use crate::played::{NEVER, ONES, plays};
 use archive_core::{play, play_stream};
 use device_core::{Inlet, Outlet};
 use fixtures::devices::{drip, sip};
-use fixtures::files::{FILE, WAVE, followed, mono, noted, one_bit, stereo, with_sound};
+use fixtures::files::{FILE, WAVE, followed, mono, noted, one_bit, stereo, three, with_sound};
 use fixtures::projects::{DECIMATE, project, with_ones};
-use fixtures::waves::{SAMPLES, TWO_CHANNELS, WIDE, sample};
+use fixtures::waves::{SAMPLES, THREE_CHANNELS, TWO_CHANNELS, WIDE, sample};
 use std::alloc::{AllocError, Global};
 use std::test::Fail;
 
@@ -55,9 +55,10 @@ fn plays_built(
 
 // Of the DSF file's first byte the first bit alone counts, which the fourth tap reads.
 #[test]
-fn plays_two_channels_and_dsf(rt: HostRuntime) -> Result<(), Fail> {
+fn plays_several_channels_and_dsf(rt: HostRuntime) -> Result<(), Fail> {
     let alloc = rt.alloc();
     assert!(rt; plays_built(alloc, stereo(alloc, &[0xf0, 0x0f]), &TWO_CHANNELS)?);
+    assert!(rt; plays_built(alloc, three(alloc, &[0xf0, 0x0f, 0xf0]), &THREE_CHANNELS)?);
     assert!(rt; plays_built(alloc, one_bit(alloc, b""), &sample([4, 0]))?);
     assert!(rt; plays_built(alloc, one_bit(alloc, b"a tag"), &sample([4, 0]))?);
     Ok(())

@@ -17,12 +17,30 @@ abbrev pub IsSample : ℕ → ℤ → Type 0
 IsSample width (pos n) = n < 2 ^ (width - 1)
 IsSample width (negsuc n) = n < 2 ^ (width - 1)
 
+-- a width that samples may have
+abbrev pub IsWidth : ℕ → Type 0
+IsWidth width = (width ≡ 16) ⊎ (width ≡ 24)
+
+-- what a file tells of its samples: the channels of a frame, the frames a second, the bits of a sample
+pub record WaveSpec : Type 0 where
+  pub channels : ℕ
+  pub rate : ℕ
+  pub width : ℕ
+
+-- what these numbers tell
+abbrev pub spec_of : ℕ → ℕ → ℕ → WaveSpec
+spec_of channels rate width = record { channels = channels; rate = rate; width = width }
+
+-- the rules that it keeps
+pub record IsWaveSpec (s : WaveSpec) : Type 0 where
+  pub some_channel : 1 ≤ s.channels
+  pub six_channels : s.channels ≤ 6
+  pub lowest_rate : 1 ≤ s.rate
+  pub highest_rate : s.rate ≤ 6250000
+  pub known_width : IsWidth s.width
+
 -- the rules that all samples in memory keep
 pub record IsPcm (p : Pcm) : Type 0 where
-  pub some_channel : 1 ≤ p.channels
-  pub six_channels : p.channels ≤ 6
-  pub lowest_rate : 1 ≤ p.rate
-  pub highest_rate : p.rate ≤ 6250000
-  pub known_width : (p.width ≡ 16) ⊎ (p.width ≡ 24)
+  pub spec : IsWaveSpec (spec_of p.channels p.rate p.width)
   pub whole_frames : length p.samples % p.channels ≡ 0
   pub in_range : All (IsSample p.width) p.samples

@@ -1,20 +1,34 @@
--- The text of a RIFF WAVE file of PCM samples (Microsoft and IBM, Multimedia Programming Interface and Data Specifications 1.0).
-use Rattle.std.specs.Prelude.{ℕ, suc, ◌-◌, ◌*◌, ◌/◌, ◌^◌, ℤ, pos, negsuc, List, ◌++◌, length, codes, nat_lt, if◌then◌else◌, Option, Some, None, replicate}
+-- The text of a RIFF WAVE file of PCM samples (Microsoft and IBM, Multimedia Programming Interface and Data Specifications 1.0; Microsoft, WAVEFORMATEXTENSIBLE).
+use Rattle.std.specs.Prelude.{ℕ, suc, ◌-◌, ◌*◌, ◌/◌, ◌^◌, ℤ, pos, negsuc, List, [], ◌∷◌, ◌++◌, length, codes, nat_lt, if◌then◌else◌, Option, Some, None, replicate}
 use Rattle.std.specs.List.{flat_map}
 use Rattle.chunk_core.specs.declared.numbers.Order.TheVariants.{Little}
 use Rattle.chunk_core.specs.Numbers.{bytes_of}
 use Rattle.wave_core.specs.Contents.{Pcm}
-use Rattle.wave_core.specs.Sizes.{block_align, data_size, pad_size, riff_size}
+use Rattle.wave_core.specs.Sizes.{block_align, data_size, format_size, is_extensible, pad_size, riff_size}
 
 -- the head of the RIFF chunk, and its type
 abbrev pub riff_head : ℕ → List ℕ
 riff_head size = codes "RIFF" ++ bytes_of Little 4 size ++ codes "WAVE"
 
--- the format chunk: its size, the tag of integer samples, the channels, the frames and the bytes a second, the bytes of a frame, and the bits of a sample
+-- the format tag: of integer samples, and of a format chunk in its second form
+abbrev pub format_tag : ℕ → ℕ → ℕ
+format_tag channels width = if is_extensible channels width then 65534 else 1
+
+-- the subformat of integer samples: 00000001-0000-0010-8000-00aa00389b71 as its bytes stand in a file
+abbrev pub pcm_subformat : List ℕ
+pcm_subformat = 1 ∷ 0 ∷ 0 ∷ 0 ∷ 0 ∷ 0 ∷ 16 ∷ 0 ∷ 128 ∷ 0 ∷ 0 ∷ 170 ∷ 0 ∷ 56 ∷ 155 ∷ 113 ∷ []
+
+-- what the second form has more: how many bytes follow, the bits of a sample that count, no loudspeaker named, and the subformat
+abbrev pub extension : ℕ → ℕ → List ℕ
+extension channels width =
+    if is_extensible channels width then bytes_of Little 2 22 ++ bytes_of Little 2 width ++ bytes_of Little 4 0 ++ pcm_subformat else []
+
+-- the format chunk: its size, the tag, the channels, the frames and the bytes a second, the bytes of a frame, the bits of a sample, and the second form's extension
 abbrev pub format_chunk : ℕ → ℕ → ℕ → List ℕ
 format_chunk channels rate width =
-    codes "fmt " ++ bytes_of Little 4 16 ++ bytes_of Little 2 1 ++ bytes_of Little 2 channels ++ bytes_of Little 4 rate
-    ++ bytes_of Little 4 (rate * block_align channels width) ++ bytes_of Little 2 (block_align channels width) ++ bytes_of Little 2 width
+    codes "fmt " ++ bytes_of Little 4 (format_size channels width) ++ bytes_of Little 2 (format_tag channels width) ++ bytes_of Little 2 channels
+    ++ bytes_of Little 4 rate ++ bytes_of Little 4 (rate * block_align channels width) ++ bytes_of Little 2 (block_align channels width)
+    ++ bytes_of Little 2 width ++ extension channels width
 
 -- the head of the data chunk
 abbrev pub data_head : ℕ → List ℕ

@@ -1,21 +1,25 @@
 //! What stands before the samples.
 
-ghost use Rattle.std.specs.Prelude.{◌≡◌, ◌≤◌, ◌^◌, ◌++◌, ◌⊎◌, ◌↔◌, IfSome, IfNone, OnOk, OnErr};
-ghost use Rattle.wave_core.specs.Sizes.{FitsRiff, block_align, data_size, riff_size};
-ghost use Rattle.wave_core.specs.Texts.{data_head, format_chunk, header, riff_head};
+ghost use Rattle.std.specs.Prelude.{◌≡◌, ◌≤◌, ◌^◌, ◌++◌, ◌↔◌, IfSome, IfNone, OnOk, OnErr};
+ghost use Rattle.wave_core.specs.Contents.{IsWaveSpec, spec_of};
+ghost use Rattle.wave_core.specs.Sizes.{FitsRiff, data_size, riff_size};
+ghost use Rattle.wave_core.specs.Texts.{data_head, extension, format_chunk, header, riff_head};
 
 use crate::fault::WaveFault;
+use crate::spec::WaveSpec;
 use chunk_core::{Order, push_u16, push_u32};
 use std::alloc::AllocError;
 
-// How many bytes stand before the samples.
-const HEADER_SIZE: usize = 44;
+// How many bytes of the second form follow the number of them.
+const EXTENSION_SIZE: u16 = 22;
 
-// How many bytes of data the format chunk has.
-const FORMAT_SIZE: u32 = 16;
+// No loudspeaker is named for any channel.
+const NO_LOUDSPEAKERS: u32 = 0;
 
-// The format tag of integer samples.
-const PCM: u16 = 1;
+// The subformat of integer samples, 00000001-0000-0010-8000-00aa00389b71 as its bytes stand in a file.
+const PCM_SUBFORMAT: [u8; 16] = [
+    1, 0, 0, 0, 0, 0, 0x10, 0, 0x80, 0, 0, 0xaa, 0, 0x38, 0x9b, 0x71,
+];
 
 // The greatest size that a chunk can name.
 const LARGEST_SIZE: u64 = 0xffff_ffff;
@@ -29,13 +33,12 @@ pub(crate) struct Sizes {
     pub(crate) data_size: u32,
 }
 
-/// Appends the 44 bytes before the samples: `rate` is in frames a second, 1 to 6,250,000, `width` the
-/// bits of a sample, 16 or 24, and `frames` the number of frames that follow, each of one sample for each
-/// of 1 to 6 channels.
+/// Appends the bytes before the samples, 44, or 68 for 24 bits or more than two channels: `rate` is in frames a
+/// second, 1 to 6,250,000, `width` the bits of a sample, 16 or 24, and `frames` the number of frames that follow,
+/// each of one sample for each of 1 to 6 channels.
 ///
 /// Refusals, in this order: `TooLarge` where the size of the RIFF chunk would not fit 32 bits, `Memory`.
 /// After a refusal nothing was appended.
-#[tactic(auto, unfolding(crate::specs::Texts::header))]
 pub fn push_header(
     out: &mut Vec<u8>,
     channels: u16,
@@ -43,36 +46,46 @@ pub fn push_header(
     width: u32,
     frames: u64,
 ) -> Result<(), WaveFault>
-    requires channels { (1 ≤ channels) × (channels ≤ 6) }
-    requires rate { (1 ≤ rate) × (rate ≤ 6250000) }
-    requires width { (width ≡ 16) ⊎ (width ≡ 24) }
+    requires spec { IsWaveSpec (spec_of channels rate width) }
     ensures ok { OnOk result (out.new.items ≡ out.old.items ++ header channels rate width frames) }
     ensures fits { OnOk result (FitsRiff channels width frames) }
     ensures too_large { (result ≡ Err WaveFault.TooLarge) ↔ (2 ^ 32 ≤ riff_size channels width frames) }
     ensures unchanged { OnErr result (out.new.items ≡ out.old.items) }
 {
-    let Some(sizes) = sizes_of(channels, width, frames) else {
-        return Err(WaveFault::TooLarge);
-    };
-    let mut header = Vec::with_capacity(*out.allocator(), HEADER_SIZE)?;
-    push_fields(&mut header, channels, rate, width, &sizes)?;
-    out.extend_from_slice(&header)?;
-    Ok(())
+    WaveSpec::new(channels, rate, width).push_header(out, frames)
+}
+
+impl WaveSpec {
+    /// Appends the bytes before the samples of so many frames. Refusals as of [`push_header`].
+    #[tactic(auto, unfolding(crate::specs::Texts::header))]
+    pub fn push_header(&self, out: &mut Vec<u8>, frames: u64) -> Result<(), WaveFault>
+        ensures ok { OnOk result (out.new.items ≡ out.old.items ++ header self.now.channels self.now.rate self.now.width frames) }
+        ensures fits { OnOk result (FitsRiff self.now.channels self.now.width frames) }
+        ensures too_large { (result ≡ Err WaveFault.TooLarge) ↔ (2 ^ 32 ≤ riff_size self.now.channels self.now.width frames) }
+        ensures unchanged { OnErr result (out.new.items ≡ out.old.items) }
+    {
+        let Some(sizes) = sizes_of(self, frames) else {
+            return Err(WaveFault::TooLarge);
+        };
+        let mut header = Vec::with_capacity(*out.allocator(), self.header_size() as usize)?;
+        push_fields(&mut header, self, &sizes)?;
+        out.extend_from_slice(&header)?;
+        Ok(())
+    }
 }
 
 // The sizes for so many frames, where they fit.
-pub(crate) fn sizes_of(channels: u16, width: u32, frames: u64) -> Option<Sizes>
-    requires channels { (1 ≤ channels) × (channels ≤ 6) }
-    requires width { (width ≡ 16) ⊎ (width ≡ 24) }
-    ensures data_size { IfSome result (λ sizes. sizes.data_size ≡ data_size channels width frames) }
-    ensures riff_size { IfSome result (λ sizes. sizes.riff_size ≡ riff_size channels width frames) }
-    ensures none { IfNone result (2 ^ 32 ≤ riff_size channels width frames) }
+pub(crate) fn sizes_of(spec: &WaveSpec, frames: u64) -> Option<Sizes>
+    ensures data_size { IfSome result (λ sizes. sizes.data_size ≡ data_size spec.now.channels spec.now.width frames) }
+    ensures riff_size { IfSome result (λ sizes. sizes.riff_size ≡ riff_size spec.now.channels spec.now.width frames) }
+    ensures none { IfNone result (2 ^ 32 ≤ riff_size spec.now.channels spec.now.width frames) }
 {
+    let block_align = spec.block_align();
     if frames > LARGEST_SIZE {
         return None;
     }
-    let data = frames * u64::from(block_align(channels, width));
-    let riff = 36 + data + data % 2;
+    let data = frames * u64::from(block_align);
+    let riff = spec.header_size() - 8 + data + data % 2;
     if riff > LARGEST_SIZE {
         return None;
     }
@@ -82,32 +95,17 @@ pub(crate) fn sizes_of(channels: u16, width: u32, frames: u64) -> Option<Sizes>
     })
 }
 
-// The bytes of a frame.
-pub(crate) fn block_align(channels: u16, width: u32) -> u16
-    requires channels { channels ≤ 6 }
-    requires width { (width ≡ 16) ⊎ (width ≡ 24) }
-    ensures value { result ≡ block_align channels width }
-    ensures few { result ≤ 18 }
-{
-    channels * (width / 8) as u16
-}
-
 // Appends what stands before the samples of frames whose sizes these are.
 pub(crate) fn push_fields(
     out: &mut Vec<u8>,
-    channels: u16,
-    rate: u32,
-    width: u32,
+    spec: &WaveSpec,
     sizes: &Sizes,
 ) -> Result<(), AllocError>
-    requires channels { channels ≤ 6 }
-    requires rate { rate ≤ 6250000 }
-    requires width { (width ≡ 16) ⊎ (width ≡ 24) }
     ensures { OnOk result (out.new.items ≡ out.old.items
-        ++ (riff_head sizes.now.riff_size ++ (format_chunk channels rate width ++ data_head sizes.now.data_size))) }
+        ++ (riff_head sizes.now.riff_size ++ (format_chunk spec.now.channels spec.now.rate spec.now.width ++ data_head sizes.now.data_size))) }
 {
     push_riff_head(out, sizes.riff_size)?;
-    push_format(out, channels, rate, width)?;
+    push_format(out, spec)?;
     push_data_head(out, sizes.data_size)?;
     Ok(())
 }
@@ -123,23 +121,33 @@ fn push_riff_head(out: &mut Vec<u8>, riff_size: u32) -> Result<(), AllocError>
 }
 
 // Appends the format chunk.
-fn push_format(out: &mut Vec<u8>, channels: u16, rate: u32, width: u32) -> Result<(), AllocError>
-    requires channels { channels ≤ 6 }
-    requires rate { rate ≤ 6250000 }
-    requires width { (width ≡ 16) ⊎ (width ≡ 24) }
-    ensures { OnOk result (out.new.items ≡ out.old.items ++ format_chunk channels rate width) }
+fn push_format(out: &mut Vec<u8>, spec: &WaveSpec) -> Result<(), AllocError>
+    ensures { OnOk result (out.new.items ≡ out.old.items ++ format_chunk spec.now.channels spec.now.rate spec.now.width) }
 {
-    let block_align = block_align(channels, width);
-    let byte_rate = rate * u32::from(block_align);
+    let block_align = spec.block_align();
     out.extend_from_slice(b"fmt ")?;
-    push_u32(out, Order::Little, FORMAT_SIZE)?;
-    push_u16(out, Order::Little, PCM)?;
-    push_u16(out, Order::Little, channels)?;
-    push_u32(out, Order::Little, rate)?;
-    push_u32(out, Order::Little, byte_rate)?;
+    push_u32(out, Order::Little, spec.format_size())?;
+    push_u16(out, Order::Little, spec.format_tag())?;
+    push_u16(out, Order::Little, spec.channels)?;
+    push_u32(out, Order::Little, spec.rate)?;
+    push_u32(out, Order::Little, spec.rate * u32::from(block_align))?;
     push_u16(out, Order::Little, block_align)?;
-    push_u16(out, Order::Little, width as u16)?;
+    push_u16(out, Order::Little, spec.width as u16)?;
+    push_extension(out, spec)?;
     Ok(())
+}
+
+// Appends what the format chunk's second form has more.
+fn push_extension(out: &mut Vec<u8>, spec: &WaveSpec) -> Result<(), AllocError>
+    ensures { OnOk result (out.new.items ≡ out.old.items ++ extension spec.now.channels spec.now.width) }
+{
+    if !spec.is_extensible() {
+        return Ok(());
+    }
+    push_u16(out, Order::Little, EXTENSION_SIZE)?;
+    push_u16(out, Order::Little, spec.width as u16)?;
+    push_u32(out, Order::Little, NO_LOUDSPEAKERS)?;
+    out.extend_from_slice(&PCM_SUBFORMAT)
 }
 
 // Appends the head of the data chunk.

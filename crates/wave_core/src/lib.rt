@@ -1,20 +1,25 @@
 //! WAVE files of integer samples, written whole or in parts.
 //!
 //! A file is one RIFF chunk of the type `WAVE` (Microsoft and IBM, Multimedia Programming Interface and
-//! Data Specifications 1.0, PCM format): a `fmt ` chunk of 16 bytes, and a `data` chunk of the samples,
-//! frame by frame, in two's complement. All numbers have the lowest byte first. One zero byte follows an
-//! odd number of sample bytes; the RIFF chunk's size counts it, the `data` chunk's does not.
+//! Data Specifications 1.0, PCM format): a `fmt ` chunk, and a `data` chunk of the samples, frame by frame, in two's
+//! complement. All numbers have the lowest byte first. One zero byte follows an odd number of sample bytes; the RIFF
+//! chunk's size counts it, the `data` chunk's does not.
 //!
-//! A [`Pcm`] holds 1 to 6 channels of 16 or 24 bits at 1 to 6,250,000 frames a second, and [`write`] makes
-//! its file. Whoever has no list of samples makes the same file in parts: [`push_header`], then
-//! [`push_sample`] for each frame and channel, then [`push_pad`].
+//! The `fmt ` chunk has 16 bytes for samples of 16 bits in one or two channels. Else it has 40, in the form that
+//! Microsoft asks for there (WAVEFORMATEXTENSIBLE): with the bits of a sample that count, the subformat of integer
+//! samples, and a channel mask of 0, which names no loudspeaker for any channel.
+//!
+//! A [`WaveSpec`] tells of 1 to 6 channels of 16 or 24 bits at 1 to 6,250,000 frames a second. A [`Pcm`] holds
+//! samples of it, and [`write`] makes their file. Whoever has no list of samples makes the same file in parts:
+//! [`push_header`], then [`push_sample`] for each frame and channel, then [`push_pad`].
 //!
 //! The words of the contracts:
 //!
-//! - `Pcm` is what the samples in memory hold, `IsPcm` names the rules that they keep, `IsSample width
-//!   value` says that a value lies in the range of a width (`specs/Contents.antt`).
-//! - `data_size`, `pad_size` and `riff_size` of channels, width and frames are the sizes in bytes, and
-//!   `FitsRiff` says that the last fits 32 bits (`specs/Sizes.antt`).
+//! - `Pcm` is what the samples in memory hold, `IsPcm` and `IsWaveSpec` name the rules that they and what tells of
+//!   them keep, `IsSample width value` says that a value lies in the range of a width (`specs/Contents.antt`).
+//! - `header_size` of channels and width is how many bytes stand before the samples, `data_size`, `pad_size`,
+//!   `riff_size` and `file_size` of channels, width and frames are the other sizes in bytes, and `FitsRiff` says that
+//!   the RIFF chunk's fits 32 bits (`specs/Sizes.antt`).
 //! - `header`, `sample_bytes` and `pad_bytes` are the parts of a file, `wave_text` the whole, if there is
 //!   one (`specs/Texts.antt`).
 //!
@@ -25,7 +30,7 @@
 //!
 //! ```text
 //! let pcm = Pcm::new(1, 352_800, 24, vec![in alloc; 10]?);
-//! write(alloc, &pcm)?                        // 48 bytes
+//! write(alloc, &pcm)?                        // 72 bytes
 //! let mut file = Vec::new(alloc);            // the same
 //! push_header(&mut file, 1, 352_800, 24, 1)?;
 //! push_sample(&mut file, 24, 10)?;
@@ -37,10 +42,12 @@ mod fault;
 mod header;
 mod pcm;
 mod sound;
+mod spec;
 mod writing;
 
 pub use fault::WaveFault;
 pub use header::push_header;
 pub use pcm::Pcm;
 pub use sound::{push_frames, push_pad, push_sample};
+pub use spec::WaveSpec;
 pub use writing::{parts_join, write};

@@ -3,6 +3,7 @@
 ghost use Rattle.std.specs.Prelude.{◌≡◌};
 ghost use Rattle.wave_core.specs.Contents.{IsPcm, pcm_of};
 
+use crate::spec::WaveSpec;
 use std::marker::Model;
 
 /// Integer samples (pulse code modulation) of one to six channels: their rate in frames a second, their
@@ -10,9 +11,7 @@ use std::marker::Model;
 /// Contracts see it as one record of numbers and a list, which keeps to the rules of `IsPcm`.
 #[derive(Drop)]
 pub struct Pcm {
-    pub(crate) channels: u16,
-    pub(crate) rate: u32,
-    pub(crate) width: u32,
+    pub(crate) spec: WaveSpec,
     pub(crate) samples: Vec<i32>,
 }
 
@@ -21,9 +20,9 @@ impl Model for Pcm {
 
     ghost Value = { Pcm };
 
-    ghost view = { λ a. pcm_of a.channels a.rate a.width a.samples.items };
+    ghost view = { λ a. pcm_of a.spec.channels a.spec.rate a.spec.width a.samples.items };
 
-    ghost invariant = { λ a. IsPcm (pcm_of a.channels a.rate a.width a.samples.items) };
+    ghost invariant = { λ a. IsPcm (pcm_of a.spec.channels a.spec.rate a.spec.width a.samples.items) };
 }
 
 impl Pcm {
@@ -37,9 +36,7 @@ impl Pcm {
         ensures parts { result ≡ pcm_of channels rate width samples.items }
     {
         Pcm {
-            channels,
-            rate,
-            width,
+            spec: WaveSpec::new(channels, rate, width),
             samples,
         }
     }

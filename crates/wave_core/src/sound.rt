@@ -1,19 +1,19 @@
 //! The samples and what follows them.
 
-ghost use Rattle.std.specs.Prelude.{◌≡◌, ◌≤◌, ◌<◌, ◌++◌, ◌⊎◌, All, OnOk, OnErr};
+ghost use Rattle.std.specs.Prelude.{◌≡◌, ◌≤◌, ◌<◌, ◌++◌, All, OnOk, OnErr};
 ghost use Rattle.std.specs.List.{flat_map};
-ghost use Rattle.wave_core.specs.Contents.{IsSample};
+ghost use Rattle.wave_core.specs.Contents.{IsSample, IsWidth};
 ghost use Rattle.wave_core.specs.Frames.{frame_of, frames_of};
 ghost use Rattle.wave_core.specs.Sizes.{pad_size};
 ghost use Rattle.wave_core.specs.Texts.{pad_bytes, sample_bytes};
 
-use crate::header::block_align;
+use crate::spec::WaveSpec;
 use std::alloc::AllocError;
 
 /// Appends a sample of `width` bits, 16 or 24, in two's complement, the lowest byte first: two or three
 /// bytes. The value lies in the range of the width. A refused growth leaves `out` as it was.
 pub fn push_sample(out: &mut Vec<u8>, width: u32, value: i32) -> Result<(), AllocError>
-    requires width { (width ≡ 16) ⊎ (width ≡ 24) }
+    requires width { IsWidth width }
     requires value { IsSample width value }
     ensures ok { OnOk result (out.new.items ≡ out.old.items ++ sample_bytes width value) }
     ensures unchanged { OnErr result (out.new.items ≡ out.old.items) }
@@ -33,7 +33,7 @@ pub fn push_frames(
     samples: &[i32],
     frames: usize,
 ) -> Result<(), AllocError>
-    requires width { (width ≡ 16) ⊎ (width ≡ 24) }
+    requires width { IsWidth width }
     requires values { All (IsSample width) samples.now }
     requires frames { 1 ≤ frames }
     ensures { OnOk result (out.new.items ≡ out.old.items ++ flat_map (sample_bytes width) (frames_of samples.now frames)) }
@@ -52,7 +52,7 @@ fn push_frame(
     frames: usize,
     i: usize,
 ) -> Result<(), AllocError>
-    requires width { (width ≡ 16) ⊎ (width ≡ 24) }
+    requires width { IsWidth width }
     requires values { All (IsSample width) samples.now }
     requires frame { i < frames }
     ensures { OnOk result (out.new.items ≡ out.old.items ++ flat_map (sample_bytes width) (frame_of samples.now frames i)) }
@@ -67,8 +67,6 @@ fn push_frame(
 /// or 24: one zero byte where these are an odd number of bytes, else nothing. A refused growth leaves
 /// `out` as it was.
 pub fn push_pad(out: &mut Vec<u8>, channels: u16, width: u32, frames: u64) -> Result<(), AllocError>
-    requires channels { (1 ≤ channels) × (channels ≤ 6) }
-    requires width { (width ≡ 16) ⊎ (width ≡ 24) }
     ensures ok { OnOk result (out.new.items ≡ out.old.items ++ pad_bytes channels width frames) }
     ensures unchanged { OnErr result (out.new.items ≡ out.old.items) }
 {
@@ -78,11 +76,20 @@ pub fn push_pad(out: &mut Vec<u8>, channels: u16, width: u32, frames: u64) -> Re
     out.extend_from_slice(&[0])
 }
 
+impl WaveSpec {
+    /// Appends what follows the samples of so many frames, as of [`push_pad`].
+    pub fn push_pad(&self, out: &mut Vec<u8>, frames: u64) -> Result<(), AllocError>
+        ensures ok { OnOk result (out.new.items ≡ out.old.items ++ pad_bytes self.now.channels self.now.width frames) }
+        ensures unchanged { OnErr result (out.new.items ≡ out.old.items) }
+    {
+        push_pad(out, self.channels, self.width, frames)
+    }
+}
+
 // How many bytes follow the samples. The data of so many frames may be more than a number holds.
 fn pad_size(channels: u16, width: u32, frames: u64) -> u64
-    requires channels { channels ≤ 6 }
-    requires width { (width ≡ 16) ⊎ (width ≡ 24) }
     ensures { result ≡ pad_size channels width frames }
 {
-    frames % 2 * u64::from(block_align(channels, width)) % 2
+    let block_align = u64::from(channels) * u64::from(width / 8);
+    frames % 2 * block_align % 2
 }

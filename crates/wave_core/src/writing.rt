@@ -9,7 +9,7 @@ ghost use Rattle.wave_core.specs.Texts.{sample_bytes, wave_text};
 use crate::fault::WaveFault;
 use crate::header::{push_fields, sizes_of};
 use crate::pcm::Pcm;
-use crate::sound::{push_pad, push_sample};
+use crate::sound::push_sample;
 use std::alloc::{AllocError, Global};
 
 /// The bytes of the WAVE file of the samples: what [`crate::push_header`] appends, each sample as of
@@ -22,14 +22,15 @@ pub fn write(alloc: Global, pcm: &Pcm) -> Result<Vec<u8>, WaveFault>
     ensures text { IfOk result (λ file. wave_text pcm.now ≡ Some file.items) }
     ensures too_large { (result ≡ Err WaveFault.TooLarge) ↔ (wave_text pcm.now ≡ None) }
 {
-    let frames = (pcm.samples.len() / usize::from(pcm.channels)) as u64;
-    let Some(sizes) = sizes_of(pcm.channels, pcm.width, frames) else {
+    let spec = &pcm.spec;
+    let frames = (pcm.samples.len() / usize::from(spec.channels)) as u64;
+    let Some(sizes) = sizes_of(spec, frames) else {
         return Err(WaveFault::TooLarge);
     };
     let mut out = Vec::with_capacity(alloc, 8 + sizes.riff_size as usize)?;
-    push_fields(&mut out, pcm.channels, pcm.rate, pcm.width, &sizes)?;
+    push_fields(&mut out, spec, &sizes)?;
     push_samples(&mut out, pcm)?;
-    push_pad(&mut out, pcm.channels, pcm.width, frames)?;
+    spec.push_pad(&mut out, frames)?;
     Ok(out)
 }
 
@@ -38,7 +39,7 @@ fn push_samples(out: &mut Vec<u8>, pcm: &Pcm) -> Result<(), AllocError>
     ensures { OnOk result (out.new.items ≡ out.old.items ++ flat_map (sample_bytes pcm.now.width) pcm.now.samples) }
 {
     for value in &pcm.samples {
-        push_sample(out, pcm.width, *value)?;
+        push_sample(out, pcm.spec.width, *value)?;
     }
     Ok(())
 }

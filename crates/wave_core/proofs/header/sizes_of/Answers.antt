@@ -3,4 +3,4 @@ use Rattle.wave_core.proofs.SizeLaws.{too_many}
 use Rattle.wave_core.proofs.header.sizes_of.Goals as goal
 
 pub returns-then-frames-gt-LARGEST_SIZE-clause-none : goal.returns-then-frames-gt-LARGEST_SIZE-clause-none
-returns-then-frames-gt-LARGEST_SIZE-clause-none c = too_many c.args.channels c.args.width c.args.frames c.requires.channels.0 c.requires.width (omega arith)
+returns-then-frames-gt-LARGEST_SIZE-clause-none c = too_many c.args.spec.now.channels c.args.spec.now.width c.args.frames c.block_align-block_align.ensures.limits.some_channel c.block_align-block_align.ensures.limits.known_width (omega arith)

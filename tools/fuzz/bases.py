@@ -126,18 +126,24 @@ def filters():
     ]
 
 
-def cue_text(take, start, stop, bridge=None, title=None):
-    text = f"\n[[splice.cue]]\ntake = {take}\nstart = {start}\nstop = {stop}\n"
-    if bridge is not None:
-        text += f"bridge = {bridge}\n"
-    if title is not None:
-        text += f'title = "{title}"\n'
+# A cue. What is None isn't told, so the target is a fade, or the line that has these ends.
+Cue = namedtuple("Cue", "take start stop bridge title line", defaults=(None, None, None))
+
+
+def cue_text(cue):
+    text = f"\n[[splice.cue]]\ntake = {cue.take}\nstart = {cue.start}\nstop = {cue.stop}\n"
+    if cue.bridge is not None:
+        text += f"bridge = {cue.bridge}\n"
+    if cue.line is not None:
+        text += f'target = "line"\nline = {list(cue.line)}\n'
+    if cue.title is not None:
+        text += f'title = "{cue.title}"\n'
     return text
 
 
 def splice_text(weights, takes, cues):
     names = ", ".join(f'"{name}"' for name in takes)
-    return f"[splice]\nweights = {weights}\ntakes = [{names}]\n" + "".join(cue_text(*cue) for cue in cues)
+    return f"[splice]\nweights = {weights}\ntakes = [{names}]\n" + "".join(cue_text(Cue(*cue)) for cue in cues)
 
 
 # A master to be cut: a project's text, its takes by name, and the forms it can be written in.
@@ -154,6 +160,7 @@ def cuts(rng):
     mono = {"a.dff": take("a", 1, 32), "b.dff": take("b", 1, 32)}
     stereo = {"a.dff": take("a", 2, 48), "b.dsf": dsf(rng, "b", 2, 350, tag=b"ID3")}
     many = {"a.dff": take("a", 3, 40), "b.dff": take("b", 3, 30), "c.dff": take("c", 3, 24)}
+    to_the_ends = [(0, 0, 256, 20, None, (4, -4)), (1, 0, 40, 12, "two", (0, 0)), (0, 8, 60, 24), (1, 100, 128)]
     return [
         Cut(
             "one bridge",
@@ -167,6 +174,7 @@ def cuts(rng):
             mono,
             any_form,
         ),
+        Cut("lines", splice_text([2, 5, 2], mono, to_the_ends), mono, any_form),
         Cut(
             "two forms",
             splice_text([5, 9, 9, 5], stereo, [(0, 16, 60, 20, "first"), (1, 50, 83, 7), (0, 100, 140, None, "last")]),

@@ -1,5 +1,6 @@
 """Masters and certificates of small projects by docs/SPLICING.md and docs/CERTIFICATES.md: each bridge is found by trying
-all lists of so many bits, and each bound of its certificate too."""
+all lists of so many bits, and each bound of its certificate too. Of longer bridges it tells what their bits cost. Takes are
+lists of channels, which are lists of bits, and cues those of bases.py."""
 import itertools
 import struct
 
@@ -10,7 +11,16 @@ def weighted(weights, bits, place):
     return sum(weight if bits[place - k] else -weight for k, weight in enumerate(weights))
 
 
-def targets_of(weights, before, stop, after, start, length):
+def line_targets(weights, ends, length):
+    """The targets of the places 1, 2 and so on of a straight line."""
+    first, last = ends
+    for i in range(1, length + 1):
+        yield (length + 1 - i) * first + i * last
+    for _ in weights[1:]:
+        yield (length + 1) * last
+
+
+def fade_targets(weights, before, stop, after, start, length):
     """The targets of the places 1, 2 and so on of a fade, from the end of a cue to the start of the next."""
     for i in range(1, length + 1):
         yield (length + 1 - i) * weighted(weights, before, stop + i - 1) + i * weighted(weights, after, start - length + i - 1)
@@ -19,11 +29,16 @@ def targets_of(weights, before, stop, after, start, length):
 
 
 class Bridge:
-    """A bridge of `length` bits: what its bits and their fronts cost."""
+    """The bridge between two cues, from the bits of the one's take to those of the other's: what its bits and their fronts
+    cost."""
 
-    def __init__(self, weights, before, stop, after, start, length):
-        self.weights, self.length, self.width = weights, length, len(weights) - 1
-        self.targets = list(targets_of(weights, before, stop, after, start, length))
+    def __init__(self, weights, cue, before, next_cue, after):
+        self.weights, self.length, self.width = weights, cue.bridge, len(weights) - 1
+        stop, start = cue.stop, next_cue.start
+        if cue.line is not None:
+            self.targets = list(line_targets(weights, cue.line, self.length))
+        else:
+            self.targets = list(fade_targets(weights, before, stop, after, start, self.length))
         self.preceding, self.following = before[stop - self.width : stop], after[start : start + self.width]
 
     def cost(self, bits, places):
@@ -50,20 +65,35 @@ class Bridge:
 
 
 def master(weights, takes, cues):
-    """The channels of a master, its certificate and its total. Takes are lists of channels, cues a take, a start, a stop
-    and a bridge each."""
+    """The channels of a master, its certificate and its total."""
     channels, entries, total = [[] for _ in takes[0]], [], 0
-    for number, (take, start, stop, length) in enumerate(cues):
+    for number, cue in enumerate(cues):
         for channel, bits in enumerate(channels):
-            before = takes[take][channel]
-            bits += before[start:stop]
-            if length:
-                after, begin = takes[cues[number + 1][0]][channel], cues[number + 1][1]
-                bridge = Bridge(weights, before, stop, after, begin, length)
+            before = takes[cue.take][channel]
+            bits += before[cue.start : cue.stop]
+            if cue.bridge:
+                next_cue = cues[number + 1]
+                bridge = Bridge(weights, cue, before, next_cue, takes[next_cue.take][channel])
                 cost, found = bridge.best()
                 bits += found
                 total += cost
-                rows = [value for level in range(length + 1) for value in bridge.row(level)]
-                entries.append(struct.pack(f">HHH{len(rows)}QQ", number, channel, length, *rows, cost))
+                rows = [value for level in range(cue.bridge + 1) for value in bridge.row(level)]
+                entries.append(struct.pack(f">HHH{len(rows)}QQ", number, channel, cue.bridge, *rows, cost))
     head = b"DSPC" + struct.pack(">HHI", 1, len(weights), len(entries))
     return channels, head + b"".join(entries), total
+
+
+def total_of(weights, takes, cues, channels):
+    """What the bridges of a master's channels cost, or None where a cue has other bits than its take."""
+    total = 0
+    for channel, bits in enumerate(channels):
+        place = 0
+        for cue, next_cue in zip(cues, [*cues[1:], None]):
+            before, stop = takes[cue.take][channel], place + cue.stop - cue.start
+            if bits[place:stop] != before[cue.start : cue.stop]:
+                return None
+            place = stop + cue.bridge
+            if cue.bridge:
+                bridge = Bridge(weights, cue, before, next_cue, takes[next_cue.take][channel])
+                total += bridge.cost(bits[stop:place] + bridge.following, len(bridge.targets))
+    return total

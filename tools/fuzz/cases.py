@@ -11,6 +11,7 @@ import bridging
 import mutating
 import projects
 import reading
+import waves
 from judging import Failure, cert_size, converted, demand, fault_of, judge_run, told, wave_head
 from running import MEGABYTE
 
@@ -19,7 +20,10 @@ TIMES = 4
 MORE = 1 * MEGABYTE
 # The tables of a filter of 4096 taps, for six channels: some 1.1 MB each.
 TABLES = 7 * MEGABYTE // TIMES
+# No run may take more than this; where it should, it may say that memory was wanting.
+MOST = 1024 * MEGABYTE
 FORMS = ("dsdiff", "dsf", "dsf8")
+MEMORY = b"fault: Memory\n"
 OLD = b"what stood here before"
 
 
@@ -60,10 +64,10 @@ class Case:
         bytes of memory that the files' sizes don't tell."""
         read = sum(map(len, self.files.values()))
         need = TIMES * (read + more) + MORE
-        limit = self.program.start + (need if self.limit_part is None else int(need * self.limit_part))
+        limit = self.program.start + int(min(need, MOST) * (1.0 if self.limit_part is None else self.limit_part))
         run = self.program.run(words, limit, source and self.path(source))
         self.tell(run)
-        judge_run(run, self.limit_part is not None)
+        judge_run(run, self.limit_part is not None or need > MOST)
         for name, data in self.files.items():
             if name not in made:
                 demand(self.get(name) == data, f"{name} was changed")
@@ -182,12 +186,12 @@ def judge_bits(case, info, bit_at, name):
 
 def judge_samples(case, info, bit_at, decimate, wave):
     """Whether a WAVE file holds the samples of a recording: some of each channel."""
-    channels, factor, size = info["channels"], decimate["factor"], decimate["width"] // 8
-    frames = -(-info["samples"] // factor)
+    samples, channels, size = waves.read(wave).samples, info["channels"], decimate["width"] // 8
+    frames = -(-info["samples"] // decimate["factor"])
     for channel in range(channels if frames else 0):
         for number in {0, frames - 1, case.rng.randrange(frames)}:
-            at = 44 + (number * channels + channel) * size
-            found = int.from_bytes(wave[at : at + size], "little", signed=True)
+            at = (number * channels + channel) * size
+            found = int.from_bytes(samples[at : at + size], "little", signed=True)
             expected = reading.sample(info, bit_at, decimate, channel, number)
             demand(found == expected, f"sample {number} of channel {channel} is {found}, not {expected}")
 
@@ -298,14 +302,15 @@ def plan_of(data):
 
 
 def room_of(case, name):
-    """How much a master and its certificate may take beyond what the files tell. No cue or bridge that is longer than a
-    take comes so far."""
+    """How much a master and its certificate may take beyond what the files tell. No cue that is longer than a take comes
+    so far, and no bridge of more than 4096 bits."""
     plan = plan_of(case.files[name])
     if plan is None:
         return 8 * MEGABYTE
     longest = 8 * max(map(len, case.files.values()))
-    bits = sum(it for it in plan.cues + plan.bridges if it <= longest)
-    return cert_size(plan.weights, 6, [it for it in plan.bridges if it <= min(4096, longest)]) + 6 * (bits // 8 + 2 * 4096)
+    bridges = [it for it in plan.bridges if it <= 4096]
+    bits = sum(it for it in plan.cues if it <= longest) + sum(bridges)
+    return cert_size(plan.weights, 6, bridges) + 6 * (bits // 8 + 2 * 4096)
 
 
 def put_takes(case, cut, can_change):
@@ -333,7 +338,8 @@ def cut_case(case):
     master, cert = name_now_and_then(case, "master"), name_now_and_then(case, "cert")
     expected = edit_fault(case, data, form)
     run = case.run(["edit", form, "project", master, cert], made=[master, cert], more=room)
-    judge_refusal(run, expected)
+    if run.err != MEMORY:
+        judge_refusal(run, expected)
     if run.status == 2:
         case.demand_unmade(run, master, cert)
         return
@@ -351,11 +357,31 @@ def judge_cut(case, data, form, run, room):
         size = cert_size(plan.weights, info["channels"], plan.bridges)
         demand(len(case.files["cert"]) == size, "another length of the certificate")
     total = run.out.decode().split()[-1]
+    judge_total(case, data, total)
     checked = case.run(["check", "project", "master", "cert"], more=room)
     demand(checked.out.decode() == f"accepted total {total}\n", "the own master isn't accepted")
     if case.rng.random() < 0.2:
         case.run(["edit", form, "project", "master", "cert"], made=["master", "cert"], more=room)
         demand(case.get("master") == case.files["master"] and case.get("cert") == case.files["cert"], "cut again it is another")
+
+
+def bits_of(data):
+    """The channels of a recording's file as lists of bits."""
+    info, bit_at = reading.read(data)
+    return [[bit_at(channel, place) for place in range(info["samples"])] for channel in range(info["channels"])]
+
+
+def judge_total(case, data, total):
+    """Whether the bits of a master are those of the cues, and its bridges cost what is told."""
+    try:
+        splice = projects.read(data)["splice"]
+    except projects.Unknown:
+        return
+    takes = [bits_of(projects.bytes_of(case.program.folder, name)) for name in splice["takes"]]
+    cues = [bases.Cue(it["take"], it["start"], it["stop"], it.get("bridge", 0), line=it.get("line")) for it in splice["cue"]]
+    found = bridging.total_of(splice["weights"], takes, cues, bits_of(case.files["master"]))
+    demand(found is not None, "other bits in a cue")
+    demand(str(found) == total, f"the bridges cost {found}")
 
 
 def check_case(case):
@@ -476,14 +502,23 @@ def small_takes(rng, channels):
     return takes
 
 
+def small_line(rng):
+    """The ends of a line, or None for a fade."""
+    most = rng.choice((None, 9, 4096))
+    return most and tuple(rng.choice((-most, 0, most, rng.randint(-most, most))) for _ in range(2))
+
+
 def small_cues(rng, weights):
-    """Up to three cues, whose bridges are short enough to try all lists of bits."""
-    number = rng.randint(1, 3)
-    cues = []
+    """Up to three cues, whose bridges are short enough to try all lists of bits. Some begin and stop as near to the ends
+    of their takes as their fades allow; a line allows all."""
+    number, before, cues = rng.randint(1, 3), 0, []
     for k in range(number):
-        start = rng.randint(20, 60)
-        length = rng.randint(0, 6) if k < number - 1 else 0
-        cues.append((rng.randrange(2), start, start + rng.randint(weights - 1, 20), length))
+        length, line = rng.randint(0, 6) if k < number - 1 else 0, small_line(rng)
+        is_fade = length > 0 and line is None
+        start = rng.choice((before, rng.randint(20, 60)))
+        stop = rng.choice((128 - length if is_fade else 128, start + rng.randint(weights - 1, 20)))
+        cues.append(bases.Cue(rng.randrange(2), start, stop, length, None, line))
+        before = length + weights - 1 if is_fade else 0
     return cues
 
 
@@ -505,10 +540,8 @@ def bridge_case(case):
     demand(run.out == b"edited total %d\n" % total, f"the bridges cost {total}")
     case.demand_made("master", "cert")
     demand(case.files["cert"] == cert, "another certificate")
-    info, bit_at = reading.read(case.files["master"])
-    demand(info["samples"] == len(channels[0]), "another length")
-    for number, bits in enumerate(channels):
-        demand([bit_at(number, place) for place in range(len(bits))] == bits, f"other bits of channel {number}")
+    for number, (found, bits) in enumerate(zip(bits_of(case.files["master"]), channels, strict=True)):
+        demand(found == bits, f"other bits of channel {number}")
     run = case.run(["check", "project", "master", "cert"], more=room)
     demand(run.out == b"accepted total %d\n" % total, "not accepted")
 
@@ -588,6 +621,9 @@ def scarce_case(case):
     case.put("project", case.rng.choice(bases.filters()).encode())
     cues = [(0, 0, 8 * frames - 2000, 200, "a title"), (1, 3000, 8 * frames)]
     case.put("cutting", bases.splice_text([1] * case.rng.randint(2, 12), ("a.dff", "b.dff"), cues).encode())
+    # A line needs no room in the takes, so a short text can ask for a certificate of 17 GB.
+    lines = [(0, 0, 16, 4096, None, (12, -12))] * 255 + [(1, 0, 16)]
+    case.put("lines", bases.splice_text([1] * 12, ("a.dff", "b.dff"), lines).encode())
     source, form = case.rng.choice(("a.dff", "c.dsf")), case.rng.choice(FORMS)
     words = case.rng.choice(
         (
@@ -595,11 +631,13 @@ def scarce_case(case):
             ["convert", form, source, "out"],
             ["play", "project", source, "wave"],
             ["edit", form, "cutting", "master", "cert"],
+            ["edit", form, "lines", "master", "cert"],
             ["check", "cutting", "a.dff", "b.dff"],
         )
     )
     case.limit_part = case.rng.random()
     run = case.run(words, made=["out", "wave", "master", "cert"])
+    demand("lines" not in words or run.err == MEMORY, "17 GB within a few megabytes")
     if words[0] != "play":
         if run.status == 2:
             case.demand_unmade(run, "out", "master", "cert")
@@ -632,7 +670,7 @@ def large_case(case):
     case.limit_part = 1.0
     words = case.rng.choice((["info", "large"], ["convert", "dsf", "large", "out"], ["play", "large", "project", "wave"]))
     run = case.run(words, made=["wave"])
-    demand(run.err == b"fault: Memory\n", "two gigabytes within a few megabytes")
+    demand(run.err == MEMORY, "two gigabytes within a few megabytes")
 
 
 # How often each case comes.

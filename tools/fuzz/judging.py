@@ -1,6 +1,7 @@
 """What may be said of a run, and what the lines of `info` must be."""
 import re
-import struct
+
+import waves
 
 # The faults that each command may answer, as the README lists them.
 FAULTS = {
@@ -17,7 +18,7 @@ DSDIFF = r"Dsdiff (FormCut|Chunk (HeadCut|DataCut) \d+|NoVersion|BadVersion|Twic
 DSDIFF += r"|NoCompression|Compressed|BadRate|BadChannelNumber|NoSound|SoundBeforeProperty|PartFrame|TooLong|BadMark)"
 DSF = r"Dsf (HeadCut|BadFormat|BadVersion|BadChannelNumber|BadRate|BadBits|BadBlock|TooLong|DataCut|BadPointer)"
 UNREAD = rf" (UnknownForm|{DSDIFF}|{DSF})"
-KEY = " (decimate|splice|taps|factor|delay|shift|width|weights|takes|cue|take|start|stop|bridge|target|title)"
+KEY = " (decimate|splice|taps|factor|delay|shift|width|weights|takes|cue|take|start|stop|bridge|target|line|title)"
 PROJECT = rf" (NotToml|UnknownKey|(WrongKind|MissingKey|OutOfLimit){KEY}|(NoTake|ShortCue) \d+|LastBridge)"
 # What stands behind a fault's name.
 PARTS = {"FileUnread": UNREAD, "TakeUnread": PLACED + UNREAD, "Project": PROJECT}
@@ -117,13 +118,9 @@ def converted(info, form):
 
 def wave_head(info, factor, width):
     """The header of the WAVE file that a recording plays, and how long the file is."""
-    channels, rate = info["channels"], info["rate"] // factor
-    block = channels * width // 8
-    data = -(-info["samples"] // factor) * block
-    whole = 44 + data + data % 2
-    head = b"RIFF" + struct.pack("<I", whole - 8) + b"WAVEfmt "
-    head += struct.pack("<IHHIIHH", 16, 1, channels, rate, rate * block, block, width) + b"data" + struct.pack("<I", data)
-    return head, whole
+    channels, frames = info["channels"], -(-info["samples"] // factor)
+    head = waves.head_of(info["rate"] // factor, channels, width, frames)
+    return head, 8 + waves.riff_size(channels, width, frames)
 
 
 def cert_size(weights, channels, bridges):

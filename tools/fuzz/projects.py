@@ -9,7 +9,7 @@ import reading
 
 DECIMATE = ("taps", "factor", "delay", "shift", "width")
 SPLICE = ("weights", "takes", "cue")
-CUE = ("take", "start", "stop", "bridge", "target", "title")
+CUE = ("take", "start", "stop", "bridge", "target", "line", "title")
 WHOLE = range(-(2**63), 2**63)
 DEEPEST = 60
 
@@ -108,6 +108,9 @@ def read_cue(splice, number, cue):
     demand(isinstance(cue, dict), "WrongKind cue")
     known_keys(cue, CUE)
     for key in CUE:
+        if key == "line":
+            read_line(cue)
+            continue
         if key not in cue:
             demand(key not in ("take", "start", "stop"), f"MissingKey {key}")
             continue
@@ -120,11 +123,25 @@ def read_cue(splice, number, cue):
         else:
             is_within = {
                 "bridge": lambda it: 0 <= it <= 4096,
-                "target": lambda it: it == "fade",
+                "target": lambda it: it in ("fade", "line"),
                 "title": lambda it: len(it.encode()) <= 255,
             }
             demand(is_within[key](value), f"OutOfLimit {key}")
     demand(cue["stop"] >= cue["start"] + len(splice["weights"]) - 1, f"ShortCue {number}")
+
+
+def is_line(cue):
+    return cue.get("target") == "line"
+
+
+def read_line(cue):
+    """The ends of a line: they are there where the target is one, and nowhere else."""
+    if not is_line(cue):
+        demand("line" not in cue, "OutOfLimit line")
+        return
+    demand("line" in cue, "MissingKey line")
+    demand(are_whole(cue["line"]), "WrongKind line")
+    demand(len(cue["line"]) == 2 and all(-4096 <= it <= 4096 for it in cue["line"]), "OutOfLimit line")
 
 
 def edit_fault(data, folder, form):
@@ -167,6 +184,6 @@ def cut(splice, folder, form):
     demand(form != "dsdiff" or length % 8 == 0, "NotWholeBytes")
     for number, (cue, after) in enumerate(zip(cues, cues[1:])):
         bridge = cue.get("bridge", 0)
-        if bridge:
+        if bridge and not is_line(cue):
             demand(after["start"] >= bridge + states, f"NoRoomBefore {number}")
             demand(cue["stop"] + bridge <= takes[cue["take"]]["samples"], f"NoRoomAfter {number}")

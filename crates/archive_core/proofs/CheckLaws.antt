@@ -1,33 +1,20 @@
 -- What a check answers is what master and certificate come to.
-use Rattle.std.proofs.Common.{◌≡◌, ℕ, inr, List, Option, None, Some, Result, Ok, Err, sym, subst, ◌∙◌}
+use Rattle.std.proofs.Common.{◌≡◌, ℕ, inr, List, Option, None, Some, Ok, sym, subst, ◌∙◌}
 use Rattle.std.specs.Prelude.{MatchOption}
-use Rattle.std.specs.Result.{IsErr}
-use Rattle.std.proofs.lemmas.Result.{IfOk-from_err}
 use Rattle.dsd_bits.specs.Contents.{Content}
 use Rattle.form_core.specs.declared.form.Form.{Form}
 use Rattle.form_core.specs.declared.opening.Opened.{Opened}
 use Rattle.form_core.specs.Forms.{HoldsAs}
 use Rattle.cut_core.specs.Cuts.{CutContent}
-use Rattle.master_core.specs.declared.verdict.Reason.{Reason}
 use Rattle.master_core.specs.declared.verdict.Verdict.{Verdict}
 use Rattle.master_core.specs.declared.verdict.Verdict.TheVariants.{Accepted, Rejected}
 use Rattle.master_core.specs.Checking.{IsMasterOf}
 use Rattle.master_core.specs.Claims.{IsCertOf}
-use Rattle.master_core.specs.Judging.{IsNoRejection, JudgesMaster, WhereAccepted}
-use Rattle.master_core.specs.Masters.{AreLeastChannels, AreMasterChannels, total_cost}
-use Rattle.transfer_core.specs.declared.fault.Fault.{Fault}
+use Rattle.master_core.specs.Judging.{AtCost, IsNoRejection, JudgesMaster, WhereAccepted}
+use Rattle.master_core.specs.Masters.{AreLeastChannels, AreMasterChannels, CostLeast, total_cost}
 use Rattle.archive_core.specs.Checking.{Accepts, AnswersAccepted, IfAccepted, IfRejected, IsLeastMaster, RejectsFirst}
-use Rattle.archive_core.specs.Editing.{CostsWindows, IsMaster}
+use Rattle.archive_core.specs.Editing.{CostsLeast, CostsWindows, IsMaster}
 use Rattle.archive_core.specs.Cutting.{SaysCut}
-
--- what is refused has no verdict
-pub refused_accepts : (r : Result Verdict Fault) (P : ℕ → Type 0) → IsErr r → IfAccepted r P
-refused_accepts (Ok v) P h = IfOk-from_err {E = Fault} (Ok v) (λ x. IfAccepted (Ok v) P) h
-refused_accepts (Err e) P h = tt
-
-pub refused_rejects : (r : Result Verdict Fault) (P : Reason → Type 0) → IsErr r → IfRejected r P
-refused_rejects (Ok v) P h = IfOk-from_err {E = Fault} (Ok v) (λ x. IfRejected (Ok v) P) h
-refused_rejects (Err e) P h = tt
 
 -- what is known of what is there
 pub some_is : {X : Type 0} (P : Type 0) (Q : X → Type 0) (o : Option X) (x : X) → o ≡ Some x → MatchOption o P Q → Q x
@@ -42,6 +29,10 @@ module _ (project : List ℕ) (files : List (List ℕ)) (master cert : List ℕ)
   pub judged_windows : (v : Verdict) → JudgesMaster cut form r cert v → IfAccepted (Ok v) (CostsWindows project files master)
   judged_windows (Accepted cost) h = record { cut = cut; says = says; form = form; recording = r; file_holds = holds; cost_is = h.3 }
   judged_windows (Rejected reason) h = tt
+
+  pub judged_joint : (v : Verdict) → AtCost v (CostLeast cut r.channels) → IfAccepted (Ok v) (CostsLeast project files master)
+  judged_joint (Accepted cost) least = record { cut = cut; says = says; form = form; recording = r; file_holds = holds; least = least }
+  judged_joint (Rejected reason) least = tt
 
   pub judged_rejected : (v : Verdict) → JudgesMaster cut form r cert v → IfRejected (Ok v) (RejectsFirst project files master cert)
   judged_rejected (Accepted cost) h = tt

@@ -13,10 +13,10 @@ use Rattle.cut_core.specs.Cuts.{CutContent, master_length}
 use Rattle.cut_core.specs.Opening.{IsWhole}
 use Rattle.master_core.specs.Checking.{HoldCues, IsMasterOf}
 use Rattle.master_core.specs.Claims.{IsCertOf, windows_total}
-use Rattle.master_core.specs.Masters.{AreMasterChannels, IsBestMaster, channel_numbers, total_cost}
+use Rattle.master_core.specs.Masters.{AreMasterChannels, CostLeast, IsBestMaster, channel_numbers, total_cost}
 use Rattle.master_core.proofs.MasterLaws.{one_master}
 use Rattle.archive_core.specs.Checking.{Accepts}
-use Rattle.archive_core.specs.Editing.{CostsWindows, IsMaster}
+use Rattle.archive_core.specs.Editing.{CostsLeast, CostsWindows, IsMaster}
 use Rattle.archive_core.specs.Cutting.{SaysCut}
 
 -- no form is none that is asked for
@@ -101,4 +101,14 @@ module _ (project : List ℕ) (files : List (List ℕ)) (cut : CutContent) (says
     recording = sound.again;
     file_holds = sound.holds;
     cost_is = is_cost ∙ ap (windows_total cut) (sym sound.same_channels);
+  }
+
+  pub file_least : (cost : ℕ) → CostLeast cut r.channels cost → CostsLeast project files file cost
+  file_least cost least = record {
+    cut = cut;
+    says = says;
+    form = form;
+    recording = sound.again;
+    file_holds = sound.holds;
+    least = subst (λ (zs : List (List Bool)). CostLeast cut zs cost) (sym sound.same_channels) least;
   }

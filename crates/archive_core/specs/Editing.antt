@@ -6,7 +6,7 @@ use Rattle.form_core.specs.Forms.{HoldsAs, text_in}
 use Rattle.cut_core.specs.Cuts.{CutContent, take_at}
 use Rattle.master_core.specs.Checking.{IsTitled}
 use Rattle.master_core.specs.Claims.{windows_total}
-use Rattle.master_core.specs.Masters.{AreMasterChannels, IsBestMaster}
+use Rattle.master_core.specs.Masters.{AreMasterChannels, CostLeast, IsBestMaster}
 use Rattle.archive_core.specs.declared.editing.Edited.{Edited}
 use Rattle.transfer_core.specs.declared.fault.Fault.{Fault}
 use Rattle.transfer_core.specs.declared.fault.Fault.TheVariants.{Memory}
@@ -43,6 +43,15 @@ pub record CostsWindows (project : List ℕ) (files : List (List ℕ)) (file : L
   pub recording : Content
   pub file_holds : HoldsAs file form recording
   pub cost_is : cost ≡ windows_total cut recording.channels
+
+-- of all masters of a project and takes none costs less: the file holds one whose channels, read whole, cost so much, and those of no other cost less
+pub record CostsLeast (project : List ℕ) (files : List (List ℕ)) (file : List ℕ) (cost : ℕ) : Type 0 where
+  pub cut : CutContent
+  pub says : SaysCut project files None cut
+  pub form : Form
+  pub recording : Content
+  pub file_holds : HoldsAs file form recording
+  pub least : CostLeast cut recording.channels cost
 
 -- this master and this cost were answered, want of memory aside
 abbrev pub AnswersEdited : Result Edited Fault → List ℕ → ℕ → Type 0

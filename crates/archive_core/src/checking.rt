@@ -4,7 +4,7 @@ ghost use Rattle.std.specs.Prelude.{◌≡◌, IfErr, IfOk, MatchOption, None, S
 ghost use Rattle.archive_core.specs.Checking as checks;
 ghost use Rattle.archive_core.specs.Checking.{Accepts, AnswersAccepted, HoldsNothing, IfAccepted, IfRejected, IsLeastMaster, RejectsFirst};
 ghost use Rattle.archive_core.specs.Cutting.{said_cut};
-ghost use Rattle.archive_core.specs.Editing.{CostsWindows, IsMaster};
+ghost use Rattle.archive_core.specs.Editing.{CostsLeast, CostsWindows, IsMaster};
 ghost use Rattle.cut_core.specs.Opening.{file_bytes};
 ghost use Rattle.dsd_bits.specs.Contents.{Content};
 ghost use Rattle.form_core.specs.declared.form.Form.{Form};
@@ -20,7 +20,7 @@ use transfer_core::Fault;
 
 /// Whether a file is the master of a project and its takes, and a certificate shows that no bridge in it
 /// could cost less, whoever wrote them. It is accepted exactly where this is so, with the sum of what the
-/// bridges of all channels cost.
+/// bridges of all channels cost: of all masters of the project and the takes none has a smaller one.
 ///
 /// `takes` are the files of the takes in the order of their numbers, `master` a DSDIFF or DSF file, `cert` a
 /// certificate. Else the answer is the first reason of this order: `MasterUnread`, `MasterShape` (another
@@ -41,6 +41,8 @@ pub fn check(
     // It is a master of the project and the takes, and each of its bridges is least.
     ensures master { IfAccepted result (λ _. IsMaster project.now (file_bytes takes.now) master.now) }
     ensures least { IfAccepted result (λ _. IsLeastMaster project.now (file_bytes takes.now) master.now) }
+    // Of all masters of the project and the takes none costs less than it is accepted at.
+    ensures joint { IfAccepted result (CostsLeast project.now (file_bytes takes.now) master.now) }
     // What it is accepted at is the sum over all bridges of what their bits cost over their windows.
     ensures windows { IfAccepted result (CostsWindows project.now (file_bytes takes.now) master.now) }
     // Such a master and certificate are accepted, want of memory aside.

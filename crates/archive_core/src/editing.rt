@@ -2,7 +2,7 @@
 
 ghost use Rattle.std.specs.Prelude.{IfErr, IfOk, List, Some, ℕ};
 ghost use Rattle.archive_core.specs.Checking.{Accepts};
-ghost use Rattle.archive_core.specs.Editing.{AnswersEdited, CostsWindows, Edits, IsEdited, IsMaster};
+ghost use Rattle.archive_core.specs.Editing.{AnswersEdited, CostsLeast, CostsWindows, Edits, IsEdited, IsMaster};
 ghost use Rattle.archive_core.specs.Cutting.{said_cut};
 ghost use Rattle.cut_core.specs.Opening.{file_bytes};
 ghost use Rattle.form_core.specs.Steps.{Fails};
@@ -27,7 +27,8 @@ pub struct Edited {
 /// The master of a project: in each channel the cues of its splice in turn, cut from the takes, and behind
 /// each cue but the last its bridge, whose bits cost least of all of its length and of several such are the
 /// first, read from the last bit to the first. It is a file of the form, at the rate of the takes, with the
-/// channel IDs and the layout of take 0; a DSDIFF file has a mark at the first bit of each titled cue. With
+/// channel IDs and the layout of take 0; a DSDIFF file has a mark at the first bit of each titled cue. Of all
+/// masters of the project and the takes, with whatever bridges of these lengths, none has a smaller total. With
 /// it comes the certificate that shows each of its bridges to be least.
 ///
 /// `takes` are the files of the takes, DSDIFF or DSF, in the order of their numbers. Refusals, in this
@@ -43,6 +44,8 @@ pub fn edit(alloc: Global, project: &[u8], takes: &[Vec<u8>], form: Form) -> Res
     ensures master { IfOk result (λ made. IsMaster project.now (file_bytes takes.now) made.master.items) }
     // The certificate shows each bridge of the master to be least, and so much do they cost.
     ensures accepted { IfOk result (λ made. Accepts project.now (file_bytes takes.now) made.master.items made.cert.items made.total) }
+    // Of all masters of the project and the takes none costs less.
+    ensures joint { IfOk result (λ made. CostsLeast project.now (file_bytes takes.now) made.master.items made.total) }
     // It is the sum over all bridges of what their bits cost over their windows.
     ensures windows { IfOk result (λ made. CostsWindows project.now (file_bytes takes.now) made.master.items made.total) }
     // What a project and takes come to is answered, want of memory aside.

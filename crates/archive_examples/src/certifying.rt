@@ -17,10 +17,10 @@ fn certifies(
     Ok(equal(&made.cert, cert))
 }
 
-// The certificate of one bridge of one bit between ones and zeros, by the weights 1 and 0: version 1, two
-// weights, one entry; cue 0, channel 0, one bit; the bounds of two states at level 0, where the walk starts
-// in state 1, and at level 1, where every step has cost 4; and the cost.
-const CERT: [u8; 58] = *b"DSPC\0\x01\0\x02\0\0\0\x01\0\0\0\0\0\x01\
+/// The certificate of one bridge of one bit between ones and zeros, by the weights 1 and 0: version 1, two
+/// weights, one entry; cue 0, channel 0, one bit; the bounds of two states at level 0, where the walk starts
+/// in state 1, and at level 1, where every step has cost 4; and the cost.
+pub(crate) const CERT: [u8; 58] = *b"DSPC\0\x01\0\x02\0\0\0\x01\0\0\0\0\0\x01\
     \x80\0\0\0\0\0\0\0\0\0\0\0\0\0\0\0\
     \0\0\0\0\0\0\0\x04\0\0\0\0\0\0\0\x04\
     \0\0\0\0\0\0\0\x04";

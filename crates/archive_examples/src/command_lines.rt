@@ -4,7 +4,7 @@ use crate::builders::{CUES, splice};
 use crate::certifying::{LEVEL, cert_of};
 use crate::folders::holds;
 use crate::outcomes::TOLD;
-use command_core::{MemoryFolder, outcome_line, run_words, status};
+use command_core::{MemoryFolder, outcome_line, run, status};
 use fixtures::files::{FILE, WAVE, mono};
 use fixtures::projects::DECIMATE;
 use std::alloc::{AllocError, Global};
@@ -44,7 +44,7 @@ fn comes_to(
     (words, (number, text, count)): Line,
 ) -> Result<bool, AllocError> {
     let words = words_of(alloc, words)?;
-    let outcome = run_words(alloc, words.as_slice(), folder);
+    let outcome = run(alloc, words.as_slice(), folder);
     let line = outcome_line(alloc, &outcome)?;
     Ok(status(&outcome) == number && line.as_str() == text && folder.count() == count)
 }

@@ -20,6 +20,8 @@ mod folders;
 #[cfg(test)]
 mod growths;
 #[cfg(test)]
+mod lines;
+#[cfg(test)]
 mod master_commands;
 #[cfg(test)]
 mod opening;

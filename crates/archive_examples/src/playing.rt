@@ -3,9 +3,9 @@
 use crate::builders::is_named;
 use archive_core::{Fault, play};
 use fixtures::compared::equal;
-use fixtures::files::{FILE, WAVE, followed, mono, one_bit, stereo, with_sound};
+use fixtures::files::{FILE, WAVE, followed, mono, one_bit, stereo, three, with_sound};
 use fixtures::projects::{DECIMATE, Numbers, project, with_ones};
-use fixtures::waves::{SAMPLES, TWO_CHANNELS, WIDE, sample};
+use fixtures::waves::{SAMPLES, THREE_CHANNELS, TWO_CHANNELS, WIDE, sample};
 use std::alloc::{AllocError, Global};
 use std::test::Fail;
 
@@ -62,10 +62,11 @@ pub(crate) fn plays_built(
 
 // Of the DSF file's first byte the first bit alone counts, which the fourth tap reads.
 #[test]
-fn plays_two_channels_and_dsf(rt: HostRuntime) -> Result<(), Fail> {
+fn plays_several_channels_and_dsf(rt: HostRuntime) -> Result<(), Fail> {
     let alloc = rt.alloc();
     assert!(rt; stereo(alloc, &[0xf0, 0x0f])?.len() == 132);
     assert!(rt; plays_built(alloc, stereo(alloc, &[0xf0, 0x0f]), &TWO_CHANNELS)?);
+    assert!(rt; plays_built(alloc, three(alloc, &[0xf0, 0x0f, 0xf0]), &THREE_CHANNELS)?);
     assert!(rt; one_bit(alloc, &[])?.len() == 4188);
     assert!(rt; plays_built(alloc, one_bit(alloc, &[]), &sample([4, 0]))?);
     Ok(())

@@ -1,6 +1,7 @@
 //! Masters rejected, and the first reason in the certificate or in the master.
 
 use crate::builders::{CUES, Sources, fast, mono_sources, titled_sources, with_byte};
+use crate::certifying::{CERT, FALLING, cert_of};
 use archive_core::{Fault, Form, Verdict, check};
 use fixtures::files::{mono, stereo};
 use std::alloc::{AllocError, Global};
@@ -32,13 +33,6 @@ fn rejects_file(
     }
 }
 
-// The certificate of the master of `CUES` by these weights. That by 1 and 0 is worked out by hand in
-// docs/CERTIFICATES.md.
-fn cert_by(alloc: Global, weights: &str) -> Result<Vec<u8>, Fault> {
-    let sources = mono_sources(alloc, weights, &CUES)?;
-    Ok(sources.edit(alloc, Form::Dsdiff)?.cert)
-}
-
 // Whether the master is rejected for this reason with this certificate.
 fn rejects_cert(alloc: Global, cert: &[u8], expected: &str) -> Result<bool, Fault> {
     let sources = mono_sources(alloc, "1, 0", &CUES);
@@ -47,8 +41,7 @@ fn rejects_cert(alloc: Global, cert: &[u8], expected: &str) -> Result<bool, Faul
 
 // The same with its certificate with another byte at a place.
 fn rejects_byte(alloc: Global, place: usize, byte: u8, expected: &str) -> Result<bool, Fault> {
-    let cert = cert_by(alloc, "1, 0")?;
-    let changed = with_byte(alloc, &cert, place, byte)?;
+    let changed = with_byte(alloc, &CERT, place, byte)?;
     rejects_cert(alloc, &changed, expected)
 }
 
@@ -71,7 +64,6 @@ const CHANGED: [(usize, u8, &str); 8] = [
 #[test]
 fn names_the_first_reason_in_a_certificate(rt: HostRuntime) -> Result<(), Fail> {
     let alloc = rt.alloc();
-    assert!(rt; cert_by(alloc, "1, 0")?.len() == 58);
     for (place, byte, expected) in &CHANGED {
         assert!(rt; rejects_byte(alloc, *place, *byte, expected)?, "{expected}");
     }
@@ -80,15 +72,13 @@ fn names_the_first_reason_in_a_certificate(rt: HostRuntime) -> Result<(), Fail> 
 
 // Whether the master is rejected for this reason with the first bytes of its certificate.
 fn rejects_front(alloc: Global, length: usize, expected: &str) -> Result<bool, Fault> {
-    let cert = cert_by(alloc, "1, 0")?;
-    let (front, _) = cert.split_at(length.min(cert.len()));
+    let (front, _) = CERT.split_at(length.min(CERT.len()));
     rejects_cert(alloc, front, expected)
 }
 
 // The same with a byte behind its certificate.
 fn rejects_longer(alloc: Global, expected: &str) -> Result<bool, Fault> {
-    let cert = cert_by(alloc, "1, 0")?;
-    rejects_cert(alloc, &longer(alloc, &cert)?, expected)
+    rejects_cert(alloc, &longer(alloc, &CERT)?, expected)
 }
 
 // The bytes with a zero behind them.
@@ -119,7 +109,7 @@ fn rejects_master(
     master: Result<Vec<u8>, AllocError>,
     expected: &str,
 ) -> Result<bool, Fault> {
-    let cert = cert_by(alloc, "1, 1")?;
+    let cert = cert_of(alloc, &[(0, 0, FALLING)])?;
     rejects(alloc, sources, master, &cert, expected)
 }
 

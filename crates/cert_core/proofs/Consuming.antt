@@ -4,15 +4,16 @@ use Rattle.std.proofs.lemmas.List.{length-append}
 use Rattle.std.specs.Int.{w64, to_be_bytes}
 use Rattle.std.specs.Result.{IsErrAnd}
 use Rattle.std.specs.Io.KnownBytes.{Consumes}
-use Rattle.cert_core.specs.Text.{row_text}
+use Rattle.cert_core.specs.Spelling.{row_text}
+use Rattle.cert_core.specs.declared.version.Version.TheVariants.{One}
 use Rattle.cert_core.specs.declared.verdict.CertReason.{CertReason}
 use Rattle.cert_core.specs.declared.stop.Stop.{Stop}
 use Rattle.cert_core.specs.declared.stop.Stop.TheVariants.{Reason, Device, Memory}
 use Rattle.cert_core.specs.Stops.{OnReason}
 
-pub row_text-length : (row : List ℕ) → length (row_text row) ≡ 8 * length row
+pub row_text-length : (row : List ℕ) → length (row_text One row) ≡ 8 * length row
 row_text-length [] = refl
-row_text-length (v ∷ row) = omega (arith, row_text-length row, length-append (to_be_bytes w64 v) (row_text row))
+row_text-length (v ∷ row) = omega (arith, row_text-length row, length-append (to_be_bytes w64 v) (row_text One row))
 
 -- a fact of what is left is one of all, with what was consumed before it
 pub before : (P Q : List ℕ → Type 0) (a b : Option (List ℕ)) (bs : List ℕ) → Consumes a b bs → ((rest : List ℕ) → P rest → Q (bs ++ rest)) → IfSome b P → IfSome a Q

@@ -7,7 +7,8 @@ use Rattle.std.proofs.lemmas.List.{get_or_append_left, get_or_push}
 use Rattle.std.proofs.lemmas.Bool.{cases_lt}
 use Rattle.std.specs.Io.KnownBytes.{Consumes}
 use Rattle.std.proofs.KnownBytes.{Consumes-trans, Consumes-nil}
-use Rattle.cert_core.specs.Text.{row_text}
+use Rattle.cert_core.specs.Spelling.{row_text}
+use Rattle.cert_core.specs.declared.version.Version.TheVariants.{One}
 use Rattle.cost_core.specs.Trellis.{Trellis, states}
 use Rattle.cost_core.specs.Tables.{row_in}
 use Rattle.cert_core.specs.Reasons.{RowBounded}
@@ -19,7 +20,7 @@ use Rattle.cert_core.proofs.Consuming.{before, after}
 
 pub record RowsSoFar (t : Trellis) (old new : Option (List ℕ)) (level : ℕ) (previous : List ℕ) : Type 0 where
   pub rows : List (List ℕ)
-  pub consumed : Consumes old new (flat_map row_text rows)
+  pub consumed : Consumes old new (flat_map (row_text One) rows)
   pub are_clean : AreClean t rows
   pub as_many : length rows ≡ level
   pub last : 0 < level → previous ≡ row_in rows (level - 1)
@@ -86,10 +87,10 @@ at_level : (t : Trellis) (rows : List (List ℕ)) (level : ℕ) (previous row : 
 at_level t rows level previous row n e c =
     subst (λ j. RowClean t j (row_in rows (j - 1)) row) (sym n) (clean_in t level previous (row_in rows (level - 1)) row e c)
 
-pub RowsSoFar-more : (t : Trellis) (a b c : Option (List ℕ)) (level : ℕ) (previous row : List ℕ) → RowsSoFar t a b level previous → Consumes b c (row_text row) → length row ≡ states t → RowClean t level previous row → RowsSoFar t a c (level + 1) row
+pub RowsSoFar-more : (t : Trellis) (a b c : Option (List ℕ)) (level : ℕ) (previous row : List ℕ) → RowsSoFar t a b level previous → Consumes b c (row_text One row) → length row ≡ states t → RowClean t level previous row → RowsSoFar t a c (level + 1) row
 RowsSoFar-more t a b c level previous row so consumed long clean = record {
   rows = so.rows ++ row ∷ [];
-  consumed = subst (Consumes a c) (ap (λ l. flat_map row_text so.rows ++ l) (sym (append-nil (row_text row))) ∙ sym (flat_map-append row_text so.rows (row ∷ []))) (Consumes-trans a b c _ _ so.consumed consumed);
+  consumed = subst (Consumes a c) (ap (λ l. flat_map (row_text One) so.rows ++ l) (sym (append-nil (row_text One row))) ∙ sym (flat_map-append (row_text One) so.rows (row ∷ []))) (Consumes-trans a b c _ _ so.consumed consumed);
   are_clean = clean_more t so.rows row so.are_clean long (at_level t so.rows level previous row so.as_many so.last clean);
   as_many = length-append so.rows (row ∷ []) ∙ ap (λ n. n + 1) so.as_many;
   last = λ _. sym (row_last so.rows row (level + 1 - 1) (omega (arith, so.as_many)));
@@ -108,14 +109,14 @@ RowsSoFar-all t a b level previous so e =
 
 pub RowsSoFar-cut : (t : Trellis) (a b : Option (List ℕ)) (level : ℕ) (previous : List ℕ) (n : ℕ) → RowsSoFar t a b level previous → level ≤ t.levels → n ≡ states t → (reason : CertReason) → CutBelow b (8 * n) reason → InRows t a reason
 RowsSoFar-cut t a b level previous n so h en reason (is, short) =
-    before (λ rest. length rest < 8 * n) (λ bytes. RowsReason t bytes reason) a b (flat_map row_text so.rows) so.consumed
+    before (λ rest. length rest < 8 * n) (λ bytes. RowsReason t bytes reason) a b (flat_map (row_text One) so.rows) so.consumed
     (λ rest k. inl (is, (so.rows, rest, record { is = refl; are_clean = so.are_clean }, omega (arith, so.as_many), omega arith))) short
 
-pub RowsSoFar-fault : (t : Trellis) (a b c : Option (List ℕ)) (level : ℕ) (previous row : List ℕ) → RowsSoFar t a b level previous → Consumes b c (row_text row) → length row ≡ states t → level ≤ t.levels → ((q : ℕ) → get_or row q 0 < 2 ^ 64)
+pub RowsSoFar-fault : (t : Trellis) (a b c : Option (List ℕ)) (level : ℕ) (previous row : List ℕ) → RowsSoFar t a b level previous → Consumes b c (row_text One row) → length row ≡ states t → level ≤ t.levels → ((q : ℕ) → get_or row q 0 < 2 ^ 64)
     → (reason : CertReason) → RowReason t level previous row reason → InRows t a reason
 RowsSoFar-fault t a b c level previous row so consumed long h fits reason w =
     let e = so.as_many in
     let w2 : RowReason t (length so.rows) (row_in so.rows (length so.rows - 1)) row reason =
     subst (λ j. RowReason t j (row_in so.rows (j - 1)) row reason) (sym e) (reason_in t level previous (row_in so.rows (level - 1)) row so.last reason w) in
     after (λ bytes. RowsReason t bytes reason) a c _ (Consumes-trans a b c _ _ so.consumed consumed)
-    (λ rest. inr (so.rows, row, rest, record { is = append_assoc (flat_map row_text so.rows) (row_text row) rest; are_clean = so.are_clean }, omega (arith, e), long, fits, w2))
+    (λ rest. inr (so.rows, row, rest, record { is = append_assoc (flat_map (row_text One) so.rows) (row_text One row) rest; are_clean = so.are_clean }, omega (arith, e), long, fits, w2))

@@ -3,7 +3,8 @@ use Rattle.std.proofs.Common.{◌≡◌, ℕ, ◌+◌, ◌-◌, ◌^◌, ◌<◌
 use Rattle.std.specs.List.{flat_map}
 use Rattle.std.specs.Int.{w64, to_be_bytes}
 use Rattle.std.proofs.lemmas.List.{length-append, append-nil, get_or_append_left}
-use Rattle.cert_core.specs.Text.{row_text}
+use Rattle.cert_core.specs.Spelling.{row_text}
+use Rattle.cert_core.specs.declared.version.Version.TheVariants.{One}
 use Rattle.cost_core.specs.Trellis.{Trellis, states, cost, IsBounded}
 use Rattle.cost_core.specs.Validity.{IsValid}
 use Rattle.cost_core.specs.Tables.{row_in, value_in, IsTable}
@@ -23,7 +24,7 @@ record Tabled (t : Trellis) (x : List Bool) (bytes : List ℕ) : Type 0 where
   stated : ℕ
   rest : List ℕ
   table : IsTable t rows
-  is : bytes ≡ flat_map row_text rows ++ (to_be_bytes w64 stated ++ rest)
+  is : bytes ≡ flat_map (row_text One) rows ++ (to_be_bytes w64 stated ++ rest)
   valid : IsValid t (value_in rows) stated x
 
 table_rows : (t : Trellis) (x : List Bool) (bytes : List ℕ) (v : Tabled t x bytes) → AreRows (states t) v.rows
@@ -38,25 +39,25 @@ stated_small t x bytes v fine long = omega (arith, v.valid.is_cost, fine.cost_in
 
 -- the entry's rows begin with those that were read
 splits : (t : Trellis) (x : List Bool) (bytes : List ℕ) (v : Tabled t x bytes) (rows : List (List ℕ)) (rest : List ℕ) → GoesOn t bytes rows rest → length rows ≤ t.levels + 1
-    → (more : List (List ℕ)) × (v.rows ≡ rows ++ more) × AreRows (states t) more × (rest ≡ flat_map row_text more ++ (to_be_bytes w64 v.stated ++ v.rest))
+    → (more : List (List ℕ)) × (v.rows ≡ rows ++ more) × AreRows (states t) more × (rest ≡ flat_map (row_text One) more ++ (to_be_bytes w64 v.stated ++ v.rest))
 splits t x bytes v rows rest goes h =
     rows_inj (states t) rows v.rows (clean_rows t rows goes.are_clean) (table_rows t x bytes v) (omega (arith, v.table.levels_in)) _ rest (sym v.is ∙ goes.is)
 
 no_more : (t : Trellis) (x : List Bool) (bytes : List ℕ) (v : Tabled t x bytes) (rows : List (List ℕ)) (rest : List ℕ) → GoesOn t bytes rows rest → length rows ≡ t.levels + 1
     → (v.rows ≡ rows) × (rest ≡ to_be_bytes w64 v.stated ++ v.rest)
 no_more t x bytes v rows rest goes h = none (splits t x bytes v rows rest goes (omega arith)) where
-  none : ((more : List (List ℕ)) × (v.rows ≡ rows ++ more) × AreRows (states t) more × (rest ≡ flat_map row_text more ++ (to_be_bytes w64 v.stated ++ v.rest))) → (v.rows ≡ rows) × (rest ≡ to_be_bytes w64 v.stated ++ v.rest)
+  none : ((more : List (List ℕ)) × (v.rows ≡ rows ++ more) × AreRows (states t) more × (rest ≡ flat_map (row_text One) more ++ (to_be_bytes w64 v.stated ++ v.rest))) → (v.rows ≡ rows) × (rest ≡ to_be_bytes w64 v.stated ++ v.rest)
   none ([], e, r, is) = (e ∙ append-nil rows, is)
   none (row ∷ more, e, r, is) = absurd (omega (arith, ap length e, length-append rows (row ∷ more), v.table.levels_in))
 
 no_cut_in_row : (t : Trellis) (x : List Bool) (bytes : List ℕ) → Tabled t x bytes → CutInRow t bytes → ⊥
 no_cut_in_row t x bytes v (rows, rest, goes, few, short) = some (splits t x bytes v rows rest goes (omega arith)) where
-  some : ((more : List (List ℕ)) × (v.rows ≡ rows ++ more) × AreRows (states t) more × (rest ≡ flat_map row_text more ++ (to_be_bytes w64 v.stated ++ v.rest))) → ⊥
+  some : ((more : List (List ℕ)) × (v.rows ≡ rows ++ more) × AreRows (states t) more × (rest ≡ flat_map (row_text One) more ++ (to_be_bytes w64 v.stated ++ v.rest))) → ⊥
   some ([], e, r, is) = absurd (omega (arith, ap length e, length-append rows [], v.table.levels_in))
   some (row ∷ more, e, r, is) =
-      let all = flat_map row_text more ++ (to_be_bytes w64 v.stated ++ v.rest) in
-      let n = ap length (is ∙ append_assoc (row_text row) (flat_map row_text more) (to_be_bytes w64 v.stated ++ v.rest)) in
-      absurd (omega (arith, n, length-append (row_text row) all, row_text-length row, r.0))
+      let all = flat_map (row_text One) more ++ (to_be_bytes w64 v.stated ++ v.rest) in
+      let n = ap length (is ∙ append_assoc (row_text One row) (flat_map (row_text One) more) (to_be_bytes w64 v.stated ++ v.rest)) in
+      absurd (omega (arith, n, length-append (row_text One row) all, row_text-length row, r.0))
 
 pub row_at : (all rows more : List (List ℕ)) (row : List ℕ) → all ≡ rows ++ (row ∷ more) → row_in all (length rows) ≡ row
 row_at all rows more row e = ap (λ l. row_in l (length rows)) (e ∙ sym (append_assoc rows (row ∷ []) more)) ∙ get_or_append_left (rows ++ row ∷ []) more [] (length rows) (omega (arith, length-append rows (row ∷ []))) ∙ get_or_push rows row [] (length rows) refl
@@ -89,11 +90,11 @@ no_bad_row t x all rows more row stated fine valid e few Cost w = absurd w
 no_bad_row t x all rows more row stated fine valid e few Extra w = absurd w
 
 no_fault_in_row : (t : Trellis) (x : List Bool) (bytes : List ℕ) (reason : CertReason) → IsBounded t → Tabled t x bytes → FaultInRow t bytes reason → ⊥
-no_fault_in_row t x bytes reason fine v (rows, row, rest, goes, few, long, fits, wrong) = some (splits t x bytes v rows (row_text row ++ rest) goes (omega arith)) where
-  some : ((more : List (List ℕ)) × (v.rows ≡ rows ++ more) × AreRows (states t) more × (row_text row ++ rest ≡ flat_map row_text more ++ (to_be_bytes w64 v.stated ++ v.rest))) → ⊥
+no_fault_in_row t x bytes reason fine v (rows, row, rest, goes, few, long, fits, wrong) = some (splits t x bytes v rows (row_text One row ++ rest) goes (omega arith)) where
+  some : ((more : List (List ℕ)) × (v.rows ≡ rows ++ more) × AreRows (states t) more × (row_text One row ++ rest ≡ flat_map (row_text One) more ++ (to_be_bytes w64 v.stated ++ v.rest))) → ⊥
   some ([], e, r, is) = absurd (omega (arith, ap length e, length-append rows [], v.table.levels_in))
   some (row2 ∷ more, e, r, is) =
-      let e2 = is ∙ append_assoc (row_text row2) (flat_map row_text more) (to_be_bytes w64 v.stated ++ v.rest) in
+      let e2 = is ∙ append_assoc (row_text One row2) (flat_map (row_text One) more) (to_be_bytes w64 v.stated ++ v.rest) in
       let same = row_inj row row2 (long ∙ sym r.0) fits r.1 rest _ e2 in
       no_bad_row t x v.rows rows more row v.stated fine v.valid (e ∙ ap (λ y. rows ++ (y ∷ more)) (sym same.0)) few reason wrong
 
@@ -122,10 +123,10 @@ no_reason_after t x bytes fine long v Extra w = absurd w
 pub no_entry : (t : Trellis) (cue channel : ℕ) (x : List Bool) (bytes : List ℕ) (reason : CertReason) → IsBounded t → length x ≡ t.levels → cue < 2 ^ 16 → channel < 2 ^ 16 → t.levels < 2 ^ 16
     → FirstReason t cue channel (cost t x) bytes reason → BeginsValid t cue channel x bytes → ⊥
 no_entry t cue channel x bytes reason fine long hc hk hl first (entry, rest, whole, (rows, stated, table, valid, is)) =
-    let tail = flat_map row_text rows ++ (to_be_bytes w64 stated ++ rest) in
+    let tail = flat_map (row_text One) rows ++ (to_be_bytes w64 stated ++ rest) in
     let e : bytes ≡ entry_start cue channel t.levels ++ tail =
-    whole ∙ ap (λ l. l ++ rest) is ∙ append_assoc (entry_start cue channel t.levels) (flat_map row_text rows ++ to_be_bytes w64 stated) rest
-    ∙ ap (λ l. entry_start cue channel t.levels ++ l) (append_assoc (flat_map row_text rows) (to_be_bytes w64 stated) rest) in
+    whole ∙ ap (λ l. l ++ rest) is ∙ append_assoc (entry_start cue channel t.levels) (flat_map (row_text One) rows ++ to_be_bytes w64 stated) rest
+    ∙ ap (λ l. entry_start cue channel t.levels ++ l) (append_assoc (flat_map (row_text One) rows) (to_be_bytes w64 stated) rest) in
     elim first [
       | inl w ↦ starts reason w tail e
       | inr w ↦

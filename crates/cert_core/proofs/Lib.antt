@@ -4,6 +4,7 @@ pub mod Entries
 pub mod Exact
 pub mod Heads
 pub mod Marks
+pub mod Narrow
 pub mod OneReason
 pub mod Spellings
 pub mod Steps

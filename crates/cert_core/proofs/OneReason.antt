@@ -9,7 +9,9 @@ use Rattle.cost_core.specs.Trellis.{Trellis, states}
 use Rattle.cert_core.specs.declared.verdict.CertReason.{CertReason}
 use Rattle.cert_core.specs.declared.verdict.CertReason.TheVariants.{Cut, Head, Length, Bound, Start, Step, End, Cost, Extra}
 use Rattle.cert_core.specs.Reasons.{Exceeds, RowClean, RowReason, GoesOn, ReasonAfter, StartReason, FirstReason}
-use Rattle.cert_core.specs.Text.{row_text, entry_start}
+use Rattle.cert_core.specs.Spelling.{row_text}
+use Rattle.cert_core.specs.Text.{entry_start}
+use Rattle.cert_core.specs.declared.version.Version.TheVariants.{One}
 use Rattle.cert_core.proofs.Consuming.{row_text-length}
 use Rattle.cert_core.proofs.Exact.{clean_rows, row_at, row_under}
 use Rattle.cert_core.proofs.Spellings.{start_inj, number_inj, row_inj, rows_inj, AreRows}
@@ -74,7 +76,7 @@ module _ (t : Trellis) (level : ℕ) (previous row : List ℕ) where
 
 -- after the start: where the reading stops
 abbrev BadRow : Trellis → List (List ℕ) → List ℕ → CertReason → Type 0
-BadRow t rows rest reason = (row : List ℕ) × (after : List ℕ) × (rest ≡ row_text row ++ after) × (length row ≡ states t) × ((q : ℕ) → get_or row q 0 < 2 ^ 64) × RowReason t (length rows) (row_in rows (length rows - 1)) row reason
+BadRow t rows rest reason = (row : List ℕ) × (after : List ℕ) × (rest ≡ row_text One row ++ after) × (length row ≡ states t) × ((q : ℕ) → get_or row q 0 < 2 ^ 64) × RowReason t (length rows) (row_in rows (length rows - 1)) row reason
 
 abbrev Early : Trellis → List (List ℕ) → List ℕ → CertReason → Type 0
 Early t rows rest reason = (length rows ≤ t.levels) × (((reason ≡ Cut) × (length rest < 8 * states t)) ⊎ BadRow t rows rest reason)
@@ -92,9 +94,9 @@ StopsAt t found rows rest reason = Early t rows rest reason ⊎ Late t found row
 stops_of : (t : Trellis) (found : ℕ) (bytes : List ℕ) (reason : CertReason) → ReasonAfter t found bytes reason → (rows : List (List ℕ)) × (rest : List ℕ) × GoesOn t bytes rows rest × StopsAt t found rows rest reason
 stops_of t found bytes Cut (inl (rows, rest, goes, few, short)) = (rows, rest, goes, inl (few, inl (refl, short)))
 stops_of t found bytes Cut (inr (rows, rest, goes, all, short)) = (rows, rest, goes, inr (all, inl (refl, short)))
-stops_of t found bytes Bound (rows, row, rest, goes, few, long, fits, w) = (rows, row_text row ++ rest, goes, inl (few, inr (row, rest, refl, long, fits, w)))
-stops_of t found bytes Start (rows, row, rest, goes, few, long, fits, w) = (rows, row_text row ++ rest, goes, inl (few, inr (row, rest, refl, long, fits, w)))
-stops_of t found bytes (Step l q) (rows, row, rest, goes, few, long, fits, w) = (rows, row_text row ++ rest, goes, inl (few, inr (row, rest, refl, long, fits, w)))
+stops_of t found bytes Bound (rows, row, rest, goes, few, long, fits, w) = (rows, row_text One row ++ rest, goes, inl (few, inr (row, rest, refl, long, fits, w)))
+stops_of t found bytes Start (rows, row, rest, goes, few, long, fits, w) = (rows, row_text One row ++ rest, goes, inl (few, inr (row, rest, refl, long, fits, w)))
+stops_of t found bytes (Step l q) (rows, row, rest, goes, few, long, fits, w) = (rows, row_text One row ++ rest, goes, inl (few, inr (row, rest, refl, long, fits, w)))
 stops_of t found bytes Cost (rows, stated, (rest, goes, all, small), ne) = (rows, to_be_bytes w64 stated ++ rest, goes, inr (all, inr (stated, rest, refl, small, inl (refl, ne))))
 stops_of t found bytes (End q) (rows, (rest, goes, all, small), inside, low, lowest) = (rows, to_be_bytes w64 found ++ rest, goes, inr (all, inr (found, rest, refl, small, inr (refl, (q, refl, low, lowest)))))
 stops_of t found bytes Head w = absurd w
@@ -110,11 +112,11 @@ same_place : (t : Trellis) (found : ℕ) (bytes : List ℕ) (rows : List (List �
     → GoesOn t bytes rows2 rest2 → length rows2 ≤ t.levels + 1 → length rows ≤ length rows2 → (rows2 ≡ rows) × (rest2 ≡ rest)
 same_place t found bytes rows rest a rows2 rest2 goes stops goes2 all h =
     split (rows_inj (states t) rows rows2 (clean_rows t rows goes.are_clean) (clean_rows t rows2 goes2.are_clean) h rest2 rest (sym goes2.is ∙ goes.is)) where
-      split : ((more : List (List ℕ)) × (rows2 ≡ rows ++ more) × AreRows (states t) more × (rest ≡ flat_map row_text more ++ rest2)) → (rows2 ≡ rows) × (rest2 ≡ rest)
+      split : ((more : List (List ℕ)) × (rows2 ≡ rows ++ more) × AreRows (states t) more × (rest ≡ flat_map (row_text One) more ++ rest2)) → (rows2 ≡ rows) × (rest2 ≡ rest)
       split ([], e, r, is) = (e ∙ append-nil rows, sym is)
       split (row ∷ more, e, r, is) = stopped stops where
-        next : rest ≡ row_text row ++ (flat_map row_text more ++ rest2)
-        next = is ∙ append_assoc (row_text row) (flat_map row_text more) rest2
+        next : rest ≡ row_text One row ++ (flat_map (row_text One) more ++ rest2)
+        next = is ∙ append_assoc (row_text One row) (flat_map (row_text One) more) rest2
 
         below : length rows < length rows2
         below = omega (arith, ap length e, length-append rows (row ∷ more))
@@ -133,7 +135,7 @@ same_place t found bytes rows rest a rows2 rest2 goes stops goes2 all h =
             }
 
         stopped : StopsAt t found rows rest a → (rows2 ≡ rows) × (rest2 ≡ rest)
-        stopped (inl (few, inl (is2, short))) = absurd (omega (arith, ap length next, length-append (row_text row) (flat_map row_text more ++ rest2), row_text-length row, r.0))
+        stopped (inl (few, inl (is2, short))) = absurd (omega (arith, ap length next, length-append (row_text One row) (flat_map (row_text One) more ++ rest2), row_text-length row, r.0))
         stopped (inl (few, inr (bad, after, is2, long, fits, w))) =
             let same = row_inj bad row (long ∙ sym r.0) fits r.1 after _ (sym is2 ∙ next) in
             absurd (no_reason t (length rows) (row_in rows (length rows - 1)) row clean a (subst (λ x. RowReason t (length rows) (row_in rows (length rows - 1)) x a) same.0 w))
@@ -156,8 +158,8 @@ one_stated t found rows rest a b (s, after, is, small, x) (s2, after2, is2, smal
 
 one_early : (t : Trellis) (rows : List (List ℕ)) (rest : List ℕ) (a b : CertReason) → Early t rows rest a → Early t rows rest b → a ≡ b
 one_early t rows rest a b (few, inl (ea, short)) (few2, inl (eb, short2)) = ea ∙ sym eb
-one_early t rows rest a b (few, inl (ea, short)) (few2, inr (row, after, is, long, fits, w)) = absurd (omega (arith, ap length is, length-append (row_text row) after, row_text-length row))
-one_early t rows rest a b (few, inr (row, after, is, long, fits, w)) (few2, inl (eb, short)) = absurd (omega (arith, ap length is, length-append (row_text row) after, row_text-length row))
+one_early t rows rest a b (few, inl (ea, short)) (few2, inr (row, after, is, long, fits, w)) = absurd (omega (arith, ap length is, length-append (row_text One row) after, row_text-length row))
+one_early t rows rest a b (few, inr (row, after, is, long, fits, w)) (few2, inl (eb, short)) = absurd (omega (arith, ap length is, length-append (row_text One row) after, row_text-length row))
 one_early t rows rest a b (few, inr (row, after, is, long, fits, w)) (few2, inr (row2, after2, is2, long2, fits2, w2)) =
     let same = row_inj row2 row (long2 ∙ sym long) fits2 fits after2 after (sym is2 ∙ is) in
     let previous = row_in rows (length rows - 1) in

@@ -4,7 +4,8 @@ use Rattle.std.specs.List.{flat_map}
 use Rattle.std.specs.Int.{w64, to_be_bytes}
 use Rattle.std.specs.Io.KnownBytes.{Consumes}
 use Rattle.std.proofs.KnownBytes.{Consumes-trans}
-use Rattle.cert_core.specs.Text.{row_text}
+use Rattle.cert_core.specs.Spelling.{row_text}
+use Rattle.cert_core.specs.declared.version.Version.TheVariants.{One}
 use Rattle.cost_core.specs.Trellis.{Trellis, states, cost}
 use Rattle.cost_core.specs.Tables.{row_in, value_in, IsTable}
 use Rattle.cert_core.specs.Reasons.{RowBounded}
@@ -36,7 +37,7 @@ entry_read (Err e) t cue channel found x a b c d last p q is k ec ends = tt
 entry_read (Ok v) t cue channel found x a b c d last p (rows, consumed, clean, n, e) is k ec ends =
     let ends2 : (q : ℕ) → q < states t → v ≤ get_or (row_in rows t.levels) q 0 + t.tail q = subst (λ l. (q : ℕ) → q < states t → v ≤ get_or l q 0 + t.tail q) e ends in
     let table : IsTable t rows = record { levels_in = n; states_in = λ i h. clean.states i (omega arith) } in (
-      cert_entry (record { cue = cue; channel = channel; levels = t.levels; rows = rows; cost = v }),
+      cert_entry One (record { cue = cue; channel = channel; levels = t.levels; rows = rows; cost = v }),
       Consumes-trans a b d _ _ p (Consumes-trans b c d _ _ consumed k),
       (rows, v, table, valid_from_clean t rows clean n v ends2 x (ec ∙ is), refl),
     )
@@ -45,12 +46,12 @@ pub entry_least : (d : Bridging) (cue channel : ℕ) (x : List Bool) (a b : Opti
 entry_least d cue channel x a b fine long (entry, consumed, (rows, stated, table, valid, is)) = least_from_valid d (value_in rows) stated x fine long valid
 
 end_after : (t : Trellis) (found : ℕ) (rows : List (List ℕ)) (bytes : List ℕ) → found < 2 ^ 64 → AreClean t rows → length rows ≡ t.levels + 1
-    → (reason : CertReason) → EndReason t (row_in rows t.levels) found bytes reason → ReasonAfter t found (flat_map row_text rows ++ bytes) reason
+    → (reason : CertReason) → EndReason t (row_in rows t.levels) found bytes reason → ReasonAfter t found (flat_map (row_text One) rows ++ bytes) reason
 end_after t found rows bytes small clean n Cut w = inr (rows, bytes, record { is = refl; are_clean = clean }, n, w)
 end_after t found rows bytes small clean n Cost (stated, rest, is, fits, ne) =
-    (rows, stated, (rest, record { is = ap (λ l. flat_map row_text rows ++ l) is; are_clean = clean }, n, fits), ne)
+    (rows, stated, (rest, record { is = ap (λ l. flat_map (row_text One) rows ++ l) is; are_clean = clean }, n, fits), ne)
 end_after t found rows bytes small clean n (End q) (rest, is, hq, lt, low) =
-    (rows, (rest, record { is = ap (λ l. flat_map row_text rows ++ l) is; are_clean = clean }, n, small), hq, lt, low)
+    (rows, (rest, record { is = ap (λ l. flat_map (row_text One) rows ++ l) is; are_clean = clean }, n, small), hq, lt, low)
 end_after t found rows bytes small clean n Head w = absurd w
 end_after t found rows bytes small clean n Length w = absurd w
 end_after t found rows bytes small clean n Bound w = absurd w
@@ -61,8 +62,8 @@ end_after t found rows bytes small clean n Extra w = absurd w
 pub end_first : (t : Trellis) (cue channel found : ℕ) (a b c : Option (List ℕ)) (last : List ℕ) → found < 2 ^ 64 → Consumes a b (entry_start cue channel t.levels) → ReadsRows t b c last
     → (reason : CertReason) → InEnd t last found c reason → InEntry t cue channel found a reason
 end_first t cue channel found a b c last small consumed (rows, read, clean, n, e) reason w =
-    let bytes_of : (rest : List ℕ) → EndReason t last found rest reason → ReasonAfter t found (flat_map row_text rows ++ rest) reason =
+    let bytes_of : (rest : List ℕ) → EndReason t last found rest reason → ReasonAfter t found (flat_map (row_text One) rows ++ rest) reason =
     λ rest k. end_after t found rows rest small clean n reason (subst (λ l. EndReason t l found rest reason) e k) in
     before (λ rest. ReasonAfter t found rest reason) (λ bytes. FirstReason t cue channel found bytes reason) a b (entry_start cue channel t.levels) consumed
     (λ rest k. inr (rest, refl, k))
-    (before (λ rest. EndReason t last found rest reason) (λ bytes. ReasonAfter t found bytes reason) b c (flat_map row_text rows) read bytes_of w)
+    (before (λ rest. EndReason t last found rest reason) (λ bytes. ReasonAfter t found bytes reason) b c (flat_map (row_text One) rows) read bytes_of w)

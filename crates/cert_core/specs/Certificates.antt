@@ -6,6 +6,7 @@ use Rattle.cost_core.specs.Tables.{value_in, IsTable}
 use Rattle.cost_core.specs.Validity.{IsValid}
 use Rattle.cert_core.specs.Entries.{IsEntry}
 use Rattle.cert_core.specs.Text.{Entry, cert_text}
+use Rattle.cert_core.specs.declared.version.Version.TheVariants.{One}
 
 -- what an entry is to show: that the bits of the bridge after a cue, in a channel, are least
 pub record Claim : Type 0 where
@@ -31,7 +32,7 @@ ShowsAll (claim ∷ claims) (e ∷ entries) = Shows claim e × ShowsAll claims e
 
 -- the bytes are the certificate of some such entries
 abbrev pub IsCert : ℕ → List Claim → List ℕ → Type 0
-IsCert weights claims bytes = (entries : List Entry) × ShowsAll claims entries × (bytes ≡ cert_text weights entries)
+IsCert weights claims bytes = (entries : List Entry) × ShowsAll claims entries × (bytes ≡ cert_text One weights entries)
 
 -- the bytes are an entry that shows the claim
 abbrev pub IsEntryOf : Claim → List ℕ → Type 0

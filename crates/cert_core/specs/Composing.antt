@@ -9,33 +9,36 @@ use Rattle.cert_core.specs.declared.verdict.CertReason.{CertReason}
 use Rattle.cert_core.specs.Certificates.{Claim, Shows, IsCert, IsEntryOf, AreEntries}
 use Rattle.cert_core.specs.Entries.{IsEntry, BeginsValid}
 use Rattle.cert_core.specs.Reasons.{FirstReason}
-use Rattle.cert_core.specs.Text.{Entry, row_text, entry_start, cert_entry, cert_head, cert_text}
+use Rattle.cert_core.specs.Spelling.{row_text}
+use Rattle.cert_core.specs.Text.{Entry, entry_start, cert_entry, cert_head, cert_text}
+use Rattle.cert_core.specs.declared.version.Version.{Version}
+use Rattle.cert_core.specs.declared.version.Version.TheVariants.{One}
 
 -- the start, the rows and the cost, written one after the other, are the entry
 abbrev pub PartsAreEntry : Type 0
 PartsAreEntry =
-    (a b c d : Option (List ℕ)) (e : Entry) → Appends a b (entry_start e.cue e.channel e.levels) → Appends b c (flat_map row_text e.rows) → Appends c d (to_be_bytes w64 e.cost) → Appends a d (cert_entry e)
+    (v : Version) (a b c d : Option (List ℕ)) (e : Entry) → Appends a b (entry_start e.cue e.channel e.levels) → Appends b c (flat_map (row_text v) e.rows) → Appends c d (to_be_bytes w64 e.cost) → Appends a d (cert_entry v e)
 
 -- entries and one more are all of them
 abbrev pub EntriesJoin : Type 0
-EntriesJoin = (a b c : Option (List ℕ)) (entries : List Entry) (e : Entry) → Appends a b (flat_map cert_entry entries) → Appends b c (cert_entry e) → Appends a c (flat_map cert_entry (entries ++ e ∷ []))
+EntriesJoin = (v : Version) (a b c : Option (List ℕ)) (entries : List Entry) (e : Entry) → Appends a b (flat_map (cert_entry v) entries) → Appends b c (cert_entry v e) → Appends a c (flat_map (cert_entry v) (entries ++ e ∷ []))
 
 -- the head and then all entries are the certificate
 abbrev pub HeadAndEntries : Type 0
 HeadAndEntries =
-    (a b c : Option (List ℕ)) (weights : ℕ) (entries : List Entry) → Appends a b (cert_head weights (length entries)) → Appends b c (flat_map cert_entry entries) → Appends a c (cert_text weights entries)
+    (v : Version) (a b c : Option (List ℕ)) (weights : ℕ) (entries : List Entry) → Appends a b (cert_head v weights (length entries)) → Appends b c (flat_map (cert_entry v) entries) → Appends a c (cert_text v weights entries)
 
 -- an entry that shows a claim is read as such, whatever follows
 abbrev pub ShownIsRead : Type 0
-ShownIsRead = (claim : Claim) (e : Entry) (rest : List ℕ) → Shows claim e → BeginsValid (trellis_of claim.bridging) claim.cue claim.channel claim.bits (cert_entry e ++ rest)
+ShownIsRead = (claim : Claim) (e : Entry) (rest : List ℕ) → Shows claim e → BeginsValid (trellis_of claim.bridging) claim.cue claim.channel claim.bits (cert_entry One e ++ rest)
 
 -- what was read entry by entry is a certificate
 abbrev pub ReadIsCert : Type 0
-ReadIsCert = (weights : ℕ) (claims : List Claim) (rest : List ℕ) → AreEntries claims rest → IsCert weights claims (cert_head weights (length claims) ++ rest)
+ReadIsCert = (weights : ℕ) (claims : List Claim) (rest : List ℕ) → AreEntries claims rest → IsCert weights claims (cert_head One weights (length claims) ++ rest)
 
 -- a certificate is its head and then an entry for each claim
 abbrev pub CertIsRead : Type 0
-CertIsRead = (weights : ℕ) (claims : List Claim) (bytes : List ℕ) → IsCert weights claims bytes → (rest : List ℕ) × (bytes ≡ cert_head weights (length claims) ++ rest) × AreEntries claims rest
+CertIsRead = (weights : ℕ) (claims : List Claim) (bytes : List ℕ) → IsCert weights claims bytes → (rest : List ℕ) × (bytes ≡ cert_head One weights (length claims) ++ rest) × AreEntries claims rest
 
 -- one entry more
 abbrev pub ReadMore : Type 0

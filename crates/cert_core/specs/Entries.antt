@@ -5,11 +5,12 @@ use Rattle.cost_core.specs.Trellis.{Trellis}
 use Rattle.cost_core.specs.Validity.{IsValid}
 use Rattle.cost_core.specs.Tables.{value_in, IsTable}
 use Rattle.cert_core.specs.Text.{cert_entry}
+use Rattle.cert_core.specs.declared.version.Version.TheVariants.{One}
 
 -- these bytes are the entry of a cue and a channel with a table that is valid for the bits x
 abbrev pub IsEntry : Trellis → ℕ → ℕ → List Bool → List ℕ → Type 0
 IsEntry t cue channel x bytes = (rows : List (List ℕ)) × (stated : ℕ) × IsTable t rows × IsValid t (value_in rows) stated x
-    × (bytes ≡ cert_entry (record { cue = cue; channel = channel; levels = t.levels; rows = rows; cost = stated }))
+    × (bytes ≡ cert_entry One (record { cue = cue; channel = channel; levels = t.levels; rows = rows; cost = stated }))
 
 -- these bytes begin with such an entry
 abbrev pub BeginsValid : Trellis → ℕ → ℕ → List Bool → List ℕ → Type 0

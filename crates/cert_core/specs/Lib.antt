@@ -3,6 +3,7 @@ pub mod Composing
 pub mod Entries
 pub mod Readers
 pub mod Reasons
+pub mod Spelling
 pub mod Stops
 pub mod Text
 pub mod Within

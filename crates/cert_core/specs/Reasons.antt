@@ -5,7 +5,9 @@ use Rattle.cost_core.specs.Trellis.{Trellis, states, next}
 use Rattle.cert_core.specs.declared.verdict.CertReason.{CertReason}
 use Rattle.cert_core.specs.declared.verdict.CertReason.TheVariants.{Cut, Head, Length, Bound, Start, Step, End, Cost, Extra}
 use Rattle.cost_core.specs.Tables.{row_in, value_in}
-use Rattle.cert_core.specs.Text.{row_text, entry_start, cert_head}
+use Rattle.cert_core.specs.Spelling.{row_text}
+use Rattle.cert_core.specs.Text.{entry_start, cert_head}
+use Rattle.cert_core.specs.declared.version.Version.TheVariants.{One}
 
 -- no value of a row is above 2 ^ 63
 abbrev pub RowBounded : Trellis → List ℕ → Type 0
@@ -41,7 +43,7 @@ pub record AreClean (t : Trellis) (rows : List (List ℕ)) : Type 0 where
 
 -- the bytes begin with rows of the first levels, in which nothing is wrong, and go on with the rest
 pub record GoesOn (t : Trellis) (bytes : List ℕ) (rows : List (List ℕ)) (rest : List ℕ) : Type 0 where
-  pub is : bytes ≡ flat_map row_text rows ++ rest
+  pub is : bytes ≡ flat_map (row_text One) rows ++ rest
   pub are_clean : AreClean t rows
 
 -- after clean rows there are too few bytes for the next one
@@ -54,7 +56,7 @@ CutInCost t bytes = (rows : List (List ℕ)) × (rest : List ℕ) × GoesOn t by
 
 -- after clean rows there is a whole row with something wrong
 abbrev pub FaultInRow : Trellis → List ℕ → CertReason → Type 0
-FaultInRow t bytes reason = (rows : List (List ℕ)) × (row : List ℕ) × (rest : List ℕ) × GoesOn t bytes rows (row_text row ++ rest)
+FaultInRow t bytes reason = (rows : List (List ℕ)) × (row : List ℕ) × (rest : List ℕ) × GoesOn t bytes rows (row_text One row ++ rest)
     × (length rows ≤ t.levels) × (length row ≡ states t) × ((q : ℕ) → slice_index_or row q 0 < 2 ^ 64) × RowReason t (length rows) (row_in rows (length rows - 1)) row reason
 
 -- after clean rows of all levels this cost is stated
@@ -108,4 +110,4 @@ EndReason t last found bytes Extra = ⊥
 -- the first reason in a head: fewer than twelve bytes, or others than those of the expected head
 abbrev pub HeadReason : ℕ → ℕ → List ℕ → CertReason → Type 0
 HeadReason weights entries bytes reason = ((reason ≡ Cut) × (length bytes < 12))
-    ⊎ ((reason ≡ Head) × ((front : List ℕ) × (rest : List ℕ) × (bytes ≡ front ++ rest) × (length front ≡ 12) × (front ≢ cert_head weights entries)))
+    ⊎ ((reason ≡ Head) × ((front : List ℕ) × (rest : List ℕ) × (bytes ≡ front ++ rest) × (length front ≡ 12) × (front ≢ cert_head One weights entries)))

@@ -7,7 +7,8 @@ use Rattle.cert_core.specs.declared.verdict.CertReason.TheVariants.{Cut}
 use Rattle.cert_core.specs.declared.stop.Stop.{Stop}
 use Rattle.cert_core.specs.declared.stop.Stop.TheVariants.{Reason, Device, Memory}
 use Rattle.cost_core.specs.Tables.{row_in}
-use Rattle.cert_core.specs.Text.{row_text}
+use Rattle.cert_core.specs.Spelling.{row_text}
+use Rattle.cert_core.specs.declared.version.Version.TheVariants.{One}
 use Rattle.cert_core.specs.Reasons.{StartReason, FirstReason, EndReason, AreClean, CutInRow, FaultInRow}
 
 -- P of the reason, where there is one
@@ -50,4 +51,4 @@ InEntry t cue channel found known reason = IfSome known (λ bytes. FirstReason t
 
 -- clean rows of all levels were read, the last of which is `last`
 abbrev pub ReadsRows : Trellis → Option (List ℕ) → Option (List ℕ) → List ℕ → Type 0
-ReadsRows t old new last = (rows : List (List ℕ)) × Consumes old new (flat_map row_text rows) × AreClean t rows × (length rows ≡ t.levels + 1) × (last ≡ row_in rows t.levels)
+ReadsRows t old new last = (rows : List (List ℕ)) × Consumes old new (flat_map (row_text One) rows) × AreClean t rows × (length rows ≡ t.levels + 1) × (last ≡ row_in rows t.levels)

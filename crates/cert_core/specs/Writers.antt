@@ -3,6 +3,7 @@ use Rattle.std.specs.Prelude.{ℕ, ◌-◌, ◌^◌, Bool, if◌then◌else◌}
 use Rattle.device_core.specs.declared.outlet.Outlet.{Outlet}
 use Rattle.cert_core.specs.declared.writer.CertWriter.{CertWriter}
 use Rattle.device_core.specs.FusedOutlets.{fused_outlet, fused_failed}
+use Rattle.cert_core.specs.declared.version.Version.{Version}
 
 -- the outlet, as it stands
 abbrev pub cert_outlet : {W : Type 0} → CertWriter W → Outlet W
@@ -11,6 +12,10 @@ cert_outlet writer = fused_outlet writer.outlet
 -- whether a write failed
 abbrev pub has_failed : {W : Type 0} → CertWriter W → Bool
 has_failed writer = fused_failed writer.outlet
+
+-- the version that the head tells
+abbrev pub cert_version : {W : Type 0} → CertWriter W → Version
+cert_version writer = writer.version
 
 -- how many weights the head tells
 abbrev pub cert_weights : {W : Type 0} → CertWriter W → ℕ
@@ -28,8 +33,9 @@ rows_left writer = writer.rows_left
 abbrev pub rows_taken : {W : Type 0} → CertWriter W → ℕ
 rows_taken writer = if has_failed writer then 2 ^ 16 else rows_left writer
 
--- what no row changes: the number of weights, whether the head was written, how many entries are still to begin, whether an entry was begun and not ended
+-- what no row changes: the version, the number of weights, whether the head was written, how many entries are still to begin, whether an entry was begun and not ended
 pub record Stage : Type 0 where
+  pub version : Version
   pub weights : ℕ
   pub has_head : Bool
   pub entries_left : ℕ
@@ -37,7 +43,7 @@ pub record Stage : Type 0 where
 
 -- where a writer stands
 abbrev pub stage : {W : Type 0} → CertWriter W → Stage
-stage writer = record { weights = writer.weights; has_head = writer.has_head; entries_left = writer.entries_left; is_open = writer.is_open }
+stage writer = record { version = writer.version; weights = writer.weights; has_head = writer.has_head; entries_left = writer.entries_left; is_open = writer.is_open }
 
 -- whether the head was written
 abbrev pub has_head : {W : Type 0} → CertWriter W → Bool

@@ -7,7 +7,8 @@ ghost use Rattle.device_core.specs.Inlets.{inlet_reader, inlet_failures};
 ghost use Rattle.cost_core.specs.Trellis.{states, cost, IsBounded};
 ghost use Rattle.cost_core.specs.StateCosts.{trellis_of};
 ghost use Rattle.cost_core.specs.Limits.{IsBridging};
-ghost use Rattle.cert_core.specs.Text.{row_text, entry_start};
+ghost use Rattle.cert_core.specs.Spelling.{row_text};
+ghost use Rattle.cert_core.specs.Text.{entry_start};
 ghost use Rattle.cert_core.specs.Entries.{ReadsEntry};
 ghost use Rattle.cert_core.specs.Reasons.{RowBounded};
 ghost use Rattle.cert_core.specs.Stops.{OnReason, failed_stops, CutBelow, InStart, InRows, InEnd, InEntry, ReadsRows};
@@ -16,6 +17,7 @@ use crate::numbers::{make_buffer, number_in, start_numbers, take_row};
 use crate::rows::{low_end, row_reason};
 use crate::stop::Stop;
 use crate::verdict::CertReason;
+use crate::version::Version;
 use cost_core::Window;
 use device_core::Inlet;
 use dsd_bits::Bits;
@@ -48,7 +50,7 @@ fn read_row<R: Read>(
     ensures len { length row.new.items ≡ length row.old.items }
     ensures bytes { length bytes.new.items ≡ length bytes.old.items }
     ensures values { OnOk result ((q : ℕ) → slice_index_or row.new.items q 0 < 2 ^ 64) }
-    ensures ok { OnOk result (Consumes (R.remaining (inlet_reader inlet.old)) (R.remaining (inlet_reader inlet.new)) (row_text row.new.items)) }
+    ensures ok { OnOk result (Consumes (R.remaining (inlet_reader inlet.old)) (R.remaining (inlet_reader inlet.new)) (row_text Version.One row.new.items)) }
     ensures cut { OnReason result (CutBelow (R.remaining (inlet_reader inlet.old)) (8 * length row.old.items)) }
     ensures failures { inlet_failures inlet.new ≡ inlet_failures inlet.old + failed_stops result }
 {

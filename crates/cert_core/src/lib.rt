@@ -6,16 +6,17 @@
 //! needs neither the search that chose the bits nor trust in who wrote the table. `docs/CERTIFICATES.md`
 //! says why, and has the format and an example by hand.
 //!
-//! A [`CertWriter`] writes a certificate to an outlet, part by part; as a `LevelSink` it takes the rows of
-//! a search. A [`CertReader`] reads one from an inlet, two rows at a time, and
+//! A [`CertWriter`] writes a certificate of either [`Version`] to an outlet, part by part; as a `LevelSink` it takes
+//! the rows of a search. A [`CertReader`] reads one of the first version from an inlet, two rows at a time, and
 //! [`check_bridge`](CertReader::check_bridge) judges the bits of a bridge by the next entry: bounds, steps and
 //! ends eight states at a time, and one at a time what is left, and where something is wrong (`rows`). This
 //! crate knows nothing of the search.
 //!
 //! The words of its contracts, all over lists and numbers without bounds:
 //!
-//! - `cert_text weights entries` is the whole text, of `cert_head` and of a `cert_entry` for each `Entry`
-//!   (`specs/Text.antt`). The validity of a table is `IsValid` of `cost_core`: five plain facts.
+//! - `cert_text version weights entries` is the whole text, of `cert_head` and of a `cert_entry` for each `Entry`
+//!   (`specs/Text.antt`); `row_text version row` is that of a row (`specs/Spelling.antt`). The validity of a table
+//!   is `IsValid` of `cost_core`: five plain facts.
 //! - `IsEntry t cue channel x bytes`: the bytes are an entry with a table that is valid for the bits `x`;
 //!   `BeginsValid`: they begin with one (`specs/Entries.antt`).
 //! - `FirstReason t cue channel found bytes reason`: the first reason, in the stated order, why they don't
@@ -33,7 +34,7 @@
 //!
 //! ```text
 //! // The bridge of one bit by the weights 1, 0 from ones to zeros: both bits cost 4.
-//! let mut writer = CertWriter::new(alloc, Outlet::new(Vec::new(alloc)), 2)?;
+//! let mut writer = CertWriter::new(alloc, Outlet::new(Vec::new(alloc)), 2, Version::One)?;
 //! writer.begin(1)?;
 //! writer.begin_bridge(0, 0, 1)?;
 //! writer.level(&[1 << 63, 0])?;
@@ -54,12 +55,15 @@ mod numbers;
 mod reader;
 mod rows;
 mod sink;
+mod spelling;
 mod stop;
 mod verdict;
+mod version;
 mod writer;
 
 pub use device_core::FusedFault as CertFault;
 pub use laws::{cert_goes_on, one_reason, parts_join, read_is_cert, shown_is_least, shown_is_read};
 pub use reader::CertReader;
 pub use verdict::{CertReason, CertVerdict, CheckFault};
+pub use version::Version;
 pub use writer::CertWriter;

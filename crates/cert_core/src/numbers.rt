@@ -2,19 +2,28 @@
 
 ghost use Rattle.std.specs.Prelude.{◌≡◌, ◌*◌, ◌≤◌, length, IfOk};
 ghost use Rattle.std.specs.Int.{w32, w64, to_be_bytes};
-ghost use Rattle.cert_core.specs.Text.{row_text, entry_start, cert_head};
+ghost use Rattle.cert_core.specs.Spelling.{row_text, version_number};
+ghost use Rattle.cert_core.specs.Text.{entry_start, cert_head};
 
+use crate::version::Version;
 use std::alloc::{AllocError, Global};
 
-// The version of a certificate.
-const VERSION: u16 = 1;
+// The number of a version.
+fn number_of(version: Version) -> u16
+    ensures { result ≡ version_number version }
+{
+    match version {
+        Version::One => 1,
+        Version::Two => 2,
+    }
+}
 
 /// The head of a certificate.
-pub fn head_bytes(weights: usize, entries: u32) -> [u8; 12]
+pub fn head_bytes(version: Version, weights: usize, entries: u32) -> [u8; 12]
     requires { weights ≤ 12 }
-    ensures { result ≡ cert_head weights entries }
+    ensures { result ≡ cert_head version weights entries }
 {
-    let version = VERSION.to_be_bytes();
+    let version = number_of(version).to_be_bytes();
     let weights = (weights as u16).to_be_bytes();
     let entries = entries.to_be_bytes();
     [
@@ -60,20 +69,10 @@ pub fn number_in(bytes: [u8; 8]) -> u64
     u64::from(high) * 4294967296 + u64::from(low)
 }
 
-/// Writes the numbers of a row into a buffer of their bytes.
-pub fn put_row(row: &[u64], buffer: &mut [u8])
-    requires { length buffer.old ≡ 8 * length row.now }
-    ensures { buffer.new ≡ row_text row.now }
-{
-    for (place, value) in row.iter().enumerate() {
-        buffer[8 * place..8 * place + 8].copy_from_slice(&value.to_be_bytes());
-    }
-}
-
 /// Takes the numbers of a row out of their bytes.
 pub fn take_row(bytes: &[u8], row: &mut [u64])
     requires { length bytes.now ≡ 8 * length row.old }
-    ensures { bytes.now ≡ row_text row.new }
+    ensures { bytes.now ≡ row_text Version.One row.new }
 {
     let (numbers, _) = bytes.as_chunks::<8>();
     for place in 0..row.len() {

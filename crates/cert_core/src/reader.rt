@@ -13,6 +13,7 @@ use crate::entry::read_entry;
 use crate::numbers::head_bytes;
 use crate::stop::Stop;
 use crate::verdict::{CertReason, CertVerdict, CheckFault};
+use crate::version::Version;
 use cost_core::Window;
 use device_core::Inlet;
 use dsd_bits::Bits;
@@ -48,11 +49,11 @@ impl<R: Read> CertReader<R> {
     ) -> Result<Option<CertReason>, CheckFault>
         requires ready { inlet_failures (cert_inlet self.old) < 2 ^ 64 - 1 }
         requires weights { weights ≤ 12 }
-        ensures none { IsWell result → Consumes (R.remaining (inlet_reader (cert_inlet self.old))) (R.remaining (inlet_reader (cert_inlet self.new))) (cert_head weights entries) }
+        ensures none { IsWell result → Consumes (R.remaining (inlet_reader (cert_inlet self.old))) (R.remaining (inlet_reader (cert_inlet self.new))) (cert_head Version.One weights entries) }
 
         // Known bytes have this reason first, and don't begin with the head.
         ensures reason { IfReason result (InHead weights entries (R.remaining (inlet_reader (cert_inlet self.old)))) }
-        ensures only { IfReason result (λ _. IfSome (R.remaining (inlet_reader (cert_inlet self.old))) (λ bytes. (rest : List ℕ) → bytes ≡ cert_head weights entries ++ rest → ⊥)) }
+        ensures only { IfReason result (λ _. IfSome (R.remaining (inlet_reader (cert_inlet self.old))) (λ bytes. (rest : List ℕ) → bytes ≡ cert_head Version.One weights entries ++ rest → ⊥)) }
 
         // The answer is `Device` exactly where a read failed, and never `Memory`.
         ensures failures { inlet_failures (cert_inlet self.new) ≡ inlet_failures (cert_inlet self.old) + failed_reads result }
@@ -65,7 +66,7 @@ impl<R: Read> CertReader<R> {
         if count < 12 {
             return Ok(Some(CertReason::Cut));
         }
-        if bytes != head_bytes(weights, entries) {
+        if bytes != head_bytes(Version::One, weights, entries) {
             return Ok(Some(CertReason::Head));
         }
         Ok(None)

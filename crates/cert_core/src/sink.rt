@@ -4,24 +4,24 @@ use crate::writer::CertWriter;
 use cost_core::{LevelSink, SinkFault};
 use std::io::Write;
 
-/// Its kind is the version of its certificate, its text is what its writer holds, and a row has the
-/// spelling of that version: its values, eight bytes each. A row is refused where a write fails, or
+/// Its kind is the number of its certificate's version, its text is what its writer holds, and a row has the
+/// spelling of that version. A row is refused where a write fails, or
 /// failed before; a writer that failed may be asked for as many rows as an entry can have.
 impl<W: Write> LevelSink for CertWriter<W> {
     ghost use Rattle.std.specs.Prelude.{ℕ};
     ghost use Rattle.device_core.specs.Outlets.{outlet_writer};
-    ghost use Rattle.cert_core.specs.Text.{row_text, version};
-    ghost use Rattle.cert_core.specs.Writers.{Stage, cert_outlet, has_failed, row_length, rows_taken, stage};
+    ghost use Rattle.cert_core.specs.Spelling.{row_text, version_number, version_of};
+    ghost use Rattle.cert_core.specs.Writers.{Stage, cert_outlet, cert_version, has_failed, row_length, rows_taken, stage};
 
     ghost rows_left = { λ writer. rows_taken writer };
 
     ghost row_length = { λ writer. row_length writer };
 
-    ghost kind = { λ _. version };
+    ghost kind = { λ writer. version_number (cert_version writer) };
 
     ghost text = { λ writer. W.contents (outlet_writer (cert_outlet writer)) };
 
-    ghost spelling = { λ _ row. row_text row };
+    ghost spelling = { λ kind row. row_text (version_of kind) row };
 
     ghost has_refused = { λ writer. has_failed writer };
 

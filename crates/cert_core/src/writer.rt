@@ -5,10 +5,13 @@ ghost use Rattle.std.specs.Int.{w64, to_be_bytes};
 ghost use Rattle.std.specs.Io.KnownBytes.{Appends};
 ghost use Rattle.device_core.specs.FusedOutlets.{failed_parts};
 ghost use Rattle.device_core.specs.Outlets.{outlet_writer, outlet_failures, AppendsPart};
-ghost use Rattle.cert_core.specs.Text.{row_text, entry_start, cert_head};
+ghost use Rattle.cert_core.specs.Spelling.{row_text};
+ghost use Rattle.cert_core.specs.Text.{entry_start, cert_head};
 
 use crate::CertFault;
-use crate::numbers::{head_bytes, make_buffer, put_row, start_bytes};
+use crate::numbers::{head_bytes, make_buffer, start_bytes};
+use crate::spelling::put_row;
+use crate::version::Version;
 use device_core::{FusedOutlet, Outlet};
 use std::alloc::Global;
 use std::io::Write;
@@ -23,34 +26,41 @@ use std::io::Write;
 pub struct CertWriter<W> {
     outlet: FusedOutlet<W>,
     buffer: Vec<u8>,
+    version: Version,
     weights: usize,
     has_head: bool,
     entries_left: u32,
     is_open: bool,
     rows_left: u32,
     ghost few: { weights ≤ 12 },
-    ghost room: { length buffer.items ≡ 8 * 2 ^ (weights - 1) },
+    ghost room: { length buffer.items ≡ 9 + 8 * 2 ^ (weights - 1) },
 }
 
 impl<W: Write> CertWriter<W> {
-    ghost use Rattle.cert_core.specs.Writers.{Stage, cert_outlet, has_failed, cert_weights, row_length, rows_left, stage, has_head, entries_left, is_open};
+    ghost use Rattle.cert_core.specs.Writers.{Stage, cert_outlet, has_failed, cert_version, cert_weights, row_length, rows_left, stage, has_head, entries_left, is_open};
 
-    /// A writer for bridges of so many weights, which has written nothing. Err is want of memory, and
-    /// gives the outlet back.
-    pub fn new(alloc: Global, outlet: Outlet<W>, weights: usize) -> Result<CertWriter<W>, Outlet<W>>
+    /// A writer by a version for bridges of so many weights, which has written nothing. Err is want of memory,
+    /// and gives the outlet back.
+    pub fn new(
+        alloc: Global,
+        outlet: Outlet<W>,
+        weights: usize,
+        version: Version,
+    ) -> Result<CertWriter<W>, Outlet<W>>
         requires ready { outlet_failures outlet < 2 ^ 64 - 1 }
         requires two { 2 ≤ weights }
         requires few { weights ≤ 12 }
         ensures outlet { IfOk result (λ writer. cert_outlet writer ≡ outlet) }
         ensures failed { IfOk result (λ writer. has_failed writer ≡ false) }
-        ensures stage { IfOk result (λ writer. stage writer ≡ record { weights = weights; has_head = false; entries_left = 0; is_open = false }) }
+        ensures stage { IfOk result (λ writer. stage writer ≡ record { version = version; weights = weights; has_head = false; entries_left = 0; is_open = false }) }
         ensures rows { IfOk result (λ writer. rows_left writer ≡ 0) }
         ensures back { IfErr result (λ given. given ≡ outlet) }
     {
-        match make_buffer(alloc, 8 << (weights - 1)) {
+        match make_buffer(alloc, 9 + (8 << (weights - 1))) {
             Ok(buffer) => Ok(CertWriter {
                 outlet: FusedOutlet::new(outlet),
                 buffer,
+                version,
                 weights,
                 has_head: false,
                 entries_left: 0,
@@ -68,8 +78,8 @@ impl<W: Write> CertWriter<W> {
     /// in the order is asked only of a writer that hasn't failed.
     pub fn begin(&mut self, entries: u32) -> Result<(), CertFault>
         requires head { has_failed self.old ≡ false → has_head self.old ≡ false }
-        ensures ok { OnOk result (Appends (W.contents (outlet_writer (cert_outlet self.old))) (W.contents (outlet_writer (cert_outlet self.new))) (cert_head (cert_weights self.old) entries)) }
-        ensures device { IsErrOf result CertFault.Device → AppendsPart (W.contents (outlet_writer (cert_outlet self.old))) (W.contents (outlet_writer (cert_outlet self.new))) (cert_head (cert_weights self.old) entries) }
+        ensures ok { OnOk result (Appends (W.contents (outlet_writer (cert_outlet self.old))) (W.contents (outlet_writer (cert_outlet self.new))) (cert_head (cert_version self.old) (cert_weights self.old) entries)) }
+        ensures device { IsErrOf result CertFault.Device → AppendsPart (W.contents (outlet_writer (cert_outlet self.old))) (W.contents (outlet_writer (cert_outlet self.new))) (cert_head (cert_version self.old) (cert_weights self.old) entries) }
         ensures failed { IsErrOf result CertFault.Failed ↔ (has_failed self.old ≡ true) }
         ensures unchanged { IsErrOf result CertFault.Failed → self.new ≡ self.old }
         ensures failures { outlet_failures (cert_outlet self.new) ≡ outlet_failures (cert_outlet self.old) + failed_parts result }
@@ -78,7 +88,8 @@ impl<W: Write> CertWriter<W> {
         ensures kept { OnErr result (stage self.new ≡ stage self.old) }
         ensures rows { rows_left self.new ≡ rows_left self.old }
     {
-        self.outlet.put_all(&head_bytes(self.weights, entries))?;
+        self.outlet
+            .put_all(&head_bytes(self.version, self.weights, entries))?;
         self.has_head = true;
         self.entries_left = entries;
         Ok(())
@@ -112,8 +123,8 @@ impl<W: Write> CertWriter<W> {
     pub fn level(&mut self, row: &[u64]) -> Result<(), CertFault>
         requires rows { has_failed self.old ≡ false → 0 < rows_left self.old }
         requires row { length row.now ≡ row_length self.old }
-        ensures ok { OnOk result (Appends (W.contents (outlet_writer (cert_outlet self.old))) (W.contents (outlet_writer (cert_outlet self.new))) (row_text row.now)) }
-        ensures device { IsErrOf result CertFault.Device → AppendsPart (W.contents (outlet_writer (cert_outlet self.old))) (W.contents (outlet_writer (cert_outlet self.new))) (row_text row.now) }
+        ensures ok { OnOk result (Appends (W.contents (outlet_writer (cert_outlet self.old))) (W.contents (outlet_writer (cert_outlet self.new))) (row_text (cert_version self.old) row.now)) }
+        ensures device { IsErrOf result CertFault.Device → AppendsPart (W.contents (outlet_writer (cert_outlet self.old))) (W.contents (outlet_writer (cert_outlet self.new))) (row_text (cert_version self.old) row.now) }
         ensures failed { IsErrOf result CertFault.Failed ↔ (has_failed self.old ≡ true) }
         ensures unchanged { IsErrOf result CertFault.Failed → self.new ≡ self.old }
         ensures failures { outlet_failures (cert_outlet self.new) ≡ outlet_failures (cert_outlet self.old) + failed_parts result }
@@ -125,8 +136,8 @@ impl<W: Write> CertWriter<W> {
         if self.has_failed() {
             return Err(CertFault::Failed);
         }
-        put_row(row, &mut self.buffer);
-        self.outlet.put_all(&self.buffer)?;
+        let count = put_row(self.version, row, &mut self.buffer);
+        self.outlet.put_all(&self.buffer[0..count])?;
         self.rows_left -= 1;
         Ok(())
     }
@@ -164,6 +175,7 @@ impl<W: Write> CertWriter<W> {
         let CertWriter {
             outlet,
             buffer: _,
+            version: _,
             weights: _,
             has_head: _,
             entries_left: _,

@@ -1,5 +1,5 @@
 //! Commands over the files of a folder, what is said of them, and the program: [`perform`] does a [`Task`] over a
-//! [`Folder`], [`outcome_line`] and [`status`] say what it came to, and [`run_words`] does what the words of a command line
+//! [`Folder`], [`outcome_line`] and [`status`] say what it came to, and [`run`] does what the words of a command line
 //! ask for. [`run_program`] is the whole of it on a runtime's words, its disk and its output.
 //!
 //! The words of the contracts:
@@ -12,12 +12,12 @@
 #![tactic(auto)]
 
 mod outcome;
+mod performing;
 mod program;
-mod run;
 
 pub use folder_core::{Folder, FolderFault, MemoryFolder, read_files, read_whole};
 pub use info_core::{form_named, name_of};
 pub use outcome::{Outcome, outcome_line, status};
-pub use program::{run_program, run_words};
-pub use run::perform;
+pub use performing::perform;
+pub use program::{run, run_program};
 pub use words_core::Task;

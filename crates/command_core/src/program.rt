@@ -4,7 +4,7 @@ ghost use Rattle.std.specs.Prelude.{IsTrue};
 ghost use Rattle.command_core.specs.Commands.{ComesTo};
 
 use crate::outcome::{Outcome, outcome_line, status};
-use crate::run::perform;
+use crate::performing::perform;
 use archive_core::Fault;
 use folder_core::{Disk, Folder};
 use std::alloc::Global;
@@ -17,7 +17,7 @@ use words_core::task_of;
 /// program ends with. What was done or judged goes to standard output, a fault to standard error.
 pub fn run_program<R: Env + Files + Print + Eprint + AllocGlobal>(rt: &R) -> ExitCode {
     let outcome = match given_words(rt) {
-        Ok(words) => run_words(rt.alloc(), words.as_slice(), &mut Disk::new(rt)),
+        Ok(words) => run(rt.alloc(), words.as_slice(), &mut Disk::new(rt)),
         Err(error) if error.kind() == io::ErrorKind::OutOfMemory => Fault::Memory.into(),
         Err(_) => Outcome::WrongWords,
     };
@@ -26,7 +26,7 @@ pub fn run_program<R: Env + Files + Print + Eprint + AllocGlobal>(rt: &R) -> Exi
 
 /// Does the command that the words ask for, the program's name first, by [`perform`]. The first fault is what the
 /// command comes to.
-pub fn run_words<F: Folder>(alloc: Global, words: &[String], folder: &mut F) -> Outcome
+pub fn run<F: Folder>(alloc: Global, words: &[String], folder: &mut F) -> Outcome
     ensures { IsTrue (F.is_told folder.old) → ComesTo (F.file folder.old) (F.file folder.new) result }
 {
     match task_of(alloc, words) {

@@ -9,7 +9,7 @@ use Rattle.cost_core.specs.Weighted.{weighted}
 use Rattle.cost_core.specs.Fade.{fade, fade_targets}
 use Rattle.cost_core.proofs.SumLaws.{weighed_in, part_in}
 
-picked : (test : Bool) (x y : ℤ) (n : ℕ) → (test ≡ true → unsigned_abs x ≤ n) → unsigned_abs y ≤ n → unsigned_abs (cond test x y) ≤ n
+pub picked : (test : Bool) (x y : ℤ) (n : ℕ) → (test ≡ true → unsigned_abs x ≤ n) → unsigned_abs y ≤ n → unsigned_abs (cond test x y) ≤ n
 picked true x y n h k = h refl
 picked false x y n h k = k
 

@@ -52,7 +52,7 @@ module _ (splice : SpliceContent) (fine : IsSplicing splice.weights (length spli
           before = omega (arith, preceding_many);
           after = omega (arith, following_many);
           levels_in = before.bridge_fits;
-          target_in = λ k. targets_small (cue_at splice i).target splice.weights fine.weights_fit a (cue_at splice i).stop b (cue_at splice (i + 1)).start (cue_at splice i).bridge (k - 1);
+          target_in = λ k. targets_small (cue_at splice i).target before.target_fits splice.weights fine.weights_fit a (cue_at splice i).stop b (cue_at splice (i + 1)).start (cue_at splice i).bridge (k - 1);
         }
 
     pub targets_many : length (bridging splice i a b).targets ≡ (bridging splice i a b).levels + length (bridging splice i a b).following

@@ -4,6 +4,7 @@ pub mod Fade
 pub mod Faults
 pub mod Least
 pub mod Limits
+pub mod Line
 pub mod Rows
 pub mod Sinks
 pub mod StateCosts

@@ -4,19 +4,9 @@ ghost use Rattle.std.specs.Prelude.{◌≡◌, ◌+◌, ◌*◌, ◌-◌, ◌<�
 ghost use Rattle.cost_core.specs.Limits.{CanFade};
 ghost use Rattle.cost_core.specs.Fade as fades;
 
-use crate::sums::{scale, weighted_at};
+use crate::sums::{blend, scale, weighted_at};
 use dsd_bits::Bits;
 use std::alloc::{AllocError, Global};
-
-// Between two weighted sums, in parts of one more than the levels.
-fn blend(before: usize, a: i32, after: usize, b: i32) -> i32
-    requires parts { before + after ≤ 4097 }
-    requires a { unsigned_abs a ≤ 4096 }
-    requires b { unsigned_abs b ≤ 4096 }
-    ensures { result ≡ (pos before *ℤ a) +ℤ (pos after *ℤ b) }
-{
-    before as i32 * a + after as i32 * b
-}
 
 // The target of place `i` of a fade of `levels` bits, from the end `stop` of a cue in the take `a` to
 // the start of a cue in the take `b`.

@@ -5,7 +5,8 @@
 //! deviations. All sums are of whole numbers, times one more than the bridge's length, so nothing is
 //! rounded. Which targets they are is asked for by the cue before the bridge (`splice_core::Target`):
 //! those of a fade go in a straight line from the weighted sum of the take before to that of the take
-//! after, and so read bits of both takes beyond the cues. [`has_room`] tells whether those bits are there.
+//! after, and so read bits of both takes beyond the cues, those of a line from one given sum to another.
+//! [`has_room`] tells whether the bits that a target reads are there.
 //!
 //! A [`Window`] holds what decides the cost of one bridge in one channel. It tells the cost of any bits
 //! ([`Window::cost_of`]), and the same step by step for a trellis search as of Viterbi, over the states
@@ -17,7 +18,7 @@
 //!
 //! - `weighted w z n` is the sum over `k` of `w[k] * sign(z[n - k])`.
 //! - `targets_of` gives the targets of a bridge's places by its cue's target, `fade` that of one place of a
-//!   fade; `reach_of` says how many bits beyond the cues they read, `HasRoom splice i count` that the takes
+//!   fade, `line` that of one of a line; `reach_of` says how many bits beyond the cues they read, `HasRoom splice i count` that the takes
 //!   have them, where that of cue `i` has `count` bits, and `first_fault` which of them are wanting first.
 //! - `Bridging` is what a window holds; `bridge_cost d x` is the sum of the squared deviations over its
 //!   places, `IsLeastBridge d x` says that no bits of its length cost less, `IsFirstLeastBridge d x`
@@ -49,6 +50,7 @@
 mod fading;
 mod fault;
 mod laws;
+mod line;
 mod room;
 mod rows;
 mod sink;

@@ -1,14 +1,16 @@
 //! The room that a bridge needs in the takes.
 
-ghost use Rattle.std.specs.Prelude.{◌≡◌, ◌+◌, ◌<◌, length, IsOk, MatchResult, None, OnOk, Some};
+ghost use Rattle.std.specs.Prelude.{◌≡◌, ◌+◌, ◌<◌, ◌≤◌, length, IsOk, MatchResult, None, OnOk, Some};
 ghost use Rattle.splice_core.specs.Splices.{splice_content};
 ghost use Rattle.cost_core.specs.Faults.{HasRoom, first_fault};
+ghost use Rattle.cost_core.specs.Targets.{reach_of};
 
 use crate::fault::RoomFault;
 use splice_core::{Splice, Target};
 
 /// Whether the bridge after cue `cue` has room, where each channel of that cue's take has `count` bits: a
-/// fade of `L` bits by `K` weights reads `L + K - 1` bits before the next cue and `L` bits after its own.
+/// fade of `L` bits by `K` weights reads `L + K - 1` bits before the next cue and `L` bits after its own, a line
+/// none.
 ///
 /// Refusals, in this order: `NoRoomBefore` where the next cue starts too early in its take for what the
 /// target reads before it, `NoRoomAfter` where cue `cue` stops too late in its own for what it reads after
@@ -24,10 +26,7 @@ pub fn has_room(splice: &Splice, cue: usize, count: usize) -> Result<(), RoomFau
     ensures order { MatchResult result (λ _. first_fault (splice_content splice.now) cue count ≡ None) (λ fault. first_fault (splice_content splice.now) cue count ≡ Some fault) }
 {
     let here = &splice.cues[cue];
-    let levels = here.bridge;
-    let (before, after) = match here.target {
-        Target::Fade => (levels + splice.weights.len() - 1, levels),
-    };
+    let (before, after) = reach_of(here.target, splice.weights.len(), here.bridge);
     if splice.cues[cue + 1].start < before {
         return Err(RoomFault::NoRoomBefore);
     }
@@ -35,4 +34,19 @@ pub fn has_room(splice: &Splice, cue: usize, count: usize) -> Result<(), RoomFau
         return Err(RoomFault::NoRoomAfter);
     }
     Ok(())
+}
+
+// How many bits beyond its cues the target of a bridge of `levels` bits reads, by so many weights: before the next cue,
+// and after its own.
+fn reach_of(target: Target, weights: usize, levels: usize) -> (usize, usize)
+    requires weights { (1 ≤ weights) × (weights ≤ 12) }
+    requires levels { levels ≤ 4096 }
+    ensures before { result.0 ≡ (reach_of target weights levels).before }
+    ensures after { result.1 ≡ (reach_of target weights levels).after }
+    ensures few { (result.0 ≤ 4107) × (result.1 ≤ 4096) }
+{
+    match target {
+        Target::Fade => (levels + weights - 1, levels),
+        Target::Line { .. } => (0, 0),
+    }
 }

@@ -1,6 +1,6 @@
 //! Weighted sums of bits.
 
-ghost use Rattle.std.specs.Prelude.{◌≡◌, ℕ, ◌+◌, ◌*◌, ◌%◌, ◌^◌, ◌<◌, ◌≤◌, map, length, slice_index, slice_index_or, pos, ◌*ℤ◌, ◌-ℤ◌, unsigned_abs, IfOk};
+ghost use Rattle.std.specs.Prelude.{◌≡◌, ℕ, ◌+◌, ◌*◌, ◌%◌, ◌^◌, ◌<◌, ◌≤◌, map, length, slice_index, slice_index_or, pos, ◌+ℤ◌, ◌*ℤ◌, ◌-ℤ◌, unsigned_abs, IfOk};
 ghost use Rattle.std.specs.List.{range_with_len};
 ghost use Rattle.dsd_bits.specs.Sums.{sign};
 ghost use Rattle.splice_core.specs.Cues.{AreWeights};
@@ -55,6 +55,16 @@ pub fn scale(levels: usize, sum: i32) -> i32
     ensures bound { unsigned_abs result ≤ (levels + 1) * 4096 }
 {
     (levels as i32 + 1) * sum
+}
+
+/// Between two weighted sums, in parts of one more than the levels.
+pub fn blend(before: usize, a: i32, after: usize, b: i32) -> i32
+    requires parts { before + after ≤ 4097 }
+    requires a { unsigned_abs a ≤ 4096 }
+    requires b { unsigned_abs b ≤ 4096 }
+    ensures { result ≡ (pos before *ℤ a) +ℤ (pos after *ℤ b) }
+{
+    before as i32 * a + after as i32 * b
 }
 
 /// The square of the difference of two scaled sums: below `2^51`.

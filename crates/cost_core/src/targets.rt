@@ -6,6 +6,7 @@ ghost use Rattle.cost_core.specs.Faults.{HasRoom};
 ghost use Rattle.cost_core.specs.Windows.{bridging, cue_at};
 
 use crate::fading::fade_targets;
+use crate::line::line_targets;
 use dsd_bits::Bits;
 use splice_core::{Splice, Target};
 use std::alloc::{AllocError, Global};
@@ -31,5 +32,6 @@ pub fn targets_after(
     let levels = splice.cues[cue].bridge;
     match splice.cues[cue].target {
         Target::Fade => fade_targets(alloc, weights, a, stop, b, start, levels),
+        Target::Line { a, b } => line_targets(alloc, a, b, weights.len(), levels),
     }
 }

@@ -32,7 +32,7 @@ const PLACES: &[(&str, &str)] = &[
     ("take = 1, start = 0, stop = 1", "ShortCue 0"),
     ("take = 1, start = 0, stop = 2", "read"),
     ("gain = 1", "UnknownKey"),
-    ("line = [1, 1]", "UnknownKey"),
+    ("line = [1, 1]", "MissingKey take"),
 ];
 
 #[test]
@@ -49,12 +49,8 @@ const MAY_HAVE: &[(&str, &str)] = &[
     ("bridge = 4096, stop = 1", "ShortCue 0"),
     ("bridge = 0, stop = 8", "read"),
     ("target = 1, title = 1, stop = 1", "WrongKind target"),
-    (
-        "target = \"line\", title = 1, stop = 1",
-        "OutOfLimit target",
-    ),
     ("target = \"\", stop = 1", "OutOfLimit target"),
-    ("target = \"Fade\", stop = 1", "OutOfLimit target"),
+    ("target = \"Fade\", line = 1, stop = 1", "OutOfLimit target"),
     ("target = \"fade\", stop = 8", "read"),
     ("title = 1, stop = 1", "WrongKind title"),
     ("title = [\"a\"], stop = 1", "WrongKind title"),
@@ -64,6 +60,43 @@ const MAY_HAVE: &[(&str, &str)] = &[
 #[test]
 fn names_the_faults_of_what_a_cue_may_have(rt: HostRuntime) -> Result<(), Fail> {
     check_faults(&rt, rt.alloc(), (CUE, ", take = 0, start = 0}]}"), MAY_HAVE)
+}
+
+// With a take, a start and a stop.
+const LINES: &[(&str, &str)] = &[
+    ("target = \"line\", title = 1", "MissingKey line"),
+    ("target = \"line\", line = 1, title = 1", "WrongKind line"),
+    ("target = \"line\", line = [4097, \"a\"]", "WrongKind line"),
+    ("target = \"line\", line = [1.0, 1]", "WrongKind line"),
+    ("target = \"line\", line = []", "OutOfLimit line"),
+    ("target = \"line\", line = [1]", "OutOfLimit line"),
+    ("target = \"line\", line = [1, 2, 3]", "OutOfLimit line"),
+    (
+        "target = \"line\", line = [4097, 0], title = 1",
+        "OutOfLimit line",
+    ),
+    ("target = \"line\", line = [0, -4097]", "OutOfLimit line"),
+    (
+        "target = \"line\", line = [0, -9223372036854775808]",
+        "OutOfLimit line",
+    ),
+    (
+        "target = \"line\", line = [4096, -4096], title = 1",
+        "WrongKind title",
+    ),
+    ("target = \"line\", line = [2, -2], bridge = 0", "read"),
+    ("target = \"fade\", line = [0, 0]", "OutOfLimit line"),
+    ("line = \"a\", title = 1", "OutOfLimit line"),
+];
+
+#[test]
+fn names_the_faults_of_lines(rt: HostRuntime) -> Result<(), Fail> {
+    check_faults(
+        &rt,
+        rt.alloc(),
+        (CUE, ", take = 0, start = 0, stop = 8}]}"),
+        LINES,
+    )
 }
 
 // The same splice up to behind the take, the start and the stop of its first cue.

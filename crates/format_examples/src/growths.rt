@@ -230,7 +230,7 @@ fn a_wave_file_is_written(rt: HostRuntime) -> Result<(), Fail> {
     let mut samples = Vec::new(rt.alloc());
     samples.extend_from_slice(&[10])?;
     let pcm = Pcm::new(1, 352_800, 24, samples);
-    assert!(rt; wave_core::write(rt.alloc(), &pcm)?.len() == 48);
+    assert!(rt; wave_core::write(rt.alloc(), &pcm)?.len() == 72);
     Ok(())
 }
 

@@ -1,10 +1,9 @@
 //! RIFF WAVE files byte by byte, and the edges of sizes and widths.
 
-ghost use Rattle.std.specs.Prelude.{◌≡◌, ◌≤◌, ◌⊎◌};
-
 use crate::compared::check_printed;
 use fixtures::compared::equal;
 use fixtures::files::WAVE;
+use fixtures::waves::{THREE_CHANNELS, TWO_CHANNELS, WIDE};
 use std::alloc::{AllocError, Global};
 use std::test::Fail;
 use wave_core::{Pcm, WaveFault, push_frames, push_header, push_pad, push_sample, write};
@@ -19,41 +18,31 @@ fn writes_one_sample(rt: HostRuntime) -> Result<(), Fail> {
     let narrow = Pcm::new(1, 352_800, 16, vec![in rt.alloc(); 10]?);
     assert!(rt; writes(rt.alloc(), narrow, &WAVE)?, "16 bits");
     let wide = Pcm::new(1, 352_800, 24, vec![in rt.alloc(); 10]?);
-    let expected = b"RIFF\x28\0\0\0WAVEfmt \x10\0\0\0\x01\0\x01\0\x20\x62\x05\0\
-        \x60\x26\x10\0\x03\0\x18\0data\x03\0\0\0\x0a\0\0\0";
-    assert!(rt; writes(rt.alloc(), wide, expected)?, "24 bits");
+    assert!(rt; writes(rt.alloc(), wide, &WIDE)?, "24 bits");
     Ok(())
 }
 
-// Whether these samples are written as a file of so many bytes that begins with these eight, and has these
-// from the place 40 on.
-fn writes_ends(
-    alloc: Global,
-    pcm: Pcm,
-    size: usize,
-    (front, rest): (&[u8], &[u8]),
-) -> Result<bool, WaveFault> {
-    let file = write(alloc, &pcm)?;
-    Ok(file.len() == size && file.starts_with(front) && equal(behind(&file, 40), rest))
-}
-
-// The bytes from a place on.
-fn behind(file: &[u8], place: usize) -> &[u8] {
-    let (_, rest) = file.split_at(place.min(file.len()));
-    rest
-}
-
 #[test]
-fn writes_two_channels_and_no_frames(rt: HostRuntime) -> Result<(), Fail> {
+fn writes_several_channels(rt: HostRuntime) -> Result<(), Fail> {
     let two = Pcm::new(2, 352_800, 16, vec![in rt.alloc(); 10, -10]?);
-    let ends = (
-        b"RIFF\x28\0\0\0".as_slice(),
-        [4, 0, 0, 0, 0x0a, 0, 0xf6, 0xff].as_slice(),
+    assert!(rt; writes(rt.alloc(), two, &TWO_CHANNELS)?, "two channels");
+    let three = Pcm::new(3, 352_800, 16, vec![in rt.alloc(); 10, -10, 10]?);
+    assert!(rt;
+        writes(rt.alloc(), three, &THREE_CHANNELS)?,
+        "three channels"
     );
-    assert!(rt; writes_ends(rt.alloc(), two, 48, ends)?, "two channels");
+    Ok(())
+}
+
+// Six channels of 24 bits: 18 bytes a frame and, at one frame a second, 18 a second.
+#[test]
+fn writes_no_frames(rt: HostRuntime) -> Result<(), Fail> {
     let none = Pcm::new(6, 1, 24, Vec::new(rt.alloc()));
-    let ends = (b"RIFF\x24\0\0\0".as_slice(), [0; 4].as_slice());
-    assert!(rt; writes_ends(rt.alloc(), none, 44, ends)?, "no frames");
+    let expected = b"RIFF\x3c\0\0\0WAVE\
+        fmt \x28\0\0\0\xfe\xff\x06\0\x01\0\0\0\x12\0\0\0\x12\0\x18\0\
+        \x16\0\x18\0\0\0\0\0\x01\0\0\0\0\0\x10\0\x80\0\0\xaa\0\x38\x9b\x71\
+        data\0\0\0\0";
+    assert!(rt; writes(rt.alloc(), none, expected)?);
     Ok(())
 }
 
@@ -68,6 +57,19 @@ fn fills_a_riff_chunk(rt: HostRuntime) -> Result<(), Fail> {
         assert!(rt; refused == Some(WaveFault::TooLarge), "{frames} frames");
         assert!(rt; out.len() == 44, "{frames} frames");
     }
+    Ok(())
+}
+
+// The second form has 24 bytes more: its greatest file has fewer frames.
+#[test]
+fn fills_a_riff_chunk_of_24_bits(rt: HostRuntime) -> Result<(), Fail> {
+    let mut out = Vec::new(rt.alloc());
+    push_header(&mut out, 1, 352_800, 24, 1_431_655_744)?;
+    assert!(rt; out.len() == 68);
+    assert!(rt; &out[..8] == b"RIFF\xfc\xff\xff\xff".as_slice());
+    let refused = push_header(&mut out, 1, 352_800, 24, 1_431_655_745).err();
+    assert!(rt; refused == Some(WaveFault::TooLarge));
+    assert!(rt; out.len() == 68);
     Ok(())
 }
 
@@ -124,10 +126,7 @@ fn pads(
     width: u32,
     frames: u64,
     pad: &[u8],
-) -> Result<bool, AllocError>
-    requires channels { (1 ≤ channels) × (channels ≤ 6) }
-    requires width { (width ≡ 16) ⊎ (width ≡ 24) }
-{
+) -> Result<bool, AllocError> {
     let mut out = Vec::new(alloc);
     push_pad(&mut out, channels, width, frames)?;
     Ok(equal(&out, pad))

@@ -5,7 +5,7 @@ ghost use Rattle.device_core.specs.Outlets.{outlet_failures};
 ghost use Rattle.cert_core.specs.Writers.{has_head, is_open, row_length};
 
 use crate::certificates::WORKED;
-use cert_core::{CertFault, CertWriter};
+use cert_core::{CertFault, CertWriter, Version};
 use cost_core::{LevelSink, SinkFault};
 use device_core::Outlet;
 use fixtures::devices::sip;
@@ -15,9 +15,39 @@ use std::test::Fail;
 
 const NEVER: u64 = u64::MAX;
 
-// The first and the last byte of what each call writes of the worked certificate, counted from 1: its head, the
-// start of the entry, both rows, the cost.
-const PARTS: [(usize, usize); 5] = [(1, 12), (13, 18), (19, 34), (35, 50), (51, 58)];
+// The worked certificate by the second version. Its rows are cut at the cost 4: the first is 4 and 0, so 0 in eight
+// bytes, one byte for each excess, 4 and 0; the second is 4 and 4, so 4 in eight bytes, and none for an excess.
+const NARROW: [u8; 46] = *b"DSPC\0\x02\0\x02\0\0\0\x01\0\0\0\0\0\x01\
+    \0\0\0\0\0\0\0\0\x01\x04\0\
+    \0\0\0\0\0\0\0\x04\0\
+    \0\0\0\0\0\0\0\x04";
+
+// A certificate of one entry of two rows, and the first and the last byte of what each call writes of it, counted from
+// 1: its head, the start of the entry, both rows, the cost.
+struct Worked {
+    version: Version,
+    first: [u64; 2],
+    last: [u64; 2],
+    bytes: &'static [u8],
+    parts: [(usize, usize); 5],
+}
+
+const CERTIFICATES: [Worked; 2] = [
+    Worked {
+        version: Version::One,
+        first: [1 << 63, 0],
+        last: [4, 4],
+        bytes: &WORKED,
+        parts: [(1, 12), (13, 18), (19, 34), (35, 50), (51, 58)],
+    },
+    Worked {
+        version: Version::Two,
+        first: [4, 0],
+        last: [4, 4],
+        bytes: &NARROW,
+        parts: [(1, 12), (13, 18), (19, 29), (30, 38), (39, 46)],
+    },
+];
 
 // What the calls for the certificate of one entry of two rows answer, each made whatever the ones before it answered.
 fn answers<W: Write>(
@@ -48,21 +78,18 @@ struct Outcome<W> {
     outlet: Outlet<W>,
 }
 
-// The outlet, after as much of the worked certificate as could be written to it.
+// The outlet, after as much of a certificate as could be written to it.
 fn written<W: Write + Drop>(
     alloc: Global,
     outlet: Outlet<W>,
-    first: &[u64],
-    last: &[u64],
+    worked: &Worked,
 ) -> Result<Outcome<W>, AllocError>
     requires ready { outlet_failures outlet < 2 ^ 64 - 1 }
-    requires first { length first.now ≡ 2 }
-    requires last { length last.now ≡ 2 }
 {
-    let Ok(mut writer) = CertWriter::new(alloc, outlet, 2) else {
+    let Ok(mut writer) = CertWriter::new(alloc, outlet, 2, worked.version) else {
         return Err(AllocError);
     };
-    let answers = answers(&mut writer, first, last, 4);
+    let answers = answers(&mut writer, &worked.first, &worked.last, 4);
     Ok(Outcome {
         answers,
         is_refused: LevelSink::refused(&writer),
@@ -82,49 +109,62 @@ fn answer((first, last): (usize, usize), write: usize) -> Result<(), CertFault> 
 }
 
 // Whether the answers are those where the write at a place fails.
-fn are_answers(answers: &[Result<(), CertFault>], write: usize) -> bool {
+fn are_answers(answers: &[Result<(), CertFault>], worked: &Worked, write: usize) -> bool {
     answers
         .iter()
-        .zip(PARTS)
+        .zip(worked.parts)
         .all(|(given, part)| *given == answer(part, write))
 }
 
 #[test]
-fn the_worked_certificate_is_written(rt: HostRuntime) -> Result<(), Fail> {
+fn the_worked_certificates_are_written(rt: HostRuntime) -> Result<(), Fail> {
     let alloc = rt.alloc();
-    let outlet = Outlet::new(Vec::new(alloc));
-    let written = written(alloc, outlet, &[1 << 63, 0], &[4, 4])?;
-    assert!(rt; are_answers(&written.answers, 59));
-    assert!(rt; !written.is_refused);
-    assert!(rt; written.outlet.into_inner().as_slice() == WORKED.as_slice());
+    for worked in &CERTIFICATES {
+        let outlet = Outlet::new(Vec::new(alloc));
+        let written = written(alloc, outlet, worked)?;
+        let size = worked.bytes.len();
+        assert!(rt; are_answers(&written.answers, worked, size + 1), "{size}");
+        assert!(rt; !written.is_refused, "{size}");
+        assert!(rt;
+            written.outlet.into_inner().as_slice() == worked.bytes,
+            "{size}"
+        );
+    }
     Ok(())
 }
 
 // Whether a writer that fails at a write, or is full from it on, leaves the bytes before it alone, is asked no
 // more, and lets each later call fail and rows be refused.
-fn leaves(alloc: Global, fails_at: u64, full_from: u64, write: usize) -> Result<bool, AllocError>
+fn leaves(
+    alloc: Global,
+    worked: &Worked,
+    fails_at: u64,
+    full_from: u64,
+    write: usize,
+) -> Result<bool, AllocError>
     requires { 1 ≤ write }
 {
     let outlet = Outlet::new(sip(alloc, fails_at, full_from));
-    let written = written(alloc, outlet, &[1 << 63, 0], &[4, 4])?;
-    let is_told = are_answers(&written.answers, write) && written.is_refused;
+    let written = written(alloc, outlet, worked)?;
+    let is_told = are_answers(&written.answers, worked, write) && written.is_refused;
     let is_once = written.outlet.failures() == 1;
     let device = written.outlet.into_inner();
-    let is_front = WORKED.get(..write - 1) == Some(device.bytes.as_slice());
+    let is_front = worked.bytes.get(..write - 1) == Some(device.bytes.as_slice());
     Ok(is_told && is_once && is_front && device.writes == write as u64)
 }
 
 #[test]
 fn a_failed_write_leaves_a_front(rt: HostRuntime) -> Result<(), Fail> {
     let alloc = rt.alloc();
-    for write in 1..59 {
-        // A byte is taken by each write.
-        let place = write as u64;
-        assert!(rt; leaves(alloc, place, NEVER, write)?, "write {write} fails");
-        assert!(rt;
-            leaves(alloc, NEVER, place, write)?,
-            "full from write {write}"
-        );
+    for worked in &CERTIFICATES {
+        for write in 1..worked.bytes.len() + 1 {
+            // A byte is taken by each write.
+            let place = write as u64;
+            let fails = leaves(alloc, worked, place, NEVER, write)?;
+            assert!(rt; fails, "write {write} fails");
+            let is_full = leaves(alloc, worked, NEVER, place, write)?;
+            assert!(rt; is_full, "full from write {write}");
+        }
     }
     Ok(())
 }
@@ -137,7 +177,8 @@ fn refusals(
 ) -> Result<(Option<CertFault>, bool, Option<SinkFault>), CertFault>
     requires { length row.now ≡ 2 }
 {
-    let Ok(mut writer) = CertWriter::new(alloc, Outlet::new(sip(alloc, 13, NEVER)), 2) else {
+    let Ok(mut writer) = CertWriter::new(alloc, Outlet::new(sip(alloc, 13, NEVER)), 2, Version::One)
+    else {
         return Err(CertFault::Failed);
     };
     writer.begin(1)?;

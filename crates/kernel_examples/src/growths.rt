@@ -7,7 +7,7 @@ ghost use Rattle.cost_core.specs.Trellis.{states};
 ghost use Rattle.fir_core.specs.StreamView.{IsStream, state_of};
 
 use crate::certificates::WORKED;
-use cert_core::{CertReader, CertVerdict, CertWriter};
+use cert_core::{CertReader, CertVerdict, CertWriter, Version};
 use cost_core::{LevelSink, SinkFault, Window, WindowFault};
 use device_core::{Inlet, Outlet};
 use dsd_bits::{Bits, Sound};
@@ -16,7 +16,7 @@ use fixtures::windows::{bits_of, by_newest, ones, zeros};
 use player_core::Player;
 use std::alloc::{AllocError, Global};
 use std::test::Fail;
-use trellis_core::{bridge, bridge_into};
+use trellis_core::{bridge, bridge_cut_into, bridge_into};
 
 // One channel of 40 bits, as in DSDIFF 1.5.
 const FORTY: Sound = Sound {
@@ -198,9 +198,19 @@ fn a_bridge_is_handed_over(rt: HostRuntime) -> Result<(), Fail> {
     Ok(())
 }
 
+#[test]
+fn a_bridge_is_handed_over_cut(rt: HostRuntime) -> Result<(), Fail> {
+    let alloc = rt.alloc();
+    let window = window(alloc, 2)?;
+    let mut sink = sink_for(&window);
+    assert!(rt; bridge_cut_into(alloc, &window, &mut sink)?.cost == 8);
+    assert!(rt; sink.left == 0);
+    Ok(())
+}
+
 // How many failures a new writer of certificates has.
 fn new_failures(alloc: Global) -> Result<u64, AllocError> {
-    match CertWriter::new(alloc, Outlet::new(Vec::<u8>::new(alloc)), 2) {
+    match CertWriter::new(alloc, Outlet::new(Vec::<u8>::new(alloc)), 2, Version::Two) {
         Ok(writer) => Ok(writer.finish().failures()),
         Err(_) => Err(AllocError),
     }

@@ -8,7 +8,7 @@ use cost_core::{LevelSink, SinkFault, Window, WindowFault};
 use fixtures::windows::{by_newest, ones, zeros};
 use std::alloc::Global;
 use std::test::Fail;
-use trellis_core::{BridgeFault, bridge_into};
+use trellis_core::{BridgeFault, bridge_cut_into, bridge_into};
 
 // The numbers of the rows before one that is refused.
 #[derive(Drop)]
@@ -79,6 +79,23 @@ fn hands_over(alloc: Global, numbers: &[u64], byte: u8, cost: u64) -> Result<boo
     Ok(is_chosen && sink.numbers.as_slice() == numbers)
 }
 
+// Whether the rows of the bridge, cut at its cost, are these numbers, and its bits those of a byte, at a cost.
+fn hands_over_cut(alloc: Global, numbers: &[u64], byte: u8, cost: u64) -> Result<bool, Fail> {
+    let window = two_bits(alloc)?;
+    let mut sink = sink_for(alloc, &window, 0);
+    let chosen = bridge_cut_into(alloc, &window, &mut sink)?;
+    let is_chosen = chosen.bits.as_bytes() == [byte].as_slice() && chosen.cost == cost;
+    Ok(is_chosen && sink.numbers.as_slice() == numbers)
+}
+
+// Whether a refused row is answered as such where rows are cut, after these numbers.
+fn stops_cut(alloc: Global, refused_left: usize, numbers: &[u64]) -> Result<bool, Fail> {
+    let window = two_bits(alloc)?;
+    let mut sink = sink_for(alloc, &window, refused_left);
+    let fault = bridge_cut_into(alloc, &window, &mut sink).err();
+    Ok(fault == Some(BridgeFault::Sink) && sink.refused() && sink.numbers.as_slice() == numbers)
+}
+
 // Whether a refused row is answered as such, after these numbers.
 fn stops(alloc: Global, refused_left: usize, numbers: &[u64]) -> Result<bool, Fail> {
     let window = two_bits(alloc)?;
@@ -99,5 +116,21 @@ fn stops_where_a_row_is_refused(rt: HostRuntime) -> Result<(), Fail> {
     assert!(rt; stops(alloc, 3, &[])?, "the first row");
     assert!(rt; stops(alloc, 2, &[1 << 63, 0])?, "the second row");
     assert!(rt; stops(alloc, 1, &[1 << 63, 0, 16, 4])?, "the last row");
+    Ok(())
+}
+
+// The cost is 8: each number above it is 8.
+#[test]
+fn hands_over_rows_that_are_cut(rt: HostRuntime) -> Result<(), Fail> {
+    assert!(rt; hands_over_cut(rt.alloc(), &[8, 0, 8, 4, 8, 8], 0x80, 8)?);
+    Ok(())
+}
+
+#[test]
+fn stops_where_a_row_that_is_cut_is_refused(rt: HostRuntime) -> Result<(), Fail> {
+    let alloc = rt.alloc();
+    assert!(rt; stops_cut(alloc, 3, &[])?, "the first row");
+    assert!(rt; stops_cut(alloc, 2, &[8, 0])?, "the second row");
+    assert!(rt; stops_cut(alloc, 1, &[8, 0, 8, 4])?, "the last row");
     Ok(())
 }

@@ -1,9 +1,10 @@
 //! What the bits of a bridge cost, worked out by hand, and where there is no room for a fade.
 
 ghost use Rattle.std.specs.Prelude.{◌≡◌, ◌+◌, ◌<◌, ◌≤◌};
+ghost use Rattle.splice_core.specs.Cues.{IsLine};
 
 use cost_core::{Window, WindowFault};
-use fixtures::windows::{bits_of, by_equal, by_newest, by_older, ones, zeros};
+use fixtures::windows::{bits_of, by_equal, by_line, by_newest, by_older, ones, zeros};
 use std::alloc::Global;
 use std::test::Fail;
 
@@ -92,6 +93,35 @@ fn costs_of_whole_bridges(rt: HostRuntime) -> Result<(), Fail> {
     }
     let longer = by_newest(alloc, ones(0, 8), 2, zeros(3, 9));
     assert!(rt; cost(alloc, longer, 0x80)? == 8, "two bits");
+    Ok(())
+}
+
+// What the bits 0 and 1 cost as a bridge of a line with these ends, from ones to the start of a take of zeros.
+fn line_costs(alloc: Global, ends: (i32, i32)) -> Result<[u64; 2], Fail>
+    requires { IsLine ends.0 ends.1 }
+{
+    let zero = cost(
+        alloc,
+        by_line(alloc, ones(0, 8), 1, zeros(0, 7), ends),
+        0x00,
+    )?;
+    let one = cost(
+        alloc,
+        by_line(alloc, ones(0, 8), 1, zeros(0, 7), ends),
+        0x80,
+    )?;
+    Ok([zero, one])
+}
+
+// All numbers are times 2. A line from 2 to -2 is 0 at the bridge's place and -4 behind it: the bit 0 meets both, the bit
+// 1 is 4 off at both. Silence is 0 at both places: the bit 0 is 4 off behind the bridge, the bit 1 at it. From -1 to 1 the
+// targets are 0 and 2: the bit 0 is 6 off behind the bridge, the bit 1 is 4 off at it and 2 behind it.
+#[test]
+fn costs_of_lines(rt: HostRuntime) -> Result<(), Fail> {
+    let alloc = rt.alloc();
+    assert!(rt; line_costs(alloc, (2, -2))? == [0, 32], "there");
+    assert!(rt; line_costs(alloc, (0, 0))? == [16, 16], "silence");
+    assert!(rt; line_costs(alloc, (-1, 1))? == [36, 20], "back");
     Ok(())
 }
 

@@ -9,7 +9,9 @@ use Rattle.cost_core.specs.StateCosts.{trellis_of}
 use Rattle.cost_core.specs.Tables.{IsTable, value_in}
 use Rattle.cost_core.specs.Validity.{IsValid}
 use Rattle.trellis_core.specs.declared.bridging.Chosen.{Chosen}
-use Rattle.cert_core.specs.Text.{cert_head, entry_start, row_text}
+use Rattle.cert_core.specs.Spelling.{row_text}
+use Rattle.cert_core.specs.Text.{cert_head, entry_start}
+use Rattle.cert_core.specs.declared.version.Version.TheVariants.{One}
 use Rattle.cert_core.specs.declared.writer.CertWriter.{CertWriter}
 use Rattle.cert_core.specs.Certificates.{AreEntries, Claim, IsCert}
 use Rattle.cert_core.specs.Composing.{ReadIsCert}
@@ -48,11 +50,11 @@ record_of p d bits = record { cue = p.cue; channel = p.channel; bridging = d; bi
 
 -- the parts of an entry, written one after the other
 pub writes_entry : (u v w x : CertWriter (Vec ℕ Global)) (d : Bridging) (cue channel levels : ℕ) (chosen : Chosen) (rows : List (List ℕ)) → IsTable (trellis_of d) rows → IsValid (trellis_of d) (value_in rows) chosen.cost chosen.bits → levels ≡ d.levels
-    → written v ≡ written u ++ entry_start cue channel levels → written w ≡ written v ++ flat_map row_text rows → written x ≡ written w ++ to_be_bytes w64 chosen.cost → entries_left x ≡ entries_left u - 1 → 0 < entries_left u
+    → written v ≡ written u ++ entry_start cue channel levels → written w ≡ written v ++ flat_map (row_text One) rows → written x ≡ written w ++ to_be_bytes w64 chosen.cost → entries_left x ≡ entries_left u - 1 → 0 < entries_left u
     → Writes (record { cue = cue; channel = channel; bridging = d; bits = chosen.bits } ∷ []) u x
 writes_entry u v w x d cue channel levels chosen rows table valid long start middle end left some =
     let first = entry_start cue channel d.levels in
-    let second = flat_map row_text rows in
+    let second = flat_map (row_text One) rows in
     let third = to_be_bytes w64 chosen.cost in
     let begun : written v ≡ written u ++ first = start ∙ ap (λ n. written u ++ entry_start cue channel n) long in
     let entry = first ++ (second ++ third) in
@@ -110,10 +112,10 @@ module _ (cut : CutContent) where
   none_left ps xs left all long counted e = omega (arith, claims_long ps xs long)
 
 -- a head and the entries that it announces
-pub whole_cert : ReadIsCert → (weights n : ℕ) (cs : List Claim) (u w : CertWriter (Vec ℕ Global)) (cert : List ℕ) → written u ≡ cert_head weights n → entries_left u ≡ n → entries_left w ≡ 0 → Writes cs u w → cert ≡ written w → IsCert weights cs cert
+pub whole_cert : ReadIsCert → (weights n : ℕ) (cs : List Claim) (u w : CertWriter (Vec ℕ Global)) (cert : List ℕ) → written u ≡ cert_head One weights n → entries_left u ≡ n → entries_left w ≡ 0 → Writes cs u w → cert ≡ written w → IsCert weights cs cert
 whole_cert law weights n cs u w cert head announced none writes is =
     let all : n ≡ length cs = omega (arith, writes.counted) in
-    let text = is ∙ writes.appended ∙ ap (λ l. l ++ writes.entries) (head ∙ ap (cert_head weights) all) in
+    let text = is ∙ writes.appended ∙ ap (λ l. l ++ writes.entries) (head ∙ ap (cert_head One weights) all) in
     subst (IsCert weights cs) (sym text) (law weights cs writes.entries writes.shown)
 
 -- ---- the chosen bits stand in the master

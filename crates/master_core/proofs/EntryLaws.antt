@@ -14,6 +14,7 @@ use Rattle.cert_core.specs.Readers.{IfAccepted, IfReason, IfRejected, InHead, Is
 use Rattle.cert_core.specs.Reasons.{FirstReason, HeadReason}
 use Rattle.cert_core.specs.Stops.{InEntry}
 use Rattle.cert_core.specs.Text.{cert_head}
+use Rattle.cert_core.specs.declared.version.Version.TheVariants.{One}
 use Rattle.cut_core.specs.declared.bridges.BridgePlace.{BridgePlace}
 use Rattle.cut_core.specs.Bridges.{bridges}
 use Rattle.cut_core.specs.Cuts.{CutContent}
@@ -74,8 +75,8 @@ module _ (cs : List Claim) (k : ℕ) (claim : Claim) (lt : k < length cs) (is : 
       )
 
 -- ---- what one call answers
-pub head_judged : (weights number : ℕ) (a b : Option (List ℕ)) (answer : Option CertReason) → (IsWell (Ok answer) → Consumes a b (cert_head weights number)) → IfReason (Ok answer) (InHead weights number a)
-    → IfReason (Ok answer) (λ _. IfSome a (λ bytes. (rest : List ℕ) → bytes ≡ cert_head weights number ++ rest → ⊥)) → JudgesHead weights number a b answer
+pub head_judged : (weights number : ℕ) (a b : Option (List ℕ)) (answer : Option CertReason) → (IsWell (Ok answer) → Consumes a b (cert_head One weights number)) → IfReason (Ok answer) (InHead weights number a)
+    → IfReason (Ok answer) (λ _. IfSome a (λ bytes. (rest : List ℕ) → bytes ≡ cert_head One weights number ++ rest → ⊥)) → JudgesHead weights number a b answer
 head_judged weights number a b None well reason only = well refl
 head_judged weights number a b (Some r) well reason only = (reason, only)
 
@@ -99,7 +100,7 @@ claim_is cue channel d e x y p q = ap (λ (f : Bridging). record_of cue channel 
 -- ---- the whole certificate
 module _ (cut : CutContent) (zs : List (List Bool)) where
   abbrev head : List ℕ
-  head = cert_head (length cut.splice.weights) (length (claims cut zs))
+  head = cert_head One (length cut.splice.weights) (length (claims cut zs))
 
   abbrev Stands : Reason → List ℕ → Type 0
   Stands reason cert = CertReasons cut zs cert reason × (IsCertOf cut zs cert → ⊥)
@@ -129,7 +130,7 @@ module _ (cut : CutContent) (zs : List (List Bool)) where
       let made = law (length cut.splice.weights) (claims cut zs) (head ++ rest) is in
       subst (λ (l : List ℕ). AreEntries (claims cut zs) l) (sym (append_cancel_left head rest made.0 made.1)) made.2
 
-  module _ (a b : Option (List ℕ)) (read : Consumes a b (cert_head (length cut.splice.weights) (length (claims cut zs)))) where
+  module _ (a b : Option (List ℕ)) (read : Consumes a b (cert_head One (length cut.splice.weights) (length (claims cut zs)))) where
     entry_rejected : CertIsRead → (k : ℕ) (reason : CertReason) → IfSome b (λ rest. IsWrongFrom (claims cut zs) k reason rest × (AreEntries (claims cut zs) rest → ⊥)) → JudgesBytes cut zs a (Rejected (Cert k reason))
     entry_rejected law k reason wrong = before (λ rest. IsWrongFrom (claims cut zs) k reason rest × (AreEntries (claims cut zs) rest → ⊥)) (Stands (Cert k reason)) a b head read step wrong
       where

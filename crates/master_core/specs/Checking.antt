@@ -10,6 +10,7 @@ use Rattle.cost_core.specs.StateCosts.{trellis_of}
 use Rattle.cert_core.specs.Certificates.{AreEntries, Claim}
 use Rattle.cert_core.specs.Reasons.{FirstReason, HeadReason}
 use Rattle.cert_core.specs.Text.{cert_head}
+use Rattle.cert_core.specs.declared.version.Version.TheVariants.{One}
 use Rattle.cert_core.specs.declared.verdict.CertReason.{CertReason}
 use Rattle.cut_core.specs.Cuts.{CutContent, IsAlike, channel_number, master_length}
 use Rattle.cut_core.specs.Titles.{titles_of}
@@ -57,7 +58,7 @@ pub record IsFirstCuedBit (cut : CutContent) (r : Content) (c place : ℕ) : Typ
 -- a certificate of so many weights and entries begins with entries that show these claims, and goes on with these bytes
 pub record ShowsUpTo (weights number : ℕ) (cs : List Claim) (cert after : List ℕ) : Type 0 where
   pub entries : List ℕ
-  pub text : cert ≡ cert_head weights number ++ (entries ++ after)
+  pub text : cert ≡ cert_head One weights number ++ (entries ++ after)
   pub shown : AreEntries cs entries
 
 -- the entries before entry k show their claims, and entry k is wrong first for this reason

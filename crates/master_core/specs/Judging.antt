@@ -9,6 +9,7 @@ use Rattle.cert_core.specs.Entries.{BeginsValid, ReadsEntry}
 use Rattle.cert_core.specs.Readers.{InHead}
 use Rattle.cert_core.specs.Reasons.{FirstReason}
 use Rattle.cert_core.specs.Text.{cert_head}
+use Rattle.cert_core.specs.declared.version.Version.TheVariants.{One}
 use Rattle.cert_core.specs.declared.verdict.CertReason.{CertReason}
 use Rattle.cert_core.specs.declared.verdict.CertVerdict.{CertVerdict}
 use Rattle.cert_core.specs.declared.verdict.CertVerdict.TheVariants as judged
@@ -42,6 +43,11 @@ abbrev pub WhereAccepted : Verdict → Type 0 → Type 0
 WhereAccepted (Accepted cost) P = P
 WhereAccepted (Rejected reason) P = Unit {0}
 
+-- P of the cost, where it is accepted
+abbrev pub AtCost : Verdict → (ℕ → Type 0) → Type 0
+AtCost (Accepted cost) P = P cost
+AtCost (Rejected reason) P = Unit {0}
+
 -- an accepted master is the cues, and its certificate shows its bridges to be least, which cost so much; against a rejected one this reason stands first
 abbrev pub JudgesMaster : CutContent → Form → Content → List ℕ → Verdict → Type 0
 JudgesMaster cut form r cert (Accepted cost) = IsMasterOf cut form r × IsCertOf cut r.channels cert × (cost ≡ total_cost cut r.channels) × (cost ≡ windows_total cut r.channels)
@@ -49,8 +55,8 @@ JudgesMaster cut form r cert (Rejected reason) = StandsAgainst cut form r cert r
 
 -- the head of a certificate was read, or known bytes have this reason first in it, and don't begin with it
 abbrev pub JudgesHead : ℕ → ℕ → Option (List ℕ) → Option (List ℕ) → Option CertReason → Type 0
-JudgesHead weights number old new None = Consumes old new (cert_head weights number)
-JudgesHead weights number old new (Some reason) = InHead weights number old reason × IfSome old (λ bytes. (rest : List ℕ) → bytes ≡ cert_head weights number ++ rest → ⊥)
+JudgesHead weights number old new None = Consumes old new (cert_head One weights number)
+JudgesHead weights number old new (Some reason) = InHead weights number old reason × IfSome old (λ bytes. (rest : List ℕ) → bytes ≡ cert_head One weights number ++ rest → ⊥)
 
 -- an entry that shows the claim was read, and its bits are least, at this cost
 pub record ShowsClaim (claim : Claim) (old new : Option (List ℕ)) (cost : ℕ) : Type 0 where

@@ -1,5 +1,5 @@
 -- A master: the cues and the bridges between them, channel by channel, and what they cost.
-use Rattle.std.specs.Prelude.{◌≡◌, ℕ, ◌+◌, ◌-◌, Bool, List, [], length, map, slice_index_or}
+use Rattle.std.specs.Prelude.{◌≡◌, ℕ, ◌+◌, ◌-◌, ◌≤◌, Bool, List, [], length, map, slice_index_or}
 use Rattle.std.specs.List.{AllZip, range_with_len, sum_by}
 use Rattle.dsd_bits.specs.Contents.{Content, MarkContent}
 use Rattle.form_core.specs.declared.form.Form.{Form}
@@ -95,3 +95,8 @@ pub record IsBestMaster (cut : CutContent) (form : Form) (recording : Content) (
   pub best : AreBestChannels cut channels
   pub recording_is : recording ≡ master_of cut form channels
   pub cost_is : cost ≡ total_cost cut channels
+
+-- of all masters of a cut none costs less than these channels, read whole, and this is what they cost
+pub record CostLeast (cut : CutContent) (zs : List (List Bool)) (cost : ℕ) : Type 0 where
+  pub own : cost ≡ total_cost cut zs
+  pub least : (others : List (List Bool)) → AreMasterChannels cut others → cost ≤ total_cost cut others

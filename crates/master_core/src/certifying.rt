@@ -1,60 +1,31 @@
 //! The certificate of a master, written entry by entry while its bridges are searched.
 
-ghost use Rattle.std.specs.Prelude.{◌≡◌, ◌<◌, ◌≤◌, ◌^◌, All, IfOk, OnOk, [], ◌∷◌, length};
+ghost use Rattle.std.specs.Prelude.{◌≡◌, ◌<◌, ◌≤◌, IfOk, OnOk, [], ◌∷◌, length};
 ghost use Rattle.cert_core.specs.Text.{cert_head};
 ghost use Rattle.cert_core.specs.Writers.{entries_left};
 ghost use Rattle.cut_core.specs.Bridges.{IsPlace};
 ghost use Rattle.cut_core.specs.Cuts.{window};
-ghost use Rattle.master_core.specs.Certifying as specs;
 ghost use Rattle.master_core.specs.Certifying.{IsReady, Writes, written};
 ghost use Rattle.master_core.specs.Choosing.{IsChosenAt};
 ghost use Rattle.master_core.specs.Claims.{claim_of};
 
-use cert_core::{CertWriter, parts_join};
+use cert_core::{CertWriter, Version, parts_join};
 use cut_core::{BridgePlace, Cut};
 use device_core::Outlet;
 use std::alloc::{AllocError, Global};
 use trellis_core::{Chosen, best_rows_are_valid, bridge_into};
 
-// How many bytes the entry of the bridge at a place has.
-fn entry_size(cut: &Cut, place: BridgePlace) -> usize
-    requires { IsPlace cut.now place }
-    ensures value { result ≡ specs.entry_size cut.now place }
-    ensures bound { result ≤ 2 ^ 27 }
-{
-    let row = 8 << (cut.weight_number() - 1);
-    14 + row * (cut.cue(place.cue).bridge + 1)
-}
-
-/// How many bytes the certificate of the bridges at these places has.
-pub fn cert_size(cut: &Cut, places: &[BridgePlace]) -> usize
-    requires places { All (IsPlace cut.now) places.now }
-    requires few { length places.now ≤ 1536 }
-    ensures { result ≡ specs.cert_size cut.now places.now }
-{
-    let mut size = 12;
-    for place in places {
-        size += entry_size(cut, *place);
-    }
-    size
-}
-
-/// A writer over memory of a certificate of so many entries, whose head is written. There is room for `size` bytes. Err
-/// is want of memory.
-pub fn begin(
-    alloc: Global,
-    cut: &Cut,
-    entries: usize,
-    size: usize,
-) -> Result<CertWriter<Vec<u8>>, AllocError>
+/// A writer over memory of a certificate of so many entries, whose head is written. Room is asked for as rows are made,
+/// never by a number of the project. Err is want of memory.
+pub fn begin(alloc: Global, cut: &Cut, entries: usize) -> Result<CertWriter<Vec<u8>>, AllocError>
     requires { entries ≤ 1536 }
     ensures ready { IfOk result (IsReady (length cut.now.splice.weights)) }
     ensures left { IfOk result (λ writer. entries_left writer ≡ entries) }
-    ensures head { IfOk result (λ writer. written writer ≡ cert_head (length cut.now.splice.weights) entries) }
+    ensures head { IfOk result (λ writer. written writer ≡ cert_head Version.One (length cut.now.splice.weights) entries) }
 {
     cut.can_cut();
-    let outlet = Outlet::new(Vec::with_capacity(alloc, size)?);
-    let Ok(mut writer) = CertWriter::new(alloc, outlet, cut.weight_number()) else {
+    let outlet = Outlet::new(Vec::new(alloc));
+    let Ok(mut writer) = CertWriter::new(alloc, outlet, cut.weight_number(), Version::One) else {
         return Err(AllocError);
     };
     let Ok(()) = writer.begin(entries as u32) else {

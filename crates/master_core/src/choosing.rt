@@ -6,7 +6,7 @@ ghost use Rattle.cut_core.specs.Bridges.{IsPlace, bridges};
 ghost use Rattle.master_core.specs.Choosing.{AreChosen, chosen_claims};
 ghost use Rattle.master_core.specs.Choosing as specs;
 
-use crate::certifying::{begin, cert_size, write_entry};
+use crate::certifying::{begin, write_entry};
 use cert_core::read_is_cert;
 use cut_core::{BridgePlace, Cut};
 use std::alloc::{AllocError, Global};
@@ -36,8 +36,7 @@ pub fn choose_bridges(alloc: Global, cut: &Cut) -> Result<ChosenBridges, AllocEr
 {
     read_is_cert();
     let places = cut.bridges(alloc)?;
-    let size = cert_size(cut, &places);
-    let mut writer = begin(alloc, cut, places.len(), size)?;
+    let mut writer = begin(alloc, cut, places.len())?;
     let mut chosen = Vec::with_capacity(alloc, places.len())?;
     let mut total = 0;
     for k in 0..places.len() {

@@ -1,24 +1,22 @@
 -- A cue is read exactly where its table says it.
-use Rattle.std.proofs.Common.{◌≡◌, ℕ, ◌+◌, ◌≤◌, ◌<◌, ◌^◌, ℤ, cond, ltb, List, length, Option, Some, None, option_map, Result, Ok, Err, codes, refl, sym, ap, ◌∙◌, arith, inl, inr, ◌⊎◌}
-use Rattle.std.specs.Str.{bytes_eq}
+use Rattle.std.proofs.Common.{◌≡◌, ℕ, ◌+◌, ◌≤◌, ◌<◌, ◌^◌, ℤ, cond, ltb, List, length, Option, Some, None, option_map, Result, Ok, Err, refl, sym, ap, ◌∙◌, arith, inl, inr, ◌⊎◌}
 use Rattle.std.specs.Option.{ok_or}
 use Rattle.std.proofs.lemmas.Bool.{ltb-false, lt-ltb, le-ltb}
-use Rattle.std.proofs.lemmas.Slice.Eq.{bytes_eq-Decides}
 use Rattle.toml.specs.Data.{Data, string, integer, table, Members, get_member}
 use Rattle.project_core.specs.declared.key.Key.TheVariants as keys
 use Rattle.splice_core.specs.declared.cue.Target.{Target}
-use Rattle.splice_core.specs.declared.cue.Target.TheVariants.{Fade}
 use Rattle.project_core.specs.declared.fault.ProjectFault.{ProjectFault}
 use Rattle.project_core.specs.declared.fault.ProjectFault.TheVariants.{OutOfLimit, NoTake, ShortCue}
 use Rattle.project_core.specs.Keys.{name_of, cue_keys}
 use Rattle.project_core.specs.Steps.{◌>>=◌, optional}
 use Rattle.project_core.specs.Reading.{table_of, integer_of, text_of, below, limited_at}
 use Rattle.splice_core.specs.Cues.{CueContent, IsCueWithin}
-use Rattle.project_core.specs.ReadingCue.{take_at, bridge_of, bridge_at, target_of, target_at, title_of, title_at, cue_of}
+use Rattle.project_core.specs.ReadingCue.{take_at, bridge_of, bridge_at, target_at, title_of, title_at, cue_of}
 use Rattle.project_core.specs.Tables.{Has, number}
 use Rattle.project_core.specs.Meaning.{IsCue}
 use Rattle.project_core.proofs.TableAgain.{table_again, value_again, limited_again}
-use Rattle.project_core.proofs.TableLaws.{bind_ok, not_refused, passed, integer_ok, text_ok, table_ok, below_ok, integer_at_ok, limited_ok}
+use Rattle.project_core.proofs.TargetLaws.{target_again, target_ok}
+use Rattle.project_core.proofs.TableLaws.{bind_ok, not_refused, integer_ok, text_ok, table_ok, below_ok, integer_at_ok, limited_ok}
 
 take_ok : (i takes : ℕ) (t : Members) (n : ℕ) → take_at i takes t ≡ Ok n → Has t keys.Take (number n) × (n < takes)
 unfolding take_at
@@ -35,13 +33,6 @@ bridge_found (Some d) n e =
     let a = bind_ok (integer_of keys.Bridge d) (λ z. ok_or (below 4097 z) (OutOfLimit keys.Bridge)) n e in
     let b = below_ok 4097 a.0 (OutOfLimit keys.Bridge) n a.2 in
     (inl (ap (λ (x : Data). Some x) (integer_ok keys.Bridge d a.0 a.1 ∙ ap integer b.0)), omega (arith, b.1))
-
-target_found : (o : Option Data) (g : Target) → target_of o ≡ Ok g → (o ≡ Some (string (codes "fade"))) ⊎ (o ≡ None)
-target_found None g e = inr refl
-target_found (Some d) g e =
-    let a = bind_ok (text_of keys.Target d) (λ s. cond (bytes_eq s (codes "fade")) (Ok Fade) (Err (OutOfLimit keys.Target))) g e in
-    let b = passed (bytes_eq a.0 (codes "fade")) (OutOfLimit keys.Target) Fade g a.2 in
-    inl (ap (λ (x : Data). Some x) (text_ok keys.Target d a.0 a.1 ∙ ap string ((bytes_eq-Decides a.0 (codes "fade")).0 b.0)))
 
 title_found : (o : Option Data) (x : Option (List ℕ)) → optional title_of o ≡ Ok x → (o ≡ option_map string x) × ((s : List ℕ) → x ≡ Some s → length s ≤ 255)
 title_found None x e =
@@ -72,7 +63,7 @@ parts weights i (Ok a) (Ok b) (Ok c) (Ok d) (Ok g) (Ok s) p e =
     rw (← same) (refl, refl, refl, refl, refl, refl, long)
 
 pub cue_ok : (weights takes i : ℕ) (d : Data) (p : CueContent) → cue_of weights takes i d ≡ Ok p → (t : Members) × (d ≡ table t) × IsCue weights takes t p
-unfolding cue_of bridge_at target_at title_at
+unfolding cue_of bridge_at title_at
 cue_ok weights takes i d p e =
     let a = bind_ok (table_of keys.Cue cue_keys d) (λ t. take_at i takes t >>= λ a. limited_at keys.Start (2 ^ 36) t >>= λ b. limited_at keys.Stop (2 ^ 36) t >>= λ c. bridge_at t >>= λ d. target_at t >>= λ g. title_at t >>= λ s. cond (ltb (c + 1) (b + weights)) (Err (ShortCue i)) (Ok (record { take = a; start = b; stop = c; bridge = d; target = g; title = s }))) p e in
     let t = a.0 in
@@ -82,10 +73,10 @@ cue_ok weights takes i d p e =
     let start = limited_ok keys.Start (2 ^ 36) t p.start q.1 in
     let stop = limited_ok keys.Stop (2 ^ 36) t p.stop q.2 in
     let bridge = bridge_found (get_member (name_of keys.Bridge) t) p.bridge q.3 in
-    let target = target_found (get_member (name_of keys.Target) t) p.target q.4 in
+    let target = target_ok t p.target q.4 in
     let title = title_found (get_member (name_of keys.Title) t) p.title q.5 in
-    let limits : IsCueWithin weights takes p = record { take_is_there = take.1; start_fits = start.1; stop_fits = stop.1; bridge_fits = bridge.1; title_fits = title.1; long_enough = q.6 } in
-    (t, known.0, record { no_others = known.1; take = take.0; start = start.0; stop = stop.0; bridge = bridge.0; target = target; title = title.0; limits = limits })
+    let limits : IsCueWithin weights takes p = record { take_is_there = take.1; start_fits = start.1; stop_fits = stop.1; bridge_fits = bridge.1; target_fits = target.limits; title_fits = title.1; long_enough = q.6 } in
+    (t, known.0, record { no_others = known.1; take = take.0; start = start.0; stop = stop.0; bridge = bridge.0; target = target.name; line = target.line; title = title.0; limits = limits })
 
 take_again : (i takes : ℕ) (t : Members) (n : ℕ) → Has t keys.Take (number n) → n < takes → take_at i takes t ≡ Ok n
 unfolding take_at
@@ -97,19 +88,12 @@ bridge_read o n (inl h) le =
     rw (h, lt-ltb n 4097 lt)
 bridge_read o n (inr h) le = rw (h.0, h.1)
 
-fade_only : (g : Target) → g ≡ Fade
-fade_only Fade = refl
-
-target_read : (o : Option Data) (g : Target) → (o ≡ Some (string (codes "fade"))) ⊎ (o ≡ None) → target_of o ≡ Ok g
-target_read o g (inl h) = rw (h, fade_only g)
-target_read o g (inr h) = rw (h, fade_only g)
-
 title_read : (o : Option Data) (x : Option (List ℕ)) → o ≡ option_map string x → ((s : List ℕ) → x ≡ Some s → length s ≤ 255) → optional title_of o ≡ Ok x
 title_read o None h few = rw h
 title_read o (Some s) h few = rw (h, le-ltb 255 (length s) (few s refl))
 
 pub cue_again : (weights takes i : ℕ) (t : Members) (p : CueContent) → IsCue weights takes t p → cue_of weights takes i (table t) ≡ Ok p
-unfolding cue_of bridge_at target_at title_at
+unfolding cue_of bridge_at title_at
 cue_again weights takes i t p h =
     rw (
       table_again keys.Cue cue_keys t h.no_others,
@@ -117,7 +101,7 @@ cue_again weights takes i t p h =
       limited_again keys.Start (2 ^ 36) t p.start h.start h.limits.start_fits,
       limited_again keys.Stop (2 ^ 36) t p.stop h.stop h.limits.stop_fits,
       bridge_read (get_member (name_of keys.Bridge) t) p.bridge h.bridge h.limits.bridge_fits,
-      target_read (get_member (name_of keys.Target) t) p.target h.target,
+      target_again t p.target (record { name = h.target; line = h.line; limits = h.limits.target_fits }),
       title_read (get_member (name_of keys.Title) t) p.title h.title h.limits.title_fits,
       le-ltb (p.stop + 1) (p.start + weights) h.limits.long_enough,
     )

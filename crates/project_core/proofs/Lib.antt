@@ -3,6 +3,7 @@ pub mod KeyLaws
 pub mod TableLaws
 pub mod TableAgain
 pub mod DecimateLaws
+pub mod TargetLaws
 pub mod CueLaws
 pub mod SpliceLaws
 pub mod ProjectLaws

@@ -60,7 +60,7 @@ unfolding texts_at texts_of
 texts_again key t ss h =
     rw (value_again key t (texts ss) h, list_of-items_of (map string ss)) (each_again (λ _. text_of key) string (λ _. Unit {0}) (λ _ s _. refl) 0 ss (always ss))
 
-fits_one : (z : ℤ) → unsigned_abs z < 2 ^ 31 → fits_i32 z ≡ true
+pub fits_one : (z : ℤ) → unsigned_abs z < 2 ^ 31 → fits_i32 z ≡ true
 fits_one (pos n) h = lt-ltb n (2 ^ 31) h
 fits_one (negsuc n) h = lt-ltb n (2 ^ 31) (omega arith)
 

@@ -1,7 +1,7 @@
 -- The names of the keys, and which keys a table has.
 use Rattle.std.specs.Prelude.{ℕ, List, [], ◌∷◌, codes}
 use Rattle.project_core.specs.declared.key.Key.{Key}
-use Rattle.project_core.specs.declared.key.Key.TheVariants.{Decimate, Taps, Factor, Delay, Shift, Width, Splice, Weights, Takes, Cue, Take, Start, Stop, Bridge, Target, Title}
+use Rattle.project_core.specs.declared.key.Key.TheVariants.{Decimate, Taps, Factor, Delay, Shift, Width, Splice, Weights, Takes, Cue, Take, Start, Stop, Bridge, Target, Line, Title}
 
 -- a key as it stands in a text
 unfoldable pub name_of : Key → List ℕ
@@ -20,6 +20,7 @@ name_of Start = codes "start"
 name_of Stop = codes "stop"
 name_of Bridge = codes "bridge"
 name_of Target = codes "target"
+name_of Line = codes "line"
 name_of Title = codes "title"
 
 -- the keys of a project text
@@ -36,4 +37,4 @@ splice_keys = Weights ∷ Takes ∷ Cue ∷ []
 
 -- the keys of a cue
 abbrev pub cue_keys : List Key
-cue_keys = Take ∷ Start ∷ Stop ∷ Bridge ∷ Target ∷ Title ∷ []
+cue_keys = Take ∷ Start ∷ Stop ∷ Bridge ∷ Target ∷ Line ∷ Title ∷ []

@@ -1,5 +1,5 @@
 -- What a project text says, with no order of reading.
-use Rattle.std.specs.Prelude.{◌≡◌, ℕ, List, map, length, Option, Some, None, codes, option_map, ◌⊎◌}
+use Rattle.std.specs.Prelude.{◌≡◌, ℕ, ℤ, List, [], ◌∷◌, map, length, Option, Some, None, codes, option_map, ◌⊎◌}
 use Rattle.std.specs.List.{AllZip}
 use Rattle.toml.specs.Data.{Data, string, array, table, Members, get_member}
 use Rattle.toml.specs.View.{items_of}
@@ -7,6 +7,8 @@ use Rattle.fir_core.specs.Decimator.{Decimator, IsWithinLimits}
 use Rattle.project_core.specs.declared.key.Key.TheVariants as keys
 use Rattle.project_core.specs.Keys.{name_of, top_keys, decimate_keys, splice_keys, cue_keys}
 use Rattle.project_core.specs.Tables.{FindsOnly, Has, Lacks, number, numbers, table_in, texts}
+use Rattle.splice_core.specs.declared.cue.Target.{Target}
+use Rattle.splice_core.specs.declared.cue.Target.TheVariants.{Fade, Line}
 use Rattle.splice_core.specs.Cues.{CueContent, IsCueWithin, IsSplicing}
 use Rattle.splice_core.specs.Splices.{SpliceContent}
 use Rattle.project_core.specs.Projects.{ProjectContent}
@@ -21,14 +23,25 @@ pub record IsDecimate (t : Members) (d : Decimator) : Type 0 where
   pub width : Has t keys.Width (number d.width)
   pub limits : IsWithinLimits d
 
--- a table says this cue, among so many weights and takes; without a bridge it is a plain cut, and its target is the fade
+-- a target as it is named in a text
+abbrev pub target_name : Target → List ℕ
+target_name Fade = codes "fade"
+target_name (Line a b) = codes "line"
+
+-- the two ends of a line, where the target is one
+abbrev pub ends_of : Target → Option (List ℤ)
+ends_of Fade = None
+ends_of (Line a b) = Some (a ∷ b ∷ [])
+
+-- a table says this cue, among so many weights and takes; without a bridge it is a plain cut, and without a target its target is the fade
 pub record IsCue (weights takes : ℕ) (t : Members) (c : CueContent) : Type 0 where
   pub no_others : FindsOnly cue_keys t
   pub take : Has t keys.Take (number c.take)
   pub start : Has t keys.Start (number c.start)
   pub stop : Has t keys.Stop (number c.stop)
   pub bridge : Has t keys.Bridge (number c.bridge) ⊎ (Lacks t keys.Bridge × (c.bridge ≡ 0))
-  pub target : Has t keys.Target (string (codes "fade")) ⊎ Lacks t keys.Target
+  pub target : Has t keys.Target (string (target_name c.target)) ⊎ (Lacks t keys.Target × (c.target ≡ Fade))
+  pub line : get_member (name_of keys.Line) t ≡ option_map numbers (ends_of c.target)
   pub title : get_member (name_of keys.Title) t ≡ option_map string c.title
   pub limits : IsCueWithin weights takes c
 

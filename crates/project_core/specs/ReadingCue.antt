@@ -1,17 +1,17 @@
 -- Reading a cue, to its content or the first fault.
-use Rattle.std.specs.Prelude.{ℕ, ◌+◌, ◌^◌, List, length, Option, Some, None, Result, Ok, Err, nat_lt, codes, if◌then◌else◌}
+use Rattle.std.specs.Prelude.{ℕ, ◌+◌, ◌^◌, ℤ, unsigned_abs, Bool, ◌&&◌, nat_le, List, [], ◌∷◌, length, Option, Some, None, Result, Ok, Err, nat_lt, codes, if◌then◌else◌}
 use Rattle.std.specs.Option.{ok_or}
 use Rattle.std.specs.Str.{bytes_eq}
 use Rattle.toml.specs.Data.{Data, Members, get_member}
 use Rattle.project_core.specs.declared.key.Key.TheVariants as keys
 use Rattle.splice_core.specs.declared.cue.Target.{Target}
-use Rattle.splice_core.specs.declared.cue.Target.TheVariants.{Fade}
+use Rattle.splice_core.specs.declared.cue.Target.TheVariants.{Fade, Line}
 use Rattle.project_core.specs.declared.fault.ProjectFault.{ProjectFault}
 use Rattle.project_core.specs.declared.fault.ProjectFault.TheVariants.{OutOfLimit, NoTake, ShortCue}
 use Rattle.project_core.specs.Keys.{name_of, cue_keys}
 use Rattle.splice_core.specs.Cues.{CueContent}
 use Rattle.project_core.specs.Steps.{◌>>=◌, optional}
-use Rattle.project_core.specs.Reading.{below, integer_of, limited_at, table_of, text_of, value_at}
+use Rattle.project_core.specs.Reading.{below, integer_of, integers_at, limited_at, table_of, text_of, value_at}
 
 -- the number of the cue's take, below the number of takes
 unfoldable pub take_at : ℕ → ℕ → Members → Result ℕ ProjectFault
@@ -31,16 +31,50 @@ bridge_of (Some d) = do
 unfoldable pub bridge_at : Members → Result ℕ ProjectFault
 bridge_at table = bridge_of (get_member (name_of keys.Bridge) table)
 
--- a target, the fade where it isn't told
-abbrev pub target_of : Option Data → Result Target ProjectFault
-target_of None = Ok Fade
-target_of (Some d) = do
-  t ← text_of keys.Target d
-  if bytes_eq t (codes "fade") then Ok Fade else Err (OutOfLimit keys.Target)
+-- the name of a target, that of the fade where it isn't told
+abbrev pub target_name_of : Option Data → Result (List ℕ) ProjectFault
+target_name_of None = Ok (codes "fade")
+target_name_of (Some d) = text_of keys.Target d
 
--- the cue's target
+-- the name of the cue's target
+unfoldable pub target_name_at : Members → Result (List ℕ) ProjectFault
+target_name_at table = target_name_of (get_member (name_of keys.Target) table)
+
+-- the fade, which has no ends
+abbrev pub fade_of : Option Data → Result Target ProjectFault
+fade_of None = Ok Fade
+fade_of (Some d) = Err (OutOfLimit keys.Line)
+
+-- a number that a line may begin or end with
+abbrev pub is_end : ℤ → Bool
+is_end z = nat_le (unsigned_abs z) 4096
+
+-- the line with these ends: two, each within the limits
+abbrev pub line_of : List ℤ → Result Target ProjectFault
+line_of (a ∷ b ∷ []) = if is_end a && is_end b then Ok (Line a b) else Err (OutOfLimit keys.Line)
+line_of zs = Err (OutOfLimit keys.Line)
+
+-- the line whose ends are told at `line`
+unfoldable pub line_at : Members → Result Target ProjectFault
+line_at table = do
+  zs ← integers_at keys.Line table
+  line_of zs
+
+-- the fade, where nothing is told at `line`
+unfoldable pub fade_at : Members → Result Target ProjectFault
+fade_at table = fade_of (get_member (name_of keys.Line) table)
+
+-- the target of a name
+abbrev pub target_named : List ℕ → Members → Result Target ProjectFault
+target_named name table =
+    if bytes_eq name (codes "fade") then fade_at table
+    else (if bytes_eq name (codes "line") then line_at table else Err (OutOfLimit keys.Target))
+
+-- the cue's target: first its name, and then its ends
 unfoldable pub target_at : Members → Result Target ProjectFault
-target_at table = target_of (get_member (name_of keys.Target) table)
+target_at table = do
+  name ← target_name_at table
+  target_named name table
 
 -- a title of at most 255 bytes
 abbrev pub title_of : Data → Result (List ℕ) ProjectFault

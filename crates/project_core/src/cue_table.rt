@@ -1,14 +1,14 @@
 //! Reading a table of the array `cue`.
 
-ghost use Rattle.std.specs.Prelude.{◌≤◌, option_map, string_bytes};
+ghost use Rattle.std.specs.Prelude.{◌≡◌, ◌≤◌, option_map, string_bytes};
 ghost use Rattle.toml.specs.View.{view, table_view};
 ghost use Rattle.splice_core.specs.Cues.{cue_content};
 ghost use Rattle.project_core.specs.Steps.{Gives};
-ghost use Rattle.project_core.specs.ReadingCue.{bridge_at, cue_of, take_at, target_at, title_at, title_of};
+ghost use Rattle.project_core.specs.ReadingCue.{bridge_at, cue_of, fade_at, is_end, line_at, line_of, take_at, target_at, target_name_at, title_at, title_of};
 
 use crate::fault::ProjectFault;
 use crate::key::Key;
-use crate::table::{below, find, integer_of, limited_at, table_of, text_of, value_at};
+use crate::table::{below, find, integer_of, integers_at, limited_at, table_of, text_of, value_at};
 use splice_core::{Cue, Target};
 use std::alloc::Global;
 use toml::{Table, Value};
@@ -19,15 +19,19 @@ const MAX_PLACE: usize = 1 << 36;
 // The longest bridge, in bits.
 const MAX_BRIDGE: usize = 4096;
 
+// The greatest absolute value of an end of a line.
+const MAX_END: u32 = 4096;
+
 // The longest title, in bytes.
 const MAX_TITLE: usize = 255;
 
-const KEYS: [Key; 6] = [
+const KEYS: [Key; 7] = [
     Key::Take,
     Key::Start,
     Key::Stop,
     Key::Bridge,
     Key::Target,
+    Key::Line,
     Key::Title,
 ];
 
@@ -48,7 +52,7 @@ pub fn cue_of(
     let start = limited_at(table, Key::Start, MAX_PLACE)?;
     let stop = limited_at(table, Key::Stop, MAX_PLACE)?;
     let bridge = bridge_at(table)?;
-    let target = target_at(table)?;
+    let target = target_at(alloc, table)?;
     let title = title_at(alloc, table)?;
     if stop + 1 < start + weights {
         return Err(ProjectFault::ShortCue(number));
@@ -84,18 +88,62 @@ fn bridge_at(table: &Table) -> Result<usize, ProjectFault>
     below(integer, MAX_BRIDGE + 1).ok_or(ProjectFault::OutOfLimit(Key::Bridge))
 }
 
-// The cue's target, the fade where it isn't told.
+// The cue's target: first its name, and then its ends.
 #[tactic(auto, unfolding(crate::specs::ReadingCue::target_at))]
-fn target_at(table: &Table) -> Result<Target, ProjectFault>
+fn target_at(alloc: Global, table: &Table) -> Result<Target, ProjectFault>
     ensures { Gives (λ t. t) result (target_at (table_view table.now)) }
 {
-    let Some(value) = find(table, Key::Target) else {
-        return Ok(Target::Fade);
-    };
-    match text_of(value, Key::Target)? {
-        "fade" => Ok(Target::Fade),
+    match target_name_at(table)? {
+        "fade" => fade_at(table),
+        "line" => line_at(alloc, table),
         _ => Err(ProjectFault::OutOfLimit(Key::Target)),
     }
+}
+
+// The name of the cue's target, that of the fade where it isn't told.
+#[tactic(auto, unfolding(crate::specs::ReadingCue::target_name_at))]
+fn target_name_at(table: &Table) -> Result<&str, ProjectFault>
+    ensures { Gives (λ t. t.now) result (target_name_at (table_view table.now)) }
+{
+    match find(table, Key::Target) {
+        Some(value) => text_of(value, Key::Target),
+        None => Ok("fade"),
+    }
+}
+
+// The fade, which has no ends.
+#[tactic(auto, unfolding(crate::specs::ReadingCue::fade_at))]
+fn fade_at(table: &Table) -> Result<Target, ProjectFault>
+    ensures { Gives (λ t. t) result (fade_at (table_view table.now)) }
+{
+    match find(table, Key::Line) {
+        Some(_) => Err(ProjectFault::OutOfLimit(Key::Line)),
+        None => Ok(Target::Fade),
+    }
+}
+
+// The line whose ends are told: two numbers within the limits.
+#[tactic(auto, unfolding(crate::specs::ReadingCue::line_at))]
+fn line_at(alloc: Global, table: &Table) -> Result<Target, ProjectFault>
+    ensures { Gives (λ t. t) result (line_at (table_view table.now)) }
+{
+    let ends = integers_at(alloc, table, Key::Line)?;
+    line_of(&ends)
+}
+
+fn line_of(ends: &[i32]) -> Result<Target, ProjectFault>
+    ensures { Gives (λ t. t) result (line_of ends.now) }
+{
+    match ends {
+        [a, b] if is_end(*a) && is_end(*b) => Ok(Target::Line { a: *a, b: *b }),
+        _ => Err(ProjectFault::OutOfLimit(Key::Line)),
+    }
+}
+
+fn is_end(end: i32) -> bool
+    ensures { result ≡ is_end end }
+{
+    end.unsigned_abs() <= MAX_END
 }
 
 // The cue's title, if it has one.

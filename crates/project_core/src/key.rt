@@ -38,6 +38,8 @@ pub enum Key {
     Bridge,
     /// What that bridge should sound like.
     Target,
+    /// The two ends of a line as such a target.
+    Line,
     /// A cue's title.
     Title,
 }
@@ -64,6 +66,7 @@ impl Key {
             Key::Stop => "stop",
             Key::Bridge => "bridge",
             Key::Target => "target",
+            Key::Line => "line",
             Key::Title => "title",
         }
     }

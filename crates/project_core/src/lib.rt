@@ -22,7 +22,8 @@
 //! take = 1
 //! start = 2
 //! stop = 9
-//! target = "fade"                 # what the bridge is to sound like; "fade" if left out
+//! target = "line"                 # what the bridge is to sound like, "fade" or "line"; "fade" if left out
+//! line = [9, 0]                   # the two ends of a line, and of a line alone: each from -4096 to 4096
 //! title = "one"                   # at most 255 bytes; none if left out
 //! ```
 //!

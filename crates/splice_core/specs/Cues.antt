@@ -3,6 +3,7 @@ use Rattle.std.specs.Prelude.{◌≡◌, ℕ, ◌+◌, ◌-◌, ◌^◌, ◌<◌
 use Rattle.std.specs.List.{sum_by}
 use Rattle.splice_core.specs.declared.cue.Cue.{Cue}
 use Rattle.splice_core.specs.declared.cue.Target.{Target}
+use Rattle.splice_core.specs.declared.cue.Target.TheVariants.{Line}
 
 -- a cue: the number of its take, its first bit and the place after its last, the length of its bridge, what the bridge leads to, and its title's bytes
 pub record CueContent : Type 0 where
@@ -17,12 +18,22 @@ pub record CueContent : Type 0 where
 abbrev pub cue_content : Cue → CueContent
 cue_content c = record { take = c.take; start = c.start; stop = c.stop; bridge = c.bridge; target = c.target; title = option_map string_bytes c.title }
 
+-- the limits of a line
+pub record IsLine (a b : ℤ) : Type 0 where
+  pub a_fits : unsigned_abs a ≤ 4096
+  pub b_fits : unsigned_abs b ≤ 4096
+
+-- a target within its limits: those of a line, if it is one
+abbrev pub IsTarget : Target → Type 0
+IsTarget target = (a b : ℤ) → target ≡ Line a b → IsLine a b
+
 -- the limits of a cue among so many weights and takes
 pub record IsCueWithin (weights takes : ℕ) (c : CueContent) : Type 0 where
   pub take_is_there : c.take < takes
   pub start_fits : c.start ≤ 2 ^ 36
   pub stop_fits : c.stop ≤ 2 ^ 36
   pub bridge_fits : c.bridge ≤ 4096
+  pub target_fits : IsTarget c.target
   pub title_fits : (t : List ℕ) → c.title ≡ Some t → length t ≤ 255
   pub long_enough : c.start + weights ≤ c.stop + 1
 

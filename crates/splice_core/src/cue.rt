@@ -5,6 +5,9 @@
 pub enum Target {
     /// A linear fade from the take before the bridge to the take after it.
     Fade,
+    /// A straight line of weighted sums, whatever the takes hold there: from `a` before the bridge to `b` after it,
+    /// each from -4096 to 4096. Both 0 is silence.
+    Line { a: i32, b: i32 },
 }
 
 /// A part of a take, and the bridge to the next cue. Places and lengths are in bits of a channel.

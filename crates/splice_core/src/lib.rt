@@ -8,7 +8,7 @@
 //! The words of its contracts:
 //! - `splice_content` and `cue_content` (`specs/Splices.antt`, `specs/Cues.antt`): what is held, as lists and
 //!   numbers.
-//! - `IsSplicing`, `AreWeights` and `IsCueWithin` (`specs/Cues.antt`): the limits.
+//! - `IsSplicing`, `AreWeights`, `IsCueWithin` and `IsTarget` (`specs/Cues.antt`): the limits.
 //!
 //! What it promises: each [`Splice`] is within its limits. It has no calls.
 //!

@@ -1,16 +1,16 @@
 -- Rows that were handed over one by one.
-use Rattle.std.proofs.Common.{◌≡◌, ℕ, ◌+◌, ◌≤◌, List, [], ◌∷◌, ◌++◌, Option, drop, refl, sym, ap, subst, ◌∙◌, arith, append_assoc, take-append-drop}
+use Rattle.std.proofs.Common.{◌≡◌, ℕ, ◌+◌, ◌<◌, ◌≤◌, min, List, [], ◌∷◌, ◌++◌, length, get_or, Option, drop, refl, sym, ap, subst, ◌∙◌, arith, append_assoc, take-append-drop}
 use Rattle.std.specs.List.{flat_map}
 use Rattle.std.specs.Io.KnownBytes.{Appends}
 use Rattle.std.proofs.KnownBytes.{Appends-nil, Appends-trans}
 use Rattle.std.proofs.lemmas.Grind.{flat_map-append}
-use Rattle.std.proofs.lemmas.List.{append-nil}
+use Rattle.std.proofs.lemmas.List.{append-nil, ext_get_or, get_or-map, length-map}
 use Rattle.std.proofs.lemmas.List.FromFn.{take-map-range_with_len, map-range_with_len_more}
 use Rattle.cost_core.specs.Trellis.{Trellis, IsBounded}
 use Rattle.cost_core.specs.Sinks.{AppendsFront, HandsOver, HandsOverPart}
 use Rattle.trellis_core.specs.Best.{best_row, best_rows}
 use Rattle.trellis_core.specs.LeastSums.{BestRows}
-use Rattle.trellis_core.specs.Handing.{HandsOverAll, HandsOverSome, HandsOverUpTo}
+use Rattle.trellis_core.specs.Handing.{HandsOverAll, HandsOverSome, HandsOverUpTo, cut_at, cut_spelling}
 use Rattle.trellis_core.proofs.LeastSums.{all_rows}
 
 one_row_more : (t : Trellis) (n : ℕ) → best_rows t (n + 1) ≡ best_rows t n ++ (best_row t n ∷ [])
@@ -30,6 +30,21 @@ module _ (t : Trellis) (spelling : ℕ → List ℕ → List ℕ) (kind now : �
   pub hands_front : AppendsFront mid new (spelling now row) → HandsOverPart (spelling kind) old new (best_rows t n) row
   hands_front (front, back, is, appended) =
       (front, back, ap (λ k. spelling k row) (sym ek) ∙ is, Appends-trans old mid new (flat_map (spelling kind) (best_rows t n)) front before appended)
+
+-- a row of a cut table, value by value
+pub cut_is : (cost : ℕ) (row cut : List ℕ) → length cut ≡ length row → ((k : ℕ) → k < length row → get_or cut k 0 ≡ min (get_or row k 0) cost) → cut ≡ cut_at cost row
+cut_is cost row cut long each =
+    ext_get_or 0 cut (cut_at cost row) (long ∙ sym (length-map row (λ v. min v cost)))
+    (λ k h. each k (omega (arith, long)) ∙ sym (get_or-map (λ v. min v cost) row k 0 0 (omega (arith, long))))
+
+-- a row that is handed over cut
+module _ (t : Trellis) (cost : ℕ) (spelling : ℕ → List ℕ → List ℕ) (kind now : ℕ) (old mid new : Option (List ℕ)) (n : ℕ) (row cut : List ℕ) (ek : now ≡ kind) (er : row ≡ best_row t n) (ec : cut ≡ cut_at cost row)
+    (before : HandsOver (cut_spelling cost (spelling kind)) old mid (best_rows t n)) where
+  pub cut_more : Appends mid new (spelling now cut) → HandsOver (cut_spelling cost (spelling kind)) old new (best_rows t (n + 1))
+  cut_more appended = hands_more t (λ k. cut_spelling cost (spelling k)) kind now old mid new n row ek er before (subst (λ r. Appends mid new (spelling now r)) ec appended)
+
+  pub cut_front : AppendsFront mid new (spelling now cut) → HandsOverPart (cut_spelling cost (spelling kind)) old new (best_rows t n) row
+  cut_front part = hands_front t (λ k. cut_spelling cost (spelling k)) kind now old mid new n row ek er before (subst (λ r. AppendsFront mid new (spelling now r)) ec part)
 
 module _ (t : Trellis) (fine : IsBounded t) (spelling : List ℕ → List ℕ) (old new : Option (List ℕ)) where
   rest : ℕ → List (List ℕ)

@@ -1,8 +1,7 @@
 -- Rows of least sums, as lists.
-use Rattle.std.proofs.Common.{◌≡◌, ℕ, ◌+◌, ◌/◌, ◌^◌, ◌<◌, min, eqb, cond, List, [], ◌∷◌, ◌++◌, map, length, get_or, refl, sym, ap, ◌∙◌, arith}
+use Rattle.std.proofs.Common.{◌≡◌, ℕ, ◌+◌, ◌/◌, ◌^◌, ◌<◌, min, List, length, get_or, sym, ap, ◌∙◌, arith}
 use Rattle.std.proofs.Math.Numerals.{add-one}
-use Rattle.std.proofs.lemmas.List.FromFn.{length-map-range_with_len, get_or-map-range_with_len, map-range_with_len_more}
-use Rattle.std.specs.List.{range_with_len}
+use Rattle.std.proofs.lemmas.List.FromFn.{fill_by_all, length-map-range_with_len, get_or-map-range_with_len}
 use Rattle.cost_core.specs.Trellis.{Trellis, states, newest, before_by_0, before_by_1, IsBounded}
 use Rattle.cost_core.proofs.Numbers.{pow_double}
 use Rattle.cost_core.proofs.StepRows.{high_is}
@@ -16,10 +15,6 @@ pub row_at : (t : Trellis) (i q : ℕ) → q < states t → get_or (best_row t i
 unfolding best_row
 row_at t i q h = get_or-map-range_with_len (best t i) 0 (states t) q q 0 h (omega arith)
 
-pub best_first : (t : Trellis) (q : ℕ) → best t 0 q ≡ cond (eqb q t.start) 0 (2 ^ 63)
-unfolding best
-best_first t q = refl
-
 best_next : (t : Trellis) (i q : ℕ) → best t (i + 1) q ≡ min (min (by_0 t i (best t i) q) (by_1 t i (best t i) q)) (2 ^ 63)
 unfolding best
 best_next t i q = rw add-one (omega arith)
@@ -27,19 +22,16 @@ best_next t i q = rw add-one (omega arith)
 pub best_from : (t : Trellis) (i q a b m v : ℕ) → a ≡ by_0 t i (best t i) q → b ≡ by_1 t i (best t i) q → m ≡ min a b → v ≡ min m (2 ^ 63) → v ≡ best t (i + 1) q
 best_from t i q a b m v ea eb em ev = rw (ev, em, ea, eb) (sym (best_next t i q))
 
--- a row grows by one value
-pub row_more : (f : ℕ → ℕ) (row : List ℕ) (n v : ℕ) → row ≡ map f (range_with_len 0 n) → v ≡ f n → row ++ (v ∷ []) ≡ map f (range_with_len 0 (n + 1))
-row_more f row n v e h = rw (e, h) (sym (map-range_with_len_more f 0 n n (omega arith)))
-
-pub row_grown : (t : Trellis) (i n : ℕ) (row : List ℕ) → row ≡ map (best t i) (range_with_len 0 n) → n ≡ states t → row ≡ best_row t i
-unfolding best_row
-row_grown t i n row e en = e ∙ ap (λ k. map (best t i) (range_with_len 0 k)) en
-
 pub before_0_in : (t : Trellis) (q : ℕ) → q < states t → before_by_0 t.width q < states t
 before_0_in t q h = omega arith
 
 pub before_1_in : (t : Trellis) → 0 < t.width → (q : ℕ) → q < states t → before_by_1 t.width q < states t
 before_1_in t some q h = omega (arith, pow_double t.width some)
+
+-- a row, as it is read
+pub row_is : (t : Trellis) (i : ℕ) (row : List ℕ) → length row ≡ states t → ((q : ℕ) → q < states t → get_or row q 0 ≡ best t i q) → row ≡ best_row t i
+unfolding best_row
+row_is t i row long each = fill_by_all (best t i) row (states t) 0 long each
 
 -- the sums by either state before a state, as they are read from a row
 module _ (t : Trellis) (fine : IsBounded t) (i q n : ℕ) (row : List ℕ) (en : n ≡ states t) (er : row ≡ best_row t i) (hq : q < states t) where

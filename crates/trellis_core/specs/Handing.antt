@@ -1,5 +1,10 @@
 -- Which rows of best sums a sink was handed.
-use Rattle.std.specs.Prelude.{ℕ, Option, List, ◌∷◌, ◌++◌}
+use Rattle.std.specs.Prelude.{ℕ, min, Bool, Option, List, ◌∷◌, ◌++◌, map}
+use Rattle.cost_core.specs.Limits.{IsBridging}
+use Rattle.cost_core.specs.Tables.{IsTable, value_in}
+use Rattle.cost_core.specs.Validity.{IsValid}
+use Rattle.cost_core.specs.Bridges.{Bridging, IsLeastBridge, bridge_cost}
+use Rattle.cost_core.specs.StateCosts.{trellis_of}
 use Rattle.cost_core.specs.Trellis.{Trellis}
 use Rattle.cost_core.specs.Sinks.{HandsOver, HandsOverPart}
 use Rattle.trellis_core.specs.LeastSums.{BestRows}
@@ -16,3 +21,21 @@ HandsOverSome t spelling old new = (rows : List (List ℕ)) × (more : List (Lis
 abbrev pub HandsOverUpTo : Trellis → (List ℕ → List ℕ) → Option (List ℕ) → Option (List ℕ) → Type 0
 HandsOverUpTo t spelling old new =
     (rows : List (List ℕ)) × (row : List ℕ) × (more : List (List ℕ)) × BestRows t (rows ++ (row ∷ more)) × HandsOverPart spelling old new rows row
+
+-- a row in which each value above a cost is the cost
+abbrev pub cut_at : ℕ → List ℕ → List ℕ
+cut_at cost row = map (λ v. min v cost) row
+
+-- the spelling of a row that is cut at a cost
+abbrev pub cut_spelling : ℕ → (List ℕ → List ℕ) → List ℕ → List ℕ
+cut_spelling cost spelling row = spelling (cut_at cost row)
+
+-- those of the first levels and a front of the next, cut at the cost of a least bridge
+abbrev pub HandsOverCutUpTo : Bridging → (List ℕ → List ℕ) → Option (List ℕ) → Option (List ℕ) → Type 0
+HandsOverCutUpTo d spelling old new = (x : List Bool) × IsLeastBridge d x × HandsOverUpTo (trellis_of d) (cut_spelling (bridge_cost d x) spelling) old new
+
+-- a table of best sums is one of valid bounds where it is cut at the cost of a least bridge
+abbrev pub CutRowsAreValid : Type 0
+CutRowsAreValid =
+    (d : Bridging) (rows : List (List ℕ)) (x : List Bool) → IsBridging d → BestRows (trellis_of d) rows → IsLeastBridge d x
+    → IsTable (trellis_of d) (map (cut_at (bridge_cost d x)) rows) × IsValid (trellis_of d) (value_in (map (cut_at (bridge_cost d x)) rows)) (bridge_cost d x) x

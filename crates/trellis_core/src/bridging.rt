@@ -6,8 +6,9 @@ ghost use Rattle.cost_core.specs.StateCosts.{trellis_of};
 ghost use Rattle.cost_core.specs.Bridges.{bridge_cost, IsFirstLeastBridge};
 ghost use Rattle.trellis_core.specs.Best.{total_row};
 ghost use Rattle.trellis_core.specs.Decisions.{AreAllDecisions};
-ghost use Rattle.trellis_core.specs.Handing.{HandsOverAll, HandsOverSome, HandsOverUpTo};
+ghost use Rattle.trellis_core.specs.Handing.{HandsOverAll, HandsOverCutUpTo, HandsOverSome, HandsOverUpTo, cut_spelling};
 
+use crate::cutting::hand_cut;
 use crate::ends::end_state;
 use crate::fault::BridgeFault;
 use crate::rows::{Searched, forward};
@@ -69,6 +70,42 @@ pub fn bridge_into<S: LevelSink>(
 {
     let searched = forward(alloc, window, sink)?;
     Ok(choose(alloc, window, &searched)?)
+}
+
+/// The same bits, and the same rows handed to the sink, but each number above the cost as the cost. It goes through the
+/// levels twice; nothing is allocated from the first row on that is handed over.
+///
+/// Refusals: `Memory`, before a row was handed over; `Sink` where the sink refused a row, after those of the levels
+/// before it.
+pub fn bridge_cut_into<S: LevelSink>(
+    alloc: Global,
+    window: &Window,
+    sink: &mut S,
+) -> Result<Chosen, BridgeFault>
+    requires rows { window.now.levels + 1 ≤ S.rows_left sink.old }
+    requires row_length { S.row_length sink.old ≡ states (trellis_of window.now) }
+    requires ready { S.has_refused sink.old ≡ false }
+    ensures first_least { IfOk result (λ chosen. IsFirstLeastBridge window.now chosen.bits) }
+    ensures cost { IfOk result (λ chosen. chosen.cost ≡ bridge_cost window.now chosen.bits) }
+
+    // The rows that were handed over.
+    ensures rows { IfOk result (λ chosen. HandsOverAll (trellis_of window.now) (cut_spelling chosen.cost (S.spelling (S.kind sink.old))) (S.text sink.old) (S.text sink.new)) }
+    ensures memory { IsErrOf result BridgeFault.Memory → S.text sink.new ≡ S.text sink.old }
+    ensures sink { IsErrOf result BridgeFault.Sink → HandsOverCutUpTo window.now (S.spelling (S.kind sink.old)) (S.text sink.old) (S.text sink.new) }
+
+    // What the sink is afterwards.
+    ensures refused { IsErrOf result BridgeFault.Sink ↔ (S.has_refused sink.new ≡ true) }
+    ensures rows_left { OnOk result (S.rows_left sink.new + (window.now.levels + 1) ≡ S.rows_left sink.old) }
+    ensures row_length { S.row_length sink.new ≡ S.row_length sink.old }
+    ensures kind { S.kind sink.new ≡ S.kind sink.old }
+    ensures kept { S.kept sink.new ≡ S.kept sink.old }
+{
+    let Ok(searched) = forward(alloc, window, &mut Unheard::new(window)) else {
+        return Err(BridgeFault::Memory);
+    };
+    let chosen = choose(alloc, window, &searched)?;
+    hand_cut(window, searched, chosen.cost, sink)?;
+    Ok(chosen)
 }
 
 // The bits that a search leads to, and their cost.

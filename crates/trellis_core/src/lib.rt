@@ -13,14 +13,17 @@
 //! back from the best end is read off.
 //!
 //! [`bridge_into`] answers the same, and hands these least sums to a sink, a row for each level: they show
-//! that the bits are least to whoever has no search ([`best_rows_are_valid`]).
+//! that the bits are least to whoever has no search ([`best_rows_are_valid`]). [`bridge_cut_into`] hands over those
+//! of them that are above the cost as the cost, which shows it as well ([`cut_rows_are_valid`]), and goes through the
+//! levels twice.
 //!
 //! The words of the contracts are those of `cost_core`, `IsFirstLeastBridge` and `bridge_cost`, and
 //!
 //! - `IsBest t level q v`: `v` is the lesser of `2^63` and the least sum of steps over all lists of so many
 //!   bits that lead to state `q`; `BestRows t rows`: a row of these for each level.
 //! - `HandsOverAll t spelling old new`: a sink's text grew by the rows of all levels, `HandsOverSome` by
-//!   those of the first ones, `HandsOverUpTo` by those and a front of the next.
+//!   those of the first ones, `HandsOverUpTo` by those and a front of the next; `cut_spelling cost spelling` is
+//!   the spelling of rows that are cut at a cost.
 //!
 //! Two rows are held at once, and one bit for each state and level, which says whence its least sum came:
 //! at most 1 MB, asked for before the first level. A row is made eight states at a time (`choosing`), or one at
@@ -37,6 +40,7 @@
 
 mod bridging;
 mod choosing;
+mod cutting;
 mod ends;
 mod fault;
 mod laws;
@@ -44,6 +48,6 @@ mod rows;
 mod tracing;
 mod unheard;
 
-pub use bridging::{Chosen, bridge, bridge_into};
+pub use bridging::{Chosen, bridge, bridge_cut_into, bridge_into};
 pub use fault::BridgeFault;
-pub use laws::best_rows_are_valid;
+pub use laws::{best_rows_are_valid, cut_rows_are_valid};

@@ -3,38 +3,50 @@
 ghost use Rattle.std.specs.Prelude.{◌≡◌, ◌+◌, ◌*◌, ◌<◌, ◌≤◌, ◌↔◌, true, false, length, IfOk, OnOk, IsErrOf};
 ghost use Rattle.cost_core.specs.Trellis.{states};
 ghost use Rattle.cost_core.specs.StateCosts.{trellis_of};
-ghost use Rattle.trellis_core.specs.Best.{best_row, total_row};
+ghost use Rattle.trellis_core.specs.Best.{best, best_row, total_row};
 ghost use Rattle.trellis_core.specs.Decisions.{AreAllDecisions, AreDecisions, decision_bytes};
+ghost use Rattle.trellis_core.specs.Passes.{HasBuffers};
 ghost use Rattle.trellis_core.specs.Handing.{HandsOverAll, HandsOverSome, HandsOverUpTo};
 
 use crate::choosing::{NO_WAY, choose};
 use crate::ends::write_totals;
 use crate::fault::BridgeFault;
 use cost_core::{LevelSink, Window};
-use std::alloc::{AllocError, Global};
+use std::alloc::Global;
 
-/// What a search leaves: by state the least cost of the bits that end in it, and the decisions of all levels.
+/// What a search leaves: by state the least cost of the bits that end in it, the decisions of all levels, and what
+/// another pass over the levels is made in: the steps of a level, a row (a second one is that of the costs), and the
+/// decisions of a level.
 #[derive(Drop)]
 pub struct Searched {
     pub totals: Vec<u64>,
     pub decisions: Vec<u8>,
+    pub steps: Vec<u64>,
+    pub row: Vec<u64>,
+    pub decided: Vec<u8>,
 }
 
-// The least sums of level 0.
-fn first_row(alloc: Global, window: &Window) -> Result<Vec<u64>, AllocError>
-    ensures { IfOk result (λ row. row.items ≡ best_row (trellis_of window.now) 0) }
+// The least sum of a state of level 0.
+#[tactic(auto, unfolding(crate::specs::Best::best))]
+fn first_sum(window: &Window, state: usize) -> u64
+    ensures { result ≡ best (trellis_of window.now) 0 state }
 {
-    let start = window.start();
-    let mut row = Vec::new(alloc);
-    for state in 0..window.states() {
-        row.push(if state == start { 0 } else { NO_WAY })?;
-    }
-    Ok(row)
+    if state == window.start() { 0 } else { NO_WAY }
 }
 
-// Writes the least sums of the level after `level`, whose own are `row`, and the decisions of `level`;
-// `steps` is overwritten.
-fn next_row(
+/// Writes the least sums of level 0.
+pub fn write_first_row(window: &Window, row: &mut [u64])
+    requires { length row.old ≡ states (trellis_of window.now) }
+    ensures { row.new ≡ best_row (trellis_of window.now) 0 }
+{
+    for state in 0..row.len() {
+        row[state] = first_sum(window, state);
+    }
+}
+
+/// Writes the least sums of the level after `level`, whose own are `row`, and the decisions of `level`;
+/// `steps` is overwritten.
+pub fn next_row(
     window: &Window,
     level: usize,
     row: &[u64],
@@ -68,6 +80,7 @@ pub fn forward<S: LevelSink>(
     requires row_length { S.row_length sink.old ≡ states (trellis_of window.now) }
     requires ready { S.has_refused sink.old ≡ false }
     ensures totals { IfOk result (λ searched. searched.totals.items ≡ total_row (trellis_of window.now)) }
+    ensures buffers { IfOk result (HasBuffers (trellis_of window.now)) }
     ensures decisions { IfOk result (λ searched. AreAllDecisions (trellis_of window.now) (trellis_of window.now).levels searched.decisions.items) }
     ensures rows { OnOk result (HandsOverAll (trellis_of window.now) (S.spelling (S.kind sink.old)) (S.text sink.old) (S.text sink.new)) }
     ensures memory { IsErrOf result BridgeFault.Memory → HandsOverSome (trellis_of window.now) (S.spelling (S.kind sink.old)) (S.text sink.old) (S.text sink.new) }
@@ -80,10 +93,11 @@ pub fn forward<S: LevelSink>(
 {
     let states = window.states();
     let mut steps = vec![in alloc; 0; 2 * states]?;
-    let mut row = first_row(alloc, window)?;
+    let mut row = vec![in alloc; 0; states]?;
     let mut following = vec![in alloc; 0; states]?;
     let mut decided = vec![in alloc; 0; states.div_ceil(8)]?;
     let mut decisions = Vec::with_capacity(alloc, window.length() * decided.len())?;
+    write_first_row(window, &mut row);
     for level in 0..window.length() {
         sink.level(&row)?;
         next_row(
@@ -102,5 +116,8 @@ pub fn forward<S: LevelSink>(
     Ok(Searched {
         totals: following,
         decisions,
+        steps,
+        row,
+        decided,
     })
 }

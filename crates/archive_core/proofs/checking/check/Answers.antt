@@ -3,7 +3,7 @@ use Rattle.std.proofs.lemmas.Result.{err_from_is_err_and}
 use Rattle.form_core.specs.Opening.{IsOpened}
 use Rattle.cut_core.specs.Opening.{file_bytes}
 use Rattle.archive_core.specs.Checking.{HoldsNothing}
-use Rattle.archive_core.proofs.CheckLaws.{judged_again, judged_found, judged_least, judged_master, judged_only, judged_rejected, judged_windows, same_some, some_is}
+use Rattle.archive_core.proofs.CheckLaws.{judged_again, judged_found, judged_joint, judged_least, judged_master, judged_only, judged_rejected, judged_windows, same_some, some_is}
 use Rattle.archive_core.proofs.CuttingLaws.{one_cut, only_memory}
 use Rattle.archive_core.proofs.checking.check.Goals as goal
 use Rattle.archive_core.proofs.checking.check.Goals.{In-Some}
@@ -35,6 +35,10 @@ returns-clause-found c =
 pub returns-clause-windows : goal.returns-clause-windows
 returns-clause-windows c =
     judged_windows c.args.project.now (file_bytes c.args.takes.now) c.args.master.now c.args.cert.now c.in_ok-cut.cut c.in_ok-cut.ensures.found c.in-Some.opened.form c.in-Some.opened.recording (holds (goal.at.returns-clause-windows c).In-Some) c.in_ok-judge.field-0 c.in_ok-judge.ensures.judged
+
+pub returns-clause-joint : goal.returns-clause-joint
+returns-clause-joint c =
+    judged_joint c.args.project.now (file_bytes c.args.takes.now) c.args.master.now c.args.cert.now c.in_ok-cut.cut c.in_ok-cut.ensures.found c.in-Some.opened.form c.in-Some.opened.recording (holds (goal.at.returns-clause-joint c).In-Some) c.in_ok-judge.field-0 c.in_ok-judge.ensures.joint
 
 pub returns-clause-rejected : goal.returns-clause-rejected
 returns-clause-rejected c =

@@ -7,7 +7,7 @@ use Rattle.transfer_core.specs.declared.fault.Fault.TheVariants.{Memory}
 use Rattle.archive_core.specs.Cutting.{SaysCut}
 use Rattle.transfer_core.specs.Faults.{fault_of_writing}
 use Rattle.archive_core.proofs.CuttingLaws.{one_cut, only_memory}
-use Rattle.archive_core.proofs.EditLaws.{any_form, costs_whole, file_costs, file_is_accepted, file_is_master, one_answer, write_only_memory}
+use Rattle.archive_core.proofs.EditLaws.{any_form, costs_whole, file_costs, file_is_accepted, file_is_master, file_least, one_answer, write_only_memory}
 use Rattle.archive_core.proofs.editing.edit.Goals as goal
 use Rattle.archive_core.proofs.editing.edit.Goals.{In_err-master, In_ok-cut}
 
@@ -72,6 +72,11 @@ pub returns-clause-windows : goal.returns-clause-windows
 returns-clause-windows c =
     file_costs c.args.project.now (file_bytes c.args.takes.now) c.in_ok-cut.cut (says_any (goal.at.returns-clause-windows c).In_ok-cut) c.args.form c.in_ok-recording.field-0.recording c.in_ok-recording.ensures.master c.in_ok-master.master.items c.in_ok-master.ensures.read_again
     c.in_ok-recording.field-0.total c.in_ok-recording.ensures.windows
+
+pub returns-clause-joint : goal.returns-clause-joint
+returns-clause-joint c =
+    file_least c.args.project.now (file_bytes c.args.takes.now) c.in_ok-cut.cut (says_any (goal.at.returns-clause-joint c).In_ok-cut) c.args.form c.in_ok-recording.field-0.recording c.in_ok-recording.ensures.master c.in_ok-master.master.items c.in_ok-master.ensures.read_again
+    c.in_ok-recording.field-0.total c.in_ok-recording.ensures.joint
 
 pub returns-clause-only : goal.returns-clause-only
 returns-clause-only c = λ master cost edits.

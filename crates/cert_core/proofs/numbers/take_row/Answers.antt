@@ -1,7 +1,8 @@
 use Rattle.std.proofs.Common.{◌≡◌, ℕ, ◌∙◌, ◌*◌, ◌/◌, ◌<◌, [], get_or, length, sym, ap, arith, length-set}
 use Rattle.std.proofs.lemmas.List.{take_all}
 use Rattle.cost_core.proofs.Chunks.{nth_chunk}
-use Rattle.cert_core.specs.Text.{row_text}
+use Rattle.cert_core.specs.Spelling.{row_text}
+use Rattle.cert_core.specs.declared.version.Version.TheVariants.{One}
 use Rattle.cert_core.proofs.Spellings.{text_more}
 use Rattle.cert_core.proofs.numbers.take_row.Goals as goal
 
@@ -17,4 +18,4 @@ loop-place-preserved c =
 pub returns : goal.returns
 returns c =
     let n : 8 * length c.loop-place.row ≡ length c.args.bytes.now = omega arith in
-    sym (take_all (8 * c.loop-place.place) c.args.bytes.now (omega arith)) ∙ c.loop-place.invariant.0 ∙ ap row_text (take_all c.loop-place.place c.loop-place.row (omega arith))
+    sym (take_all (8 * c.loop-place.place) c.args.bytes.now (omega arith)) ∙ c.loop-place.invariant.0 ∙ ap (row_text One) (take_all c.loop-place.place c.loop-place.row (omega arith))

@@ -1,21 +1,26 @@
-use Rattle.std.proofs.Common.{◌<◌, length, ap, arith}
-use Rattle.splice_core.specs.Cues.{CueContent}
+use Rattle.std.proofs.Common.{◌≡◌, ◌<◌, length, ap, arith}
+use Rattle.splice_core.specs.Cues.{CueContent, IsCueWithin, cue_content}
 use Rattle.splice_core.specs.Splices.{splice_content}
+use Rattle.cost_core.specs.Windows.{cue_at}
 use Rattle.cost_core.proofs.Windows.{cue_fits, cue_read, splicing}
 use Rattle.cost_core.proofs.room.has_room.Goals as goal
+use Rattle.cost_core.proofs.room.has_room.Goals.{After-index-here}
 
-pub overflow_add-before : goal.overflow_add-before
-overflow_add-before c =
-    let splice = c.args.splice.now in
-    let there : c.args.cue < length (splice_content splice).cues = omega (arith, c.requires) in
-    let fits = cue_fits (splice_content splice) (splicing splice) c.args.cue there in
-    let here = ap (λ (q : CueContent). q.bridge) (cue_read splice c.args.cue c.index-here.result.now there c.index-here.ensures) in
-    omega (arith, here, fits.bridge_fits, c.len.ensures, splice.limits.weights_fit.few_weights)
+there : (c : After-index-here) → c.args.cue < length (splice_content c.args.splice.now).cues
+there c = omega (arith, c.requires)
+
+fits : (c : After-index-here) → IsCueWithin (length (splice_content c.args.splice.now).weights) (length (splice_content c.args.splice.now).takes) (cue_at (splice_content c.args.splice.now) c.args.cue)
+fits c = cue_fits (splice_content c.args.splice.now) (splicing c.args.splice.now) c.args.cue (there c)
+
+here : (c : After-index-here) → cue_content c.index-here.result.now ≡ cue_at (splice_content c.args.splice.now) c.args.cue
+here c = cue_read c.args.splice.now c.args.cue c.index-here.result.now (there c) c.index-here.ensures
+
+pub reach_of-before-requires-clause-levels : goal.reach_of-before-requires-clause-levels
+reach_of-before-requires-clause-levels c =
+    let e = (goal.at.reach_of-before-requires-clause-levels c).After-index-here in
+    omega (arith, ap (λ (q : CueContent). q.bridge) (here e), (fits e).bridge_fits)
 
 pub overflow_add-here : goal.overflow_add-here
 overflow_add-here c =
-    let splice = c.args.splice.now in
-    let there : c.args.cue < length (splice_content splice).cues = omega (arith, c.requires) in
-    let fits = cue_fits (splice_content splice) (splicing splice) c.args.cue there in
-    let here = cue_read splice c.args.cue c.index-here.result.now there c.index-here.ensures in
-    omega (arith, ap (λ (q : CueContent). q.stop) here, ap (λ (q : CueContent). q.bridge) here, fits.stop_fits, fits.bridge_fits)
+    let e = (goal.at.overflow_add-here c).After-index-here in
+    omega (arith, ap (λ (q : CueContent). q.stop) (here e), (fits e).stop_fits, c.reach_of-before.ensures.few)

@@ -1,6 +1,7 @@
 use Rattle.std.proofs.Common.{subst}
 use Rattle.std.specs.Prelude.{MatchOption}
 use Rattle.master_core.proofs.JudgeLaws.{channels_least, channels_made, reason_against, some_is, where_known, where_more}
+use Rattle.master_core.proofs.LeastLaws.{judged_least}
 use Rattle.master_core.specs.Checking.{IsMasterOf, MasterReason}
 use Rattle.master_core.specs.Claims.{AreLeastBridges}
 use Rattle.master_core.specs.Masters.{AreLeastChannels, AreMasterChannels}
@@ -22,3 +23,9 @@ pub returns-clause-least : goal.returns-clause-least
 returns-clause-least c =
     where_more (AreLeastBridges c.args.cut.now c.args.opened.now.recording.channels) (AreLeastChannels c.args.cut.now c.args.opened.now.recording.channels) c.judge_certificate.result
     (channels_least c.args.cut.now c.args.opened.now.form c.args.opened.now.recording (master (goal.at.returns-clause-least c).After-judge_certificate) c.has_shape.ensures) c.judge_certificate.ensures.least
+
+pub returns-clause-joint : goal.returns-clause-joint
+returns-clause-joint c =
+    judged_least c.args.cut.now c.can_cut.ensures c.fades_join.ensures c.least_together.ensures c.args.opened.now.recording.channels c.args.cert.now c.judge_certificate.result c.judge_certificate.ensures.judged
+    (where_more (AreLeastBridges c.args.cut.now c.args.opened.now.recording.channels) (AreLeastChannels c.args.cut.now c.args.opened.now.recording.channels) c.judge_certificate.result
+    (channels_least c.args.cut.now c.args.opened.now.form c.args.opened.now.recording (master (goal.at.returns-clause-joint c).After-judge_certificate) c.has_shape.ensures) c.judge_certificate.ensures.least)

@@ -8,8 +8,9 @@ use Rattle.cut_core.specs.Cuts.{take_at}
 use Rattle.cut_core.specs.declared.bridges.BridgePlace.{BridgePlace}
 use Rattle.master_core.specs.Choosing.{chosen_claims}
 use Rattle.master_core.specs.Claims.{IsCertOf, windows_total}
-use Rattle.master_core.specs.Masters.{AreMasterChannels, master_of}
+use Rattle.master_core.specs.Masters.{AreMasterChannels, CostLeast, master_of, total_cost}
 use Rattle.master_core.proofs.ChoiceLaws.{claims_stand, costs_stand}
+use Rattle.master_core.proofs.LeastLaws.{best_are_least, cost_least}
 use Rattle.master_core.proofs.MasterLaws.{are_channels, content_is, cues_held, is_master, master_shape, shape_is}
 use Rattle.master_core.proofs.TotalLaws.{windows_are_total}
 use Rattle.master_core.proofs.making.make.Goals as goal
@@ -38,14 +39,18 @@ windows c =
     let each = subst (All (IsPlace c.args.cut.now)) found.places found.each in
     found.total ∙ costs_stand c.args.cut.now c.in_ok-channels.channels.items c.can_cut.ensures c.in_ok-channels.ensures.best c.in_ok-places.field-0.chosen.items found.chosen each
 
-pub returns-clause-best : goal.returns-clause-best
-returns-clause-best c =
-    let here = (goal.at.returns-clause-best c).After-new-recording in
+-- window by window or over whole channels, it is the same
+whole : (c : After-new-recording) → windows_total c.args.cut.now c.in_ok-channels.channels.items ≡ total_cost c.args.cut.now c.in_ok-channels.channels.items
+whole c =
     let cut = c.args.cut.now in
     let zs = c.in_ok-channels.channels.items in
     let best = c.in_ok-channels.ensures.best in
-    let whole = windows_are_total cut zs c.can_cut.ensures (shape_is cut c.can_cut.ensures c.args.form zs best c.in_ok-channels.ensures.long) (cues_held cut c.can_cut.ensures c.args.form zs best c.in_ok-channels.ensures.long) c.fades_join.ensures c.places_are_windows.ensures in
-    record { channels = zs; best = best; recording_is = is here; cost_is = windows here ∙ whole }
+    windows_are_total cut zs c.can_cut.ensures (shape_is cut c.can_cut.ensures c.args.form zs best c.in_ok-channels.ensures.long) (cues_held cut c.can_cut.ensures c.args.form zs best c.in_ok-channels.ensures.long) c.fades_join.ensures c.places_are_windows.ensures
+
+pub returns-clause-best : goal.returns-clause-best
+returns-clause-best c =
+    let here = (goal.at.returns-clause-best c).After-new-recording in
+    record { channels = c.in_ok-channels.channels.items; best = c.in_ok-channels.ensures.best; recording_is = is here; cost_is = windows here ∙ whole here }
 
 pub returns-clause-master : goal.returns-clause-master
 returns-clause-master c = is_master c.args.cut.now c.can_cut.ensures c.args.form c.in_ok-channels.channels.items c.in_ok-channels.ensures.best c.in_ok-channels.ensures.long c.new-recording.result (is (goal.at.returns-clause-master c).After-new-recording)
@@ -71,3 +76,11 @@ pub returns-clause-windows : goal.returns-clause-windows
 returns-clause-windows c =
     let here = (goal.at.returns-clause-windows c).After-new-recording in
     windows here ∙ ap (windows_total c.args.cut.now) (sym (channels here))
+
+pub returns-clause-joint : goal.returns-clause-joint
+returns-clause-joint c =
+    let here = (goal.at.returns-clause-joint c).After-new-recording in
+    let cut = c.args.cut.now in
+    let zs = c.in_ok-channels.channels.items in
+    subst (λ (x : List (List Bool)). CostLeast cut x c.in_ok-places.field-0.total) (sym (channels here))
+    (cost_least cut c.can_cut.ensures c.fades_join.ensures c.least_together.ensures zs c.in_ok-places.field-0.total (best_are_least cut zs c.in_ok-channels.ensures.best) (windows here ∙ whole here))

@@ -4,7 +4,7 @@ use Rattle.cost_core.specs.StateCosts.{trellis_of}
 use Rattle.trellis_core.specs.Best.{best_row}
 use Rattle.trellis_core.specs.Decisions.{AreAllDecisions}
 use Rattle.trellis_core.proofs.Decisions.{one_more}
-use Rattle.trellis_core.proofs.TableLaws.{written, written_length}
+use Rattle.trellis_core.proofs.TableLaws.{totals_length, written, written_length}
 use Rattle.trellis_core.proofs.HandedOver.{hands_more, hands_front, hands_none, hands_some, hands_up_to, hands_all}
 use Rattle.trellis_core.proofs.RowLaws.{row_length}
 use Rattle.trellis_core.proofs.rows.forward.Goals as goal
@@ -85,3 +85,14 @@ returns-clause-rows g c =
     let e : c.deref-2.result.now ≡ best_row t c.loop-level.level = c.deref-2.ensures.value ∙ c.loop-level.invariant.row in
     let more = hands_more t g.S.LevelSink.spelling (g.S.LevelSink.kind c.args.sink.now) (g.S.LevelSink.kind c.loop-level.sink) (g.S.LevelSink.text c.args.sink.now) (g.S.LevelSink.text c.loop-level.sink) (g.S.LevelSink.text c.level-2.new.self) c.loop-level.level c.deref-2.result.now c.loop-level.invariant.kind e c.loop-level.invariant.handed c.in_ok-level-2.ensures.ok in
     hands_all t c.states-states.ensures.bounded (g.S.LevelSink.spelling (g.S.LevelSink.kind c.args.sink.now)) (g.S.LevelSink.text c.args.sink.now) (g.S.LevelSink.text c.level-2.new.self) c.loop-level.level (omega (arith, c.length-level-end.ensures.value)) more
+
+pub returns-clause-buffers : goal.returns-clause-buffers
+returns-clause-buffers g c =
+    let t = trellis_of c.args.window.now in
+    let inv = c.loop-level.invariant in
+    record {
+      steps = inv.steps;
+      row = ap length inv.row ∙ row_length t c.loop-level.level;
+      totals = written_length c.loop-level.following.len (states t) c.write_totals.new.totals c.loop-level.following.items c.loop-level.following.ok.0 (ap length c.write_totals.ensures ∙ totals_length t) inv.following;
+      decided = inv.decided;
+    }

@@ -1,17 +1,20 @@
-use Rattle.std.proofs.Common.{◌≡◌, ◌∙◌, subst, arith}
+use Rattle.std.proofs.Common.{◌≡◌, ◌-◌, ◌∙◌, ap₂, subst, take, arith}
 use Rattle.std.specs.Io.KnownBytes.{Appends}
 use Rattle.std.proofs.lemmas.Result.{err_from_is_err_and}
 use Rattle.dsd_bits.proofs.ShiftingLemmas.{written_back}
 use Rattle.device_core.specs.Outlets.{outlet_writer, AppendsPart}
 use Rattle.device_core.specs.FusedOutlets.{fused_outlet}
-use Rattle.cert_core.specs.Text.{row_text}
+use Rattle.cert_core.specs.Spelling.{row_text}
+use Rattle.cert_core.specs.Writers.{cert_version}
 use Rattle.cert_core.proofs.writer.CertWriter.level.Given.{Over}
 use Rattle.cert_core.proofs.writer.CertWriter.level.Goals as goal
 use Rattle.cert_core.proofs.writer.CertWriter.level.Goals.{After-deref}
 
--- what the buffer holds
-text : (g : Over) (c : After-deref g) → c.deref.result.now ≡ row_text c.args.row.now
-text g c = c.deref.ensures.value ∙ written_back c.put_row.new.buffer _ c.args.self.now.buffer.len (omega arith) ∙ c.put_row.ensures
+-- what is written of the buffer
+text : (g : Over) (c : After-deref g) → take (c.put_row-count.result - 0) c.deref.result.now ≡ row_text (cert_version c.args.self.now) c.args.row.now
+text g c =
+    let n : c.put_row-count.result - 0 ≡ c.put_row-count.result = omega arith in
+    ap₂ take n (c.deref.ensures.value ∙ written_back c.put_row-count.new.buffer _ c.args.self.now.buffer.len (omega arith)) ∙ c.put_row-count.ensures.text
 
 pub returns-clause-ok : goal.returns-clause-ok
 returns-clause-ok g c =

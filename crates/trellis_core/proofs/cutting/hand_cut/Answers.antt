@@ -1,0 +1,104 @@
+use Rattle.std.proofs.Common.{◌≡◌, ◌+◌, ◌*◌, length, ap, sym, ◌∙◌, arith}
+use Rattle.std.proofs.lemmas.Result.{err_from_is_err_and}
+use Rattle.cost_core.specs.Trellis.{states}
+use Rattle.cost_core.specs.StateCosts.{trellis_of}
+use Rattle.trellis_core.specs.Best.{best_row}
+use Rattle.trellis_core.specs.Decisions.{decision_bytes}
+use Rattle.trellis_core.specs.Handing.{cut_at, cut_spelling}
+use Rattle.trellis_core.proofs.TableLaws.{written, written_length}
+use Rattle.trellis_core.proofs.HandedOver.{cut_front, cut_is, cut_more, hands_all, hands_up_to}
+use Rattle.trellis_core.proofs.RowLaws.{row_length}
+use Rattle.trellis_core.proofs.cutting.hand_cut.Goals as goal
+use Rattle.trellis_core.proofs.cutting.hand_cut.Goals.{After-deref-in-loop-level, After-deref-3}
+use Rattle.trellis_core.proofs.cutting.hand_cut.Given.{Over}
+
+pub cut_row-requires : goal.cut_row-requires
+cut_row-requires g c =
+    let t = trellis_of c.args.window.now in
+    ap length c.deref_mut-in-loop-level.ensures.value ∙ c.loop-level.invariant.following ∙ sym (ap length (c.deref.ensures.value ∙ c.loop-level.invariant.row) ∙ row_length t c.loop-level.level)
+
+pub cut_row-requires-2 : goal.cut_row-requires-2
+cut_row-requires-2 g c =
+    let t = trellis_of c.args.window.now in
+    ap length c.deref_mut-2.ensures.value ∙ c.loop-level.invariant.following ∙ sym (ap length (c.deref-2.ensures.value ∙ c.loop-level.invariant.row) ∙ row_length t c.loop-level.level)
+
+-- ---- a level
+module _ (g : Over) (c : After-deref-in-loop-level g) where
+  row_is : c.deref.result.now ≡ best_row (trellis_of c.args.window.now) c.loop-level.level
+  row_is = c.deref.ensures.value ∙ c.loop-level.invariant.row
+
+  cut_long : length c.cut_row.new.cut ≡ states (trellis_of c.args.window.now)
+  cut_long = omega (arith, c.cut_row.auto.cut, ap length c.deref_mut-in-loop-level.ensures.value, c.loop-level.invariant.following)
+
+  row_cut : c.deref-in-loop-level.result.now ≡ cut_at c.args.cost c.deref.result.now
+  row_cut =
+      c.deref-in-loop-level.ensures.value
+      ∙ written c.loop-level.following.len c.cut_row.new.cut c.loop-level.following.items c.loop-level.following.ok.0 (omega (arith, cut_long, c.loop-level.invariant.following))
+      ∙ cut_is c.args.cost c.deref.result.now c.cut_row.new.cut (cut_long ∙ sym (ap length row_is ∙ row_length (trellis_of c.args.window.now) c.loop-level.level)) c.cut_row.ensures
+
+pub returns-in_err-level-clause-err : goal.returns-in_err-level-clause-err
+returns-in_err-level-clause-err g c =
+    let here = (goal.at.returns-in_err-level-clause-err g c).After-deref-in-loop-level in
+    let p = err_from_is_err_and c.from_residual.result c.from_residual.ensures.1 in
+    let t = trellis_of c.args.window.now in
+    let inv = c.loop-level.invariant in
+    let part = cut_front t c.args.cost g.S.LevelSink.spelling (g.S.LevelSink.kind c.args.sink.now) (g.S.LevelSink.kind c.loop-level.sink) (g.S.LevelSink.text c.args.sink.now) (g.S.LevelSink.text c.loop-level.sink) (g.S.LevelSink.text c.level.new.self) c.loop-level.level c.deref.result.now c.deref-in-loop-level.result.now
+    inv.kind (row_is g here) (row_cut g here) inv.handed c.in_err-level.ensures.err in
+    rw p.1 (hands_up_to t c.length-level-end.ensures.bounded (cut_spelling c.args.cost (g.S.LevelSink.spelling (g.S.LevelSink.kind c.args.sink.now))) (g.S.LevelSink.text c.args.sink.now) (g.S.LevelSink.text c.level.new.self) c.loop-level.level c.deref.result.now (omega (arith, c.loop-level-test.true, c.length-level-end.ensures.value)) (row_is g here) part)
+
+pub loop-level-preserved : goal.loop-level-preserved
+loop-level-preserved g c =
+    let here = (goal.at.loop-level-preserved g c).After-deref-in-loop-level in
+    let t = trellis_of c.args.window.now in
+    let inv = c.loop-level.invariant in
+    let kept = c.next_row.ensures in
+    let more = cut_more t c.args.cost g.S.LevelSink.spelling (g.S.LevelSink.kind c.args.sink.now) (g.S.LevelSink.kind c.loop-level.sink) (g.S.LevelSink.text c.args.sink.now) (g.S.LevelSink.text c.loop-level.sink) (g.S.LevelSink.text c.level.new.self) c.loop-level.level c.deref.result.now c.deref-in-loop-level.result.now
+    inv.kind (row_is g here) (row_cut g here) inv.handed c.in_ok-level.ensures.ok in
+    let between = written_length c.loop-level.following.len (states t) c.cut_row.new.cut c.loop-level.following.items c.loop-level.following.ok.0 (cut_long g here) inv.following in
+    let following_long : length c.next_row.new.following ≡ states t = ap length kept.following ∙ row_length t (c.loop-level.level + 1) in
+    let following = written c.loop-level.following.len c.next_row.new.following _ (omega (arith, c.loop-level.following.ok.0, inv.following, between)) (following_long ∙ sym between) in
+    record {
+      steps = written_length c.loop-level.steps.len (2 * states t) c.next_row.new.steps c.loop-level.steps.items c.loop-level.steps.ok.0 (omega (arith, kept.steps_length, ap length c.deref_mut-in-loop-level-2.ensures.value, inv.steps)) inv.steps;
+      row = ap (λ v. v.items) c.swap.ensures.x_after ∙ following ∙ kept.following;
+      following = ap (λ v. length v.items) c.swap.ensures.y_after ∙ ap length inv.row ∙ row_length t c.loop-level.level;
+      decided = written_length c.loop-level.decided.len (decision_bytes (states t)) c.next_row.new.decisions c.loop-level.decided.items c.loop-level.decided.ok.0 (omega (arith, kept.decisions_length, ap length c.deref_mut-in-loop-level-4.ensures.value, inv.decided)) inv.decided;
+      handed = more;
+      left = omega (arith, c.in_ok-level.ensures.rows, inv.left);
+      row_length = c.level.ensures.row_length ∙ inv.row_length;
+      kind = c.level.ensures.kind ∙ inv.kind;
+      kept = c.level.ensures.kept ∙ inv.kept;
+      ready = c.in_ok-level.ensures.refused inv.ready;
+    }
+
+-- ---- the last level
+module _ (g : Over) (c : After-deref-3 g) where
+  last_is : c.deref-2.result.now ≡ best_row (trellis_of c.args.window.now) c.loop-level.level
+  last_is = c.deref-2.ensures.value ∙ c.loop-level.invariant.row
+
+  last_long : length c.cut_row-2.new.cut ≡ states (trellis_of c.args.window.now)
+  last_long = omega (arith, c.cut_row-2.auto.cut, ap length c.deref_mut-2.ensures.value, c.loop-level.invariant.following)
+
+  last_cut : c.deref-3.result.now ≡ cut_at c.args.cost c.deref-2.result.now
+  last_cut =
+      c.deref-3.ensures.value
+      ∙ written c.loop-level.following.len c.cut_row-2.new.cut c.loop-level.following.items c.loop-level.following.ok.0 (omega (arith, last_long, c.loop-level.invariant.following))
+      ∙ cut_is c.args.cost c.deref-2.result.now c.cut_row-2.new.cut (last_long ∙ sym (ap length last_is ∙ row_length (trellis_of c.args.window.now) c.loop-level.level)) c.cut_row-2.ensures
+
+pub returns-in_err-level-2-clause-err : goal.returns-in_err-level-2-clause-err
+returns-in_err-level-2-clause-err g c =
+    let here = (goal.at.returns-in_err-level-2-clause-err g c).After-deref-3 in
+    let p = err_from_is_err_and c.from_residual-in_err-level-2.result c.from_residual-in_err-level-2.ensures.1 in
+    let t = trellis_of c.args.window.now in
+    let inv = c.loop-level.invariant in
+    let part = cut_front t c.args.cost g.S.LevelSink.spelling (g.S.LevelSink.kind c.args.sink.now) (g.S.LevelSink.kind c.loop-level.sink) (g.S.LevelSink.text c.args.sink.now) (g.S.LevelSink.text c.loop-level.sink) (g.S.LevelSink.text c.level-2.new.self) c.loop-level.level c.deref-2.result.now c.deref-3.result.now
+    inv.kind (last_is g here) (last_cut g here) inv.handed c.in_err-level-2.ensures.err in
+    rw p.1 (hands_up_to t c.length-level-end.ensures.bounded (cut_spelling c.args.cost (g.S.LevelSink.spelling (g.S.LevelSink.kind c.args.sink.now))) (g.S.LevelSink.text c.args.sink.now) (g.S.LevelSink.text c.level-2.new.self) c.loop-level.level c.deref-2.result.now (omega (arith, c.loop-level-test.false, c.length-level-end.ensures.value)) (last_is g here) part)
+
+pub returns-clause-ok : goal.returns-clause-ok
+returns-clause-ok g c =
+    let here = (goal.at.returns-clause-ok g c).After-deref-3 in
+    let t = trellis_of c.args.window.now in
+    let inv = c.loop-level.invariant in
+    let more = cut_more t c.args.cost g.S.LevelSink.spelling (g.S.LevelSink.kind c.args.sink.now) (g.S.LevelSink.kind c.loop-level.sink) (g.S.LevelSink.text c.args.sink.now) (g.S.LevelSink.text c.loop-level.sink) (g.S.LevelSink.text c.level-2.new.self) c.loop-level.level c.deref-2.result.now c.deref-3.result.now
+    inv.kind (last_is g here) (last_cut g here) inv.handed c.in_ok-level-2.ensures.ok in
+    hands_all t c.length-level-end.ensures.bounded (cut_spelling c.args.cost (g.S.LevelSink.spelling (g.S.LevelSink.kind c.args.sink.now))) (g.S.LevelSink.text c.args.sink.now) (g.S.LevelSink.text c.level-2.new.self) c.loop-level.level (omega (arith, c.loop-level-test.false, c.length-level-end.ensures.value, c.loop-level.auto.level-end)) more

@@ -1,8 +1,0 @@
-use Rattle.std.proofs.Common.{◌≡◌, map}
-use Rattle.std.specs.List.{range_with_len}
-use Rattle.cost_core.specs.StateCosts.{trellis_of}
-use Rattle.trellis_core.specs.Best.{best}
-use Rattle.trellis_core.proofs.rows.first_row.Given as goal
-
-abbrev pub invariant-loop-state : goal.invariant-loop-state
-invariant-loop-state l = l.row.items ≡ map (best (trellis_of l.window) 0) (range_with_len 0 l.state)

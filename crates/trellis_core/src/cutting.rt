@@ -1,0 +1,70 @@
+//! A second pass over the levels, whose rows are handed over cut at the cost.
+
+ghost use Rattle.std.specs.Prelude.{◌≡◌, ℕ, ◌+◌, ◌<◌, ◌≤◌, min, true, false, length, slice_index, OnOk, OnErr, MatchResult};
+ghost use Rattle.cost_core.specs.Trellis.{states};
+ghost use Rattle.cost_core.specs.StateCosts.{trellis_of};
+ghost use Rattle.trellis_core.specs.Handing.{HandsOverAll, HandsOverUpTo, cut_spelling};
+ghost use Rattle.trellis_core.specs.Passes.{HasBuffers};
+
+use crate::rows::{Searched, next_row, write_first_row};
+use cost_core::{LevelSink, SinkFault, Window};
+
+// Writes the values of a row, each above the cost as the cost. (A plain loop over two slices, which the compiler turns
+// into lanes.)
+fn cut_row(row: &[u64], cost: u64, cut: &mut [u64])
+    requires { length cut.old ≡ length row.now }
+    ensures { (k : ℕ) → k < length row.now → slice_index cut.new k ≡ min (slice_index row.now k) cost }
+{
+    for i in 0..cut.len() {
+        cut[i] = row[i].min(cost);
+    }
+}
+
+/// Makes the rows of all levels again, in what a search left, and hands each over cut at the cost when it is made.
+/// Nothing is allocated.
+///
+/// Refusal: `SinkFault` where the sink refuses a row, after those of the levels before it.
+pub fn hand_cut<S: LevelSink>(
+    window: &Window,
+    searched: Searched,
+    cost: u64,
+    sink: &mut S,
+) -> Result<(), SinkFault>
+    requires buffers { HasBuffers (trellis_of window.now) searched }
+    requires rows { window.now.levels + 1 ≤ S.rows_left sink.old }
+    requires row_length { S.row_length sink.old ≡ states (trellis_of window.now) }
+    requires ready { S.has_refused sink.old ≡ false }
+    ensures ok { OnOk result (HandsOverAll (trellis_of window.now) (cut_spelling cost (S.spelling (S.kind sink.old))) (S.text sink.old) (S.text sink.new)) }
+    ensures err { OnErr result (HandsOverUpTo (trellis_of window.now) (cut_spelling cost (S.spelling (S.kind sink.old))) (S.text sink.old) (S.text sink.new)) }
+    ensures refused { MatchResult result (λ _. S.has_refused sink.new ≡ false) (λ _. S.has_refused sink.new ≡ true) }
+    ensures rows_left { OnOk result (S.rows_left sink.new + (window.now.levels + 1) ≡ S.rows_left sink.old) }
+    ensures row_length { S.row_length sink.new ≡ S.row_length sink.old }
+    ensures kind { S.kind sink.new ≡ S.kind sink.old }
+    ensures kept { S.kept sink.new ≡ S.kept sink.old }
+{
+    let Searched {
+        totals,
+        decisions: _,
+        steps,
+        row,
+        decided,
+    } = searched;
+    let (mut row, mut following, mut steps, mut decided) = (row, totals, steps, decided);
+    write_first_row(window, &mut row);
+    for level in 0..window.length() {
+        cut_row(&row, cost, &mut following);
+        sink.level(&following)?;
+        next_row(
+            window,
+            level,
+            &row,
+            &mut steps,
+            &mut following,
+            &mut decided,
+        );
+        std::mem::swap(&mut row, &mut following);
+    }
+    cut_row(&row, cost, &mut following);
+    sink.level(&following)?;
+    Ok(())
+}

@@ -1,11 +1,15 @@
+pub mod Bytes
 pub mod Composition
 pub mod Consuming
 pub mod Entries
 pub mod Exact
 pub mod Heads
+pub mod Held
 pub mod Marks
 pub mod Narrow
 pub mod OneReason
+pub mod Raised
+pub mod Reading
 pub mod Spellings
 pub mod Steps
 pub mod Whole

@@ -6,7 +6,7 @@ use Rattle.cost_core.specs.Tables.{value_in, IsTable}
 use Rattle.cost_core.specs.Validity.{IsValid}
 use Rattle.cert_core.specs.Entries.{IsEntry}
 use Rattle.cert_core.specs.Text.{Entry, cert_text}
-use Rattle.cert_core.specs.declared.version.Version.TheVariants.{One}
+use Rattle.cert_core.specs.declared.version.Version.{Version}
 
 -- what an entry is to show: that the bits of the bridge after a cue, in a channel, are least
 pub record Claim : Type 0 where
@@ -30,15 +30,15 @@ ShowsAll [] (e ∷ entries) = ⊥
 ShowsAll (claim ∷ claims) [] = ⊥
 ShowsAll (claim ∷ claims) (e ∷ entries) = Shows claim e × ShowsAll claims entries
 
--- the bytes are the certificate of some such entries
+-- the bytes are the certificate of some such entries, in one version or the other
 abbrev pub IsCert : ℕ → List Claim → List ℕ → Type 0
-IsCert weights claims bytes = (entries : List Entry) × ShowsAll claims entries × (bytes ≡ cert_text One weights entries)
+IsCert weights claims bytes = (v : Version) × (entries : List Entry) × ShowsAll claims entries × (bytes ≡ cert_text v weights entries)
 
--- the bytes are an entry that shows the claim
-abbrev pub IsEntryOf : Claim → List ℕ → Type 0
-IsEntryOf claim bytes = IsEntry (trellis_of claim.bridging) claim.cue claim.channel claim.bits bytes
+-- the bytes are an entry, in a version, that shows the claim
+abbrev pub IsEntryOf : Version → Claim → List ℕ → Type 0
+IsEntryOf v claim bytes = IsEntry v (trellis_of claim.bridging) claim.cue claim.channel claim.bits bytes
 
 -- the bytes are such entries, one for each claim in their order, and nothing else
-abbrev pub AreEntries : List Claim → List ℕ → Type 0
-AreEntries [] bytes = bytes ≡ []
-AreEntries (claim ∷ claims) bytes = (entry : List ℕ) × (rest : List ℕ) × (bytes ≡ entry ++ rest) × IsEntryOf claim entry × AreEntries claims rest
+abbrev pub AreEntries : Version → List Claim → List ℕ → Type 0
+AreEntries v [] bytes = bytes ≡ []
+AreEntries v (claim ∷ claims) bytes = (entry : List ℕ) × (rest : List ℕ) × (bytes ≡ entry ++ rest) × IsEntryOf v claim entry × AreEntries v claims rest

@@ -12,7 +12,6 @@ use Rattle.cert_core.specs.Reasons.{FirstReason}
 use Rattle.cert_core.specs.Spelling.{row_text}
 use Rattle.cert_core.specs.Text.{Entry, entry_start, cert_entry, cert_head, cert_text}
 use Rattle.cert_core.specs.declared.version.Version.{Version}
-use Rattle.cert_core.specs.declared.version.Version.TheVariants.{One}
 
 -- the start, the rows and the cost, written one after the other, are the entry
 abbrev pub PartsAreEntry : Type 0
@@ -30,35 +29,39 @@ HeadAndEntries =
 
 -- an entry that shows a claim is read as such, whatever follows
 abbrev pub ShownIsRead : Type 0
-ShownIsRead = (claim : Claim) (e : Entry) (rest : List ℕ) → Shows claim e → BeginsValid (trellis_of claim.bridging) claim.cue claim.channel claim.bits (cert_entry One e ++ rest)
+ShownIsRead = (v : Version) (claim : Claim) (e : Entry) (rest : List ℕ) → Shows claim e → BeginsValid v (trellis_of claim.bridging) claim.cue claim.channel claim.bits (cert_entry v e ++ rest)
 
 -- what was read entry by entry is a certificate
 abbrev pub ReadIsCert : Type 0
-ReadIsCert = (weights : ℕ) (claims : List Claim) (rest : List ℕ) → AreEntries claims rest → IsCert weights claims (cert_head One weights (length claims) ++ rest)
+ReadIsCert = (v : Version) (weights : ℕ) (claims : List Claim) (rest : List ℕ) → AreEntries v claims rest → IsCert weights claims (cert_head v weights (length claims) ++ rest)
 
--- a certificate is its head and then an entry for each claim
+-- a certificate begins with a head that tells its version
+abbrev pub CertHasHead : Type 0
+CertHasHead = (weights : ℕ) (claims : List Claim) (bytes : List ℕ) → IsCert weights claims bytes → (v : Version) × (rest : List ℕ) × (bytes ≡ cert_head v weights (length claims) ++ rest)
+
+-- after a head come, in its version, an entry for each claim and nothing else
 abbrev pub CertIsRead : Type 0
-CertIsRead = (weights : ℕ) (claims : List Claim) (bytes : List ℕ) → IsCert weights claims bytes → (rest : List ℕ) × (bytes ≡ cert_head One weights (length claims) ++ rest) × AreEntries claims rest
+CertIsRead = (v : Version) (weights : ℕ) (claims : List Claim) (rest : List ℕ) → IsCert weights claims (cert_head v weights (length claims) ++ rest) → AreEntries v claims rest
 
 -- one entry more
 abbrev pub ReadMore : Type 0
-ReadMore = (claims : List Claim) (claim : Claim) (bytes entry : List ℕ) → AreEntries claims bytes → IsEntryOf claim entry → AreEntries (claims ++ claim ∷ []) (bytes ++ entry)
+ReadMore = (v : Version) (claims : List Claim) (claim : Claim) (bytes entry : List ℕ) → AreEntries v claims bytes → IsEntryOf v claim entry → AreEntries v (claims ++ claim ∷ []) (bytes ++ entry)
 
 -- after the entries of the first claims comes a valid entry of the next one
 abbrev pub NextIsRead : Type 0
 NextIsRead =
-    (claims : List Claim) (claim : Claim) (more : List Claim) (front after : List ℕ) → AreEntries claims front → AreEntries (claims ++ claim ∷ more) (front ++ after)
-    → BeginsValid (trellis_of claim.bridging) claim.cue claim.channel claim.bits after
+    (v : Version) (claims : List Claim) (claim : Claim) (more : List Claim) (front after : List ℕ) → AreEntries v claims front → AreEntries v (claims ++ claim ∷ more) (front ++ after)
+    → BeginsValid v (trellis_of claim.bridging) claim.cue claim.channel claim.bits after
 
 -- after the entries of all claims comes nothing
 abbrev pub NothingFollows : Type 0
-NothingFollows = (claims : List Claim) (front after : List ℕ) → AreEntries claims front → AreEntries claims (front ++ after) → after ≡ []
+NothingFollows = (v : Version) (claims : List Claim) (front after : List ℕ) → AreEntries v claims front → AreEntries v claims (front ++ after) → after ≡ []
 
 -- bits that an entry shows to be least are least
 abbrev pub ShownIsLeast : Type 0
-ShownIsLeast = (d : Bridging) (cue channel : ℕ) (x : List Bool) (bytes : List ℕ) → IsBridging d → length x ≡ d.levels → IsEntry (trellis_of d) cue channel x bytes → IsLeastBridge d x
+ShownIsLeast = (v : Version) (d : Bridging) (cue channel : ℕ) (x : List Bool) (bytes : List ℕ) → IsBridging d → length x ≡ d.levels → IsEntry v (trellis_of d) cue channel x bytes → IsLeastBridge d x
 
 -- bytes have one first reason at most
 abbrev pub OneReason : Type 0
-OneReason = (d : Bridging) (cue channel found : ℕ) (bytes : List ℕ) (a b : CertReason) → IsBridging d → cue < 2 ^ 16 → channel < 2 ^ 16
-    → FirstReason (trellis_of d) cue channel found bytes a → FirstReason (trellis_of d) cue channel found bytes b → a ≡ b
+OneReason = (v : Version) (d : Bridging) (cue channel found : ℕ) (bytes : List ℕ) (a b : CertReason) → IsBridging d → cue < 2 ^ 16 → channel < 2 ^ 16
+    → FirstReason v (trellis_of d) cue channel found bytes a → FirstReason v (trellis_of d) cue channel found bytes b → a ≡ b

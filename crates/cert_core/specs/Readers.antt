@@ -1,5 +1,5 @@
 -- What contracts see of a reader of certificates and of its answers.
-use Rattle.std.specs.Prelude.{◌≡◌, ◌<◌, ℕ, List, length, Option, None, Some, Result, Ok, Err, ⊤, IfSome}
+use Rattle.std.specs.Prelude.{◌≡◌, ◌<◌, ℕ, Bool, List, length, Option, None, Some, Result, Ok, Err, ⊤, IfSome}
 use Rattle.device_core.specs.declared.inlet.Inlet.{Inlet}
 use Rattle.cert_core.specs.declared.reader.CertReader.{CertReader}
 use Rattle.cert_core.specs.declared.verdict.CertReason.{CertReason}
@@ -9,10 +9,19 @@ use Rattle.cert_core.specs.declared.verdict.CertVerdict.TheVariants.{Accepted, R
 use Rattle.cert_core.specs.declared.verdict.CheckFault.{CheckFault}
 use Rattle.cert_core.specs.declared.verdict.CheckFault.TheVariants.{Device, Memory}
 use Rattle.cert_core.specs.Reasons.{HeadReason}
+use Rattle.cert_core.specs.declared.version.Version.{Version}
 
 -- the inlet, as it stands
 abbrev pub cert_inlet : {R : Type 0} → CertReader R → Inlet R
 cert_inlet reader = reader.inlet
+
+-- whether a head was read
+abbrev pub has_read_head : {R : Type 0} → CertReader R → Bool
+has_read_head reader = reader.has_head
+
+-- the version that the head told
+abbrev pub read_version : {R : Type 0} → CertReader R → Version
+read_version reader = reader.version
 
 -- P of the cost, where the bits were accepted
 abbrev pub IfAccepted : Result CertVerdict CheckFault → (ℕ → Type 0) → Type 0

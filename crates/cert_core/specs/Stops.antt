@@ -1,15 +1,16 @@
 -- Why a reading stops before its end.
-use Rattle.std.specs.Prelude.{◌≡◌, ℕ, ◌+◌, ◌<◌, ◌⊎◌, List, length, flat_map, Option, Result, Ok, Err, ⊤, IfSome}
+use Rattle.std.specs.Prelude.{◌≡◌, ◌≢◌, ℕ, ◌+◌, ◌^◌, ◌<◌, ◌⊎◌, List, length, map, flat_map, slice_index_or, Option, Result, Ok, Err, ⊤, IfSome}
 use Rattle.std.specs.Io.KnownBytes.{Consumes}
 use Rattle.cost_core.specs.Trellis.{Trellis}
 use Rattle.cert_core.specs.declared.verdict.CertReason.{CertReason}
-use Rattle.cert_core.specs.declared.verdict.CertReason.TheVariants.{Cut}
+use Rattle.cert_core.specs.declared.verdict.CertReason.TheVariants.{Cut, Bound, Row}
 use Rattle.cert_core.specs.declared.stop.Stop.{Stop}
 use Rattle.cert_core.specs.declared.stop.Stop.TheVariants.{Reason, Device, Memory}
 use Rattle.cost_core.specs.Tables.{row_in}
-use Rattle.cert_core.specs.Spelling.{row_text}
-use Rattle.cert_core.specs.declared.version.Version.TheVariants.{One}
-use Rattle.cert_core.specs.Reasons.{StartReason, FirstReason, EndReason, AreClean, CutInRow, FaultInRow}
+use Rattle.cert_core.specs.Spelling.{row_text, byte_width, floor, peak, IsTooWide}
+use Rattle.cert_core.specs.declared.version.Version.{Version}
+use Rattle.cert_core.specs.declared.version.Version.TheVariants.{Two}
+use Rattle.cert_core.specs.Reasons.{StartReason, FirstReason, EndReason, AreClean, Bounded, ReasonInRow, SpellingReason}
 
 -- P of the reason, where there is one
 abbrev pub OnReason : {T : Type 0} → Result T Stop → (CertReason → Type 0) → Type 0
@@ -33,22 +34,31 @@ CutBelow known n reason = (reason ≡ Cut) × IfSome known (λ bytes. length byt
 abbrev pub InStart : Option (List ℕ) → ℕ → ℕ → ℕ → CertReason → Type 0
 InStart known cue channel levels reason = IfSome known (λ bytes. StartReason cue channel levels bytes reason)
 
--- the first reason in the rows of a table
-abbrev pub RowsReason : Trellis → List ℕ → CertReason → Type 0
-RowsReason t bytes reason = ((reason ≡ Cut) × CutInRow t bytes) ⊎ FaultInRow t bytes reason
+-- known bytes have this reason to begin with no row of m values, that of the level
+abbrev pub InSpelling : Version → ℕ → ℕ → Option (List ℕ) → CertReason → Type 0
+InSpelling v m level known reason = IfSome known (λ bytes. SpellingReason v m level bytes reason)
+
+-- known bytes have this reason to begin with no number and width of a row, that of the level
+abbrev pub InForm : ℕ → Option (List ℕ) → CertReason → Type 0
+InForm level known reason = IfSome known (λ bytes. ((reason ≡ Cut) × (length bytes < 9)) ⊎ ((reason ≡ Row level) × IsTooWide Two bytes))
+
+-- why numbers over another, of some width, are no row of the level as the second version spells it
+abbrev pub RaisedReason : ℕ → ℕ → ℕ → List ℕ → CertReason → Type 0
+RaisedReason least width level over reason = ((reason ≡ Bound) × ((q : ℕ) × (q < length over) × (2 ^ 63 < least + slice_index_or over q 0)))
+    ⊎ ((reason ≡ Row level) × Bounded (length over) (map (λ v. least + v) over) × ((floor over ≢ 0) ⊎ (width ≢ byte_width (peak over))))
 
 -- known bytes have this reason first in the rows of a table
-abbrev pub InRows : Trellis → Option (List ℕ) → CertReason → Type 0
-InRows t known reason = IfSome known (λ bytes. RowsReason t bytes reason)
+abbrev pub InRows : Version → Trellis → Option (List ℕ) → CertReason → Type 0
+InRows v t known reason = IfSome known (λ bytes. ReasonInRow v t bytes reason)
 
 -- known bytes have this reason first from the cost on
 abbrev pub InEnd : Trellis → List ℕ → ℕ → Option (List ℕ) → CertReason → Type 0
 InEnd t last found known reason = IfSome known (λ bytes. EndReason t last found bytes reason)
 
 -- known bytes have this reason first in an entry
-abbrev pub InEntry : Trellis → ℕ → ℕ → ℕ → Option (List ℕ) → CertReason → Type 0
-InEntry t cue channel found known reason = IfSome known (λ bytes. FirstReason t cue channel found bytes reason)
+abbrev pub InEntry : Version → Trellis → ℕ → ℕ → ℕ → Option (List ℕ) → CertReason → Type 0
+InEntry v t cue channel found known reason = IfSome known (λ bytes. FirstReason v t cue channel found bytes reason)
 
 -- clean rows of all levels were read, the last of which is `last`
-abbrev pub ReadsRows : Trellis → Option (List ℕ) → Option (List ℕ) → List ℕ → Type 0
-ReadsRows t old new last = (rows : List (List ℕ)) × Consumes old new (flat_map (row_text One) rows) × AreClean t rows × (length rows ≡ t.levels + 1) × (last ≡ row_in rows t.levels)
+abbrev pub ReadsRows : Version → Trellis → Option (List ℕ) → Option (List ℕ) → List ℕ → Type 0
+ReadsRows v t old new last = (rows : List (List ℕ)) × Consumes old new (flat_map (row_text v) rows) × AreClean t rows × (length rows ≡ t.levels + 1) × (last ≡ row_in rows t.levels)

@@ -7,13 +7,13 @@ ghost use Rattle.device_core.specs.Inlets.{inlet_reader, inlet_failures};
 ghost use Rattle.cost_core.specs.Trellis.{states, cost, IsBounded};
 ghost use Rattle.cost_core.specs.StateCosts.{trellis_of};
 ghost use Rattle.cost_core.specs.Limits.{IsBridging};
-ghost use Rattle.cert_core.specs.Spelling.{row_text};
 ghost use Rattle.cert_core.specs.Text.{entry_start};
 ghost use Rattle.cert_core.specs.Entries.{ReadsEntry};
 ghost use Rattle.cert_core.specs.Reasons.{RowBounded};
 ghost use Rattle.cert_core.specs.Stops.{OnReason, failed_stops, CutBelow, InStart, InRows, InEnd, InEntry, ReadsRows};
 
-use crate::numbers::{make_buffer, number_in, start_numbers, take_row};
+use crate::numbers::{make_buffer, number_in, start_numbers};
+use crate::row_reader::read_row;
 use crate::rows::{low_end, row_reason};
 use crate::stop::Stop;
 use crate::verdict::CertReason;
@@ -37,29 +37,6 @@ fn read_number<R: Read>(inlet: &mut Inlet<R>) -> Result<u64, Stop>
         return Err(Stop::Reason(CertReason::Cut));
     }
     Ok(number_in(bytes))
-}
-
-// A row of as many numbers as the old one has, read whole into a buffer of its bytes.
-fn read_row<R: Read>(
-    inlet: &mut Inlet<R>,
-    bytes: &mut Vec<u8>,
-    row: &mut Vec<u64>,
-) -> Result<(), Stop>
-    requires ready { inlet_failures inlet.old < 2 ^ 64 - 1 }
-    requires bytes { length bytes.old.items ≡ 8 * length row.old.items }
-    ensures len { length row.new.items ≡ length row.old.items }
-    ensures bytes { length bytes.new.items ≡ length bytes.old.items }
-    ensures values { OnOk result ((q : ℕ) → slice_index_or row.new.items q 0 < 2 ^ 64) }
-    ensures ok { OnOk result (Consumes (R.remaining (inlet_reader inlet.old)) (R.remaining (inlet_reader inlet.new)) (row_text Version.One row.new.items)) }
-    ensures cut { OnReason result (CutBelow (R.remaining (inlet_reader inlet.old)) (8 * length row.old.items)) }
-    ensures failures { inlet_failures inlet.new ≡ inlet_failures inlet.old + failed_stops result }
-{
-    let count = inlet.fill(bytes)?;
-    if count < bytes.len() {
-        return Err(Stop::Reason(CertReason::Cut));
-    }
-    take_row(bytes, row);
-    Ok(())
 }
 
 // The start of an entry, which has to be of this cue, this channel and a bridge of this length.
@@ -100,22 +77,23 @@ fn make_row(alloc: Global, count: usize) -> Result<Vec<u64>, AllocError>
 fn read_rows<R: Read>(
     alloc: Global,
     inlet: &mut Inlet<R>,
+    version: Version,
     window: &Window,
     steps: &mut [u64],
 ) -> Result<Vec<u64>, Stop>
     requires ready { inlet_failures inlet.old < 2 ^ 64 - 1 }
     requires steps { length steps.old ≡ 2 * states (trellis_of window.now) }
     ensures steps { length steps.new ≡ length steps.old }
-    ensures ok { IfOk result (λ last. ReadsRows (trellis_of window.now) (R.remaining (inlet_reader inlet.old)) (R.remaining (inlet_reader inlet.new)) last.items) }
-    ensures reason { OnReason result (InRows (trellis_of window.now) (R.remaining (inlet_reader inlet.old))) }
+    ensures ok { IfOk result (λ last. ReadsRows version (trellis_of window.now) (R.remaining (inlet_reader inlet.old)) (R.remaining (inlet_reader inlet.new)) last.items) }
+    ensures reason { OnReason result (InRows version (trellis_of window.now) (R.remaining (inlet_reader inlet.old))) }
     ensures failures { inlet_failures inlet.new ≡ inlet_failures inlet.old + failed_stops result }
 {
     let states = window.states();
     let mut previous = make_row(alloc, states)?;
     let mut row = make_row(alloc, states)?;
-    let mut bytes = make_buffer(alloc, 8 * row.len())?;
+    let mut buffer = make_buffer(alloc, 8 + 8 * states)?;
     for level in 0..window.length() + 1 {
-        read_row(inlet, &mut bytes, &mut row)?;
+        read_row(inlet, version, level, &mut buffer, &mut row)?;
         if let Some(reason) = row_reason(window, level, &previous, &row, steps) {
             return Err(Stop::Reason(reason));
         }
@@ -154,10 +132,11 @@ fn read_end<R: Read>(
     }
 }
 
-/// Reads an entry, whose table has to be valid for the bits. The answer is what they cost.
+/// Reads an entry of a version, whose table has to be valid for the bits. The answer is what they cost.
 pub fn read_entry<R: Read>(
     alloc: Global,
     inlet: &mut Inlet<R>,
+    version: Version,
     cue: u16,
     channel: u16,
     window: &Window,
@@ -166,15 +145,15 @@ pub fn read_entry<R: Read>(
     requires ready { inlet_failures inlet.old < 2 ^ 64 - 1 }
     requires bits { length bits.now ≡ window.now.levels }
     ensures limits { IsBridging window.now }
-    ensures entry { IfOk result (λ cost. ReadsEntry (trellis_of window.now) cue channel bits.now (R.remaining (inlet_reader inlet.old)) (R.remaining (inlet_reader inlet.new))) }
+    ensures entry { IfOk result (λ cost. ReadsEntry version (trellis_of window.now) cue channel bits.now (R.remaining (inlet_reader inlet.old)) (R.remaining (inlet_reader inlet.new))) }
     ensures cost { IfOk result (λ found. found ≡ cost (trellis_of window.now) bits.now) }
-    ensures reason { OnReason result (InEntry (trellis_of window.now) cue channel (cost (trellis_of window.now) bits.now) (R.remaining (inlet_reader inlet.old))) }
+    ensures reason { OnReason result (InEntry version (trellis_of window.now) cue channel (cost (trellis_of window.now) bits.now) (R.remaining (inlet_reader inlet.old))) }
     ensures failures { inlet_failures inlet.new ≡ inlet_failures inlet.old + failed_stops result }
 {
     read_start(inlet, cue, channel, window.length())?;
     let states = window.states();
     let mut steps = make_row(alloc, 2 * states)?;
-    let last = read_rows(alloc, inlet, window, &mut steps)?;
+    let last = read_rows(alloc, inlet, version, window, &mut steps)?;
     let (tails, _) = steps.split_at_mut(states);
     read_end(inlet, window, &last, tails, window.cost_of(bits))
 }

@@ -1,6 +1,6 @@
 //! How the parts of a certificate make the whole: functions that do nothing and carry laws.
 
-ghost use Rattle.cert_core.specs.Composing.{PartsAreEntry, EntriesJoin, HeadAndEntries, ShownIsRead, ReadIsCert, CertIsRead, ReadMore, NextIsRead, NothingFollows, ShownIsLeast, OneReason};
+ghost use Rattle.cert_core.specs.Composing.{PartsAreEntry, EntriesJoin, HeadAndEntries, ShownIsRead, ReadIsCert, CertHasHead, CertIsRead, ReadMore, NextIsRead, NothingFollows, ShownIsLeast, OneReason};
 
 /// The parts that a writer writes in order are the text of the certificate.
 pub fn parts_join()
@@ -18,6 +18,7 @@ pub fn shown_is_read()
 /// certificates.
 pub fn read_is_cert()
     ensures read { ReadIsCert }
+    ensures head { CertHasHead }
     ensures only { CertIsRead }
     ensures more { ReadMore }
 {}

@@ -7,7 +7,7 @@
 //! says why, and has the format and an example by hand.
 //!
 //! A [`CertWriter`] writes a certificate of either [`Version`] to an outlet, part by part; as a `LevelSink` it takes
-//! the rows of a search. A [`CertReader`] reads one of the first version from an inlet, two rows at a time, and
+//! the rows of a search. A [`CertReader`] reads one of either version from an inlet, two rows at a time (`row_reader`), and
 //! [`check_bridge`](CertReader::check_bridge) judges the bits of a bridge by the next entry: bounds, steps and
 //! ends eight states at a time, and one at a time what is left, and where something is wrong (`rows`). This
 //! crate knows nothing of the search.
@@ -15,14 +15,15 @@
 //! The words of its contracts, all over lists and numbers without bounds:
 //!
 //! - `cert_text version weights entries` is the whole text, of `cert_head` and of a `cert_entry` for each `Entry`
-//!   (`specs/Text.antt`); `row_text version row` is that of a row (`specs/Spelling.antt`). The validity of a table
-//!   is `IsValid` of `cost_core`: five plain facts.
-//! - `IsEntry t cue channel x bytes`: the bytes are an entry with a table that is valid for the bits `x`;
+//!   (`specs/Text.antt`); `row_text version row` is that of a row, and `Holds version m bytes row rest` says that bytes
+//!   hold a row of `m` values in its form, whether or not they are its text (`specs/Spelling.antt`). A third version
+//!   would be one more case of each. The validity of a table is `IsValid` of `cost_core`: five plain facts.
+//! - `IsEntry version t cue channel x bytes`: the bytes are an entry with a table that is valid for the bits `x`;
 //!   `BeginsValid`: they begin with one (`specs/Entries.antt`).
-//! - `FirstReason t cue channel found bytes reason`: the first reason, in the stated order, why they don't
+//! - `FirstReason version t cue channel found bytes reason`: the first reason, in the stated order, why they don't
 //!   (`specs/Reasons.antt`).
 //! - `Claim` is what an entry is to show, and `IsCert weights claims bytes` says that the bytes are the
-//!   certificate of entries that show all claims (`specs/Certificates.antt`).
+//!   certificate, of either version, of entries that show all claims (`specs/Certificates.antt`).
 //! - `stage` is where a writer stands: `has_head`, `entries_left`, `is_open`; and `rows_left`
 //!   (`specs/Writers.antt`).
 //!
@@ -53,6 +54,7 @@ mod entry;
 mod laws;
 mod numbers;
 mod reader;
+mod row_reader;
 mod rows;
 mod sink;
 mod spelling;

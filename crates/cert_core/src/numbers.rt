@@ -1,6 +1,6 @@
 //! Numbers as bytes, the highest byte first.
 
-ghost use Rattle.std.specs.Prelude.{◌≡◌, ◌*◌, ◌≤◌, length, IfOk};
+ghost use Rattle.std.specs.Prelude.{◌≡◌, ◌≢◌, ◌*◌, ◌≤◌, length, IfOk, MatchOption};
 ghost use Rattle.std.specs.Int.{w32, w64, to_be_bytes};
 ghost use Rattle.cert_core.specs.Spelling.{row_text, version_number};
 ghost use Rattle.cert_core.specs.Text.{entry_start, cert_head};
@@ -30,6 +30,22 @@ pub fn head_bytes(version: Version, weights: usize, entries: u32) -> [u8; 12]
         b'D', b'S', b'P', b'C', version[0], version[1], weights[0], weights[1], entries[0],
         entries[1], entries[2], entries[3],
     ]
+}
+
+/// The version of which these twelve bytes are the head.
+pub fn version_in(bytes: &[u8; 12], weights: usize, entries: u32) -> Option<Version>
+    requires { weights ≤ 12 }
+    ensures { MatchOption result
+        ((v : Version) → bytes.now ≢ cert_head v weights entries)
+        (λ version. bytes.now ≡ cert_head version weights entries) }
+{
+    if *bytes == head_bytes(Version::One, weights, entries) {
+        return Some(Version::One);
+    }
+    if *bytes == head_bytes(Version::Two, weights, entries) {
+        return Some(Version::Two);
+    }
+    None
 }
 
 /// The start of an entry.

@@ -1,6 +1,6 @@
 //! The reader of certificates.
 
-ghost use Rattle.std.specs.Prelude.{◌≡◌, ◌+◌, ◌-◌, ◌^◌, ◌<◌, ◌≤◌, ◌++◌, List, ℕ, length, IfSome, IsErrOf};
+ghost use Rattle.std.specs.Prelude.{◌≡◌, ◌+◌, ◌-◌, ◌^◌, ◌<◌, ◌≤◌, ◌++◌, List, ℕ, length, true, false, IfSome, IsErrOf};
 ghost use Rattle.std.specs.Io.KnownBytes.{Consumes, IsAtEnd};
 ghost use Rattle.device_core.specs.Inlets.{inlet_reader, inlet_failures};
 ghost use Rattle.cost_core.specs.StateCosts.{trellis_of};
@@ -10,7 +10,7 @@ ghost use Rattle.cert_core.specs.Entries.{BeginsValid, ReadsEntry};
 ghost use Rattle.cert_core.specs.Stops.{InEntry};
 
 use crate::entry::read_entry;
-use crate::numbers::head_bytes;
+use crate::numbers::version_in;
 use crate::stop::Stop;
 use crate::verdict::{CertReason, CertVerdict, CheckFault};
 use crate::version::Version;
@@ -26,19 +26,26 @@ use std::io::Read;
 #[derive(Drop)]
 pub struct CertReader<R> {
     inlet: Inlet<R>,
+    version: Version,
+    has_head: bool,
 }
 
 impl<R: Read> CertReader<R> {
-    ghost use Rattle.cert_core.specs.Readers.{cert_inlet, IfAccepted, IfRejected, failed_checks, IsWell, IfReason, InHead, InRest, failed_reads};
+    ghost use Rattle.cert_core.specs.Readers.{cert_inlet, has_read_head, read_version, IfAccepted, IfRejected, failed_checks, IsWell, IfReason, InHead, InRest, failed_reads};
 
     /// A reader at the inlet's place.
     pub fn new(inlet: Inlet<R>) -> CertReader<R>
-        ensures { cert_inlet result ≡ inlet }
+        ensures inlet { cert_inlet result ≡ inlet }
+        ensures head { has_read_head result ≡ false }
     {
-        CertReader { inlet }
+        CertReader {
+            inlet,
+            version: Version::One,
+            has_head: false,
+        }
     }
 
-    /// Reads the head, which has to be that of so many weights and entries. None means that it is.
+    /// Reads the head, which has to be that of so many weights and entries in either version. None means that it is.
     ///
     /// Reasons, in this order: `Cut` where fewer than 12 bytes are left, `Head`. Refusal: `Device` where
     /// a read fails. It takes no memory.
@@ -49,11 +56,12 @@ impl<R: Read> CertReader<R> {
     ) -> Result<Option<CertReason>, CheckFault>
         requires ready { inlet_failures (cert_inlet self.old) < 2 ^ 64 - 1 }
         requires weights { weights ≤ 12 }
-        ensures none { IsWell result → Consumes (R.remaining (inlet_reader (cert_inlet self.old))) (R.remaining (inlet_reader (cert_inlet self.new))) (cert_head Version.One weights entries) }
+        ensures none { IsWell result → Consumes (R.remaining (inlet_reader (cert_inlet self.old))) (R.remaining (inlet_reader (cert_inlet self.new))) (cert_head (read_version self.new) weights entries) }
+        ensures read { IsWell result → has_read_head self.new ≡ true }
 
         // Known bytes have this reason first, and don't begin with the head.
         ensures reason { IfReason result (InHead weights entries (R.remaining (inlet_reader (cert_inlet self.old)))) }
-        ensures only { IfReason result (λ _. IfSome (R.remaining (inlet_reader (cert_inlet self.old))) (λ bytes. (rest : List ℕ) → bytes ≡ cert_head Version.One weights entries ++ rest → ⊥)) }
+        ensures only { IfReason result (λ _. IfSome (R.remaining (inlet_reader (cert_inlet self.old))) (λ bytes. (v : Version) → (rest : List ℕ) → bytes ≡ cert_head v weights entries ++ rest → ⊥)) }
 
         // The answer is `Device` exactly where a read failed, and never `Memory`.
         ensures failures { inlet_failures (cert_inlet self.new) ≡ inlet_failures (cert_inlet self.old) + failed_reads result }
@@ -66,18 +74,22 @@ impl<R: Read> CertReader<R> {
         if count < 12 {
             return Ok(Some(CertReason::Cut));
         }
-        if bytes != head_bytes(Version::One, weights, entries) {
+        let Some(version) = version_in(&bytes, weights, entries) else {
             return Ok(Some(CertReason::Head));
-        }
+        };
+        self.version = version;
+        self.has_head = true;
         Ok(None)
     }
 
-    /// Reads the next entry and judges by it the bits of the bridge after `cue` in `channel`. `Accepted`
+    /// Reads the next entry, in the version that the head told, and judges by it the bits of the bridge after `cue` in `channel`. `Accepted`
     /// says that the entry's table is valid for them, and so no bits of the bridge's length cost less.
     ///
     /// Reasons, in this order: `Cut` where the 6 bytes of its start aren't there, `Head` for another cue
     /// or channel, `Length`; for each level in turn `Cut`, `Bound`, at level 0 `Start`, at the others
-    /// `Step` for the lowest such state; then `Cut`, `Cost`, and `End` for the lowest such state.
+    /// `Step` for the lowest such state; then `Cut`, `Cost`, and `End` for the lowest such state. Of a row of the
+    /// second version they are `Cut` where its first 9 bytes aren't there, `Row` for a width above 8, `Cut`, `Bound`,
+    /// and `Row` where no excess is 0 or the width isn't the least.
     /// Refusals: `Device` where a read fails, `Memory`. Two rows of the table are held at a time, and the
     /// bytes of one, which are read whole.
     pub fn check_bridge(
@@ -89,21 +101,34 @@ impl<R: Read> CertReader<R> {
         bits: &Bits,
     ) -> Result<CertVerdict, CheckFault>
         requires ready { inlet_failures (cert_inlet self.old) < 2 ^ 64 - 1 }
+        requires head { has_read_head self.old ≡ true }
         requires bits { length bits.now ≡ window.now.levels }
 
         // Just one entry was read, whose table is valid for the bits.
-        ensures entry { IfAccepted result (λ _. ReadsEntry (trellis_of window.now) cue channel bits.now (R.remaining (inlet_reader (cert_inlet self.old))) (R.remaining (inlet_reader (cert_inlet self.new)))) }
+        ensures entry { IfAccepted result (λ _. ReadsEntry (read_version self.old) (trellis_of window.now) cue channel bits.now (R.remaining (inlet_reader (cert_inlet self.old))) (R.remaining (inlet_reader (cert_inlet self.new)))) }
         ensures cost { IfAccepted result (λ cost. cost ≡ bridge_cost window.now bits.now) }
         ensures least { IfAccepted result (λ _. IsLeastBridge window.now bits.now) }
 
         // Known bytes have this reason first, and begin with no such entry.
-        ensures reason { IfRejected result (InEntry (trellis_of window.now) cue channel (bridge_cost window.now bits.now) (R.remaining (inlet_reader (cert_inlet self.old)))) }
-        ensures only { IfRejected result (λ _. IfSome (R.remaining (inlet_reader (cert_inlet self.old))) (λ bytes. BeginsValid (trellis_of window.now) cue channel bits.now bytes → ⊥)) }
+        ensures reason { IfRejected result (InEntry (read_version self.old) (trellis_of window.now) cue channel (bridge_cost window.now bits.now) (R.remaining (inlet_reader (cert_inlet self.old)))) }
+        ensures only { IfRejected result (λ _. IfSome (R.remaining (inlet_reader (cert_inlet self.old))) (λ bytes. BeginsValid (read_version self.old) (trellis_of window.now) cue channel bits.now bytes → ⊥)) }
 
         // The answer is `Device` exactly where a read failed.
         ensures failures { inlet_failures (cert_inlet self.new) ≡ inlet_failures (cert_inlet self.old) + failed_checks result }
+
+        // What was read of the head stays.
+        ensures read { has_read_head self.new ≡ has_read_head self.old }
+        ensures version { read_version self.new ≡ read_version self.old }
     {
-        match read_entry(alloc, &mut self.inlet, cue, channel, window, bits) {
+        match read_entry(
+            alloc,
+            &mut self.inlet,
+            self.version,
+            cue,
+            channel,
+            window,
+            bits,
+        ) {
             Ok(cost) => Ok(CertVerdict::Accepted { cost }),
             Err(Stop::Reason(reason)) => Ok(CertVerdict::Rejected(reason)),
             Err(Stop::Device) => Err(CheckFault::Device),

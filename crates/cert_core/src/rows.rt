@@ -11,8 +11,8 @@ use crate::verdict::CertReason;
 use cost_core::{Window, doubled};
 use std::simd::prelude::*;
 
-// The greatest bound.
-const GREATEST: u64 = 1 << 63;
+/// The greatest bound.
+pub const GREATEST: u64 = 1 << 63;
 
 // Whether a value of eight states is above the greatest bound.
 fn are_above(values: &[u64; 8]) -> bool
@@ -25,8 +25,8 @@ fn are_above(values: &[u64; 8]) -> bool
         != 0
 }
 
-// Whether a value is above the greatest bound.
-fn is_above(row: &[u64]) -> bool
+/// Whether a value is above the greatest bound.
+pub fn is_above(row: &[u64]) -> bool
     ensures above { IsTrue result → (q : ℕ) × (q < length row.now) × (2 ^ 63 < slice_index row.now q) }
     ensures within { result ≡ false → (q : ℕ) → q < length row.now → slice_index row.now q ≤ 2 ^ 63 }
 {
@@ -173,7 +173,8 @@ fn exceeding(
     None
 }
 
-/// What is wrong with the row of a level first; `previous` is the row before it, and `steps` is overwritten.
+/// What is wrong first with the row of a level, none of whose values is above the greatest bound; `previous` is the
+/// row before it, and `steps` is overwritten.
 pub fn row_reason(
     window: &Window,
     level: usize,
@@ -184,6 +185,7 @@ pub fn row_reason(
     requires bounded { IsBounded (trellis_of window.now) }
     requires level { level ≤ (trellis_of window.now).levels }
     requires row { length row.now ≡ states (trellis_of window.now) }
+    requires bounds { RowBounded (trellis_of window.now) row.now }
     requires previous { 0 < level → length previous.now ≡ states (trellis_of window.now) }
     requires limit { 0 < level → RowBounded (trellis_of window.now) previous.now }
     requires steps { length steps.old ≡ 2 * states (trellis_of window.now) }
@@ -192,9 +194,6 @@ pub fn row_reason(
         (RowClean (trellis_of window.now) level previous.now row.now)
         (RowReason (trellis_of window.now) level previous.now row.now) }
 {
-    if is_above(row) {
-        return Some(CertReason::Bound);
-    }
     if level == 0 {
         return if row[window.start()] == 0 {
             None

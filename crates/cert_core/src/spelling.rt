@@ -1,7 +1,8 @@
 //! The bytes of a row, by either version.
 
-ghost use Rattle.std.specs.Prelude.{◌≡◌, ℕ, ◌+◌, ◌-◌, ◌*◌, ◌<◌, ◌≤◌, length, map, take, flat_map, slice_index, length};
-ghost use Rattle.cert_core.specs.Spelling.{byte_width, floor, low_bytes, peak, row_text};
+ghost use Rattle.std.specs.Prelude.{◌≡◌, ℕ, ◌+◌, ◌-◌, ◌*◌, ◌^◌, ◌<◌, ◌≤◌, length, map, take, flat_map, slice_index, length};
+ghost use Rattle.std.specs.Int.{bytes_high_first};
+ghost use Rattle.cert_core.specs.Spelling.{byte_width, floor, peak, row_text};
 
 use crate::version::Version;
 
@@ -17,8 +18,8 @@ const STEPS: [u64; 8] = [
     0x100_0000_0000_0000,
 ];
 
-// How many bytes a number needs.
-fn width_of(number: u64) -> usize
+/// How many bytes a number needs.
+pub fn width_of(number: u64) -> usize
     ensures width { result ≡ byte_width number }
     ensures few { result ≤ 8 }
 {
@@ -31,8 +32,8 @@ fn width_of(number: u64) -> usize
     width
 }
 
-// The least and the greatest value of a row.
-fn bounds_of(row: &[u64]) -> (u64, u64)
+/// The least and the greatest value of a row.
+pub fn bounds_of(row: &[u64]) -> (u64, u64)
     requires { 0 < length row.now }
     ensures least { result.0 ≡ floor row.now }
     ensures greatest { result.1 ≡ peak row.now }
@@ -57,24 +58,42 @@ fn put_values(row: &[u64], buffer: &mut [u8])
     }
 }
 
-// Writes what each value of a row exceeds another by, in so many bytes each.
+// Writes what each value of a row exceeds another by, in so many bytes each. What stands in the eight bytes behind them
+// is open.
+fn put_some(row: &[u64], least: u64, width: usize, buffer: &mut [u8])
+    requires some { 0 < width }
+    requires few { width ≤ 8 }
+    requires below { (q : ℕ) → q < length row.now → least ≤ slice_index row.now q }
+    requires fits { (q : ℕ) → q < length row.now → slice_index row.now q - least < 256 ^ width }
+    requires room { width * length row.now + 8 ≤ length buffer.old }
+    ensures room { length buffer.new ≡ length buffer.old }
+    ensures text { take (width * length row.now) buffer.new ≡ flat_map (bytes_high_first width) (map (λ v. v - least) row.now) }
+{
+    let spare = 64 - 8 * width as u32;
+    for place in 0..row.len() {
+        let bytes = ((row[place] - least) << spare).to_be_bytes();
+        buffer[width * place..width * place + 8].copy_from_slice(&bytes);
+    }
+}
+
+// The same, where they may have no bytes at all.
 fn put_excesses(row: &[u64], least: u64, width: usize, buffer: &mut [u8])
     requires few { width ≤ 8 }
     requires below { (q : ℕ) → q < length row.now → least ≤ slice_index row.now q }
-    requires room { length buffer.old ≡ width * length row.now }
-    ensures { buffer.new ≡ flat_map (low_bytes width) (map (λ v. v - least) row.now) }
+    requires fits { (q : ℕ) → q < length row.now → slice_index row.now q - least < 256 ^ width }
+    requires room { width * length row.now + 8 ≤ length buffer.old }
+    ensures room { length buffer.new ≡ length buffer.old }
+    ensures text { take (width * length row.now) buffer.new ≡ flat_map (bytes_high_first width) (map (λ v. v - least) row.now) }
 {
-    for (place, value) in row.iter().enumerate() {
-        let bytes = (value - least).to_be_bytes();
-        let (_, low) = bytes.split_at(8 - width);
-        buffer[width * place..width * place + width].copy_from_slice(low);
+    if width > 0 {
+        put_some(row, least, width, buffer);
     }
 }
 
 // Writes a row by the second version to the front of a buffer. The answer is how many bytes it has.
 fn put_narrow(row: &[u64], buffer: &mut [u8]) -> usize
     requires some { 0 < length row.now }
-    requires room { length buffer.old ≡ 9 + 8 * length row.now }
+    requires room { length buffer.old ≡ 17 + 8 * length row.now }
     ensures room { length buffer.new ≡ length buffer.old }
     ensures count { result ≤ length buffer.new }
     ensures text { take result buffer.new ≡ row_text Version.Two row.now }
@@ -84,7 +103,7 @@ fn put_narrow(row: &[u64], buffer: &mut [u8]) -> usize
     let count = width * row.len();
     buffer[0..8].copy_from_slice(&least.to_be_bytes());
     buffer[8] = width as u8;
-    put_excesses(row, least, width, &mut buffer[9..9 + count]);
+    put_excesses(row, least, width, &mut buffer[9..17 + count]);
     9 + count
 }
 
@@ -92,7 +111,7 @@ fn put_narrow(row: &[u64], buffer: &mut [u8]) -> usize
 /// has.
 pub fn put_row(version: Version, row: &[u64], buffer: &mut [u8]) -> usize
     requires some { 0 < length row.now }
-    requires room { length buffer.old ≡ 9 + 8 * length row.now }
+    requires room { length buffer.old ≡ 17 + 8 * length row.now }
     ensures room { length buffer.new ≡ length buffer.old }
     ensures count { result ≤ length buffer.new }
     ensures text { take result buffer.new ≡ row_text version row.now }

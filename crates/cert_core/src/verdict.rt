@@ -14,6 +14,9 @@ pub enum CertReason {
     Length,
     /// A value of a row is above `2^63`.
     Bound,
+    /// The row of this level isn't spelled as its version spells it: its width is above eight, or no excess is 0,
+    /// or fewer bytes would do.
+    Row(usize),
     /// The value of the start state at level 0 isn't 0.
     Start,
     /// At this level the value of this state exceeds that of a state before it plus the cost of the
@@ -30,6 +33,7 @@ pub enum CertReason {
 impl fmt::Display for CertReason {
     fn fmt<W: fmt::Write>(&self, f: &mut fmt::Formatter<W>) -> fmt::Result {
         match self {
+            CertReason::Row(level) => write!(f, "Row {level}"),
             CertReason::Step(level, state) => write!(f, "Step {level} {state}"),
             CertReason::End(state) => write!(f, "End {state}"),
             _ => write!(f, "{self:?}"),

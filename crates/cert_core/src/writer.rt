@@ -33,7 +33,7 @@ pub struct CertWriter<W> {
     is_open: bool,
     rows_left: u32,
     ghost few: { weights ≤ 12 },
-    ghost room: { length buffer.items ≡ 9 + 8 * 2 ^ (weights - 1) },
+    ghost room: { length buffer.items ≡ 17 + 8 * 2 ^ (weights - 1) },
 }
 
 impl<W: Write> CertWriter<W> {
@@ -56,7 +56,7 @@ impl<W: Write> CertWriter<W> {
         ensures rows { IfOk result (λ writer. rows_left writer ≡ 0) }
         ensures back { IfErr result (λ given. given ≡ outlet) }
     {
-        match make_buffer(alloc, 9 + (8 << (weights - 1))) {
+        match make_buffer(alloc, 17 + (8 << (weights - 1))) {
             Ok(buffer) => Ok(CertWriter {
                 outlet: FusedOutlet::new(outlet),
                 buffer,

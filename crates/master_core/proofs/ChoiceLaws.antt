@@ -11,7 +11,7 @@ use Rattle.cost_core.specs.Validity.{IsValid}
 use Rattle.trellis_core.specs.declared.bridging.Chosen.{Chosen}
 use Rattle.cert_core.specs.Spelling.{row_text}
 use Rattle.cert_core.specs.Text.{cert_head, entry_start}
-use Rattle.cert_core.specs.declared.version.Version.TheVariants.{One}
+use Rattle.cert_core.specs.declared.version.Version.TheVariants.{Two}
 use Rattle.cert_core.specs.declared.writer.CertWriter.{CertWriter}
 use Rattle.cert_core.specs.Certificates.{AreEntries, Claim, IsCert}
 use Rattle.cert_core.specs.Composing.{ReadIsCert}
@@ -29,7 +29,7 @@ use Rattle.master_core.proofs.ChannelLaws.{best_lengths, bridge_in_channel, part
 use Rattle.master_core.proofs.MasterLaws.{one_first_least}
 
 -- ---- entries, one after the other
-entries_append : (cs ds : List Claim) (a b : List ℕ) → AreEntries cs a → AreEntries ds b → AreEntries (cs ++ ds) (a ++ b)
+entries_append : (cs ds : List Claim) (a b : List ℕ) → AreEntries Two cs a → AreEntries Two ds b → AreEntries Two (cs ++ ds) (a ++ b)
 entries_append [] ds a b h k = rw h k
 entries_append (c ∷ cs) ds a b (entry, rest, is, one, more) k = (entry, rest ++ b, ap (λ l. l ++ b) is ∙ append_assoc entry rest b, one, entries_append cs ds rest b more k)
 
@@ -50,11 +50,11 @@ record_of p d bits = record { cue = p.cue; channel = p.channel; bridging = d; bi
 
 -- the parts of an entry, written one after the other
 pub writes_entry : (u v w x : CertWriter (Vec ℕ Global)) (d : Bridging) (cue channel levels : ℕ) (chosen : Chosen) (rows : List (List ℕ)) → IsTable (trellis_of d) rows → IsValid (trellis_of d) (value_in rows) chosen.cost chosen.bits → levels ≡ d.levels
-    → written v ≡ written u ++ entry_start cue channel levels → written w ≡ written v ++ flat_map (row_text One) rows → written x ≡ written w ++ to_be_bytes w64 chosen.cost → entries_left x ≡ entries_left u - 1 → 0 < entries_left u
+    → written v ≡ written u ++ entry_start cue channel levels → written w ≡ written v ++ flat_map (row_text Two) rows → written x ≡ written w ++ to_be_bytes w64 chosen.cost → entries_left x ≡ entries_left u - 1 → 0 < entries_left u
     → Writes (record { cue = cue; channel = channel; bridging = d; bits = chosen.bits } ∷ []) u x
 writes_entry u v w x d cue channel levels chosen rows table valid long start middle end left some =
     let first = entry_start cue channel d.levels in
-    let second = flat_map (row_text One) rows in
+    let second = flat_map (row_text Two) rows in
     let third = to_be_bytes w64 chosen.cost in
     let begun : written v ≡ written u ++ first = start ∙ ap (λ n. written u ++ entry_start cue channel n) long in
     let entry = first ++ (second ++ third) in
@@ -112,11 +112,11 @@ module _ (cut : CutContent) where
   none_left ps xs left all long counted e = omega (arith, claims_long ps xs long)
 
 -- a head and the entries that it announces
-pub whole_cert : ReadIsCert → (weights n : ℕ) (cs : List Claim) (u w : CertWriter (Vec ℕ Global)) (cert : List ℕ) → written u ≡ cert_head One weights n → entries_left u ≡ n → entries_left w ≡ 0 → Writes cs u w → cert ≡ written w → IsCert weights cs cert
+pub whole_cert : ReadIsCert → (weights n : ℕ) (cs : List Claim) (u w : CertWriter (Vec ℕ Global)) (cert : List ℕ) → written u ≡ cert_head Two weights n → entries_left u ≡ n → entries_left w ≡ 0 → Writes cs u w → cert ≡ written w → IsCert weights cs cert
 whole_cert law weights n cs u w cert head announced none writes is =
     let all : n ≡ length cs = omega (arith, writes.counted) in
-    let text = is ∙ writes.appended ∙ ap (λ l. l ++ writes.entries) (head ∙ ap (cert_head One weights) all) in
-    subst (IsCert weights cs) (sym text) (law weights cs writes.entries writes.shown)
+    let text = is ∙ writes.appended ∙ ap (λ l. l ++ writes.entries) (head ∙ ap (cert_head Two weights) all) in
+    subst (IsCert weights cs) (sym text) (law Two weights cs writes.entries writes.shown)
 
 -- ---- the chosen bits stand in the master
 module _ (cut : CutContent) (zs : List (List Bool)) where

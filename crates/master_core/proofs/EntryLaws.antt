@@ -1,20 +1,20 @@
 -- A certificate read entry by entry.
 use Rattle.std.proofs.Common.{◌≡◌, ℕ, ◌+◌, ◌<◌, Bool, List, [], ◌∷◌, ◌++◌, IfSome, Ok, Option, None, Some, length, get_or, map, take, drop, append_assoc, refl, sym, ap, subst, ◌∙◌, arith}
 use Rattle.std.specs.Io.KnownBytes.{Consumes, IsAtEnd}
-use Rattle.std.proofs.lemmas.List.{append-nil, append_cancel_left, length-map, take-append-drop, take_more}
+use Rattle.std.proofs.lemmas.List.{append-nil, length-map, take-append-drop, take_more}
 use Rattle.cost_core.specs.Bridges.{Bridging, IsLeastBridge}
 use Rattle.cost_core.specs.StateCosts.{trellis_of}
 use Rattle.cert_core.specs.declared.verdict.CertReason.{CertReason}
 use Rattle.cert_core.specs.declared.verdict.CertVerdict.{CertVerdict}
 use Rattle.cert_core.specs.declared.verdict.CertVerdict.TheVariants as judged
 use Rattle.cert_core.specs.Certificates.{AreEntries, Claim}
-use Rattle.cert_core.specs.Composing.{CertIsRead, NextIsRead, NothingFollows, ReadIsCert, ReadMore}
+use Rattle.cert_core.specs.Composing.{CertHasHead, CertIsRead, NextIsRead, NothingFollows, ReadIsCert, ReadMore}
 use Rattle.cert_core.specs.Entries.{BeginsValid, ReadsEntry}
 use Rattle.cert_core.specs.Readers.{IfAccepted, IfReason, IfRejected, InHead, IsWell}
 use Rattle.cert_core.specs.Reasons.{FirstReason, HeadReason}
 use Rattle.cert_core.specs.Stops.{InEntry}
 use Rattle.cert_core.specs.Text.{cert_head}
-use Rattle.cert_core.specs.declared.version.Version.TheVariants.{One}
+use Rattle.cert_core.specs.declared.version.Version.{Version}
 use Rattle.cut_core.specs.declared.bridges.BridgePlace.{BridgePlace}
 use Rattle.cut_core.specs.Bridges.{bridges}
 use Rattle.cut_core.specs.Cuts.{CutContent}
@@ -48,8 +48,8 @@ if_some P Q None f p = tt
 if_some P Q (Some xs) f p = f xs p
 
 -- ---- entries
-reads_more : ReadMore → (cs : List Claim) (claim : Claim) (a b d : Option (List ℕ)) → ReadsEntries cs a b → ReadsEntry (trellis_of claim.bridging) claim.cue claim.channel claim.bits b d → ReadsEntries (cs ++ claim ∷ []) a d
-reads_more law cs claim a b d (entries, consumed, are) (entry, next, is) = (entries ++ entry, consumes_more a b d entries entry consumed next, law cs claim entries entry are is)
+reads_more : ReadMore → (v : Version) (cs : List Claim) (claim : Claim) (a b d : Option (List ℕ)) → ReadsEntries v cs a b → ReadsEntry v (trellis_of claim.bridging) claim.cue claim.channel claim.bits b d → ReadsEntries v (cs ++ claim ∷ []) a d
+reads_more law v cs claim a b d (entries, consumed, are) (entry, next, is) = (entries ++ entry, consumes_more a b d entries entry consumed next, law v cs claim entries entry are is)
 
 -- the claim of a place, and those round it
 parted : (cs : List Claim) (k : ℕ) (claim : Claim) → k < length cs → get_or cs k claim ≡ claim → cs ≡ take k cs ++ claim ∷ drop (k + 1) cs
@@ -57,38 +57,38 @@ parted cs k claim lt is =
     let more : take (k + 1) cs ≡ take k cs ++ claim ∷ [] = take_more cs k claim lt ∙ ap (λ (x : Claim). take k cs ++ x ∷ []) is in
     sym (take-append-drop (k + 1) cs) ∙ ap (λ (l : List Claim). l ++ drop (k + 1) cs) more ∙ append_assoc (take k cs) (claim ∷ []) (drop (k + 1) cs)
 
-module _ (cs : List Claim) (k : ℕ) (claim : Claim) (lt : k < length cs) (is : get_or cs k claim ≡ claim) (a b : Option (List ℕ)) (read : ReadsEntries (take k cs) a b) where
-  pub shown_more : ReadMore → (d : Option (List ℕ)) → ReadsEntry (trellis_of claim.bridging) claim.cue claim.channel claim.bits b d → ReadsEntries (take (k + 1) cs) a d
-  shown_more law d entry = rw (take_more cs k claim lt, is) (reads_more law (take k cs) claim a b d read entry)
+module _ (v : Version) (cs : List Claim) (k : ℕ) (claim : Claim) (lt : k < length cs) (is : get_or cs k claim ≡ claim) (a b : Option (List ℕ)) (read : ReadsEntries v (take k cs) a b) where
+  pub shown_more : ReadMore → (d : Option (List ℕ)) → ReadsEntry v (trellis_of claim.bridging) claim.cue claim.channel claim.bits b d → ReadsEntries v (take (k + 1) cs) a d
+  shown_more law d entry = rw (take_more cs k claim lt, is) (reads_more law v (take k cs) claim a b d read entry)
 
-  pub lacks_one : NextIsRead → (reason : CertReason) → LacksClaim claim b reason → IfSome a (λ bytes. IsWrongFrom cs k reason bytes × (AreEntries cs bytes → ⊥))
+  pub lacks_one : NextIsRead → (reason : CertReason) → LacksClaim v claim b reason → IfSome a (λ bytes. IsWrongFrom v cs k reason bytes × (AreEntries v cs bytes → ⊥))
   lacks_one law reason lacks =
-      let Wrong : List ℕ → Type 0 = λ rest. FirstReason (trellis_of claim.bridging) claim.cue claim.channel (claim_cost claim) rest reason in
-      let None1 : List ℕ → Type 0 = λ rest. BeginsValid (trellis_of claim.bridging) claim.cue claim.channel claim.bits rest → ⊥ in
-      before (λ rest. Wrong rest × None1 rest) (λ bytes. IsWrongFrom cs k reason bytes × (AreEntries cs bytes → ⊥)) a b read.0 read.1 step (both Wrong None1 b lacks.first lacks.none)
+      let Wrong : List ℕ → Type 0 = λ rest. FirstReason v (trellis_of claim.bridging) claim.cue claim.channel (claim_cost claim) rest reason in
+      let None1 : List ℕ → Type 0 = λ rest. BeginsValid v (trellis_of claim.bridging) claim.cue claim.channel claim.bits rest → ⊥ in
+      before (λ rest. Wrong rest × None1 rest) (λ bytes. IsWrongFrom v cs k reason bytes × (AreEntries v cs bytes → ⊥)) a b read.0 read.1 step (both Wrong None1 b lacks.first lacks.none)
     where
-      step : (rest : List ℕ) → FirstReason (trellis_of claim.bridging) claim.cue claim.channel (claim_cost claim) rest reason × (BeginsValid (trellis_of claim.bridging) claim.cue claim.channel claim.bits rest → ⊥)
-          → IsWrongFrom cs k reason (read.0 ++ rest) × (AreEntries cs (read.0 ++ rest) → ⊥)
+      step : (rest : List ℕ) → FirstReason v (trellis_of claim.bridging) claim.cue claim.channel (claim_cost claim) rest reason × (BeginsValid v (trellis_of claim.bridging) claim.cue claim.channel claim.bits rest → ⊥)
+          → IsWrongFrom v cs k reason (read.0 ++ rest) × (AreEntries v cs (read.0 ++ rest) → ⊥)
       step rest (wrong, never) = (
         record { claim = claim; there = lt; claim_is = is; entries = read.0; after = rest; text = refl; shown = read.2; wrong = wrong },
-        λ all. never (law (take k cs) claim (drop (k + 1) cs) read.0 rest read.2 (subst (λ (l : List Claim). AreEntries l (read.0 ++ rest)) (parted cs k claim lt is) all)),
+        λ all. never (law v (take k cs) claim (drop (k + 1) cs) read.0 rest read.2 (subst (λ (l : List Claim). AreEntries v l (read.0 ++ rest)) (parted cs k claim lt is) all)),
       )
 
 -- ---- what one call answers
-pub head_judged : (weights number : ℕ) (a b : Option (List ℕ)) (answer : Option CertReason) → (IsWell (Ok answer) → Consumes a b (cert_head One weights number)) → IfReason (Ok answer) (InHead weights number a)
-    → IfReason (Ok answer) (λ _. IfSome a (λ bytes. (rest : List ℕ) → bytes ≡ cert_head One weights number ++ rest → ⊥)) → JudgesHead weights number a b answer
-head_judged weights number a b None well reason only = well refl
-head_judged weights number a b (Some r) well reason only = (reason, only)
+pub head_judged : (v : Version) (weights number : ℕ) (a b : Option (List ℕ)) (answer : Option CertReason) → (IsWell (Ok answer) → Consumes a b (cert_head v weights number)) → IfReason (Ok answer) (InHead weights number a)
+    → IfReason (Ok answer) (λ _. IfSome a (λ bytes. (other : Version) → (rest : List ℕ) → bytes ≡ cert_head other weights number ++ rest → ⊥)) → JudgesHead v weights number a b answer
+head_judged v weights number a b None well reason only = well refl
+head_judged v weights number a b (Some r) well reason only = (reason, only)
 
-pub claim_judged : (claim : Claim) (a b : Option (List ℕ)) (verdict : CertVerdict)
-    → IfAccepted (Ok verdict) (λ _. ReadsEntry (trellis_of claim.bridging) claim.cue claim.channel claim.bits a b)
+pub claim_judged : (v : Version) (claim : Claim) (a b : Option (List ℕ)) (verdict : CertVerdict)
+    → IfAccepted (Ok verdict) (λ _. ReadsEntry v (trellis_of claim.bridging) claim.cue claim.channel claim.bits a b)
     → IfAccepted (Ok verdict) (λ found. found ≡ claim_cost claim)
     → IfAccepted (Ok verdict) (λ _. IsLeastBridge claim.bridging claim.bits)
-    → IfRejected (Ok verdict) (InEntry (trellis_of claim.bridging) claim.cue claim.channel (claim_cost claim) a)
-    → IfRejected (Ok verdict) (λ _. IfSome a (λ bytes. BeginsValid (trellis_of claim.bridging) claim.cue claim.channel claim.bits bytes → ⊥))
-    → JudgesClaim claim a b verdict
-claim_judged claim a b (judged.Accepted found) entry costs least reason only = record { entry = entry; cost_is = costs; least = least }
-claim_judged claim a b (judged.Rejected r) entry costs least reason only = record { first = reason; none = only }
+    → IfRejected (Ok verdict) (InEntry v (trellis_of claim.bridging) claim.cue claim.channel (claim_cost claim) a)
+    → IfRejected (Ok verdict) (λ _. IfSome a (λ bytes. BeginsValid v (trellis_of claim.bridging) claim.cue claim.channel claim.bits bytes → ⊥))
+    → JudgesClaim v claim a b verdict
+claim_judged v claim a b (judged.Accepted found) entry costs least reason only = record { entry = entry; cost_is = costs; least = least }
+claim_judged v claim a b (judged.Rejected r) entry costs least reason only = record { first = reason; none = only }
 
 -- the same claim
 abbrev pub record_of : ℕ → ℕ → Bridging → List Bool → Claim
@@ -99,8 +99,8 @@ claim_is cue channel d e x y p q = ap (λ (f : Bridging). record_of cue channel 
 
 -- ---- the whole certificate
 module _ (cut : CutContent) (zs : List (List Bool)) where
-  abbrev head : List ℕ
-  head = cert_head One (length cut.splice.weights) (length (claims cut zs))
+  abbrev head : Version → List ℕ
+  head v = cert_head v (length cut.splice.weights) (length (claims cut zs))
 
   abbrev Stands : Reason → List ℕ → Type 0
   Stands reason cert = CertReasons cut zs cert reason × (IsCertOf cut zs cert → ⊥)
@@ -110,44 +110,42 @@ module _ (cut : CutContent) (zs : List (List Bool)) where
     same_claims : map (claim_at cut zs) places ≡ claims cut zs
     same_claims = ap (map (claim_at cut zs)) are
 
-    pub head_at : (a b : Option (List ℕ)) (answer found : Option CertReason) → answer ≡ found → JudgesHead (length cut.splice.weights) (length places) a b answer → JudgesHead (length cut.splice.weights) (length (claims cut zs)) a b found
-    head_at a b answer found is judged =
+    pub head_at : (v : Version) (a b : Option (List ℕ)) (answer found : Option CertReason) → answer ≡ found → JudgesHead v (length cut.splice.weights) (length places) a b answer → JudgesHead v (length cut.splice.weights) (length (claims cut zs)) a b found
+    head_at v a b answer found is judged =
         let as_many : length places ≡ length (claims cut zs) = sym (length-map places (claim_at cut zs)) ∙ ap length same_claims in
-        subst (λ n. JudgesHead (length cut.splice.weights) n a b found) as_many (subst (λ v. JudgesHead (length cut.splice.weights) (length places) a b v) is judged)
+        subst (λ n. JudgesHead v (length cut.splice.weights) n a b found) as_many (subst (λ x. JudgesHead v (length cut.splice.weights) (length places) a b x) is judged)
 
-    pub claims_at : (b d : Option (List ℕ)) (answer found : Verdict) → answer ≡ found → JudgesClaims (map (claim_at cut zs) places) b d answer → JudgesClaims (claims cut zs) b d found
-    claims_at b d answer found is judged = subst (λ v. JudgesClaims (claims cut zs) b d v) is (subst (λ (cs : List Claim). JudgesClaims cs b d answer) same_claims judged)
+    pub claims_at : (v : Version) (b d : Option (List ℕ)) (answer found : Verdict) → answer ≡ found → JudgesClaims v (map (claim_at cut zs) places) b d answer → JudgesClaims v (claims cut zs) b d found
+    claims_at v b d answer found is judged = subst (λ x. JudgesClaims v (claims cut zs) b d x) is (subst (λ (cs : List Claim). JudgesClaims v cs b d answer) same_claims judged)
 
   -- where there is no such head, there is no certificate
-  pub head_rejected : CertIsRead → (a b : Option (List ℕ)) (reason : CertReason) → JudgesHead (length cut.splice.weights) (length (claims cut zs)) a b (Some reason) → JudgesBytes cut zs a (Rejected (CertHead reason))
-  head_rejected law a b reason (first, never) =
+  pub head_rejected : CertHasHead → (v : Version) (a b : Option (List ℕ)) (reason : CertReason) → JudgesHead v (length cut.splice.weights) (length (claims cut zs)) a b (Some reason) → JudgesBytes cut zs a (Rejected (CertHead reason))
+  head_rejected law v a b reason (first, never) =
       both (λ cert. HeadReason (length cut.splice.weights) (length (claims cut zs)) cert reason) (λ cert. IsCertOf cut zs cert → ⊥) a first
-      (if_some (λ bytes. (rest : List ℕ) → bytes ≡ head ++ rest → ⊥) (λ cert. IsCertOf cut zs cert → ⊥) a (λ cert none is. let made = law (length cut.splice.weights) (claims cut zs) cert is in none made.0 made.1) never)
+      (if_some (λ bytes. (other : Version) → (rest : List ℕ) → bytes ≡ head other ++ rest → ⊥) (λ cert. IsCertOf cut zs cert → ⊥) a (λ cert none is. let made = law (length cut.splice.weights) (claims cut zs) cert is in none made.0 made.1 made.2) never)
 
   -- what follows the head of a certificate
-  follows : CertIsRead → (rest : List ℕ) → IsCertOf cut zs (head ++ rest) → AreEntries (claims cut zs) rest
-  follows law rest is =
-      let made = law (length cut.splice.weights) (claims cut zs) (head ++ rest) is in
-      subst (λ (l : List ℕ). AreEntries (claims cut zs) l) (sym (append_cancel_left head rest made.0 made.1)) made.2
+  follows : CertIsRead → (v : Version) (rest : List ℕ) → IsCertOf cut zs (head v ++ rest) → AreEntries v (claims cut zs) rest
+  follows law v rest is = law v (length cut.splice.weights) (claims cut zs) rest is
 
-  module _ (a b : Option (List ℕ)) (read : Consumes a b (cert_head One (length cut.splice.weights) (length (claims cut zs)))) where
-    entry_rejected : CertIsRead → (k : ℕ) (reason : CertReason) → IfSome b (λ rest. IsWrongFrom (claims cut zs) k reason rest × (AreEntries (claims cut zs) rest → ⊥)) → JudgesBytes cut zs a (Rejected (Cert k reason))
-    entry_rejected law k reason wrong = before (λ rest. IsWrongFrom (claims cut zs) k reason rest × (AreEntries (claims cut zs) rest → ⊥)) (Stands (Cert k reason)) a b head read step wrong
+  module _ (v : Version) (a b : Option (List ℕ)) (read : Consumes a b (cert_head v (length cut.splice.weights) (length (claims cut zs)))) where
+    entry_rejected : CertIsRead → (k : ℕ) (reason : CertReason) → IfSome b (λ rest. IsWrongFrom v (claims cut zs) k reason rest × (AreEntries v (claims cut zs) rest → ⊥)) → JudgesBytes cut zs a (Rejected (Cert k reason))
+    entry_rejected law k reason wrong = before (λ rest. IsWrongFrom v (claims cut zs) k reason rest × (AreEntries v (claims cut zs) rest → ⊥)) (Stands (Cert k reason)) a b (head v) read step wrong
       where
-        step : (rest : List ℕ) → IsWrongFrom (claims cut zs) k reason rest × (AreEntries (claims cut zs) rest → ⊥) → Stands (Cert k reason) (head ++ rest)
+        step : (rest : List ℕ) → IsWrongFrom v (claims cut zs) k reason rest × (AreEntries v (claims cut zs) rest → ⊥) → Stands (Cert k reason) (head v ++ rest)
         step rest (w, never) = (
           record {
             claim = w.claim;
             there = w.there;
             claim_is = w.claim_is;
             after = w.after;
-            goes_on = record { entries = w.entries; text = ap (λ (l : List ℕ). head ++ l) w.text; shown = w.shown };
+            goes_on = record { version = v; entries = w.entries; text = ap (λ (l : List ℕ). head v ++ l) w.text; shown = w.shown };
             wrong = w.wrong;
           },
-          λ is. never (follows law rest is),
+          λ is. never (follows law v rest is),
         )
 
-    pub entries_rejected : CertIsRead → (d : Option (List ℕ)) (reason : Reason) → JudgesClaims (claims cut zs) b d (Rejected reason) → JudgesBytes cut zs a (Rejected reason)
+    pub entries_rejected : CertIsRead → (d : Option (List ℕ)) (reason : Reason) → JudgesClaims v (claims cut zs) b d (Rejected reason) → JudgesBytes cut zs a (Rejected reason)
     entries_rejected law d MasterUnread w = absurd w
     entries_rejected law d MasterShape w = absurd w
     entries_rejected law d MasterLength w = absurd w
@@ -157,29 +155,29 @@ module _ (cut : CutContent) (zs : List (List Bool)) where
     entries_rejected law d (Cert k reason) w = entry_rejected law k reason w
     entries_rejected law d CertExtra w = absurd w
 
-    module _ (d : Option (List ℕ)) (cost : ℕ) (shows : ShowsClaims (claims cut zs) b d cost) where
+    module _ (d : Option (List ℕ)) (cost : ℕ) (shows : ShowsClaims v (claims cut zs) b d cost) where
       pub more_rejected : CertIsRead → NothingFollows → IfSome d (λ bytes. 0 < length bytes) → JudgesBytes cut zs a (Rejected CertExtra)
-      more_rejected law nothing some = before Goes (Stands CertExtra) a b head read whole (before (λ rest. 0 < length rest) Goes b d shows.entries.0 shows.entries.1 (λ rest more. (rest, refl, more)) some)
+      more_rejected law nothing some = before Goes (Stands CertExtra) a b (head v) read whole (before (λ rest. 0 < length rest) Goes b d shows.entries.0 shows.entries.1 (λ rest more. (rest, refl, more)) some)
         where
           Goes : List ℕ → Type 0
           Goes bytes = (rest : List ℕ) × (bytes ≡ shows.entries.0 ++ rest) × (0 < length rest)
 
-          whole : (bytes : List ℕ) → Goes bytes → Stands CertExtra (head ++ bytes)
+          whole : (bytes : List ℕ) → Goes bytes → Stands CertExtra (head v ++ bytes)
           whole bytes (rest, is, more) = (
-            record { after = rest; some = more; goes_on = record { entries = shows.entries.0; text = ap (λ (l : List ℕ). head ++ l) is; shown = shows.entries.2 } },
+            record { after = rest; some = more; goes_on = record { version = v; entries = shows.entries.0; text = ap (λ (l : List ℕ). head v ++ l) is; shown = shows.entries.2 } },
             λ cert.
-                let none : rest ≡ [] = nothing (claims cut zs) shows.entries.0 rest shows.entries.2 (subst (λ (l : List ℕ). AreEntries (claims cut zs) l) is (follows law bytes cert)) in
+                let none : rest ≡ [] = nothing v (claims cut zs) shows.entries.0 rest shows.entries.2 (subst (λ (l : List ℕ). AreEntries v (claims cut zs) l) is (follows law v bytes cert)) in
                 absurd (omega (arith, more, ap length none)),
           )
 
       pub all_accepted : ReadIsCert → IsAtEnd d → ShowsBridges cut zs a cost
       all_accepted law end = record {
-        shown = before (λ rest. AreEntries (claims cut zs) rest) (IsCertOf cut zs) a b head read (λ rest are. law (length cut.splice.weights) (claims cut zs) rest are) (ended b d shows.entries.1 end);
+        shown = before (λ rest. AreEntries v (claims cut zs) rest) (IsCertOf cut zs) a b (head v) read (λ rest are. law v (length cut.splice.weights) (claims cut zs) rest are) (ended b d shows.entries.1 end);
         cost_is = shows.cost_is;
         least = shows.least;
       }
         where
-          ended : (b d : Option (List ℕ)) → Consumes b d shows.entries.0 → IsAtEnd d → IfSome b (λ rest. AreEntries (claims cut zs) rest)
+          ended : (b d : Option (List ℕ)) → Consumes b d shows.entries.0 → IsAtEnd d → IfSome b (λ rest. AreEntries v (claims cut zs) rest)
           ended None d c e = tt
           ended (Some xs) None c e = absurd c
-          ended (Some xs) (Some ys) c e = subst (λ (l : List ℕ). AreEntries (claims cut zs) l) (sym (c ∙ ap (λ (l : List ℕ). shows.entries.0 ++ l) e ∙ append-nil shows.entries.0)) shows.entries.2
+          ended (Some xs) (Some ys) c e = subst (λ (l : List ℕ). AreEntries v (claims cut zs) l) (sym (c ∙ ap (λ (l : List ℕ). shows.entries.0 ++ l) e ∙ append-nil shows.entries.0)) shows.entries.2

@@ -10,7 +10,7 @@ use Rattle.cost_core.specs.StateCosts.{trellis_of}
 use Rattle.cert_core.specs.Certificates.{AreEntries, Claim}
 use Rattle.cert_core.specs.Reasons.{FirstReason, HeadReason}
 use Rattle.cert_core.specs.Text.{cert_head}
-use Rattle.cert_core.specs.declared.version.Version.TheVariants.{One}
+use Rattle.cert_core.specs.declared.version.Version.{Version}
 use Rattle.cert_core.specs.declared.verdict.CertReason.{CertReason}
 use Rattle.cut_core.specs.Cuts.{CutContent, IsAlike, channel_number, master_length}
 use Rattle.cut_core.specs.Titles.{titles_of}
@@ -55,11 +55,12 @@ pub record IsFirstCuedBit (cut : CutContent) (r : Content) (c place : ℕ) : Typ
   pub before : HoldCues cut (range_with_len 0 c) (take c r.channels)
   pub differs : IsFirstDifference (slice_index_or r.channels c []) (rebuilt cut c (slice_index_or r.channels c [])) place
 
--- a certificate of so many weights and entries begins with entries that show these claims, and goes on with these bytes
+-- a certificate of so many weights and entries, of one version or the other, begins with entries that show these claims, and goes on with these bytes
 pub record ShowsUpTo (weights number : ℕ) (cs : List Claim) (cert after : List ℕ) : Type 0 where
+  pub version : Version
   pub entries : List ℕ
-  pub text : cert ≡ cert_head One weights number ++ (entries ++ after)
-  pub shown : AreEntries cs entries
+  pub text : cert ≡ cert_head version weights number ++ (entries ++ after)
+  pub shown : AreEntries version cs entries
 
 -- the entries before entry k show their claims, and entry k is wrong first for this reason
 pub record IsFirstWrong (cut : CutContent) (zs : List (List Bool)) (cert : List ℕ) (k : ℕ) (reason : CertReason) : Type 0 where
@@ -68,7 +69,7 @@ pub record IsFirstWrong (cut : CutContent) (zs : List (List Bool)) (cert : List 
   pub claim_is : slice_index_or (claims cut zs) k claim ≡ claim
   pub after : List ℕ
   pub goes_on : ShowsUpTo (length cut.splice.weights) (length (claims cut zs)) (take k (claims cut zs)) cert after
-  pub wrong : FirstReason (trellis_of claim.bridging) claim.cue claim.channel (bridge_cost claim.bridging claim.bits) after reason
+  pub wrong : FirstReason goes_on.version (trellis_of claim.bridging) claim.cue claim.channel (bridge_cost claim.bridging claim.bits) after reason
 
 -- all claims are shown, and more bytes follow
 pub record HasMore (cut : CutContent) (zs : List (List Bool)) (cert : List ℕ) : Type 0 where

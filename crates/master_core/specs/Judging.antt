@@ -9,7 +9,7 @@ use Rattle.cert_core.specs.Entries.{BeginsValid, ReadsEntry}
 use Rattle.cert_core.specs.Readers.{InHead}
 use Rattle.cert_core.specs.Reasons.{FirstReason}
 use Rattle.cert_core.specs.Text.{cert_head}
-use Rattle.cert_core.specs.declared.version.Version.TheVariants.{One}
+use Rattle.cert_core.specs.declared.version.Version.{Version}
 use Rattle.cert_core.specs.declared.verdict.CertReason.{CertReason}
 use Rattle.cert_core.specs.declared.verdict.CertVerdict.{CertVerdict}
 use Rattle.cert_core.specs.declared.verdict.CertVerdict.TheVariants as judged
@@ -53,53 +53,53 @@ abbrev pub JudgesMaster : CutContent → Form → Content → List ℕ → Verdi
 JudgesMaster cut form r cert (Accepted cost) = IsMasterOf cut form r × IsCertOf cut r.channels cert × (cost ≡ total_cost cut r.channels) × (cost ≡ windows_total cut r.channels)
 JudgesMaster cut form r cert (Rejected reason) = StandsAgainst cut form r cert reason
 
--- the head of a certificate was read, or known bytes have this reason first in it, and don't begin with it
-abbrev pub JudgesHead : ℕ → ℕ → Option (List ℕ) → Option (List ℕ) → Option CertReason → Type 0
-JudgesHead weights number old new None = Consumes old new (cert_head One weights number)
-JudgesHead weights number old new (Some reason) = InHead weights number old reason × IfSome old (λ bytes. (rest : List ℕ) → bytes ≡ cert_head One weights number ++ rest → ⊥)
+-- the head of a certificate of the version was read, or known bytes have this reason first in it, and begin with that of no version
+abbrev pub JudgesHead : Version → ℕ → ℕ → Option (List ℕ) → Option (List ℕ) → Option CertReason → Type 0
+JudgesHead v weights number old new None = Consumes old new (cert_head v weights number)
+JudgesHead v weights number old new (Some reason) = InHead weights number old reason × IfSome old (λ bytes. (other : Version) → (rest : List ℕ) → bytes ≡ cert_head other weights number ++ rest → ⊥)
 
--- an entry that shows the claim was read, and its bits are least, at this cost
-pub record ShowsClaim (claim : Claim) (old new : Option (List ℕ)) (cost : ℕ) : Type 0 where
-  pub entry : ReadsEntry (trellis_of claim.bridging) claim.cue claim.channel claim.bits old new
+-- an entry of the version that shows the claim was read, and its bits are least, at this cost
+pub record ShowsClaim (v : Version) (claim : Claim) (old new : Option (List ℕ)) (cost : ℕ) : Type 0 where
+  pub entry : ReadsEntry v (trellis_of claim.bridging) claim.cue claim.channel claim.bits old new
   pub cost_is : cost ≡ claim_cost claim
   pub least : IsLeastClaim claim
 
 -- known bytes have this reason first in the claim's entry, and don't begin with one that shows it
-pub record LacksClaim (claim : Claim) (old : Option (List ℕ)) (reason : CertReason) : Type 0 where
-  pub first : IfSome old (λ bytes. FirstReason (trellis_of claim.bridging) claim.cue claim.channel (claim_cost claim) bytes reason)
-  pub none : IfSome old (λ bytes. BeginsValid (trellis_of claim.bridging) claim.cue claim.channel claim.bits bytes → ⊥)
+pub record LacksClaim (v : Version) (claim : Claim) (old : Option (List ℕ)) (reason : CertReason) : Type 0 where
+  pub first : IfSome old (λ bytes. FirstReason v (trellis_of claim.bridging) claim.cue claim.channel (claim_cost claim) bytes reason)
+  pub none : IfSome old (λ bytes. BeginsValid v (trellis_of claim.bridging) claim.cue claim.channel claim.bits bytes → ⊥)
 
 -- one of them
-abbrev pub JudgesClaim : Claim → Option (List ℕ) → Option (List ℕ) → CertVerdict → Type 0
-JudgesClaim claim old new (judged.Accepted cost) = ShowsClaim claim old new cost
-JudgesClaim claim old new (judged.Rejected reason) = LacksClaim claim old reason
+abbrev pub JudgesClaim : Version → Claim → Option (List ℕ) → Option (List ℕ) → CertVerdict → Type 0
+JudgesClaim v claim old new (judged.Accepted cost) = ShowsClaim v claim old new cost
+JudgesClaim v claim old new (judged.Rejected reason) = LacksClaim v claim old reason
 
--- entries that show the claims were read, one for each in their order
-abbrev pub ReadsEntries : List Claim → Option (List ℕ) → Option (List ℕ) → Type 0
-ReadsEntries cs old new = (entries : List ℕ) × Consumes old new entries × AreEntries cs entries
+-- entries of the version that show the claims were read, one for each in their order
+abbrev pub ReadsEntries : Version → List Claim → Option (List ℕ) → Option (List ℕ) → Type 0
+ReadsEntries v cs old new = (entries : List ℕ) × Consumes old new entries × AreEntries v cs entries
 
 -- and the bits of each are least, at this cost together
-pub record ShowsClaims (cs : List Claim) (old new : Option (List ℕ)) (cost : ℕ) : Type 0 where
-  pub entries : ReadsEntries cs old new
+pub record ShowsClaims (v : Version) (cs : List Claim) (old new : Option (List ℕ)) (cost : ℕ) : Type 0 where
+  pub entries : ReadsEntries v cs old new
   pub cost_is : cost ≡ sum_by claim_cost cs
   pub least : All IsLeastClaim cs
 
 -- the bytes have entries that show the claims before claim k, and its own entry is wrong first for this reason
-pub record IsWrongFrom (cs : List Claim) (k : ℕ) (reason : CertReason) (bytes : List ℕ) : Type 0 where
+pub record IsWrongFrom (v : Version) (cs : List Claim) (k : ℕ) (reason : CertReason) (bytes : List ℕ) : Type 0 where
   pub claim : Claim
   pub there : k < length cs
   pub claim_is : slice_index_or cs k claim ≡ claim
   pub entries : List ℕ
   pub after : List ℕ
   pub text : bytes ≡ entries ++ after
-  pub shown : AreEntries (take k cs) entries
-  pub wrong : FirstReason (trellis_of claim.bridging) claim.cue claim.channel (claim_cost claim) after reason
+  pub shown : AreEntries v (take k cs) entries
+  pub wrong : FirstReason v (trellis_of claim.bridging) claim.cue claim.channel (claim_cost claim) after reason
 
 -- entries that show the claims were read, or the entry of one is wrong first and known bytes aren't such entries
-abbrev pub JudgesClaims : List Claim → Option (List ℕ) → Option (List ℕ) → Verdict → Type 0
-JudgesClaims cs old new (Accepted cost) = ShowsClaims cs old new cost
-JudgesClaims cs old new (Rejected (Cert k reason)) = IfSome old (λ bytes. IsWrongFrom cs k reason bytes × (AreEntries cs bytes → ⊥))
-JudgesClaims cs old new (Rejected _) = ⊥
+abbrev pub JudgesClaims : Version → List Claim → Option (List ℕ) → Option (List ℕ) → Verdict → Type 0
+JudgesClaims v cs old new (Accepted cost) = ShowsClaims v cs old new cost
+JudgesClaims v cs old new (Rejected (Cert k reason)) = IfSome old (λ bytes. IsWrongFrom v cs k reason bytes × (AreEntries v cs bytes → ⊥))
+JudgesClaims v cs old new (Rejected _) = ⊥
 
 -- known bytes are a certificate of the bridges, whose bits are least, at this cost together
 pub record ShowsBridges (cut : CutContent) (zs : List (List Bool)) (known : Option (List ℕ)) (cost : ℕ) : Type 0 where

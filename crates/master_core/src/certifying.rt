@@ -13,19 +13,19 @@ use cert_core::{CertWriter, Version, parts_join};
 use cut_core::{BridgePlace, Cut};
 use device_core::Outlet;
 use std::alloc::{AllocError, Global};
-use trellis_core::{Chosen, best_rows_are_valid, bridge_into};
+use trellis_core::{Chosen, bridge_cut_into, cut_rows_are_valid};
 
-/// A writer over memory of a certificate of so many entries, whose head is written. Room is asked for as rows are made,
+/// A writer over memory of a certificate of the second version with so many entries, whose head is written. Room is asked for as rows are made,
 /// never by a number of the project. Err is want of memory.
 pub fn begin(alloc: Global, cut: &Cut, entries: usize) -> Result<CertWriter<Vec<u8>>, AllocError>
     requires { entries ≤ 1536 }
     ensures ready { IfOk result (IsReady (length cut.now.splice.weights)) }
     ensures left { IfOk result (λ writer. entries_left writer ≡ entries) }
-    ensures head { IfOk result (λ writer. written writer ≡ cert_head Version.One (length cut.now.splice.weights) entries) }
+    ensures head { IfOk result (λ writer. written writer ≡ cert_head Version.Two (length cut.now.splice.weights) entries) }
 {
     cut.can_cut();
     let outlet = Outlet::new(Vec::new(alloc));
-    let Ok(mut writer) = CertWriter::new(alloc, outlet, cut.weight_number(), Version::One) else {
+    let Ok(mut writer) = CertWriter::new(alloc, outlet, cut.weight_number(), Version::Two) else {
         return Err(AllocError);
     };
     let Ok(()) = writer.begin(entries as u32) else {
@@ -49,7 +49,7 @@ pub fn write_entry(
     ensures ready { OnOk result (IsReady (length cut.now.splice.weights) writer.new) }
 {
     cut.can_cut();
-    best_rows_are_valid();
+    cut_rows_are_valid();
     parts_join();
     let window = cut.window(alloc, place)?;
     let BridgePlace { cue, channel } = place;
@@ -57,7 +57,7 @@ pub fn write_entry(
     let Ok(()) = writer.begin_bridge(cue as u16, channel as u16, length as u16) else {
         return Err(AllocError);
     };
-    let Ok(chosen) = bridge_into(alloc, &window, writer) else {
+    let Ok(chosen) = bridge_cut_into(alloc, &window, writer) else {
         return Err(AllocError);
     };
     let Ok(()) = writer.end_bridge(chosen.cost) else {

@@ -1,9 +1,9 @@
 //! Whether a certificate shows the bridges of a master to be least.
 
-ghost use Rattle.std.specs.Prelude.{◌≡◌, ◌+◌, ◌-◌, ◌^◌, ◌<◌, ◌≤◌, All, IfOk, IfSome, OnOk, Some, [], false, length, map, slice_index_or, true};
+ghost use Rattle.std.specs.Prelude.{◌≡◌, ◌+◌, ◌-◌, ◌^◌, ◌<◌, ◌≤◌, All, IfOk, IfSome, None, OnOk, Some, [], false, length, map, slice_index_or, true};
 ghost use Rattle.std.specs.Io.KnownBytes.{IsAtEnd};
 ghost use Rattle.device_core.specs.Inlets.{inlet_failures, inlet_reader};
-ghost use Rattle.cert_core.specs.Readers.{cert_inlet};
+ghost use Rattle.cert_core.specs.Readers.{cert_inlet, has_read_head, read_version};
 ghost use Rattle.cut_core.specs.Bridges as lists;
 ghost use Rattle.cut_core.specs.Bridges.{IsPlace};
 ghost use Rattle.cut_core.specs.Cuts.{cue_at, master_length};
@@ -87,7 +87,8 @@ fn judge_head<R: Read>(
 ) -> Result<Option<CertReason>, AllocError>
     requires ready { inlet_failures (cert_inlet reader.old) < 2 ^ 64 - 1 }
     requires few { entries ≤ 1536 }
-    ensures judged { IfOk result (JudgesHead (length cut.now.splice.weights) entries (R.remaining (inlet_reader (cert_inlet reader.old))) (R.remaining (inlet_reader (cert_inlet reader.new)))) }
+    ensures judged { IfOk result (JudgesHead (read_version reader.new) (length cut.now.splice.weights) entries (R.remaining (inlet_reader (cert_inlet reader.old))) (R.remaining (inlet_reader (cert_inlet reader.new)))) }
+    ensures read { IfOk result (λ reason. reason ≡ None → has_read_head reader.new ≡ true) }
     ensures failures { OnOk result (inlet_failures (cert_inlet reader.new) ≡ inlet_failures (cert_inlet reader.old)) }
 {
     let Ok(reason) = reader.read_head(cut.weight_number(), entries as u32) else {
@@ -118,10 +119,11 @@ fn judge_entries<R: Read>(
     reader: &mut CertReader<R>,
 ) -> Result<Verdict, AllocError>
     requires ready { inlet_failures (cert_inlet reader.old) < 2 ^ 64 - 1 }
+    requires head { has_read_head reader.old ≡ true }
     requires shape { HaveShape cut.now recording.now.channels }
     requires each { All (IsPlace cut.now) places.now }
     requires few { length places.now ≤ 1536 }
-    ensures judged { IfOk result (JudgesClaims (map (claim_at cut.now recording.now.channels) places.now) (R.remaining (inlet_reader (cert_inlet reader.old))) (R.remaining (inlet_reader (cert_inlet reader.new)))) }
+    ensures judged { IfOk result (JudgesClaims (read_version reader.old) (map (claim_at cut.now recording.now.channels) places.now) (R.remaining (inlet_reader (cert_inlet reader.old))) (R.remaining (inlet_reader (cert_inlet reader.new)))) }
     ensures failures { OnOk result (inlet_failures (cert_inlet reader.new) ≡ inlet_failures (cert_inlet reader.old)) }
 {
     read_is_cert();
@@ -147,10 +149,13 @@ fn judge_entry<R: Read>(
     reader: &mut CertReader<R>,
 ) -> Result<CertVerdict, AllocError>
     requires ready { inlet_failures (cert_inlet reader.old) < 2 ^ 64 - 1 }
+    requires head { has_read_head reader.old ≡ true }
     requires shape { HaveShape cut.now recording.now.channels }
     requires place { IsPlace cut.now place }
-    ensures judged { IfOk result (JudgesClaim (claim_at cut.now recording.now.channels place) (R.remaining (inlet_reader (cert_inlet reader.old))) (R.remaining (inlet_reader (cert_inlet reader.new)))) }
+    ensures judged { IfOk result (JudgesClaim (read_version reader.old) (claim_at cut.now recording.now.channels place) (R.remaining (inlet_reader (cert_inlet reader.old))) (R.remaining (inlet_reader (cert_inlet reader.new)))) }
     ensures failures { OnOk result (inlet_failures (cert_inlet reader.new) ≡ inlet_failures (cert_inlet reader.old)) }
+    ensures read { OnOk result (has_read_head reader.new ≡ true) }
+    ensures version { OnOk result (read_version reader.new ≡ read_version reader.old) }
 {
     cut.can_cut();
     let BridgePlace { cue, channel } = place;

@@ -1,53 +1,76 @@
-use Rattle.std.proofs.Common.{◌+◌, ap, sym, ◌∙◌, subst, refl, length, arith}
+use Rattle.std.proofs.Common.{◌≡◌, ◌+◌, Err, ap, sym, ◌∙◌, subst, refl, length, arith}
+use Rattle.std.specs.Io.KnownBytes.{Consumes}
+use Rattle.dsd_bits.proofs.ShiftingLemmas.{written_back}
 use Rattle.device_core.specs.Inlets.{inlet_reader}
 use Rattle.cost_core.specs.StateCosts.{trellis_of}
-use Rattle.cert_core.specs.Reasons.{RowBounded}
-use Rattle.cert_core.specs.Reasons.{RowClean, RowReason}
+use Rattle.cost_core.specs.Trellis.{states}
+use Rattle.cert_core.specs.Reasons.{RowBounded, RowClean, RowReason, Bounded}
+use Rattle.cert_core.specs.Spelling.{row_text}
+use Rattle.cert_core.specs.Stops.{OnReason, InSpelling}
 use Rattle.cert_core.proofs.Consuming.{passes}
-use Rattle.cert_core.proofs.Entries.{RowsSoFar-all, RowsSoFar-none, RowsSoFar-more, RowsSoFar-bounded, RowsSoFar-cut, RowsSoFar-fault, RowsSoFar}
+use Rattle.cert_core.proofs.Entries.{RowsSoFar-all, RowsSoFar-none, RowsSoFar-more, RowsSoFar-bounded, RowsSoFar-fault, RowsSoFar-spelling, RowsSoFar}
+use Rattle.cert_core.proofs.entry.read_rows.Given.{Over}
 use Rattle.cert_core.proofs.entry.read_rows.Goals as goal
+use Rattle.cert_core.proofs.entry.read_rows.Goals.{After-deref-in-loop-level}
 
 pub loop-level-init : goal.loop-level-init
 loop-level-init g c =
-    let t = trellis_of c.args.window.now in
-    (RowsSoFar-none t _ c.in_ok-previous.previous.items (c.in_ok-previous.ensures ∙ c.states-states.ensures.value), c.in_ok-row.ensures ∙ c.states-states.ensures.value, omega (arith, c.in_ok-bytes.ensures, c.len.ensures, c.in_ok-row.row.ok, c.in_ok-row.ensures, c.states-states.ensures.value), refl)
+    (RowsSoFar-none c.args.version (trellis_of c.args.window.now) _ c.in_ok-previous.previous.items (c.in_ok-previous.ensures ∙ c.states-states.ensures.value), c.in_ok-row.ensures ∙ c.states-states.ensures.value, omega (arith, c.in_ok-buffer.ensures, c.states-states.ensures.value), refl)
 
 pub returns-in_err-read_row-clause-reason : goal.returns-in_err-read_row-clause-reason
 returns-in_err-read_row-clause-reason g c =
     let t = trellis_of c.args.window.now in
     let so = c.loop-level.invariant in
+    let known = g.R.Read.remaining (inlet_reader c.loop-level.inlet) in
+    let long : length c.deref_mut-in-loop-level.result.now ≡ length c.loop-level.row.items = ap length c.deref_mut-in-loop-level.ensures.value in
     passes (Unit {0}) c.from_residual-in_err-read_row.result c.in_err-read_row.field-0.0 _ _ c.from_residual-in_err-read_row.ensures.1
-    (RowsSoFar-cut t _ _ c.loop-level.level c.loop-level.previous.items (length c.loop-level.row.items) so.0 (omega (arith, c.length-level-end.ensures.value, c.loop-level-test.true)) so.1) c.in_err-read_row.ensures.cut
+    (RowsSoFar-spelling c.args.version t _ _ c.loop-level.level c.loop-level.previous.items (length c.loop-level.row.items) so.0 (omega (arith, c.length-level-end.ensures.value, c.loop-level-test.true)) so.1)
+    (subst (λ n. OnReason {T = Unit {0}} (Err c.in_err-read_row.field-0.0) (InSpelling c.args.version n c.loop-level.level known)) long c.in_err-read_row.ensures.reason)
 
 pub row_reason-requires-clause-limit : goal.row_reason-requires-clause-limit
 row_reason-requires-clause-limit g c =
     let t = trellis_of c.args.window.now in
-    λ some. subst (RowBounded t) (sym c.deref.ensures.value) (RowsSoFar-bounded t _ _ c.loop-level.level c.loop-level.previous.items c.loop-level.invariant.0 some)
+    λ some. subst (RowBounded t) (sym c.deref.ensures.value) (RowsSoFar-bounded c.args.version t _ _ c.loop-level.level c.loop-level.previous.items c.loop-level.invariant.0 some)
+
+-- the row that was read
+module _ (g : Over) (c : After-deref-in-loop-level g) where
+  back : c.deref-in-loop-level.result.now ≡ c.read_row.new.row
+  back = c.deref-in-loop-level.ensures.value ∙ written_back c.read_row.new.row _ c.loop-level.row.len (omega (arith, c.in_ok-read_row.ensures.len, c.deref_mut-in-loop-level.ensures.len))
+
+  long : length c.deref-in-loop-level.result.now ≡ states (trellis_of c.args.window.now)
+  long = ap length back ∙ c.in_ok-read_row.ensures.len ∙ ap length c.deref_mut-in-loop-level.ensures.value ∙ c.loop-level.invariant.1
+
+  read : Consumes (g.R.Read.remaining (inlet_reader c.loop-level.inlet)) (g.R.Read.remaining (inlet_reader c.read_row.new.inlet)) (row_text c.args.version c.deref-in-loop-level.result.now)
+  read = subst (λ row. Consumes (g.R.Read.remaining (inlet_reader c.loop-level.inlet)) (g.R.Read.remaining (inlet_reader c.read_row.new.inlet)) (row_text c.args.version row)) (sym back) c.in_ok-read_row.ensures.ok
+
+  bounded : RowBounded (trellis_of c.args.window.now) c.deref-in-loop-level.result.now
+  bounded = subst (λ n. Bounded n c.deref-in-loop-level.result.now) long (subst (λ row. Bounded (length row) row) (sym back) c.in_ok-read_row.ensures.bounded)
+
+pub row_reason-requires-clause-bounds : goal.row_reason-requires-clause-bounds
+row_reason-requires-clause-bounds g c = bounded g (goal.at.row_reason-requires-clause-bounds g c).After-deref-in-loop-level
 
 pub returns-in-Some-clause-reason : goal.returns-in-Some-clause-reason
 returns-in-Some-clause-reason g c =
     let t = trellis_of c.args.window.now in
-    let so = c.loop-level.invariant in
-    let reason = c.in-Some.reason in
-    let w : RowReason t c.loop-level.level c.loop-level.previous.items c.read_row.new.row.items reason =
-    subst (λ p. RowReason t c.loop-level.level p c.read_row.new.row.items reason) c.deref.ensures.value
-    (subst (λ r. RowReason t c.loop-level.level c.deref.result.now r reason) c.deref-in-loop-level.ensures.value c.in-Some.ensures.reason) in
-    RowsSoFar-fault t _ _ _ c.loop-level.level c.loop-level.previous.items c.read_row.new.row.items so.0 c.in_ok-read_row.ensures.ok (c.in_ok-read_row.ensures.len ∙ so.1) (omega (arith, c.length-level-end.ensures.value, c.loop-level-test.true)) c.in_ok-read_row.ensures.values reason w
+    let at = (goal.at.returns-in-Some-clause-reason g c).After-deref-in-loop-level in
+    let w = subst (λ p. RowReason t c.loop-level.level p c.deref-in-loop-level.result.now c.in-Some.reason) c.deref.ensures.value c.in-Some.ensures.reason in
+    RowsSoFar-fault c.args.version t _ _ _ c.loop-level.level c.loop-level.previous.items c.deref-in-loop-level.result.now c.loop-level.invariant.0 (read g at) (long g at) (omega (arith, c.length-level-end.ensures.value, c.loop-level-test.true)) (bounded g at) c.in-Some.reason w
 
 pub loop-level-preserved : goal.loop-level-preserved
 loop-level-preserved g c =
     let t = trellis_of c.args.window.now in
-    let so = c.loop-level.invariant in
-    let row = c.read_row.new.row.items in
-    let w : RowClean t c.loop-level.level c.loop-level.previous.items row =
-    subst (λ p. RowClean t c.loop-level.level p row) c.deref.ensures.value
-    (subst (λ r. RowClean t c.loop-level.level c.deref.result.now r) c.deref-in-loop-level.ensures.value c.in_default.ensures.reason) in
-    let long = c.in_ok-read_row.ensures.len ∙ so.1 in
-    let more = RowsSoFar-more t _ _ _ c.loop-level.level c.loop-level.previous.items row so.0 c.in_ok-read_row.ensures.ok long w in
+    let at = (goal.at.loop-level-preserved g c).After-deref-in-loop-level in
+    let row = c.deref-in-loop-level.result.now in
+    let w = subst (λ p. RowClean t c.loop-level.level p row) c.deref.ensures.value c.in_default.ensures.reason in
     let from = g.R.Read.remaining (inlet_reader c.args.inlet.now) in
     let to = g.R.Read.remaining (inlet_reader c.read_row.new.inlet) in
-    (subst (λ v. RowsSoFar t from to (c.loop-level.level + 1) v.items) (sym c.swap.ensures.x_after) more, ap (λ v. length v.items) c.swap.ensures.y_after ∙ so.0.long, c.in_ok-read_row.ensures.bytes ∙ so.2, omega (arith, so.3, c.in_ok-read_row.ensures.failures))
+    let more = RowsSoFar-more c.args.version t _ _ _ c.loop-level.level c.loop-level.previous.items row c.loop-level.invariant.0 (read g at) (long g at) w in (
+      subst (λ v. RowsSoFar c.args.version t from to (c.loop-level.level + 1) v.items) (sym c.swap.ensures.x_after) (subst (RowsSoFar c.args.version t from to (c.loop-level.level + 1)) c.deref-in-loop-level.ensures.value more),
+      ap (λ v. length v.items) c.swap.ensures.y_after ∙ c.loop-level.invariant.0.long,
+      ap length (written_back c.read_row.new.buffer _ c.loop-level.buffer.len (omega (arith, c.in_ok-read_row.ensures.buffer, c.deref_mut.ensures.len))) ∙ c.in_ok-read_row.ensures.buffer ∙ ap length c.deref_mut.ensures.value ∙ c.loop-level.invariant.2,
+      omega (arith, c.loop-level.invariant.3, c.in_ok-read_row.ensures.failures),
+    )
 
 pub returns-clause-ok : goal.returns-clause-ok
 returns-clause-ok g c =
-    RowsSoFar-all (trellis_of c.args.window.now) _ _ c.loop-level.level c.loop-level.previous.items c.loop-level.invariant.0 (omega (arith, c.length-level-end.ensures.value, c.loop-level-test.false))
+    RowsSoFar-all c.args.version (trellis_of c.args.window.now) _ _ c.loop-level.level c.loop-level.previous.items c.loop-level.invariant.0 (omega (arith, c.length-level-end.ensures.value, c.loop-level-test.false))

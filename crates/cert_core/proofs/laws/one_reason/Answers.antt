@@ -4,4 +4,4 @@ use Rattle.cert_core.proofs.OneReason.{one_first}
 use Rattle.cert_core.proofs.laws.one_reason.Goals as goal
 
 pub returns : goal.returns
-returns c = λ d cue channel found bytes a b fine hc hk v w. one_first (trellis_of d) cue channel found bytes a b hc hk (omega (arith, fine.levels_in)) v w
+returns c = λ v d cue channel found bytes a b fine hc hk p q. one_first v (trellis_of d) cue channel found bytes a b hc hk (omega (arith, fine.levels_in)) p q

@@ -1,8 +1,22 @@
-use Rattle.std.proofs.Common.{◌∙◌, arith, rules}
+use Rattle.std.proofs.Common.{◌≡◌, ◌*◌, ◌-◌, ◌^◌, ◌<◌, ◌∙◌, length, take, sym, subst, arith, rules}
+use Rattle.cert_core.specs.Spelling.{byte_width}
 use Rattle.cert_core.proofs.Narrow.{narrow_is, narrow_text}
+use Rattle.cert_core.proofs.Raised.{peak_high, width_fits}
 use Rattle.cert_core.proofs.spelling.put_narrow.Goals as goal
+
+pub put_excesses-requires-clause-fits : goal.put_excesses-requires-clause-fits
+put_excesses-requires-clause-fits c = λ q h.
+    let greatest = c.bounds_of-least.result.1 in
+    let least = c.bounds_of-least.result.0 in
+    let fits : greatest - least < 256 ^ byte_width (greatest - least) = (width_fits (greatest - least) (omega arith)).0 in
+    let fits2 : greatest - least < 256 ^ c.width_of-width.result = subst (λ w. greatest - least < 256 ^ w) (sym c.width_of-width.ensures.width) fits in
+    omega (arith, fits2, peak_high c.args.row.now q h, c.bounds_of-least.ensures.greatest)
 
 pub returns-clause-text : goal.returns-clause-text
 returns-clause-text c =
-    narrow_is c.copy_from_slice.new.self _ c.put_excesses.new.buffer c.width_of-width.result _ _ (search (arith, rules)) (search (arith, rules)) (search (arith, rules))
-    ∙ narrow_text c.args.row.now c.copy_from_slice.new.self c.put_excesses.new.buffer c.bounds_of-least.result.0 c.bounds_of-least.result.1 c.width_of-width.result c.bounds_of-least.ensures.least c.bounds_of-least.ensures.greatest (search (rules)) c.width_of-width.ensures.width c.put_excesses.ensures
+    let count = c.width_of-width.result * length c.args.row.now in
+    let front = c.copy_from_slice.new.self in
+    let ys = take count c.put_excesses.new.buffer in
+    let eight : length front ≡ 8 = search (arith, rules) in
+    narrow_is front _ c.put_excesses.new.buffer c.width_of-width.result _ count eight (search (arith, rules)) (search (arith, rules))
+    ∙ narrow_text c.args.row.now front ys c.bounds_of-least.result.0 c.bounds_of-least.result.1 c.width_of-width.result c.bounds_of-least.ensures.least c.bounds_of-least.ensures.greatest (c.copy_from_slice.ensures.after ∙ c.to_be_bytes.ensures) c.width_of-width.ensures.width c.put_excesses.ensures.text

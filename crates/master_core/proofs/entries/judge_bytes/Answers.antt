@@ -12,7 +12,7 @@ returns-in-Some g c =
     let from = g.R.Read.remaining (inlet_reader (cert_inlet c.args.reader.now)) in
     let here = g.R.Read.remaining (inlet_reader (cert_inlet c.judge_head.new.reader)) in
     let reason = c.in-Some.reason in
-    head_rejected cut zs c.read_is_cert.ensures.only from here reason (head_at cut zs c.args.places.now c.requires.places from here c.in_ok-reason.field-0 (Some reason) c.in-Some.is c.in_ok-reason.ensures.judged)
+    head_rejected cut zs c.read_is_cert.ensures.head c.judge_head.new.reader.version from here reason (head_at cut zs c.args.places.now c.requires.places c.judge_head.new.reader.version from here c.in_ok-reason.field-0 (Some reason) c.in-Some.is c.in_ok-reason.ensures.judged)
 
 pub returns-in-Rejected : goal.returns-in-Rejected
 returns-in-Rejected g c =
@@ -21,10 +21,10 @@ returns-in-Rejected g c =
     let from = g.R.Read.remaining (inlet_reader (cert_inlet c.args.reader.now)) in
     let here = g.R.Read.remaining (inlet_reader (cert_inlet c.judge_head.new.reader)) in
     let to = g.R.Read.remaining (inlet_reader (cert_inlet c.judge_entries.new.reader)) in
-    let read = head_at cut zs c.args.places.now c.requires.places from here c.in_ok-reason.field-0 None c.in_default.is c.in_ok-reason.ensures.judged in
+    let read = head_at cut zs c.args.places.now c.requires.places c.judge_head.new.reader.version from here c.in_ok-reason.field-0 None c.in_default.is c.in_ok-reason.ensures.judged in
     let reason = c.in-Rejected.reason in
-    let wrong = claims_at cut zs c.args.places.now c.requires.places here to c.in_ok-verdict.verdict (Rejected reason) c.in-Rejected.is c.in_ok-verdict.ensures.judged in
-    entries_rejected cut zs from here read c.read_is_cert.ensures.only to reason wrong
+    let wrong = claims_at cut zs c.args.places.now c.requires.places c.judge_head.new.reader.version here to c.in_ok-verdict.verdict (Rejected reason) c.in-Rejected.is c.in_ok-verdict.ensures.judged in
+    entries_rejected cut zs c.judge_head.new.reader.version from here read c.read_is_cert.ensures.only to reason wrong
 
 pub returns-then-branch : goal.returns-then-branch
 returns-then-branch g c =
@@ -33,9 +33,9 @@ returns-then-branch g c =
     let from = g.R.Read.remaining (inlet_reader (cert_inlet c.args.reader.now)) in
     let here = g.R.Read.remaining (inlet_reader (cert_inlet c.judge_head.new.reader)) in
     let to = g.R.Read.remaining (inlet_reader (cert_inlet c.judge_entries.new.reader)) in
-    let read = head_at cut zs c.args.places.now c.requires.places from here c.in_ok-reason.field-0 None c.in_default.is c.in_ok-reason.ensures.judged in
-    let shows = claims_at cut zs c.args.places.now c.requires.places here to c.in_ok-verdict.verdict (Accepted c.in-Accepted.total) c.in-Accepted.is c.in_ok-verdict.ensures.judged in
-    more_rejected cut zs from here read to c.in-Accepted.total shows c.read_is_cert.ensures.only c.cert_goes_on.ensures.end (c.in_ok-has_more-in-Accepted.ensures.more c.if-branch.true)
+    let read = head_at cut zs c.args.places.now c.requires.places c.judge_head.new.reader.version from here c.in_ok-reason.field-0 None c.in_default.is c.in_ok-reason.ensures.judged in
+    let shows = claims_at cut zs c.args.places.now c.requires.places c.judge_head.new.reader.version here to c.in_ok-verdict.verdict (Accepted c.in-Accepted.total) c.in-Accepted.is c.in_ok-verdict.ensures.judged in
+    more_rejected cut zs c.judge_head.new.reader.version from here read to c.in-Accepted.total shows c.read_is_cert.ensures.only c.cert_goes_on.ensures.end (c.in_ok-has_more-in-Accepted.ensures.more c.if-branch.true)
 
 pub returns-else-branch : goal.returns-else-branch
 returns-else-branch g c =
@@ -44,6 +44,6 @@ returns-else-branch g c =
     let from = g.R.Read.remaining (inlet_reader (cert_inlet c.args.reader.now)) in
     let here = g.R.Read.remaining (inlet_reader (cert_inlet c.judge_head.new.reader)) in
     let to = g.R.Read.remaining (inlet_reader (cert_inlet c.judge_entries.new.reader)) in
-    let read = head_at cut zs c.args.places.now c.requires.places from here c.in_ok-reason.field-0 None c.in_default.is c.in_ok-reason.ensures.judged in
-    let shows = claims_at cut zs c.args.places.now c.requires.places here to c.in_ok-verdict.verdict (Accepted c.in-Accepted.total) c.in-Accepted.is c.in_ok-verdict.ensures.judged in
-    all_accepted cut zs from here read to c.in-Accepted.total shows c.read_is_cert.ensures.read (c.in_ok-has_more-in-Accepted.ensures.end c.if-branch.false)
+    let read = head_at cut zs c.args.places.now c.requires.places c.judge_head.new.reader.version from here c.in_ok-reason.field-0 None c.in_default.is c.in_ok-reason.ensures.judged in
+    let shows = claims_at cut zs c.args.places.now c.requires.places c.judge_head.new.reader.version here to c.in_ok-verdict.verdict (Accepted c.in-Accepted.total) c.in-Accepted.is c.in_ok-verdict.ensures.judged in
+    all_accepted cut zs c.judge_head.new.reader.version from here read to c.in-Accepted.total shows c.read_is_cert.ensures.read (c.in_ok-has_more-in-Accepted.ensures.end c.if-branch.false)

@@ -15,6 +15,7 @@ pub returns-in-Rejected-clause-judged : goal.returns-in-Rejected-clause-judged
 returns-in-Rejected-clause-judged g c =
     let f = claim_at c.args.cut.now c.args.recording.now.channels in
     let places = c.args.places.now in
+    let v = c.args.reader.now.version in
     let k = c.loop-k.k in
     let claim = f (get_or places k (record { cue = 0; channel = 0 })) in
     let from = g.R.Read.remaining (inlet_reader (cert_inlet c.args.reader.now)) in
@@ -22,13 +23,14 @@ returns-in-Rejected-clause-judged g c =
     let to = g.R.Read.remaining (inlet_reader (cert_inlet c.judge_entry.new.reader)) in
     let lt : k < length (map f places) = omega (arith, length-map places f) in
     let is : get_or (map f places) k claim ≡ claim = get_or-map f places k (record { cue = 0; channel = 0 }) claim (omega arith) in
-    let lacks : LacksClaim claim here c.in-Rejected.reason = subst (λ v. JudgesClaim claim here to v) c.in-Rejected.is c.in_ok-cost.ensures.judged in
-    lacks_one (map f places) k claim lt is from here c.loop-k.invariant.entries c.cert_goes_on.ensures.next c.in-Rejected.reason lacks
+    let lacks : LacksClaim v claim here c.in-Rejected.reason = subst (λ x. JudgesClaim v claim here to x) c.in-Rejected.is (subst (λ x. JudgesClaim x claim here to c.in_ok-cost.field-0) c.loop-k.invariant.version c.in_ok-cost.ensures.judged) in
+    lacks_one v (map f places) k claim lt is from here c.loop-k.invariant.entries c.cert_goes_on.ensures.next c.in-Rejected.reason lacks
 
 pub loop-k-preserved : goal.loop-k-preserved
 loop-k-preserved g c =
     let f = claim_at c.args.cut.now c.args.recording.now.channels in
     let places = c.args.places.now in
+    let v = c.args.reader.now.version in
     let k = c.loop-k.k in
     let claim = f (get_or places k (record { cue = 0; channel = 0 })) in
     let from = g.R.Read.remaining (inlet_reader (cert_inlet c.args.reader.now)) in
@@ -36,13 +38,15 @@ loop-k-preserved g c =
     let to = g.R.Read.remaining (inlet_reader (cert_inlet c.judge_entry.new.reader)) in
     let lt : k < length (map f places) = omega (arith, length-map places f) in
     let is : get_or (map f places) k claim ≡ claim = get_or-map f places k (record { cue = 0; channel = 0 }) claim (omega arith) in
-    let shows : ShowsClaim claim here to c.in-Accepted.cost = subst (λ v. JudgesClaim claim here to v) c.in-Accepted.is c.in_ok-cost.ensures.judged in
+    let shows : ShowsClaim v claim here to c.in-Accepted.cost = subst (λ x. JudgesClaim v claim here to x) c.in-Accepted.is (subst (λ x. JudgesClaim x claim here to c.in_ok-cost.field-0) c.loop-k.invariant.version c.in_ok-cost.ensures.judged) in
     let so = c.loop-k.invariant in
     record {
-      entries = shown_more (map f places) k claim lt is from here so.entries c.read_is_cert.ensures.more to shows.entry;
+      entries = shown_more v (map f places) k claim lt is from here so.entries c.read_is_cert.ensures.more to shows.entry;
       cost_is = omega (arith, so.cost_is, c.from-total.ensures, shows.cost_is, sum_by_more claim_cost (map f places) k claim lt, ap claim_cost is);
       bound = omega (arith, so.bound, c.from-total.ensures);
       least = All-more IsLeastClaim (map f places) k claim lt so.least (subst IsLeastClaim (sym is) shows.least);
+      read = c.in_ok-cost.ensures.read;
+      version = c.in_ok-cost.ensures.version ∙ so.version;
       failures = c.in_ok-cost.ensures.failures ∙ so.failures;
     }
 
@@ -55,7 +59,7 @@ returns-clause-judged g c =
     let so = c.loop-k.invariant in
     let all : take c.loop-k.k (map f places) ≡ map f places = take_all c.loop-k.k (map f places) (omega (arith, length-map places f)) in
     record {
-      entries = subst (λ l. ReadsEntries l from here) all so.entries;
+      entries = subst (λ l. ReadsEntries c.args.reader.now.version l from here) all so.entries;
       cost_is = subst (λ l. c.loop-k.total ≡ sum_by claim_cost l) all so.cost_is;
       least = subst (λ l. All IsLeastClaim l) all so.least;
     }

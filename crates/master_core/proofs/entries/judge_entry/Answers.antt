@@ -22,6 +22,6 @@ returns-clause-judged g c =
     let window = c.in_ok-window.window in
     let bits = c.in_ok-bits.bits in
     let e = c.in-Ok.ensures in
-    let made = claim_judged (record_of place.cue place.channel window bits) from to c.in-Ok.verdict e.entry e.cost e.least e.reason e.only in
+    let made = claim_judged c.args.reader.now.version (record_of place.cue place.channel window bits) from to c.in-Ok.verdict e.entry e.cost e.least e.reason e.only in
     let same = claim_is place.cue place.channel window (cuts.window cut place.channel place.cue) bits (bridge_bits cut (get_or c.args.recording.now.channels place.channel []) place.cue) c.in_ok-window.ensures c.in_ok-bits.ensures.bits in
-    subst (λ claim. JudgesClaim claim from to c.in-Ok.verdict) same made
+    subst (λ claim. JudgesClaim c.args.reader.now.version claim from to c.in-Ok.verdict) same made

@@ -19,7 +19,7 @@ returns-in-Ok-clause-cost g c = c.in-Ok.ensures.cost ∙ steps_are_cost c.args.w
 
 pub returns-in-Ok-clause-least : goal.returns-in-Ok-clause-least
 returns-in-Ok-clause-least g c =
-    entry_least c.args.window.now c.args.cue c.args.channel c.args.bits.now _ _ c.read_entry.ensures.limits c.requires.bits c.in-Ok.ensures.entry
+    entry_least c.args.self.now.version c.args.window.now c.args.cue c.args.channel c.args.bits.now _ _ c.read_entry.ensures.limits c.requires.bits c.in-Ok.ensures.entry
 
 pub returns-in-Err-Reason-clause-reason : goal.returns-in-Err-Reason-clause-reason
 returns-in-Err-Reason-clause-reason g c =
@@ -27,8 +27,8 @@ returns-in-Err-Reason-clause-reason g c =
     let x = c.args.bits.now in
     let e : cost t x ≡ bridge_cost c.args.window.now x = steps_are_cost c.args.window.now x c.read_entry.ensures.limits c.requires.bits in
     let known = g.R.Read.remaining (inlet_reader (cert_inlet c.args.self.now)) in
-    subst (λ found. InEntry t c.args.cue c.args.channel found known c.in-Err-Reason.reason) e
-    (subst (λ s. OnReason {T = ℕ} (Err s) (InEntry t c.args.cue c.args.channel (cost t x) known)) c.in-Err-Reason.field-0-is c.in-Err-Reason.ensures.reason)
+    subst (λ found. InEntry c.args.self.now.version t c.args.cue c.args.channel found known c.in-Err-Reason.reason) e
+    (subst (λ s. OnReason {T = ℕ} (Err s) (InEntry c.args.self.now.version t c.args.cue c.args.channel (cost t x) known)) c.in-Err-Reason.field-0-is c.in-Err-Reason.ensures.reason)
 
 pub returns-in-Err-Reason-clause-only : goal.returns-in-Err-Reason-clause-only
 returns-in-Err-Reason-clause-only g c =
@@ -36,6 +36,6 @@ returns-in-Err-Reason-clause-only g c =
     let x = c.args.bits.now in
     let reason = c.in-Err-Reason.reason in
     let known = g.R.Read.remaining (inlet_reader (cert_inlet c.args.self.now)) in
-    if_some known (λ bytes. FirstReason t c.args.cue c.args.channel (cost t x) bytes reason) (λ bytes. BeginsValid t c.args.cue c.args.channel x bytes → ⊥)
-    (λ bytes. no_entry t c.args.cue c.args.channel x bytes reason (costs_in_bounds c.args.window.now c.read_entry.ensures.limits) c.requires.bits (omega (arith, c.ranges.cue.fits)) (omega (arith, c.ranges.channel.fits)) (omega (arith, c.read_entry.ensures.limits.levels_in)))
-    (subst (λ s. OnReason {T = ℕ} (Err s) (InEntry t c.args.cue c.args.channel (cost t x) known)) c.in-Err-Reason.field-0-is c.in-Err-Reason.ensures.reason)
+    if_some known (λ bytes. FirstReason c.args.self.now.version t c.args.cue c.args.channel (cost t x) bytes reason) (λ bytes. BeginsValid c.args.self.now.version t c.args.cue c.args.channel x bytes → ⊥)
+    (λ bytes. no_entry c.args.self.now.version t c.args.cue c.args.channel x bytes reason (costs_in_bounds c.args.window.now c.read_entry.ensures.limits) c.requires.bits (omega (arith, c.ranges.cue.fits)) (omega (arith, c.ranges.channel.fits)) (omega (arith, c.read_entry.ensures.limits.levels_in)))
+    (subst (λ s. OnReason {T = ℕ} (Err s) (InEntry c.args.self.now.version t c.args.cue c.args.channel (cost t x) known)) c.in-Err-Reason.field-0-is c.in-Err-Reason.ensures.reason)

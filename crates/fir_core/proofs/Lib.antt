@@ -6,7 +6,6 @@ pub mod RowLaws
 pub mod StreamLaws
 pub mod SumOrder
 pub mod Dot
-pub mod TableLaws
 pub mod TileLaws
 pub mod WindowLaws
 pub mod LaneLaws

@@ -1,5 +1,5 @@
 -- Windows of whole bytes: the convolution is the sum of the aligned taps over the bits of the window's bytes.
-use Rattle.std.proofs.Common.{◌≡◌, ℕ, ◌+◌, ◌-◌, ◌*◌, ◌/◌, ◌%◌, ◌^◌, ◌<◌, ◌≤◌, ℤ, pos, ◌+ℤ◌, ◌*ℤ◌, unsigned_abs, Bool, false, eqb, List, [], ◌∷◌, ◌++◌, length, get_or, drop, replicate, reverse, sum_by, refl, sym, ap, ap₂, ◌∙◌, arith, mul-zero, length-append, length-drop}
+use Rattle.std.proofs.Common.{◌≡◌, ℕ, ◌+◌, ◌-◌, ◌*◌, ◌/◌, ◌%◌, ◌<◌, ◌≤◌, ℤ, pos, ◌+ℤ◌, ◌*ℤ◌, unsigned_abs, Bool, false, eqb, List, [], ◌∷◌, ◌++◌, length, get_or, drop, replicate, reverse, sum_by, refl, sym, ap, ap₂, ◌∙◌, arith, mul-zero, length-append, length-drop}
 use Rattle.std.specs.Int.{bit_at}
 use Rattle.std.proofs.lemmas.Int.{ints}
 use Rattle.std.proofs.lemmas.List.{length-replicate, length-reverse, get_or-reverse, get_or-drop, reverse-append}
@@ -10,7 +10,7 @@ use Rattle.dsd_bits.specs.Sums.{sign, sum_below}
 use Rattle.dsd_bits.proofs.PackingLemmas.{length-unpacked, get_or-unpacked}
 use Rattle.fir_core.specs.Convolution.{conv}
 use Rattle.fir_core.specs.Signed.{dot, bits_of}
-use Rattle.fir_core.specs.Windows.{aligned, ahead, behind, window_size, window_sum, tables, IsTabled}
+use Rattle.fir_core.specs.Windows.{aligned, ahead, behind, window_size, window_sum}
 use Rattle.fir_core.proofs.Dot.{dot_append, dot_zeros, dot_is_sum, bit_of_bytes, length-bits}
 use Rattle.fir_core.proofs.SumOrder.{sum_below_same, sum_below_turned}
 use Rattle.fir_core.proofs.Sums.{signal_inside, term}
@@ -99,15 +99,3 @@ module _ (h : List ℤ) (bytes : List ℕ) (count n at : ℕ) (begins : n / 8 + 
   pub conv_by_window : conv h (unpacked bytes count) n ≡ window_sum (aligned h n) bytes at
   unfolding window_bits
   conv_by_window = conv_is ∙ sym (dot_aligned h n (bits_of (drop at bytes)))
-
--- the aligned taps come in whole groups
-pub is_tabled : (h taps sums : List ℤ) (n : ℕ) → taps ≡ aligned h n → sums ≡ tables taps → 1 ≤ length h → length h ≤ 4096 → sum_by unsigned_abs h ≤ 2 ^ 30 → IsTabled taps sums
-is_tabled h taps sums n e made some few small =
-    let size = ap length e ∙ length-aligned h n in
-    record {
-      whole = omega (arith, size);
-      some = omega (arith, size);
-      few = omega (arith, size);
-      small = rw e (omega (arith, abs_sum_aligned h n));
-      tabled = made;
-    }

@@ -1,61 +1,66 @@
--- The sums of all groups of taps for a byte, in the order of the windows that the byte stands in.
+-- What a byte adds to each window that it stands in, laid out as rows: one for each place in a step and each byte. Windows begin at each step-th byte.
 use Rattle.std.specs.Prelude.{◌≡◌, ℕ, zero, suc, ◌+◌, ◌-◌, ◌*◌, ◌/◌, ◌%◌, ◌^◌, ◌<◌, ◌≤◌, ℤ, pos, unsigned_abs, List, map, take, drop, length, slice_index, slice_index_or}
 use Rattle.std.specs.List.{range_with_len, sum_by}
-use Rattle.std.specs.Int.{div_ceil}
 use Rattle.fir_core.specs.Signed.{dot, bits_of_byte}
-use Rattle.fir_core.specs.Windows.{IsTabled}
+use Rattle.fir_core.specs.Windows.{window_sum}
 
 -- the sum, for a byte, of the last of so many groups of eight taps; of no groups 0
 abbrev pub last_group : List ℤ → ℕ → ℕ → ℤ
 last_group taps zero byte = pos 0
 last_group taps (suc group) byte = dot (take 8 (drop (8 * group) taps)) (bits_of_byte byte)
 
--- how many windows four bytes reach, rounded up to whole fours
-abbrev pub span_of : List ℤ → ℕ
-span_of taps = div_ceil (length taps / 8 + 3) 4 * 4
+-- how many groups of its window a byte ends, by its place in a step and a column of its row: the window in column span - 1 begins in the
+-- byte's own step, each column before has the window a step earlier, and those behind have none
+abbrev pub groups_at : ℕ → ℕ → ℕ → ℕ → ℕ
+groups_at step span place column = (span - column) * step + (place + 1) - step
 
--- the sum in a column of a byte's row: of the last group in column span - 1, of an earlier group in
--- each column before, and 0 in the three columns behind
-abbrev pub row_entry : List ℤ → ℕ → ℕ → ℤ
-row_entry taps span i = last_group taps (span - i % (span + 3)) (i / (span + 3))
+-- an entry of the rows: each has span + 4 columns, and each place in a step 256 rows
+abbrev pub row_entry : List ℤ → ℕ → ℕ → ℕ → ℤ
+row_entry taps step span i = last_group taps (groups_at step span (i / (span + 4) / 256) (i % (span + 4))) (i / (span + 4) % 256)
 
--- the rows of all bytes
-abbrev pub rows : List ℤ → ℕ → List ℤ
-rows taps span = map (row_entry taps span) (range_with_len 0 (256 * (span + 3)))
+-- the rows of all places and bytes
+abbrev pub rows : List ℤ → ℕ → ℕ → List ℤ
+rows taps step span = map (row_entry taps step span) (range_with_len 0 (256 * step * (span + 4)))
 
--- where the rows hold what byte p adds to the window that begins at byte i
-abbrev pub row_place : ℕ → List ℕ → ℕ → ℕ → ℕ
-row_place span bytes p i = slice_index bytes p * (span + 3) + (i + span - (p + 1))
+-- byte p stands at this place in the step with which the window of this number begins
+pub record IsSpot (step p window place : ℕ) : Type 0 where
+  pub at : p ≡ window * step + place
+  pub inside : place < step
 
--- what byte p adds to the window that begins at byte i
-abbrev pub entry_of : List ℤ → List ℕ → ℕ → ℕ → ℤ
-entry_of taps bytes p i = last_group taps (p + 1 - i) (slice_index bytes p)
+-- where the rows hold what a byte at a spot adds to window j
+abbrev pub row_place : ℕ → ℕ → ℕ → ℕ → ℕ → ℕ
+row_place span window place byte j = (256 * place + byte) * (span + 4) + (j + span - (window + 1))
 
--- what byte p adds to so many windows, the first of which begins at byte i
-pub record AreEntries (taps : List ℤ) (bytes : List ℕ) (p i number : ℕ) (entries : List ℤ) : Type 0 where
+-- the sum of window j over the bytes before byte p
+unfoldable pub sum_before : List ℤ → List ℕ → ℕ → ℕ → ℕ → ℤ
+sum_before taps bytes step p j = window_sum (take (8 * (p - j * step)) taps) bytes (j * step)
+
+-- what byte p adds to window j
+unfoldable pub entry_of : List ℤ → List ℕ → ℕ → ℕ → ℕ → ℤ
+entry_of taps bytes step p j = last_group taps (p + 1 - j * step) (slice_index bytes p)
+
+-- what byte p adds to so many windows from window j on
+pub record AreEntries (taps : List ℤ) (bytes : List ℕ) (step p j number : ℕ) (entries : List ℤ) : Type 0 where
   pub long : length entries ≡ number
-  pub each : (k : ℕ) → k < number → slice_index_or entries k (pos 0) ≡ entry_of taps bytes p (i + k)
+  pub each : (k : ℕ) → k < number → slice_index_or entries k (pos 0) ≡ entry_of taps bytes step p (j + k)
 
--- what each of four bytes from p on adds to so many windows, the first of which begins at byte i
-pub record IsBlock (taps : List ℤ) (bytes : List ℕ) (p i number : ℕ) (a b c d : List ℤ) : Type 0 where
+-- what each of four bytes from p on adds to so many windows from window j on
+pub record IsBlock (taps : List ℤ) (bytes : List ℕ) (step p j number : ℕ) (a b c d : List ℤ) : Type 0 where
   pub small : sum_by unsigned_abs taps ≤ 2 ^ 30
   pub within : p + 4 ≤ length bytes
-  pub one : AreEntries taps bytes p i number a
-  pub two : AreEntries taps bytes (p + 1) i number b
-  pub three : AreEntries taps bytes (p + 2) i number c
-  pub four : AreEntries taps bytes (p + 3) i number d
+  pub one : AreEntries taps bytes step p j number a
+  pub two : AreEntries taps bytes step (p + 1) j number b
+  pub three : AreEntries taps bytes step (p + 2) j number c
+  pub four : AreEntries taps bytes step (p + 3) j number d
 
--- taps in whole groups of eight, and the rows of all bytes
-pub record IsLaid (taps sums : List ℤ) (span : ℕ) : Type 0 where
+-- taps in whole groups of eight, and the rows of all places and bytes
+pub record IsLaid (taps entries : List ℤ) (step span : ℕ) : Type 0 where
   pub whole : length taps % 8 ≡ 0
   pub some : 8 ≤ length taps
   pub few : length taps ≤ 4104
-  pub wide : length taps / 8 + 3 ≤ span
-  pub narrow : span ≤ 1024
   pub small : sum_by unsigned_abs taps ≤ 2 ^ 30
-  pub laid : sums ≡ rows taps span
-
--- taps with the sums of each group and with the rows of all bytes
-pub record IsPrepared (taps sums rows : List ℤ) : Type 0 where
-  pub tabled : IsTabled taps sums
-  pub laid : IsLaid taps rows (span_of taps)
+  pub least : 1 ≤ step
+  pub most : step ≤ 128
+  pub wide : length taps / 8 + 3 ≤ span * step
+  pub narrow : span ≤ 1024
+  pub laid : entries ≡ rows taps step span

@@ -1,8 +1,8 @@
--- The taps of a window of whole bytes, their sums for each byte, and the sums of windows that follow one another.
-use Rattle.std.specs.Prelude.{◌≡◌, ℕ, ◌+◌, ◌-◌, ◌*◌, ◌/◌, ◌%◌, ◌^◌, ◌≤◌, ℤ, pos, unsigned_abs, List, ◌++◌, map, take, drop, length, replicate, reverse}
-use Rattle.std.specs.List.{range_with_len, sum_by}
+-- The taps of a window of whole bytes, and the sums of windows that follow one another.
+use Rattle.std.specs.Prelude.{ℕ, ◌+◌, ◌-◌, ◌*◌, ◌%◌, ℤ, pos, List, ◌++◌, map, drop, length, replicate, reverse}
+use Rattle.std.specs.List.{range_with_len}
 use Rattle.std.specs.Int.{div_ceil}
-use Rattle.fir_core.specs.Signed.{dot, bits_of, bits_of_byte}
+use Rattle.fir_core.specs.Signed.{dot, bits_of}
 
 -- how many bits stand behind place n in its byte
 abbrev pub behind : ℕ → ℕ
@@ -20,14 +20,6 @@ ahead number n = 8 * window_size number n - (number + behind n)
 abbrev pub aligned : List ℤ → ℕ → List ℤ
 aligned h n = replicate (ahead (length h) n) (pos 0) ++ reverse h ++ replicate (behind n) (pos 0)
 
--- the sum of a group of eight taps for a byte; a group has 256 of them
-abbrev pub table_entry : List ℤ → ℕ → ℤ
-table_entry taps i = dot (take 8 (drop (8 * (i / 256)) taps)) (bits_of_byte (i % 256))
-
--- the sums of all groups of taps
-abbrev pub tables : List ℤ → List ℤ
-tables taps = map (table_entry taps) (range_with_len 0 (length taps / 8 * 256))
-
 -- the sum of the taps over the window that begins at a byte
 abbrev pub window_sum : List ℤ → List ℕ → ℕ → ℤ
 window_sum taps bytes at = dot taps (bits_of (drop at bytes))
@@ -35,11 +27,3 @@ window_sum taps bytes at = dot taps (bits_of (drop at bytes))
 -- the sums of so many windows, each so many bytes behind the one before
 abbrev pub window_sums : List ℤ → List ℕ → ℕ → ℕ → List ℤ
 window_sums taps bytes step number = map (λ i. window_sum taps bytes (i * step)) (range_with_len 0 number)
-
--- taps in whole groups of eight, and the sums of each group
-pub record IsTabled (taps sums : List ℤ) : Type 0 where
-  pub whole : length taps % 8 ≡ 0
-  pub some : 8 ≤ length taps
-  pub few : length taps ≤ 4104
-  pub small : sum_by unsigned_abs taps ≤ 2 ^ 30
-  pub tabled : sums ≡ tables taps

@@ -16,8 +16,8 @@ use std::alloc::{AllocError, Global};
 pub enum Kernel {
     /// Bit by bit.
     Plain,
-    /// Byte by byte over tiles of samples: a table of 256 sums for each group of eight taps, four
-    /// groups at a time; for a factor of 8 a row of all groups' sums for each of the 256 bytes.
+    /// Four bytes at a time over tiles of samples: for each place in the bytes of a step and each of
+    /// the 256 bytes a row of what the byte adds to the windows that it stands in.
     Table,
     /// Eight taps at a time, in lanes, with a byte's bits as the mask that selects a tap or its
     /// negative.

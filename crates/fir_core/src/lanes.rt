@@ -64,7 +64,7 @@ fn sum_at_by_lanes(taps: &Taps, turned: &[i32], bits: &Bits, n: usize) -> i32
 }
 
 // The sum of the taps, each with its bit's sign: whole groups of eight in lanes, the rest one by one.
-fn dot_by_lanes(taps: &[i32], bytes: &[u8]) -> i32
+pub(crate) fn dot_by_lanes(taps: &[i32], bytes: &[u8]) -> i32
     requires enough { length taps.now ≤ 8 * length bytes.now }
     requires small { sum_by unsigned_abs taps.now ≤ 2 ^ 30 }
     ensures { result ≡ dot taps.now (bits_of bytes.now) }

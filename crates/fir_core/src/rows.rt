@@ -1,202 +1,268 @@
-//! The sums of windows that begin at each byte, four bytes at a time: a byte's row holds what the
-//! byte adds to each window that it stands in.
+//! The sums of windows that begin at each `step`-th byte, four bytes at a time: a byte's row holds what
+//! the byte adds to each window that it stands in.
 
-ghost use Rattle.std.specs.Prelude.{◌≡◌, ℕ, ◌+◌, ◌-◌, ◌*◌, ◌/◌, ◌^◌, ◌<◌, ◌≤◌, EachIndex, length, pos, slice_index_or, take, unsigned_abs};
+ghost use Rattle.std.specs.Prelude.{◌≡◌, ℕ, ◌+◌, ◌-◌, ◌*◌, ◌/◌, ◌^◌, ◌<◌, ◌≤◌, EachIndex, length, pos, slice_index, slice_index_or, take, unsigned_abs};
 ghost use Rattle.std.specs.List.{sum_by};
 ghost use Rattle.fir_core.specs.Rows as Rows;
-ghost use Rattle.fir_core.specs.Rows.{AreEntries, IsBlock, IsLaid, entry_of};
-ghost use Rattle.fir_core.specs.Windows.{window_sum, window_sums};
+ghost use Rattle.fir_core.specs.Rows.{AreEntries, IsBlock, IsLaid, IsSpot, entry_of, sum_before};
+ghost use Rattle.fir_core.specs.Windows.{window_sums};
 
-/// How many windows four bytes reach, rounded up to whole fours.
-pub(crate) fn span_of(taps: &[i32]) -> usize
-    requires few { length taps.now ≤ 4104 }
-    ensures { result ≡ Rows.span_of taps.now }
-{
-    (taps.len() / 8 + 3).div_ceil(4) * 4
+/// The rows of all places in a step of so many bytes, and how many windows they span.
+#[derive(Clone, Copy)]
+pub(crate) struct Laid<'a> {
+    pub(crate) entries: &'a [i32],
+    pub(crate) step: usize,
+    pub(crate) span: usize,
 }
 
-/// Where the rows hold what byte `p` adds to the window that begins at byte `i`.
-fn row_place(span: usize, bytes: &[u8], p: usize, i: usize) -> usize
-    requires within { p < length bytes.now }
-    requires reached { p < i + span }
-    requires near { i ≤ p + 3 }
+/// A byte by the last window that begins with it or before it, and its place from there on.
+#[derive(Clone, Copy)]
+struct Spot {
+    p: usize,
+    window: usize,
+    place: usize,
+}
+
+/// How many windows of so many bytes four bytes reach, rounded up to whole fours.
+pub(crate) fn span_of(size: usize, step: usize) -> usize
+    requires few { size ≤ 513 }
+    requires some { 1 ≤ step }
+    ensures wide { size + 3 ≤ result * step }
+    ensures narrow { result ≤ 1024 }
+{
+    (size + 3).div_ceil(step).div_ceil(4) * 4
+}
+
+/// The byte behind one.
+fn next(spot: Spot, step: usize) -> Spot
+    requires spot { IsSpot step spot.p spot.window spot.place }
+    requires small { spot.p < 2 ^ 63 }
+    ensures p { result.p ≡ spot.p + 1 }
+    ensures spot { IsSpot step result.p result.window result.place }
+    ensures from { spot.window ≤ result.window }
+    ensures to { result.window ≤ spot.window + 1 }
+{
+    let p = spot.p + 1;
+    let place = spot.place + 1;
+    if place < step {
+        return Spot {
+            p,
+            window: spot.window,
+            place,
+        };
+    }
+    Spot {
+        p,
+        window: spot.window + 1,
+        place: 0,
+    }
+}
+
+/// Where the rows hold what a byte at a spot adds to window `j`.
+fn row_place(span: usize, spot: Spot, byte: u8, j: usize) -> usize
+    requires reached { spot.window < j + span }
+    requires near { j ≤ spot.window + 4 }
     requires narrow { span ≤ 1024 }
-    ensures { result ≡ Rows.row_place span bytes.now p i }
+    requires few { spot.place < 128 }
+    requires small { spot.window < 2 ^ 63 }
+    ensures { result ≡ Rows.row_place span spot.window spot.place byte j }
 {
-    bytes[p] as usize * (span + 3) + (i + span - (p + 1))
+    (256 * spot.place + byte as usize) * (span + 4) + (j + span - (spot.window + 1))
 }
 
-/// What byte `p` adds to so many windows, the first of which begins at byte `i`: a part of its row.
+/// What a byte adds to so many windows from window `j` on: a part of its row.
 fn row_part<'a>(
     taps: &[i32],
-    rows: &'a [i32],
-    span: usize,
+    rows: Laid<'a>,
     bytes: &[u8],
-    p: usize,
-    i: usize,
+    spot: Spot,
+    j: usize,
     number: usize,
 ) -> &'a [i32]
-    requires laid { IsLaid taps.now rows.now span }
-    requires within { p < length bytes.now }
-    requires reached { p < i + span }
-    requires near { i ≤ p + 3 }
-    requires last { i + number ≤ p + 4 }
-    ensures { AreEntries taps.now bytes.now p i number result.now }
+    requires laid { IsLaid taps.now rows.entries.now rows.step rows.span }
+    requires spot { IsSpot rows.step spot.p spot.window spot.place }
+    requires within { spot.p < length bytes.now }
+    requires reached { spot.window < j + rows.span }
+    requires near { j ≤ spot.window + 4 }
+    requires last { j + number ≤ spot.window + 5 }
+    ensures { AreEntries taps.now bytes.now rows.entry.step spot.p j number result.now }
 {
-    let at = row_place(span, bytes, p, i);
-    &rows[at..at + number]
+    let at = row_place(rows.span, spot, bytes[spot.p], j);
+    &rows.entries[at..at + number]
 }
 
-/// Byte `p` in the sum of the window that begins at byte `i`, to which it adds its entry.
-fn add_byte(taps: &[i32], bytes: &[u8], p: usize, i: usize, entry: i32, sum: i32) -> i32
+/// Byte `p` in the sum of window `j`, to which it adds its entry.
+fn add_byte(
+    taps: &[i32],
+    bytes: &[u8],
+    step: usize,
+    p: usize,
+    j: usize,
+    entry: i32,
+    sum: i32,
+) -> i32
     requires small { sum_by unsigned_abs taps.now ≤ 2 ^ 30 }
     requires within { p < length bytes.now }
-    requires entry { entry ≡ entry_of taps.now bytes.now p i }
-    requires so_far { sum ≡ window_sum (take (8 * (p - i)) taps.now) bytes.now i }
-    ensures { result ≡ window_sum (take (8 * (p + 1 - i)) taps.now) bytes.now i }
+    requires entry { entry ≡ entry_of taps.now bytes.now step p j }
+    requires so_far { sum ≡ sum_before taps.now bytes.now step p j }
+    ensures { result ≡ sum_before taps.now bytes.now step (p + 1) j }
 {
     sum + entry
 }
 
-/// Four bytes from `p` on, and what each of them adds to so many windows, the first of which begins at
-/// byte `start`: a part of its row.
+/// Four bytes from `p` on, what each of them adds to so many windows from window `start` on, a part of
+/// its row, and the byte behind them.
 #[derive(Clone, Copy)]
 struct Block<'a> {
     p: usize,
+    step: usize,
     start: usize,
     number: usize,
     one: &'a [i32],
     two: &'a [i32],
     three: &'a [i32],
     four: &'a [i32],
+    next: Spot,
 }
 
-/// Four bytes from `p` on with the parts of their rows.
-fn block_of<'a>(
-    taps: &[i32],
-    rows: &'a [i32],
-    span: usize,
-    bytes: &[u8],
-    p: usize,
-    start: usize,
-    number: usize,
-) -> Block<'a>
-    requires laid { IsLaid taps.now rows.now span }
-    requires within { p + 4 ≤ length bytes.now }
-    requires reached { p + 4 ≤ start + span }
-    requires near { start ≤ p + 3 }
-    requires last { start + number ≤ p + 4 }
-    ensures p { result.p ≡ p }
-    ensures start { result.start ≡ start }
-    ensures number { result.number ≡ number }
-    ensures rows { IsBlock taps.now bytes.now result.p result.start result.number result.one.now result.two.now result.three.now result.four.now }
+/// Four bytes with the parts of their rows for all windows below a limit in which one of them stands.
+fn block_of<'a>(taps: &[i32], rows: Laid<'a>, bytes: &[u8], spot: Spot, limit: usize) -> Block<'a>
+    requires laid { IsLaid taps.now rows.entries.now rows.step rows.span }
+    requires spot { IsSpot rows.step spot.p spot.window spot.place }
+    requires within { spot.p + 4 ≤ length bytes.now }
+    requires reached { spot.p + 4 + rows.step ≤ limit * rows.step + length taps.now / 8 }
+    ensures p { result.p ≡ spot.p }
+    ensures step { result.step ≡ rows.entry.step }
+    ensures limit { result.start + result.number ≤ limit }
+    ensures done { (j : ℕ) → j < result.start → length taps.now / 8 + j * rows.entry.step ≤ spot.p }
+    ensures rest { (j : ℕ) → result.start + result.number ≤ j → j < limit → spot.p + 4 ≤ j * rows.entry.step }
+    ensures rows { IsBlock taps.now bytes.now result.step result.p result.start result.number result.one.now result.two.now result.three.now result.four.now }
+    ensures next { result.next.p ≡ spot.p + 4 }
+    ensures spot { IsSpot rows.entry.step result.next.p result.next.window result.next.place }
 {
-    let one = row_part(taps, rows, span, bytes, p, start, number);
-    let two = row_part(taps, rows, span, bytes, p + 1, start, number);
-    let three = row_part(taps, rows, span, bytes, p + 2, start, number);
-    let four = row_part(taps, rows, span, bytes, p + 3, start, number);
+    let second = next(spot, rows.step);
+    let third = next(second, rows.step);
+    let fourth = next(third, rows.step);
+    let start = (fourth.window + 1).saturating_sub(rows.span);
+    let number = (fourth.window + 1).min(limit) - start;
     Block {
-        p,
+        p: spot.p,
+        step: rows.step,
         start,
         number,
-        one,
-        two,
-        three,
-        four,
+        one: row_part(taps, rows, bytes, spot, start, number),
+        two: row_part(taps, rows, bytes, second, start, number),
+        three: row_part(taps, rows, bytes, third, start, number),
+        four: row_part(taps, rows, bytes, fourth, start, number),
+        next: next(fourth, rows.step),
     }
 }
 
-/// Four bytes in the sum of the window that begins at byte `i`, to which each adds its entry.
-fn add_bytes(taps: &[i32], bytes: &[u8], block: Block<'_>, i: usize, sum: i32) -> i32
-    requires rows { IsBlock taps.now bytes.now block.p block.start block.number block.one.now block.two.now block.three.now block.four.now }
-    requires from { block.start ≤ i }
-    requires to { i < block.start + block.number }
-    requires so_far { sum ≡ window_sum (take (8 * (block.p - i)) taps.now) bytes.now i }
-    ensures { result ≡ window_sum (take (8 * (block.entry.p + 4 - i)) taps.now) bytes.now i }
+/// Four bytes in the sum of window `j`, to which each adds its entry.
+fn add_bytes(taps: &[i32], bytes: &[u8], block: Block<'_>, j: usize, sum: i32) -> i32
+    requires rows { IsBlock taps.now bytes.now block.step block.p block.start block.number block.one.now block.two.now block.three.now block.four.now }
+    requires from { block.start ≤ j }
+    requires to { j < block.start + block.number }
+    requires so_far { sum ≡ sum_before taps.now bytes.now block.step block.p j }
+    ensures { result ≡ sum_before taps.now bytes.now block.entry.step (block.entry.p + 4) j }
 {
     let p = block.p;
-    let k = i - block.start;
-    let one = add_byte(taps, bytes, p, i, block.one[k], sum);
-    let two = add_byte(taps, bytes, p + 1, i, block.two[k], one);
-    let three = add_byte(taps, bytes, p + 2, i, block.three[k], two);
-    add_byte(taps, bytes, p + 3, i, block.four[k], three)
+    let step = block.step;
+    let k = j - block.start;
+    let one = add_byte(taps, bytes, step, p, j, block.one[k], sum);
+    let two = add_byte(taps, bytes, step, p + 1, j, block.two[k], one);
+    let three = add_byte(taps, bytes, step, p + 2, j, block.three[k], two);
+    add_byte(taps, bytes, step, p + 3, j, block.four[k], three)
 }
 
-/// Four bytes in the sums of four windows, the first of which begins at byte `i`. All four sums are
-/// there before one is written, so that they become a vector.
-fn add_four(taps: &[i32], bytes: &[u8], block: Block<'_>, i: usize, sums: &mut [i32])
-    requires rows { IsBlock taps.now bytes.now block.p block.start block.number block.one.now block.two.now block.three.now block.four.now }
-    requires from { block.start ≤ i }
-    requires to { i + 4 ≤ block.start + block.number }
-    requires inside { i + 4 ≤ length sums.old }
-    requires done { (k : ℕ) → k < i → slice_index_or sums.old k (pos 0) ≡ window_sum (take (8 * (block.p + 4 - k)) taps.now) bytes.now k }
-    requires rest { EachIndex sums.old (λ k. i ≤ k → slice_index_or sums.old k (pos 0) ≡ window_sum (take (8 * (block.p - k)) taps.now) bytes.now k) }
+/// Four bytes in the sums of four windows from window `j` on. All four sums are there before one is
+/// written, so that they become a vector.
+fn add_four(taps: &[i32], bytes: &[u8], block: Block<'_>, j: usize, sums: &mut [i32])
+    requires rows { IsBlock taps.now bytes.now block.step block.p block.start block.number block.one.now block.two.now block.three.now block.four.now }
+    requires from { block.start ≤ j }
+    requires to { j + 4 ≤ block.start + block.number }
+    requires inside { j + 4 ≤ length sums.old }
+    requires done { (k : ℕ) → k < j → slice_index_or sums.old k (pos 0) ≡ sum_before taps.now bytes.now block.step (block.p + 4) k }
+    requires rest { EachIndex sums.old (λ k. j ≤ k → slice_index_or sums.old k (pos 0) ≡ sum_before taps.now bytes.now block.step block.p k) }
     ensures len { length sums.new ≡ length sums.old }
-    ensures done { (k : ℕ) → k < i + 4 → slice_index_or sums.new k (pos 0) ≡ window_sum (take (8 * (block.entry.p + 4 - k)) taps.now) bytes.now k }
-    ensures rest { EachIndex sums.new (λ k. i + 4 ≤ k → slice_index_or sums.new k (pos 0) ≡ window_sum (take (8 * (block.entry.p - k)) taps.now) bytes.now k) }
+    ensures done { (k : ℕ) → k < j + 4 → slice_index_or sums.new k (pos 0) ≡ sum_before taps.now bytes.now block.entry.step (block.entry.p + 4) k }
+    ensures rest { EachIndex sums.new (λ k. j + 4 ≤ k → slice_index_or sums.new k (pos 0) ≡ sum_before taps.now bytes.now block.entry.step block.entry.p k) }
 {
-    let first = add_bytes(taps, bytes, block, i, sums[i]);
-    let second = add_bytes(taps, bytes, block, i + 1, sums[i + 1]);
-    let third = add_bytes(taps, bytes, block, i + 2, sums[i + 2]);
-    let fourth = add_bytes(taps, bytes, block, i + 3, sums[i + 3]);
-    sums[i] = first;
-    sums[i + 1] = second;
-    sums[i + 2] = third;
-    sums[i + 3] = fourth;
+    let first = add_bytes(taps, bytes, block, j, sums[j]);
+    let second = add_bytes(taps, bytes, block, j + 1, sums[j + 1]);
+    let third = add_bytes(taps, bytes, block, j + 2, sums[j + 2]);
+    let fourth = add_bytes(taps, bytes, block, j + 3, sums[j + 3]);
+    sums[j] = first;
+    sums[j + 1] = second;
+    sums[j + 2] = third;
+    sums[j + 3] = fourth;
 }
 
-/// Four bytes from `p` on in the sum of each window.
-fn add_block(taps: &[i32], rows: &[i32], span: usize, bytes: &[u8], p: usize, sums: &mut [i32])
-    requires laid { IsLaid taps.now rows.now span }
-    requires within { p + 4 ≤ length bytes.now }
-    requires reached { p + 4 ≤ length sums.old + span }
-    requires so_far { EachIndex sums.old (λ i. slice_index_or sums.old i (pos 0) ≡ window_sum (take (8 * (p - i)) taps.now) bytes.now i) }
+/// Four bytes in the sum of each window; answers the byte behind them.
+fn add_block(taps: &[i32], rows: Laid<'_>, bytes: &[u8], spot: Spot, sums: &mut [i32]) -> Spot
+    requires laid { IsLaid taps.now rows.entries.now rows.step rows.span }
+    requires spot { IsSpot rows.step spot.p spot.window spot.place }
+    requires within { spot.p + 4 ≤ length bytes.now }
+    requires reached { spot.p + 4 + rows.step ≤ length sums.old * rows.step + length taps.now / 8 }
+    requires so_far { EachIndex sums.old (λ j. slice_index_or sums.old j (pos 0) ≡ sum_before taps.now bytes.now rows.step spot.p j) }
     ensures len { length sums.new ≡ length sums.old }
-    ensures sums { EachIndex sums.new (λ i. slice_index_or sums.new i (pos 0) ≡ window_sum (take (8 * (p + 4 - i)) taps.now) bytes.now i) }
+    ensures sums { EachIndex sums.new (λ j. slice_index_or sums.new j (pos 0) ≡ sum_before taps.now bytes.now rows.entry.step (spot.p + 4) j) }
+    ensures next { result.p ≡ spot.p + 4 }
+    ensures spot { IsSpot rows.entry.step result.p result.window result.place }
 {
-    let start = (p + 4).saturating_sub(span);
-    let number = (p + 4).min(sums.len()) - start;
-    let block = block_of(taps, rows, span, bytes, p, start, number);
-    let fours = number / 4;
+    let block = block_of(taps, rows, bytes, spot, sums.len());
+    let start = block.start;
+    let fours = block.number / 4;
     for turn in 0..fours {
         add_four(taps, bytes, block, start + 4 * turn, sums);
     }
-    for i in start + 4 * fours..start + number {
-        sums[i] = add_bytes(taps, bytes, block, i, sums[i]);
+    for j in start + 4 * fours..start + block.number {
+        sums[j] = add_bytes(taps, bytes, block, j, sums[j]);
     }
+    block.next
 }
 
-/// Byte `p` in the sum of each window.
-fn add_last(taps: &[i32], rows: &[i32], span: usize, bytes: &[u8], p: usize, sums: &mut [i32])
-    requires laid { IsLaid taps.now rows.now span }
-    requires within { p < length bytes.now }
-    requires reached { p < length sums.old + span }
-    requires so_far { EachIndex sums.old (λ i. slice_index_or sums.old i (pos 0) ≡ window_sum (take (8 * (p - i)) taps.now) bytes.now i) }
+/// A byte in the sum of each window; answers the byte behind it.
+fn add_last(taps: &[i32], rows: Laid<'_>, bytes: &[u8], spot: Spot, sums: &mut [i32]) -> Spot
+    requires laid { IsLaid taps.now rows.entries.now rows.step rows.span }
+    requires spot { IsSpot rows.step spot.p spot.window spot.place }
+    requires within { spot.p < length bytes.now }
+    requires reached { spot.p + 1 + rows.step ≤ length sums.old * rows.step + length taps.now / 8 }
+    requires so_far { EachIndex sums.old (λ j. slice_index_or sums.old j (pos 0) ≡ sum_before taps.now bytes.now rows.step spot.p j) }
     ensures len { length sums.new ≡ length sums.old }
-    ensures sums { EachIndex sums.new (λ i. slice_index_or sums.new i (pos 0) ≡ window_sum (take (8 * (p + 1 - i)) taps.now) bytes.now i) }
+    ensures sums { EachIndex sums.new (λ j. slice_index_or sums.new j (pos 0) ≡ sum_before taps.now bytes.now rows.entry.step (spot.p + 1) j) }
+    ensures next { result.p ≡ spot.p + 1 }
+    ensures spot { IsSpot rows.entry.step result.p result.window result.place }
 {
-    let start = (p + 1).saturating_sub(span);
-    let number = (p + 1).min(sums.len()) - start;
-    let row = row_part(taps, rows, span, bytes, p, start, number);
+    let start = (spot.window + 1).saturating_sub(rows.span);
+    let number = (spot.window + 1).min(sums.len()) - start;
+    let row = row_part(taps, rows, bytes, spot, start, number);
     for k in 0..number {
-        let i = start + k;
-        sums[i] = add_byte(taps, bytes, p, i, row[k], sums[i]);
+        let j = start + k;
+        sums[j] = add_byte(taps, bytes, rows.step, spot.p, j, row[k], sums[j]);
     }
+    next(spot, rows.step)
 }
 
-/// The sums of windows that begin at each byte.
-pub(crate) fn sum_rows(taps: &[i32], rows: &[i32], span: usize, bytes: &[u8], sums: &mut [i32])
-    requires laid { IsLaid taps.now rows.now span }
-    requires within { length sums.old + length taps.now / 8 ≤ length bytes.now + 1 }
-    ensures { sums.new ≡ window_sums taps.now bytes.now 1 (length sums.old) }
+/// The sums of windows that begin at each step's first byte.
+pub(crate) fn sum_rows(taps: &[i32], rows: Laid<'_>, bytes: &[u8], sums: &mut [i32])
+    requires laid { IsLaid taps.now rows.entries.now rows.step rows.span }
+    requires some { 1 ≤ length sums.old }
+    requires within { EachIndex sums.old (λ j. j * rows.step + length taps.now / 8 ≤ length bytes.now) }
+    ensures { sums.new ≡ window_sums taps.now bytes.now rows.entry.step (length sums.old) }
 {
     sums.fill(0);
-    let reach = sums.len() + taps.len() / 8 - 1;
+    let reach = (sums.len() - 1) * rows.step + taps.len() / 8;
     let blocks = reach / 4;
+    let mut spot = Spot {
+        p: 0,
+        window: 0,
+        place: 0,
+    };
     for block in 0..blocks {
-        add_block(taps, rows, span, bytes, 4 * block, sums);
+        spot = add_block(taps, rows, bytes, spot, sums);
     }
-    for p in 4 * blocks..reach {
-        add_last(taps, rows, span, bytes, p, sums);
+    for last in 4 * blocks..reach {
+        spot = add_last(taps, rows, bytes, spot, sums);
     }
 }

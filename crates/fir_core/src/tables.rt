@@ -1,37 +1,38 @@
-//! The sums of each group of eight taps for each byte, in two orders.
+//! What each byte adds to the windows that it stands in, for a decimator's taps.
 
-ghost use Rattle.std.specs.Prelude.{◌≡◌, ◌+◌, ◌*◌, ◌/◌, ◌^◌, ◌<◌, ◌≤◌, length, IfOk, unsigned_abs};
+ghost use Rattle.std.specs.Prelude.{◌≡◌, ◌+◌, ◌*◌, ◌%◌, ◌^◌, ◌<◌, ◌≤◌, length, IfOk, unsigned_abs};
 ghost use Rattle.std.specs.List.{sum_by};
 ghost use Rattle.fir_core.specs.Rows as Rows;
 ghost use Rattle.fir_core.specs.Rows.{rows};
 ghost use Rattle.fir_core.specs.Signed.{bits_of, dot};
-ghost use Rattle.fir_core.specs.Windows.{IsTabled, aligned, table_entry, tables};
+ghost use Rattle.fir_core.specs.Windows.{aligned};
 
 use crate::rows::span_of;
 use crate::taps::Taps;
 use std::alloc::{AllocError, Global};
 use std::marker::Model;
 
-/// A decimator's taps in the order of the bits of a window of whole bytes, and for each group of
-/// eight of them its sum for each of the 256 bytes: group by group, and row by row as they are added
-/// up for a factor of 8. Contracts see it as the taps in that order.
+/// A decimator's taps in the order of the bits of a window of whole bytes, and for each byte, at each
+/// place in the bytes of a step, a row of what it adds to the windows that it stands in. Contracts see
+/// it as the taps in that order.
 #[derive(Drop)]
 pub struct Tables {
     pub(crate) taps: Vec<i32>,
-    pub(crate) sums: Vec<i32>,
     pub(crate) rows: Vec<i32>,
+    pub(crate) step: usize,
+    pub(crate) span: usize,
 }
 
 impl Model for Tables {
     ghost use Rattle.std.specs.Prelude.{ℤ, List};
     ghost use Rattle.fir_core.specs.TableView.{taps_of};
-    ghost use Rattle.fir_core.specs.Rows.{IsPrepared};
+    ghost use Rattle.fir_core.specs.Rows.{IsLaid};
 
     ghost Value = { List ℤ };
 
     ghost view = { taps_of };
 
-    ghost invariant = { λ a. IsPrepared a.taps.items a.sums.items a.rows.items };
+    ghost invariant = { λ a. IsLaid a.taps.items a.rows.items a.step a.span };
 }
 
 impl Tables {
@@ -43,15 +44,15 @@ impl Tables {
     pub fn new(alloc: Global, taps: &Taps) -> Result<Tables, AllocError>
         ensures { IfOk result (λ made. made ≡ aligned taps.now.taps taps.now.delay) }
     {
-        let _factor = taps.factor();
+        let step = taps.factor() as usize / 8;
         let aligned = aligned_taps(alloc, taps)?;
-        let sums = table_of(alloc, aligned.as_slice())?;
-        let span = span_of(aligned.as_slice());
-        let rows = rows_of(alloc, aligned.as_slice(), sums.as_slice(), span)?;
+        let span = span_of(aligned.len() / 8, step);
+        let rows = rows_of(alloc, aligned.as_slice(), step, span)?;
         Ok(Tables {
             taps: aligned,
-            sums,
             rows,
+            step,
+            span,
         })
     }
 }
@@ -72,59 +73,54 @@ pub(crate) fn aligned_taps(alloc: Global, taps: &Taps) -> Result<Vec<i32>, Alloc
     Ok(made)
 }
 
-// The sums of each group of eight taps for each byte.
-fn table_of(alloc: Global, taps: &[i32]) -> Result<Vec<i32>, AllocError>
-    requires few { length taps.now ≤ 4104 }
+// The rows of all places in a step and all bytes.
+fn rows_of(alloc: Global, taps: &[i32], step: usize, span: usize) -> Result<Vec<i32>, AllocError>
+    requires whole { length taps.now % 8 ≡ 0 }
     requires small { sum_by unsigned_abs taps.now ≤ 2 ^ 30 }
-    ensures { IfOk result (λ made. made.items ≡ tables taps.now) }
-{
-    (0..taps.len() / 8 * 256)
-        .map(|i| entry(taps, i))
-        .collect(alloc)
-}
-
-// The rows of all bytes, from the sums of each group.
-fn rows_of(alloc: Global, taps: &[i32], sums: &[i32], span: usize) -> Result<Vec<i32>, AllocError>
-    requires tabled { IsTabled taps.now sums.now }
+    requires short { step ≤ 128 }
     requires narrow { span ≤ 1024 }
-    ensures { IfOk result (λ made. made.items ≡ rows taps.now span) }
+    ensures { IfOk result (λ made. made.items ≡ rows taps.now step span) }
 {
-    (0..256 * (span + 3))
-        .map(|i| row_entry(taps, sums, span, i))
+    (0..256 * step * (span + 4))
+        .map(|i| row_entry(taps, step, span, i))
         .collect(alloc)
 }
 
 // Entry `i` of the rows.
-fn row_entry(taps: &[i32], sums: &[i32], span: usize, i: usize) -> i32
-    requires tabled { IsTabled taps.now sums.now }
+fn row_entry(taps: &[i32], step: usize, span: usize, i: usize) -> i32
+    requires whole { length taps.now % 8 ≡ 0 }
+    requires small { sum_by unsigned_abs taps.now ≤ 2 ^ 30 }
+    requires short { step ≤ 128 }
     requires narrow { span ≤ 1024 }
-    requires within { i < 256 * (span + 3) }
-    ensures { result ≡ Rows.row_entry taps.now span i }
+    requires within { i < 256 * step * (span + 4) }
+    ensures { result ≡ Rows.row_entry taps.now step span i }
 {
-    let number = span.saturating_sub(i % (span + 3));
-    last_group(taps, sums, number, i / (span + 3))
+    let row = i / (span + 4);
+    let number = groups_at(step, span, row / 256, i % (span + 4));
+    last_group(taps, number, (row % 256) as u8)
+}
+
+// How many groups of its window a byte ends, by its place in a step and a column of its row.
+fn groups_at(step: usize, span: usize, place: usize, column: usize) -> usize
+    requires short { step ≤ 128 }
+    requires narrow { span ≤ 1024 }
+    requires place { place < 2 ^ 32 }
+    ensures { result ≡ Rows.groups_at step span place column }
+{
+    (span.saturating_sub(column) * step + (place + 1)).saturating_sub(step)
 }
 
 // The sum, for a byte, of the last of so many groups of taps; of none 0, and of more than there are.
-fn last_group(taps: &[i32], sums: &[i32], number: usize, byte: usize) -> i32
-    requires tabled { IsTabled taps.now sums.now }
-    requires byte { byte < 256 }
+fn last_group(taps: &[i32], number: usize, byte: u8) -> i32
+    requires whole { length taps.now % 8 ≡ 0 }
+    requires small { sum_by unsigned_abs taps.now ≤ 2 ^ 30 }
     ensures { result ≡ Rows.last_group taps.now number byte }
 {
     if number == 0 || taps.len() / 8 < number {
         return 0;
     }
-    sums[256 * (number - 1) + byte]
-}
-
-// Entry `i` of the tables.
-fn entry(taps: &[i32], i: usize) -> i32
-    requires within { i < length taps.now / 8 * 256 }
-    requires small { sum_by unsigned_abs taps.now ≤ 2 ^ 30 }
-    ensures { result ≡ table_entry taps.now i }
-{
-    let at = 8 * (i / 256);
-    dot_plain(&taps[at..at + 8], &[(i % 256) as u8])
+    let at = 8 * (number - 1);
+    dot_plain(&taps[at..at + 8], &[byte])
 }
 
 // The sum of the taps, each with its bit's sign.

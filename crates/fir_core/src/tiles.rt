@@ -2,15 +2,17 @@
 
 ghost use Rattle.std.specs.Prelude.{◌≡◌, ℕ, ◌+◌, ◌-◌, ◌*◌, ◌/◌, ◌%◌, ◌^◌, ◌<◌, ◌≤◌, ◌⊎◌, ◌++◌, EachIndex, OnErr, OnOk, length, map, pos, slice_index_or, take, unsigned_abs};
 ghost use Rattle.std.specs.Int.{div_ceil};
+ghost use Rattle.std.specs.List.{sum_by};
 ghost use Rattle.dsd_bits.specs.Packing.{unpacked};
 ghost use Rattle.fir_core.specs.Decimator.{samples_of};
 ghost use Rattle.fir_core.specs.Places.{sample_of, samples_from};
 ghost use Rattle.fir_core.specs.Rounding.{round_clip};
-ghost use Rattle.fir_core.specs.Windows.{IsTabled, aligned, window_size, window_sum, window_sums};
+ghost use Rattle.fir_core.specs.Windows.{aligned, window_size, window_sums};
 
 use crate::convolution::sum_over;
+use crate::lanes::dot_by_lanes;
 use crate::rounding::{clip, round};
-use crate::rows::{span_of, sum_rows};
+use crate::rows::{Laid, sum_rows};
 use crate::tables::Tables;
 use crate::taps::Taps;
 use dsd_bits::Bits;
@@ -19,95 +21,35 @@ use std::alloc::AllocError;
 /// How many samples are summed at a time, so that their sums stay in the cache.
 const TILE: usize = 4096;
 
-/// One more group of eight taps in the sum of the window that begins at byte `at`.
-fn add_group(taps: &[i32], table: &[i32], group: usize, bytes: &[u8], at: usize, sum: i32) -> i32
-    requires tabled { IsTabled taps.now table.now }
-    requires group { 8 * group < length taps.now }
-    requires within { at + length taps.now / 8 ≤ length bytes.now }
-    requires so_far { sum ≡ window_sum (take (8 * group) taps.now) bytes.now at }
-    ensures { result ≡ window_sum (take (8 * (group + 1)) taps.now) bytes.now at }
-{
-    sum + table[256 * group + bytes[at + group] as usize]
-}
-
-/// Four more groups in the sum of the window that begins at byte `at`.
-fn add_four(taps: &[i32], table: &[i32], group: usize, bytes: &[u8], at: usize, sum: i32) -> i32
-    requires tabled { IsTabled taps.now table.now }
-    requires group { 8 * group + 32 ≤ length taps.now }
-    requires within { at + length taps.now / 8 ≤ length bytes.now }
-    requires so_far { sum ≡ window_sum (take (8 * group) taps.now) bytes.now at }
-    ensures { result ≡ window_sum (take (8 * (group + 4)) taps.now) bytes.now at }
-{
-    let one = add_group(taps, table, group, bytes, at, sum);
-    let two = add_group(taps, table, group + 1, bytes, at, one);
-    let three = add_group(taps, table, group + 2, bytes, at, two);
-    add_group(taps, table, group + 3, bytes, at, three)
-}
-
-/// Four more groups in the sum of each window. The windows begin at each `step`-th byte.
-fn add_groups(
-    taps: &[i32],
-    table: &[i32],
-    group: usize,
-    bytes: &[u8],
-    step: usize,
-    sums: &mut [i32],
-)
-    requires tabled { IsTabled taps.now table.now }
-    requires group { 8 * group + 32 ≤ length taps.now }
-    requires within { EachIndex sums.old (λ i. i * step + length taps.now / 8 ≤ length bytes.now) }
-    requires so_far { EachIndex sums.old (λ i. slice_index_or sums.old i (pos 0) ≡ window_sum (take (8 * group) taps.now) bytes.now (i * step)) }
-    ensures len { length sums.new ≡ length sums.old }
-    ensures sums { EachIndex sums.new (λ i. slice_index_or sums.new i (pos 0) ≡ window_sum (take (8 * (group + 4)) taps.now) bytes.now (i * step)) }
-{
-    for i in 0..sums.len() {
-        sums[i] = add_four(taps, table, group, bytes, i * step, sums[i]);
-    }
-}
-
-/// One more group in the sum of each window. The windows begin at each `step`-th byte.
-fn add_one(taps: &[i32], table: &[i32], group: usize, bytes: &[u8], step: usize, sums: &mut [i32])
-    requires tabled { IsTabled taps.now table.now }
-    requires group { 8 * group < length taps.now }
-    requires within { EachIndex sums.old (λ i. i * step + length taps.now / 8 ≤ length bytes.now) }
-    requires so_far { EachIndex sums.old (λ i. slice_index_or sums.old i (pos 0) ≡ window_sum (take (8 * group) taps.now) bytes.now (i * step)) }
-    ensures len { length sums.new ≡ length sums.old }
-    ensures sums { EachIndex sums.new (λ i. slice_index_or sums.new i (pos 0) ≡ window_sum (take (8 * (group + 1)) taps.now) bytes.now (i * step)) }
-{
-    for i in 0..sums.len() {
-        sums[i] = add_group(taps, table, group, bytes, i * step, sums[i]);
-    }
-}
-
-/// The sums of windows that begin at each `step`-th byte.
-fn sum_windows(taps: &[i32], table: &[i32], bytes: &[u8], step: usize, sums: &mut [i32])
-    requires tabled { IsTabled taps.now table.now }
-    requires within { EachIndex sums.old (λ i. i * step + length taps.now / 8 ≤ length bytes.now) }
-    ensures { sums.new ≡ window_sums taps.now bytes.now step (length sums.old) }
-{
-    sums.fill(0);
-    let fours = taps.len() / 32;
-    for pass in 0..fours {
-        add_groups(taps, table, 4 * pass, bytes, step, sums);
-    }
-    for group in 4 * fours..taps.len() / 8 {
-        add_one(taps, table, group, bytes, step, sums);
-    }
-}
-
-/// The sums of windows that begin at each `step`-th byte: by rows where that is each byte, else by
-/// the sums of each group.
+/// The sums of windows that begin at each `step`-th byte: by rows, or one by one where the tables are
+/// those of another factor, which no stream has.
 fn sum_tile(tables: &Tables, bytes: &[u8], step: usize, sums: &mut [i32])
     requires some { 1 ≤ length sums.old }
     requires within { EachIndex sums.old (λ i. i * step + length tables.now / 8 ≤ length bytes.now) }
     ensures { sums.new ≡ window_sums tables.now bytes.now step (length sums.old) }
 {
     let taps = tables.taps.as_slice();
-    if step == 1 {
-        let span = span_of(taps);
-        sum_rows(taps, tables.rows.as_slice(), span, bytes, sums);
+    if tables.step == step {
+        let rows = Laid {
+            entries: tables.rows.as_slice(),
+            step,
+            span: tables.span,
+        };
+        sum_rows(taps, rows, bytes, sums);
     } else {
-        sum_windows(taps, tables.sums.as_slice(), bytes, step, sums);
+        sum_windows(taps, bytes, step, sums);
+    }
+}
+
+/// The sums of windows that begin at each `step`-th byte, one by one.
+fn sum_windows(taps: &[i32], bytes: &[u8], step: usize, sums: &mut [i32])
+    requires whole { length taps.now % 8 ≡ 0 }
+    requires small { sum_by unsigned_abs taps.now ≤ 2 ^ 30 }
+    requires within { EachIndex sums.old (λ i. i * step + length taps.now / 8 ≤ length bytes.now) }
+    ensures { sums.new ≡ window_sums taps.now bytes.now step (length sums.old) }
+{
+    for i in 0..sums.len() {
+        sums[i] = dot_by_lanes(taps, &bytes[i * step..]);
     }
 }
 

@@ -113,17 +113,20 @@ impl<'a> Player<'a> {
     }
 }
 
-// A stream for each channel, before its first byte.
+// A stream for each channel, before its first byte. All share the tables of one.
 fn streams_of(alloc: Global, taps: &Taps, sound: &Sound) -> Result<Vec<Stream>, AllocError>
-    requires { sound.now.count ≤ 2 ^ 36 }
+    requires count { sound.now.count ≤ 2 ^ 36 }
+    requires channels { 1 ≤ sound.now.channels }
     ensures number { IfOk result (λ streams. length streams.items ≡ sound.now.channels) }
     ensures each { IfOk result (λ streams. AreNew taps.now sound.now.count streams.items) }
 {
+    let first = Stream::new(alloc, taps, sound.count)?;
     let mut streams = Vec::new(alloc);
-    for _channel in 0..sound.channels {
-        let stream = Stream::new(alloc, taps, sound.count)?;
+    for _channel in 1..sound.channels {
+        let stream = first.beside(alloc)?;
         streams.push(stream)?;
     }
+    streams.push(first)?;
     Ok(streams)
 }
 
@@ -159,41 +162,44 @@ fn feed_all(
 {
     tile.clear();
     for (c, stream) in streams.iter_mut().enumerate() {
-        feed_one(
-            stream,
-            own,
-            tile,
-            groups,
-            sound.channels,
+        let part = Part {
+            channels: sound.channels,
             c,
-            sound.order,
+            order: sound.order,
             number,
-        )?;
+        };
+        feed_one(stream, own, tile, groups, part)?;
     }
     Ok(())
 }
 
-// Feeds a stream the first bytes of channel `c` in whole groups of sound bytes.
+// The first bytes of channel `c` of so many, in whole groups of sound bytes.
+#[derive(Clone, Copy)]
+struct Part {
+    channels: usize,
+    c: usize,
+    order: Option<BitOrder>,
+    number: usize,
+}
+
+// Feeds a stream the first bytes of a channel in whole groups of sound bytes.
 fn feed_one(
     stream: &mut Stream,
     own: &mut Vec<u8>,
     tile: &mut Vec<i32>,
     groups: &[u8],
-    channels: usize,
-    c: usize,
-    order: Option<BitOrder>,
-    number: usize,
+    part: Part,
 ) -> Result<(), AllocError>
     requires ready { IsStream stream.old }
-    requires few { stream.old.fed + number ≤ div_ceil stream.old.count 8 }
-    requires channel { (c < channels) × (channels ≤ 6) }
-    requires enough { number ≤ length groups.now / Groups.group_size order channels * Groups.part_size order }
+    requires few { stream.old.fed + part.number ≤ div_ceil stream.old.count 8 }
+    requires channel { (part.c < part.channels) × (part.channels ≤ 6) }
+    requires enough { part.number ≤ length groups.now / Groups.group_size part.order part.channels * Groups.part_size part.order }
     ensures ready { IsStream stream.new }
-    ensures ok { OnOk result (Feeds (state_of stream.old) (state_of stream.new) (channel_part order channels groups.now c 0 number) tile.old.items tile.new.items) }
-    ensures fed { OnOk result (stream.new.fed ≡ stream.old.fed + number) }
+    ensures ok { OnOk result (Feeds (state_of stream.old) (state_of stream.new) (channel_part part.order part.channels groups.now part.c 0 part.number) tile.old.items tile.new.items) }
+    ensures fed { OnOk result (stream.new.fed ≡ stream.old.fed + part.number) }
     ensures same { (stream.new.taps ≡ stream.old.taps) × (stream.new.count ≡ stream.old.count) }
 {
-    fill_channel(own, groups, channels, c, order, number)?;
+    fill_channel(own, groups, part.channels, part.c, part.order, part.number)?;
     stream.feed(own.as_slice(), tile)
 }
 

@@ -2,7 +2,8 @@ use Rattle.fir_core.proofs.RowLaws.{byte_fits, byte_is}
 use Rattle.fir_core.proofs.rows.add_byte.Goals as goal
 
 pub overflow_add-result : goal.overflow_add-result
-overflow_add-result c = byte_fits c.args.taps.now c.args.bytes.now c.args.p c.args.i c.requires.small c.requires.within c.args.entry c.args.sum c.requires.entry c.requires.so_far
+overflow_add-result c =
+    byte_fits c.args.taps.now c.args.bytes.now c.args.step c.args.p c.args.j c.requires.small c.requires.within c.args.entry c.args.sum c.requires.entry c.requires.so_far
 
 pub returns : goal.returns
-returns c = byte_is c.args.taps.now c.args.bytes.now c.args.p c.args.i c.requires.small c.requires.within c.args.entry c.args.sum c.requires.entry c.requires.so_far
+returns c = byte_is c.args.taps.now c.args.bytes.now c.args.step c.args.p c.args.j c.requires.small c.requires.within c.args.entry c.args.sum c.requires.entry c.requires.so_far

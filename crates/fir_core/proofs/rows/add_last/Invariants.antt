@@ -1,10 +1,10 @@
-use Rattle.std.proofs.Common.{◌≡◌, ℕ, ◌+◌, ◌-◌, ◌*◌, ◌<◌, ◌≤◌, get_or, length, take, pos}
-use Rattle.fir_core.specs.Windows.{window_sum}
+use Rattle.std.proofs.Common.{◌≡◌, ℕ, ◌+◌, ◌<◌, ◌≤◌, get_or, length, pos}
+use Rattle.fir_core.specs.Rows.{sum_before}
 use Rattle.fir_core.proofs.rows.add_last.Given as goal
 
 -- the sums before this one are done, and the others are as they were
 abbrev pub invariant-loop-k : goal.invariant-loop-k
 invariant-loop-k l = record {
-  done : (k : ℕ) → k < l.start + l.k → get_or l.sums k (pos 0) ≡ window_sum (take (8 * (l.p + 1 - k)) l.taps) l.bytes k;
-  rest : (k : ℕ) → l.start + l.k ≤ k → k < length l.sums → get_or l.sums k (pos 0) ≡ window_sum (take (8 * (l.p - k)) l.taps) l.bytes k;
+  done : (k : ℕ) → k < l.start + l.k → get_or l.sums k (pos 0) ≡ sum_before l.taps l.bytes l.rows.step (l.spot.p + 1) k;
+  rest : (k : ℕ) → l.start + l.k ≤ k → k < length l.sums → get_or l.sums k (pos 0) ≡ sum_before l.taps l.bytes l.rows.step l.spot.p k;
 }

@@ -4,9 +4,9 @@ use Rattle.fir_core.proofs.rows.row_part.Goals as goal
 
 pub slice_bounds-result-end : goal.slice_bounds-result-end
 slice_bounds-result-end c =
-    rw c.row_place-at.ensures (part_within c.args.taps.now c.args.rows.now c.args.span c.args.bytes.now c.args.p c.args.i c.args.number c.requires.laid c.requires.reached c.requires.last (search rules))
+    rw c.row_place-at.ensures (part_within c.args.taps.now c.args.rows.entries.now c.args.rows.step c.args.rows.span c.args.spot.p c.args.spot.window c.args.spot.place _ c.args.j c.args.number c.requires.laid c.requires.spot c.requires.reached c.requires.last (search rules))
 
 pub returns : goal.returns
 returns c =
     let cut : c.row_place-at.result + c.args.number - c.row_place-at.result ≡ c.args.number = omega arith in
-    rw (cut, c.row_place-at.ensures) (part_is c.args.taps.now c.args.rows.now c.args.span c.args.bytes.now c.args.p c.args.i c.args.number c.requires.laid c.requires.reached c.requires.last (search rules))
+    rw (cut, c.row_place-at.ensures) (part_is c.args.taps.now c.args.rows.entries.now c.args.rows.step c.args.rows.span c.args.bytes.now c.args.spot.p c.args.spot.window c.args.spot.place c.args.j c.args.number c.requires.laid c.requires.spot c.requires.reached c.requires.last (search rules))

@@ -12,7 +12,7 @@ size c = size_is c.as_slice-groups.result.now c.args.tables.now c.args.taps.now.
 starts_within : (c : After-as_slice-groups) → c.args.first / 8 + 1 - length c.as_slice-groups.result.now / 8 ≤ length c.args.bytes.now
 starts_within c =
     let first = c.requires.inside 0 c.requires.some in
-    omega (arith, first, c.requires.enough, c.tables.invariant.tabled.some, ap length c.as_slice-groups.ensures.value)
+    omega (arith, first, c.requires.enough, c.tables.invariant.some, ap length c.as_slice-groups.ensures.value)
 
 pub slice_bounds-front-count : goal.slice_bounds-front-count
 slice_bounds-front-count c = starts_within c
@@ -37,7 +37,7 @@ sum_tile-requires-clause-within c = λ i h.
 
 pub finish-requires-clause-small : goal.finish-requires-clause-small
 finish-requires-clause-small c = λ i h.
-    let small : sum_by unsigned_abs c.args.tables.now ≤ 2 ^ 30 = subst (λ (hs : List ℤ). sum_by unsigned_abs hs ≤ 2 ^ 30) c.tables.view_is c.tables.invariant.tabled.small in
+    let small : sum_by unsigned_abs c.args.tables.now ≤ 2 ^ 30 = subst (λ (hs : List ℤ). sum_by unsigned_abs hs ≤ 2 ^ 30) c.tables.view_is c.tables.invariant.small in
     let long = ap length c.sum_tile.ensures ∙ length-sums c.args.tables.now _ _ (length c.args.samples.now) in
     rw c.sum_tile.ensures (small_windows c.args.tables.now _ _ (length c.args.samples.now) i small (omega arith))
 

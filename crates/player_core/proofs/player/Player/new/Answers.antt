@@ -4,8 +4,8 @@ use Rattle.std.proofs.lemmas.Result.{IfOk-from_err}
 use Rattle.player_core.proofs.NewLaws.{new_channels, new_fit}
 use Rattle.player_core.proofs.player.Player.new.Goals as goal
 
-pub streams_of-requires : goal.streams_of-requires
-streams_of-requires c = c.requires.sound.in_limit
+pub streams_of-requires-clause-count : goal.streams_of-requires-clause-count
+streams_of-requires-clause-count c = c.requires.sound.in_limit
 
 pub returns-in_err-streams-clause-ready : goal.returns-in_err-streams-clause-ready
 returns-in_err-streams-clause-ready c = IfOk-from_err c.from_residual.result _ c.from_residual.ensures.0

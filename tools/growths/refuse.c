@@ -1,6 +1,8 @@
 /* Preloaded into a program, it refuses growths: the one whose number, counted from 1, stands in GROWTH, and with
-   GROWTH_ON all later ones too. At the first a byte goes to the file of number GROWTH_TOLD. */
+   GROWTH_ON all later ones too. To the file of number GROWTH_TOLD it writes the size that it refused first, and that of
+   the growth behind it, eight bytes each. */
 #include <errno.h>
+#include <stdint.h>
 #include <stdlib.h>
 #include <unistd.h>
 
@@ -17,15 +19,21 @@ static long number(const char *name)
     return text ? strtol(text, NULL, 10) : 0;
 }
 
-static int is_refused(void)
+static void tell(uint64_t size)
+{
+    if (write((int)number("GROWTH_TOLD"), &size, sizeof size) != sizeof size)
+        _exit(125);
+}
+
+static int is_refused(size_t size)
 {
     if (refused_growth < 0)
         refused_growth = number("GROWTH");
     growths += 1;
     if (growths < refused_growth || refused_growth == 0)
         return 0;
-    if (growths == refused_growth && write((int)number("GROWTH_TOLD"), "r", 1) != 1)
-        _exit(125);
+    if (growths <= refused_growth + 1)
+        tell(size);
     if (growths > refused_growth && !number("GROWTH_ON"))
         return 0;
     errno = ENOMEM;
@@ -34,15 +42,15 @@ static int is_refused(void)
 
 void *malloc(size_t size)
 {
-    return is_refused() ? NULL : __libc_malloc(size);
+    return is_refused(size) ? NULL : __libc_malloc(size);
 }
 
 void *calloc(size_t count, size_t size)
 {
-    return is_refused() ? NULL : __libc_calloc(count, size);
+    return is_refused(count * size) ? NULL : __libc_calloc(count, size);
 }
 
 void *realloc(void *block, size_t size)
 {
-    return is_refused() ? NULL : __libc_realloc(block, size);
+    return is_refused(size) ? NULL : __libc_realloc(block, size);
 }

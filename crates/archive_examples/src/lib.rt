@@ -12,6 +12,8 @@ mod command_lines;
 #[cfg(test)]
 mod conversion;
 #[cfg(test)]
+mod cut_files;
+#[cfg(test)]
 mod cutting;
 #[cfg(test)]
 mod file_commands;
@@ -33,6 +35,8 @@ mod playing;
 mod reading_files;
 #[cfg(test)]
 mod rejecting;
+#[cfg(test)]
+mod slow_folder;
 #[cfg(test)]
 mod take_names;
 #[cfg(test)]

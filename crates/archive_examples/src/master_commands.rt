@@ -82,30 +82,30 @@ fn holds_built(
 }
 
 // Whether the cut of `CUES` by these weights comes to this line, its certificate has one entry of these
-// numbers, and its master is accepted with this line.
+// rows, and its master is accepted with this line.
 fn cuts_and_accepts(
     alloc: Global,
     weights: &str,
-    numbers: [u64; 5],
+    rows: &'static [u8],
     (line, accepted): (&str, &str),
 ) -> Result<bool, AllocError> {
     let mut folder = folder_by(alloc, weights, &CUES)?;
-    let cut = cuts_here(alloc, &mut folder, numbers, line)?;
+    let cut = cuts_here(alloc, &mut folder, rows, line)?;
     let checked = comes_to(alloc, &mut folder, CHECK, 0, accepted)?;
     Ok(cut && checked && folder.count() == 5)
 }
 
 // Whether the cut of the folder comes to this line and is ff, 00, with a certificate of one entry of these
-// numbers.
+// rows.
 fn cuts_here(
     alloc: Global,
     folder: &mut MemoryFolder,
-    numbers: [u64; 5],
+    rows: &'static [u8],
     line: &str,
 ) -> Result<bool, AllocError> {
     let cut = comes_to(alloc, folder, CUT, 0, line)?;
     let master = holds_built(folder, "m.dff", mono(alloc, &[0xff, 0]))?;
-    let cert = holds_built(folder, "c.cert", cert_of(alloc, &[(0, 0, numbers)]))?;
+    let cert = holds_built(folder, "c.cert", cert_of(alloc, &[(0, 0, rows)]))?;
     Ok(cut && master && cert)
 }
 

@@ -1,7 +1,7 @@
 //! Masters rejected, and the first reason in the certificate or in the master.
 
 use crate::builders::{CUES, Sources, fast, mono_sources, titled_sources, with_byte};
-use crate::certifying::{CERT, FALLING, cert_of};
+use crate::certifying::{CERT, FALLING, WIDE, cert_of};
 use archive_core::{Fault, Form, Verdict, check};
 use fixtures::files::{mono, stereo};
 use std::alloc::{AllocError, Global};
@@ -39,13 +39,19 @@ fn rejects_cert(alloc: Global, cert: &[u8], expected: &str) -> Result<bool, Faul
     rejects(alloc, sources, mono(alloc, &[0xff, 0]), cert, expected)
 }
 
-// The same with its certificate with another byte at a place.
-fn rejects_byte(alloc: Global, place: usize, byte: u8, expected: &str) -> Result<bool, Fault> {
-    let changed = with_byte(alloc, &CERT, place, byte)?;
+// The same with a certificate of its with another byte at a place.
+fn rejects_byte(
+    alloc: Global,
+    cert: &[u8],
+    place: usize,
+    byte: u8,
+    expected: &str,
+) -> Result<bool, Fault> {
+    let changed = with_byte(alloc, cert, place, byte)?;
     rejects_cert(alloc, &changed, expected)
 }
 
-// Bytes of the certificate: the head has the version at 4 to 5; the entry has its cue at 12 to 13, its length
+// Bytes of the certificate of the first version: the head has the version at 4 to 5; the entry has its cue at 12 to 13, its length
 // at 16 to 17, the row of level 0 from 18 on, that of level 1 from 34 on, and the cost at 50 to 57. The
 // bound of state 0 at level 1 ends at 41: 5 is above the 4 that a step leads to it for, 3 is below the cost.
 // The bound of state 0 at level 0 ends at 25, and one above `2^63` is none; that of the start state ends at
@@ -61,24 +67,46 @@ const CHANGED: [(usize, u8, &str); 8] = [
     (57, 5, "Cert 0 Cost"),
 ];
 
+// The same of the second version: the row of level 0 has its least value at 18 to 25, its width at 26 and its excesses at
+// 27 and 28, that of level 1 its least value at 29 to 36 and its width at 37, and the cost stands at 38 to 45.
+const CHANGED_NARROW: [(usize, u8, &str); 8] = [
+    (36, 5, "Cert 0 Step 1 0"),
+    (36, 3, "Cert 0 End 0"),
+    (5, 3, "CertHead Head"),
+    (26, 9, "Cert 0 Row 0"),
+    (28, 1, "Cert 0 Row 0"),
+    (18, 128, "Cert 0 Bound"),
+    (25, 1, "Cert 0 Start"),
+    (45, 5, "Cert 0 Cost"),
+];
+
 #[test]
 fn names_the_first_reason_in_a_certificate(rt: HostRuntime) -> Result<(), Fail> {
     let alloc = rt.alloc();
     for (place, byte, expected) in &CHANGED {
-        assert!(rt; rejects_byte(alloc, *place, *byte, expected)?, "{expected}");
+        assert!(rt;
+            rejects_byte(alloc, &WIDE, *place, *byte, expected)?,
+            "{expected}"
+        );
+    }
+    for (place, byte, expected) in &CHANGED_NARROW {
+        assert!(rt;
+            rejects_byte(alloc, &CERT, *place, *byte, expected)?,
+            "{expected}"
+        );
     }
     Ok(())
 }
 
-// Whether the master is rejected for this reason with the first bytes of its certificate.
-fn rejects_front(alloc: Global, length: usize, expected: &str) -> Result<bool, Fault> {
-    let (front, _) = CERT.split_at(length.min(CERT.len()));
+// Whether the master is rejected for this reason with the first bytes of a certificate.
+fn rejects_front(alloc: Global, cert: &[u8], length: usize, expected: &str) -> Result<bool, Fault> {
+    let (front, _) = cert.split_at(length.min(cert.len()));
     rejects_cert(alloc, front, expected)
 }
 
-// The same with a byte behind its certificate.
-fn rejects_longer(alloc: Global, expected: &str) -> Result<bool, Fault> {
-    rejects_cert(alloc, &longer(alloc, &CERT)?, expected)
+// The same with a byte behind it.
+fn rejects_longer(alloc: Global, cert: &[u8], expected: &str) -> Result<bool, Fault> {
+    rejects_cert(alloc, &longer(alloc, cert)?, expected)
 }
 
 // The bytes with a zero behind them.
@@ -88,17 +116,26 @@ fn longer(alloc: Global, bytes: &[u8]) -> Result<Vec<u8>, AllocError> {
     Ok(made)
 }
 
-// The certificate cut off at each byte, in the head's 12 bytes first, and with one byte more.
+// A certificate of either version cut off at each byte, in the head's 12 bytes first, and with one byte more.
 #[test]
 fn names_cut_and_long_certificates(rt: HostRuntime) -> Result<(), Fail> {
     let alloc = rt.alloc();
-    for length in 0..12 {
-        assert!(rt; rejects_front(alloc, length, "CertHead Cut")?, "{length}");
+    let certs: [&[u8]; 2] = [&WIDE, &CERT];
+    for cert in &certs {
+        for length in 0..12 {
+            assert!(rt;
+                rejects_front(alloc, cert, length, "CertHead Cut")?,
+                "{length}"
+            );
+        }
+        for length in 12..cert.len() {
+            assert!(rt;
+                rejects_front(alloc, cert, length, "Cert 0 Cut")?,
+                "{length}"
+            );
+        }
+        assert!(rt; rejects_longer(alloc, cert, "CertExtra")?);
     }
-    for length in 12..58 {
-        assert!(rt; rejects_front(alloc, length, "Cert 0 Cut")?, "{length}");
-    }
-    assert!(rt; rejects_longer(alloc, "CertExtra")?);
     Ok(())
 }
 

@@ -18,6 +18,7 @@ use Rattle.dsdiff_core.specs.declared.fault.DsdiffFault.{DsdiffFault}
 use Rattle.dsdiff_core.specs.Fields.{form_end, ids_in}
 use Rattle.dsdiff_core.specs.Files.{IsDsdiff, joined}
 use Rattle.dsdiff_core.specs.Forms.{top_of}
+use Rattle.dsdiff_core.specs.Fronts.{TellsProperty}
 use Rattle.dsdiff_core.specs.Kinds.{has_id, is_property}
 use Rattle.dsdiff_core.specs.Marks.{IsWholeMark, mark_in}
 use Rattle.dsdiff_core.specs.Masters.{masters_of}
@@ -218,39 +219,98 @@ is_top file r h top e back =
 content_at : (file id : List ℕ) (ss : List Span) (c : Chunk) → Stands file (has_id id) ss c → data_with file id ss ≡ Some c.content
 content_at file id ss c s = rw s.found (ap (λ (x : Chunk). Some x.content) s.is)
 
--- what the sound property of such a file tells
-pub is_property_of : (whole : List ℕ) (r : Content) (h : IsDsdiff whole r) (file : List ℕ) (top parts : List Span) (span : Span) → find (holds_property file) top ≡ Some span → span_chunk file span ≡ h.property → parts ≡ places (span.start + 4) h.parts
-    → IsProperty file top (told_by r.rate r.ids parts)
-is_property_of whole r h file top parts span found same e =
-    let range : slice_range file (span.start + 4) (span.start + span.size) ≡ drop 4 h.property.content = behind_type file span ∙ ap (λ (c : Chunk). drop 4 c.content) same in
-    let inner = spans_again file (span.start + 4) (span.start + span.size) h.parts (subst (λ (bs : List ℕ). chunks bs h.parts) (sym range) h.are_parts) in
-    let back : map (span_chunk file) parts ≡ h.parts = ap (map (span_chunk file)) e ∙ inner.1 in
-    let rs = stands file (has_id FS) parts h.parts h.rates back h.one_rate in
-    let ns = stands file (has_id CHNL) parts h.parts h.names back h.one_names in
-    let ks = stands file (has_id CMPR) parts h.parts h.kinds back h.one_kind in
+-- a chunk that tells rate and channels is read so
+pub property_told : (file : List ℕ) (top parts : List Span) (span : Span) (property : Chunk) (rate number : ℕ) (t : TellsProperty property rate number) → find (holds_property file) top ≡ Some span → span_chunk file span ≡ property → parts ≡ places (span.start + 4) t.parts
+    → IsProperty file top (told_by rate (ids_in number (drop 2 t.names.content)) parts)
+property_told file top parts span property rate number t found same e =
+    let range : slice_range file (span.start + 4) (span.start + span.size) ≡ drop 4 property.content = behind_type file span ∙ ap (λ (c : Chunk). drop 4 c.content) same in
+    let inner = spans_again file (span.start + 4) (span.start + span.size) t.parts (subst (λ (bs : List ℕ). chunks bs t.parts) (sym range) t.are_parts) in
+    let back : map (span_chunk file) parts ≡ t.parts = ap (map (span_chunk file)) e ∙ inner.1 in
+    let rs = stands file (has_id FS) parts t.parts t.rates back t.one_rate in
+    let ns = stands file (has_id CHNL) parts t.parts t.names back t.one_names in
+    let ks = stands file (has_id CMPR) parts t.parts t.kinds back t.one_kind in
     record {
       property = span;
       found = found;
       spans = inner.0 ∙ ap (λ (ss : List Span). Ok ss) (sym e);
       once = (rs.once, (ns.once, (ks.once, tt)));
-      rates = h.rates.content;
-      names = h.names.content;
-      kinds = h.kinds.content;
-      at_rates = content_at file FS parts h.rates rs;
-      at_names = content_at file CHNL parts h.names ns;
-      at_kinds = content_at file CMPR parts h.kinds ks;
+      rates = t.rates.content;
+      names = t.names.content;
+      kinds = t.kinds.content;
+      at_rates = content_at file FS parts t.rates rs;
+      at_names = content_at file CHNL parts t.names ns;
+      at_kinds = content_at file CMPR parts t.kinds ks;
       is_told = record {
-        rate_long = h.rate_long;
-        rate = h.rate;
-        rate_low = h.rate_low;
-        rate_high = h.rate_high;
-        some_channel = subst (λ (n : ℕ). 1 ≤ n) h.number_is h.some_channel;
-        six_channels = subst (λ (n : ℕ). n ≤ 6) h.number_is h.six_channels;
-        names_long = subst (λ (n : ℕ). 2 + 4 * n ≤ length h.names.content) h.number_is h.names_long;
-        ids = subst (λ (n : ℕ). r.ids ≡ ids_in n (drop 2 h.names.content)) h.number_is h.ids;
-        raw = h.raw;
+        rate_long = t.rate_long;
+        rate = t.rate_is;
+        rate_low = t.rate_low;
+        rate_high = t.rate_high;
+        some_channel = subst (λ (n : ℕ). 1 ≤ n) t.number_is t.some_channel;
+        six_channels = subst (λ (n : ℕ). n ≤ 6) t.number_is t.six_channels;
+        names_long = subst (λ (n : ℕ). 2 + 4 * n ≤ length t.names.content) t.number_is t.names_long;
+        ids = ap (λ (n : ℕ). ids_in n (drop 2 t.names.content)) t.number_is;
+        raw = t.raw;
       };
     }
+
+-- and what is read of it is what it tells
+pub property_tells : (file : List ℕ) (top : List Span) (told : Told) (p : IsProperty file top told) → TellsProperty (span_chunk file p.property) told.rate (length told.ids)
+property_tells file top told p =
+    let parts : List Chunk = map (span_chunk file) told.parts in
+    let in_parts = spans_found file (p.property.start + 4) (p.property.start + p.property.size) told.parts p.spans in
+    let rates = data_ok file FS told.parts p.rates p.at_rates in
+    let names = data_ok file CHNL told.parts p.names p.at_names in
+    let kinds = data_ok file CMPR told.parts p.kinds p.at_kinds in
+    let tells : IsTold (span_chunk file rates.0).content (span_chunk file names.0).content (span_chunk file kinds.0).content told.rate told.ids = rw (rates.2, names.2, kinds.2) p.is_told in
+    let n : ℕ = big_number 2 (span_chunk file names.0).content in
+    let number : length told.ids ≡ n = ap length tells.ids ∙ length-map-range_with_len (λ k. take 4 (drop (4 * k) (drop 2 (span_chunk file names.0).content))) 0 n in
+    record {
+      parts = parts;
+      are_parts = subst (λ (bs : List ℕ). chunks bs parts) (behind_type file p.property) in_parts.0;
+      rates = span_chunk file rates.0;
+      names = span_chunk file names.0;
+      kinds = span_chunk file kinds.0;
+      one_rate = one_chunk file (has_id FS) told.parts rates.0 p.once.0 rates.1;
+      one_names = one_chunk file (has_id CHNL) told.parts names.0 p.once.1.0 names.1;
+      one_kind = one_chunk file (has_id CMPR) told.parts kinds.0 p.once.1.1.0 kinds.1;
+      rate_long = tells.rate_long;
+      rate_is = tells.rate;
+      rate_low = tells.rate_low;
+      rate_high = tells.rate_high;
+      number_is = number;
+      some_channel = omega (arith, number, tells.some_channel);
+      six_channels = omega (arith, number, tells.six_channels);
+      names_long = omega (arith, number, tells.names_long);
+      raw = tells.raw;
+    }
+
+-- what the sound property of such a file tells
+is_told : (file : List ℕ) (r : Content) (h : IsDsdiff file r) → TellsProperty h.property r.rate h.number
+is_told file r h = record {
+  parts = h.parts;
+  are_parts = h.are_parts;
+  rates = h.rates;
+  names = h.names;
+  kinds = h.kinds;
+  one_rate = h.one_rate;
+  one_names = h.one_names;
+  one_kind = h.one_kind;
+  rate_long = h.rate_long;
+  rate_is = h.rate;
+  rate_low = h.rate_low;
+  rate_high = h.rate_high;
+  number_is = h.number_is;
+  some_channel = h.some_channel;
+  six_channels = h.six_channels;
+  names_long = h.names_long;
+  raw = h.raw;
+}
+
+pub is_property_of : (whole : List ℕ) (r : Content) (h : IsDsdiff whole r) (file : List ℕ) (top parts : List Span) (span : Span) → find (holds_property file) top ≡ Some span → span_chunk file span ≡ h.property → parts ≡ places (span.start + 4) h.parts
+    → IsProperty file top (told_by r.rate r.ids parts)
+unfolding is_told
+is_property_of whole r h file top parts span found same e =
+    subst (λ (ids : List (List ℕ)). IsProperty file top (told_by r.rate ids parts)) (sym h.ids) (property_told file top parts span h.property r.rate h.number (is_told whole r h) found same e)
 
 -- what the file is is read
 pub parts_from : (file : List ℕ) (r : Content) → IsDsdiff file r → Parts file r

@@ -18,7 +18,7 @@ use Rattle.dsdiff_core.proofs.KindLaws.{id_is}
 use Rattle.dsdiff_core.proofs.OnceLaws.{Once, none_yet, once_again, once_ok}
 use Rattle.dsdiff_core.proofs.Steps.{not_false, under_ok, walked_ok}
 
-same_again : (a b : List ℕ) → same_id b b ≡ true → a ≡ b → not (same_id a b) ≡ false
+pub same_again : (a b : List ℕ) → same_id b b ≡ true → a ≡ b → not (same_id a b) ≡ false
 same_again a b r e = rw (e, r) refl
 
 -- a form that is there but for its last pad

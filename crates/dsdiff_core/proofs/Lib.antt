@@ -1,6 +1,7 @@
 pub mod LeadLaws
 pub mod FrontLaws
 pub mod FrontEnds
+pub mod ToldLaws
 pub mod FormEnds
 pub mod OtherSound
 pub mod ClosingLaws

@@ -1,5 +1,5 @@
 -- Where the sound of a file stands, as the front of the file tells.
-use Rattle.std.specs.Prelude.{◌≡◌, ◌≤◌, ℕ, zero, suc, ◌+◌, ◌*◌, ◌/◌, ◌%◌, ◌-◌, min, Bool, true, false, ◌&&◌, ◌||◌, not, List, [], ◌∷◌, filter, length, map, take, drop, slice_range, Option, Some, None, Result, Ok, Err, nat_eq, nat_lt, if◌then◌else◌}
+use Rattle.std.specs.Prelude.{◌≡◌, ◌≤◌, ℕ, zero, suc, ◌+◌, ◌*◌, ◌/◌, ◌%◌, ◌-◌, min, Bool, true, false, ◌&&◌, ◌||◌, not, List, [], ◌∷◌, filter, length, map, take, drop, slice_index, slice_range, Option, Some, None, Result, Ok, Err, nat_eq, nat_lt, if◌then◌else◌}
 use Rattle.byteorder.specs.Endian.{big_number}
 use Rattle.chunk_core.specs.declared.fault.ChunkFault.TheVariants.{DataCut}
 use Rattle.chunk_core.specs.declared.layout.Span.{Span}
@@ -11,8 +11,8 @@ use Rattle.dsd_bits.specs.declared.sound.Sound.{Sound}
 use Rattle.dsd_bits.specs.declared.sound.SoundAt.{SoundAt}
 use Rattle.dsd_bits.specs.declared.sound.SoundAt.TheVariants.{More, Refused, Found}
 use Rattle.dsd_bits.specs.Contents.{Content}
-use Rattle.dsd_bits.specs.Ids.{same_id, FVER, DSD}
-use Rattle.dsd_bits.specs.Limits.{most_bits}
+use Rattle.dsd_bits.specs.Ids.{same_id, FVER, FS, CHNL, CMPR, DSD}
+use Rattle.dsd_bits.specs.Limits.{most_bits, least_rate, greatest_rate}
 use Rattle.dsdiff_core.specs.declared.fault.DsdiffFault.{DsdiffFault}
 use Rattle.dsdiff_core.specs.declared.fault.DsdiffFault.TheVariants.{NotDsdiff, FormCut, Chunk as ChunkFails, NoSound, PartFrame, TooLong}
 use Rattle.dsdiff_core.specs.Fields.{form_size}
@@ -46,6 +46,61 @@ pub record HoldsHead (front : List ℕ) : Type 0 where
   pub no_sound : filter (has_id DSD) before ≡ []
   pub id : take 4 (drop at front) ≡ DSD
   pub whole : at + 12 ≤ length front
+
+-- the chunk, a property of the sound, tells this rate and so many channels, uncompressed
+pub record TellsProperty (property : Chunk) (rate number : ℕ) : Type 0 where
+  -- of the chunks behind its type one each for the rate, the channels' names and the compression
+  pub parts : List Chunk
+  pub are_parts : chunks (drop 4 property.content) parts
+  pub rates : Chunk
+  pub names : Chunk
+  pub kinds : Chunk
+  pub one_rate : filter (has_id FS) parts ≡ rates ∷ []
+  pub one_names : filter (has_id CHNL) parts ≡ names ∷ []
+  pub one_kind : filter (has_id CMPR) parts ≡ kinds ∷ []
+  -- what their data say, within the limits
+  pub rate_long : 4 ≤ length rates.content
+  pub rate_is : rate ≡ big_number 4 rates.content
+  pub rate_low : least_rate ≤ rate
+  pub rate_high : rate ≤ greatest_rate
+  pub number_is : number ≡ big_number 2 names.content
+  pub some_channel : 1 ≤ number
+  pub six_channels : number ≤ 6
+  pub names_long : 2 + 4 * number ≤ length names.content
+  pub raw : take 4 kinds.content ≡ DSD
+
+-- the front of a file tells of this sound: a form, in it chunks of which none is a sound, and the head of one
+pub record TellsSound (front : List ℕ) (s : Sound) : Type 0 where
+  -- the form begins
+  pub form : take 4 front ≡ FRM8
+  pub kind : take 4 (drop 12 front) ≡ DSD
+  -- its chunks up to the sound: the version first and once, and one sound property
+  pub at : ℕ
+  pub before : List Chunk
+  pub are_before : chunks (slice_range front 16 at) before
+  pub no_gap : behind 16 before ≡ at
+  pub no_sound : filter (has_id DSD) before ≡ []
+  pub version : Chunk
+  pub later : List Chunk
+  pub version_first : before ≡ version ∷ later
+  pub version_once : filter (has_id FVER) before ≡ version ∷ []
+  pub version_long : 4 ≤ length version.content
+  pub version_main : slice_index version.content 0 ≡ 1
+  pub property : Chunk
+  pub one_property : filter is_property before ≡ property ∷ []
+  pub property_tells : TellsProperty property s.rate s.channels
+  -- the head of the sound, whose bytes end in the form, if not in the front: whole frames of them
+  pub id : take 4 (drop at front) ≡ DSD
+  pub whole_head : at + 12 ≤ length front
+  pub in_form : at + size_at front at ≤ form_size front
+  pub start : s.start ≡ at + 12
+  pub size : s.size ≡ size_at front at
+  pub whole : s.size % s.channels ≡ 0
+  pub count : s.count ≡ 8 * (s.size / s.channels)
+  pub not_long : s.count ≤ most_bits
+  pub order : s.order ≡ None
+
+-- ---- the reading of a front in order
 
 -- the place of the first head of a sound among chunks from a place on, in a form of this size and in at most so many steps; none where more bytes are wanted
 unfoldable pub seek_for : ℕ → ℕ → List ℕ → ℕ → Result (Option ℕ) DsdiffFault

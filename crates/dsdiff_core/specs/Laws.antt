@@ -4,9 +4,10 @@ use Rattle.dsd_bits.specs.declared.sound.Sound.{Sound}
 use Rattle.dsd_bits.specs.declared.sound.SoundAt.TheVariants.{Found}
 use Rattle.dsd_bits.specs.Contents.{Content}
 use Rattle.dsd_bits.specs.Lacing.{unlaced_all}
+use Rattle.dsd_bits.specs.Sounds.{HasSound}
 use Rattle.dsdiff_core.specs.Fields.{form_size}
 use Rattle.dsdiff_core.specs.Files.{IsDsdiff}
-use Rattle.dsdiff_core.specs.Fronts.{EndsAt, HoldsHead, IsAccepted, sound_at}
+use Rattle.dsdiff_core.specs.Fronts.{EndsAt, HoldsHead, IsAccepted, TellsSound, sound_at}
 
 -- a file holds one recording at most
 abbrev pub OneRecording : Type 0
@@ -21,6 +22,14 @@ OtherSound =
 -- a file that is accepted holds the head of its sound
 abbrev pub SoundHasHead : Type 0
 SoundHasHead = (file : List ℕ) → IsAccepted file → HoldsHead file
+
+-- the reading of a front in order finds a sound exactly where the front tells of it
+abbrev pub FoundIsTold : Type 0
+FoundIsTold = (front : List ℕ) (s : Sound) → (sound_at front ≡ Found s) ↔ TellsSound front s
+
+-- a file that holds a recording tells of its sound
+abbrev pub SoundIsTold : Type 0
+SoundIsTold = (file : List ℕ) (r : Content) → IsDsdiff file r → (s : Sound) × TellsSound file s × HasSound file r s
 
 -- the front of a file, cut where the sound that it tells of starts, tells of the same sound
 abbrev pub SoundEndsFront : Type 0

@@ -71,8 +71,9 @@ pub use closing::{bytes_behind, closes};
 pub use fault::DsdiffFault;
 pub use front::sound_at;
 pub use laws::{
-    accepted_files_have_a_head, bytes_behind_the_form_do_not_matter, bytes_of_sound_do_not_matter,
-    front_ends_at_sound, one_recording,
+    accepted_files_have_a_head, accepted_files_tell_their_sound,
+    bytes_behind_the_form_do_not_matter, bytes_of_sound_do_not_matter, front_ends_at_sound,
+    one_recording, what_is_told_is_found,
 };
 pub use places::{mark_at, place};
 pub use reading::read;

@@ -1,4 +1,5 @@
 pub mod FileLaws
 pub mod FrontLaws
+pub mod ToldLaws
 pub mod ShapeLaws
 pub mod WrittenAgain

@@ -1,15 +1,18 @@
 -- Where the sound of a file stands, as the front of the file tells, and which ends make a file of it.
 use Rattle.std.specs.Prelude.{◌≡◌, ◌≤◌, ℕ, ◌-◌, List, length, Some, Result, Ok, Err, nat_lt, if◌then◌else◌}
+use Rattle.chunk_core.specs.Numbers.{id_at}
 use Rattle.chunk_core.specs.Steps.{◌>>=◌}
 use Rattle.dsd_bits.specs.declared.blocks.BitOrder.{BitOrder}
 use Rattle.dsd_bits.specs.declared.sound.Sound.{Sound}
 use Rattle.dsd_bits.specs.declared.sound.SoundAt.{SoundAt}
 use Rattle.dsd_bits.specs.declared.sound.SoundAt.TheVariants.{More, Refused, Found}
 use Rattle.dsd_bits.specs.Contents.{Content}
+use Rattle.dsd_bits.specs.Ids.{DSD}
+use Rattle.dsd_bits.specs.Limits.{most_bits, least_rate, greatest_rate, block_bytes}
 use Rattle.dsf_core.specs.declared.fault.DsfFault.{DsfFault}
 use Rattle.dsf_core.specs.declared.fault.DsfFault.TheVariants.{HeadCut, DataCut}
-use Rattle.dsf_core.specs.Fields.{rate, channel_number, count, data_size, sound_place, needed}
-use Rattle.dsf_core.specs.Files.{IsDsf}
+use Rattle.dsf_core.specs.Fields.{FMT, DATA, first_size, format_size, version, format, channel_number, rate, bits_per_sample, count, block_size, data_place, data_size, sound_place, needed}
+use Rattle.dsf_core.specs.Files.{IsDsf, bits_of}
 use Rattle.dsf_core.specs.Reading.{chunks_of, order_of}
 
 -- the file holds some recording
@@ -21,7 +24,7 @@ pub record HoldsHead (front : List ℕ) : Type 0 where
   pub fields : 80 ≤ length front
   pub head : sound_place front ≤ length front
 
--- the sound that the fields tell, its bits in this order
+-- the sound that the fields tell, the needed sound bytes, its bits in this order
 abbrev pub sound_told : List ℕ → BitOrder → Sound
 sound_told front order = record {
   rate = rate front;
@@ -31,6 +34,33 @@ sound_told front order = record {
   size = needed front;
   order = Some order;
 }
+
+-- the front of a file tells of this sound: it holds the heads of three chunks and all fields of the second, in the limits
+pub record TellsSound (front : List ℕ) (s : Sound) : Type 0 where
+  -- three chunks, the second and the third of them with all their fields
+  pub first : id_at front 0 ≡ DSD
+  pub first_is : first_size front ≡ 28
+  pub second : id_at front 28 ≡ FMT
+  pub second_long : 52 ≤ format_size front
+  pub third : id_at front (data_place front) ≡ DATA
+  pub third_long : 12 ≤ data_size front
+  pub whole_head : sound_place front ≤ length front
+  -- raw sound of version 1, in the limits
+  pub version_is : version front ≡ 1
+  pub format_is : format front ≡ 0
+  pub some_channel : 1 ≤ channel_number front
+  pub six_channels : channel_number front ≤ 6
+  pub rate_low : least_rate ≤ rate front
+  pub rate_high : rate front ≤ greatest_rate
+  pub order : BitOrder
+  pub order_is : bits_per_sample front ≡ bits_of order
+  pub block_is : block_size front ≡ block_bytes
+  pub not_long : count front ≤ most_bits
+  -- the needed sound bytes stand in the data chunk
+  pub in_chunk : needed front ≤ data_size front - 12
+  pub told : s ≡ sound_told front order
+
+-- ---- the reading of a front in order
 
 -- the sound that the front of a file leads to, or the first fault
 unfoldable pub sound_in : List ℕ → Result Sound DsfFault

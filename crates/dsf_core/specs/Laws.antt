@@ -1,11 +1,12 @@
 -- What the words of the contracts have to do with each other.
-use Rattle.std.specs.Prelude.{◌≡◌, ℕ, List, ◌++◌, length, take}
+use Rattle.std.specs.Prelude.{◌≡◌, ◌↔◌, ℕ, List, ◌++◌, length, take}
 use Rattle.dsd_bits.specs.declared.blocks.BitOrder.{BitOrder}
 use Rattle.dsd_bits.specs.declared.sound.Sound.{Sound}
 use Rattle.dsd_bits.specs.declared.sound.SoundAt.TheVariants.{Found}
 use Rattle.dsd_bits.specs.Contents.{Content}
+use Rattle.dsd_bits.specs.Sounds.{HasSound}
 use Rattle.dsf_core.specs.Files.{IsDsf}
-use Rattle.dsf_core.specs.Fronts.{EndsAtSound, HoldsHead, IsAccepted, sound_at}
+use Rattle.dsf_core.specs.Fronts.{EndsAtSound, HoldsHead, IsAccepted, TellsSound, sound_at}
 
 -- a file holds one recording at most, in one order of bits
 abbrev pub OneRecording : Type 0
@@ -18,6 +19,14 @@ SoundDoesNotMatter = (front rest other : List ℕ) → EndsAtSound front → len
 -- a file that is accepted holds the head of its sound
 abbrev pub SoundHasHead : Type 0
 SoundHasHead = (file : List ℕ) → IsAccepted file → HoldsHead file
+
+-- the reading of a front in order finds a sound exactly where the front tells of it
+abbrev pub FoundIsTold : Type 0
+FoundIsTold = (front : List ℕ) (s : Sound) → (sound_at front ≡ Found s) ↔ TellsSound front s
+
+-- a file that holds a recording tells of its sound
+abbrev pub SoundIsTold : Type 0
+SoundIsTold = (file : List ℕ) (r : Content) (order : BitOrder) → IsDsf file r order → (s : Sound) × TellsSound file s × HasSound file r s
 
 -- the front of a file, cut where the sound that it tells of starts, tells of the same sound
 abbrev pub SoundEndsFront : Type 0

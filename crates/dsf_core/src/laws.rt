@@ -1,7 +1,7 @@
 //! What the words of the contracts have to do with each other. The functions do nothing: a caller's
 //! proof cites what they ensure.
 
-ghost use Rattle.dsf_core.specs.Laws.{OneRecording, SoundDoesNotMatter, SoundEndsFront, SoundHasHead};
+ghost use Rattle.dsf_core.specs.Laws.{FoundIsTold, OneRecording, SoundDoesNotMatter, SoundEndsFront, SoundHasHead, SoundIsTold};
 
 /// A file holds one recording at most, in one order of bits.
 pub fn one_recording()
@@ -18,6 +18,16 @@ pub fn bytes_of_sound_do_not_matter()
 /// more bytes.
 pub fn accepted_files_have_a_head()
     ensures { SoundHasHead }
+{}
+
+/// [`crate::sound_at`] finds a sound exactly where the front tells of it, which is said field by field.
+pub fn what_is_told_is_found()
+    ensures { FoundIsTold }
+{}
+
+/// A file that holds a recording tells of its sound.
+pub fn accepted_files_tell_their_sound()
+    ensures { SoundIsTold }
 {}
 
 /// The front of a file, cut where the sound that it tells of starts, tells of the same sound: the bytes from

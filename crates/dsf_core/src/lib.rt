@@ -52,7 +52,8 @@ mod writing_laws;
 pub use fault::DsfFault;
 pub use front::{closes, sound_at};
 pub use laws::{
-    accepted_files_have_a_head, bytes_of_sound_do_not_matter, front_ends_at_sound, one_recording,
+    accepted_files_have_a_head, accepted_files_tell_their_sound, bytes_of_sound_do_not_matter,
+    front_ends_at_sound, one_recording, what_is_told_is_found,
 };
 pub use reading::read;
 pub use writing::write;

@@ -4,7 +4,7 @@ ghost use Rattle.std.specs.Prelude.{◌≡◌, ◌+◌, ◌<◌, ◌≤◌, ◌^
 ghost use Rattle.device_core.specs.Outlets.{outlet_failures};
 ghost use Rattle.cert_core.specs.Writers.{has_head, is_open, row_length};
 
-use crate::certificates::WORKED;
+use crate::certificates::{NARROW, WORKED};
 use cert_core::{CertFault, CertWriter, Version};
 use cost_core::{LevelSink, SinkFault};
 use device_core::Outlet;
@@ -14,13 +14,6 @@ use std::io::Write;
 use std::test::Fail;
 
 const NEVER: u64 = u64::MAX;
-
-// The worked certificate by the second version. Its rows are cut at the cost 4: the first is 4 and 0, so 0 in eight
-// bytes, one byte for each excess, 4 and 0; the second is 4 and 4, so 4 in eight bytes, and none for an excess.
-const NARROW: [u8; 46] = *b"DSPC\0\x02\0\x02\0\0\0\x01\0\0\0\0\0\x01\
-    \0\0\0\0\0\0\0\0\x01\x04\0\
-    \0\0\0\0\0\0\0\x04\0\
-    \0\0\0\0\0\0\0\x04";
 
 // A certificate of one entry of two rows, and the first and the last byte of what each call writes of it, counted from
 // 1: its head, the start of the entry, both rows, the cost.

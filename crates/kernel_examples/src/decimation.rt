@@ -63,16 +63,18 @@ fn plays_small_channels(rt: HostRuntime) -> Result<(), Fail> {
     Ok(())
 }
 
-// The first sample of 4096 ones by 4096 taps of 1.
-fn sample_of_most_taps(alloc: Global) -> Result<Option<i32>, Fail> {
+// The first sample of 4096 ones by 4096 taps of 1, by a kernel.
+fn sample_of_most_taps(alloc: Global, kernel: Kernel) -> Result<Option<i32>, Fail> {
     let taps = Taps::new(alloc, &[1; 4096], 8, 4095, 0, 16)?;
     let bits = Bits::from_packed(alloc, &[0xff; 512], 4096)?;
-    Ok(decimate(alloc, &taps, &bits)?.first().copied())
+    Ok(decimate_with(alloc, &taps, &bits, kernel)?.first().copied())
 }
 
 #[test]
-fn plays_the_most_taps(rt: HostRuntime) -> Result<(), Fail> {
-    assert!(rt; sample_of_most_taps(rt.alloc())? == Some(4096));
+fn plays_the_most_taps_by_each_kernel(rt: HostRuntime) -> Result<(), Fail> {
+    for kernel in [Kernel::Plain, Kernel::Table, Kernel::Lanes] {
+        assert!(rt; sample_of_most_taps(rt.alloc(), kernel)? == Some(4096));
+    }
     Ok(())
 }
 

@@ -30,20 +30,65 @@ fn agree(alloc: Global, taps: &[i32], factor: u32, delay: u32, count: u16) -> Re
     Ok(kernels_agree(alloc, &taps, &bits)?)
 }
 
+// So many taps.
+fn taps_of(alloc: Global, number: u32) -> Result<Vec<i32>, AllocError> {
+    (1..number + 1)
+        .map(|i| (i * 37 % 101) as i32 - 50)
+        .collect(alloc)
+}
+
 #[test]
-fn plays_the_same_by_each_kernel(rt: HostRuntime) -> Result<(), Fail> {
-    let mut taps = [0; 70];
-    for i in 0..70usize {
-        let number = i as u32 + 1;
-        taps[i] = number as i32 * 37 % 101 - 50;
+fn plays_the_same_at_each_delay(rt: HostRuntime) -> Result<(), Fail> {
+    let taps = taps_of(rt.alloc(), 70)?;
+    for turn in 0..24u32 {
+        let number = 3 * turn + 1;
+        let taps = &taps[..number as usize];
         for delay in 0..number.min(8) {
-            for count in 0..91u16 {
-                let factor = 8 + 8 * (number % 3);
+            for count in 0..8u16 {
                 assert!(rt;
-                    agree(rt.alloc(), &taps[..i + 1], factor, delay, count)?,
-                    "{count} bits by {number} taps, delay {delay}"
+                    agree(rt.alloc(), taps, 8 + 8 * (turn % 3), delay, 13 * count)?,
+                    "{count} times 13 bits by {number} taps, delay {delay}"
                 );
             }
+        }
+    }
+    Ok(())
+}
+
+// How many bytes make a sample, and counts of taps and of bits: windows of a part of a step, of a whole
+// number of steps and of more, and recordings that end with a step, inside one, and inside a byte.
+const STEPS: [u32; 8] = [1, 2, 3, 4, 8, 16, 33, 128];
+
+const NUMBERS: [u32; 3] = [3, 129, 700];
+
+const COUNTS: [usize; 4] = [7, 2048, 3001, 4111];
+
+// Whether all kernels agree on the first bits of some bytes, for each count.
+fn agree_on_counts(alloc: Global, taps: &Taps, bytes: &[u8]) -> Result<bool, Fail> {
+    for count in COUNTS {
+        let bits = Bits::from_packed(alloc, &bytes[..count.div_ceil(8)], count)?;
+        if !kernels_agree(alloc, taps, &bits)? {
+            return Ok(false);
+        }
+    }
+    Ok(true)
+}
+
+#[test]
+fn plays_the_same_at_each_factor(rt: HostRuntime) -> Result<(), Fail> {
+    let alloc = rt.alloc();
+    let mut bytes = Vec::new(alloc);
+    for i in 0..514u32 {
+        bytes.push((i * i * 7 % 251) as u8)?;
+    }
+    for step in STEPS {
+        for number in NUMBERS {
+            let taps = taps_of(alloc, number)?;
+            let taps = Taps::new(alloc, &taps, 8 * step, number / 2, 3, 16)?;
+            assert!(rt;
+                agree_on_counts(alloc, &taps, &bytes)?,
+                "{number} taps, {step} bytes a sample"
+            );
         }
     }
     Ok(())

@@ -59,13 +59,14 @@ fn reasons_and_failures_of_certificates(rt: HostRuntime) -> Result<(), Fail> {
         CertReason::Head,
         CertReason::Length,
         CertReason::Bound,
+        CertReason::Row(3),
         CertReason::Start,
         CertReason::Step(1, 0),
         CertReason::End(0),
         CertReason::Cost,
         CertReason::Extra,
     ];
-    let text = "Cut;Head;Length;Bound;Start;Step 1 0;End 0;Cost;Extra;";
+    let text = "Cut;Head;Length;Bound;Row 3;Start;Step 1 0;End 0;Cost;Extra;";
     assert!(rt; are_told(alloc, &reasons, text)?);
     let checks = [CheckFault::Device, CheckFault::Memory];
     assert!(rt; are_told(alloc, &checks, "Device;Memory;")?);

@@ -50,3 +50,37 @@ fn streams_the_same_samples(rt: HostRuntime) -> Result<(), Fail> {
     assert!(rt; streams(rt.alloc())? == (1, 9, true));
     Ok(())
 }
+
+// Feeds a stream its one byte, f0; how many samples it gave before it was ended.
+fn feed_byte(stream: &mut Stream, made: &mut Vec<i32>) -> Result<usize, AllocError>
+    requires ready { IsStream stream.old }
+    requires fed { (state_of stream.old).fed ≡ 0 }
+    requires count { (state_of stream.old).count ≡ 8 }
+{
+    stream.feed(&[0xf0], made)?;
+    let early = made.len();
+    stream.finish(made)?;
+    Ok(early)
+}
+
+// Whether a stream of one byte by these taps gives these samples, so many of them before it is ended.
+fn streams_byte(
+    alloc: Global,
+    taps: &[i32],
+    delay: u32,
+    (early, samples): (usize, &[i32]),
+) -> Result<bool, Fail> {
+    let taps = Taps::new(alloc, taps, 8, delay, 0, 16)?;
+    let mut stream = Stream::new(alloc, &taps, 8)?;
+    let mut made = Vec::new(alloc);
+    Ok(feed_byte(&mut stream, &mut made)? == early && made.as_slice() == samples)
+}
+
+// At the delay 3 the four ones of f0 have come with the byte: 1 + 2 + 3 + 4. At the delay 8 all eight bits and one
+// behind them are read, which sum to 0, once it is known that none comes.
+#[test]
+fn streams_one_byte(rt: HostRuntime) -> Result<(), Fail> {
+    assert!(rt; streams_byte(rt.alloc(), &[1, 2, 3, 4], 3, (1, &[10]))?);
+    assert!(rt; streams_byte(rt.alloc(), &[1; 9], 8, (0, &[0]))?);
+    Ok(())
+}

@@ -23,7 +23,7 @@ use Rattle.dsf_core.proofs.FrontLaws.{found_leads, other_bytes}
 use Rattle.stream_core.specs.Closing.{Closes, EndsAt}
 use Rattle.stream_core.specs.Files.{HoldsRecording, IsAccepted, LeadsTo}
 use Rattle.stream_core.specs.Reads.{Reads}
-use Rattle.stream_core.proofs.HeadLaws.{never_found}
+use Rattle.stream_core.proofs.HeadLaws.{never_found, told_found}
 
 -- where nothing is left, nothing follows
 nothing_left : (o : Option (List ℕ)) (rest : List ℕ) → IsAtEnd o → o ≡ Some rest → rest ≡ []
@@ -47,9 +47,9 @@ no_order (Some order) none = absurd cc
 -- ---- a DSF file
 module _ (head : List ℕ) (s : Sound) (at : EndsAt head s) (order : BitOrder) (told : s.order ≡ Some order) where
   leads : dsf.sound_at head ≡ Found s
-  leads = subst (λ o. LeadsTo o head s) told at.leads
+  leads = told_found (Some order) head s (subst (λ o. LeadsTo o head s) told at.leads)
 
-  ends : dsf.EndsAtSound head
+  pub ends : dsf.EndsAtSound head
   ends = (s, leads, at.start)
 
   -- no DSDIFF file begins so
@@ -90,7 +90,7 @@ module _ (head : List ℕ) (s : Sound) where
 
 module _ (head : List ℕ) (s : Sound) (at : EndsAt head s) (told : s.order ≡ None) where
   found : dsdiff.sound_at head ≡ Found s
-  found = subst (λ o. LeadsTo o head s) told at.leads
+  found = told_found None head s (subst (λ o. LeadsTo o head s) told at.leads)
 
   pub form_ends_at : dsdiff.EndsAt head s
   form_ends_at = record { found = found; start = at.start }

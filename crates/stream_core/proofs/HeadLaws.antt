@@ -12,8 +12,10 @@ use Rattle.dsd_bits.specs.Sounds.{HasSound, IfFound, IfMore, IfRefused, IsSound}
 use Rattle.dsdiff_core.specs.Files.{IsDsdiff}
 use Rattle.dsdiff_core.specs.Fronts as dsdiff
 use Rattle.dsdiff_core.proofs.OtherSound.{has_head}
+use Rattle.dsdiff_core.proofs.ToldLaws as form_told
 use Rattle.dsf_core.specs.Files.{IsDsf}
 use Rattle.dsf_core.specs.Fronts as dsf
+use Rattle.dsf_core.proofs.ToldLaws as blocks_told
 use Rattle.stream_core.specs.Files.{IsRefused, LeadsTo, TellsSound}
 
 -- ---- a DSF file is no DSDIFF file
@@ -50,6 +52,19 @@ never_more front r order more is =
     let refused : More ≡ Refused = sym more ∙ other_head front long (begins front [] r order long whole) in
     absurd cc
 
+-- ---- what a front tells of is what the reading of its format finds
+abbrev pub IsFound : Option BitOrder → List ℕ → Sound → Type 0
+IsFound None front s = dsdiff.sound_at front ≡ Found s
+IsFound (Some order) front s = dsf.sound_at front ≡ Found s
+
+pub told_found : (o : Option BitOrder) (front : List ℕ) (s : Sound) → LeadsTo o front s → IsFound o front s
+told_found None front s leads = (form_told.found_is_told front s).1 leads
+told_found (Some order) front s leads = (blocks_told.found_is_told front s).1 leads
+
+pub found_told : (o : Option BitOrder) (front : List ℕ) (s : Sound) → IsFound o front s → LeadsTo o front s
+found_told None front s found = (form_told.found_is_told front s).0 found
+found_told (Some order) front s found = (blocks_told.found_is_told front s).0 found
+
 -- ---- by the DSDIFF reading
 pub not_refused : (x : SoundAt) (P : Type 0) → x ≢ Refused → IfRefused x P
 not_refused More P other = tt
@@ -66,7 +81,7 @@ module _ (front : List ℕ) (x : SoundAt) (is : x ≡ dsdiff.sound_at front) whe
       by More is has limits within = tt
       by Refused is has limits within = tt
       by (Found s) is has limits within = record {
-        leads = subst (λ o. LeadsTo o front s) (sym limits.1) (sym is);
+        leads = subst (λ o. LeadsTo o front s) (sym limits.1) (found_told None front s (sym is));
         is_sound = limits.0;
         whole = λ _. limits.2;
         within = within;
@@ -95,7 +110,7 @@ module _ (front : List ℕ) (no_form : (rest : List ℕ) → dsdiff.IsAccepted (
     where
       leads : (o : Option BitOrder) (s : Sound) → IsSome o → dsf.sound_at front ≡ Found s → LeadsTo o front s
       leads None s some e = absurd cc
-      leads (Some order) s some e = e
+      leads (Some order) s some e = found_told (Some order) front s e
 
       is_some : (o : Option BitOrder) → IsSome o → o ≡ None → ⊥
       is_some None some e = absurd cc

@@ -20,22 +20,23 @@ use Rattle.player_core.proofs.SoundLaws.{file_has_size, frames_fill}
 use Rattle.wave_core.specs.Sizes.{riff_size}
 use Rattle.stream_core.specs.Closing.{Closes, EndsAt}
 use Rattle.stream_core.specs.Faults.{IsFromOutside}
-use Rattle.stream_core.specs.Files.{HoldsRecording, IsAccepted, IsFrontFault, IsRefused, LeadsTo, TellsSound}
+use Rattle.stream_core.specs.Files.{HoldsRecording, IsAccepted, IsFrontFault, IsRefused, TellsSound}
 use Rattle.stream_core.specs.Pieces.{IsSoundFault, PlaysFront, PlaysSound}
 use Rattle.stream_core.specs.Playing.{OnlyFromOutside, PlaysBy, PlaysFile, PlaysGiven, PlaysRead, Stands, WritesFront}
 use Rattle.stream_core.specs.Reads.{Reads}
 use Rattle.stream_core.specs.Wave.{OpensWave, file_size, header_of, pad_of}
 use Rattle.stream_core.specs.declared.fault.StreamFault.{StreamFault}
 use Rattle.stream_core.specs.declared.fault.StreamFault.TheVariants.{FileRefused, RateNotDivided, TooLarge, ReadFailed, WriteFailed, TurnLimit, Memory}
+use Rattle.stream_core.proofs.HeadLaws.{IsFound, found_told, told_found}
 use Rattle.stream_core.proofs.PieceLaws.{any_err, front_more, front_nil}
 use Rattle.stream_core.proofs.ReadLaws.{reads_on}
 use Rattle.stream_core.proofs.RestLaws.{front_on}
 
 -- ---- the head, up to the sound
 pub ends_at : (front : List ℕ) (s : Sound) → TellsSound front s → EndsAt (take s.start front) s
-ends_at front s tells = record { leads = by s.order tells.leads; start = sym (length-take-le s.start front tells.within) }
+ends_at front s tells = record { leads = found_told s.order (take s.start front) s (by s.order (told_found s.order front s tells.leads)); start = sym (length-take-le s.start front tells.within) }
   where
-    by : (o : Option BitOrder) → LeadsTo o front s → LeadsTo o (take s.start front) s
+    by : (o : Option BitOrder) → IsFound o front s → IsFound o (take s.start front) s
     by None e = dsdiff.ends_front front s e
     by (Some order) e = dsf.ends_front front s e
 

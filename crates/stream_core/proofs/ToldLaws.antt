@@ -13,18 +13,22 @@ use Rattle.dsd_bits.specs.Ids.{DSD}
 use Rattle.dsd_bits.specs.Sounds.{IfMore}
 use Rattle.dsdiff_core.specs.declared.fault.DsdiffFault.{DsdiffFault}
 use Rattle.dsdiff_core.specs.Fields.{form_size}
+use Rattle.dsdiff_core.specs.Files.{IsDsdiff}
 use Rattle.dsdiff_core.specs.Fronts as dsdiff
 use Rattle.dsdiff_core.specs.Fronts.{seek, size_at}
 use Rattle.dsdiff_core.proofs.FrontEnds as form
 use Rattle.dsdiff_core.proofs.FrontLaws as form_fronts
+use Rattle.dsdiff_core.proofs.ToldLaws as form_told
 use Rattle.dsdiff_core.proofs.LeadLaws.{Sought, number_front, part_front, seek_again}
 use Rattle.dsf_core.specs.Fields.{sound_place}
 use Rattle.dsf_core.specs.Files.{IsDsf}
 use Rattle.dsf_core.specs.Fronts as dsf
 use Rattle.dsf_core.proofs.FrontLaws as blocks
-use Rattle.stream_core.specs.Files.{HoldsRecording, IsAccepted, LeadsTo, TellsSound}
+use Rattle.dsf_core.proofs.ToldLaws as blocks_told
+use Rattle.stream_core.specs.Files.{HoldsRecording, IsAccepted, TellsSound}
+use Rattle.stream_core.specs.Laws.{OneSoundIsTold}
 use Rattle.stream_core.specs.Pace.{IsBeforeSound}
-use Rattle.stream_core.proofs.HeadLaws.{never_found, other_head}
+use Rattle.stream_core.proofs.HeadLaws.{IsFound, dsdiff_found, dsf_found, never_found, other_head, told_found}
 
 same_sound : (s t : Sound) → (let x : SoundAt = Found s in x) ≡ Found t → s ≡ t
 same_sound s t e = cc
@@ -135,13 +139,38 @@ other_blocks front rest s t e f =
     absurd cc
 
 pub told_once : (front rest : List ℕ) (s t : Sound) → TellsSound front s → TellsSound (front ++ rest) t → t ≡ s
-told_once front rest s t tells later = by s.order t.order tells.leads later.leads
+told_once front rest s t tells later = by s.order t.order (told_found s.order front s tells.leads) (told_found t.order (front ++ rest) t later.leads)
   where
-    by : (o p : Option BitOrder) → LeadsTo o front s → LeadsTo p (front ++ rest) t → t ≡ s
+    by : (o p : Option BitOrder) → IsFound o front s → IsFound p (front ++ rest) t → t ≡ s
     by None None e f = form_once front rest s t e f
     by None (Some p) e f = absurd (other_form front rest s t e f)
     by (Some o) None e f = absurd (other_blocks front rest s t e f)
     by (Some o) (Some p) e f = dsf_once front rest s t e f
+
+-- ---- a file that holds a recording
+form_tells : (file : List ℕ) (r : Content) → IsDsdiff file r → (s : Sound) × TellsSound file s
+form_tells file r h =
+    let told = form_told.sound_is_told file r h in
+    let s : Sound = told.0 in
+    let is : Found s ≡ dsdiff.sound_at file = sym ((form_told.found_is_told file s).1 told.1) in
+    (s, dsdiff_found file (Found s) is (form_fronts.if_found file (Found s) is) (form_fronts.in_limits file (Found s) is) (form_fronts.inside file (Found s) is))
+
+blocks_tell : (file : List ℕ) (r : Content) (order : BitOrder) → IsDsf file r order → (s : Sound) × TellsSound file s
+blocks_tell file r order h =
+    let told = blocks_told.sound_is_told file r order h in
+    let s : Sound = told.0 in
+    let is : Found s ≡ dsf.sound_at file = sym ((blocks_told.found_is_told file s).1 told.1) in
+    let no_form = form_fronts.if_refused file Refused (sym (other_head file (omega (arith, h.second_long, h.in_file)) h.first)) in
+    (s, dsf_found file no_form (Found s) is (blocks.if_found file (Found s) is) (blocks.in_limits file (Found s) is) (blocks.inside file (Found s) is) (blocks.has_order file (Found s) is))
+
+only : (file : List ℕ) → (s : Sound) × TellsSound file s → (s : Sound) × TellsSound file s × ((t : Sound) → TellsSound file t → t ≡ s)
+only file tells = (tells.0, tells.1, λ t told. told_once file [] tells.0 t tells.1 (subst (λ xs. TellsSound xs t) (sym (append-nil file)) told))
+
+pub one_sound : OneSoundIsTold
+one_sound file accepted = elim accepted.1 [
+  | inl form ↦ only file (form_tells file accepted.0 form)
+  | inr (order, is) ↦ only file (blocks_tell file accepted.0 order is)
+]
 
 -- ---- where more bytes are wanted
 pub form_wanted : (front : List ℕ) (x : SoundAt) → x ≡ dsdiff.sound_at front → IfMore x (dsdiff.HoldsHead front → ⊥) → IfMore x (IsBeforeSound front)
@@ -150,9 +179,9 @@ form_wanted front x is more = by x is more
     by : (x : SoundAt) → x ≡ dsdiff.sound_at front → IfMore x (dsdiff.HoldsHead front → ⊥) → IfMore x (IsBeforeSound front)
     by Refused is more = tt
     by (Found s) is more = tt
-    by More is more = λ rest t accepted tells. of rest t t.order tells.leads
+    by More is more = λ rest t accepted tells. of rest t t.order (told_found t.order (front ++ rest) t tells.leads)
       where
-        of : (rest : List ℕ) (t : Sound) (o : Option BitOrder) → LeadsTo o (front ++ rest) t → length front ≤ t.start
+        of : (rest : List ℕ) (t : Sound) (o : Option BitOrder) → IsFound o (front ++ rest) t → length front ≤ t.start
         of rest t None f = form_later front rest t more f
         of rest t (Some o) f = elim (cases_lt (length front) 16) [
           | inl short ↦ omega (arith, short, (dsf_start (front ++ rest) t f).1)
@@ -169,9 +198,9 @@ dsf_wanted front no_form x more = by x more
     by : (x : SoundAt) → IfMore x (dsf.HoldsHead front → ⊥) → IfMore x (IsBeforeSound front)
     by Refused more = tt
     by (Found s) more = tt
-    by More more = λ rest t accepted tells. of rest t accepted t.order tells.leads
+    by More more = λ rest t accepted tells. of rest t accepted t.order (told_found t.order (front ++ rest) t tells.leads)
       where
-        of : (rest : List ℕ) (t : Sound) → IsAccepted (front ++ rest) → (o : Option BitOrder) → LeadsTo o (front ++ rest) t → length front ≤ t.start
+        of : (rest : List ℕ) (t : Sound) → IsAccepted (front ++ rest) → (o : Option BitOrder) → IsFound o (front ++ rest) t → length front ≤ t.start
         of rest t accepted None f = absurd (never rest t accepted.0 accepted.1 f)
         of rest t accepted (Some o) f = dsf_later front rest t more f
 

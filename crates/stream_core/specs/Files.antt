@@ -2,7 +2,6 @@
 use Rattle.std.specs.Prelude.{◌≡◌, ℕ, ◌%◌, ◌≤◌, ◌⊎◌, List, ◌++◌, length, Option, Some, None, IfSome, ⊤}
 use Rattle.dsd_bits.specs.declared.blocks.BitOrder.{BitOrder}
 use Rattle.dsd_bits.specs.declared.sound.Sound.{Sound}
-use Rattle.dsd_bits.specs.declared.sound.SoundAt.TheVariants.{Found}
 use Rattle.dsd_bits.specs.Contents.{Content}
 use Rattle.dsd_bits.specs.Sounds.{HasSound, IsSound}
 use Rattle.dsdiff_core.specs.Files.{IsDsdiff}
@@ -24,10 +23,10 @@ IsAccepted file = (r : Content) × HoldsRecording file r
 abbrev pub IsRefused : List ℕ → Type 0
 IsRefused file = (r : Content) → HoldsRecording file r → ⊥
 
--- the front of a DSDIFF file, or where an order is told of a DSF file, leads to this sound
+-- the front of a DSDIFF file, or where an order is told of a DSF file, tells of this sound in its format's words
 abbrev pub LeadsTo : Option BitOrder → List ℕ → Sound → Type 0
-LeadsTo None front s = dsdiff.sound_at front ≡ Found s
-LeadsTo (Some order) front s = dsf.sound_at front ≡ Found s
+LeadsTo None front s = dsdiff.TellsSound front s
+LeadsTo (Some order) front s = dsf.TellsSound front s
 
 -- the front of a file tells of this sound: it stands behind it or in it, and every recording of a file that begins so has it
 pub record TellsSound (front : List ℕ) (s : Sound) : Type 0 where

@@ -6,3 +6,4 @@ pub mod Pieces
 pub mod Closing
 pub mod Playing
 pub mod Pace
+pub mod Laws

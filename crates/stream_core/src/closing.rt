@@ -36,6 +36,7 @@ pub(crate) fn closes<R: Read>(
     ensures ok { IfOk result (Closes R.remaining inlet.old inlet.new head.now sound.now back.old.items) }
     ensures failures { inlet_failures inlet.new ≡ inlet_failures inlet.old + failed_reads result }
     ensures turns { IsErrOf result StreamFault.TurnLimit → inlet_reads inlet.new ≡ limit }
+    ensures most { inlet_reads inlet.new ≤ limit }
     ensures fault { IfErr result IsReadingFault }
 {
     if sound.order.is_some() {

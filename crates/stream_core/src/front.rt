@@ -1,6 +1,6 @@
 //! The front of a file, up to its sound.
 
-ghost use Rattle.std.specs.Prelude.{◌≡◌, ◌+◌, ◌-◌, ◌<◌, ◌^◌, ◌++◌, [], List, ℕ, IfErr, IfOk, IsErrOf, OnOk, length};
+ghost use Rattle.std.specs.Prelude.{◌≡◌, ◌+◌, ◌-◌, ◌<◌, ◌≤◌, ◌^◌, ◌++◌, [], List, ℕ, IfErr, IfOk, IsErrOf, OnOk, length};
 ghost use Rattle.device_core.specs.Inlets.{inlet_failures, inlet_given, inlet_reader, inlet_reads};
 ghost use Rattle.dsd_bits.specs.Sounds.{IfFound, IfMore, IfRefused};
 ghost use Rattle.stream_core.specs.Faults.{StopsReading, failed_reads};
@@ -38,6 +38,7 @@ pub(crate) fn read_front<R: Read>(
     ensures budget { IfOk result (λ s. HasBudget limit inlet.new) }
     ensures failures { inlet_failures inlet.new ≡ inlet_failures inlet.old + failed_reads result }
     ensures turns { IsErrOf result StreamFault.TurnLimit → inlet_reads inlet.new ≡ limit }
+    ensures most { inlet_reads inlet.new ≤ limit }
     ensures fault { IfErr result (IsFrontFault (R.remaining (inlet_reader inlet.old))) }
     ensures stopped { IfErr result (λ f. StopsReading f → GivesNone (R.remaining (inlet_reader inlet.old)) (inlet_given inlet.old) (inlet_given inlet.new)) }
 {

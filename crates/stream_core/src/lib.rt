@@ -10,7 +10,8 @@
 //! The words of the contracts:
 //!
 //! - `HoldsRecording file r` says that the file is a DSDIFF or a DSF file that holds this recording, `TellsSound front
-//!   s` that the front of a file tells of this sound (`specs/Files.antt`).
+//!   s` that the front of a file tells of this sound (`specs/Files.antt`), in the words of its format: the chunks that
+//!   lead up to it, or the fields. A file that holds a recording tells of one ([`accepted_files_tell_one_sound`]).
 //! - `PlaysBy d file bytes` says that these bytes are the WAVE text of the file's recording by this decimator,
 //!   `Stands d file fault` that a fault stands (`specs/Playing.antt`).
 //! - `KeepsUp left d front given old new` says that what was written lags behind what was given by at most 131,072
@@ -31,10 +32,12 @@
 mod closing;
 mod fault;
 mod front;
+mod laws;
 mod pieces;
 mod playing;
 mod pulling;
 mod wave;
 
 pub use fault::StreamFault;
+pub use laws::accepted_files_tell_one_sound;
 pub use playing::play;

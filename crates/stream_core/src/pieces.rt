@@ -50,6 +50,7 @@ pub(crate) fn play_sound<R: Read, W: Write>(
     ensures read_failed { inlet_failures inlet.new ≡ inlet_failures inlet.old + failed_reads result }
     ensures write_failed { outlet_failures outlet.new ≡ outlet_failures outlet.old + failed_writes result }
     ensures turns { IsErrOf result StreamFault.TurnLimit → inlet_reads inlet.new ≡ limit }
+    ensures most { inlet_reads inlet.new ≤ limit }
 {
     let mut frames = Vec::new(alloc);
     let mut player = Player::new(alloc, taps, *sound)?;
@@ -138,6 +139,7 @@ fn play_rest<R: Read, W: Write>(
     ensures read_failed { inlet_failures inlet.new ≡ inlet_failures inlet.old + failed_reads result }
     ensures write_failed { outlet_failures outlet.new ≡ outlet_failures outlet.old + failed_writes result }
     ensures turns { IsErrOf result StreamFault.TurnLimit → inlet_reads inlet.new ≡ limit }
+    ensures most { inlet_reads inlet.new ≤ limit }
 {
     let mut left = wanted;
     while left > 0 {
@@ -176,6 +178,7 @@ fn play_read<R: Read, W: Write>(
     ensures read_failed { inlet_failures inlet.new ≡ inlet_failures inlet.old + failed_reads result }
     ensures write_failed { outlet_failures outlet.new ≡ outlet_failures outlet.old + failed_writes result }
     ensures turns { IsErrOf result StreamFault.TurnLimit → inlet_reads inlet.new ≡ limit }
+    ensures most { inlet_reads inlet.new ≤ limit }
 {
     let count = pull_block(inlet, limit, block)?;
     if count == 0 {

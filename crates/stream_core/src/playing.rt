@@ -12,6 +12,7 @@ ghost use Rattle.stream_core.specs.Reads.{HasBudget};
 use crate::closing::closes;
 use crate::fault::StreamFault;
 use crate::front::read_front;
+use crate::laws::accepted_files_tell_one_sound;
 use crate::pieces::play_sound;
 use crate::pulling::{MOST_READS, new_block};
 use crate::wave::{file_size, put_header, put_pad};
@@ -44,13 +45,17 @@ pub fn play<R: Read, W: Write>(
     // Of a sound that isn't played nothing is written.
     ensures unwritten { IfErr result (λ f. IsBeforeWriting f → outlet_writer outlet.new ≡ outlet_writer outlet.old) }
     ensures front { OnErr result (WritesFront (R.remaining (inlet_reader inlet.old)) taps.now [] (W.contents (outlet_writer outlet.old)) (W.contents (outlet_writer outlet.new))) }
-    // Where the reading stops, what was written lags behind by at most 131,072 bytes of the sound.
+    // Where the reading stops, what was written lags behind by at most 131,072 bytes of the one sound that the
+    // file tells of.
     ensures keeps_up { IfErr result (λ f. StopsReading f → KeepsUp (R.remaining (inlet_reader inlet.old)) taps.now [] (inlet_given inlet.new - inlet_given inlet.old) (W.contents (outlet_writer outlet.old)) (W.contents (outlet_writer outlet.new))) }
     ensures read_failed { inlet_failures inlet.new ≡ inlet_failures inlet.old + failed_reads result }
     ensures write_failed { outlet_failures outlet.new ≡ outlet_failures outlet.old + failed_writes result }
+    // Whatever is answered, there were at most 2^40 reads.
+    ensures reads { inlet_reads inlet.new ≤ inlet_reads inlet.old + 2 ^ 40 }
     ensures turn_limit { IsErrOf result StreamFault.TurnLimit → inlet_reads inlet.new ≡ inlet_reads inlet.old + 2 ^ 40 }
 {
     sound_is_played();
+    accepted_files_tell_one_sound();
     let given = inlet.given();
     let limit = inlet.reads() + MOST_READS;
     let mut block = new_block(alloc)?;
@@ -95,6 +100,7 @@ fn play_found<R: Read, W: Write>(
     ensures read_failed { inlet_failures inlet.new ≡ inlet_failures inlet.old + failed_reads result }
     ensures write_failed { outlet_failures outlet.new ≡ outlet_failures outlet.old + failed_writes result }
     ensures turn_limit { IsErrOf result StreamFault.TurnLimit → inlet_reads inlet.new ≡ limit }
+    ensures most { inlet_reads inlet.new ≤ limit }
 {
     sound_is_played();
     let (head, ahead) = front.split_at(sound.start);

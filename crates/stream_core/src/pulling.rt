@@ -43,6 +43,7 @@ pub(crate) fn pull_block<R: Read>(
     ensures none { IfErr result (λ f. inlet_given inlet.new ≡ inlet_given inlet.old) }
     ensures failures { inlet_failures inlet.new ≡ inlet_failures inlet.old + failed_reads result }
     ensures turns { IsErrOf result StreamFault.TurnLimit → inlet_reads inlet.new ≡ limit }
+    ensures most { inlet_reads inlet.new ≤ limit }
     ensures fault { IfErr result IsReadingFault }
 {
     if inlet.reads() == limit {
@@ -73,6 +74,7 @@ pub(crate) fn read_more<R: Read>(
     ensures none { IfErr result (λ f. StopsReading f → inlet_given inlet.new ≡ inlet_given inlet.old) }
     ensures failures { inlet_failures inlet.new ≡ inlet_failures inlet.old + failed_reads result }
     ensures turns { IsErrOf result StreamFault.TurnLimit → inlet_reads inlet.new ≡ limit }
+    ensures most { inlet_reads inlet.new ≤ limit }
     ensures fault { IfErr result IsReadingFault }
 {
     let count = pull_block(inlet, limit, block)?;
@@ -97,6 +99,7 @@ pub(crate) fn read_until<R: Read>(
     ensures read { OnOk result (ReadsUntil R.remaining inlet.old inlet.new bytes.old.items bytes.new.items wanted) }
     ensures failures { inlet_failures inlet.new ≡ inlet_failures inlet.old + failed_reads result }
     ensures turns { IsErrOf result StreamFault.TurnLimit → inlet_reads inlet.new ≡ limit }
+    ensures most { inlet_reads inlet.new ≤ limit }
     ensures fault { IfErr result IsReadingFault }
 {
     while (bytes.len() as u64) < wanted {
@@ -122,6 +125,7 @@ pub(crate) fn read_to_end<R: Read>(
     ensures read { OnOk result (ReadsToEnd R.remaining inlet.old inlet.new) }
     ensures failures { inlet_failures inlet.new ≡ inlet_failures inlet.old + failed_reads result }
     ensures turns { IsErrOf result StreamFault.TurnLimit → inlet_reads inlet.new ≡ limit }
+    ensures most { inlet_reads inlet.new ≤ limit }
     ensures fault { IfErr result IsReadingFault }
 {
     loop {

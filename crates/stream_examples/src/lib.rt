@@ -8,6 +8,8 @@ mod growths;
 #[cfg(test)]
 mod long_sounds;
 #[cfg(test)]
+mod lying_sizes;
+#[cfg(test)]
 mod played;
 #[cfg(test)]
 mod refused;

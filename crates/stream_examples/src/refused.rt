@@ -1,7 +1,9 @@
 //! What is refused before anything is read, before anything is written, and for the file's sake.
 
 use crate::played::{Played, play_by, plays};
-use fixtures::files::{DSF_FRONT, FILE, MONO, RATE, RAW, file_of, marked, marked_with, one_bit};
+use fixtures::files::{
+    DSF_FRONT, FILE, MONO, RATE, RAW, WAVE, file_of, marked, marked_with, one_bit,
+};
 use fixtures::projects::{DECIMATE, Numbers, SPLICE, project};
 use fixtures::waves::sample;
 use std::alloc::{AllocError, Global};
@@ -35,45 +37,45 @@ fn a_project_is_refused_before_the_first_read(rt: HostRuntime) -> Result<(), Fai
     Ok(())
 }
 
-// Whether a file is refused for this fault, read by 1, by 7 and by 4096 bytes, and no more than so many bytes were
-// written.
+// Whether a file is refused for this fault, read by 1, by 7 and by 4096 bytes, and what was written is a front of
+// these bytes.
 fn is_refused(
     alloc: Global,
     text: &str,
     file: &[u8],
     expected: &str,
-    written: usize,
+    wave: &[u8],
 ) -> Result<bool, AllocError> {
     let by_1 = is_played(
         alloc,
         play_by(alloc, text.as_bytes(), file, 1),
         expected,
-        written,
+        wave,
     );
     let by_7 = is_played(
         alloc,
         play_by(alloc, text.as_bytes(), file, 7),
         expected,
-        written,
+        wave,
     );
     let by_4096 = is_played(
         alloc,
         play_by(alloc, text.as_bytes(), file, 4096),
         expected,
-        written,
+        wave,
     );
     Ok(by_1? && by_7? && by_4096?)
 }
 
-// Whether playing was refused for this fault, no read or write failed, and at most so many bytes were written.
-fn is_played(
+/// Whether playing was refused for this fault, no read or write failed, and what was written is a front of these bytes.
+pub(crate) fn is_played(
     alloc: Global,
     played: Played,
     expected: &str,
-    written: usize,
+    wave: &[u8],
 ) -> Result<bool, AllocError> {
     let is_refused = played.is_refused(alloc, expected)?;
-    Ok(is_refused && played.failures == (0, 0) && played.bytes.len() <= written)
+    Ok(is_refused && played.failures == (0, 0) && wave.starts_with(&played.bytes))
 }
 
 // The same of a project and a file that were built.
@@ -82,9 +84,9 @@ fn is_built_refused(
     text: Result<String, AllocError>,
     file: Result<Vec<u8>, AllocError>,
     expected: &str,
-    written: usize,
+    wave: &[u8],
 ) -> Result<bool, AllocError> {
-    is_refused(alloc, &text?, &file?, expected, written)
+    is_refused(alloc, &text?, &file?, expected, wave)
 }
 
 // 1024 doesn't divide 2,822,400.
@@ -92,9 +94,9 @@ fn is_built_refused(
 fn a_rate_is_refused_before_the_first_write(rt: HostRuntime) -> Result<(), Fail> {
     let alloc = rt.alloc();
     let text = project(alloc, "[1, 2, 3, 4]", (1024, 3, 0, 16))?;
-    assert!(rt; is_refused(alloc, &text, &FILE, "RateNotDivided", 0)?);
+    assert!(rt; is_refused(alloc, &text, &FILE, "RateNotDivided", &[])?);
     assert!(rt;
-        is_refused(alloc, &text, &FILE[..126], "RateNotDivided", 0)?,
+        is_refused(alloc, &text, &FILE[..126], "RateNotDivided", &[])?,
         "no sound"
     );
     Ok(())
@@ -113,53 +115,57 @@ fn head_of(alloc: Global, (number, count, size): Claim) -> Result<Vec<u8>, Alloc
 // What a head claims.
 type Claim = (u32, u64, u64);
 
-// What a head claims, the numbers of a project, the fault, and how many bytes may be written. A group of blocks has
+// The header of 2,147,483,629 frames of 16 bits of one channel at 352,800 hertz.
+const HEADER: &[u8] =
+    b"RIFF\xfe\xff\xff\xffWAVEfmt \x10\0\0\0\x01\0\x01\0\x20\x62\x05\0\x40\xc4\x0a\0\x02\0\x10\0data\xda\xff\xff\xff";
+
+// What a head claims, the numbers of a project, the fault, and what may be written. A group of blocks has
 // 32,768 bits of each channel in 4096 bytes. `2^36` bits in 6 channels are `2^33` frames of 18 bytes. In one channel
 // of 16 bits 2,147,483,629 frames are `2^32-38` bytes, which with 36 bytes around them are just fewer than `2^32`: the
 // header goes out before the sound is missed. With a bit more there is a frame more.
-const CLAIMS: [(Claim, Numbers, &str, usize); 4] = [
-    ((6, 1 << 36, 51_539_607_564), (8, 3, 0, 24), "TooLarge", 0),
+const CLAIMS: [(Claim, Numbers, &str, &[u8]); 4] = [
+    ((6, 1 << 36, 51_539_607_564), (8, 3, 0, 24), "TooLarge", b""),
     (
         (6, 1 << 36, 51_539_607_564),
         (1024, 3, 0, 24),
         "RateNotDivided",
-        0,
+        b"",
     ),
     (
         (1, 17_179_869_033, 2_147_483_660),
         (8, 3, 0, 16),
         "TooLarge",
-        0,
+        b"",
     ),
     (
         (1, 17_179_869_032, 2_147_483_660),
         (8, 3, 0, 16),
         "FileRefused",
-        44,
+        HEADER,
     ),
 ];
 
 #[test]
 fn a_size_is_refused_before_the_first_write(rt: HostRuntime) -> Result<(), Fail> {
     let alloc = rt.alloc();
-    for (claim, numbers, expected, written) in &CLAIMS {
+    for (claim, numbers, expected, wave) in &CLAIMS {
         let text = project(alloc, "[1, 2, 3, 4]", *numbers);
         let head = head_of(alloc, *claim);
         assert!(rt;
-            is_built_refused(alloc, text, head, expected, *written)?,
+            is_built_refused(alloc, text, head, expected, wave)?,
             "{expected} {claim:?}"
         );
     }
     Ok(())
 }
 
-// Whether `DECIMATE` doesn't play a file, for its own sake, and writes no more than so many bytes.
-fn is_no_file(
+/// Whether `DECIMATE` doesn't play a file, for its own sake, and writes a front of these bytes.
+pub(crate) fn is_no_file(
     alloc: Global,
     file: Result<Vec<u8>, AllocError>,
-    written: usize,
+    wave: &[u8],
 ) -> Result<bool, AllocError> {
-    is_refused(alloc, DECIMATE, &file?, "FileRefused", written)
+    is_refused(alloc, DECIMATE, &file?, "FileRefused", wave)
 }
 
 // The front of `FILE`: nothing, a form's head cut, chunks' heads and data cut, the sound's head cut, and no sound.
@@ -168,35 +174,35 @@ fn a_cut_file_is_refused(rt: HostRuntime) -> Result<(), Fail> {
     let alloc = rt.alloc();
     for end in 0..127 {
         // The header may stand where the sound's head does.
-        let written = if end < 126 { 0 } else { 44 };
+        let wave = if end < 126 { &[] } else { &WAVE[..44] };
         let file = Vec::from_slice(alloc, &FILE[..end]);
-        assert!(rt; is_no_file(alloc, file, written)?, "{end} bytes");
+        assert!(rt; is_no_file(alloc, file, wave)?, "{end} bytes");
     }
     Ok(())
 }
 
-// A place of `FILE`, other bytes there, and how many bytes may be written: another ID of the form; another type; a
+// A place of `FILE`, other bytes there, and what may be written: another ID of the form; another type; a
 // version 2; a property that is no sound's; a rate below 1,000,000 hertz; no channel; a compression; a sound of 100
 // bytes; a form that ends in the sound's head; a form that is longer than the file, which its end shows.
-const CHANGES: [(usize, &[u8], usize); 10] = [
-    (0, b"FORM", 0),
-    (12, b"AIFF", 0),
-    (28, &[2], 0),
-    (44, b"SNX ", 0),
-    (60, &[0, 0, 0xac, 0x44], 0),
-    (76, &[0, 0], 0),
-    (94, b"DST ", 0),
-    (125, &[100], 0),
-    (11, &[110], 0),
-    (11, &[120], 46),
+const CHANGES: [(usize, &[u8], &[u8]); 10] = [
+    (0, b"FORM", b""),
+    (12, b"AIFF", b""),
+    (28, &[2], b""),
+    (44, b"SNX ", b""),
+    (60, &[0, 0, 0xac, 0x44], b""),
+    (76, &[0, 0], b""),
+    (94, b"DST ", b""),
+    (125, &[100], b""),
+    (11, &[110], b""),
+    (11, &[120], &WAVE),
 ];
 
 #[test]
 fn a_changed_file_is_refused(rt: HostRuntime) -> Result<(), Fail> {
     let alloc = rt.alloc();
-    for (place, bytes, written) in &CHANGES {
+    for (place, bytes, wave) in &CHANGES {
         let file = with_bytes(alloc, *place, bytes);
-        assert!(rt; is_no_file(alloc, file, *written)?, "{place} {bytes:?}");
+        assert!(rt; is_no_file(alloc, file, wave)?, "{place} {bytes:?}");
     }
     Ok(())
 }
@@ -224,27 +230,27 @@ fn a_file_of_other_chunks_is_refused(rt: HostRuntime) -> Result<(), Fail> {
     let alloc = rt.alloc();
     let parts: [&[u8]; 3] = [&RATE, &MONO, &RAW];
     assert!(rt;
-        is_no_file(alloc, built(alloc, &[&RATE, &RATE, &MONO, &RAW], b""), 0)?,
+        is_no_file(alloc, built(alloc, &[&RATE, &RATE, &MONO, &RAW], b""), &[])?,
         "two rates"
     );
     assert!(rt;
-        is_no_file(alloc, built(alloc, &[&RATE, &RAW], b""), 0)?,
+        is_no_file(alloc, built(alloc, &[&RATE, &RAW], b""), &[])?,
         "no channels"
     );
     assert!(rt;
-        is_no_file(alloc, built(alloc, &parts, &marked(alloc, 21)?), 46)?,
+        is_no_file(alloc, built(alloc, &parts, &marked(alloc, 21)?), &WAVE)?,
         "a short mark"
     );
     assert!(rt;
-        is_no_file(alloc, built(alloc, &parts, &long_text(alloc)?), 46)?,
+        is_no_file(alloc, built(alloc, &parts, &long_text(alloc)?), &WAVE)?,
         "a long text"
     );
     assert!(rt;
-        is_no_file(alloc, built(alloc, &parts, &SOUND), 46)?,
+        is_no_file(alloc, built(alloc, &parts, &SOUND), &WAVE)?,
         "two sounds"
     );
     assert!(rt;
-        is_no_file(alloc, built(alloc, &parts, &SOUND[..11]), 46)?,
+        is_no_file(alloc, built(alloc, &parts, &SOUND[..11]), &WAVE)?,
         "a head cut"
     );
     Ok(())
@@ -273,29 +279,16 @@ fn pointing(alloc: Global, pointer: u64) -> Result<Vec<u8>, AllocError> {
     Ok(made)
 }
 
-// The same file with fewer bytes.
-fn cut_blocks(alloc: Global, length: usize) -> Result<Vec<u8>, AllocError> {
-    let mut file = one_bit(alloc, b"")?;
-    file.truncate(length);
-    Ok(file)
-}
-
 // A tag begins behind the sound, at the file's end at the latest.
 #[test]
 fn a_dsf_file_without_its_whole_is_refused(rt: HostRuntime) -> Result<(), Fail> {
     let alloc = rt.alloc();
     for pointer in [1, 4187, 4189, u64::MAX] {
         assert!(rt;
-            is_no_file(alloc, pointing(alloc, pointer), 46)?,
+            is_no_file(alloc, pointing(alloc, pointer), &sample([4, 0]))?,
             "to {pointer}"
         );
     }
     assert!(rt; plays(alloc, DECIMATE, &pointing(alloc, 4188)?, &sample([4, 0])));
-    for length in [4, 79, 80, 91, 92, 93, 4187] {
-        assert!(rt;
-            is_no_file(alloc, cut_blocks(alloc, length), 46)?,
-            "{length} bytes"
-        );
-    }
     Ok(())
 }

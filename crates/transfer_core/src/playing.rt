@@ -1,6 +1,6 @@
 //! From a project and a file to a WAVE file: in memory, or from a reader to a writer.
 
-ghost use Rattle.std.specs.Prelude.{◌≡◌, ℕ, ◌+◌, ◌-◌, ◌<◌, ◌^◌, List, IfErr, IfOk, IsErrOf, OnErr};
+ghost use Rattle.std.specs.Prelude.{◌≡◌, ℕ, ◌+◌, ◌-◌, ◌<◌, ◌≤◌, ◌^◌, List, IfErr, IfOk, IsErrOf, OnErr};
 ghost use Rattle.device_core.specs.Inlets.{inlet_failures, inlet_given, inlet_reader, inlet_reads};
 ghost use Rattle.device_core.specs.Outlets.{outlet_failures, outlet_writer};
 ghost use Rattle.transfer_core.specs.Playing.{Plays, played_of};
@@ -14,6 +14,7 @@ use form_core::{Opened, read_any};
 use player_core::wave_of;
 use std::alloc::Global;
 use std::io::{Read, Write};
+use stream_core::accepted_files_tell_one_sound;
 
 /// The WAVE file of a recording: in each frame, for each channel in order, the whole-number convolution
 /// of the channel's stored bits with the project's taps, rounded and clipped by the project's shift and
@@ -45,8 +46,8 @@ pub fn play(alloc: Global, project: &[u8], file: &[u8]) -> Result<Vec<u8>, Fault
 ///
 /// Refusals: `Project`, `NoDecimation`, before the first read; `FileRefused` where the bytes are neither a DSDIFF nor
 /// a DSF file that holds a recording; `RateNotDivided`, `TooLarge`, before the first write; `ReadFailed`,
-/// `WriteFailed`; `TurnLimit` after `2^40` reads; `Memory`. Where several stand, which of them is named is open, but
-/// for a file that [`play`] plays it is none of the file.
+/// `WriteFailed`; `TurnLimit` after `2^40` reads, and whatever is answered there were no more; `Memory`. Where several
+/// stand, which of them is named is open, but for a file that [`play`] plays it is none of the file.
 ///
 /// Of a file that [`play`] plays a front of its WAVE file was then written. After `ReadFailed` and `TurnLimit`, where
 /// more than 131,072 bytes of the sound were given, it holds the header and each frame whose place stands, for every
@@ -68,17 +69,21 @@ pub fn play_stream<R: Read, W: Write>(
     // What is played is refused from outside alone, and a front of it was written.
     ensures cause { IfErr result (OnlyFromOutside (R.remaining (inlet_reader inlet.old)) project.now) }
     ensures front { OnErr result (WritesFront (R.remaining (inlet_reader inlet.old)) project.now (W.contents (outlet_writer outlet.old)) (W.contents (outlet_writer outlet.new))) }
-    // Where the reading stops, what was written lags behind by at most 131,072 bytes of the sound.
+    // Where the reading stops, what was written lags behind by at most 131,072 bytes of the one sound that the
+    // file tells of.
     ensures keeps_up { IfErr result (λ fault. StopsReading fault → KeepsUp (R.remaining (inlet_reader inlet.old)) project.now (inlet_given inlet.new - inlet_given inlet.old) (W.contents (outlet_writer outlet.old)) (W.contents (outlet_writer outlet.new))) }
     // A fault stands that is named.
     ensures refused { IfErr result (StreamStands (R.remaining (inlet_reader inlet.old)) project.now) }
     ensures read_failed { inlet_failures inlet.new ≡ inlet_failures inlet.old + failed_reads result }
     ensures write_failed { outlet_failures outlet.new ≡ outlet_failures outlet.old + failed_writes result }
+    // Whatever is answered, there were at most 2^40 reads.
+    ensures reads { inlet_reads inlet.new ≤ inlet_reads inlet.old + 2 ^ 40 }
     ensures turn_limit { IsErrOf result Fault.TurnLimit → inlet_reads inlet.new ≡ inlet_reads inlet.old + 2 ^ 40 }
     // What comes before the first read, and before the first write.
     ensures unread { SaysNone project.now → inlet_reads inlet.new ≡ inlet_reads inlet.old }
     ensures unwritten { IfErr result (λ fault. IsBeforeWriting fault → outlet_writer outlet.new ≡ outlet_writer outlet.old) }
 {
+    accepted_files_tell_one_sound();
     let taps = decimator_of(alloc, project)?;
     Ok(stream_core::play(alloc, &taps, inlet, outlet)?)
 }

@@ -19,6 +19,11 @@ returns-then-count-eq0-clause-fault g c =
     let read = c.in_ok-count.ensures.read in
     at_end g.R.Read.remaining c.args.inlet.now c.loop-count.inlet c.read_more.new.inlet c.loop-count.front.items read.0 IsRefused c.loop-count.invariant.0 read.1 (omega (arith, read.2, c.if-count-eq0.true)) (c.in_ok-count.ensures.end c.if-count-eq0.true) c.loop-count.invariant.1
 
+pub returns-in-Found-clause-read : goal.returns-in-Found-clause-read
+returns-in-Found-clause-read g c =
+    let read = c.in_ok-count.ensures.read in
+    rw read.3 (reads_on g.R.Read.remaining c.args.inlet.now c.loop-count.inlet c.read_more.new.inlet c.loop-count.front.items read.0 c.loop-count.invariant.0 read.1)
+
 pub returns-in-Refused-clause-fault : goal.returns-in-Refused-clause-fault
 returns-in-Refused-clause-fault g c =
     let read = c.in_ok-count.ensures.read in

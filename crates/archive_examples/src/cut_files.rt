@@ -1,0 +1,60 @@
+//! Files cut at each length: why they hold no recording.
+
+use archive_core::read_any;
+use fixtures::files::{FILE, one_bit};
+use std::alloc::{AllocError, Global};
+use std::test::Fail;
+
+// Lengths, from the first to before the second, and the fault of a file that is cut so. `FILE` has 128 bytes, the last
+// of which is a pad that may be missing.
+const FORM_CUTS: [(usize, usize, &str); 2] = [(0, 16, "UnknownForm"), (16, 127, "Dsdiff FormCut")];
+
+// Of the DSF file of 4188 bytes.
+const BLOCK_CUTS: [(usize, usize, &str); 3] = [
+    (0, 4, "UnknownForm"),
+    (4, 92, "Dsf HeadCut"),
+    (92, 4188, "Dsf DataCut"),
+];
+
+// Whether a file that is cut at each of these lengths is refused for this fault.
+fn is_cut_so(
+    alloc: Global,
+    file: &[u8],
+    (first, end, expected): (usize, usize, &str),
+) -> Result<bool, AllocError> {
+    for length in first..end.min(file.len()) {
+        if !is_unread(alloc, &file[..length], expected)? {
+            return Ok(false);
+        }
+    }
+    Ok(first < end && end <= file.len())
+}
+
+// Whether a file is not read for this fault.
+fn is_unread(alloc: Global, file: &[u8], expected: &str) -> Result<bool, AllocError> {
+    match read_any(alloc, file) {
+        Ok(_) => Ok(false),
+        Err(fault) => Ok(fault.to_string(alloc)?.as_str() == expected),
+    }
+}
+
+#[test]
+fn a_form_may_lack_its_last_pad_alone(rt: HostRuntime) -> Result<(), Fail> {
+    let alloc = rt.alloc();
+    for cut in &FORM_CUTS {
+        assert!(rt; is_cut_so(alloc, &FILE, *cut)?, "{cut:?}");
+    }
+    assert!(rt; read_any(alloc, &FILE[..127]).is_ok());
+    Ok(())
+}
+
+#[test]
+fn blocks_are_read_whole_or_not_at_all(rt: HostRuntime) -> Result<(), Fail> {
+    let alloc = rt.alloc();
+    let file = one_bit(alloc, b"")?;
+    for cut in &BLOCK_CUTS {
+        assert!(rt; is_cut_so(alloc, &file, *cut)?, "{cut:?}");
+    }
+    assert!(rt; read_any(alloc, &file).is_ok());
+    Ok(())
+}

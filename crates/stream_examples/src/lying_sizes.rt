@@ -1,0 +1,197 @@
+//! Files whose sizes and numbers lie, whole and cut at each length, and how far a reader is read.
+
+use crate::played::play_by;
+use crate::refused::{is_no_file, is_played};
+use fixtures::files::{FILE, MONO, RATE, RAW, WAVE, changed, file_of, marked_with, one_bit};
+use fixtures::projects::DECIMATE;
+use fixtures::waves::sample;
+use std::alloc::{AllocError, Global};
+use std::test::Fail;
+
+// Whether a file is refused, and cut at each length too up to so many bytes, all at one read. Shorter than `bare`
+// nothing is written, and else a front of these bytes.
+fn are_no_files(
+    alloc: Global,
+    file: &[u8],
+    (bare, end): (usize, usize),
+    wave: &[u8],
+) -> Result<bool, AllocError> {
+    for length in 0..end.min(file.len()) {
+        let front = if length < bare { b"" } else { wave };
+        let played = play_by(alloc, DECIMATE.as_bytes(), &file[..length], 4096);
+        if !is_played(alloc, played, "FileRefused", front)? {
+            return Ok(false);
+        }
+    }
+    is_no_file(alloc, Vec::from_slice(alloc, file), wave)
+}
+
+// A place of `FILE` and other bytes there: the form's size, that of the version, and the channel number.
+const LIES: [(usize, &[u8]); 4] = [
+    (4, &[0xff; 8]),
+    (20, &[0xff; 8]),
+    (76, &[0xff, 0xff]),
+    (76, &[0, 0]),
+];
+
+// `FILE` with other bytes at a place.
+fn form_with(alloc: Global, (place, bytes): (usize, &[u8])) -> Result<Vec<u8>, Fail> {
+    if place > 100 || bytes.len() > 8 {
+        return Err("a place in the file")?;
+    }
+    Ok(changed(alloc, &FILE, place, bytes)?)
+}
+
+// A form of `2^64-1` bytes has a sound, whose end is missing: a front of the file it would be is written.
+#[test]
+fn forms_that_lie_are_refused(rt: HostRuntime) -> Result<(), Fail> {
+    let alloc = rt.alloc();
+    for lie in &LIES {
+        let file = form_with(alloc, *lie)?;
+        let wave = if lie.0 == 4 { WAVE.as_slice() } else { b"" };
+        assert!(rt;
+            are_no_files(alloc, &file, (126, 128), wave)?,
+            "at {}",
+            lie.0
+        );
+    }
+    Ok(())
+}
+
+// A mark of 22 bytes which tells of a text of `2^32-1`.
+const LONG_TEXT: [u8; 22] = *b"\0\0\0\0\0\0\0\0\0\0\0\0\0\0\0\0\0\0\xff\xff\xff\xff";
+
+#[test]
+fn a_mark_that_lies_is_refused(rt: HostRuntime) -> Result<(), Fail> {
+    let alloc = rt.alloc();
+    let mark = marked_with(alloc, &LONG_TEXT)?;
+    let file = file_of(alloc, &[&RATE, &MONO, &RAW], &[0xf0], &mark)?;
+    assert!(rt; file.len() == 174);
+    assert!(rt; are_no_files(alloc, &file, (126, 174), &WAVE)?);
+    Ok(())
+}
+
+// A place of a DSF file of one bit and eight other bytes there: the size of the second chunk, that of the third, which
+// is 11, the number of bits, which is `2^64-1` and `2^36`, and the pointer to a tag, a byte behind the file's end.
+const BLOCK_LIES: [(usize, [u8; 8]); 5] = [
+    (32, [0xff; 8]),
+    (84, [11, 0, 0, 0, 0, 0, 0, 0]),
+    (64, [0xff; 8]),
+    (64, [0, 0, 0, 0, 0x10, 0, 0, 0]),
+    (20, [0x5d, 0x10, 0, 0, 0, 0, 0, 0]),
+];
+
+// The file of 4188 bytes with other bytes at a place.
+fn blocks_with(alloc: Global, (place, bytes): (usize, [u8; 8])) -> Result<Vec<u8>, Fail> {
+    let file = one_bit(alloc, b"")?;
+    if file.len() != 4188 || place > 100 {
+        return Err("a place in the file")?;
+    }
+    Ok(changed(alloc, &file, place, &bytes)?)
+}
+
+// All but the last are refused before anything is written.
+#[test]
+fn blocks_that_lie_are_refused(rt: HostRuntime) -> Result<(), Fail> {
+    let alloc = rt.alloc();
+    let played = sample([4, 0]);
+    for lie in &BLOCK_LIES {
+        let file = blocks_with(alloc, *lie)?;
+        let wave = if lie.0 == 20 { played.as_slice() } else { b"" };
+        assert!(rt;
+            are_no_files(alloc, &file, (92, 100), wave)?,
+            "at {}",
+            lie.0
+        );
+    }
+    Ok(())
+}
+
+// The file that tells no lie, cut at each length.
+#[test]
+fn blocks_that_are_cut_are_refused(rt: HostRuntime) -> Result<(), Fail> {
+    let alloc = rt.alloc();
+    let file = one_bit(alloc, b"")?;
+    assert!(rt; are_cut(alloc, &file, &sample([4, 0]))?);
+    Ok(())
+}
+
+// Whether a file that is played to these bytes is refused at each lesser length.
+fn are_cut(alloc: Global, file: &[u8], wave: &[u8]) -> Result<bool, AllocError> {
+    for length in 0..file.len() {
+        let front = if length < 92 { b"" } else { wave };
+        let played = play_by(alloc, DECIMATE.as_bytes(), &file[..length], 4096);
+        if !is_played(alloc, played, "FileRefused", front)? {
+            return Ok(false);
+        }
+    }
+    Ok(play_by(alloc, DECIMATE.as_bytes(), file, 4096).gives(wave))
+}
+
+// How a file begins, of which as many bytes follow as make 100,000, and by how many reads of one byte, of 7 and of
+// 4096 playing comes to its answer: a form is told apart by 16 bytes; one whose rate, 44,100 hertz, is refused where
+// the head of its sound stands; a DSF file whose first chunk has another size, by 80 bytes; and `FILE` is played, and
+// nothing read behind it.
+const READS: [(&[u8], [u64; 3], bool); 4] = [
+    (b"RIFF", [16, 3, 1], false),
+    (SLOW, [126, 18, 1], false),
+    (b"DSD \x1d", [80, 12, 1], false),
+    (&FILE, [128, 19, 1], true),
+];
+
+// The front of `FILE` with another rate.
+const SLOW: &[u8] = b"FRM8\0\0\0\0\0\0\0\x74DSD \
+    FVER\0\0\0\0\0\0\0\x04\x01\x05\0\0\
+    PROP\0\0\0\0\0\0\0\x46SND \
+    FS  \0\0\0\0\0\0\0\x04\0\0\xac\x44\
+    CHNL\0\0\0\0\0\0\0\x06\0\x01C000\
+    CMPR\0\0\0\0\0\0\0\x13DSD \x0enot compressed\0\
+    DSD \0\0\0\0\0\0\0\x01\xf0\0";
+
+// Whether a file is played or refused in so many reads.
+fn is_read(
+    alloc: Global,
+    file: &[u8],
+    [by_1, by_7, by_4096]: [u64; 3],
+    plays: bool,
+) -> Result<bool, AllocError> {
+    Ok(
+        ends_in(alloc, file, 1, by_1, plays)?
+            && ends_in(alloc, file, 7, by_7, plays)?
+            && ends_in(alloc, file, 4096, by_4096, plays)?,
+    )
+}
+
+// The same by reads of so many bytes.
+fn ends_in(
+    alloc: Global,
+    file: &[u8],
+    most: usize,
+    reads: u64,
+    plays: bool,
+) -> Result<bool, AllocError> {
+    let played = play_by(alloc, DECIMATE.as_bytes(), file, most.max(1));
+    let ends = if plays {
+        played.gives(&WAVE)
+    } else {
+        played.is_refused(alloc, "FileRefused")?
+    };
+    Ok(ends && played.reads == reads)
+}
+
+// A file of 100,000 bytes that begins so.
+fn long_file(alloc: Global, front: &[u8]) -> Result<Vec<u8>, AllocError> {
+    let mut file = Vec::from_slice(alloc, front)?;
+    file.resize(100_000, 0)?;
+    Ok(file)
+}
+
+#[test]
+fn no_more_is_read_than_tells(rt: HostRuntime) -> Result<(), Fail> {
+    let alloc = rt.alloc();
+    for (front, reads, plays) in &READS {
+        let file = long_file(alloc, front)?;
+        assert!(rt; is_read(alloc, &file, *reads, *plays)?, "{reads:?}");
+    }
+    Ok(())
+}

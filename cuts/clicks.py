@@ -1,8 +1,8 @@
 """What a master clicks at its cuts: what is heard of it less what it should be, told from the master's bits alone.
 
-What it should be is its takes' sounds, put together as the project says: switched where a cut is plain, faded in a
-straight line over a bridge. What the takes' sounds are is said by a reference: all that passes a low-pass, or true
-signals that are known from elsewhere."""
+What it should be is its takes' sounds, put together as the project says: switched where a cut is plain, in the middle
+of its link where it has one, and faded in a straight line over a bridge. What the takes' sounds are is said by a
+reference: all that passes a low-pass, or true signals that are known from elsewhere."""
 from collections.abc import Callable
 from dataclasses import dataclass
 
@@ -20,18 +20,32 @@ PIECE = 1 << 22  # bits of a cue that are compared at a time
 
 @dataclass(frozen=True)
 class Spot:
-    """A cut in the master: its cue before, and where its bridge begins, or the next cue where it has none."""
+    """A cut in the master: its cue before, and where its bridge or link begins, or the next cue where it has none; how
+    many bits either has."""
 
     cue: int
     place: int
     bridge: int
+    link: int = 0
+
+    @property
+    def between(self) -> int:
+        return self.bridge + self.link
+
+
+def length_of(cue: dict) -> int:
+    return int(cue["stop"]) - int(cue["start"])
 
 
 def spots(project: Project) -> list[Spot]:
+    """The cuts in their order."""
     found, place = [], 0
     for number, cue in enumerate(project.cues[:-1]):
-        place += int(cue["stop"]) - int(cue["start"])
-        found.append(Spot(number, place, project.bridge(number)))
+        place += length_of(cue)
+        if project.is_link(number + 1):
+            found.append(Spot(number, place, 0, length_of(project.cues[number + 1])))
+        elif not project.is_link(number):
+            found.append(Spot(number, place, project.bridge(number)))
         place += project.bridge(number)
     return found
 
@@ -80,14 +94,22 @@ def faded(project: Project, reference: Reference, spot: Spot, first: int, stop: 
     return np.where(at < 0, before, np.where(at < spot.bridge, line, after))
 
 
+def linked(project: Project, number: int) -> tuple[int, int]:
+    """How many bits of the links before and behind it sound like a cue."""
+    early = length_of(project.cues[number - 1]) if project.is_link(number - 1) else 0
+    late = length_of(project.cues[number + 1]) if project.is_link(number + 1) else 0
+    return early - early // 2, late // 2
+
+
 def ideal(project: Project, reference: Reference, first: int, stop: int) -> np.ndarray:
     """What the master should be from one place to another; 0 outside of it."""
     found = np.zeros((project.count, stop - first))
     place = 0
     for number, cue in enumerate(project.cues):
-        length = int(cue["stop"]) - int(cue["start"])
-        low, high = max(place, first), min(place + length, stop)
-        if low < high:
+        length = length_of(cue)
+        early, late = linked(project, number)
+        low, high = max(place - early, first), min(place + length + late, stop)
+        if low < high and not project.is_link(number):
             offset = int(cue["start"]) - place
             found[:, low - first : high - first] = reference(int(cue["take"]), low + offset, high + offset)
         place += length + project.bridge(number)
@@ -101,7 +123,7 @@ def ideal(project: Project, reference: Reference, first: int, stop: int) -> np.n
 
 def errors(hearing: Hearing, project: Project, master: Take, spot: Spot, reference: Reference) -> np.ndarray:
     """The master less what it should be, around the middle of a cut, a row for each channel."""
-    first = spot.place + spot.bridge // 2 - hearing.size // 2
+    first = spot.place + spot.between // 2 - hearing.size // 2
     stop = first + hearing.size
     return master.signs(first, stop) - ideal(project, reference, first, stop)
 
@@ -111,7 +133,7 @@ def levels(
 ) -> list[tuple[float, float]]:
     """The click of a cut in each channel: peak and A-weighted energy in dB."""
     rows = errors(hearing, project, master, spot, reference)
-    return [hearing.levels(it, spot.bridge // 2) for it in rows]
+    return [hearing.levels(it, spot.between // 2) for it in rows]
 
 
 def stretch(
@@ -127,7 +149,7 @@ def wrong_cue(project: Project, master: Take) -> int | None:
     """The first cue whose bits the master doesn't hold at their place."""
     place = 0
     for number, cue in enumerate(project.cues):
-        start, length = int(cue["start"]), int(cue["stop"]) - int(cue["start"])
+        start, length = int(cue["start"]), length_of(cue)
         for at in range(0, length, PIECE):
             count = min(PIECE, length - at)
             if place + at + count > master.bits:

@@ -12,10 +12,12 @@ from pathlib import Path
 
 import numpy as np
 
-from continuing import continued, let_in, past_of, spectra, turns
+import spectra
+from continuing import continued, past_of, turns
 from hearing import Hearing, decibels
 from material import modulators
 from owing import GUESSED, sounds
+from spectra import let_in
 from takes import Take
 
 TRIED = 8  # modulators of each direction, twice as many where there are few places
@@ -137,20 +139,17 @@ def bumps(length: int) -> tuple[np.ndarray, np.ndarray]:
 
 def ahead_of(errors: np.ndarray, rate: int, reach: int, first: int, stop: int) -> np.ndarray:
     """The spectrum of all errors before a place, for each place of the fade; so many errors are the first take's."""
-    return spectra(errors[: reach + stop], rate, reach + first)[:, : stop - first]
+    return spectra.ahead(errors[: reach + stop], turns(rate), reach + first)[:, : stop - first]
 
 
 def behind_of(errors: np.ndarray, rate: int, first: int, stop: int) -> np.ndarray:
-    """The spectrum of all errors from a place on, for each place of the fade; the second take's come last. Seen from
-    behind times are turned, and the place itself is one bit away."""
-    turned = errors[first:][::-1]
-    seen = spectra(turned, rate, len(turned) - (stop - first) + 1)[:, ::-1]
-    return np.conj(seen) * np.exp(1j * turns(rate))[:, None]
+    """The spectrum of all errors from a place on, for each place of the fade; the second take's come last."""
+    return spectra.behind(errors[first:], turns(rate), stop - first)
 
 
-def numbers_of(spectra_seen: list[np.ndarray]) -> np.ndarray:
+def numbers_of(seen: list[np.ndarray]) -> np.ndarray:
     """Spectra as real numbers: for each place a row for each of the spectra."""
-    return np.stack([np.concatenate([it.real, it.imag]).T for it in spectra_seen], axis=1)
+    return np.stack([np.concatenate([it.real, it.imag]).T for it in seen], axis=1)
 
 
 def meeting(fronts: list[np.ndarray], rears: list[np.ndarray]) -> tuple[int, int, int]:

@@ -4,28 +4,37 @@ from dataclasses import dataclass
 import numpy as np
 
 import bridges
+import links
 import pairs
 from clicks import delay
 from hearing import Hearing
+from links import Link
 from owing import Errors, Owing
 from takes import Take
 
 NEAR = 4096  # pairs that owe most nearly the same
-TRIED = 64  # of these, the quietest ones, whose click is told exactly
+TRIED = 64  # of these, the quietest ones, whose click is told exactly; and so many links
+GAIN = 1.0  # dB that a link gains at least, or there is none
 
 
 @dataclass(frozen=True)
 class Place:
-    """A cut from bit `stop` - 1 of one take to bit `start` of the other, and what each channel clicks: peak and
-    A-weighted energy in dB."""
+    """A cut from bit `stop` - 1 of one take to bit `start` of the other, perhaps with a link between, and what each
+    channel clicks: peak and A-weighted energy in dB."""
 
     stop: int
     start: int
     clicks: list[tuple[float, float]]
+    link: Link | None = None
 
     @property
     def loudest(self) -> float:
         return max(peak for peak, _ in self.clicks)
+
+    @property
+    def between(self) -> int:
+        """Bits of the link."""
+        return self.link.length if self.link else 0
 
 
 @dataclass(frozen=True)
@@ -46,9 +55,14 @@ class Cut:
 
     def __init__(self, hearing: Hearing, owing: Owing, before: Take, after: Take, window: Window):
         self.hearing, self.owing, self.window = hearing, owing, window
-        reach = max(hearing.size // 2, owing.warm + 2 * owing.step)
+        reach = hearing.size // 2
         self.before = Errors(before, window.stop - reach, window.stop + window.stops + reach)
         self.after = Errors(after, window.start - reach, window.start + window.starts + reach)
+        self.bits = [before.bits, after.bits]
+        self.owed = (
+            owing.before(self.before, window.stop, window.stops),
+            owing.after(self.after, window.start, window.starts),
+        )
 
     def place(self, stop: int, start: int) -> Place:
         """The exact click of a cut."""
@@ -56,20 +70,52 @@ class Cut:
         rows = zip(self.before.part(stop - half, stop), self.after.part(start, start + half))
         return Place(stop, start, [self.hearing.levels(np.concatenate(it)) for it in rows])
 
+    def left(self, found: np.ndarray) -> np.ndarray:
+        """What is owed at pairs of places and not made up for: numbers, for each channel a row for each pair."""
+        before, after = self.owed
+        return before[:, found[:, 0]] - after[:, found[:, 1]]
+
     def near(self, count: int) -> list[tuple[int, int]]:
         """So many pairs of places at which both takes owe most nearly the same, the quietest first."""
         window = self.window
-        rows = []
-        for channel in range(len(self.before.values)):
-            before = self.owing.rows(self.before, channel, window.stop, window.stops)
-            after = self.owing.rows(self.after, channel, window.start, window.starts)
-            rows.append(pairs.narrowed(before, after))
-        found = pairs.quietest(rows, pairs.nearest(rows, window.wished, window.most, NEAR), count)
+        found = pairs.nearest(*self.owed, window.wished, window.most, NEAR)
+        peaks = pairs.peaks(self.left(found), self.owing.click)
+        found = found[np.lexsort((found[:, 1], found[:, 0], peaks))[:count]]
         return [(window.stop + i, window.start + j) for i, j in found.tolist()]
 
     def best(self) -> Place:
         """The pair of places whose loudest channel clicks least."""
         return quietest([self.place(*it) for it in self.near(TRIED)])
+
+    def best_linked(self, shortest: int) -> Place:
+        """The same, or a cut with a link of at least so many bits where that clicks less."""
+        plain, found = self.best(), self.linked(shortest)
+        best = quietest(found) if found else plain
+        return best if best.loudest < plain.loudest - GAIN else plain
+
+    def linked(self, shortest: int) -> list[Place]:
+        """The best cuts with a link of at least so many bits."""
+        window, takes = self.window, [self.before, self.after]
+        found = links.parity_pairs(self.owing, *self.owed, window.wished, window.most)
+        found = found[(found[:, 0] >= links.MARGIN) & (found[:, 1] < window.starts - links.MARGIN)]
+        middles = [window.stop + window.stops // 2, window.start + window.starts // 2]
+        spans = links.spans_of(takes, self.bits, middles)
+        places = found + (window.stop, window.start)
+        best = links.best(self.owing, takes, spans, places, self.left(found), shortest).first(TRIED)
+        return [self.with_link(*places[it[0]].tolist(), Link(*it[1:])) for it in best.rows.tolist()]
+
+    def with_link(self, middle: int, start: int, link: Link) -> Place:
+        """The exact click of a cut with a link in its place."""
+        stop, start = middle - link.ahead, start + link.length - link.ahead
+        takes, clicks = (self.before, self.after), []
+        for channel in range(len(self.before.values)):
+            signs = row(takes[link.take], channel, link.first, link.first + link.length)
+            front = self.before.sound(channel, stop, middle)
+            rear = self.after.sound(channel, start - link.length + link.ahead, start)
+            inner = signs - np.concatenate([front, rear])
+            error = self.around(channel, (stop, start), inner, link.length)
+            clicks.append(self.hearing.levels(error, link.ahead))
+        return Place(stop, start, clicks, link)
 
     def bridged(self, places: list[tuple[int, int]], weights: list[int], length: int) -> list[Place]:
         """The same cuts with least bridges: at each pair the middle of the bridge is where it would be cut plain."""
@@ -88,15 +134,21 @@ class Cut:
     def error(self, channel: int, bits: np.ndarray, ends: tuple[int, int], weights: list[int]) -> np.ndarray:
         """The error of a cut with these bits between its ends, its middle in the middle of the bits."""
         (stop, start), length = ends, len(bits)
-        early, half = delay(weights), self.hearing.size // 2 - length // 2
+        early = delay(weights)
         reach = int(np.ceil(early))
         part = np.clip((np.arange(-reach, length) + 1 + early) / (length + 1), 0, 1)
         first, second = (stop - reach, stop + length), (start - length - reach, start)
         sound = (1 - part) * self.before.sound(channel, *first) + part * self.after.sound(channel, *second)
         signs = np.concatenate([self.before.signs[channel, stop - reach - self.before.first :][:reach], bits])
-        front = self.before.part(stop - half, stop - reach)[channel]
+        return self.around(channel, (stop - reach, start), signs - sound, length)
+
+    def around(self, channel: int, ends: tuple[int, int], inner: np.ndarray, length: int) -> np.ndarray:
+        """Errors between two ends and those of the takes around them, the middle of the last ones of a length in the
+        middle."""
+        (stop, start), half = ends, self.hearing.size // 2 - length // 2
+        front = self.before.part(stop - half + len(inner) - length, stop)[channel]
         rear = self.after.part(start, start + self.hearing.size - half - length)[channel]
-        return np.concatenate([front, signs - sound, rear])
+        return np.concatenate([front, inner, rear])
 
 
 def row(errors: Errors, channel: int, first: int, stop: int) -> np.ndarray:

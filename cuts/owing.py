@@ -1,20 +1,27 @@
-"""What a take owes at a place: what the low-pass of `hearing` still says of its error when the take ends there.
+"""What a take owes at a place: what is still heard of its errors when it ends there.
 
-A take's error is what it is more than its sound, and its sound is guessed to be what another low-pass passes. As a
-whole the error lies above the audio band and is not heard, but it is where it ends in its midst: `t` bits from its
-end p there is
+A take's error is what it is more than its sound, and its sound is guessed to be what a low-pass passes. As a whole the
+error lies above the audio band and is not heard, but it is where it ends in its midst: `t` bits from its end p there
+is, `taps` being the low-pass of `hearing`,
 
     owed(p, t) = sum over q < p of taps(p + t - q) error(q)
 
-So a plain cut from place a of one take to place b of another clicks by owed_a(t) - owed_b(t)."""
+So a plain cut from place a of one take to place b of another clicks by owed_a(t) - owed_b(t). Here it is told by the
+spectrum of the errors before p, as seen from there. As nearly all comes of the last hundred bits it is smooth, a
+polynomial of the frequency, and eight numbers a channel tell it."""
 import numpy as np
 from scipy import signal
 
+import spectra
 from hearing import DOWN, Hearing, lowpass
 from takes import Take
 
 GUESSED = (26_000, 34_000)  # Hz: a take's sound is what passes a low-pass that ends here (cuts/README.md says why)
-STEP = 32  # bits between the times for which is told what is owed, at rates below 4 MHz
+LINES = 17
+HIGHEST = 22_400  # Hz: the last line
+NUMBERS = 8
+AROUND = 1024  # bits at 2,822,400 Hz to each side of a place, in which a click is told
+STEP = 16  # such bits between the times at which it is
 
 
 def sounds(
@@ -44,33 +51,41 @@ class Errors:
 
 
 class Owing:
-    """The times of a rate, and how what is owed goes on from a place to the one a step further."""
+    """How spectra at the lines, as seen from a place, become numbers; the less their squares add up to, the less is
+    heard. `click` tells from numbers what is heard around the place, and `moments` the errors' sum and their first
+    moment."""
 
     def __init__(self, hearing: Hearing):
-        self.step = STEP * max(1, hearing.rate // 2_822_400)
-        reach = hearing.half
-        self.count = -(-2 * reach // self.step)
-        self.times = np.arange(self.count) * self.step - reach + self.step // 2
-        lags = self.times[:, None] + self.step - np.arange(self.step)
-        self.fresh = np.where(np.abs(lags) <= reach, hearing.taps[np.clip(lags + reach, 0, 2 * reach)], 0.0).T
-        self.warm = (self.count + 1) * self.step  # places before the first one that are still heard
+        self.rate = hearing.rate
+        self.turns = 2 * np.pi * np.linspace(0, HIGHEST, LINES) / hearing.rate
+        middle = np.arange(-hearing.half, hearing.half + 1)
+        loud = (np.cos(np.outer(self.turns, middle)) @ hearing.taps) * self.turns[1] / np.pi
+        loud[0] /= 2
+        powers = (self.turns / self.turns[-1])[:, None] ** np.arange(NUMBERS) * np.sqrt(loud)[:, None]
+        (even, of_even), (odd, of_odd) = np.linalg.qr(powers[:, ::2]), np.linalg.qr(powers[:, 1::2])
+        none = np.zeros((LINES, NUMBERS // 2))
+        self.ways = np.block([[even, none], [none, odd]]) * np.tile(np.sqrt(loud), 2)[:, None]
+        first = np.linalg.inv(of_even)[0], -np.linalg.inv(of_odd)[0] / self.turns[-1]
+        self.moments = np.stack([np.append(first[0], none[0]), np.append(none[0], first[1])], axis=1)
+        time = np.arange(-AROUND, AROUND + 1, STEP) * hearing.rate / 2_822_400
+        waves = np.exp(1j * np.outer(self.turns, time)) * loud[:, None]
+        self.click = np.linalg.pinv(self.ways) @ np.concatenate([waves.real, -waves.imag])
 
-    def rows(self, errors: Errors, channel: int, first: int, number: int) -> np.ndarray:
-        """A row for each place from `first` on: what a channel owes there at the times."""
-        blocks = -(-number // self.step)
-        part = errors.part(first - self.warm, first + (blocks + 1) * self.step)
-        return self.rows_of(part[channel], blocks)[:number]
+    def numbers(self, seen: np.ndarray) -> np.ndarray:
+        """The numbers of spectra, a row for each column."""
+        return np.concatenate([seen.real, seen.imag]).T @ self.ways
 
-    def rows_of(self, values: np.ndarray, blocks: int) -> np.ndarray:
-        """A step of places at a time: what was owed is heard a step earlier, and what the bits between add."""
-        fronts = np.lib.stride_tricks.sliding_window_view(values, self.step)
-        found = np.empty((blocks, self.step, self.count))
-        rows = np.zeros((self.step, self.count))
-        for block in range(-(self.warm // self.step), blocks):
-            if block >= 0:
-                found[block] = rows
-            start = self.warm + block * self.step
-            added = fronts[start : start + self.step] @ self.fresh
-            added[:, :-1] += rows[:, 1:]
-            rows = added
-        return found.reshape(blocks * self.step, self.count)
+    def before(self, errors: Errors, first: int, number: int) -> np.ndarray:
+        """What a take owes that ends at the places from `first` on: numbers, for each channel a row for each place."""
+        first -= errors.first
+        known = spectra.let_in(errors.values[:, : first + number - 1], self.rate)
+        return np.stack([self.numbers(spectra.ahead(it, self.turns, first)) for it in known])
+
+    def after(self, errors: Errors, first: int, number: int) -> np.ndarray:
+        """What would have to be owed where a take begins at the places from `first` on."""
+        known = spectra.let_in(errors.values[:, first - errors.first :][:, ::-1], self.rate)[:, ::-1]
+        return np.stack([-self.numbers(spectra.behind(it, self.turns, number)) for it in known])
+
+    def bits(self, length: int) -> np.ndarray:
+        """The numbers of each of so many errors of 1, as seen from the middle one."""
+        return self.numbers(np.exp(-1j * np.outer(self.turns, np.arange(length) - length // 2)))

@@ -1,53 +1,53 @@
-"""The pairs of places at which two takes owe most nearly the same, in the channel in which they differ most."""
-from dataclasses import dataclass
+"""Pairs of places at which two takes owe nearly the same, in the channel in which they differ most.
+
+What is owed is given as numbers: for each channel a row for each place."""
+from collections.abc import Callable
 
 import numpy as np
 
 BLOCK = 256  # places of the first take at a time
-KEPT = 1024  # pairs that are kept of a block
-SEEN = 8  # of so many places one shows in which directions that is
-LEFT = 1e-9  # of all that is owed so much, as energy, may be left out where pairs are compared
+
+# Of rows of both takes how far apart they are: a table for each channel.
+Distance = Callable[[np.ndarray, np.ndarray], np.ndarray]
 
 
-@dataclass(frozen=True)
-class Rows:
-    """Of one channel, what both takes owe at each place, by few numbers, and what each of these stands for."""
-
-    before: np.ndarray
-    after: np.ndarray
-    ways: np.ndarray
+def apart(before: np.ndarray, after: np.ndarray) -> np.ndarray:
+    """The squared distance of what is owed."""
+    squares = (before**2).sum(axis=2)[:, :, None] + (after**2).sum(axis=2)[:, None, :]
+    return squares - 2 * before @ after.transpose(0, 2, 1)
 
 
-def narrowed(before: np.ndarray, after: np.ndarray) -> Rows:
-    """The rows of a channel by so few numbers that next to nothing is lost of their distances: those of the directions
-    in which what is owed is largest."""
-    mean = (before.mean(axis=0) + after.mean(axis=0)) / 2
-    before, after = before - mean, after - mean
-    some = np.concatenate([before[::SEEN], after[::SEEN]])
-    sizes, ways = np.linalg.eigh(some.T @ some)
-    kept = np.cumsum(sizes) > LEFT * sizes.sum()
-    return Rows(before @ ways[:, kept], after @ ways[:, kept], ways[:, kept])
+def apart_in_parity(weights: np.ndarray) -> Distance:
+    """The same of rows of whole and broken numbers, each with its weight, when even numbers don't count."""
+
+    def distance(before: np.ndarray, after: np.ndarray) -> np.ndarray:
+        found = np.zeros((len(before), before.shape[1], after.shape[1]))
+        for column, weight in enumerate(weights):
+            left = before[:, :, None, column] - after[:, None, :, column]
+            left -= 2 * np.rint(left / 2)
+            found += weight * left**2
+        return found
+
+    return distance
 
 
-def distances_of(before: np.ndarray, after: np.ndarray) -> np.ndarray:
-    return (before**2).sum(axis=1)[:, None] + (after**2).sum(axis=1) - 2 * before @ after.T
-
-
-def nearest(rows: list[Rows], wished: int, most: int, kept: int) -> np.ndarray:
-    """Pairs (i, j) of places, with j - i - wished within `most`, at which the squared distance of the rows is least, in
-    the channel in which it is largest: so many, the nearest first, and of equal ones the first."""
+def nearest(
+    before: np.ndarray, after: np.ndarray, wished: int, most: int, kept: int, distance: Distance = apart
+) -> np.ndarray:
+    """Pairs (i, j) of places, with j - i - wished within `most`, at which the distance is least, in the channel in
+    which it is largest: so many, the nearest first, and of equal ones the first."""
     distances, pairs = [np.empty(0)], [np.empty((0, 2), np.int64)]
-    places, others = len(rows[0].before), len(rows[0].after)
+    places, others = before.shape[1], after.shape[1]
     for first in range(0, places, BLOCK):
         stop = min(first + BLOCK, places)
         low, high = max(first + wished - most, 0), min(stop + wished + most, others)
         if low >= high:
             continue
-        table = np.max([distances_of(it.before[first:stop], it.after[low:high]) for it in rows], axis=0)
+        table = distance(before[:, first:stop], after[:, low:high]).max(axis=0)
         moved = np.arange(low, high) - np.arange(first, stop)[:, None] - wished
         table[np.abs(moved) > most] = np.inf
         order = table.ravel()
-        best = np.argpartition(order, KEPT)[:KEPT] if order.size > KEPT else np.arange(order.size)
+        best = np.argpartition(order, kept)[:kept] if order.size > kept else np.arange(order.size)
         best = best[np.isfinite(order[best])]
         distances.append(order[best])
         pairs.append(np.stack(np.divmod(best, high - low), axis=1) + (first, low))
@@ -56,10 +56,6 @@ def nearest(rows: list[Rows], wished: int, most: int, kept: int) -> np.ndarray:
     return found[sorting[:kept]]
 
 
-def quietest(rows: list[Rows], pairs: np.ndarray, kept: int) -> np.ndarray:
-    """Of pairs so many whose loudest peak, as far as rows tell it, is least."""
-    peaks = np.zeros(len(pairs))
-    for it in rows:
-        heard = (it.before[pairs[:, 0]] - it.after[pairs[:, 1]]) @ it.ways.T
-        peaks = np.maximum(peaks, np.abs(heard).max(axis=1))
-    return pairs[np.lexsort((pairs[:, 1], pairs[:, 0], peaks))[:kept]]
+def peaks(owed: np.ndarray, click: np.ndarray) -> np.ndarray:
+    """The loudest peak in any channel of what is owed, of each row of the numbers."""
+    return np.abs(owed @ click).max(axis=(0, 2))

@@ -6,9 +6,25 @@ import tomlkit
 
 from takes import Take, alike
 
+MOST_CUES = 256
+LINK = 1e-5  # seconds: a shorter cue between two plain cuts is a link, which has no sound of its own
+
 
 class Refused(Exception):
     """The project can't be used, and why."""
+
+
+def hand_over(one: tomlkit.items.Item, other: tomlkit.items.Item) -> bool:
+    """Lets comments and empty lines behind the keys of a table, which are those before the next table, stand behind
+    another one's instead. Tells whether there are any."""
+    if not isinstance(one, tomlkit.items.Table) or not isinstance(other, tomlkit.items.Table):
+        return False
+    for table in (other, one):
+        tail, body = [], table.value.body
+        while body and isinstance(body[-1][1], (tomlkit.items.Comment, tomlkit.items.Whitespace)):
+            tail.insert(0, body.pop())
+    other.value.body.extend(tail)
+    return bool(tail)
 
 
 class Project:
@@ -42,6 +58,14 @@ class Project:
     def is_line(self, cue: int) -> bool:
         return self.cues[cue].get("target") == "line"
 
+    def is_link(self, cue: int) -> bool:
+        """Whether a cue is a link: of its bits the first half stands for those of the cue before, and the others for
+        those of the cue behind."""
+        if not 0 < cue < len(self.cues) - 1 or self.bridge(cue - 1) or self.bridge(cue):
+            return False
+        length = int(self.cues[cue]["stop"]) - int(self.cues[cue]["start"])
+        return length < LINK * self.rate and not self.is_link(cue - 1)
+
     def length(self) -> int:
         """Bits of a channel of the master."""
         return sum(int(cue["stop"]) - int(cue["start"]) + int(cue.get("bridge", 0)) for cue in self.cues)
@@ -59,6 +83,18 @@ class Project:
             del cue["bridge"]
             cue.pop("target", None)
 
+    def leave_out_links(self) -> None:
+        """Makes plain cuts of those that have links, each in the middle of the link."""
+        for number in reversed(range(len(self.cues))):
+            if self.is_link(number):
+                length = int(self.cues[number]["stop"]) - int(self.cues[number]["start"])
+                stop = int(self.cues[number - 1]["stop"]) + length // 2
+                start = int(self.cues[number + 1]["start"]) - (length - length // 2)
+                if stop <= self.take(number - 1).bits and start >= 0:
+                    hand_over(self.cues[number], self.cues[number - 1])
+                    del self.cues[number]
+                    self.move(number - 1, stop, start)
+
     def add_take(self, name: str) -> int:
         """The number of a take that is added."""
         self.splice["takes"].append(name)
@@ -68,8 +104,8 @@ class Project:
         """Puts a cue behind another."""
         cue = tomlkit.table() if isinstance(self.cues, tomlkit.items.AoT) else tomlkit.inline_table()
         cue.update({"take": take, "start": start, "stop": stop})
-        if isinstance(cue, tomlkit.items.Table):
-            cue.add(tomlkit.nl())
+        if hand_over(self.cues[cut], cue):
+            self.cues[cut].value.body.append((None, tomlkit.nl()))
         self.cues.insert(cut + 1, cue)
 
     def end_with_a_byte(self) -> int:

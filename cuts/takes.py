@@ -1,6 +1,5 @@
 """Takes as signals: a stored 1 is +1, a stored 0 is -1, and outside of a recording there is 0. Only what is asked for
 is read, by workflows/channels.py."""
-import struct
 import sys
 from pathlib import Path
 
@@ -8,6 +7,7 @@ import numpy as np
 
 sys.path.insert(0, str(Path(__file__).resolve().parent.parent / "workflows"))
 import channels  # noqa: E402
+import dsdiffs  # noqa: E402
 
 
 class Take:
@@ -42,19 +42,7 @@ def alike(takes: list[Take]) -> None:
             raise channels.Unread(f"{take.name} has another rate or another number of channels than {takes[0].name}")
 
 
-def chunk(name: bytes, data: bytes) -> bytes:
-    return name + struct.pack(">Q", len(data)) + data + b"\0" * (len(data) % 2)
-
-
 def write_dsdiff(path: Path, rate: int, sounds: list[bytes]) -> None:
     """Writes a DSDIFF file of channels that are given as their bytes, the earliest bit the most significant."""
-    ids = {1: [b"C000"], 2: [b"SLFT", b"SRGT"]}.get(len(sounds), [b"C%03d" % it for it in range(len(sounds))])
     laced = np.stack([np.frombuffer(it, np.uint8) for it in sounds], axis=1).tobytes()
-    property_data = (
-        b"SND "
-        + chunk(b"FS  ", struct.pack(">I", rate))
-        + chunk(b"CHNL", struct.pack(">H", len(sounds)) + b"".join(ids))
-        + chunk(b"CMPR", b"DSD \x0enot compressed\0")
-    )
-    body = chunk(b"FVER", bytes([1, 5, 0, 0])) + chunk(b"PROP", property_data) + chunk(b"DSD ", laced)
-    path.write_bytes(b"FRM8" + struct.pack(">Q", 4 + len(body)) + b"DSD " + body)
+    path.write_bytes(dsdiffs.dsdiff(rate, len(sounds), laced))

@@ -1,5 +1,4 @@
 """Masters of made takes, cut by the built program and judged by its `check`, for the figures of cuts/README.md."""
-import os
 import subprocess
 from dataclasses import dataclass, replace
 from pathlib import Path
@@ -11,25 +10,27 @@ import fading
 import material
 import placing
 from hearing import PASSED, STOPPED, hearing_of
+from program import PROGRAM
 from projects import Project
 from takes import Take, write_dsdiff
 
 SECONDS = 0.4
 CUTS = 8  # in a master
 EDGE = 0.02  # seconds at both ends of a take in which nothing is cut
-PROGRAM = os.environ.get("DSDARC", str(Path(__file__).resolve().parent.parent / "bin" / "dsdarc"))
 REFERENCES = ("to 20 kHz", "to 26 kHz", "true")
 
 
 @dataclass(frozen=True)
 class Way:
-    """How the cuts of a master are made: with bridges of so many bits, moved within a time, or by fades of a time."""
+    """How the cuts of a master are made: with bridges of so many bits, moved within a time, with links or
+    without, or by fades of a time."""
 
     bridge: int = 0
     weights: tuple[int, ...] = (1, 1)
     within: float | None = None
     shift: float = 50e-6
     fade: float | None = None
+    linking: bool = True
 
 
 @dataclass(frozen=True)
@@ -78,9 +79,9 @@ def measured(project: Project, master: Take, made: list[material.Made], predicte
         "true": clicks.known([it.true for it in made]),
     }
     found = []
-    for spot in clicks.spots(project):
+    for number, spot in enumerate(clicks.spots(project)):
         levels = {name: loudest(clicks.levels(hearing, project, master, spot, it)) for name, it in named.items()}
-        found.append(Seen(levels, predicted.get(spot.cue)))
+        found.append(Seen(levels, predicted.get(number)))
     if clicks.wrong_cue(project, master) is not None:
         raise RuntimeError("a cue doesn't hold its take's bits")
     return found
@@ -94,7 +95,7 @@ def tried(folder: Path, asked: material.Asked, made: list[material.Made], way: W
     path.write_text(project_text(names, way, bits, asked.rate, asked.seed), encoding="utf-8")
     project, predicted = Project(path), {}
     if way.within is not None:
-        for number, _, found in placing.place(project, way.within, way.shift):
+        for number, _, found in placing.place(project, way.within, way.shift, way.linking):
             if found is not None:
                 predicted[number] = found.loudest
         project.end_with_a_byte()

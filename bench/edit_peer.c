@@ -1,7 +1,8 @@
 // Cuts a DSDIFF master from DSDIFF takes and writes its certificate, as a C programmer would write it: rows of 64-bit
 // numbers, a byte for each level and state that tells which of the two ways was less, and a plain loop over the states.
-// What it writes is what `dsdarc edit dsdiff` writes of the same project without titles: master and certificate are
-// equal byte by byte.
+// The certificate is of version 2, whose bounds are cut at the cost: once that is known the rows are made again, two at a
+// time, and written. What it writes is what `dsdarc edit dsdiff` writes of the same project without titles: master and
+// certificate are equal byte by byte.
 //
 // edit_peer PLAN MASTER [CERT], where PLAN is what make_project.py writes: the names of the takes, two lines; the number
 // of weights and the weights; the number of cues, and for each its take, start, stop and bridge. It prints what the
@@ -37,7 +38,7 @@ static int number, width, weights[WIDTH];
 // What a search needs, kept from one to the next.
 static int32_t targets[LEVELS + WIDTH - 1], sums[2 * STATES];
 static uint64_t rows[2][STATES];
-static uint8_t decisions[LEVELS * STATES], spelled[8 * STATES], found[LEVELS];
+static uint8_t decisions[LEVELS * STATES], spelled[8 * STATES + 8], found[LEVELS];
 
 static void *room(size_t size) {
     void *made = calloc(size, 1);
@@ -129,35 +130,44 @@ static int is_before(uint32_t a, uint32_t b) {
     return (a & (differs & -differs)) == 0;
 }
 
-// Finds the least bits of the bridge behind a cue in one channel, the earliest first, a byte each, and what they cost.
-static uint64_t search(int at, uint32_t channel, FILE *cert) {
-    const struct cue *cue = &cues[at], *next = cue + 1;
+// What the search of one bridge goes by.
+struct bridge {
+    int levels;
+    uint32_t states, start;
+    const uint8_t *after;
+    uint64_t next;
+};
+
+static struct bridge prepare(const struct cue *cue, uint32_t channel) {
+    const struct cue *next = cue + 1;
     const uint8_t *a = takes[cue->take].bits[channel], *b = takes[next->take].bits[channel];
     int levels = cue->bridge, places = levels + width - 1;
-    uint32_t states = 1u << (width - 1), half = states / 2, start = 0;
-    uint64_t *row = rows[0], *following = rows[1];
+    struct bridge bridge = {levels, 1u << (width - 1), 0, b, next->start};
 
     for (int i = 1; i <= places; i++)
         targets[i - 1] = i <= levels ? (levels + 1 - i) * weighted(a, cue->stop + (uint64_t)i - 1) + i * weighted(b, next->start - (uint64_t)levels + (uint64_t)i - 1)
                                      : (levels + 1) * weighted(b, next->start + (uint64_t)(i - levels) - 1);
-    for (uint32_t code = 0; code < 2 * states; code++) {
+    for (uint32_t code = 0; code < 2 * bridge.states; code++) {
         int32_t sum = 0;
         for (int k = 0; k < width; k++) sum += code >> k & 1 ? weights[k] : -weights[k];
         sums[code] = (levels + 1) * sum;
     }
-    for (int k = width - 1; k > 0; k--) start = 2 * start + (uint32_t)bit_at(a, cue->stop - (uint64_t)k);
-    for (uint32_t q = 0; q < states; q++) row[q] = q == start ? 0 : NO_WAY;
+    for (int k = width - 1; k > 0; k--) bridge.start = 2 * bridge.start + (uint32_t)bit_at(a, cue->stop - (uint64_t)k);
+    return bridge;
+}
 
-    if (cert) put(cert, (uint64_t)at, 2), put(cert, channel, 2), put(cert, (uint64_t)levels, 2);
-    for (int level = 0;; level++) {
-        if (cert) {
-            for (uint32_t q = 0; q < states; q++) {
-                uint64_t turned = __builtin_bswap64(row[q]);
-                memcpy(spelled + 8 * q, &turned, 8);
-            }
-            fwrite(spelled, 8, states, cert);
-        }
-        if (level == levels) break;
+// Begins with no way but from the start state.
+static void begin(uint64_t *row, const struct bridge *bridge, uint64_t most) {
+    for (uint32_t q = 0; q < bridge->states; q++) row[q] = q == bridge->start ? 0 : most;
+}
+
+// Finds the least bits of a bridge, the earliest first, a byte each, and what they cost.
+static uint64_t search(const struct bridge *bridge) {
+    uint32_t states = bridge->states, half = states / 2, end = 0;
+    uint64_t *row = rows[0], *following = rows[1], cost = UINT64_MAX;
+
+    begin(row, bridge, NO_WAY);
+    for (int level = 0; level < bridge->levels; level++) {
         int32_t target = targets[level];
         uint8_t *decision = decisions + (size_t)level * states;
         for (uint32_t q = 0; q < states; q++) {
@@ -171,23 +181,85 @@ static uint64_t search(int at, uint32_t channel, FILE *cert) {
         row = following, following = old;
     }
 
-    uint32_t end = 0;
-    uint64_t cost = UINT64_MAX;
     for (uint32_t q = 0; q < states; q++) {
         uint64_t total = row[q];
         uint32_t state = q;
         for (int i = 0; i < width - 1; i++) {
-            uint32_t code = 2 * state + (uint32_t)bit_at(b, next->start + (uint64_t)i);
-            total += squared(sums[code] - targets[levels + i]);
+            uint32_t code = 2 * state + (uint32_t)bit_at(bridge->after, bridge->next + (uint64_t)i);
+            total += squared(sums[code] - targets[bridge->levels + i]);
             state = code % states;
         }
         if (total < cost || (total == cost && is_before(q, end))) cost = total, end = q;
     }
-    for (int level = levels; level > 0; level--) {
+    for (int level = bridge->levels; level > 0; level--) {
         found[level - 1] = end & 1;
         end = end / 2 + (decisions[(size_t)(level - 1) * states + end] ? half : 0);
     }
-    if (cert) put(cert, cost, 8);
+    return cost;
+}
+
+// Writes the low bytes of what the values of a row exceed the least by. Eight bytes are stored of each, of which the next
+// one takes what isn't its own.
+static inline void spell(const uint64_t *row, uint32_t states, uint64_t least, int size) {
+    for (uint32_t q = 0; q < states; q++) {
+        uint64_t turned = __builtin_bswap64((row[q] - least) << (64 - 8 * size));
+        memcpy(spelled + (size_t)size * q, &turned, 8);
+    }
+}
+
+static void write_row(const uint64_t *row, uint32_t states, FILE *cert) {
+    uint64_t least = UINT64_MAX, most = 0;
+    int size = 0;
+    for (uint32_t q = 0; q < states; q++) {
+        least = row[q] < least ? row[q] : least;
+        most = row[q] > most ? row[q] : most;
+    }
+    while (size < 8 && (most - least) >> 8 * size) size++;
+    put(cert, least, 8), put(cert, (uint64_t)size, 1);
+    switch (size) {
+    case 0: return;
+    case 1: spell(row, states, least, 1); break;
+    case 2: spell(row, states, least, 2); break;
+    case 3: spell(row, states, least, 3); break;
+    case 4: spell(row, states, least, 4); break;
+    case 5: spell(row, states, least, 5); break;
+    case 6: spell(row, states, least, 6); break;
+    case 7: spell(row, states, least, 7); break;
+    default: spell(row, states, least, 8);
+    }
+    fwrite(spelled, (size_t)size, states, cert);
+}
+
+// Makes the rows of a bridge again, no value above what it costs, and writes them. A value that was cut leads to none
+// below the cost, so it makes no difference to the next row.
+static void write_rows(const struct bridge *bridge, uint64_t cost, FILE *cert) {
+    uint32_t states = bridge->states, half = states / 2;
+    uint64_t *row = rows[0], *following = rows[1];
+    begin(row, bridge, cost);
+    write_row(row, states, cert);
+    for (int level = 0; level < bridge->levels; level++) {
+        int32_t target = targets[level];
+        for (uint32_t q = 0; q < states; q++) {
+            uint64_t first = row[q / 2] + squared(sums[q] - target);
+            uint64_t second = row[half + q / 2] + squared(sums[states + q] - target);
+            uint64_t least = second < first ? second : first;
+            following[q] = least < cost ? least : cost;
+        }
+        uint64_t *old = row;
+        row = following, following = old;
+        write_row(row, states, cert);
+    }
+}
+
+// Finds the bridge behind a cue in one channel, and writes its entry.
+static uint64_t join(int at, uint32_t channel, FILE *cert) {
+    struct bridge bridge = prepare(&cues[at], channel);
+    uint64_t cost = search(&bridge);
+    if (cert) {
+        put(cert, (uint64_t)at, 2), put(cert, channel, 2), put(cert, (uint64_t)bridge.levels, 2);
+        write_rows(&bridge, cost, cert);
+        put(cert, cost, 8);
+    }
     return cost;
 }
 
@@ -235,7 +307,7 @@ int main(int words, char **word) {
     if (words == 4) {
         if (!(cert = fopen(word[3], "wb"))) return 2;
         setvbuf(cert, NULL, _IOFBF, 1 << 20);
-        fputs("DSPC", cert), put(cert, 1, 2), put(cert, (uint64_t)width, 2), put(cert, entries, 4);
+        fputs("DSPC", cert), put(cert, 2, 2), put(cert, (uint64_t)width, 2), put(cert, entries, 4);
     }
 
     unsigned __int128 total = 0;
@@ -245,7 +317,7 @@ int main(int words, char **word) {
         uint64_t length = cue->stop - cue->start;
         for (uint32_t c = 0; c < channels; c++) {
             for (uint64_t i = 0; i < length; i++) put_bit(sound, c, place + i, bit_at(takes[cue->take].bits[c], cue->start + i));
-            if (cue->bridge) total += search(k, c, cert);
+            if (cue->bridge) total += join(k, c, cert);
             for (int i = 0; i < cue->bridge; i++) put_bit(sound, c, place + length + (uint64_t)i, found[i]);
         }
         place += length + (uint64_t)cue->bridge;

@@ -10,7 +10,7 @@ import subprocess
 import sys
 import tempfile
 
-TURNING = re.compile(r"bswap|movbe|pshufb")
+TURNING = re.compile(r"bswap|\bmovbe|pshufb")
 JUMP = re.compile(r"j\w+ +([0-9a-f]+) ")
 
 

@@ -9,7 +9,6 @@ one differs. The program is bin/dsdarc, or what DSDARC or --program names."""
 import argparse
 import os
 import shutil
-import struct
 import subprocess
 import sys
 import tempfile
@@ -26,6 +25,8 @@ FOLDER = Path(__file__).resolve().parent
 sys.path[:0] = [str(FOLDER.parent / name) for name in ("workflows", "modulator")]
 import modulators  # noqa: E402
 import waves  # noqa: E402
+from dsdiffs import dsdiff  # noqa: E402
+from program import PROGRAM  # noqa: E402
 
 HERTZ = 1000
 DECIBELS = -6.0
@@ -48,27 +49,12 @@ class Figures:
     late: float
 
 
-def chunk(name: bytes, data: bytes) -> bytes:
-    return name + struct.pack(">Q", len(data)) + data + b"\0" * (len(data) % 2)
-
-
-def write_dsdiff(path: Path, rate: int, sound: bytes) -> None:
-    prop = (
-        b"SND "
-        + chunk(b"FS  ", struct.pack(">I", rate))
-        + chunk(b"CHNL", struct.pack(">H", 1) + b"C000")
-        + chunk(b"CMPR", b"DSD \x0enot compressed")
-    )
-    body = chunk(b"FVER", bytes([1, 5, 0, 0])) + chunk(b"PROP", prop) + chunk(b"DSD ", sound)
-    path.write_bytes(b"FRM8" + struct.pack(">Q", 4 + len(body)) + b"DSD " + body)
-
-
 def make_tone(program: Path, path: Path, rate: int) -> None:
     """Writes the tone, and says how far the modulator went."""
     modulator = modulators.modulator_for(rate)
     words = [modulators.SEED, rate * SECONDS // 8, rate, HERTZ, 10 ** (DECIBELS / 20)]
     sound, largest = modulators.run(program, modulator, rate, words)
-    write_dsdiff(path, rate, sound)
+    path.write_bytes(dsdiff(rate, 1, sound))
     print(f"tone at {rate} Hz: order {modulator.order}, at most {largest} before the quantizer", file=sys.stderr)
 
 
@@ -211,7 +197,7 @@ def print_figures(program: str, filters: list[Path], modulate: Path) -> None:
 def main() -> int:
     words = argparse.ArgumentParser(description=__doc__.split("\n")[0])
     words.add_argument("filters", nargs="*", type=Path, help="projects of this folder")
-    words.add_argument("--program", default=os.environ.get("DSDARC", str(FOLDER.parent / "bin" / "dsdarc")))
+    words.add_argument("--program", default=PROGRAM)
     words.add_argument("--exact", action="store_true", help="compare each sample with a convolution of scipy")
     asked = words.parse_args()
     filters = asked.filters or usual()

@@ -10,31 +10,12 @@ import random
 import struct
 import subprocess
 
-ROOT = os.path.dirname(os.path.dirname(os.path.abspath(__file__)))
-PROGRAM = os.environ.get("DSDARC", os.path.join(ROOT, "bin", "dsdarc"))
+from dsdiffs import chunk, dsdiff, mark
+from program import PROGRAM
+
 RATES = [2_822_400, 2_822_400, 5_644_800, 3_072_000, 11_289_600, 6_144_000]
-IDS = {1: [b"C000"], 2: [b"SLFT", b"SRGT"], 5: [b"MLFT", b"MRGT", b"C   ", b"LS  ", b"RS  "]}
 NAMES = ["{nr:02} track.dff", "{nr:02} - Größe & Maß.dff", "{nr:02} it's \"quoted\".DFF", "{nr:02} [live] {{take}}.dff",
          "{nr:02} 100% $HOME `x`.dff", "-{nr:02} first.dff"]
-
-
-def chunk(name, data):
-    return name + struct.pack(">Q", len(data)) + data + b"\0" * (len(data) % 2)
-
-
-def dsdiff(rate, channels, sound, compression=b"DSD ", more=b"", kept=b""):
-    """A DSDIFF file, with more chunks of the form behind its sound, and kept ones in its property."""
-    ids = IDS.get(channels, [b"C%03d" % channel for channel in range(channels)])
-    prop = (b"SND " + chunk(b"FS  ", struct.pack(">I", rate))
-            + chunk(b"CHNL", struct.pack(">H", channels) + b"".join(ids))
-            + chunk(b"CMPR", compression + b"\x0enot compressed") + kept)
-    body = chunk(b"FVER", bytes([1, 5, 0, 0])) + chunk(b"PROP", prop) + chunk(b"DSD ", sound) + more
-    return b"FRM8" + struct.pack(">Q", 4 + len(body)) + b"DSD " + body
-
-
-def mark(rate, seconds, text):
-    fields = struct.pack(">HBBIiHHHI", 0, 0, seconds, 0, 0, 0, 0, 0, len(text))
-    return chunk(b"DIIN", chunk(b"MARK", fields + text))
 
 
 def write(name, data):
@@ -56,7 +37,7 @@ def good(folder, number, chance):
     rate = RATES[number % len(RATES)]
     channels = [2, 2, 1, 6, 5, 2, 3, 4][number % 8]
     count = 2 ** 11 + chance.randrange(2 ** 15)
-    more = mark(rate, 0, b"one") + chunk(b"COMT", b"\0\0") if number % 7 == 0 else b""
+    more = mark(b"one") + chunk(b"COMT", b"\0\0") if number % 7 == 0 else b""
     place = ["", "Artist A/Disc 1", "Artist A/Disc 2", "Künstler Ö/an album/CD 1"][number % 4]
     name = os.path.join(folder, place, NAMES[number % len(NAMES)].format(nr=number))
     write(name, dsdiff(rate, channels, chance.randbytes(channels * count), more=more))

@@ -13,9 +13,8 @@ import channels
 import restore
 import waves
 from names import KINDS, SETTINGS, TABLE, keep, load, remove, result, shown, sum_line, sum_of
+from program import PROGRAM
 
-ROOT = os.path.dirname(os.path.dirname(os.path.abspath(__file__)))
-PROGRAM = os.environ.get("DSDARC", os.path.join(ROOT, "bin", "dsdarc"))
 ENDINGS = {"dsdiff": "dff", "dsf": "dsf", "dsf8": "dsf"}
 
 

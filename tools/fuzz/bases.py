@@ -6,8 +6,9 @@ import random
 import struct
 from collections import namedtuple
 
+import dsdiffs
+
 RATES = (2_822_400, 5_644_800, 11_289_600)
-DSDIFF_IDS = {1: [b"C000"], 2: [b"SLFT", b"SRGT"], 5: [b"MLFT", b"MRGT", b"C   ", b"LS  ", b"RS  "]}
 LAYOUTS = (1, 2, 3, 4, 6, 7)
 
 # A file to be mutated: its form's family, its bytes, the tree (DSDIFF alone), and where its sound stands.
@@ -17,22 +18,12 @@ Base = namedtuple("Base", "name kind data tree sound")
 def chunk_bytes(node):
     name, *rest = node
     data = rest[0] if len(rest) == 1 else rest[0] + b"".join(map(chunk_bytes, rest[1]))
-    return name + struct.pack(">Q", len(data)) + data + b"\0" * (len(data) % 2)
-
-
-def mark(hours, minutes, seconds, samples, offset, kind, channel, text):
-    fields = struct.pack(">HBBIiHHHI", hours, minutes, seconds, samples, offset, kind, channel, 0, len(text))
-    return (b"MARK", fields + text)
+    return dsdiffs.chunk(name, data)
 
 
 def dsdiff_tree(rng, channels, frames, rate, is_rich):
-    ids = DSDIFF_IDS.get(channels, [b"C%03d" % c for c in range(channels)])
-    property_chunks = [
-        (b"FS  ", struct.pack(">I", rate)),
-        (b"CHNL", struct.pack(">H", channels) + b"".join(ids)),
-        (b"CMPR", b"DSD \x0enot compressed"),
-    ]
-    chunks = [(b"FVER", bytes([1, 5, 0, 0])), (b"PROP", b"SND ", property_chunks)]
+    property_chunks = dsdiffs.property_chunks(rate, channels)
+    chunks = [dsdiffs.VERSION, (b"PROP", b"SND ", property_chunks)]
     if is_rich:
         property_chunks.append((b"ABSS", struct.pack(">HBBI", 1, 2, 3, 4)))
         property_chunks.append((b"LSCO", b"\0\0"))
@@ -46,8 +37,8 @@ def dsdiff_tree(rng, channels, frames, rate, is_rich):
                 b"",
                 [
                     (b"EMID", b"an edit"),
-                    mark(0, 0, 0, 8, 0, 0, 0, b"one"),
-                    mark(1, 2, 3, 4, -5, 1, 2, b""),
+                    (b"MARK", dsdiffs.mark_data(b"one", samples=8)),
+                    (b"MARK", dsdiffs.mark_data(b"", 1, 2, 3, 4, -5, 1, 2)),
                     (b"DIAR", struct.pack(">I", 6) + b"artist"),
                     (b"DITI", struct.pack(">I", 5) + b"title"),
                 ],

@@ -8,11 +8,12 @@ from collections import namedtuple
 
 import bases
 import bridging
+import certificates
 import mutating
 import projects
 import reading
 import waves
-from judging import Failure, cert_size, converted, demand, fault_of, judge_run, told, wave_head
+from judging import Failure, cert_sizes, converted, demand, fault_of, judge_run, told, wave_head
 from running import MEGABYTE
 
 # How much memory a run may take: so many times the bytes that it reads and writes, and so much more.
@@ -20,6 +21,8 @@ TIMES = 4
 MORE = 1 * MEGABYTE
 # The tables of a filter of 4096 taps, for six channels: some 1.1 MB each.
 TABLES = 7 * MEGABYTE // TIMES
+# So many bounds of a certificate are found here.
+MOST_BOUNDS = 20_000
 # No run may take more than this; where it should, it may say that memory was wanting.
 MOST = 1024 * MEGABYTE
 FORMS = ("dsdiff", "dsf", "dsf8")
@@ -310,7 +313,7 @@ def room_of(case, name):
     longest = 8 * max(map(len, case.files.values()))
     bridges = [it for it in plan.bridges if it <= 4096]
     bits = sum(it for it in plan.cues if it <= longest) + sum(bridges)
-    return cert_size(plan.weights, 6, bridges) + 6 * (bits // 8 + 2 * 4096)
+    return cert_sizes(plan.weights, 6, bridges)[1] + 6 * (bits // 8 + 2 * 4096)
 
 
 def put_takes(case, cut, can_change):
@@ -354,10 +357,10 @@ def judge_cut(case, data, form, run, room):
     plan = plan_of(data)
     if plan:
         demand(info["samples"] == sum(plan.cues + plan.bridges), "another length than the cues and bridges have")
-        size = cert_size(plan.weights, info["channels"], plan.bridges)
-        demand(len(case.files["cert"]) == size, "another length of the certificate")
+        least, most = cert_sizes(plan.weights, info["channels"], plan.bridges)
+        demand(least <= len(case.files["cert"]) <= most, "another length of the certificate")
     total = run.out.decode().split()[-1]
-    judge_total(case, data, total)
+    judge_bridges(case, data, total)
     checked = case.run(["check", "project", "master", "cert"], more=room)
     demand(checked.out.decode() == f"accepted total {total}\n", "the own master isn't accepted")
     if case.rng.random() < 0.2:
@@ -365,23 +368,30 @@ def judge_cut(case, data, form, run, room):
         demand(case.get("master") == case.files["master"] and case.get("cert") == case.files["cert"], "cut again it is another")
 
 
-def bits_of(data):
-    """The channels of a recording's file as lists of bits."""
-    info, bit_at = reading.read(data)
-    return [[bit_at(channel, place) for place in range(info["samples"])] for channel in range(info["channels"])]
+def splice_of(case, data):
+    """The weights of a project's text, the bits of its takes, and its cues."""
+    splice, cues = projects.read(data)["splice"], []
+    takes = [reading.bits_of(projects.bytes_of(case.program.folder, name)) for name in splice["takes"]]
+    for it in splice["cue"]:
+        cues.append(bases.Cue(it["take"], it["start"], it["stop"], it.get("bridge", 0), line=it.get("line")))
+    return splice["weights"], takes, cues
 
 
-def judge_total(case, data, total):
-    """Whether the bits of a master are those of the cues, and its bridges cost what is told."""
+def judge_bridges(case, data, total):
+    """Whether the bits of a master are those of the cues, its bridges cost what is told, and its certificate has the
+    bounds that come of them, where these aren't too many to be found here."""
     try:
-        splice = projects.read(data)["splice"]
+        splice = splice_of(case, data)
     except projects.Unknown:
         return
-    takes = [bits_of(projects.bytes_of(case.program.folder, name)) for name in splice["takes"]]
-    cues = [bases.Cue(it["take"], it["start"], it["stop"], it.get("bridge", 0), line=it.get("line")) for it in splice["cue"]]
-    found = bridging.total_of(splice["weights"], takes, cues, bits_of(case.files["master"]))
+    channels = reading.bits_of(case.files["master"])
+    found = bridging.total_of(*splice, channels)
     demand(found is not None, "other bits in a cue")
     demand(str(found) == total, f"the bridges cost {found}")
+    weights, _, cues = splice
+    if len(channels) * sum(it.bridge + 1 for it in cues if it.bridge) * 2 ** (len(weights) - 1) <= MOST_BOUNDS:
+        cert = bridging.written(weights, bridging.entries_of(*splice, channels))
+        demand(case.files["cert"] == cert, "another certificate")
 
 
 def check_case(case):
@@ -408,22 +418,17 @@ def check_case(case):
 
 
 def cut_certificate(case, cut, form):
-    """The front of a certificate: which entry is cut is known."""
-    data = case.files["cert"]
+    """The front of a certificate of either version: which entry is cut is known."""
+    version = case.rng.choice((1, 2))
+    weights, entries = certificates.read(case.files["cert"])
+    data = certificates.spelled(version, weights, entries)
     size = case.rng.randrange(len(data))
-    case.changes.append(f"cut to {size}")
+    case.changes.append(f"version {version} cut to {size}")
     case.put("cert", data[:size])
     if size < 12:
         return "rejected CertHead Cut\n"
-    plan = plan_of(case.files["project"])
-    stop, entry = 12, 0
-    for length in filter(None, plan.bridges):
-        for _ in range(channels_of(cut)):
-            stop += cert_size(plan.weights, 1, [length]) - 12
-            if size < stop:
-                return f"rejected Cert {entry} Cut\n"
-            entry += 1
-    raise Failure("a certificate that is longer than its entries")
+    stops = (len(certificates.spelled(version, weights, entries[: k + 1])) for k in range(len(entries)))
+    return f"rejected Cert {sum(stop <= size for stop in stops)} Cut\n"
 
 
 def lengthened_certificate(case, cut, form):
@@ -433,10 +438,16 @@ def lengthened_certificate(case, cut, form):
 
 
 def changed_certificate(case, cut, form):
-    data, names = mutating.mutate_certificate(case.rng, case.files["cert"])
+    """A certificate of either version, its bounds cut at the cost or not, changed: a plain reading says what it
+    shows."""
+    splice, channels = splice_of(case, case.files["project"]), reading.bits_of(case.files["master"])
+    weights, entries = certificates.read(case.files["cert"])
+    if case.rng.random() < 0.5:
+        entries = bridging.entries_of(*splice, channels)
+    data, names = mutating.mutate_certificate(case.rng, weights, entries)
     case.changes += names
     case.put("cert", data)
-    return None
+    return bridging.verdict(*splice, channels, data)
 
 
 def master_base(case, form):
@@ -531,7 +542,7 @@ def bridge_case(case):
         case.put(name, bases.dsdiff_of(len(bits), sound))
     case.put("project", bases.splice_text(weights, ("a.dff", "b.dff"), cues).encode())
     case.changes = ["bridges"]
-    channels, cert, total = bridging.master(weights, [bits for _, bits in takes], cues)
+    channels, entries, total = bridging.master(weights, [bits for _, bits in takes], cues)
     room = room_of(case, "project")
     run = case.run(["edit", form, "project", "master", "cert"], made=["master", "cert"], more=room)
     if form == "dsdiff" and len(channels[0]) % 8:
@@ -539,14 +550,16 @@ def bridge_case(case):
         return
     demand(run.out == b"edited total %d\n" % total, f"the bridges cost {total}")
     case.demand_made("master", "cert")
-    demand(case.files["cert"] == cert, "another certificate")
-    for number, (found, bits) in enumerate(zip(bits_of(case.files["master"]), channels, strict=True)):
+    demand(case.files["cert"] == bridging.written(weights, entries), "another certificate")
+    for number, (found, bits) in enumerate(zip(reading.bits_of(case.files["master"]), channels, strict=True)):
         demand(found == bits, f"other bits of channel {number}")
-    run = case.run(["check", "project", "master", "cert"], more=room)
-    demand(run.out == b"accepted total %d\n" % total, "not accepted")
+    for cert in certificates.spellings(len(weights), entries):
+        case.put("cert", cert)
+        run = case.run(["check", "project", "master", "cert"], more=room)
+        demand(run.out == b"accepted total %d\n" % total, "not accepted")
 
 
-CHECK_CHANGES = (cut_certificate, lengthened_certificate, changed_certificate, changed_certificate, changed_master, bit_of_master)
+CHECK_CHANGES = (cut_certificate, lengthened_certificate, *[changed_certificate] * 3, changed_master, bit_of_master)
 
 
 # Words and devices.
@@ -621,7 +634,7 @@ def scarce_case(case):
     case.put("project", case.rng.choice(bases.filters()).encode())
     cues = [(0, 0, 8 * frames - 2000, 200, "a title"), (1, 3000, 8 * frames)]
     case.put("cutting", bases.splice_text([1] * case.rng.randint(2, 12), ("a.dff", "b.dff"), cues).encode())
-    # A line needs no room in the takes, so a short text can ask for a certificate of 17 GB.
+    # A line needs no room in the takes, so a short text can ask for a certificate of 10 GB.
     lines = [(0, 0, 16, 4096, None, (12, -12))] * 255 + [(1, 0, 16)]
     case.put("lines", bases.splice_text([1] * 12, ("a.dff", "b.dff"), lines).encode())
     source, form = case.rng.choice(("a.dff", "c.dsf")), case.rng.choice(FORMS)
@@ -637,7 +650,7 @@ def scarce_case(case):
     )
     case.limit_part = case.rng.random()
     run = case.run(words, made=["out", "wave", "master", "cert"])
-    demand("lines" not in words or run.err == MEMORY, "17 GB within a few megabytes")
+    demand("lines" not in words or run.err == MEMORY, "10 GB within a few megabytes")
     if words[0] != "play":
         if run.status == 2:
             case.demand_unmade(run, "out", "master", "cert")

@@ -32,7 +32,7 @@ DONE = {
     "edit": r"edited total \d+\n",
     "check": r"accepted total \d+\n",
 }
-CERT_REASON = r"(Cut|Head|Length|Bound|Start|Step \d+ \d+|End \d+|Cost)"
+CERT_REASON = r"(Cut|Head|Length|Row \d+|Bound|Start|Step \d+ \d+|End \d+|Cost)"
 REJECTED = r"rejected (MasterUnread|MasterShape|MasterLength|MasterMarks|CuedBit \d \d+|CertHead (Cut|Head)"
 REJECTED += rf"|Cert \d+ {CERT_REASON}|CertExtra)\n"
 
@@ -123,7 +123,7 @@ def wave_head(info, factor, width):
     return head, 8 + waves.riff_size(channels, width, frames)
 
 
-def cert_size(weights, channels, bridges):
-    """How long a certificate is."""
-    rows = 8 << (weights - 1)
-    return 12 + channels * sum(14 + rows * (length + 1) for length in bridges if length)
+def cert_sizes(weights, channels, bridges):
+    """How long the certificate of `edit` is: the least where no row has excesses, the most where each has 8 bytes."""
+    rows = [(9 + width * 2 ** (weights - 1)) for width in (0, 8)]
+    return [12 + channels * sum(14 + row * (length + 1) for length in bridges if length) for row in rows]

@@ -2,6 +2,7 @@
 thing. `mutate_*` make some changes in turn and tell their names."""
 import re
 
+import forging
 from bases import chunk_bytes
 
 SIZES = (0, 1, 2, 3, 4, 11, 12, 28, 52, 255, 2**16 - 1, 2**20, 2**24, 2**28, 2**31 - 1, 2**31, 2**32 - 1, 2**32)
@@ -212,15 +213,6 @@ def mutate_recording(rng, base):
 # Of certificates.
 
 
-def set_bound(rng, data):
-    """A number of 8 bytes where a bound or a cost stands, of an entry that begins where the first one does."""
-    places = range(18, len(data) - 7, 8)
-    if not places:
-        return data
-    at = rng.choice(places)
-    return put_number(data, at, 8, size_near(rng, int.from_bytes(data[at : at + 8], "big")), "big")
-
-
 def set_cert_field(rng, data):
     at, size = rng.choice(((0, 4), (4, 2), (6, 2), (8, 4), (12, 2), (14, 2), (16, 2)))
     if at + size > len(data):
@@ -228,12 +220,16 @@ def set_cert_field(rng, data):
     return put_number(data, at, size, size_near(rng, int.from_bytes(data[at : at + size], "big")), "big")
 
 
-CERT_BYTES = (*ANY_BYTES, *[set_bound] * 5, *[set_cert_field] * 3)
+CERT_BYTES = (*ANY_BYTES, *[set_cert_field] * 3)
 
 
-def mutate_certificate(rng, data):
-    names = []
-    for _ in range(rng.choice((1, 1, 1, 2, 4))):
+def mutate_certificate(rng, weights, entries):
+    """The bytes of a certificate of these entries in either version, forged in one part or changed in some bytes or
+    both, and the names of the changes."""
+    version = rng.choice((1, 2))
+    data, forgery = forging.forged(rng, version, weights, entries)
+    names = [f"version {version}", forgery]
+    for _ in range(rng.choice((0, 0, 0, 0, 1, 1, 2, 4))):
         change = rng.choice(CERT_BYTES)
         data = change(rng, data)
         names.append(change.__name__)

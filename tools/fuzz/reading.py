@@ -158,6 +158,12 @@ def read_dsf(data):
     return info, bit_at
 
 
+def bits_of(data):
+    """The channels of a recording's file as lists of bits."""
+    info, bit_at = read(data)
+    return [[bit_at(channel, place) for place in range(info["samples"])] for channel in range(info["channels"])]
+
+
 # Samples.
 
 

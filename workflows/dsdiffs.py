@@ -1,0 +1,42 @@
+"""Makes DSDIFF files, as bytes: what scripts try dsdarc on, and the takes that they write. A file with no more than its
+sound has the bytes that dsdarc writes of it."""
+import struct
+
+IDS = {1: [b"C000"], 2: [b"SLFT", b"SRGT"], 5: [b"MLFT", b"MRGT", b"C   ", b"LS  ", b"RS  "]}
+VERSION = (b"FVER", bytes([1, 5, 0, 0]))
+
+
+def chunk(name, data):
+    return name + struct.pack(">Q", len(data)) + data + b"\0" * (len(data) % 2)
+
+
+def numbered(channels):
+    """The IDs of channels that stand for no loudspeakers."""
+    return [b"C%03d" % channel for channel in range(channels)]
+
+
+def property_chunks(rate, channels, compression=b"DSD ", ids=None):
+    """ID and data of each chunk that a sound's PROP has to have; channels have their usual IDs where none are given."""
+    return [
+        (b"FS  ", struct.pack(">I", rate)),
+        (b"CHNL", struct.pack(">H", channels) + b"".join(ids or IDS.get(channels) or numbered(channels))),
+        (b"CMPR", compression + b"\x0enot compressed"),
+    ]
+
+
+def mark_data(text, hours=0, minutes=0, seconds=0, samples=0, offset=0, kind=0, channel=0):
+    """The data of a mark's chunk, MARK."""
+    return struct.pack(">HBBIiHHHI", hours, minutes, seconds, samples, offset, kind, channel, 0, len(text)) + text
+
+
+def mark(text):
+    """A chunk of the form with one mark, at the first sample."""
+    return chunk(b"DIIN", chunk(b"MARK", mark_data(text)))
+
+
+def dsdiff(rate, channels, sound, compression=b"DSD ", ids=None, more=b"", kept=b""):
+    """The file of a sound, the bytes of all channels in turn, with more chunks of the form behind it, and kept ones in
+    its property."""
+    inner = b"".join(chunk(*it) for it in property_chunks(rate, channels, compression, ids))
+    body = chunk(*VERSION) + chunk(b"PROP", b"SND " + inner + kept) + chunk(b"DSD ", sound) + more
+    return chunk(b"FRM8", b"DSD " + body)

@@ -31,22 +31,24 @@ fn agree(alloc: Global, taps: &[i32], factor: u32, delay: u32, count: u16) -> Re
 }
 
 // So many taps.
-fn taps_of(alloc: Global, number: u32) -> Result<Vec<i32>, AllocError> {
-    (1..number + 1)
-        .map(|i| (i * 37 % 101) as i32 - 50)
-        .collect(alloc)
+fn taps_of(alloc: Global, number: u16) -> Result<Vec<i32>, AllocError> {
+    let mut taps = Vec::new(alloc);
+    for i in 0..number {
+        taps.push(i32::from(i) * 37 % 101 - 50)?;
+    }
+    Ok(taps)
 }
 
 #[test]
 fn plays_the_same_at_each_delay(rt: HostRuntime) -> Result<(), Fail> {
-    let taps = taps_of(rt.alloc(), 70)?;
-    for turn in 0..24u32 {
+    for turn in 0..24u16 {
         let number = 3 * turn + 1;
-        let taps = &taps[..number as usize];
-        for delay in 0..number.min(8) {
+        let factor = 8 + 8 * (u32::from(turn) % 3);
+        let taps = taps_of(rt.alloc(), number)?;
+        for delay in 0..u32::from(number.min(8)) {
             for count in 0..8u16 {
                 assert!(rt;
-                    agree(rt.alloc(), taps, 8 + 8 * (turn % 3), delay, 13 * count)?,
+                    agree(rt.alloc(), &taps, factor, delay, 13 * count)?,
                     "{count} times 13 bits by {number} taps, delay {delay}"
                 );
             }
@@ -57,16 +59,16 @@ fn plays_the_same_at_each_delay(rt: HostRuntime) -> Result<(), Fail> {
 
 // How many bytes make a sample, and counts of taps and of bits: windows of a part of a step, of a whole
 // number of steps and of more, and recordings that end with a step, inside one, and inside a byte.
-const STEPS: [u32; 8] = [1, 2, 3, 4, 8, 16, 33, 128];
+const STEPS: [u8; 8] = [1, 2, 3, 4, 8, 16, 33, 128];
 
-const NUMBERS: [u32; 3] = [3, 129, 700];
+const NUMBERS: [u16; 3] = [3, 129, 700];
 
-const COUNTS: [usize; 4] = [7, 2048, 3001, 4111];
+const COUNTS: [u16; 4] = [7, 2048, 3001, 4111];
 
 // Whether all kernels agree on the first bits of some bytes, for each count.
 fn agree_on_counts(alloc: Global, taps: &Taps, bytes: &[u8]) -> Result<bool, Fail> {
     for count in COUNTS {
-        let bits = Bits::from_packed(alloc, &bytes[..count.div_ceil(8)], count)?;
+        let bits = Bits::from_packed(alloc, bytes, usize::from(count))?;
         if !kernels_agree(alloc, taps, &bits)? {
             return Ok(false);
         }
@@ -74,17 +76,24 @@ fn agree_on_counts(alloc: Global, taps: &Taps, bytes: &[u8]) -> Result<bool, Fai
     Ok(true)
 }
 
+// The bytes of the longest recording.
+fn bytes_of(alloc: Global) -> Result<Vec<u8>, AllocError> {
+    let mut bytes = Vec::new(alloc);
+    for i in 0..514u32 {
+        bytes.push((i * 131 % 251) as u8)?;
+    }
+    Ok(bytes)
+}
+
 #[test]
 fn plays_the_same_at_each_factor(rt: HostRuntime) -> Result<(), Fail> {
     let alloc = rt.alloc();
-    let mut bytes = Vec::new(alloc);
-    for i in 0..514u32 {
-        bytes.push((i * i * 7 % 251) as u8)?;
-    }
+    let bytes = bytes_of(alloc)?;
     for step in STEPS {
         for number in NUMBERS {
             let taps = taps_of(alloc, number)?;
-            let taps = Taps::new(alloc, &taps, 8 * step, number / 2, 3, 16)?;
+            let factor = 8 * u32::from(step);
+            let taps = Taps::new(alloc, &taps, factor, u32::from(number) / 2, 3, 16)?;
             assert!(rt;
                 agree_on_counts(alloc, &taps, &bytes)?,
                 "{number} taps, {step} bytes a sample"

@@ -25,11 +25,12 @@ fn finds_the_sound(rt: HostRuntime) -> Result<(), Fail> {
 }
 
 // A place of the front of `FILE`, other bytes there, and the fault of each file that begins so.
-const CHANGES: [(usize, &[u8], &str); 24] = [
+const CHANGES: [(usize, &[u8], &str); 25] = [
     (0, b"FORM", "NotDsdiff, no form"),
     (12, b"AIFF", "NotDsdiff, another type"),
     (4, &[0; 8], "FormCut"),
-    (11, &[110], "NoSound, the form ends before it"),
+    (11, &[102], "NoSound, the form ends before it"),
+    (11, &[110], "Chunk HeadCut 114"),
     (20, &[0xff; 8], "Chunk DataCut 16"),
     (125, &[100], "Chunk DataCut 114"),
     (16, b"COMT", "NoVersion"),

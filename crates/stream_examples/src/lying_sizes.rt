@@ -99,7 +99,7 @@ fn blocks_that_lie_are_refused(rt: HostRuntime) -> Result<(), Fail> {
         let file = blocks_with(alloc, *lie)?;
         let wave = if lie.0 == 20 { played.as_slice() } else { b"" };
         assert!(rt;
-            are_no_files(alloc, &file, (92, 100), wave)?,
+            are_no_files(alloc, &file, (92, 4188), wave)?,
             "at {}",
             lie.0
         );

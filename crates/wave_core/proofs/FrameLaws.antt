@@ -1,10 +1,14 @@
 -- Frames of samples that are given channel by channel.
-use Rattle.std.proofs.Common.{◌≡◌, ℕ, zero, suc, ◌+◌, ◌*◌, ◌/◌, ◌<◌, ◌≤◌, ◌⊎◌, ◌^◌, inl, inr, ℤ, pos, negsuc, unsigned_abs, to_z, of_z, w32, List, [], ◌∷◌, ◌++◌, map, sym, ap, ◌∙◌, arith, add-one, zero-add, append_assoc}
+use Rattle.std.proofs.Common.{◌≡◌, ◌≢◌, ℕ, zero, suc, ◌+◌, ◌*◌, ◌/◌, ◌%◌, ◌<◌, ◌≤◌, ◌⊎◌, ◌^◌, inl, inr, ℤ, pos, negsuc, unsigned_abs, to_z, of_z, w32, List, [], ◌∷◌, ◌++◌, map, sym, ap, subst, ◌∙◌, refl, arith, length, get_or, slice_index, take, drop, length-drop, length-take-le, get_or-take, get_or-drop, add-one, zero-add, append_assoc}
 use Rattle.std.specs.List.{flat_map, range_with_len}
 use Rattle.std.proofs.Math.Nat.{mul-le-mul_right}
-use Rattle.std.proofs.lemmas.Grind.{flat_map-append}
+use Rattle.std.proofs.lemmas.Grind.{flat_map-append, same_number_lists}
 use Rattle.std.proofs.lemmas.Int.{to_z-of_z, fits_signed_from_abs}
-use Rattle.std.proofs.lemmas.List.{append-nil}
+use Rattle.std.proofs.lemmas.List.{append-nil, take_all}
+use Rattle.std.proofs.Math.Seq.{take-add}
+use Rattle.std.proofs.lemmas.Nat.{div-mul-add, mod-mul-add, mul-add-lt}
+use Rattle.wave_core.specs.Frames.{frame_of, frames_of}
+use Rattle.wave_core.specs.Texts.{sample_bytes}
 use Rattle.wave_core.specs.Contents.{IsSample}
 use Rattle.std.proofs.lemmas.List.FromFn.{map-range_with_len_more}
 
@@ -53,3 +57,61 @@ sample_back width z known small = to_z-of_z w32 z (fits_signed_from_abs w32 z (o
     least width (pos n) (inr e) h = let small = rw e at h in omega arith
     least width (negsuc n) (inl e) h = let small = rw e at h in omega arith
     least width (negsuc n) (inr e) h = let small = rw e at h in omega arith
+
+-- ---- samples written at their places
+pub frames_apart : (a b n c : ℕ) → c < n → a ≢ b → a * n + c ≢ b * n + c
+frames_apart a b n c h apart = λ e. apart (sym (div-mul-add a n c h) ∙ ap (λ m. m / n) e ∙ div-mul-add b n c h)
+
+pub channels_apart : (a b n c d : ℕ) → c < n → d < n → d ≢ c → a * n + d ≢ b * n + c
+channels_apart a b n c d hc hd apart = λ e. apart (sym (mod-mul-add a n d hd) ∙ ap (λ m. m % n) e ∙ mod-mul-add b n c hc)
+
+-- bytes behind those before
+more_bytes : (to bytes : List ℕ) (n size : ℕ) → length bytes ≡ size → n + size ≤ length to → ((k : ℕ) → k < size → slice_index to (n + k) ≡ slice_index bytes k) → take (n + size) to ≡ take n to ++ bytes
+more_bytes to bytes n size long within at =
+    let cut : length (take size (drop n to)) ≡ size = length-take-le size (drop n to) (omega (arith, length-drop n to)) in
+    take-add n size to
+    ∙ ap (λ xs. take n to ++ xs) (same_number_lists (take size (drop n to)) bytes (cut ∙ sym long) (λ k h. get_or-take size (drop n to) k 0 (omega arith) ∙ get_or-drop n to k 0 ∙ at k (omega arith)))
+
+length-sample_bytes : (width : ℕ) (z : ℤ) → (width ≡ 16) ⊎ (width ≡ 24) → length (sample_bytes width z) ≡ width / 8
+length-sample_bytes width z (inl e) = rw e refl
+length-sample_bytes width z (inr e) = rw e refl
+
+module _ (width : ℕ) (known : (width ≡ 16) ⊎ (width ≡ 24)) (samples : List ℤ) (frames : ℕ) (to : List ℕ) (whole : length to ≡ frames * (length samples / frames) * (width / 8))
+    (at : (i c k : ℕ) → i < frames → c < length samples / frames → k < width / 8
+    → slice_index to ((i * (length samples / frames) + c) * (width / 8) + k) ≡ slice_index (sample_bytes width (get_or samples (c * frames + i) (pos 0))) k) where
+  abbrev sample : ℕ → ℕ → ℤ
+  sample i c = get_or samples (c * frames + i) (pos 0)
+
+  -- the first samples of a frame, behind the frames before
+  frame_joined : (i m : ℕ) → i < frames → m ≤ length samples / frames
+      → take ((i * (length samples / frames) + m) * (width / 8)) to ≡ take (i * (length samples / frames) * (width / 8)) to ++ flat_map (sample_bytes width) (map (sample i) (range_with_len 0 m))
+  frame_joined i zero below in_frame =
+      let e : (i * (length samples / frames) + 0) * (width / 8) ≡ i * (length samples / frames) * (width / 8) = ap (λ m. m * (width / 8)) (omega arith) in
+      ap (λ m. take m to) e ∙ sym (append-nil _)
+  frame_joined i (suc m) below in_frame =
+      let n = length samples / frames in
+      let size = width / 8 in
+      let place = (i * n + m) * size in
+      let next : place + size ≡ (i * n + (m + 1)) * size = grind arith in
+      let turned : n * frames * size ≡ frames * n * size = grind arith in
+      let inside : (i * n + (m + 1)) * size ≤ n * frames * size = mul-le-mul_right size (omega (arith, mul-add-lt i n m frames below (omega arith))) in
+      let one = more_bytes to (sample_bytes width (sample i m)) place size (length-sample_bytes width (sample i m) known) (omega (arith, next, inside, turned, whole)) (λ k h. at i m k below (omega arith) h) in
+      subst (λ k. take ((i * n + k) * size) to ≡ take (i * n * size) to ++ flat_map (sample_bytes width) (map (sample i) (range_with_len 0 k))) (add-one m)
+      (next_sample (sample_bytes width) (sample i) (take (i * n * size) to) (take place to) (take ((i * n + (m + 1)) * size) to) m (frame_joined i m below (omega arith)) (ap (λ k. take k to) (sym next) ∙ one))
+
+  -- the first frames
+  first_joined : (n : ℕ) → n ≤ frames → take (n * (length samples / frames) * (width / 8)) to ≡ flat_map (sample_bytes width) (flat_map (frame_of samples frames) (range_with_len 0 n))
+  first_joined zero in_sound =
+      let e : 0 * (length samples / frames) * (width / 8) ≡ 0 = grind arith in
+      ap (λ m. take m to) e
+  first_joined (suc n) in_sound =
+      let channels = length samples / frames in
+      let size = width / 8 in
+      let row : (n * channels + channels) * size ≡ (n + 1) * channels * size = grind arith in
+      subst (λ k. take (k * channels * size) to ≡ flat_map (sample_bytes width) (flat_map (frame_of samples frames) (range_with_len 0 k))) (add-one n)
+      (next_frame (sample_bytes width) (frame_of samples frames) [] (take (n * channels * size) to) (take ((n + 1) * channels * size) to) n (first_joined n (omega arith))
+      (ap (λ k. take k to) (sym row) ∙ frame_joined n channels (omega arith) (omega arith)))
+
+  -- bytes of which each is the sample's at its place
+  pub frames_joined : to ≡ flat_map (sample_bytes width) (frames_of samples frames)
+  frames_joined = sym (take_all (frames * (length samples / frames) * (width / 8)) to (omega (arith, whole))) ∙ first_joined frames (omega arith)

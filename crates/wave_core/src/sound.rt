@@ -1,9 +1,9 @@
 //! The samples and what follows them.
 
-ghost use Rattle.std.specs.Prelude.{◌≡◌, ◌≤◌, ◌<◌, ◌++◌, All, OnOk, OnErr};
+ghost use Rattle.std.specs.Prelude.{◌≡◌, ◌≢◌, ℕ, ◌+◌, ◌*◌, ◌/◌, ◌≤◌, ◌<◌, ◌++◌, pos, All, OnOk, OnErr, length, slice_index, slice_index_or};
 ghost use Rattle.std.specs.List.{flat_map};
 ghost use Rattle.wave_core.specs.Contents.{IsSample, IsWidth};
-ghost use Rattle.wave_core.specs.Frames.{frame_of, frames_of};
+ghost use Rattle.wave_core.specs.Frames.{frames_of};
 ghost use Rattle.wave_core.specs.Sizes.{pad_size};
 ghost use Rattle.wave_core.specs.Texts.{pad_bytes, sample_bytes};
 
@@ -38,29 +38,75 @@ pub fn push_frames(
     requires frames { 1 ≤ frames }
     ensures { OnOk result (out.new.items ≡ out.old.items ++ flat_map (sample_bytes width) (frames_of samples.now frames)) }
 {
-    for i in 0..frames {
-        push_frame(out, width, samples, frames, i)?;
+    let before = out.len();
+    let channels = samples.len() / frames;
+    let size = (width / 8) as usize;
+    out.resize(before + frames * channels * size, 0)?;
+    let (_, to) = out.as_mut_slice().split_at_mut(before);
+    if width == 16 {
+        fill_frames(to, 16, samples, frames);
+    } else {
+        fill_frames(to, 24, samples, frames);
     }
     Ok(())
 }
 
-// Appends frame `i` of samples that are given channel by channel.
-fn push_frame(
-    out: &mut Vec<u8>,
-    width: u32,
-    samples: &[i32],
-    frames: usize,
-    i: usize,
-) -> Result<(), AllocError>
+// Writes frames of samples that are given channel by channel.
+#[inline(always)]
+fn fill_frames(to: &mut [u8], width: u32, samples: &[i32], frames: usize)
     requires width { IsWidth width }
     requires values { All (IsSample width) samples.now }
-    requires frame { i < frames }
-    ensures { OnOk result (out.new.items ≡ out.old.items ++ flat_map (sample_bytes width) (frame_of samples.now frames i)) }
+    requires frames { 1 ≤ frames }
+    requires size { length to.old ≡ frames * (length samples.now / frames) * (width / 8) }
+    ensures { to.new ≡ flat_map (sample_bytes width) (frames_of samples.now frames) }
 {
-    for c in 0..samples.len() / frames {
-        push_sample(out, width, samples[c * frames + i])?;
+    let channels = samples.len() / frames;
+    for c in 0..channels {
+        spread(
+            to,
+            width,
+            &samples[c * frames..c * frames + frames],
+            channels,
+            c,
+        );
     }
-    Ok(())
+}
+
+// Writes the samples of a channel over sample `c` of each frame of so many channels.
+#[inline(always)]
+fn spread(to: &mut [u8], width: u32, samples: &[i32], channels: usize, c: usize)
+    requires width { IsWidth width }
+    requires values { All (IsSample width) samples.now }
+    requires channel { c < channels }
+    requires enough { length samples.now * channels * (width / 8) ≤ length to.old }
+    ensures own { (i k : ℕ) → i < length samples.now → k < width / 8 →
+        slice_index to.new ((i * channels + c) * (width / 8) + k) ≡ slice_index (sample_bytes width (slice_index_or samples.now i (pos 0))) k }
+    ensures others { (i d k : ℕ) → d < channels → d ≢ c → k < width / 8 →
+        slice_index to.new ((i * channels + d) * (width / 8) + k) ≡ slice_index to.old ((i * channels + d) * (width / 8) + k) }
+{
+    for i in 0..samples.len() {
+        put_sample(to, width, i * channels + c, samples[i]);
+    }
+}
+
+// Writes a sample as of [`push_sample`] over that at a place.
+#[inline(always)]
+fn put_sample(to: &mut [u8], width: u32, place: usize, value: i32)
+    requires width { IsWidth width }
+    requires value { IsSample width value }
+    requires inside { place * (width / 8) + width / 8 ≤ length to.old }
+    ensures own { (k : ℕ) → k < width / 8 → slice_index to.new (place * (width / 8) + k) ≡ slice_index (sample_bytes width value) k }
+    ensures others { (p k : ℕ) → p ≢ place → k < width / 8 → slice_index to.new (p * (width / 8) + k) ≡ slice_index to.old (p * (width / 8) + k) }
+{
+    let [low, middle, high, _] = value.to_le_bytes();
+    if width == 16 {
+        to[place * 2] = low;
+        to[place * 2 + 1] = middle;
+        return;
+    }
+    to[place * 3] = low;
+    to[place * 3 + 1] = middle;
+    to[place * 3 + 2] = high;
 }
 
 /// Appends what follows the samples of so many frames of 1 to 6 channels, each sample of `width` bits, 16

@@ -3,7 +3,7 @@ import re
 
 import waves
 
-# The faults that each command may answer, as the README lists them.
+# The faults that each command may answer, as the manual lists them.
 FAULTS = {
     "info": {"ReadFailed", "FileUnread"},
     "convert": {"ReadFailed", "FileUnread", "NotWholeBytes", "WriteFailed"},

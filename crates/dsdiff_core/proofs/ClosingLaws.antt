@@ -1,11 +1,9 @@
 -- What stands behind the sound of a file.
 use Rattle.std.proofs.Common.{◌≡◌, ◌↔◌, ℕ, ◌+◌, ◌-◌, ◌*◌, ◌/◌, ◌%◌, ◌^◌, ◌≤◌, inl, inr, min, Bool, true, false, cond, ltb, eqb, not, List, [], ◌∷◌, ◌++◌, append_assoc, length, map, take, drop, replicate, Result, Ok, Err, refl, sym, ap, subst, ◌∙◌, arith}
-use Rattle.std.specs.Prelude.{filter, slice_range}
+use Rattle.std.specs.Prelude.{filter, is_ok, slice_range}
 use Rattle.std.proofs.lemmas.Bool.{cases_lt, eqb-true, le-ltb, ltb-false}
 use Rattle.std.proofs.lemmas.List.{drop_at, length-append, length-replicate, take_at}
-use Rattle.std.proofs.lemmas.List.FromFn.{length-map-range_with_len}
 use Rattle.std.proofs.lemmas.List.Elements.{filter-append}
-use Rattle.byteorder.specs.Endian.{big_number}
 use Rattle.chunk_core.specs.declared.fault.ChunkFault.{ChunkFault}
 use Rattle.chunk_core.specs.declared.layout.Span.{Span}
 use Rattle.chunk_core.specs.Chunks.{Chunk, chunks, width}
@@ -15,26 +13,26 @@ use Rattle.chunk_core.proofs.PlaceLaws.{spans_again, spans_found}
 use Rattle.chunk_core.proofs.Steps.{bind_then, guard_ok}
 use Rattle.dsd_bits.specs.declared.marks.Place.TheVariants.{Property, Master, Form}
 use Rattle.dsd_bits.specs.declared.sound.Sound.{Sound}
-use Rattle.dsd_bits.specs.Contents.{Content}
-use Rattle.dsd_bits.specs.Ids.{FVER, FS, CHNL, CMPR, DSD, DIIN, MARK}
+use Rattle.dsd_bits.specs.Contents.{OtherContent}
+use Rattle.dsd_bits.specs.Ids.{FVER, DSD, DIIN, MARK}
 use Rattle.dsd_bits.specs.Lacing.{unlaced_all}
-use Rattle.dsd_bits.specs.Layouts.{usual_layout}
 use Rattle.dsdiff_core.specs.declared.fault.DsdiffFault.{DsdiffFault}
 use Rattle.dsdiff_core.specs.declared.fault.DsdiffFault.TheVariants as faults
 use Rattle.dsdiff_core.specs.Fields.{form_end, form_size}
-use Rattle.dsdiff_core.specs.Files.{joined}
-use Rattle.dsdiff_core.specs.Fronts.{EndsAt, IsAccepted, closes_of, closing_of, end_behind, form_of, frames_of, leading_of, sound_behind, is_known, later_of, left_behind, none_known, size_at}
+use Rattle.dsdiff_core.specs.Files.{IsDsdiff, joined}
+use Rattle.dsdiff_core.specs.Fronts.{Around, EndsAt, IsAccepted, closing_of, end_behind, form_of, frames_of, leading_of, sound_behind, is_known, later_of, left_behind, none_known, size_at, sound_told}
+use Rattle.dsdiff_core.specs.Outlines.{inner_around, outline_told, top_around}
 use Rattle.dsdiff_core.specs.Kinds.{FRM8, has_id, is_property}
 use Rattle.dsdiff_core.specs.Forms.{version_of}
 use Rattle.dsdiff_core.specs.Marks.{mark_in}
-use Rattle.dsdiff_core.specs.Others.{kept}
+use Rattle.dsdiff_core.specs.Others.{kept, other_in}
 use Rattle.dsdiff_core.specs.Properties.{Told, property_of}
 use Rattle.dsdiff_core.specs.Spans.{once_each, top_kinds}
 use Rattle.dsdiff_core.specs.Steps.{walked}
-use Rattle.dsdiff_core.proofs.FileLaws.{behind_type, one_chunk, version_alone}
+use Rattle.dsdiff_core.proofs.FileLaws.{one_chunk, told_property, version_alone}
 use Rattle.dsdiff_core.proofs.FormLaws.{IsVersion, version_ok}
 use Rattle.dsdiff_core.proofs.OnceLaws.{Once, none_yet, once_ok}
-use Rattle.dsdiff_core.proofs.PropertyLaws.{IsProperty, IsTold, data_ok, property_ok}
+use Rattle.dsdiff_core.proofs.PropertyLaws.{IsProperty, property_ok}
 use Rattle.dsdiff_core.proofs.Steps.{not_false, walked_ok}
 use Rattle.dsdiff_core.specs.Masters.{has_no_cut_mark, is_no_cut_mark, masters_of}
 use Rattle.dsdiff_core.proofs.FrontLaws.{Leads, either, found_leads, only_properties, parted, sought_of, sound_is_at, versioned}
@@ -42,7 +40,7 @@ use Rattle.dsdiff_core.proofs.KindLaws.{and_both, bool_cases, id_is, left_false,
 use Rattle.dsdiff_core.proofs.LeadLaws.{At, Sought, number_front, part_front, range_joins}
 use Rattle.dsdiff_core.proofs.MarkLaws.{none_cut_again, whole_marks}
 use Rattle.dsdiff_core.proofs.MasterLaws.{Each, front_uncut, masters_again, masters_ok}
-use Rattle.dsdiff_core.proofs.OtherSound.{all_join, led_there, tail_is}
+use Rattle.dsdiff_core.proofs.OtherSound.{all_join, is_kept, led_there, sound_not_kept, tail_is}
 
 -- ---- what a front that ends at its sound holds
 
@@ -99,7 +97,7 @@ none_first test c cs e = elim (bool_cases (test c)) [
   | inr other ↦ (other, rw other at e)
 ]
 
-none_known_again : (cs : List Chunk) → filter (has_id FVER) cs ≡ [] → filter either cs ≡ [] → none_known cs ≡ true
+none_known_again : (cs : List Chunk) → filter (has_id FVER) cs ≡ [] → filter either cs ≡ [] → none_known cs ≡ Ok tt
 none_known_again [] v e = refl
 none_known_again (c ∷ cs) v e =
     let a = none_first (has_id FVER) c cs v in
@@ -128,7 +126,7 @@ joined_append (x ∷ a) b = ap (λ (l : List Chunk). x ++ l) (joined_append a b)
 
 -- ---- a file that is accepted closes
 
-pub accepted_closes : (front middle back : List ℕ) (s : Sound) → EndsAt front s → length middle ≡ s.size → IsAccepted (front ++ (middle ++ back)) → closing_of front s.size back ≡ Ok true
+pub accepted_closes : (front middle back : List ℕ) (s : Sound) → EndsAt front s → length middle ≡ s.size → IsAccepted (front ++ (middle ++ back)) → (a : Around) × (closing_of front s.size back ≡ Ok a)
 unfolding closing_of later_of
 accepted_closes front middle back s e long accepted =
     let r = accepted.0 in
@@ -156,7 +154,7 @@ accepted_closes front middle back s e long accepted =
     let version_is = passes (has_id FVER) h.top h.version [] h.version_once in
     let v = versioned l.before l.later h.later l.sound h.version (sym l.is ∙ h.version_first) (ap (filter (has_id FVER)) (sym l.is) ∙ h.version_once) version_is l.is_sound in
     let no_version = (none_first (has_id FVER) l.sound l.later v.none_later).1 in
-    let fresh : none_known (map (span_chunk back) (places (min (s.size % 2) end) l.later)) ≡ true = rw later.1 (none_known_again l.later no_version p.none_later) in
+    let fresh : none_known (map (span_chunk back) (places (min (s.size % 2) end) l.later)) ≡ Ok tt = rw later.1 (none_known_again l.later no_version p.none_later) in
     let not_master : has_id DIIN l.sound ≡ false = not_both DSD DIIN l.sound refl l.is_sound in
     let masters_are : filter (has_id DIIN) h.top ≡ filter (has_id DIIN) l.before ++ filter (has_id DIIN) l.later =
     ap (filter (has_id DIIN)) l.is ∙ filter-append (has_id DIIN) l.before (l.sound ∷ l.later) ∙ (let gone : filter (has_id DIIN) (l.sound ∷ l.later) ≡ filter (has_id DIIN) l.later = rw not_master refl in ap (λ (L : List Chunk). filter (has_id DIIN) l.before ++ L) gone) in
@@ -165,13 +163,10 @@ accepted_closes front middle back s e long accepted =
     let both = front_uncut (joined m.early) (joined m.late) uncut in
     let early = masters_again front (places 16 l.before) m.early (subst (λ (cs : List Chunk). Each (filter (has_id DIIN) cs) m.early) (sym again.1) m.each_early) both.0 in
     let late = masters_again back (places (min (s.size % 2) end) l.later) m.late (subst (λ (cs : List Chunk). Each (filter (has_id DIIN) cs) m.late) (sym later.1) m.each_late) both.1 in
-    rw (not_cut, later.0, before, early.1, late.1, fresh) refl
+    let around : Around = record { before = places 16 l.before; early = early.0; later = places (min (s.size % 2) end) l.later; late = late.0 } in
+    (around, rw (not_cut, later.0, before, early.1, late.1, fresh) refl)
 
 -- ---- bytes that close make an accepted file
-
-not_true : (b : Bool) → not b ≡ true → b ≡ false
-not_true true e = absurd cc
-not_true false e = refl
 
 form_ok : (front : List ℕ) → form_of front ≡ Ok tt → (take 4 front ≡ FRM8) × (take 4 (drop 12 front) ≡ DSD) × (4 ≤ form_size front)
 unfolding form_of
@@ -181,12 +176,12 @@ form_ok front e =
     let c = guard_ok _ _ _ _ b.1 in
     (id_is _ _ (not_false _ a.0), id_is _ _ (not_false _ b.0), ltb-false _ _ c.0)
 
-none_known_all : (cs : List Chunk) → none_known cs ≡ true → (filter (has_id FVER) cs ≡ []) × (filter either cs ≡ [])
-none_known_all [] e = (refl, refl)
-none_known_all (c ∷ cs) e =
-    let p = and_both (not (is_known c)) (none_known cs) e in
-    let k = known_apart c (not_true (is_known c) p.0) in
-    let r = none_known_all cs p.1 in
+none_known_all : (cs : List Chunk) (u : Unit {0}) → none_known cs ≡ Ok u → (filter (has_id FVER) cs ≡ []) × (filter either cs ≡ [])
+none_known_all [] u e = (refl, refl)
+none_known_all (c ∷ cs) u e =
+    let g = guard_ok (is_known c) (faults.Twice c.id) (none_known cs) u e in
+    let k = known_apart c g.0 in
+    let r = none_known_all cs u g.1 in
     (rw k.0 r.0, rw k.1 r.1)
 
 each_append : (xs ys : List Chunk) (a b : List (List Chunk)) → Each xs a → Each ys b → Each (xs ++ ys) (a ++ b)
@@ -204,55 +199,50 @@ both_uncut (c ∷ cs) ds h k =
 same_spans : (x y : List Span) → (let r : Result (List Span) ChunkFault = Ok x in r) ≡ Ok y → x ≡ y
 same_spans x y e = cc
 
-same_test : (x y : Bool) → (let r : Result Bool DsdiffFault = Ok x in r) ≡ Ok y → x ≡ y
-same_test x y e = cc
+same_around : (x y : Around) → (let r : Result Around DsdiffFault = Ok x in r) ≡ Ok y → x ≡ y
+same_around x y e = cc
 
 -- what bytes that close hold
-record Closed (front : List ℕ) (size : ℕ) (back : List ℕ) : Type 0 where
-  later : List Span
+pub record Closed (front : List ℕ) (size : ℕ) (back : List ℕ) (a : Around) : Type 0 where
   whole : left_behind front size ≤ length back + 1
-  at_later : spans_in back (min (size % 2) (end_behind front size back)) (end_behind front size back) ≡ Ok later
-  before : List Span
-  at_before : spans_in front 16 (length front - 12) ≡ Ok before
-  early : List Span
-  at_early : masters_of front before ≡ Ok early
-  late : List Span
-  at_late : masters_of back later ≡ Ok late
-  fresh : none_known (map (span_chunk back) later) ≡ true
+  at_later : spans_in back (min (size % 2) (end_behind front size back)) (end_behind front size back) ≡ Ok a.later
+  at_before : spans_in front 16 (length front - 12) ≡ Ok a.before
+  at_early : masters_of front a.before ≡ Ok a.early
+  at_late : masters_of back a.later ≡ Ok a.late
+  fresh : none_known (map (span_chunk back) a.later) ≡ Ok tt
 
-closed : (front : List ℕ) (size : ℕ) (back : List ℕ) → closing_of front size back ≡ Ok true → Closed front size back
+closed : (front : List ℕ) (size : ℕ) (back : List ℕ) (a : Around) → closing_of front size back ≡ Ok a → Closed front size back a
 unfolding closing_of later_of
-closed front size back e =
-    bind_then (later_of front size back) _ true e (λ later e1 h1.
-    bind_then (walked (spans_in front 16 (length front - 12))) _ true h1 (λ before e2 h2.
-    bind_then (masters_of front before) _ true h2 (λ early e3 h3.
-    bind_then (masters_of back later) _ true h3 (λ late e4 h4.
+closed front size back a e =
+    bind_then (later_of front size back) _ a e (λ later e1 h1.
+    bind_then (walked (spans_in front 16 (length front - 12))) _ a h1 (λ before e2 h2.
+    bind_then (masters_of front before) _ a h2 (λ early e3 h3.
+    bind_then (masters_of back later) _ a h3 (λ late e4 h4.
+    bind_then (none_known (map (span_chunk back) later)) _ a h4 (λ u e5 h5.
     let g = guard_ok (ltb (length back + 1) (left_behind front size)) faults.FormCut (walked (spans_in back (min (size % 2) (end_behind front size back)) (end_behind front size back))) later e1 in
-    record {
-      later = later;
+    subst (λ (x : Around). Closed front size back x) (same_around (record { before = before; early = early; later = later; late = late }) a h5) (record {
       whole = ltb-false _ _ g.0;
       at_later = walked_ok _ later g.1;
-      before = before;
       at_before = walked_ok _ before e2;
-      early = early;
       at_early = e3;
-      late = late;
       at_late = e4;
-      fresh = same_test _ true h4;
-    }))))
+      fresh = e5;
+    }))))))
 
 -- what stands before a sound
-record Before (front : List ℕ) (at : ℕ) : Type 0 where
+record Before (front : List ℕ) (at : ℕ) (s : Sound) : Type 0 where
   top : List Span
   spans : spans_in front 16 at ≡ Ok top
   version : IsVersion (map (span_chunk front) top)
   once : Once (top_kinds front) top
   told : Told
+  at_told : property_of front top ≡ Ok told
   property : IsProperty front top told
+  number : s.channels ≡ length told.ids
   whole : size_at front at % length told.ids ≡ 0
   short : 8 * (size_at front at / length told.ids) ≤ 2 ^ 36
 
-before_of : (front : List ℕ) (at : ℕ) (s : Sound) → sound_behind front at ≡ Ok s → Before front at
+before_of : (front : List ℕ) (at : ℕ) (s : Sound) → sound_behind front at ≡ Ok s → Before front at s
 unfolding sound_behind leading_of
 before_of front at s e =
     bind_then (leading_of front at) _ s e (λ top e1 h1.
@@ -262,6 +252,7 @@ before_of front at s e =
     bind_then (version_of (map (span_chunk front) found)) _ top h4 (λ v e5 h5.
     bind_then (once_each (top_kinds front) [] found) _ top h5 (λ w e6 h6.
     let same : found ≡ top = cc (h6) in
+    let is_told : sound_told told.rate (length told.ids) at (size_at front at) ≡ s = cc (h3) in
     let size : ℕ = size_at front at in
     let n : ℕ = length told.ids in
     let a = guard_ok (not (eqb (size % n) 0)) faults.PartFrame (cond (ltb (2 ^ 36) (8 * (size / n))) (Err faults.TooLong) (Ok tt)) u e3 in
@@ -272,17 +263,26 @@ before_of front at s e =
       version = subst (λ (ss : List Span). IsVersion (map (span_chunk front) ss)) same (version_ok (map (span_chunk front) found) v e5);
       once = subst (λ (ss : List Span). Once (top_kinds front) ss) same (once_ok (top_kinds front) [] found w e6 (none_yet (top_kinds front)));
       told = told;
+      at_told = e2;
       property = property_ok front top told e2;
+      number = ap (λ (x : Sound). x.channels) (sym is_told);
       whole = eqb-true _ _ (not_false _ a.0);
       short = ltb-false _ _ b.0;
     }))))))
 
-pub closing_accepted : (front middle back : List ℕ) (s : Sound) → EndsAt front s → length middle ≡ s.size → closing_of front s.size back ≡ Ok true → IsAccepted (front ++ (middle ++ back))
-closing_accepted front middle back s e long closes =
+-- with a sound between them, the bytes around a sound are a file of what they tell
+pub record Accepted (front middle back : List ℕ) (s : Sound) (around : Around) : Type 0 where
+  pub told : Told
+  pub at_told : property_of front around.before ≡ Ok told
+  pub number : s.channels ≡ length told.ids
+  pub is : IsDsdiff (front ++ (middle ++ back)) (record (outline_told front back told around) { channels = unlaced_all middle s.channels })
+
+pub closing_accepted : (front middle back : List ℕ) (s : Sound) → EndsAt front s → length middle ≡ s.size → (around : Around) → closing_of front s.size back ≡ Ok around → Accepted front middle back s around
+closing_accepted front middle back s e long around closes =
     let file : List ℕ = front ++ (middle ++ back) in
     let a = at_sound front s e in
     let at : ℕ = a.lead.at in
-    let c = closed front s.size back closes in
+    let c = closed front s.size back around closes in
     let b = before_of front at s a.lead.is in
     let p = b.property in
     let end : ℕ = end_behind front s.size back in
@@ -298,11 +298,11 @@ closing_accepted front middle back s e long closes =
     let top_is : b.top ≡ places 16 B = same_spans b.top (places 16 B) (sym b.spans ∙ again.0) in
     let top_back : map (span_chunk front) b.top ≡ B = ap (map (span_chunk front)) top_is ∙ again.1 in
     let here : length front - 12 ≡ at = omega (arith, a.place) in
-    let before_is : c.before ≡ places 16 B = same_spans c.before (places 16 B) (sym c.at_before ∙ rw here again.0) in
-    let before_back : map (span_chunk front) c.before ≡ B = ap (map (span_chunk front)) before_is ∙ again.1 in
+    let before_is : around.before ≡ places 16 B = same_spans around.before (places 16 B) (sym c.at_before ∙ rw here again.0) in
+    let before_back : map (span_chunk front) around.before ≡ B = ap (map (span_chunk front)) before_is ∙ again.1 in
     -- those behind it
-    let L : List Chunk = map (span_chunk back) c.later in
-    let in_back : chunks (slice_range back (min (s.size % 2) end) end) L = (spans_found back (min (s.size % 2) end) end c.later c.at_later).0 in
+    let L : List Chunk = map (span_chunk back) around.later in
+    let in_back : chunks (slice_range back (min (s.size % 2) end) end) L = (spans_found back (min (s.size % 2) end) end around.later c.at_later).0 in
     let in_file : chunks (slice_range file (length front + length middle + length middle % 2) stop) L =
     subst (λ (bs : List ℕ). chunks bs L) (sym (tail_range front middle back stop end (omega arith) stop_is)) (subst (λ (k : ℕ). chunks (slice_range back (min k end) end) L) pad in_back) in
     -- the sound
@@ -320,40 +320,31 @@ closing_accepted front middle back s e long closes =
     let rest : chunks (slice_range file at stop) (sound ∷ L) = range_joins file at stop sound L at_file (subst (λ (k : ℕ). chunks (slice_range file k stop) L) (sym behind_sound) in_file) in
     let are_top : chunks (slice_range file 16 stop) top = all_join front (middle ++ back) 16 at stop B (sound ∷ L) (omega (arith, at_file.fits)) a.sought.are_before a.sought.no_gap rest in
     -- kinds that stand once
-    let fresh = none_known_all L c.fresh in
+    let fresh = none_known_all L tt c.fresh in
     let version_B : B ≡ b.version.version ∷ b.version.later = sym top_back ∙ b.version.is in
     let version_once : filter (has_id FVER) B ≡ b.version.version ∷ [] = ap (filter (has_id FVER)) (sym top_back) ∙ version_alone front b.top b.version.version b.version.later b.once.0 b.version.is b.version.id in
     let property : Chunk = span_chunk front p.property in
     let one_property : filter is_property B ≡ property ∷ [] = ap (filter is_property) (sym top_back) ∙ one_chunk front is_property b.top p.property b.once.1.0 p.found in
-    let in_parts = spans_found front (p.property.start + 4) (p.property.start + p.property.size) b.told.parts p.spans in
-    let parts : List Chunk = map (span_chunk front) b.told.parts in
-    let rates = data_ok front FS b.told.parts p.rates p.at_rates in
-    let names = data_ok front CHNL b.told.parts p.names p.at_names in
-    let kinds = data_ok front CMPR b.told.parts p.kinds p.at_kinds in
-    let tells : IsTold (span_chunk front rates.0).content (span_chunk front names.0).content (span_chunk front kinds.0).content b.told.rate b.told.ids = rw (rates.2, names.2, kinds.2) p.is_told in
-    let n : ℕ = big_number 2 (span_chunk front names.0).content in
-    let number : length b.told.ids ≡ n = ap length tells.ids ∙ length-map-range_with_len (λ k. take 4 (drop (4 * k) (drop 2 (span_chunk front names.0).content))) 0 n in
+    let t = told_property front b.top b.told p in
     let size_is : size_at front at ≡ length middle = sym a.size ∙ sym long in
     -- the edited masters
-    let early = masters_ok front c.before c.early c.at_early in
-    let late = masters_ok back c.later c.late c.at_late in
+    let early = masters_ok front around.before around.early c.at_early in
+    let late = masters_ok back around.later around.late c.at_late in
     let each_early : Each (filter (has_id DIIN) B) early.masters = subst (λ (cs : List Chunk). Each (filter (has_id DIIN) cs) early.masters) before_back early.each in
     let masters : List (List Chunk) = early.masters ++ late.masters in
     let masters_are : filter (has_id DIIN) top ≡ filter (has_id DIIN) B ++ filter (has_id DIIN) L = filter-append (has_id DIIN) B (sound ∷ L) in
     let uncut : has_no_cut_mark (joined early.masters ++ joined late.masters) ≡ true =
-    rw (early.inner, late.inner) (both_uncut (map (span_chunk front) c.early) (map (span_chunk back) c.late) early.none_is_cut late.none_is_cut) in
+    rw (early.inner, late.inner) (both_uncut (map (span_chunk front) around.early) (map (span_chunk back) around.late) early.none_is_cut late.none_is_cut) in
     let uncut_all : has_no_cut_mark (joined masters) ≡ true = subst (λ (cs : List Chunk). has_no_cut_mark cs ≡ true) (sym (joined_append early.masters late.masters)) uncut in
-    let r : Content = record {
-      rate = b.told.rate;
-      channels = unlaced_all middle n;
-      ids = b.told.ids;
-      layout = usual_layout n;
-      marks = map mark_in (filter (has_id MARK) (joined masters));
-      others = kept Property parts ++ (kept Master (joined masters) ++ kept Form top);
-      tag = [];
-    } in (
-      r,
-      record {
+    let inner_are : joined masters ≡ inner_around front back around = joined_append early.masters late.masters ∙ rw (early.inner, late.inner) refl in
+    let not_kept : filter is_kept (sound ∷ L) ≡ filter is_kept L = rw (sound_not_kept sound refl) refl in
+    let kept_are : kept Form top ≡ kept Form (top_around front back around) =
+    ap (map (other_in Form)) (filter-append is_kept B (sound ∷ L) ∙ ap (λ (cs : List Chunk). filter is_kept B ++ cs) not_kept ∙ sym (filter-append is_kept B L)) ∙ ap (λ (cs : List Chunk). kept Form (cs ++ L)) (sym before_back) in
+    record {
+      told = b.told;
+      at_told = ap (property_of front) (before_is ∙ sym top_is) ∙ b.at_told;
+      number = b.number;
+      is = record {
         long = omega (arith, length_file, a.lead.long);
         form = part_front 4 0 front (middle ++ back) (omega (arith, a.lead.long)) ∙ (form_ok front a.lead.form).0;
         kind = part_front 4 12 front (middle ++ back) (omega (arith, a.lead.long)) ∙ (form_ok front a.lead.form).1;
@@ -372,52 +363,35 @@ closing_accepted front middle back s e long closes =
         property_then_sound = filter-append either B (sound ∷ L) ∙ rw (only_properties B a.sought.none, one_property, fresh.1) refl;
         property_is = passes is_property B property [] one_property;
         sound_is = refl;
-        parts = parts;
-        are_parts = subst (λ (bs : List ℕ). chunks bs parts) (behind_type front p.property) in_parts.0;
-        rates = span_chunk front rates.0;
-        names = span_chunk front names.0;
-        kinds = span_chunk front kinds.0;
-        one_rate = one_chunk front (has_id FS) b.told.parts rates.0 p.once.0 rates.1;
-        one_names = one_chunk front (has_id CHNL) b.told.parts names.0 p.once.1.0 names.1;
-        one_kind = one_chunk front (has_id CMPR) b.told.parts kinds.0 p.once.1.1.0 kinds.1;
-        rate_long = tells.rate_long;
-        rate = tells.rate;
-        rate_low = tells.rate_low;
-        rate_high = tells.rate_high;
-        number = n;
-        number_is = refl;
-        some_channel = tells.some_channel;
-        six_channels = tells.six_channels;
-        names_long = tells.names_long;
-        ids = tells.ids;
-        raw = tells.raw;
-        whole = subst (λ (k : ℕ). length middle % k ≡ 0) number (subst (λ (k : ℕ). k % length b.told.ids ≡ 0) size_is b.whole);
-        not_long = subst (λ (k : ℕ). 8 * (length middle / k) ≤ 2 ^ 36) number (subst (λ (k : ℕ). 8 * (k / length b.told.ids) ≤ 2 ^ 36) size_is b.short);
-        channels = refl;
+        number = length b.told.ids;
+        tells = t.tells;
+        ids = t.ids;
+        whole = subst (λ (k : ℕ). k % length b.told.ids ≡ 0) size_is b.whole;
+        not_long = subst (λ (k : ℕ). 8 * (k / length b.told.ids) ≤ 2 ^ 36) size_is b.short;
+        channels = ap (unlaced_all middle) b.number;
         masters = masters;
         are_masters = subst (λ (cs : List Chunk). Each cs masters) (sym masters_are) (each_append (filter (has_id DIIN) B) (filter (has_id DIIN) L) early.masters late.masters each_early late.each);
         whole_marks = whole_marks (joined masters) uncut_all;
-        marks = refl;
-        others = refl;
+        marks = ap (λ (cs : List Chunk). map mark_in (filter (has_id MARK) cs)) (sym inner_are);
+        others = ap (λ (cs : List Chunk). kept Property cs ++ (kept Master (inner_around front back around) ++ kept Form (top_around front back around))) (sym t.parts) ∙ ap (λ (cs : List Chunk). kept Property t.tells.parts ++ (kept Master cs ++ kept Form (top_around front back around))) (sym inner_are) ∙ ap (λ (os : List OtherContent). kept Property t.tells.parts ++ (kept Master (joined masters) ++ os)) (sym kept_are);
         layout = refl;
         tag = refl;
-      },
-    )
+      };
+    }
 
 -- ---- the answer
 
-abbrev done : Bool → Result Bool DsdiffFault
-done b = Ok b
-
-yes_closed : (x : Result Bool DsdiffFault) → closes_of x ≡ true → x ≡ Ok true
-yes_closed (Ok b) e = ap done e
+yes_closed : (x : Result Around DsdiffFault) → is_ok x ≡ true → (a : Around) × (x ≡ Ok a)
+yes_closed (Ok a) e = (a, refl)
 yes_closed (Err f) e = absurd cc
 
-pub decides : (front back : List ℕ) (s : Sound) (b : Bool) → EndsAt front s → b ≡ closes_of (closing_of front (size_at front (length front - 12)) back) → (b ≡ true) ↔ IsAccepted (front ++ (replicate s.size 0 ++ back))
+pub decides : (front back : List ℕ) (s : Sound) (b : Bool) → EndsAt front s → b ≡ is_ok (closing_of front (size_at front (length front - 12)) back) → (b ≡ true) ↔ IsAccepted (front ++ (replicate s.size 0 ++ back))
 decides front back s b e is =
     let size = (before_end front s e).2 in
     let long = length-replicate {A = ℕ} s.size 0 in
-    let told : b ≡ closes_of (closing_of front s.size back) = is ∙ ap (λ (k : ℕ). closes_of (closing_of front k back)) size in (
-      λ h. closing_accepted front (replicate s.size 0) back s e long (yes_closed (closing_of front s.size back) (sym told ∙ h)),
-      λ accepted. told ∙ ap closes_of (accepted_closes front (replicate s.size 0) back s e long accepted),
+    let told : b ≡ is_ok (closing_of front s.size back) = is ∙ ap (λ (k : ℕ). is_ok (closing_of front k back)) size in (
+      λ h.
+          let a = yes_closed (closing_of front s.size back) (sym told ∙ h) in
+          (_, (closing_accepted front (replicate s.size 0) back s e long a.0 a.1).is),
+      λ accepted. told ∙ ap is_ok (accepted_closes front (replicate s.size 0) back s e long accepted).1,
     )

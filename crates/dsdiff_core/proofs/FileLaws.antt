@@ -16,9 +16,8 @@ use Rattle.dsd_bits.specs.Lacing.{unlaced_all}
 use Rattle.dsd_bits.specs.Layouts.{usual_layout}
 use Rattle.dsdiff_core.specs.declared.fault.DsdiffFault.{DsdiffFault}
 use Rattle.dsdiff_core.specs.Fields.{form_end, ids_in}
-use Rattle.dsdiff_core.specs.Files.{IsDsdiff, joined}
+use Rattle.dsdiff_core.specs.Files.{IsDsdiff, TellsProperty, joined}
 use Rattle.dsdiff_core.specs.Forms.{top_of}
-use Rattle.dsdiff_core.specs.Fronts.{TellsProperty}
 use Rattle.dsdiff_core.specs.Kinds.{has_id, is_property}
 use Rattle.dsdiff_core.specs.Marks.{IsWholeMark, mark_in}
 use Rattle.dsdiff_core.specs.Masters.{masters_of}
@@ -127,28 +126,60 @@ behind_type file s =
     let whole : s.start + s.size - s.start ≡ s.size = omega arith in
     sym (range_after file s.start (s.start + s.size) 4) ∙ ap (λ (k : ℕ). drop 4 (take k (drop s.start file))) whole
 
--- what is read is what the file is
-pub is_dsdiff : (file : List ℕ) (r : Content) → Parts file r → IsDsdiff file r
-is_dsdiff file r g =
+-- what was read of a sound property is what it tells
+pub record ToldProperty (file : List ℕ) (property : Span) (told : Told) : Type 0 where
+  pub tells : TellsProperty (span_chunk file property) told.rate (length told.ids)
+  pub ids : told.ids ≡ ids_in (length told.ids) (drop 2 tells.names.content)
+  pub parts : tells.parts ≡ map (span_chunk file) told.parts
+
+pub told_property : (file : List ℕ) (top : List Span) (told : Told) (p : IsProperty file top told) → ToldProperty file p.property told
+told_property file top told p =
+    let parts : List Chunk = map (span_chunk file) told.parts in
+    let in_parts = spans_found file (p.property.start + 4) (p.property.start + p.property.size) told.parts p.spans in
+    let rates = data_ok file FS told.parts p.rates p.at_rates in
+    let names = data_ok file CHNL told.parts p.names p.at_names in
+    let kinds = data_ok file CMPR told.parts p.kinds p.at_kinds in
+    let tells : IsTold (span_chunk file rates.0).content (span_chunk file names.0).content (span_chunk file kinds.0).content told.rate told.ids = rw (rates.2, names.2, kinds.2) p.is_told in
+    let n : ℕ = big_number 2 (span_chunk file names.0).content in
+    let number : length told.ids ≡ n = ap length tells.ids ∙ length-map-range_with_len (λ k. take 4 (drop (4 * k) (drop 2 (span_chunk file names.0).content))) 0 n in
+    let told_so : TellsProperty (span_chunk file p.property) told.rate (length told.ids) = record {
+      parts = parts;
+      are_parts = subst (λ (bs : List ℕ). chunks bs parts) (behind_type file p.property) in_parts.0;
+      rates = span_chunk file rates.0;
+      names = span_chunk file names.0;
+      kinds = span_chunk file kinds.0;
+      one_rate = one_chunk file (has_id FS) told.parts rates.0 p.once.0 rates.1;
+      one_names = one_chunk file (has_id CHNL) told.parts names.0 p.once.1.0 names.1;
+      one_kind = one_chunk file (has_id CMPR) told.parts kinds.0 p.once.1.1.0 kinds.1;
+      rate_long = tells.rate_long;
+      rate_is = tells.rate;
+      rate_low = tells.rate_low;
+      rate_high = tells.rate_high;
+      number_is = number;
+      some_channel = omega (arith, number, tells.some_channel);
+      six_channels = omega (arith, number, tells.six_channels);
+      names_long = omega (arith, number, tells.names_long);
+      raw = tells.raw;
+    } in
+    record {
+      tells = told_so;
+      ids = tells.ids ∙ ap (λ (k : ℕ). ids_in k (drop 2 (span_chunk file names.0).content)) (sym number);
+      parts = refl;
+    }
+
+is_made : (file : List ℕ) (r : Content) (g : Parts file r) → IsDsdiff file (made_of file g.top g.told g.sound g.inner)
+is_made file r g =
     let top : List Chunk = map (span_chunk file) g.top in
     let t = top_ok file g.top g.at_top in
     let in_top = spans_found file 16 (form_end file) g.top t.spans in
     let p = property_ok file g.top g.told g.at_told in
     let property : Chunk = span_chunk file p.property in
-    let parts : List Chunk = map (span_chunk file) g.told.parts in
-    let in_parts = spans_found file (p.property.start + 4) (p.property.start + p.property.size) g.told.parts p.spans in
-    let rates = data_ok file FS g.told.parts p.rates p.at_rates in
-    let names = data_ok file CHNL g.told.parts p.names p.at_names in
-    let kinds = data_ok file CMPR g.told.parts p.kinds p.at_kinds in
+    let property_is_told = told_property file g.top g.told p in
     let sounds = sound_ok (sound_leads top) (data_with file DSD g.top) (length g.told.ids) g.sound g.at_sound in
     let sound = data_ok file DSD g.top g.sound sounds.0 in
     let once : filter is_property top ≡ property ∷ [] = one_chunk file is_property g.top p.property t.once.1.0 p.found in
     let sound_once : filter (has_id DSD) top ≡ span_chunk file sound.0 ∷ [] = one_chunk file (has_id DSD) g.top sound.0 t.once.1.1.0 sound.1 in
-    let tells : IsTold (span_chunk file rates.0).content (span_chunk file names.0).content (span_chunk file kinds.0).content g.told.rate g.told.ids = rw (rates.2, names.2, kinds.2) p.is_told in
-    let n : ℕ = big_number 2 (span_chunk file names.0).content in
-    let number : length g.told.ids ≡ n = ap length tells.ids ∙ length-map-range_with_len (λ k. take 4 (drop (4 * k) (drop 2 (span_chunk file names.0).content))) 0 n in
-    let is_sound : IsSound (sound_leads top) (span_chunk file sound.0).content n =
-    subst (λ (k : ℕ). IsSound (sound_leads top) (span_chunk file sound.0).content k) number (subst (λ (bs : List ℕ). IsSound (sound_leads top) bs (length g.told.ids)) (sym sound.2) sounds.1) in
+    let is_sound : IsSound (sound_leads top) (span_chunk file sound.0).content (length g.told.ids) = subst (λ (bs : List ℕ). IsSound (sound_leads top) bs (length g.told.ids)) (sym sound.2) sounds.1 in
     let m = masters_ok file g.top g.inner g.at_inner in
     record {
       long = t.form.long;
@@ -169,36 +200,25 @@ is_dsdiff file r g =
       property_then_sound = order_ok top property (span_chunk file sound.0) is_sound.behind once sound_once;
       property_is = passes is_property top property [] once;
       sound_is = passes (has_id DSD) top (span_chunk file sound.0) [] sound_once;
-      parts = parts;
-      are_parts = subst (λ (bs : List ℕ). chunks bs parts) (behind_type file p.property) in_parts.0;
-      rates = span_chunk file rates.0;
-      names = span_chunk file names.0;
-      kinds = span_chunk file kinds.0;
-      one_rate = one_chunk file (has_id FS) g.told.parts rates.0 p.once.0 rates.1;
-      one_names = one_chunk file (has_id CHNL) g.told.parts names.0 p.once.1.0 names.1;
-      one_kind = one_chunk file (has_id CMPR) g.told.parts kinds.0 p.once.1.1.0 kinds.1;
-      rate_long = tells.rate_long;
-      rate = ap (λ (x : Content). x.rate) (sym g.made) ∙ tells.rate;
-      rate_low = rw (← g.made) tells.rate_low;
-      rate_high = rw (← g.made) tells.rate_high;
-      number = n;
-      number_is = refl;
-      some_channel = tells.some_channel;
-      six_channels = tells.six_channels;
-      names_long = tells.names_long;
-      ids = ap (λ (x : Content). x.ids) (sym g.made) ∙ tells.ids;
-      raw = tells.raw;
+      number = length g.told.ids;
+      tells = property_is_told.tells;
+      ids = property_is_told.ids;
       whole = is_sound.whole;
       not_long = is_sound.not_long;
-      channels = ap (λ (x : Content). x.channels) (sym g.made) ∙ ap (λ (k : ℕ). unlaced_all g.sound k) number ∙ ap (λ (bs : List ℕ). unlaced_all bs n) (sym sound.2);
+      channels = ap (λ (bs : List ℕ). unlaced_all bs (length g.told.ids)) (sym sound.2);
       masters = m.masters;
       are_masters = m.each;
       whole_marks = subst (λ (cs : List Chunk). All IsWholeMark (filter (has_id MARK) cs)) (sym m.inner) (whole_marks (map (span_chunk file) g.inner) m.none_is_cut);
-      marks = ap (λ (x : Content). x.marks) (sym g.made) ∙ ap (λ (cs : List Chunk). map mark_in (filter (has_id MARK) cs)) (sym m.inner);
-      others = ap (λ (x : Content). x.others) (sym g.made) ∙ ap (λ (cs : List Chunk). kept Property parts ++ (kept Master cs ++ kept Form top)) (sym m.inner);
-      layout = ap (λ (x : Content). x.layout) (sym g.made) ∙ ap usual_layout number;
-      tag = ap (λ (x : Content). x.tag) (sym g.made);
+      marks = ap (λ (cs : List Chunk). map mark_in (filter (has_id MARK) cs)) (sym m.inner);
+      others = ap (λ (cs : List Chunk). kept Property cs ++ (kept Master (map (span_chunk file) g.inner) ++ kept Form top)) (sym property_is_told.parts) ∙ ap (λ (cs : List Chunk). kept Property property_is_told.tells.parts ++ (kept Master cs ++ kept Form top)) (sym m.inner);
+      layout = refl;
+      tag = refl;
     }
+
+-- what is read is what the file is
+pub is_dsdiff : (file : List ℕ) (r : Content) → Parts file r → IsDsdiff file r
+is_dsdiff file r g =
+    subst (IsDsdiff file) g.made (is_made file r g)
 
 -- ---- the other way
 
@@ -253,64 +273,10 @@ property_told file top parts span property rate number t found same e =
       };
     }
 
--- and what is read of it is what it tells
-pub property_tells : (file : List ℕ) (top : List Span) (told : Told) (p : IsProperty file top told) → TellsProperty (span_chunk file p.property) told.rate (length told.ids)
-property_tells file top told p =
-    let parts : List Chunk = map (span_chunk file) told.parts in
-    let in_parts = spans_found file (p.property.start + 4) (p.property.start + p.property.size) told.parts p.spans in
-    let rates = data_ok file FS told.parts p.rates p.at_rates in
-    let names = data_ok file CHNL told.parts p.names p.at_names in
-    let kinds = data_ok file CMPR told.parts p.kinds p.at_kinds in
-    let tells : IsTold (span_chunk file rates.0).content (span_chunk file names.0).content (span_chunk file kinds.0).content told.rate told.ids = rw (rates.2, names.2, kinds.2) p.is_told in
-    let n : ℕ = big_number 2 (span_chunk file names.0).content in
-    let number : length told.ids ≡ n = ap length tells.ids ∙ length-map-range_with_len (λ k. take 4 (drop (4 * k) (drop 2 (span_chunk file names.0).content))) 0 n in
-    record {
-      parts = parts;
-      are_parts = subst (λ (bs : List ℕ). chunks bs parts) (behind_type file p.property) in_parts.0;
-      rates = span_chunk file rates.0;
-      names = span_chunk file names.0;
-      kinds = span_chunk file kinds.0;
-      one_rate = one_chunk file (has_id FS) told.parts rates.0 p.once.0 rates.1;
-      one_names = one_chunk file (has_id CHNL) told.parts names.0 p.once.1.0 names.1;
-      one_kind = one_chunk file (has_id CMPR) told.parts kinds.0 p.once.1.1.0 kinds.1;
-      rate_long = tells.rate_long;
-      rate_is = tells.rate;
-      rate_low = tells.rate_low;
-      rate_high = tells.rate_high;
-      number_is = number;
-      some_channel = omega (arith, number, tells.some_channel);
-      six_channels = omega (arith, number, tells.six_channels);
-      names_long = omega (arith, number, tells.names_long);
-      raw = tells.raw;
-    }
-
--- what the sound property of such a file tells
-is_told : (file : List ℕ) (r : Content) (h : IsDsdiff file r) → TellsProperty h.property r.rate h.number
-is_told file r h = record {
-  parts = h.parts;
-  are_parts = h.are_parts;
-  rates = h.rates;
-  names = h.names;
-  kinds = h.kinds;
-  one_rate = h.one_rate;
-  one_names = h.one_names;
-  one_kind = h.one_kind;
-  rate_long = h.rate_long;
-  rate_is = h.rate;
-  rate_low = h.rate_low;
-  rate_high = h.rate_high;
-  number_is = h.number_is;
-  some_channel = h.some_channel;
-  six_channels = h.six_channels;
-  names_long = h.names_long;
-  raw = h.raw;
-}
-
-pub is_property_of : (whole : List ℕ) (r : Content) (h : IsDsdiff whole r) (file : List ℕ) (top parts : List Span) (span : Span) → find (holds_property file) top ≡ Some span → span_chunk file span ≡ h.property → parts ≡ places (span.start + 4) h.parts
+pub is_property_of : (whole : List ℕ) (r : Content) (h : IsDsdiff whole r) (file : List ℕ) (top parts : List Span) (span : Span) → find (holds_property file) top ≡ Some span → span_chunk file span ≡ h.property → parts ≡ places (span.start + 4) h.tells.parts
     → IsProperty file top (told_by r.rate r.ids parts)
-unfolding is_told
 is_property_of whole r h file top parts span found same e =
-    subst (λ (ids : List (List ℕ)). IsProperty file top (told_by r.rate ids parts)) (sym h.ids) (property_told file top parts span h.property r.rate h.number (is_told whole r h) found same e)
+    subst (λ (ids : List (List ℕ)). IsProperty file top (told_by r.rate ids parts)) (sym h.ids) (property_told file top parts span h.property r.rate h.number h.tells found same e)
 
 -- what the file is is read
 pub parts_from : (file : List ℕ) (r : Content) → IsDsdiff file r → Parts file r
@@ -320,11 +286,11 @@ parts_from file r h =
     let order = order_again h.top h.property h.sound h.property_then_sound h.property_is h.sound_is in
     let p = stands file is_property top h.top h.property back order.0 in
     let s = stands file (has_id DSD) top h.top h.sound back order.1 in
-    let parts : List Span = places (p.span.start + 4) h.parts in
+    let parts : List Span = places (p.span.start + 4) h.tells.parts in
     let told : Told = told_by r.rate r.ids parts in
     let range : slice_range file (p.span.start + 4) (p.span.start + p.span.size) ≡ drop 4 h.property.content = behind_type file p.span ∙ ap (λ (c : Chunk). drop 4 c.content) p.is in
-    let parts_back : map (span_chunk file) parts ≡ h.parts = (spans_again file (p.span.start + 4) (p.span.start + p.span.size) h.parts (subst (λ (bs : List ℕ). chunks bs h.parts) (sym range) h.are_parts)).1 in
-    let number : length r.ids ≡ h.number = ap length h.ids ∙ length-map-range_with_len (λ k. take 4 (drop (4 * k) (drop 2 h.names.content))) 0 h.number in
+    let parts_back : map (span_chunk file) parts ≡ h.tells.parts = (spans_again file (p.span.start + 4) (p.span.start + p.span.size) h.tells.parts (subst (λ (bs : List ℕ). chunks bs h.tells.parts) (sym range) h.tells.are_parts)).1 in
+    let number : length r.ids ≡ h.number = ap length h.ids ∙ length-map-range_with_len (λ k. take 4 (drop (4 * k) (drop 2 h.tells.names.content))) 0 h.number in
     let sounds : IsSound (sound_leads (map (span_chunk file) top)) h.sound.content (length r.ids) = record {
       behind = ap sound_leads back ∙ leads_again h.top h.property (h.sound ∷ []) h.property_then_sound h.property_is;
       whole = ap (λ (n : ℕ). length h.sound.content % n) number ∙ h.whole;

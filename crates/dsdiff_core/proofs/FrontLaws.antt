@@ -134,9 +134,9 @@ tells front rest r h at l =
     let none : length (filter (span_has DSD) top) ≤ 1 = omega (arith, length-map (filter (span_has DSD) top) (span_chunk front), ap length no_sound) in
     let version = version_again (map (span_chunk front) top) (record { version = h.version; later = v.behind; is = again.1 ∙ v.first; id = version_is; long = h.version_long; main = h.version_main }) in
     let once = once_again (top_kinds front) [] top (vs.once, (ps.once, (none, tt))) in
-    let parts : List Span = places (ps.span.start + 4) h.parts in
+    let parts : List Span = places (ps.span.start + 4) h.tells.parts in
     let property = property_again front top (told_by r.rate r.ids parts) (is_property_of (front ++ rest) r h front top parts ps.span ps.found ps.is refl) in
-    let number : length r.ids ≡ h.number = ap length h.ids ∙ length-map-range_with_len (λ k. take 4 (drop (4 * k) (drop 2 h.names.content))) 0 h.number in
+    let number : length r.ids ≡ h.number = ap length h.ids ∙ length-map-range_with_len (λ k. take 4 (drop (4 * k) (drop 2 h.tells.names.content))) 0 h.number in
     let size_is : size_at front at ≡ length h.sound.content = sym (number_front 8 (at + 4) front rest (omega (arith, l.whole))) ∙ l.at_sound.size ∙ ap (λ (c : Chunk). length c.content) p.is_sound in
     let whole : size_at front at % length r.ids ≡ 0 = rw (size_is, number) h.whole in
     let short : 8 * (size_at front at / length r.ids) ≤ 2 ^ 36 = rw (size_is, number) h.not_long in
@@ -150,7 +150,7 @@ tells front rest r h at l =
       has = record {
         rate = refl;
         number = ap length channels ∙ length-map-range_with_len (unlaced h.sound.content (length r.ids)) 0 (length r.ids);
-        count = ap count_of channels ∙ unlaced_count h.sound.content (length r.ids) (omega (arith, number, h.some_channel)) ∙ ap (λ (k : ℕ). 8 * (k / length r.ids)) (sym size_is);
+        count = ap count_of channels ∙ unlaced_count h.sound.content (length r.ids) (omega (arith, number, h.tells.some_channel)) ∙ ap (λ (k : ℕ). 8 * (k / length r.ids)) (sym size_is);
         in_file = omega (arith, l.at_sound.inside, own);
         channels = channels ∙ ap (λ (bs : List ℕ). unlaced_all bs (length r.ids)) content;
       };

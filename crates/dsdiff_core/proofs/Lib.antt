@@ -5,6 +5,7 @@ pub mod ToldLaws
 pub mod FormEnds
 pub mod OtherSound
 pub mod ClosingLaws
+pub mod OutlineLaws
 pub mod SeekLoop
 pub mod Steps
 pub mod KindLaws
@@ -26,3 +27,4 @@ mod WrittenAgain
 mod WrittenForms
 mod WrittenMarks
 mod WrittenOthers
+mod WrittenParts

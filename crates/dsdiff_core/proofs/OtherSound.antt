@@ -58,7 +58,7 @@ skip_one test before later c d no_c no_d =
     let here : filter test (d ∷ later) ≡ filter test (c ∷ later) = rw (no_c, no_d) refl in
     filter-append test before (d ∷ later) ∙ ap (λ (L : List Chunk). filter test before ++ L) here ∙ sym (filter-append test before (c ∷ later))
 
-abbrev is_kept : Chunk → Bool
+abbrev pub is_kept : Chunk → Bool
 is_kept c = not (has_part Form c.id c.content)
 
 pub sound_not_kept : (c : Chunk) → has_id DSD c ≡ true → is_kept c ≡ false
@@ -153,25 +153,9 @@ other_sound front sound other back s r e size_s size_o h =
       property_then_sound = filter-append either l.before (sound' ∷ l.later) ∙ ap (λ (L : List Chunk). L ++ filter either (sound' ∷ l.later)) (only_properties l.before l.none ∙ p.one_property) ∙ ap (λ (L : List Chunk). h.property ∷ L) either_here;
       property_is = h.property_is;
       sound_is = l.is_sound;
-      parts = h.parts;
-      are_parts = h.are_parts;
-      rates = h.rates;
-      names = h.names;
-      kinds = h.kinds;
-      one_rate = h.one_rate;
-      one_names = h.one_names;
-      one_kind = h.one_kind;
-      rate_long = h.rate_long;
-      rate = h.rate;
-      rate_low = h.rate_low;
-      rate_high = h.rate_high;
       number = h.number;
-      number_is = h.number_is;
-      some_channel = h.some_channel;
-      six_channels = h.six_channels;
-      names_long = h.names_long;
+      tells = h.tells;
       ids = h.ids;
-      raw = h.raw;
       whole = ap (λ (k : ℕ). k % h.number) size_h ∙ h.whole;
       not_long = subst (λ (k : ℕ). 8 * (k / h.number) ≤ 2 ^ 36) (sym size_h) h.not_long;
       channels = ap (λ (k : ℕ). unlaced_all other k) (sym number);
@@ -179,7 +163,7 @@ other_sound front sound other back s r e size_s size_o h =
       are_masters = subst (λ (cs : List Chunk). AllZip (λ c ms. chunks c.content ms) cs h.masters) (sym masters_same) h.are_masters;
       whole_marks = h.whole_marks;
       marks = h.marks;
-      others = h.others ∙ ap (λ (L : List OtherContent). kept Property h.parts ++ (kept Master (joined h.masters) ++ L)) (sym kept_same);
+      others = h.others ∙ ap (λ (L : List OtherContent). kept Property h.tells.parts ++ (kept Master (joined h.masters) ++ L)) (sym kept_same);
       layout = h.layout;
       tag = h.tag;
     }

@@ -1,7 +1,8 @@
 -- What is read keeps to the rules of a recording.
-use Rattle.std.proofs.Common.{◌≡◌, ℕ, ◌*◌, ◌/◌, ◌^◌, ◌<◌, ◌≤◌, Bool, true, false, not, List, [], ◌∷◌, ◌++◌, length, get_or, map, refl, sym, ap, subst, ◌∙◌, arith}
+use Rattle.std.proofs.Common.{◌≡◌, ℕ, zero, suc, ◌+◌, ◌*◌, ◌/◌, ◌^◌, ◌<◌, ◌≤◌, Bool, true, false, not, List, [], ◌∷◌, ◌++◌, length, get_or, map, replicate, refl, sym, ap, subst, ◌∙◌, arith}
 use Rattle.std.specs.Prelude.{All, filter}
 use Rattle.std.specs.List.{range_with_len}
+use Rattle.std.proofs.Math.Nat.{zero-div}
 use Rattle.std.proofs.lemmas.List.{append-nil}
 use Rattle.std.proofs.lemmas.List.Elements.{All-append, All-map, All-weaker, filter-append, filter_passes}
 use Rattle.std.proofs.lemmas.List.FromFn.{length-map-range_with_len, get_or-map-range_with_len}
@@ -32,6 +33,15 @@ level_is : (sound : List ℕ) (n : ℕ) → 1 ≤ n → IsLevel (unlaced_all sou
 level_is sound n some = record {
   same = All-map (λ (channel : List Bool). length channel ≡ count_of (unlaced_all sound n)) (unlaced sound n) (range_with_len 0 n) (λ k d lt. channel_long sound n (get_or (range_with_len 0 n) k d) ∙ sym (count_is sound n some));
 }
+
+-- so many lists of nothing
+empties : (f : ℕ → List Bool) → ((k : ℕ) → f k ≡ []) → (a n : ℕ) → map f (range_with_len a n) ≡ replicate n []
+empties f none a zero = refl
+empties f none a (suc n) = rw (none a, empties f none (a + 1) n) refl
+
+-- no sound bytes are channels of no bits
+pub silent : (n : ℕ) → unlaced_all [] n ≡ replicate n []
+silent n = empties (unlaced [] n) (λ c. rw (zero-div n) refl) 0 n
 
 -- ---- what is kept
 

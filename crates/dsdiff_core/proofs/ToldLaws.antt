@@ -26,7 +26,7 @@ use Rattle.dsdiff_core.specs.Laws.{FoundIsTold, SoundIsTold}
 use Rattle.dsdiff_core.specs.Properties.{property_of}
 use Rattle.dsdiff_core.specs.Spans.{once_each, span_has, top_kinds}
 use Rattle.dsdiff_core.specs.Steps.{walked}
-use Rattle.dsdiff_core.proofs.FileLaws.{one_chunk, property_tells, property_told, stands, version_alone}
+use Rattle.dsdiff_core.proofs.FileLaws.{one_chunk, property_told, stands, told_property, version_alone}
 use Rattle.dsdiff_core.proofs.FormLaws.{IsVersion, same_again, version_again, version_ok}
 use Rattle.dsdiff_core.proofs.FrontLaws.{answers, found_leads, if_more, sought_of}
 use Rattle.dsdiff_core.proofs.KindLaws.{filter_chunks, id_is, passes}
@@ -105,7 +105,7 @@ told_at front at s form t e =
       version_main = l.version.main;
       property = span_chunk front p.property;
       one_property = subst (λ (cs : List Chunk). filter is_property cs ≡ span_chunk front p.property ∷ []) is_top (one_chunk front is_property top p.property l.once.1.0 p.found);
-      property_tells = property_tells front top told p;
+      property_tells = (told_property front top told p).tells;
       id = t.id;
       whole_head = t.whole;
       in_form = t.fits;

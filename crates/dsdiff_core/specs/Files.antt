@@ -18,6 +18,28 @@ use Rattle.dsdiff_core.specs.Others.{kept}
 abbrev pub joined : List (List Chunk) → List Chunk
 joined masters = flat_map (λ cs. cs) masters
 
+-- the chunk, a property of the sound, tells this rate and so many channels, uncompressed
+pub record TellsProperty (property : Chunk) (rate number : ℕ) : Type 0 where
+  -- of the chunks behind its type one each for the rate, the channels' names and the compression
+  pub parts : List Chunk
+  pub are_parts : chunks (drop 4 property.content) parts
+  pub rates : Chunk
+  pub names : Chunk
+  pub kinds : Chunk
+  pub one_rate : filter (has_id FS) parts ≡ rates ∷ []
+  pub one_names : filter (has_id CHNL) parts ≡ names ∷ []
+  pub one_kind : filter (has_id CMPR) parts ≡ kinds ∷ []
+  -- what their data say, within the limits
+  pub rate_long : 4 ≤ length rates.content
+  pub rate_is : rate ≡ big_number 4 rates.content
+  pub rate_low : least_rate ≤ rate
+  pub rate_high : rate ≤ greatest_rate
+  pub number_is : number ≡ big_number 2 names.content
+  pub some_channel : 1 ≤ number
+  pub six_channels : number ≤ 6
+  pub names_long : 2 + 4 * number ≤ length names.content
+  pub raw : take 4 kinds.content ≡ DSD
+
 -- the file holds this recording
 pub record IsDsdiff (file : List ℕ) (r : Content) : Type 0 where
   -- the form, whose last pad may be missing
@@ -40,27 +62,10 @@ pub record IsDsdiff (file : List ℕ) (r : Content) : Type 0 where
   pub property_then_sound : filter (λ c. is_property c || has_id DSD c) top ≡ property ∷ sound ∷ []
   pub property_is : is_property property ≡ true
   pub sound_is : has_id DSD sound ≡ true
-  -- the property's chunks behind its type: the rate, the channels' names and the compression once each
-  pub parts : List Chunk
-  pub are_parts : chunks (drop 4 property.content) parts
-  pub rates : Chunk
-  pub names : Chunk
-  pub kinds : Chunk
-  pub one_rate : filter (has_id FS) parts ≡ rates ∷ []
-  pub one_names : filter (has_id CHNL) parts ≡ names ∷ []
-  pub one_kind : filter (has_id CMPR) parts ≡ kinds ∷ []
-  -- rate, channels and their names, and no compression
-  pub rate_long : 4 ≤ length rates.content
-  pub rate : r.rate ≡ big_number 4 rates.content
-  pub rate_low : least_rate ≤ r.rate
-  pub rate_high : r.rate ≤ greatest_rate
+  -- the property tells the rate, and the channels with their names
   pub number : ℕ
-  pub number_is : number ≡ big_number 2 names.content
-  pub some_channel : 1 ≤ number
-  pub six_channels : number ≤ 6
-  pub names_long : 2 + 4 * number ≤ length names.content
-  pub ids : r.ids ≡ ids_in number (drop 2 names.content)
-  pub raw : take 4 kinds.content ≡ DSD
+  pub tells : TellsProperty property r.rate number
+  pub ids : r.ids ≡ ids_in number (drop 2 tells.names.content)
   -- whole frames of sound, one byte of each channel in turn
   pub whole : length sound.content % number ≡ 0
   pub not_long : 8 * (length sound.content / number) ≤ most_bits
@@ -71,6 +76,6 @@ pub record IsDsdiff (file : List ℕ) (r : Content) : Type 0 where
   pub whole_marks : All IsWholeMark (filter (has_id MARK) (joined masters))
   pub marks : r.marks ≡ map mark_in (filter (has_id MARK) (joined masters))
   -- what is kept as it is, and what the format does not tell
-  pub others : r.others ≡ kept Property parts ++ (kept Master (joined masters) ++ kept Form top)
+  pub others : r.others ≡ kept Property tells.parts ++ (kept Master (joined masters) ++ kept Form top)
   pub layout : r.layout ≡ usual_layout number
   pub tag : r.tag ≡ []

@@ -1,5 +1,5 @@
 -- Where the sound of a file stands, as the front of the file tells.
-use Rattle.std.specs.Prelude.{◌≡◌, ◌≤◌, ℕ, zero, suc, ◌+◌, ◌*◌, ◌/◌, ◌%◌, ◌-◌, min, Bool, true, false, ◌&&◌, ◌||◌, not, List, [], ◌∷◌, filter, length, map, take, drop, slice_index, slice_range, Option, Some, None, Result, Ok, Err, nat_eq, nat_lt, if◌then◌else◌}
+use Rattle.std.specs.Prelude.{◌≡◌, ◌≤◌, ℕ, zero, suc, ◌+◌, ◌*◌, ◌/◌, ◌%◌, ◌-◌, min, Bool, ◌||◌, not, List, [], ◌∷◌, filter, length, map, take, drop, slice_index, slice_range, Option, Some, None, Result, Ok, Err, nat_eq, nat_lt, if◌then◌else◌}
 use Rattle.byteorder.specs.Endian.{big_number}
 use Rattle.chunk_core.specs.declared.fault.ChunkFault.TheVariants.{DataCut}
 use Rattle.chunk_core.specs.declared.layout.Span.{Span}
@@ -11,12 +11,12 @@ use Rattle.dsd_bits.specs.declared.sound.Sound.{Sound}
 use Rattle.dsd_bits.specs.declared.sound.SoundAt.{SoundAt}
 use Rattle.dsd_bits.specs.declared.sound.SoundAt.TheVariants.{More, Refused, Found}
 use Rattle.dsd_bits.specs.Contents.{Content}
-use Rattle.dsd_bits.specs.Ids.{same_id, FVER, FS, CHNL, CMPR, DSD}
-use Rattle.dsd_bits.specs.Limits.{most_bits, least_rate, greatest_rate}
+use Rattle.dsd_bits.specs.Ids.{same_id, FVER, DSD}
+use Rattle.dsd_bits.specs.Limits.{most_bits}
 use Rattle.dsdiff_core.specs.declared.fault.DsdiffFault.{DsdiffFault}
-use Rattle.dsdiff_core.specs.declared.fault.DsdiffFault.TheVariants.{NotDsdiff, FormCut, Chunk as ChunkFails, NoSound, PartFrame, TooLong}
+use Rattle.dsdiff_core.specs.declared.fault.DsdiffFault.TheVariants.{NotDsdiff, FormCut, Chunk as ChunkFails, Twice, NoSound, PartFrame, TooLong}
 use Rattle.dsdiff_core.specs.Fields.{form_size}
-use Rattle.dsdiff_core.specs.Files.{IsDsdiff}
+use Rattle.dsdiff_core.specs.Files.{IsDsdiff, TellsProperty}
 use Rattle.dsdiff_core.specs.Forms.{version_of}
 use Rattle.dsdiff_core.specs.Kinds.{FRM8, has_id, is_property}
 use Rattle.dsdiff_core.specs.Masters.{masters_of}
@@ -46,28 +46,6 @@ pub record HoldsHead (front : List ℕ) : Type 0 where
   pub no_sound : filter (has_id DSD) before ≡ []
   pub id : take 4 (drop at front) ≡ DSD
   pub whole : at + 12 ≤ length front
-
--- the chunk, a property of the sound, tells this rate and so many channels, uncompressed
-pub record TellsProperty (property : Chunk) (rate number : ℕ) : Type 0 where
-  -- of the chunks behind its type one each for the rate, the channels' names and the compression
-  pub parts : List Chunk
-  pub are_parts : chunks (drop 4 property.content) parts
-  pub rates : Chunk
-  pub names : Chunk
-  pub kinds : Chunk
-  pub one_rate : filter (has_id FS) parts ≡ rates ∷ []
-  pub one_names : filter (has_id CHNL) parts ≡ names ∷ []
-  pub one_kind : filter (has_id CMPR) parts ≡ kinds ∷ []
-  -- what their data say, within the limits
-  pub rate_long : 4 ≤ length rates.content
-  pub rate_is : rate ≡ big_number 4 rates.content
-  pub rate_low : least_rate ≤ rate
-  pub rate_high : rate ≤ greatest_rate
-  pub number_is : number ≡ big_number 2 names.content
-  pub some_channel : 1 ≤ number
-  pub six_channels : number ≤ 6
-  pub names_long : 2 + 4 * number ≤ length names.content
-  pub raw : take 4 kinds.content ≡ DSD
 
 -- the front of a file tells of this sound: a form, in it chunks of which none is a sound, and the head of one
 pub record TellsSound (front : List ℕ) (s : Sound) : Type 0 where
@@ -199,10 +177,10 @@ end_behind front size back = min (left_behind front size) (length back)
 abbrev pub is_known : Chunk → Bool
 is_known c = has_id FVER c || (is_property c || has_id DSD c)
 
--- none of the chunks is
-abbrev pub none_known : List Chunk → Bool
-none_known [] = true
-none_known (c ∷ cs) = not (is_known c) && none_known cs
+-- none of the chunks is, or the first that is one stands a second time
+abbrev pub none_known : List Chunk → Result (Unit {0}) DsdiffFault
+none_known [] = Ok tt
+none_known (c ∷ cs) = if is_known c then Err (Twice c.id) else none_known cs
 
 -- the chunks behind a sound of this size, and behind its pad
 unfoldable pub later_of : List ℕ → ℕ → List ℕ → Result (List Span) DsdiffFault
@@ -210,19 +188,22 @@ later_of front size back =
     if nat_lt (length back + 1) (left_behind front size) then Err FormCut
     else walked (spans_in back (min (size % 2) (end_behind front size back)) (end_behind front size back))
 
--- the bytes behind a sound of this size close the file, or the first fault
-unfoldable pub closing_of : List ℕ → ℕ → List ℕ → Result Bool DsdiffFault
+-- the places of the chunks around a sound: those of the form before it and of the edited masters among them, and the same behind it
+pub record Around : Type 0 where
+  pub before : List Span
+  pub early : List Span
+  pub later : List Span
+  pub late : List Span
+
+-- the chunks around a sound of this size that the bytes behind it close, or the first fault
+unfoldable pub closing_of : List ℕ → ℕ → List ℕ → Result Around DsdiffFault
 closing_of front size back = do
   later ← later_of front size back
   before ← walked (spans_in front 16 (length front - 12))
   early ← masters_of front before
   late ← masters_of back later
-  Ok (none_known (map (span_chunk back) later))
-
--- whether the reading finds that they do
-abbrev pub closes_of : Result Bool DsdiffFault → Bool
-closes_of (Ok closed) = closed
-closes_of (Err e) = false
+  none ← none_known (map (span_chunk back) later)
+  Ok (record { before = before; early = early; later = later; late = late })
 
 -- the front of a file ends where a sound starts that it tells of
 abbrev pub EndsAtSound : List ℕ → Type 0

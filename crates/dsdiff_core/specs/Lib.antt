@@ -12,6 +12,7 @@ pub mod Properties
 pub mod Sounds
 pub mod Masters
 pub mod Fronts
+pub mod Outlines
 pub mod Reading
 pub mod Writing
 pub mod ReadAgain

@@ -1,12 +1,14 @@
 -- What is written is read again.
-use Rattle.std.specs.Prelude.{◌≡◌, ◌<◌, ℕ, ◌^◌, List, [], All, length, Some}
+use Rattle.std.specs.Prelude.{◌≡◌, ◌<◌, ℕ, ◌%◌, ◌^◌, Bool, List, [], ◌++◌, All, length, Some}
 use Rattle.std.specs.Int.{w32}
 use Rattle.std.specs.Int.RustNames.{FitsSigned}
+use Rattle.dsd_bits.specs.Channels.{count_of}
 use Rattle.dsd_bits.specs.Contents.{Content, MarkContent}
+use Rattle.dsd_bits.specs.Lacing.{laced}
 use Rattle.dsd_bits.specs.Layouts.{usual_layout}
 use Rattle.dsd_bits.specs.Shape.{HasShape}
 use Rattle.dsdiff_core.specs.Files.{IsDsdiff}
-use Rattle.dsdiff_core.specs.Writing.{dsdiff_text}
+use Rattle.dsdiff_core.specs.Writing.{dsdiff_text, head_text, tail_text}
 
 -- the numbers of a mark fit the fields that a file has for them
 pub record FitsMark (m : MarkContent) : Type 0 where
@@ -32,3 +34,9 @@ as_told r = record r { layout = usual_layout (length r.channels); tag = [] }
 -- a file that was written for a recording holds that recording, but for what a file does not tell
 abbrev pub WrittenReadAgain : Type 0
 WrittenReadAgain = (r : Content) (file : List ℕ) → HasShape r → FitsFields r → dsdiff_text r ≡ Some file → length file < 2 ^ 63 → IsDsdiff file (as_told r)
+
+-- the file of channels of whole bytes is a head, their bytes and a tail, and head and tail are those of any recording with the same parts beside the channels
+abbrev pub WrittenInParts : Type 0
+WrittenInParts =
+    (r : Content) (channels : List (List Bool)) → count_of channels % 8 ≡ 0
+    → dsdiff_text (record r { channels = channels }) ≡ Some (head_text r (length (laced channels)) ++ (laced channels ++ tail_text r (length (laced channels))))

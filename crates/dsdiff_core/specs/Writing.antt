@@ -1,5 +1,5 @@
 -- The bytes of the DSDIFF 1.5 file that holds a recording, made of lists of chunks.
-use Rattle.std.specs.Prelude.{ℕ, ◌+◌, ◌%◌, ◌==◌, if◌then◌else◌, List, [], ◌∷◌, ◌++◌, codes, flat_map, length, map, Option, Some, None}
+use Rattle.std.specs.Prelude.{ℕ, ◌+◌, ◌%◌, ◌==◌, if◌then◌else◌, List, [], ◌∷◌, ◌++◌, codes, flat_map, length, map, replicate, Option, Some, None}
 use Rattle.byteorder.specs.Endian.{big_bytes}
 use Rattle.chunk_core.specs.Chunks.{Chunk, spell}
 use Rattle.dsd_bits.specs.declared.marks.Place.{Place}
@@ -73,10 +73,24 @@ form_chunks r = version_chunk ∷ property_chunk r ∷ sound_chunk r ∷ last_ch
 abbrev pub form_text : List Chunk → List ℕ
 form_text cs = FRM8 ++ big_bytes 8 (4 + length (flat_map spell cs)) ++ DSD ++ flat_map spell cs
 
--- the bytes before the sound, with zero for the size of the form
-abbrev pub first_bytes : Content → List ℕ
-first_bytes r = FRM8 ++ big_bytes 8 0 ++ DSD ++ flat_map spell (version_chunk ∷ property_chunk r ∷ [])
-
 -- the file of a recording, whose channels end with a whole byte
 abbrev pub dsdiff_text : Content → Option (List ℕ)
 dsdiff_text r = if count_of r.channels % 8 == 0 then Some (form_text (form_chunks r)) else None
+
+-- ---- the same as three parts, of which the first and the last don't ask for the channels
+
+-- what stands before the sound
+abbrev pub first_chunks : Content → List Chunk
+first_chunks r = version_chunk ∷ property_chunk r ∷ []
+
+-- the bytes behind a sound of so many bytes: its pad, the edited master, then what was kept
+abbrev pub tail_text : Content → ℕ → List ℕ
+tail_text r size = replicate (size % 2) 0 ++ flat_map spell (last_chunks r)
+
+-- the size of the form of a sound of so many bytes: its type, the chunks before the sound, the head of the sound, the sound, and what stands behind it
+abbrev pub size_around : Content → ℕ → ℕ
+size_around r size = 4 + length (flat_map spell (first_chunks r)) + 12 + size + length (tail_text r size)
+
+-- the bytes before a sound of so many bytes: the head of the form, its type, the chunks before the sound, and the head of the sound
+abbrev pub head_text : Content → ℕ → List ℕ
+head_text r size = FRM8 ++ big_bytes 8 (size_around r size) ++ DSD ++ flat_map spell (first_chunks r) ++ DSD ++ big_bytes 8 size

@@ -1,17 +1,16 @@
-//! What stands behind the sound of a file.
+//! What the bytes around the sound of a file say of it.
 
-ghost use Rattle.std.specs.Prelude.{◌≡◌, ◌≤◌, ◌+◌, ◌-◌, ◌++◌, ◌↔◌, All, IfOk, length, map, not, replicate, true};
-ghost use Rattle.chunk_core.specs.Places.{span_chunk};
+ghost use Rattle.std.specs.Prelude.{◌≡◌, ◌≤◌, ◌+◌, ◌-◌, ◌++◌, ◌↔◌, IfOk, is_ok, length, replicate, true};
+ghost use Rattle.std.specs.Result.{result_ok};
 ghost use Rattle.dsd_bits.specs.declared.sound.Sound.{Sound};
 ghost use Rattle.dsdiff_core.specs.Fields.{form_size};
-ghost use Rattle.dsdiff_core.specs.Fronts.{EndsAt, EndsAtSound, IsAccepted, closes_of, closing_of, later_of, left_behind, is_known, none_known, size_at};
-ghost use Rattle.dsdiff_core.specs.Spans.{StandsIn};
-ghost use Rattle.dsdiff_core.specs.Steps.{Gives};
+ghost use Rattle.dsdiff_core.specs.Fronts.{EndsAt, EndsAtSound, IsAccepted, closing_of, left_behind, size_at};
+ghost use Rattle.dsdiff_core.specs.Outlines.{TellsOutline, outline_of};
 
+use crate::around::{chunks_around, left_behind};
 use crate::fault::DsdiffFault;
-use crate::masters::master_chunks;
-use crate::spans::is_sound_property;
-use chunk_core::{Order, Span, u64_at, walk};
+use crate::outlining::read_outline;
+use dsd_bits::Recording;
 use std::alloc::{AllocError, Global};
 
 /// How many bytes of the form stand behind the sound of a file that begins with `front`, which ends where the
@@ -41,83 +40,40 @@ pub fn closes(alloc: Global, front: &[u8], back: &[u8]) -> Result<bool, AllocErr
 fn answer(alloc: Global, front: &[u8], back: &[u8]) -> Result<bool, AllocError>
     requires long { 28 ≤ length front.now }
     requires fits { length front.now + size_at front.now (length front.now - 12) ≤ 12 + form_size front.now }
-    ensures { IfOk result (λ b. b ≡ closes_of (closing_of front.now (size_at front.now (length front.now - 12)) back.now)) }
+    ensures { IfOk result (λ b. b ≡ is_ok (closing_of front.now (size_at front.now (length front.now - 12)) back.now)) }
 {
-    match check_back(alloc, front, back) {
-        Ok(closed) => Ok(closed),
+    match chunks_around(alloc, front, back) {
+        Ok(_) => Ok(true),
         Err(DsdiffFault::Memory) => Err(AllocError),
         Err(_) => Ok(false),
     }
 }
 
-// Whether the form goes on to the end of `back` but for one byte, no chunk in it stands a second time, and the
-// marks of the edited masters are whole.
-#[tactic(auto, unfolding(crate::specs::Fronts::closing_of))]
-fn check_back(alloc: Global, front: &[u8], back: &[u8]) -> Result<bool, DsdiffFault>
-    requires long { 28 ≤ length front.now }
-    requires fits { length front.now + size_at front.now (length front.now - 12) ≤ 12 + form_size front.now }
-    ensures { Gives (λ b. b) result (closing_of front.now (size_at front.now (length front.now - 12)) back.now) }
+/// What a file tells beside its bits that is `front`, which ends where the sound starts, as many bytes as the
+/// sound has, and `back`: its recording with channels of no bits. `None` where no such file is accepted by
+/// [`crate::read`]. Which bytes the sound has does not matter.
+///
+/// It fails for want of memory alone.
+pub fn outline(alloc: Global, front: &[u8], back: &[u8]) -> Result<Option<Recording>, AllocError>
+    requires { EndsAtSound front.now }
+    ensures { (s : Sound) → EndsAt front.now s → IfOk result (TellsOutline front.now s back.now) }
 {
-    let later = later_chunks(alloc, front, back)?;
-    let top = walk(alloc, front, 16, front.len() - 12)?;
-    master_chunks(alloc, front, &top)?;
-    master_chunks(alloc, back, &later)?;
-    Ok(none_known(back, &later))
+    outline_in_order(alloc, front, back)
 }
 
-// The chunks behind the sound. Of the form one byte may be missing, a last pad.
-#[tactic(auto, unfolding(crate::specs::Fronts::later_of))]
-fn later_chunks(alloc: Global, front: &[u8], back: &[u8]) -> Result<Vec<Span>, DsdiffFault>
+// The same, by the order of refusals alone.
+fn outline_in_order(
+    alloc: Global,
+    front: &[u8],
+    back: &[u8],
+) -> Result<Option<Recording>, AllocError>
     requires long { 28 ≤ length front.now }
     requires fits { length front.now + size_at front.now (length front.now - 12) ≤ 12 + form_size front.now }
-    ensures exact { Gives (λ v. v.items) result (later_of front.now (size_at front.now (length front.now - 12)) back.now) }
-    ensures inside { IfOk result (λ v. All (StandsIn back.now) v.items) }
+    ensures { IfOk result (λ o. o ≡ result_ok (outline_of front.now (size_at front.now (length front.now - 12)) back.now)) }
 {
-    let left = left_behind(front);
-    if (back.len() as u64) + 1 < left {
-        return Err(DsdiffFault::FormCut);
+    match read_outline(alloc, front, back) {
+        Ok(recording) => Ok(Some(recording)),
+        Err(DsdiffFault::Memory) => Err(AllocError),
+        Err(_) => Ok(None),
     }
-    let end = left.min(back.len() as u64) as usize;
-    let pad = (size_at(front, front.len() - 12) % 2) as usize;
-    let later = walk(alloc, back, pad.min(end), end)?;
-    Ok(later)
-}
-
-// How many bytes of the form stand behind the sound, by the sizes of both.
-fn left_behind(front: &[u8]) -> u64
-    requires long { 28 ≤ length front.now }
-    requires fits { length front.now + size_at front.now (length front.now - 12) ≤ 12 + form_size front.now }
-    ensures { result ≡ left_behind front.now (size_at front.now (length front.now - 12)) }
-{
-    let at = front.len() - 12;
-    size_at(front, 0) - at as u64 - size_at(front, at)
-}
-
-// The size in the head at a place.
-fn size_at(front: &[u8], at: usize) -> u64
-    requires { at + 12 ≤ length front.now }
-    ensures { result ≡ size_at front.now at }
-{
-    u64_at(Order::Big, front, at + 4)
-}
-
-// Whether no chunk is a version, a sound property or a sound.
-fn none_known(file: &[u8], spans: &[Span]) -> bool
-    requires { All (StandsIn file.now) spans.now }
-    ensures { result ≡ none_known (map (span_chunk file.now) spans.now) }
-{
-    for span in spans {
-        if is_known(file, *span) {
-            return false;
-        }
-    }
-    true
-}
-
-// Whether the chunk is a version, a sound property or a sound.
-fn is_known(file: &[u8], span: Span) -> bool
-    requires { StandsIn file.now span }
-    ensures { result ≡ is_known (span_chunk file.now span) }
-{
-    span.id == *b"FVER" || is_sound_property(file, span) || span.id == *b"DSD "
 }

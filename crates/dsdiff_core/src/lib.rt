@@ -16,6 +16,10 @@
 //! where a mark is; [`mark_at`] makes the mark of a title that starts at a place. A recording whose
 //! channels end inside a byte has no file.
 //!
+//! A file can also be read and written around its sound, which is then never held: [`sound_at`] says where the
+//! sound starts, [`outline`] gives the recording without bits by what stands before the sound and behind it, and
+//! [`write_head`] and [`write_tail`] give what the file of a recording has around its sound.
+//!
 //! The words of its contracts:
 //! - `IsDsdiff file r` (`specs/Files.antt`): the file holds the recording `r`. It is said in lists of
 //!   chunks, part by part, and nothing in it walks.
@@ -28,6 +32,9 @@
 //! - `dsdiff_text r` (`specs/Writing.antt`): the bytes of the file of a recording, if it has one. They are made
 //!   of lists of chunks: `property_chunks` in the sound's property, `master_chunks` in the edited master,
 //!   `form_chunks` in the form, each spelled by `spell`; `form_text` puts the head before them.
+//! - `head_text r size`, `tail_text r size` (`specs/Writing.antt`): its parts around a sound of so many bytes, which
+//!   don't ask for the channels.
+//! - `TellsOutline front s back` (`specs/Outlines.antt`): what the bytes around a sound tell of a file.
 //! - `mark_bytes m` (`specs/MarkBytes.antt`): the bytes of a mark.
 //! - `place_of m rate` (`specs/MarkPlaces.antt`): the place of a mark, a whole number that may be below zero.
 //!   `title_mark place rate text` is the mark of a title, `IsAt m rate place` says where a mark is.
@@ -38,7 +45,7 @@
 //! each of these. A file holds one recording at most ([`one_recording`]).
 //! What is written is exactly `dsdiff_text`, [`WriteFault::NotWholeBytes`] comes exactly where there is none,
 //! and the file holds the recording as it is told. [`written_is_read_again`] carries the law behind that
-//! for a recording that is no value in memory.
+//! for a recording that is no value in memory, and [`written_in_parts`] that the file is its parts.
 //!
 //! ```text
 //! let recording = read(alloc, file)?;
@@ -49,8 +56,10 @@
 //! ```
 #![tactic(auto)]
 
+mod around;
 mod closing;
 mod fault;
+mod fields;
 mod form;
 mod front;
 mod laws;
@@ -58,6 +67,7 @@ mod marks;
 mod masters;
 mod once;
 mod others;
+mod outlining;
 mod places;
 mod property;
 mod reading;
@@ -67,8 +77,9 @@ mod write_fault;
 mod writing;
 mod writing_laws;
 
-pub use closing::{bytes_behind, closes};
+pub use closing::{bytes_behind, closes, outline};
 pub use fault::DsdiffFault;
+pub use fields::fields_fit;
 pub use front::sound_at;
 pub use laws::{
     accepted_files_have_a_head, accepted_files_tell_their_sound,
@@ -78,5 +89,5 @@ pub use laws::{
 pub use places::{mark_at, place};
 pub use reading::read;
 pub use write_fault::WriteFault;
-pub use writing::write;
-pub use writing_laws::written_is_read_again;
+pub use writing::{write, write_head, write_tail};
+pub use writing_laws::{written_in_parts, written_is_read_again};

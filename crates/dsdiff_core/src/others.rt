@@ -33,8 +33,8 @@ pub(crate) fn kept_chunks(
     Ok(others)
 }
 
-// Appends those of a place's chunks that are kept.
-fn push_kept(
+/// Appends those of a place's chunks that are kept.
+pub(crate) fn push_kept(
     alloc: Global,
     others: &mut Vec<Other>,
     place: Place,

@@ -1,6 +1,6 @@
 //! The sound: whole frames behind the sound property.
 
-ghost use Rattle.std.specs.Prelude.{◌≡◌, ◌≤◌, ◌*◌, ◌/◌, ◌%◌, All, IfOk, length, map};
+ghost use Rattle.std.specs.Prelude.{◌≡◌, ◌≤◌, ◌*◌, ◌/◌, ◌%◌, [], All, IfOk, length, map, replicate};
 ghost use Rattle.chunk_core.specs.Places.{span_chunk};
 ghost use Rattle.dsd_bits.specs.Ids.{DSD};
 ghost use Rattle.dsd_bits.specs.Lacing.{unlaced_all};
@@ -58,6 +58,14 @@ pub(crate) fn channels_of(
         Err(LaceFault::Memory) => Err(AllocError),
         Err(LaceFault::PartFrame | LaceFault::TooFewBytes) => unreachable!(),
     }
+}
+
+/// So many channels of no bits.
+pub(crate) fn silent_channels(alloc: Global, number: usize) -> Result<Vec<Bits>, AllocError>
+    requires { (1 ≤ number) × (number ≤ 6) }
+    ensures { IfOk result (λ made. made.items ≡ replicate number []) }
+{
+    channels_of(alloc, &[], number)
 }
 
 // Whether the sound stands before the sound property.

@@ -1,7 +1,7 @@
-//! What writing and reading have to do with each other. The function does nothing: a caller's proof
-//! cites what it ensures.
+//! What writing and reading have to do with each other. The functions do nothing: a caller's proof
+//! cites what they ensure.
 
-ghost use Rattle.dsdiff_core.specs.ReadAgain.{WrittenReadAgain};
+ghost use Rattle.dsdiff_core.specs.ReadAgain.{WrittenInParts, WrittenReadAgain};
 
 use chunk_core::spelled_again;
 use dsd_bits::laced_channels_are_read_again;
@@ -14,3 +14,9 @@ pub fn written_is_read_again()
     spelled_again();
     laced_channels_are_read_again();
 }
+
+/// The file of channels of whole bytes is what [`crate::write_head`] gives, their bytes, and what
+/// [`crate::write_tail`] gives, for any recording with the same parts beside the channels.
+pub fn written_in_parts()
+    ensures { WrittenInParts }
+{}

@@ -22,7 +22,7 @@ use Rattle.dsf_core.specs.declared.fault.DsfFault.{DsfFault}
 use Rattle.dsf_core.specs.declared.fault.DsfFault.TheVariants as faults
 use Rattle.dsf_core.specs.declared.fault.DsfFault.TheVariants.{HeadCut, DataCut}
 use Rattle.chunk_core.specs.Numbers.{id_at}
-use Rattle.dsf_core.specs.Fields.{u64_at, FMT, DATA, first_size, pointer, format_size, version, format, channel_number, rate, bits_per_sample, count, block_size, data_place, data_size, sound_place, needed, tag_told}
+use Rattle.dsf_core.specs.Fields.{u64_at, FMT, DATA, first_size, pointer, format_size, version, format, channel_type, channel_number, rate, bits_per_sample, count, block_size, data_place, data_size, sound_place, needed, tag_told}
 use Rattle.dsf_core.specs.Files.{IsDsf}
 use Rattle.dsf_core.specs.Fronts.{HoldsHead, IsAccepted, EndsAtSound, answer_of, sound_told, sound_in, sound_at}
 use Rattle.dsf_core.specs.Laws.{SoundDoesNotMatter, SoundEndsFront}
@@ -53,6 +53,7 @@ pub record SameFields (file front : List ℕ) : Type 0 where
   pub second_is : format_size file ≡ format_size front
   pub version_is : version file ≡ version front
   pub format_is : format file ≡ format front
+  pub type_is : channel_type file ≡ channel_type front
   pub number_is : channel_number file ≡ channel_number front
   pub rate_is : rate file ≡ rate front
   pub bits_is : bits_per_sample file ≡ bits_per_sample front
@@ -73,6 +74,7 @@ same_fields front rest h =
       second_is = size;
       version_is = number_front 4 40 front rest (omega (arith, h.fields));
       format_is = number_front 4 44 front rest (omega (arith, h.fields));
+      type_is = number_front 4 48 front rest (omega (arith, h.fields));
       number_is = number_front 4 52 front rest (omega (arith, h.fields));
       rate_is = number_front 4 56 front rest (omega (arith, h.fields));
       bits_is = number_front 4 60 front rest (omega (arith, h.fields));
@@ -91,6 +93,7 @@ same_back file front s = record {
   second_is = sym s.second_is;
   version_is = sym s.version_is;
   format_is = sym s.format_is;
+  type_is = sym s.type_is;
   number_is = sym s.number_is;
   rate_is = sym s.rate_is;
   bits_is = sym s.bits_is;

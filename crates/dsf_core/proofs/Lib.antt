@@ -1,5 +1,6 @@
 pub mod FileLaws
 pub mod FrontLaws
+pub mod OutlineLaws
 pub mod ToldLaws
 pub mod ShapeLaws
 pub mod WrittenAgain

@@ -83,18 +83,18 @@ pub written_again : BlocksReadAgain → WrittenReadAgain
 written_again again r order h short =
     let n = length r.channels in
     let c = count_of r.channels in
-    let g = sound_size r in
+    let g = sound_size r c in
     let sound = blocked order r.channels in
     let file = dsf_text r order in
     let groups = mul-le (div_ceil c 32768) n (2 ^ 21) 6 (omega (arith, h.in_limit)) h.six_channels in
     let small : g ≤ 12582912 * 4096 = omega (arith, groups) in
     let size : length sound ≡ g = length-map-range_with_len (block_byte order r.channels) 0 g in
-    let front_long : length (head_text r order ++ sound) ≡ 92 + g = length-append (head_text r order) sound ∙ ap (λ (m : ℕ). 92 + m) size in
-    let apart : file ≡ (head_text r order ++ sound) ++ r.tag = sym (append_assoc (head_text r order) sound r.tag) in
-    let long : length file ≡ 92 + g + length r.tag = ap length apart ∙ length-append (head_text r order ++ sound) r.tag ∙ ap (λ (m : ℕ). m + length r.tag) front_long in
+    let front_long : length (head_text r c order ++ sound) ≡ 92 + g = length-append (head_text r c order) sound ∙ ap (λ (m : ℕ). 92 + m) size in
+    let apart : file ≡ (head_text r c order ++ sound) ++ r.tag = sym (append_assoc (head_text r c order) sound r.tag) in
+    let long : length file ≡ 92 + g + length r.tag = ap length apart ∙ length-append (head_text r c order ++ sound) r.tag ∙ ap (λ (m : ℕ). m + length r.tag) front_long in
     let there = pointer_of r.tag (92 + g) in
-    let low : tag_place r < 256 ^ 8 = elim there [ inl none ↦ omega (arith, none.1) | inr some ↦ omega (arith, some, small) ] in
-    let reads = head_reads (92 + g + length r.tag) (tag_place r) r.layout n r.rate (bits_of order) c (12 + g) (sound ++ r.tag) low (omega (arith, layout_small r.layout n h.some_channel h.layout_fits)) (omega (arith, h.six_channels)) (omega (arith, h.rate_high)) (bits_small order) (omega (arith, h.in_limit)) (omega (arith, small)) in
+    let low : tag_place r c < 256 ^ 8 = elim there [ inl none ↦ omega (arith, none.1) | inr some ↦ omega (arith, some, small) ] in
+    let reads = head_reads (92 + g + length r.tag) (tag_place r c) r.layout n r.rate (bits_of order) c (12 + g) (sound ++ r.tag) low (omega (arith, layout_small r.layout n h.some_channel h.layout_fits)) (omega (arith, h.six_channels)) (omega (arith, h.rate_high)) (bits_small order) (omega (arith, h.in_limit)) (omega (arith, small)) in
     let needed_is : needed file ≡ g = ap (λ (m : ℕ). blocks_size m (count file)) reads.at_number ∙ ap (λ (m : ℕ). blocks_size n m) reads.at_count in
     let end_is : sound_end file ≡ 92 + g = ap (λ (m : ℕ). 92 + m) needed_is in
     record {
@@ -125,5 +125,5 @@ written_again again r order h short =
       layout_read = rw (reads.at_type, reads.at_number, eq-eqb (layout_channels r.layout) n h.layout_fits) refl;
       no_marks = refl;
       no_others = refl;
-      tag_read = tag_there file (head_text r order ++ sound) r.tag (92 + g) (omega arith) apart front_long reads.at_pointer;
+      tag_read = tag_there file (head_text r c order ++ sound) r.tag (92 + g) (omega arith) apart front_long reads.at_pointer;
     }

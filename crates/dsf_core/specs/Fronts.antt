@@ -1,5 +1,5 @@
 -- Where the sound of a file stands, as the front of the file tells, and which ends make a file of it.
-use Rattle.std.specs.Prelude.{◌≡◌, ◌≤◌, ℕ, ◌-◌, List, length, Some, Result, Ok, Err, nat_lt, if◌then◌else◌}
+use Rattle.std.specs.Prelude.{◌≡◌, ◌≤◌, ℕ, ◌+◌, ◌-◌, ◌⊎◌, List, [], ◌++◌, length, drop, replicate, Option, None, Some, Result, Ok, Err, nat_eq, nat_lt, if◌then◌else◌}
 use Rattle.chunk_core.specs.Numbers.{id_at}
 use Rattle.chunk_core.specs.Steps.{◌>>=◌}
 use Rattle.dsd_bits.specs.declared.blocks.BitOrder.{BitOrder}
@@ -8,10 +8,11 @@ use Rattle.dsd_bits.specs.declared.sound.SoundAt.{SoundAt}
 use Rattle.dsd_bits.specs.declared.sound.SoundAt.TheVariants.{More, Refused, Found}
 use Rattle.dsd_bits.specs.Contents.{Content}
 use Rattle.dsd_bits.specs.Ids.{DSD}
+use Rattle.dsd_bits.specs.Sounds.{sound_bytes, sound_channels}
 use Rattle.dsd_bits.specs.Limits.{most_bits, least_rate, greatest_rate, block_bytes}
 use Rattle.dsf_core.specs.declared.fault.DsfFault.{DsfFault}
 use Rattle.dsf_core.specs.declared.fault.DsfFault.TheVariants.{HeadCut, DataCut}
-use Rattle.dsf_core.specs.Fields.{FMT, DATA, first_size, format_size, version, format, channel_number, rate, bits_per_sample, count, block_size, data_place, data_size, sound_place, needed}
+use Rattle.dsf_core.specs.Fields.{FMT, DATA, first_size, format_size, version, format, channel_number, rate, bits_per_sample, count, block_size, data_place, data_size, sound_place, needed, tag_told}
 use Rattle.dsf_core.specs.Files.{IsDsf, bits_of}
 use Rattle.dsf_core.specs.Reading.{chunks_of, order_of}
 
@@ -82,3 +83,21 @@ sound_at front = if nat_lt (length front) 4 then More else answer_of (sound_in f
 -- the front of a file tells of its sound, and ends where that starts
 abbrev pub EndsAtSound : List ℕ → Type 0
 EndsAtSound front = (s : Sound) × (sound_at front ≡ Found s) × (s.start ≡ length front)
+
+-- ---- a file whose sound is not held
+
+-- the tag of a file that begins with this front, which ends where the sound starts, stands from this place on, behind the sound; 0 for none
+pub record IsTagPlace (front : List ℕ) (place : ℕ) : Type 0 where
+  pub tag : (rest : List ℕ) → tag_told (front ++ rest) ≡ (if nat_eq place 0 then [] else drop place (front ++ rest))
+  pub behind : (rest : List ℕ) → IsAccepted (front ++ rest) → (place ≡ 0) ⊎ ((length front + needed front ≤ place) × (place ≤ length (front ++ rest)))
+
+-- what a file of so many bytes that begins with this front, and has this tag, tells beside its bits: with the channels of the sound behind the front in the place of those of no bits it is the recording
+pub record IsOutline (front : List ℕ) (total : ℕ) (tag : List ℕ) (outline : Content) : Type 0 where
+  pub no_bits : (s : Sound) → sound_at front ≡ Found s → outline.channels ≡ replicate s.channels []
+  pub filled : (rest : List ℕ) (s : Sound) (order : BitOrder) → length (front ++ rest) ≡ total → tag ≡ tag_told (front ++ rest) → sound_at front ≡ Found s → s.order ≡ Some order
+      → IsDsf (front ++ rest) (record outline { channels = sound_channels s.order s.channels s.count (sound_bytes (front ++ rest) s) }) order
+
+-- it is this outline, or no file of so many bytes that begins with this front is accepted
+abbrev pub TellsOutline : List ℕ → ℕ → List ℕ → Option Content → Type 0
+TellsOutline front total tag None = (rest : List ℕ) → length (front ++ rest) ≡ total → IsAccepted (front ++ rest) → ⊥
+TellsOutline front total tag (Some outline) = IsOutline front total tag outline

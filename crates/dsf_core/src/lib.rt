@@ -14,6 +14,10 @@
 //!
 //! [`write`] gives the bytes of the file that holds a recording, all of them or none, in either order.
 //!
+//! A file can be read with its sound bytes passed by: [`sound_at`] finds the sound from the front of the file,
+//! [`tag_at`] where the tag stands, and [`outline`] gives from both the recording without its bits, which
+//! [`head`] takes to what stands before the sound bytes of the file that is written.
+//!
 //! The words of its contracts:
 //! - `IsDsf file r order` (`specs/Files.antt`): the file holds the recording `r` in this order. It names
 //!   the fields of `specs/Fields.antt`, one by one, and nothing in it walks.
@@ -21,6 +25,9 @@
 //!   first fault.
 //! - `Gives` (`specs/Steps.antt`): what a function gives of a reading when memory may run out.
 //! - `dsf_text r order` (`specs/Writing.antt`): the bytes of the file of a recording.
+//! - `head_text r count order`: those before the sound, of so many bits a channel.
+//! - `TellsOutline front total tag` (`specs/Fronts.antt`): the outline of the files that begin so, or that none of
+//!   them is accepted. `IsTagPlace front place`: where their tag stands.
 //! - `as_told r` (`specs/ReadAgain.antt`): the recording without what a file does not tell: with the IDs of
 //!   a file that was read, and with no marks and kept chunks.
 //!
@@ -44,6 +51,7 @@ mod fields;
 mod format;
 mod front;
 mod laws;
+mod outlines;
 mod reading;
 mod sound;
 mod writing;
@@ -55,6 +63,7 @@ pub use laws::{
     accepted_files_have_a_head, accepted_files_tell_their_sound, bytes_of_sound_do_not_matter,
     front_ends_at_sound, one_recording, what_is_told_is_found,
 };
+pub use outlines::{outline, tag_at};
 pub use reading::read;
-pub use writing::write;
+pub use writing::{head, write};
 pub use writing_laws::written_is_read_again;

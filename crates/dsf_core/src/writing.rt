@@ -1,9 +1,10 @@
 //! From a recording to the bytes of a file.
 
-ghost use Rattle.std.specs.Prelude.{◌≡◌, ◌≤◌, ◌++◌, IfOk, OnOk};
+ghost use Rattle.std.specs.Prelude.{◌≡◌, ◌≤◌, ◌+◌, ◌++◌, IfOk, OnOk, if◌then◌else◌, nat_eq};
+ghost use Rattle.dsd_bits.specs.Limits.{most_bits};
 ghost use Rattle.dsf_core.specs.Files.{IsDsf, bits_of};
 ghost use Rattle.dsf_core.specs.ReadAgain.{as_told};
-ghost use Rattle.dsf_core.specs.Writing.{data_text, dsf_text, first_text, format_text, head_text, sound_size, tag_place};
+ghost use Rattle.dsf_core.specs.Writing.{data_text, dsf_text, first_text, format_text, head_text};
 
 use crate::fields::{FIRST_SIZE, FORMAT_SIZE, HEAD_SIZE, RAW_DSD, VERSION};
 use crate::writing_laws::written_is_read_again;
@@ -31,48 +32,70 @@ pub fn write(alloc: Global, recording: &Recording, order: BitOrder) -> Result<Ve
 {
     let channels = recording.channels();
     let tag = recording.tag();
-    let size = blocks_size(channels.len(), recording.count());
+    let count = recording.count();
+    let size = blocks_size(channels.len(), count);
     let mut out = Vec::with_capacity(alloc, FRONT_SIZE + size + tag.len())?;
-    push_front(&mut out, recording, order, size as u64)?;
+    push_head(&mut out, recording, count, order)?;
     push_blocks(&mut out, channels, order)?;
     out.extend_from_slice(tag)?;
     written_is_read_again();
     Ok(out)
 }
 
-// Appends the bytes before the sound, which has so many bytes.
-fn push_front(
+/// The 92 bytes before the sound of the DSF 1.01 file that holds the recording with `count` bits, at most
+/// `2^36`, in each channel. The bits of its channels are not looked at, only their number: so the head of a
+/// file is written from its outline, before its sound is read. [`write`] begins with it, and goes on with the
+/// sound bytes and the tag.
+pub fn head(
+    alloc: Global,
+    recording: &Recording,
+    count: usize,
+    order: BitOrder,
+) -> Result<Vec<u8>, AllocError>
+    requires in_limit { count ≤ most_bits }
+    ensures text { IfOk result (λ head. head.items ≡ head_text recording.now count order) }
+{
+    let mut out = Vec::with_capacity(alloc, FRONT_SIZE)?;
+    push_head(&mut out, recording, count, order)?;
+    Ok(out)
+}
+
+// Appends the bytes before the sound of so many bits a channel.
+fn push_head(
     out: &mut Vec<u8>,
     recording: &Recording,
+    count: usize,
     order: BitOrder,
-    size: u64,
 ) -> Result<(), AllocError>
-    requires size { size ≡ sound_size recording.now }
-    requires in_limit { size ≤ 51539607552 }
-    ensures { OnOk result (out.new.items ≡ out.old.items ++ head_text recording.now order) }
+    requires in_limit { count ≤ most_bits }
+    ensures { OnOk result (out.new.items ≡ out.old.items ++ head_text recording.now count order) }
 {
-    let total = FRONT_SIZE as u64 + size + recording.tag().len() as u64;
-    let pointer = tag_place(recording, size);
-    push_first(out, total, pointer)?;
+    let number = recording.channels().len();
+    let size = blocks_size(number, count) as u64;
+    let tag_size = recording.tag().len() as u64;
+    push_first(
+        out,
+        FRONT_SIZE as u64 + size + tag_size,
+        tag_place(tag_size, size),
+    )?;
     push_format(
         out,
         recording.layout(),
-        recording.channels().len() as u32,
+        number as u32,
         recording.rate(),
         bits_per_sample(order),
-        recording.count() as u64,
+        count as u64,
     )?;
     push_data_head(out, HEAD_SIZE as u64 + size)?;
     Ok(())
 }
 
-// Where the tag stands behind so many sound bytes, and 0 for none.
-fn tag_place(recording: &Recording, size: u64) -> u64
-    requires size { size ≡ sound_size recording.now }
+// Where a tag of so many bytes stands behind so many sound bytes, and 0 for none.
+fn tag_place(tag_size: u64, size: u64) -> u64
     requires in_limit { size ≤ 51539607552 }
-    ensures { result ≡ tag_place recording.now }
+    ensures { result ≡ (if nat_eq tag_size 0 then 0 else 92 + size) }
 {
-    if recording.tag().is_empty() {
+    if tag_size == 0 {
         return 0;
     }
     FRONT_SIZE as u64 + size

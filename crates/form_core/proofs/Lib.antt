@@ -1,1 +1,2 @@
 pub mod OpeningLaws
+pub mod PartLaws

@@ -1,7 +1,8 @@
 //! The forms of file that hold a one-bit recording.
 //!
 //! [`read_any`] reads a DSDIFF 1.5 or DSF 1.01 file, and [`write_in`] makes the file of a [`Form`] that holds
-//! a recording; [`dropped_in`] counts what such a file has no place for.
+//! a recording; [`dropped_in`] counts what such a file has no place for. [`ends_in`] makes what stands around the sound
+//! of that file from a recording without its bits, and [`order_in`] says how the sound between is interleaved.
 //!
 //! The words of its contracts:
 //!
@@ -11,6 +12,8 @@
 //! - `opened_of file` is the reading in a fixed order, to the form and the recording or the first fault; `Opens`
 //!   says that a call answered it, want of memory aside (`specs/Opening.antt`). That what a file holds is what
 //!   reading it comes to is the law on [`held_is_opened`].
+//! - `head_in form r count` and `tail_in form r count` are what stands before and behind the sound of so many bits a
+//!   channel (`specs/Parts.antt`). That `text_in` is both around the sound bytes is the law on [`written_in_parts`].
 //! - `HoldsSound form r bytes` says that the bytes are a file of the form with the recording's sound
 //!   (`specs/Writing.antt`).
 //!
@@ -29,13 +32,15 @@ mod fault;
 mod form;
 mod laws;
 mod opening;
+mod parts;
 mod shape;
 mod writing;
 
 pub use dsdiff_core::WriteFault;
 pub use fault::ReadFault;
 pub use form::Form;
-pub use laws::held_is_opened;
+pub use laws::{held_is_opened, written_in_parts};
 pub use opening::{Opened, read_any};
+pub use parts::{Ends, ends_in, order_in};
 pub use shape::has_shape;
 pub use writing::{dropped_in, write_in};

@@ -4,7 +4,7 @@ use Rattle.std.specs.List.{flat_map, range_with_len}
 use Rattle.std.proofs.Math.Nat.{mul-le-mul_right}
 use Rattle.std.proofs.lemmas.Grind.{flat_map-append, same_number_lists}
 use Rattle.std.proofs.lemmas.Int.{to_z-of_z, fits_signed_from_abs}
-use Rattle.std.proofs.lemmas.List.{append-nil, take_all}
+use Rattle.std.proofs.lemmas.List.{append-nil, take_all, take_more}
 use Rattle.std.proofs.Math.Seq.{take-add}
 use Rattle.std.proofs.lemmas.Nat.{div-mul-add, mod-mul-add, mul-add-lt}
 use Rattle.wave_core.specs.Frames.{frame_of, frames_of}
@@ -115,3 +115,11 @@ module _ (width : ℕ) (known : (width ≡ 16) ⊎ (width ≡ 24)) (samples : Li
   -- bytes of which each is the sample's at its place
   pub frames_joined : to ≡ flat_map (sample_bytes width) (frames_of samples frames)
   frames_joined = sym (take_all (frames * (length samples / frames) * (width / 8)) to (omega (arith, whole))) ∙ first_joined frames (omega arith)
+
+-- one value more is written out
+pub flat_map_more : (f : ℤ → List ℕ) (xs : List ℤ) (i : ℕ) (old mid new : List ℕ) → i < length xs → mid ≡ old ++ flat_map f (take i xs) → new ≡ mid ++ f (get_or xs i (pos 0)) → new ≡ old ++ flat_map f (take (i + 1) xs)
+flat_map_more f xs i old mid new h before is =
+    let v = get_or xs i (pos 0) in
+    let done = flat_map f (take i xs) in
+    is ∙ ap (λ l. l ++ f v) before ∙ append_assoc old done (f v)
+    ∙ ap (λ l. old ++ l) (sym (ap (flat_map f) (take_more xs i (pos 0) h) ∙ flat_map-append f (take i xs) (v ∷ []) ∙ ap (λ l. done ++ l) (append-nil (f v))))

@@ -26,7 +26,7 @@ pub fn push_sample(out: &mut Vec<u8>, width: u32, value: i32) -> Result<(), Allo
 }
 
 /// Appends frames, each a sample of each channel in order, as of [`push_sample`]. The samples are given
-/// channel by channel, `frames` of each. After a refused growth a front of the frames may be appended.
+/// channel by channel, `frames` of each. A refused growth leaves `out` as it was.
 pub fn push_frames(
     out: &mut Vec<u8>,
     width: u32,
@@ -36,7 +36,8 @@ pub fn push_frames(
     requires width { IsWidth width }
     requires values { All (IsSample width) samples.now }
     requires frames { 1 ≤ frames }
-    ensures { OnOk result (out.new.items ≡ out.old.items ++ flat_map (sample_bytes width) (frames_of samples.now frames)) }
+    ensures ok { OnOk result (out.new.items ≡ out.old.items ++ flat_map (sample_bytes width) (frames_of samples.now frames)) }
+    ensures unchanged { OnErr result (out.new.items ≡ out.old.items) }
 {
     let before = out.len();
     let channels = samples.len() / frames;

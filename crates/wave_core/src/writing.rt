@@ -1,8 +1,8 @@
 //! From samples to the bytes of a file.
 
-ghost use Rattle.std.specs.Prelude.{◌≡◌, ◌↔◌, ◌++◌, IfOk, OnOk, None, Some};
+ghost use Rattle.std.specs.Prelude.{◌≡◌, ◌↔◌, ◌++◌, All, IfOk, OnOk, None, Some};
 ghost use Rattle.std.specs.List.{flat_map};
-ghost use Rattle.wave_core.specs.Contents.{IsPcm};
+ghost use Rattle.wave_core.specs.Contents.{IsSample, IsWidth};
 ghost use Rattle.wave_core.specs.Laws.{PartsJoin};
 ghost use Rattle.wave_core.specs.Texts.{sample_bytes, wave_text};
 
@@ -29,17 +29,19 @@ pub fn write(alloc: Global, pcm: &Pcm) -> Result<Vec<u8>, WaveFault>
     };
     let mut out = Vec::with_capacity(alloc, 8 + sizes.riff_size as usize)?;
     push_fields(&mut out, spec, &sizes)?;
-    push_samples(&mut out, pcm)?;
+    push_samples(&mut out, spec.width, &pcm.samples)?;
     spec.push_pad(&mut out, frames)?;
     Ok(out)
 }
 
-// Appends all samples.
-fn push_samples(out: &mut Vec<u8>, pcm: &Pcm) -> Result<(), AllocError>
-    ensures { OnOk result (out.new.items ≡ out.old.items ++ flat_map (sample_bytes pcm.now.width) pcm.now.samples) }
+// Appends samples of `width` bits.
+fn push_samples(out: &mut Vec<u8>, width: u32, samples: &[i32]) -> Result<(), AllocError>
+    requires width { IsWidth width }
+    requires values { All (IsSample width) samples.now }
+    ensures { OnOk result (out.new.items ≡ out.old.items ++ flat_map (sample_bytes width) samples.now) }
 {
-    for value in &pcm.samples {
-        push_sample(out, pcm.spec.width, *value)?;
+    for value in samples {
+        push_sample(out, width, *value)?;
     }
     Ok(())
 }

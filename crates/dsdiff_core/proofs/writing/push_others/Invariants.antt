@@ -1,12 +1,8 @@
-use Rattle.std.proofs.Common.{◌≡◌, ◌++◌, All, flat_map, length, map, take}
+use Rattle.std.proofs.Common.{◌≡◌, ◌++◌, flat_map, map, take}
 use Rattle.chunk_core.specs.Chunks.{spell}
 use Rattle.dsd_bits.specs.Contents.{other_content}
-use Rattle.dsd_bits.specs.Shape.{at_place}
 use Rattle.dsdiff_core.specs.Writing.{others_of}
 use Rattle.dsdiff_core.proofs.writing.push_others.Given as goal
 
 abbrev pub invariant-loop-other : goal.invariant-loop-other
-invariant-loop-other l = record {
-  text : l.out.items ≡ l.fn.out.items ++ flat_map spell (others_of l.place (map other_content (take l.other-index l.others)));
-  fits : All (λ o. length o.id ≡ 4) (at_place l.place (map other_content (take l.other-index l.others)));
-}
+invariant-loop-other l = l.out.items ≡ l.fn.out.items ++ flat_map spell (others_of l.place (map other_content (take l.other-index l.others)))

@@ -4,4 +4,4 @@ use Rattle.wave_core.specs.Texts.{sample_bytes}
 use Rattle.wave_core.proofs.writing.push_samples.Given as goal
 
 abbrev pub invariant-loop-value : goal.invariant-loop-value
-invariant-loop-value l = l.out.items ≡ l.initial.out.items ++ flat_map (sample_bytes l.pcm.width) (take l.value-index l.pcm.samples)
+invariant-loop-value l = l.out.items ≡ l.initial.out.items ++ flat_map (sample_bytes l.width) (take l.value-index l.samples)

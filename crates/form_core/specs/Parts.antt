@@ -1,0 +1,39 @@
+-- The file of a form in three parts: what stands before the sound, the sound, and what stands behind it.
+use Rattle.std.specs.Prelude.{◌≡◌, ℕ, ◌*◌, ◌/◌, ◌%◌, Bool, List, ◌++◌, length, Option, Some, None}
+use Rattle.dsd_bits.specs.declared.blocks.BitOrder.{BitOrder}
+use Rattle.dsd_bits.specs.declared.blocks.BitOrder.TheVariants.{LeastFirst, MostFirst}
+use Rattle.dsd_bits.specs.Channels.{count_of}
+use Rattle.dsd_bits.specs.Contents.{Content}
+use Rattle.dsdiff_core.specs.Writing as dsdiff
+use Rattle.dsf_core.specs.Writing as dsf
+use Rattle.relace_core.specs.Relacing.{laced_in}
+use Rattle.form_core.specs.declared.form.Form.{Form}
+use Rattle.form_core.specs.declared.form.Form.TheVariants.{Dsdiff, Dsf, Dsf8}
+use Rattle.form_core.specs.Forms.{text_in}
+
+-- the order of the bits in a form's blocks; none for DSDIFF's frames of one byte of each channel
+abbrev pub order_in : Form → Option BitOrder
+order_in Dsdiff = None
+order_in Dsf = Some LeastFirst
+order_in Dsf8 = Some MostFirst
+
+-- a form has a place for channels of so many bits: DSDIFF's frames hold whole bytes
+abbrev pub FitsIn : Form → ℕ → Type 0
+FitsIn form count = order_in form ≡ None → count % 8 ≡ 0
+
+-- the bytes before the sound of a file that is written for a recording with so many bits in each channel
+abbrev pub head_in : Form → Content → ℕ → List ℕ
+head_in Dsdiff r count = dsdiff.head_text r (count / 8 * length r.channels)
+head_in Dsf r count = dsf.head_text r count LeastFirst
+head_in Dsf8 r count = dsf.head_text r count MostFirst
+
+-- the bytes behind it
+abbrev pub tail_in : Form → Content → ℕ → List ℕ
+tail_in Dsdiff r count = dsdiff.tail_text r (count / 8 * length r.channels)
+tail_in Dsf r count = r.tag
+tail_in Dsf8 r count = r.tag
+
+-- the file of channels is a head, their bytes and a tail, and head and tail are those of any recording with as many channels and the same parts beside
+abbrev pub WrittenInParts : Type 0
+WrittenInParts = (form : Form) (r : Content) (channels : List (List Bool)) → length r.channels ≡ length channels → FitsIn form (count_of channels)
+    → text_in form (record r { channels = channels }) ≡ Some (head_in form r (count_of channels) ++ (laced_in (order_in form) channels ++ tail_in form r (count_of channels)))

@@ -1,0 +1,4 @@
+pub mod FrameLaws
+pub mod JoinLaws
+pub mod PlaceLaws
+pub mod TakenLaws

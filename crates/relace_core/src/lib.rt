@@ -1,0 +1,26 @@
+//! Sound bytes of one interleaving written in another, a stretch at a time.
+//!
+//! An interleaving is an `Option` of a [`dsd_bits::BitOrder`], as of [`dsd_bits::Sound`]: None for the frames of
+//! DSDIFF 1.5, one byte of each channel in turn, and an order for the blocks of DSF 1.01, 4096 bytes of each channel in
+//! turn with their bits in that order. A group, 4096 bytes (32768 bits) of each channel, is the same sound in both.
+//!
+//! [`push_relaced`] appends the bytes of a stretch in the other interleaving. Whole groups and what stands behind them
+//! can be written one after the other ([`groups_join`]), so that a file is converted while it is read.
+//!
+//! The words of the contracts (`specs/Relacing.antt`):
+//! - `relaced from to channels count bytes` is what is written: the sound bytes, by `to`, of the channels that stand in
+//!   the bytes by `from`.
+//! - `laced_in to channels` are the sound bytes of channels.
+//!
+//! ```text
+//! let stretch = Stretch { channels: 2, count: 16 };
+//! push_relaced(alloc, &mut out, &[0xf0, 0x0f, 0xaa, 0x55], stretch, None, Some(BitOrder::MostFirst))?;
+//! // f0 aa and 4094 zeros, 0f 55 and 4094 zeros
+//! ```
+#![tactic(auto)]
+
+mod laws;
+mod relacing;
+
+pub use laws::groups_join;
+pub use relacing::{Stretch, push_relaced};

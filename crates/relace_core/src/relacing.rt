@@ -1,0 +1,112 @@
+//! Sound bytes of one interleaving written in another.
+
+ghost use Rattle.std.specs.Prelude.{◌≡◌, ◌≤◌, ◌*◌, ◌/◌, ◌%◌, ◌++◌, IfOk, None, OnErr, OnOk, Some, length};
+ghost use Rattle.dsd_bits.specs.Blocks.{blocks_size};
+ghost use Rattle.dsd_bits.specs.Channels.{IsLevel, count_of};
+ghost use Rattle.dsd_bits.specs.Limits.{most_bits};
+ghost use Rattle.dsd_bits.specs.Sounds.{sound_channels, sound_size};
+ghost use Rattle.relace_core.specs.Relacing.{relaced};
+
+use dsd_bits::{BitOrder, Bits, LaceFault, push_blocks, push_laced, unlace_blocks, unlace_bytes};
+use std::alloc::{AllocError, Global};
+
+/// How many channels a stretch of sound has, and how many bits each of them.
+#[derive(Clone, Copy, Debug, PartialEq, Eq)]
+pub struct Stretch {
+    /// One to six channels.
+    pub channels: usize,
+    /// The bits of each, at most `2^36`.
+    pub count: usize,
+}
+
+/// Appends the sound bytes of a stretch, which stand in `bytes` interleaved as `from` says, interleaved as `to`
+/// says: a byte of each channel in turn for None, whole bytes of each channel, else blocks of 4096 bytes of each
+/// channel with their bits in that order. What stands behind the bits in the last blocks is not looked at, and
+/// is written as zeros. Where there is no memory for them `out` stays as it was.
+pub fn push_relaced(
+    alloc: Global,
+    out: &mut Vec<u8>,
+    bytes: &[u8],
+    stretch: Stretch,
+    from: Option<BitOrder>,
+    to: Option<BitOrder>,
+) -> Result<(), AllocError>
+    requires channel_number { (1 ≤ stretch.channels) × (stretch.channels ≤ 6) }
+    requires in_limit { stretch.count ≤ most_bits }
+    requires size { length bytes.now ≡ sound_size from stretch.channels stretch.count }
+    requires from_whole { from ≡ None → stretch.count % 8 ≡ 0 }
+    requires to_whole { to ≡ None → stretch.count % 8 ≡ 0 }
+    ensures ok { OnOk result (out.new.items ≡ out.old.items ++ relaced from to stretch.channels stretch.count bytes.now) }
+    ensures err { OnErr result (out.new.items ≡ out.old.items) }
+{
+    if from.is_none() && to.is_none() {
+        return out.extend_from_slice(bytes);
+    }
+    let channels = unlace(alloc, bytes, stretch, from)?;
+    match to {
+        None => push_laced(out, &channels),
+        Some(order) => push_blocks(out, &channels, order),
+    }
+}
+
+// The channels of a stretch.
+fn unlace(
+    alloc: Global,
+    bytes: &[u8],
+    stretch: Stretch,
+    from: Option<BitOrder>,
+) -> Result<Vec<Bits>, AllocError>
+    requires channel_number { (1 ≤ stretch.channels) × (stretch.channels ≤ 6) }
+    requires in_limit { stretch.count ≤ most_bits }
+    requires size { length bytes.now ≡ sound_size from stretch.channels stretch.count }
+    requires from_whole { from ≡ None → stretch.count % 8 ≡ 0 }
+    ensures bits { IfOk result (λ made. made.items ≡ sound_channels from stretch.channels stretch.count bytes.now) }
+    ensures number { IfOk result (λ made. length made.items ≡ stretch.channels) }
+    ensures level { IfOk result (λ made. IsLevel made.items) }
+    ensures count { IfOk result (λ made. count_of made.items ≡ stretch.count) }
+{
+    match from {
+        None => unlace_frames(alloc, bytes, stretch),
+        Some(order) => unlace_groups(alloc, bytes, stretch, order),
+    }
+}
+
+// The channels of frames.
+fn unlace_frames(alloc: Global, bytes: &[u8], stretch: Stretch) -> Result<Vec<Bits>, AllocError>
+    requires channel_number { (1 ≤ stretch.channels) × (stretch.channels ≤ 6) }
+    requires in_limit { stretch.count ≤ most_bits }
+    requires size { length bytes.now ≡ stretch.count / 8 * stretch.channels }
+    requires whole { stretch.count % 8 ≡ 0 }
+    ensures bits { IfOk result (λ made. made.items ≡ sound_channels None stretch.channels stretch.count bytes.now) }
+    ensures number { IfOk result (λ made. length made.items ≡ stretch.channels) }
+    ensures level { IfOk result (λ made. IsLevel made.items) }
+    ensures count { IfOk result (λ made. count_of made.items ≡ stretch.count) }
+{
+    match unlace_bytes(alloc, bytes, stretch.channels) {
+        Ok(channels) => Ok(channels),
+        Err(LaceFault::Memory) => Err(AllocError),
+        Err(LaceFault::PartFrame | LaceFault::TooFewBytes) => unreachable!(),
+    }
+}
+
+// The channels of groups of blocks.
+fn unlace_groups(
+    alloc: Global,
+    bytes: &[u8],
+    stretch: Stretch,
+    order: BitOrder,
+) -> Result<Vec<Bits>, AllocError>
+    requires channel_number { (1 ≤ stretch.channels) × (stretch.channels ≤ 6) }
+    requires in_limit { stretch.count ≤ most_bits }
+    requires size { length bytes.now ≡ blocks_size stretch.channels stretch.count }
+    ensures bits { IfOk result (λ made. made.items ≡ sound_channels (Some order) stretch.channels stretch.count bytes.now) }
+    ensures number { IfOk result (λ made. length made.items ≡ stretch.channels) }
+    ensures level { IfOk result (λ made. IsLevel made.items) }
+    ensures count { IfOk result (λ made. count_of made.items ≡ stretch.count) }
+{
+    match unlace_blocks(alloc, bytes, stretch.channels, stretch.count, order) {
+        Ok(channels) => Ok(channels),
+        Err(LaceFault::Memory) => Err(AllocError),
+        Err(LaceFault::PartFrame | LaceFault::TooFewBytes) => unreachable!(),
+    }
+}

@@ -101,9 +101,6 @@ part_is hs entries step span bytes p window place j number laid spot reached las
     }
 
 -- ---- the windows in which four bytes stand
-pub window_below : (step p window place : ℕ) → IsSpot step p window place → window ≤ p
-window_below step p window place spot = let e : window * 1 ≤ window * step = mul-le-mul_left window (omega (arith, spot.inside)) in omega (arith, spot.at)
-
 -- a window that ends before them
 pub ends_before : (step span size p window place j : ℕ) → IsSpot step (p + 3) window place → size + 3 ≤ span * step → j + span ≤ window → size + j * step ≤ p
 ends_before step span size p window place j spot wide early = let e : (j + span) * step ≤ window * step = mul-le-mul_right step early in omega (arith, spot.at)

@@ -26,7 +26,7 @@ use Rattle.stream_core.specs.Reads.{Reads}
 use Rattle.stream_core.proofs.HeadLaws.{never_found, told_found}
 
 -- where nothing is left, nothing follows
-nothing_left : (o : Option (List ℕ)) (rest : List ℕ) → IsAtEnd o → o ≡ Some rest → rest ≡ []
+pub nothing_left : (o : Option (List ℕ)) (rest : List ℕ) → IsAtEnd o → o ≡ Some rest → rest ≡ []
 nothing_left None rest end known = absurd cc
 nothing_left (Some xs) rest end known = let same : xs ≡ rest = cc in sym same ∙ end
 
@@ -46,14 +46,14 @@ no_order (Some order) none = absurd cc
 
 -- ---- a DSF file
 module _ (head : List ℕ) (s : Sound) (at : EndsAt head s) (order : BitOrder) (told : s.order ≡ Some order) where
-  leads : dsf.sound_at head ≡ Found s
+  pub leads : dsf.sound_at head ≡ Found s
   leads = told_found (Some order) head s (subst (λ o. LeadsTo o head s) told at.leads)
 
   pub ends : dsf.EndsAtSound head
   ends = (s, leads, at.start)
 
   -- no DSDIFF file begins so
-  no_form : (rest : List ℕ) (r : Content) → IsDsdiff (head ++ rest) r → ⊥
+  pub no_form : (rest : List ℕ) (r : Content) → IsDsdiff (head ++ rest) r → ⊥
   no_form rest r is =
       let lead = found_leads head s leads in
       let id : take 4 (head ++ rest) ≡ DSD = take-append-le 4 head rest (omega (arith, lead.holds.fields)) ∙ lead.heads.first in
@@ -89,7 +89,7 @@ module _ (head : List ℕ) (s : Sound) where
   form_behind back new is (inr end) = inr end
 
 module _ (head : List ℕ) (s : Sound) (at : EndsAt head s) (told : s.order ≡ None) where
-  found : dsdiff.sound_at head ≡ Found s
+  pub found : dsdiff.sound_at head ≡ Found s
   found = told_found None head s (subst (λ o. LeadsTo o head s) told at.leads)
 
   pub form_ends_at : dsdiff.EndsAt head s
@@ -98,7 +98,7 @@ module _ (head : List ℕ) (s : Sound) (at : EndsAt head s) (told : s.order ≡ 
   joined : (sound back rest : List ℕ) → (head ++ (sound ++ back)) ++ rest ≡ head ++ (sound ++ (back ++ rest))
   joined sound back rest = append_assoc head (sound ++ back) rest ∙ ap (λ xs. head ++ xs) (append_assoc sound back rest)
 
-  same_form : (sound back rest : List ℕ) (r : Content) → length sound ≡ s.size → dsdiff.left_behind head s.size ≤ length back → IsDsdiff (head ++ (sound ++ back)) r ↔ IsDsdiff (head ++ (sound ++ (back ++ rest))) r
+  pub same_form : (sound back rest : List ℕ) (r : Content) → length sound ≡ s.size → dsdiff.left_behind head s.size ≤ length back → IsDsdiff (head ++ (sound ++ back)) r ↔ IsDsdiff (head ++ (sound ++ (back ++ rest))) r
   same_form sound back rest r long enough =
       let file = head ++ (sound ++ back) in
       let least = before_end head s form_ends_at in

@@ -1,4 +1,6 @@
 pub mod ReadLaws
+pub mod OutlineLaws
+pub mod BehindLaws
 pub mod PieceLaws
 pub mod RestLaws
 pub mod HeadLaws

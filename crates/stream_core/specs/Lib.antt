@@ -6,4 +6,5 @@ pub mod Pieces
 pub mod Closing
 pub mod Playing
 pub mod Pace
+pub mod Outlines
 pub mod Laws

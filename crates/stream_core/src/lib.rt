@@ -1,4 +1,4 @@
-//! Playing from a reader to a writer.
+//! Playing from a reader to a writer, and telling of a reader's file what stands around its sound.
 //!
 //! [`play`] reads a DSDIFF 1.5 or DSF 1.01 file piece by piece and writes its RIFF WAVE file. Of the sound it holds
 //! at most one block of 65,536 bytes, a part of one group of the channels' blocks, and what each channel's filter
@@ -6,6 +6,9 @@
 //! shows the whole way, and each stage has a module: reads (`pulling.rt`), the front up to the sound (`front.rt`),
 //! the sound piece by piece (`pieces.rt`), what stands behind it (`closing.rt`), and what is written around the
 //! frames (`wave.rt`).
+//!
+//! [`read_outline`] reads a file once and tells all of it but the bits of its sound: an [`Outline`], by which the file
+//! can be read again and written in another form while it is read. Of the sound it holds one block.
 //!
 //! The words of the contracts:
 //!
@@ -17,6 +20,9 @@
 //! - `KeepsUp left d front given old new` says that what was written lags behind what was given by at most 131,072
 //!   bytes of the sound (`specs/Pace.antt`).
 //! - `Reads left old new bytes` says that an inlet gave these bytes and counted them (`specs/Reads.antt`).
+//! - `StandsIn around file sound` says that a file is these sound bytes in their surroundings, `AreTold around` that
+//!   every such file holds what the surroundings tell, with the channels of its sound, and `SurroundsFile left around`
+//!   both of a reader's file (`specs/Outlines.antt`).
 //!
 //! What it promises: Ok means that exactly the bytes that the reader's file plays were written, however its reads are
 //! cut; a fault stands that is named; and a file that is played is refused only for memory, a device or the number of
@@ -33,6 +39,7 @@ mod closing;
 mod fault;
 mod front;
 mod laws;
+mod outline;
 mod pieces;
 mod playing;
 mod pulling;
@@ -40,4 +47,5 @@ mod wave;
 
 pub use fault::StreamFault;
 pub use laws::accepted_files_tell_one_sound;
+pub use outline::{Outline, read_outline};
 pub use playing::play;

@@ -4,7 +4,8 @@ ghost use Rattle.std.specs.Prelude.{◌≡◌, ◌+◌, ◌-◌, ◌<◌, ◌≤
 ghost use Rattle.std.specs.Io.KnownBytes.{IsAtEnd};
 ghost use Rattle.device_core.specs.Inlets.{inlet_failures, inlet_given, inlet_reader, inlet_reads};
 ghost use Rattle.stream_core.specs.Faults.{IsReadingFault, StopsReading, failed_reads};
-ghost use Rattle.stream_core.specs.Reads.{HasBudget, Reads, ReadsToEnd, ReadsUntil};
+ghost use Rattle.stream_core.specs.Outlines.{IsSkipFault};
+ghost use Rattle.stream_core.specs.Reads.{HasBudget, Reads, ReadsAll, ReadsMany, ReadsToEnd, ReadsUntil};
 
 use crate::fault::StreamFault;
 use device_core::Inlet;
@@ -133,5 +134,90 @@ pub(crate) fn read_to_end<R: Read>(
         if count == 0 {
             return Ok(());
         }
+    }
+}
+
+/// Appends what is read to the reader's end.
+///
+/// Refusals: as of [`read_more`].
+pub(crate) fn read_all<R: Read>(
+    inlet: &mut Inlet<R>,
+    limit: u64,
+    block: &mut Vec<u8>,
+    bytes: &mut Vec<u8>,
+) -> Result<(), StreamFault>
+    requires ready { inlet_failures inlet.old < 2 ^ 64 - 1 }
+    requires budget { HasBudget limit inlet.old }
+    requires size { length block.old.items ≡ 65536 }
+    ensures read { OnOk result (ReadsAll R.remaining inlet.old inlet.new bytes.old.items bytes.new.items) }
+    ensures failures { inlet_failures inlet.new ≡ inlet_failures inlet.old + failed_reads result }
+    ensures turns { IsErrOf result StreamFault.TurnLimit → inlet_reads inlet.new ≡ limit }
+    ensures most { inlet_reads inlet.new ≤ limit }
+    ensures fault { IfErr result IsReadingFault }
+{
+    loop {
+        let count = read_more(inlet, limit, block, bytes)?;
+        if count == 0 {
+            return Ok(());
+        }
+    }
+}
+
+/// Reads so many bytes, and keeps none of them.
+///
+/// Refusals: `FileRefused` where the reader ends before; those of [`pull_block`].
+pub(crate) fn skip<R: Read>(
+    inlet: &mut Inlet<R>,
+    limit: u64,
+    block: &mut Vec<u8>,
+    wanted: u64,
+) -> Result<(), StreamFault>
+    requires ready { inlet_failures inlet.old < 2 ^ 64 - 1 }
+    requires budget { HasBudget limit inlet.old }
+    requires size { length block.old.items ≡ 65536 }
+    ensures size { length block.new.items ≡ 65536 }
+    ensures read { OnOk result (ReadsMany R.remaining inlet.old inlet.new wanted) }
+    ensures budget { OnOk result (HasBudget limit inlet.new) }
+    ensures failures { inlet_failures inlet.new ≡ inlet_failures inlet.old + failed_reads result }
+    ensures turns { IsErrOf result StreamFault.TurnLimit → inlet_reads inlet.new ≡ limit }
+    ensures most { inlet_reads inlet.new ≤ limit }
+    ensures fault { IfErr result (IsSkipFault (R.remaining (inlet_reader inlet.old)) wanted) }
+{
+    let mut left = wanted;
+    while left > 0 {
+        left -= skip_some(inlet, limit, block, left)?;
+    }
+    Ok(())
+}
+
+// One read of at most so many bytes, of which none is kept: how many it gave.
+fn skip_some<R: Read>(
+    inlet: &mut Inlet<R>,
+    limit: u64,
+    block: &mut Vec<u8>,
+    wanted: u64,
+) -> Result<u64, StreamFault>
+    requires some { 1 ≤ wanted }
+    requires ready { inlet_failures inlet.old < 2 ^ 64 - 1 }
+    requires budget { HasBudget limit inlet.old }
+    requires size { length block.old.items ≡ 65536 }
+    ensures size { length block.new.items ≡ 65536 }
+    ensures some { IfOk result (λ n. (1 ≤ n) × (n ≤ wanted)) }
+    ensures read { IfOk result (ReadsMany R.remaining inlet.old inlet.new) }
+    ensures budget { OnOk result (HasBudget limit inlet.new) }
+    ensures failures { inlet_failures inlet.new ≡ inlet_failures inlet.old + failed_reads result }
+    ensures turns { IsErrOf result StreamFault.TurnLimit → inlet_reads inlet.new ≡ limit }
+    ensures most { inlet_reads inlet.new ≤ limit }
+    ensures fault { IfErr result (IsSkipFault (R.remaining (inlet_reader inlet.old)) wanted) }
+{
+    if inlet.reads() == limit {
+        return Err(StreamFault::TurnLimit);
+    }
+    let most = wanted.min(BLOCK as u64) as usize;
+    let (part, _) = block.as_mut_slice().split_at_mut(most);
+    match inlet.pull(part) {
+        Ok(0) => Err(StreamFault::FileRefused),
+        Ok(count) => Ok(count as u64),
+        Err(_) => Err(StreamFault::ReadFailed),
     }
 }

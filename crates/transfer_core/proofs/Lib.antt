@@ -1,2 +1,3 @@
 pub mod ReadingLaws
 pub mod StreamLaws
+pub mod ConversionLaws

@@ -1,3 +1,4 @@
+pub mod Conversions
 pub mod Converting
 pub mod Faults
 pub mod Laws

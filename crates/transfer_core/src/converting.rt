@@ -1,12 +1,22 @@
-//! A recording from one form to another.
+//! A recording from one form to another: in memory, or from a reader to a writer.
 
-ghost use Rattle.std.specs.Prelude.{IfOk};
-ghost use Rattle.transfer_core.specs.Converting.{IsConverted, IsKept, contents, converted_of};
+ghost use Rattle.std.specs.Prelude.{◌≡◌, ◌+◌, ◌-◌, ◌<◌, ◌^◌, Err, IfErr, IfOk, IsErrOf, OnErr};
+ghost use Rattle.device_core.specs.Inlets.{inlet_failures, inlet_reader, inlet_reads};
+ghost use Rattle.device_core.specs.Outlets.{outlet_failures, outlet_writer};
+ghost use Rattle.stream_core.specs.Outlines.{AreTold, around_of};
+ghost use Rattle.form_core.specs.Parts.{FitsIn};
 ghost use Rattle.form_core.specs.Steps.{Gives};
+ghost use Rattle.transfer_core.specs.Conversions.{ConversionStands, ConvertsFile, ConvertsFront, ConvertsGiven};
+ghost use Rattle.transfer_core.specs.Converting.{IsConverted, IsKept, contents, converted_of};
+ghost use Rattle.transfer_core.specs.Streaming.{failed_reads, failed_writes};
 
 use crate::fault::Fault;
-use form_core::{Form, dropped_in, read_any, write_in};
+use device_core::{Inlet, Outlet};
+use form_core::{Form, dropped_in, ends_in, order_in, read_any, write_in, written_in_parts};
+use relay_core::{Target, relay};
 use std::alloc::Global;
+use std::io::{Read, Write};
+use stream_core::Outline;
 
 /// A recording's file in another form.
 #[derive(Drop)]
@@ -36,4 +46,47 @@ pub fn convert(alloc: Global, file: &[u8], form: Form) -> Result<Converted, Faul
     let bytes = write_in(alloc, &opened.recording, form)?;
     let dropped = dropped_in(&opened.recording, form);
     Ok(Converted { bytes, dropped })
+}
+
+/// Reads a file of this outline again, and writes the file of the form that holds its recording, with every bit of every
+/// channel: those bytes that [`convert`] answers for it. It answers how many parts of the recording they have no place
+/// for. Of the sound whole groups of the channels' blocks are held, at most 65,536 bytes, and what is made of them.
+///
+/// Refusals: `NotWholeBytes` where `form` is DSDIFF and the number of each channel's bits isn't a multiple of 8, before
+/// the first read and the first write; `FileRefused` where the file is no sound in the outline, as one that was changed
+/// since; `ReadFailed`, `WriteFailed`, `Memory`. Of what a file of the outline is converted to a front was then written.
+pub fn convert_stream<R: Read, W: Write>(
+    alloc: Global,
+    outline: &Outline,
+    form: Form,
+    inlet: &mut Inlet<R>,
+    outlet: &mut Outlet<W>,
+) -> Result<u64, Fault>
+    requires told { AreTold (around_of outline.now) }
+    requires inlet_ready { inlet_failures inlet.old < 2 ^ 64 - 1 }
+    requires outlet_ready { outlet_failures outlet.old < 2 ^ 64 - 1 }
+    // What the reader's file is converted to was written, however the reads are cut.
+    ensures ok { IfOk result (ConvertsFile (R.remaining (inlet_reader inlet.old)) form (W.contents (outlet_writer outlet.old)) (W.contents (outlet_writer outlet.new))) }
+    // The same of what was read, where the reader doesn't tell its bytes.
+    ensures any_reader { IfOk result (ConvertsGiven (R.remaining (inlet_reader inlet.old)) (R.remaining (inlet_reader inlet.new)) form (W.contents (outlet_writer outlet.old)) (W.contents (outlet_writer outlet.new))) }
+    // Of what is refused a front was written.
+    ensures front { OnErr result (ConvertsFront (R.remaining (inlet_reader inlet.old)) (around_of outline.now) form (W.contents (outlet_writer outlet.old)) (W.contents (outlet_writer outlet.new))) }
+    // A fault stands that is named.
+    ensures refused { IfErr result (ConversionStands (R.remaining (inlet_reader inlet.old)) (around_of outline.now) form) }
+    ensures not_whole_bytes { (FitsIn form outline.now.sound.count → ⊥) → result ≡ Err Fault.NotWholeBytes }
+    ensures read_failed { inlet_failures inlet.new ≡ inlet_failures inlet.old + failed_reads result }
+    ensures write_failed { outlet_failures outlet.new ≡ outlet_failures outlet.old + failed_writes result }
+    // What comes before the first read and the first write.
+    ensures unread { IsErrOf result Fault.NotWholeBytes → inlet_reads inlet.new ≡ inlet_reads inlet.old }
+    ensures unwritten { IsErrOf result Fault.NotWholeBytes → outlet_writer outlet.new ≡ outlet_writer outlet.old }
+{
+    written_in_parts();
+    let ends = ends_in(alloc, &outline.recording, form, outline.sound.count)?;
+    let target = Target {
+        order: order_in(form),
+        head: &ends.head,
+        tail: &ends.tail,
+    };
+    relay(alloc, outline, &target, inlet, outlet)?;
+    Ok(dropped_in(&outline.recording, form))
 }

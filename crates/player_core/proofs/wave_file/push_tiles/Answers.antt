@@ -24,7 +24,7 @@ loop-turn-preserved c =
     let was : min start count ≡ start = omega arith in
     let next : start + number ≡ min ((c.loop-turn.turn + 1) * 4096) count = omega (arith, c.min-number.ensures) in
     let before = rw was at c.loop-turn.invariant in
-    let one = c.in_ok-push_frames.ensures ∙ ap (λ w. c.loop-turn.out.items ++ flat_map (sample_bytes w) (frames_of c.as_slice.result.now number)) c.width-width.ensures.value in
+    let one = c.in_ok-push_frames.ensures.ok ∙ ap (λ w. c.loop-turn.out.items ++ flat_map (sample_bytes w) (frames_of c.as_slice.result.now number)) c.width-width.ensures.value in
     next_tile d channels start number (sample_bytes d.width) c.args.out.now.items c.loop-turn.out.items c.push_frames.new.out.items c.as_slice.result.now (c.as_slice.ensures.value ∙ c.in_ok-fill_tile.ensures) before one
     ∙ ap (λ n. c.args.out.now.items ++ flat_map (sample_bytes d.width) (frames_below d channels n)) next
 

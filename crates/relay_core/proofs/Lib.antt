@@ -1,0 +1,2 @@
+pub mod ComparingLaws
+pub mod RelayLaws

@@ -1,0 +1,443 @@
+-- A file of a known outline, part by part.
+use Rattle.std.proofs.Common.{◌≡◌, ℕ, ◌+◌, ◌-◌, ◌*◌, ◌/◌, ◌%◌, ◌<◌, ◌≤◌, ◌⊎◌, inl, inr, min, true, false, List, [], ◌++◌, length, take, drop, Option, None, Some, Result, Ok, Err, OnErr, OnOk, refl, sym, subst, ap, ap₂, ◌∙◌, arith, append_assoc, append-nil, length-append, length-take, length-drop, take-append-drop}
+use Rattle.std.specs.Int.{div_ceil}
+use Rattle.std.proofs.lemmas.Bool.{cases_lt}
+use Rattle.std.proofs.Math.Nat.{add-mul, mul_assoc, mul_comm, mul-le-mul_right}
+use Rattle.std.proofs.lemmas.List.{append_cancel_left, nil_from_length}
+use Rattle.std.specs.Io.KnownBytes.{Appends, Consumes, IsAtEnd}
+use Rattle.std.proofs.KnownBytes.{Appends-nil, Appends-trans, Consumes-nil, Consumes-trans}
+use Rattle.device_core.specs.Outlets.{AppendsFront}
+use Rattle.dsd_bits.specs.declared.blocks.BitOrder.{BitOrder}
+use Rattle.dsd_bits.specs.declared.sound.Sound.{Sound}
+use Rattle.dsd_bits.specs.Sounds.{IsSound, sound_size}
+use Rattle.relace_core.specs.Relacing.{GroupsJoin, relaced}
+use Rattle.stream_core.specs.Faults.{IsWritingFault, failed_reads, failed_writes}
+use Rattle.stream_core.specs.Outlines.{StandsIn, Surroundings}
+use Rattle.stream_core.specs.declared.fault.StreamFault.{StreamFault}
+use Rattle.stream_core.specs.declared.fault.StreamFault.TheVariants.{FileRefused, RateNotDivided, TooLarge, ReadFailed, WriteFailed, TurnLimit, Memory}
+use Rattle.relay_core.specs.Comparing.{ConsumesMany, IsExpectFault, IsFillFault, IsMoreFault}
+use Rattle.relay_core.specs.Relays.{IsPartFault, IsRelayFault, IsRestFault, PartFront, PassesRest, Relays, RelaysFront, RelaysGiven, RelaysPart, relaced_sound, relayed}
+use Rattle.relay_core.specs.declared.relaying.Target.{Target}
+use Rattle.relay_core.proofs.ComparingLaws.{left_is, same_front, same_rest}
+
+-- ---- fronts of what is written
+pub any_err : {X E : Type 0} {P : Type 0} (r : Result X E) → P → OnErr r P
+any_err (Ok x) p = tt
+any_err (Err e) p = p
+
+pub on_err : {X E : Type 0} {P Q : Type 0} (r : Result X E) → (P → Q) → OnErr r P → OnErr r Q
+on_err (Ok x) f p = tt
+on_err (Err e) f p = f p
+
+pub on_ok : {X E : Type 0} {P Q : Type 0} (r : Result X E) → (P → Q) → OnOk r P → OnOk r Q
+on_ok (Ok x) f p = f p
+on_ok (Err e) f p = tt
+
+pub front_nil : (a : Option (List ℕ)) (all : List ℕ) → AppendsFront a a all
+front_nil a all = ([], all, refl, Appends-nil a)
+
+pub front_more : (a b : Option (List ℕ)) (xs ys : List ℕ) → AppendsFront a b xs → AppendsFront a b (xs ++ ys)
+front_more a b xs ys f = (f.0, f.1 ++ ys, ap (λ zs. zs ++ ys) f.2 ∙ append_assoc f.0 f.1 ys, f.3)
+
+pub front_on : (a b c : Option (List ℕ)) (xs ys : List ℕ) → Appends a b xs → AppendsFront b c ys → AppendsFront a c (xs ++ ys)
+front_on a b c xs ys p q = (xs ++ q.0, q.1, ap (λ zs. xs ++ zs) q.2 ∙ sym (append_assoc xs q.0 q.1), Appends-trans a b c xs q.0 p q.3)
+
+pub whole_front : (a b : Option (List ℕ)) (all : List ℕ) → Appends a b all → AppendsFront a b all
+whole_front a b all out = (all, [], sym (append-nil all), out)
+
+-- ---- stretches
+-- the bytes of whole groups and those behind them are as many as those of all
+pub size_on : (order : Option BitOrder) (n a b : ℕ) → a % 32768 ≡ 0 → sound_size order n (a + b) ≡ sound_size order n a + sound_size order n b
+size_on None n a b whole = let bytes : (a + b) / 8 ≡ a / 8 + b / 8 = omega arith in ap (λ k. k * n) bytes ∙ add-mul (a / 8) (b / 8) n
+size_on (Some order) n a b whole =
+    let groups : div_ceil (a + b) 32768 ≡ div_ceil a 32768 + div_ceil b 32768 = omega arith in
+    ap (λ k. k * n * 4096) groups ∙ ap (λ k. k * 4096) (add-mul (div_ceil a 32768) (div_ceil b 32768) n) ∙ add-mul (div_ceil a 32768 * n) (div_ceil b 32768 * n) 4096
+
+-- those of as many groups as fit are at most a block
+pub size_fits : (order : Option BitOrder) (n bits most : ℕ) → bits ≤ most → most % 32768 ≡ 0 → most / 32768 * n ≤ 16 → sound_size order n bits ≤ 65536
+size_fits None n bits most few whole fits =
+    let k = most / 32768 in
+    let below : bits / 8 * n ≤ k * 4096 * n = mul-le-mul_right n (omega arith) in
+    let turned : k * 4096 * n ≡ k * n * 4096 = mul_assoc k 4096 n ∙ ap (λ m. k * m) (mul_comm 4096 n) ∙ sym (mul_assoc k n 4096) in
+    omega (arith, below, turned, fits)
+size_fits (Some order) n bits most few whole fits =
+    let k = most / 32768 in
+    let below : div_ceil bits 32768 * n ≤ k * n = mul-le-mul_right n (omega arith) in
+    omega (arith, below, fits)
+
+-- a front of what a stretch is was written
+pub stretch_front : (s : Sound) (to : Option BitOrder) (bits : ℕ) (left new a b : Option (List ℕ)) (read : List ℕ) → Consumes left new read → length read ≡ sound_size s.order s.channels bits → AppendsFront a b (relaced s.order to s.channels bits read) → PartFront left s to bits a b
+stretch_front s to bits None new a b read consumed long out = tt
+stretch_front s to bits (Some xs) new a b read consumed long out = λ part rest is size.
+    let ys = left_is (Some xs) new read xs consumed refl in
+    subst (λ zs. AppendsFront a b (relaced s.order to s.channels bits zs)) (same_front read part ys.0 rest (sym ys.2 ∙ is) (long ∙ sym size)) out
+
+-- nothing of a sound is nothing of another
+pub part_none : (law : GroupsJoin) (s : Sound) (to : Option BitOrder) (left a : Option (List ℕ)) → RelaysPart left left s to 0 a a
+part_none law s to left a = record {
+  part = [];
+  consumed = Consumes-nil left;
+  long = sym (none s.order);
+  written = subst (Appends a a) (sym nothing) (Appends-nil a);
+}
+  where
+    none : (order : Option BitOrder) → sound_size order s.channels 0 ≡ 0
+    none None = omega arith
+    none (Some order) = omega arith
+
+    nothing : relaced s.order to s.channels 0 [] ≡ []
+    nothing =
+        let made = relaced s.order to s.channels 0 [] in
+        let twice : made ≡ made ++ made = law s.order to s.channels 0 0 [] [] refl (sym (none s.order)) (sym (none s.order)) in
+        nil_from_length made (omega (arith, ap length twice, length-append made made))
+
+-- where more comes, whole groups were read
+pub whole_on : (done bits rest sum : ℕ) → done % 32768 ≡ 0 → (bits % 32768 ≡ 0) ⊎ (rest ≡ 0) → 0 < rest → done + bits ≡ sum → sum % 32768 ≡ 0
+whole_on done bits rest sum whole (inl groups) some is = omega (arith, whole, groups, is)
+whole_on done bits rest sum whole (inr none) some is = absurd (omega (arith, none, some))
+
+-- what is read at a time is whole groups, or all that is left
+pub last_groups : (left most bits : ℕ) → most % 32768 ≡ 0 → bits ≡ min left most → (bits % 32768 ≡ 0) ⊎ (left - bits ≡ 0)
+last_groups left most bits whole is = elim (cases_lt left most) [
+  | inl less ↦ inr (omega (arith, is, less))
+  | inr more ↦ inl (let same : bits ≡ most = omega (arith, is, more) in ap (λ n. n % 32768) same ∙ whole)
+]
+
+module _ (law : GroupsJoin) (s : Sound) (to : Option BitOrder) (left now a b : Option (List ℕ)) (done : ℕ) (so_far : RelaysPart left now s to done a b) (whole : done % 32768 ≡ 0) where
+  abbrev size : ℕ → ℕ
+  size bits = sound_size s.order s.channels bits
+
+  abbrev made : ℕ → List ℕ → List ℕ
+  made bits bytes = relaced s.order to s.channels bits bytes
+
+  pub part_on : (new c : Option (List ℕ)) (bits : ℕ) → RelaysPart now new s to bits b c → RelaysPart left new s to (done + bits) a c
+  part_on new c bits more =
+      let both = so_far.part ++ more.part in
+      record {
+        part = both;
+        consumed = Consumes-trans left now new so_far.part more.part so_far.consumed more.consumed;
+        long = length-append so_far.part more.part ∙ ap₂ (λ m n. m + n) so_far.long more.long ∙ sym (size_on s.order s.channels done bits whole);
+        written = subst (Appends a c) (sym (law s.order to s.channels done bits so_far.part more.part whole so_far.long more.long)) (Appends-trans a b c (made done so_far.part) (made bits more.part) so_far.written more.written);
+      }
+
+  -- what comes behind the bytes that were read
+  pub next : (xs part more : List ℕ) (rest : ℕ) → left ≡ Some xs → xs ≡ part ++ more → length part ≡ size (done + rest) → (next : List ℕ) × (part ≡ so_far.part ++ next) × (length next ≡ size rest) × (now ≡ Some (next ++ more))
+  next xs part more rest known is long =
+      let ys = left_is left now so_far.part xs so_far.consumed known in
+      let first = take (size done) part in
+      let behind = drop (size done) part in
+      let total : length part ≡ size done + size rest = long ∙ size_on s.order s.channels done rest whole in
+      let split : part ≡ first ++ behind = sym (take-append-drop (size done) part) in
+      let whole_is : first ++ (behind ++ more) ≡ so_far.part ++ ys.0 = sym (append_assoc first behind more) ∙ ap (λ zs. zs ++ more) (sym split) ∙ sym is ∙ ys.2 in
+      let first_long : length first ≡ length so_far.part = omega (arith, length-take (size done) part, total, so_far.long) in (
+        behind,
+        split ∙ ap (λ zs. zs ++ behind) (same_front first so_far.part (behind ++ more) ys.0 whole_is first_long),
+        omega (arith, length-drop (size done) part, total),
+        ys.1 ∙ ap (λ zs. Some zs) (sym (same_rest first so_far.part (behind ++ more) ys.0 whole_is first_long)),
+      )
+
+  -- a front of a stretch is one of all that is left
+  ahead : (bits rest : ℕ) (c : Option (List ℕ)) → (bits % 32768 ≡ 0) ⊎ (rest ≡ 0) → (bytes more : List ℕ) → length bytes ≡ size (bits + rest) → PartFront (Some (bytes ++ more)) s to bits b c → AppendsFront b c (made (bits + rest) bytes)
+  ahead bits rest c (inr none) bytes more long front =
+      let same : bits + rest ≡ bits = omega (arith, none) in
+      subst (λ n. AppendsFront b c (made n bytes)) (sym same) (front bytes more refl (long ∙ ap size same))
+  ahead bits rest c (inl groups) bytes more long front =
+      let first = take (size bits) bytes in
+      let behind = drop (size bits) bytes in
+      let total : length bytes ≡ size bits + size rest = long ∙ size_on s.order s.channels bits rest groups in
+      let split : bytes ≡ first ++ behind = sym (take-append-drop (size bits) bytes) in
+      let first_long : length first ≡ size bits = omega (arith, length-take (size bits) bytes, total) in
+      let behind_long : length behind ≡ size rest = omega (arith, length-drop (size bits) bytes, total) in
+      let is : made (bits + rest) bytes ≡ made bits first ++ made rest behind = ap (made (bits + rest)) split ∙ law s.order to s.channels bits rest first behind groups first_long behind_long in
+      subst (AppendsFront b c) (sym is) (front_more b c (made bits first) (made rest behind) (front first (behind ++ more) (ap (λ zs. zs ++ more) split ∙ append_assoc first behind more) first_long))
+
+  pub part_front : (bits rest : ℕ) (c : Option (List ℕ)) → (bits % 32768 ≡ 0) ⊎ (rest ≡ 0) → PartFront now s to bits b c → PartFront left s to (done + (bits + rest)) a c
+  part_front bits rest c last front = by left refl
+    where
+      by : (o : Option (List ℕ)) → left ≡ o → PartFront o s to (done + (bits + rest)) a c
+      by None known = tt
+      by (Some xs) known = λ part more is long.
+          let n = next xs part more (bits + rest) known is long in
+          let joined : made (done + (bits + rest)) part ≡ made done so_far.part ++ made (bits + rest) n.0 = ap (made (done + (bits + rest))) n.1 ∙ law s.order to s.channels done (bits + rest) so_far.part n.0 whole so_far.long n.2 in
+          subst (AppendsFront a c) (sym joined) (front_on a b c (made done so_far.part) (made (bits + rest) n.0) so_far.written (ahead bits rest c last n.0 more n.2 (subst (λ o. PartFront o s to bits b c) n.3 front)))
+
+  pub part_fault : (bits rest : ℕ) (f : StreamFault) → (bits % 32768 ≡ 0) ⊎ (rest ≡ 0) → IsPartFault now s bits f → IsPartFault left s (done + (bits + rest)) f
+  part_fault bits rest FileRefused last h = by left refl
+    where
+      more : (bits % 32768 ≡ 0) ⊎ (rest ≡ 0) → size bits ≤ size (bits + rest)
+      more (inl groups) = omega (arith, size_on s.order s.channels bits rest groups)
+      more (inr none) = let same : bits + rest ≡ bits = omega (arith, none) in omega (arith, ap size same)
+
+      by : (o : Option (List ℕ)) → left ≡ o → IsPartFault o s (done + (bits + rest)) FileRefused
+      by None known = tt
+      by (Some xs) known =
+          let ys = left_is left now so_far.part xs so_far.consumed known in
+          let fewer : length ys.0 < size bits = subst (λ o. IsPartFault o s bits FileRefused) ys.1 h in
+          omega (arith, fewer, more last, ap length ys.2, length-append so_far.part ys.0, so_far.long, size_on s.order s.channels done (bits + rest) whole)
+  part_fault bits rest RateNotDivided last h = absurd h
+  part_fault bits rest TooLarge last h = absurd h
+  part_fault bits rest ReadFailed last h = tt
+  part_fault bits rest WriteFailed last h = tt
+  part_fault bits rest TurnLimit last h = absurd h
+  part_fault bits rest Memory last h = tt
+
+-- ---- behind the sound
+module _ (o : Surroundings) (left : Option (List ℕ)) where
+  pub gap_fault : (f : StreamFault) → IsFillFault left o.gap f → IsRestFault left o f
+  gap_fault FileRefused h = by left h
+    where
+      by : (l : Option (List ℕ)) → IsFillFault l o.gap FileRefused → IsRestFault l o FileRefused
+      by None h = tt
+      by (Some xs) h = λ gap rest is long ended. omega (arith, h, long, ap length is, length-append gap (o.back ++ rest))
+  gap_fault RateNotDivided h = absurd h
+  gap_fault TooLarge h = absurd h
+  gap_fault ReadFailed h = tt
+  gap_fault WriteFailed h = absurd h
+  gap_fault TurnLimit h = absurd h
+  gap_fault Memory h = absurd h
+
+  module _ (now : Option (List ℕ)) (many : ConsumesMany left now o.gap) where
+    -- what comes behind the gap
+    kept : (xs gap rest : List ℕ) → left ≡ Some xs → xs ≡ gap ++ (o.back ++ rest) → length gap ≡ o.gap → now ≡ Some (o.back ++ rest)
+    kept xs gap rest known is long =
+        let ys = left_is left now many.bytes xs many.consumed known in
+        ys.1 ∙ ap (λ zs. Some zs) (sym (same_rest gap many.bytes (o.back ++ rest) ys.0 (sym is ∙ ys.2) (long ∙ sym many.long)))
+
+    pub back_fault : (f : StreamFault) → IsExpectFault now o.back f → IsRestFault left o f
+    back_fault FileRefused h = by left refl
+      where
+        by : (l : Option (List ℕ)) → left ≡ l → IsRestFault l o FileRefused
+        by None known = tt
+        by (Some xs) known = λ gap rest is long ended. subst (λ l. IsExpectFault l o.back FileRefused) (kept xs gap rest known is long) h rest refl
+    back_fault RateNotDivided h = absurd h
+    back_fault TooLarge h = absurd h
+    back_fault ReadFailed h = tt
+    back_fault WriteFailed h = absurd h
+    back_fault TurnLimit h = absurd h
+    back_fault Memory h = absurd h
+
+    module _ (new : Option (List ℕ)) (read : Consumes now new o.back) where
+      pub end_fault : (f : StreamFault) → o.ends ≡ true → IsMoreFault new f → IsRestFault left o f
+      end_fault FileRefused sure h = by left refl
+        where
+          by : (l : Option (List ℕ)) → left ≡ l → IsRestFault l o FileRefused
+          by None known = tt
+          by (Some xs) known = λ gap rest is long ended.
+              let ys = left_is now new o.back (o.back ++ rest) read (kept xs gap rest known is long) in
+              let none : length rest ≡ 0 = ap length (ended sure) in
+              let some : 0 < length ys.0 = subst (λ l. IsMoreFault l FileRefused) ys.1 h in
+              omega (arith, some, none, ap length ys.2, length-append o.back rest, length-append o.back ys.0)
+      end_fault RateNotDivided sure h = absurd h
+      end_fault TooLarge sure h = absurd h
+      end_fault ReadFailed sure h = tt
+      end_fault WriteFailed sure h = absurd h
+      end_fault TurnLimit sure h = absurd h
+      end_fault Memory sure h = absurd h
+
+      pub passes_open : o.ends ≡ false → PassesRest left new o
+      passes_open more = record {
+        gap = many.bytes;
+        consumed = Consumes-trans left now new many.bytes o.back many.consumed read;
+        long = many.long;
+        ended = λ sure. (let both : true ≡ false = sym sure ∙ more in absurd cc);
+      }
+
+      pub passes_end : (last : Option (List ℕ)) → Consumes new last [] → IsAtEnd last → PassesRest left last o
+      passes_end last none end = record {
+        gap = many.bytes;
+        consumed = subst (Consumes left last) (append_assoc many.bytes o.back [] ∙ ap (λ zs. many.bytes ++ zs) (append-nil o.back)) (Consumes-trans left new last (many.bytes ++ o.back) [] (Consumes-trans left now new many.bytes o.back many.consumed read) none);
+        long = many.long;
+        ended = λ _. end;
+      }
+
+-- ---- the whole file
+module _ (t : Target) (o : Surroundings) (sized : IsSound o.sound) (l0 a0 : Option (List ℕ)) where
+  abbrev others : List ℕ → List ℕ
+  others sound = relaced_sound o.sound t.order sound
+
+  -- every file in the surroundings begins with the head
+  pub head_fault : (f : StreamFault) → IsExpectFault l0 o.head f → IsRelayFault l0 o f
+  head_fault FileRefused h = by l0 h
+    where
+      by : (l : Option (List ℕ)) → IsExpectFault l o.head FileRefused → IsRelayFault l o FileRefused
+      by None h = tt
+      by (Some xs) h = λ around. h (around.0 ++ (around.1.gap ++ (o.back ++ around.1.rest))) around.1.file_is
+  head_fault RateNotDivided h = absurd h
+  head_fault TooLarge h = absurd h
+  head_fault ReadFailed h = tt
+  head_fault WriteFailed h = absurd h
+  head_fault TurnLimit h = absurd h
+  head_fault Memory h = absurd h
+
+  pub nothing_out : RelaysFront l0 t o a0 a0
+  nothing_out = by l0
+    where
+      by : (l : Option (List ℕ)) → RelaysFront l t o a0 a0
+      by None = tt
+      by (Some xs) = λ sound stands. front_nil a0 (relayed t o.sound sound)
+
+  pub head_part : (a1 : Option (List ℕ)) → AppendsFront a0 a1 t.head.now → RelaysFront l0 t o a0 a1
+  head_part a1 out = by l0
+    where
+      by : (l : Option (List ℕ)) → RelaysFront l t o a0 a1
+      by None = tt
+      by (Some xs) = λ sound stands. front_more a0 a1 t.head.now (others sound ++ t.tail.now) out
+
+  module _ (a1 : Option (List ℕ)) (head_out : Appends a0 a1 t.head.now) where
+    pub head_whole : RelaysFront l0 t o a0 a1
+    head_whole = head_part a1 (whole_front a0 a1 t.head.now head_out)
+
+    module _ (l1 : Option (List ℕ)) (head_in : Consumes l0 l1 o.head) where
+      -- what comes behind the head
+      from_sound : (xs sound : List ℕ) (stands : StandsIn o xs sound) → l0 ≡ Some xs → l1 ≡ Some (sound ++ (stands.gap ++ (o.back ++ stands.rest)))
+      from_sound xs sound stands known =
+          let ys = left_is l0 l1 o.head xs head_in known in
+          ys.1 ∙ ap (λ zs. Some zs) (append_cancel_left o.head ys.0 (sound ++ (stands.gap ++ (o.back ++ stands.rest))) (sym ys.2 ∙ stands.file_is))
+
+      pub sound_fault : (f : StreamFault) → IsPartFault l1 o.sound o.sound.count f → IsRelayFault l0 o f
+      sound_fault FileRefused h = by l0 refl
+        where
+          by : (l : Option (List ℕ)) → l0 ≡ l → IsRelayFault l o FileRefused
+          by None known = tt
+          by (Some xs) known = λ around.
+              let sound = around.0 in
+              let behind = around.1.gap ++ (o.back ++ around.1.rest) in
+              let fewer : length (sound ++ behind) < sound_size o.sound.order o.sound.channels o.sound.count = subst (λ l. IsPartFault l o.sound o.sound.count FileRefused) (from_sound xs sound around.1 known) h in
+              omega (arith, fewer, length-append sound behind, around.1.sound_long, sized.size)
+      sound_fault RateNotDivided h = absurd h
+      sound_fault TooLarge h = absurd h
+      sound_fault ReadFailed h = tt
+      sound_fault WriteFailed h = tt
+      sound_fault TurnLimit h = absurd h
+      sound_fault Memory h = tt
+
+      pub sound_part : (a2 : Option (List ℕ)) → PartFront l1 o.sound t.order o.sound.count a1 a2 → RelaysFront l0 t o a0 a2
+      sound_part a2 front = by l0 refl
+        where
+          by : (l : Option (List ℕ)) → l0 ≡ l → RelaysFront l t o a0 a2
+          by None known = tt
+          by (Some xs) known = λ sound stands.
+              let behind = stands.gap ++ (o.back ++ stands.rest) in
+              let out = subst (λ l. PartFront l o.sound t.order o.sound.count a1 a2) (from_sound xs sound stands known) front sound behind refl (stands.sound_long ∙ sized.size) in
+              front_on a0 a1 a2 t.head.now (others sound ++ t.tail.now) head_out (front_more a1 a2 (others sound) t.tail.now out)
+
+      module _ (l2 a2 : Option (List ℕ)) (played : RelaysPart l1 l2 o.sound t.order o.sound.count a1 a2) where
+        -- what was read is the sound, and what comes behind it
+        same_sound : (xs sound : List ℕ) (stands : StandsIn o xs sound) → l0 ≡ Some xs → (played.part ≡ sound) × (l2 ≡ Some (stands.gap ++ (o.back ++ stands.rest)))
+        same_sound xs sound stands known =
+            let behind = stands.gap ++ (o.back ++ stands.rest) in
+            let ys = left_is l1 l2 played.part (sound ++ behind) played.consumed (from_sound xs sound stands known) in
+            let long : length sound ≡ length played.part = stands.sound_long ∙ sized.size ∙ sym played.long in (
+              sym (same_front sound played.part behind ys.0 ys.2 long),
+              ys.1 ∙ ap (λ zs. Some zs) (sym (same_rest sound played.part behind ys.0 ys.2 long)),
+            )
+
+        pub rest_fault : (f : StreamFault) → IsRestFault l2 o f → IsRelayFault l0 o f
+        rest_fault FileRefused h = by l0 refl
+          where
+            by : (l : Option (List ℕ)) → l0 ≡ l → IsRelayFault l o FileRefused
+            by None known = tt
+            by (Some xs) known = λ around. (let same = same_sound xs around.0 around.1 known in subst (λ l. IsRestFault l o FileRefused) same.1 h around.1.gap around.1.rest refl around.1.gap_long around.1.ended)
+        rest_fault RateNotDivided h = absurd h
+        rest_fault TooLarge h = absurd h
+        rest_fault ReadFailed h = tt
+        rest_fault WriteFailed h = absurd h
+        rest_fault TurnLimit h = absurd h
+        rest_fault Memory h = absurd h
+
+        -- what was written so far, and then a front of the tail
+        pub tail_part : (a3 : Option (List ℕ)) → AppendsFront a2 a3 t.tail.now → RelaysFront l0 t o a0 a3
+        tail_part a3 out = by l0 refl
+          where
+            by : (l : Option (List ℕ)) → l0 ≡ l → RelaysFront l t o a0 a3
+            by None known = tt
+            by (Some xs) known = λ sound stands.
+                let same = same_sound xs sound stands known in
+                let written : Appends a1 a2 (others sound) = subst (λ ys. Appends a1 a2 (others ys)) same.0 played.written in
+                front_on a0 a1 a3 t.head.now (others sound ++ t.tail.now) head_out (front_on a1 a2 a3 (others sound) t.tail.now written out)
+
+        pub sound_whole : RelaysFront l0 t o a0 a2
+        sound_whole = tail_part a2 (front_nil a2 t.tail.now)
+
+        module _ (l3 a3 : Option (List ℕ)) (rest : PassesRest l2 l3 o) (tail_out : Appends a2 a3 t.tail.now) where
+          written : Appends a0 a3 (relayed t o.sound played.part)
+          written = Appends-trans a0 a1 a3 t.head.now (others played.part ++ t.tail.now) head_out (Appends-trans a1 a2 a3 (others played.part) t.tail.now played.written tail_out)
+
+          long : length played.part ≡ o.sound.size
+          long = played.long ∙ sym sized.size
+
+          pub relays_given : RelaysGiven l0 l3 t o a0 a3
+          relays_given =
+              let behind = rest.gap ++ o.back in
+              let file = o.head ++ (played.part ++ behind) in (
+                file,
+                played.part,
+                Consumes-trans l0 l1 l3 o.head (played.part ++ behind) head_in (Consumes-trans l1 l2 l3 played.part behind played.consumed rest.consumed),
+                record {
+                  gap = rest.gap;
+                  rest = [];
+                  file_is = ap (λ zs. o.head ++ (played.part ++ (rest.gap ++ zs))) (sym (append-nil o.back));
+                  sound_long = long;
+                  gap_long = rest.long;
+                  ended = λ _. refl;
+                },
+                written,
+              )
+
+          pub relays : Relays l0 t o a0 a3
+          relays = by l0 refl
+            where
+              by : (l : Option (List ℕ)) → l0 ≡ l → Relays l t o a0 a3
+              by None known = tt
+              by (Some xs) known =
+                  let ys = left_is l0 l1 o.head xs head_in known in
+                  let zs = left_is l1 l2 played.part ys.0 played.consumed ys.1 in
+                  let us = left_is l2 l3 (rest.gap ++ o.back) zs.0 rest.consumed zs.1 in (
+                    played.part,
+                    record {
+                      gap = rest.gap;
+                      rest = us.0;
+                      file_is = ys.2 ∙ ap (λ vs. o.head ++ vs) (zs.2 ∙ ap (λ vs. played.part ++ vs) (us.2 ∙ append_assoc rest.gap o.back us.0));
+                      sound_long = long;
+                      gap_long = rest.long;
+                      ended = λ sure. subst IsAtEnd us.1 (rest.ended sure);
+                    },
+                    written,
+                  )
+
+-- ---- faults that count no failure
+pub writing_stands : (l : Option (List ℕ)) (o : Surroundings) (f : StreamFault) → IsWritingFault f → IsRelayFault l o f
+writing_stands l o FileRefused h = absurd h
+writing_stands l o RateNotDivided h = absurd h
+writing_stands l o TooLarge h = absurd h
+writing_stands l o ReadFailed h = absurd h
+writing_stands l o WriteFailed h = tt
+writing_stands l o TurnLimit h = absurd h
+writing_stands l o Memory h = tt
+
+pub unread : (f : StreamFault) → IsWritingFault f → failed_reads {X = Unit {0}} (Err f) ≡ 0
+unread FileRefused h = refl
+unread RateNotDivided h = refl
+unread TooLarge h = refl
+unread ReadFailed h = absurd h
+unread WriteFailed h = refl
+unread TurnLimit h = refl
+unread Memory h = refl
+
+pub unwritten_expect : (l : Option (List ℕ)) (bytes : List ℕ) (f : StreamFault) → IsExpectFault l bytes f → failed_writes {X = Unit {0}} (Err f) ≡ 0
+unwritten_expect l bytes FileRefused h = refl
+unwritten_expect l bytes RateNotDivided h = refl
+unwritten_expect l bytes TooLarge h = refl
+unwritten_expect l bytes ReadFailed h = refl
+unwritten_expect l bytes WriteFailed h = absurd h
+unwritten_expect l bytes TurnLimit h = refl
+unwritten_expect l bytes Memory h = refl
+
+pub unwritten_rest : (l : Option (List ℕ)) (o : Surroundings) (f : StreamFault) → IsRestFault l o f → failed_writes {X = Unit {0}} (Err f) ≡ 0
+unwritten_rest l o FileRefused h = refl
+unwritten_rest l o RateNotDivided h = refl
+unwritten_rest l o TooLarge h = refl
+unwritten_rest l o ReadFailed h = refl
+unwritten_rest l o WriteFailed h = absurd h
+unwritten_rest l o TurnLimit h = refl
+unwritten_rest l o Memory h = refl

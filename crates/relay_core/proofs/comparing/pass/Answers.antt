@@ -1,0 +1,19 @@
+use Rattle.std.proofs.Common.{◌≡◌, ◌+◌, ◌-◌, ◌≤◌, arith, length, length-take, subst, take}
+use Rattle.device_core.specs.Inlets.{inlet_reader}
+use Rattle.relay_core.specs.Comparing.{ConsumesMany}
+use Rattle.relay_core.proofs.ComparingLaws.{many_on}
+use Rattle.relay_core.proofs.comparing.pass.Goals as goal
+
+pub loop-left-preserved : goal.loop-left-preserved
+loop-left-preserved g c =
+    let so_far = c.loop-left.invariant in
+    let n = c.min-size.result in
+    let few : n ≤ c.loop-left.left = omega (arith, c.min-size.ensures) in
+    let sum : c.args.wanted - c.loop-left.left + n ≡ c.args.wanted - (c.loop-left.left - n) = omega (arith, so_far.1, few) in
+    let read = take n c.fill.new.block.items in
+    let long : length read ≡ n = omega (arith, length-take n c.fill.new.block.items, c.min-size.ensures, so_far.2, c.fill.ensures.size) in (
+      subst (ConsumesMany (g.R.Read.remaining (inlet_reader c.args.inlet.now)) (g.R.Read.remaining (inlet_reader c.fill.new.inlet))) sum (many_on (g.R.Read.remaining (inlet_reader c.args.inlet.now)) (g.R.Read.remaining (inlet_reader c.loop-left.inlet)) (g.R.Read.remaining (inlet_reader c.fill.new.inlet)) (c.args.wanted - c.loop-left.left) n read so_far.0 c.in_ok-fill.ensures.read long),
+      omega (arith, so_far.1),
+      omega (arith, c.fill.ensures.size, so_far.2),
+      omega (arith, so_far.3, c.in_ok-fill.ensures.failures),
+    )

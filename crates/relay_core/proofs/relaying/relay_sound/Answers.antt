@@ -1,0 +1,96 @@
+use Rattle.std.proofs.Common.{◌≡◌, ◌+◌, ◌-◌, ◌≤◌, inl, inr, arith, subst}
+use Rattle.std.proofs.lemmas.Result.{err_from_is_err_and}
+use Rattle.device_core.specs.Inlets.{inlet_reader}
+use Rattle.device_core.specs.Outlets.{outlet_writer}
+use Rattle.relay_core.specs.Relays.{IsPartFault, PartFront, RelaysPart}
+use Rattle.relay_core.proofs.RelayLaws.{any_err, last_groups, part_fault, part_front, part_none, part_on, size_fits, whole_on}
+use Rattle.relay_core.proofs.relaying.relay_sound.Goals as goal
+
+pub loop-left-init : goal.loop-left-init
+loop-left-init g c =
+    let s = c.args.relacing.now.sound in
+    let left = g.R.Read.remaining (inlet_reader c.args.inlet.now) in
+    let held = g.W.Write.contents (outlet_writer c.args.outlet.now) in
+    let none : 0 ≡ s.count - s.count = omega arith in (
+      subst (λ n. RelaysPart left left s c.args.relacing.now.to n held held) none (part_none c.groups_join.ensures s c.args.relacing.now.to left held),
+      omega arith,
+      λ some. omega arith,
+      c.requires.size,
+      omega arith,
+      omega arith,
+    )
+
+pub relay_stretch-requires-clause-fits : goal.relay_stretch-requires-clause-fits
+relay_stretch-requires-clause-fits g c =
+    let s = c.args.relacing.now.sound in
+    size_fits s.order s.channels c.min-bits.result c.stretch_bits-most.result (omega (arith, c.min-bits.ensures)) c.stretch_bits-most.ensures.groups c.stretch_bits-most.ensures.fits
+
+pub relay_stretch-requires-clause-whole : goal.relay_stretch-requires-clause-whole
+relay_stretch-requires-clause-whole g c =
+    let so_far = c.loop-left.invariant in
+    let s = c.args.relacing.now.sound in
+    elim (last_groups c.loop-left.left c.stretch_bits-most.result c.min-bits.result c.stretch_bits-most.ensures.groups c.min-bits.ensures) [
+      | inl groups ↦ inl (omega (arith, groups))
+      | inr last ↦ inr (omega (arith, last, c.min-bits.ensures, so_far.1, so_far.2 (omega (arith, c.loop-left-test.true))))
+    ]
+
+pub returns-in_err-relay_stretch-clause-front : goal.returns-in_err-relay_stretch-clause-front
+returns-in_err-relay_stretch-clause-front g c =
+    let so_far = c.loop-left.invariant in
+    let s = c.args.relacing.now.sound in
+    let to = c.args.relacing.now.to in
+    let done = s.count - c.loop-left.left in
+    let bits = c.min-bits.result in
+    let l0 = g.R.Read.remaining (inlet_reader c.args.inlet.now) in
+    let a0 = g.W.Write.contents (outlet_writer c.args.outlet.now) in
+    let a2 = g.W.Write.contents (outlet_writer c.relay_stretch.new.outlet) in
+    let all : done + (bits + (c.loop-left.left - bits)) ≡ s.count = omega (arith, so_far.1, c.min-bits.ensures) in
+    let last = last_groups c.loop-left.left c.stretch_bits-most.result bits c.stretch_bits-most.ensures.groups c.min-bits.ensures in
+    any_err c.from_residual.result (subst (λ n. PartFront l0 s to n a0 a2) all
+    (part_front c.groups_join.ensures s to l0 (g.R.Read.remaining (inlet_reader c.loop-left.inlet)) a0 (g.W.Write.contents (outlet_writer c.loop-left.outlet)) done so_far.0 (so_far.2 (omega (arith, c.loop-left-test.true))) bits (c.loop-left.left - bits) a2 last c.in_err-relay_stretch.ensures.front))
+
+pub returns-in_err-relay_stretch-clause-fault : goal.returns-in_err-relay_stretch-clause-fault
+returns-in_err-relay_stretch-clause-fault g c =
+    let so_far = c.loop-left.invariant in
+    let s = c.args.relacing.now.sound in
+    let to = c.args.relacing.now.to in
+    let done = s.count - c.loop-left.left in
+    let bits = c.min-bits.result in
+    let l0 = g.R.Read.remaining (inlet_reader c.args.inlet.now) in
+    let a0 = g.W.Write.contents (outlet_writer c.args.outlet.now) in
+    let f = c.in_err-relay_stretch.field-0.0 in
+    let all : done + (bits + (c.loop-left.left - bits)) ≡ s.count = omega (arith, so_far.1, c.min-bits.ensures) in
+    let last = last_groups c.loop-left.left c.stretch_bits-most.result bits c.stretch_bits-most.ensures.groups c.min-bits.ensures in
+    let e = err_from_is_err_and c.from_residual.result c.from_residual.ensures.1 in
+    rw (e.1, e.2) (subst (λ n. IsPartFault l0 s n f) all
+    (part_fault c.groups_join.ensures s to l0 (g.R.Read.remaining (inlet_reader c.loop-left.inlet)) a0 (g.W.Write.contents (outlet_writer c.loop-left.outlet)) done so_far.0 (so_far.2 (omega (arith, c.loop-left-test.true))) bits (c.loop-left.left - bits) f last c.in_err-relay_stretch.ensures.fault))
+
+pub loop-left-preserved : goal.loop-left-preserved
+loop-left-preserved g c =
+    let so_far = c.loop-left.invariant in
+    let s = c.args.relacing.now.sound in
+    let to = c.args.relacing.now.to in
+    let done = s.count - c.loop-left.left in
+    let bits = c.min-bits.result in
+    let l0 = g.R.Read.remaining (inlet_reader c.args.inlet.now) in
+    let l2 = g.R.Read.remaining (inlet_reader c.relay_stretch.new.inlet) in
+    let a0 = g.W.Write.contents (outlet_writer c.args.outlet.now) in
+    let a2 = g.W.Write.contents (outlet_writer c.relay_stretch.new.outlet) in
+    let whole = so_far.2 (omega (arith, c.loop-left-test.true)) in
+    let few : bits ≤ c.loop-left.left = omega (arith, c.min-bits.ensures) in
+    let sum : done + bits ≡ s.count - (c.loop-left.left - bits) = omega (arith, so_far.1, few) in
+    let last = last_groups c.loop-left.left c.stretch_bits-most.result bits c.stretch_bits-most.ensures.groups c.min-bits.ensures in (
+      subst (λ n. RelaysPart l0 l2 s to n a0 a2) sum (part_on c.groups_join.ensures s to l0 (g.R.Read.remaining (inlet_reader c.loop-left.inlet)) a0 (g.W.Write.contents (outlet_writer c.loop-left.outlet)) done so_far.0 whole l2 a2 bits c.in_ok-relay_stretch.ensures.ok),
+      omega (arith, so_far.1),
+      λ some. whole_on done bits (c.loop-left.left - bits) _ whole last some sum,
+      c.relay_stretch.ensures.size,
+      omega (arith, so_far.4, c.in_ok-relay_stretch.ensures.read_failed),
+      omega (arith, so_far.5, c.in_ok-relay_stretch.ensures.write_failed),
+    )
+
+pub returns-clause-ok : goal.returns-clause-ok
+returns-clause-ok g c =
+    let so_far = c.loop-left.invariant in
+    let s = c.args.relacing.now.sound in
+    let all : s.count - c.loop-left.left ≡ s.count = omega (arith, so_far.1, c.loop-left-test.false) in
+    subst (λ n. RelaysPart (g.R.Read.remaining (inlet_reader c.args.inlet.now)) (g.R.Read.remaining (inlet_reader c.loop-left.inlet)) s c.args.relacing.now.to n (g.W.Write.contents (outlet_writer c.args.outlet.now)) (g.W.Write.contents (outlet_writer c.loop-left.outlet))) all so_far.0

@@ -1,0 +1,29 @@
+-- Bytes that a reader has to give, and those that it gives instead.
+use Rattle.std.specs.Prelude.{◌≡◌, ℕ, ◌<◌, List, ◌++◌, length, Option, IfSome, ⊤}
+use Rattle.std.specs.Io.KnownBytes.{Consumes}
+use Rattle.stream_core.specs.declared.fault.StreamFault.{StreamFault}
+use Rattle.stream_core.specs.declared.fault.StreamFault.TheVariants.{FileRefused, ReadFailed}
+
+-- so many bytes were read
+pub record ConsumesMany (left_old left_new : Option (List ℕ)) (n : ℕ) : Type 0 where
+  pub bytes : List ℕ
+  pub consumed : Consumes left_old left_new bytes
+  pub long : length bytes ≡ n
+
+-- a fault of reading so many bytes: there are fewer left, or the read failed
+abbrev pub IsFillFault : Option (List ℕ) → ℕ → StreamFault → Type 0
+IsFillFault left_old n FileRefused = IfSome left_old (λ left. length left < n)
+IsFillFault left_old n ReadFailed = ⊤
+IsFillFault left_old n _ = ⊥
+
+-- a fault of reading these bytes: what is left does not begin with them, or a read failed
+abbrev pub IsExpectFault : Option (List ℕ) → List ℕ → StreamFault → Type 0
+IsExpectFault left_old bytes FileRefused = IfSome left_old (λ left. (rest : List ℕ) → left ≡ bytes ++ rest → ⊥)
+IsExpectFault left_old bytes ReadFailed = ⊤
+IsExpectFault left_old bytes _ = ⊥
+
+-- a fault of reading the end: there are bytes left, or the read failed
+abbrev pub IsMoreFault : Option (List ℕ) → StreamFault → Type 0
+IsMoreFault left_old FileRefused = IfSome left_old (λ left. 0 < length left)
+IsMoreFault left_old ReadFailed = ⊤
+IsMoreFault left_old _ = ⊥

@@ -1,0 +1,222 @@
+//! A file of a known outline, its sound handed on in another interleaving.
+
+ghost use Rattle.std.specs.Prelude.{◌≡◌, ◌+◌, ◌*◌, ◌/◌, ◌%◌, ◌-◌, ◌<◌, ◌≤◌, ◌^◌, ◌++◌, ◌⊎◌, None, IfErr, IfOk, OnErr, OnOk, length};
+ghost use Rattle.std.specs.Io.KnownBytes.{Appends};
+ghost use Rattle.device_core.specs.Inlets.{inlet_failures, inlet_reader};
+ghost use Rattle.device_core.specs.Outlets.{AppendsFront, outlet_failures, outlet_writer};
+ghost use Rattle.dsd_bits.specs.Sounds.{sound_size};
+ghost use Rattle.stream_core.specs.Faults.{IsWritingFault, failed_reads, failed_writes};
+ghost use Rattle.stream_core.specs.Outlines.{AreTold, around_of};
+ghost use Rattle.relay_core.specs.Relays.{IsPartFault, IsRelacing, IsRelayFault, IsRestFault, PartFront, PassesRest, Relays, RelaysFront, RelaysGiven, RelaysPart};
+
+use crate::comparing::{BLOCK, expect, expect_end, fill, pass};
+use device_core::{Inlet, Outlet};
+use dsd_bits::{BitOrder, Sound, blocks_size};
+use relace_core::{Stretch, groups_join, push_relaced};
+use std::alloc::Global;
+use std::io::{Read, Write};
+use stream_core::{Outline, StreamFault};
+
+// The bits of each channel in a group of blocks.
+const GROUP_BITS: usize = 32_768;
+
+/// What is written around a sound, and how it is interleaved between.
+#[derive(Clone, Copy)]
+pub struct Target<'a> {
+    /// DSDIFF's frames of one byte of each channel for none, else DSF's blocks, their bits in this order.
+    pub order: Option<BitOrder>,
+    /// The bytes before the sound.
+    pub head: &'a [u8],
+    /// The bytes behind it.
+    pub tail: &'a [u8],
+}
+
+// What is read into, and what is written from.
+#[derive(Drop)]
+struct Buffers {
+    block: Vec<u8>,
+    out: Vec<u8>,
+}
+
+/// Reads a file of this outline, and writes the target's head, the file's sound interleaved as the target says, and
+/// the target's tail.
+///
+/// Refusals: `FileRefused` where the file isn't a sound in the outline; `ReadFailed`, `WriteFailed`, `Memory`. A front
+/// was written then.
+pub fn relay<R: Read, W: Write>(
+    alloc: Global,
+    outline: &Outline,
+    target: &Target<'_>,
+    inlet: &mut Inlet<R>,
+    outlet: &mut Outlet<W>,
+) -> Result<(), StreamFault>
+    requires told { AreTold (around_of outline.now) }
+    requires whole { target.now.order ≡ None → outline.now.sound.count % 8 ≡ 0 }
+    requires inlet_ready { inlet_failures inlet.old < 2 ^ 64 - 1 }
+    requires outlet_ready { outlet_failures outlet.old < 2 ^ 64 - 1 }
+    // The reader's file is some sound in the outline, and what is made of it was written.
+    ensures ok { OnOk result (Relays (R.remaining (inlet_reader inlet.old)) target.now (around_of outline.now) (W.contents (outlet_writer outlet.old)) (W.contents (outlet_writer outlet.new))) }
+    // The same of what was read, where the reader doesn't tell its bytes.
+    ensures any_reader { OnOk result (RelaysGiven (R.remaining (inlet_reader inlet.old)) (R.remaining (inlet_reader inlet.new)) target.now (around_of outline.now) (W.contents (outlet_writer outlet.old)) (W.contents (outlet_writer outlet.new))) }
+    ensures front { OnErr result (RelaysFront (R.remaining (inlet_reader inlet.old)) target.now (around_of outline.now) (W.contents (outlet_writer outlet.old)) (W.contents (outlet_writer outlet.new))) }
+    ensures fault { IfErr result (IsRelayFault (R.remaining (inlet_reader inlet.old)) (around_of outline.now)) }
+    ensures read_failed { inlet_failures inlet.new ≡ inlet_failures inlet.old + failed_reads result }
+    ensures write_failed { outlet_failures outlet.new ≡ outlet_failures outlet.old + failed_writes result }
+{
+    let mut buffers = Buffers {
+        block: vec![in alloc; 0u8; BLOCK]?,
+        out: Vec::new(alloc),
+    };
+    put(outlet, target.head)?;
+    expect(inlet, &mut buffers.block, &outline.head)?;
+    let sound = Relacing {
+        sound: outline.sound,
+        to: target.order,
+    };
+    relay_sound(alloc, &sound, inlet, &mut buffers, outlet)?;
+    expect_rest(outline, inlet, &mut buffers.block)?;
+    put(outlet, target.tail)
+}
+
+// A sound, and how it is interleaved in what is written.
+#[derive(Clone, Copy)]
+struct Relacing {
+    sound: Sound,
+    to: Option<BitOrder>,
+}
+
+// Reads what stands behind the sound of a file of this outline.
+fn expect_rest<R: Read>(
+    outline: &Outline,
+    inlet: &mut Inlet<R>,
+    block: &mut Vec<u8>,
+) -> Result<(), StreamFault>
+    requires ready { inlet_failures inlet.old < 2 ^ 64 - 1 }
+    requires size { length block.old.items ≡ 65536 }
+    ensures ok { OnOk result (PassesRest (R.remaining (inlet_reader inlet.old)) (R.remaining (inlet_reader inlet.new)) (around_of outline.now)) }
+    ensures fault { IfErr result (IsRestFault (R.remaining (inlet_reader inlet.old)) (around_of outline.now)) }
+    ensures failures { inlet_failures inlet.new ≡ inlet_failures inlet.old + failed_reads result }
+{
+    pass(inlet, block, outline.gap)?;
+    expect(inlet, block, &outline.back)?;
+    if outline.ends {
+        return expect_end(inlet, block);
+    }
+    Ok(())
+}
+
+// Reads the bytes of a sound, and writes them interleaved otherwise: whole groups of blocks at a time.
+fn relay_sound<R: Read, W: Write>(
+    alloc: Global,
+    relacing: &Relacing,
+    inlet: &mut Inlet<R>,
+    buffers: &mut Buffers,
+    outlet: &mut Outlet<W>,
+) -> Result<(), StreamFault>
+    requires sound { IsRelacing relacing.now }
+    requires inlet_ready { inlet_failures inlet.old < 2 ^ 64 - 1 }
+    requires outlet_ready { outlet_failures outlet.old < 2 ^ 64 - 1 }
+    requires size { length buffers.old.block.items ≡ 65536 }
+    ensures size { length buffers.new.block.items ≡ 65536 }
+    ensures ok { OnOk result (RelaysPart (R.remaining (inlet_reader inlet.old)) (R.remaining (inlet_reader inlet.new)) relacing.now.sound relacing.now.to relacing.now.sound.count (W.contents (outlet_writer outlet.old)) (W.contents (outlet_writer outlet.new))) }
+    ensures front { OnErr result (PartFront (R.remaining (inlet_reader inlet.old)) relacing.now.sound relacing.now.to relacing.now.sound.count (W.contents (outlet_writer outlet.old)) (W.contents (outlet_writer outlet.new))) }
+    ensures fault { IfErr result (IsPartFault (R.remaining (inlet_reader inlet.old)) relacing.now.sound relacing.now.sound.count) }
+    ensures read_failed { inlet_failures inlet.new ≡ inlet_failures inlet.old + failed_reads result }
+    ensures write_failed { outlet_failures outlet.new ≡ outlet_failures outlet.old + failed_writes result }
+{
+    groups_join();
+    let most = stretch_bits(relacing.sound.channels);
+    let mut left = relacing.sound.count;
+    while left > 0 {
+        let bits = left.min(most);
+        relay_stretch(alloc, relacing, bits, inlet, buffers, outlet)?;
+        left -= bits;
+    }
+    Ok(())
+}
+
+// Reads the next bytes of a sound, those of so many bits of each channel, and writes them interleaved otherwise.
+fn relay_stretch<R: Read, W: Write>(
+    alloc: Global,
+    relacing: &Relacing,
+    bits: usize,
+    inlet: &mut Inlet<R>,
+    buffers: &mut Buffers,
+    outlet: &mut Outlet<W>,
+) -> Result<(), StreamFault>
+    requires sound { IsRelacing relacing.now }
+    requires within { bits ≤ relacing.now.sound.count }
+    requires fits { sound_size relacing.now.sound.order relacing.now.sound.channels bits ≤ 65536 }
+    requires whole { (bits % 8 ≡ 0) ⊎ (bits % 8 ≡ relacing.now.sound.count % 8) }
+    requires inlet_ready { inlet_failures inlet.old < 2 ^ 64 - 1 }
+    requires outlet_ready { outlet_failures outlet.old < 2 ^ 64 - 1 }
+    requires size { length buffers.old.block.items ≡ 65536 }
+    ensures size { length buffers.new.block.items ≡ 65536 }
+    ensures ok { OnOk result (RelaysPart (R.remaining (inlet_reader inlet.old)) (R.remaining (inlet_reader inlet.new)) relacing.now.sound relacing.now.to bits (W.contents (outlet_writer outlet.old)) (W.contents (outlet_writer outlet.new))) }
+    ensures front { OnErr result (PartFront (R.remaining (inlet_reader inlet.old)) relacing.now.sound relacing.now.to bits (W.contents (outlet_writer outlet.old)) (W.contents (outlet_writer outlet.new))) }
+    ensures fault { IfErr result (IsPartFault (R.remaining (inlet_reader inlet.old)) relacing.now.sound bits) }
+    ensures read_failed { inlet_failures inlet.new ≡ inlet_failures inlet.old + failed_reads result }
+    ensures write_failed { outlet_failures outlet.new ≡ outlet_failures outlet.old + failed_writes result }
+{
+    let size = stretch_size(&relacing.sound, bits);
+    fill(inlet, &mut buffers.block, size)?;
+    let (bytes, _) = buffers.block.split_at(size);
+    let stretch = Stretch {
+        channels: relacing.sound.channels,
+        count: bits,
+    };
+    buffers.out.clear();
+    push_relaced(
+        alloc,
+        &mut buffers.out,
+        bytes,
+        stretch,
+        relacing.sound.order,
+        relacing.to,
+    )?;
+    put(outlet, &buffers.out)
+}
+
+// How many bytes hold so many bits of each channel of a sound.
+fn stretch_size(sound: &Sound, bits: usize) -> usize
+    requires channels { (1 ≤ sound.now.channels) × (sound.now.channels ≤ 6) }
+    requires in_limit { bits ≤ 2 ^ 36 }
+    ensures { result ≡ sound_size sound.now.order sound.now.channels bits }
+{
+    match sound.order {
+        None => bits / 8 * sound.channels,
+        Some(_) => blocks_size(sound.channels, bits),
+    }
+}
+
+// How many bits of each channel are read at a time: those of as many groups of blocks as fit 65,536 bytes.
+fn stretch_bits(channels: usize) -> usize
+    requires { (1 ≤ channels) × (channels ≤ 6) }
+    ensures some { 32768 ≤ result }
+    ensures groups { result % 32768 ≡ 0 }
+    ensures fits { result / 32768 * channels ≤ 16 }
+{
+    let groups = match channels {
+        1 => 16,
+        2 => 8,
+        3 => 5,
+        4 => 4,
+        5 => 3,
+        _ => 2,
+    };
+    groups * GROUP_BITS
+}
+
+// Writes these bytes.
+fn put<W: Write>(outlet: &mut Outlet<W>, bytes: &[u8]) -> Result<(), StreamFault>
+    requires ready { outlet_failures outlet.old < 2 ^ 64 - 1 }
+    ensures ok { OnOk result (Appends (W.contents (outlet_writer outlet.old)) (W.contents (outlet_writer outlet.new)) bytes.now) }
+    ensures err { OnErr result (AppendsFront (W.contents (outlet_writer outlet.old)) (W.contents (outlet_writer outlet.new)) bytes.now) }
+    ensures failures { outlet_failures outlet.new ≡ outlet_failures outlet.old + failed_writes result }
+    ensures fault { IfErr result IsWritingFault }
+{
+    match outlet.put_all(bytes) {
+        Ok(()) => Ok(()),
+        Err(_) => Err(StreamFault::WriteFailed),
+    }
+}

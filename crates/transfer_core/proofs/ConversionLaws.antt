@@ -1,0 +1,101 @@
+-- What is relayed of a file of an outline is the file of the form that is written for its recording.
+use Rattle.std.proofs.Common.{◌≡◌, ℕ, ◌%◌, ◌≤◌, List, [], ◌++◌, length, Option, None, Some, Result, Ok, refl, sym, ap, ◌∙◌, subst}
+use Rattle.std.proofs.lemmas.List.{length-replicate}
+use Rattle.std.proofs.lemmas.List.FromFn.{length-map-range_with_len}
+use Rattle.device_core.specs.Outlets.{AppendsFront}
+use Rattle.dsd_bits.specs.declared.blocks.BitOrder.{BitOrder}
+use Rattle.dsd_bits.specs.Blocks.{unblocked}
+use Rattle.dsd_bits.specs.Channels.{count_of}
+use Rattle.dsd_bits.specs.Contents.{Content}
+use Rattle.dsd_bits.specs.Lacing.{unlaced}
+use Rattle.dsd_bits.specs.Sounds.{sound_channels, sound_size}
+use Rattle.dsd_bits.proofs.BlockLemmas.{unblocked_count}
+use Rattle.relace_core.specs.Relacing.{laced_in}
+use Rattle.relace_core.proofs.TakenLaws.{unlaced_count}
+use Rattle.stream_core.specs.Outlines.{AreTold, HoldsIn, StandsIn, Surroundings, with_sound}
+use Rattle.stream_core.proofs.PieceLaws.{front_nil}
+use Rattle.relay_core.specs.declared.relaying.Target.{Target}
+use Rattle.relay_core.specs.Relays.{Relays, RelaysFront, RelaysGiven, relayed}
+use Rattle.form_core.specs.declared.fault.ReadFault.{ReadFault}
+use Rattle.form_core.specs.declared.form.Form.{Form}
+use Rattle.form_core.specs.declared.form.Form.TheVariants as forms
+use Rattle.form_core.specs.declared.opening.Opened.{Opened}
+use Rattle.form_core.specs.Forms.{HoldsAs, dropped_in, form_of, text_in}
+use Rattle.form_core.specs.Opening.{opened_of}
+use Rattle.form_core.specs.Parts.{FitsIn, WrittenInParts, head_in, order_in, tail_in}
+use Rattle.form_core.proofs.OpeningLaws.{held_is_opened, holds_dsf}
+use Rattle.transfer_core.specs.Conversions.{ConvertsFile, ConvertsFront, ConvertsGiven}
+use Rattle.transfer_core.specs.Converting.{Converts}
+
+-- ---- channels in sound bytes
+channel_number : (order : Option BitOrder) (channels count : ℕ) (bytes : List ℕ) → length (sound_channels order channels count bytes) ≡ channels
+channel_number None channels count bytes = length-map-range_with_len (unlaced bytes channels) 0 channels
+channel_number (Some order) channels count bytes = length-map-range_with_len (unblocked order bytes channels count) 0 channels
+
+channel_count : (order : Option BitOrder) (channels count : ℕ) (bytes : List ℕ) → 1 ≤ channels → (order ≡ None → count % 8 ≡ 0) → length bytes ≡ sound_size order channels count
+    → count_of (sound_channels order channels count bytes) ≡ count
+channel_count None channels count bytes some whole size = unlaced_count bytes channels count some (whole refl) size
+channel_count (Some order) channels count bytes some whole size = unblocked_count order bytes channels count some
+
+-- ---- the form of a file
+abbrev source_of : Option BitOrder → Form
+source_of None = forms.Dsdiff
+source_of (Some order) = form_of order
+
+held : (order : Option BitOrder) (file : List ℕ) (r : Content) → HoldsIn order file r → HoldsAs file (source_of order) r
+held None file r is = is
+held (Some order) file r is = holds_dsf file r order is
+
+-- ---- what is dropped stands beside the channels
+dropped_beside : (form : Form) (o : Surroundings) (sound : List ℕ) → dropped_in form o.recording ≡ dropped_in form (with_sound o.recording o.sound sound)
+dropped_beside forms.Dsdiff o sound = refl
+dropped_beside forms.Dsf o sound = refl
+dropped_beside forms.Dsf8 o sound = refl
+
+-- ---- a file holds one recording, of which there is one text
+same_recording : (reading : Result Opened ReadFault) (x y : Opened) → reading ≡ Ok x → reading ≡ Ok y → x.recording ≡ y.recording
+same_recording reading x y e f = cc
+
+same_bytes : (text : Option (List ℕ)) (x y : List ℕ) → text ≡ Some x → text ≡ Some y → x ≡ y
+same_bytes text x y e f = cc
+
+one_text : (file bytes-1 bytes-2 : List ℕ) (form : Form) (dropped-1 dropped-2 : ℕ) → Converts file form bytes-1 dropped-1 → Converts file form bytes-2 dropped-2 → bytes-1 ≡ bytes-2
+one_text file bytes-1 bytes-2 form dropped-1 dropped-2 a b =
+    let same : a.recording ≡ b.recording = same_recording (opened_of file) (record { form = a.source; recording = a.recording }) (record { form = b.source; recording = b.recording }) (held_is_opened file a.source a.recording a.file_holds) (held_is_opened file b.source b.recording b.file_holds) in
+    same_bytes (text_in form a.recording) bytes-1 bytes-2 a.text (ap (text_in form) same ∙ b.text)
+
+-- ---- a target that stands for the ends of a form
+module _ (laws : WrittenInParts) (o : Surroundings) (told : AreTold o) (form : Form) (fits : FitsIn form o.sound.count) (target : Target) (order : target.order ≡ order_in form) (head : target.head.now ≡ head_in form o.recording o.sound.count) (tail : target.tail.now ≡ tail_in form o.recording o.sound.count) where
+  -- what is relayed is what is written for the recording
+  text : (sound : List ℕ) → length sound ≡ o.sound.size → text_in form (with_sound o.recording o.sound sound) ≡ Some (relayed target o.sound sound)
+  text sound long =
+      let s = o.sound in
+      let channels = sound_channels s.order s.channels s.count sound in
+      let count : count_of channels ≡ s.count = channel_count s.order s.channels s.count sound told.is_sound.some_channel told.whole (long ∙ told.is_sound.size) in
+      let number : length o.recording.channels ≡ length channels = ap length told.silent ∙ length-replicate s.channels [] ∙ sym (channel_number s.order s.channels s.count sound) in
+      let parts = subst (λ n. text_in form (with_sound o.recording s sound) ≡ Some (head_in form o.recording n ++ (laced_in (order_in form) channels ++ tail_in form o.recording n))) count (laws form o.recording channels number (subst (FitsIn form) (sym count) fits)) in
+      rw (order, head, tail) parts
+
+  converts : (file sound : List ℕ) → StandsIn o file sound → Converts file form (relayed target o.sound sound) (dropped_in form o.recording)
+  converts file sound stands = record {
+    source = source_of o.sound.order;
+    recording = with_sound o.recording o.sound sound;
+    file_holds = held o.sound.order file (with_sound o.recording o.sound sound) (told.holds file sound stands);
+    text = text sound stands.sound_long;
+    dropped_is = dropped_beside form o sound;
+  }
+
+  pub converts_file : (left a b : Option (List ℕ)) → Relays left target o a b → ConvertsFile left form a b (dropped_in form o.recording)
+  converts_file None a b h = tt
+  converts_file (Some file) a b h = (relayed target o.sound h.0, converts file h.0 h.1, h.2)
+
+  pub converts_given : (left_old left_new a b : Option (List ℕ)) → RelaysGiven left_old left_new target o a b → ConvertsGiven left_old left_new form a b (dropped_in form o.recording)
+  converts_given left_old left_new a b h = (h.0, relayed target o.sound h.1, h.2, converts h.0 h.1 h.3, h.4)
+
+  pub converts_front : (left a b : Option (List ℕ)) → RelaysFront left target o a b → ConvertsFront left o form a b
+  converts_front None a b h = tt
+  converts_front (Some file) a b h = λ around bytes dropped is. subst (λ xs. AppendsFront a b xs) (one_text file (relayed target o.sound around.0) bytes form (dropped_in form o.recording) dropped (converts file around.0 around.1) is) (h around.0 around.1)
+
+pub nothing_converted : (left : Option (List ℕ)) (o : Surroundings) (form : Form) (a : Option (List ℕ)) → ConvertsFront left o form a a
+nothing_converted None o form a = tt
+nothing_converted (Some file) o form a = λ around bytes dropped is. front_nil a bytes

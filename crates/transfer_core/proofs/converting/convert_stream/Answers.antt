@@ -1,0 +1,22 @@
+use Rattle.std.proofs.Common.{◌∙◌}
+use Rattle.device_core.specs.Inlets.{inlet_reader}
+use Rattle.device_core.specs.Outlets.{outlet_writer}
+use Rattle.stream_core.proofs.PieceLaws.{any_err}
+use Rattle.stream_core.specs.Outlines.{around_of}
+use Rattle.transfer_core.proofs.ConversionLaws.{converts_file, converts_front, converts_given, nothing_converted}
+use Rattle.transfer_core.proofs.converting.convert_stream.Goals as goal
+
+pub returns-in_err-ends-clause-front : goal.returns-in_err-ends-clause-front
+returns-in_err-ends-clause-front g c = any_err c.from_residual.result (nothing_converted (g.R.Read.remaining (inlet_reader c.args.inlet.now)) (around_of c.args.outline.now) c.args.form (g.W.Write.contents (outlet_writer c.args.outlet.now)))
+
+pub returns-in_err-relay-clause-front : goal.returns-in_err-relay-clause-front
+returns-in_err-relay-clause-front g c =
+    any_err c.from_residual-in_err-relay.result (converts_front c.written_in_parts.ensures (around_of c.args.outline.now) c.requires.told c.args.form c.in_ok-ends.ensures.fits (record { order = c.order_in.result; head = c.deref.result; tail = c.deref-2.result }) c.order_in.ensures (c.deref.ensures.value ∙ c.in_ok-ends.ensures.head) (c.deref-2.ensures.value ∙ c.in_ok-ends.ensures.tail) (g.R.Read.remaining (inlet_reader c.args.inlet.now)) (g.W.Write.contents (outlet_writer c.args.outlet.now)) (g.W.Write.contents (outlet_writer c.relay.new.outlet)) c.in_err-relay.ensures.front)
+
+pub returns-clause-ok : goal.returns-clause-ok
+returns-clause-ok g c =
+    rw c.dropped_in.ensures (converts_file c.written_in_parts.ensures (around_of c.args.outline.now) c.requires.told c.args.form c.in_ok-ends.ensures.fits (record { order = c.order_in.result; head = c.deref.result; tail = c.deref-2.result }) c.order_in.ensures (c.deref.ensures.value ∙ c.in_ok-ends.ensures.head) (c.deref-2.ensures.value ∙ c.in_ok-ends.ensures.tail) (g.R.Read.remaining (inlet_reader c.args.inlet.now)) (g.W.Write.contents (outlet_writer c.args.outlet.now)) (g.W.Write.contents (outlet_writer c.relay.new.outlet)) c.in_ok-relay.ensures.ok)
+
+pub returns-clause-any_reader : goal.returns-clause-any_reader
+returns-clause-any_reader g c =
+    rw c.dropped_in.ensures (converts_given c.written_in_parts.ensures (around_of c.args.outline.now) c.requires.told c.args.form c.in_ok-ends.ensures.fits (record { order = c.order_in.result; head = c.deref.result; tail = c.deref-2.result }) c.order_in.ensures (c.deref.ensures.value ∙ c.in_ok-ends.ensures.head) (c.deref-2.ensures.value ∙ c.in_ok-ends.ensures.tail) (g.R.Read.remaining (inlet_reader c.args.inlet.now)) (g.R.Read.remaining (inlet_reader c.relay.new.inlet)) (g.W.Write.contents (outlet_writer c.args.outlet.now)) (g.W.Write.contents (outlet_writer c.relay.new.outlet)) c.in_ok-relay.ensures.any_reader)

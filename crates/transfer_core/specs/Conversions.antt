@@ -1,0 +1,31 @@
+-- What is converted from a reader to a writer, and which faults stand.
+use Rattle.std.specs.Prelude.{ℕ, List, Option, IfSome, ⊤}
+use Rattle.std.specs.Io.KnownBytes.{Appends, Consumes}
+use Rattle.device_core.specs.Outlets.{AppendsFront}
+use Rattle.stream_core.specs.Outlines.{AreAround, Surroundings}
+use Rattle.form_core.specs.declared.form.Form.{Form}
+use Rattle.form_core.specs.Parts.{FitsIn}
+use Rattle.transfer_core.specs.declared.fault.Fault.{Fault}
+use Rattle.transfer_core.specs.declared.fault.Fault.TheVariants.{NotWholeBytes, FileRefused, ReadFailed, WriteFailed, Memory}
+use Rattle.transfer_core.specs.Converting.{Converts}
+
+-- whatever file stands there, what it is converted to was written, and so many parts of its recording are not in that
+abbrev pub ConvertsFile : Option (List ℕ) → Form → Option (List ℕ) → Option (List ℕ) → ℕ → Type 0
+ConvertsFile left form held_old held_new dropped = IfSome left (λ file. (bytes : List ℕ) × Converts file form bytes dropped × Appends held_old held_new bytes)
+
+-- a reader that does not tell its bytes gave some, and what they are converted to was written
+abbrev pub ConvertsGiven : Option (List ℕ) → Option (List ℕ) → Form → Option (List ℕ) → Option (List ℕ) → ℕ → Type 0
+ConvertsGiven left_old left_new form held_old held_new dropped = (read : List ℕ) × (bytes : List ℕ) × Consumes left_old left_new read × Converts read form bytes dropped × Appends held_old held_new bytes
+
+-- whatever a file of these surroundings is converted to, a front of it was written
+abbrev pub ConvertsFront : Option (List ℕ) → Surroundings → Form → Option (List ℕ) → Option (List ℕ) → Type 0
+ConvertsFront left o form held_old held_new = IfSome left (λ file. AreAround o file → (bytes : List ℕ) (dropped : ℕ) → Converts file form bytes dropped → AppendsFront held_old held_new bytes)
+
+-- this fault stands: the channels end inside a byte, the file is no sound in the surroundings, or it is one of a device or memory
+abbrev pub ConversionStands : Option (List ℕ) → Surroundings → Form → Fault → Type 0
+ConversionStands left o form NotWholeBytes = FitsIn form o.sound.count → ⊥
+ConversionStands left o form FileRefused = IfSome left (λ file. AreAround o file → ⊥)
+ConversionStands left o form ReadFailed = ⊤
+ConversionStands left o form WriteFailed = ⊤
+ConversionStands left o form Memory = ⊤
+ConversionStands left o form _ = ⊥

@@ -117,7 +117,7 @@ CheckComesTo project master cert old new (Err faults.WriteFailed) = ⊥
 abbrev pub Says : {T : Type 0} → (T → Outcome) → (Result T CommandFault → Type 0) → Outcome → Type 0
 Says {T} done P outcome = (came : Result T CommandFault) × (outcome ≡ outcome_of done came) × P came
 
--- the files before and after a command came to this: a refusal and a judgement change none, and a write that failed one, or two where the first is the master that was cut
+-- the files before and after a command came to this: a judgement changes none, and so does a refusal but where a file is played or converted piece by piece; a write that failed changes one, or two where the first is the master that was cut
 abbrev pub TaskComesTo : Task → Files → Files → Outcome → Type 0
 TaskComesTo (tasks.Play project input output) old new = Says Played (PlayComesTo project.now input.now output.now old new)
 TaskComesTo (tasks.Convert form input output) old new = Says Converted (ConvertComesTo form input.now output.now old new)

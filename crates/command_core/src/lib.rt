@@ -16,7 +16,7 @@ mod performing;
 mod program;
 
 pub use folder_core::{Folder, FolderFault, MemoryFolder, read_files, read_whole};
-pub use info_core::{form_named, name_of};
+pub use info_core::{Told, form_named, name_of};
 pub use outcome::{Outcome, outcome_line, status};
 pub use performing::perform;
 pub use program::{run, run_program};

@@ -4,8 +4,8 @@ ghost use Rattle.std.specs.Prelude.{◌≡◌, IfOk, string_bytes};
 ghost use Rattle.command_core.specs.Outcomes.{ShowsDone, of_command, of_words, status_of};
 ghost use Rattle.command_core.specs.declared.outcome.Outcome.TheVariants as outcomes;
 
-use archive_core::{Fault, Opened, Reason};
-use info_core::info_lines;
+use archive_core::{Fault, Reason};
+use info_core::{Told, info_lines};
 use std::alloc::{AllocError, Global};
 use transfer_commands::CommandFault;
 use words_core::WordsFault;
@@ -24,7 +24,7 @@ pub enum Outcome {
     /// A master was rejected for this reason.
     Rejected(Reason),
     /// A file was read, and its form and its recording are told of.
-    Info(Opened),
+    Info(Told),
     /// The call was refused.
     Fault(Fault),
     /// A file could not be opened or read.
@@ -80,7 +80,7 @@ pub fn outcome_line(alloc: Global, outcome: &Outcome) -> Result<String, AllocErr
         Outcome::Edited(total) => format!(in alloc; "edited total {total}"),
         Outcome::Accepted(total) => format!(in alloc; "accepted total {total}"),
         Outcome::Rejected(reason) => format!(in alloc; "rejected {reason}"),
-        Outcome::Info(opened) => info_lines(alloc, opened),
+        Outcome::Info(told) => info_lines(alloc, told),
         Outcome::Fault(fault) => format!(in alloc; "fault: {fault}"),
         Outcome::ReadFailed => format!(in alloc; "fault: ReadFailed"),
         Outcome::WriteFailed => format!(in alloc; "fault: WriteFailed"),

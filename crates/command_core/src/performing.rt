@@ -6,17 +6,26 @@ ghost use Rattle.command_core.specs.Outcomes.{outcome_of, verdict_of};
 ghost use Rattle.command_core.specs.declared.outcome.Outcome.TheVariants as outcomes;
 
 use crate::outcome::Outcome;
-use archive_core::{Form, Opened, Verdict, check, edit};
+use archive_core::{Form, Verdict, check, edit};
 use folder_core::{Folder, read_file, write_file};
+use info_core::Told;
 use std::alloc::Global;
-use transfer_commands::{CommandFault, convert_file, open_file, play_file, read_sources};
+use transfer_commands::{
+    CommandFault, MOST_KEPT, convert_file, open_file, play_file, read_sources,
+};
 use words_core::Task;
 
 /// Does a command. Each file is opened and read whole in the order in which the command names it, and a
 /// project's takes behind it by their numbers; the call of `archive_core` comes next, and only where it
-/// answers is a file created. But the recording that is played is opened, the WAVE file created, and the one then
-/// read and the other written piece by piece: after a fault of the playing the WAVE file is there and may hold a
-/// front. The first fault is what the command comes to.
+/// answers is a file created.
+///
+/// But the recording that is played is opened, the WAVE file created, and the one then read and the other written piece
+/// by piece. A recording that is converted or told of is read whole only where it has fewer than 2 MiB. Else it is
+/// opened again and read in one pass without its sound; where it holds no recording it is opened a third time and read
+/// whole, for the fault to be named; and what is converted is opened once more, the other file created, and the one read
+/// and the other written block by block. After a fault of this the file that was created is there and may hold a front.
+///
+/// The first fault is what the command comes to.
 pub fn perform<F: Folder>(alloc: Global, task: Task, folder: &mut F) -> Result<Outcome, Outcome>
     ensures { IsTrue (F.is_told folder.old) → Ends result (TaskComesTo task.entry (F.file folder.old) (F.file folder.new)) }
 {
@@ -30,7 +39,7 @@ pub fn perform<F: Folder>(alloc: Global, task: Task, folder: &mut F) -> Result<O
             form,
             input,
             output,
-        } => converted(convert_file(alloc, folder, form, input, output)),
+        } => converted(convert_file(alloc, folder, form, input, output, MOST_KEPT)),
         Task::Edit {
             form,
             project,
@@ -42,7 +51,7 @@ pub fn perform<F: Folder>(alloc: Global, task: Task, folder: &mut F) -> Result<O
             master,
             cert,
         } => judged(check_files(alloc, folder, project, master, cert)),
-        Task::Info { file } => told(open_file(alloc, folder, file)),
+        Task::Info { file } => told(open_file(alloc, folder, file, MOST_KEPT)),
     }
 }
 
@@ -112,7 +121,7 @@ fn judged(came: Result<Verdict, CommandFault>) -> Result<Outcome, Outcome>
 }
 
 // What a command that told of a file came to.
-fn told(came: Result<Opened, CommandFault>) -> Result<Outcome, Outcome>
+fn told(came: Result<Told, CommandFault>) -> Result<Outcome, Outcome>
     ensures { Ends result (λ outcome. outcome ≡ outcome_of outcomes.Info came) }
 {
     Ok(Outcome::Info(came?))

@@ -6,22 +6,49 @@ ghost use Rattle.command_core.specs.Commands.{ComesTo};
 use crate::outcome::{Outcome, outcome_line, status};
 use crate::performing::perform;
 use archive_core::Fault;
-use folder_core::{Disk, Folder};
+use folder_core::{Disk, Folder, WatchedFolder};
 use std::alloc::Global;
 use std::io;
+use std::os::fd::AsFd;
 use std::process::ExitCode;
-use std::rt::{Env, Files};
+use std::rt::{Clock, Env, Files};
 use words_core::task_of;
 
 /// Does what the words of a runtime ask for on its disk, tells it on its output, and answers the status that the
-/// program ends with. What was done or judged goes to standard output, a fault to standard error.
-pub fn run_program<R: Env + Files + Print + Eprint + AllocGlobal>(rt: &R) -> ExitCode {
+/// program ends with. What was done or judged goes to standard output, a fault to standard error. The process is named by
+/// its number; where it is watched, standard error shows how far a file is read that takes more than a second.
+pub fn run_program<R: Env + Files + Clock + Print + Eprint + AllocGlobal>(
+    rt: &R,
+    process: u32,
+    is_watched: bool,
+) -> ExitCode
+where
+    R::File: AsFd,
+{
     let outcome = match given_words(rt) {
-        Ok(words) => run(rt.alloc(), words.as_slice(), &mut Disk::new(rt)),
+        Ok(words) => run_on_disk(rt, words.as_slice(), process, is_watched),
         Err(error) if error.kind() == io::ErrorKind::OutOfMemory => Fault::Memory.into(),
         Err(_) => Outcome::WrongWords,
     };
     ExitCode::from(status(&tell(rt, outcome)))
+}
+
+// A file that was not created for want of memory is told as that.
+fn run_on_disk<R: Files + Clock + Eprint + AllocGlobal>(
+    rt: &R,
+    words: &[String],
+    process: u32,
+    is_watched: bool,
+) -> Outcome
+where
+    R::File: AsFd,
+{
+    let mut folder = WatchedFolder::new(rt, Disk::new(rt, process), is_watched);
+    let outcome = run(rt.alloc(), words, &mut folder);
+    if folder.into_inner().has_wanted_memory() {
+        return Fault::Memory.into();
+    }
+    outcome
 }
 
 /// Does the command that the words ask for, the program's name first, by [`perform`]. The first fault is what the

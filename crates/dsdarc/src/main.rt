@@ -5,8 +5,11 @@
 #![tactic(auto)]
 
 use command_core::run_program;
+use std::io::IsTerminal;
+use std::process;
 use std::process::ExitCode;
 
 fn main(rt: HostRuntime) -> ExitCode {
-    run_program(&rt)
+    let is_watched = rt.stderr().is_terminal();
+    run_program(&rt, process::id(rt.process()), is_watched)
 }

@@ -1,2 +1,4 @@
 pub mod Files
 pub mod MemoryFolders
+pub mod ShortFiles
+pub mod WatchedFolders

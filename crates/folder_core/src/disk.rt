@@ -2,28 +2,79 @@
 
 ghost use Rattle.std.specs.Prelude.{None, false};
 
+use crate::disk_file::DiskFile;
 use crate::folder::{Folder, FolderFault};
-use std::fs;
+use crate::places::{Target, is_refused_beside, target_of};
+use std::io::ErrorKind;
+use std::os::fd::AsFd;
 use std::rt::Files;
+use std::{fs, io};
 
 /// The files of the operating system, whose names are paths from the current folder. It tells nothing of
 /// them.
+///
+/// A file that is created is written beside its name, as `.NAME.dsdarc-PROCESS-N`, and has its name once it is
+/// kept and its bytes are on the device: until then, and after a stop, what stood there stands there whole. So
+/// a file that is read may be written, under any of its names. Links are followed; an old file's permissions
+/// are kept, and its owner and group where the system lets them. What is no file of a folder (a pipe, a
+/// device, an open file as `/dev/stdout`), and a file beside which none can be made, is written as it stands.
+///
+/// Not kept is a file one of whose writes failed, nor, after a fault, any in the place of another.
 #[derive(Drop)]
 pub struct Disk<'a, R: Files> {
     rt: &'a R,
+    process: u32,
+    wanted_memory: bool,
 }
 
 impl<'a, R: Files> Disk<'a, R> {
-    /// The files that this runtime reaches.
-    pub fn new(rt: &'a R) -> Self {
-        Disk { rt }
+    /// The files that this runtime reaches. The process is named by its number where files are left over.
+    pub fn new(rt: &'a R, process: u32) -> Self {
+        Disk {
+            rt,
+            process,
+            wanted_memory: false,
+        }
+    }
+
+    /// Whether a file was not created for want of memory.
+    pub fn has_wanted_memory(&self) -> bool {
+        self.wanted_memory
     }
 }
 
-impl<R: Files> Folder for Disk<'_, R> {
+impl<R: Files + AllocGlobal> Disk<'_, R>
+where
+    R::File: AsFd,
+{
+    // A file beside the one of this name, or that one where none can be made beside it.
+    fn create_file(&self, name: &str) -> io::Result<DiskFile<R::File>> {
+        match target_of(self.rt, name) {
+            Ok(target) => self.create_at(target),
+            Err(error) if error.kind() == ErrorKind::OutOfMemory => Err(error),
+            Err(_) => Ok(DiskFile::in_place(fs::create(self.rt, name)?)),
+        }
+    }
+
+    fn create_at(&self, target: Target) -> io::Result<DiskFile<R::File>> {
+        target.check_writable(self.rt)?;
+        match target.create_beside(self.rt, self.process) {
+            Ok((file, leftover)) => Ok(DiskFile::beside(file, leftover, target)),
+            Err(error) if is_refused_beside(&error) => {
+                Ok(DiskFile::in_place(fs::create(self.rt, target.path())?))
+            }
+            Err(error) => Err(error),
+        }
+    }
+}
+
+impl<R: Files + AllocGlobal> Folder for Disk<'_, R>
+where
+    R::File: AsFd,
+{
     type In = R::File;
 
-    type Out = R::File;
+    type Out = DiskFile<R::File>;
 
     ghost file = { λ f n. None };
 
@@ -33,13 +84,24 @@ impl<R: Files> Folder for Disk<'_, R> {
         fs::open(self.rt, name).map_err(|_| FolderFault)
     }
 
-    fn create(&mut self, name: &str) -> Result<R::File, FolderFault> {
-        fs::create(self.rt, name).map_err(|_| FolderFault)
+    fn create(&mut self, name: &str) -> Result<DiskFile<R::File>, FolderFault> {
+        match self.create_file(name) {
+            Ok(file) => Ok(file),
+            Err(error) => {
+                self.wanted_memory |= error.kind() == ErrorKind::OutOfMemory;
+                Err(FolderFault)
+            }
+        }
     }
 
-    // The file is written where it was created, and closed here.
-    fn keep(&mut self, name: &str, out: R::File) -> Result<(), FolderFault> {
-        let _ = (name, out);
-        Ok(())
+    fn keep(&mut self, name: &str, out: DiskFile<R::File>) -> Result<(), FolderFault> {
+        let _ = name;
+        out.put_in_place(self.rt).map_err(|_| FolderFault)
+    }
+
+    // An old file stays; where none stands the new one is put in its place.
+    fn give_up(&mut self, name: &str, out: DiskFile<R::File>) {
+        let _ = name;
+        out.give_up(self.rt);
     }
 }

@@ -1,6 +1,6 @@
 //! Files under names.
 
-ghost use Rattle.std.specs.Prelude.{◌≡◌, ℕ, List, Bool, Option, [], Some, IfOk, OnOk, OnErr, IsTrue};
+ghost use Rattle.std.specs.Prelude.{◌≡◌, ◌⊎◌, ℕ, List, Bool, Option, [], Some, IfOk, OnOk, OnErr, IsTrue};
 ghost use Rattle.folder_core.specs.Files.{IsGiven, KeepsOthers};
 
 use std::io::{Read, Write};
@@ -12,7 +12,7 @@ use thiserror::Error;
 pub struct FolderFault;
 
 /// Files under names. A file is opened to be read, and created to be written; a created file has no other
-/// end than [`keep`](Folder::keep), which hands it back.
+/// end than [`keep`](Folder::keep), which hands it back, and [`give_up`](Folder::give_up).
 ///
 /// A folder may tell its files, as one in memory does: then it is known which bytes stand under a name, and
 /// a created file stands there once it is kept. A folder of a disk tells nothing.
@@ -53,4 +53,11 @@ pub trait Folder {
         ensures told { is_told self.new ≡ is_told self.old }
         ensures bytes { OnOk result (IsTrue (is_told self.old) → file self.new name.now ≡ Self.Out.contents out) }
         ensures refused { OnErr result (file self.new name.now ≡ file self.old name.now) };
+
+    /// Lets a created file go whose writing came to a fault: it is handed back as it was written, or what stood under
+    /// the name stays.
+    fn give_up(&mut self, name: &str, out: Self::Out)
+        ensures others { KeepsOthers name.now (file self.old) (file self.new) }
+        ensures told { is_told self.new ≡ is_told self.old }
+        ensures left { IsTrue (is_told self.old) → (file self.new name.now ≡ file self.old name.now) ⊎ (file self.new name.now ≡ Self.Out.contents out) };
 }

@@ -2,13 +2,19 @@
 //!
 //! A [`Folder`] opens files, creates them and takes back what was created. [`Disk`] is the operating system's, and
 //! [`MemoryFolder`] one in memory, which tells what stands in it. [`read_file`] reads a file to its end, [`read_files`]
-//! several in turn, [`write_file`] creates one and writes it; [`read_whole`] reads what any reader has left.
+//! several in turn, [`read_short`] only one that is short, [`write_file`] creates one and writes it; [`read_whole`] reads
+//! what any reader has left.
 //!
-//! The words of the contracts, all of `specs/Files.antt`:
+//! The words of the contracts, of `specs/Files.antt` but for the last three:
 //!
 //! - `Files` are the bytes that are known under each name; a folder that tells its files has them as `F.file`.
 //! - `KeepsOthers name old new` says that only the file of this name may have changed, `IsFront old new bytes` that a
 //!   file is as it was or holds a front of these bytes, `AreFiles files names contents` which bytes stand under names.
+//! - `IsShort most file answer` says that an answer has the bytes of a file that is shorter (`specs/ShortFiles.antt`).
+//! - `watched_folder` and `watched_file` are what is watched (`specs/WatchedFolders.antt`).
+//!
+//! What a [`Disk`] creates is a [`DiskFile`], which has its name only once it is kept, whole.
+//! A [`WatchedFolder`] shows on a terminal how far the files of another folder are read.
 //!
 //! What it promises: over a folder that tells its files, what is read is what stands there, and what was written stands
 //! there then; a write that failed leaves a front of it, and no other file is touched. Every reader comes to an end: one
@@ -21,13 +27,21 @@
 #![tactic(auto)]
 
 mod disk;
+mod disk_file;
 mod fault;
 mod files;
 mod folder;
 mod memory_folder;
+mod places;
+mod progress;
+mod short_files;
+mod watched_folder;
 
 pub use disk::Disk;
+pub use disk_file::DiskFile;
 pub use fault::FileFault;
 pub use files::{read_file, read_files, read_whole, write_file};
 pub use folder::{Folder, FolderFault};
 pub use memory_folder::MemoryFolder;
+pub use short_files::read_short;
+pub use watched_folder::{WatchedFile, WatchedFolder};

@@ -1,18 +1,17 @@
--- What is printed of a file that was read.
+-- What is printed of a file.
 use Rattle.std.specs.Prelude.{ℕ, ◌/◌, ◌%◌, false, List, [], ◌∷◌, ◌++◌, codes, flat_map, length}
 use Rattle.std.specs.Fmt.{decimal, digit_glyph, signed_decimal}
-use Rattle.dsd_bits.specs.Channels.{count_of}
 use Rattle.dsd_bits.specs.Contents.{Content, MarkContent}
 use Rattle.dsdiff_core.specs.MarkPlaces.{place_of}
 use Rattle.form_core.specs.declared.form.Form.{Form}
 use Rattle.info_core.specs.FormNames.{name_of}
 
 -- the lines of the form, the rate in hertz, the number of channels and that of the samples of each
-abbrev pub first_lines : Form → Content → List ℕ
-first_lines form r = codes "form " ++ name_of form
+abbrev pub first_lines : Form → Content → ℕ → List ℕ
+first_lines form r count = codes "form " ++ name_of form
     ++ codes "\nrate " ++ decimal r.rate
     ++ codes "\nchannels " ++ decimal (length r.channels)
-    ++ codes "\nsamples " ++ decimal (count_of r.channels)
+    ++ codes "\nsamples " ++ decimal count
 
 -- the two hexadecimal digits of a byte, `a` to `f` in small letters
 abbrev pub hexadecimal : ℕ → List ℕ
@@ -33,8 +32,8 @@ mark_line rate mark = codes "\nmark " ++ signed_decimal (place_of mark rate)
     ++ codes " channel " ++ decimal mark.channel
 
 -- all lines, without the end of the last: then come the layout, the marks, how many chunks are kept as they are, and how many bytes the tag has
-abbrev pub info_text : Form → Content → List ℕ
-info_text form r = first_lines form r ++ ids_line r.ids
+abbrev pub info_text : Form → Content → ℕ → List ℕ
+info_text form r count = first_lines form r count ++ ids_line r.ids
     ++ codes "\nlayout " ++ decimal r.layout
     ++ codes "\nmarks " ++ decimal (length r.marks) ++ flat_map (mark_line r.rate) r.marks
     ++ codes "\nothers " ++ decimal (length r.others)

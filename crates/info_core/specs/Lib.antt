@@ -1,2 +1,3 @@
 pub mod FormNames
 pub mod Infos
+pub mod Tellings

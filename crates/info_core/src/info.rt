@@ -6,21 +6,21 @@ ghost use Rattle.info_core.specs.Infos as infos;
 ghost use Rattle.info_core.specs.Infos.{hexadecimal, id_text, ids_line, info_text, mark_line};
 
 use crate::form_names::name_of;
+use crate::told::Told;
 use dsd_bits::Mark;
 use dsdiff_core::place;
-use form_core::Opened;
 use std::alloc::{AllocError, Global};
 use std::fmt::Write;
 
 /// The lines that `info` prints of a file's recording, without the end of the last line: the file's form,
 /// its rate in hertz, how many channels and samples (bits) a channel it has, the channels' IDs as
 /// hexadecimal digits, its layout, its marks with their places in samples, how many chunks are kept as
-/// they are, and how many bytes its tag has. It is refused only for want of memory.
-pub fn info_lines(alloc: Global, opened: &Opened) -> Result<String, AllocError>
-    ensures { IfOk result (λ text. string_bytes text ≡ info_text opened.now.form opened.now.recording) }
+/// they are, and how many bytes its tag has. No bit is looked at. It is refused only for want of memory.
+pub fn info_lines(alloc: Global, told: &Told) -> Result<String, AllocError>
+    ensures { IfOk result (λ text. string_bytes text ≡ info_text told.now.form told.now.recording told.now.count) }
 {
-    let recording = &opened.recording;
-    let mut text = first_lines(alloc, opened)?;
+    let recording = &told.recording;
+    let mut text = first_lines(alloc, told)?;
     push_ids(&mut text, recording.ids())?;
     let layout = recording.layout();
     let marks = recording.marks().len();
@@ -33,13 +33,13 @@ pub fn info_lines(alloc: Global, opened: &Opened) -> Result<String, AllocError>
 }
 
 // The lines before that of the IDs.
-fn first_lines(alloc: Global, opened: &Opened) -> Result<String, AllocError>
-    ensures { IfOk result (λ text. string_bytes text ≡ infos.first_lines opened.now.form opened.now.recording) }
+fn first_lines(alloc: Global, told: &Told) -> Result<String, AllocError>
+    ensures { IfOk result (λ text. string_bytes text ≡ infos.first_lines told.now.form told.now.recording told.now.count) }
 {
-    let form = name_of(opened.form);
-    let rate = opened.recording.rate();
-    let channels = opened.recording.channels().len();
-    let count = opened.recording.count();
+    let form = name_of(told.form);
+    let rate = told.recording.rate();
+    let channels = told.recording.channels().len();
+    let count = told.count;
     format!(in alloc; "form {form}\nrate {rate}\nchannels {channels}\nsamples {count}")
 }
 

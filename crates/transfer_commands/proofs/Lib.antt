@@ -1,2 +1,3 @@
 pub mod ConvertLaws
 pub mod PlayLaws
+pub mod TellLaws

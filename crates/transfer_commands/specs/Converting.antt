@@ -34,9 +34,14 @@ pub record IsUnconverted (form : Form) (file_name : List ℕ) (old : Files) (fau
   pub file_stands : old file_name ≡ Some file
   pub first : Fails Memory fault (converted_of file form)
 
+-- no file changed, or the output holds a front at most
+abbrev pub ConvertsInPart : Form → List ℕ → List ℕ → Files → Files → Type 0
+ConvertsInPart form input output old new = (new ≡ old) ⊎ ConvertsFront form input output old new
+
 -- the files before and after the input was converted to the output came to this
 abbrev pub ConvertComesTo : Form → List ℕ → List ℕ → Files → Files → Result ℕ CommandFault → Type 0
 ConvertComesTo form input output old new (Ok dropped) = ConvertsFile form input output old new dropped
-ConvertComesTo form input output old new (Err (Call fault)) = (new ≡ old) × ((fault ≡ Memory) ⊎ IsUnconverted form input old fault)
-ConvertComesTo form input output old new (Err ReadFailed) = new ≡ old
+ConvertComesTo form input output old new (Err (Call Memory)) = ConvertsInPart form input output old new
+ConvertComesTo form input output old new (Err (Call fault)) = (new ≡ old) × IsUnconverted form input old fault
+ConvertComesTo form input output old new (Err ReadFailed) = ConvertsInPart form input output old new
 ConvertComesTo form input output old new (Err WriteFailed) = ConvertsFront form input output old new

@@ -3,31 +3,49 @@ use Rattle.std.specs.Prelude.{◌≡◌, ℕ, List, Some, ◌⊎◌, Result, Ok,
 use Rattle.transfer_core.specs.declared.fault.Fault as calls
 use Rattle.transfer_core.specs.declared.fault.Fault.TheVariants.{Memory}
 use Rattle.transfer_core.specs.Faults.{fault_of_file}
-use Rattle.form_core.specs.Opening.{IsOpened, Opens, opened_of}
+use Rattle.dsd_bits.specs.Contents.{Content}
+use Rattle.form_core.specs.Forms.{HoldsAs}
+use Rattle.form_core.specs.Opening.{Opens, opened_of}
 use Rattle.form_core.specs.declared.fault.ReadFault.{ReadFault}
-use Rattle.form_core.specs.declared.opening.Opened.{Opened}
 use Rattle.folder_core.specs.Files.{Files}
+use Rattle.info_core.specs.Tellings.{Tells}
+use Rattle.info_core.specs.declared.told.Told.{Told}
 use Rattle.transfer_commands.specs.declared.fault.CommandFault.{CommandFault}
 use Rattle.transfer_commands.specs.declared.fault.CommandFault.TheVariants.{Call, ReadFailed, WriteFailed}
 
--- the file holds this form and this recording, and no file changed
-pub record TellsFile (file_name : List ℕ) (old new : Files) (opened : Opened) : Type 0 where
+-- the bytes are a file of the form that is told, and what is told is the recording that they hold, but for its bits
+pub record IsToldOf (file : List ℕ) (told : Told) : Type 0 where
+  pub recording : Content
+  pub holds : HoldsAs file told.form recording
+  pub tells : Tells told recording
+
+-- the file holds what is told, and no file changed
+pub record TellsFile (file_name : List ℕ) (old new : Files) (told : Told) : Type 0 where
   pub file : List ℕ
   pub file_stands : old file_name ≡ Some file
-  pub holds : IsOpened file opened
+  pub is_told : IsToldOf file told
   pub same : new ≡ old
+
+-- bytes are not read as a recording for this fault
+pub record IsUnopened (file : List ℕ) (fault : calls.Fault) : Type 0 where
+  pub cause : ReadFault
+  pub reading : Opens (Err cause) (opened_of file)
+  pub named : fault ≡ fault_of_file cause
+
+-- the same of a call's refusal
+abbrev pub IsUntoldOf : List ℕ → CommandFault → Type 0
+IsUntoldOf file (Call fault) = IsUnopened file fault
+IsUntoldOf file _ = ⊥
 
 -- the file is not read as a recording for this fault
 pub record IsUntold (file_name : List ℕ) (old : Files) (fault : calls.Fault) : Type 0 where
   pub file : List ℕ
-  pub cause : ReadFault
   pub file_stands : old file_name ≡ Some file
-  pub reading : Opens (Err cause) (opened_of file)
-  pub named : fault ≡ fault_of_file cause
+  pub unopened : IsUnopened file fault
 
--- the files before and after the file was read as a recording came to this
-abbrev pub TellComesTo : List ℕ → Files → Files → Result Opened CommandFault → Type 0
-TellComesTo file old new (Ok opened) = TellsFile file old new opened
+-- the files before and after the file was told of came to this
+abbrev pub TellComesTo : List ℕ → Files → Files → Result Told CommandFault → Type 0
+TellComesTo file old new (Ok told) = TellsFile file old new told
 TellComesTo file old new (Err (Call fault)) = (new ≡ old) × ((fault ≡ Memory) ⊎ IsUntold file old fault)
 TellComesTo file old new (Err ReadFailed) = new ≡ old
 TellComesTo file old new (Err WriteFailed) = ⊥

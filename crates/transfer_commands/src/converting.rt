@@ -1,27 +1,130 @@
 //! Converting a file of a folder to another.
 
-ghost use Rattle.std.specs.Prelude.{IsTrue};
+ghost use Rattle.std.specs.Prelude.{◌≡◌, ◌↔◌, List, ℕ, Some, IfErr, IfOk, IsTrue, OnErr};
+ghost use Rattle.form_core.specs.Parts.{FitsIn};
+ghost use Rattle.stream_core.specs.Outlines.{AreTold, around_of};
+ghost use Rattle.transfer_core.specs.Conversions.{ConversionStands, ConvertsFile, ConvertsFront};
 ghost use Rattle.transfer_commands.specs.Converting.{ConvertComesTo};
+ghost use Rattle.transfer_commands.specs.Outlining.{OutlinesFile};
 
 use crate::fault::CommandFault;
-use folder_core::{Folder, read_file, write_file};
-use form_core::Form;
+use crate::outlining::outline_file;
+use device_core::{Inlet, Outlet};
+use folder_core::{Folder, read_file, read_short, write_file};
+use form_core::{Form, held_is_opened, written_in_parts};
 use std::alloc::Global;
-use transfer_core::convert;
+use std::io::{Read, Write};
+use stream_core::Outline;
+use transfer_core::{Fault, convert, convert_stream};
 
-/// Reads a recording, converts it and only then creates the file in the other form: how many parts of the recording
-/// have no place in it.
+/// Converts a file to the other form: how many parts of its recording have no place in it.
+///
+/// A file of fewer than `most` bytes is read whole and converted in memory, and only then the other file is created. Any
+/// other is opened again and read in one pass, in which its sound isn't held; only where it holds no recording it is
+/// opened a third time and read whole, for the fault to be named. Else it is opened once more, the other file is created,
+/// and the one is converted to the other block by block: after a fault of that the other file may hold a front of
+/// what was due. A file that was changed between its readings is `ReadFailed`.
 pub fn convert_file<F: Folder>(
     alloc: Global,
     folder: &mut F,
     form: Form,
     input: &str,
     output: &str,
+    most: usize,
 ) -> Result<u64, CommandFault>
     ensures { IsTrue (F.is_told folder.old) → ConvertComesTo form input.now output.now (F.file folder.old) (F.file folder.new) result }
 {
-    let input = read_file(alloc, folder, input)?;
-    let converted = convert(alloc, &input, form)?;
+    if let Some(file) = read_short(alloc, folder, input, most)? {
+        return convert_whole(alloc, folder, form, &file, output);
+    }
+    if let Some(outline) = outline_file(alloc, folder, input)? {
+        return convert_outlined(alloc, folder, form, &outline, input, output);
+    }
+    let file = read_file(alloc, folder, input)?;
+    convert_whole(alloc, folder, form, &file, output)
+}
+
+// Converts a file that was read whole, and only then creates the other.
+fn convert_whole<F: Folder>(
+    alloc: Global,
+    folder: &mut F,
+    form: Form,
+    file: &[u8],
+    output: &str,
+) -> Result<u64, CommandFault>
+    ensures { IsTrue (F.is_told folder.old) → (input : List ℕ) → F.file folder.old input ≡ Some file.now → ConvertComesTo form input output.now (F.file folder.old) (F.file folder.new) result }
+{
+    let converted = convert(alloc, file, form)?;
     write_file(folder, output, &converted.bytes)?;
     Ok(converted.dropped)
+}
+
+// Opens a file of this outline once more, creates the other, converts the one to the other, and hands this back, or
+// gives it up after a fault.
+fn convert_outlined<F: Folder>(
+    alloc: Global,
+    folder: &mut F,
+    form: Form,
+    outline: &Outline,
+    input: &str,
+    output: &str,
+) -> Result<u64, CommandFault>
+    requires told { AreTold (around_of outline.now) }
+    ensures { IsTrue (F.is_told folder.old) → OutlinesFile input.now (F.file folder.old) (Some outline.now) → ConvertComesTo form input.now output.now (F.file folder.old) (F.file folder.new) result }
+{
+    held_is_opened();
+    written_in_parts();
+    if !fits_in(form, outline.sound.count) {
+        return Err(CommandFault::Call(Fault::NotWholeBytes));
+    }
+    let Ok(file) = folder.open(input) else {
+        return Err(CommandFault::ReadFailed);
+    };
+    let Ok(made) = folder.create(output) else {
+        return Err(CommandFault::WriteFailed);
+    };
+    let (came, made) = convert_between(alloc, form, outline, file, made);
+    match came {
+        Ok(dropped) => match folder.keep(output, made) {
+            Ok(()) => Ok(dropped),
+            Err(_) => Err(CommandFault::WriteFailed),
+        },
+        Err(fault) => {
+            folder.give_up(output, made);
+            match fault {
+                Fault::WriteFailed => Err(CommandFault::WriteFailed),
+                Fault::Memory => Err(CommandFault::Call(Fault::Memory)),
+                _ => Err(CommandFault::ReadFailed),
+            }
+        }
+    }
+}
+
+// Converts a file of this outline to one that was created, which is handed out.
+fn convert_between<R: Read + Drop, W: Write>(
+    alloc: Global,
+    form: Form,
+    outline: &Outline,
+    file: R,
+    made: W,
+) -> (Result<u64, Fault>, W)
+    requires told { AreTold (around_of outline.now) }
+    ensures ok { IfOk result.0 (ConvertsFile (R.remaining file) form (W.contents made) (W.contents result.1)) }
+    ensures front { OnErr result.0 (ConvertsFront (R.remaining file) (around_of outline.now) form (W.contents made) (W.contents result.1)) }
+    ensures refused { IfErr result.0 (ConversionStands (R.remaining file) (around_of outline.now) form) }
+{
+    let mut inlet = Inlet::new(file);
+    let mut outlet = Outlet::new(made);
+    let came = convert_stream(alloc, outline, form, &mut inlet, &mut outlet);
+    (came, outlet.into_inner())
+}
+
+// Whether a form has a place for channels of so many bits.
+fn fits_in(form: Form, count: usize) -> bool
+    ensures { IsTrue result ↔ FitsIn form count }
+{
+    match form {
+        Form::Dsdiff => count % 8 == 0,
+        Form::Dsf | Form::Dsf8 => true,
+    }
 }

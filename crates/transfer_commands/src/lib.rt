@@ -15,12 +15,14 @@
 
 mod converting;
 mod fault;
+mod outlining;
 mod playing;
 mod sources;
 mod telling;
 
 pub use converting::convert_file;
 pub use fault::CommandFault;
+pub use outlining::MOST_KEPT;
 pub use playing::play_file;
 pub use sources::{Sources, read_sources};
 pub use telling::open_file;

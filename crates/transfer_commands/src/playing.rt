@@ -30,7 +30,7 @@ pub fn play_file<F: Folder>(
     play_to(alloc, folder, &project, file, output, wave)
 }
 
-// Plays a file to one that was created, and hands this back, also after a fault.
+// Plays a file to one that was created, and hands this back, or gives it up after a fault.
 fn play_to<F: Folder>(
     alloc: Global,
     folder: &mut F,
@@ -44,10 +44,15 @@ fn play_to<F: Folder>(
     let mut inlet = Inlet::new(file);
     let mut outlet = Outlet::new(wave);
     let played = play_stream(alloc, project, &mut inlet, &mut outlet);
-    let kept = folder.keep(output, outlet.into_inner());
+    let wave = outlet.into_inner();
     match played {
-        Ok(count) if kept.is_ok() => Ok(count),
-        Ok(_) => Err(CommandFault::WriteFailed),
-        Err(fault) => Err(CommandFault::Call(fault)),
+        Ok(count) => match folder.keep(output, wave) {
+            Ok(()) => Ok(count),
+            Err(_) => Err(CommandFault::WriteFailed),
+        },
+        Err(fault) => {
+            folder.give_up(output, wave);
+            Err(CommandFault::Call(fault))
+        }
     }
 }

@@ -1,6 +1,5 @@
 use Rattle.std.proofs.Common.{◌≡◌, ◌∙◌, ◌++◌, IfOk, List, ℕ, ap, append_assoc, codes, length, refl, string_bytes, subst}
 use Rattle.std.specs.Fmt.{decimal}
-use Rattle.dsd_bits.specs.Channels.{count_of}
 use Rattle.info_core.specs.FormNames.{name_of}
 use Rattle.info_core.proofs.info.first_lines.Goals as goal
 
@@ -13,9 +12,10 @@ regrouped xs₁ xs₂ xs₃ xs₄ xs₅ xs₆ xs₇ = simp append_assoc refl
 
 pub returns : goal.returns
 returns c =
-    let form = name_of c.args.opened.now.form in
-    let r = c.args.opened.now.recording in
-    let told : written c.name_of-form.result.now c.rate-rate.result (length c.channels.result.now) c.count-count.result ≡ written form r.rate (length r.channels) (count_of r.channels) =
-    λ i. written (c.name_of-form.ensures i) (c.rate-rate.ensures.value i) (length (c.channels.ensures.value i)) (c.count-count.ensures.value i) in
-    let grouped = ap (λ (lines : List ℕ). codes "form " ++ lines) (regrouped form (codes "\nrate ") (decimal r.rate) (codes "\nchannels ") (decimal (length r.channels)) (codes "\nsamples ") (decimal (count_of r.channels))) in
+    let form = name_of c.args.told.now.form in
+    let r = c.args.told.now.recording in
+    let count = c.args.told.now.count in
+    let told : written c.name_of-form.result.now c.rate-rate.result (length c.channels.result.now) count ≡ written form r.rate (length r.channels) count =
+    λ i. written (c.name_of-form.ensures i) (c.rate-rate.ensures.value i) (length (c.channels.ensures.value i)) count in
+    let grouped = ap (λ (lines : List ℕ). codes "form " ++ lines) (regrouped form (codes "\nrate ") (decimal r.rate) (codes "\nchannels ") (decimal (length r.channels)) (codes "\nsamples ") (decimal count)) in
     subst (λ (lines : List ℕ). IfOk c.format.result (λ text. string_bytes text ≡ lines)) (told ∙ grouped) c.format.ensures.ok

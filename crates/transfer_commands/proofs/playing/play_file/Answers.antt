@@ -1,4 +1,4 @@
-use Rattle.std.proofs.Common.{◌≡◌, ◌∙◌, IsTrue, sym, subst, ap}
+use Rattle.std.proofs.Common.{◌∙◌, IsTrue, sym, subst}
 use Rattle.folder_core.specs.Files.{Files, IsGiven}
 use Rattle.transfer_commands.specs.Playing.{PlayedComesTo}
 use Rattle.transfer_commands.proofs.PlayLaws.{play_ends}

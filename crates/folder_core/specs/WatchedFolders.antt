@@ -1,0 +1,11 @@
+-- What contracts see of a folder that is watched.
+use Rattle.folder_core.specs.declared.watched_folder.WatchedFile.{WatchedFile}
+use Rattle.folder_core.specs.declared.watched_folder.WatchedFolder.{WatchedFolder}
+
+-- the folder that is watched
+abbrev pub watched_folder : {F R : Type 0} → WatchedFolder F R → F
+watched_folder folder = folder.folder
+
+-- the file that is watched
+abbrev pub watched_file : {I R : Type 0} → WatchedFile I R → I
+watched_file file = file.file

@@ -1,0 +1,54 @@
+//! Files of a folder that are read whole only where they are short.
+
+ghost use Rattle.std.specs.Prelude.{◌≡◌, IfErr, IfOk, IfSome, IsTrue, Some};
+ghost use Rattle.folder_core.specs.Files.{IsReadFault};
+ghost use Rattle.folder_core.specs.ShortFiles.{IsShort};
+
+use crate::fault::FileFault;
+use crate::folder::Folder;
+use device_core::Inlet;
+use std::alloc::Global;
+use std::io::Read;
+
+/// The bytes of a file that has fewer than `most`, or none of a file that has more: of that no more are read.
+///
+/// Refusals: `ReadFailed` where it can't be opened, or a read fails; `Memory` where there is none for `most` bytes.
+pub fn read_short<F: Folder>(
+    alloc: Global,
+    folder: &mut F,
+    name: &str,
+    most: usize,
+) -> Result<Option<Vec<u8>>, FileFault>
+    ensures same { F.file folder.new ≡ F.file folder.old }
+    ensures told { F.is_told folder.new ≡ F.is_told folder.old }
+    ensures bytes { IfOk result (λ short. IsTrue (F.is_told folder.old) → IsShort most (F.file folder.old name.now) short) }
+    ensures fault { IfErr result IsReadFault }
+{
+    match folder.open(name) {
+        Ok(file) => short_of(alloc, file, most),
+        Err(_) => Err(FileFault::ReadFailed),
+    }
+}
+
+// What a reader has left where that is less than so many bytes, or none.
+fn short_of<R: Read + Drop>(
+    alloc: Global,
+    reader: R,
+    most: usize,
+) -> Result<Option<Vec<u8>>, FileFault>
+    ensures bytes { IfOk result (λ short. IfSome (R.remaining reader) (λ left. IsShort most (Some left) short)) }
+    ensures fault { IfErr result IsReadFault }
+{
+    let mut inlet = Inlet::new(reader);
+    let Ok(mut bytes) = vec![in alloc; 0u8; most] else {
+        return Err(FileFault::Memory);
+    };
+    let Ok(count) = inlet.fill(bytes.as_mut_slice()) else {
+        return Err(FileFault::ReadFailed);
+    };
+    if count == most {
+        return Ok(None);
+    }
+    bytes.truncate(count);
+    Ok(Some(bytes))
+}

@@ -1,0 +1,113 @@
+//! A folder whose user sees how far its files are read.
+
+ghost use Rattle.std.specs.Prelude.{◌≡◌};
+ghost use Rattle.folder_core.specs.WatchedFolders.{watched_file, watched_folder};
+
+use crate::folder::{Folder, FolderFault};
+use crate::progress::ProgressLine;
+use std::fs::OpenFile;
+use std::io;
+use std::io::{Eprint, Read};
+use std::rt::Clock;
+use std::time::Instant;
+
+/// A folder over another, that shows how far each file is read: a line on standard error, written again at most
+/// ten times a second and gone when the file is let go. Nothing is shown in the first second after the folder was made. It
+/// tells what the other tells.
+#[derive(Drop)]
+pub struct WatchedFolder<'a, F, R> {
+    folder: F,
+    rt: &'a R,
+    start: Option<Instant>,
+}
+
+/// A file of a [`WatchedFolder`] that is read.
+#[derive(Drop)]
+pub struct WatchedFile<'a, I, R: Clock + Eprint> {
+    file: I,
+    given: u64,
+    length: u64,
+    line: ProgressLine<'a, R>,
+}
+
+impl<'a, F: Folder, R: Clock> WatchedFolder<'a, F, R> {
+    /// This folder, shown to someone or to no one.
+    pub fn new(rt: &'a R, folder: F, is_shown: bool) -> Self
+        ensures { watched_folder result ≡ folder }
+    {
+        let start = if is_shown {
+            Instant::now(rt).ok()
+        } else {
+            None
+        };
+        WatchedFolder { folder, rt, start }
+    }
+
+    /// The other folder.
+    pub fn into_inner(self) -> F
+        ensures { result ≡ watched_folder self.entry }
+    {
+        let WatchedFolder {
+            folder,
+            rt: _,
+            start: _,
+        } = self;
+        folder
+    }
+}
+
+impl<'a, F: Folder, R: Clock + Eprint> Folder for WatchedFolder<'a, F, R>
+where
+    F::In: OpenFile,
+{
+    type In = WatchedFile<'a, F::In, R>;
+
+    type Out = F::Out;
+
+    ghost file = { λ w. F.file (watched_folder w) };
+
+    ghost is_told = { λ w. F.is_told (watched_folder w) };
+
+    fn open(&mut self, name: &str) -> Result<WatchedFile<'a, F::In, R>, FolderFault> {
+        let file = self.folder.open(name)?;
+        Ok(WatchedFile {
+            length: length_of(&file),
+            file,
+            given: 0,
+            line: ProgressLine::new(self.rt, self.start),
+        })
+    }
+
+    fn create(&mut self, name: &str) -> Result<F::Out, FolderFault> {
+        self.folder.create(name)
+    }
+
+    fn keep(&mut self, name: &str, out: F::Out) -> Result<(), FolderFault> {
+        self.folder.keep(name, out)
+    }
+
+    fn give_up(&mut self, name: &str, out: F::Out) {
+        self.folder.give_up(name, out);
+    }
+}
+
+// How many bytes a file has; 0 where it isn't known.
+fn length_of(file: &impl OpenFile) -> u64 {
+    match file.metadata() {
+        Ok(found) if found.is_file() => found.len(),
+        _ => 0,
+    }
+}
+
+impl<I: Read, R: Clock + Eprint> Read for WatchedFile<'_, I, R> {
+    ghost remaining = { λ w. I.remaining (watched_file w) };
+
+    fn read(&mut self, buffer: &mut [u8]) -> io::Result<usize> {
+        let got = self.file.read(buffer);
+        if let Ok(count) = got {
+            self.given = self.given.saturating_add(count as u64);
+            self.line.show(self.given, self.length);
+        }
+        got
+    }
+}

@@ -1,0 +1,41 @@
+-- What is known of a file of a folder without its sound.
+use Rattle.std.specs.Prelude.{◌≡◌, ℕ, List, Option, Some, None, ⊤}
+use Rattle.dsd_bits.specs.declared.blocks.BitOrder.{BitOrder}
+use Rattle.dsd_bits.specs.declared.blocks.BitOrder.TheVariants.{LeastFirst, MostFirst}
+use Rattle.stream_core.specs.Files.{IsRefused}
+use Rattle.stream_core.specs.Outlines.{AreAround, AreTold, around_of}
+use Rattle.stream_core.specs.declared.outline.Outline.{Outline}
+use Rattle.transfer_core.specs.declared.fault.Fault.TheVariants.{Memory}
+use Rattle.form_core.specs.declared.form.Form.{Form}
+use Rattle.form_core.specs.declared.form.Form.TheVariants.{Dsdiff, Dsf, Dsf8}
+use Rattle.folder_core.specs.Files.{Files}
+use Rattle.transfer_commands.specs.declared.fault.CommandFault.{CommandFault}
+use Rattle.transfer_commands.specs.declared.fault.CommandFault.TheVariants.{Call, ReadFailed}
+
+-- the file is some sound in these surroundings, which tell what it holds
+pub record IsOutlined (file : List ℕ) (outline : Outline) : Type 0 where
+  pub told : AreTold (around_of outline)
+  pub around : AreAround (around_of outline) file
+
+-- an outline is that of the file, or there is none and the file holds no recording
+abbrev pub IsOutlineOf : List ℕ → Option Outline → Type 0
+IsOutlineOf file (Some outline) = IsOutlined file outline
+IsOutlineOf file None = IsRefused file
+
+-- the same of a file under its name
+pub record OutlinesFile (file_name : List ℕ) (old : Files) (found : Option Outline) : Type 0 where
+  pub file : List ℕ
+  pub file_stands : old file_name ≡ Some file
+  pub is_outline : IsOutlineOf file found
+
+-- the form of a file in which no order of bits is told, or this
+abbrev pub form_in : Option BitOrder → Form
+form_in None = Dsdiff
+form_in (Some LeastFirst) = Dsf
+form_in (Some MostFirst) = Dsf8
+
+-- a file was not read: it could not be, or memory was wanting
+abbrev pub IsUnread : CommandFault → Type 0
+IsUnread (Call Memory) = ⊤
+IsUnread ReadFailed = ⊤
+IsUnread _ = ⊥

@@ -1,0 +1,41 @@
+//! What a file of a folder holds beside its sound.
+
+ghost use Rattle.std.specs.Prelude.{◌≡◌, IfErr, IfOk, IfSome, IsTrue};
+ghost use Rattle.stream_core.specs.Outlines.{AreTold, around_of};
+ghost use Rattle.transfer_commands.specs.Outlining.{IsUnread, OutlinesFile};
+
+use crate::fault::CommandFault;
+use device_core::Inlet;
+use folder_core::Folder;
+use std::alloc::Global;
+use stream_core::{Outline, StreamFault, read_outline};
+use transfer_core::Fault;
+
+/// Files of fewer bytes are held whole, 2 MiB.
+pub const MOST_KEPT: usize = 1 << 21;
+
+/// What a file holds beside its sound, read in one pass, or none of a file that holds no recording.
+///
+/// Refusals: `ReadFailed` where it can't be opened, a read fails, or it isn't at its end after `2^40` reads; `Memory`.
+pub(crate) fn outline_file<F: Folder>(
+    alloc: Global,
+    folder: &mut F,
+    name: &str,
+) -> Result<Option<Outline>, CommandFault>
+    ensures same { F.file folder.new ≡ F.file folder.old }
+    ensures told { F.is_told folder.new ≡ F.is_told folder.old }
+    ensures around { IfOk result (λ found. IfSome found (λ outline. AreTold (around_of outline))) }
+    ensures found { IfOk result (λ found. IsTrue (F.is_told folder.old) → OutlinesFile name.now (F.file folder.old) found) }
+    ensures fault { IfErr result IsUnread }
+{
+    let Ok(file) = folder.open(name) else {
+        return Err(CommandFault::ReadFailed);
+    };
+    let mut inlet = Inlet::new(file);
+    match read_outline(alloc, &mut inlet) {
+        Ok(outline) => Ok(Some(outline)),
+        Err(StreamFault::FileRefused) => Ok(None),
+        Err(StreamFault::Memory) => Err(CommandFault::Call(Fault::Memory)),
+        Err(_) => Err(CommandFault::ReadFailed),
+    }
+}

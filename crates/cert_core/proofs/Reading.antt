@@ -1,17 +1,18 @@
 -- From the bytes that were read to what they say of a row of the second version.
-use Rattle.std.proofs.Common.{◌≡◌, ℕ, ◌+◌, ◌*◌, ◌^◌, ◌<◌, ◌≤◌, ◌⊎◌, List, [], ◌∷◌, ◌++◌, map, Option, None, Some, IfSome, refl, sym, ap, ◌∙◌, subst, append_assoc, length, get_or, inl, inr, arith}
+use Rattle.std.proofs.Common.{◌≡◌, ℕ, ◌+◌, ◌*◌, ◌^◌, ◌<◌, ◌≤◌, ◌⊎◌, List, [], ◌∷◌, ◌++◌, map, Option, refl, sym, ap, ap₂, ◌∙◌, subst, append_assoc, length, length-take-le, take, take-append-drop, get_or, inl, inr, arith}
 use Rattle.std.specs.List.{flat_map}
 use Rattle.std.specs.Int.{w64, to_be_bytes, bytes_high_first}
-use Rattle.std.proofs.lemmas.List.{append-nil, get_or-map, length-map}
-use Rattle.std.specs.Io.KnownBytes.{Consumes, IsAtEnd}
+use Rattle.std.proofs.Math.Seq.{drop-cons}
+use Rattle.std.proofs.lemmas.List.{drop_all, get_or-map, length-map}
+use Rattle.std.specs.Io.KnownBytes.{Consumes}
 use Rattle.std.proofs.KnownBytes.{Consumes-trans}
 use Rattle.cert_core.specs.declared.verdict.CertReason.{CertReason}
 use Rattle.cert_core.specs.declared.verdict.CertReason.TheVariants.{Cut, Row}
 use Rattle.cert_core.specs.Reasons.{Bounded, SpellingReason}
-use Rattle.cert_core.specs.Spelling.{Holds, IsCutRow, IsTooWide, floor, raised_text}
-use Rattle.cert_core.specs.Stops.{InForm, InSpelling, RaisedReason}
+use Rattle.cert_core.specs.Spelling.{Holds, IsTooWide, floor, raised_text}
+use Rattle.cert_core.specs.Stops.{CutBelow, InForm, InSpelling, RaisedReason}
 use Rattle.cert_core.specs.declared.version.Version.TheVariants.{Two}
-use Rattle.cert_core.proofs.Consuming.{after, if_some}
+use Rattle.cert_core.proofs.Consuming.{after, before}
 use Rattle.cert_core.proofs.Raised.{floor_low, own_only}
 
 -- what a row begins with, and its excesses
@@ -19,24 +20,28 @@ pub raised_consumed : (a b c : Option (List ℕ)) (least width : ℕ) (over bs :
 raised_consumed a b c least width over bs p q is =
     subst (Consumes a c) (append_assoc (to_be_bytes w64 least) (width ∷ []) bs ∙ ap (λ l. to_be_bytes w64 least ++ (width ∷ l)) is) (Consumes-trans a b c (raised_text least width []) bs p q)
 
--- all that is left, where nothing is left behind it
-ends_with : (a c : Option (List ℕ)) (all : List ℕ) (P : List ℕ → Type 0) → Consumes a c all → IsAtEnd c → P all → IfSome a P
-ends_with None c all P p end w = tt
-ends_with (Some xs) None all P p end w = absurd p
-ends_with (Some xs) (Some ys) all P p end w = subst P (sym (p ∙ ap (λ l. all ++ l) end ∙ append-nil all)) w
-
 -- bytes that end before the excesses do
-pub cut_in_excesses : (a b c : Option (List ℕ)) (m level least width : ℕ) (bs : List ℕ) → Consumes a b (raised_text least width []) → Consumes b c bs → IsAtEnd c → width ≤ 8 → length bs < width * m → InSpelling Two m level a Cut
-cut_in_excesses a b c m level least width bs p q end few short =
-    ends_with a c (raised_text least width [] ++ bs) (IsCutRow Two m) (Consumes-trans a b c (raised_text least width []) bs p q) end
-    (inr (to_be_bytes w64 least, width, bs, append_assoc (to_be_bytes w64 least) (width ∷ []) bs, refl, few, short))
+pub cut_in_excesses : (a b : Option (List ℕ)) (m level least width : ℕ) (reason : CertReason) → Consumes a b (raised_text least width []) → width ≤ 8 → CutBelow b (width * m) reason → InSpelling Two m level a reason
+cut_in_excesses a b m level least width reason p few (is, short) =
+    subst (InSpelling Two m level a) (sym is)
+    (before (λ rest. length rest < width * m) (λ bytes. SpellingReason Two m level bytes Cut) a b (raised_text least width []) p
+    (λ rest h. inr (to_be_bytes w64 least, width, rest, append_assoc (to_be_bytes w64 least) (width ∷ []) rest, refl, few, h)) short)
 
--- a first reason in what a row begins with is one of the row
-pub form_first : (a : Option (List ℕ)) (m level : ℕ) (reason : CertReason) → InForm level a reason → InSpelling Two m level a reason
-form_first a m level reason w = if_some a (λ bytes. ((reason ≡ Cut) × (length bytes < 9)) ⊎ ((reason ≡ Row level) × IsTooWide Two bytes)) (λ bytes. SpellingReason Two m level bytes reason) told w where
-  told : (bytes : List ℕ) → ((reason ≡ Cut) × (length bytes < 9)) ⊎ ((reason ≡ Row level) × IsTooWide Two bytes) → SpellingReason Two m level bytes reason
-  told bytes (inl (e, short)) = subst (SpellingReason Two m level bytes) (sym e) (inl short)
-  told bytes (inr (e, wide)) = subst (SpellingReason Two m level bytes) (sym e) (refl, inl wide)
+-- the nine bytes before the excesses
+module _ (form : List ℕ) (nine : length form ≡ 9) where
+  parts : (width : ℕ) → width ≡ get_or form 8 0 → form ≡ take 8 form ++ (width ∷ [])
+  parts width w =
+      sym (take-append-drop 8 form) ∙ ap (λ l. take 8 form ++ l) (drop-cons form 8 0 (omega arith) ∙ ap₂ (λ x l. x ∷ l) (sym w) (drop_all 9 form (omega arith)))
+
+  -- are a number and a width
+  pub form_text : (least width : ℕ) → take 8 form ≡ to_be_bytes w64 least → width ≡ get_or form 8 0 → form ≡ raised_text least width []
+  form_text least width is w = parts width w ∙ ap (λ l. l ++ (width ∷ [])) is
+
+  -- perhaps one that is too wide
+  pub too_wide : (a b : Option (List ℕ)) (level width : ℕ) → Consumes a b form → width ≡ get_or form 8 0 → 8 < width → InForm level a (Row level)
+  too_wide a b level width p w wide =
+      after (λ bytes. ((Row level ≡ Cut) × (length bytes < 9)) ⊎ ((Row level ≡ Row level) × IsTooWide Two bytes)) a b form p
+      (λ rest. inr (refl, (take 8 form, width, rest, ap (λ l. l ++ rest) (parts width w) ∙ append_assoc (take 8 form) (width ∷ []) rest, length-take-le 8 form (omega arith), wide)))
 
 -- what is wrong with numbers over another is wrong with the row of the bytes that they were read from
 pub raised_first : (a c : Option (List ℕ)) (m level least width : ℕ) (over : List ℕ) (reason : CertReason) → Consumes a c (raised_text least width over) → length over ≡ m → 0 < m → least < 2 ^ 64 → width ≤ 8

@@ -12,6 +12,7 @@ ghost use Rattle.cert_core.specs.Entries.{ReadsEntry};
 ghost use Rattle.cert_core.specs.Reasons.{RowBounded};
 ghost use Rattle.cert_core.specs.Stops.{OnReason, failed_stops, CutBelow, InStart, InRows, InEnd, InEntry, ReadsRows};
 
+use crate::filling::fill;
 use crate::numbers::{make_buffer, number_in, start_numbers};
 use crate::row_reader::read_row;
 use crate::rows::{low_end, row_reason};
@@ -32,10 +33,7 @@ fn read_number<R: Read>(inlet: &mut Inlet<R>) -> Result<u64, Stop>
     ensures failures { inlet_failures inlet.new ≡ inlet_failures inlet.old + failed_stops result }
 {
     let mut bytes = [0u8; 8];
-    let count = inlet.fill(&mut bytes)?;
-    if count < 8 {
-        return Err(Stop::Reason(CertReason::Cut));
-    }
+    fill(inlet, &mut bytes)?;
     Ok(number_in(bytes))
 }
 
@@ -52,10 +50,7 @@ fn read_start<R: Read>(
     ensures failures { inlet_failures inlet.new ≡ inlet_failures inlet.old + failed_stops result }
 {
     let mut bytes = [0u8; 6];
-    let count = inlet.fill(&mut bytes)?;
-    if count < 6 {
-        return Err(Stop::Reason(CertReason::Cut));
-    }
+    fill(inlet, &mut bytes)?;
     let (found_cue, found_channel, found_length) = start_numbers(bytes);
     if found_cue != cue || found_channel != channel {
         return Err(Stop::Reason(CertReason::Head));
@@ -132,25 +127,31 @@ fn read_end<R: Read>(
     }
 }
 
+/// Which bridge an entry is of: the one after a cue, in a channel.
+#[derive(Clone, Copy)]
+pub struct Place {
+    pub cue: u16,
+    pub channel: u16,
+}
+
 /// Reads an entry of a version, whose table has to be valid for the bits. The answer is what they cost.
 pub fn read_entry<R: Read>(
     alloc: Global,
     inlet: &mut Inlet<R>,
     version: Version,
-    cue: u16,
-    channel: u16,
+    place: Place,
     window: &Window,
     bits: &Bits,
 ) -> Result<u64, Stop>
     requires ready { inlet_failures inlet.old < 2 ^ 64 - 1 }
     requires bits { length bits.now ≡ window.now.levels }
     ensures limits { IsBridging window.now }
-    ensures entry { IfOk result (λ cost. ReadsEntry version (trellis_of window.now) cue channel bits.now (R.remaining (inlet_reader inlet.old)) (R.remaining (inlet_reader inlet.new))) }
+    ensures entry { IfOk result (λ cost. ReadsEntry version (trellis_of window.now) place.cue place.channel bits.now (R.remaining (inlet_reader inlet.old)) (R.remaining (inlet_reader inlet.new))) }
     ensures cost { IfOk result (λ found. found ≡ cost (trellis_of window.now) bits.now) }
-    ensures reason { OnReason result (InEntry version (trellis_of window.now) cue channel (cost (trellis_of window.now) bits.now) (R.remaining (inlet_reader inlet.old))) }
+    ensures reason { OnReason result (InEntry version (trellis_of window.now) place.cue place.channel (cost (trellis_of window.now) bits.now) (R.remaining (inlet_reader inlet.old))) }
     ensures failures { inlet_failures inlet.new ≡ inlet_failures inlet.old + failed_stops result }
 {
-    read_start(inlet, cue, channel, window.length())?;
+    read_start(inlet, place.cue, place.channel, window.length())?;
     let states = window.states();
     let mut steps = make_row(alloc, 2 * states)?;
     let last = read_rows(alloc, inlet, version, window, &mut steps)?;

@@ -51,6 +51,7 @@
 #![tactic(auto)]
 
 mod entry;
+mod filling;
 mod laws;
 mod numbers;
 mod reader;

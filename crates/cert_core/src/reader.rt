@@ -9,7 +9,7 @@ ghost use Rattle.cert_core.specs.Text.{cert_head};
 ghost use Rattle.cert_core.specs.Entries.{BeginsValid, ReadsEntry};
 ghost use Rattle.cert_core.specs.Stops.{InEntry};
 
-use crate::entry::read_entry;
+use crate::entry::{Place, read_entry};
 use crate::numbers::version_in;
 use crate::stop::Stop;
 use crate::verdict::{CertReason, CertVerdict, CheckFault};
@@ -124,8 +124,7 @@ impl<R: Read> CertReader<R> {
             alloc,
             &mut self.inlet,
             self.version,
-            cue,
-            channel,
+            Place { cue, channel },
             window,
             bits,
         ) {

@@ -8,6 +8,7 @@ ghost use Rattle.cert_core.specs.Reasons.{Bounded};
 ghost use Rattle.cert_core.specs.Spelling.{raised_text, row_text};
 ghost use Rattle.cert_core.specs.Stops.{OnReason, failed_stops, InForm, InSpelling, RaisedReason};
 
+use crate::filling::fill;
 use crate::numbers::{number_in, take_row};
 use crate::rows::{GREATEST, is_above};
 use crate::spelling::{bounds_of, width_of};
@@ -104,10 +105,7 @@ fn read_values<R: Read>(
     ensures failures { inlet_failures inlet.new ≡ inlet_failures inlet.old + failed_stops result }
 {
     let size = 8 * row.len();
-    let count = inlet.fill(&mut buffer[0..size])?;
-    if count < size {
-        return Err(Stop::Reason(CertReason::Cut));
-    }
+    fill(inlet, &mut buffer[0..size])?;
     take_row(&buffer[0..size], row);
     if is_above(row) {
         return Err(Stop::Reason(CertReason::Bound));
@@ -124,10 +122,7 @@ fn read_form<R: Read>(inlet: &mut Inlet<R>, level: usize) -> Result<(u64, usize)
     ensures failures { inlet_failures inlet.new ≡ inlet_failures inlet.old + failed_stops result }
 {
     let mut form = [0u8; 9];
-    let count = inlet.fill(&mut form)?;
-    if count < 9 {
-        return Err(Stop::Reason(CertReason::Cut));
-    }
+    fill(inlet, &mut form)?;
     let width = usize::from(form[8]);
     if width > 8 {
         return Err(Stop::Reason(CertReason::Row(level)));
@@ -154,10 +149,7 @@ fn read_raised<R: Read>(
 {
     let (least, width) = read_form(inlet, level)?;
     let size = width * row.len();
-    let count = inlet.fill(&mut buffer[0..size])?;
-    if count < size {
-        return Err(Stop::Reason(CertReason::Cut));
-    }
+    fill(inlet, &mut buffer[0..size])?;
     take_excesses(buffer, width, row);
     match raise(least, width, level, row) {
         Ok(()) => Ok(()),

@@ -69,8 +69,16 @@ front_of ws part xs ys i e p l is = is ∙ ap (λ w. twice (take 4 w)) (at_chunk
 pub back_of : (ws : List (List ℕ)) (part xs ys : List ℕ) (i : ℕ) → ws ≡ first_chunks 8 (length part / 8) part → part ≡ xs → i < length part / 8 → ys ≡ twice (drop 4 (get_or ws i [])) → ys ≡ take 8 (drop (8 * (2 * i + 1)) (twice xs))
 back_of ws part xs ys i e p l is = is ∙ ap (λ w. twice (drop 4 w)) (at_chunk ws part i e l) ∙ back_is part i ∙ ap (λ w. take 8 (drop (8 * (2 * i + 1)) (twice w))) p
 
-pub each_of : (P : ℕ → Type 0) (ys zs : List ℕ) (n : ℕ) → ys ≡ take 8 (drop n zs) → Each1 P zs → Each1 P ys
+each_of : (P : ℕ → Type 0) (ys zs : List ℕ) (n : ℕ) → ys ≡ take 8 (drop n zs) → Each1 P zs → Each1 P ys
 each_of P ys zs n e all = subst (Each1 P) (sym e) (Each1-chunk P n 8 zs all)
+
+-- P of each value of them
+module _ (P : ℕ → Type 0) (ws : List (List ℕ)) (part xs ys : List ℕ) (i : ℕ) (e : ws ≡ first_chunks 8 (length part / 8) part) (p : part ≡ xs) (l : i < length part / 8) (all : Each1 P (twice xs)) where
+  pub each_front : ys ≡ twice (take 4 (get_or ws i [])) → Each1 P ys
+  each_front is = each_of P ys (twice xs) (8 * (2 * i)) (front_of ws part xs ys i e p l is) all
+
+  pub each_back : ys ≡ twice (drop 4 (get_or ws i [])) → Each1 P ys
+  each_back is = each_of P ys (twice xs) (8 * (2 * i + 1)) (back_of ws part xs ys i e p l is) all
 
 -- two chunks of a row
 pub two_rows : (row ls v w : List ℕ) (j : ℕ) → take (8 * j) row ≡ take (8 * j) ls → v ≡ take 8 (drop (8 * j) ls) → w ≡ take 8 (drop (8 * (j + 1)) ls) → 8 * (j + 2) ≤ length row → length ls ≡ length row

@@ -1,5 +1,5 @@
 -- The window of a bridge between two cues lies within the limits.
-use Rattle.std.proofs.Common.{◌≡◌, ℕ, ◌+◌, ◌-◌, ◌<◌, ◌≤◌, ℤ, Bool, List, length, get_or, sym, ap, ◌∙◌, arith}
+use Rattle.std.proofs.Common.{◌≡◌, ℕ, ◌+◌, ◌-◌, ◌<◌, ◌≤◌, Bool, List, length, get_or, sym, ap, ◌∙◌, arith}
 use Rattle.std.specs.Prelude.{string_bytes}
 use Rattle.std.proofs.lemmas.List.{get_or-map, length-map}
 use Rattle.std.proofs.lemmas.List.Elements.{All-get_or}
@@ -57,8 +57,3 @@ module _ (splice : SpliceContent) (fine : IsSplicing splice.weights (length spli
 
     pub targets_many : length (bridging splice i a b).targets ≡ (bridging splice i a b).levels + length (bridging splice i a b).following
     targets_many = targets_number (cue_at splice i).target splice.weights a (cue_at splice i).stop b (cue_at splice (i + 1)).start (cue_at splice i).bridge ∙ omega (arith, following_many)
-
--- equal parts make equal limits
-pub limits_of : (w x : List ℤ) (k l : ℕ) (p q f g : List Bool) (t u : List ℤ) → w ≡ x → k ≡ l → p ≡ q → f ≡ g → t ≡ u → IsBridging (record { weights = x; levels = l; preceding = q; following = g; targets = u }) →
-    IsBridging (record { weights = w; levels = k; preceding = p; following = f; targets = t })
-limits_of w x k l p q f g t u ew el ep ef et i = rw (ew, el, ep, ef, et) i

@@ -6,7 +6,7 @@ ghost use Rattle.cut_core.specs.Bridges.{IsPlace, bridges};
 ghost use Rattle.master_core.specs.Choosing.{AreChosen, chosen_claims};
 ghost use Rattle.master_core.specs.Choosing as specs;
 
-use crate::certifying::{begin, write_entry};
+use crate::certifying::{begin, choose_bridge};
 use cert_core::read_is_cert;
 use cut_core::{BridgePlace, Cut};
 use std::alloc::{AllocError, Global};
@@ -40,7 +40,7 @@ pub fn choose_bridges(alloc: Global, cut: &Cut) -> Result<ChosenBridges, AllocEr
     let mut chosen = Vec::with_capacity(alloc, places.len())?;
     let mut total = 0;
     for k in 0..places.len() {
-        let bridge = write_entry(alloc, &mut writer, cut, places[k])?;
+        let bridge = choose_bridge(alloc, &mut writer, cut, places[k])?;
         total += u128::from(cost_of(&bridge));
         chosen.push_reserved(bridge);
     }

@@ -15,7 +15,7 @@ ghost use Rattle.master_core.specs.Masters.{channel_numbers};
 
 use crate::verdict::{Reason, Verdict};
 use cert_core::{CertReader, CertReason, CertVerdict, cert_goes_on, read_is_cert};
-use cost_core::{fades_join, places_are_windows};
+use cost_core::{Window, fades_join, places_are_windows};
 use cut_core::{BridgePlace, Cut};
 use device_core::Inlet;
 use dsd_bits::{Bits, Recording};
@@ -158,10 +158,31 @@ fn judge_entry<R: Read>(
     ensures version { OnOk result (read_version reader.new ≡ read_version reader.old) }
 {
     cut.can_cut();
-    let BridgePlace { cue, channel } = place;
     let window = cut.window(alloc, place)?;
     let bits = bits_at(alloc, cut, recording, place, window.length())?;
-    let Ok(verdict) = reader.check_bridge(alloc, cue as u16, channel as u16, &window, &bits) else {
+    check_bits(alloc, place, &window, &bits, reader)
+}
+
+// Judges the bits of the bridge at a place by the next entry.
+fn check_bits<R: Read>(
+    alloc: Global,
+    place: BridgePlace,
+    window: &Window,
+    bits: &Bits,
+    reader: &mut CertReader<R>,
+) -> Result<CertVerdict, AllocError>
+    requires ready { inlet_failures (cert_inlet reader.old) < 2 ^ 64 - 1 }
+    requires head { has_read_head reader.old ≡ true }
+    requires cue { place.cue < 2 ^ 16 }
+    requires channel { place.channel < 2 ^ 16 }
+    requires bits { length bits.now ≡ window.now.levels }
+    ensures judged { IfOk result (JudgesClaim (read_version reader.old) (record { cue = place.cue; channel = place.channel; bridging = window.now; bits = bits.now }) (R.remaining (inlet_reader (cert_inlet reader.old))) (R.remaining (inlet_reader (cert_inlet reader.new)))) }
+    ensures failures { OnOk result (inlet_failures (cert_inlet reader.new) ≡ inlet_failures (cert_inlet reader.old)) }
+    ensures read { OnOk result (has_read_head reader.new ≡ true) }
+    ensures version { OnOk result (read_version reader.new ≡ read_version reader.old) }
+{
+    let BridgePlace { cue, channel } = place;
+    let Ok(verdict) = reader.check_bridge(alloc, cue as u16, channel as u16, window, bits) else {
         return Err(AllocError);
     };
     Ok(verdict)

@@ -100,11 +100,11 @@ pub fn bridge_cut_into<S: LevelSink>(
     ensures kind { S.kind sink.new ≡ S.kind sink.old }
     ensures kept { S.kept sink.new ≡ S.kept sink.old }
 {
-    let Ok(searched) = forward(alloc, window, &mut Unheard::new(window)) else {
+    let Ok(mut searched) = forward(alloc, window, &mut Unheard::new(window)) else {
         return Err(BridgeFault::Memory);
     };
     let chosen = choose(alloc, window, &searched)?;
-    hand_cut(window, searched, chosen.cost, sink)?;
+    hand_cut(window, &mut searched, chosen.cost, sink)?;
     Ok(chosen)
 }
 

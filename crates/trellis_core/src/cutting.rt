@@ -26,11 +26,11 @@ fn cut_row(row: &[u64], cost: u64, cut: &mut [u64])
 /// Refusal: `SinkFault` where the sink refuses a row, after those of the levels before it.
 pub fn hand_cut<S: LevelSink>(
     window: &Window,
-    searched: Searched,
+    room: &mut Searched,
     cost: u64,
     sink: &mut S,
 ) -> Result<(), SinkFault>
-    requires buffers { HasBuffers (trellis_of window.now) searched }
+    requires buffers { HasBuffers (trellis_of window.now) room.old }
     requires rows { window.now.levels + 1 ≤ S.rows_left sink.old }
     requires row_length { S.row_length sink.old ≡ states (trellis_of window.now) }
     requires ready { S.has_refused sink.old ≡ false }
@@ -42,29 +42,21 @@ pub fn hand_cut<S: LevelSink>(
     ensures kind { S.kind sink.new ≡ S.kind sink.old }
     ensures kept { S.kept sink.new ≡ S.kept sink.old }
 {
-    let Searched {
-        totals,
-        decisions: _,
-        steps,
-        row,
-        decided,
-    } = searched;
-    let (mut row, mut following, mut steps, mut decided) = (row, totals, steps, decided);
-    write_first_row(window, &mut row);
+    write_first_row(window, &mut room.row);
     for level in 0..window.length() {
-        cut_row(&row, cost, &mut following);
-        sink.level(&following)?;
+        cut_row(&room.row, cost, &mut room.totals);
+        sink.level(&room.totals)?;
         next_row(
             window,
             level,
-            &row,
-            &mut steps,
-            &mut following,
-            &mut decided,
+            &room.row,
+            &mut room.steps,
+            &mut room.totals,
+            &mut room.decided,
         );
-        std::mem::swap(&mut row, &mut following);
+        std::mem::swap(&mut room.row, &mut room.totals);
     }
-    cut_row(&row, cost, &mut following);
-    sink.level(&following)?;
+    cut_row(&room.row, cost, &mut room.totals);
+    sink.level(&room.totals)?;
     Ok(())
 }

@@ -1,7 +1,7 @@
 //! The least sums of steps, level by level.
 
-ghost use Rattle.std.specs.Prelude.{◌≡◌, ◌+◌, ◌*◌, ◌<◌, ◌≤◌, ◌↔◌, true, false, length, IfOk, OnOk, IsErrOf};
-ghost use Rattle.cost_core.specs.Trellis.{states};
+ghost use Rattle.std.specs.Prelude.{◌≡◌, ◌+◌, ◌*◌, ◌<◌, ◌≤◌, ◌↔◌, true, false, [], length, IfOk, OnOk, IsErrOf};
+ghost use Rattle.cost_core.specs.Trellis.{IsBounded, states};
 ghost use Rattle.cost_core.specs.StateCosts.{trellis_of};
 ghost use Rattle.trellis_core.specs.Best.{best, best_row, total_row};
 ghost use Rattle.trellis_core.specs.Decisions.{AreAllDecisions, AreDecisions, decision_bytes};
@@ -12,7 +12,7 @@ use crate::choosing::{NO_WAY, choose};
 use crate::ends::write_totals;
 use crate::fault::BridgeFault;
 use cost_core::{LevelSink, Window};
-use std::alloc::Global;
+use std::alloc::{AllocError, Global};
 
 /// What a search leaves: by state the least cost of the bits that end in it, the decisions of all levels, and what
 /// another pass over the levels is made in: the steps of a level, a row (a second one is that of the costs), and the
@@ -69,6 +69,76 @@ pub fn next_row(
     choose(row, lows, highs, following, decisions);
 }
 
+// Room for a search of a window.
+fn make_room(alloc: Global, window: &Window) -> Result<Searched, AllocError>
+    ensures bounded { IsBounded (trellis_of window.now) }
+    ensures buffers { IfOk result (HasBuffers (trellis_of window.now)) }
+    ensures none { IfOk result (λ room. room.decisions.items ≡ []) }
+{
+    let states = window.states();
+    let decided = vec![in alloc; 0; states.div_ceil(8)]?;
+    let decisions = Vec::with_capacity(alloc, window.length() * decided.len())?;
+    let steps = make_row(alloc, 2 * states)?;
+    let row = make_row(alloc, states)?;
+    let totals = make_row(alloc, states)?;
+    Ok(Searched {
+        totals,
+        decisions,
+        steps,
+        row,
+        decided,
+    })
+}
+
+// A row of so many zeros.
+fn make_row(alloc: Global, count: usize) -> Result<Vec<u64>, AllocError>
+    ensures { IfOk result (λ row. length row.items ≡ count) }
+{
+    vec![in alloc; 0; count]
+}
+
+// Searches all levels in the room for it, which is lent here, so that no exit has to let go of it.
+fn search<S: LevelSink>(
+    window: &Window,
+    room: &mut Searched,
+    sink: &mut S,
+) -> Result<(), BridgeFault>
+    requires buffers { HasBuffers (trellis_of window.now) room.old }
+    requires none { room.old.decisions.items ≡ [] }
+    requires rows { window.now.levels + 1 ≤ S.rows_left sink.old }
+    requires row_length { S.row_length sink.old ≡ states (trellis_of window.now) }
+    requires ready { S.has_refused sink.old ≡ false }
+    ensures totals { OnOk result (room.new.totals.items ≡ total_row (trellis_of window.now)) }
+    ensures buffers { OnOk result (HasBuffers (trellis_of window.now) room.new) }
+    ensures decisions { OnOk result (AreAllDecisions (trellis_of window.now) (trellis_of window.now).levels room.new.decisions.items) }
+    ensures rows { OnOk result (HandsOverAll (trellis_of window.now) (S.spelling (S.kind sink.old)) (S.text sink.old) (S.text sink.new)) }
+    ensures memory { IsErrOf result BridgeFault.Memory → HandsOverSome (trellis_of window.now) (S.spelling (S.kind sink.old)) (S.text sink.old) (S.text sink.new) }
+    ensures sink { IsErrOf result BridgeFault.Sink → HandsOverUpTo (trellis_of window.now) (S.spelling (S.kind sink.old)) (S.text sink.old) (S.text sink.new) }
+    ensures refused { IsErrOf result BridgeFault.Sink ↔ (S.has_refused sink.new ≡ true) }
+    ensures rows_left { OnOk result (S.rows_left sink.new + (window.now.levels + 1) ≡ S.rows_left sink.old) }
+    ensures row_length { S.row_length sink.new ≡ S.row_length sink.old }
+    ensures kind { S.kind sink.new ≡ S.kind sink.old }
+    ensures kept { S.kept sink.new ≡ S.kept sink.old }
+{
+    write_first_row(window, &mut room.row);
+    for level in 0..window.length() {
+        sink.level(&room.row)?;
+        next_row(
+            window,
+            level,
+            &room.row,
+            &mut room.steps,
+            &mut room.totals,
+            &mut room.decided,
+        );
+        room.decisions.extend_from_slice(&room.decided)?;
+        std::mem::swap(&mut room.row, &mut room.totals);
+    }
+    sink.level(&room.row)?;
+    write_totals(window, &room.row, &mut room.totals);
+    Ok(())
+}
+
 /// Searches all levels. Each row is handed over when it is made; two rows are held, and nothing is allocated
 /// from the first level on.
 pub fn forward<S: LevelSink>(
@@ -91,33 +161,7 @@ pub fn forward<S: LevelSink>(
     ensures kind { S.kind sink.new ≡ S.kind sink.old }
     ensures kept { S.kept sink.new ≡ S.kept sink.old }
 {
-    let states = window.states();
-    let mut steps = vec![in alloc; 0; 2 * states]?;
-    let mut row = vec![in alloc; 0; states]?;
-    let mut following = vec![in alloc; 0; states]?;
-    let mut decided = vec![in alloc; 0; states.div_ceil(8)]?;
-    let mut decisions = Vec::with_capacity(alloc, window.length() * decided.len())?;
-    write_first_row(window, &mut row);
-    for level in 0..window.length() {
-        sink.level(&row)?;
-        next_row(
-            window,
-            level,
-            &row,
-            &mut steps,
-            &mut following,
-            &mut decided,
-        );
-        decisions.extend_from_slice(&decided)?;
-        std::mem::swap(&mut row, &mut following);
-    }
-    sink.level(&row)?;
-    write_totals(window, &row, &mut following);
-    Ok(Searched {
-        totals: following,
-        decisions,
-        steps,
-        row,
-        decided,
-    })
+    let mut room = make_room(alloc, window)?;
+    search(window, &mut room, sink)?;
+    Ok(room)
 }

@@ -1,51 +1,35 @@
 use Rattle.std.proofs.Common.{refl, inl, inr, ℕ, ◌+◌, ◌*◌, ◌/◌, ◌<◌, ◌≤◌, arith, take, drop, length}
 use Rattle.cost_core.specs.Rows.{twice}
 use Rattle.cost_core.proofs.Chunks.{each_chunk, at_chunk}
-use Rattle.cost_core.proofs.Twice.{front_of, back_of, each_of, each_lower, each_upper}
+use Rattle.cost_core.proofs.Twice.{front_of, back_of, each_front, each_back, each_lower, each_upper}
 use Rattle.std.proofs.lemmas.Bool.{cases_lt}
 use Rattle.cert_core.proofs.Within.{eight_more}
 use Rattle.cert_core.proofs.rows.is_within.Goals as goal
 
 pub are_within-front-requires-clause-low : goal.are_within-front-requires-clause-low
 are_within-front-requires-clause-low c =
-    let old = c.args.previous.now in
-    let h = length old / 2 in
-    each_of (λ x. x ≤ 9223372036854775808) c.doubled.result.0 (twice (take h old)) (8 * (2 * c.loop-i.i))
-    (front_of c.as_chunks.result.0.now c.split_at.result.0.now (take h old) c.doubled.result.0 c.loop-i.i c.as_chunks.ensures.front c.split_at.ensures.front (omega arith) c.doubled.ensures.front)
-    (each_lower (λ x. x ≤ 9223372036854775808) h old c.requires.previous)
+    each_front (λ x. x ≤ 9223372036854775808) c.as_chunks.result.0.now c.split_at.result.0.now _ c.doubled.result.0 c.loop-i.i c.as_chunks.ensures.front c.split_at.ensures.front (omega arith) (each_lower (λ x. x ≤ 9223372036854775808) _ c.args.previous.now c.requires.previous) c.doubled.ensures.front
 
 pub are_within-front-requires-clause-low_steps : goal.are_within-front-requires-clause-low_steps
 are_within-front-requires-clause-low_steps c = each_chunk (λ x. x < 9223372036854775808) c.as_chunks-3.result.0.now c.args.lows.now (2 * c.loop-i.i) c.as_chunks-3.ensures.front (omega arith) c.requires.lows
 
 pub are_within-front-requires-clause-high : goal.are_within-front-requires-clause-high
 are_within-front-requires-clause-high c =
-    let old = c.args.previous.now in
-    let h = length old / 2 in
-    each_of (λ x. x ≤ 9223372036854775808) c.doubled-in-loop-i.result.0 (twice (drop h old)) (8 * (2 * c.loop-i.i))
-    (front_of c.as_chunks-2.result.0.now c.split_at.result.1.now (drop h old) c.doubled-in-loop-i.result.0 c.loop-i.i c.as_chunks-2.ensures.front c.split_at.ensures.back (omega arith) c.doubled-in-loop-i.ensures.front)
-    (each_upper (λ x. x ≤ 9223372036854775808) h old c.requires.previous)
+    each_front (λ x. x ≤ 9223372036854775808) c.as_chunks-2.result.0.now c.split_at.result.1.now _ c.doubled-in-loop-i.result.0 c.loop-i.i c.as_chunks-2.ensures.front c.split_at.ensures.back (omega arith) (each_upper (λ x. x ≤ 9223372036854775808) _ c.args.previous.now c.requires.previous) c.doubled-in-loop-i.ensures.front
 
 pub are_within-front-requires-clause-high_steps : goal.are_within-front-requires-clause-high_steps
 are_within-front-requires-clause-high_steps c = each_chunk (λ x. x < 9223372036854775808) c.as_chunks-4.result.0.now c.args.highs.now (2 * c.loop-i.i) c.as_chunks-4.ensures.front (omega arith) c.requires.highs
 
 pub are_within-back-requires-clause-low : goal.are_within-back-requires-clause-low
 are_within-back-requires-clause-low c =
-    let old = c.args.previous.now in
-    let h = length old / 2 in
-    each_of (λ x. x ≤ 9223372036854775808) c.doubled.result.1 (twice (take h old)) (8 * (2 * c.loop-i.i + 1))
-    (back_of c.as_chunks.result.0.now c.split_at.result.0.now (take h old) c.doubled.result.1 c.loop-i.i c.as_chunks.ensures.front c.split_at.ensures.front (omega arith) c.doubled.ensures.back)
-    (each_lower (λ x. x ≤ 9223372036854775808) h old c.requires.previous)
+    each_back (λ x. x ≤ 9223372036854775808) c.as_chunks.result.0.now c.split_at.result.0.now _ c.doubled.result.1 c.loop-i.i c.as_chunks.ensures.front c.split_at.ensures.front (omega arith) (each_lower (λ x. x ≤ 9223372036854775808) _ c.args.previous.now c.requires.previous) c.doubled.ensures.back
 
 pub are_within-back-requires-clause-low_steps : goal.are_within-back-requires-clause-low_steps
 are_within-back-requires-clause-low_steps c = each_chunk (λ x. x < 9223372036854775808) c.as_chunks-3.result.0.now c.args.lows.now (2 * c.loop-i.i + 1) c.as_chunks-3.ensures.front (omega arith) c.requires.lows
 
 pub are_within-back-requires-clause-high : goal.are_within-back-requires-clause-high
 are_within-back-requires-clause-high c =
-    let old = c.args.previous.now in
-    let h = length old / 2 in
-    each_of (λ x. x ≤ 9223372036854775808) c.doubled-in-loop-i.result.1 (twice (drop h old)) (8 * (2 * c.loop-i.i + 1))
-    (back_of c.as_chunks-2.result.0.now c.split_at.result.1.now (drop h old) c.doubled-in-loop-i.result.1 c.loop-i.i c.as_chunks-2.ensures.front c.split_at.ensures.back (omega arith) c.doubled-in-loop-i.ensures.back)
-    (each_upper (λ x. x ≤ 9223372036854775808) h old c.requires.previous)
+    each_back (λ x. x ≤ 9223372036854775808) c.as_chunks-2.result.0.now c.split_at.result.1.now _ c.doubled-in-loop-i.result.1 c.loop-i.i c.as_chunks-2.ensures.front c.split_at.ensures.back (omega arith) (each_upper (λ x. x ≤ 9223372036854775808) _ c.args.previous.now c.requires.previous) c.doubled-in-loop-i.ensures.back
 
 pub are_within-back-requires-clause-high_steps : goal.are_within-back-requires-clause-high_steps
 are_within-back-requires-clause-high_steps c = each_chunk (λ x. x < 9223372036854775808) c.as_chunks-4.result.0.now c.args.highs.now (2 * c.loop-i.i + 1) c.as_chunks-4.ensures.front (omega arith) c.requires.highs

@@ -15,7 +15,7 @@ use Rattle.master_core.proofs.certifying.write_entry.Goals as goal
 
 pub returns-clause-entry : goal.returns-clause-entry
 returns-clause-entry c =
-    let d = c.in_ok-window.window in
+    let d = c.args.window.now in
     let found = c.in-Ok-bridge_cut_into.ensures in
     let chosen = c.in-Ok-bridge_cut_into.chosen in
     let (rows, best, handed) = found.rows in
@@ -29,4 +29,4 @@ returns-clause-entry c =
     let text = spelled ∙ ap (λ l. written c.begin_bridge.new.self ++ l) (sym (flat_map-map (row_text Two) (cut_at chosen.cost) rows)) in
     let made = writes_entry c.args.writer.now c.begin_bridge.new.self c.bridge_cut_into.new.sink c.end_bridge.new.self d c.args.place.cue c.args.place.channel c.length-length.result chosen cut
     table shown c.length-length.ensures.value c.in-Ok.ensures.ok text c.in-Ok-end_bridge.ensures.ok left c.requires.entries in
-    subst (λ e. Writes (record_of c.args.place e chosen.bits) c.args.writer.now c.end_bridge.new.self) c.in_ok-window.ensures made
+    subst (λ e. Writes (record_of c.args.place e chosen.bits) c.args.writer.now c.end_bridge.new.self) c.requires.window made

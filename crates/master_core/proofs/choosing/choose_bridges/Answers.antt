@@ -28,9 +28,9 @@ there c = omega (arith, c.loop-k-test.true, c.len-k-end.ensures)
 is : (c : After-index) → get_or c.in_ok-places.places.items c.loop-k.k c.index.result.now ≡ c.index.result.now
 is c = sym c.index.ensures
 
-pub write_entry-requires-clause-entries : goal.write_entry-requires-clause-entries
-write_entry-requires-clause-entries c =
-    let here = (goal.at.write_entry-requires-clause-entries c).After-index in
+pub choose_bridge-requires-clause-entries : goal.choose_bridge-requires-clause-entries
+choose_bridge-requires-clause-entries c =
+    let here = (goal.at.choose_bridge-requires-clause-entries c).After-index in
     entry_left c.args.cut.now c.in_ok-places.places.items c.loop-k.chosen.items c.loop-k.k c.index.result.now (there here) (is here) (omega (arith, c.loop-k.invariant.len)) _ _ c.loop-k.invariant.writes.counted (omega (arith, c.in_ok-writer.ensures.left, c.len.ensures, c.in_ok-places.places.ok.0))
 
 pub loop-k-preserved : goal.loop-k-preserved
@@ -46,7 +46,7 @@ loop-k-preserved c =
     let long : length xs ≡ c.loop-k.k = omega (arith, so_far.len) in
     record {
       chosen = rw c.push_reserved.ensures.items (chosen_more cut ps xs c.loop-k.k p (there here) (is here) long x so_far.chosen made.chosen);
-      writes = rw c.push_reserved.ensures.items (writes_on cut ps xs c.loop-k.k p (there here) (is here) long x c.in_ok-writer.writer c.loop-k.writer c.write_entry.new.writer so_far.writes made.entry);
+      writes = rw c.push_reserved.ensures.items (writes_on cut ps xs c.loop-k.k p (there here) (is here) long x c.in_ok-writer.writer c.loop-k.writer c.choose_bridge.new.writer so_far.writes made.entry);
       ready = made.ready;
       total = rw c.push_reserved.ensures.items (cost_more xs x c.loop-k.total c.from-total.result so_far.total (c.from-total.ensures ∙ c.cost_of.ensures));
       bound = omega (arith, so_far.bound, c.from-total.ensures);

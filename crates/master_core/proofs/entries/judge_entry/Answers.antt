@@ -1,15 +1,17 @@
-use Rattle.std.proofs.Common.{arith, get_or, subst, []}
+use Rattle.std.proofs.Common.{arith, get_or, []}
+use Rattle.std.specs.Result.{IfOk}
 use Rattle.device_core.specs.Inlets.{inlet_reader}
 use Rattle.cert_core.specs.Readers.{cert_inlet}
 use Rattle.cut_core.specs.Cuts as cuts
 use Rattle.cut_core.proofs.CutLaws.{first_shape}
 use Rattle.master_core.specs.Claims.{bridge_bits}
 use Rattle.master_core.specs.Judging.{JudgesClaim}
-use Rattle.master_core.proofs.EntryLaws.{claim_is, claim_judged, record_of}
+use Rattle.master_core.proofs.EntryLaws.{claim_is}
+use Rattle.std.proofs.Common.{subst}
 use Rattle.master_core.proofs.entries.judge_entry.Goals as goal
 
-pub overflow_cast-channel : goal.overflow_cast-channel
-overflow_cast-channel g c =
+pub check_bits-requires-clause-channel : goal.check_bits-requires-clause-channel
+check_bits-requires-clause-channel g c =
     let shape = first_shape c.args.cut.now c.can_cut.ensures in
     omega (arith, shape.six_channels, c.requires.place.channel_there)
 
@@ -18,10 +20,8 @@ returns-clause-judged g c =
     let cut = c.args.cut.now in
     let place = c.args.place in
     let from = g.R.Read.remaining (inlet_reader (cert_inlet c.args.reader.now)) in
-    let to = g.R.Read.remaining (inlet_reader (cert_inlet c.check_bridge.new.self)) in
+    let to = g.R.Read.remaining (inlet_reader (cert_inlet c.check_bits.new.reader)) in
     let window = c.in_ok-window.window in
     let bits = c.in_ok-bits.bits in
-    let e = c.in-Ok.ensures in
-    let made = claim_judged c.args.reader.now.version (record_of place.cue place.channel window bits) from to c.in-Ok.verdict e.entry e.cost e.least e.reason e.only in
     let same = claim_is place.cue place.channel window (cuts.window cut place.channel place.cue) bits (bridge_bits cut (get_or c.args.recording.now.channels place.channel []) place.cue) c.in_ok-window.ensures c.in_ok-bits.ensures.bits in
-    subst (λ claim. JudgesClaim c.args.reader.now.version claim from to c.in-Ok.verdict) same made
+    subst (λ claim. IfOk c.check_bits.result (JudgesClaim c.args.reader.now.version claim from to)) same c.check_bits.ensures.judged

@@ -3,49 +3,33 @@ use Rattle.std.specs.Simd.Lanes.{mask_l, put_chunk}
 use Rattle.std.proofs.lemmas.List.{take_all}
 use Rattle.cost_core.specs.Rows.{sums, seconds, least, twice, lower, upper}
 use Rattle.cost_core.proofs.Chunks.{each_chunk, at_chunk, chunk_of_least, chunk_of_seconds, rows_long}
-use Rattle.cost_core.proofs.Twice.{front_of, back_of, each_of, each_lower, each_upper, two_rows, two_choices, length-twice}
+use Rattle.cost_core.proofs.Twice.{front_of, back_of, each_front, each_back, each_lower, each_upper, two_rows, two_choices, length-twice}
 use Rattle.trellis_core.proofs.choosing.choose_by_eights.Goals as goal
 
 pub choose_eight-front_choice-requires-clause-low : goal.choose_eight-front_choice-requires-clause-low
 choose_eight-front_choice-requires-clause-low c =
-    let old = c.args.old.now in
-    let h = length old / 2 in
-    each_of (λ x. x ≤ 9223372036854775808) c.doubled.result.0 (twice (take h old)) (8 * (2 * c.loop-i.i))
-    (front_of c.as_chunks.result.0.now c.split_at.result.0.now (take h old) c.doubled.result.0 c.loop-i.i c.as_chunks.ensures.front c.split_at.ensures.front (omega arith) c.doubled.ensures.front)
-    (each_lower (λ x. x ≤ 9223372036854775808) h old c.requires.old)
+    each_front (λ x. x ≤ 9223372036854775808) c.as_chunks.result.0.now c.split_at.result.0.now _ c.doubled.result.0 c.loop-i.i c.as_chunks.ensures.front c.split_at.ensures.front (omega arith) (each_lower (λ x. x ≤ 9223372036854775808) _ c.args.old.now c.requires.old) c.doubled.ensures.front
 
 pub choose_eight-front_choice-requires-clause-low_steps : goal.choose_eight-front_choice-requires-clause-low_steps
 choose_eight-front_choice-requires-clause-low_steps c = each_chunk (λ x. x < 9223372036854775808) c.as_chunks-3.result.0.now c.args.lows.now (2 * c.loop-i.i) c.as_chunks-3.ensures.front (omega arith) c.requires.lows
 
 pub choose_eight-front_choice-requires-clause-high : goal.choose_eight-front_choice-requires-clause-high
 choose_eight-front_choice-requires-clause-high c =
-    let old = c.args.old.now in
-    let h = length old / 2 in
-    each_of (λ x. x ≤ 9223372036854775808) c.doubled-in-loop-i.result.0 (twice (drop h old)) (8 * (2 * c.loop-i.i))
-    (front_of c.as_chunks-2.result.0.now c.split_at.result.1.now (drop h old) c.doubled-in-loop-i.result.0 c.loop-i.i c.as_chunks-2.ensures.front c.split_at.ensures.back (omega arith) c.doubled-in-loop-i.ensures.front)
-    (each_upper (λ x. x ≤ 9223372036854775808) h old c.requires.old)
+    each_front (λ x. x ≤ 9223372036854775808) c.as_chunks-2.result.0.now c.split_at.result.1.now _ c.doubled-in-loop-i.result.0 c.loop-i.i c.as_chunks-2.ensures.front c.split_at.ensures.back (omega arith) (each_upper (λ x. x ≤ 9223372036854775808) _ c.args.old.now c.requires.old) c.doubled-in-loop-i.ensures.front
 
 pub choose_eight-front_choice-requires-clause-high_steps : goal.choose_eight-front_choice-requires-clause-high_steps
 choose_eight-front_choice-requires-clause-high_steps c = each_chunk (λ x. x < 9223372036854775808) c.as_chunks-4.result.0.now c.args.highs.now (2 * c.loop-i.i) c.as_chunks-4.ensures.front (omega arith) c.requires.highs
 
 pub choose_eight-back_choice-requires-clause-low : goal.choose_eight-back_choice-requires-clause-low
 choose_eight-back_choice-requires-clause-low c =
-    let old = c.args.old.now in
-    let h = length old / 2 in
-    each_of (λ x. x ≤ 9223372036854775808) c.doubled.result.1 (twice (take h old)) (8 * (2 * c.loop-i.i + 1))
-    (back_of c.as_chunks.result.0.now c.split_at.result.0.now (take h old) c.doubled.result.1 c.loop-i.i c.as_chunks.ensures.front c.split_at.ensures.front (omega arith) c.doubled.ensures.back)
-    (each_lower (λ x. x ≤ 9223372036854775808) h old c.requires.old)
+    each_back (λ x. x ≤ 9223372036854775808) c.as_chunks.result.0.now c.split_at.result.0.now _ c.doubled.result.1 c.loop-i.i c.as_chunks.ensures.front c.split_at.ensures.front (omega arith) (each_lower (λ x. x ≤ 9223372036854775808) _ c.args.old.now c.requires.old) c.doubled.ensures.back
 
 pub choose_eight-back_choice-requires-clause-low_steps : goal.choose_eight-back_choice-requires-clause-low_steps
 choose_eight-back_choice-requires-clause-low_steps c = each_chunk (λ x. x < 9223372036854775808) c.as_chunks-3.result.0.now c.args.lows.now (2 * c.loop-i.i + 1) c.as_chunks-3.ensures.front (omega arith) c.requires.lows
 
 pub choose_eight-back_choice-requires-clause-high : goal.choose_eight-back_choice-requires-clause-high
 choose_eight-back_choice-requires-clause-high c =
-    let old = c.args.old.now in
-    let h = length old / 2 in
-    each_of (λ x. x ≤ 9223372036854775808) c.doubled-in-loop-i.result.1 (twice (drop h old)) (8 * (2 * c.loop-i.i + 1))
-    (back_of c.as_chunks-2.result.0.now c.split_at.result.1.now (drop h old) c.doubled-in-loop-i.result.1 c.loop-i.i c.as_chunks-2.ensures.front c.split_at.ensures.back (omega arith) c.doubled-in-loop-i.ensures.back)
-    (each_upper (λ x. x ≤ 9223372036854775808) h old c.requires.old)
+    each_back (λ x. x ≤ 9223372036854775808) c.as_chunks-2.result.0.now c.split_at.result.1.now _ c.doubled-in-loop-i.result.1 c.loop-i.i c.as_chunks-2.ensures.front c.split_at.ensures.back (omega arith) (each_upper (λ x. x ≤ 9223372036854775808) _ c.args.old.now c.requires.old) c.doubled-in-loop-i.ensures.back
 
 pub choose_eight-back_choice-requires-clause-high_steps : goal.choose_eight-back_choice-requires-clause-high_steps
 choose_eight-back_choice-requires-clause-high_steps c = each_chunk (λ x. x < 9223372036854775808) c.as_chunks-4.result.0.now c.args.highs.now (2 * c.loop-i.i + 1) c.as_chunks-4.ensures.front (omega arith) c.requires.highs

@@ -15,12 +15,12 @@ use Rattle.trellis_core.proofs.cutting.hand_cut.Given.{Over}
 pub cut_row-requires : goal.cut_row-requires
 cut_row-requires g c =
     let t = trellis_of c.args.window.now in
-    ap length c.deref_mut-in-loop-level.ensures.value ∙ c.loop-level.invariant.following ∙ sym (ap length (c.deref.ensures.value ∙ c.loop-level.invariant.row) ∙ row_length t c.loop-level.level)
+    ap length c.deref_mut-in-loop-level.ensures.value ∙ c.loop-level.invariant.totals ∙ sym (ap length (c.deref.ensures.value ∙ c.loop-level.invariant.row) ∙ row_length t c.loop-level.level)
 
 pub cut_row-requires-2 : goal.cut_row-requires-2
 cut_row-requires-2 g c =
     let t = trellis_of c.args.window.now in
-    ap length c.deref_mut-2.ensures.value ∙ c.loop-level.invariant.following ∙ sym (ap length (c.deref-2.ensures.value ∙ c.loop-level.invariant.row) ∙ row_length t c.loop-level.level)
+    ap length c.deref_mut-2.ensures.value ∙ c.loop-level.invariant.totals ∙ sym (ap length (c.deref-2.ensures.value ∙ c.loop-level.invariant.row) ∙ row_length t c.loop-level.level)
 
 -- ---- a level
 module _ (g : Over) (c : After-deref-in-loop-level g) where
@@ -28,12 +28,12 @@ module _ (g : Over) (c : After-deref-in-loop-level g) where
   row_is = c.deref.ensures.value ∙ c.loop-level.invariant.row
 
   cut_long : length c.cut_row.new.cut ≡ states (trellis_of c.args.window.now)
-  cut_long = omega (arith, c.cut_row.auto.cut, ap length c.deref_mut-in-loop-level.ensures.value, c.loop-level.invariant.following)
+  cut_long = omega (arith, c.cut_row.auto.cut, ap length c.deref_mut-in-loop-level.ensures.value, c.loop-level.invariant.totals)
 
   row_cut : c.deref-in-loop-level.result.now ≡ cut_at c.args.cost c.deref.result.now
   row_cut =
       c.deref-in-loop-level.ensures.value
-      ∙ written c.loop-level.following.len c.cut_row.new.cut c.loop-level.following.items c.loop-level.following.ok.0 (omega (arith, cut_long, c.loop-level.invariant.following))
+      ∙ written c.loop-level.room.totals.len c.cut_row.new.cut c.loop-level.room.totals.items c.loop-level.room.totals.ok.0 (omega (arith, cut_long, c.loop-level.invariant.totals))
       ∙ cut_is c.args.cost c.deref.result.now c.cut_row.new.cut (cut_long ∙ sym (ap length row_is ∙ row_length (trellis_of c.args.window.now) c.loop-level.level)) c.cut_row.ensures
 
 pub returns-in_err-level-clause-err : goal.returns-in_err-level-clause-err
@@ -54,14 +54,14 @@ loop-level-preserved g c =
     let kept = c.next_row.ensures in
     let more = cut_more t c.args.cost g.S.LevelSink.spelling (g.S.LevelSink.kind c.args.sink.now) (g.S.LevelSink.kind c.loop-level.sink) (g.S.LevelSink.text c.args.sink.now) (g.S.LevelSink.text c.loop-level.sink) (g.S.LevelSink.text c.level.new.self) c.loop-level.level c.deref.result.now c.deref-in-loop-level.result.now
     inv.kind (row_is g here) (row_cut g here) inv.handed c.in_ok-level.ensures.ok in
-    let between = written_length c.loop-level.following.len (states t) c.cut_row.new.cut c.loop-level.following.items c.loop-level.following.ok.0 (cut_long g here) inv.following in
+    let between = written_length c.loop-level.room.totals.len (states t) c.cut_row.new.cut c.loop-level.room.totals.items c.loop-level.room.totals.ok.0 (cut_long g here) inv.totals in
     let following_long : length c.next_row.new.following ≡ states t = ap length kept.following ∙ row_length t (c.loop-level.level + 1) in
-    let following = written c.loop-level.following.len c.next_row.new.following _ (omega (arith, c.loop-level.following.ok.0, inv.following, between)) (following_long ∙ sym between) in
+    let following = written c.loop-level.room.totals.len c.next_row.new.following _ (omega (arith, c.loop-level.room.totals.ok.0, inv.totals, between)) (following_long ∙ sym between) in
     record {
-      steps = written_length c.loop-level.steps.len (2 * states t) c.next_row.new.steps c.loop-level.steps.items c.loop-level.steps.ok.0 (omega (arith, kept.steps_length, ap length c.deref_mut-in-loop-level-2.ensures.value, inv.steps)) inv.steps;
+      steps = written_length c.loop-level.room.steps.len (2 * states t) c.next_row.new.steps c.loop-level.room.steps.items c.loop-level.room.steps.ok.0 (omega (arith, kept.steps_length, ap length c.deref_mut-in-loop-level-2.ensures.value, inv.steps)) inv.steps;
       row = ap (λ v. v.items) c.swap.ensures.x_after ∙ following ∙ kept.following;
-      following = ap (λ v. length v.items) c.swap.ensures.y_after ∙ ap length inv.row ∙ row_length t c.loop-level.level;
-      decided = written_length c.loop-level.decided.len (decision_bytes (states t)) c.next_row.new.decisions c.loop-level.decided.items c.loop-level.decided.ok.0 (omega (arith, kept.decisions_length, ap length c.deref_mut-in-loop-level-4.ensures.value, inv.decided)) inv.decided;
+      totals = ap (λ v. length v.items) c.swap.ensures.y_after ∙ ap length inv.row ∙ row_length t c.loop-level.level;
+      decided = written_length c.loop-level.room.decided.len (decision_bytes (states t)) c.next_row.new.decisions c.loop-level.room.decided.items c.loop-level.room.decided.ok.0 (omega (arith, kept.decisions_length, ap length c.deref_mut-in-loop-level-4.ensures.value, inv.decided)) inv.decided;
       handed = more;
       left = omega (arith, c.in_ok-level.ensures.rows, inv.left);
       row_length = c.level.ensures.row_length ∙ inv.row_length;
@@ -76,12 +76,12 @@ module _ (g : Over) (c : After-deref-3 g) where
   last_is = c.deref-2.ensures.value ∙ c.loop-level.invariant.row
 
   last_long : length c.cut_row-2.new.cut ≡ states (trellis_of c.args.window.now)
-  last_long = omega (arith, c.cut_row-2.auto.cut, ap length c.deref_mut-2.ensures.value, c.loop-level.invariant.following)
+  last_long = omega (arith, c.cut_row-2.auto.cut, ap length c.deref_mut-2.ensures.value, c.loop-level.invariant.totals)
 
   last_cut : c.deref-3.result.now ≡ cut_at c.args.cost c.deref-2.result.now
   last_cut =
       c.deref-3.ensures.value
-      ∙ written c.loop-level.following.len c.cut_row-2.new.cut c.loop-level.following.items c.loop-level.following.ok.0 (omega (arith, last_long, c.loop-level.invariant.following))
+      ∙ written c.loop-level.room.totals.len c.cut_row-2.new.cut c.loop-level.room.totals.items c.loop-level.room.totals.ok.0 (omega (arith, last_long, c.loop-level.invariant.totals))
       ∙ cut_is c.args.cost c.deref-2.result.now c.cut_row-2.new.cut (last_long ∙ sym (ap length last_is ∙ row_length (trellis_of c.args.window.now) c.loop-level.level)) c.cut_row-2.ensures
 
 pub returns-in_err-level-2-clause-err : goal.returns-in_err-level-2-clause-err

@@ -12,10 +12,10 @@ abbrev pub invariant-loop-level : goal.invariant-loop-level
 invariant-loop-level g l =
     let t = trellis_of l.window in
     record {
-      steps : length l.steps.items ≡ 2 * states t;
-      row : l.row.items ≡ best_row t l.level;
-      following : length l.following.items ≡ states t;
-      decided : length l.decided.items ≡ decision_bytes (states t);
+      steps : length l.room.steps.items ≡ 2 * states t;
+      row : l.room.row.items ≡ best_row t l.level;
+      totals : length l.room.totals.items ≡ states t;
+      decided : length l.room.decided.items ≡ decision_bytes (states t);
       handed : HandsOver (cut_spelling l.cost (g.S.LevelSink.spelling (g.S.LevelSink.kind l.initial.sink))) (g.S.LevelSink.text l.initial.sink) (g.S.LevelSink.text l.sink) (best_rows t l.level);
       left : g.S.LevelSink.rows_left l.sink + l.level ≡ g.S.LevelSink.rows_left l.initial.sink;
       row_length : g.S.LevelSink.row_length l.sink ≡ g.S.LevelSink.row_length l.initial.sink;

@@ -5,17 +5,17 @@ use Rattle.cost_core.specs.StateCosts.{trellis_of}
 use Rattle.cost_core.specs.Sinks.{HandsOver}
 use Rattle.trellis_core.specs.Best.{best_row, best_rows}
 use Rattle.trellis_core.specs.Decisions.{AreAllDecisions, decision_bytes}
-use Rattle.trellis_core.proofs.rows.forward.Given as goal
+use Rattle.trellis_core.proofs.rows.search.Given as goal
 
 abbrev pub invariant-loop-level : goal.invariant-loop-level
 invariant-loop-level g l =
     let t = trellis_of l.window in
     record {
-      steps : length l.steps.items ≡ 2 * states t;
-      row : l.row.items ≡ best_row t l.level;
-      following : length l.following.items ≡ states t;
-      decided : length l.decided.items ≡ decision_bytes (states t);
-      decisions : AreAllDecisions t l.level l.decisions.items;
+      steps : length l.room.steps.items ≡ 2 * states t;
+      row : l.room.row.items ≡ best_row t l.level;
+      totals : length l.room.totals.items ≡ states t;
+      decided : length l.room.decided.items ≡ decision_bytes (states t);
+      decisions : AreAllDecisions t l.level l.room.decisions.items;
       handed : HandsOver (g.S.LevelSink.spelling (g.S.LevelSink.kind l.initial.sink)) (g.S.LevelSink.text l.initial.sink) (g.S.LevelSink.text l.sink) (best_rows t l.level);
       left : g.S.LevelSink.rows_left l.sink + l.level ≡ g.S.LevelSink.rows_left l.initial.sink;
       row_length : g.S.LevelSink.row_length l.sink ≡ g.S.LevelSink.row_length l.initial.sink;

@@ -1,0 +1,84 @@
+use Rattle.std.proofs.Common.{◌≡◌, ◌+◌, ◌*◌, ◌++◌, length, ap, sym, subst, ◌∙◌, arith}
+use Rattle.cost_core.specs.Trellis.{states}
+use Rattle.cost_core.specs.StateCosts.{trellis_of}
+use Rattle.trellis_core.specs.Best.{best_row}
+use Rattle.trellis_core.specs.Decisions.{AreAllDecisions}
+use Rattle.trellis_core.proofs.Decisions.{one_more}
+use Rattle.trellis_core.proofs.TableLaws.{totals_length, written, written_length}
+use Rattle.trellis_core.proofs.HandedOver.{hands_more, hands_front, hands_some, hands_up_to, hands_all}
+use Rattle.trellis_core.proofs.RowLaws.{row_length}
+use Rattle.trellis_core.proofs.rows.search.Goals as goal
+
+pub level-requires-clause-row : goal.level-requires-clause-row
+level-requires-clause-row g c =
+    let t = trellis_of c.args.window.now in
+    rw (c.deref.ensures.value, c.loop-level.invariant.row) (row_length t c.loop-level.level ∙ sym c.requires.row_length ∙ sym c.loop-level.invariant.row_length)
+
+pub returns-in_err-level-clause-sink : goal.returns-in_err-level-clause-sink
+returns-in_err-level-clause-sink g c = λ _.
+    let t = trellis_of c.args.window.now in
+    let e : c.deref.result.now ≡ best_row t c.loop-level.level = c.deref.ensures.value ∙ c.loop-level.invariant.row in
+    let part = hands_front t g.S.LevelSink.spelling (g.S.LevelSink.kind c.args.sink.now) (g.S.LevelSink.kind c.loop-level.sink) (g.S.LevelSink.text c.args.sink.now) (g.S.LevelSink.text c.loop-level.sink) (g.S.LevelSink.text c.level.new.self) c.loop-level.level c.deref.result.now c.loop-level.invariant.kind e c.loop-level.invariant.handed c.in_err-level.ensures.err in
+    hands_up_to t c.length-level-end.ensures.bounded (g.S.LevelSink.spelling (g.S.LevelSink.kind c.args.sink.now)) (g.S.LevelSink.text c.args.sink.now) (g.S.LevelSink.text c.level.new.self) c.loop-level.level c.deref.result.now (omega (arith, c.loop-level-test.true, c.length-level-end.ensures.value)) e part
+
+pub returns-in_err-extend_from_slice-clause-memory : goal.returns-in_err-extend_from_slice-clause-memory
+returns-in_err-extend_from_slice-clause-memory g c = λ _.
+    let t = trellis_of c.args.window.now in
+    let e : c.deref.result.now ≡ best_row t c.loop-level.level = c.deref.ensures.value ∙ c.loop-level.invariant.row in
+    let more = hands_more t g.S.LevelSink.spelling (g.S.LevelSink.kind c.args.sink.now) (g.S.LevelSink.kind c.loop-level.sink) (g.S.LevelSink.text c.args.sink.now) (g.S.LevelSink.text c.loop-level.sink) (g.S.LevelSink.text c.level.new.self) c.loop-level.level c.deref.result.now c.loop-level.invariant.kind e c.loop-level.invariant.handed c.in_ok-level.ensures.ok in
+    hands_some t c.length-level-end.ensures.bounded (g.S.LevelSink.spelling (g.S.LevelSink.kind c.args.sink.now)) (g.S.LevelSink.text c.args.sink.now) (g.S.LevelSink.text c.level.new.self) (c.loop-level.level + 1) (omega (arith, c.loop-level-test.true, c.length-level-end.ensures.value)) more
+
+pub loop-level-preserved : goal.loop-level-preserved
+loop-level-preserved g c =
+    let t = trellis_of c.args.window.now in
+    let e : c.deref.result.now ≡ best_row t c.loop-level.level = c.deref.ensures.value ∙ c.loop-level.invariant.row in
+    let more = hands_more t g.S.LevelSink.spelling (g.S.LevelSink.kind c.args.sink.now) (g.S.LevelSink.kind c.loop-level.sink) (g.S.LevelSink.text c.args.sink.now) (g.S.LevelSink.text c.loop-level.sink) (g.S.LevelSink.text c.level.new.self) c.loop-level.level c.deref.result.now c.loop-level.invariant.kind e c.loop-level.invariant.handed c.in_ok-level.ensures.ok in
+    let kept = c.next_row.ensures in
+    let inv = c.loop-level.invariant in
+    let following = written c.loop-level.room.totals.len c.next_row.new.following c.loop-level.room.totals.items c.loop-level.room.totals.ok.0 (ap length kept.following ∙ row_length t (c.loop-level.level + 1) ∙ sym inv.totals) in
+    let decided = written c.loop-level.room.decided.len c.next_row.new.decisions c.loop-level.room.decided.items c.loop-level.room.decided.ok.0 (omega (arith, kept.decisions_length)) in
+    let part : c.deref-in-loop-level-2.result.now ≡ c.next_row.new.decisions = c.deref-in-loop-level-2.ensures.value ∙ decided in
+    let items : c.extend_from_slice.new.self.items ≡ c.loop-level.room.decisions.items ++ c.next_row.new.decisions = c.in_ok-extend_from_slice.ensures.items ∙ ap (λ r. c.loop-level.room.decisions.items ++ r) part in
+    record {
+      steps = written_length c.loop-level.room.steps.len (2 * states t) c.next_row.new.steps c.loop-level.room.steps.items c.loop-level.room.steps.ok.0 (omega (arith, kept.steps_length)) inv.steps;
+      row = ap (λ v. v.items) c.swap.ensures.x_after ∙ following ∙ kept.following;
+      totals = ap (λ v. length v.items) c.swap.ensures.y_after ∙ ap length inv.row ∙ row_length t c.loop-level.level;
+      decided = ap length decided ∙ omega (arith, kept.decisions_length, inv.decided);
+      decisions = subst (AreAllDecisions t (c.loop-level.level + 1)) (sym items) (one_more t c.loop-level.level c.loop-level.room.decisions.items c.next_row.new.decisions inv.decisions (omega (arith, kept.decisions_length, inv.decided)) kept.decisions);
+      handed = more;
+      left = omega (arith, c.in_ok-level.ensures.rows, inv.left);
+      row_length = c.level.ensures.row_length ∙ inv.row_length;
+      kind = c.level.ensures.kind ∙ inv.kind;
+      kept = c.level.ensures.kept ∙ inv.kept;
+      ready = c.in_ok-level.ensures.refused inv.ready;
+    }
+
+pub level-requires-2-clause-row : goal.level-requires-2-clause-row
+level-requires-2-clause-row g c =
+    let t = trellis_of c.args.window.now in
+    rw (c.deref-2.ensures.value, c.loop-level.invariant.row) (row_length t c.loop-level.level ∙ sym c.requires.row_length ∙ sym c.loop-level.invariant.row_length)
+
+pub returns-in_err-level-2-clause-sink : goal.returns-in_err-level-2-clause-sink
+returns-in_err-level-2-clause-sink g c = λ _.
+    let t = trellis_of c.args.window.now in
+    let e : c.deref-2.result.now ≡ best_row t c.loop-level.level = c.deref-2.ensures.value ∙ c.loop-level.invariant.row in
+    let part = hands_front t g.S.LevelSink.spelling (g.S.LevelSink.kind c.args.sink.now) (g.S.LevelSink.kind c.loop-level.sink) (g.S.LevelSink.text c.args.sink.now) (g.S.LevelSink.text c.loop-level.sink) (g.S.LevelSink.text c.level-2.new.self) c.loop-level.level c.deref-2.result.now c.loop-level.invariant.kind e c.loop-level.invariant.handed c.in_err-level-2.ensures.err in
+    hands_up_to t c.length-level-end.ensures.bounded (g.S.LevelSink.spelling (g.S.LevelSink.kind c.args.sink.now)) (g.S.LevelSink.text c.args.sink.now) (g.S.LevelSink.text c.level-2.new.self) c.loop-level.level c.deref-2.result.now (omega (arith, c.loop-level-test.false, c.length-level-end.ensures.value)) e part
+
+pub returns-clause-rows : goal.returns-clause-rows
+returns-clause-rows g c =
+    let t = trellis_of c.args.window.now in
+    let e : c.deref-2.result.now ≡ best_row t c.loop-level.level = c.deref-2.ensures.value ∙ c.loop-level.invariant.row in
+    let more = hands_more t g.S.LevelSink.spelling (g.S.LevelSink.kind c.args.sink.now) (g.S.LevelSink.kind c.loop-level.sink) (g.S.LevelSink.text c.args.sink.now) (g.S.LevelSink.text c.loop-level.sink) (g.S.LevelSink.text c.level-2.new.self) c.loop-level.level c.deref-2.result.now c.loop-level.invariant.kind e c.loop-level.invariant.handed c.in_ok-level-2.ensures.ok in
+    hands_all t c.length-level-end.ensures.bounded (g.S.LevelSink.spelling (g.S.LevelSink.kind c.args.sink.now)) (g.S.LevelSink.text c.args.sink.now) (g.S.LevelSink.text c.level-2.new.self) c.loop-level.level (omega (arith, c.length-level-end.ensures.value)) more
+
+pub returns-clause-buffers : goal.returns-clause-buffers
+returns-clause-buffers g c =
+    let t = trellis_of c.args.window.now in
+    let inv = c.loop-level.invariant in
+    record {
+      steps = inv.steps;
+      row = ap length inv.row ∙ row_length t c.loop-level.level;
+      totals = written_length c.loop-level.room.totals.len (states t) c.write_totals.new.totals c.loop-level.room.totals.items c.loop-level.room.totals.ok.0 (ap length c.write_totals.ensures ∙ totals_length t) inv.totals;
+      decided = inv.decided;
+    }

@@ -6,6 +6,11 @@ use fixtures::projects::SPLICE;
 use std::alloc::{AllocError, Global};
 use std::fmt::Write;
 
+/// How many bytes a file has that was built.
+pub(crate) fn size_of(file: Result<Vec<u8>, AllocError>) -> Result<usize, AllocError> {
+    Ok(file?.len())
+}
+
 /// Whether a fault has this name.
 pub(crate) fn is_named(alloc: Global, fault: Fault, expected: &str) -> Result<bool, AllocError> {
     Ok(fault.to_string(alloc)?.as_str() == expected)

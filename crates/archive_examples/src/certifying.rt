@@ -1,11 +1,10 @@
 //! The certificates of small masters, number by number.
 
-use crate::builders::{CUES, CueNumbers, Sources, mono_sources, stereo_sources};
+use crate::builders::{CUES, CueNumbers, Sources, mono_sources, size_of, stereo_sources};
 use archive_core::{Fault, Form};
 use chunk_core::{Order, push_u16};
 use fixtures::compared::equal;
 use std::alloc::{AllocError, Global};
-use std::test::Fail;
 
 // Whether what is cut is certified by these bytes.
 fn certifies(
@@ -33,10 +32,9 @@ pub(crate) const CERT: [u8; 46] = *b"DSPC\0\x02\0\x02\0\0\0\x01\0\0\0\0\0\x01\
     \0\0\0\0\0\0\0\x04";
 
 #[test]
-fn certifies_a_bridge(rt: HostRuntime) -> Result<(), Fail> {
+fn certifies_a_bridge(rt: HostRuntime) {
     let alloc = rt.alloc();
-    assert!(rt; certifies(alloc, mono_sources(alloc, "1, 0", &CUES), &CERT)?);
-    Ok(())
+    assert!(rt; certifies(alloc, mono_sources(alloc, "1, 0", &CUES), &CERT) == Ok(true));
 }
 
 // The certificate of a bridge of two bits by the same weights, with the cost 8: its rows are 8 and 0; 8 and 4; 8 and 8.
@@ -47,11 +45,10 @@ const TWO_BITS: [u8; 57] = *b"DSPC\0\x02\0\x02\0\0\0\x01\0\0\0\0\0\x02\
     \0\0\0\0\0\0\0\x08";
 
 #[test]
-fn certifies_a_bridge_of_two_bits(rt: HostRuntime) -> Result<(), Fail> {
+fn certifies_a_bridge_of_two_bits(rt: HostRuntime) {
     let alloc = rt.alloc();
     let cues = [(0, 0, 8, 2), (1, 3, 9, 0)];
-    assert!(rt; certifies(alloc, mono_sources(alloc, "1, 0", &cues), &TWO_BITS)?);
-    Ok(())
+    assert!(rt; certifies(alloc, mono_sources(alloc, "1, 0", &cues), &TWO_BITS) == Ok(true));
 }
 
 /// The entry of a bridge of one bit: its cue, its channel, the bytes of its two rows and of its cost.
@@ -104,25 +101,23 @@ const CERTIFIED: [(&[CueNumbers], &[EntryBytes]); 3] = [
 ];
 
 #[test]
-fn certifies_each_bridge(rt: HostRuntime) -> Result<(), Fail> {
+fn certifies_each_bridge(rt: HostRuntime) {
     let alloc = rt.alloc();
     for (cues, entries) in &CERTIFIED {
         let number = entries.len();
         let sources = mono_sources(alloc, "1, 1", cues);
         assert!(rt;
-            certifies_entries(alloc, sources, entries)?,
+            certifies_entries(alloc, sources, entries) == Ok(true),
             "{number} entries"
         );
     }
-    Ok(())
 }
 
 // An entry has 14 bytes and the 20 of its two rows.
 #[test]
-fn certifies_each_channel(rt: HostRuntime) -> Result<(), Fail> {
+fn certifies_each_channel(rt: HostRuntime) {
     let alloc = rt.alloc();
     let entries = [(0, 0, LEVEL), (0, 1, LEVEL)];
-    assert!(rt; cert_of(alloc, &entries)?.len() == 80);
-    assert!(rt; certifies_entries(alloc, stereo_sources(alloc), &entries)?);
-    Ok(())
+    assert!(rt; size_of(cert_of(alloc, &entries)) == Ok(80));
+    assert!(rt; certifies_entries(alloc, stereo_sources(alloc), &entries) == Ok(true));
 }

@@ -8,7 +8,6 @@ use crate::certifying::WIDE;
 use archive_core::{Edited, Fault, Form, Verdict, check};
 use fixtures::files::mono;
 use std::alloc::{AllocError, Global};
-use std::test::Fail;
 
 /// Whether what is cut is accepted at this cost.
 pub(crate) fn accepts(
@@ -51,23 +50,24 @@ fn accepts_cues(
 
 // The costs are worked out where these masters are cut.
 #[test]
-fn accepts_what_was_cut(rt: HostRuntime) -> Result<(), Fail> {
+fn accepts_what_was_cut(rt: HostRuntime) {
     let alloc = rt.alloc();
     for (case, weights, cues, _, total) in &CUTS {
-        assert!(rt; accepts_cues(alloc, weights, cues, *total)?, "{case}");
+        assert!(rt;
+            accepts_cues(alloc, weights, cues, *total) == Ok(true),
+            "{case}"
+        );
     }
-    Ok(())
 }
 
 // Titles are marks in DSDIFF alone, and each channel has bridges of its own.
 #[test]
-fn accepts_titles_and_channels(rt: HostRuntime) -> Result<(), Fail> {
+fn accepts_titles_and_channels(rt: HostRuntime) {
     let alloc = rt.alloc();
-    assert!(rt; accepts(alloc, titled_sources(alloc), Form::Dsdiff, 0)?);
-    assert!(rt; accepts(alloc, titled_sources(alloc), Form::Dsf, 0)?);
-    assert!(rt; accepts(alloc, titled_sources(alloc), Form::Dsf8, 0)?);
-    assert!(rt; accepts(alloc, stereo_sources(alloc), Form::Dsdiff, 8)?);
-    Ok(())
+    assert!(rt; accepts(alloc, titled_sources(alloc), Form::Dsdiff, 0) == Ok(true));
+    assert!(rt; accepts(alloc, titled_sources(alloc), Form::Dsf, 0) == Ok(true));
+    assert!(rt; accepts(alloc, titled_sources(alloc), Form::Dsf8, 0) == Ok(true));
+    assert!(rt; accepts(alloc, stereo_sources(alloc), Form::Dsdiff, 8) == Ok(true));
 }
 
 // The number in so many bytes from a place on, the highest first.
@@ -99,17 +99,52 @@ fn widened(alloc: Global, cert: &[u8], rows: usize, states: usize) -> Result<Vec
     Ok(made)
 }
 
-// A certificate of the first version shows the same, with bounds above the cost and without.
+// At which costs a master is accepted with its own certificate and with that of the first version, of so many rows of
+// so many states; and how many bytes this one has.
+fn widened_costs(
+    alloc: Global,
+    sources: &Sources,
+    made: &Edited,
+    (rows, states): (usize, usize),
+) -> Result<(Option<u128>, Option<u128>, usize), Fault> {
+    let first = widened(alloc, &made.cert, rows, states)?;
+    let own = cost(alloc, sources, made, &made.cert)?;
+    Ok((own, cost(alloc, sources, made, &first)?, first.len()))
+}
+
+// The same of what is cut, and before it how many bytes the master and its certificate have, and the cost.
+type Costs = ([usize; 2], u128, (Option<u128>, Option<u128>, usize));
+
+fn both_versions(
+    alloc: Global,
+    sources: Result<Sources, AllocError>,
+    shape: (usize, usize),
+) -> Result<Costs, Fault> {
+    let sources = sources?;
+    let made = sources.edit(alloc, Form::Dsdiff)?;
+    let costs = widened_costs(alloc, &sources, &made, shape)?;
+    Ok(([made.master.len(), made.cert.len()], made.total, costs))
+}
+
+// A certificate of the first version shows the same, with bounds that are cut at the cost.
 #[test]
-fn accepts_the_first_version(rt: HostRuntime) -> Result<(), Fail> {
-    let alloc = rt.alloc();
+fn accepts_the_first_version(rt: HostRuntime) {
+    let sources = mono_sources(rt.alloc(), "1, 0", &CUES);
+    let expected = ([128, 46], 4, (Some(4), Some(4), WIDE.len()));
+    assert!(rt; both_versions(rt.alloc(), sources, (2, 2)) == Ok(expected));
+}
+
+// At which cost the master of `CUES` by the weights 1 and 0 is accepted with this certificate.
+fn cost_with(alloc: Global, cert: &[u8]) -> Result<Option<u128>, Fault> {
     let sources = mono_sources(alloc, "1, 0", &CUES)?;
     let made = sources.edit(alloc, Form::Dsdiff)?;
-    assert!(rt; cost(alloc, &sources, &made, &WIDE)? == Some(4));
-    let cut = widened(alloc, &made.cert, 2, 2)?;
-    assert!(rt; cut.len() == WIDE.len());
-    assert!(rt; cost(alloc, &sources, &made, &cut)? == Some(4));
-    Ok(())
+    cost(alloc, &sources, &made, cert)
+}
+
+// The same with a bound above the cost.
+#[test]
+fn accepts_bounds_above_the_cost(rt: HostRuntime) {
+    assert!(rt; cost_with(rt.alloc(), &WIDE) == Ok(Some(4)));
 }
 
 // A bridge of 4096 bits from ones to zeros by twelve weights, whose sum is 4096.
@@ -118,19 +153,19 @@ const LONGEST: [CueNumbers; 2] = [(0, 0, 4096, 4096), (1, 4107, 4123, 0)];
 // A master of 8208 bits; 4097 rows of 2048 numbers in its certificate, which has as many bytes by a program in C
 // (`bench/edit_peer.c`). By the first version it has 18 bytes, the rows by 8 bytes a number, and 8 bytes.
 #[test]
-fn accepts_the_longest_bridge(rt: HostRuntime) -> Result<(), Fail> {
+fn accepts_the_longest_bridge(rt: HostRuntime) {
     let alloc = rt.alloc();
     let weights = "341, 341, 341, 341, 341, 341, 341, 341, 341, 341, 341, 345";
     let text = splice(alloc, weights, &LONGEST);
-    let sources = sources_of(text, mono(alloc, &[0xff; 1024]), mono(alloc, &[0; 1024]))?;
-    let made = sources.edit(alloc, Form::Dsdiff)?;
-    assert!(rt; made.master.len() == 1152);
-    assert!(rt; made.cert.len() == 57_694_243);
-    assert!(rt; cost(alloc, &sources, &made, &made.cert)? == Some(made.total));
-    let first = widened(alloc, &made.cert, 4097, 2048)?;
-    assert!(rt; first.len() == 67_125_274);
-    assert!(rt; cost(alloc, &sources, &made, &first)? == Some(made.total));
-    Ok(())
+    let sources = sources_of(text, mono(alloc, &[0xff; 1024]), mono(alloc, &[0; 1024]));
+    assert!(rt; is_longest(both_versions(alloc, sources, (4097, 2048))) == Ok(true));
+}
+
+// Whether both certificates have their sizes and are accepted at the cost.
+fn is_longest(costs: Result<Costs, Fault>) -> Result<bool, Fault> {
+    let (sizes, total, accepted) = costs?;
+    let expected = (Some(total), Some(total), 67_125_274);
+    Ok(sizes == [1152, 57_694_243] && accepted == expected)
 }
 
 // Whether a master is accepted with its certificate with bits of one byte turned over.
@@ -185,9 +220,8 @@ const OTHERS: [u8; 7] = [1, 2, 8, 16, 32, 64, 128];
 
 // That byte stands 15 bytes behind the start of an entry, at 12 or 46.
 #[test]
-fn accepts_no_other_bit(rt: HostRuntime) -> Result<(), Fail> {
+fn accepts_no_other_bit(rt: HostRuntime) {
     let alloc = rt.alloc();
-    assert!(rt; accepts_just(alloc, mono_sources(alloc, "1, 0", &CUES), &[27])?);
-    assert!(rt; accepts_just(alloc, stereo_sources(alloc), &[27, 61])?);
-    Ok(())
+    assert!(rt; accepts_just(alloc, mono_sources(alloc, "1, 0", &CUES), &[27]) == Ok(true));
+    assert!(rt; accepts_just(alloc, stereo_sources(alloc), &[27, 61]) == Ok(true));
 }

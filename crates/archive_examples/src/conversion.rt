@@ -1,12 +1,11 @@
 //! Recordings written in each form, and how many of their parts have no place there.
 
-use crate::builders::{file_in, is_named};
+use crate::builders::{file_in, is_named, size_of};
 use archive_core::{Fault, Form, convert};
 use chunk_core::push_chunk;
 use fixtures::compared::equal;
 use fixtures::files::{MONO, RATE, RAW, dsf_of, file_of, marked};
 use std::alloc::{AllocError, Global};
-use std::test::Fail;
 
 /// Whether a file is converted to these bytes, without so many parts of its recording.
 pub(crate) fn converts(
@@ -45,16 +44,15 @@ const PAIRS: [(Form, Form); 9] = [
 ];
 
 #[test]
-fn converts_one_byte_of_sound(rt: HostRuntime) -> Result<(), Fail> {
+fn converts_one_byte_of_sound(rt: HostRuntime) {
     let alloc = rt.alloc();
     for (from, to) in &PAIRS {
         let file = file_in(alloc, *from);
         assert!(rt;
-            converts(alloc, file, *to, file_in(alloc, *to), 0)?,
+            converts(alloc, file, *to, file_in(alloc, *to), 0) == Ok(true),
             "{from:?} {to:?}"
         );
     }
-    Ok(())
 }
 
 // A DSF file of two channels of 32,769 bits, one more than a block holds, and this first byte.
@@ -76,13 +74,12 @@ fn is_refused(
 
 // DSDIFF holds whole bytes of each channel.
 #[test]
-fn converts_channels_that_end_inside_a_byte(rt: HostRuntime) -> Result<(), Fail> {
+fn converts_channels_that_end_inside_a_byte(rt: HostRuntime) {
     let alloc = rt.alloc();
-    assert!(rt; long(alloc, 1, 0x80)?.len() == 16476);
-    assert!(rt; is_refused(alloc, long(alloc, 1, 0x80), "NotWholeBytes")?);
+    assert!(rt; size_of(long(alloc, 1, 0x80)) == Ok(16476));
+    assert!(rt; is_refused(alloc, long(alloc, 1, 0x80), "NotWholeBytes") == Ok(true));
     let turned = long(alloc, 8, 0x01);
-    assert!(rt; converts(alloc, long(alloc, 1, 0x80), Form::Dsf8, turned, 0)?);
-    Ok(())
+    assert!(rt; converts(alloc, long(alloc, 1, 0x80), Form::Dsf8, turned, 0) == Ok(true));
 }
 
 /// The file of one byte of sound with a mark, and a comment chunk of no comments, behind it.
@@ -93,13 +90,12 @@ pub(crate) fn commented(alloc: Global) -> Result<Vec<u8>, AllocError> {
 }
 
 #[test]
-fn counts_what_has_no_place_in_dsf(rt: HostRuntime) -> Result<(), Fail> {
+fn counts_what_has_no_place_in_dsf(rt: HostRuntime) {
     let alloc = rt.alloc();
-    assert!(rt; commented(alloc)?.len() == 188);
+    assert!(rt; size_of(commented(alloc)) == Ok(188));
     let bare = file_in(alloc, Form::Dsf);
-    assert!(rt; converts(alloc, commented(alloc), Form::Dsf, bare, 2)?);
-    assert!(rt; converts(alloc, commented(alloc), Form::Dsdiff, commented(alloc), 0)?);
-    Ok(())
+    assert!(rt; converts(alloc, commented(alloc), Form::Dsf, bare, 2) == Ok(true));
+    assert!(rt; converts(alloc, commented(alloc), Form::Dsdiff, commented(alloc), 0) == Ok(true));
 }
 
 /// The DSF file of one byte of sound with a tag.
@@ -108,12 +104,11 @@ pub(crate) fn tagged(alloc: Global, bits: u32, first: u8) -> Result<Vec<u8>, All
 }
 
 #[test]
-fn keeps_a_tag_in_dsf_alone(rt: HostRuntime) -> Result<(), Fail> {
+fn keeps_a_tag_in_dsf_alone(rt: HostRuntime) {
     let alloc = rt.alloc();
-    assert!(rt; tagged(alloc, 1, 0x0f)?.len() == 4191);
+    assert!(rt; size_of(tagged(alloc, 1, 0x0f)) == Ok(4191));
     let turned = tagged(alloc, 8, 0xf0);
-    assert!(rt; converts(alloc, tagged(alloc, 1, 0x0f), Form::Dsf8, turned, 0)?);
+    assert!(rt; converts(alloc, tagged(alloc, 1, 0x0f), Form::Dsf8, turned, 0) == Ok(true));
     let bare = file_in(alloc, Form::Dsdiff);
-    assert!(rt; converts(alloc, tagged(alloc, 1, 0x0f), Form::Dsdiff, bare, 1)?);
-    Ok(())
+    assert!(rt; converts(alloc, tagged(alloc, 1, 0x0f), Form::Dsdiff, bare, 1) == Ok(true));
 }

@@ -1,15 +1,14 @@
 //! Small masters cut from two takes, what their bridges cost, and the fault that comes first.
 
 use crate::builders::{
-    CUES, CUTS, CueNumbers, Sources, cut_off, fast, is_named, mono_sources, sources_of, splice,
-    stereo_sources, titled, titled_sources,
+    CUES, CUTS, CueNumbers, Sources, cut_off, fast, is_named, mono_sources, size_of, sources_of,
+    splice, stereo_sources, titled, titled_sources,
 };
 use archive_core::{Fault, Form, edit};
 use fixtures::compared::equal;
 use fixtures::files::{dsf_of, mono, stereo};
 use fixtures::projects::SPLICE;
 use std::alloc::{AllocError, Global};
-use std::test::Fail;
 
 /// Whether the master that is cut is this file, at this cost.
 pub(crate) fn cuts(
@@ -35,51 +34,47 @@ fn cuts_file(
 }
 
 #[test]
-fn cuts_masters(rt: HostRuntime) -> Result<(), Fail> {
+fn cuts_masters(rt: HostRuntime) {
     let alloc = rt.alloc();
     for (case, weights, cues, sound, total) in &CUTS {
         let sources = mono_sources(alloc, weights, cues);
         let master = mono(alloc, sound);
         assert!(rt;
-            cuts(alloc, sources, Form::Dsdiff, master, *total)?,
+            cuts(alloc, sources, Form::Dsdiff, master, *total) == Ok(true),
             "{case}"
         );
     }
-    Ok(())
 }
 
 // From zeros to ones by the weights 0 and 1: at its own place either bit costs 4, and behind it 0 costs 16 and 1
 // nothing. So 1 is taken.
 #[test]
-fn cuts_by_what_a_bit_costs_behind_it(rt: HostRuntime) -> Result<(), Fail> {
+fn cuts_by_what_a_bit_costs_behind_it(rt: HostRuntime) {
     let alloc = rt.alloc();
     let text = splice(alloc, "0, 1", &CUES);
     let sources = sources_of(text, mono(alloc, &[0; 2]), mono(alloc, &[0xff; 2]));
     let master = mono(alloc, &[0x00, 0xff]);
-    assert!(rt; cuts(alloc, sources, Form::Dsdiff, master, 4)?);
-    Ok(())
+    assert!(rt; cuts(alloc, sources, Form::Dsdiff, master, 4) == Ok(true));
 }
 
 // A DSDIFF master has a mark for each title, a DSF master has none.
 #[test]
-fn marks_titles_in_dsdiff_alone(rt: HostRuntime) -> Result<(), Fail> {
+fn marks_titles_in_dsdiff_alone(rt: HostRuntime) {
     let alloc = rt.alloc();
-    assert!(rt; titled(alloc)?.len() == 178);
-    assert!(rt; cuts(alloc, titled_sources(alloc), Form::Dsdiff, titled(alloc), 0)?);
+    assert!(rt; size_of(titled(alloc)) == Ok(178));
+    assert!(rt; cuts(alloc, titled_sources(alloc), Form::Dsdiff, titled(alloc), 0) == Ok(true));
     let least = dsf_of(alloc, (1, 1, 16), &[0xff, 0], 4096, &[]);
-    assert!(rt; cuts(alloc, titled_sources(alloc), Form::Dsf, least, 0)?);
+    assert!(rt; cuts(alloc, titled_sources(alloc), Form::Dsf, least, 0) == Ok(true));
     let most = dsf_of(alloc, (1, 8, 16), &[0xff, 0], 4096, &[]);
-    assert!(rt; cuts(alloc, titled_sources(alloc), Form::Dsf8, most, 0)?);
-    Ok(())
+    assert!(rt; cuts(alloc, titled_sources(alloc), Form::Dsf8, most, 0) == Ok(true));
 }
 
 // Each channel has a bridge that costs 4.
 #[test]
-fn cuts_each_channel(rt: HostRuntime) -> Result<(), Fail> {
+fn cuts_each_channel(rt: HostRuntime) {
     let alloc = rt.alloc();
     let master = stereo(alloc, &[0xff, 0xff, 0, 0]);
-    assert!(rt; cuts(alloc, stereo_sources(alloc), Form::Dsdiff, master, 8)?);
-    Ok(())
+    assert!(rt; cuts(alloc, stereo_sources(alloc), Form::Dsdiff, master, 8) == Ok(true));
 }
 
 // Whether a cut is refused for this fault.
@@ -112,15 +107,14 @@ const REFUSED: [(&str, &[CueNumbers], &str); 7] = [
 ];
 
 #[test]
-fn names_the_first_fault_of_cues(rt: HostRuntime) -> Result<(), Fail> {
+fn names_the_first_fault_of_cues(rt: HostRuntime) {
     let alloc = rt.alloc();
     for (weights, cues, expected) in &REFUSED {
         assert!(rt;
-            is_refused(alloc, mono_sources(alloc, weights, cues), expected)?,
+            is_refused(alloc, mono_sources(alloc, weights, cues), expected) == Ok(true),
             "{expected}"
         );
     }
-    Ok(())
 }
 
 // Whether a cut of the take of ones and this other take is refused for this fault.
@@ -148,12 +142,11 @@ fn is_alone_refused(alloc: Global, text: &str, expected: &str) -> Result<bool, A
 
 // One file for two takes, and for no splice; a take of another rate; and one whose sound is cut.
 #[test]
-fn names_the_first_fault_of_takes(rt: HostRuntime) -> Result<(), Fail> {
+fn names_the_first_fault_of_takes(rt: HostRuntime) {
     let alloc = rt.alloc();
     let cut = "TakeUnread 1 Dsdiff Chunk DataCut 114";
-    assert!(rt; is_alone_refused(alloc, SPLICE, "TakeNumber")?);
-    assert!(rt; is_alone_refused(alloc, "", "NoSplice")?);
-    assert!(rt; is_take_refused(alloc, fast(alloc, &[0; 2]), "TakeMismatch 1")?);
-    assert!(rt; is_take_refused(alloc, cut_off(alloc), cut)?);
-    Ok(())
+    assert!(rt; is_alone_refused(alloc, SPLICE, "TakeNumber") == Ok(true));
+    assert!(rt; is_alone_refused(alloc, "", "NoSplice") == Ok(true));
+    assert!(rt; is_take_refused(alloc, fast(alloc, &[0; 2]), "TakeMismatch 1") == Ok(true));
+    assert!(rt; is_take_refused(alloc, cut_off(alloc), cut) == Ok(true));
 }

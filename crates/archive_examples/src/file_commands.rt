@@ -9,7 +9,6 @@ use command_core::{MemoryFolder, Task};
 use fixtures::files::{FILE, WAVE};
 use fixtures::projects::DECIMATE;
 use std::alloc::{AllocError, Global};
-use std::test::Fail;
 
 // A folder with a file and a project.
 fn folder(alloc: Global) -> Result<MemoryFolder, AllocError> {
@@ -52,11 +51,10 @@ fn makes(
 }
 
 #[test]
-fn plays_to_a_file(rt: HostRuntime) -> Result<(), Fail> {
+fn plays_to_a_file(rt: HostRuntime) {
     let alloc = rt.alloc();
     let task = playing("p.toml", "in.dff");
-    assert!(rt; makes(alloc, task, "played 46 bytes", ("out", &WAVE), 3)?);
-    Ok(())
+    assert!(rt; makes(alloc, task, "played 46 bytes", ("out", &WAVE), 3) == Ok(true));
 }
 
 // Whether the file is converted to the one that its recording has in this form, beside itself.
@@ -68,38 +66,35 @@ fn converts(alloc: Global, form: Form) -> Result<bool, AllocError> {
 
 // In the end the file takes its own place: it is read whole before it is created.
 #[test]
-fn converts_to_files(rt: HostRuntime) -> Result<(), Fail> {
+fn converts_to_files(rt: HostRuntime) {
     let alloc = rt.alloc();
-    assert!(rt; converts(alloc, Form::Dsf)?);
-    assert!(rt; converts(alloc, Form::Dsf8)?);
-    assert!(rt; converts(alloc, Form::Dsdiff)?);
+    assert!(rt; converts(alloc, Form::Dsf) == Ok(true));
+    assert!(rt; converts(alloc, Form::Dsf8) == Ok(true));
+    assert!(rt; converts(alloc, Form::Dsdiff) == Ok(true));
     let task = converting(Form::Dsdiff, "in.dff", "in.dff");
-    assert!(rt; makes(alloc, task, "converted dropped 0", ("in.dff", &FILE), 2)?);
-    Ok(())
+    assert!(rt; makes(alloc, task, "converted dropped 0", ("in.dff", &FILE), 2) == Ok(true));
 }
 
 #[test]
-fn tells_of_a_file(rt: HostRuntime) -> Result<(), Fail> {
+fn tells_of_a_file(rt: HostRuntime) {
     let alloc = rt.alloc();
     let task = Task::Info { file: "in.dff" };
-    assert!(rt; makes(alloc, task, TOLD, ("in.dff", &FILE), 2)?);
-    Ok(())
+    assert!(rt; makes(alloc, task, TOLD, ("in.dff", &FILE), 2) == Ok(true));
 }
 
 // A project and an input of which one is not there.
 const NOT_THERE: [(&str, &str); 2] = [("none", "in.dff"), ("in.dff", "none")];
 
 #[test]
-fn plays_no_missing_file_and_creates_nothing(rt: HostRuntime) -> Result<(), Fail> {
+fn plays_no_missing_file_and_creates_nothing(rt: HostRuntime) {
     let alloc = rt.alloc();
     for (project, input) in &NOT_THERE {
         let task = playing(project, input);
         assert!(rt;
-            is_refused(alloc, folder(alloc), task, "fault: ReadFailed")?,
+            is_refused(alloc, folder(alloc), task, "fault: ReadFailed") == Ok(true),
             "{project} {input}"
         );
     }
-    Ok(())
 }
 
 // A project and an input that are no such, and what is printed.
@@ -116,13 +111,15 @@ fn leaves_none(alloc: Global, task: Task, line: &str) -> Result<bool, AllocError
 }
 
 #[test]
-fn leaves_an_empty_file_where_nothing_is_played(rt: HostRuntime) -> Result<(), Fail> {
+fn leaves_an_empty_file_where_nothing_is_played(rt: HostRuntime) {
     let alloc = rt.alloc();
     for (project, input, line) in &NOT_PLAYED {
         let task = playing(project, input);
-        assert!(rt; leaves_none(alloc, task, line)?, "{project} {input}");
+        assert!(rt;
+            leaves_none(alloc, task, line) == Ok(true),
+            "{project} {input}"
+        );
     }
-    Ok(())
 }
 
 // Whether a file is neither converted nor told of, for this fault.
@@ -133,15 +130,14 @@ fn is_unread(alloc: Global, input: &str, line: &str) -> Result<bool, AllocError>
 }
 
 #[test]
-fn reads_nothing_else_and_creates_nothing(rt: HostRuntime) -> Result<(), Fail> {
+fn reads_nothing_else_and_creates_nothing(rt: HostRuntime) {
     let alloc = rt.alloc();
-    assert!(rt; is_unread(alloc, "none", "fault: ReadFailed")?);
-    assert!(rt; is_unread(alloc, "p.toml", "fault: FileUnread UnknownForm")?);
-    Ok(())
+    assert!(rt; is_unread(alloc, "none", "fault: ReadFailed") == Ok(true));
+    assert!(rt; is_unread(alloc, "p.toml", "fault: FileUnread UnknownForm") == Ok(true));
 }
 
-// What fails, what is printed, and what the folder is asked for, and no more. A file that was created is
-// kept, whether it was written or not.
+// What fails, what is printed, and what the folder is asked for, and no more. A file that was created is kept, or
+// given up after a fault.
 const PLAYS: [(&str, Option<Failure>, &str, &str); 8] = [
     (
         "nothing",
@@ -171,7 +167,7 @@ const PLAYS: [(&str, Option<Failure>, &str, &str); 8] = [
         "reading the input",
         Some(Failure::At("read", "in.dff")),
         "fault: ReadFailed",
-        "open p.toml\nopen in.dff\ncreate out\nkeep out\n",
+        "open p.toml\nopen in.dff\ncreate out\ngive up out\n",
     ),
     (
         "creating the output",
@@ -183,7 +179,7 @@ const PLAYS: [(&str, Option<Failure>, &str, &str); 8] = [
         "writing the output",
         Some(Failure::Write(0)),
         "fault: WriteFailed",
-        "open p.toml\nopen in.dff\ncreate out\nkeep out\n",
+        "open p.toml\nopen in.dff\ncreate out\ngive up out\n",
     ),
     (
         "keeping the output",
@@ -194,16 +190,15 @@ const PLAYS: [(&str, Option<Failure>, &str, &str); 8] = [
 ];
 
 #[test]
-fn asks_for_files_in_order(rt: HostRuntime) -> Result<(), Fail> {
+fn asks_for_files_in_order(rt: HostRuntime) {
     let alloc = rt.alloc();
     for (case, failure, line, calls) in &PLAYS {
         let task = playing("p.toml", "in.dff");
         assert!(rt;
-            asks(alloc, folder(alloc), *failure, task, (line, calls))?,
+            asks(alloc, folder(alloc), *failure, task, (line, calls)) == Ok(true),
             "{case} fails"
         );
     }
-    Ok(())
 }
 
 // Whether the file is kept as the front of so many bytes where there is no room for more.
@@ -216,10 +211,9 @@ fn keeps_front(alloc: Global, room: usize) -> Result<bool, AllocError> {
 }
 
 #[test]
-fn keeps_a_front_after_a_failed_write(rt: HostRuntime) -> Result<(), Fail> {
+fn keeps_a_front_after_a_failed_write(rt: HostRuntime) {
     let alloc = rt.alloc();
     for room in 0..46 {
-        assert!(rt; keeps_front(alloc, room)?, "{room}");
+        assert!(rt; keeps_front(alloc, room) == Ok(true), "{room}");
     }
-    Ok(())
 }

@@ -24,6 +24,7 @@ use std::alloc::{AllocError, Global};
 use std::io;
 use std::io::{ErrorKind, Read, Write};
 use std::test::Fail;
+use transfer_commands::{convert_file, open_file};
 
 // A writer that takes just these bytes, in their order, and no memory: what was written is a front of them.
 #[derive(Drop)]
@@ -91,6 +92,8 @@ impl<'a> Folder for Shelf<'a> {
         }
         Ok(())
     }
+
+    fn give_up(&mut self, _name: &str, _out: Awaited<'a>) {}
 }
 
 // The fault of a command that was refused.
@@ -284,6 +287,48 @@ fn tells(alloc: Global, file: &[u8], line: &str) -> Result<bool, Fail> {
 fn the_command_info_ends(rt: HostRuntime) -> Result<(), Fail> {
     let alloc = rt.alloc();
     assert!(rt; tells(alloc, &noted(alloc, 22)?, MARKED)?);
+    Ok(())
+}
+
+// Whether a file is converted to this one in blocks, without its mark and its kept chunk.
+fn converts_in_blocks(alloc: Global, file: &[u8], made: &[u8]) -> Result<bool, Fault> {
+    let files: [(&str, &[u8]); 2] = [("in", file), ("out", made)];
+    let mut shelf = Shelf {
+        files: &files,
+        written: 0,
+    };
+    match convert_file(alloc, &mut shelf, Form::Dsf, "in", "out", 0) {
+        Ok(dropped) => Ok(dropped == 2 && shelf.written == 1),
+        Err(fault) => Err(fault_of(Outcome::from(fault))),
+    }
+}
+
+#[test]
+fn a_file_is_converted_in_blocks(rt: HostRuntime) -> Result<(), Fail> {
+    let alloc = rt.alloc();
+    let made = file_in(alloc, Form::Dsf)?;
+    assert!(rt; converts_in_blocks(alloc, &commented(alloc)?, &made)?);
+    Ok(())
+}
+
+// How many bits a channel of a file has, which isn't held.
+fn count_told(alloc: Global, file: &[u8]) -> Result<usize, Fault> {
+    let files: [(&str, &[u8]); 1] = [("in", file)];
+    let mut shelf = Shelf {
+        files: &files,
+        written: 0,
+    };
+    match open_file(alloc, &mut shelf, "in", 0) {
+        Ok(told) => Ok(told.count),
+        Err(fault) => Err(fault_of(Outcome::from(fault))),
+    }
+}
+
+#[test]
+fn a_file_is_told_of_in_one_pass(rt: HostRuntime) -> Result<(), Fail> {
+    let alloc = rt.alloc();
+    assert!(rt; count_told(alloc, &commented(alloc)?)? == 8);
+    assert!(rt; count_told(alloc, &tagged(alloc, 1, 0x0f)?)? == 8);
     Ok(())
 }
 

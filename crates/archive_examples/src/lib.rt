@@ -22,6 +22,8 @@ mod folders;
 #[cfg(test)]
 mod growths;
 #[cfg(test)]
+mod in_blocks;
+#[cfg(test)]
 mod lines;
 #[cfg(test)]
 mod master_commands;

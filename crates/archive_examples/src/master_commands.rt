@@ -9,7 +9,6 @@ use command_core::{MemoryFolder, Task};
 use fixtures::files::{FILE, dsf_of, mono};
 use fixtures::projects::SPLICE;
 use std::alloc::{AllocError, Global};
-use std::test::Fail;
 
 /// Cutting the master of `e.toml` to `m.dff` and `c.cert`.
 pub(crate) const CUT: Task = Task::Edit {
@@ -110,13 +109,12 @@ fn cuts_here(
 }
 
 #[test]
-fn cuts_a_master_and_accepts_it(rt: HostRuntime) -> Result<(), Fail> {
+fn cuts_a_master_and_accepts_it(rt: HostRuntime) {
     let alloc = rt.alloc();
     let free = ("edited total 0", "accepted total 0");
-    assert!(rt; cuts_and_accepts(alloc, "1, 1", FALLING, free)?);
+    assert!(rt; cuts_and_accepts(alloc, "1, 1", FALLING, free) == Ok(true));
     let four = ("edited total 4", "accepted total 4");
-    assert!(rt; cuts_and_accepts(alloc, "1, 0", LEVEL, four)?);
-    Ok(())
+    assert!(rt; cuts_and_accepts(alloc, "1, 0", LEVEL, four) == Ok(true));
 }
 
 // Cutting the master to the file that its certificate is written to behind it.
@@ -136,9 +134,8 @@ fn keeps_the_certificate(alloc: Global) -> Result<bool, AllocError> {
 }
 
 #[test]
-fn keeps_the_certificate_under_one_name_for_both(rt: HostRuntime) -> Result<(), Fail> {
-    assert!(rt; keeps_the_certificate(rt.alloc())?);
-    Ok(())
+fn keeps_the_certificate_under_one_name_for_both(rt: HostRuntime) {
+    assert!(rt; keeps_the_certificate(rt.alloc()) == Ok(true));
 }
 
 // Whether the cut of `SPLICE` in this form is this file, of which this is told.
@@ -179,12 +176,11 @@ const BARE: &str =
     "form dsf\nrate 2822400\nchannels 1\nsamples 16\nids 43303030\nlayout 1\nmarks 0\nothers 0\ntag 0";
 
 #[test]
-fn tells_of_a_master_with_a_title(rt: HostRuntime) -> Result<(), Fail> {
+fn tells_of_a_master_with_a_title(rt: HostRuntime) {
     let alloc = rt.alloc();
-    assert!(rt; cuts_in(alloc, Form::Dsdiff, titled(alloc), MARKED)?);
+    assert!(rt; cuts_in(alloc, Form::Dsdiff, titled(alloc), MARKED) == Ok(true));
     let least = dsf_of(alloc, (1, 1, 16), &[0xff, 0], 4096, &[]);
-    assert!(rt; cuts_in(alloc, Form::Dsf, least, BARE)?);
-    Ok(())
+    assert!(rt; cuts_in(alloc, Form::Dsf, least, BARE) == Ok(true));
 }
 
 // Cues that are refused where masters are cut, and what is printed.
@@ -198,13 +194,12 @@ const REFUSED: [(&[CueNumbers], &str); 6] = [
 ];
 
 #[test]
-fn refuses_cues_and_creates_nothing(rt: HostRuntime) -> Result<(), Fail> {
+fn refuses_cues_and_creates_nothing(rt: HostRuntime) {
     let alloc = rt.alloc();
     for (cues, line) in &REFUSED {
         let folder = folder_by(alloc, "1, 1", cues);
-        assert!(rt; is_refused(alloc, folder, CUT, line)?, "{line}");
+        assert!(rt; is_refused(alloc, folder, CUT, line) == Ok(true), "{line}");
     }
-    Ok(())
 }
 
 // Cutting the master of this project.
@@ -220,20 +215,19 @@ fn cutting(project: &str) -> Task<'_> {
 // A take of another rate, and one whose sound is cut; then a project that isn't there, one that is no text,
 // and one that has no splice.
 #[test]
-fn refuses_takes_and_projects_and_creates_nothing(rt: HostRuntime) -> Result<(), Fail> {
+fn refuses_takes_and_projects_and_creates_nothing(rt: HostRuntime) {
     let alloc = rt.alloc();
     let unread = "fault: TakeUnread 1 Dsdiff Chunk DataCut 114";
     let other = folder_with(alloc, SPLICE, fast(alloc, &[0; 2]));
-    assert!(rt; is_refused(alloc, other, CUT, "fault: TakeMismatch 1")?);
+    assert!(rt; is_refused(alloc, other, CUT, "fault: TakeMismatch 1") == Ok(true));
     let cut = folder_with(alloc, SPLICE, cut_off(alloc));
-    assert!(rt; is_refused(alloc, cut, CUT, unread)?);
+    assert!(rt; is_refused(alloc, cut, CUT, unread) == Ok(true));
     let folder = folder_of(alloc, "");
-    assert!(rt; is_refused(alloc, folder, cutting("none"), "fault: ReadFailed")?);
+    assert!(rt; is_refused(alloc, folder, cutting("none"), "fault: ReadFailed") == Ok(true));
     let folder = folder_of(alloc, "");
-    assert!(rt; is_refused(alloc, folder, cutting("a.dff"), "fault: Project NotToml")?);
+    assert!(rt; is_refused(alloc, folder, cutting("a.dff"), "fault: Project NotToml") == Ok(true));
     let folder = folder_of(alloc, "");
-    assert!(rt; is_refused(alloc, folder, CUT, "fault: NoSplice")?);
-    Ok(())
+    assert!(rt; is_refused(alloc, folder, CUT, "fault: NoSplice") == Ok(true));
 }
 
 // A folder with the project of `CUES` by the weights 1 and 0, which has no title, and with its first take alone.
@@ -245,10 +239,9 @@ fn folder_of_one_take(alloc: Global) -> Result<MemoryFolder, AllocError> {
 }
 
 #[test]
-fn cuts_nothing_where_a_take_is_missing(rt: HostRuntime) -> Result<(), Fail> {
+fn cuts_nothing_where_a_take_is_missing(rt: HostRuntime) {
     let alloc = rt.alloc();
-    assert!(rt; is_refused(alloc, folder_of_one_take(alloc), CUT, "fault: ReadFailed")?);
-    Ok(())
+    assert!(rt; is_refused(alloc, folder_of_one_take(alloc), CUT, "fault: ReadFailed") == Ok(true));
 }
 
 // What fails, what is printed, and what the folder is asked for, and no more: takes by their numbers, and the
@@ -293,16 +286,15 @@ const CUTS: [(&str, Option<Failure>, &str, &str); 6] = [
 ];
 
 #[test]
-fn asks_for_takes_by_number(rt: HostRuntime) -> Result<(), Fail> {
+fn asks_for_takes_by_number(rt: HostRuntime) {
     let alloc = rt.alloc();
     for (case, failure, line, calls) in &CUTS {
         let folder = folder_of(alloc, SPLICE);
         assert!(rt;
-            asks(alloc, folder, *failure, CUT, (line, calls))?,
+            asks(alloc, folder, *failure, CUT, (line, calls)) == Ok(true),
             "{case} fails"
         );
     }
-    Ok(())
 }
 
 // A folder with a master and a certificate of no bytes beside the project and its takes.
@@ -334,17 +326,16 @@ const CHECKS: [(&str, &str); 3] = [
 ];
 
 #[test]
-fn reads_a_master_and_its_certificate_behind_the_takes(rt: HostRuntime) -> Result<(), Fail> {
+fn reads_a_master_and_its_certificate_behind_the_takes(rt: HostRuntime) {
     let alloc = rt.alloc();
     for (name, calls) in &CHECKS {
         let folder = folder_with_master(alloc, folder_of(alloc, SPLICE), Ok(Vec::new(alloc)));
         let failure = Some(Failure::At("open", *name));
         assert!(rt;
-            asks(alloc, folder, failure, CHECK, ("fault: ReadFailed", calls))?,
+            asks(alloc, folder, failure, CHECK, ("fault: ReadFailed", calls)) == Ok(true),
             "{name}"
         );
     }
-    Ok(())
 }
 
 // Whether a check of this master comes to the status 1 and this line, and creates nothing.
@@ -361,13 +352,12 @@ fn is_rejected(
 
 // The reasons are worked out where masters are rejected.
 #[test]
-fn rejects_masters_and_creates_nothing(rt: HostRuntime) -> Result<(), Fail> {
+fn rejects_masters_and_creates_nothing(rt: HostRuntime) {
     let alloc = rt.alloc();
-    assert!(rt; is_rejected(alloc, Ok(Vec::new(alloc)), "rejected MasterUnread")?);
-    assert!(rt; is_rejected(alloc, fast(alloc, &[0; 2]), "rejected MasterShape")?);
+    assert!(rt; is_rejected(alloc, Ok(Vec::new(alloc)), "rejected MasterUnread") == Ok(true));
+    assert!(rt; is_rejected(alloc, fast(alloc, &[0; 2]), "rejected MasterShape") == Ok(true));
     let short: Result<_, _> = Vec::from_slice(alloc, &FILE);
-    assert!(rt; is_rejected(alloc, short, "rejected MasterLength")?);
-    assert!(rt; is_rejected(alloc, titled(alloc), "rejected MasterMarks")?);
-    assert!(rt; is_rejected(alloc, mono(alloc, &[0x7f, 0]), "rejected CuedBit 0 0")?);
-    Ok(())
+    assert!(rt; is_rejected(alloc, short, "rejected MasterLength") == Ok(true));
+    assert!(rt; is_rejected(alloc, titled(alloc), "rejected MasterMarks") == Ok(true));
+    assert!(rt; is_rejected(alloc, mono(alloc, &[0x7f, 0]), "rejected CuedBit 0 0") == Ok(true));
 }

@@ -9,7 +9,6 @@ use command_core::{MemoryFolder, Outcome, Task};
 use fixtures::files::{FILE, MONO, RATE, RAW, dsf_of, file_of, noted};
 use fixtures::projects::DECIMATE;
 use std::alloc::{AllocError, Global};
-use std::test::Fail;
 
 // Whether a file holds a recording in this form, with so many bits a channel.
 fn is_told(
@@ -17,22 +16,23 @@ fn is_told(
     file: Result<Vec<u8>, AllocError>,
     form: Form,
     count: usize,
-) -> Result<bool, Fail> {
-    let opened = read_any(alloc, &file?)?;
-    Ok(opened.form == form && opened.recording.count() == count)
+) -> Result<bool, AllocError> {
+    match read_any(alloc, &file?) {
+        Ok(opened) => Ok(opened.form == form && opened.recording.count() == count),
+        Err(_) => Ok(false),
+    }
 }
 
 // DSF tells the order of its bits by the bits per sample, 1 or 8, and counts bits where DSDIFF has whole
 // bytes.
 #[test]
-fn tells_each_form(rt: HostRuntime) -> Result<(), Fail> {
+fn tells_each_form(rt: HostRuntime) {
     let alloc = rt.alloc();
-    assert!(rt; is_told(alloc, file_in(alloc, Form::Dsdiff), Form::Dsdiff, 8)?);
+    assert!(rt; is_told(alloc, file_in(alloc, Form::Dsdiff), Form::Dsdiff, 8) == Ok(true));
     let least = dsf_of(alloc, (2, 1, 9), &[0x0f], 8192, &[]);
-    assert!(rt; is_told(alloc, least, Form::Dsf, 9)?);
+    assert!(rt; is_told(alloc, least, Form::Dsf, 9) == Ok(true));
     let most = dsf_of(alloc, (2, 8, 9), &[0x0f], 8192, &[]);
-    assert!(rt; is_told(alloc, most, Form::Dsf8, 9)?);
-    Ok(())
+    assert!(rt; is_told(alloc, most, Form::Dsf8, 9) == Ok(true));
 }
 
 // Whether a file is refused for this fault, which is printed where it is played and where it is told of.
@@ -91,28 +91,26 @@ const CHANGED: [(usize, usize, u8, &str); 5] = [
 ];
 
 #[test]
-fn names_the_first_fault_of_a_changed_file(rt: HostRuntime) -> Result<(), Fail> {
+fn names_the_first_fault_of_a_changed_file(rt: HostRuntime) {
     let alloc = rt.alloc();
     for (length, place, byte, expected) in &CHANGED {
         let file = front_with(alloc, *length, *place, *byte);
-        assert!(rt; is_refused(alloc, file, expected)?, "{expected}");
+        assert!(rt; is_refused(alloc, file, expected) == Ok(true), "{expected}");
     }
-    Ok(())
 }
 
 // Two rates; a mark of fewer than 22 bytes; 2 bits per sample; blocks of fewer bytes than 4096; and a DSF
 // file of its first four bytes.
 #[test]
-fn names_the_first_fault_of_a_built_file(rt: HostRuntime) -> Result<(), Fail> {
+fn names_the_first_fault_of_a_built_file(rt: HostRuntime) {
     let alloc = rt.alloc();
     let twice = file_of(alloc, &[&RATE, &RATE, &MONO, &RAW], &[0xf0], &[]);
-    assert!(rt; is_refused(alloc, twice, "Dsdiff Twice 46532020")?);
-    assert!(rt; is_refused(alloc, noted(alloc, 21), "Dsdiff BadMark")?);
+    assert!(rt; is_refused(alloc, twice, "Dsdiff Twice 46532020") == Ok(true));
+    assert!(rt; is_refused(alloc, noted(alloc, 21), "Dsdiff BadMark") == Ok(true));
     let few_bits = dsf_of(alloc, (1, 2, 1), &[0x0f], 4096, &[]);
-    assert!(rt; is_refused(alloc, few_bits, "Dsf BadBits")?);
+    assert!(rt; is_refused(alloc, few_bits, "Dsf BadBits") == Ok(true));
     let few_blocks = dsf_of(alloc, (1, 1, 1), &[0x0f], 4095, &[]);
-    assert!(rt; is_refused(alloc, few_blocks, "Dsf DataCut")?);
+    assert!(rt; is_refused(alloc, few_blocks, "Dsf DataCut") == Ok(true));
     let head: Result<_, _> = Vec::from_slice(alloc, b"DSD ");
-    assert!(rt; is_refused(alloc, head, "Dsf HeadCut")?);
-    Ok(())
+    assert!(rt; is_refused(alloc, head, "Dsf HeadCut") == Ok(true));
 }

@@ -1,13 +1,12 @@
 //! Small files played to WAVE files of 16 and 24 bits, and the fault that comes first.
 
-use crate::builders::is_named;
+use crate::builders::{is_named, size_of};
 use archive_core::{Fault, play};
 use fixtures::compared::equal;
 use fixtures::files::{FILE, WAVE, followed, mono, one_bit, stereo, three, with_sound};
 use fixtures::projects::{DECIMATE, Numbers, project, with_ones};
 use fixtures::waves::{SAMPLES, THREE_CHANNELS, TWO_CHANNELS, WIDE, sample};
 use std::alloc::{AllocError, Global};
-use std::test::Fail;
 
 // Whether a file is played to these bytes.
 fn plays(alloc: Global, text: &str, file: &[u8], wave: &[u8]) -> Result<bool, Fault> {
@@ -28,27 +27,25 @@ fn plays_byte(
 }
 
 #[test]
-fn plays_one_sample(rt: HostRuntime) -> Result<(), Fail> {
+fn plays_one_sample(rt: HostRuntime) {
     let alloc = rt.alloc();
     for (taps, numbers, sound, bytes) in &SAMPLES {
-        let equal = plays_byte(alloc, taps, *numbers, *sound, *bytes)?;
-        assert!(rt; equal, "{taps} {numbers:?} {sound}");
+        let equal = plays_byte(alloc, taps, *numbers, *sound, *bytes);
+        assert!(rt; equal == Ok(true), "{taps} {numbers:?} {sound}");
     }
-    Ok(())
 }
 
 // A sound of no bytes: the form's size ends at 11 and the sound's at 125, as the RIFF's begins at 4 and the
 // data's at 40.
 #[test]
-fn plays_no_sound(rt: HostRuntime) -> Result<(), Fail> {
+fn plays_no_sound(rt: HostRuntime) {
     let mut file = FILE;
     file[11] = 114;
     file[125] = 0;
     let mut wave = WAVE;
     wave[4] = 36;
     wave[40] = 0;
-    assert!(rt; plays(rt.alloc(), DECIMATE, &file[..126], &wave[..44])?);
-    Ok(())
+    assert!(rt; plays(rt.alloc(), DECIMATE, &file[..126], &wave[..44]) == Ok(true));
 }
 
 /// Whether a file that was built is played to these bytes by `DECIMATE`.
@@ -62,14 +59,13 @@ pub(crate) fn plays_built(
 
 // Of the DSF file's first byte the first bit alone counts, which the fourth tap reads.
 #[test]
-fn plays_several_channels_and_dsf(rt: HostRuntime) -> Result<(), Fail> {
+fn plays_several_channels_and_dsf(rt: HostRuntime) {
     let alloc = rt.alloc();
-    assert!(rt; stereo(alloc, &[0xf0, 0x0f])?.len() == 132);
-    assert!(rt; plays_built(alloc, stereo(alloc, &[0xf0, 0x0f]), &TWO_CHANNELS)?);
-    assert!(rt; plays_built(alloc, three(alloc, &[0xf0, 0x0f, 0xf0]), &THREE_CHANNELS)?);
-    assert!(rt; one_bit(alloc, &[])?.len() == 4188);
-    assert!(rt; plays_built(alloc, one_bit(alloc, &[]), &sample([4, 0]))?);
-    Ok(())
+    assert!(rt; size_of(stereo(alloc, &[0xf0, 0x0f])) == Ok(132));
+    assert!(rt; plays_built(alloc, stereo(alloc, &[0xf0, 0x0f]), &TWO_CHANNELS) == Ok(true));
+    assert!(rt; plays_built(alloc, three(alloc, &[0xf0, 0x0f, 0xf0]), &THREE_CHANNELS) == Ok(true));
+    assert!(rt; size_of(one_bit(alloc, &[])) == Ok(4188));
+    assert!(rt; plays_built(alloc, one_bit(alloc, &[]), &sample([4, 0])) == Ok(true));
 }
 
 // Whether `FILE` is played to these bytes by a project.
@@ -78,51 +74,50 @@ fn plays_by(alloc: Global, text: Result<String, AllocError>, wave: &[u8]) -> Res
 }
 
 #[test]
-fn plays_24_bits(rt: HostRuntime) -> Result<(), Fail> {
+fn plays_24_bits(rt: HostRuntime) {
     let alloc = rt.alloc();
     let text = project(alloc, "[1, 2, 3, 4]", (8, 3, 0, 24));
-    assert!(rt; plays_by(alloc, text, &WIDE)?);
-    Ok(())
+    assert!(rt; plays_by(alloc, text, &WIDE) == Ok(true));
 }
 
 // The pad counted in the size of the chunk `CMPR`, no pad behind the last chunk, and bytes behind the form.
 #[test]
-fn plays_files_of_usual_writers(rt: HostRuntime) -> Result<(), Fail> {
+fn plays_files_of_usual_writers(rt: HostRuntime) {
     let alloc = rt.alloc();
     let mut long_name = FILE;
     long_name[93] = 20;
-    assert!(rt; plays(alloc, DECIMATE, &long_name, &WAVE)?);
-    assert!(rt; plays(alloc, DECIMATE, &FILE[..127], &WAVE)?);
-    assert!(rt; plays_built(alloc, followed(alloc), &WAVE)?);
-    Ok(())
+    assert!(rt; plays(alloc, DECIMATE, &long_name, &WAVE) == Ok(true));
+    assert!(rt; plays(alloc, DECIMATE, &FILE[..127], &WAVE) == Ok(true));
+    assert!(rt; plays_built(alloc, followed(alloc), &WAVE) == Ok(true));
 }
 
-// What so many taps of 1 make of so many bytes of ones.
-fn long_wave(alloc: Global, number: u32, bytes: &[u8]) -> Result<Vec<u8>, Fault> {
+// Whether so many taps of 1 make so many bytes of so many bytes of ones, and the first of them are these.
+fn begins(
+    alloc: Global,
+    number: u32,
+    sound: &[u8],
+    size: usize,
+    samples: &[u8],
+) -> Result<bool, Fault> {
     let text = with_ones(alloc, number)?;
-    let file = mono(alloc, bytes)?;
-    play(alloc, text.as_bytes(), &file)
+    let file = mono(alloc, sound)?;
+    let wave = play(alloc, text.as_bytes(), &file)?;
+    let (_, made) = wave.split_at(wave.len().min(44));
+    Ok(made.len() == size && made.starts_with(samples))
 }
 
 // 33 taps see the bits 0 to 32 at the first sample, at the second 8 to 39, the last one, and from then on 8
 // fewer each time.
 #[test]
-fn plays_the_edges_of_33_taps(rt: HostRuntime) -> Result<(), Fail> {
-    let alloc = rt.alloc();
-    let wave = long_wave(alloc, 33, &[0xff; 5])?;
-    let (_, samples) = wave.split_at(wave.len().min(44));
-    assert!(rt; equal(samples, &[33, 0, 32, 0, 24, 0, 16, 0, 8, 0]));
-    Ok(())
+fn plays_the_edges_of_33_taps(rt: HostRuntime) {
+    let samples = [33, 0, 32, 0, 24, 0, 16, 0, 8, 0];
+    assert!(rt; begins(rt.alloc(), 33, &[0xff; 5], 10, &samples) == Ok(true));
 }
 
 // 4096 taps see all 4096 ones at the first sample, which is 0x1000.
 #[test]
-fn plays_the_edges_of_4096_taps(rt: HostRuntime) -> Result<(), Fail> {
-    let alloc = rt.alloc();
-    let wave = long_wave(alloc, 4096, &[0xff; 512])?;
-    assert!(rt; wave.len() == 44 + 2 * 512);
-    assert!(rt; wave[44] == 0 && wave[45] == 0x10);
-    Ok(())
+fn plays_the_edges_of_4096_taps(rt: HostRuntime) {
+    assert!(rt; begins(rt.alloc(), 4096, &[0xff; 512], 2 * 512, &[0, 0x10]) == Ok(true));
 }
 
 // Whether playing is refused for this fault.
@@ -163,25 +158,23 @@ const REFUSED: [(&str, Numbers, &[u8], &str); 4] = [
 ];
 
 #[test]
-fn names_the_first_fault_of_playing(rt: HostRuntime) -> Result<(), Fail> {
+fn names_the_first_fault_of_playing(rt: HostRuntime) {
     let alloc = rt.alloc();
     for (taps, numbers, file, expected) in &REFUSED {
         let text = project(alloc, taps, *numbers);
         assert!(rt;
-            is_built_refused(alloc, text, file, expected)?,
+            is_built_refused(alloc, text, file, expected) == Ok(true),
             "{expected}"
         );
     }
-    Ok(())
 }
 
 // There are at most 4096 taps, and a project is a text, which says how to decimate.
 #[test]
-fn names_the_first_fault_of_a_project(rt: HostRuntime) -> Result<(), Fail> {
+fn names_the_first_fault_of_a_project(rt: HostRuntime) {
     let alloc = rt.alloc();
     let many = with_ones(alloc, 4097);
-    assert!(rt; is_built_refused(alloc, many, &FILE, "Project OutOfLimit taps")?);
-    assert!(rt; is_refused(alloc, &[0xff], &FILE, "Project NotToml")?);
-    assert!(rt; is_refused(alloc, &[], &[], "NoDecimation")?);
-    Ok(())
+    assert!(rt; is_built_refused(alloc, many, &FILE, "Project OutOfLimit taps") == Ok(true));
+    assert!(rt; is_refused(alloc, &[0xff], &FILE, "Project NotToml") == Ok(true));
+    assert!(rt; is_refused(alloc, &[], &[], "NoDecimation") == Ok(true));
 }

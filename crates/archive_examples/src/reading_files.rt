@@ -7,7 +7,6 @@ use folder_core::FileFault;
 use std::alloc::{AllocError, Global};
 use std::io;
 use std::io::Read;
-use std::test::Fail;
 
 // A reader that gives one byte a read, and has no end.
 #[derive(Drop)]
@@ -26,11 +25,9 @@ impl Read for Endless {
 }
 
 #[test]
-fn reads_to_the_end(rt: HostRuntime) -> Result<(), Fail> {
+fn reads_to_the_end(rt: HostRuntime) {
     let bytes = read_whole(rt.alloc(), b"abc".as_slice(), 2);
-    let bytes = bytes.ok().ok_or("bytes")?;
-    assert!(rt; equal(&bytes, b"abc"));
-    Ok(())
+    assert!(rt; matches!(&bytes, Ok(bytes) if equal(bytes, b"abc")));
 }
 
 #[test]
@@ -58,20 +55,27 @@ fn names(alloc: Global, texts: &[&str; 3]) -> Result<Vec<String>, AllocError> {
     Ok(names)
 }
 
-// The files of these names in the folder.
-fn files(alloc: Global, texts: &[&str; 3]) -> Result<Vec<Vec<u8>>, Fail> {
+// Whether the files of these names in the folder are read, and are one of three bytes between two of none.
+fn are_read(alloc: Global, texts: &[&str; 3]) -> Result<bool, AllocError> {
     let names = names(alloc, texts)?;
     let mut folder = folder(alloc)?;
-    let files = read_files(alloc, &mut folder, &names);
-    Ok(files.ok().ok_or("files")?)
+    match read_files(alloc, &mut folder, &names) {
+        Ok(files) => Ok(are_one_of_three(&files)),
+        Err(_) => Ok(false),
+    }
+}
+
+// Whether files are these.
+fn are_one_of_three(files: &[Vec<u8>]) -> bool {
+    match files {
+        [first, second, third] => { first.is_empty() && equal(second, b"one") && third.is_empty() }
+        _ => false,
+    }
 }
 
 #[test]
-fn reads_files_in_turn(rt: HostRuntime) -> Result<(), Fail> {
-    let files = files(rt.alloc(), &["b", "a", "b"])?;
-    assert!(rt; files.len() == 3);
-    assert!(rt; files[0].is_empty() && equal(&files[1], b"one") && files[2].is_empty());
-    Ok(())
+fn reads_files_in_turn(rt: HostRuntime) {
+    assert!(rt; are_read(rt.alloc(), &["b", "a", "b"]) == Ok(true));
 }
 
 // Whether no file is read of names of which the second is missing, and the third is not opened.
@@ -84,7 +88,6 @@ fn stops_at_the_second(alloc: Global) -> Result<bool, AllocError> {
 }
 
 #[test]
-fn stops_at_the_first_file_that_is_missing(rt: HostRuntime) -> Result<(), Fail> {
-    assert!(rt; stops_at_the_second(rt.alloc())?);
-    Ok(())
+fn stops_at_the_first_file_that_is_missing(rt: HostRuntime) {
+    assert!(rt; stops_at_the_second(rt.alloc()) == Ok(true));
 }

@@ -52,6 +52,8 @@ impl Folder for SlowFolder {
     fn keep(&mut self, _name: &str, _out: Cursor<Vec<u8>>) -> Result<(), FolderFault> {
         Err(FolderFault)
     }
+
+    fn give_up(&mut self, _name: &str, _out: Cursor<Vec<u8>>) {}
 }
 
 #[test]

@@ -4,14 +4,19 @@ use crate::builders::is_named;
 use archive_core::take_names;
 use fixtures::projects::{DECIMATE, SPLICE};
 use std::alloc::{AllocError, Global};
-use std::test::Fail;
+
+// Whether names are those of the splice.
+fn are_of_splice(names: &[String]) -> bool {
+    match names {
+        [first, second] => first.as_str() == "a.dff" && second.as_str() == "b.dff",
+        _ => false,
+    }
+}
 
 #[test]
-fn names_takes(rt: HostRuntime) -> Result<(), Fail> {
-    let names = take_names(rt.alloc(), SPLICE.as_bytes())?;
-    assert!(rt; names.len() == 2);
-    assert!(rt; names[0].as_str() == "a.dff" && names[1].as_str() == "b.dff");
-    Ok(())
+fn names_takes(rt: HostRuntime) {
+    let names = take_names(rt.alloc(), SPLICE.as_bytes());
+    assert!(rt; matches!(&names, Ok(names) if are_of_splice(names)));
 }
 
 // Whether a project is refused for this fault.
@@ -35,14 +40,13 @@ const CHANGED: [(&str, &str, &str); 3] = [
 ];
 
 #[test]
-fn names_the_first_fault_of_takes(rt: HostRuntime) -> Result<(), Fail> {
+fn names_the_first_fault_of_takes(rt: HostRuntime) {
     let alloc = rt.alloc();
     for (old, new, expected) in &CHANGED {
         let text: Result<_, _> = SPLICE.replace(alloc, old, new);
-        assert!(rt; is_refused(alloc, text, expected)?, "{expected}");
+        assert!(rt; is_refused(alloc, text, expected) == Ok(true), "{expected}");
     }
     let decimate: Result<_, _> = String::from_str(alloc, DECIMATE);
-    assert!(rt; is_refused(alloc, decimate, "NoSplice")?);
-    assert!(rt; is_refused(alloc, Ok(String::new(alloc)), "NoSplice")?);
-    Ok(())
+    assert!(rt; is_refused(alloc, decimate, "NoSplice") == Ok(true));
+    assert!(rt; is_refused(alloc, Ok(String::new(alloc)), "NoSplice") == Ok(true));
 }

@@ -128,4 +128,11 @@ impl Folder for WatchedFolder {
         self.note("keep", name)?;
         self.files.keep(name, bytes)
     }
+
+    fn give_up(&mut self, name: &str, out: WatchedOutput) {
+        let WatchedOutput { bytes, room: _ } = out;
+        if self.note("give up", name).is_ok() {
+            self.files.give_up(name, bytes);
+        }
+    }
 }

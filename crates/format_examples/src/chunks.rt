@@ -7,8 +7,7 @@ use chunk_core::{
     ChunkFault, Head, Order, Span, head, push_chunk, push_u16, push_u32, push_u64, walk,
 };
 use fixtures::compared::equal;
-use std::alloc::Global;
-use std::test::Fail;
+use std::alloc::{AllocError, Global};
 
 // A chunk `AAAA` of one data byte, without its pad.
 const ONE_CHUNK: &[u8; 13] = b"AAAA\0\0\0\0\0\0\0\x01\xff";
@@ -33,29 +32,39 @@ fn walks(rt: HostRuntime) {
     assert!(rt; walked(rt.alloc(), 11) == Err(ChunkFault::HeadCut(0)));
 }
 
-#[test]
-fn reads_heads(rt: HostRuntime) {
-    for (order, size) in &[(Order::Big, 1), (Order::Little, 1 << 56)] {
-        let id = *b"AAAA";
-        assert!(rt;
-            head(*order, ONE_CHUNK, 0) == Some(Head { id, size: *size }),
-            "{size}"
-        );
-    }
-    assert!(rt; head(Order::Big, ONE_CHUNK, 2) == None);
-    assert!(rt; head(Order::Big, ONE_CHUNK, usize::MAX) == None);
+// The size that the head at a place of `ONE_CHUNK` tells, if one of the ID `AAAA` stands there.
+fn size_at(order: Order, place: usize) -> Option<u64> {
+    let found = head(order, ONE_CHUNK, place)?;
+    let Head { id, size } = found;
+    if id == *b"AAAA" { Some(size) } else { None }
 }
 
 #[test]
-fn pushes(rt: HostRuntime) -> Result<(), Fail> {
+fn reads_heads(rt: HostRuntime) {
+    assert!(rt; size_at(Order::Big, 0) == Some(1));
+    assert!(rt; size_at(Order::Little, 0) == Some(1 << 56));
+}
+
+#[test]
+fn reads_no_head_without_room_for_it(rt: HostRuntime) {
+    assert!(rt; head(Order::Big, ONE_CHUNK, 2).is_none());
+    assert!(rt; head(Order::Big, ONE_CHUNK, usize::MAX).is_none());
+}
+
+// Pushes a chunk, and numbers of each width behind it.
+fn push_each(out: &mut Vec<u8>) -> Result<(), AllocError> {
+    push_chunk(out, *b"AAAA", &[0xff])?;
+    push_u16(out, Order::Big, 1)?;
+    push_u32(out, Order::Little, 352_800)?;
+    push_u64(out, Order::Big, 116)
+}
+
+#[test]
+fn pushes(rt: HostRuntime) {
     let mut out = Vec::new(rt.alloc());
-    push_chunk(&mut out, *b"AAAA", &[0xff])?;
-    push_u16(&mut out, Order::Big, 1)?;
-    push_u32(&mut out, Order::Little, 352_800)?;
-    push_u64(&mut out, Order::Big, 116)?;
+    let pushed = push_each(&mut out);
     let expected = b"AAAA\0\0\0\0\0\0\0\x01\xff\0\0\x01\x20\x62\x05\0\0\0\0\0\0\0\0\x74";
-    assert!(rt; equal(&out, expected));
-    Ok(())
+    assert!(rt; pushed.is_ok() && equal(&out, expected));
 }
 
 // Faults and what they are printed as.
@@ -66,6 +75,6 @@ const NAMES: &[(ChunkFault, &str)] = &[
 ];
 
 #[test]
-fn names_faults(rt: HostRuntime) -> Result<(), Fail> {
-    check_printed(&rt, rt.alloc(), NAMES)
+fn names_faults(rt: HostRuntime) {
+    check_printed(&rt, rt.alloc(), NAMES);
 }

@@ -1,7 +1,6 @@
 //! The cues of a project's splice with their first fault.
 
 use crate::project_faults::{Repeated, check_faults, check_repeated};
-use std::test::Fail;
 
 // A splice of three weights and two takes, up to the parts of its first cue.
 const CUE: &str = "splice = {weights = [1, 1, 1], takes = [\"a\", \"b\"], cue = [{";
@@ -36,8 +35,8 @@ const PLACES: &[(&str, &str)] = &[
 ];
 
 #[test]
-fn names_the_faults_of_takes_and_places(rt: HostRuntime) -> Result<(), Fail> {
-    check_faults(&rt, rt.alloc(), (CUE, "}]}"), PLACES)
+fn names_the_faults_of_takes_and_places(rt: HostRuntime) {
+    check_faults(&rt, rt.alloc(), (CUE, "}]}"), PLACES);
 }
 
 // With a take and a start. A cue that stops at 1 is too short.
@@ -58,8 +57,8 @@ const MAY_HAVE: &[(&str, &str)] = &[
 ];
 
 #[test]
-fn names_the_faults_of_what_a_cue_may_have(rt: HostRuntime) -> Result<(), Fail> {
-    check_faults(&rt, rt.alloc(), (CUE, ", take = 0, start = 0}]}"), MAY_HAVE)
+fn names_the_faults_of_what_a_cue_may_have(rt: HostRuntime) {
+    check_faults(&rt, rt.alloc(), (CUE, ", take = 0, start = 0}]}"), MAY_HAVE);
 }
 
 // With a take, a start and a stop.
@@ -90,13 +89,13 @@ const LINES: &[(&str, &str)] = &[
 ];
 
 #[test]
-fn names_the_faults_of_lines(rt: HostRuntime) -> Result<(), Fail> {
+fn names_the_faults_of_lines(rt: HostRuntime) {
     check_faults(
         &rt,
         rt.alloc(),
         (CUE, ", take = 0, start = 0, stop = 8}]}"),
         LINES,
-    )
+    );
 }
 
 // The same splice up to behind the take, the start and the stop of its first cue.
@@ -127,8 +126,8 @@ const SEVERAL: &[(&str, &str)] = &[
 ];
 
 #[test]
-fn names_the_faults_of_several_cues(rt: HostRuntime) -> Result<(), Fail> {
-    check_faults(&rt, rt.alloc(), (PLACED, "]}"), SEVERAL)
+fn names_the_faults_of_several_cues(rt: HostRuntime) {
+    check_faults(&rt, rt.alloc(), (PLACED, "]}"), SEVERAL);
 }
 
 // The same splice up to the first letter of its first cue's title.
@@ -143,6 +142,6 @@ const TITLES: &[Repeated] = &[
 ];
 
 #[test]
-fn counts_the_bytes_of_titles(rt: HostRuntime) -> Result<(), Fail> {
-    check_repeated(&rt, rt.alloc(), TITLES)
+fn counts_the_bytes_of_titles(rt: HostRuntime) {
+    check_repeated(&rt, rt.alloc(), TITLES);
 }

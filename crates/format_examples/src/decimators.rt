@@ -1,7 +1,6 @@
 //! The table `decimate` of a project with its first fault: an order of keys, then of limits.
 
 use crate::project_faults::{Repeated, check_faults, check_repeated};
-use std::test::Fail;
 
 const TAPS: &[(&str, &str)] = &[
     ("[1, 2, 3, 4]", "read"),
@@ -24,9 +23,9 @@ const TAPS: &[(&str, &str)] = &[
 ];
 
 #[test]
-fn names_the_faults_of_taps(rt: HostRuntime) -> Result<(), Fail> {
+fn names_the_faults_of_taps(rt: HostRuntime) {
     let after = ", factor = 8, delay = 0, shift = 0, width = 16}";
-    check_faults(&rt, rt.alloc(), ("decimate = {taps = ", after), TAPS)
+    check_faults(&rt, rt.alloc(), ("decimate = {taps = ", after), TAPS);
 }
 
 // Behind four taps.
@@ -48,9 +47,9 @@ const KEYS: &[(&str, &str)] = &[
 ];
 
 #[test]
-fn names_the_faults_of_decimators(rt: HostRuntime) -> Result<(), Fail> {
+fn names_the_faults_of_decimators(rt: HostRuntime) {
     let before = "decimate = {taps = [1, 2, 3, 4]";
-    check_faults(&rt, rt.alloc(), (before, "}"), KEYS)
+    check_faults(&rt, rt.alloc(), (before, "}"), KEYS);
 }
 
 const LIMITS: &[(&str, &str)] = &[
@@ -106,8 +105,8 @@ const LIMITS: &[(&str, &str)] = &[
 ];
 
 #[test]
-fn names_the_faults_of_limits(rt: HostRuntime) -> Result<(), Fail> {
-    check_faults(&rt, rt.alloc(), ("decimate = {taps = ", "}"), LIMITS)
+fn names_the_faults_of_limits(rt: HostRuntime) {
+    check_faults(&rt, rt.alloc(), ("decimate = {taps = ", "}"), LIMITS);
 }
 
 // A first tap, and what stands behind all taps.
@@ -121,6 +120,6 @@ const MANY_TAPS: &[Repeated] = &[
 ];
 
 #[test]
-fn counts_taps(rt: HostRuntime) -> Result<(), Fail> {
-    check_repeated(&rt, rt.alloc(), MANY_TAPS)
+fn counts_taps(rt: HostRuntime) {
+    check_repeated(&rt, rt.alloc(), MANY_TAPS);
 }

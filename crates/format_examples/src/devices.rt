@@ -9,15 +9,13 @@ use fixtures::compared::equal;
 use fixtures::devices::{Dripping, drip, sip};
 use std::alloc::Global;
 use std::io::Read;
-use std::test::Fail;
 
 const NEVER: u64 = 100;
 
 // What a pull gives, and then what is counted: failures, reads and bytes that were given.
-fn pulled(
-    inlet: &mut Inlet<Dripping<'_>>,
-    buffer: &mut [u8],
-) -> (Result<usize, Device>, u64, u64, u64)
+type Pulled = (Result<usize, Device>, u64, u64, u64);
+
+fn pulled(inlet: &mut Inlet<Dripping<'_>>, buffer: &mut [u8]) -> Pulled
     requires { inlet_failures inlet.old < 2 ^ 64 - 1 }
     ensures { inlet_failures inlet.new ≤ inlet_failures inlet.old + 1 }
 {
@@ -25,39 +23,49 @@ fn pulled(
     (answer, inlet.failures(), inlet.reads(), inlet.given())
 }
 
+// What each of three pulls comes to of a reader of `abc` that gives so many bytes at a time and fails at one read, into
+// one buffer after the other; and what is left.
+fn three_pulls(
+    most: usize,
+    fails_at: u64,
+    first: &mut [u8],
+    second: &mut [u8],
+    third: &mut [u8],
+) -> ([Pulled; 3], &'static [u8])
+    requires { 0 < most }
+{
+    let mut inlet = Inlet::new(drip(b"abc", most, fails_at));
+    let first = pulled(&mut inlet, first);
+    let second = pulled(&mut inlet, second);
+    let third = pulled(&mut inlet, third);
+    ([first, second, third], inlet.into_inner().bytes)
+}
+
 #[test]
 fn a_failed_read_is_counted(rt: HostRuntime) {
-    let mut inlet = Inlet::new(drip(b"abc", 1, 2));
-    let mut buffer = [0; 8];
-    assert!(rt; pulled(&mut inlet, &mut buffer) == (Ok(1), 0, 1, 1));
-    assert!(rt; pulled(&mut inlet, &mut buffer) == (Err(Device), 1, 2, 1));
-    assert!(rt; pulled(&mut inlet, &mut buffer) == (Ok(1), 1, 3, 2));
-    assert!(rt; buffer[0] == b'b');
-    assert!(rt; equal(inlet.into_inner().bytes, b"c"));
+    let (mut front, mut none, mut behind) = ([0; 8], [0; 8], [0; 8]);
+    let (pulls, left) = three_pulls(1, 2, &mut front, &mut none, &mut behind);
+    assert!(rt; pulls == [(Ok(1), 0, 1, 1), (Err(Device), 1, 2, 1), (Ok(1), 1, 3, 2)]);
+    assert!(rt; behind[0] == b'b' && equal(left, b"c"));
 }
 
 #[test]
 fn the_end_is_no_failure(rt: HostRuntime) {
-    let mut inlet = Inlet::new(drip(b"abc", 2, NEVER));
-    let mut buffer = [0; 8];
-    assert!(rt; pulled(&mut inlet, &mut buffer) == (Ok(2), 0, 1, 2));
-    assert!(rt; pulled(&mut inlet, &mut buffer[2..]) == (Ok(1), 0, 2, 3));
-    assert!(rt; equal(&buffer, b"abc\0\0\0\0\0"));
-    assert!(rt; pulled(&mut inlet, &mut buffer) == (Ok(0), 0, 3, 3));
+    let (mut front, mut behind, mut none) = ([0; 8], [0; 8], [0; 8]);
+    let (pulls, _) = three_pulls(2, NEVER, &mut front, &mut behind, &mut none);
+    assert!(rt; pulls == [(Ok(2), 0, 1, 2), (Ok(1), 0, 2, 3), (Ok(0), 0, 3, 3)]);
+    assert!(rt; equal(&front, b"ab\0\0\0\0\0\0") && equal(&behind, b"c\0\0\0\0\0\0\0"));
 }
 
 // When a writer fails, from when on it takes nothing, and what it is given.
 type Given = (u64, u64, &'static str);
 
-// Whether a writer answers so to bytes of which it takes these in so many writes.
-fn takes(
-    alloc: Global,
-    given: Given,
-    answer: Result<(), Device>,
-    taken: &str,
-    writes: u64,
-) -> bool {
-    let (fails_at, full_from, bytes) = given;
+// A writer, what it answers, what it takes, and in how many writes.
+type Writer = (Given, Result<(), Device>, &'static str, u64);
+
+// Whether a writer answers and takes so.
+fn takes(alloc: Global, writer: &Writer) -> bool {
+    let ((fails_at, full_from, bytes), answer, taken, writes) = *writer;
     let mut outlet = Outlet::new(sip(alloc, fails_at, full_from));
     let answered = outlet.put_all(bytes.as_bytes());
     let failures = outlet.failures();
@@ -68,8 +76,8 @@ fn takes(
         && equal(&writer.bytes, taken.as_bytes())
 }
 
-// Writers, what they answer, what they take, and in how many writes; no bytes take none.
-const WRITERS: [(Given, Result<(), Device>, &str, u64); 7] = [
+// No bytes take no write.
+const WRITERS: [Writer; 7] = [
     ((NEVER, NEVER, "abcd"), Ok(()), "abcd", 4),
     ((1, NEVER, "abcd"), Err(Device), "", 1),
     ((2, NEVER, "abcd"), Err(Device), "a", 2),
@@ -81,11 +89,8 @@ const WRITERS: [(Given, Result<(), Device>, &str, u64); 7] = [
 
 #[test]
 fn a_writer_is_given_all_bytes_up_to_a_failure(rt: HostRuntime) {
-    for (given, answer, taken, writes) in &WRITERS {
-        assert!(rt;
-            takes(rt.alloc(), *given, *answer, taken, *writes),
-            "{taken} in {writes} writes"
-        );
+    for writer in &WRITERS {
+        assert!(rt; takes(rt.alloc(), writer), "in {} writes", writer.3);
     }
 }
 
@@ -106,18 +111,26 @@ fn a_fused_inlet_is_read_no_more(rt: HostRuntime) {
     assert!(rt; three_reads(2, 3) == [Some(1), None, None]);
 }
 
-#[test]
-fn a_fused_outlet_writes_no_more(rt: HostRuntime) {
-    let mut outlet = FusedOutlet::new(Outlet::new(sip(rt.alloc(), 3, NEVER)));
-    assert!(rt; outlet.put_all(b"ab") == Ok(()));
-    assert!(rt; outlet.put_all(b"cd") == Err(FusedFault::Device));
-    assert!(rt; outlet.put_all(b"ef") == Err(FusedFault::Failed));
-    assert!(rt; outlet.has_failed());
+// What three writes of two bytes come to where the third byte fails, whether that is told, and whether the writer took
+// two bytes of three.
+fn three_writes(alloc: Global) -> ([Option<FusedFault>; 3], bool, bool) {
+    let mut outlet = FusedOutlet::new(Outlet::new(sip(alloc, 3, NEVER)));
+    let first = outlet.put_all(b"ab").err();
+    let second = outlet.put_all(b"cd").err();
+    let third = outlet.put_all(b"ef").err();
+    let has_failed = outlet.has_failed();
     let writer = outlet.into_inner().into_inner();
-    assert!(rt; writer.writes == 3 && equal(&writer.bytes, b"ab"));
+    let took_two = writer.writes == 3 && equal(&writer.bytes, b"ab");
+    ([first, second, third], has_failed, took_two)
 }
 
 #[test]
-fn the_fault_has_its_name(rt: HostRuntime) -> Result<(), Fail> {
-    check_printed(&rt, rt.alloc(), &[(Device, "Device")])
+fn a_fused_outlet_writes_no_more(rt: HostRuntime) {
+    let faults = [None, Some(FusedFault::Device), Some(FusedFault::Failed)];
+    assert!(rt; three_writes(rt.alloc()) == (faults, true, true));
+}
+
+#[test]
+fn the_fault_has_its_name(rt: HostRuntime) {
+    check_printed(&rt, rt.alloc(), &[(Device, "Device")]);
 }

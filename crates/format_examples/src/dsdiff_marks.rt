@@ -4,8 +4,7 @@ use dsd_bits::{Mark, Recording};
 use dsdiff_core::{DsdiffFault, mark_at, place, read};
 use fixtures::compared::equal;
 use fixtures::files::{MONO, RATE, RAW, file_of, marked_with};
-use std::alloc::Global;
-use std::test::Fail;
+use std::alloc::{AllocError, Global};
 
 // Whether a mark has these hours, minutes and seconds, samples and offset, kind, channel and flags, and text.
 fn is_mark(
@@ -28,13 +27,19 @@ fn with_mark(alloc: Global, fields: &[u8]) -> Result<Recording, DsdiffFault> {
     read(alloc, &file)
 }
 
+// Whether a file with a mark of these bytes has one mark, each of whose numbers is another one.
+fn has_each_number(alloc: Global, fields: &[u8]) -> Result<bool, DsdiffFault> {
+    let recording = with_mark(alloc, fields)?;
+    match recording.marks() {
+        [mark] => Ok(is_mark(mark, (1, 2, 3), (4, -5), (6, 7, 8), b"x")),
+        _ => Ok(false),
+    }
+}
+
 #[test]
-fn reads_marks(rt: HostRuntime) -> Result<(), Fail> {
+fn reads_marks(rt: HostRuntime) {
     let fields = b"\0\x01\x02\x03\0\0\0\x04\xff\xff\xff\xfb\0\x06\0\x07\0\x08\0\0\0\x01x";
-    let recording = with_mark(rt.alloc(), fields)?;
-    assert!(rt; recording.marks().len() == 1);
-    assert!(rt; is_mark(&recording.marks()[0], (1, 2, 3), (4, -5), (6, 7, 8), b"x"));
-    Ok(())
+    assert!(rt; has_each_number(rt.alloc(), fields) == Ok(true));
 }
 
 // How many marks a file with a mark of these bytes has.
@@ -54,9 +59,9 @@ fn wants_the_text_that_is_counted(rt: HostRuntime) {
     assert!(rt; marks_of(rt.alloc(), lying) == Err(DsdiffFault::BadMark));
 }
 
-// A mark of so many hours, minutes and seconds each, five samples, and an offset.
-fn mark_of(alloc: Global, hours: u8, offset: i32) -> Mark {
-    Mark {
+// The place of a mark of so many hours, minutes and seconds each, five samples, and an offset.
+fn place_of(alloc: Global, hours: u8, offset: i32) -> i64 {
+    let mark = Mark {
         hours: hours as u16,
         minutes: hours,
         seconds: hours,
@@ -66,21 +71,25 @@ fn mark_of(alloc: Global, hours: u8, offset: i32) -> Mark {
         channel: 0,
         flags: 0,
         text: Vec::new(alloc),
-    }
+    };
+    place(&mark, 2822400)
 }
 
 #[test]
 fn finds_places(rt: HostRuntime) {
     for (hours, offset, at) in &[(1, 0, 10332806405), (1, -6, 10332806399), (0, -6, -1)] {
-        let mark = mark_of(rt.alloc(), *hours, *offset);
-        assert!(rt; place(&mark, 2822400) == *at, "{hours} and {offset}");
+        assert!(rt; place_of(rt.alloc(), *hours, *offset) == *at, "at {at}");
     }
 }
 
+// Whether the mark of a title at a place of this time is so, and where it is.
+fn title_mark(alloc: Global) -> Result<(bool, i64), AllocError> {
+    let mark = mark_at(alloc, 10332806405, 2822400, b"x")?;
+    let is_so = is_mark(&mark, (1, 1, 1), (5, 0), (0, 0, 0), b"x");
+    Ok((is_so, place(&mark, 2822400)))
+}
+
 #[test]
-fn marks_the_start_of_a_title(rt: HostRuntime) -> Result<(), Fail> {
-    let mark = mark_at(rt.alloc(), 10332806405, 2822400, b"x")?;
-    assert!(rt; is_mark(&mark, (1, 1, 1), (5, 0), (0, 0, 0), b"x"));
-    assert!(rt; place(&mark, 2822400) == 10332806405);
-    Ok(())
+fn marks_the_start_of_a_title(rt: HostRuntime) {
+    assert!(rt; title_mark(rt.alloc()) == Ok((true, 10332806405)));
 }

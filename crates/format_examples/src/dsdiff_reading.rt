@@ -1,12 +1,11 @@
 //! DSDIFF 1.5 files with what they hold: channels, and chunks that are kept as they are.
 
-use crate::told::{Numbers, has_ids, has_sound, numbers_of};
+use crate::told::{Numbers, has_ids, has_sounds, numbers_of};
 use dsd_bits::{Place, Recording};
 use dsdiff_core::{DsdiffFault, read};
 use fixtures::compared::equal;
-use fixtures::files::{FILE, MONO, RATE, RAW, STEREO, file_of};
-use std::alloc::Global;
-use std::test::Fail;
+use fixtures::files::{FILE, MONO, RATE, RAW, STEREO, file_of, followed};
+use std::alloc::{AllocError, Global};
 
 // A chunk of no compression whose name has no letters.
 const NAMELESS: [u8; 18] = *b"CMPR\0\0\0\0\0\0\0\x05DSD \0\0";
@@ -22,62 +21,73 @@ fn holding(
     read(alloc, &file)
 }
 
-#[test]
-fn reads_one_channel(rt: HostRuntime) -> Result<(), Fail> {
-    let recording = read(rt.alloc(), &FILE)?;
-    let expected = Numbers {
+// What a file holds at 2,822,400 hertz beside no marks, no other chunks and no tag.
+struct Held {
+    layout: u32,
+    bits: usize,
+    // The bytes of each channel.
+    sounds: &'static [&'static [u8]],
+    ids: &'static [[u8; 4]],
+}
+
+// Whether this is what was read.
+fn is_held(held: &Held, read: Result<Recording, DsdiffFault>) -> Result<bool, DsdiffFault> {
+    let recording = read?;
+    let numbers = Numbers {
         rate: 2822400,
-        layout: 1,
-        channels: 1,
-        bits: 8,
+        layout: held.layout,
+        channels: held.sounds.len(),
+        bits: held.bits,
         marks: 0,
         others: 0,
         tag: 0,
     };
-    assert!(rt; numbers_of(&recording) == expected);
-    assert!(rt; has_sound(&recording, 0, &[0xf0]));
-    assert!(rt; has_ids(&recording, &[*b"C000"]));
-    Ok(())
+    Ok(
+        numbers_of(&recording) == numbers
+            && has_sounds(&recording, held.sounds)
+            && has_ids(&recording, held.ids),
+    )
 }
 
-#[test]
-fn reads_two_channels(rt: HostRuntime) -> Result<(), Fail> {
-    let recording = holding(rt.alloc(), &[&RATE, &STEREO, &RAW], &[0xf0, 0x0f], &[])?;
-    let expected = Numbers {
-        rate: 2822400,
-        layout: 2,
-        channels: 2,
-        bits: 8,
-        marks: 0,
-        others: 0,
-        tag: 0,
-    };
-    assert!(rt; numbers_of(&recording) == expected);
-    assert!(rt; has_sound(&recording, 0, &[0xf0]));
-    assert!(rt; has_sound(&recording, 1, &[0x0f]));
-    assert!(rt; has_ids(&recording, &[*b"SLFT", *b"SRGT"]));
-    Ok(())
-}
+const ONE: Held = Held {
+    layout: 1,
+    bits: 8,
+    sounds: &[&[0xf0]],
+    ids: &[*b"C000"],
+};
 
 #[test]
-fn reads_six_channels(rt: HostRuntime) -> Result<(), Fail> {
-    let names = b"CHNL\0\0\0\0\0\0\0\x1a\0\x06C000C001C002C003C004C005";
+fn reads_one_channel(rt: HostRuntime) {
+    assert!(rt; is_held(&ONE, read(rt.alloc(), &FILE)) == Ok(true));
+}
+
+const TWO: Held = Held {
+    layout: 2,
+    bits: 8,
+    sounds: &[&[0xf0], &[0x0f]],
+    ids: &[*b"SLFT", *b"SRGT"],
+};
+
+#[test]
+fn reads_two_channels(rt: HostRuntime) {
+    let read = holding(rt.alloc(), &[&RATE, &STEREO, &RAW], &[0xf0, 0x0f], &[]);
+    assert!(rt; is_held(&TWO, read) == Ok(true));
+}
+
+const SIX: Held = Held {
+    layout: 7,
+    bits: 16,
+    sounds: &[&[1, 7], &[2, 8], &[3, 9], &[4, 10], &[5, 11], &[6, 12]],
+    ids: &[*b"C000", *b"C001", *b"C002", *b"C003", *b"C004", *b"C005"],
+};
+
+const SIX_NAMES: &[u8] = b"CHNL\0\0\0\0\0\0\0\x1a\0\x06C000C001C002C003C004C005";
+
+#[test]
+fn reads_six_channels(rt: HostRuntime) {
     let bytes = [1, 2, 3, 4, 5, 6, 7, 8, 9, 10, 11, 12];
-    let recording = holding(rt.alloc(), &[&RATE, names, &NAMELESS], &bytes, &[])?;
-    let expected = Numbers {
-        rate: 2822400,
-        layout: 7,
-        channels: 6,
-        bits: 16,
-        marks: 0,
-        others: 0,
-        tag: 0,
-    };
-    assert!(rt; numbers_of(&recording) == expected);
-    assert!(rt; has_sound(&recording, 0, &[1, 7]));
-    assert!(rt; has_sound(&recording, 3, &[4, 10]));
-    assert!(rt; has_sound(&recording, 5, &[6, 12]));
-    Ok(())
+    let read = holding(rt.alloc(), &[&RATE, SIX_NAMES, &NAMELESS], &bytes, &[]);
+    assert!(rt; is_held(&SIX, read) == Ok(true));
 }
 
 // Chunks behind a sound: two edited masters, the second with a mark, and two others.
@@ -115,34 +125,47 @@ const KEPT: [(usize, Place, [u8; 4], &[u8]); 6] = [
     (5, Place::Form, *b"MANF", &[5, 6]),
 ];
 
-#[test]
-fn keeps_other_chunks_in_order(rt: HostRuntime) -> Result<(), Fail> {
-    let recording = with_others(rt.alloc())?;
-    assert!(rt; recording.marks().len() == 1);
-    assert!(rt; recording.others().len() == 6);
+// How many of these chunks are kept up to the first that isn't.
+fn kept_in_order(recording: &Recording) -> usize {
+    let mut kept: usize = 0;
     for (i, place, id, bytes) in &KEPT {
-        assert!(rt; keeps(&recording, *i, (*place, *id), bytes), "chunk {i}");
+        if !keeps(recording, *i, (*place, *id), bytes) {
+            return kept;
+        }
+        kept = kept.saturating_add(1);
     }
-    Ok(())
+    kept
 }
 
-// How many bits a channel of the file has with this chunk of no compression.
-fn named_count(alloc: Global, compression: &[u8]) -> Result<usize, DsdiffFault> {
-    let recording = holding(alloc, &[&RATE, &MONO, compression], &[0xf0], &[])?;
-    Ok(recording.count())
+// How many marks and other chunks the file has, and how many of these are kept as they stand here.
+fn kept(alloc: Global) -> Result<[usize; 3], DsdiffFault> {
+    let recording = with_others(alloc)?;
+    let marks = recording.marks().len();
+    Ok([marks, recording.others().len(), kept_in_order(&recording)])
 }
 
-// How many bits a channel of the file has with these bytes behind it.
-fn followed_count(alloc: Global, bytes: &[u8]) -> Result<usize, DsdiffFault> {
-    let mut file = FILE.to_vec(alloc)?;
-    file.extend_from_slice(bytes)?;
-    Ok(read(alloc, &file)?.count())
+#[test]
+fn keeps_other_chunks_in_order(rt: HostRuntime) {
+    assert!(rt; kept(rt.alloc()) == Ok([1, 6, 6]));
 }
+
+// How many bits a channel of what was read has.
+fn count_of(read: Result<Recording, DsdiffFault>) -> Result<usize, DsdiffFault> {
+    Ok(read?.count())
+}
+
+// How many bits a channel of a file has that was built.
+fn count_in(alloc: Global, file: Result<Vec<u8>, AllocError>) -> Result<usize, DsdiffFault> {
+    count_of(read(alloc, &file?))
+}
+
+const LONG_NAME: &[u8] = b"CMPR\0\0\0\0\0\0\0\x14DSD \x0fnot compressed.";
 
 #[test]
 fn reads_a_long_name_and_a_form_without_its_last_pad(rt: HostRuntime) {
-    let named = b"CMPR\0\0\0\0\0\0\0\x14DSD \x0fnot compressed.";
-    assert!(rt; named_count(rt.alloc(), named) == Ok(8));
-    assert!(rt; read(rt.alloc(), &FILE[..127]).is_ok());
-    assert!(rt; followed_count(rt.alloc(), &[1, 2, 3, 4, 5]) == Ok(8));
+    let alloc = rt.alloc();
+    let named = holding(alloc, &[&RATE, &MONO, LONG_NAME], &[0xf0], &[]);
+    assert!(rt; count_of(named) == Ok(8));
+    assert!(rt; count_of(read(alloc, &FILE[..127])) == Ok(8));
+    assert!(rt; count_in(alloc, followed(alloc)) == Ok(8));
 }

@@ -1,6 +1,6 @@
 //! Recordings with the DSDIFF 1.5 files that they are written to, byte by byte, and why one is not written.
 
-ghost use Rattle.std.specs.Prelude.{◌≡◌, ◌<◌, ◌≤◌, ◌^◌, length};
+ghost use Rattle.std.specs.Prelude.{◌≡◌, ◌<◌, ◌≤◌, ◌^◌, ◌∷◌, [], length, IfOk};
 
 use crate::compared::check_printed;
 use dsd_bits::{Bits, Mark, Other, Place, Recording};
@@ -8,7 +8,6 @@ use dsdiff_core::{WriteFault, write};
 use fixtures::compared::equal;
 use fixtures::files::FILE;
 use std::alloc::{AllocError, Global};
-use std::test::Fail;
 
 /// The file of one channel of the byte f0 with a mark, and with a kept chunk at each place.
 pub(crate) const WITH_PARTS: &[u8; 228] = b"FRM8\0\0\0\0\0\0\0\xd8DSD \
@@ -24,10 +23,16 @@ pub(crate) const WITH_PARTS: &[u8; 228] = b"FRM8\0\0\0\0\0\0\0\xd8DSD \
     EMID\0\0\0\0\0\0\0\x01m\0\
     COMT\0\0\0\0\0\0\0\x0cmade by hand";
 
-// One channel of these bits, and nothing else.
-fn one_channel(alloc: Global, channel: Bits) -> Result<Recording, AllocError>
-    requires { length channel ≤ 2 ^ 36 }
+// One channel of the first bits of a byte, and nothing else.
+fn one_channel(alloc: Global, byte: u8, count: usize) -> Result<Recording, AllocError>
+    requires { count ≤ 8 }
 {
+    let Ok(channel) = Bits::from_packed(alloc, &[byte], count) else {
+        return Err(AllocError);
+    };
+    if channel.len() != count {
+        return Err(AllocError);
+    }
     Ok(Recording::new(
         2822400,
         vec![in alloc; channel]?,
@@ -40,21 +45,19 @@ fn one_channel(alloc: Global, channel: Bits) -> Result<Recording, AllocError>
 }
 
 // Whether a recording is written as this file.
-fn writes(alloc: Global, recording: &Recording, file: &[u8]) -> Result<bool, WriteFault> {
-    Ok(equal(&write(alloc, recording)?, file))
+fn writes(
+    alloc: Global,
+    recording: Result<Recording, AllocError>,
+    file: &[u8],
+) -> Result<bool, WriteFault> {
+    let written = write(alloc, &recording?)?;
+    Ok(equal(&written, file))
 }
 
 #[test]
-fn writes_one_byte(rt: HostRuntime) -> Result<(), Fail> {
-    let recording = one_channel(rt.alloc(), Bits::from_packed(rt.alloc(), &[0xf0], 8)?)?;
-    assert!(rt; writes(rt.alloc(), &recording, &FILE)?);
-    Ok(())
-}
-
-// Why one bit is not written.
-fn refusal_of_one_bit(alloc: Global) -> Result<Option<WriteFault>, Fail> {
-    let recording = one_channel(alloc, Bits::from_packed(alloc, &[0x80], 1)?)?;
-    Ok(write(alloc, &recording).err())
+fn writes_one_byte(rt: HostRuntime) {
+    let alloc = rt.alloc();
+    assert!(rt; writes(alloc, one_channel(alloc, 0xf0, 8), &FILE) == Ok(true));
 }
 
 // Faults and what they are printed as.
@@ -64,9 +67,15 @@ const NAMES: &[(WriteFault, &str)] = &[
 ];
 
 #[test]
-fn writes_no_part_of_a_byte(rt: HostRuntime) -> Result<(), Fail> {
-    assert!(rt; refusal_of_one_bit(rt.alloc())? == Some(WriteFault::NotWholeBytes));
-    check_printed(&rt, rt.alloc(), NAMES)
+fn writes_no_part_of_a_byte(rt: HostRuntime) {
+    let alloc = rt.alloc();
+    let written = writes(alloc, one_channel(alloc, 0x80, 1), &[]);
+    assert!(rt; written == Err(WriteFault::NotWholeBytes));
+}
+
+#[test]
+fn names_faults(rt: HostRuntime) {
+    check_printed(&rt, rt.alloc(), NAMES);
 }
 
 // The recording of one byte with a mark of this text, and with a kept chunk of these bytes at each place.
@@ -76,7 +85,7 @@ fn with_parts(
     loudspeakers: Vec<u8>,
     edited: Vec<u8>,
     comment: Vec<u8>,
-) -> Result<Recording, Fail>
+) -> Result<Recording, AllocError>
     requires { length text.items < 2 ^ 32 }
 {
     let mark = Mark {
@@ -90,18 +99,31 @@ fn with_parts(
         flags: 1,
         text,
     };
-    let loudspeakers = kept(Place::Property, *b"LSCO", loudspeakers);
-    let edited = kept(Place::Master, *b"EMID", edited);
-    let comment = kept(Place::Form, *b"COMT", comment);
+    let others = three(
+        alloc,
+        kept(Place::Property, *b"LSCO", loudspeakers),
+        kept(Place::Master, *b"EMID", edited),
+        kept(Place::Form, *b"COMT", comment),
+    )?;
+    let Ok(channel) = Bits::from_packed(alloc, &[0xf0], 8) else {
+        return Err(AllocError);
+    };
     Ok(Recording::new(
         2822400,
-        vec![in alloc; Bits::from_packed(alloc, &[0xf0], 8)?]?,
+        vec![in alloc; channel]?,
         vec![in alloc; *b"C000"]?,
         1,
         vec![in alloc; mark]?,
-        vec![in alloc; loudspeakers, edited, comment]?,
+        others,
         Vec::new(alloc),
     ))
+}
+
+// Three chunks that are kept.
+fn three(alloc: Global, first: Other, second: Other, third: Other) -> Result<Vec<Other>, AllocError>
+    ensures { IfOk result (λ others. others.items ≡ first ∷ second ∷ third ∷ []) }
+{
+    Ok(vec![in alloc; first, second, third]?)
 }
 
 // A chunk that is kept.
@@ -112,7 +134,7 @@ fn kept(place: Place, id: [u8; 4], bytes: Vec<u8>) -> Other
 }
 
 // The recording of the file `WITH_PARTS`.
-fn recording(alloc: Global) -> Result<Recording, Fail> {
+fn recording(alloc: Global) -> Result<Recording, AllocError> {
     let text = b"x".to_vec(alloc)?;
     let loudspeakers = [0, 3].to_vec(alloc)?;
     let edited = b"m".to_vec(alloc)?;
@@ -121,7 +143,7 @@ fn recording(alloc: Global) -> Result<Recording, Fail> {
 }
 
 #[test]
-fn writes_marks_and_kept_chunks(rt: HostRuntime) -> Result<(), Fail> {
-    assert!(rt; writes(rt.alloc(), &recording(rt.alloc())?, WITH_PARTS)?);
-    Ok(())
+fn writes_marks_and_kept_chunks(rt: HostRuntime) {
+    let alloc = rt.alloc();
+    assert!(rt; writes(alloc, recording(alloc), WITH_PARTS) == Ok(true));
 }

@@ -3,7 +3,6 @@
 use dsd_bits::{BitOrder, Sound, SoundAt};
 use dsf_core::{closes, sound_at};
 use fixtures::files::DSF_FRONT;
-use std::test::Fail;
 
 #[test]
 fn finds_the_sound(rt: HostRuntime) {
@@ -20,19 +19,18 @@ fn finds_the_sound(rt: HostRuntime) {
     assert!(rt; sound_at(b"RIFF") == SoundAt::Refused);
 }
 
-// Whether a file of so many bytes is accepted whose front leads up to its sound.
-fn closes_at(front: &[u8], total: u64) -> Result<bool, Fail> {
+// Whether a file of so many bytes is accepted whose front leads up to its sound, None where it doesn't.
+fn closes_at(front: &[u8], total: u64) -> Option<bool> {
     match sound_at(front) {
         SoundAt::Found(sound) if sound.start == front.len() && front.len() as u64 <= total => {
-            Ok(closes(front, total))
+            Some(closes(front, total))
         }
-        _ => Err("a front that ends at its sound")?,
+        _ => None,
     }
 }
 
 #[test]
-fn closes_where_the_blocks_are_whole(rt: HostRuntime) -> Result<(), Fail> {
-    assert!(rt; closes_at(&DSF_FRONT[..92], 4188)?);
-    assert!(rt; !closes_at(&DSF_FRONT[..92], 4187)?);
-    Ok(())
+fn closes_where_the_blocks_are_whole(rt: HostRuntime) {
+    assert!(rt; closes_at(&DSF_FRONT[..92], 4188) == Some(true));
+    assert!(rt; closes_at(&DSF_FRONT[..92], 4187) == Some(false));
 }

@@ -1,23 +1,18 @@
 //! DSF 1.01 files that are refused, each by the first rule that it breaks, and the texts of the refusals.
 
-ghost use Rattle.std.specs.Prelude.{◌≤◌, ◌+◌, length};
-
 use crate::compared::check_printed;
 use dsf_core::{DsfFault, read};
 use fixtures::files::{DSF_FRONT, changed, filled};
-use std::alloc::Global;
-use std::test::Fail;
+use std::alloc::{AllocError, Global};
 
 // The fault of a file of this front and so many bytes.
-fn fault_of(alloc: Global, front: &[u8], size: usize) -> Result<Option<DsfFault>, Fail> {
+fn fault_of(alloc: Global, front: &[u8], size: usize) -> Result<Option<DsfFault>, AllocError> {
     let file = filled(alloc, front, size)?;
     Ok(read(alloc, &file).err())
 }
 
 // The fault of the file of `DSF_FRONT` with other bytes from a place on.
-fn fault_with(alloc: Global, at: usize, bytes: &[u8]) -> Result<Option<DsfFault>, Fail>
-    requires { at + length bytes.now ≤ 93 }
-{
+fn fault_with(alloc: Global, at: usize, bytes: &[u8]) -> Result<Option<DsfFault>, AllocError> {
     let front = changed(alloc, &DSF_FRONT, at, bytes)?;
     fault_of(alloc, &front, 4188)
 }
@@ -35,12 +30,11 @@ const CUTS: [(usize, DsfFault); 8] = [
 ];
 
 #[test]
-fn refuses_files_that_are_cut(rt: HostRuntime) -> Result<(), Fail> {
+fn refuses_files_that_are_cut(rt: HostRuntime) {
     for (size, fault) in &CUTS {
-        let found = fault_of(rt.alloc(), &DSF_FRONT, *size)?;
-        assert!(rt; found == Some(*fault), "{size} bytes");
+        let found = fault_of(rt.alloc(), &DSF_FRONT, *size);
+        assert!(rt; found == Ok(Some(*fault)), "{size} bytes");
     }
-    Ok(())
 }
 
 // Four other bytes, the place from which on they stand, and the fault.
@@ -66,13 +60,11 @@ const FIELDS: [(usize, [u8; 4], DsfFault); 18] = [
 ];
 
 #[test]
-fn refuses_fields_out_of_their_limits(rt: HostRuntime) -> Result<(), Fail> {
+fn refuses_fields_out_of_their_limits(rt: HostRuntime) {
     for (at, bytes, fault) in &FIELDS {
-        assert!(rt; *at <= 84);
-        let found = fault_with(rt.alloc(), *at, bytes)?;
-        assert!(rt; found == Some(*fault), "{bytes:?} at {at}");
+        let found = fault_with(rt.alloc(), *at, bytes);
+        assert!(rt; found == Ok(Some(*fault)), "{bytes:?} at {at}");
     }
-    Ok(())
 }
 
 // Eight other bytes, the place from which on they stand, and the fault.
@@ -85,13 +77,11 @@ const SIZES: [(usize, [u8; 8], DsfFault); 5] = [
 ];
 
 #[test]
-fn refuses_huge_sizes(rt: HostRuntime) -> Result<(), Fail> {
+fn refuses_huge_sizes(rt: HostRuntime) {
     for (at, bytes, fault) in &SIZES {
-        assert!(rt; *at <= 64);
-        let found = fault_with(rt.alloc(), *at, bytes)?;
-        assert!(rt; found == Some(*fault), "{bytes:?} at {at}");
+        let found = fault_with(rt.alloc(), *at, bytes);
+        assert!(rt; found == Ok(Some(*fault)), "{bytes:?} at {at}");
     }
-    Ok(())
 }
 
 // Faults and what they are printed as.
@@ -111,6 +101,6 @@ const NAMES: &[(DsfFault, &str)] = &[
 ];
 
 #[test]
-fn names_faults(rt: HostRuntime) -> Result<(), Fail> {
-    check_printed(&rt, rt.alloc(), NAMES)
+fn names_faults(rt: HostRuntime) {
+    check_printed(&rt, rt.alloc(), NAMES);
 }

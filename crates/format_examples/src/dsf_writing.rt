@@ -1,13 +1,13 @@
 //! Recordings with the DSF 1.01 files that they are written to, and read again.
 
+ghost use Rattle.std.specs.Prelude.{◌≡◌, length, IfOk};
+
 use crate::told::{Numbers, has_ids, has_sound, numbers_of, sound_of};
-use dsd_bits::{BitOrder, Bits, BitsFault, Recording};
-use dsf_core::{read, write};
+use dsd_bits::{BitOrder, Bits, Recording};
+use dsf_core::{DsfFault, read, write};
 use fixtures::compared::equal;
-use fixtures::files::{DSF_FRONT, filled};
+use fixtures::files::{DSF_FRONT, dsf_of, filled};
 use std::alloc::{AllocError, Global};
-use std::process::Abort;
-use std::test::Fail;
 
 // So many bytes of one value, and a last one.
 fn ending_in(alloc: Global, byte: u8, number: usize, last: u8) -> Result<Vec<u8>, AllocError> {
@@ -17,16 +17,20 @@ fn ending_in(alloc: Global, byte: u8, number: usize, last: u8) -> Result<Vec<u8>
 }
 
 // 32769 bits, so many of the bytes 35 with one bit behind them.
-fn channel(alloc: Global, last: u8) -> Result<Bits, BitsFault> {
+fn channel(alloc: Global, last: u8) -> Result<Bits, AllocError>
+    ensures { IfOk result (λ bits. length bits ≡ 32769) }
+{
     let bytes = ending_in(alloc, 0x35, 4096, last)?;
-    Bits::from_packed(alloc, &bytes, 32769)
+    match Bits::from_packed(alloc, &bytes, 32769) {
+        Ok(bits) if bits.len() == 32769 => Ok(bits),
+        _ => Err(AllocError),
+    }
 }
 
 // A recording of two channels with 32769 bits, of which the last is 1 in the first channel alone.
-fn two_channels(rt: &impl Abort, alloc: Global) -> Result<Recording, Fail> {
+fn two_channels(alloc: Global) -> Result<Recording, AllocError> {
     let left = channel(alloc, 0xff)?;
     let right = channel(alloc, 0x35)?;
-    assert!(rt; left.len() == 32769 && right.len() == 32769);
     Ok(Recording::new(
         5644800,
         vec![in alloc; left, right]?,
@@ -42,11 +46,11 @@ fn two_channels(rt: &impl Abort, alloc: Global) -> Result<Recording, Fail> {
 // with this first byte of both blocks of the first group, and of the second group's with this one and 0.
 fn is_written(
     alloc: Global,
-    recording: &Recording,
     order: BitOrder,
     (bits, first, last): (u8, u8, u8),
 ) -> Result<bool, AllocError> {
-    let file = write(alloc, recording, order)?;
+    let recording = two_channels(alloc)?;
+    let file = write(alloc, &recording, order)?;
     Ok(
         file.len() == 16479
             && byte(&file, 60) == bits
@@ -63,19 +67,11 @@ fn byte(file: &[u8], place: usize) -> u8 {
 }
 
 #[test]
-fn writes_two_groups_of_blocks(rt: HostRuntime) -> Result<(), Fail> {
-    let recording = two_channels(&rt, rt.alloc())?;
-    let least = (1, 0xac, 0x01);
-    assert!(rt;
-        is_written(rt.alloc(), &recording, BitOrder::LeastFirst, least)?,
-        "1 bit per sample"
-    );
-    let most = (8, 0x35, 0x80);
-    assert!(rt;
-        is_written(rt.alloc(), &recording, BitOrder::MostFirst, most)?,
-        "8 bits per sample"
-    );
-    Ok(())
+fn writes_two_groups_of_blocks(rt: HostRuntime) {
+    let least = is_written(rt.alloc(), BitOrder::LeastFirst, (1, 0xac, 0x01));
+    assert!(rt; least == Ok(true), "1 bit per sample");
+    let most = is_written(rt.alloc(), BitOrder::MostFirst, (8, 0x35, 0x80));
+    assert!(rt; most == Ok(true), "8 bits per sample");
 }
 
 // Whether a recording is read as this one that was written, but for the IDs, which DSF has for two channels.
@@ -87,49 +83,64 @@ fn is_same(read: &Recording, written: &Recording) -> bool {
         && has_sound(read, 1, sound_of(written, 1))
 }
 
-// Whether a recording that was written in this order of bits is read as the same, in the same order.
-fn is_read_again(alloc: Global, written: &Recording, order: BitOrder) -> Result<bool, Fail> {
-    let file = write(alloc, written, order)?;
-    let (again, order_read) = read(alloc, &file)?;
+// Whether a file in this order of bits is read as this recording, in the same order.
+fn is_read(
+    alloc: Global,
+    file: &[u8],
+    written: &Recording,
+    order: BitOrder,
+) -> Result<bool, DsfFault> {
+    let (again, order_read) = read(alloc, file)?;
     Ok(order_read == order && is_same(&again, written))
 }
 
+// What two channels have.
+const TWO_CHANNELS: Numbers = Numbers {
+    rate: 5644800,
+    layout: 2,
+    channels: 2,
+    bits: 32769,
+    marks: 0,
+    others: 0,
+    tag: 3,
+};
+
+// Whether two channels that are written in this order of bits are read as the same, in the same order.
+fn is_read_again(alloc: Global, order: BitOrder) -> Result<bool, DsfFault> {
+    let written = two_channels(alloc)?;
+    let file = write(alloc, &written, order)?;
+    Ok(is_read(alloc, &file, &written, order)? && numbers_of(&written) == TWO_CHANNELS)
+}
+
 #[test]
-fn reads_what_was_written(rt: HostRuntime) -> Result<(), Fail> {
-    let written = two_channels(&rt, rt.alloc())?;
-    let expected = Numbers {
-        rate: 5644800,
-        layout: 2,
-        channels: 2,
-        bits: 32769,
-        marks: 0,
-        others: 0,
-        tag: 3,
-    };
-    assert!(rt; numbers_of(&written) == expected);
-    assert!(rt;
-        is_read_again(rt.alloc(), &written, BitOrder::LeastFirst)?,
-        "least first"
-    );
-    assert!(rt;
-        is_read_again(rt.alloc(), &written, BitOrder::MostFirst)?,
-        "most first"
-    );
-    Ok(())
+fn reads_what_was_written(rt: HostRuntime) {
+    let least = is_read_again(rt.alloc(), BitOrder::LeastFirst);
+    assert!(rt; least == Ok(true), "least first");
+    let most = is_read_again(rt.alloc(), BitOrder::MostFirst);
+    assert!(rt; most == Ok(true), "most first");
 }
 
 // The file of a recording of the file that is read.
-fn written_again(alloc: Global, file: &[u8]) -> Result<Vec<u8>, Fail> {
+fn written_again(alloc: Global, file: &[u8]) -> Result<Vec<u8>, DsfFault> {
     let (recording, order) = read(alloc, file)?;
     Ok(write(alloc, &recording, order)?)
 }
 
+// Whether the file of `DSF_FRONT` is written again as this one.
+fn is_written_again(alloc: Global, expected: &[u8]) -> Result<bool, DsfFault> {
+    let file = filled(alloc, &DSF_FRONT, 4188)?;
+    let again = written_again(alloc, &file)?;
+    Ok(equal(&again, expected))
+}
+
+// The same of a file that was built.
+fn is_written_as(alloc: Global, expected: Result<Vec<u8>, AllocError>) -> Result<bool, DsfFault> {
+    is_written_again(alloc, &expected?)
+}
+
 // The bits of the byte 0f behind the first are no sound: zeros stand there.
 #[test]
-fn writes_the_one_bit_that_it_read(rt: HostRuntime) -> Result<(), Fail> {
-    let mut expected = filled(rt.alloc(), &DSF_FRONT, 4188)?;
-    let file = written_again(rt.alloc(), &expected)?;
-    expected[92] = 0x01;
-    assert!(rt; equal(&file, &expected));
-    Ok(())
+fn writes_the_one_bit_that_it_read(rt: HostRuntime) {
+    let expected = dsf_of(rt.alloc(), (1, 1, 1), &[0x01], 4096, &[]);
+    assert!(rt; is_written_as(rt.alloc(), expected) == Ok(true));
 }

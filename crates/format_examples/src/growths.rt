@@ -1,6 +1,7 @@
 //! Each call of these crates that takes memory, for `tools/growths`, which refuses their growths in turn: what was
 //! refused is handed out as it was answered.
 
+use crate::dsdiff_outlines::written_again;
 use crate::dsdiff_writing::WITH_PARTS;
 use crate::projects::EXAMPLE;
 use chunk_core::{Order, push_chunk, push_u16, push_u32, push_u64, walk};
@@ -172,6 +173,12 @@ fn closes(alloc: Global) -> Result<bool, Fail> {
 #[test]
 fn an_end_closes_a_file(rt: HostRuntime) -> Result<(), Fail> {
     assert!(rt; closes(rt.alloc())?);
+    Ok(())
+}
+
+#[test]
+fn a_file_is_written_around_its_sound(rt: HostRuntime) -> Result<(), Fail> {
+    assert!(rt; written_again(rt.alloc())?.len() == 228);
     Ok(())
 }
 

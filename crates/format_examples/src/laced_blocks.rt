@@ -6,16 +6,18 @@ use dsd_bits::{BitOrder, LaceFault, lace_blocks, push_blocks, unlace_blocks, unl
 use fixtures::compared::equal;
 use fixtures::files::filled;
 use std::alloc::Global;
-use std::test::Fail;
+
+// Whether one bit of each of two channels is taken out of so many bytes: 1 and 0.
+fn takes_apart(alloc: Global, size: usize) -> Result<bool, LaceFault> {
+    let bytes = filled(alloc, &[1], size)?;
+    let channels = unlace_blocks(alloc, &bytes, 2, 1, BitOrder::LeastFirst)?;
+    Ok(channels.len() == 2 && has_bits(&channels, 0, &[0x80], 1) && has_bits(&channels, 1, &[0], 1))
+}
 
 #[test]
-fn takes_blocks_apart(rt: HostRuntime) -> Result<(), Fail> {
-    let bytes = filled(rt.alloc(), &[1], 8192)?;
-    let channels = unlace_blocks(rt.alloc(), &bytes, 2, 1, BitOrder::LeastFirst)?;
-    assert!(rt; channels.len() == 2);
-    assert!(rt; has_bits(&channels, 0, &[0x80], 1));
-    assert!(rt; has_bits(&channels, 1, &[0], 1));
-    Ok(())
+fn takes_whole_blocks_apart(rt: HostRuntime) {
+    assert!(rt; takes_apart(rt.alloc(), 8192) == Ok(true));
+    assert!(rt; takes_apart(rt.alloc(), 8191) == Err(LaceFault::TooFewBytes));
 }
 
 // The bytes of two channels of one bit, with the bits of each byte in the other order.
@@ -24,28 +26,39 @@ fn turned(alloc: Global, bytes: &[u8]) -> Result<Vec<u8>, LaceFault> {
     Ok(lace_blocks(alloc, &channels, BitOrder::MostFirst)?)
 }
 
-#[test]
-fn puts_them_together_in_the_other_order(rt: HostRuntime) -> Result<(), Fail> {
-    let laced = turned(rt.alloc(), &filled(rt.alloc(), &[1], 8192)?)?;
-    let expected = filled(rt.alloc(), &[0x80], 8192)?;
-    assert!(rt; equal(&laced, &expected));
-    Ok(())
+// Whether what was made is these first bytes and zeros behind them, so many in all.
+fn is_filled(
+    alloc: Global,
+    made: Result<Vec<u8>, LaceFault>,
+    front: &[u8],
+    size: usize,
+) -> Result<bool, LaceFault> {
+    let made = made?;
+    let expected = filled(alloc, front, size)?;
+    Ok(equal(&made, &expected))
+}
+
+// Blocks that begin with a byte and are turned.
+fn turned_blocks(alloc: Global) -> Result<Vec<u8>, LaceFault> {
+    turned(alloc, &filled(alloc, &[1], 8192)?)
 }
 
 #[test]
-fn wants_whole_blocks(rt: HostRuntime) -> Result<(), Fail> {
-    let bytes = filled(rt.alloc(), &[1], 8191)?;
-    let refused = unlace_blocks(rt.alloc(), &bytes, 2, 1, BitOrder::LeastFirst).err();
-    assert!(rt; refused == Some(LaceFault::TooFewBytes));
-    Ok(())
+fn puts_them_together_in_the_other_order(rt: HostRuntime) {
+    let alloc = rt.alloc();
+    assert!(rt; is_filled(alloc, turned_blocks(alloc), &[0x80], 8192) == Ok(true));
 }
 
-#[test]
-fn pushes_blocks_behind_what_is_there(rt: HostRuntime) -> Result<(), Fail> {
-    let channels = unlace_bytes(rt.alloc(), &[1], 1)?;
-    let mut out = [1].to_vec(rt.alloc())?;
+// A byte, and a block of a channel behind it.
+fn pushed(alloc: Global) -> Result<Vec<u8>, LaceFault> {
+    let channels = unlace_bytes(alloc, &[1], 1)?;
+    let mut out = [1].to_vec(alloc)?;
     push_blocks(&mut out, &channels, BitOrder::LeastFirst)?;
-    let expected = filled(rt.alloc(), &[1, 0x80], 4097)?;
-    assert!(rt; equal(&out, &expected));
-    Ok(())
+    Ok(out)
+}
+
+#[test]
+fn pushes_blocks_behind_what_is_there(rt: HostRuntime) {
+    let alloc = rt.alloc();
+    assert!(rt; is_filled(alloc, pushed(alloc), &[1, 0x80], 4097) == Ok(true));
 }

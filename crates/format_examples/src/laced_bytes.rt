@@ -4,28 +4,41 @@ use crate::compared::check_printed;
 use crate::told::has_bits;
 use dsd_bits::{LaceFault, lace_bytes, push_laced, unlace_bytes};
 use fixtures::compared::equal;
-use std::test::Fail;
+use std::alloc::Global;
+
+const LACED: [u8; 4] = [0xf0, 0x0f, 0xaa, 0x55];
+
+// Whether the bytes are taken apart into two channels, and are these where the channels are laced.
+fn laces_again(alloc: Global) -> Result<bool, LaceFault> {
+    let channels = unlace_bytes(alloc, &LACED, 2)?;
+    let laced = lace_bytes(alloc, &channels)?;
+    Ok(
+        channels.len() == 2
+            && has_bits(&channels, 0, &[0xf0, 0xaa], 16)
+            && has_bits(&channels, 1, &[0x0f, 0x55], 16)
+            && equal(&laced, &LACED),
+    )
+}
 
 #[test]
-fn laces_what_it_took_apart(rt: HostRuntime) -> Result<(), Fail> {
-    let channels = unlace_bytes(rt.alloc(), &[0xf0, 0x0f, 0xaa, 0x55], 2)?;
-    assert!(rt; channels.len() == 2);
-    assert!(rt; has_bits(&channels, 0, &[0xf0, 0xaa], 16));
-    assert!(rt; has_bits(&channels, 1, &[0x0f, 0x55], 16));
-    let bytes = lace_bytes(rt.alloc(), &channels)?;
-    assert!(rt; equal(&bytes, &[0xf0, 0x0f, 0xaa, 0x55]));
+fn laces_what_it_took_apart(rt: HostRuntime) {
+    assert!(rt; laces_again(rt.alloc()) == Ok(true));
+}
+
+// One, two and three channels behind a byte.
+fn lace_each(alloc: Global, out: &mut Vec<u8>) -> Result<(), LaceFault> {
+    out.extend_from_slice(&[7])?;
+    push_laced(out, &unlace_bytes(alloc, &[0xf0, 0x0f], 1)?)?;
+    push_laced(out, &unlace_bytes(alloc, &[0xaa, 0x55], 2)?)?;
+    push_laced(out, &unlace_bytes(alloc, &[1, 2, 3], 3)?)?;
     Ok(())
 }
 
 #[test]
-fn laces_behind_what_is_there(rt: HostRuntime) -> Result<(), Fail> {
-    let alloc = rt.alloc();
-    let mut out = [7].to_vec(alloc)?;
-    push_laced(&mut out, &unlace_bytes(alloc, &[0xf0, 0x0f], 1)?)?;
-    push_laced(&mut out, &unlace_bytes(alloc, &[0xaa, 0x55], 2)?)?;
-    push_laced(&mut out, &unlace_bytes(alloc, &[1, 2, 3], 3)?)?;
-    assert!(rt; equal(&out, &[7, 0xf0, 0x0f, 0xaa, 0x55, 1, 2, 3]));
-    Ok(())
+fn laces_behind_what_is_there(rt: HostRuntime) {
+    let mut out = Vec::new(rt.alloc());
+    let laced = lace_each(rt.alloc(), &mut out);
+    assert!(rt; laced.is_ok() && equal(&out, &[7, 0xf0, 0x0f, 0xaa, 0x55, 1, 2, 3]));
 }
 
 // Faults and what they are printed as.
@@ -36,8 +49,12 @@ const NAMES: &[(LaceFault, &str)] = &[
 ];
 
 #[test]
-fn wants_whole_frames(rt: HostRuntime) -> Result<(), Fail> {
-    let refused = unlace_bytes(rt.alloc(), &[0xf0, 0x0f, 0xaa], 2).err();
+fn wants_whole_frames(rt: HostRuntime) {
+    let refused = unlace_bytes(rt.alloc(), &LACED[..3], 2).err();
     assert!(rt; refused == Some(LaceFault::PartFrame));
-    check_printed(&rt, rt.alloc(), NAMES)
+}
+
+#[test]
+fn names_faults(rt: HostRuntime) {
+    check_printed(&rt, rt.alloc(), NAMES);
 }

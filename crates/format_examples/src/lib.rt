@@ -16,6 +16,8 @@ mod dsdiff_fronts;
 #[cfg(test)]
 mod dsdiff_marks;
 #[cfg(test)]
+mod dsdiff_outlines;
+#[cfg(test)]
 mod dsdiff_reading;
 #[cfg(test)]
 mod dsdiff_refusals;
@@ -23,6 +25,8 @@ mod dsdiff_refusals;
 mod dsdiff_writing;
 #[cfg(test)]
 mod dsf_fronts;
+#[cfg(test)]
+mod dsf_outlines;
 #[cfg(test)]
 mod dsf_reading;
 #[cfg(test)]

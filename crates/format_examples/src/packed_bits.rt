@@ -4,20 +4,33 @@
 use crate::compared::check_printed;
 use dsd_bits::{Bits, BitsFault, turn, turn_byte};
 use fixtures::compared::equal;
-use std::alloc::Global;
-use std::process::Abort;
-use std::test::Fail;
+use std::alloc::{AllocError, Global};
+
+// Whether bits are these bytes of so many bits.
+fn are(bits: &Bits, bytes: &[u8], count: usize) -> bool {
+    equal(bits.as_bytes(), bytes) && bits.len() == count
+}
+
+// The bit of a number, None where there is no such.
+fn bit(bits: &Bits, i: usize) -> Option<bool> {
+    if i < bits.len() {
+        Some(bits.get(i))
+    } else {
+        None
+    }
+}
+
+// Whether twelve bits of two bytes are so, and three of them.
+fn twelve_bits(alloc: Global) -> Result<(bool, [Option<bool>; 3]), BitsFault> {
+    let bits = Bits::from_packed(alloc, &[0xf0, 0xff], 12)?;
+    let each = [bit(&bits, 0), bit(&bits, 4), bit(&bits, 8)];
+    Ok((are(&bits, &[0xf0, 0xf0], 12), each))
+}
 
 #[test]
-fn packs_the_first_bits(rt: HostRuntime) -> Result<(), Fail> {
-    let bits = Bits::from_packed(rt.alloc(), &[0xf0, 0xff], 12)?;
-    assert!(rt; equal(bits.as_bytes(), &[0xf0, 0xf0]));
-    assert!(rt; bits.len() == 12);
-    for (i, bit) in &[(0, true), (4, false), (8, true)] {
-        assert!(rt; *i < bits.len());
-        assert!(rt; bits.get(*i) == *bit, "bit {i}");
-    }
-    Ok(())
+fn packs_the_first_bits(rt: HostRuntime) {
+    let each = [Some(true), Some(false), Some(true)];
+    assert!(rt; twelve_bits(rt.alloc()) == Ok((true, each)));
 }
 
 #[test]
@@ -34,56 +47,38 @@ const NAMES: &[(BitsFault, &str)] = &[
 ];
 
 #[test]
-fn wants_enough_bytes(rt: HostRuntime) -> Result<(), Fail> {
+fn wants_enough_bytes(rt: HostRuntime) {
     let refused = Bits::from_packed(rt.alloc(), &[0xf0], 9).err();
     assert!(rt; refused == Some(BitsFault::TooFewBytes));
-    check_printed(&rt, rt.alloc(), NAMES)
 }
 
 #[test]
-fn adds_a_range_and_a_bit(rt: HostRuntime) -> Result<(), Fail> {
-    let source = Bits::from_packed(rt.alloc(), &[0xf0, 0xff], 12)?;
-    assert!(rt; source.len() == 12);
-    let mut bits = Bits::new(rt.alloc());
-    bits.push_range(&source, 2, 10)?;
-    assert!(rt; equal(bits.as_bytes(), &[0xc3]));
-    assert!(rt; bits.len() == 8);
-    bits.push_bit(true)?;
-    assert!(rt; equal(bits.as_bytes(), &[0xc3, 0x80]));
-    assert!(rt; bits.len() == 9);
-    Ok(())
+fn names_faults(rt: HostRuntime) {
+    check_printed(&rt, rt.alloc(), NAMES);
 }
 
-// The bits `start` to `stop - 1` of others behind the first `count` bits of `old`.
-fn added(
-    rt: &impl Abort,
-    alloc: Global,
-    (old, count): (&[u8], usize),
-    source: &Bits,
-    (start, stop): (usize, usize),
-) -> Result<Bits, Fail> {
-    assert!(rt; start <= stop && stop <= source.len() && source.len() <= 64 && count < 64);
-    let mut bits = Bits::from_packed(alloc, old, count)?;
-    assert!(rt; bits.len() == count);
-    bits.push_range(source, start, stop)?;
-    Ok(bits)
-}
-
-// Whether such bits of 12 34 56 78 make these bytes of so many bits.
-fn adds(
-    rt: &impl Abort,
-    alloc: Global,
-    old: (&[u8], usize),
-    range: (usize, usize),
-    (made, length): (&[u8], usize),
-) -> Result<bool, Fail> {
-    let source = Bits::from_packed(alloc, &[0x12, 0x34, 0x56, 0x78], 32)?;
-    let bits = added(rt, alloc, old, &source, range)?;
-    Ok(equal(bits.as_bytes(), made) && bits.len() == length)
+// Puts the bits `start` to `stop - 1` of others behind some; Ok(false) where there are no such.
+fn add(bits: &mut Bits, source: &Bits, (start, stop): (usize, usize)) -> Result<bool, AllocError> {
+    if start <= stop && stop <= source.len() && source.len() <= 64 && bits.len() < 64 {
+        bits.push_range(source, start, stop)?;
+        return Ok(true);
+    }
+    Ok(false)
 }
 
 // First bits, how many they are, a range, and what both make together.
-const RANGES: [(&[u8], usize, usize, usize, &[u8], usize); 7] = [
+type Added = (&'static [u8], usize, usize, usize, &'static [u8], usize);
+
+// Whether such bits of 12 34 56 78 make these bytes of so many bits.
+fn adds(alloc: Global, case: &Added) -> Result<bool, BitsFault> {
+    let (old, count, start, stop, made, length) = *case;
+    let source = Bits::from_packed(alloc, &[0x12, 0x34, 0x56, 0x78], 32)?;
+    let mut bits = Bits::from_packed(alloc, old, count.min(64))?;
+    let is_added = bits.len() == count && add(&mut bits, &source, (start, stop))?;
+    Ok(is_added && are(&bits, made, length))
+}
+
+const RANGES: [Added; 7] = [
     // whole bytes behind whole bytes
     (&[0xff], 8, 8, 24, &[0xff, 0x34, 0x56], 24),
     // from half a byte, to half a byte, and both
@@ -97,15 +92,30 @@ const RANGES: [(&[u8], usize, usize, usize, &[u8], usize); 7] = [
 ];
 
 #[test]
-fn adds_ranges_at_every_kind_of_place(rt: HostRuntime) -> Result<(), Fail> {
-    for (old, count, start, stop, made, length) in &RANGES {
-        let (old, range) = ((*old, *count), (*start, *stop));
-        assert!(rt;
-            adds(&rt, rt.alloc(), old, range, (made, *length))?,
-            "{start} to {stop} behind {count}"
-        );
+fn adds_ranges_at_every_kind_of_place(rt: HostRuntime) {
+    for case in &RANGES {
+        let (_, count, start, stop, _, _) = *case;
+        let is_so = adds(rt.alloc(), case);
+        assert!(rt; is_so == Ok(true), "{start} to {stop} behind {count}");
     }
-    Ok(())
+}
+
+// Whether a range behind no bits, and a bit behind it, make these bytes.
+fn adds_a_bit(alloc: Global, bits: &mut Bits) -> Result<bool, BitsFault> {
+    let source = Bits::from_packed(alloc, &[0xf0, 0xff], 12)?;
+    let is_added = add(bits, &source, (2, 10))? && are(bits, &[0xc3], 8);
+    if !is_added || bits.len() != 8 {
+        return Ok(false);
+    }
+    bits.push_bit(true)?;
+    Ok(are(bits, &[0xc3, 0x80], 9))
+}
+
+#[test]
+fn adds_a_range_and_a_bit(rt: HostRuntime) {
+    let mut bits = Bits::new(rt.alloc());
+    let is_so = adds_a_bit(rt.alloc(), &mut bits);
+    assert!(rt; is_so == Ok(true));
 }
 
 #[test]

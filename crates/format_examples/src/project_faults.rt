@@ -3,7 +3,6 @@
 use project_core::{ProjectFault, read};
 use std::alloc::{AllocError, Global};
 use std::process::Abort;
-use std::test::Fail;
 
 // Whether a fault has this name.
 fn is_named(alloc: Global, fault: ProjectFault, name: &str) -> Result<bool, AllocError> {
@@ -36,14 +35,11 @@ pub(crate) fn check_faults(
     alloc: Global,
     (before, after): (&str, &str),
     cases: &[(&str, &str)],
-) -> Result<(), Fail> {
+) {
     for (text, fault) in cases {
-        assert!(rt;
-            has_fault_between(alloc, (before, after), text, fault)?,
-            "{fault} of {text}"
-        );
+        let has_fault = has_fault_between(alloc, (before, after), text, fault);
+        assert!(rt; has_fault == Ok(true), "{fault} of {text}");
     }
-    Ok(())
 }
 
 /// A text, another that stands behind it a number of times, a third, and the fault of all together.
@@ -65,17 +61,13 @@ fn has_fault_of_many(
 }
 
 /// Each text has its fault.
-pub(crate) fn check_repeated(
-    rt: &impl Abort,
-    alloc: Global,
-    cases: &[Repeated],
-) -> Result<(), Fail> {
+pub(crate) fn check_repeated(rt: &impl Abort, alloc: Global, cases: &[Repeated]) {
     for case in cases {
         let (_, middle, times, after, _) = *case;
+        let has_fault = has_fault_of_many(alloc, *case);
         assert!(rt;
-            has_fault_of_many(alloc, *case)?,
+            has_fault == Ok(true),
             "{times} times {middle} before {after}"
         );
     }
-    Ok(())
 }

@@ -3,7 +3,6 @@
 use crate::project_faults::check_faults;
 use project_core::{Cue, ProjectFault, Splice, Target, read};
 use std::alloc::Global;
-use std::test::Fail;
 
 /// A project of a decimator and a splice.
 pub(crate) const EXAMPLE: &str = "[decimate]
@@ -42,20 +41,19 @@ fn decimator(alloc: Global, text: &[u8]) -> Result<Option<(u32, u32)>, ProjectFa
     }
 }
 
-// The splice of a text, if it has one.
-fn splice(alloc: Global, text: &[u8]) -> Result<Option<Splice>, ProjectFault> {
-    Ok(read(alloc, text)?.splice)
+// Whether a text has a splice.
+fn has_splice(alloc: Global, text: &[u8]) -> Result<bool, ProjectFault> {
+    Ok(read(alloc, text)?.splice.is_some())
 }
 
 const MOST: &[u8] =
     b"decimate = {taps = [1, -1], factor = 1024, delay = 1, shift = 30, width = 24}";
 
 #[test]
-fn reads_the_decimator(rt: HostRuntime) -> Result<(), Fail> {
-    assert!(rt; decimator(rt.alloc(), EXAMPLE.as_bytes())? == Some((8, 16)));
-    assert!(rt; decimator(rt.alloc(), MOST)? == Some((1024, 24)));
-    assert!(rt; splice(rt.alloc(), MOST)?.is_none());
-    Ok(())
+fn reads_the_decimator(rt: HostRuntime) {
+    assert!(rt; decimator(rt.alloc(), EXAMPLE.as_bytes()) == Ok(Some((8, 16))));
+    assert!(rt; decimator(rt.alloc(), MOST) == Ok(Some((1024, 24))));
+    assert!(rt; has_splice(rt.alloc(), MOST) == Ok(false));
 }
 
 // Whether a splice has these weights and the two takes of the example.
@@ -83,27 +81,37 @@ fn has_cue(
     }
 }
 
-#[test]
-fn reads_the_splice(rt: HostRuntime) -> Result<(), Fail> {
-    let splice = splice(rt.alloc(), EXAMPLE.as_bytes())?.ok_or("no splice")?;
-    assert!(rt; has_takes(&splice, &[1, 1]));
-    assert!(rt; splice.cues.len() == 2);
-    assert!(rt; has_cue(&splice, 0, (0, 0, 8, 1, Target::Fade), None));
-    assert!(rt; has_cue(&splice, 1, (1, 2, 9, 0, Target::Fade), Some("one")));
-    Ok(())
+// Whether a splice is that of the example.
+fn is_example(splice: &Splice) -> bool {
+    has_takes(splice, &[1, 1])
+        && splice.cues.len() == 2
+        && has_cue(splice, 0, (0, 0, 8, 1, Target::Fade), None)
+        && has_cue(splice, 1, (1, 2, 9, 0, Target::Fade), Some("one"))
+}
+
+// Whether the example's splice is read.
+fn reads_example(alloc: Global) -> Result<bool, ProjectFault> {
+    let project = read(alloc, EXAMPLE.as_bytes())?;
+    match &project.splice {
+        Some(splice) => Ok(is_example(splice)),
+        None => Ok(false),
+    }
 }
 
 #[test]
-fn reads_no_tables(rt: HostRuntime) -> Result<(), Fail> {
-    assert!(rt; decimator(rt.alloc(), b"# nothing\n")? == None);
-    assert!(rt; splice(rt.alloc(), b"# nothing\n")?.is_none());
-    Ok(())
+fn reads_the_splice(rt: HostRuntime) {
+    assert!(rt; reads_example(rt.alloc()) == Ok(true));
 }
 
 #[test]
-fn refuses_what_is_no_text(rt: HostRuntime) -> Result<(), Fail> {
-    assert!(rt; read(rt.alloc(), &[0xff]).err() == Some(ProjectFault::NotToml));
-    Ok(())
+fn reads_no_tables(rt: HostRuntime) {
+    assert!(rt; decimator(rt.alloc(), b"# nothing\n") == Ok(None));
+    assert!(rt; has_splice(rt.alloc(), b"# nothing\n") == Ok(false));
+}
+
+#[test]
+fn refuses_what_is_no_text(rt: HostRuntime) {
+    assert!(rt; has_splice(rt.alloc(), &[0xff]) == Err(ProjectFault::NotToml));
 }
 
 const DOCUMENTS: &[(&str, &str)] = &[
@@ -129,6 +137,6 @@ const DOCUMENTS: &[(&str, &str)] = &[
 ];
 
 #[test]
-fn names_the_faults_of_documents(rt: HostRuntime) -> Result<(), Fail> {
-    check_faults(&rt, rt.alloc(), ("", ""), DOCUMENTS)
+fn names_the_faults_of_documents(rt: HostRuntime) {
+    check_faults(&rt, rt.alloc(), ("", ""), DOCUMENTS);
 }

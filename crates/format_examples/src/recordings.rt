@@ -5,8 +5,7 @@ ghost use Rattle.std.specs.Prelude.{◌<◌, ◌^◌, length};
 use crate::told::{Numbers, has_ids, numbers_of};
 use dsd_bits::{Bits, Mark, Other, Place, Recording};
 use fixtures::compared::equal;
-use std::alloc::Global;
-use std::test::Fail;
+use std::alloc::{AllocError, Global};
 
 // Twelve bits of one channel with a mark of this text, a kept chunk and a tag.
 fn recording_of(
@@ -14,7 +13,7 @@ fn recording_of(
     text: Vec<u8>,
     comment: Vec<u8>,
     tag: Vec<u8>,
-) -> Result<Recording, Fail>
+) -> Result<Recording, AllocError>
     requires { length text.items < 2 ^ 32 }
 {
     let mark = Mark {
@@ -33,7 +32,9 @@ fn recording_of(
         id: *b"COMT",
         bytes: comment,
     };
-    let channel = Bits::from_packed(alloc, &[0xf0, 0xff], 12)?;
+    let Ok(channel) = Bits::from_packed(alloc, &[0xf0, 0xff], 12) else {
+        return Err(AllocError);
+    };
     Ok(Recording::new(
         2822400,
         vec![in alloc; channel]?,
@@ -46,7 +47,7 @@ fn recording_of(
 }
 
 // The recording of the mark `x`, the chunk `made by hand` and the tag `ID3`.
-fn recording(alloc: Global) -> Result<Recording, Fail> {
+fn recording(alloc: Global) -> Result<Recording, AllocError> {
     let text = b"x".to_vec(alloc)?;
     let comment = b"made by hand".to_vec(alloc)?;
     recording_of(alloc, text, comment, b"ID3".to_vec(alloc)?)
@@ -68,22 +69,29 @@ fn has_other(recording: &Recording, id: [u8; 4]) -> bool {
     }
 }
 
+const NUMBERS: Numbers = Numbers {
+    rate: 2822400,
+    layout: 1,
+    channels: 1,
+    bits: 12,
+    marks: 1,
+    others: 1,
+    tag: 3,
+};
+
+// Whether the recording has the parts that it was made of.
+fn has_parts(alloc: Global) -> Result<bool, AllocError> {
+    let recording = recording(alloc)?;
+    Ok(
+        numbers_of(&recording) == NUMBERS
+            && has_ids(&recording, &[*b"C000"])
+            && has_mark(&recording, b"x")
+            && has_other(&recording, *b"COMT")
+            && equal(recording.tag(), b"ID3"),
+    )
+}
+
 #[test]
-fn hands_out_its_parts(rt: HostRuntime) -> Result<(), Fail> {
-    let recording = recording(rt.alloc())?;
-    let expected = Numbers {
-        rate: 2822400,
-        layout: 1,
-        channels: 1,
-        bits: 12,
-        marks: 1,
-        others: 1,
-        tag: 3,
-    };
-    assert!(rt; numbers_of(&recording) == expected);
-    assert!(rt; has_ids(&recording, &[*b"C000"]));
-    assert!(rt; has_mark(&recording, b"x"));
-    assert!(rt; has_other(&recording, *b"COMT"));
-    assert!(rt; equal(recording.tag(), b"ID3"));
-    Ok(())
+fn hands_out_its_parts(rt: HostRuntime) {
+    assert!(rt; has_parts(rt.alloc()) == Ok(true));
 }

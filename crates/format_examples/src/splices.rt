@@ -1,7 +1,6 @@
 //! The table `splice` of a project with its first fault, up to its cues.
 
 use crate::project_faults::{Repeated, check_faults, check_repeated};
-use std::test::Fail;
 
 const SPLICES: &[(&str, &str)] = &[
     ("takes = 1", "MissingKey weights"),
@@ -54,8 +53,8 @@ const SPLICES: &[(&str, &str)] = &[
 ];
 
 #[test]
-fn names_the_faults_of_splices(rt: HostRuntime) -> Result<(), Fail> {
-    check_faults(&rt, rt.alloc(), ("splice = {", "}"), SPLICES)
+fn names_the_faults_of_splices(rt: HostRuntime) {
+    check_faults(&rt, rt.alloc(), ("splice = {", "}"), SPLICES);
 }
 
 // Splices up to a first take, and up to the cues.
@@ -73,6 +72,6 @@ const MANY: &[Repeated] = &[
 ];
 
 #[test]
-fn counts_takes_and_cues(rt: HostRuntime) -> Result<(), Fail> {
-    check_repeated(&rt, rt.alloc(), MANY)
+fn counts_takes_and_cues(rt: HostRuntime) {
+    check_repeated(&rt, rt.alloc(), MANY);
 }

@@ -47,6 +47,16 @@ pub(crate) fn has_sound(recording: &Recording, channel: usize, bytes: &[u8]) -> 
     }
 }
 
+/// Whether the channels have these bytes, and there is one for each.
+pub(crate) fn has_sounds(recording: &Recording, sounds: &[&[u8]]) -> bool {
+    for (channel, bytes) in sounds.iter().enumerate() {
+        if !has_sound(recording, channel, bytes) {
+            return false;
+        }
+    }
+    recording.channels().len() == sounds.len()
+}
+
 /// Whether the channels have these IDs.
 pub(crate) fn has_ids(recording: &Recording, ids: &[[u8; 4]]) -> bool {
     recording.ids() == ids

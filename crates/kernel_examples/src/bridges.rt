@@ -7,71 +7,77 @@ use cost_core::{Window, WindowFault};
 use fixtures::windows::{Part, bits_of, by_equal, by_newest, by_older, ones, window, zeros};
 use std::alloc::Global;
 use std::process::Abort;
-use std::test::Fail;
 use trellis_core::bridge;
 
-// Whether the bits of a byte are chosen, at a cost.
-fn chooses(alloc: Global, window: &Window, byte: u8, cost: u64) -> Result<bool, Fail> {
-    let chosen = bridge(alloc, window)?;
-    Ok(chosen.bits.as_bytes() == [byte].as_slice() && chosen.cost == cost)
+// The byte of the bits that are chosen, and their cost.
+fn chosen(alloc: Global, window: &Window) -> Option<(u8, u64)> {
+    let chosen = bridge(alloc, window).ok()?;
+    match chosen.bits.as_bytes() {
+        [byte] => Some((*byte, chosen.cost)),
+        _ => None,
+    }
 }
 
 // The same of a window that may be refused.
-fn chooses_in(
-    alloc: Global,
-    window: Result<Window, WindowFault>,
-    byte: u8,
-    cost: u64,
-) -> Result<bool, Fail> {
-    chooses(alloc, &window?, byte, cost)
+fn chosen_in(alloc: Global, window: Result<Window, WindowFault>) -> Option<(u8, u64)> {
+    match window {
+        Ok(window) => chosen(alloc, &window),
+        Err(_) => None,
+    }
 }
 
 #[test]
-fn chooses_the_bits_of_small_bridges(rt: HostRuntime) -> Result<(), Fail> {
+fn chooses_one_bit(rt: HostRuntime) {
     let alloc = rt.alloc();
     let equal = by_equal(alloc, ones(0, 8), 1, zeros(2, 9));
-    assert!(rt;
-        chooses_in(alloc, equal, 0x00, 0)?,
-        "one bit by equal weights"
-    );
+    assert!(rt; chosen_in(alloc, equal) == Some((0x00, 0)));
     // Both bits cost 4.
     let newest = by_newest(alloc, ones(0, 8), 1, zeros(2, 9));
-    assert!(rt;
-        chooses_in(alloc, newest, 0x00, 4)?,
-        "one bit by the newest"
-    );
-    let longer = by_newest(alloc, ones(0, 8), 2, zeros(3, 9));
-    assert!(rt;
-        chooses_in(alloc, longer, 0x80, 8)?,
-        "two bits by the newest"
-    );
+    assert!(rt; chosen_in(alloc, newest) == Some((0x00, 4)));
     // At its own place either bit costs 4, and behind it 0 costs 16 and 1 nothing.
     let older = by_older(alloc, zeros(0, 8), 1, ones(2, 9));
-    assert!(rt; chooses_in(alloc, older, 0x80, 4)?, "one bit by the older");
-    let there = by_equal(alloc, ones(0, 8), 1, zeros(2, 3));
-    assert!(rt; chooses_in(alloc, there, 0x00, 0)?, "to a cue of one bit");
-    let back = by_equal(alloc, zeros(0, 3), 1, ones(2, 7));
-    assert!(rt; chooses_in(alloc, back, 0x80, 0)?, "back from one of three");
-    Ok(())
+    assert!(rt; chosen_in(alloc, older) == Some((0x80, 4)));
+}
+
+#[test]
+fn chooses_the_bits_of_small_bridges(rt: HostRuntime) {
+    let alloc = rt.alloc();
+    let two_bits = by_newest(alloc, ones(0, 8), 2, zeros(3, 9));
+    assert!(rt; chosen_in(alloc, two_bits) == Some((0x80, 8)));
+    let to_one_bit = by_equal(alloc, ones(0, 8), 1, zeros(2, 3));
+    assert!(rt; chosen_in(alloc, to_one_bit) == Some((0x00, 0)));
+    let from_three = by_equal(alloc, zeros(0, 3), 1, ones(2, 7));
+    assert!(rt; chosen_in(alloc, from_three) == Some((0x80, 0)));
+}
+
+// What the first bits of a byte cost as a bridge.
+fn cost_of(alloc: Global, window: &Window, byte: u8) -> Option<u64> {
+    let bits = bits_of(alloc, window, byte).ok()?;
+    Some(window.cost_of(&bits))
 }
 
 // The first of the least lists of at most 8 bits, read from the last bit to the first, and what it
 // costs, by all of them in this order.
-fn first_of_all(alloc: Global, window: &Window) -> Result<(u8, u64), Fail> {
+fn first_of_all(alloc: Global, window: &Window) -> Option<(u8, u64)> {
     let mut least = (0, u64::MAX);
     for number in 0..1_u16 << window.length().min(8) {
         let byte = (number as u8).reverse_bits();
-        let bits = bits_of(alloc, window, byte)?;
-        let cost = window.cost_of(&bits);
+        let cost = cost_of(alloc, window, byte)?;
         if cost < least.1 {
             least = (byte, cost);
         }
     }
-    Ok(least)
+    Some(least)
+}
+
+// Whether the first of all is chosen.
+fn chooses_first_of_all(alloc: Global, window: &Window) -> bool {
+    let first = first_of_all(alloc, window);
+    first.is_some() && chosen(alloc, window) == first
 }
 
 // Whether a bridge of so many bits between takes of mixed bits is the first of all.
-fn chooses_the_first(alloc: Global, weights: &[i32], length: usize) -> Result<bool, Fail>
+fn chooses_the_first(alloc: Global, weights: &[i32], length: usize) -> bool
     requires weights { AreWeights weights.now }
     requires length { (1 ≤ length) × (length ≤ 8) }
 {
@@ -85,35 +91,32 @@ fn chooses_the_first(alloc: Global, weights: &[i32], length: usize) -> Result<bo
         start: 20,
         stop: 32,
     };
-    let window = window(alloc, weights, before, length, after)?;
-    let (byte, cost) = first_of_all(alloc, &window)?;
-    chooses(alloc, &window, byte, cost)
+    match window(alloc, weights, before, length, after) {
+        Ok(window) => chooses_first_of_all(alloc, &window),
+        Err(_) => false,
+    }
 }
 
 // Bridges of 1 to 8 bits.
-fn compare(rt: &impl Abort, alloc: Global, weights: &[i32]) -> Result<(), Fail>
+fn compare(rt: &impl Abort, alloc: Global, weights: &[i32])
     requires weights { AreWeights weights.now }
 {
     for length in 1..9 {
-        assert!(rt;
-            chooses_the_first(alloc, weights, length)?,
-            "{length} bits by {weights:?}"
-        );
+        let is_first = chooses_the_first(alloc, weights, length);
+        assert!(rt; is_first, "{length} bits by {weights:?}");
     }
-    Ok(())
 }
 
 #[test]
-fn chooses_the_first_of_the_least(rt: HostRuntime) -> Result<(), Fail> {
+fn chooses_the_first_of_the_least(rt: HostRuntime) {
     let alloc = rt.alloc();
-    compare(&rt, alloc, &[1, 0])?;
-    compare(&rt, alloc, &[2, -1])?;
-    compare(&rt, alloc, &[1, 1, 0])?;
-    compare(&rt, alloc, &[1, 0, 0, 0])?;
+    compare(&rt, alloc, &[1, 0]);
+    compare(&rt, alloc, &[2, -1]);
+    compare(&rt, alloc, &[1, 1, 0]);
+    compare(&rt, alloc, &[1, 0, 0, 0]);
     // Sixteen states and more.
-    compare(&rt, alloc, &[1, 0, 0, 0, 0])?;
-    compare(&rt, alloc, &[3, -1, 2, 1, -2])?;
-    compare(&rt, alloc, &[1, 1, 0, 0, 0, 0])?;
-    compare(&rt, alloc, &[2, 3, -1, 1, 0, 2])?;
-    Ok(())
+    compare(&rt, alloc, &[1, 0, 0, 0, 0]);
+    compare(&rt, alloc, &[3, -1, 2, 1, -2]);
+    compare(&rt, alloc, &[1, 1, 0, 0, 0, 0]);
+    compare(&rt, alloc, &[2, 3, -1, 1, 0, 2]);
 }

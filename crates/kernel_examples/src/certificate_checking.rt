@@ -9,11 +9,10 @@ use cert_core::{CertReader, CertReason, CertVerdict, CheckFault};
 use cost_core::{Window, WindowFault};
 use device_core::Inlet;
 use dsd_bits::Bits;
-use fixtures::devices::drip;
+use fixtures::devices::{Dripping, drip};
 use fixtures::windows::{bits_of, by_equal, by_newest, ones, zeros};
-use std::alloc::Global;
+use std::alloc::{AllocError, Global};
 use std::io::Read;
-use std::test::Fail;
 
 // The window of a bridge of one bit from ones to zeros, by the weights 1, 0.
 fn newest(alloc: Global) -> Result<Window, WindowFault> {
@@ -54,16 +53,39 @@ fn checked<R: Read + Drop>(
     window: Result<Window, WindowFault>,
     byte: u8,
     reader: R,
-) -> Result<Result<CertVerdict, CheckFault>, Fail> {
-    let window = window?;
-    let bits = bits_of(alloc, &window, byte)?;
+) -> Result<CertVerdict, CheckFault> {
+    match window {
+        Ok(window) => checked_in(alloc, &window, byte, reader),
+        Err(_) => Err(CheckFault::Memory),
+    }
+}
+
+// The same of a window that there is.
+fn checked_in<R: Read + Drop>(
+    alloc: Global,
+    window: &Window,
+    byte: u8,
+    reader: R,
+) -> Result<CertVerdict, CheckFault> {
+    let Ok(bits) = bits_of(alloc, window, byte) else {
+        return Err(CheckFault::Memory);
+    };
     let mut reader = CertReader::new(Inlet::new(reader));
-    Ok(verdict(alloc, &mut reader, &window, &bits))
+    verdict(alloc, &mut reader, window, &bits)
 }
 
 // Whether a certificate for the bit 0 by the weights 1, 0 is rejected for this reason.
-fn rejects(alloc: Global, cert: &[u8], reason: CertReason) -> Result<bool, Fail> {
-    Ok(checked(alloc, newest(alloc), 0x00, cert)? == Ok(CertVerdict::Rejected(reason)))
+fn rejects(alloc: Global, cert: &[u8], reason: CertReason) -> bool {
+    checked(alloc, newest(alloc), 0x00, cert) == Ok(CertVerdict::Rejected(reason))
+}
+
+// Puts other bytes at some places.
+fn change(cert: &mut [u8], changes: &[(usize, u8)]) {
+    for (place, value) in changes {
+        if let Some(byte) = cert.get_mut(*place) {
+            *byte = *value;
+        }
+    }
 }
 
 // Whether it is so of these bytes with other ones at some places.
@@ -72,76 +94,86 @@ fn rejects_changed(
     cert: &[u8],
     changes: &[(usize, u8)],
     reason: CertReason,
-) -> Result<bool, Fail> {
+) -> Result<bool, AllocError> {
     let mut changed = Vec::from_slice(alloc, cert)?;
-    for (place, value) in changes {
-        if let Some(byte) = changed.get_mut(*place) {
-            *byte = *value;
-        }
-    }
-    rejects(alloc, &changed, reason)
+    change(&mut changed, changes);
+    Ok(rejects(alloc, &changed, reason))
 }
 
 // The worked certificate by either version.
 const CERTIFICATES: [&[u8]; 2] = [&WORKED, &NARROW];
 
+const FOUR: CertVerdict = CertVerdict::Accepted { cost: 4 };
+
+const NOTHING: CertVerdict = CertVerdict::Accepted { cost: 0 };
+
 #[test]
-fn least_bits_are_accepted(rt: HostRuntime) -> Result<(), Fail> {
+fn least_bits_are_accepted(rt: HostRuntime) {
     let alloc = rt.alloc();
-    let four = Ok(CertVerdict::Accepted { cost: 4 });
-    assert!(rt;
-        checked(alloc, newest(alloc), 0x00, WORKED.as_slice())? == four,
-        "the first"
-    );
-    // The other bit costs as little.
+    let first = checked(alloc, newest(alloc), 0x00, WORKED.as_slice());
+    assert!(rt; first == Ok(FOUR), "the first");
+    let only = checked(alloc, equal(alloc), 0x00, EQUAL.as_slice());
+    assert!(rt; only == Ok(NOTHING), "the only");
+}
+
+// The other bit costs as little.
+#[test]
+fn other_least_bits_are_accepted(rt: HostRuntime) {
     for cert in &CERTIFICATES {
-        let size = cert.len();
-        let other = checked(alloc, newest(alloc), 0x80, *cert)?;
-        assert!(rt; other == four, "the other by {size} bytes");
+        let other = checked(rt.alloc(), newest(rt.alloc()), 0x80, *cert);
+        assert!(rt; other == Ok(FOUR), "{} bytes", cert.len());
     }
-    let nothing = Ok(CertVerdict::Accepted { cost: 0 });
-    assert!(rt;
-        checked(alloc, equal(alloc), 0x00, EQUAL.as_slice())? == nothing,
-        "the only"
-    );
-    Ok(())
 }
 
 // What the head of a certificate, the bridge behind it and the end come to, each by its own call.
-fn in_turn(
+type InTurn = (Option<CertReason>, CertVerdict, Option<CertReason>);
+
+fn told_in_turn(
     alloc: Global,
-    window: Result<Window, WindowFault>,
-    cert: &[u8],
-) -> Result<(Option<CertReason>, CertVerdict, Option<CertReason>), Fail> {
-    let window = window?;
-    let bits = bits_of(alloc, &window, 0x00)?;
-    let mut reader = CertReader::new(Inlet::new(cert));
+    window: &Window,
+    bits: &Bits,
+    reader: &mut CertReader<&[u8]>,
+) -> Result<InTurn, CheckFault>
+    requires reader { inlet_failures (cert_inlet reader.old) ≡ 0 }
+    requires bits { length bits.now ≡ window.now.levels }
+{
     let head = reader.read_head(2, 1)?;
     if head.is_some() {
         return Ok((head, CertVerdict::Rejected(CertReason::Head), None));
     }
-    let bridge = reader.check_bridge(alloc, 0, 0, &window, &bits)?;
+    let bridge = reader.check_bridge(alloc, 0, 0, window, bits)?;
     Ok((head, bridge, reader.at_end()?))
 }
 
-#[test]
-fn a_bridge_is_accepted_at_its_cost_behind_the_head(rt: HostRuntime) -> Result<(), Fail> {
-    let alloc = rt.alloc();
-    let four = CertVerdict::Accepted { cost: 4 };
-    for cert in &CERTIFICATES {
-        let size = cert.len();
-        let told = in_turn(alloc, newest(alloc), cert)?;
-        assert!(rt; told == (None, four, None), "{size} bytes");
+// The same of the bit 0 in a window.
+fn in_turn(alloc: Global, window: &Window, cert: &[u8]) -> Result<InTurn, CheckFault> {
+    let Ok(bits) = bits_of(alloc, window, 0x00) else {
+        return Err(CheckFault::Memory);
+    };
+    let mut reader = CertReader::new(Inlet::new(cert));
+    told_in_turn(alloc, window, &bits, &mut reader)
+}
+
+// Whether the bit 0 is accepted at the cost 4 by calls in turn.
+fn accepts_in_turn(alloc: Global, cert: &[u8]) -> bool {
+    match newest(alloc) {
+        Ok(window) => in_turn(alloc, &window, cert) == Ok((None, FOUR, None)),
+        Err(_) => false,
     }
-    Ok(())
 }
 
 #[test]
-fn dearer_bits_are_rejected(rt: HostRuntime) -> Result<(), Fail> {
-    let cost = Ok(CertVerdict::Rejected(CertReason::Cost));
+fn a_bridge_is_accepted_at_its_cost_behind_the_head(rt: HostRuntime) {
+    for cert in &CERTIFICATES {
+        assert!(rt; accepts_in_turn(rt.alloc(), cert), "{} bytes", cert.len());
+    }
+}
+
+#[test]
+fn dearer_bits_are_rejected(rt: HostRuntime) {
     let alloc = rt.alloc();
-    assert!(rt; checked(alloc, equal(alloc), 0x80, EQUAL.as_slice())? == cost);
-    Ok(())
+    let dearer = checked(alloc, equal(alloc), 0x80, EQUAL.as_slice());
+    assert!(rt; dearer == Ok(CertVerdict::Rejected(CertReason::Cost)));
 }
 
 // Another byte at a place of the first version's bytes, and what it is rejected for.
@@ -165,21 +197,18 @@ const CHANGED: [(usize, u8, CertReason); 16] = [
 ];
 
 #[test]
-fn changed_bytes_are_found(rt: HostRuntime) -> Result<(), Fail> {
-    let alloc = rt.alloc();
+fn changed_bytes_are_found(rt: HostRuntime) {
     for (place, value, reason) in &CHANGED {
-        assert!(rt;
-            rejects_changed(alloc, &WORKED, &[(*place, *value)], *reason)?,
-            "{value} at {place}"
-        );
+        let is_found = rejects_changed(rt.alloc(), &WORKED, &[(*place, *value)], *reason);
+        assert!(rt; is_found == Ok(true), "{value} at {place}");
     }
-    // The greatest bound has to be reached too.
+}
+
+#[test]
+fn the_greatest_bound_has_to_be_reached_too(rt: HostRuntime) {
     let greatest = [(34, 0x80), (41, 0)];
-    assert!(rt;
-        rejects_changed(alloc, &WORKED, &greatest, CertReason::Step(1, 0))?,
-        "2^63"
-    );
-    Ok(())
+    let is_found = rejects_changed(rt.alloc(), &WORKED, &greatest, CertReason::Step(1, 0));
+    assert!(rt; is_found == Ok(true));
 }
 
 // The same of the second version's. The row of level 0 has its least value at 18 to 25, its width at 26, and the excesses 4
@@ -208,44 +237,36 @@ const CHANGED_NARROW: [(usize, u8, CertReason); 19] = [
 ];
 
 #[test]
-fn changed_bytes_of_narrow_rows_are_found(rt: HostRuntime) -> Result<(), Fail> {
-    let alloc = rt.alloc();
+fn changed_bytes_of_narrow_rows_are_found(rt: HostRuntime) {
     for (place, value, reason) in &CHANGED_NARROW {
-        assert!(rt;
-            rejects_changed(alloc, &NARROW, &[(*place, *value)], *reason)?,
-            "{value} at {place}"
-        );
+        let is_found = rejects_changed(rt.alloc(), &NARROW, &[(*place, *value)], *reason);
+        assert!(rt; is_found == Ok(true), "{value} at {place}");
     }
-    // The greatest value is 2^63, or one more; a state that nothing reaches may have either, but for the limit.
-    let above = [
-        (18, 0x7f),
-        (19, 0xff),
-        (20, 0xff),
-        (21, 0xff),
-        (22, 0xff),
-        (23, 0xff),
-        (24, 0xff),
-        (25, 0xfd),
-    ];
-    assert!(rt;
-        rejects_changed(alloc, &NARROW, &above, CertReason::Bound)?,
-        "one more"
-    );
-    let greatest = [
-        (18, 0x7f),
-        (19, 0xff),
-        (20, 0xff),
-        (21, 0xff),
-        (22, 0xff),
-        (23, 0xff),
-        (24, 0xff),
-        (25, 0xfc),
-    ];
-    assert!(rt;
-        rejects_changed(alloc, &NARROW, &greatest, CertReason::Start)?,
-        "2^63"
-    );
-    Ok(())
+}
+
+// The bridge's certificate with a least value of level 0 whose excess 4 makes of it `2^63 + 1`, and `2^63`.
+const LARGE: [(&[u8], CertReason); 2] = [
+    (
+        b"DSPC\0\x02\0\x02\0\0\0\x01\0\0\0\0\0\x01\
+        \x7f\xff\xff\xff\xff\xff\xff\xfd\x01\x04\0\
+        \0\0\0\0\0\0\0\x04\0\
+        \0\0\0\0\0\0\0\x04",
+        CertReason::Bound,
+    ),
+    (
+        b"DSPC\0\x02\0\x02\0\0\0\x01\0\0\0\0\0\x01\
+        \x7f\xff\xff\xff\xff\xff\xff\xfc\x01\x04\0\
+        \0\0\0\0\0\0\0\x04\0\
+        \0\0\0\0\0\0\0\x04",
+        CertReason::Start,
+    ),
+];
+
+#[test]
+fn no_value_is_above_the_greatest(rt: HostRuntime) {
+    for (cert, reason) in &LARGE {
+        assert!(rt; rejects(rt.alloc(), cert, *reason), "{reason:?}");
+    }
 }
 
 // The bridge's certificate with a row that is spelled in another way: level 1 as 3 and the excesses 1 and 1; level 0 by
@@ -268,90 +289,98 @@ const SPELLED: [(&[u8], CertReason); 2] = [
 ];
 
 #[test]
-fn a_row_has_one_spelling(rt: HostRuntime) -> Result<(), Fail> {
-    let alloc = rt.alloc();
+fn a_row_has_one_spelling(rt: HostRuntime) {
     for (cert, reason) in &SPELLED {
-        assert!(rt; rejects(alloc, cert, *reason)?, "{reason:?}");
+        assert!(rt; rejects(rt.alloc(), cert, *reason), "{reason:?}");
     }
-    Ok(())
 }
 
 #[test]
-fn a_cut_is_found_everywhere(rt: HostRuntime) -> Result<(), Fail> {
-    let alloc = rt.alloc();
+fn a_cut_is_found_everywhere(rt: HostRuntime) {
     for cert in &CERTIFICATES {
         for end in 0..cert.len() {
-            assert!(rt;
-                rejects(alloc, &cert[..end], CertReason::Cut)?,
-                "{end} bytes"
-            );
+            let is_found = rejects(rt.alloc(), &cert[..end], CertReason::Cut);
+            assert!(rt; is_found, "{end} bytes");
         }
     }
-    Ok(())
+}
+
+// Whether a byte behind a certificate is found.
+fn finds_a_byte_more(alloc: Global, cert: &[u8]) -> Result<bool, AllocError> {
+    let longer = [cert, &[0]].concat(alloc)?;
+    Ok(rejects(alloc, &longer, CertReason::Extra))
 }
 
 #[test]
-fn a_byte_more_is_found(rt: HostRuntime) -> Result<(), Fail> {
-    let alloc = rt.alloc();
+fn a_byte_more_is_found(rt: HostRuntime) {
     for cert in &CERTIFICATES {
-        let size = cert.len();
-        let mut longer = Vec::from_slice(alloc, cert)?;
-        longer.push(0)?;
-        assert!(rt; rejects(alloc, &longer, CertReason::Extra)?, "{size} bytes");
+        let is_found = finds_a_byte_more(rt.alloc(), cert);
+        assert!(rt; is_found == Ok(true), "{} bytes", cert.len());
     }
-    Ok(())
 }
 
 #[test]
-fn reads_of_one_byte_are_enough(rt: HostRuntime) -> Result<(), Fail> {
-    let four = Ok(CertVerdict::Accepted { cost: 4 });
-    let alloc = rt.alloc();
+fn reads_of_one_byte_are_enough(rt: HostRuntime) {
     for cert in &CERTIFICATES {
-        let size = cert.len();
-        let told = checked(alloc, newest(alloc), 0x00, drip(cert, 1, u64::MAX))?;
-        assert!(rt; told == four, "{size} bytes");
+        let reader = drip(cert, 1, u64::MAX);
+        let told = checked(rt.alloc(), newest(rt.alloc()), 0x00, reader);
+        assert!(rt; told == Ok(FOUR), "{} bytes", cert.len());
     }
-    Ok(())
 }
 
+// The head, the entry's start, two rows, the cost, and the end.
 #[test]
-fn a_failed_read_is_no_reason(rt: HostRuntime) -> Result<(), Fail> {
-    let alloc = rt.alloc();
-    // The head, the entry's start, two rows, the cost, and the end.
+fn a_failed_read_is_no_reason(rt: HostRuntime) {
     for read in 1..7 {
         let reader = drip(&WORKED, 100, read);
-        assert!(rt;
-            checked(alloc, newest(alloc), 0x00, reader)? == Err(CheckFault::Device),
-            "read {read}"
-        );
+        let told = checked(rt.alloc(), newest(rt.alloc()), 0x00, reader);
+        assert!(rt; told == Err(CheckFault::Device), "read {read}");
     }
-    Ok(())
 }
 
-// What is said of the bridge behind the head of a certificate, where a byte comes by each read and one read fails.
+// What is said of a bridge behind the head of a certificate. A head that is refused is told as want of memory.
+fn verdict_behind_the_head(
+    alloc: Global,
+    window: &Window,
+    bits: &Bits,
+    reader: &mut CertReader<Dripping<'_>>,
+) -> Result<CertVerdict, CheckFault>
+    requires reader { inlet_failures (cert_inlet reader.old) ≡ 0 }
+    requires bits { length bits.now ≡ window.now.levels }
+{
+    match reader.read_head(2, 1) {
+        Ok(None) => reader.check_bridge(alloc, 0, 0, window, bits),
+        _ => Err(CheckFault::Memory),
+    }
+}
+
+// The same of the bit 0 in a window, where a byte comes by each read and one read fails.
 fn behind_the_head(
     alloc: Global,
-    window: Result<Window, WindowFault>,
+    window: &Window,
     cert: &[u8],
     read: u64,
-) -> Result<Result<CertVerdict, CheckFault>, Fail> {
-    let window = window?;
-    let bits = bits_of(alloc, &window, 0x00)?;
+) -> Result<CertVerdict, CheckFault> {
+    let Ok(bits) = bits_of(alloc, window, 0x00) else {
+        return Err(CheckFault::Memory);
+    };
     let mut reader = CertReader::new(Inlet::new(drip(cert, 1, read)));
-    if let Some(reason) = reader.read_head(2, 1)? {
-        return Ok(Ok(CertVerdict::Rejected(reason)));
+    verdict_behind_the_head(alloc, window, &bits, &mut reader)
+}
+
+// Whether the failure of a read behind the head is told as one of the device.
+fn tells_a_failed_read(alloc: Global, cert: &[u8], read: u64) -> bool {
+    match newest(alloc) {
+        Ok(window) => behind_the_head(alloc, &window, cert, read) == Err(CheckFault::Device),
+        Err(_) => false,
     }
-    Ok(reader.check_bridge(alloc, 0, 0, &window, &bits))
 }
 
 #[test]
-fn a_failed_read_behind_the_head_is_no_reason(rt: HostRuntime) -> Result<(), Fail> {
-    let alloc = rt.alloc();
+fn a_failed_read_behind_the_head_is_no_reason(rt: HostRuntime) {
     for cert in &CERTIFICATES {
         for read in 13..cert.len() as u64 + 1 {
-            let told = behind_the_head(alloc, newest(alloc), cert, read)?;
-            assert!(rt; told == Err(CheckFault::Device), "read {read}");
+            assert!(rt; tells_a_failed_read(rt.alloc(), cert, read), "read {read}");
         }
     }
-    Ok(())
 }

@@ -7,12 +7,13 @@
 ghost use Rattle.std.specs.Prelude.{◌≡◌, ◌<◌, ◌≤◌, length};
 ghost use Rattle.splice_core.specs.Cues.{AreWeights};
 
-use cert_core::{CertReader, CertReason, CertVerdict};
+use cert_core::{CertReader, CertReason, CertVerdict, CheckFault};
+use cost_core::Window;
 use device_core::Inlet;
+use dsd_bits::Bits;
 use fixtures::windows::{bits_of, ones, window, zeros};
 use std::alloc::{AllocError, Global};
 use std::process::Abort;
-use std::test::Fail;
 
 // The least value that no row may have.
 const ABOVE: u64 = (1 << 63) + 1;
@@ -35,8 +36,20 @@ fn cert_with(
     states: usize,
     changed: Changed,
 ) -> Result<Vec<u8>, AllocError> {
-    let mut cert = Vec::from_slice(alloc, b"DSPC\0\x01\0")?;
-    cert.push(weights)?;
+    let mut cert = Vec::new(alloc);
+    push_cert(&mut cert, weights, states, changed)?;
+    Ok(cert)
+}
+
+// Writes it.
+fn push_cert(
+    cert: &mut Vec<u8>,
+    weights: u8,
+    states: usize,
+    changed: Changed,
+) -> Result<(), AllocError> {
+    cert.extend_from_slice(b"DSPC\0\x01\0")?;
+    cert.extend_from_slice(&[weights])?;
     cert.extend_from_slice(b"\0\0\0\x01\0\0\0\0\0\x01")?;
     for level in 0..2 {
         for state in 0..states {
@@ -49,27 +62,63 @@ fn cert_with(
             cert.extend_from_slice(&value.to_be_bytes())?;
         }
     }
-    cert.extend_from_slice(&4_u64.to_be_bytes())?;
-    Ok(cert)
+    cert.extend_from_slice(&4_u64.to_be_bytes())
 }
 
 // What is said of it for the bit 0.
-fn judged(alloc: Global, weights: &[i32], changed: Changed) -> Result<CertVerdict, Fail>
+fn judged(alloc: Global, weights: &[i32], changed: Changed) -> Result<CertVerdict, CheckFault>
     requires weights { AreWeights weights.now }
 {
-    let window = window(alloc, weights, ones(0, 12), 1, zeros(16, 28))?;
-    let bits = bits_of(alloc, &window, 0x00)?;
-    let cert = cert_with(alloc, weights.len() as u8, window.states(), changed)?;
-    let mut reader = CertReader::new(Inlet::new(cert.as_slice()));
-    if let Some(reason) = reader.read_head(weights.len(), 1)? {
-        return Ok(CertVerdict::Rejected(reason));
+    match window(alloc, weights, ones(0, 12), 1, zeros(16, 28)) {
+        Ok(window) => judged_in(alloc, &window, weights.len(), changed),
+        Err(_) => Err(CheckFault::Memory),
     }
-    Ok(reader.check_bridge(alloc, 0, 0, &window, &bits)?)
+}
+
+// The same of a window that there is.
+fn judged_in(
+    alloc: Global,
+    window: &Window,
+    weights: usize,
+    changed: Changed,
+) -> Result<CertVerdict, CheckFault>
+    requires weights { weights ≤ 12 }
+{
+    let cert = cert_with(alloc, weights as u8, window.states(), changed);
+    let (Ok(bits), Ok(cert)) = (bits_of(alloc, window, 0x00), cert) else {
+        return Err(CheckFault::Memory);
+    };
+    verdict(alloc, window, &bits, weights, &cert)
+}
+
+/// What is said of a certificate of one entry by so many weights.
+pub(crate) fn verdict(
+    alloc: Global,
+    window: &Window,
+    bits: &Bits,
+    weights: usize,
+    cert: &[u8],
+) -> Result<CertVerdict, CheckFault>
+    requires bits { length bits.now ≡ window.now.levels }
+    requires weights { weights ≤ 12 }
+{
+    let mut reader = CertReader::new(Inlet::new(cert));
+    match reader.read_head(weights, 1)? {
+        Some(reason) => Ok(CertVerdict::Rejected(reason)),
+        None => reader.check_bridge(alloc, 0, 0, window, bits),
+    }
+}
+
+// Whether a value of a state is judged so.
+fn judges(alloc: Global, weights: &[i32], changed: Changed, expected: CertVerdict) -> bool
+    requires weights { AreWeights weights.now }
+{
+    judged(alloc, weights, changed) == Ok(expected)
 }
 
 // Whether each value of a state is judged as it is: the right ones, one more and one less at level 1, and above the
 // greatest bound at both levels.
-fn judges_state(alloc: Global, weights: &[i32], state: usize) -> Result<bool, Fail>
+fn judges_state(alloc: Global, weights: &[i32], state: usize) -> bool
     requires weights { AreWeights weights.now }
 {
     let mut is_right = true;
@@ -85,30 +134,26 @@ fn judges_state(alloc: Global, weights: &[i32], state: usize) -> Result<bool, Fa
             state,
             value,
         };
-        is_right &= judged(alloc, weights, changed)? == expected;
+        is_right &= judges(alloc, weights, changed, expected);
     }
-    Ok(is_right)
+    is_right
 }
 
 // All states of so many weights.
-fn judge_states(rt: &impl Abort, alloc: Global, weights: &[i32], states: usize) -> Result<(), Fail>
+fn judge_states(rt: &impl Abort, alloc: Global, weights: &[i32], states: usize)
     requires weights { AreWeights weights.now }
 {
     for state in 0..states {
-        assert!(rt;
-            judges_state(alloc, weights, state)?,
-            "state {state} by {weights:?}"
-        );
+        let is_judged = judges_state(alloc, weights, state);
+        assert!(rt; is_judged, "state {state} by {weights:?}");
     }
-    Ok(())
 }
 
 #[test]
-fn each_value_of_a_row_is_judged(rt: HostRuntime) -> Result<(), Fail> {
+fn each_value_of_a_row_is_judged(rt: HostRuntime) {
     let alloc = rt.alloc();
-    judge_states(&rt, alloc, &[1, 0], 2)?;
-    judge_states(&rt, alloc, &[1, 0, 0], 4)?;
-    judge_states(&rt, alloc, &[1, 0, 0, 0], 8)?;
-    judge_states(&rt, alloc, &[1, 0, 0, 0, 0], 16)?;
-    Ok(())
+    judge_states(&rt, alloc, &[1, 0], 2);
+    judge_states(&rt, alloc, &[1, 0, 0], 4);
+    judge_states(&rt, alloc, &[1, 0, 0, 0], 8);
+    judge_states(&rt, alloc, &[1, 0, 0, 0, 0], 16);
 }

@@ -11,7 +11,6 @@ use device_core::Outlet;
 use fixtures::devices::sip;
 use std::alloc::{AllocError, Global};
 use std::io::Write;
-use std::test::Fail;
 
 const NEVER: u64 = u64::MAX;
 
@@ -109,21 +108,20 @@ fn are_answers(answers: &[Result<(), CertFault>], worked: &Worked, write: usize)
         .all(|(given, part)| *given == answer(part, write))
 }
 
+// Whether a certificate is written whole, every call succeeds, and no row is refused.
+fn is_written(alloc: Global, worked: &Worked) -> Result<bool, AllocError> {
+    let written = written(alloc, Outlet::new(Vec::new(alloc)), worked)?;
+    let is_told = are_answers(&written.answers, worked, usize::MAX) && !written.is_refused;
+    let bytes = written.outlet.into_inner();
+    Ok(is_told && bytes.as_slice() == worked.bytes)
+}
+
 #[test]
-fn the_worked_certificates_are_written(rt: HostRuntime) -> Result<(), Fail> {
-    let alloc = rt.alloc();
+fn the_worked_certificates_are_written(rt: HostRuntime) {
     for worked in &CERTIFICATES {
-        let outlet = Outlet::new(Vec::new(alloc));
-        let written = written(alloc, outlet, worked)?;
-        let size = worked.bytes.len();
-        assert!(rt; are_answers(&written.answers, worked, size + 1), "{size}");
-        assert!(rt; !written.is_refused, "{size}");
-        assert!(rt;
-            written.outlet.into_inner().as_slice() == worked.bytes,
-            "{size}"
-        );
+        let is_written = is_written(rt.alloc(), worked);
+        assert!(rt; is_written == Ok(true), "{} bytes", worked.bytes.len());
     }
-    Ok(())
 }
 
 // Whether a writer that fails at a write, or is full from it on, leaves the bytes before it alone, is asked no
@@ -146,20 +144,23 @@ fn leaves(
     Ok(is_told && is_once && is_front && device.writes == write as u64)
 }
 
+// Whether it is so of both. A byte is taken by each write.
+fn leaves_a_front(alloc: Global, worked: &Worked, write: usize) -> Result<bool, AllocError>
+    requires { 1 ≤ write }
+{
+    let place = write as u64;
+    let fails = leaves(alloc, worked, place, NEVER, write)?;
+    Ok(leaves(alloc, worked, NEVER, place, write)? && fails)
+}
+
 #[test]
-fn a_failed_write_leaves_a_front(rt: HostRuntime) -> Result<(), Fail> {
-    let alloc = rt.alloc();
+fn a_failed_write_leaves_a_front(rt: HostRuntime) {
     for worked in &CERTIFICATES {
         for write in 1..worked.bytes.len() + 1 {
-            // A byte is taken by each write.
-            let place = write as u64;
-            let fails = leaves(alloc, worked, place, NEVER, write)?;
-            assert!(rt; fails, "write {write} fails");
-            let is_full = leaves(alloc, worked, NEVER, place, write)?;
-            assert!(rt; is_full, "full from write {write}");
+            let is_left = leaves_a_front(rt.alloc(), worked, write);
+            assert!(rt; is_left == Ok(true), "write {write}");
         }
     }
-    Ok(())
 }
 
 // What a writer that fails at the byte behind the head answers to it, whether it then refuses rows, and what
@@ -185,8 +186,7 @@ fn refusals(
 }
 
 #[test]
-fn a_sink_refuses_rows_after_a_failure(rt: HostRuntime) -> Result<(), Fail> {
-    let refusals = refusals(rt.alloc(), &[1 << 63, 0])?;
-    assert!(rt; refusals == (Some(CertFault::Device), true, Some(SinkFault)));
-    Ok(())
+fn a_sink_refuses_rows_after_a_failure(rt: HostRuntime) {
+    let refusals = refusals(rt.alloc(), &[1 << 63, 0]);
+    assert!(rt; refusals == Ok((Some(CertFault::Device), true, Some(SinkFault))));
 }

@@ -6,17 +6,19 @@ ghost use Rattle.cost_core.specs.StateCosts.{trellis_of};
 ghost use Rattle.cost_core.specs.Trellis.{states};
 ghost use Rattle.fir_core.specs.StreamView.{IsStream, state_of};
 
+use crate::certificate_rows::verdict;
 use crate::certificates::WORKED;
-use cert_core::{CertReader, CertVerdict, CertWriter, Version};
+use cert_core::{CertVerdict, CertWriter, Version};
 use cost_core::{LevelSink, SinkFault, Window, WindowFault};
-use device_core::{Inlet, Outlet};
-use dsd_bits::{Bits, Sound};
+use device_core::Outlet;
+use dsd_bits::{BitOrder, Bits, Sound};
 use fir_core::{Kernel, Stream, Taps, decimate, decimate_with};
 use fixtures::windows::{bits_of, by_newest, ones, zeros};
 use player_core::Player;
+use relace_core::{Stretch, push_relaced};
 use std::alloc::{AllocError, Global};
 use std::test::Fail;
-use trellis_core::{bridge, bridge_cut_into, bridge_into};
+use trellis_core::{BridgeFault, bridge, bridge_cut_into, bridge_into};
 
 // One channel of 40 bits, as in DSDIFF 1.5.
 const FORTY: Sound = Sound {
@@ -139,26 +141,49 @@ fn stream_whole(
     Ok(fed.and(finish_again(&mut stream, made)?))
 }
 
+// How many samples each call makes.
+fn numbers_of_samples(alloc: Global, taps: &Taps, bits: &Bits) -> Result<[usize; 4], AllocError> {
+    Ok([
+        decimate(alloc, taps, bits)?.len(),
+        decimate_with(alloc, taps, bits, Kernel::Plain)?.len(),
+        decimate_with(alloc, taps, bits, Kernel::Table)?.len(),
+        decimate_with(alloc, taps, bits, Kernel::Lanes)?.len(),
+    ])
+}
+
 #[test]
 fn a_channel_is_decimated(rt: HostRuntime) -> Result<(), Fail> {
     let alloc = rt.alloc();
     let taps = ten_taps(alloc)?;
     let bits = channel(alloc)?;
-    assert!(rt; decimate(alloc, &taps, &bits)?.len() == 17);
-    for kernel in [Kernel::Plain, Kernel::Table, Kernel::Lanes] {
-        assert!(rt; decimate_with(alloc, &taps, &bits, kernel)?.len() == 17);
-    }
+    assert!(rt; numbers_of_samples(alloc, &taps, &bits)? == [17; 4]);
     Ok(())
+}
+
+// The samples of the whole channel.
+fn whole(alloc: Global, taps: &Taps) -> Result<Vec<i32>, Fail> {
+    let bits = channel(alloc)?;
+    Ok(decimate(alloc, taps, &bits)?)
+}
+
+// Whether the samples of a stream are these, and its first refusal.
+fn streams(
+    alloc: Global,
+    taps: &Taps,
+    samples: &[i32],
+) -> Result<(bool, Result<(), AllocError>), AllocError> {
+    let mut made = Vec::new(alloc);
+    let result = stream_whole(alloc, taps, &mut made)?;
+    Ok((made.as_slice() == samples, result))
 }
 
 #[test]
 fn a_stream_goes_on_after_a_refusal(rt: HostRuntime) -> Result<(), Fail> {
     let alloc = rt.alloc();
     let taps = ten_taps(alloc)?;
-    let whole = decimate(alloc, &taps, &channel(alloc)?)?;
-    let mut made = Vec::new(alloc);
-    let result = stream_whole(alloc, &taps, &mut made)?;
-    assert!(rt; made.as_slice() == whole.as_slice());
+    let whole = whole(alloc, &taps)?;
+    let (is_same, result) = streams(alloc, &taps, &whole)?;
+    assert!(rt; is_same);
     Ok(result?)
 }
 
@@ -188,23 +213,31 @@ fn a_bridge_is_chosen(rt: HostRuntime) -> Result<(), Fail> {
     Ok(())
 }
 
+// The cost of a bridge that is handed over, and how many rows are wanting.
+fn handed_over(alloc: Global, window: &Window) -> Result<(u64, usize), BridgeFault> {
+    let mut sink = sink_for(window);
+    let cost = bridge_into(alloc, window, &mut sink)?.cost;
+    Ok((cost, sink.left))
+}
+
 #[test]
 fn a_bridge_is_handed_over(rt: HostRuntime) -> Result<(), Fail> {
-    let alloc = rt.alloc();
-    let window = window(alloc, 2)?;
-    let mut sink = sink_for(&window);
-    assert!(rt; bridge_into(alloc, &window, &mut sink)?.cost == 8);
-    assert!(rt; sink.left == 0);
+    let window = window(rt.alloc(), 2)?;
+    assert!(rt; handed_over(rt.alloc(), &window)? == (8, 0));
     Ok(())
+}
+
+// The same where its rows are cut.
+fn handed_over_cut(alloc: Global, window: &Window) -> Result<(u64, usize), BridgeFault> {
+    let mut sink = sink_for(window);
+    let cost = bridge_cut_into(alloc, window, &mut sink)?.cost;
+    Ok((cost, sink.left))
 }
 
 #[test]
 fn a_bridge_is_handed_over_cut(rt: HostRuntime) -> Result<(), Fail> {
-    let alloc = rt.alloc();
-    let window = window(alloc, 2)?;
-    let mut sink = sink_for(&window);
-    assert!(rt; bridge_cut_into(alloc, &window, &mut sink)?.cost == 8);
-    assert!(rt; sink.left == 0);
+    let window = window(rt.alloc(), 2)?;
+    assert!(rt; handed_over_cut(rt.alloc(), &window)? == (8, 0));
     Ok(())
 }
 
@@ -223,18 +256,28 @@ fn a_writer_is_made(rt: HostRuntime) -> Result<(), Fail> {
 }
 
 // What is said of a bit 0 by the worked certificate.
-fn judged(alloc: Global) -> Result<CertVerdict, Fail> {
-    let window = by_newest(alloc, ones(0, 8), 1, zeros(2, 9))?;
-    let bits = bits_of(alloc, &window, 0x00)?;
-    let mut reader = CertReader::new(Inlet::new(WORKED.as_slice()));
-    if let Some(reason) = reader.read_head(2, 1)? {
-        return Ok(CertVerdict::Rejected(reason));
-    }
-    Ok(reader.check_bridge(alloc, 0, 0, &window, &bits)?)
+fn judged_zero(alloc: Global, window: &Window) -> Result<CertVerdict, Fail> {
+    let bits = bits_of(alloc, window, 0x00)?;
+    Ok(verdict(alloc, window, &bits, 2, &WORKED)?)
 }
 
 #[test]
 fn a_bridge_is_checked(rt: HostRuntime) -> Result<(), Fail> {
-    assert!(rt; judged(rt.alloc())? == CertVerdict::Accepted { cost: 4 });
+    let window = by_newest(rt.alloc(), ones(0, 8), 1, zeros(2, 9))?;
+    assert!(rt; judged_zero(rt.alloc(), &window)? == CertVerdict::Accepted { cost: 4 });
+    Ok(())
+}
+
+#[test]
+fn a_stretch_is_written_in_blocks(rt: HostRuntime) -> Result<(), Fail> {
+    let alloc = rt.alloc();
+    let stretch = Stretch {
+        channels: 2,
+        count: 8,
+    };
+    let least = Some(BitOrder::LeastFirst);
+    let mut out = Vec::new(alloc);
+    push_relaced(alloc, &mut out, &[0xf0, 0x0f], stretch, None, least)?;
+    assert!(rt; out.len() == 8192);
     Ok(())
 }

@@ -1,4 +1,5 @@
-//! Worked examples of decimation, of frames, of the costs and the bits of bridges, and of certificates.
+//! Worked examples of decimation, of frames, of the costs and the bits of bridges, of certificates, and of sound bytes that
+//! are interleaved otherwise.
 #![tactic(auto)]
 
 #[cfg(test)]
@@ -23,6 +24,8 @@ mod kernels;
 mod names;
 #[cfg(test)]
 mod players;
+#[cfg(test)]
+mod relacing;
 #[cfg(test)]
 mod rows;
 #[cfg(test)]

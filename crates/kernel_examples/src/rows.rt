@@ -7,8 +7,7 @@ ghost use Rattle.cost_core.specs.StateCosts.{trellis_of};
 use cost_core::{LevelSink, SinkFault, Window, WindowFault};
 use fixtures::windows::{by_newest, ones, zeros};
 use std::alloc::Global;
-use std::test::Fail;
-use trellis_core::{BridgeFault, bridge_cut_into, bridge_into};
+use trellis_core::{BridgeFault, Chosen, bridge_cut_into, bridge_into};
 
 // The numbers of the rows before one that is refused.
 #[derive(Drop)]
@@ -70,67 +69,79 @@ fn two_bits(alloc: Global) -> Result<Window, WindowFault> {
     by_newest(alloc, ones(0, 8), 2, zeros(3, 9))
 }
 
-// Whether the rows of the bridge are these numbers, and its bits those of a byte, at a cost.
-fn hands_over(alloc: Global, numbers: &[u64], byte: u8, cost: u64) -> Result<bool, Fail> {
-    let window = two_bits(alloc)?;
-    let mut sink = sink_for(alloc, &window, 0);
-    let chosen = bridge_into(alloc, &window, &mut sink)?;
-    let is_chosen = chosen.bits.as_bytes() == [byte].as_slice() && chosen.cost == cost;
-    Ok(is_chosen && sink.numbers.as_slice() == numbers)
+// The bits of a bridge and its cost, or why there is none.
+type Told = Result<(u8, u64), BridgeFault>;
+
+// The first byte of chosen bits, and their cost.
+fn told(chosen: Result<Chosen, BridgeFault>) -> Told {
+    match chosen {
+        Ok(chosen) => match chosen.bits.as_bytes() {
+            [byte] => Ok((*byte, chosen.cost)),
+            _ => Err(BridgeFault::Memory),
+        },
+        Err(fault) => Err(fault),
+    }
 }
 
-// Whether the rows of the bridge, cut at its cost, are these numbers, and its bits those of a byte, at a cost.
-fn hands_over_cut(alloc: Global, numbers: &[u64], byte: u8, cost: u64) -> Result<bool, Fail> {
-    let window = two_bits(alloc)?;
-    let mut sink = sink_for(alloc, &window, 0);
-    let chosen = bridge_cut_into(alloc, &window, &mut sink)?;
-    let is_chosen = chosen.bits.as_bytes() == [byte].as_slice() && chosen.cost == cost;
-    Ok(is_chosen && sink.numbers.as_slice() == numbers)
+// What a search comes to that hands over its rows, cut at the cost or not.
+fn searched(alloc: Global, window: &Window, sink: &mut Numbers, is_cut: bool) -> Told
+    requires left { sink.old.left ≡ window.now.levels + 1 }
+    requires width { sink.old.width ≡ states (trellis_of window.now) }
+    requires ready { sink.old.is_refused ≡ false }
+{
+    if is_cut {
+        told(bridge_cut_into(alloc, window, sink))
+    } else {
+        told(bridge_into(alloc, window, sink))
+    }
 }
 
-// Whether a refused row is answered as such where rows are cut, after these numbers.
-fn stops_cut(alloc: Global, refused_left: usize, numbers: &[u64]) -> Result<bool, Fail> {
-    let window = two_bits(alloc)?;
-    let mut sink = sink_for(alloc, &window, refused_left);
-    let fault = bridge_cut_into(alloc, &window, &mut sink).err();
-    Ok(fault == Some(BridgeFault::Sink) && sink.refused() && sink.numbers.as_slice() == numbers)
+// A search of two bits: whether rows are cut, after which row one is refused, the numbers of the rows before it, and
+// what it comes to.
+type Search = (bool, usize, &'static [u64], Told);
+
+// Whether a search comes to this, and a row is refused just where that is told.
+fn is_so(alloc: Global, window: &Window, search: &Search) -> bool {
+    let (is_cut, refused_left, numbers, expected) = *search;
+    let mut sink = sink_for(alloc, window, refused_left);
+    let found = searched(alloc, window, &mut sink, is_cut);
+    found == expected && sink.refused() == expected.is_err() && sink.numbers.as_slice() == numbers
 }
 
-// Whether a refused row is answered as such, after these numbers.
-fn stops(alloc: Global, refused_left: usize, numbers: &[u64]) -> Result<bool, Fail> {
-    let window = two_bits(alloc)?;
-    let mut sink = sink_for(alloc, &window, refused_left);
-    let fault = bridge_into(alloc, &window, &mut sink).err();
-    Ok(fault == Some(BridgeFault::Sink) && sink.refused() && sink.numbers.as_slice() == numbers)
+// The same for the bridge of two bits.
+fn hands_over(alloc: Global, search: &Search) -> bool {
+    match two_bits(alloc) {
+        Ok(window) => is_so(alloc, &window, search),
+        Err(_) => false,
+    }
 }
+
+// The rows as they are, and where the first, the second and the last row are refused.
+const WHOLE: [Search; 4] = [
+    (false, 0, &[1 << 63, 0, 16, 4, 8, 20], Ok((0x80, 8))),
+    (false, 3, &[], Err(BridgeFault::Sink)),
+    (false, 2, &[1 << 63, 0], Err(BridgeFault::Sink)),
+    (false, 1, &[1 << 63, 0, 16, 4], Err(BridgeFault::Sink)),
+];
 
 #[test]
-fn hands_over_a_row_for_each_level(rt: HostRuntime) -> Result<(), Fail> {
-    assert!(rt; hands_over(rt.alloc(), &[1 << 63, 0, 16, 4, 8, 20], 0x80, 8)?);
-    Ok(())
-}
-
-#[test]
-fn stops_where_a_row_is_refused(rt: HostRuntime) -> Result<(), Fail> {
-    let alloc = rt.alloc();
-    assert!(rt; stops(alloc, 3, &[])?, "the first row");
-    assert!(rt; stops(alloc, 2, &[1 << 63, 0])?, "the second row");
-    assert!(rt; stops(alloc, 1, &[1 << 63, 0, 16, 4])?, "the last row");
-    Ok(())
+fn hands_over_a_row_for_each_level(rt: HostRuntime) {
+    for search in &WHOLE {
+        assert!(rt; hands_over(rt.alloc(), search), "{} left", search.1);
+    }
 }
 
 // The cost is 8: each number above it is 8.
-#[test]
-fn hands_over_rows_that_are_cut(rt: HostRuntime) -> Result<(), Fail> {
-    assert!(rt; hands_over_cut(rt.alloc(), &[8, 0, 8, 4, 8, 8], 0x80, 8)?);
-    Ok(())
-}
+const CUT: [Search; 4] = [
+    (true, 0, &[8, 0, 8, 4, 8, 8], Ok((0x80, 8))),
+    (true, 3, &[], Err(BridgeFault::Sink)),
+    (true, 2, &[8, 0], Err(BridgeFault::Sink)),
+    (true, 1, &[8, 0, 8, 4], Err(BridgeFault::Sink)),
+];
 
 #[test]
-fn stops_where_a_row_that_is_cut_is_refused(rt: HostRuntime) -> Result<(), Fail> {
-    let alloc = rt.alloc();
-    assert!(rt; stops_cut(alloc, 3, &[])?, "the first row");
-    assert!(rt; stops_cut(alloc, 2, &[8, 0])?, "the second row");
-    assert!(rt; stops_cut(alloc, 1, &[8, 0, 8, 4])?, "the last row");
-    Ok(())
+fn hands_over_rows_that_are_cut(rt: HostRuntime) {
+    for search in &CUT {
+        assert!(rt; hands_over(rt.alloc(), search), "{} left", search.1);
+    }
 }

@@ -6,7 +6,6 @@ ghost use Rattle.splice_core.specs.Cues.{IsLine};
 use cost_core::{Window, WindowFault};
 use fixtures::windows::{bits_of, by_equal, by_line, by_newest, by_older, ones, zeros};
 use std::alloc::Global;
-use std::test::Fail;
 
 // The bits of a state, the states, the bits of the bridge, and the state before it.
 fn shape(window: &Window) -> [usize; 4] {
@@ -20,7 +19,9 @@ fn shape(window: &Window) -> [usize; 4] {
 
 // The costs of a level's steps, from state 0 by the bits 0 and 1 and from state 1: one by one, and as a
 // row. None where there is no such level, or where there are other states.
-fn steps(window: &Window, level: usize) -> Option<([u64; 4], [u64; 4])> {
+type Steps = Option<([u64; 4], [u64; 4])>;
+
+fn steps(window: &Window, level: usize) -> Steps {
     if level >= window.length() || window.states() != 2 {
         return None;
     }
@@ -37,7 +38,9 @@ fn steps(window: &Window, level: usize) -> Option<([u64; 4], [u64; 4])> {
 
 // What the bits behind the bridge cost after state 0 and after state 1: one by one, and as a row. None where there are
 // other states.
-fn tails(window: &Window) -> Option<([u64; 2], [u64; 2])> {
+type Tails = Option<([u64; 2], [u64; 2])>;
+
+fn tails(window: &Window) -> Tails {
     if window.states() != 2 {
         return None;
     }
@@ -46,106 +49,98 @@ fn tails(window: &Window) -> Option<([u64; 2], [u64; 2])> {
     Some(([window.tail_cost(0), window.tail_cost(1)], row))
 }
 
-#[test]
-fn steps_of_a_bridge_of_one_bit(rt: HostRuntime) -> Result<(), Fail> {
-    let window = by_equal(rt.alloc(), ones(0, 8), 1, zeros(2, 9))?;
-    assert!(rt; shape(&window) == [1, 2, 1, 1]);
-    let costs = [16, 0, 0, 16];
-    assert!(rt; steps(&window, 0) == Some((costs, costs)));
-    assert!(rt; tails(&window) == Some(([0, 16], [0, 16])));
-    Ok(())
+// What is told of a window: its shape, its steps at the levels 0 and 1, and the bits behind it.
+type Told = ([usize; 4], Steps, Steps, Tails);
+
+fn told(window: Result<Window, WindowFault>) -> Option<Told> {
+    let window = window.ok()?;
+    let first = steps(&window, 0);
+    Some((shape(&window), first, steps(&window, 1), tails(&window)))
 }
 
 #[test]
-fn steps_of_a_bridge_of_two_bits(rt: HostRuntime) -> Result<(), Fail> {
-    let window = by_newest(rt.alloc(), ones(0, 8), 2, zeros(3, 9))?;
-    assert!(rt; shape(&window) == [1, 2, 2, 1]);
-    // The state counts nothing.
-    let first = [16, 4, 16, 4];
-    assert!(rt; steps(&window, 0) == Some((first, first)));
-    let second = [4, 16, 4, 16];
-    assert!(rt; steps(&window, 1) == Some((second, second)));
-    assert!(rt; tails(&window) == Some(([0, 0], [0, 0])));
-    Ok(())
+fn steps_of_a_bridge_of_one_bit(rt: HostRuntime) {
+    let costs = Some(([16, 0, 0, 16], [16, 0, 0, 16]));
+    let expected = ([1, 2, 1, 1], costs, None, Some(([0, 16], [0, 16])));
+    assert!(rt; told(by_equal(rt.alloc(), ones(0, 8), 1, zeros(2, 9))) == Some(expected));
+}
+
+// The state counts nothing.
+#[test]
+fn steps_of_a_bridge_of_two_bits(rt: HostRuntime) {
+    let first = Some(([16, 4, 16, 4], [16, 4, 16, 4]));
+    let second = Some(([4, 16, 4, 16], [4, 16, 4, 16]));
+    let expected = ([1, 2, 2, 1], first, second, Some(([0, 0], [0, 0])));
+    assert!(rt; told(by_newest(rt.alloc(), ones(0, 8), 2, zeros(3, 9))) == Some(expected));
 }
 
 // The cost of the first bits of a byte as a bridge.
-fn cost(alloc: Global, window: Result<Window, WindowFault>, byte: u8) -> Result<u64, Fail> {
-    let window = window?;
-    let bits = bits_of(alloc, &window, byte)?;
-    Ok(window.cost_of(&bits))
+fn cost_in(alloc: Global, window: &Window, byte: u8) -> Option<u64> {
+    let bits = bits_of(alloc, window, byte).ok()?;
+    Some(window.cost_of(&bits))
+}
+
+// The same of a window that may be refused.
+fn cost(alloc: Global, window: Result<Window, WindowFault>, byte: u8) -> Option<u64> {
+    match window {
+        Ok(window) => cost_in(alloc, &window, byte),
+        Err(_) => None,
+    }
+}
+
+// What the bits 0 and 1 cost as a bridge of a window.
+fn both_costs(alloc: Global, window: Result<Window, WindowFault>) -> [Option<u64>; 2] {
+    match window {
+        Ok(window) => [cost_in(alloc, &window, 0x00), cost_in(alloc, &window, 0x80)],
+        Err(_) => [None, None],
+    }
 }
 
 #[test]
-fn costs_of_whole_bridges(rt: HostRuntime) -> Result<(), Fail> {
+fn costs_of_whole_bridges(rt: HostRuntime) {
     let alloc = rt.alloc();
-    for (byte, equal, newest) in [(0x00, 0, 4), (0x80, 32, 4)] {
-        let window = by_equal(alloc, ones(0, 8), 1, zeros(2, 9));
-        assert!(rt;
-            cost(alloc, window, byte)? == equal,
-            "{byte} by equal weights"
-        );
-        let window = by_newest(alloc, ones(0, 8), 1, zeros(2, 9));
-        assert!(rt;
-            cost(alloc, window, byte)? == newest,
-            "{byte} by the newest bit"
-        );
-    }
+    let equal = by_equal(alloc, ones(0, 8), 1, zeros(2, 9));
+    assert!(rt; both_costs(alloc, equal) == [Some(0), Some(32)]);
+    let newest = by_newest(alloc, ones(0, 8), 1, zeros(2, 9));
+    assert!(rt; both_costs(alloc, newest) == [Some(4), Some(4)]);
     let longer = by_newest(alloc, ones(0, 8), 2, zeros(3, 9));
-    assert!(rt; cost(alloc, longer, 0x80)? == 8, "two bits");
-    Ok(())
+    assert!(rt; cost(alloc, longer, 0x80) == Some(8), "two bits");
 }
 
 // What the bits 0 and 1 cost as a bridge of a line with these ends, from ones to the start of a take of zeros.
-fn line_costs(alloc: Global, ends: (i32, i32)) -> Result<[u64; 2], Fail>
+fn line_costs(alloc: Global, ends: (i32, i32)) -> [Option<u64>; 2]
     requires { IsLine ends.0 ends.1 }
 {
-    let zero = cost(
-        alloc,
-        by_line(alloc, ones(0, 8), 1, zeros(0, 7), ends),
-        0x00,
-    )?;
-    let one = cost(
-        alloc,
-        by_line(alloc, ones(0, 8), 1, zeros(0, 7), ends),
-        0x80,
-    )?;
-    Ok([zero, one])
+    both_costs(alloc, by_line(alloc, ones(0, 8), 1, zeros(0, 7), ends))
 }
 
 // All numbers are times 2. A line from 2 to -2 is 0 at the bridge's place and -4 behind it: the bit 0 meets both, the bit
 // 1 is 4 off at both. Silence is 0 at both places: the bit 0 is 4 off behind the bridge, the bit 1 at it. From -1 to 1 the
 // targets are 0 and 2: the bit 0 is 6 off behind the bridge, the bit 1 is 4 off at it and 2 behind it.
 #[test]
-fn costs_of_lines(rt: HostRuntime) -> Result<(), Fail> {
+fn costs_of_lines(rt: HostRuntime) {
     let alloc = rt.alloc();
-    assert!(rt; line_costs(alloc, (2, -2))? == [0, 32], "there");
-    assert!(rt; line_costs(alloc, (0, 0))? == [16, 16], "silence");
-    assert!(rt; line_costs(alloc, (-1, 1))? == [36, 20], "back");
-    Ok(())
+    assert!(rt; line_costs(alloc, (2, -2)) == [Some(0), Some(32)]);
+    assert!(rt; line_costs(alloc, (0, 0)) == [Some(16), Some(16)]);
+    assert!(rt; line_costs(alloc, (-1, 1)) == [Some(36), Some(20)]);
 }
 
 // By the weights 0 and 1 a bridge of one bit from zeros to ones has the targets 0 and 2. At its own place the zero
 // before it counts, which is 2 off whichever the bit is: that costs 4. Behind it the bit itself counts: a 1 meets the
 // target, a 0 is 4 off.
 #[test]
-fn a_bit_costs_at_the_place_behind_it(rt: HostRuntime) -> Result<(), Fail> {
-    let alloc = rt.alloc();
-    for (byte, expected) in [(0x00, 20), (0x80, 4)] {
-        let window = by_older(alloc, zeros(0, 8), 1, ones(2, 9));
-        assert!(rt; cost(alloc, window, byte)? == expected, "{byte}");
-    }
-    Ok(())
+fn a_bit_costs_at_the_place_behind_it(rt: HostRuntime) {
+    let older = by_older(rt.alloc(), zeros(0, 8), 1, ones(2, 9));
+    assert!(rt; both_costs(rt.alloc(), older) == [Some(20), Some(4)]);
 }
 
 #[test]
-fn bridges_to_a_cue_of_one_bit_and_back(rt: HostRuntime) -> Result<(), Fail> {
+fn bridges_to_a_cue_of_one_bit_and_back(rt: HostRuntime) {
     let alloc = rt.alloc();
     let there = by_equal(alloc, ones(0, 8), 1, zeros(2, 3));
-    assert!(rt; cost(alloc, there, 0x00)? == 0, "there");
+    assert!(rt; cost(alloc, there, 0x00) == Some(0), "there");
     let back = by_equal(alloc, zeros(0, 3), 1, ones(2, 7));
-    assert!(rt; cost(alloc, back, 0x80)? == 0, "back");
-    Ok(())
+    assert!(rt; cost(alloc, back, 0x80) == Some(0), "back");
 }
 
 // Why there is no window of a bridge of one bit, from ones up to `stop` to zeros.

@@ -1,6 +1,8 @@
-//! Worked examples of playing from a reader to a writer.
+//! Worked examples of playing and converting from a reader to a writer.
 #![tactic(auto)]
 
+#[cfg(test)]
+mod converting;
 #[cfg(test)]
 mod failing;
 #[cfg(test)]

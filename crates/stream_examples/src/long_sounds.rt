@@ -6,7 +6,6 @@ use fixtures::devices::{drip, sip};
 use fixtures::files::{MONO, RATE, RAW, STEREO, dsf_of, file_of, mono};
 use fixtures::projects::{DECIMATE, Numbers, project, with_ones};
 use std::alloc::{AllocError, Global};
-use std::test::Fail;
 
 // So many bytes, in no order.
 fn noise(alloc: Global, size: usize) -> Result<Vec<u8>, AllocError> {
@@ -25,22 +24,29 @@ fn is_same(
     text: Result<String, AllocError>,
     file: Result<Vec<u8>, AllocError>,
 ) -> Result<bool, Fault> {
-    let text = text?;
-    let file = file?;
-    let wave = play(alloc, text.as_bytes(), &file)?;
-    let by_blocks = play_by(alloc, text.as_bytes(), &file, 65_536);
-    Ok(by_blocks.gives(&wave) && plays(alloc, &text, &file, &wave))
+    plays_same(alloc, &text?, &file?)
 }
 
-// A DSDIFF file of one or of two channels with so many sound bytes.
-fn laced(alloc: Global, channels: &[u8], size: usize) -> Result<Vec<u8>, AllocError> {
+// The same of a project and a file that were built.
+fn plays_same(alloc: Global, text: &str, file: &[u8]) -> Result<bool, Fault> {
+    let wave = play(alloc, text.as_bytes(), file)?;
+    let by_blocks = play_by(alloc, text.as_bytes(), file, 65_536);
+    Ok(by_blocks.gives(&wave) && plays(alloc, text, file, &wave))
+}
+
+/// A DSDIFF file of one or of two channels with so many sound bytes.
+pub(crate) fn laced(alloc: Global, channels: &[u8], size: usize) -> Result<Vec<u8>, AllocError> {
     let sound = noise(alloc, size)?;
     file_of(alloc, &[&RATE, channels, &RAW], &sound, &[])
 }
 
-// A DSF file of so many channels, bits per sample and bits a channel, with so many bytes of blocks, more than it
-// needs.
-fn blocks(alloc: Global, numbers: (u32, u32, u64), size: usize) -> Result<Vec<u8>, AllocError> {
+/// A DSF file of so many channels, bits per sample and bits a channel, with so many bytes of blocks, more than it
+/// needs.
+pub(crate) fn blocks(
+    alloc: Global,
+    numbers: (u32, u32, u64),
+    size: usize,
+) -> Result<Vec<u8>, AllocError> {
     let sound = noise(alloc, size)?;
     dsf_of(alloc, numbers, &sound, size, b"a tag")
 }
@@ -56,26 +62,24 @@ const PROJECTS: [(&str, Numbers); 3] = [
 ];
 
 #[test]
-fn plays_laced_bytes_as_in_memory(rt: HostRuntime) -> Result<(), Fail> {
+fn plays_laced_bytes_as_in_memory(rt: HostRuntime) {
     let alloc = rt.alloc();
     for (taps, numbers) in &PROJECTS {
         let mono = laced(alloc, &MONO, 4099);
         let mono = is_same(alloc, project(alloc, taps, *numbers), mono);
-        assert!(rt; mono?, "mono by {taps}");
+        assert!(rt; mono == Ok(true), "mono by {taps}");
         let stereo = laced(alloc, &STEREO, 8198);
         let stereo = is_same(alloc, project(alloc, taps, *numbers), stereo);
-        assert!(rt; stereo?, "stereo by {taps}");
+        assert!(rt; stereo == Ok(true), "stereo by {taps}");
     }
-    Ok(())
 }
 
 // The first block of 65,536 bytes holds the first 65,410 bytes of the sound, and the second the rest.
 #[test]
-fn plays_two_blocks_as_in_memory(rt: HostRuntime) -> Result<(), Fail> {
+fn plays_two_blocks_as_in_memory(rt: HostRuntime) {
     let alloc = rt.alloc();
     let text = project(alloc, "[1, 2, 3, 4]", (64, 3, 0, 16));
-    assert!(rt; is_same(alloc, text, laced(alloc, &MONO, 65_411))?);
-    Ok(())
+    assert!(rt; is_same(alloc, text, laced(alloc, &MONO, 65_411)) == Ok(true));
 }
 
 // Two groups of blocks, of which the second has one bit, or all but one; two groups of 8 bits per sample, and
@@ -88,54 +92,68 @@ const BLOCKS: [((u32, u32, u64), usize); 4] = [
 ];
 
 #[test]
-fn plays_blocks_as_in_memory(rt: HostRuntime) -> Result<(), Fail> {
+fn plays_blocks_as_in_memory(rt: HostRuntime) {
     let alloc = rt.alloc();
     for (numbers, size) in &BLOCKS {
         for (taps, decimator) in &PROJECTS {
             let text = project(alloc, taps, *decimator);
-            let same = is_same(alloc, text, blocks(alloc, *numbers, *size))?;
-            assert!(rt; same, "{numbers:?} by {taps}");
+            let same = is_same(alloc, text, blocks(alloc, *numbers, *size));
+            assert!(rt; same == Ok(true), "{numbers:?} by {taps}");
         }
     }
-    Ok(())
 }
 
 #[test]
-fn plays_4096_taps_as_in_memory(rt: HostRuntime) -> Result<(), Fail> {
+fn plays_4096_taps_as_in_memory(rt: HostRuntime) {
     let alloc = rt.alloc();
-    assert!(rt; is_same(alloc, with_ones(alloc, 4096), mono(alloc, &[0xff; 512]))?);
-    assert!(rt; is_same(alloc, with_ones(alloc, 4096), laced(alloc, &STEREO, 600))?);
-    Ok(())
+    assert!(rt; is_same(alloc, with_ones(alloc, 4096), mono(alloc, &[0xff; 512])) == Ok(true));
+    assert!(rt; is_same(alloc, with_ones(alloc, 4096), laced(alloc, &STEREO, 600)) == Ok(true));
 }
 
 // A reader of 32,789 bytes at a time fails behind 196,734 of 262,270 bytes: 196,608 of them are of the sound. What was
 // written lags behind by at most 131,072 bytes of the sound, each of which makes a sample of two bytes.
 #[test]
-fn writes_before_all_is_read(rt: HostRuntime) -> Result<(), Fail> {
+fn writes_before_all_is_read(rt: HostRuntime) {
     let alloc = rt.alloc();
+    let written = written_before(alloc, all_ones(alloc), (32_789, 7));
+    assert!(rt; matches!(written, Ok((524_332, true, size)) if size >= 131_116));
+}
+
+// A file of one channel of 262,144 bytes of ones.
+fn all_ones(alloc: Global) -> Result<Vec<u8>, AllocError> {
     let sound = vec![in alloc; 0xffu8; 262_144]?;
-    let file = mono(alloc, &sound)?;
-    let wave = play(alloc, DECIMATE.as_bytes(), &file)?;
-    assert!(rt; wave.len() == 524_332);
-    let reader = drip(&file, 32_789, 7);
+    mono(alloc, &sound)
+}
+
+// How many bytes a file is played to in memory, whether a reader of so many bytes at a time that fails at a read leaves
+// a front of them, and how many bytes this has.
+fn written_before(
+    alloc: Global,
+    file: Result<Vec<u8>, AllocError>,
+    failing: (usize, u64),
+) -> Result<(usize, bool, usize), Fault> {
+    written_before_the_end(alloc, &file?, failing)
+}
+
+// The same of a file that was built.
+fn written_before_the_end(
+    alloc: Global,
+    file: &[u8],
+    (most, fails_at): (usize, u64),
+) -> Result<(usize, bool, usize), Fault> {
+    let wave = play(alloc, DECIMATE.as_bytes(), file)?;
+    let reader = drip(file, most.max(1), fails_at);
     let played = play_from(alloc, DECIMATE.as_bytes(), reader, sip(alloc, NEVER, NEVER));
-    assert!(rt; played.stops_reading(&wave));
-    assert!(rt; played.bytes.len() >= 131_116);
-    Ok(())
+    Ok((wave.len(), played.stops_reading(&wave), played.bytes.len()))
 }
 
 // Ten groups of six blocks are 245,760 bytes behind a head of 92. A reader of 40,000 bytes at a time fails behind
 // 200,000: 199,908 of them are of the sound, and the first 68,836 hold two whole groups, 65,536 bits of each channel.
 // They make 8192 frames of six samples of two bytes.
 #[test]
-fn writes_blocks_before_all_is_read(rt: HostRuntime) -> Result<(), Fail> {
+fn writes_blocks_before_all_is_read(rt: HostRuntime) {
     let alloc = rt.alloc();
-    let file = blocks(alloc, (6, 1, 327_680), 245_760)?;
-    let wave = play(alloc, DECIMATE.as_bytes(), &file)?;
-    assert!(rt; wave.len() == 491_588);
-    let reader = drip(&file, 40_000, 6);
-    let played = play_from(alloc, DECIMATE.as_bytes(), reader, sip(alloc, NEVER, NEVER));
-    assert!(rt; played.stops_reading(&wave));
-    assert!(rt; played.bytes.len() >= 98_372);
-    Ok(())
+    let file = blocks(alloc, (6, 1, 327_680), 245_760);
+    let written = written_before(alloc, file, (40_000, 6));
+    assert!(rt; matches!(written, Ok((491_588, true, size)) if size >= 98_372));
 }

@@ -34,40 +34,39 @@ const LIES: [(usize, &[u8]); 4] = [
     (76, &[0, 0]),
 ];
 
-// `FILE` with other bytes at a place.
-fn form_with(alloc: Global, (place, bytes): (usize, &[u8])) -> Result<Vec<u8>, Fail> {
-    if place > 100 || bytes.len() > 8 {
-        return Err("a place in the file")?;
-    }
-    Ok(changed(alloc, &FILE, place, bytes)?)
+// Whether `FILE` with other bytes at a place is refused. A form of `2^64-1` bytes has a sound, whose end is missing: a
+// front of the file it would be is written.
+fn is_lie_refused(alloc: Global, (place, bytes): (usize, &[u8])) -> Result<bool, AllocError> {
+    let file = changed(alloc, &FILE, place, bytes)?;
+    let wave = if place == 4 { WAVE.as_slice() } else { b"" };
+    are_no_files(alloc, &file, (126, 128), wave)
 }
 
-// A form of `2^64-1` bytes has a sound, whose end is missing: a front of the file it would be is written.
 #[test]
-fn forms_that_lie_are_refused(rt: HostRuntime) -> Result<(), Fail> {
-    let alloc = rt.alloc();
+fn forms_that_lie_are_refused(rt: HostRuntime) {
     for lie in &LIES {
-        let file = form_with(alloc, *lie)?;
-        let wave = if lie.0 == 4 { WAVE.as_slice() } else { b"" };
         assert!(rt;
-            are_no_files(alloc, &file, (126, 128), wave)?,
+            is_lie_refused(rt.alloc(), *lie) == Ok(true),
             "at {}",
             lie.0
         );
     }
-    Ok(())
 }
 
 // A mark of 22 bytes which tells of a text of `2^32-1`.
 const LONG_TEXT: [u8; 22] = *b"\0\0\0\0\0\0\0\0\0\0\0\0\0\0\0\0\0\0\xff\xff\xff\xff";
 
+// A file with that mark.
+fn long_text(alloc: Global) -> Result<Vec<u8>, AllocError> {
+    let mark = marked_with(alloc, &LONG_TEXT)?;
+    file_of(alloc, &[&RATE, &MONO, &RAW], &[0xf0], &mark)
+}
+
 #[test]
 fn a_mark_that_lies_is_refused(rt: HostRuntime) -> Result<(), Fail> {
-    let alloc = rt.alloc();
-    let mark = marked_with(alloc, &LONG_TEXT)?;
-    let file = file_of(alloc, &[&RATE, &MONO, &RAW], &[0xf0], &mark)?;
+    let file = long_text(rt.alloc())?;
     assert!(rt; file.len() == 174);
-    assert!(rt; are_no_files(alloc, &file, (126, 174), &WAVE)?);
+    assert!(rt; are_no_files(rt.alloc(), &file, (126, 174), &WAVE) == Ok(true));
     Ok(())
 }
 
@@ -82,29 +81,28 @@ const BLOCK_LIES: [(usize, [u8; 8]); 5] = [
 ];
 
 // The file of 4188 bytes with other bytes at a place.
-fn blocks_with(alloc: Global, (place, bytes): (usize, [u8; 8])) -> Result<Vec<u8>, Fail> {
+fn blocks_with(alloc: Global, (place, bytes): (usize, [u8; 8])) -> Result<Vec<u8>, AllocError> {
     let file = one_bit(alloc, b"")?;
-    if file.len() != 4188 || place > 100 {
-        return Err("a place in the file")?;
-    }
-    Ok(changed(alloc, &file, place, &bytes)?)
+    changed(alloc, &file, place, &bytes)
 }
 
-// All but the last are refused before anything is written.
-#[test]
-fn blocks_that_lie_are_refused(rt: HostRuntime) -> Result<(), Fail> {
-    let alloc = rt.alloc();
+// Whether it is refused. All but the last are refused before anything is written.
+fn is_block_lie_refused(alloc: Global, lie: (usize, [u8; 8])) -> Result<bool, AllocError> {
+    let file = blocks_with(alloc, lie)?;
     let played = sample([4, 0]);
+    let wave = if lie.0 == 20 { played.as_slice() } else { b"" };
+    are_no_files(alloc, &file, (92, 4188), wave)
+}
+
+#[test]
+fn blocks_that_lie_are_refused(rt: HostRuntime) {
     for lie in &BLOCK_LIES {
-        let file = blocks_with(alloc, *lie)?;
-        let wave = if lie.0 == 20 { played.as_slice() } else { b"" };
         assert!(rt;
-            are_no_files(alloc, &file, (92, 4188), wave)?,
+            is_block_lie_refused(rt.alloc(), *lie) == Ok(true),
             "at {}",
             lie.0
         );
     }
-    Ok(())
 }
 
 // The file that tells no lie, cut at each length.
@@ -112,7 +110,7 @@ fn blocks_that_lie_are_refused(rt: HostRuntime) -> Result<(), Fail> {
 fn blocks_that_are_cut_are_refused(rt: HostRuntime) -> Result<(), Fail> {
     let alloc = rt.alloc();
     let file = one_bit(alloc, b"")?;
-    assert!(rt; are_cut(alloc, &file, &sample([4, 0]))?);
+    assert!(rt; are_cut(alloc, &file, &sample([4, 0])) == Ok(true));
     Ok(())
 }
 
@@ -186,12 +184,21 @@ fn long_file(alloc: Global, front: &[u8]) -> Result<Vec<u8>, AllocError> {
     Ok(file)
 }
 
+// Whether such a file is played or refused in so many reads.
+fn is_long_read(
+    alloc: Global,
+    front: &[u8],
+    reads: [u64; 3],
+    plays: bool,
+) -> Result<bool, AllocError> {
+    let file = long_file(alloc, front)?;
+    is_read(alloc, &file, reads, plays)
+}
+
 #[test]
-fn no_more_is_read_than_tells(rt: HostRuntime) -> Result<(), Fail> {
-    let alloc = rt.alloc();
+fn no_more_is_read_than_tells(rt: HostRuntime) {
     for (front, reads, plays) in &READS {
-        let file = long_file(alloc, front)?;
-        assert!(rt; is_read(alloc, &file, *reads, *plays)?, "{reads:?}");
+        let is_so = is_long_read(rt.alloc(), front, *reads, *plays);
+        assert!(rt; is_so == Ok(true), "{reads:?}");
     }
-    Ok(())
 }

@@ -1,13 +1,10 @@
 //! What is refused before anything is read, before anything is written, and for the file's sake.
 
 use crate::played::{Played, play_by, plays};
-use fixtures::files::{
-    DSF_FRONT, FILE, MONO, RATE, RAW, WAVE, file_of, marked, marked_with, one_bit,
-};
+use fixtures::files::{DSF_FRONT, FILE, MONO, RATE, RAW, WAVE, file_of, one_bit};
 use fixtures::projects::{DECIMATE, Numbers, SPLICE, project};
 use fixtures::waves::sample;
 use std::alloc::{AllocError, Global};
-use std::test::Fail;
 
 // Whether a project is refused for this fault, and nothing was read or written.
 fn is_unread(alloc: Global, text: &[u8], expected: &str) -> Result<bool, AllocError> {
@@ -25,16 +22,15 @@ const UNREAD: [(&[u8], &str); 4] = [
 ];
 
 #[test]
-fn a_project_is_refused_before_the_first_read(rt: HostRuntime) -> Result<(), Fail> {
+fn a_project_is_refused_before_the_first_read(rt: HostRuntime) {
     let alloc = rt.alloc();
     for (text, expected) in &UNREAD {
-        assert!(rt; is_unread(alloc, text, expected)?, "{expected}");
+        assert!(rt; is_unread(alloc, text, expected) == Ok(true), "{expected}");
     }
     assert!(rt;
-        is_unread(alloc, SPLICE.as_bytes(), "NoDecimation")?,
+        is_unread(alloc, SPLICE.as_bytes(), "NoDecimation") == Ok(true),
         "a splice"
     );
-    Ok(())
 }
 
 // Whether a file is refused for this fault, read by 1, by 7 and by 4096 bytes, and what was written is a front of
@@ -91,15 +87,19 @@ fn is_built_refused(
 
 // 1024 doesn't divide 2,822,400.
 #[test]
-fn a_rate_is_refused_before_the_first_write(rt: HostRuntime) -> Result<(), Fail> {
+fn a_rate_is_refused_before_the_first_write(rt: HostRuntime) {
     let alloc = rt.alloc();
-    let text = project(alloc, "[1, 2, 3, 4]", (1024, 3, 0, 16))?;
-    assert!(rt; is_refused(alloc, &text, &FILE, "RateNotDivided", &[])?);
+    assert!(rt; is_rate_refused(alloc, &FILE) == Ok(true));
     assert!(rt;
-        is_refused(alloc, &text, &FILE[..126], "RateNotDivided", &[])?,
+        is_rate_refused(alloc, &FILE[..126]) == Ok(true),
         "no sound"
     );
-    Ok(())
+}
+
+// Whether that rate is.
+fn is_rate_refused(alloc: Global, file: &[u8]) -> Result<bool, AllocError> {
+    let text = project(alloc, "[1, 2, 3, 4]", (1024, 3, 0, 16))?;
+    is_refused(alloc, &text, file, "RateNotDivided", &[])
 }
 
 // The head of a DSF file without its sound: so many channels, so many bits each, and the size of the chunk `data`.
@@ -146,17 +146,16 @@ const CLAIMS: [(Claim, Numbers, &str, &[u8]); 4] = [
 ];
 
 #[test]
-fn a_size_is_refused_before_the_first_write(rt: HostRuntime) -> Result<(), Fail> {
+fn a_size_is_refused_before_the_first_write(rt: HostRuntime) {
     let alloc = rt.alloc();
     for (claim, numbers, expected, wave) in &CLAIMS {
         let text = project(alloc, "[1, 2, 3, 4]", *numbers);
         let head = head_of(alloc, *claim);
         assert!(rt;
-            is_built_refused(alloc, text, head, expected, wave)?,
+            is_built_refused(alloc, text, head, expected, wave) == Ok(true),
             "{expected} {claim:?}"
         );
     }
-    Ok(())
 }
 
 /// Whether `DECIMATE` doesn't play a file, for its own sake, and writes a front of these bytes.
@@ -170,15 +169,14 @@ pub(crate) fn is_no_file(
 
 // The front of `FILE`: nothing, a form's head cut, chunks' heads and data cut, the sound's head cut, and no sound.
 #[test]
-fn a_cut_file_is_refused(rt: HostRuntime) -> Result<(), Fail> {
+fn a_cut_file_is_refused(rt: HostRuntime) {
     let alloc = rt.alloc();
     for end in 0..127 {
         // The header may stand where the sound's head does.
         let wave = if end < 126 { &[] } else { &WAVE[..44] };
         let file = Vec::from_slice(alloc, &FILE[..end]);
-        assert!(rt; is_no_file(alloc, file, wave)?, "{end} bytes");
+        assert!(rt; is_no_file(alloc, file, wave) == Ok(true), "{end} bytes");
     }
-    Ok(())
 }
 
 // A place of `FILE`, other bytes there, and what may be written: another ID of the form; another type; a
@@ -198,13 +196,15 @@ const CHANGES: [(usize, &[u8], &[u8]); 10] = [
 ];
 
 #[test]
-fn a_changed_file_is_refused(rt: HostRuntime) -> Result<(), Fail> {
+fn a_changed_file_is_refused(rt: HostRuntime) {
     let alloc = rt.alloc();
     for (place, bytes, wave) in &CHANGES {
         let file = with_bytes(alloc, *place, bytes);
-        assert!(rt; is_no_file(alloc, file, wave)?, "{place} {bytes:?}");
+        assert!(rt;
+            is_no_file(alloc, file, wave) == Ok(true),
+            "{place} {bytes:?}"
+        );
     }
-    Ok(())
 }
 
 // `FILE` with other bytes at a place.
@@ -223,51 +223,48 @@ fn built(alloc: Global, parts: &[&[u8]], rest: &[u8]) -> Result<Vec<u8>, AllocEr
     file_of(alloc, parts, &[0xf0], rest)
 }
 
-// Two rates, and no channels; behind the sound, a mark of 21 bytes and one of a text that goes past its end, another
-// sound, and a chunk's head cut.
+// Whether a file with this sound property, or with these chunks behind its sound, is refused.
+fn is_property_refused(alloc: Global, parts: &[&[u8]]) -> Result<bool, AllocError> {
+    is_no_file(alloc, built(alloc, parts, b""), &[])
+}
+
+fn is_rest_refused(alloc: Global, rest: &[u8]) -> Result<bool, AllocError> {
+    is_no_file(alloc, built(alloc, &[&RATE, &MONO, &RAW], rest), &WAVE)
+}
+
 #[test]
-fn a_file_of_other_chunks_is_refused(rt: HostRuntime) -> Result<(), Fail> {
+fn a_file_of_another_property_is_refused(rt: HostRuntime) {
     let alloc = rt.alloc();
-    let parts: [&[u8]; 3] = [&RATE, &MONO, &RAW];
-    assert!(rt;
-        is_no_file(alloc, built(alloc, &[&RATE, &RATE, &MONO, &RAW], b""), &[])?,
-        "two rates"
-    );
-    assert!(rt;
-        is_no_file(alloc, built(alloc, &[&RATE, &RAW], b""), &[])?,
-        "no channels"
-    );
-    assert!(rt;
-        is_no_file(alloc, built(alloc, &parts, &marked(alloc, 21)?), &WAVE)?,
-        "a short mark"
-    );
-    assert!(rt;
-        is_no_file(alloc, built(alloc, &parts, &long_text(alloc)?), &WAVE)?,
-        "a long text"
-    );
-    assert!(rt;
-        is_no_file(alloc, built(alloc, &parts, &SOUND), &WAVE)?,
-        "two sounds"
-    );
-    assert!(rt;
-        is_no_file(alloc, built(alloc, &parts, &SOUND[..11]), &WAVE)?,
-        "a head cut"
-    );
-    Ok(())
+    let two_rates = is_property_refused(alloc, &[&RATE, &RATE, &MONO, &RAW]);
+    assert!(rt; two_rates == Ok(true), "two rates");
+    let no_channels = is_property_refused(alloc, &[&RATE, &RAW]);
+    assert!(rt; no_channels == Ok(true), "no channels");
+}
+
+// A mark of 21 bytes, one of a text that goes past its end, another sound, and a chunk's head cut.
+const RESTS: [(&[u8], &str); 4] = [
+    (SHORT_MARK, "a short mark"),
+    (LONG_TEXT, "a long text"),
+    (&SOUND, "two sounds"),
+    (b"DSD \0\0\0\0\0\0\0", "a head cut"),
+];
+
+#[test]
+fn a_file_of_other_chunks_is_refused(rt: HostRuntime) {
+    for (rest, case) in &RESTS {
+        assert!(rt; is_rest_refused(rt.alloc(), rest) == Ok(true), "{case}");
+    }
 }
 
 // A chunk of a sound of one byte.
 const SOUND: [u8; 14] = *b"DSD \0\0\0\0\0\0\0\x01\xf0\0";
 
-// A mark that tells of a text of one byte, and ends before it.
-fn long_text(alloc: Global) -> Result<Vec<u8>, AllocError> {
-    marked_with(
-        alloc,
-        &[
-            0, 0, 0, 0, 0, 0, 0, 0, 0, 0, 0, 0, 0, 0, 0, 0, 0, 0, 0, 0, 0, 1,
-        ],
-    )
-}
+// A mark of 21 bytes, and one that tells of a text of one byte, and ends before it.
+const SHORT_MARK: &[u8] = b"DIIN\0\0\0\0\0\0\0\x22\
+    MARK\0\0\0\0\0\0\0\x15\0\0\0\0\0\0\0\0\0\0\0\0\0\0\0\0\0\0\0\0\0\0";
+
+const LONG_TEXT: &[u8] = b"DIIN\0\0\0\0\0\0\0\x22\
+    MARK\0\0\0\0\0\0\0\x16\0\0\0\0\0\0\0\0\0\0\0\0\0\0\0\0\0\0\0\0\0\x01";
 
 // The DSF file of 4188 bytes with one bit, and this pointer to a tag.
 fn pointing(alloc: Global, pointer: u64) -> Result<Vec<u8>, AllocError> {
@@ -279,16 +276,24 @@ fn pointing(alloc: Global, pointer: u64) -> Result<Vec<u8>, AllocError> {
     Ok(made)
 }
 
+// Whether that file is played, or refused.
+fn is_pointed_played(alloc: Global, pointer: u64) -> Result<bool, AllocError> {
+    let file = pointing(alloc, pointer)?;
+    Ok(plays(alloc, DECIMATE, &file, &sample([4, 0])))
+}
+
+fn is_pointed_refused(alloc: Global, pointer: u64) -> Result<bool, AllocError> {
+    is_no_file(alloc, pointing(alloc, pointer), &sample([4, 0]))
+}
+
 // A tag begins behind the sound, at the file's end at the latest.
 #[test]
-fn a_dsf_file_without_its_whole_is_refused(rt: HostRuntime) -> Result<(), Fail> {
-    let alloc = rt.alloc();
+fn a_dsf_file_without_its_whole_is_refused(rt: HostRuntime) {
     for pointer in [1, 4187, 4189, u64::MAX] {
         assert!(rt;
-            is_no_file(alloc, pointing(alloc, pointer), &sample([4, 0]))?,
+            is_pointed_refused(rt.alloc(), pointer) == Ok(true),
             "to {pointer}"
         );
     }
-    assert!(rt; plays(alloc, DECIMATE, &pointing(alloc, 4188)?, &sample([4, 0])));
-    Ok(())
+    assert!(rt; is_pointed_played(rt.alloc(), 4188) == Ok(true));
 }

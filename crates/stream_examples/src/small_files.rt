@@ -2,14 +2,14 @@
 //! the reads are cut.
 
 use crate::played::{NEVER, ONES, plays};
-use archive_core::{play, play_stream};
+use archive_core::{Fault, play, play_stream};
 use device_core::{Inlet, Outlet};
+use fixtures::compared::equal;
 use fixtures::devices::{drip, sip};
 use fixtures::files::{FILE, WAVE, followed, mono, noted, one_bit, stereo, three, with_sound};
 use fixtures::projects::{DECIMATE, project, with_ones};
 use fixtures::waves::{SAMPLES, THREE_CHANNELS, TWO_CHANNELS, WIDE, sample};
 use std::alloc::{AllocError, Global};
-use std::test::Fail;
 
 // Whether a file of one sound byte is played to one sample.
 fn plays_byte(
@@ -22,14 +22,13 @@ fn plays_byte(
 }
 
 #[test]
-fn plays_one_sample(rt: HostRuntime) -> Result<(), Fail> {
+fn plays_one_sample(rt: HostRuntime) {
     let alloc = rt.alloc();
     for (taps, numbers, sound, bytes) in &SAMPLES {
         let text = project(alloc, taps, *numbers);
-        let equal = plays_byte(alloc, text, *sound, *bytes)?;
-        assert!(rt; equal, "{taps} {numbers:?} {sound}");
+        let equal = plays_byte(alloc, text, *sound, *bytes);
+        assert!(rt; equal == Ok(true), "{taps} {numbers:?} {sound}");
     }
-    Ok(())
 }
 
 // The form's size ends at 11 and the sound's at 125, as the RIFF's begins at 4 and the data's at 40.
@@ -55,46 +54,58 @@ fn plays_built(
 
 // Of the DSF file's first byte the first bit alone counts, which the fourth tap reads.
 #[test]
-fn plays_several_channels_and_dsf(rt: HostRuntime) -> Result<(), Fail> {
+fn plays_several_channels_and_dsf(rt: HostRuntime) {
     let alloc = rt.alloc();
-    assert!(rt; plays_built(alloc, stereo(alloc, &[0xf0, 0x0f]), &TWO_CHANNELS)?);
-    assert!(rt; plays_built(alloc, three(alloc, &[0xf0, 0x0f, 0xf0]), &THREE_CHANNELS)?);
-    assert!(rt; plays_built(alloc, one_bit(alloc, b""), &sample([4, 0]))?);
-    assert!(rt; plays_built(alloc, one_bit(alloc, b"a tag"), &sample([4, 0]))?);
-    Ok(())
+    assert!(rt; plays_built(alloc, stereo(alloc, &[0xf0, 0x0f]), &TWO_CHANNELS) == Ok(true));
+    assert!(rt; plays_built(alloc, three(alloc, &[0xf0, 0x0f, 0xf0]), &THREE_CHANNELS) == Ok(true));
+    assert!(rt; plays_built(alloc, one_bit(alloc, b""), &sample([4, 0])) == Ok(true));
+    assert!(rt; plays_built(alloc, one_bit(alloc, b"a tag"), &sample([4, 0])) == Ok(true));
+}
+
+// Whether `FILE` is played to these bytes by a project that was built.
+fn plays_by(
+    alloc: Global,
+    text: Result<String, AllocError>,
+    wave: &[u8],
+) -> Result<bool, AllocError> {
+    Ok(plays(alloc, &text?, &FILE, wave))
 }
 
 #[test]
-fn plays_24_bits(rt: HostRuntime) -> Result<(), Fail> {
-    let alloc = rt.alloc();
-    let text = project(alloc, "[1, 2, 3, 4]", (8, 3, 0, 24))?;
-    assert!(rt; plays(alloc, &text, &FILE, &WIDE));
-    Ok(())
+fn plays_24_bits(rt: HostRuntime) {
+    let text = project(rt.alloc(), "[1, 2, 3, 4]", (8, 3, 0, 24));
+    assert!(rt; plays_by(rt.alloc(), text, &WIDE) == Ok(true));
 }
 
 // The pad counted in the size of the chunk `CMPR`, no pad behind the last chunk, bytes behind the form, and a mark
 // behind the sound.
 #[test]
-fn plays_files_of_usual_writers(rt: HostRuntime) -> Result<(), Fail> {
+fn plays_files_of_usual_writers(rt: HostRuntime) {
     let alloc = rt.alloc();
     let mut long_name = FILE;
     long_name[93] = 20;
     assert!(rt; plays(alloc, DECIMATE, &long_name, &WAVE));
     assert!(rt; plays(alloc, DECIMATE, &FILE[..127], &WAVE));
-    assert!(rt; plays_built(alloc, followed(alloc), &WAVE)?);
-    assert!(rt; plays_built(alloc, noted(alloc, 22), &WAVE)?);
-    Ok(())
+    assert!(rt; plays_built(alloc, followed(alloc), &WAVE) == Ok(true));
+    assert!(rt; plays_built(alloc, noted(alloc, 22), &WAVE) == Ok(true));
+}
+
+// Whether a file is played to `ONES`, to a writer and in memory.
+fn plays_ones(alloc: Global, text: &str, file: &[u8]) -> Result<bool, Fault> {
+    let wave = play(alloc, text.as_bytes(), file)?;
+    Ok(plays(alloc, text, file, &ONES) && equal(&wave, &ONES))
+}
+
+// The same of 40 ones by 33 taps, and how many bytes their file has.
+fn plays_forty_ones(alloc: Global) -> Result<(usize, bool), Fault> {
+    let text = with_ones(alloc, 33)?;
+    let file = mono(alloc, &[0xff; 5])?;
+    Ok((file.len(), plays_ones(alloc, &text, &file)?))
 }
 
 #[test]
-fn plays_the_edges_of_33_taps(rt: HostRuntime) -> Result<(), Fail> {
-    let alloc = rt.alloc();
-    let text = with_ones(alloc, 33)?;
-    let file = mono(alloc, &[0xff; 5])?;
-    assert!(rt; file.len() == 132);
-    assert!(rt; plays(alloc, &text, &file, &ONES));
-    assert!(rt; play(alloc, text.as_bytes(), &file)?.as_slice() == ONES.as_slice());
-    Ok(())
+fn plays_the_edges_of_33_taps(rt: HostRuntime) {
+    assert!(rt; plays_forty_ones(rt.alloc()) == Ok((132, true)));
 }
 
 // Whether a file is played to these bytes from an inlet that gave three bytes before.
@@ -118,9 +129,8 @@ fn plays_behind(
 
 // What the inlet counted before is none of the file's.
 #[test]
-fn plays_files_behind_other_bytes(rt: HostRuntime) -> Result<(), Fail> {
+fn plays_files_behind_other_bytes(rt: HostRuntime) {
     let alloc = rt.alloc();
-    assert!(rt; plays_behind(alloc, mono(alloc, &[0xf0]), &WAVE)?);
-    assert!(rt; plays_behind(alloc, one_bit(alloc, b"a tag"), &sample([4, 0]))?);
-    Ok(())
+    assert!(rt; plays_behind(alloc, mono(alloc, &[0xf0]), &WAVE) == Ok(true));
+    assert!(rt; plays_behind(alloc, one_bit(alloc, b"a tag"), &sample([4, 0])) == Ok(true));
 }

@@ -1,0 +1,192 @@
+//! Sound bytes written in another interleaving, beside those of whole channels.
+
+ghost use Rattle.std.specs.Prelude.{◌≡◌, ◌≤◌, ◌^◌, length, true};
+ghost use Rattle.dsd_bits.specs.Sounds.{sound_size};
+
+use dsd_bits::{BitOrder, Bits, LaceFault, MOST_BITS, blocks_size, unlace_blocks, unlace_bytes};
+use fixtures::compared::equal;
+use relace_core::{Stretch, push_relaced};
+use std::alloc::Global;
+use std::test::Fail;
+
+const LEAST: Option<BitOrder> = Some(BitOrder::LeastFirst);
+
+const MOST: Option<BitOrder> = Some(BitOrder::MostFirst);
+
+// Interleavings, and the bits of each channel: within the second group, and within a byte where both have blocks.
+const CASES: [(Option<BitOrder>, Option<BitOrder>, usize); 9] = [
+    (None, None, 32808),
+    (None, LEAST, 32808),
+    (None, MOST, 32808),
+    (LEAST, None, 32808),
+    (LEAST, LEAST, 32805),
+    (LEAST, MOST, 32805),
+    (MOST, None, 32808),
+    (MOST, LEAST, 32805),
+    (MOST, MOST, 32805),
+];
+
+// So many bytes, each another than those beside it; behind the bits of a stretch too.
+fn bytes_of(alloc: Global, size: usize) -> Result<Vec<u8>, Fail> {
+    let mut made = Vec::new(alloc);
+    let mut byte: u8 = 1;
+    for _k in 0..size {
+        made.push(byte)?;
+        byte = byte.wrapping_mul(29).wrapping_add(111);
+    }
+    Ok(made)
+}
+
+// Whether a stretch within the limits takes just these bytes.
+fn takes(bytes: &[u8], stretch: Stretch, from: Option<BitOrder>) -> bool
+    requires channels { stretch.channels ≤ 6 }
+    requires in_limit { stretch.count ≤ 2 ^ 36 }
+    ensures { result ≡ true → length bytes.now ≡ sound_size from stretch.channels stretch.count }
+{
+    match from {
+        None => bytes.len() == stretch.count / 8 * stretch.channels,
+        Some(_) => bytes.len() == blocks_size(stretch.channels, stretch.count),
+    }
+}
+
+// Appends a stretch that takes just these bytes, of whole bytes of each channel where that is wanted.
+fn push(
+    alloc: Global,
+    out: &mut Vec<u8>,
+    bytes: &[u8],
+    stretch: Stretch,
+    from: Option<BitOrder>,
+    to: Option<BitOrder>,
+) -> Result<(), Fail> {
+    if stretch.channels < 1 || 6 < stretch.channels || MOST_BITS < stretch.count {
+        return Err("a stretch within the limits")?;
+    }
+    if !takes(bytes, stretch, from) {
+        return Err("as many bytes as the stretch takes")?;
+    }
+    if (from.is_none() || to.is_none()) && stretch.count % 8 != 0 {
+        return Err("whole bytes of each channel")?;
+    }
+    Ok(push_relaced(alloc, out, bytes, stretch, from, to)?)
+}
+
+// The channels that stand in sound bytes.
+fn channels_in(
+    alloc: Global,
+    bytes: &[u8],
+    order: Option<BitOrder>,
+    count: usize,
+) -> Result<Vec<Bits>, LaceFault>
+    requires { (count ≤ 65536) × (length bytes.now ≤ 65536) }
+{
+    match order {
+        None => unlace_bytes(alloc, bytes, 3),
+        Some(order) => unlace_blocks(alloc, bytes, 3, count, order),
+    }
+}
+
+// Whether these are the bytes with nothing but zeros behind them.
+fn is_filled(bytes: &[u8], front: &[u8]) -> bool {
+    if bytes.len() < front.len() {
+        return false;
+    }
+    let (own, fill) = bytes.split_at(front.len());
+    own == front && fill.iter().all(|byte| *byte == 0)
+}
+
+// Whether these channels are the others, but for zeros behind them.
+fn are_filled(channels: &[Bits], others: &[Bits]) -> bool {
+    channels.len() == 3
+        && others.len() == 3
+        && channels.iter().zip(others).all(|(channel, other)| is_filled(
+            channel.as_bytes(),
+            other.as_bytes(),
+        ))
+}
+
+// Whether three channels of so many bits stand in the bytes that are written, with zeros behind them.
+fn holds_channels(
+    alloc: Global,
+    from: Option<BitOrder>,
+    to: Option<BitOrder>,
+    count: usize,
+) -> Result<bool, Fail> {
+    let stretch = Stretch { channels: 3, count };
+    let bytes = bytes_of(alloc, size_of(from))?;
+    let mut out = Vec::new(alloc);
+    push(alloc, &mut out, &bytes, stretch, from, to)?;
+    if bytes.len() > 65536 || count > 65536 || out.len() != size_of(to) {
+        return Ok(false);
+    }
+    let channels = channels_in(alloc, &bytes, from, count)?;
+    let written = channels_in(alloc, &out, to, 65536)?;
+    Ok(are_filled(&written, &channels))
+}
+
+// How many bytes the stretches of the cases take.
+fn size_of(order: Option<BitOrder>) -> usize
+    ensures { result ≤ 65536 }
+{
+    match order {
+        None => 12303,
+        Some(_) => 24576,
+    }
+}
+
+#[test]
+fn writes_the_channels_that_stand_in_the_bytes(rt: HostRuntime) -> Result<(), Fail> {
+    for (from, to, count) in CASES {
+        assert!(rt; holds_channels(rt.alloc(), from, to, count)?, "{count}");
+    }
+    Ok(())
+}
+
+// Whether the first group and what stands behind it are written as both together.
+fn joins(alloc: Global, from: Option<BitOrder>, to: Option<BitOrder>) -> Result<bool, Fail> {
+    let bytes = bytes_of(alloc, size_of(from))?;
+    let mut whole = Vec::new(alloc);
+    push(
+        alloc,
+        &mut whole,
+        &bytes,
+        Stretch {
+            channels: 3,
+            count: 32808,
+        },
+        from,
+        to,
+    )?;
+    let (first, more) = bytes.split_at(12288.min(bytes.len()));
+    let mut out = Vec::new(alloc);
+    push(
+        alloc,
+        &mut out,
+        first,
+        Stretch {
+            channels: 3,
+            count: 32768,
+        },
+        from,
+        to,
+    )?;
+    push(
+        alloc,
+        &mut out,
+        more,
+        Stretch {
+            channels: 3,
+            count: 40,
+        },
+        from,
+        to,
+    )?;
+    Ok(equal(&out, &whole))
+}
+
+#[test]
+fn goes_group_by_group(rt: HostRuntime) -> Result<(), Fail> {
+    for (from, to, count) in CASES {
+        assert!(rt; joins(rt.alloc(), from, to)?, "{count}");
+    }
+    Ok(())
+}

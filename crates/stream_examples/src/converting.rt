@@ -1,0 +1,251 @@
+//! Converting from a reader to a writer: what is written is what is made in memory, and a front of it where a device
+//! fails; and files that are no sound in the outline that was read before.
+
+ghost use Rattle.std.specs.Prelude.{◌<◌};
+
+use crate::long_sounds::{blocks, laced};
+use crate::played::NEVER;
+use device_core::{Inlet, Outlet};
+use fixtures::devices::{Dripping, Sipping, drip, sip};
+use fixtures::files::{FILE, STEREO, changed, followed, mono, noted, one_bit, three, with_sound};
+use form_core::Form;
+use std::alloc::{AllocError, Global};
+use std::test::Fail;
+use stream_core::read_outline;
+use transfer_core::{Converted, Fault, convert, convert_stream};
+
+const FORMS: [Form; 3] = [Form::Dsdiff, Form::Dsf, Form::Dsf8];
+
+// The answer, how many reads there were, how many reads and how many writes failed, and what was written.
+#[derive(Drop)]
+struct Streamed {
+    answer: Result<u64, Fault>,
+    reads: u64,
+    failures: (u64, u64),
+    bytes: Vec<u8>,
+}
+
+impl Streamed {
+    // Whether it is what was made in memory.
+    fn is(&self, made: &Converted) -> bool {
+        matches!(self.answer, Ok(dropped) if dropped == made.dropped)
+            && self.failures == (0, 0)
+            && self.bytes.as_slice() == made.bytes.as_slice()
+    }
+
+    // Whether the channels end inside a byte, and nothing was read and written.
+    fn is_of_part_of_a_byte(&self) -> bool {
+        matches!(self.answer, Err(Fault::NotWholeBytes)) && self.reads == 0 && self.bytes.is_empty()
+    }
+
+    // Whether the file was refused, and what was written is a front of these bytes.
+    fn is_no_file(&self, bytes: &[u8]) -> bool {
+        matches!(self.answer, Err(Fault::FileRefused))
+            && self.failures == (0, 0)
+            && bytes.starts_with(&self.bytes)
+    }
+
+    // Whether a read failed, and what was written is a front of these bytes.
+    fn stops_reading(&self, bytes: &[u8]) -> bool {
+        matches!(self.answer, Err(Fault::ReadFailed))
+            && self.failures == (1, 0)
+            && bytes.starts_with(&self.bytes)
+    }
+
+    // Whether a write failed, and just these bytes were written.
+    fn stops_writing(&self, bytes: &[u8]) -> bool {
+        matches!(self.answer, Err(Fault::WriteFailed))
+            && self.failures == (0, 1)
+            && self.bytes.as_slice() == bytes
+    }
+}
+
+// What comes of a reader to a writer, by the outline of a file.
+fn stream(
+    alloc: Global,
+    (file, form): (&[u8], Form),
+    reader: Dripping<'_>,
+    writer: Sipping,
+) -> Result<Streamed, Fault> {
+    let mut first = Inlet::new(drip(file, 4096, NEVER));
+    let outline = read_outline(alloc, &mut first)?;
+    let mut inlet = Inlet::new(reader);
+    let mut outlet = Outlet::new(writer);
+    let answer = convert_stream(alloc, &outline, form, &mut inlet, &mut outlet);
+    Ok(Streamed {
+        answer,
+        reads: inlet.reads(),
+        failures: (inlet.failures(), outlet.failures()),
+        bytes: outlet.into_inner().bytes,
+    })
+}
+
+// Whether a file that is read so many bytes at a time is converted as in memory.
+fn is_same(alloc: Global, file: &[u8], form: Form, most: usize) -> Result<bool, Fault>
+    requires { 0 < most }
+{
+    let reader = drip(file, most, NEVER);
+    let streamed = stream(alloc, (file, form), reader, sip(alloc, NEVER, NEVER))?;
+    match convert(alloc, file, form) {
+        Ok(made) => Ok(streamed.is(&made)),
+        Err(_) => Ok(streamed.is_of_part_of_a_byte()),
+    }
+}
+
+// Whether a file is converted to each form as in memory, read by 1, by 7, by 4096 and by 65,536 bytes.
+fn are_same(alloc: Global, file: Result<Vec<u8>, AllocError>) -> Result<bool, Fault> {
+    let file = file?;
+    for form in &FORMS {
+        let little = is_same(alloc, &file, *form, 1)? && is_same(alloc, &file, *form, 7)?;
+        let much = is_same(alloc, &file, *form, 4096)? && is_same(alloc, &file, *form, 65_536)?;
+        if !little || !much {
+            return Ok(false);
+        }
+    }
+    Ok(true)
+}
+
+// Bytes behind the form, a mark behind the sound, and a sound of three bytes, which has a pad.
+#[test]
+fn converts_small_forms_as_in_memory(rt: HostRuntime) -> Result<(), Fail> {
+    let alloc = rt.alloc();
+    assert!(rt; are_same(alloc, mono(alloc, &[0xf0, 0x0f]))?);
+    assert!(rt; are_same(alloc, followed(alloc))?);
+    assert!(rt; are_same(alloc, noted(alloc, 200))?);
+    assert!(rt; are_same(alloc, three(alloc, b"abc"))?);
+    Ok(())
+}
+
+// Two groups of blocks, of which the second has one byte, or ends inside one; two groups of 8 bits per sample, and
+// bytes behind them; no bit; and five groups of six channels, two of which fit a block of reading.
+const BLOCKS: [((u32, u32, u64), usize); 5] = [
+    ((2, 1, 32_776), 16_384),
+    ((1, 1, 65_535), 8192),
+    ((1, 8, 40_000), 9000),
+    ((6, 1, 0), 5),
+    ((6, 1, 140_000), 122_880),
+];
+
+#[test]
+fn converts_blocks_as_in_memory(rt: HostRuntime) -> Result<(), Fail> {
+    let alloc = rt.alloc();
+    for (numbers, size) in &BLOCKS {
+        assert!(rt;
+            are_same(alloc, blocks(alloc, *numbers, *size))?,
+            "{numbers:?}"
+        );
+    }
+    Ok(())
+}
+
+// Three blocks of reading, of which the last is not full.
+#[test]
+fn converts_laced_bytes_as_in_memory(rt: HostRuntime) -> Result<(), Fail> {
+    let alloc = rt.alloc();
+    assert!(rt; are_same(alloc, laced(alloc, &STEREO, 140_002))?);
+    Ok(())
+}
+
+// A file of 132 bytes, one a read, in the same form.
+#[test]
+fn a_failed_read_leaves_a_front(rt: HostRuntime) -> Result<(), Fail> {
+    let alloc = rt.alloc();
+    let file = mono(alloc, &[0xff; 5])?;
+    let made = convert(alloc, &file, Form::Dsdiff)?;
+    for read in 1..=132 {
+        let reader = drip(&file, 1, read);
+        let writer = sip(alloc, NEVER, NEVER);
+        let streamed = stream(alloc, (&file, Form::Dsdiff), reader, writer)?;
+        assert!(rt; streamed.stops_reading(&made.bytes), "read {read} fails");
+    }
+    Ok(())
+}
+
+// A byte is taken by each write; a writer that is full from the first write on takes nothing.
+#[test]
+fn a_failed_write_leaves_a_front(rt: HostRuntime) -> Result<(), Fail> {
+    let alloc = rt.alloc();
+    let file = mono(alloc, &[0xff; 5])?;
+    let made = convert(alloc, &file, Form::Dsdiff)?;
+    for count in 0..made.bytes.len() {
+        let write = count as u64 + 1;
+        let reader = drip(&file, 4096, NEVER);
+        let failing = stream(
+            alloc,
+            (&file, Form::Dsdiff),
+            reader,
+            sip(alloc, write, NEVER),
+        )?;
+        assert!(rt;
+            failing.stops_writing(&made.bytes[..count]),
+            "write {write} fails"
+        );
+        let reader = drip(&file, 4096, NEVER);
+        let full = stream(
+            alloc,
+            (&file, Form::Dsdiff),
+            reader,
+            sip(alloc, NEVER, write),
+        )?;
+        assert!(rt;
+            full.stops_writing(&made.bytes[..count]),
+            "full from write {write}"
+        );
+    }
+    Ok(())
+}
+
+// What comes of another file by the outline of one.
+fn stream_other(alloc: Global, file: &[u8], form: Form, other: &[u8]) -> Result<Streamed, Fault> {
+    let reader = drip(other, 7, NEVER);
+    stream(alloc, (file, form), reader, sip(alloc, NEVER, NEVER))
+}
+
+// The bits of a sound are no part of an outline.
+#[test]
+fn another_sound_is_converted(rt: HostRuntime) -> Result<(), Fail> {
+    let alloc = rt.alloc();
+    let other = with_sound(0x35);
+    let made = convert(alloc, &other, Form::Dsf8)?;
+    assert!(rt; stream_other(alloc, &FILE, Form::Dsf8, &other)?.is(&made));
+    Ok(())
+}
+
+// A byte of the head is another, or the last bytes are missing.
+#[test]
+fn a_changed_form_is_refused(rt: HostRuntime) -> Result<(), Fail> {
+    let alloc = rt.alloc();
+    let made = convert(alloc, &FILE, Form::Dsf)?;
+    for place in 0..115 {
+        let other = changed(alloc, &FILE, place, &[FILE[place] ^ 1])?;
+        let streamed = stream_other(alloc, &FILE, Form::Dsf, &other)?;
+        assert!(rt; streamed.is_no_file(&made.bytes), "at {place}");
+    }
+    for length in 0..127 {
+        let streamed = stream_other(alloc, &FILE, Form::Dsf, &FILE[..length])?;
+        assert!(rt; streamed.is_no_file(&made.bytes), "of {length} bytes");
+    }
+    Ok(())
+}
+
+// A file without so many bytes of its end, and with these behind it.
+fn ended(alloc: Global, file: &[u8], cut: usize, end: &[u8]) -> Result<Vec<u8>, AllocError> {
+    let mut made = Vec::from_slice(alloc, file)?;
+    made.truncate(file.len().saturating_sub(cut));
+    made.extend_from_slice(end)?;
+    Ok(made)
+}
+
+// The tag of a DSF file is all that stands to its end: a byte of it is missing, or another, or there is one more.
+#[test]
+fn a_changed_tag_is_refused(rt: HostRuntime) -> Result<(), Fail> {
+    let alloc = rt.alloc();
+    let file = one_bit(alloc, b"a tag")?;
+    let made = convert(alloc, &file, Form::Dsf8)?;
+    for (cut, end) in [(1, b"".as_slice()), (1, b"b"), (0, b"b")] {
+        let other = ended(alloc, &file, cut, end)?;
+        let streamed = stream_other(alloc, &file, Form::Dsf8, &other)?;
+        assert!(rt; streamed.is_no_file(&made.bytes), "without {cut}");
+    }
+    Ok(())
+}

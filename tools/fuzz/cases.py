@@ -13,6 +13,7 @@ import mutating
 import projects
 import reading
 import waves
+from channels import read as sums_of
 from judging import Failure, cert_sizes, converted, demand, fault_of, judge_run, told, wave_head
 from running import MEGABYTE
 
@@ -25,6 +26,8 @@ TABLES = 7 * MEGABYTE // TIMES
 MOST_BOUNDS = 20_000
 # No run may take more than this; where it should, it may say that memory was wanting.
 MOST = 1024 * MEGABYTE
+# A file of at least so many bytes is converted as a stream.
+LONG = 2 * MEGABYTE
 FORMS = ("dsdiff", "dsf", "dsf8")
 MEMORY = b"fault: Memory\n"
 OLD = b"what stood here before"
@@ -199,6 +202,13 @@ def judge_samples(case, info, bit_at, decimate, wave):
             demand(found == expected, f"sample {number} of channel {channel} is {found}, not {expected}")
 
 
+def refuse_to_convert(case, seen):
+    """A file that `info` refuses is refused by `convert` as well, and nothing is made."""
+    run = case.run(["convert", case.rng.choice(FORMS), "in", name_now_and_then(case, "out")], made=["out"])
+    demand(run.status == 2 and run.err == seen.err, "info and convert name two faults")
+    case.demand_unmade(run, "out")
+
+
 def recording_case(case):
     """A recording's file: told of, converted, back, and played."""
     base, data, is_sound = a_recording(case)
@@ -208,10 +218,7 @@ def recording_case(case):
     case.put("project", text.encode())
     seen, info, bit_at = told_of(case, "in", data, is_sound)
     if info is None:
-        form = case.rng.choice(FORMS)
-        run = case.run(["convert", form, "in", name_now_and_then(case, "out")], made=["out"])
-        demand(run.status == 2 and run.err == seen.err, "info and convert name two faults")
-        case.demand_unmade(run, "out")
+        refuse_to_convert(case, seen)
         run = case.run(["play", "project", "in", "wave"], made=["wave"])
         refuse_to_play(case, run, "wave")
         demand(fault_of(run) in ("FileRefused", "RateNotDivided", "TooLarge"), "refused for another cause")
@@ -225,6 +232,32 @@ def recording_case(case):
     if there:
         judge_bits(case, info, bit_at, "out")
         demand(wave == play(case, there, "out", "other", decimate), "the converted file plays other samples")
+
+
+def a_long_recording(case):
+    """A recording of more bytes than are kept of a file that is converted."""
+    rng, count = case.rng, case.rng.randint(1, 6)
+    frames = LONG // count + rng.randrange(LONG // 2 // count)
+    if rng.random() < 0.5:
+        return bases.dsdiff(rng, "long", count, frames, is_rich=rng.random() < 0.5)
+    tag, rest = rng.choice((b"", b"ID3")), rng.choice((0, 8))
+    return bases.dsf(rng, "long", count, 8 * frames + rng.randrange(8), per_sample=rng.choice((1, 8)), tag=tag, rest=rest)
+
+
+def long_case(case):
+    """A file that is converted as a stream: told of, and converted, back and once more, each channel with all its bits."""
+    base, names = a_long_recording(case), []
+    data = base.data
+    if case.rng.random() < 0.5:
+        data, names = mutating.mutate_recording(case.rng, base)
+    case.changes = [base.kind, *names]
+    case.put("in", data)
+    seen, info, _ = told_of(case, "in", data, not names)
+    if info is None:
+        refuse_to_convert(case, seen)
+    elif convert_and_back(case, info, "in"):
+        for name in filter(case.has, ("out", "back")):
+            demand(sums_of(case.path(name)) == sums_of(case.path("in")), f"{name} holds other bits")
 
 
 UNKNOWN = object()
@@ -662,30 +695,48 @@ def scarce_case(case):
 LARGE = 2**31
 
 
-def large_case(case):
-    """A file of two gigabytes that holds only its front, the rest being zeros that stand nowhere: it is not played, as
-    its WAVE file would be too large, and to read it whole memory is wanting."""
+def large_file(case):
+    """Puts a file of two gigabytes that holds only its front, the rest being zeros that stand nowhere. Answers what is read
+    of it."""
     if case.rng.random() < 0.5:
         front = bases.dsdiff(case.rng, "large", 1, 0).data
         sizes = ((4, len(front) - 12 + LARGE, "big"), (len(front) - 8, LARGE, "big"))
     else:
         front = bases.dsf(case.rng, "large", 1, 0).data
         sizes = ((64, 8 * LARGE, "little"), (84, 12 + LARGE, "little"))
+    info = reading.read(front)[0]
     for at, size, order in sizes:
         front = mutating.put_number(front, at, 8, size, order)
     with open(case.path("large"), "wb") as file:
         file.write(front)
         file.truncate(len(front) + LARGE)
     case.made.add("large")
-    case.put("project", bases.filters()[0].encode())
-    run = case.run(["play", "project", "large", "wave"], made=["wave"])
-    demand(run.err == b"fault: TooLarge\n" and case.get("wave") == b"", "a WAVE file of 4 GB")
-    case.limit_part = 1.0
-    words = case.rng.choice((["info", "large"], ["convert", "dsf", "large", "out"], ["play", "large", "project", "wave"]))
-    run = case.run(words, made=["wave"])
-    demand(run.err == MEMORY, "two gigabytes within a few megabytes")
+    return {**info, "samples": 8 * LARGE}
+
+
+def large_case(case):
+    """A file of two gigabytes, within a few megabytes: it is told of and converted, but not played, as its WAVE file would be
+    too large; as a project, which is read whole, memory is wanting."""
+    info = large_file(case)
+    try:
+        case.put("project", bases.filters()[0].encode())
+        run = case.run(["play", "project", "large", "wave"], made=["wave"])
+        demand(run.err == b"fault: TooLarge\n" and case.get("wave") == b"", "a WAVE file of 4 GB")
+        case.limit_part = 1.0
+        kind = case.rng.choice(("info", "convert", "project"))
+        if kind == "info":
+            demand(told(case.run(["info", "large"])) == info, f"the large file isn't told of as {info}")
+        elif kind == "convert":
+            form = case.rng.choice(FORMS)
+            run = case.run(["convert", form, "large", "/dev/null"])
+            demand(run.out == b"converted dropped %d\n" % converted(info, form)[1], "the large file isn't converted")
+        else:
+            run = case.run(["play", "large", "project", "wave"], made=["wave"])
+            demand(run.err == MEMORY, "two gigabytes of a project within a few megabytes")
+    finally:
+        os.remove(case.path("large"))
 
 
 # How often each case comes.
 KINDS = [(recording_case, 40), (filter_case, 12), (cut_case, 20), (check_case, 20), (words_case, 2), (scarce_case, 5)]
-KINDS += [(bridge_case, 3), (large_case, 1)]
+KINDS += [(bridge_case, 3), (long_case, 2), (large_case, 1)]

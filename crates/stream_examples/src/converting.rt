@@ -16,13 +16,13 @@ use transfer_core::{Converted, Fault, convert, convert_stream};
 
 const FORMS: [Form; 3] = [Form::Dsdiff, Form::Dsf, Form::Dsf8];
 
-// The answer, how many reads there were, how many reads and how many writes failed, and what was written.
+/// The answer, how many reads there were, how many reads and how many writes failed, and what was written.
 #[derive(Drop)]
-struct Streamed {
-    answer: Result<u64, Fault>,
+pub(crate) struct Streamed {
+    pub(crate) answer: Result<u64, Fault>,
     reads: u64,
     failures: (u64, u64),
-    bytes: Vec<u8>,
+    pub(crate) bytes: Vec<u8>,
 }
 
 impl Streamed {
@@ -60,8 +60,8 @@ impl Streamed {
     }
 }
 
-// What comes of a reader to a writer, by the outline of a file.
-fn stream(
+/// What comes of a reader to a writer, by the outline of a file.
+pub(crate) fn stream(
     alloc: Global,
     (file, form): (&[u8], Form),
     reader: Dripping<'_>,

@@ -1,14 +1,17 @@
-//! Playing from a reader to a writer, for `tools/growths`, which refuses its growths in turn: what was refused is
-//! handed out as it was answered, and a front of the WAVE file was written.
+//! Playing and converting from a reader to a writer, for `tools/growths`, which refuses its growths in turn: what was
+//! refused is handed out as it was answered, and a front of the file was written.
 
+use crate::converting::stream;
 use crate::played::{NEVER, ONES, play_from};
 use archive_core::play;
 use fixtures::devices::{Sipping, drip, sip};
 use fixtures::files::{WAVE, dsf_of, mono, noted};
 use fixtures::projects::{DECIMATE, with_ones};
+use form_core::Form;
 use std::alloc::{AllocError, Global};
 use std::process::Abort;
 use std::test::Fail;
+use transfer_core::convert;
 
 // A writer that takes so many bytes without a growth: of one that is refused it would say that the write failed.
 fn roomy(alloc: Global, size: usize) -> Result<Sipping, AllocError> {
@@ -53,4 +56,19 @@ fn blocks_are_played(rt: HostRuntime) -> Result<(), Fail> {
     let file = dsf_of(alloc, (2, 1, 32_769), b"some bits", 16_384, b"a tag")?;
     let wave = play(alloc, DECIMATE.as_bytes(), &file)?;
     check_played(&rt, alloc, (DECIMATE, &file), &wave)
+}
+
+// A form with a mark and other chunks, which have no place in what is written.
+#[test]
+fn a_file_is_converted(rt: HostRuntime) -> Result<(), Fail> {
+    let alloc = rt.alloc();
+    let file = noted(alloc, 200)?;
+    let made = convert(alloc, &file, Form::Dsf)?;
+    let writer = roomy(alloc, made.bytes.len())?;
+    let reader = drip(&file, 100, NEVER);
+    let streamed = stream(alloc, (&file, Form::Dsf), reader, writer)?;
+    assert!(rt; made.bytes.starts_with(&streamed.bytes));
+    assert!(rt; streamed.answer? == made.dropped);
+    assert!(rt; streamed.bytes.len() == made.bytes.len());
+    Ok(())
 }

@@ -3,7 +3,7 @@ use Rattle.std.specs.Prelude.{◌≡◌, ℕ, List, None, Some, Result, Ok, Err}
 use Rattle.dsd_bits.specs.Contents.{Content}
 use Rattle.form_core.specs.declared.form.Form.{Form}
 use Rattle.form_core.specs.Forms.{HoldsAs, text_in}
-use Rattle.cut_core.specs.Cuts.{CutContent, take_at}
+use Rattle.cut_core.specs.Cuts.{CutContent}
 use Rattle.master_core.specs.Checking.{IsTitled}
 use Rattle.master_core.specs.Claims.{windows_total}
 use Rattle.master_core.specs.Masters.{AreMasterChannels, CostLeast, IsBestMaster}
@@ -31,7 +31,7 @@ pub record IsMaster (project : List ℕ) (files : List (List ℕ)) (file : List 
   pub form : Form
   pub recording : Content
   pub file_holds : HoldsAs file form recording
-  pub same_rate : recording.rate ≡ (take_at cut.takes 0).rate
+  pub same_rate : recording.rate ≡ cut.first.rate
   pub made : AreMasterChannels cut recording.channels
   pub titled : IsTitled cut form recording
 

@@ -2,6 +2,7 @@ pub mod Arriving
 pub mod Channels
 pub mod Chunks
 pub mod Fades
+pub mod Hearing
 pub mod Lines
 pub mod Joining
 pub mod Lanes

@@ -9,7 +9,7 @@ use Rattle.splice_core.specs.Splices.{SpliceContent, splice_content}
 use Rattle.splice_core.specs.declared.cue.Cue.{Cue}
 use Rattle.splice_core.specs.declared.splice.Splice.{Splice}
 use Rattle.cost_core.specs.Limits.{IsBridging}
-use Rattle.cost_core.specs.Windows.{bridging, cue_at}
+use Rattle.cost_core.specs.Windows.{bridging_at, cue_at}
 use Rattle.cost_core.proofs.TargetLaws.{targets_number, targets_small}
 
 -- what a splice keeps of itself
@@ -27,24 +27,17 @@ module _ (splice : SpliceContent) (fine : IsSplicing splice.weights (length spli
   pub cue_fits : (i : ℕ) → i < length splice.cues → IsCueWithin (length splice.weights) (length splice.takes) (cue_at splice i)
   cue_fits i h = All-get_or (IsCueWithin (length splice.weights) (length splice.takes)) splice.cues i _ h fine.each_fits
 
-  module _ (i : ℕ) (a b : List Bool) (there : i + 1 < length splice.cues) (inside : (cue_at splice i).stop ≤ length a) (next_inside : (cue_at splice (i + 1)).stop ≤ length b) where
+  module _ (i : ℕ) (a : List Bool) (stop : ℕ) (b : List Bool) (start : ℕ) (there : i < length splice.cues) (ends : length splice.weights ≤ stop + 1) (inside : stop ≤ length a) (next_inside : start + length splice.weights ≤ length b + 1) where
     before : IsCueWithin (length splice.weights) (length splice.takes) (cue_at splice i)
-    before = cue_fits i (omega arith)
+    before = cue_fits i there
 
-    next : IsCueWithin (length splice.weights) (length splice.takes) (cue_at splice (i + 1))
-    next = cue_fits (i + 1) there
+    pub preceding_many : length (bridging_at splice i a stop b start).preceding ≡ length splice.weights - 1
+    preceding_many = length-slice_range a (stop - (length splice.weights - 1)) stop inside ∙ omega (arith, fine.weights_fit.two_weights, ends)
 
-    pub preceding_many : length (bridging splice i a b).preceding ≡ length splice.weights - 1
-    preceding_many =
-        let stop = (cue_at splice i).stop in
-        length-slice_range a (stop - (length splice.weights - 1)) stop inside ∙ omega (arith, fine.weights_fit.two_weights, before.long_enough)
+    pub following_many : length (bridging_at splice i a stop b start).following ≡ length splice.weights - 1
+    following_many = length-slice_range b start (start + (length splice.weights - 1)) (omega (arith, fine.weights_fit.two_weights, next_inside)) ∙ omega arith
 
-    pub following_many : length (bridging splice i a b).following ≡ length splice.weights - 1
-    following_many =
-        let start = (cue_at splice (i + 1)).start in
-        length-slice_range b start (start + (length splice.weights - 1)) (omega (arith, fine.weights_fit.two_weights, next.long_enough)) ∙ omega arith
-
-    pub bridging_limits : IsBridging (bridging splice i a b)
+    pub bridging_limits : IsBridging (bridging_at splice i a stop b start)
     bridging_limits =
         let some = fine.weights_fit.two_weights in
         record {
@@ -52,8 +45,8 @@ module _ (splice : SpliceContent) (fine : IsSplicing splice.weights (length spli
           before = omega (arith, preceding_many);
           after = omega (arith, following_many);
           levels_in = before.bridge_fits;
-          target_in = λ k. targets_small (cue_at splice i).target before.target_fits splice.weights fine.weights_fit a (cue_at splice i).stop b (cue_at splice (i + 1)).start (cue_at splice i).bridge (k - 1);
+          target_in = λ k. targets_small (cue_at splice i).target before.target_fits splice.weights fine.weights_fit a stop b start (cue_at splice i).bridge (k - 1);
         }
 
-    pub targets_many : length (bridging splice i a b).targets ≡ (bridging splice i a b).levels + length (bridging splice i a b).following
-    targets_many = targets_number (cue_at splice i).target splice.weights a (cue_at splice i).stop b (cue_at splice (i + 1)).start (cue_at splice i).bridge ∙ omega (arith, following_many)
+    pub targets_many : length (bridging_at splice i a stop b start).targets ≡ (bridging_at splice i a stop b start).levels + length (bridging_at splice i a stop b start).following
+    targets_many = targets_number (cue_at splice i).target splice.weights a stop b start (cue_at splice i).bridge ∙ omega (arith, following_many)

@@ -1,5 +1,5 @@
 -- The room that a bridge needs, and which want of it comes first.
-use Rattle.std.specs.Prelude.{ℕ, ◌+◌, ◌≤◌, length, Option, Some, None, nat_lt, if◌then◌else◌}
+use Rattle.std.specs.Prelude.{ℕ, ◌+◌, ◌^◌, ◌≤◌, Bool, List, length, Option, Some, None, nat_lt, if◌then◌else◌}
 use Rattle.splice_core.specs.Splices.{SpliceContent}
 use Rattle.cost_core.specs.declared.fault.RoomFault.{RoomFault}
 use Rattle.cost_core.specs.declared.fault.RoomFault.TheVariants as rooms
@@ -16,6 +16,15 @@ reach_at splice i = reach_of (cue_at splice i).target (length splice.weights) (c
 pub record HasRoom (splice : SpliceContent) (i count : ℕ) : Type 0 where
   pub before : (reach_at splice i).before ≤ (cue_at splice (i + 1)).start
   pub after : (cue_at splice i).stop + (reach_at splice i).after ≤ count
+
+-- the bridge after cue i can be made where that cue ends at place `stop` of some bits a, and the next one begins at place `start` of some bits b: what its target and its weights read stands there
+pub record CanBridge (splice : SpliceContent) (i : ℕ) (a : List Bool) (stop : ℕ) (b : List Bool) (start : ℕ) : Type 0 where
+  pub stop_in : stop ≤ 2 ^ 36
+  pub start_in : start ≤ 2 ^ 36
+  pub ends : length splice.weights ≤ stop + 1
+  pub goes_on : start + length splice.weights ≤ length b + 1
+  pub before : (reach_at splice i).before ≤ start
+  pub after : stop + (reach_at splice i).after ≤ length a
 
 -- which of the two is wanting first
 abbrev pub first_fault : SpliceContent → ℕ → ℕ → Option RoomFault

@@ -14,16 +14,19 @@ cue_at splice i = slice_index_or splice.cues i (record { take = 0; start = 0; st
 abbrev pub cued : SpliceContent → ℕ → List Bool → List Bool
 cued splice i a = slice_range a (cue_at splice i).start (cue_at splice i).stop
 
--- the bridge after cue i, from its take a to the take b of the next cue: the last bits before it and the first after it that a weight reads, and the targets of its places
-abbrev pub bridging : SpliceContent → ℕ → List Bool → List Bool → Bridging
-bridging splice i a b =
-    let before = cue_at splice i in
-    let after = cue_at splice (i + 1) in
+-- the bridge after cue i, where that cue ends at place `stop` of some bits a, and the next one begins at place `start` of some bits b: the last bits before it and the first after it that a weight reads, and the targets of its places
+abbrev pub bridging_at : SpliceContent → ℕ → List Bool → ℕ → List Bool → ℕ → Bridging
+bridging_at splice i a stop b start =
+    let cue = cue_at splice i in
     let width = length splice.weights - 1 in
     record {
       weights = splice.weights;
-      levels = before.bridge;
-      preceding = slice_range a (before.stop - width) before.stop;
-      following = slice_range b after.start (after.start + width);
-      targets = targets_of before.target splice.weights a before.stop b after.start before.bridge;
+      levels = cue.bridge;
+      preceding = slice_range a (stop - width) stop;
+      following = slice_range b start (start + width);
+      targets = targets_of cue.target splice.weights a stop b start cue.bridge;
     }
+
+-- the same from its take a to the take b of the next cue
+abbrev pub bridging : SpliceContent → ℕ → List Bool → List Bool → Bridging
+bridging splice i a b = bridging_at splice i a (cue_at splice i).stop b (cue_at splice (i + 1)).start

@@ -63,7 +63,7 @@ pub use laws::{
     costs_in_bounds, cut_is_valid, fades_join, least_from_valid, least_together,
     places_are_windows, steps_are_cost,
 };
-pub use room::has_room;
+pub use room::{has_room, reach_at};
 pub use rows::doubled;
 pub use sink::{LevelSink, SinkFault};
 pub use window::Window;

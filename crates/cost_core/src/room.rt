@@ -2,7 +2,7 @@
 
 ghost use Rattle.std.specs.Prelude.{◌≡◌, ◌+◌, ◌<◌, ◌≤◌, length, IsOk, MatchResult, None, OnOk, Some};
 ghost use Rattle.splice_core.specs.Splices.{splice_content};
-ghost use Rattle.cost_core.specs.Faults.{HasRoom, first_fault};
+ghost use Rattle.cost_core.specs.Faults.{HasRoom, first_fault, reach_at};
 ghost use Rattle.cost_core.specs.Targets.{reach_of};
 
 use crate::fault::RoomFault;
@@ -26,7 +26,7 @@ pub fn has_room(splice: &Splice, cue: usize, count: usize) -> Result<(), RoomFau
     ensures order { MatchResult result (λ _. first_fault (splice_content splice.now) cue count ≡ None) (λ fault. first_fault (splice_content splice.now) cue count ≡ Some fault) }
 {
     let here = &splice.cues[cue];
-    let (before, after) = reach_of(here.target, splice.weights.len(), here.bridge);
+    let (before, after) = reach_at(splice, cue);
     if splice.cues[cue + 1].start < before {
         return Err(RoomFault::NoRoomBefore);
     }
@@ -34,6 +34,18 @@ pub fn has_room(splice: &Splice, cue: usize, count: usize) -> Result<(), RoomFau
         return Err(RoomFault::NoRoomAfter);
     }
     Ok(())
+}
+
+/// How many bits beyond its cues the target of the bridge after cue `cue` reads: before the next cue in its take, and
+/// after the cue in its own.
+pub fn reach_at(splice: &Splice, cue: usize) -> (usize, usize)
+    requires { cue < length (splice_content splice.now).cues }
+    ensures before { result.0 ≡ (reach_at (splice_content splice.now) cue).before }
+    ensures after { result.1 ≡ (reach_at (splice_content splice.now) cue).after }
+    ensures few { (result.0 ≤ 4107) × (result.1 ≤ 4096) }
+{
+    let here = &splice.cues[cue];
+    reach_of(here.target, splice.weights.len(), here.bridge)
 }
 
 // How many bits beyond its cues the target of a bridge of `levels` bits reads, by so many weights: before the next cue,

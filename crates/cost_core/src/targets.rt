@@ -1,9 +1,9 @@
 //! The targets of a bridge's places.
 
-ghost use Rattle.std.specs.Prelude.{◌≡◌, ◌+◌, ◌<◌, ◌≤◌, length, IfOk};
+ghost use Rattle.std.specs.Prelude.{◌≡◌, ◌+◌, ◌<◌, length, IfOk};
 ghost use Rattle.splice_core.specs.Splices.{splice_content};
-ghost use Rattle.cost_core.specs.Faults.{HasRoom};
-ghost use Rattle.cost_core.specs.Windows.{bridging, cue_at};
+ghost use Rattle.cost_core.specs.Faults.{CanBridge};
+ghost use Rattle.cost_core.specs.Windows.{bridging_at};
 
 use crate::fading::fade_targets;
 use crate::line::line_targets;
@@ -11,24 +11,22 @@ use dsd_bits::Bits;
 use splice_core::{Splice, Target};
 use std::alloc::{AllocError, Global};
 
-/// The targets of all places of the bridge after cue `cue`, from the channel `a` of its take to the channel
-/// `b` of the next cue's take. Err is want of memory.
+/// The targets of all places of the bridge after cue `cue`, which ends at the place `stop` of the bits `a`, where the
+/// next one begins at the place `start` of the bits `b`. Err is want of memory.
 pub fn targets_after(
     alloc: Global,
     splice: &Splice,
-    a: &Bits,
-    b: &Bits,
     cue: usize,
+    a: &Bits,
+    stop: usize,
+    b: &Bits,
+    start: usize,
 ) -> Result<Vec<i32>, AllocError>
     requires cues { cue + 1 < length (splice_content splice.now).cues }
-    requires before { (cue_at (splice_content splice.now) cue).stop ≤ length a.now }
-    requires after { (cue_at (splice_content splice.now) (cue + 1)).stop ≤ length b.now }
-    requires room { HasRoom (splice_content splice.now) cue (length a.now) }
-    ensures { IfOk result (λ made. made.items ≡ (bridging (splice_content splice.now) cue a.now b.now).targets) }
+    requires room { CanBridge (splice_content splice.now) cue a.now stop b.now start }
+    ensures { IfOk result (λ made. made.items ≡ (bridging_at (splice_content splice.now) cue a.now stop b.now start).targets) }
 {
     let weights = splice.weights.as_slice();
-    let stop = splice.cues[cue].stop;
-    let start = splice.cues[cue + 1].start;
     let levels = splice.cues[cue].bridge;
     match splice.cues[cue].target {
         Target::Fade => fade_targets(alloc, weights, a, stop, b, start, levels),

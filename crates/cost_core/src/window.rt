@@ -5,9 +5,9 @@ ghost use Rattle.splice_core.specs.Splices.{splice_content};
 ghost use Rattle.cost_core.specs.Trellis.{states, cost, IsBounded};
 ghost use Rattle.cost_core.specs.Bridges.{bridge_cost};
 ghost use Rattle.cost_core.specs.StateCosts.{step_of, step_row, tail_row, trellis_of};
-ghost use Rattle.cost_core.specs.Windows.{bridging, cue_at};
+ghost use Rattle.cost_core.specs.Windows.{bridging, bridging_at, cue_at};
 ghost use Rattle.cost_core.specs.Limits.{IsBridging, greatest_step};
-ghost use Rattle.cost_core.specs.Faults.{HasRoom, first_fault, named};
+ghost use Rattle.cost_core.specs.Faults.{HasRoom, CanBridge, first_fault, named};
 
 use crate::fault::WindowFault;
 use crate::room::has_room;
@@ -73,40 +73,41 @@ impl Window {
         ensures order { MatchResult result (λ _. first_fault (splice_content splice.now) cue (length a.now) ≡ None) (λ fault. first_fault (splice_content splice.now) cue (length a.now) ≡ named fault) }
     {
         has_room(splice, cue, a.len())?;
-        Ok(Window::with_room(alloc, splice, a, b, cue)?)
+        let stop = splice.cues[cue].stop;
+        let start = splice.cues[cue + 1].start;
+        Ok(Window::between(alloc, splice, cue, a, stop, b, start)?)
     }
 
-    // The window of a bridge that has room.
-    fn with_room(
+    /// The same where only parts of the takes are there: cue `cue` ends at the place `stop` of the bits `a`, and the next one
+    /// begins at the place `start` of the bits `b`. Err is want of memory.
+    pub fn between(
         alloc: Global,
         splice: &Splice,
-        a: &Bits,
-        b: &Bits,
         cue: usize,
+        a: &Bits,
+        stop: usize,
+        b: &Bits,
+        start: usize,
     ) -> Result<Window, AllocError>
         requires cues { cue + 1 < length (splice_content splice.now).cues }
-        requires before { (cue_at (splice_content splice.now) cue).stop ≤ length a.now }
-        requires after { (cue_at (splice_content splice.now) (cue + 1)).stop ≤ length b.now }
-        requires room { HasRoom (splice_content splice.now) cue (length a.now) }
-        ensures { IfOk result (λ window. window ≡ bridging (splice_content splice.now) cue a.now b.now) }
+        requires room { CanBridge (splice_content splice.now) cue a.now stop b.now start }
+        ensures { IfOk result (λ window. window ≡ bridging_at (splice_content splice.now) cue a.now stop b.now start) }
     {
         let weights = splice.weights.as_slice();
         let width = weights.len() - 1;
-        let stop = splice.cues[cue].stop;
         let mut preceding = Bits::new(alloc);
         preceding.push_range(a, stop - width, stop)?;
-        let after = splice.cues[cue + 1].start;
         let mut following = Bits::new(alloc);
-        following.push_range(b, after, after + width)?;
-        let targets = targets_after(alloc, splice, a, b, cue)?;
+        following.push_range(b, start, start + width)?;
+        let targets = targets_after(alloc, splice, cue, a, stop, b, start)?;
         let levels = splice.cues[cue].bridge;
         let scaled = scaled_sums(alloc, weights, levels)?;
         let weights = Vec::from_slice(alloc, weights)?;
-        let start = read_state(&preceding);
+        let state = read_state(&preceding);
         Ok(Window {
             weights,
             levels,
-            start,
+            start: state,
             preceding,
             following,
             targets,

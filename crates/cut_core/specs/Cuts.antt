@@ -1,25 +1,43 @@
--- A splice with the recordings of its takes, and what stands in it.
-use Rattle.std.specs.Prelude.{ℕ, ◌+◌, ◌-◌, ◌≤◌, ◌^◌, ◌≡◌, ◌==◌, ◌&&◌, Bool, List, [], All, length, slice_index_or}
-use Rattle.std.specs.List.{sum_by}
+-- A splice with what it hears of its takes.
+use Rattle.std.specs.Prelude.{ℕ, ◌+◌, ◌-◌, ◌≤◌, ◌^◌, ◌≡◌, Bool, List, [], All, length, map, slice_index_or}
+use Rattle.std.specs.List.{range_with_len, sum_by}
 use Rattle.dsd_bits.specs.Channels.{count_of}
 use Rattle.dsd_bits.specs.Contents.{Content}
+use Rattle.dsd_bits.specs.Stretches.{silent}
 use Rattle.splice_core.specs.Cues.{CueContent}
 use Rattle.splice_core.specs.Splices.{SpliceContent}
 use Rattle.cost_core.specs.Bridges.{Bridging}
 use Rattle.cost_core.specs.Windows as fades
 
--- a splice, and the recordings of its takes by their numbers
+-- a splice, the first of its takes without its bits, by cue and by channel the bits that are cut, and by cue and by channel the windows of the bridges
 pub record CutContent : Type 0 where
   pub splice : SpliceContent
-  pub takes : List Content
-
--- a splice with these takes
-abbrev pub cut_with : SpliceContent → List Content → CutContent
-cut_with splice takes = record { splice = splice; takes = takes }
+  pub first : Content
+  pub cued : List (List (List Bool))
+  pub windows : List (List Bridging)
 
 -- take i; past the last one a recording of nothing
 abbrev pub take_at : List Content → ℕ → Content
 take_at takes i = slice_index_or takes i (record { rate = 0; channels = []; ids = []; layout = 0; marks = []; others = []; tag = [] })
+
+-- channel c of the take of cue i
+abbrev pub source : SpliceContent → List Content → ℕ → ℕ → List Bool
+source splice takes c i = slice_index_or (take_at takes (fades.cue_at splice i).take).channels c []
+
+-- f of the numbers below n
+abbrev pub each_below : {X : Type 0} → ℕ → (ℕ → X) → List X
+each_below n f = map f (range_with_len 0 n)
+
+-- the cut of a splice and its takes: each cue's bits and each bridge's window in each channel, as those of the takes are
+abbrev pub cut_with : SpliceContent → List Content → CutContent
+cut_with splice takes =
+    let number = length (take_at takes 0).channels in
+    record {
+      splice = splice;
+      first = silent (take_at takes 0);
+      cued = each_below (length splice.cues) (λ i. each_below number (λ c. fades.cued splice i (source splice takes c i)));
+      windows = each_below (length splice.cues - 1) (λ i. each_below number (λ c. fades.bridging splice i (source splice takes c i) (source splice takes c (i + 1))));
+    }
 
 -- cue i; past the last one a cue of no bits
 abbrev pub cue_at : CutContent → ℕ → CueContent
@@ -27,23 +45,23 @@ cue_at cut i = fades.cue_at cut.splice i
 
 -- how many channels the takes have, and so the master
 abbrev pub channel_number : CutContent → ℕ
-channel_number cut = length (take_at cut.takes 0).channels
-
--- channel c of the take of cue i
-abbrev pub source : CutContent → ℕ → ℕ → List Bool
-source cut c i = slice_index_or (take_at cut.takes (cue_at cut i).take).channels c []
+channel_number cut = length cut.first.channels
 
 -- the bits of cue i in channel c
 abbrev pub cue_bits : CutContent → ℕ → ℕ → List Bool
-cue_bits cut c i = fades.cued cut.splice i (source cut c i)
+cue_bits cut c i = slice_index_or (slice_index_or cut.cued i []) c []
+
+-- a bridge of nothing
+abbrev pub no_bridging : Bridging
+no_bridging = record { weights = []; levels = 0; preceding = []; following = []; targets = [] }
 
 -- the window of the bridge behind cue i in channel c
 abbrev pub window : CutContent → ℕ → ℕ → Bridging
-window cut c i = fades.bridging cut.splice i (source cut c i) (source cut c (i + 1))
+window cut c i = slice_index_or (slice_index_or cut.windows i []) c no_bridging
 
 -- how many bits each channel of the take of cue i has
-abbrev pub count_at : CutContent → ℕ → ℕ
-count_at cut i = count_of (take_at cut.takes (cue_at cut i).take).channels
+abbrev pub count_at : SpliceContent → List Content → ℕ → ℕ
+count_at splice takes i = count_of (take_at takes (fades.cue_at splice i).take).channels
 
 -- how many bits of a channel a cue and the bridge behind it take
 abbrev pub span : CueContent → ℕ
@@ -58,10 +76,6 @@ pub record AreAlike (first r : Content) : Type 0 where
   pub same_rate : r.rate ≡ first.rate
   pub as_many_channels : length r.channels ≡ length first.channels
 
--- the same as a test
-abbrev pub are_alike : Content → Content → Bool
-are_alike first r = r.rate == first.rate && length r.channels == length first.channels
-
 -- a recording is like the first of the takes
 abbrev pub IsAlike : List Content → Content → Type 0
 IsAlike takes r = AreAlike (take_at takes 0) r
@@ -71,8 +85,8 @@ abbrev pub IsInside : List Content → CueContent → Type 0
 IsInside takes cue = cue.stop ≤ count_of (take_at takes cue.take).channels
 
 -- the takes fit the splice: they are as many and alike, each cue ends within its take, and the master is within the limit
-pub record FitTakes (cut : CutContent) : Type 0 where
-  pub as_many : length cut.takes ≡ length cut.splice.takes
-  pub alike : All (IsAlike cut.takes) cut.takes
-  pub inside : All (IsInside cut.takes) cut.splice.cues
-  pub in_limit : master_length cut.splice.cues ≤ 2 ^ 36
+pub record FitTakes (splice : SpliceContent) (takes : List Content) : Type 0 where
+  pub as_many : length takes ≡ length splice.takes
+  pub alike : All (IsAlike takes) takes
+  pub inside : All (IsInside takes) splice.cues
+  pub in_limit : master_length splice.cues ≤ 2 ^ 36

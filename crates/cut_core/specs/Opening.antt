@@ -1,18 +1,22 @@
 -- The takes of a splice, opened: what is asked of their files, and the reading in order, to the cut or the first fault.
-use Rattle.std.specs.Prelude.{◌≡◌, ℕ, zero, suc, ◌-◌, ◌%◌, ◌^◌, ◌==◌, Bool, true, false, List, [], ◌∷◌, ◌++◌, Result, Ok, Err, Option, Some, Vec, length, map, nat_le, slice_index_or, ⊤}
+use Rattle.std.specs.Prelude.{◌≡◌, ℕ, zero, suc, ◌-◌, ◌%◌, ◌^◌, ◌==◌, ◌&&◌, Bool, true, false, List, [], ◌∷◌, ◌++◌, Result, Ok, Err, Option, Some, Vec, length, map, nat_le, slice_index_or, ⊤}
 use Rattle.std.specs.declared.alloc.Global.{Global}
 use Rattle.std.specs.List.{AllZip}
 use Rattle.chunk_core.specs.Steps.{◌>>=◌}
 use Rattle.dsd_bits.specs.Contents.{Content}
+use Rattle.dsd_bits.specs.Shape.{HasShape}
 use Rattle.splice_core.specs.Splices.{SpliceContent}
 use Rattle.form_core.specs.Forms.{HoldsSome}
 use Rattle.form_core.specs.Opening.{opened_of}
-use Rattle.form_core.specs.Steps.{map_err}
+use Rattle.form_core.specs.Steps.{Fails, map_err}
 use Rattle.form_core.specs.declared.fault.ReadFault.{ReadFault}
 use Rattle.form_core.specs.declared.fault.ReadFault.TheVariants as reads
 use Rattle.form_core.specs.declared.form.Form.{Form}
 use Rattle.form_core.specs.declared.form.Form.TheVariants.{Dsdiff}
-use Rattle.cut_core.specs.Cuts.{CutContent, FitTakes, are_alike, count_at, cue_at, cut_with, master_length, take_at}
+use Rattle.cost_core.specs.Windows.{cue_at}
+use Rattle.cut_core.specs.declared.heard.Heard.{Heard}
+use Rattle.cut_core.specs.Cuts.{CutContent, FitTakes, cut_with, master_length}
+use Rattle.cut_core.specs.Hearing.{AreHeard, TakeShape, heard_content, heard_of, shape_at, shape_of, shape_of_cue}
 use Rattle.cut_core.specs.Rooms.{HaveRoom, room_at}
 use Rattle.cut_core.specs.declared.fault.CutFault.{CutFault}
 use Rattle.cut_core.specs.declared.fault.CutFault.TheVariants.{TakeNumber, TakeUnread, TakeMismatch, CueOutside, MasterTooLong, NotWholeBytes, Memory}
@@ -35,13 +39,14 @@ pub record AreRead (splice : SpliceContent) (files : List (List ℕ)) (takes : L
   pub as_many : length files ≡ length splice.takes
   pub held : AllZip HoldsSome files takes
 
--- the files hold takes that the splice can be cut from, into a file of the form where one is asked for
+-- the files hold takes that the splice can be cut from, into a file of the form where one is asked for, and this is the cut
 pub record OpensCut (splice : SpliceContent) (files : List (List ℕ)) (form : Option Form) (cut : CutContent) : Type 0 where
-  pub splice_is : cut.splice ≡ splice
-  pub read : AreRead splice files cut.takes
-  pub fit : FitTakes cut
+  pub takes : List Content
+  pub read : AreRead splice files takes
+  pub cut_is : cut ≡ cut_with splice takes
+  pub fit : FitTakes splice takes
   pub whole : IsWhole form splice
-  pub room : HaveRoom cut
+  pub room : HaveRoom splice takes
 
 -- ---- the reading in the order of the faults
 -- a test that has to be met, or this fault
@@ -71,26 +76,32 @@ takes_before files (suc n) = do
   Ok (before ++ last ∷ [])
 
 -- take i is like the first
-abbrev pub alike_at : List Content → ℕ → Result ⊤ CutFault
-alike_at takes i = required (are_alike (take_at takes 0) (take_at takes i)) (TakeMismatch i)
+abbrev pub alike_at : List TakeShape → ℕ → Result ⊤ CutFault
+alike_at shapes i = required ((shape_at shapes i).rate == (shape_at shapes 0).rate && (shape_at shapes i).channels == (shape_at shapes 0).channels) (TakeMismatch i)
 
 -- cue i ends within its take
-abbrev pub inside_at : CutContent → ℕ → Result ⊤ CutFault
-inside_at cut i = required (nat_le (cue_at cut i).stop (count_at cut i)) (CueOutside i)
+abbrev pub inside_at : SpliceContent → List TakeShape → ℕ → Result ⊤ CutFault
+inside_at splice shapes i = required (nat_le (cue_at splice i).stop (shape_of_cue splice shapes i).count) (CueOutside i)
 
 -- the channels of a file of the form, if one is asked for, end with a whole byte
 abbrev pub whole_in : Option Form → SpliceContent → Bool
 whole_in (Some Dsdiff) splice = master_length splice.cues % 8 == 0
 whole_in form splice = true
 
--- a splice and takes can be cut, into a file of the form where one is asked for
-unfoldable pub fitting : Option Form → CutContent → Result ⊤ CutFault
-fitting form cut = do
-  alike ← each_before (length cut.takes) (alike_at cut.takes)
-  inside ← each_before (length cut.splice.cues) (inside_at cut)
-  in_limit ← required (nat_le (master_length cut.splice.cues) (2 ^ 36)) MasterTooLong
-  whole ← required (whole_in form cut.splice) NotWholeBytes
-  each_before (length cut.splice.cues - 1) (room_at cut)
+-- a splice and takes of these shapes can be cut, into a file of the form where one is asked for
+unfoldable pub fitting : Option Form → SpliceContent → List TakeShape → Result ⊤ CutFault
+fitting form splice shapes = do
+  alike ← each_before (length shapes) (alike_at shapes)
+  inside ← each_before (length splice.cues) (inside_at splice shapes)
+  in_limit ← required (nat_le (master_length splice.cues) (2 ^ 36)) MasterTooLong
+  whole ← required (whole_in form splice) NotWholeBytes
+  each_before (length splice.cues - 1) (room_at splice shapes)
+
+-- the cut of a splice and its takes, or the first fault of them
+unfoldable pub cut_from : Option Form → SpliceContent → List Content → Result CutContent CutFault
+cut_from form splice takes = do
+  fits ← fitting form splice (map shape_of takes)
+  Ok (cut_with splice takes)
 
 -- the takes of a splice
 unfoldable pub takes_of : SpliceContent → List (List ℕ) → Result (List Content) CutFault
@@ -102,5 +113,14 @@ takes_of splice files = do
 unfoldable pub cut_of : SpliceContent → List (List ℕ) → Option Form → Result CutContent CutFault
 cut_of splice files form = do
   takes ← takes_of splice files
-  fits ← fitting form (cut_with splice takes)
-  Ok (cut_with splice takes)
+  cut_from form splice takes
+
+-- a call heard the take of a number that the steps come to, want of memory aside
+abbrev pub HearsTake : SpliceContent → ℕ → Result Heard CutFault → Result Content CutFault → Type 0
+HearsTake splice number (Ok h) steps = (r : Content) × (steps ≡ Ok r) × HasShape r × (heard_content h ≡ heard_of splice number r)
+HearsTake splice number (Err fault) steps = Fails Memory fault steps
+
+-- a call heard the takes that the steps come to, want of memory aside
+abbrev pub HearsTakes : SpliceContent → Result (Vec Heard Global) CutFault → Result (List Content) CutFault → Type 0
+HearsTakes splice (Ok hs) steps = (takes : List Content) × (steps ≡ Ok takes) × AreHeard splice takes hs.items
+HearsTakes splice (Err fault) steps = Fails Memory fault steps

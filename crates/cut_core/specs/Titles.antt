@@ -3,7 +3,7 @@ use Rattle.std.specs.Prelude.{ℕ, ◌+◌, List, [], ◌∷◌, ◌++◌, Optio
 use Rattle.dsd_bits.specs.Contents.{MarkContent}
 use Rattle.dsdiff_core.specs.MarkPlaces.{title_mark}
 use Rattle.splice_core.specs.Cues.{CueContent}
-use Rattle.cut_core.specs.Cuts.{CutContent, span, take_at}
+use Rattle.cut_core.specs.Cuts.{CutContent, span}
 
 -- the mark of a title at a place, if there is a title
 abbrev pub mark_of_title : ℕ → ℕ → Option (List ℕ) → List MarkContent
@@ -21,4 +21,4 @@ titles rate cues = titles_from rate 0 cues
 
 -- the marks of a cut's titles, at the rate of its takes
 abbrev pub titles_of : CutContent → List MarkContent
-titles_of cut = titles (take_at cut.takes 0).rate cut.splice.cues
+titles_of cut = titles cut.first.rate cut.splice.cues

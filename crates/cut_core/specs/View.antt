@@ -1,13 +1,19 @@
 -- What a `Cut` stands for.
+use Rattle.std.specs.Prelude.{List, All, map}
+use Rattle.dsd_bits.specs.Contents.{Content}
 use Rattle.splice_core.specs.Splices.{splice_content}
 use Rattle.cut_core.specs.declared.cut.Cut.TheInside.{Inside}
-use Rattle.cut_core.specs.Cuts.{CutContent}
-use Rattle.cut_core.specs.Keeping.{CanCut}
+use Rattle.cut_core.specs.Cuts.{CutContent, FitTakes}
+use Rattle.cut_core.specs.Hearing.{AreHeard, heard_content, heard_cut}
+use Rattle.cut_core.specs.Rooms.{HaveRoom}
 
--- the splice and the takes of the fields
+-- the cut of the splice and what was heard, as the fields have them
 abbrev pub cut_content : Inside → CutContent
-cut_content x = record { splice = splice_content x.splice; takes = x.takes.items }
+cut_content x = heard_cut (splice_content x.splice) (map heard_content x.takes.items)
 
--- it can be cut
-abbrev pub KeepsCut : Inside → Type 0
-KeepsCut x = CanCut (cut_content x)
+-- it was heard of takes that can be cut
+pub record KeepsCut (x : Inside) : Type 0 where
+  pub takes : List Content
+  pub heard : AreHeard (splice_content x.splice) takes x.takes.items
+  pub fit : FitTakes (splice_content x.splice) takes
+  pub room : HaveRoom (splice_content x.splice) takes

@@ -1,12 +1,14 @@
-//! The cues of a splice, and the takes that they are cut from.
+//! The cues of a splice, and what was heard of the takes that they are cut from.
 
-ghost use Rattle.std.specs.Prelude.{◌≡◌, ◌+◌, ◌^◌, ◌<◌, ◌≤◌, length};
+ghost use Rattle.std.specs.Prelude.{◌≡◌, ◌+◌, ◌^◌, ◌<◌, ◌≤◌, length, map};
 ghost use Rattle.splice_core.specs.Cues.{IsCueWithin, cue_content};
 ghost use Rattle.splice_core.specs.Splices.{splice_content};
 ghost use Rattle.cost_core.specs.Windows as fades;
-ghost use Rattle.cut_core.specs.Cuts.{span, take_at};
+ghost use Rattle.cut_core.specs.Cuts.{span};
+ghost use Rattle.cut_core.specs.Hearing.{HasStretch, heard_at, heard_content, heard_shape, heard_shapes, shape_of_cue, stretch_at};
 
-use dsd_bits::Recording;
+use crate::heard::Heard;
+use dsd_bits::Bits;
 use splice_core::{Cue, Splice};
 
 /// How many cues a splice has.
@@ -37,12 +39,22 @@ pub fn span_at(splice: &Splice, i: usize) -> usize
     cue.stop - cue.start + cue.bridge
 }
 
-/// The take that cue `i` is cut from.
-pub fn take_of<'a>(splice: &Splice, takes: &'a [Recording], i: usize) -> &'a Recording
+/// What was heard of the take that cue `i` is cut from.
+pub fn take_of<'a>(splice: &Splice, takes: &'a [Heard], i: usize) -> &'a Heard
     requires cue { i < length (splice_content splice.now).cues }
     requires takes { length takes.now ≡ length (splice_content splice.now).takes }
-    ensures value { result.now ≡ take_at takes.now (fades.cue_at (splice_content splice.now) i).take }
-    ensures there { (fades.cue_at (splice_content splice.now) i).take < length takes.now }
+    ensures heard { heard_content result.now ≡ heard_at (map heard_content takes.now) (fades.cue_at (splice_content splice.now) i).take }
+    ensures shape { heard_shape (heard_content result.now) ≡ shape_of_cue (splice_content splice.now) (heard_shapes takes.now) i }
 {
     &takes[cue_at(splice, i).take]
+}
+
+/// The bits that are heard for cue `i` in channel `c`.
+pub fn stretch<'a>(splice: &Splice, takes: &'a [Heard], c: usize, i: usize) -> &'a Bits
+    requires cue { i < length (splice_content splice.now).cues }
+    requires takes { length takes.now ≡ length (splice_content splice.now).takes }
+    requires there { HasStretch (splice_content splice.now) (map heard_content takes.now) c i }
+    ensures { result.now ≡ stretch_at (splice_content splice.now) (map heard_content takes.now) c i }
+{
+    &take_of(splice, takes, i).stretches[i][c]
 }

@@ -1,38 +1,40 @@
 //! A splice with its takes.
 
-ghost use Rattle.std.specs.Prelude.{◌≡◌, ◌+◌, ◌^◌, ◌<◌, ◌≤◌, All, IfOk, length, map};
-ghost use Rattle.dsd_bits.specs.Contents.{mark_content};
+ghost use Rattle.std.specs.Prelude.{◌≡◌, ◌+◌, ◌-◌, ◌^◌, ◌<◌, ◌≤◌, ◌++◌, All, IfOk, List, OnOk, length, map};
+ghost use Rattle.dsd_bits.specs.Contents.{Content, mark_content};
 ghost use Rattle.splice_core.specs.Cues.{IsCueWithin, cue_content};
 ghost use Rattle.splice_core.specs.Splices.{splice_content};
 ghost use Rattle.form_core.specs.Steps.{Gives};
 ghost use Rattle.cut_core.specs.Bridges as places;
 ghost use Rattle.cut_core.specs.Bridges.{IsPlace};
 ghost use Rattle.cut_core.specs.Cuts as cuts;
-ghost use Rattle.cut_core.specs.Cuts.{CutContent, cue_at, master_length, span, take_at};
+ghost use Rattle.cut_core.specs.Cuts.{cue_at, cue_bits, master_length, span};
 ghost use Rattle.cut_core.specs.Keeping.{CanCut};
-ghost use Rattle.cut_core.specs.Opening.{OpensCut, cut_of, file_bytes};
+ghost use Rattle.cut_core.specs.Hearing.{AreHeard};
+ghost use Rattle.cut_core.specs.Opening.{OpensCut, cut_from, cut_of, file_bytes};
 ghost use Rattle.cut_core.specs.Titles.{titles_of};
 
 use crate::bridges::{BridgePlace, bridge_places};
 use crate::cues;
 use crate::fault::CutFault;
 use crate::fitting::{self, fits};
+use crate::heard::{Heard, heard_from};
 use crate::takes::takes_of;
 use crate::titles::title_marks;
-use cost_core::Window;
+use cost_core::{Window, fades_join};
 use dsd_bits::{Bits, Mark, Recording};
 use form_core::Form;
 use splice_core::{Cue, Splice};
 use std::alloc::{AllocError, Global};
 use std::marker::Model;
 
-/// A splice with the recordings of its takes, from which a master can be cut: the takes are of one sample rate and one
+/// A splice with what it hears of its takes, from which a master can be cut: the takes are of one sample rate and one
 /// number of channels, each cue ends within its take, the master has at most `2^36` bits a channel, and each bridge has
-/// room in both its takes.
+/// room in both its takes. Of the takes it holds the bits of the cues and those that the bridges round them read.
 #[derive(Drop)]
 pub struct Cut {
     splice: Splice,
-    takes: Vec<Recording>,
+    takes: Vec<Heard>,
 }
 
 impl Model for Cut {
@@ -62,12 +64,24 @@ impl Cut {
         files: &[Vec<u8>],
         form: Option<Form>,
     ) -> Result<Cut, CutFault>
-        // What is answered is the splice with takes that the files hold, and can be cut.
+        // What is answered is the cut of takes that the files hold, and can be cut.
         ensures found { IfOk result (OpensCut (splice_content splice) (file_bytes files.now) form) }
         // What is answered or refused is what reading in order comes to, want of memory aside.
         ensures exact { Gives CutFault.Memory (λ cut. cut) result (cut_of (splice_content splice) (file_bytes files.now) form) }
     {
         let takes = takes_of(alloc, &splice, files)?;
+        Cut::of(splice, takes, form)
+    }
+
+    /// A splice with what it hears of its takes, in the order of their numbers.
+    ///
+    /// Refusals: those of [`Cut::open`] from `TakeMismatch` on, in their order.
+    #[tactic(auto, unfolding(crate::specs::Opening::cut_from))]
+    pub fn of(splice: Splice, takes: Vec<Heard>, form: Option<Form>) -> Result<Cut, CutFault>
+        requires heard { (whole : List Content) × AreHeard (splice_content splice) whole takes.items × (length whole ≡ length (splice_content splice).takes) }
+        // Of whichever takes it was heard, what is answered or refused is what reading them in order comes to.
+        ensures exact { (whole : List Content) → AreHeard (splice_content splice) whole takes.items → Gives CutFault.Memory (λ cut. cut) result (cut_from form (splice_content splice) whole) }
+    {
         fits(&splice, &takes, form)?;
         Ok(Cut { splice, takes })
     }
@@ -76,6 +90,7 @@ impl Cut {
     pub fn can_cut(&self)
         ensures { CanCut self.now }
     {
+        fades_join();
         let _ = self.takes.len();
     }
 
@@ -123,11 +138,11 @@ impl Cut {
         fitting::master_length(&self.splice)
     }
 
-    /// The first take, whose sample rate, channel IDs and layout the master has.
+    /// The first take without its bits, whose sample rate, channel IDs and layout the master has.
     pub fn first(&self) -> &Recording
-        ensures { result.now ≡ take_at self.now.takes 0 }
+        ensures { result.now ≡ self.now.first }
     {
-        &self.takes[0]
+        &self.takes[0].recording
     }
 
     /// How many channels the takes have, and so the master: 1 to 6.
@@ -138,15 +153,18 @@ impl Cut {
         self.first().channels().len()
     }
 
-    /// Channel `c` of the take of cue `i`.
-    pub fn source(&self, c: usize, i: usize) -> &Bits
+    /// Appends the bits of cue `i` in channel `c`. Err is want of memory.
+    pub fn push_cue(&self, out: &mut Bits, c: usize, i: usize) -> Result<(), AllocError>
         requires channel { c < cuts.channel_number self.now }
         requires cue { i < length self.now.splice.cues }
-        ensures value { result.now ≡ cuts.source self.now c i }
-        ensures inside { (cue_at self.now i).stop ≤ length result.now }
+        requires in_limit { length out.old + ((cue_at self.now i).stop - (cue_at self.now i).start) ≤ 2 ^ 36 }
+        ensures appended { OnOk result (out.new ≡ out.old ++ cue_bits self.now c i) }
+        ensures long { OnOk result (length out.new ≡ length out.old + ((cue_at self.now i).stop - (cue_at self.now i).start)) }
     {
-        let take = cues::take_of(&self.splice, &self.takes, i);
-        &take.channels()[c]
+        let from = heard_from(&self.splice, i);
+        let cue = cues::cue_at(&self.splice, i);
+        let stretch = cues::stretch(&self.splice, &self.takes, c, i);
+        out.push_range(stretch, cue.start - from, cue.stop - from)
     }
 
     /// The places of all bridges, by rising cue and then by rising channel. A plain cut is no bridge. Err is want of
@@ -164,11 +182,12 @@ impl Cut {
         requires { IsPlace self.now place }
         ensures { IfOk result (λ window. window ≡ cuts.window self.now place.channel place.cue) }
     {
-        self.can_cut();
         let BridgePlace { cue, channel } = place;
-        let a = self.source(channel, cue);
-        let b = self.source(channel, cue + 1);
-        Window::new(alloc, &self.splice, a, b, cue).map_err(|_| AllocError)
+        let a = cues::stretch(&self.splice, &self.takes, channel, cue);
+        let stop = cues::cue_at(&self.splice, cue).stop - heard_from(&self.splice, cue);
+        let b = cues::stretch(&self.splice, &self.takes, channel, cue + 1);
+        let start = cues::cue_at(&self.splice, cue + 1).start - heard_from(&self.splice, cue + 1);
+        Window::between(alloc, &self.splice, cue, a, stop, b, start)
     }
 
     /// The marks of the titles: one at the first bit of the master of each cue that has a title. Err is want of memory.

@@ -3,13 +3,15 @@
 ghost use Rattle.std.specs.Prelude.{◌≡◌, ◌+◌, ◌-◌, ◌<◌, length, true, false};
 ghost use Rattle.splice_core.specs.Splices.{splice_content};
 ghost use Rattle.cut_core.specs.Cuts as cuts;
-ghost use Rattle.cut_core.specs.Cuts.{AreAlike, cut_with};
+ghost use Rattle.cut_core.specs.Cuts.{AreAlike};
+ghost use Rattle.cut_core.specs.Hearing.{heard_shapes};
 ghost use Rattle.cut_core.specs.Opening as specs;
 ghost use Rattle.cut_core.specs.Opening.{each_before, fitting, whole_in};
 ghost use Rattle.cut_core.specs.Rooms.{room_at};
 
 use crate::cues::{cue_at, cue_number, span_at, take_of};
 use crate::fault::CutFault;
+use crate::heard::Heard;
 use cost_core::{RoomFault, has_room};
 use dsd_bits::Recording;
 use form_core::Form;
@@ -22,9 +24,9 @@ use splice_core::Splice;
 /// channel, `NotWholeBytes` where the form is DSDIFF and the master's channels would end inside a byte, then by rising
 /// cue `NoRoomBefore` and `NoRoomAfter`.
 #[tactic(auto, unfolding(crate::specs::Opening::fitting))]
-pub fn fits(splice: &Splice, takes: &[Recording], form: Option<Form>) -> Result<(), CutFault>
+pub fn fits(splice: &Splice, takes: &[Heard], form: Option<Form>) -> Result<(), CutFault>
     requires { length takes.now ≡ length (splice_content splice.now).takes }
-    ensures { result ≡ fitting form (cut_with (splice_content splice.now) takes.now) }
+    ensures { result ≡ fitting form (splice_content splice.now) (heard_shapes takes.now) }
 {
     are_alike(takes)?;
     are_inside(splice, takes)?;
@@ -39,8 +41,8 @@ pub fn fits(splice: &Splice, takes: &[Recording], form: Option<Form>) -> Result<
 
 // Whether each take is like the first.
 #[tactic(auto, using(crate::proofs::Steps::each_stops))]
-fn are_alike(takes: &[Recording]) -> Result<(), CutFault>
-    ensures { result ≡ each_before (length takes.now) (specs.alike_at takes.now) }
+fn are_alike(takes: &[Heard]) -> Result<(), CutFault>
+    ensures { result ≡ each_before (length (heard_shapes takes.now)) (specs.alike_at (heard_shapes takes.now)) }
 {
     for i in 0..takes.len() {
         alike_at(takes, i)?;
@@ -49,11 +51,11 @@ fn are_alike(takes: &[Recording]) -> Result<(), CutFault>
 }
 
 // Whether take `i` is like the first.
-fn alike_at(takes: &[Recording], i: usize) -> Result<(), CutFault>
+fn alike_at(takes: &[Heard], i: usize) -> Result<(), CutFault>
     requires { i < length takes.now }
-    ensures { result ≡ specs.alike_at takes.now i }
+    ensures { result ≡ specs.alike_at (heard_shapes takes.now) i }
 {
-    if differ(&takes[0], &takes[i]) {
+    if differ(&takes[0].recording, &takes[i].recording) {
         return Err(CutFault::TakeMismatch(i));
     }
     Ok(())
@@ -69,9 +71,9 @@ pub fn differ(first: &Recording, take: &Recording) -> bool
 
 // Whether each cue ends within its take.
 #[tactic(auto, using(crate::proofs::Steps::each_stops))]
-fn are_inside(splice: &Splice, takes: &[Recording]) -> Result<(), CutFault>
+fn are_inside(splice: &Splice, takes: &[Heard]) -> Result<(), CutFault>
     requires { length takes.now ≡ length (splice_content splice.now).takes }
-    ensures { result ≡ each_before (length (splice_content splice.now).cues) (specs.inside_at (cut_with (splice_content splice.now) takes.now)) }
+    ensures { result ≡ each_before (length (splice_content splice.now).cues) (specs.inside_at (splice_content splice.now) (heard_shapes takes.now)) }
 {
     for i in 0..cue_number(splice) {
         inside_at(splice, takes, i)?;
@@ -80,12 +82,12 @@ fn are_inside(splice: &Splice, takes: &[Recording]) -> Result<(), CutFault>
 }
 
 // Whether cue `i` ends within its take.
-fn inside_at(splice: &Splice, takes: &[Recording], i: usize) -> Result<(), CutFault>
+fn inside_at(splice: &Splice, takes: &[Heard], i: usize) -> Result<(), CutFault>
     requires as_many { length takes.now ≡ length (splice_content splice.now).takes }
     requires there { i < length (splice_content splice.now).cues }
-    ensures { result ≡ specs.inside_at (cut_with (splice_content splice.now) takes.now) i }
+    ensures { result ≡ specs.inside_at (splice_content splice.now) (heard_shapes takes.now) i }
 {
-    if take_of(splice, takes, i).count() < cue_at(splice, i).stop {
+    if take_of(splice, takes, i).count < cue_at(splice, i).stop {
         return Err(CutFault::CueOutside(i));
     }
     Ok(())
@@ -114,9 +116,9 @@ fn is_whole(splice: &Splice, form: Option<Form>) -> bool
 
 // Whether each bridge has room in the takes.
 #[tactic(auto, using(crate::proofs::Steps::each_stops))]
-fn have_room(splice: &Splice, takes: &[Recording]) -> Result<(), CutFault>
+fn have_room(splice: &Splice, takes: &[Heard]) -> Result<(), CutFault>
     requires { length takes.now ≡ length (splice_content splice.now).takes }
-    ensures { result ≡ each_before (length (splice_content splice.now).cues - 1) (room_at (cut_with (splice_content splice.now) takes.now)) }
+    ensures { result ≡ each_before (length (splice_content splice.now).cues - 1) (room_at (splice_content splice.now) (heard_shapes takes.now)) }
 {
     for i in 0..cue_number(splice) - 1 {
         has_room_at(splice, takes, i)?;
@@ -125,15 +127,15 @@ fn have_room(splice: &Splice, takes: &[Recording]) -> Result<(), CutFault>
 }
 
 // Whether the bridge behind cue `i`, if there is one, has room.
-fn has_room_at(splice: &Splice, takes: &[Recording], i: usize) -> Result<(), CutFault>
+fn has_room_at(splice: &Splice, takes: &[Heard], i: usize) -> Result<(), CutFault>
     requires as_many { length takes.now ≡ length (splice_content splice.now).takes }
     requires there { i + 1 < length (splice_content splice.now).cues }
-    ensures { result ≡ room_at (cut_with (splice_content splice.now) takes.now) i }
+    ensures { result ≡ room_at (splice_content splice.now) (heard_shapes takes.now) i }
 {
     if cue_at(splice, i).bridge == 0 {
         return Ok(());
     }
-    match has_room(splice, i, take_of(splice, takes, i).count()) {
+    match has_room(splice, i, take_of(splice, takes, i).count) {
         Ok(()) => Ok(()),
         Err(RoomFault::NoRoomBefore) => Err(CutFault::NoRoomBefore(i)),
         Err(RoomFault::NoRoomAfter) => Err(CutFault::NoRoomAfter(i)),

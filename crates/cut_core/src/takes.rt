@@ -1,50 +1,57 @@
 //! The takes of a splice, read from their files.
 
-ghost use Rattle.std.specs.Prelude.{◌≡◌, ◌<◌, All, IfOk, length};
+ghost use Rattle.std.specs.Prelude.{◌≡◌, ◌<◌, IfOk, length};
 ghost use Rattle.dsd_bits.specs.Shape.{HasShape};
 ghost use Rattle.splice_core.specs.Splices.{splice_content};
 ghost use Rattle.form_core.specs.Steps.{Gives};
 ghost use Rattle.cut_core.specs.Opening as specs;
-ghost use Rattle.cut_core.specs.Opening.{fault_of_take, file_bytes, take_from, takes_before};
+ghost use Rattle.cut_core.specs.Opening.{HearsTake, HearsTakes, fault_of_take, file_bytes, take_from, takes_before};
 
 use crate::fault::CutFault;
+use crate::heard::{Heard, hear};
 use dsd_bits::Recording;
 use form_core::{Opened, ReadFault, has_shape, read_any};
 use splice_core::Splice;
 use std::alloc::Global;
 
-/// The takes of a splice, read from their files.
+/// What a splice hears of its takes, read from their files.
 ///
 /// Refusals, in this order: `TakeNumber` where there are not as many files as takes, `TakeUnread` of the
 /// first file that isn't read. Every want of memory is `Memory`.
 #[tactic(auto, unfolding(crate::specs::Opening::takes_of))]
-pub fn takes_of(
-    alloc: Global,
-    splice: &Splice,
-    files: &[Vec<u8>],
-) -> Result<Vec<Recording>, CutFault>
-    ensures exact { Gives CutFault.Memory (λ takes. takes.items) result (specs.takes_of (splice_content splice.now) (file_bytes files.now)) }
-    ensures shaped { IfOk result (λ takes. All HasShape takes.items) }
-    ensures as_many { IfOk result (λ takes. length takes.items ≡ length (splice_content splice.now).takes) }
+pub fn takes_of(alloc: Global, splice: &Splice, files: &[Vec<u8>]) -> Result<Vec<Heard>, CutFault>
+    ensures { HearsTakes (splice_content splice.now) result (specs.takes_of (splice_content splice.now) (file_bytes files.now)) }
 {
     if files.len() != splice.takes.len() {
         return Err(CutFault::TakeNumber);
     }
-    read_takes(alloc, files)
+    read_takes(alloc, splice, files)
 }
 
-// The recordings of files.
+// What a splice hears of the recordings of files.
 #[tactic(auto, using(crate::proofs::Steps::takes_stop))]
-fn read_takes(alloc: Global, files: &[Vec<u8>]) -> Result<Vec<Recording>, CutFault>
-    ensures exact { Gives CutFault.Memory (λ takes. takes.items) result (takes_before (file_bytes files.now) (length files.now)) }
-    ensures shaped { IfOk result (λ takes. All HasShape takes.items) }
-    ensures as_many { IfOk result (λ takes. length takes.items ≡ length files.now) }
+fn read_takes(alloc: Global, splice: &Splice, files: &[Vec<u8>]) -> Result<Vec<Heard>, CutFault>
+    ensures { HearsTakes (splice_content splice.now) result (takes_before (file_bytes files.now) (length files.now)) }
 {
     let mut takes = Vec::with_capacity(alloc, files.len())?;
     for number in 0..files.len() {
-        takes.push_reserved(read_take(alloc, files, number)?);
+        takes.push_reserved(hear_take(alloc, splice, files, number)?);
     }
     Ok(takes)
+}
+
+// What a splice hears of the recording of the file of a number.
+fn hear_take(
+    alloc: Global,
+    splice: &Splice,
+    files: &[Vec<u8>],
+    number: usize,
+) -> Result<Heard, CutFault>
+    requires { number < length files.now }
+    ensures { HearsTake (splice_content splice.now) number result (take_from (file_bytes files.now) number) }
+{
+    let recording = read_take(alloc, files, number)?;
+    Ok(hear(alloc, splice, number, recording)?)
 }
 
 // The recording of the file of a number.

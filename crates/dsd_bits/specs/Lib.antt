@@ -9,5 +9,6 @@ pub mod Packing
 pub mod Shape
 pub mod Shifting
 pub mod Sounds
+pub mod Stretches
 pub mod Sums
 pub mod Turning

@@ -31,6 +31,8 @@
 //! - `IsLevel channels` says that channels are equally long, `count_of` how long.
 //! - `Content` is what a recording holds, `HasShape` names the rules that it keeps, `layout_channels`
 //!   is the table of layouts.
+//! - `stretches_of channels ranges` are the bits of the channels in each range ([`BitRange`]), `silent r` a recording
+//!   without its bits.
 //! - `IsSound s` names the limits of a sound, `HasSound file r s` says that the bytes of the sound in a
 //!   file hold the channels of a recording; `IfFound`, `IfMore` and `IfRefused` speak of a [`SoundAt`].
 //! - `sign`, what a bit counts, and `sum_below`, sums of whole numbers, serve the crates above.
@@ -56,6 +58,7 @@ mod marks;
 mod packing;
 mod recording;
 mod sound;
+mod stretches;
 mod turning;
 
 pub use bits::Bits;
@@ -69,4 +72,5 @@ pub use limits::{BLOCK_BITS, BLOCK_BYTES, GREATEST_RATE, LEAST_RATE, MOST_BITS};
 pub use marks::{Mark, Other, Place};
 pub use recording::Recording;
 pub use sound::{Sound, SoundAt};
+pub use stretches::{BitRange, silent_channels, stretches_of};
 pub use turning::{turn, turn_byte};

@@ -1,13 +1,16 @@
 //! A recording: its sound, and what is told of it.
 
-ghost use Rattle.std.specs.Prelude.{◌≡◌, ◌≤◌, map};
+ghost use Rattle.std.specs.Prelude.{◌≡◌, ◌≤◌, IfOk, map};
 ghost use Rattle.dsd_bits.specs.Channels.{count_of};
 ghost use Rattle.dsd_bits.specs.Contents.{content_of, mark_content, other_content};
 ghost use Rattle.dsd_bits.specs.Limits.{IsRate, most_bits};
 ghost use Rattle.dsd_bits.specs.Shape.{HasShape};
+ghost use Rattle.dsd_bits.specs.Stretches.{silent};
 
 use crate::bits::Bits;
 use crate::marks::{Mark, Other};
+use crate::stretches::silent_channels;
+use std::alloc::{AllocError, Global};
 use std::marker::Model;
 
 /// A recording of one to six channels of equal length. Contracts see it as one record of lists and
@@ -66,6 +69,31 @@ impl Recording {
             others,
             tag,
         }
+    }
+
+    /// The same recording without its bits: its channels have none. Err is want of memory.
+    pub fn into_silent(self, alloc: Global) -> Result<Recording, AllocError>
+        ensures { IfOk result (λ r. r ≡ silent self) }
+    {
+        let Recording {
+            rate,
+            channels,
+            ids,
+            layout,
+            marks,
+            others,
+            tag,
+        } = self;
+        let channels = silent_channels(alloc, channels.len())?;
+        Ok(Recording {
+            rate,
+            channels,
+            ids,
+            layout,
+            marks,
+            others,
+            tag: tag,
+        })
     }
 
     /// Bits a second of each channel, in hertz.

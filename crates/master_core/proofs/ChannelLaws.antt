@@ -9,11 +9,10 @@ use Rattle.std.proofs.lemmas.Option.{slice_get-get_or}
 use Rattle.dsd_bits.proofs.PackingLemmas.{length-slice_range}
 use Rattle.splice_core.specs.Cues.{bridge_or, last_bridge}
 use Rattle.cost_core.specs.Bridges.{bridge_cost}
-use Rattle.cost_core.specs.Channels.{AreJoined, FadesJoin, HaveLengths, Part, channel}
+use Rattle.cost_core.specs.Channels.{AreJoined, HaveLengths, Part, channel}
 use Rattle.cost_core.specs.Least.{IsFirstLeast, NotAfter}
-use Rattle.cut_core.specs.Cuts.{CutContent, channel_number, cue_at, cue_bits, master_length, source, span}
+use Rattle.cut_core.specs.Cuts.{CutContent, channel_number, cue_at, cue_bits, master_length, span}
 use Rattle.cut_core.specs.Keeping.{CanCut}
-use Rattle.cut_core.proofs.CutLaws.{source_inside}
 use Rattle.cut_core.proofs.ZipLaws.{zip_long, zip_more}
 use Rattle.master_core.specs.Assembling.{IsAssembled, IsBridged}
 use Rattle.master_core.specs.Checking.{rebuilt}
@@ -131,7 +130,7 @@ module _ (cut : CutContent) (can : CanCut cut) (c : ℕ) (there : c < channel_nu
   part_is i d lt = get_or-map-range_with_len (part_at cut c) 0 (length cut.splice.cues - 1) i i d lt (omega arith)
 
   pub cue_long : (i : ℕ) → i < length cut.splice.cues → length (cue_bits cut c i) ≡ (cue_at cut i).stop - (cue_at cut i).start
-  cue_long i lt = length-slice_range _ (cue_at cut i).start (cue_at cut i).stop (source_inside cut can c there i lt)
+  cue_long i lt = can.long c i there lt
 
   -- what stands before the bridge behind cue i has as many bits as are before it in the master
   pub before_long : (xs : List (List Bool)) → HaveLengths ps xs → (i : ℕ) → i < length cut.splice.cues → length (channel (cue_bits cut c 0) (take i ps) (take i xs)) ≡ bridge_start cut i
@@ -146,7 +145,7 @@ module _ (cut : CutContent) (can : CanCut cut) (c : ℕ) (there : c < channel_nu
       let short : length (take i xs) ≡ length (take i ps) = length-take-le i xs (omega arith) ∙ sym (length-take-le i ps (omega arith)) in
       let p_more : take (i + 1) ps ≡ take i ps ++ d ∷ [] = take_more ps i d inside ∙ ap (λ q. take i ps ++ q ∷ []) (part_is i d (omega arith)) in
       let x_more : take (i + 1) xs ≡ take i xs ++ x ∷ [] = take_more xs i [] (omega arith) in
-      let long : length x ≡ (cue_at cut i).bridge = length_at ps xs i d [] h inside ∙ ap (λ (q : Part). q.bridging.levels) (part_is i d (omega arith)) in
+      let long : length x ≡ (cue_at cut i).bridge = length_at ps xs i d [] h inside ∙ ap (λ (q : Part). q.bridging.levels) (part_is i d (omega arith)) ∙ (can.windowed c i there (omega arith)).levels in
       let one : channel (cue_bits cut c 0) (take (i + 1) ps) (take (i + 1) xs) ≡ channel (cue_bits cut c 0) (take i ps) (take i xs) ++ (x ++ cue_bits cut c (i + 1)) = rw (p_more, x_more) (channel_on (cue_bits cut c 0) (take i ps) (take i xs) d x short) in
       let sums : sum_by span (take (i + 1) cut.splice.cues) ≡ sum_by span (take i cut.splice.cues) + span (cue_at cut i) = sum_by_more span cut.splice.cues i _ below in
       let next : i + 1 ≡ suc i = omega arith in
@@ -160,7 +159,7 @@ module _ (cut : CutContent) (can : CanCut cut) (c : ℕ) (there : c < channel_nu
       let inside : i < length ps = omega (arith, part_number) in
       let (rest, split) = split_at (cue_bits cut c 0) ps xs i (lengths_as_many ps xs h) inside in
       let d = part_at cut c i in
-      let long : length (get_or xs i []) ≡ (cue_at cut i).bridge = length_at ps xs i d [] h inside ∙ ap (λ (q : Part). q.bridging.levels) (part_is i d lt) in
+      let long : length (get_or xs i []) ≡ (cue_at cut i).bridge = length_at ps xs i d [] h inside ∙ ap (λ (q : Part). q.bridging.levels) (part_is i d lt) ∙ (can.windowed c i there (omega arith)).levels in
       ap (λ l. slice_range l (bridge_start cut i) (bridge_start cut i + (cue_at cut i).bridge)) (is ∙ split) ∙ part_of (channel (cue_bits cut c 0) (take i ps) (take i xs)) (get_or xs i []) rest (bridge_start cut i) (cue_at cut i).bridge (before_long xs h i (omega arith)) long
 
   -- a channel of cues and bridges is rebuilt of them
@@ -195,7 +194,7 @@ module _ (cut : CutContent) (can : CanCut cut) (c : ℕ) (there : c < channel_nu
       h ∙ ap (λ l. channel (cue_bits cut c 0) l (take i own)) (take_all i ps (omega (arith, part_number))) ∙ ap (λ l. channel (cue_bits cut c 0) ps l) (take_all i own (omega (arith, length-map-range_with_len (bridge_bits cut z) 0 n)))
 
   -- the bridges join the cues
-  pub joined : FadesJoin → (n i : ℕ) → i + n < length cut.splice.cues → AreJoined (cue_bits cut c i) (map (part_at cut c) (range_with_len i n))
+  pub joined : (n i : ℕ) → i + n < length cut.splice.cues → AreJoined (cue_bits cut c i) (map (part_at cut c) (range_with_len i n))
   unfolding AreJoined
-  joined law zero i lt = tt
-  joined law (suc n) i lt = (law cut.splice i (source cut c i) (source cut c (i + 1)) can.splicing (omega arith) (source_inside cut can c there i (omega arith)) (source_inside cut can c there (i + 1) (omega arith)), joined law n (i + 1) (omega arith))
+  joined zero i lt = tt
+  joined (suc n) i lt = ((can.windowed c i there (omega arith)).joins, joined n (i + 1) (omega arith))

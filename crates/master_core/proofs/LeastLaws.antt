@@ -3,7 +3,7 @@ use Rattle.std.proofs.Common.{◌≡◌, ℕ, zero, suc, ◌+◌, ◌-◌, ◌<�
 use Rattle.std.specs.declared.alloc.AllocError.{AllocError}
 use Rattle.std.specs.List.{AllZip, range_with_len}
 use Rattle.std.proofs.lemmas.List.Sums.{sum_by-cons}
-use Rattle.cost_core.specs.Channels.{AreLeast, FadesJoin, HaveLengths, LeastTogether, Part}
+use Rattle.cost_core.specs.Channels.{AreLeast, HaveLengths, LeastTogether, Part}
 use Rattle.cut_core.specs.Cuts.{CutContent, channel_number, cue_bits}
 use Rattle.cut_core.specs.Keeping.{CanCut}
 use Rattle.cut_core.proofs.ZipLaws.{zip_map, zip_number}
@@ -33,11 +33,11 @@ sums_at_most f g a (suc n) h =
     let rest = sums_at_most f g (a + 1) n (λ i ge lt. h i (omega arith) (omega arith)) in
     omega (arith, sum_by-cons f a (range_with_len (a + 1) n), sum_by-cons g a (range_with_len (a + 1) n), h a (omega arith) (omega arith), rest)
 
-module _ (cut : CutContent) (can : CanCut cut) (joins : FadesJoin) (together : LeastTogether) where
+module _ (cut : CutContent) (can : CanCut cut) (together : LeastTogether) where
   channel_least : (c : ℕ) → c < channel_number cut → (z y : List Bool) → IsLeastChannel cut c z → IsMasterChannel cut c y → cost_of cut c z ≤ cost_of cut c y
   channel_least c there z y own other =
       let parts = least_parts (parts_of cut c) own.bridges own.least in
-      let are = joined cut can c there joins (length cut.splice.cues - 1) 0 (omega (arith, can.splicing.some_cues)) in
+      let are = joined cut can c there (length cut.splice.cues - 1) 0 (omega (arith, can.splicing.some_cues)) in
       rw (own.made, other.made) (together (cue_bits cut c 0) (parts_of cut c) own.bridges other.bridges are parts.0 other.lengths parts.1)
 
   pub cost_least : (zs : List (List Bool)) (cost : ℕ) → AreLeastChannels cut zs → cost ≡ total_cost cut zs → CostLeast cut zs cost

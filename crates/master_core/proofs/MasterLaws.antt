@@ -13,7 +13,7 @@ use Rattle.cost_core.specs.Channels.{Part}
 use Rattle.cost_core.specs.Least.{IsFirstLeast, NotAfter}
 use Rattle.form_core.specs.declared.form.Form.{Form}
 use Rattle.form_core.specs.declared.form.Form.TheVariants as forms
-use Rattle.cut_core.specs.Cuts.{CutContent, channel_number, master_length, span, take_at}
+use Rattle.cut_core.specs.Cuts.{CutContent, channel_number, master_length, span}
 use Rattle.cut_core.specs.Keeping.{CanCut}
 use Rattle.cut_core.specs.Titles.{mark_of_title, titles_from}
 use Rattle.cut_core.proofs.CutLaws.{first_shape}
@@ -35,7 +35,7 @@ titles_short rate place weights takes (cue ∷ cues) h =
     All-append (λ (mark : MarkContent). length mark.text < 2 ^ 32) (mark_of_title rate place cue.title) (titles_from rate (place + span cue) cues) (title_short rate place cue.title fits.title_fits) (titles_short rate (place + span cue) weights takes cues (λ k d lt. h (suc k) d (omega arith)))
 
 marks_short : (form : Form) (cut : CutContent) → CanCut cut → All (λ (mark : MarkContent). length mark.text < 2 ^ 32) (marks_in form cut)
-marks_short forms.Dsdiff cut can = titles_short (take_at cut.takes 0).rate 0 (length cut.splice.weights) (length cut.splice.takes) cut.splice.cues can.splicing.each_fits
+marks_short forms.Dsdiff cut can = titles_short cut.first.rate 0 (length cut.splice.weights) (length cut.splice.takes) cut.splice.cues can.splicing.each_fits
 marks_short forms.Dsf cut can = All-nil (λ (mark : MarkContent). length mark.text < 2 ^ 32)
 marks_short forms.Dsf8 cut can = All-nil (λ (mark : MarkContent). length mark.text < 2 ^ 32)
 
@@ -58,7 +58,7 @@ module _ (cut : CutContent) (can : CanCut cut) (form : Form) (zs : List (List Bo
         some_channel = omega (arith, as_many, first.some_channel);
         six_channels = omega (arith, as_many, first.six_channels);
         level = record { same = λ k d lt. long k d lt ∙ sym count_is };
-        in_limit = omega (arith, count_is, can.fit.in_limit);
+        in_limit = omega (arith, count_is, can.in_limit);
         id_for_each = first.id_for_each ∙ sym as_many;
         layout_fits = first.layout_fits ∙ sym as_many;
         short_texts = marks_short form cut can;

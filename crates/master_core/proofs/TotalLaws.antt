@@ -6,7 +6,7 @@ use Rattle.std.proofs.lemmas.List.Elements.{All-get_or}
 use Rattle.std.proofs.lemmas.List.Sums.{sum_by-append, sum_by-cons, sum_by_more_le}
 use Rattle.dsd_bits.proofs.PackingLemmas.{length-slice_range}
 use Rattle.cost_core.specs.Bridges.{bridge_cost}
-use Rattle.cost_core.specs.Channels.{FadesJoin, HaveLengths, Part, PlacesAreWindows, channel_cost, unless_cut, windows_cost}
+use Rattle.cost_core.specs.Channels.{HaveLengths, Part, PlacesAreWindows, channel_cost, unless_cut, windows_cost}
 use Rattle.cut_core.specs.Bridges.{bridges, places_behind}
 use Rattle.cut_core.specs.Cuts.{CutContent, channel_number, cue_at, cue_bits, master_length, span}
 use Rattle.cut_core.specs.Keeping.{CanCut}
@@ -97,7 +97,7 @@ module _ (cut : CutContent) (zs : List (List Bool)) where
       ∙ same_sums (λ i. sum_by (λ p. claim_cost (claim_at cut zs p)) (places_behind cut i)) (λ i. sum_by (λ c. at c i) (channel_numbers cut)) 0 last (λ i ge lt. behind_sum i)
       ∙ exchange (λ i c. at c i) (range_with_len 0 last) (channel_numbers cut)
 
-  module _ (can : CanCut cut) (shape : HaveShape cut zs) (held : HoldCues cut (channel_numbers cut) zs) (joins : FadesJoin) (places : PlacesAreWindows) where
+  module _ (can : CanCut cut) (shape : HaveShape cut zs) (held : HoldCues cut (channel_numbers cut) zs) (places : PlacesAreWindows) where
     own_long : (c i : ℕ) → c < length zs → i + 1 < length cut.splice.cues → length (bridge_bits cut (get_or zs c []) i) ≡ (cue_at cut i).bridge
     own_long c i there lt =
         let start = bridge_start cut i in
@@ -117,7 +117,7 @@ module _ (cut : CutContent) (zs : List (List Bool)) where
         let some = can.splicing.some_cues in
         let holds : z ≡ rebuilt cut c z = zip_number (λ k y. y ≡ rebuilt cut k y) (channel_number cut) zs c [] held there in
         let lengths = have_lengths (part_at cut c) (bridge_bits cut z) 0 last (λ i ge lt. own_long c i (omega (arith, shape.as_many, there)) (omega arith)) in
-        sym (ap (λ l. channel_cost l (length cue) ps) holds ∙ places cue ps own (joined cut can c there joins last 0 (omega arith)) lengths ∙ windows_sum (part_at cut c) (bridge_bits cut z) 0 last)
+        sym (ap (λ l. channel_cost l (length cue) ps) holds ∙ places cue ps own (joined cut can c there last 0 (omega arith)) lengths ∙ windows_sum (part_at cut c) (bridge_bits cut z) 0 last)
 
     -- the sum over all bridges is that over all channels
     pub windows_are_total : windows_total cut zs ≡ total_cost cut zs

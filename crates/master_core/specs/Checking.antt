@@ -12,7 +12,7 @@ use Rattle.cert_core.specs.Reasons.{FirstReason, HeadReason}
 use Rattle.cert_core.specs.Text.{cert_head}
 use Rattle.cert_core.specs.declared.version.Version.{Version}
 use Rattle.cert_core.specs.declared.verdict.CertReason.{CertReason}
-use Rattle.cut_core.specs.Cuts.{CutContent, IsAlike, channel_number, master_length}
+use Rattle.cut_core.specs.Cuts.{AreAlike, CutContent, channel_number, master_length}
 use Rattle.cut_core.specs.Titles.{titles_of}
 use Rattle.master_core.specs.declared.verdict.Reason.{Reason}
 use Rattle.master_core.specs.declared.verdict.Reason.TheVariants.{MasterShape, MasterLength, MasterMarks, CuedBit, CertHead, Cert, CertExtra}
@@ -38,7 +38,7 @@ HoldCues cut cs zs = AllZip (λ c z. z ≡ rebuilt cut c z) cs zs
 
 -- a recording is the master of a cut, whatever its bridges
 pub record IsMasterOf (cut : CutContent) (form : Form) (r : Content) : Type 0 where
-  pub shape : IsAlike cut.takes r
+  pub shape : AreAlike cut.first r
   pub long : count_of r.channels ≡ master_length cut.splice.cues
   pub titled : IsTitled cut form r
   pub cued : HoldCues cut (channel_numbers cut) r.channels
@@ -79,12 +79,12 @@ pub record HasMore (cut : CutContent) (zs : List (List Bool)) (cert : List ℕ) 
 
 -- a recording isn't the master for this reason, and for none before it in the order: shape, length, marks, cued bits
 abbrev pub MasterReason : CutContent → Form → Content → Reason → Type 0
-MasterReason cut form r MasterShape = IsAlike cut.takes r → ⊥
-MasterReason cut form r MasterLength = IsAlike cut.takes r × (count_of r.channels ≢ master_length cut.splice.cues)
+MasterReason cut form r MasterShape = AreAlike cut.first r → ⊥
+MasterReason cut form r MasterLength = AreAlike cut.first r × (count_of r.channels ≢ master_length cut.splice.cues)
 MasterReason cut form r MasterMarks =
-    IsAlike cut.takes r × (count_of r.channels ≡ master_length cut.splice.cues) × (form ≡ Dsdiff) × (r.marks ≢ titles_of cut)
+    AreAlike cut.first r × (count_of r.channels ≡ master_length cut.splice.cues) × (form ≡ Dsdiff) × (r.marks ≢ titles_of cut)
 MasterReason cut form r (CuedBit c place) =
-    IsAlike cut.takes r × (count_of r.channels ≡ master_length cut.splice.cues) × IsTitled cut form r × IsFirstCuedBit cut r c place
+    AreAlike cut.first r × (count_of r.channels ≡ master_length cut.splice.cues) × IsTitled cut form r × IsFirstCuedBit cut r c place
 MasterReason cut form r _ = ⊥
 
 -- a certificate doesn't show a master's bridges to be least for this reason, and for none before it in the order: head, entries, end

@@ -6,7 +6,7 @@ use Rattle.form_core.specs.declared.form.Form.{Form}
 use Rattle.form_core.specs.declared.form.Form.TheVariants.{Dsdiff, Dsf, Dsf8}
 use Rattle.cost_core.specs.Bridges.{IsFirstLeastBridge, IsLeastBridge}
 use Rattle.cost_core.specs.Channels.{HaveLengths, Part, channel, channel_cost}
-use Rattle.cut_core.specs.Cuts.{CutContent, channel_number, cue_bits, take_at, window}
+use Rattle.cut_core.specs.Cuts.{CutContent, channel_number, cue_bits, window}
 use Rattle.cut_core.specs.Titles.{titles_of}
 
 -- the bridge behind cue i in channel c, and the next cue
@@ -80,10 +80,10 @@ marks_in Dsf8 cut = []
 -- the recording of a master with these channels: its rate, IDs and layout are those of the first take
 abbrev pub master_of : CutContent → Form → List (List Bool) → Content
 master_of cut form channels = record {
-  rate = (take_at cut.takes 0).rate;
+  rate = cut.first.rate;
   channels = channels;
-  ids = (take_at cut.takes 0).ids;
-  layout = (take_at cut.takes 0).layout;
+  ids = cut.first.ids;
+  layout = cut.first.layout;
   marks = marks_in form cut;
   others = [];
   tag = [];

@@ -50,7 +50,7 @@ fn assemble_channel(
 {
     cut.can_cut();
     let mut bits = Bits::new(alloc);
-    push_cue(&mut bits, cut, c, 0)?;
+    cut.push_cue(&mut bits, c, 0)?;
     for i in 0..cut.cue_number() - 1 {
         push_bridge(
             &mut bits,
@@ -59,22 +59,9 @@ fn assemble_channel(
             chosen,
             BridgePlace { cue: i, channel: c },
         )?;
-        push_cue(&mut bits, cut, c, i + 1)?;
+        cut.push_cue(&mut bits, c, i + 1)?;
     }
     Ok(bits)
-}
-
-/// Appends cue `i` of channel `c`. Err is want of memory.
-pub fn push_cue(out: &mut Bits, cut: &Cut, c: usize, i: usize) -> Result<(), AllocError>
-    requires channel { c < channel_number cut.now }
-    requires cue { i < length cut.now.splice.cues }
-    requires in_limit { length out.old + ((cue_at cut.now i).stop - (cue_at cut.now i).start) ≤ 2 ^ 36 }
-    ensures appended { OnOk result (out.new ≡ out.old ++ cue_bits cut.now c i) }
-    ensures long { OnOk result (length out.new ≡ length out.old + ((cue_at cut.now i).stop - (cue_at cut.now i).start)) }
-{
-    cut.can_cut();
-    let cue = cut.cue(i);
-    out.push_range(cut.source(c, i), cue.start, cue.stop)
 }
 
 // Appends the bits that were chosen for the bridge at a place. A plain cut has none.

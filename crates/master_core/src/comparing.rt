@@ -11,7 +11,6 @@ ghost use Rattle.master_core.specs.Claims.{bridge_bits, bridge_start};
 ghost use Rattle.master_core.specs.Judging.{IsCuedBit};
 ghost use Rattle.master_core.specs.Masters.{channel_numbers};
 
-use crate::assembling::push_cue;
 use crate::verdict::Reason;
 use cut_core::{Cut, differ};
 use dsd_bits::{Bits, Mark, Recording};
@@ -110,10 +109,10 @@ fn rebuild(alloc: Global, cut: &Cut, channel: &Bits, c: usize) -> Result<Bits, A
 {
     cut.can_cut();
     let mut bits = Bits::new(alloc);
-    push_cue(&mut bits, cut, c, 0)?;
+    cut.push_cue(&mut bits, c, 0)?;
     for i in 0..cut.cue_number() - 1 {
         push_own_bridge(&mut bits, cut, channel, i)?;
-        push_cue(&mut bits, cut, c, i + 1)?;
+        cut.push_cue(&mut bits, c, i + 1)?;
     }
     Ok(bits)
 }

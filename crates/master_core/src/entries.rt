@@ -15,7 +15,7 @@ ghost use Rattle.master_core.specs.Masters.{channel_numbers};
 
 use crate::verdict::{Reason, Verdict};
 use cert_core::{CertReader, CertReason, CertVerdict, cert_goes_on, read_is_cert};
-use cost_core::{Window, fades_join, places_are_windows};
+use cost_core::{Window, places_are_windows};
 use cut_core::{BridgePlace, Cut};
 use device_core::Inlet;
 use dsd_bits::{Bits, Recording};
@@ -40,7 +40,6 @@ pub fn judge_certificate(
     ensures only { IsCertOf cut.now recording.now.channels cert.now → IfOk result IsNoRejection }
 {
     cut.can_cut();
-    fades_join();
     places_are_windows();
     let places = cut.bridges(alloc)?;
     let mut reader = CertReader::new(Inlet::new(cert));

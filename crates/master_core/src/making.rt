@@ -9,7 +9,7 @@ ghost use Rattle.master_core.specs.Masters.{AreMasterChannels, CostLeast, IsBest
 
 use crate::assembling::assemble;
 use crate::choosing::{ChosenBridges, choose_bridges};
-use cost_core::{fades_join, least_together, places_are_windows};
+use cost_core::{least_together, places_are_windows};
 use cut_core::Cut;
 use dsd_bits::{Mark, Recording};
 use form_core::Form;
@@ -40,7 +40,6 @@ pub fn make(alloc: Global, cut: &Cut, form: Form) -> Result<Made, AllocError>
     ensures windows { IfOk result (λ made. made.total ≡ windows_total cut.now made.recording.channels) }
 {
     cut.can_cut();
-    fades_join();
     places_are_windows();
     least_together();
     let ChosenBridges {

@@ -15,12 +15,7 @@ fits c = cue_fits (splice_content c.args.splice.now) (splicing c.args.splice.now
 here : (c : After-index-here) → cue_content c.index-here.result.now ≡ cue_at (splice_content c.args.splice.now) c.args.cue
 here c = cue_read c.args.splice.now c.args.cue c.index-here.result.now (there c) c.index-here.ensures
 
-pub reach_of-before-requires-clause-levels : goal.reach_of-before-requires-clause-levels
-reach_of-before-requires-clause-levels c =
-    let e = (goal.at.reach_of-before-requires-clause-levels c).After-index-here in
-    omega (arith, ap (λ (q : CueContent). q.bridge) (here e), (fits e).bridge_fits)
-
 pub overflow_add-here : goal.overflow_add-here
 overflow_add-here c =
     let e = (goal.at.overflow_add-here c).After-index-here in
-    omega (arith, ap (λ (q : CueContent). q.stop) (here e), (fits e).stop_fits, c.reach_of-before.ensures.few)
+    omega (arith, ap (λ (q : CueContent). q.stop) (here e), (fits e).stop_fits, c.reach_at-before.ensures.few)

@@ -9,6 +9,6 @@ pub line_targets-requires-clause-line : goal.line_targets-requires-clause-line
 line_targets-requires-clause-line c =
     let splice = c.args.splice.now in
     let there : c.args.cue < length (splice_content splice).cues = omega (arith, c.requires.cues) in
-    let told = ap (λ (q : CueContent). q.target) (cue_read splice c.args.cue c.index-4.result.now there c.index-4.ensures) in
+    let told = ap (λ (q : CueContent). q.target) (cue_read splice c.args.cue c.index-2.result.now there c.index-2.ensures) in
     let fits = (cue_fits (splice_content splice) (splicing splice) c.args.cue there).target_fits c.in-Line.a c.in-Line.b (sym told ∙ c.in-Line.is) in
     rw (kept c.in-Line.a (omega (arith, fits.a_fits)), kept c.in-Line.b (omega (arith, fits.b_fits))) fits

@@ -15,7 +15,7 @@ push_bridge-requires-clause-in_limit c =
     let i = c.loop-i.i in
     let lt : i < length cues = omega (arith, c.cue_number-i-end.ensures.value) in
     let most : sum_by span (take i cues) + span (cue_at c.args.cut.now i) ≤ master_length cues = sum_by_more_le span cues i _ lt in
-    omega (arith, c.loop-i.invariant.long, most, c.loop-i.invariant.can.fit.in_limit)
+    omega (arith, c.loop-i.invariant.long, most, c.loop-i.invariant.can.in_limit)
 
 pub push_cue-requires-in-loop-i-clause-in_limit : goal.push_cue-requires-in-loop-i-clause-in_limit
 push_cue-requires-in-loop-i-clause-in_limit c =
@@ -25,7 +25,7 @@ push_cue-requires-in-loop-i-clause-in_limit c =
     let lt0 : i < length cues = omega arith in
     let one : sum_by span (take (i + 1) cues) ≡ sum_by span (take i cues) + span (cue_at c.args.cut.now i) = sum_by_more span cues i _ lt0 in
     let most : sum_by span (take (i + 1) cues) + span (cue_at c.args.cut.now (i + 1)) ≤ master_length cues = sum_by_more_le span cues (i + 1) _ lt in
-    omega (arith, c.loop-i.invariant.long, c.in_ok-push_bridge.ensures.long, one, most, c.loop-i.invariant.can.fit.in_limit)
+    omega (arith, c.loop-i.invariant.long, c.in_ok-push_bridge.ensures.long, one, most, c.loop-i.invariant.can.in_limit)
 
 pub loop-i-preserved : goal.loop-i-preserved
 loop-i-preserved c =

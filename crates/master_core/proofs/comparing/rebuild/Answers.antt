@@ -15,7 +15,7 @@ push_cue-requires-in-loop-i-clause-in_limit c =
     let lt0 : i < length cues = omega arith in
     let one : sum_by span (take (i + 1) cues) ≡ sum_by span (take i cues) + span (cue_at c.args.cut.now i) = sum_by_more span cues i _ lt0 in
     let next : sum_by span (take (i + 1) cues) + span (cue_at c.args.cut.now (i + 1)) ≤ master_length cues = sum_by_more_le span cues (i + 1) _ lt in
-    omega (arith, next, one, c.in_ok-push_own_bridge.ensures.long, c.loop-i.invariant.long, c.loop-i.invariant.can.fit.in_limit)
+    omega (arith, next, one, c.in_ok-push_own_bridge.ensures.long, c.loop-i.invariant.long, c.loop-i.invariant.can.in_limit)
 
 pub loop-i-preserved : goal.loop-i-preserved
 loop-i-preserved c =

@@ -10,7 +10,7 @@ pub returns-clause-judged : goal.returns-clause-judged
 returns-clause-judged c =
     let cut = c.args.cut.now in
     let zs = c.args.recording.now.channels in
-    let whole = windows_are_total cut zs c.can_cut.ensures c.requires.shape c.requires.cued c.fades_join.ensures c.places_are_windows.ensures in
+    let whole = windows_are_total cut zs c.can_cut.ensures c.requires.shape c.requires.cued c.places_are_windows.ensures in
     let known = ap inlet_reader c.new-reader.ensures.inlet ∙ c.new.ensures.reader in
     judged_whole cut zs c.args.cert.now c.judge_bytes.result whole (subst (λ b. IfOk c.judge_bytes.result (JudgesBytes cut zs (Some b.now))) known c.judge_bytes.ensures)
 

@@ -26,6 +26,6 @@ returns-clause-least c =
 
 pub returns-clause-joint : goal.returns-clause-joint
 returns-clause-joint c =
-    judged_least c.args.cut.now c.can_cut.ensures c.fades_join.ensures c.least_together.ensures c.args.opened.now.recording.channels c.args.cert.now c.judge_certificate.result c.judge_certificate.ensures.judged
+    judged_least c.args.cut.now c.can_cut.ensures c.least_together.ensures c.args.opened.now.recording.channels c.args.cert.now c.judge_certificate.result c.judge_certificate.ensures.judged
     (where_more (AreLeastBridges c.args.cut.now c.args.opened.now.recording.channels) (AreLeastChannels c.args.cut.now c.args.opened.now.recording.channels) c.judge_certificate.result
     (channels_least c.args.cut.now c.args.opened.now.form c.args.opened.now.recording (master (goal.at.returns-clause-joint c).After-judge_certificate) c.has_shape.ensures) c.judge_certificate.ensures.least)

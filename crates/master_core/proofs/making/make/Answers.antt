@@ -4,7 +4,6 @@ use Rattle.dsd_bits.specs.Contents.{Content, content_of}
 use Rattle.dsd_bits.specs.Shape.{HasShape}
 use Rattle.cert_core.specs.Certificates.{Claim, IsCert}
 use Rattle.cut_core.specs.Bridges.{IsPlace, bridges}
-use Rattle.cut_core.specs.Cuts.{take_at}
 use Rattle.cut_core.specs.declared.bridges.BridgePlace.{BridgePlace}
 use Rattle.master_core.specs.Choosing.{chosen_claims}
 use Rattle.master_core.specs.Claims.{IsCertOf, windows_total}
@@ -19,7 +18,7 @@ use Rattle.master_core.proofs.making.make.Goals.{After-new-2, After-new-recordin
 made : (c : After-new-2) → content_of c.rate.result c.in_ok-channels.channels.items c.in_ok-ids.ids.items c.layout.result c.in_ok-marks.marks.items c.new.result.items c.new-2.result.items ≡ master_of c.args.cut.now c.args.form c.in_ok-channels.channels.items
 made c =
     let first = c.first-first.ensures in
-    content_is (take_at c.args.cut.now.takes 0) c.in_ok-channels.channels.items c.rate.result c.in_ok-ids.ids.items c.layout.result c.in_ok-marks.marks.items _ c.new.result.items c.new-2.result.items
+    content_is c.args.cut.now.first c.in_ok-channels.channels.items c.rate.result c.in_ok-ids.ids.items c.layout.result c.in_ok-marks.marks.items _ c.new.result.items c.new-2.result.items
     (c.rate.ensures.value ∙ ap (λ (r : Content). r.rate) first) (c.in_ok-ids.ensures.items ∙ c.ids.ensures ∙ ap (λ (r : Content). r.ids) first) (c.layout.ensures ∙ ap (λ (r : Content). r.layout) first) c.in_ok-marks.ensures c.new.ensures.items c.new-2.ensures.items
 
 pub new-recording-requires : goal.new-recording-requires
@@ -45,7 +44,7 @@ whole c =
     let cut = c.args.cut.now in
     let zs = c.in_ok-channels.channels.items in
     let best = c.in_ok-channels.ensures.best in
-    windows_are_total cut zs c.can_cut.ensures (shape_is cut c.can_cut.ensures c.args.form zs best c.in_ok-channels.ensures.long) (cues_held cut c.can_cut.ensures c.args.form zs best c.in_ok-channels.ensures.long) c.fades_join.ensures c.places_are_windows.ensures
+    windows_are_total cut zs c.can_cut.ensures (shape_is cut c.can_cut.ensures c.args.form zs best c.in_ok-channels.ensures.long) (cues_held cut c.can_cut.ensures c.args.form zs best c.in_ok-channels.ensures.long) c.places_are_windows.ensures
 
 pub returns-clause-best : goal.returns-clause-best
 returns-clause-best c =
@@ -83,4 +82,4 @@ returns-clause-joint c =
     let cut = c.args.cut.now in
     let zs = c.in_ok-channels.channels.items in
     subst (λ (x : List (List Bool)). CostLeast cut x c.in_ok-places.field-0.total) (sym (channels here))
-    (cost_least cut c.can_cut.ensures c.fades_join.ensures c.least_together.ensures zs c.in_ok-places.field-0.total (best_are_least cut zs c.in_ok-channels.ensures.best) (windows here ∙ whole here))
+    (cost_least cut c.can_cut.ensures c.least_together.ensures zs c.in_ok-places.field-0.total (best_are_least cut zs c.in_ok-channels.ensures.best) (windows here ∙ whole here))

@@ -1,0 +1,60 @@
+use Rattle.std.proofs.Common.{◌≡◌, ◌∙◌, Err, List, Ok, Result, ap, length, map, subst, sym}
+use Rattle.std.specs.Prelude.{⊤}
+use Rattle.std.proofs.lemmas.Result.{err_from_is_err_and}
+use Rattle.dsd_bits.specs.Contents.{Content}
+use Rattle.splice_core.specs.Splices.{splice_content}
+use Rattle.cost_core.proofs.Windows.{splicing}
+use Rattle.cut_core.specs.Cuts.{FitTakes, cut_with}
+use Rattle.cut_core.specs.Hearing.{AreHeard, TakeShape, heard_cut, heard_shapes, shape_of}
+use Rattle.cut_core.specs.Opening.{IsWhole, fitting}
+use Rattle.cut_core.specs.Rooms.{HaveRoom}
+use Rattle.cut_core.proofs.HearingLaws.{heard_is, shapes_are}
+use Rattle.cut_core.proofs.KeepingLaws.{cut_fails, cut_fits, heard_long}
+use Rattle.cut_core.proofs.OpeningLaws.{fits_is}
+use Rattle.cut_core.proofs.cut.Cut.of.Goals as goal
+use Rattle.cut_core.proofs.cut.Cut.of.Goals.{In_ok-fits}
+
+pub fits-requires : goal.fits-requires
+fits-requires c =
+    let heard = c.requires.heard in
+    ap length c.deref.ensures.value ∙ heard_long (splice_content c.args.splice) heard.0 c.args.takes.items heard.1 ∙ heard.2
+
+pub returns-in_err-fits : goal.returns-in_err-fits
+returns-in_err-fits c =
+    let p = err_from_is_err_and c.from_residual.result c.from_residual.ensures.1 in
+    record {
+      exact = λ whole are.
+          let shapes : heard_shapes c.deref.result.now ≡ map shape_of whole = ap heard_shapes c.deref.ensures.value ∙ shapes_are (splice_content c.args.splice) whole c.args.takes.items are in
+          rw (p.1, p.2) (cut_fails c.args.form (splice_content c.args.splice) whole c.in_err-fits.field-0.0 (c.in_err-fits.ensures ∙ ap (fitting c.args.form (splice_content c.args.splice)) shapes));
+    }
+
+-- of whichever takes it was heard, they fit
+fits : (c : In_ok-fits) (whole : List Content) → AreHeard (splice_content c.args.splice) whole c.args.takes.items → fitting c.args.form (splice_content c.args.splice) (map shape_of whole) ≡ Ok tt
+fits c whole are =
+    let shapes : heard_shapes c.deref.result.now ≡ map shape_of whole = ap heard_shapes c.deref.ensures.value ∙ shapes_are (splice_content c.args.splice) whole c.args.takes.items are in
+    sym (ap (fitting c.args.form (splice_content c.args.splice)) shapes) ∙ sym c.in_ok-fits.ensures
+
+many : (c : In_ok-fits) (whole : List Content) → AreHeard (splice_content c.args.splice) whole c.args.takes.items → length whole ≡ length (splice_content c.args.splice).takes
+many c whole are =
+    let heard = c.requires.heard in
+    sym (heard_long (splice_content c.args.splice) whole c.args.takes.items are) ∙ heard_long (splice_content c.args.splice) heard.0 c.args.takes.items heard.1 ∙ heard.2
+
+met : (c : In_ok-fits) (whole : List Content) → AreHeard (splice_content c.args.splice) whole c.args.takes.items → FitTakes (splice_content c.args.splice) whole × IsWhole c.args.form (splice_content c.args.splice) × HaveRoom (splice_content c.args.splice) whole
+met c whole are = fits_is c.args.form (splice_content c.args.splice) whole (many c whole are) (fits c whole are)
+
+pub invariant_of-result : goal.invariant_of-result
+invariant_of-result c =
+    let here = (goal.at.invariant_of-result c).In_ok-fits in
+    let heard = c.requires.heard in
+    let parts = met here heard.0 heard.1 in
+    record { takes = heard.0; heard = heard.1; fit = parts.0; room = parts.2 }
+
+pub returns : goal.returns
+returns c =
+    let here = (goal.at.returns c).In_ok-fits in
+    let splice = splice_content c.args.splice in
+    record {
+      exact = λ whole are.
+          let parts = met here whole are in
+          cut_fits c.args.form splice whole (fits here whole are) ∙ ap (λ k. Ok k) (sym (ap (heard_cut splice) are.heard ∙ heard_is splice whole (splicing c.args.splice) parts.0 parts.2));
+    }

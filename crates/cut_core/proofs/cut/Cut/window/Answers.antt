@@ -1,0 +1,70 @@
+use Rattle.std.proofs.Common.{◌≡◌, ◌+◌, ◌-◌, ◌<◌, ◌≤◌, ◌∙◌, Bool, List, ap, arith, length, map, subst, sym}
+use Rattle.std.specs.Prelude.{IfOk}
+use Rattle.splice_core.specs.Cues.{CueContent}
+use Rattle.splice_core.specs.Splices.{splice_content}
+use Rattle.cost_core.specs.Bridges.{Bridging}
+use Rattle.cost_core.specs.Faults.{CanBridge}
+use Rattle.cost_core.specs.Windows.{bridging_at, cue_at}
+use Rattle.cut_core.specs.Cuts as cuts
+use Rattle.cut_core.specs.Cuts.{CutContent, channel_number}
+use Rattle.cut_core.specs.Hearing.{HasStretch, heard_content, start_in, stop_in, stretch_at}
+use Rattle.cut_core.specs.View.{cut_content}
+use Rattle.cut_core.proofs.KeepingLaws.{as_many, bridge_there, room_again, stretch_there, window_there}
+use Rattle.cut_core.proofs.cut.Cut.window.Goals as goal
+use Rattle.cut_core.proofs.cut.Cut.window.Goals.{After-deref, After-heard_from-2}
+
+channel : (c : After-deref) → c.args.place.channel < channel_number (cut_content c.self.inside)
+channel c = omega (arith, ap channel_number c.self.view_is, c.requires.channel_there)
+
+next : (c : After-deref) → c.args.place.cue + 1 < length (splice_content c.self.inside.splice).cues
+next c = omega (arith, ap (λ (k : CutContent). length k.splice.cues) c.self.view_is, c.requires.cue_there)
+
+some : (c : After-deref) → 1 ≤ (cue_at (splice_content c.self.inside.splice) c.args.place.cue).bridge
+some c = omega (arith, ap (λ (k : CutContent). (cue_at k.splice c.args.place.cue).bridge) c.self.view_is, c.requires.bridged)
+
+pub stretch-a-requires-clause-takes : goal.stretch-a-requires-clause-takes
+stretch-a-requires-clause-takes c = ap length c.deref.ensures.value ∙ as_many c.self.inside c.self.invariant
+
+pub stretch-b-requires-clause-takes : goal.stretch-b-requires-clause-takes
+stretch-b-requires-clause-takes c = ap length c.deref-2.ensures.value ∙ as_many c.self.inside c.self.invariant
+
+pub stretch-a-requires-clause-there : goal.stretch-a-requires-clause-there
+stretch-a-requires-clause-there c =
+    let here = (goal.at.stretch-a-requires-clause-there c).After-deref in
+    subst (λ hs. HasStretch (splice_content c.self.inside.splice) (map heard_content hs) c.args.place.channel c.args.place.cue) (sym c.deref.ensures.value) (stretch_there c.self.inside c.self.invariant c.args.place.channel (channel here) c.args.place.cue (omega (arith, next here)))
+
+pub stretch-b-requires-clause-there : goal.stretch-b-requires-clause-there
+stretch-b-requires-clause-there c =
+    let here = (goal.at.stretch-b-requires-clause-there c).After-deref in
+    subst (λ hs. HasStretch (splice_content c.self.inside.splice) (map heard_content hs) c.args.place.channel (c.args.place.cue + 1)) (sym c.deref-2.ensures.value) (stretch_there c.self.inside c.self.invariant c.args.place.channel (channel here) (c.args.place.cue + 1) (next here))
+
+abbrev first : (c : After-heard_from-2) → After-deref
+first c = (goal.at.After-heard_from-2 c).After-deref
+
+a_is : (c : After-heard_from-2) → c.stretch-a.result.now ≡ stretch_at (splice_content c.self.inside.splice) (map heard_content c.self.inside.takes.items) c.args.place.channel c.args.place.cue
+a_is c = c.stretch-a.ensures ∙ ap (λ hs. stretch_at (splice_content c.self.inside.splice) (map heard_content hs) c.args.place.channel c.args.place.cue) c.deref.ensures.value
+
+b_is : (c : After-heard_from-2) → c.stretch-b.result.now ≡ stretch_at (splice_content c.self.inside.splice) (map heard_content c.self.inside.takes.items) c.args.place.channel (c.args.place.cue + 1)
+b_is c = c.stretch-b.ensures ∙ ap (λ hs. stretch_at (splice_content c.self.inside.splice) (map heard_content hs) c.args.place.channel (c.args.place.cue + 1)) c.deref-2.ensures.value
+
+stop_is : (c : After-heard_from-2) → c.cue_at.result.now.stop - c.heard_from.result ≡ stop_in (splice_content c.self.inside.splice) c.args.place.cue
+stop_is c = omega (arith, ap (λ (q : CueContent). q.stop) c.cue_at.ensures.value, c.heard_from.ensures)
+
+start_is : (c : After-heard_from-2) → c.cue_at-2.result.now.start - c.heard_from-2.result ≡ start_in (splice_content c.self.inside.splice) (c.args.place.cue + 1)
+start_is c = omega (arith, ap (λ (q : CueContent). q.start) c.cue_at-2.ensures.value, c.heard_from-2.ensures)
+
+pub between-requires-clause-room : goal.between-requires-clause-room
+between-requires-clause-room c =
+    let here = (goal.at.between-requires-clause-room c).After-heard_from-2 in
+    let splice = splice_content c.self.inside.splice in
+    let room = bridge_there c.self.inside c.self.invariant c.args.place.channel (channel (first here)) c.args.place.cue (next (first here)) (some (first here)) in
+    room_again splice c.args.place.cue _ _ _ _ _ _ _ _ (sym (a_is here)) (sym (stop_is here)) (sym (b_is here)) (sym (start_is here)) room
+
+pub returns : goal.returns
+returns c =
+    let here = (goal.at.returns c).After-heard_from-2 in
+    let splice = splice_content c.self.inside.splice in
+    let is = window_there c.self.inside c.self.invariant c.args.place.channel (channel (first here)) c.args.place.cue (next (first here)) in
+    let made : bridging_at splice c.args.place.cue c.stretch-a.result.now (c.cue_at.result.now.stop - c.heard_from.result) c.stretch-b.result.now (c.cue_at-2.result.now.start - c.heard_from-2.result) ≡ cuts.window c.args.self.now c.args.place.channel c.args.place.cue =
+    (λ j. bridging_at splice c.args.place.cue (a_is here j) (stop_is here j) (b_is here j) (start_is here j)) ∙ sym is ∙ ap (λ (k : CutContent). cuts.window k c.args.place.channel c.args.place.cue) c.self.view_is in
+    subst (λ (d : Bridging). IfOk c.between.result (λ window. window ≡ d)) made c.between.ensures

@@ -1,0 +1,95 @@
+//! What a cut hears of a take: the bits of its cues, and those that the bridges round them read.
+
+ghost use Rattle.std.specs.Prelude.{◌≡◌, ◌+◌, ◌<◌, ◌≤◌, ◌^◌, IfOk, length};
+ghost use Rattle.splice_core.specs.Splices.{splice_content};
+ghost use Rattle.cut_core.specs.Hearing as specs;
+ghost use Rattle.cut_core.specs.Hearing.{heard_content, heard_of};
+
+use crate::cues::{cue_at, cue_number};
+use cost_core::reach_at;
+use dsd_bits::{BitRange, Bits, Recording, stretches_of};
+use splice_core::Splice;
+use std::alloc::{AllocError, Global};
+
+/// What a splice hears of one of its takes.
+#[derive(Drop)]
+pub struct Heard {
+    /// The take without its bits: its channels have none.
+    pub recording: Recording,
+    /// How many bits each channel of the take has.
+    pub count: usize,
+    /// For each cue of the splice, by [`ranges_of`], the bits of each channel that are heard for it.
+    pub stretches: Vec<Vec<Bits>>,
+}
+
+/// For each cue of a splice the bits that are heard for it of the take of a number: those of the cue, before them what
+/// the target of the bridge there reads, and behind them the same. Of a cue of another take there are none. Err is want
+/// of memory.
+pub fn ranges_of(
+    alloc: Global,
+    splice: &Splice,
+    number: usize,
+) -> Result<Vec<BitRange>, AllocError>
+    ensures { IfOk result (λ made. made.items ≡ specs.ranges_of (splice_content splice.now) number) }
+{
+    let mut ranges = Vec::new(alloc);
+    for i in 0..cue_number(splice) {
+        ranges.push(range_of(splice, number, i))?;
+    }
+    Ok(ranges)
+}
+
+// The bits that are heard for cue `i` of the take of a number.
+fn range_of(splice: &Splice, number: usize, i: usize) -> BitRange
+    requires { i < length (splice_content splice.now).cues }
+    ensures { result ≡ specs.range_of (splice_content splice.now) number i }
+{
+    if cue_at(splice, i).take != number {
+        return BitRange { start: 0, stop: 0 };
+    }
+    let (_, after) = reach_at(splice, i);
+    BitRange {
+        start: heard_from(splice, i),
+        stop: cue_at(splice, i).stop + after,
+    }
+}
+
+/// The first bit that is heard for cue `i`.
+pub(crate) fn heard_from(splice: &Splice, i: usize) -> usize
+    requires { i < length (splice_content splice.now).cues }
+    ensures { result ≡ specs.heard_from (splice_content splice.now) i }
+{
+    cue_at(splice, i).start.saturating_sub(lead_at(splice, i))
+}
+
+// How many bits before cue `i` the target of the bridge there reads.
+fn lead_at(splice: &Splice, i: usize) -> usize
+    requires { i < length (splice_content splice.now).cues }
+    ensures { result ≡ specs.lead_at (splice_content splice.now) i }
+{
+    if i == 0 {
+        return 0;
+    }
+    let (before, _) = reach_at(splice, i - 1);
+    before
+}
+
+/// What a splice hears of a recording, its take of a number. Err is want of memory.
+pub fn hear(
+    alloc: Global,
+    splice: &Splice,
+    number: usize,
+    recording: Recording,
+) -> Result<Heard, AllocError>
+    ensures { IfOk result (λ h. heard_content h ≡ heard_of (splice_content splice.now) number recording) }
+{
+    let ranges = ranges_of(alloc, splice, number)?;
+    let stretches = stretches_of(alloc, recording.channels(), &ranges)?;
+    let count = recording.count();
+    let recording = recording.into_silent(alloc)?;
+    Ok(Heard {
+        recording,
+        count,
+        stretches,
+    })
+}

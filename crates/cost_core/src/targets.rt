@@ -11,27 +11,27 @@ use dsd_bits::Bits;
 use splice_core::{Splice, Target};
 use std::alloc::{AllocError, Global};
 
-/// The targets of all places of the bridge after cue `cue`, from the channel `a` of its take to the channel
-/// `b` of the next cue's take. Err is want of memory.
+/// The targets of all places of the bridge after cue `cue`, from the channel `own` of its take to the channel
+/// `next` of the next cue's take. Err is want of memory.
 pub fn targets_after(
     alloc: Global,
     splice: &Splice,
-    a: &Bits,
-    b: &Bits,
+    own: &Bits,
+    next: &Bits,
     cue: usize,
 ) -> Result<Vec<i32>, AllocError>
     requires cues { cue + 1 < length (splice_content splice.now).cues }
-    requires before { (cue_at (splice_content splice.now) cue).stop ≤ length a.now }
-    requires after { (cue_at (splice_content splice.now) (cue + 1)).stop ≤ length b.now }
-    requires room { HasRoom (splice_content splice.now) cue (length a.now) }
-    ensures { IfOk result (λ made. made.items ≡ (bridging (splice_content splice.now) cue a.now b.now).targets) }
+    requires before { (cue_at (splice_content splice.now) cue).stop ≤ length own.now }
+    requires after { (cue_at (splice_content splice.now) (cue + 1)).stop ≤ length next.now }
+    requires room { HasRoom (splice_content splice.now) cue (length own.now) }
+    ensures { IfOk result (λ made. made.items ≡ (bridging (splice_content splice.now) cue own.now next.now).targets) }
 {
     let weights = splice.weights.as_slice();
     let stop = splice.cues[cue].stop;
     let start = splice.cues[cue + 1].start;
     let levels = splice.cues[cue].bridge;
     match splice.cues[cue].target {
-        Target::Fade => fade_targets(alloc, weights, a, stop, b, start, levels),
+        Target::Fade => fade_targets(alloc, weights, own, stop, next, start, levels),
         Target::Line { a, b } => line_targets(alloc, a, b, weights.len(), levels),
     }
 }

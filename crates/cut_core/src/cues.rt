@@ -18,31 +18,31 @@ pub fn cue_number(splice: &Splice) -> usize
     splice.cues.len()
 }
 
-/// Cue `i` of a splice.
-pub fn cue_at(splice: &Splice, i: usize) -> &Cue
-    requires { i < length (splice_content splice.now).cues }
-    ensures value { cue_content result.now ≡ fades.cue_at (splice_content splice.now) i }
+/// The cue of a number of a splice.
+pub fn cue_at(splice: &Splice, number: usize) -> &Cue
+    requires { number < length (splice_content splice.now).cues }
+    ensures value { cue_content result.now ≡ fades.cue_at (splice_content splice.now) number }
     ensures fits { IsCueWithin (length (splice_content splice.now).weights) (length (splice_content splice.now).takes) (cue_content result.now) }
 {
-    &splice.cues[i]
+    &splice.cues[number]
 }
 
-/// How many bits of the master cue `i` and the bridge behind it take.
-pub fn span_at(splice: &Splice, i: usize) -> usize
-    requires { i < length (splice_content splice.now).cues }
-    ensures value { result ≡ span (fades.cue_at (splice_content splice.now) i) }
+/// How many bits of the master the cue of a number and the bridge behind it take.
+pub fn span_at(splice: &Splice, number: usize) -> usize
+    requires { number < length (splice_content splice.now).cues }
+    ensures value { result ≡ span (fades.cue_at (splice_content splice.now) number) }
     ensures bound { result ≤ 2 ^ 36 + 4096 }
 {
-    let cue = cue_at(splice, i);
+    let cue = cue_at(splice, number);
     cue.stop - cue.start + cue.bridge
 }
 
-/// The take that cue `i` is cut from.
-pub fn take_of<'a>(splice: &Splice, takes: &'a [Recording], i: usize) -> &'a Recording
-    requires cue { i < length (splice_content splice.now).cues }
+/// The take that a cue is cut from.
+pub fn take_of<'a>(splice: &Splice, takes: &'a [Recording], cue: usize) -> &'a Recording
+    requires cue { cue < length (splice_content splice.now).cues }
     requires takes { length takes.now ≡ length (splice_content splice.now).takes }
-    ensures value { result.now ≡ take_at takes.now (fades.cue_at (splice_content splice.now) i).take }
-    ensures there { (fades.cue_at (splice_content splice.now) i).take < length takes.now }
+    ensures value { result.now ≡ take_at takes.now (fades.cue_at (splice_content splice.now) cue).take }
+    ensures there { (fades.cue_at (splice_content splice.now) cue).take < length takes.now }
 {
-    &takes[cue_at(splice, i).take]
+    &takes[cue_at(splice, cue).take]
 }

@@ -88,22 +88,22 @@ impl Cut {
         cues::cue_number(&self.splice)
     }
 
-    /// Cue `i`.
-    pub fn cue(&self, i: usize) -> &Cue
-        requires { i < length self.now.splice.cues }
-        ensures value { cue_content result.now ≡ cue_at self.now i }
+    /// The cue of a number.
+    pub fn cue(&self, number: usize) -> &Cue
+        requires { number < length self.now.splice.cues }
+        ensures value { cue_content result.now ≡ cue_at self.now number }
         ensures fits { IsCueWithin (length self.now.splice.weights) (length self.now.splice.takes) (cue_content result.now) }
     {
-        cues::cue_at(&self.splice, i)
+        cues::cue_at(&self.splice, number)
     }
 
-    /// How many bits of the master cue `i` and the bridge behind it take.
-    pub fn span(&self, i: usize) -> usize
-        requires { i < length self.now.splice.cues }
-        ensures value { result ≡ span (cue_at self.now i) }
+    /// How many bits of the master the cue of a number and the bridge behind it take.
+    pub fn span(&self, number: usize) -> usize
+        requires { number < length self.now.splice.cues }
+        ensures value { result ≡ span (cue_at self.now number) }
         ensures bound { result ≤ 2 ^ 36 + 4096 }
     {
-        cues::span_at(&self.splice, i)
+        cues::span_at(&self.splice, number)
     }
 
     /// How many weights there are: 2 to 12.
@@ -138,15 +138,15 @@ impl Cut {
         self.first().channels().len()
     }
 
-    /// Channel `c` of the take of cue `i`.
-    pub fn source(&self, c: usize, i: usize) -> &Bits
-        requires channel { c < cuts.channel_number self.now }
-        requires cue { i < length self.now.splice.cues }
-        ensures value { result.now ≡ cuts.source self.now c i }
-        ensures inside { (cue_at self.now i).stop ≤ length result.now }
+    /// A channel of the take of a cue.
+    pub fn source(&self, channel: usize, cue: usize) -> &Bits
+        requires channel { channel < cuts.channel_number self.now }
+        requires cue { cue < length self.now.splice.cues }
+        ensures value { result.now ≡ cuts.source self.now channel cue }
+        ensures inside { (cue_at self.now cue).stop ≤ length result.now }
     {
-        let take = cues::take_of(&self.splice, &self.takes, i);
-        &take.channels()[c]
+        let take = cues::take_of(&self.splice, &self.takes, cue);
+        &take.channels()[channel]
     }
 
     /// The places of all bridges, by rising cue and then by rising channel. A plain cut is no bridge. Err is want of
@@ -166,9 +166,9 @@ impl Cut {
     {
         self.can_cut();
         let BridgePlace { cue, channel } = place;
-        let a = self.source(channel, cue);
-        let b = self.source(channel, cue + 1);
-        Window::new(alloc, &self.splice, a, b, cue).map_err(|_| AllocError)
+        let own = self.source(channel, cue);
+        let next = self.source(channel, cue + 1);
+        Window::new(alloc, &self.splice, own, next, cue).map_err(|_| AllocError)
     }
 
     /// The marks of the titles: one at the first bit of the master of each cue that has a title. Err is want of memory.

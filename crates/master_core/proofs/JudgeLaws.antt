@@ -12,11 +12,12 @@ use Rattle.dsd_bits.proofs.PackingLemmas.{length-slice_range}
 use Rattle.dsd_bits.specs.Contents.{Content}
 use Rattle.dsd_bits.specs.Shape.{HasShape}
 use Rattle.cost_core.specs.Bridges.{IsLeastBridge, bridge_cost}
-use Rattle.cost_core.specs.Channels.{HaveLengths, Part}
+use Rattle.cost_core.specs.Channels.{FadesJoin, HaveLengths, LeastTogether, Part, PlacesAreWindows}
 use Rattle.cost_core.specs.Least.{IsLeast}
 use Rattle.form_core.specs.declared.form.Form.{Form}
 use Rattle.cut_core.specs.Bridges.{bridges, places_behind}
 use Rattle.cut_core.specs.Cuts.{CutContent, channel_number, cue_at, master_length, span, window}
+use Rattle.cut_core.specs.Keeping.{CanCut}
 use Rattle.cut_core.specs.declared.bridges.BridgePlace.{BridgePlace}
 use Rattle.cut_core.proofs.BridgeLaws.{all_in_flat, behind_some, place_of}
 use Rattle.cut_core.proofs.ZipLaws.{zip_from, zip_number, zip_numbers}
@@ -25,9 +26,11 @@ use Rattle.master_core.specs.declared.verdict.Reason.TheVariants.{MasterUnread, 
 use Rattle.master_core.specs.declared.verdict.Verdict.{Verdict}
 use Rattle.master_core.specs.declared.verdict.Verdict.TheVariants.{Accepted, Rejected}
 use Rattle.master_core.specs.Checking.{HaveShape, IsMasterOf, MasterReason, rebuilt}
-use Rattle.master_core.specs.Claims.{AreLeastBridges, IsLeastClaim, bridge_bits, bridge_start, claim_at, windows_total}
-use Rattle.master_core.specs.Judging.{JudgesBytes, JudgesCert, WhereAccepted}
-use Rattle.master_core.specs.Masters.{AreLeastChannels, AreMasterChannels, IsLeastChannel, IsLeastPart, IsMasterChannel, part_at, parts_of, total_cost}
+use Rattle.master_core.specs.Claims.{AreLeastBridges, IsCertOf, IsLeastClaim, bridge_bits, bridge_start, claim_at}
+use Rattle.master_core.specs.Judging.{AtCost, IsNoRejection, JudgesCert, JudgesMaster, WhereAccepted}
+use Rattle.master_core.specs.Masters.{AreLeastChannels, AreMasterChannels, CostLeast, IsLeastChannel, IsLeastPart, IsMasterChannel, part_at, parts_of}
+use Rattle.master_core.proofs.LeastLaws.{cost_least}
+use Rattle.master_core.proofs.TotalLaws.{windows_are_total}
 
 -- ---- a reason against a master
 pub reason_against : (cut : CutContent) (form : Form) (r : Content) (reason : Reason) → MasterReason cut form r reason → IsMasterOf cut form r → ⊥
@@ -74,18 +77,6 @@ where_known P (Ok (Accepted cost)) p = p
 where_known P (Ok (Rejected reason)) p = tt
 where_known P (Err fault) p = tt
 
-pub where_more : (P Q : Type 0) (answer : Result Verdict AllocError) → (P → Q) → IfOk answer (λ v. WhereAccepted v P) → IfOk answer (λ v. WhereAccepted v Q)
-where_more P Q (Ok (Accepted cost)) f p = f p
-where_more P Q (Ok (Rejected reason)) f p = tt
-where_more P Q (Err fault) f p = tt
-
--- ---- a verdict by known bytes
-pub judged_whole : (cut : CutContent) (zs : List (List Bool)) (cert : List ℕ) (answer : Result Verdict AllocError) → windows_total cut zs ≡ total_cost cut zs
-    → IfOk answer (JudgesBytes cut zs (Some cert)) → IfOk answer (JudgesCert cut zs cert)
-judged_whole cut zs cert (Ok (Accepted cost)) e h = (h.shown, h.cost_is ∙ e, h.cost_is)
-judged_whole cut zs cert (Ok (Rejected reason)) e h = h.0
-judged_whole cut zs cert (Err fault) e h = tt
-
 -- ---- a recording that is a master
 module _ (cut : CutContent) (form : Form) (r : Content) (is : IsMasterOf cut form r) (shape : HasShape r) where
   pub have_shape : HaveShape cut r.channels
@@ -131,3 +122,27 @@ module _ (cut : CutContent) (form : Form) (r : Content) (is : IsMasterOf cut for
             subst (λ x. IsLeastBridge (get_or ps i d).bridging x) x_is (subst (λ (p : Part). IsLeastBridge p.bridging (bridge_bits cut z i)) p_is one));
         made = rebuilt_at c there;
       })
+
+  -- a verdict by a whole certificate
+  module _ (cert : List ℕ) where
+    pub judged_only : (answer : Result Verdict AllocError) → IfOk answer (JudgesCert cut r.channels (Some cert)) → IsCertOf cut r.channels cert → IfOk answer IsNoRejection
+    judged_only (Ok (Accepted cost)) h shown = tt
+    judged_only (Ok (Rejected reason)) h shown = absurd (h.1 shown)
+    judged_only (Err fault) h shown = tt
+
+    pub judged_least : (answer : Result Verdict AllocError) → IfOk answer (JudgesCert cut r.channels (Some cert)) → IfOk answer (λ v. WhereAccepted v (AreLeastChannels cut r.channels))
+    judged_least (Ok (Accepted cost)) h = channels_least h.least
+    judged_least (Ok (Rejected reason)) h = tt
+    judged_least (Err fault) h = tt
+
+    module _ (can : CanCut cut) (joins : FadesJoin) where
+      pub judged_whole : PlacesAreWindows → (answer : Result Verdict AllocError) → IfOk answer (JudgesCert cut r.channels (Some cert)) → IfOk answer (JudgesMaster cut form r cert)
+      judged_whole places (Ok (Accepted cost)) h = (is, h.shown, h.cost_is ∙ windows_are_total cut r.channels can have_shape is.cued joins places, h.cost_is)
+      judged_whole places (Ok (Rejected reason)) h = inr (is, h.0)
+      judged_whole places (Err fault) h = tt
+
+      pub judged_joint : PlacesAreWindows → LeastTogether → (answer : Result Verdict AllocError) → IfOk answer (JudgesCert cut r.channels (Some cert)) → IfOk answer (λ v. AtCost v (CostLeast cut r.channels))
+      judged_joint places together (Ok (Accepted cost)) h =
+          cost_least cut can joins together r.channels cost (channels_least h.least) (h.cost_is ∙ windows_are_total cut r.channels can have_shape is.cued joins places)
+      judged_joint places together (Ok (Rejected reason)) h = tt
+      judged_joint places together (Err fault) h = tt

@@ -104,7 +104,7 @@ module _ (cut : CutContent) (c : ℕ) (source : BridgeSource) where
   rebuilt_of own stand (Err fault) made = tt
 
 -- a plain cut
-nothing_first : (levels : ℕ) (cost : List Bool → ℕ) → levels ≡ 0 → IsFirstLeast levels cost []
+pub nothing_first : (levels : ℕ) (cost : List Bool → ℕ) → levels ≡ 0 → IsFirstLeast levels cost []
 unfolding NotAfter
 nothing_first levels cost e = record { is_least = record { long = sym e; least = λ y h. let none : y ≡ [] = nil_from_length y (h ∙ e) in rw none (omega arith) }; first = λ y h same. tt }
 

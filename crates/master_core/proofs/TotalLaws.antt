@@ -97,17 +97,20 @@ module _ (cut : CutContent) (zs : List (List Bool)) where
       ∙ same_sums (λ i. sum_by (λ p. claim_cost (claim_at cut zs p)) (places_behind cut i)) (λ i. sum_by (λ c. at c i) (channel_numbers cut)) 0 last (λ i ge lt. behind_sum i)
       ∙ exchange (λ i c. at c i) (range_with_len 0 last) (channel_numbers cut)
 
-  module _ (can : CanCut cut) (shape : HaveShape cut zs) (held : HoldCues cut (channel_numbers cut) zs) (joins : FadesJoin) (places : PlacesAreWindows) where
-    own_long : (c i : ℕ) → c < length zs → i + 1 < length cut.splice.cues → length (bridge_bits cut (get_or zs c []) i) ≡ (cue_at cut i).bridge
-    own_long c i there lt =
-        let start = bridge_start cut i in
-        let z = get_or zs c [] in
-        let whole : length z ≡ master_length cut.splice.cues = All-get_or (λ z. length z ≡ master_length cut.splice.cues) zs c [] there shape.long in
-        let below : i < length cut.splice.cues = omega arith in
-        let most : sum_by span (take i cut.splice.cues) + span (cue_at cut i) ≤ master_length cut.splice.cues = sum_by_more_le span cut.splice.cues i _ below in
-        let one : length (bridge_bits cut z i) ≡ start + (cue_at cut i).bridge - start = length-slice_range z start (start + (cue_at cut i).bridge) (omega arith) in
-        omega arith
+  -- the bits that stand for a bridge are as many as it has
+  pub own_long : HaveShape cut zs → (c i : ℕ) → c < length zs → i + 1 < length cut.splice.cues → length (bridge_bits cut (get_or zs c []) i) ≡ (cue_at cut i).bridge
+  own_long shape c i there lt =
+      let start = bridge_start cut i in
+      let z = get_or zs c [] in
+      let whole : length z ≡ master_length cut.splice.cues = All-get_or (λ z. length z ≡ master_length cut.splice.cues) zs c [] there shape.long in
+      let most : sum_by span (take i cut.splice.cues) + span (cue_at cut i) ≤ master_length cut.splice.cues = sum_by_more_le span cut.splice.cues i _ (omega arith) in
+      let one : length (bridge_bits cut z i) ≡ start + (cue_at cut i).bridge - start = length-slice_range z start (start + (cue_at cut i).bridge) (omega arith) in
+      omega arith
 
+  pub own_lengths : HaveShape cut zs → (c : ℕ) → c < channel_number cut → HaveLengths (parts_of cut c) (map (bridge_bits cut (get_or zs c [])) (range_with_len 0 last))
+  own_lengths shape c there = have_lengths (part_at cut c) (bridge_bits cut (get_or zs c [])) 0 last (λ i ge lt. own_long shape c i (omega (arith, shape.as_many, there)) (omega arith))
+
+  module _ (can : CanCut cut) (shape : HaveShape cut zs) (held : HoldCues cut (channel_numbers cut) zs) (joins : FadesJoin) (places : PlacesAreWindows) where
     row : (c : ℕ) → c < channel_number cut → sum_by (at c) (range_with_len 0 last) ≡ cost_of cut c (get_or zs c [])
     row c there =
         let z = get_or zs c [] in
@@ -116,8 +119,7 @@ module _ (cut : CutContent) (zs : List (List Bool)) where
         let own = map (bridge_bits cut z) (range_with_len 0 last) in
         let some = can.splicing.some_cues in
         let holds : z ≡ rebuilt cut c z = zip_number (λ k y. y ≡ rebuilt cut k y) (channel_number cut) zs c [] held there in
-        let lengths = have_lengths (part_at cut c) (bridge_bits cut z) 0 last (λ i ge lt. own_long c i (omega (arith, shape.as_many, there)) (omega arith)) in
-        sym (ap (λ l. channel_cost l (length cue) ps) holds ∙ places cue ps own (joined cut can c there joins last 0 (omega arith)) lengths ∙ windows_sum (part_at cut c) (bridge_bits cut z) 0 last)
+        sym (ap (λ l. channel_cost l (length cue) ps) holds ∙ places cue ps own (joined cut can c there joins last 0 (omega arith)) (own_lengths shape c there) ∙ windows_sum (part_at cut c) (bridge_bits cut z) 0 last)
 
     -- the sum over all bridges is that over all channels
     pub windows_are_total : windows_total cut zs ≡ total_cost cut zs

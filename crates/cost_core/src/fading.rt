@@ -36,20 +36,21 @@ fn fade_at(
     }
 }
 
-/// The targets of all places of a fade.
+/// The targets of all places of a fade, from the end `stop` of a cue in its own take to the start of the next cue in
+/// the next take.
 pub fn fade_targets(
     alloc: Global,
     weights: &[i32],
-    a: &Bits,
+    own: &Bits,
     stop: usize,
-    b: &Bits,
+    next: &Bits,
     start: usize,
     levels: usize,
 ) -> Result<Vec<i32>, AllocError>
-    requires { CanFade weights.now a.now stop b.now start levels }
-    ensures { IfOk result (λ made. made.items ≡ fades.fade_targets weights.now a.now stop b.now start levels) }
+    requires { CanFade weights.now own.now stop next.now start levels }
+    ensures { IfOk result (λ made. made.items ≡ fades.fade_targets weights.now own.now stop next.now start levels) }
 {
     (1..levels + weights.len())
-        .map(|i| fade_at(weights, a, stop, b, start, levels, i))
+        .map(|i| fade_at(weights, own, stop, next, start, levels, i))
         .collect(alloc)
 }

@@ -20,20 +20,20 @@ fn line_at(a: i32, b: i32, levels: usize, i: usize) -> i32
     }
 }
 
-/// The targets of all places of a line, where there are so many weights.
+/// The targets of all places of a line from one weighted sum to another, where there are so many weights.
 pub fn line_targets(
     alloc: Global,
-    a: i32,
-    b: i32,
+    first: i32,
+    last: i32,
     weights: usize,
     levels: usize,
 ) -> Result<Vec<i32>, AllocError>
-    requires line { IsLine a b }
+    requires line { IsLine first last }
     requires weights { (1 ≤ weights) × (weights ≤ 12) }
     requires levels { levels ≤ 4096 }
-    ensures { IfOk result (λ made. made.items ≡ lines.line_targets a b weights levels) }
+    ensures { IfOk result (λ made. made.items ≡ lines.line_targets first last weights levels) }
 {
     (1..levels + weights)
-        .map(|i| line_at(a, b, levels, i))
+        .map(|i| line_at(first, last, levels, i))
         .collect(alloc)
 }

@@ -32,17 +32,17 @@ fn weigh(weights: &[i32], code: usize) -> i32
     sum
 }
 
-/// The weighted sum of the bits up to place `n`, the newest first.
-pub fn weighted_at(weights: &[i32], bits: &Bits, n: usize) -> i32
+/// The weighted sum of the bits up to a place, the newest first.
+pub fn weighted_at(weights: &[i32], bits: &Bits, place: usize) -> i32
     requires weights { AreWeights weights.now }
-    requires enough { length weights.now ≤ n + 1 }
-    requires inside { n < length bits.now }
-    ensures value { result ≡ weighted weights.now bits.now n }
+    requires enough { length weights.now ≤ place + 1 }
+    requires inside { place < length bits.now }
+    ensures value { result ≡ weighted weights.now bits.now place }
     ensures bound { unsigned_abs result ≤ 4096 }
 {
     let mut sum = 0;
     for (k, weight) in weights.iter().enumerate() {
-        sum += signed(*weight, bits.get(n - k));
+        sum += signed(*weight, bits.get(place - k));
     }
     sum
 }
@@ -58,24 +58,24 @@ pub fn scale(levels: usize, sum: i32) -> i32
 }
 
 /// Between two weighted sums, in parts of one more than the levels.
-pub fn blend(before: usize, a: i32, after: usize, b: i32) -> i32
+pub fn blend(before: usize, first: i32, after: usize, last: i32) -> i32
     requires parts { before + after ≤ 4097 }
-    requires a { unsigned_abs a ≤ 4096 }
-    requires b { unsigned_abs b ≤ 4096 }
-    ensures { result ≡ (pos before *ℤ a) +ℤ (pos after *ℤ b) }
+    requires first { unsigned_abs first ≤ 4096 }
+    requires last { unsigned_abs last ≤ 4096 }
+    ensures { result ≡ (pos before *ℤ first) +ℤ (pos after *ℤ last) }
 {
-    before as i32 * a + after as i32 * b
+    before as i32 * first + after as i32 * last
 }
 
 /// The square of the difference of two scaled sums: below `2^51`.
-pub fn squared_difference(a: i32, b: i32) -> u64
-    requires a { unsigned_abs a ≤ greatest_sum }
-    requires b { unsigned_abs b ≤ greatest_sum }
-    ensures value { result ≡ square (a -ℤ b) }
+pub fn squared_difference(sum: i32, other: i32) -> u64
+    requires sum { unsigned_abs sum ≤ greatest_sum }
+    requires other { unsigned_abs other ≤ greatest_sum }
+    ensures value { result ≡ square (sum -ℤ other) }
     ensures bound { result ≤ greatest_step }
 {
     // Squared with its sign: lanes multiply signed numbers, so no size is taken first.
-    let difference = i64::from(a - b);
+    let difference = i64::from(sum - other);
     (difference * difference) as u64
 }
 

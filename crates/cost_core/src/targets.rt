@@ -11,25 +11,25 @@ use dsd_bits::Bits;
 use splice_core::{Splice, Target};
 use std::alloc::{AllocError, Global};
 
-/// The targets of all places of the bridge after cue `cue`, which ends at the place `stop` of the bits `a`, where the
-/// next one begins at the place `start` of the bits `b`. Err is want of memory.
+/// The targets of all places of the bridge after cue `cue`, which ends at the place `stop` of the bits `own`, where the
+/// next one begins at the place `start` of the bits `next`. Err is want of memory.
 pub fn targets_after(
     alloc: Global,
     splice: &Splice,
     cue: usize,
-    a: &Bits,
+    own: &Bits,
     stop: usize,
-    b: &Bits,
+    next: &Bits,
     start: usize,
 ) -> Result<Vec<i32>, AllocError>
     requires cues { cue + 1 < length (splice_content splice.now).cues }
-    requires room { CanBridge (splice_content splice.now) cue a.now stop b.now start }
-    ensures { IfOk result (λ made. made.items ≡ (bridging_at (splice_content splice.now) cue a.now stop b.now start).targets) }
+    requires room { CanBridge (splice_content splice.now) cue own.now stop next.now start }
+    ensures { IfOk result (λ made. made.items ≡ (bridging_at (splice_content splice.now) cue own.now stop next.now start).targets) }
 {
     let weights = splice.weights.as_slice();
     let levels = splice.cues[cue].bridge;
     match splice.cues[cue].target {
-        Target::Fade => fade_targets(alloc, weights, a, stop, b, start, levels),
+        Target::Fade => fade_targets(alloc, weights, own, stop, next, start, levels),
         Target::Line { a, b } => line_targets(alloc, a, b, weights.len(), levels),
     }
 }

@@ -46,8 +46,8 @@ impl Model for Window {
 }
 
 impl Window {
-    /// The window of the bridge after cue `cue`, whose target leads from the channel `a` of its take to the
-    /// channel `b` of the next cue's take.
+    /// The window of the bridge after cue `cue`, whose target leads from the channel `own` of its take to the
+    /// channel `next` of the next cue's take.
     ///
     /// Refusals, in this order: `NoRoomBefore` where the next cue starts too early in its take for what the
     /// target reads before it, `NoRoomAfter` where the cue stops too late in its own for what it reads after
@@ -55,51 +55,51 @@ impl Window {
     pub fn new(
         alloc: Global,
         splice: &Splice,
-        a: &Bits,
-        b: &Bits,
+        own: &Bits,
+        next: &Bits,
         cue: usize,
     ) -> Result<Window, WindowFault>
         requires cues { cue + 1 < length (splice_content splice.now).cues }
         requires bridge { 1 ≤ (cue_at (splice_content splice.now) cue).bridge }
-        requires before { (cue_at (splice_content splice.now) cue).stop ≤ length a.now }
-        requires after { (cue_at (splice_content splice.now) (cue + 1)).stop ≤ length b.now }
-        ensures ok { IfOk result (λ window. window ≡ bridging (splice_content splice.now) cue a.now b.now) }
+        requires before { (cue_at (splice_content splice.now) cue).stop ≤ length own.now }
+        requires after { (cue_at (splice_content splice.now) (cue + 1)).stop ≤ length next.now }
+        ensures ok { IfOk result (λ window. window ≡ bridging (splice_content splice.now) cue own.now next.now) }
 
         // It is made exactly where there is room, want of memory aside.
-        ensures found { OnOk result (HasRoom (splice_content splice.now) cue (length a.now)) }
-        ensures only { HasRoom (splice_content splice.now) cue (length a.now) → IsOkUnless result WindowFault.Memory }
+        ensures found { OnOk result (HasRoom (splice_content splice.now) cue (length own.now)) }
+        ensures only { HasRoom (splice_content splice.now) cue (length own.now) → IsOkUnless result WindowFault.Memory }
 
         // Which fault it is: the first want of room.
-        ensures order { MatchResult result (λ _. first_fault (splice_content splice.now) cue (length a.now) ≡ None) (λ fault. first_fault (splice_content splice.now) cue (length a.now) ≡ named fault) }
+        ensures order { MatchResult result (λ _. first_fault (splice_content splice.now) cue (length own.now) ≡ None) (λ fault. first_fault (splice_content splice.now) cue (length own.now) ≡ named fault) }
     {
-        has_room(splice, cue, a.len())?;
+        has_room(splice, cue, own.len())?;
         let stop = splice.cues[cue].stop;
         let start = splice.cues[cue + 1].start;
-        Ok(Window::between(alloc, splice, cue, a, stop, b, start)?)
+        Ok(Window::between(alloc, splice, cue, own, stop, next, start)?)
     }
 
-    /// The same where only parts of the takes are there: cue `cue` ends at the place `stop` of the bits `a`, and the next one
-    /// begins at the place `start` of the bits `b`. Err is want of memory.
+    /// The same where only parts of the takes are there: cue `cue` ends at the place `stop` of the bits `own`, and the next one
+    /// begins at the place `start` of the bits `next`. Err is want of memory.
     pub fn between(
         alloc: Global,
         splice: &Splice,
         cue: usize,
-        a: &Bits,
+        own: &Bits,
         stop: usize,
-        b: &Bits,
+        next: &Bits,
         start: usize,
     ) -> Result<Window, AllocError>
         requires cues { cue + 1 < length (splice_content splice.now).cues }
-        requires room { CanBridge (splice_content splice.now) cue a.now stop b.now start }
-        ensures { IfOk result (λ window. window ≡ bridging_at (splice_content splice.now) cue a.now stop b.now start) }
+        requires room { CanBridge (splice_content splice.now) cue own.now stop next.now start }
+        ensures { IfOk result (λ window. window ≡ bridging_at (splice_content splice.now) cue own.now stop next.now start) }
     {
         let weights = splice.weights.as_slice();
         let width = weights.len() - 1;
         let mut preceding = Bits::new(alloc);
-        preceding.push_range(a, stop - width, stop)?;
+        preceding.push_range(own, stop - width, stop)?;
         let mut following = Bits::new(alloc);
-        following.push_range(b, start, start + width)?;
-        let targets = targets_after(alloc, splice, cue, a, stop, b, start)?;
+        following.push_range(next, start, start + width)?;
+        let targets = targets_after(alloc, splice, cue, own, stop, next, start)?;
         let levels = splice.cues[cue].bridge;
         let scaled = scaled_sums(alloc, weights, levels)?;
         let weights = Vec::from_slice(alloc, weights)?;

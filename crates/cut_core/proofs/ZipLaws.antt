@@ -1,5 +1,5 @@
 -- Lists pair by pair.
-use Rattle.std.proofs.Common.{◌≡◌, ℕ, zero, suc, ◌+◌, ◌<◌, ◌≤◌, List, [], ◌∷◌, ◌++◌, length, get_or, refl, sym, ap, subst, ◌∙◌, arith}
+use Rattle.std.proofs.Common.{◌≡◌, ℕ, zero, suc, ◌+◌, ◌<◌, ◌≤◌, List, [], ◌∷◌, ◌++◌, length, get_or, map, refl, sym, ap, subst, ◌∙◌, arith}
 use Rattle.std.specs.List.{AllZip, range_with_len}
 use Rattle.std.proofs.lemmas.List.FromFn.{get_or-range_with_len, length-range_with_len}
 
@@ -36,6 +36,19 @@ zip_map R S [] [] f h = tt
 zip_map R S [] (y ∷ ys) f h = absurd h
 zip_map R S (x ∷ xs) [] f h = absurd h
 zip_map R S (x ∷ xs) (y ∷ ys) f h = (f x y h.0, zip_map R S xs ys f h.1)
+
+-- pairs with what items come to
+pub zip_of_map : {A B C : Type 0} (R : B → C → Type 0) (f : A → B) (xs : List A) (ys : List C) → AllZip (λ x y. R (f x) y) xs ys → AllZip R (map f xs) ys
+zip_of_map R f [] [] h = tt
+zip_of_map R f [] (y ∷ ys) h = absurd h
+zip_of_map R f (x ∷ xs) [] h = absurd h
+zip_of_map R f (x ∷ xs) (y ∷ ys) h = (h.0, zip_of_map R f xs ys h.1)
+
+pub zip_is_map : {A B : Type 0} (f : A → B) (xs : List A) (ys : List B) → AllZip (λ x y. y ≡ f x) xs ys → ys ≡ map f xs
+zip_is_map f [] [] h = refl
+zip_is_map f [] (y ∷ ys) h = absurd h
+zip_is_map f (x ∷ xs) [] h = absurd h
+zip_is_map f (x ∷ xs) (y ∷ ys) h = rw (h.0, zip_is_map f xs ys h.1) refl
 
 -- what follows for each pair of a number and an item
 pub zip_range : {B : Type 0} (R S : ℕ → B → Type 0) (n a : ℕ) (ys : List B) → ((k : ℕ) (y : B) → a ≤ k → k < a + n → R k y → S k y) → AllZip R (range_with_len a n) ys → AllZip S (range_with_len a n) ys

@@ -20,41 +20,46 @@ pub fn cue_number(splice: &Splice) -> usize
     splice.cues.len()
 }
 
-/// Cue `i` of a splice.
-pub fn cue_at(splice: &Splice, i: usize) -> &Cue
-    requires { i < length (splice_content splice.now).cues }
-    ensures value { cue_content result.now ≡ fades.cue_at (splice_content splice.now) i }
+/// The cue of a number of a splice.
+pub fn cue_at(splice: &Splice, number: usize) -> &Cue
+    requires { number < length (splice_content splice.now).cues }
+    ensures value { cue_content result.now ≡ fades.cue_at (splice_content splice.now) number }
     ensures fits { IsCueWithin (length (splice_content splice.now).weights) (length (splice_content splice.now).takes) (cue_content result.now) }
 {
-    &splice.cues[i]
+    &splice.cues[number]
 }
 
-/// How many bits of the master cue `i` and the bridge behind it take.
-pub fn span_at(splice: &Splice, i: usize) -> usize
-    requires { i < length (splice_content splice.now).cues }
-    ensures value { result ≡ span (fades.cue_at (splice_content splice.now) i) }
+/// How many bits of the master the cue of a number and the bridge behind it take.
+pub fn span_at(splice: &Splice, number: usize) -> usize
+    requires { number < length (splice_content splice.now).cues }
+    ensures value { result ≡ span (fades.cue_at (splice_content splice.now) number) }
     ensures bound { result ≤ 2 ^ 36 + 4096 }
 {
-    let cue = cue_at(splice, i);
+    let cue = cue_at(splice, number);
     cue.stop - cue.start + cue.bridge
 }
 
-/// What was heard of the take that cue `i` is cut from.
-pub fn take_of<'a>(splice: &Splice, takes: &'a [Heard], i: usize) -> &'a Heard
-    requires cue { i < length (splice_content splice.now).cues }
+/// What was heard of the take that a cue is cut from.
+pub fn take_of<'a>(splice: &Splice, takes: &'a [Heard], cue: usize) -> &'a Heard
+    requires cue { cue < length (splice_content splice.now).cues }
     requires takes { length takes.now ≡ length (splice_content splice.now).takes }
-    ensures heard { heard_content result.now ≡ heard_at (map heard_content takes.now) (fades.cue_at (splice_content splice.now) i).take }
-    ensures shape { heard_shape (heard_content result.now) ≡ shape_of_cue (splice_content splice.now) (heard_shapes takes.now) i }
+    ensures heard { heard_content result.now ≡ heard_at (map heard_content takes.now) (fades.cue_at (splice_content splice.now) cue).take }
+    ensures shape { heard_shape (heard_content result.now) ≡ shape_of_cue (splice_content splice.now) (heard_shapes takes.now) cue }
 {
-    &takes[cue_at(splice, i).take]
+    &takes[cue_at(splice, cue).take]
 }
 
-/// The bits that are heard for cue `i` in channel `c`.
-pub fn stretch<'a>(splice: &Splice, takes: &'a [Heard], c: usize, i: usize) -> &'a Bits
-    requires cue { i < length (splice_content splice.now).cues }
+/// The bits that are heard for a cue in a channel.
+pub fn stretch<'a>(
+    splice: &Splice,
+    takes: &'a [Heard],
+    channel: usize,
+    cue: usize,
+) -> &'a Bits
+    requires cue { cue < length (splice_content splice.now).cues }
     requires takes { length takes.now ≡ length (splice_content splice.now).takes }
-    requires there { HasStretch (splice_content splice.now) (map heard_content takes.now) c i }
-    ensures { result.now ≡ stretch_at (splice_content splice.now) (map heard_content takes.now) c i }
+    requires there { HasStretch (splice_content splice.now) (map heard_content takes.now) channel cue }
+    ensures { result.now ≡ stretch_at (splice_content splice.now) (map heard_content takes.now) channel cue }
 {
-    &take_of(splice, takes, i).stretches[i][c]
+    &take_of(splice, takes, cue).stretches[cue][channel]
 }

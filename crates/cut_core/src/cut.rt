@@ -103,22 +103,22 @@ impl Cut {
         cues::cue_number(&self.splice)
     }
 
-    /// Cue `i`.
-    pub fn cue(&self, i: usize) -> &Cue
-        requires { i < length self.now.splice.cues }
-        ensures value { cue_content result.now ≡ cue_at self.now i }
+    /// The cue of a number.
+    pub fn cue(&self, number: usize) -> &Cue
+        requires { number < length self.now.splice.cues }
+        ensures value { cue_content result.now ≡ cue_at self.now number }
         ensures fits { IsCueWithin (length self.now.splice.weights) (length self.now.splice.takes) (cue_content result.now) }
     {
-        cues::cue_at(&self.splice, i)
+        cues::cue_at(&self.splice, number)
     }
 
-    /// How many bits of the master cue `i` and the bridge behind it take.
-    pub fn span(&self, i: usize) -> usize
-        requires { i < length self.now.splice.cues }
-        ensures value { result ≡ span (cue_at self.now i) }
+    /// How many bits of the master the cue of a number and the bridge behind it take.
+    pub fn span(&self, number: usize) -> usize
+        requires { number < length self.now.splice.cues }
+        ensures value { result ≡ span (cue_at self.now number) }
         ensures bound { result ≤ 2 ^ 36 + 4096 }
     {
-        cues::span_at(&self.splice, i)
+        cues::span_at(&self.splice, number)
     }
 
     /// How many weights there are: 2 to 12.
@@ -153,18 +153,18 @@ impl Cut {
         self.first().channels().len()
     }
 
-    /// Appends the bits of cue `i` in channel `c`. Err is want of memory.
-    pub fn push_cue(&self, out: &mut Bits, c: usize, i: usize) -> Result<(), AllocError>
-        requires channel { c < cuts.channel_number self.now }
-        requires cue { i < length self.now.splice.cues }
-        requires in_limit { length out.old + ((cue_at self.now i).stop - (cue_at self.now i).start) ≤ 2 ^ 36 }
-        ensures appended { OnOk result (out.new ≡ out.old ++ cue_bits self.now c i) }
-        ensures long { OnOk result (length out.new ≡ length out.old + ((cue_at self.now i).stop - (cue_at self.now i).start)) }
+    /// Appends the bits of a cue in a channel. Err is want of memory.
+    pub fn push_cue(&self, out: &mut Bits, channel: usize, cue: usize) -> Result<(), AllocError>
+        requires channel { channel < cuts.channel_number self.now }
+        requires cue { cue < length self.now.splice.cues }
+        requires in_limit { length out.old + ((cue_at self.now cue).stop - (cue_at self.now cue).start) ≤ 2 ^ 36 }
+        ensures appended { OnOk result (out.new ≡ out.old ++ cue_bits self.now channel cue) }
+        ensures long { OnOk result (length out.new ≡ length out.old + ((cue_at self.now cue).stop - (cue_at self.now cue).start)) }
     {
-        let from = heard_from(&self.splice, i);
-        let cue = cues::cue_at(&self.splice, i);
-        let stretch = cues::stretch(&self.splice, &self.takes, c, i);
-        out.push_range(stretch, cue.start - from, cue.stop - from)
+        let from = heard_from(&self.splice, cue);
+        let here = cues::cue_at(&self.splice, cue);
+        let stretch = cues::stretch(&self.splice, &self.takes, channel, cue);
+        out.push_range(stretch, here.start - from, here.stop - from)
     }
 
     /// The places of all bridges, by rising cue and then by rising channel. A plain cut is no bridge. Err is want of
@@ -183,11 +183,11 @@ impl Cut {
         ensures { IfOk result (λ window. window ≡ cuts.window self.now place.channel place.cue) }
     {
         let BridgePlace { cue, channel } = place;
-        let a = cues::stretch(&self.splice, &self.takes, channel, cue);
+        let own = cues::stretch(&self.splice, &self.takes, channel, cue);
         let stop = cues::cue_at(&self.splice, cue).stop - heard_from(&self.splice, cue);
-        let b = cues::stretch(&self.splice, &self.takes, channel, cue + 1);
+        let next = cues::stretch(&self.splice, &self.takes, channel, cue + 1);
         let start = cues::cue_at(&self.splice, cue + 1).start - heard_from(&self.splice, cue + 1);
-        Window::between(alloc, &self.splice, cue, a, stop, b, start)
+        Window::between(alloc, &self.splice, cue, own, stop, next, start)
     }
 
     /// The marks of the titles: one at the first bit of the master of each cue that has a title. Err is want of memory.

@@ -33,44 +33,46 @@ pub fn ranges_of(
     ensures { IfOk result (λ made. made.items ≡ specs.ranges_of (splice_content splice.now) number) }
 {
     let mut ranges = Vec::new(alloc);
-    for i in 0..cue_number(splice) {
-        ranges.push(range_of(splice, number, i))?;
+    for cue in 0..cue_number(splice) {
+        ranges.push(range_of(splice, number, cue))?;
     }
     Ok(ranges)
 }
 
-// The bits that are heard for cue `i` of the take of a number.
-fn range_of(splice: &Splice, number: usize, i: usize) -> BitRange
-    requires { i < length (splice_content splice.now).cues }
-    ensures { result ≡ specs.range_of (splice_content splice.now) number i }
+// The bits that are heard for a cue of the take of a number.
+fn range_of(splice: &Splice, number: usize, cue: usize) -> BitRange
+    requires { cue < length (splice_content splice.now).cues }
+    ensures { result ≡ specs.range_of (splice_content splice.now) number cue }
 {
-    if cue_at(splice, i).take != number {
+    if cue_at(splice, cue).take != number {
         return BitRange { start: 0, stop: 0 };
     }
-    let (_, after) = reach_at(splice, i);
+    let (_, after) = reach_at(splice, cue);
     BitRange {
-        start: heard_from(splice, i),
-        stop: cue_at(splice, i).stop + after,
+        start: heard_from(splice, cue),
+        stop: cue_at(splice, cue).stop + after,
     }
 }
 
-/// The first bit that is heard for cue `i`.
-pub(crate) fn heard_from(splice: &Splice, i: usize) -> usize
-    requires { i < length (splice_content splice.now).cues }
-    ensures { result ≡ specs.heard_from (splice_content splice.now) i }
+/// The first bit that is heard for a cue.
+pub(crate) fn heard_from(splice: &Splice, cue: usize) -> usize
+    requires { cue < length (splice_content splice.now).cues }
+    ensures { result ≡ specs.heard_from (splice_content splice.now) cue }
 {
-    cue_at(splice, i).start.saturating_sub(lead_at(splice, i))
+    cue_at(splice, cue)
+        .start
+        .saturating_sub(lead_at(splice, cue))
 }
 
-// How many bits before cue `i` the target of the bridge there reads.
-fn lead_at(splice: &Splice, i: usize) -> usize
-    requires { i < length (splice_content splice.now).cues }
-    ensures { result ≡ specs.lead_at (splice_content splice.now) i }
+// How many bits before a cue the target of the bridge there reads.
+fn lead_at(splice: &Splice, cue: usize) -> usize
+    requires { cue < length (splice_content splice.now).cues }
+    ensures { result ≡ specs.lead_at (splice_content splice.now) cue }
 {
-    if i == 0 {
+    if cue == 0 {
         return 0;
     }
-    let (before, _) = reach_at(splice, i - 1);
+    let (before, _) = reach_at(splice, cue - 1);
     before
 }
 

@@ -1,10 +1,11 @@
 -- A channel of a master, part by part, and where its bridges stand.
-use Rattle.std.proofs.Common.{◌≡◌, ℕ, zero, suc, ◌+◌, ◌-◌, ◌<◌, ◌≤◌, Bool, List, [], ◌∷◌, ◌++◌, length, get_or, map, slice_get, take, drop, slice_range, sum_by, append_assoc, refl, sym, ap, subst, ◌∙◌, arith}
+use Rattle.std.proofs.Common.{◌≡◌, ℕ, zero, suc, ◌+◌, ◌-◌, ◌<◌, Bool, List, [], ◌∷◌, ◌++◌, length, get_or, map, slice_get, take, drop, slice_range, sum_by, IfOk, Result, Ok, Err, append_assoc, refl, sym, ap, subst, ◌∙◌, arith}
+use Rattle.std.specs.declared.alloc.AllocError.{AllocError}
 use Rattle.std.specs.List.{AllZip, range_with_len}
 use Rattle.std.proofs.Math.Seq.{drop-append_seam, take-append_seam}
-use Rattle.std.proofs.lemmas.List.{ext_get_or, length-append, length-take-le, nil_from_length, take_all, take_more}
+use Rattle.std.proofs.lemmas.List.{ext_get_or, length-append, length-map, length-take-le, nil_from_length, take_all, take_more}
 use Rattle.std.proofs.lemmas.List.Sums.{sum_by_more}
-use Rattle.std.proofs.lemmas.List.FromFn.{get_or-map-range_with_len, length-map-range_with_len}
+use Rattle.std.proofs.lemmas.List.FromFn.{get_or-map-range_with_len, length-map-range_with_len, map-range_with_len_more}
 use Rattle.std.proofs.lemmas.Option.{slice_get-get_or}
 use Rattle.dsd_bits.proofs.PackingLemmas.{length-slice_range}
 use Rattle.splice_core.specs.Cues.{bridge_or, last_bridge}
@@ -13,16 +14,13 @@ use Rattle.cost_core.specs.Channels.{AreJoined, HaveLengths, Part, channel}
 use Rattle.cost_core.specs.Least.{IsFirstLeast, NotAfter}
 use Rattle.cut_core.specs.Cuts.{CutContent, channel_number, cue_at, cue_bits, master_length, span}
 use Rattle.cut_core.specs.Keeping.{CanCut}
-use Rattle.cut_core.proofs.ZipLaws.{zip_long, zip_more}
-use Rattle.master_core.specs.Assembling.{IsAssembled, IsBridged}
+use Rattle.cut_core.proofs.BridgeLaws.{range_more}
+use Rattle.cut_core.proofs.ZipLaws.{zip_is_map, zip_long, zip_map, zip_more, zip_of_map}
+use Rattle.master_core.specs.Assembling.{IsAssembled, IsBridged, IsGiven}
+use Rattle.master_core.specs.declared.assembling.BridgeSource.{BridgeSource}
 use Rattle.master_core.specs.Checking.{rebuilt}
 use Rattle.master_core.specs.Claims.{bridge_bits, bridge_start}
 use Rattle.master_core.specs.Masters.{IsBestChannel, IsFirstLeastPart, master_channel, part_at, parts_of}
-
--- no part
-pub channel_none : (cue : List Bool) → cue ≡ channel cue [] []
-unfolding channel
-channel_none cue = refl
 
 -- a part more
 pub channel_on : (cue : List Bool) (ps : List Part) (xs : List (List Bool)) (p : Part) (x : List Bool) → length xs ≡ length ps → channel cue (ps ++ p ∷ []) (xs ++ x ∷ []) ≡ channel cue ps xs ++ (x ++ p.cue)
@@ -67,34 +65,50 @@ part_of a x rest n m e f =
     ap (λ k. take k (drop n (a ++ (x ++ rest)))) count ∙ ap (λ k. take (length x) (drop k (a ++ (x ++ rest)))) (sym e) ∙ ap (take (length x)) (drop-append_seam a (x ++ rest)) ∙ take-append_seam x rest
 
 -- ---- a channel in the making
-pub assembled_nothing : (cue : List Bool) → IsAssembled cue [] cue
-unfolding channel
-assembled_nothing cue = record { bridges = []; best = tt; made = refl }
+module _ (cut : CutContent) (c : ℕ) (source : BridgeSource) where
+  pub assembled_nothing : IsAssembled cut c source 0 (cue_bits cut c 0)
+  unfolding channel
+  assembled_nothing = record { bridges = []; given = tt; made = refl }
 
-pub assembled_more : (cue : List Bool) (ps : List Part) (i : ℕ) (p : Part) (z z1 z2 : List Bool) → i < length ps → get_or ps i p ≡ p → IsAssembled cue (take i ps) z → IsBridged p z z1 → z2 ≡ z1 ++ p.cue → IsAssembled cue (take (i + 1) ps) z2
-assembled_more cue ps i p z z1 z2 lt is so_far bridged next =
-    let x = bridged.bits in
-    let more : take (i + 1) ps ≡ take i ps ++ p ∷ [] = take_more ps i p lt ∙ ap (λ q. take i ps ++ q ∷ []) is in
-    let many = zip_long IsFirstLeastPart (take i ps) so_far.bridges so_far.best in
-    rw more (record {
-      bridges = so_far.bridges ++ x ∷ [];
-      best = zip_more IsFirstLeastPart (take i ps) so_far.bridges p x so_far.best bridged.first_least;
-      made = next ∙ ap (λ l. l ++ p.cue) (bridged.appended ∙ ap (λ l. l ++ x) so_far.made) ∙ append_assoc (channel cue (take i ps) so_far.bridges) x p.cue ∙ sym (channel_on cue (take i ps) so_far.bridges p x many);
-    })
+  pub assembled_more : (i : ℕ) (z z1 z2 : List Bool) → IsAssembled cut c source i z → IsBridged (IsGiven cut c source i) z z1 → z2 ≡ z1 ++ cue_bits cut c (i + 1) → IsAssembled cut c source (i + 1) z2
+  assembled_more i z z1 z2 so_far bridged next =
+      let xs = so_far.bridges in
+      let x = bridged.bits in
+      let d = part_at cut c i in
+      let first = cue_bits cut c 0 in
+      let ps = map (part_at cut c) (range_with_len 0 i) in
+      let zero : 0 + i ≡ i = omega arith in
+      let many : length xs ≡ length ps = zip_long (IsGiven cut c source) (range_with_len 0 i) xs so_far.given ∙ sym (length-map (range_with_len 0 i) (part_at cut c)) in
+      let more : map (part_at cut c) (range_with_len 0 (i + 1)) ≡ ps ++ d ∷ [] = map-range_with_len_more (part_at cut c) 0 i i (omega arith) in
+      record {
+        bridges = xs ++ x ∷ [];
+        given = rw (range_more 0 i, zero) (zip_more (IsGiven cut c source) (range_with_len 0 i) xs i x so_far.given bridged.given);
+        made = next ∙ ap (λ l. l ++ d.cue) (bridged.appended ∙ ap (λ l. l ++ x) so_far.made) ∙ append_assoc (channel first ps xs) x d.cue ∙ sym (channel_on first ps xs d x many) ∙ ap (λ l. channel first l (xs ++ x ∷ [])) (sym more);
+      }
 
-pub best_of : (cut : CutContent) (c i : ℕ) (z : List Bool) → length cut.splice.cues - 1 ≤ i → IsAssembled (cue_bits cut c 0) (take i (parts_of cut c)) z → IsBestChannel cut c z
-best_of cut c i z ge made =
-    let all : take i (parts_of cut c) ≡ parts_of cut c = take_all i (parts_of cut c) (omega (arith, length-map-range_with_len (part_at cut c) 0 (length cut.splice.cues - 1))) in
-    let whole = subst (λ ps. IsAssembled (cue_bits cut c 0) ps z) all made in
-    record { bridges = whole.bridges; best = whole.best; made = whole.made }
+  -- of bits that were chosen, and of those that stand in a channel
+  pub best_of : (z : List Bool) → ((i : ℕ) (x : List Bool) → IsGiven cut c source i x → IsFirstLeastPart (part_at cut c i) x) → IsAssembled cut c source (length cut.splice.cues - 1) z → IsBestChannel cut c z
+  best_of z chosen made =
+      let numbers = range_with_len 0 (length cut.splice.cues - 1) in
+      record {
+        bridges = made.bridges;
+        best = zip_of_map IsFirstLeastPart (part_at cut c) numbers made.bridges (zip_map (IsGiven cut c source) (λ i x. IsFirstLeastPart (part_at cut c i) x) numbers made.bridges chosen made.given);
+        made = made.made;
+      }
+
+  pub rebuilt_of : (own : List Bool) → ((i : ℕ) (x : List Bool) → IsGiven cut c source i x → x ≡ bridge_bits cut own i) → (answer : Result (List Bool) AllocError) → IfOk answer (IsAssembled cut c source (length cut.splice.cues - 1)) → IfOk answer (λ z. z ≡ rebuilt cut c own)
+  rebuilt_of own stand (Ok z) made =
+      let numbers = range_with_len 0 (length cut.splice.cues - 1) in
+      made.made ∙ ap (master_channel cut c) (zip_is_map (bridge_bits cut own) numbers made.bridges (zip_map (IsGiven cut c source) (λ i x. x ≡ bridge_bits cut own i) numbers made.bridges stand made.given))
+  rebuilt_of own stand (Err fault) made = tt
 
 -- a plain cut
-nothing_first : (levels : ℕ) (cost : List Bool → ℕ) → levels ≡ 0 → IsFirstLeast levels cost []
+pub nothing_first : (levels : ℕ) (cost : List Bool → ℕ) → levels ≡ 0 → IsFirstLeast levels cost []
 unfolding NotAfter
 nothing_first levels cost e = record { is_least = record { long = sym e; least = λ y h. let none : y ≡ [] = nil_from_length y (h ∙ e) in rw none (omega arith) }; first = λ y h same. tt }
 
-pub bridged_nothing : (p : Part) (before : List Bool) → p.bridging.levels ≡ 0 → before ≡ before ++ [] → IsBridged p before before
-bridged_nothing p before e same = record { bits = []; first_least = nothing_first p.bridging.levels (bridge_cost p.bridging) e; appended = same }
+pub bridged_nothing : (p : Part) (before : List Bool) → p.bridging.levels ≡ 0 → before ≡ before ++ [] → IsBridged (IsFirstLeastPart p) before before
+bridged_nothing p before e same = record { bits = []; given = nothing_first p.bridging.levels (bridge_cost p.bridging) e; appended = same }
 
 -- first least bits have the bridges' lengths
 pub best_lengths : (ps : List Part) (xs : List (List Bool)) → AllZip IsFirstLeastPart ps xs → HaveLengths ps xs
@@ -172,26 +186,6 @@ module _ (cut : CutContent) (can : CanCut cut) (c : ℕ) (there : c < channel_nu
       let below : i < n = omega (arith, lengths_as_many ps xs h, part_number) in
       sym (get_or-map-range_with_len (bridge_bits cut z) 0 n i i [] below (omega arith) ∙ bridge_in_channel z xs h is i below)) in
       is ∙ ap (master_channel cut c) same
-
-  -- a channel is rebuilt part by part
-  pub rebuilt_more : (z bits more next : List Bool) (i : ℕ) → i < length cut.splice.cues - 1 → bits ≡ channel (cue_bits cut c 0) (take i ps) (take i (map (bridge_bits cut z) (range_with_len 0 (length cut.splice.cues - 1)))) → more ≡ bits ++ bridge_bits cut z i
-      → next ≡ more ++ cue_bits cut c (i + 1) → next ≡ channel (cue_bits cut c 0) (take (i + 1) ps) (take (i + 1) (map (bridge_bits cut z) (range_with_len 0 (length cut.splice.cues - 1))))
-  rebuilt_more z bits more next i lt so_far bridged cued =
-      let n = length cut.splice.cues - 1 in
-      let own = map (bridge_bits cut z) (range_with_len 0 n) in
-      let d = part_at cut c i in
-      let x = bridge_bits cut z i in
-      let many = length-map-range_with_len (bridge_bits cut z) 0 n in
-      let p_more : take (i + 1) ps ≡ take i ps ++ d ∷ [] = take_more ps i d (omega (arith, part_number)) ∙ ap (λ q. take i ps ++ q ∷ []) (part_is i d lt) in
-      let x_more : take (i + 1) own ≡ take i own ++ x ∷ [] = take_more own i x (omega (arith, many)) ∙ ap (λ q. take i own ++ q ∷ []) (get_or-map-range_with_len (bridge_bits cut z) 0 n i i x lt (omega arith)) in
-      let short : length (take i own) ≡ length (take i ps) = length-take-le i own (omega (arith, many)) ∙ sym (length-take-le i ps (omega (arith, part_number))) in
-      rw (p_more, x_more) (cued ∙ ap (λ l. l ++ cue_bits cut c (i + 1)) (bridged ∙ ap (λ l. l ++ x) so_far) ∙ append_assoc (channel (cue_bits cut c 0) (take i ps) (take i own)) x (cue_bits cut c (i + 1)) ∙ sym (channel_on (cue_bits cut c 0) (take i ps) (take i own) d x short))
-
-  pub rebuilt_all : (z bits : List Bool) (i : ℕ) → length cut.splice.cues - 1 ≤ i → bits ≡ channel (cue_bits cut c 0) (take i ps) (take i (map (bridge_bits cut z) (range_with_len 0 (length cut.splice.cues - 1)))) → bits ≡ rebuilt cut c z
-  rebuilt_all z bits i ge h =
-      let n = length cut.splice.cues - 1 in
-      let own = map (bridge_bits cut z) (range_with_len 0 n) in
-      h ∙ ap (λ l. channel (cue_bits cut c 0) l (take i own)) (take_all i ps (omega (arith, part_number))) ∙ ap (λ l. channel (cue_bits cut c 0) ps l) (take_all i own (omega (arith, length-map-range_with_len (bridge_bits cut z) 0 n)))
 
   -- the bridges join the cues
   pub joined : (n i : ℕ) → i + n < length cut.splice.cues → AreJoined (cue_bits cut c i) (map (part_at cut c) (range_with_len i n))

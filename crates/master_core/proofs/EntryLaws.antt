@@ -23,7 +23,7 @@ use Rattle.master_core.specs.declared.verdict.Reason.TheVariants.{MasterUnread, 
 use Rattle.master_core.specs.declared.verdict.Verdict.{Verdict}
 use Rattle.master_core.specs.declared.verdict.Verdict.TheVariants.{Rejected}
 use Rattle.master_core.specs.Checking.{CertReasons}
-use Rattle.master_core.specs.Judging.{IsWrongFrom, JudgesBytes, JudgesClaim, JudgesClaims, JudgesHead, LacksClaim, ReadsEntries, ShowsBridges, ShowsClaims}
+use Rattle.master_core.specs.Judging.{IsWrongFrom, JudgesCert, JudgesClaim, JudgesClaims, JudgesHead, LacksClaim, ReadsEntries, ShowsBridges, ShowsClaims}
 use Rattle.master_core.specs.Claims.{IsCertOf, claim_at, claim_cost, claims}
 
 -- what was read, and then more
@@ -119,7 +119,7 @@ module _ (cut : CutContent) (zs : List (List Bool)) where
     claims_at v b d answer found is judged = subst (λ x. JudgesClaims v (claims cut zs) b d x) is (subst (λ (cs : List Claim). JudgesClaims v cs b d answer) same_claims judged)
 
   -- where there is no such head, there is no certificate
-  pub head_rejected : CertHasHead → (v : Version) (a b : Option (List ℕ)) (reason : CertReason) → JudgesHead v (length cut.splice.weights) (length (claims cut zs)) a b (Some reason) → JudgesBytes cut zs a (Rejected (CertHead reason))
+  pub head_rejected : CertHasHead → (v : Version) (a b : Option (List ℕ)) (reason : CertReason) → JudgesHead v (length cut.splice.weights) (length (claims cut zs)) a b (Some reason) → JudgesCert cut zs a (Rejected (CertHead reason))
   head_rejected law v a b reason (first, never) =
       both (λ cert. HeadReason (length cut.splice.weights) (length (claims cut zs)) cert reason) (λ cert. IsCertOf cut zs cert → ⊥) a first
       (if_some (λ bytes. (other : Version) → (rest : List ℕ) → bytes ≡ head other ++ rest → ⊥) (λ cert. IsCertOf cut zs cert → ⊥) a (λ cert none is. let made = law (length cut.splice.weights) (claims cut zs) cert is in none made.0 made.1 made.2) never)
@@ -129,7 +129,7 @@ module _ (cut : CutContent) (zs : List (List Bool)) where
   follows law v rest is = law v (length cut.splice.weights) (claims cut zs) rest is
 
   module _ (v : Version) (a b : Option (List ℕ)) (read : Consumes a b (cert_head v (length cut.splice.weights) (length (claims cut zs)))) where
-    entry_rejected : CertIsRead → (k : ℕ) (reason : CertReason) → IfSome b (λ rest. IsWrongFrom v (claims cut zs) k reason rest × (AreEntries v (claims cut zs) rest → ⊥)) → JudgesBytes cut zs a (Rejected (Cert k reason))
+    entry_rejected : CertIsRead → (k : ℕ) (reason : CertReason) → IfSome b (λ rest. IsWrongFrom v (claims cut zs) k reason rest × (AreEntries v (claims cut zs) rest → ⊥)) → JudgesCert cut zs a (Rejected (Cert k reason))
     entry_rejected law k reason wrong = before (λ rest. IsWrongFrom v (claims cut zs) k reason rest × (AreEntries v (claims cut zs) rest → ⊥)) (Stands (Cert k reason)) a b (head v) read step wrong
       where
         step : (rest : List ℕ) → IsWrongFrom v (claims cut zs) k reason rest × (AreEntries v (claims cut zs) rest → ⊥) → Stands (Cert k reason) (head v ++ rest)
@@ -145,7 +145,7 @@ module _ (cut : CutContent) (zs : List (List Bool)) where
           λ is. never (follows law v rest is),
         )
 
-    pub entries_rejected : CertIsRead → (d : Option (List ℕ)) (reason : Reason) → JudgesClaims v (claims cut zs) b d (Rejected reason) → JudgesBytes cut zs a (Rejected reason)
+    pub entries_rejected : CertIsRead → (d : Option (List ℕ)) (reason : Reason) → JudgesClaims v (claims cut zs) b d (Rejected reason) → JudgesCert cut zs a (Rejected reason)
     entries_rejected law d MasterUnread w = absurd w
     entries_rejected law d MasterShape w = absurd w
     entries_rejected law d MasterLength w = absurd w
@@ -156,7 +156,7 @@ module _ (cut : CutContent) (zs : List (List Bool)) where
     entries_rejected law d CertExtra w = absurd w
 
     module _ (d : Option (List ℕ)) (cost : ℕ) (shows : ShowsClaims v (claims cut zs) b d cost) where
-      pub more_rejected : CertIsRead → NothingFollows → IfSome d (λ bytes. 0 < length bytes) → JudgesBytes cut zs a (Rejected CertExtra)
+      pub more_rejected : CertIsRead → NothingFollows → IfSome d (λ bytes. 0 < length bytes) → JudgesCert cut zs a (Rejected CertExtra)
       more_rejected law nothing some = before Goes (Stands CertExtra) a b (head v) read whole (before (λ rest. 0 < length rest) Goes b d shows.entries.0 shows.entries.1 (λ rest more. (rest, refl, more)) some)
         where
           Goes : List ℕ → Type 0

@@ -1,22 +1,20 @@
 -- A recording that is judged a master: its channels, and that they are least.
-use Rattle.std.proofs.Common.{◌≡◌, ℕ, zero, suc, ◌+◌, ◌-◌, ◌<◌, ◌≤◌, inl, inr, Bool, List, [], length, get_or, map, take, false, IfOk, Option, Some, Result, Ok, Err, sym, ap, subst, ◌∙◌, arith}
+use Rattle.std.proofs.Common.{◌≡◌, ℕ, ◌-◌, ◌<◌, inl, inr, Bool, List, [], length, get_or, map, false, IfOk, Option, Some, Result, Ok, Err, sym, ap, subst, ◌∙◌, arith}
 use Rattle.std.specs.Prelude.{MatchOption}
 use Rattle.std.specs.declared.alloc.AllocError.{AllocError}
-use Rattle.std.specs.List.{All, range_with_len, sum_by}
+use Rattle.std.specs.List.{All, range_with_len}
 use Rattle.std.proofs.lemmas.Bool.{cases_lt}
 use Rattle.std.proofs.lemmas.List.{get_or-map, length-map, nil_from_length}
-use Rattle.std.proofs.lemmas.List.Elements.{All-get_or}
 use Rattle.std.proofs.lemmas.List.FromFn.{get_or-map-range_with_len, length-map-range_with_len}
-use Rattle.std.proofs.lemmas.List.Sums.{sum_by_more_le}
-use Rattle.dsd_bits.proofs.PackingLemmas.{length-slice_range}
 use Rattle.dsd_bits.specs.Contents.{Content}
 use Rattle.dsd_bits.specs.Shape.{HasShape}
 use Rattle.cost_core.specs.Bridges.{IsLeastBridge, bridge_cost}
-use Rattle.cost_core.specs.Channels.{HaveLengths, Part}
+use Rattle.cost_core.specs.Channels.{LeastTogether, Part, PlacesAreWindows}
 use Rattle.cost_core.specs.Least.{IsLeast}
 use Rattle.form_core.specs.declared.form.Form.{Form}
 use Rattle.cut_core.specs.Bridges.{bridges, places_behind}
-use Rattle.cut_core.specs.Cuts.{CutContent, channel_number, cue_at, master_length, span, window}
+use Rattle.cut_core.specs.Cuts.{CutContent, channel_number, cue_at, window}
+use Rattle.cut_core.specs.Keeping.{CanCut}
 use Rattle.cut_core.specs.declared.bridges.BridgePlace.{BridgePlace}
 use Rattle.cut_core.proofs.BridgeLaws.{all_in_flat, behind_some, place_of}
 use Rattle.cut_core.proofs.ZipLaws.{zip_from, zip_number, zip_numbers}
@@ -25,9 +23,12 @@ use Rattle.master_core.specs.declared.verdict.Reason.TheVariants.{MasterUnread, 
 use Rattle.master_core.specs.declared.verdict.Verdict.{Verdict}
 use Rattle.master_core.specs.declared.verdict.Verdict.TheVariants.{Accepted, Rejected}
 use Rattle.master_core.specs.Checking.{HaveShape, IsMasterOf, MasterReason, rebuilt}
-use Rattle.master_core.specs.Claims.{AreLeastBridges, IsLeastClaim, bridge_bits, bridge_start, claim_at, windows_total}
-use Rattle.master_core.specs.Judging.{JudgesBytes, JudgesCert, WhereAccepted}
-use Rattle.master_core.specs.Masters.{AreLeastChannels, AreMasterChannels, IsLeastChannel, IsLeastPart, IsMasterChannel, part_at, parts_of, total_cost}
+use Rattle.master_core.specs.Claims.{AreLeastBridges, IsCertOf, IsLeastClaim, bridge_bits, claim_at}
+use Rattle.master_core.specs.Judging.{AtCost, IsNoRejection, JudgesCert, JudgesMaster, WhereAccepted}
+use Rattle.master_core.specs.Masters.{AreLeastChannels, AreMasterChannels, CostLeast, IsLeastChannel, IsLeastPart, IsMasterChannel, part_at, parts_of}
+use Rattle.master_core.proofs.ChannelLaws.{nothing_first}
+use Rattle.master_core.proofs.LeastLaws.{cost_least}
+use Rattle.master_core.proofs.TotalLaws.{own_lengths, own_long, windows_are_total}
 
 -- ---- a reason against a master
 pub reason_against : (cut : CutContent) (form : Form) (r : Content) (reason : Reason) → MasterReason cut form r reason → IsMasterOf cut form r → ⊥
@@ -59,10 +60,7 @@ least_at cut zs least i c lt there bridged =
     subst P (get_or-map-range_with_len {X = BridgePlace} (place_of i) 0 number c c d there (omega arith)) (all c d (omega (arith, length-map-range_with_len {X = BridgePlace} (place_of i) 0 number)))
 
 nothing_least : (levels : ℕ) (cost : List Bool → ℕ) (x : List Bool) → length x ≡ levels → levels ≡ 0 → IsLeast levels cost x
-nothing_least levels cost x long none = record {
-  long = long;
-  least = λ y e. let same : x ≡ y = nil_from_length x (long ∙ none) ∙ sym (nil_from_length y (e ∙ none)) in rw same (omega arith);
-}
+nothing_least levels cost x long none = let empty : x ≡ [] = nil_from_length x (long ∙ none) in rw empty (nothing_first levels cost none).is_least
 
 -- what is known of what is there
 pub some_is : {X : Type 0} (P : Type 0) (Q : X → Type 0) (o : Option X) (x : X) → o ≡ Some x → MatchOption o P Q → Q x
@@ -74,41 +72,16 @@ where_known P (Ok (Accepted cost)) p = p
 where_known P (Ok (Rejected reason)) p = tt
 where_known P (Err fault) p = tt
 
-pub where_more : (P Q : Type 0) (answer : Result Verdict AllocError) → (P → Q) → IfOk answer (λ v. WhereAccepted v P) → IfOk answer (λ v. WhereAccepted v Q)
-where_more P Q (Ok (Accepted cost)) f p = f p
-where_more P Q (Ok (Rejected reason)) f p = tt
-where_more P Q (Err fault) f p = tt
-
--- ---- a verdict by known bytes
-pub judged_whole : (cut : CutContent) (zs : List (List Bool)) (cert : List ℕ) (answer : Result Verdict AllocError) → windows_total cut zs ≡ total_cost cut zs
-    → IfOk answer (JudgesBytes cut zs (Some cert)) → IfOk answer (JudgesCert cut zs cert)
-judged_whole cut zs cert (Ok (Accepted cost)) e h = (h.shown, h.cost_is ∙ e, h.cost_is)
-judged_whole cut zs cert (Ok (Rejected reason)) e h = h.0
-judged_whole cut zs cert (Err fault) e h = tt
-
 -- ---- a recording that is a master
-module _ (cut : CutContent) (form : Form) (r : Content) (is : IsMasterOf cut form r) (shape : HasShape r) where
+module _ (cut : CutContent) (can : CanCut cut) (form : Form) (r : Content) (is : IsMasterOf cut form r) (shape : HasShape r) where
   pub have_shape : HaveShape cut r.channels
   have_shape = record { as_many = is.shape.as_many_channels; long = λ k d lt. shape.level.same k d lt ∙ is.long }
-
-  bridge_long : (c : ℕ) → c < channel_number cut → (i : ℕ) → i < length cut.splice.cues - 1 → length (bridge_bits cut (get_or r.channels c []) i) ≡ (cue_at cut i).bridge
-  bridge_long c there i lt =
-      let z = get_or r.channels c [] in
-      let below : i < length cut.splice.cues = omega arith in
-      let long : length z ≡ master_length cut.splice.cues = All-get_or (λ x. length x ≡ master_length cut.splice.cues) r.channels c [] (omega (arith, is.shape.as_many_channels)) have_shape.long in
-      let most : sum_by span (take i cut.splice.cues) + span (cue_at cut i) ≤ master_length cut.splice.cues = sum_by_more_le span cut.splice.cues i _ below in
-      length-slice_range z (bridge_start cut i) (bridge_start cut i + (cue_at cut i).bridge) (omega (arith, most, long)) ∙ omega arith
 
   rebuilt_at : (c : ℕ) → c < channel_number cut → get_or r.channels c [] ≡ rebuilt cut c (get_or r.channels c [])
   rebuilt_at c lt = zip_number (λ k x. x ≡ rebuilt cut k x) (channel_number cut) r.channels c [] is.cued lt
 
-  own_lengths : (c : ℕ) → c < channel_number cut → (n i : ℕ) → i + n ≤ length cut.splice.cues - 1 → HaveLengths (map (part_at cut c) (range_with_len i n)) (map (bridge_bits cut (get_or r.channels c [])) (range_with_len i n))
-  unfolding HaveLengths
-  own_lengths c there zero i h = tt
-  own_lengths c there (suc n) i h = (bridge_long c there i (omega arith), own_lengths c there n (i + 1) (omega arith))
-
   pub channels_made : AreMasterChannels cut r.channels
-  channels_made = zip_numbers (IsMasterChannel cut) (channel_number cut) r.channels [] is.shape.as_many_channels (λ c lt. record { bridges = _; lengths = own_lengths c lt (length cut.splice.cues - 1) 0 (omega arith); made = rebuilt_at c lt })
+  channels_made = zip_numbers (IsMasterChannel cut) (channel_number cut) r.channels [] is.shape.as_many_channels (λ c lt. record { bridges = _; lengths = own_lengths cut r.channels can have_shape c lt; made = rebuilt_at c lt })
 
   pub channels_least : AreLeastBridges cut r.channels → AreLeastChannels cut r.channels
   channels_least least = zip_numbers (IsLeastChannel cut) (channel_number cut) r.channels [] is.shape.as_many_channels (λ c there.
@@ -126,8 +99,31 @@ module _ (cut : CutContent) (form : Form) (r : Content) (is : IsMasterOf cut for
             let x_is : bridge_bits cut z i ≡ get_or own i [] = sym (get_or-map-range_with_len (bridge_bits cut z) 0 n i i [] below (omega arith)) in
             let one : IsLeastBridge (window cut c i) (bridge_bits cut z i) = elim (cases_lt 0 (cue_at cut i).bridge) [
               | inl some ↦ least_at cut r.channels least i c below there (λ none. absurd (omega arith))
-              | inr none ↦ nothing_least (cue_at cut i).bridge (bridge_cost (window cut c i)) (bridge_bits cut z i) (bridge_long c there i below) (omega arith)
+              | inr none ↦ (let levels = (can.windowed c i there (omega arith)).levels in nothing_least (window cut c i).levels (bridge_cost (window cut c i)) (bridge_bits cut z i) (own_long cut r.channels have_shape c i (omega (arith, is.shape.as_many_channels, there)) (omega arith) ∙ sym levels) (omega (arith, levels)))
             ] in
             subst (λ x. IsLeastBridge (get_or ps i d).bridging x) x_is (subst (λ (p : Part). IsLeastBridge p.bridging (bridge_bits cut z i)) p_is one));
         made = rebuilt_at c there;
       })
+
+  -- a verdict by a whole certificate
+  module _ (cert : List ℕ) where
+    pub judged_only : (answer : Result Verdict AllocError) → IfOk answer (JudgesCert cut r.channels (Some cert)) → IsCertOf cut r.channels cert → IfOk answer IsNoRejection
+    judged_only (Ok (Accepted cost)) h shown = tt
+    judged_only (Ok (Rejected reason)) h shown = absurd (h.1 shown)
+    judged_only (Err fault) h shown = tt
+
+    pub judged_least : (answer : Result Verdict AllocError) → IfOk answer (JudgesCert cut r.channels (Some cert)) → IfOk answer (λ v. WhereAccepted v (AreLeastChannels cut r.channels))
+    judged_least (Ok (Accepted cost)) h = channels_least h.least
+    judged_least (Ok (Rejected reason)) h = tt
+    judged_least (Err fault) h = tt
+
+    pub judged_whole : PlacesAreWindows → (answer : Result Verdict AllocError) → IfOk answer (JudgesCert cut r.channels (Some cert)) → IfOk answer (JudgesMaster cut form r cert)
+    judged_whole places (Ok (Accepted cost)) h = (is, h.shown, h.cost_is ∙ windows_are_total cut r.channels can have_shape is.cued places, h.cost_is)
+    judged_whole places (Ok (Rejected reason)) h = inr (is, h.0)
+    judged_whole places (Err fault) h = tt
+
+    pub judged_joint : PlacesAreWindows → LeastTogether → (answer : Result Verdict AllocError) → IfOk answer (JudgesCert cut r.channels (Some cert)) → IfOk answer (λ v. AtCost v (CostLeast cut r.channels))
+    judged_joint places together (Ok (Accepted cost)) h =
+        cost_least cut can together r.channels cost (channels_least h.least) (h.cost_is ∙ windows_are_total cut r.channels can have_shape is.cued places)
+    judged_joint places together (Ok (Rejected reason)) h = tt
+    judged_joint places together (Err fault) h = tt

@@ -1,16 +1,12 @@
 -- Least bridges make a master than which none costs less.
-use Rattle.std.proofs.Common.{◌≡◌, ℕ, zero, suc, ◌+◌, ◌-◌, ◌<◌, ◌≤◌, Bool, List, [], ◌∷◌, length, get_or, sum_by, IfOk, Result, Ok, Err, arith}
-use Rattle.std.specs.declared.alloc.AllocError.{AllocError}
+use Rattle.std.proofs.Common.{◌≡◌, ℕ, zero, suc, ◌+◌, ◌-◌, ◌<◌, ◌≤◌, Bool, List, [], ◌∷◌, length, get_or, sum_by, arith}
 use Rattle.std.specs.List.{AllZip, range_with_len}
 use Rattle.std.proofs.lemmas.List.Sums.{sum_by-cons}
 use Rattle.cost_core.specs.Channels.{AreLeast, HaveLengths, LeastTogether, Part}
 use Rattle.cut_core.specs.Cuts.{CutContent, channel_number, cue_bits}
 use Rattle.cut_core.specs.Keeping.{CanCut}
 use Rattle.cut_core.proofs.ZipLaws.{zip_map, zip_number}
-use Rattle.master_core.specs.Judging.{AtCost, JudgesCert, WhereAccepted}
 use Rattle.master_core.specs.Masters.{AreBestChannels, AreLeastChannels, CostLeast, IsBestChannel, IsFirstLeastPart, IsLeastChannel, IsLeastPart, IsMasterChannel, channel_numbers, cost_of, parts_of, total_cost}
-use Rattle.master_core.specs.declared.verdict.Verdict.{Verdict}
-use Rattle.master_core.specs.declared.verdict.Verdict.TheVariants.{Accepted, Rejected}
 use Rattle.master_core.proofs.ChannelLaws.{joined}
 
 -- ---- one channel
@@ -51,9 +47,3 @@ module _ (cut : CutContent) (can : CanCut cut) (together : LeastTogether) where
           channel_least c there (get_or zs c []) (get_or others c []) (zip_number (IsLeastChannel cut) (channel_number cut) zs c [] least there) (zip_number (IsMasterChannel cut) (channel_number cut) others c [] made there)),
     );
   }
-
-  -- what is accepted costs least
-  pub judged_least : (zs : List (List Bool)) (cert : List ℕ) (answer : Result Verdict AllocError) → IfOk answer (JudgesCert cut zs cert) → IfOk answer (λ v. WhereAccepted v (AreLeastChannels cut zs)) → IfOk answer (λ v. AtCost v (CostLeast cut zs))
-  judged_least zs cert (Ok (Accepted cost)) judged least = cost_least zs cost least judged.1
-  judged_least zs cert (Ok (Rejected reason)) judged least = tt
-  judged_least zs cert (Err fault) judged least = tt

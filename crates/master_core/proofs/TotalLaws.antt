@@ -78,36 +78,40 @@ module _ (cut : CutContent) (zs : List (List Bool)) where
   abbrev at : ℕ → ℕ → ℕ
   at c i = unless_cut (part_at cut c i).bridging (bridge_cost (part_at cut c i).bridging (bridge_bits cut (get_or zs c []) i))
 
-  behind_sum : (i : ℕ) → sum_by (λ p. claim_cost (claim_at cut zs p)) (places_behind cut i) ≡ sum_by (λ c. at c i) (channel_numbers cut)
-  behind_sum i = elim (cases_lt 0 (cue_at cut i).bridge) [
+  behind_sum : CanCut cut → (i : ℕ) → i < last → sum_by (λ p. claim_cost (claim_at cut zs p)) (places_behind cut i) ≡ sum_by (λ c. at c i) (channel_numbers cut)
+  behind_sum can i lt = elim (cases_lt 0 (cue_at cut i).bridge) [
     | inl some ↦ (
         let ne : (cue_at cut i).bridge ≡ 0 → ⊥ = λ e. omega arith in
-        rw (behind_some cut i ne) (map_sum (λ p. claim_cost (claim_at cut zs p)) (place_of i) (channel_numbers cut) ∙ same_sums (λ c. claim_cost (claim_at cut zs (place_of i c))) (λ c. at c i) 0 (channel_number cut) (λ c ge lt. dear_bridge (cue_at cut i).bridge _ ne))
+        rw (behind_some cut i ne) (map_sum (λ p. claim_cost (claim_at cut zs p)) (place_of i) (channel_numbers cut) ∙ same_sums (λ c. claim_cost (claim_at cut zs (place_of i c))) (λ c. at c i) 0 (channel_number cut) (λ c ge there. dear_bridge (part_at cut c i).bridging.levels _ (λ e. ne (omega (arith, e, (can.windowed c i (omega arith) (omega arith)).levels)))))
         )
     | inr none ↦ (
         let e : (cue_at cut i).bridge ≡ 0 = omega arith in
-        rw (behind_none cut i e) (sym (zero_sum (channel_numbers cut)) ∙ same_sums (λ c. 0) (λ c. at c i) 0 (channel_number cut) (λ c ge lt. free_cut (cue_at cut i).bridge _ e))
+        rw (behind_none cut i e) (sym (zero_sum (channel_numbers cut)) ∙ same_sums (λ c. 0) (λ c. at c i) 0 (channel_number cut) (λ c ge there. free_cut (part_at cut c i).bridging.levels _ ((can.windowed c i (omega arith) (omega arith)).levels ∙ e)))
         )
   ]
 
-  by_places : windows_total cut zs ≡ sum_by (λ c. sum_by (at c) (range_with_len 0 last)) (channel_numbers cut)
-  by_places =
+  by_places : CanCut cut → windows_total cut zs ≡ sum_by (λ c. sum_by (at c) (range_with_len 0 last)) (channel_numbers cut)
+  by_places can =
       map_sum claim_cost (claim_at cut zs) (bridges cut)
       ∙ flat_sum (λ p. claim_cost (claim_at cut zs p)) (places_behind cut) (range_with_len 0 last)
-      ∙ same_sums (λ i. sum_by (λ p. claim_cost (claim_at cut zs p)) (places_behind cut i)) (λ i. sum_by (λ c. at c i) (channel_numbers cut)) 0 last (λ i ge lt. behind_sum i)
+      ∙ same_sums (λ i. sum_by (λ p. claim_cost (claim_at cut zs p)) (places_behind cut i)) (λ i. sum_by (λ c. at c i) (channel_numbers cut)) 0 last (λ i ge lt. behind_sum can i (omega arith))
       ∙ exchange (λ i c. at c i) (range_with_len 0 last) (channel_numbers cut)
 
-  module _ (can : CanCut cut) (shape : HaveShape cut zs) (held : HoldCues cut (channel_numbers cut) zs) (places : PlacesAreWindows) where
-    own_long : (c i : ℕ) → c < length zs → i + 1 < length cut.splice.cues → length (bridge_bits cut (get_or zs c []) i) ≡ (cue_at cut i).bridge
-    own_long c i there lt =
-        let start = bridge_start cut i in
-        let z = get_or zs c [] in
-        let whole : length z ≡ master_length cut.splice.cues = All-get_or (λ z. length z ≡ master_length cut.splice.cues) zs c [] there shape.long in
-        let below : i < length cut.splice.cues = omega arith in
-        let most : sum_by span (take i cut.splice.cues) + span (cue_at cut i) ≤ master_length cut.splice.cues = sum_by_more_le span cut.splice.cues i _ below in
-        let one : length (bridge_bits cut z i) ≡ start + (cue_at cut i).bridge - start = length-slice_range z start (start + (cue_at cut i).bridge) (omega arith) in
-        omega arith
+  -- the bits that stand for a bridge are as many as it has
+  pub own_long : HaveShape cut zs → (c i : ℕ) → c < length zs → i + 1 < length cut.splice.cues → length (bridge_bits cut (get_or zs c []) i) ≡ (cue_at cut i).bridge
+  own_long shape c i there lt =
+      let start = bridge_start cut i in
+      let z = get_or zs c [] in
+      let whole : length z ≡ master_length cut.splice.cues = All-get_or (λ z. length z ≡ master_length cut.splice.cues) zs c [] there shape.long in
+      let most : sum_by span (take i cut.splice.cues) + span (cue_at cut i) ≤ master_length cut.splice.cues = sum_by_more_le span cut.splice.cues i _ (omega arith) in
+      let one : length (bridge_bits cut z i) ≡ start + (cue_at cut i).bridge - start = length-slice_range z start (start + (cue_at cut i).bridge) (omega arith) in
+      omega arith
 
+  pub own_lengths : CanCut cut → HaveShape cut zs → (c : ℕ) → c < channel_number cut → HaveLengths (parts_of cut c) (map (bridge_bits cut (get_or zs c [])) (range_with_len 0 last))
+  own_lengths can shape c there =
+      have_lengths (part_at cut c) (bridge_bits cut (get_or zs c [])) 0 last (λ i ge lt. own_long shape c i (omega (arith, shape.as_many, there)) (omega arith) ∙ sym (can.windowed c i there (omega arith)).levels)
+
+  module _ (can : CanCut cut) (shape : HaveShape cut zs) (held : HoldCues cut (channel_numbers cut) zs) (places : PlacesAreWindows) where
     row : (c : ℕ) → c < channel_number cut → sum_by (at c) (range_with_len 0 last) ≡ cost_of cut c (get_or zs c [])
     row c there =
         let z = get_or zs c [] in
@@ -116,9 +120,8 @@ module _ (cut : CutContent) (zs : List (List Bool)) where
         let own = map (bridge_bits cut z) (range_with_len 0 last) in
         let some = can.splicing.some_cues in
         let holds : z ≡ rebuilt cut c z = zip_number (λ k y. y ≡ rebuilt cut k y) (channel_number cut) zs c [] held there in
-        let lengths = have_lengths (part_at cut c) (bridge_bits cut z) 0 last (λ i ge lt. own_long c i (omega (arith, shape.as_many, there)) (omega arith)) in
-        sym (ap (λ l. channel_cost l (length cue) ps) holds ∙ places cue ps own (joined cut can c there last 0 (omega arith)) lengths ∙ windows_sum (part_at cut c) (bridge_bits cut z) 0 last)
+        sym (ap (λ l. channel_cost l (length cue) ps) holds ∙ places cue ps own (joined cut can c there last 0 (omega arith)) (own_lengths can shape c there) ∙ windows_sum (part_at cut c) (bridge_bits cut z) 0 last)
 
     -- the sum over all bridges is that over all channels
     pub windows_are_total : windows_total cut zs ≡ total_cost cut zs
-    windows_are_total = by_places ∙ same_sums (λ c. sum_by (at c) (range_with_len 0 last)) (λ c. cost_of cut c (get_or zs c [])) 0 (channel_number cut) (λ c ge lt. row c (omega arith))
+    windows_are_total = by_places can ∙ same_sums (λ c. sum_by (at c) (range_with_len 0 last)) (λ c. cost_of cut c (get_or zs c [])) 0 (channel_number cut) (λ c ge lt. row c (omega arith))

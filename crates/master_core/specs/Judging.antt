@@ -23,11 +23,6 @@ use Rattle.master_core.specs.Checking.{CertReasons, IsFirstCuedBit, IsMasterOf, 
 use Rattle.master_core.specs.Claims.{AreLeastBridges, IsCertOf, IsLeastClaim, claim_cost, windows_total}
 use Rattle.master_core.specs.Masters.{total_cost}
 
--- an accepted certificate shows the bridges of these channels to be least, and they cost so much, over whole channels and window by window; a rejected one has this reason first
-abbrev pub JudgesCert : CutContent → List (List Bool) → List ℕ → Verdict → Type 0
-JudgesCert cut zs cert (Accepted cost) = IsCertOf cut zs cert × (cost ≡ total_cost cut zs) × (cost ≡ windows_total cut zs)
-JudgesCert cut zs cert (Rejected reason) = CertReasons cut zs cert reason
-
 -- it is not rejected
 abbrev pub IsNoRejection : Verdict → Type 0
 IsNoRejection (Accepted cost) = Unit {0}
@@ -108,6 +103,6 @@ pub record ShowsBridges (cut : CutContent) (zs : List (List Bool)) (known : Opti
   pub least : AreLeastBridges cut zs
 
 -- or this reason stands first, and they aren't
-abbrev pub JudgesBytes : CutContent → List (List Bool) → Option (List ℕ) → Verdict → Type 0
-JudgesBytes cut zs known (Accepted cost) = ShowsBridges cut zs known cost
-JudgesBytes cut zs known (Rejected reason) = IfSome known (λ cert. CertReasons cut zs cert reason × (IsCertOf cut zs cert → ⊥))
+abbrev pub JudgesCert : CutContent → List (List Bool) → Option (List ℕ) → Verdict → Type 0
+JudgesCert cut zs known (Accepted cost) = ShowsBridges cut zs known cost
+JudgesCert cut zs known (Rejected reason) = IfSome known (λ cert. CertReasons cut zs cert reason × (IsCertOf cut zs cert → ⊥))

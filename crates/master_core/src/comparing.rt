@@ -1,16 +1,16 @@
 //! Whether a recording is the master of a cut, whatever its bridges.
 
-ghost use Rattle.std.specs.Prelude.{◌≡◌, ◌≢◌, ◌+◌, ◌<◌, ◌≤◌, ◌^◌, ◌++◌, All, IfOk, MatchOption, OnOk, false, length, map, slice_index, true, ℕ};
+ghost use Rattle.std.specs.Prelude.{◌≡◌, ◌≢◌, ◌<◌, ◌≤◌, IfOk, MatchOption, false, length, map, slice_index, true, ℕ};
 ghost use Rattle.dsd_bits.specs.Contents.{mark_content};
 ghost use Rattle.form_core.specs.declared.form.Form.TheVariants.{Dsdiff};
-ghost use Rattle.cut_core.specs.Cuts.{channel_number, cue_at, master_length};
+ghost use Rattle.cut_core.specs.Cuts.{channel_number, master_length};
 ghost use Rattle.cut_core.specs.Titles.{titles_of};
 ghost use Rattle.master_core.specs.Checking.{HaveShape, HoldCues, IsFirstDifference, IsMasterOf, IsTitled, MasterReason};
 ghost use Rattle.master_core.specs.Checking as checks;
-ghost use Rattle.master_core.specs.Claims.{bridge_bits, bridge_start};
 ghost use Rattle.master_core.specs.Judging.{IsCuedBit};
 ghost use Rattle.master_core.specs.Masters.{channel_numbers};
 
+use crate::assembling::{BridgeSource, assemble_channel};
 use crate::verdict::Reason;
 use cut_core::{Cut, differ};
 use dsd_bits::{Bits, Mark, Recording};
@@ -100,35 +100,14 @@ fn first_cued_bit(
     Ok(None)
 }
 
-// Channel `c` of the cues, and between them the bits that stand in this channel of the master.
-fn rebuild(alloc: Global, cut: &Cut, channel: &Bits, c: usize) -> Result<Bits, AllocError>
-    requires there { c < channel_number cut.now }
+// A channel of the cues, and between them the bits that stand in this channel of the master.
+fn rebuild(alloc: Global, cut: &Cut, channel: &Bits, number: usize) -> Result<Bits, AllocError>
+    requires there { number < channel_number cut.now }
     requires long { length channel.now ≡ master_length cut.now.splice.cues }
-    ensures cued { IfOk result (λ bits. bits ≡ checks.rebuilt cut.now c channel.now) }
+    ensures cued { IfOk result (λ bits. bits ≡ checks.rebuilt cut.now number channel.now) }
     ensures long { IfOk result (λ bits. length bits ≡ length channel.now) }
 {
-    cut.can_cut();
-    let mut bits = Bits::new(alloc);
-    cut.push_cue(&mut bits, c, 0)?;
-    for i in 0..cut.cue_number() - 1 {
-        push_own_bridge(&mut bits, cut, channel, i)?;
-        cut.push_cue(&mut bits, c, i + 1)?;
-    }
-    Ok(bits)
-}
-
-// Appends the bits that stand in a channel of the master for the bridge behind cue `i`, where they belong.
-fn push_own_bridge(out: &mut Bits, cut: &Cut, channel: &Bits, i: usize) -> Result<(), AllocError>
-    requires cue { i < length cut.now.splice.cues }
-    requires place { length out.old ≡ bridge_start cut.now i }
-    requires long { length channel.now ≡ master_length cut.now.splice.cues }
-    ensures appended { OnOk result (out.new ≡ out.old ++ bridge_bits cut.now channel.now i) }
-    ensures long { OnOk result (length out.new ≡ length out.old + (cue_at cut.now i).bridge) }
-{
-    cut.can_cut();
-    let start = out.len();
-    out.push_range(channel, start, start + cut.cue(i).bridge)?;
-    Ok(())
+    assemble_channel(alloc, cut, number, BridgeSource::Standing(channel))
 }
 
 // The first place where two lists of bits of one length differ. Whole bytes are compared first.

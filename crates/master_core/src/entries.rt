@@ -6,16 +6,16 @@ ghost use Rattle.device_core.specs.Inlets.{inlet_failures, inlet_reader};
 ghost use Rattle.cert_core.specs.Readers.{cert_inlet, has_read_head, read_version};
 ghost use Rattle.cut_core.specs.Bridges as lists;
 ghost use Rattle.cut_core.specs.Bridges.{IsPlace};
-ghost use Rattle.cut_core.specs.Cuts.{cue_at, master_length};
-ghost use Rattle.master_core.specs.Checking.{HaveShape, HoldCues};
+ghost use Rattle.cut_core.specs.Cuts.{cue_at};
+ghost use Rattle.master_core.specs.Checking.{HaveShape};
 ghost use Rattle.master_core.specs.Claims as claims;
-ghost use Rattle.master_core.specs.Claims.{AreLeastBridges, IsCertOf, bridge_bits, claim_at};
-ghost use Rattle.master_core.specs.Judging.{IsNoRejection, JudgesBytes, JudgesCert, JudgesClaim, JudgesClaims, JudgesHead, WhereAccepted};
-ghost use Rattle.master_core.specs.Masters.{channel_numbers};
+ghost use Rattle.master_core.specs.Claims.{bridge_bits, claim_at};
+ghost use Rattle.master_core.specs.Judging.{JudgesCert, JudgesClaim, JudgesClaims, JudgesHead};
 
+use crate::standing::{bridge_starts, push_standing};
 use crate::verdict::{Reason, Verdict};
 use cert_core::{CertReader, CertReason, CertVerdict, cert_goes_on, read_is_cert};
-use cost_core::{Window, places_are_windows};
+use cost_core::Window;
 use cut_core::{BridgePlace, Cut};
 use device_core::Inlet;
 use dsd_bits::{Bits, Recording};
@@ -33,17 +33,13 @@ pub fn judge_certificate(
     recording: &Recording,
     cert: &[u8],
 ) -> Result<Verdict, AllocError>
-    requires shape { HaveShape cut.now recording.now.channels }
-    requires cued { HoldCues cut.now (channel_numbers cut.now) recording.now.channels }
-    ensures judged { IfOk result (JudgesCert cut.now recording.now.channels cert.now) }
-    ensures least { IfOk result (λ verdict. WhereAccepted verdict (AreLeastBridges cut.now recording.now.channels)) }
-    ensures only { IsCertOf cut.now recording.now.channels cert.now → IfOk result IsNoRejection }
+    requires { HaveShape cut.now recording.now.channels }
+    ensures { IfOk result (JudgesCert cut.now recording.now.channels (Some cert.now)) }
 {
-    cut.can_cut();
-    places_are_windows();
     let places = cut.bridges(alloc)?;
+    let starts = bridge_starts(alloc, cut)?;
     let mut reader = CertReader::new(Inlet::new(cert));
-    judge_bytes(alloc, cut, recording, &places, &mut reader)
+    judge_bytes(alloc, cut, recording, &places, &starts, &mut reader)
 }
 
 // Judges all bridges, which stand at these places, by a whole certificate.
@@ -52,21 +48,23 @@ fn judge_bytes<R: Read>(
     cut: &Cut,
     recording: &Recording,
     places: &[BridgePlace],
+    starts: &[usize],
     reader: &mut CertReader<R>,
 ) -> Result<Verdict, AllocError>
     requires ready { inlet_failures (cert_inlet reader.old) < 2 ^ 64 - 1 }
     requires shape { HaveShape cut.now recording.now.channels }
     requires places { places.now ≡ lists.bridges cut.now }
+    requires starts { starts.now ≡ claims.bridge_starts cut.now }
     requires each { All (IsPlace cut.now) places.now }
     requires few { length places.now ≤ 1536 }
-    ensures { IfOk result (JudgesBytes cut.now recording.now.channels (R.remaining (inlet_reader (cert_inlet reader.old)))) }
+    ensures { IfOk result (JudgesCert cut.now recording.now.channels (R.remaining (inlet_reader (cert_inlet reader.old)))) }
 {
     read_is_cert();
     cert_goes_on();
     if let Some(reason) = judge_head(reader, cut, places.len())? {
         return Ok(Verdict::Rejected(Reason::CertHead(reason)));
     }
-    let verdict = judge_entries(alloc, cut, recording, places, reader)?;
+    let verdict = judge_entries(alloc, cut, recording, places, starts, reader)?;
     match verdict {
         Verdict::Rejected(reason) => Ok(Verdict::Rejected(reason)),
         Verdict::Accepted { total } => {
@@ -115,6 +113,7 @@ fn judge_entries<R: Read>(
     cut: &Cut,
     recording: &Recording,
     places: &[BridgePlace],
+    starts: &[usize],
     reader: &mut CertReader<R>,
 ) -> Result<Verdict, AllocError>
     requires ready { inlet_failures (cert_inlet reader.old) < 2 ^ 64 - 1 }
@@ -122,6 +121,7 @@ fn judge_entries<R: Read>(
     requires shape { HaveShape cut.now recording.now.channels }
     requires each { All (IsPlace cut.now) places.now }
     requires few { length places.now ≤ 1536 }
+    requires starts { starts.now ≡ claims.bridge_starts cut.now }
     ensures judged { IfOk result (JudgesClaims (read_version reader.old) (map (claim_at cut.now recording.now.channels) places.now) (R.remaining (inlet_reader (cert_inlet reader.old))) (R.remaining (inlet_reader (cert_inlet reader.new)))) }
     ensures failures { OnOk result (inlet_failures (cert_inlet reader.new) ≡ inlet_failures (cert_inlet reader.old)) }
 {
@@ -129,7 +129,7 @@ fn judge_entries<R: Read>(
     cert_goes_on();
     let mut total = 0;
     for k in 0..places.len() {
-        match judge_entry(alloc, cut, recording, places[k], reader)? {
+        match judge_entry(alloc, cut, recording, places[k], starts, reader)? {
             CertVerdict::Accepted { cost } => total += u128::from(cost),
             CertVerdict::Rejected(reason) => {
                 return Ok(Verdict::Rejected(Reason::Cert(k, reason)));
@@ -145,12 +145,14 @@ fn judge_entry<R: Read>(
     cut: &Cut,
     recording: &Recording,
     place: BridgePlace,
+    starts: &[usize],
     reader: &mut CertReader<R>,
 ) -> Result<CertVerdict, AllocError>
     requires ready { inlet_failures (cert_inlet reader.old) < 2 ^ 64 - 1 }
     requires head { has_read_head reader.old ≡ true }
     requires shape { HaveShape cut.now recording.now.channels }
     requires place { IsPlace cut.now place }
+    requires starts { starts.now ≡ claims.bridge_starts cut.now }
     ensures judged { IfOk result (JudgesClaim (read_version reader.old) (claim_at cut.now recording.now.channels place) (R.remaining (inlet_reader (cert_inlet reader.old))) (R.remaining (inlet_reader (cert_inlet reader.new)))) }
     ensures failures { OnOk result (inlet_failures (cert_inlet reader.new) ≡ inlet_failures (cert_inlet reader.old)) }
     ensures read { OnOk result (has_read_head reader.new ≡ true) }
@@ -158,7 +160,7 @@ fn judge_entry<R: Read>(
 {
     cut.can_cut();
     let window = cut.window(alloc, place)?;
-    let bits = bits_at(alloc, cut, recording, place, window.length())?;
+    let bits = bits_at(alloc, cut, recording, place, starts)?;
     check_bits(alloc, place, &window, &bits, reader)
 }
 
@@ -187,37 +189,29 @@ fn check_bits<R: Read>(
     Ok(verdict)
 }
 
-// The `count` bits of the bridge that stand at a place of the master.
+// The bits that stand in the master for the bridge at a place.
 fn bits_at(
     alloc: Global,
     cut: &Cut,
     recording: &Recording,
     place: BridgePlace,
-    count: usize,
+    starts: &[usize],
 ) -> Result<Bits, AllocError>
     requires shape { HaveShape cut.now recording.now.channels }
     requires place { IsPlace cut.now place }
-    requires count { count ≡ (cue_at cut.now place.cue).bridge }
+    requires starts { starts.now ≡ claims.bridge_starts cut.now }
     ensures bits { IfOk result (λ bits. bits ≡ bridge_bits cut.now (slice_index_or recording.now.channels place.channel []) place.cue) }
-    ensures long { IfOk result (λ bits. length bits ≡ count) }
-{
-    let start = bridge_start(cut, place.cue);
-    let mut bits = Bits::new(alloc);
-    bits.push_range(&recording.channels()[place.channel], start, start + count)?;
-    Ok(bits)
-}
-
-// Where the bridge behind cue `i` starts in the master.
-fn bridge_start(cut: &Cut, i: usize) -> usize
-    requires { i < length cut.now.splice.cues }
-    ensures value { result ≡ claims.bridge_start cut.now i }
-    ensures inside { result + (cue_at cut.now i).bridge ≤ master_length cut.now.splice.cues }
+    ensures long { IfOk result (λ bits. length bits ≡ (cue_at cut.now place.cue).bridge) }
 {
     cut.can_cut();
-    let mut start = 0;
-    for j in 0..i {
-        start += cut.span(j);
-    }
-    let cue = cut.cue(i);
-    start + (cue.stop - cue.start)
+    let BridgePlace { cue, channel } = place;
+    let mut bits = Bits::new(alloc);
+    push_standing(
+        &mut bits,
+        cut,
+        &recording.channels()[channel],
+        cue,
+        starts[cue],
+    )?;
+    Ok(bits)
 }

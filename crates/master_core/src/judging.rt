@@ -9,7 +9,7 @@ ghost use Rattle.master_core.specs.Masters.{AreLeastChannels, AreMasterChannels,
 use crate::comparing::master_reason;
 use crate::entries::judge_certificate;
 use crate::verdict::Verdict;
-use cost_core::least_together;
+use cost_core::{least_together, places_are_windows};
 use cut_core::Cut;
 use form_core::{Opened, has_shape};
 use std::alloc::{AllocError, Global};
@@ -30,6 +30,7 @@ pub fn judge(alloc: Global, cut: &Cut, opened: &Opened, cert: &[u8]) -> Result<V
     has_shape(&opened.recording);
     cut.can_cut();
     least_together();
+    places_are_windows();
     if let Some(reason) = master_reason(alloc, cut, opened)? {
         return Ok(Verdict::Rejected(reason));
     }

@@ -4,8 +4,8 @@
 //! puts cues and bridges together; [`judge`] says whether a recording is such a master and a certificate shows that no
 //! bridge of it could cost less. Both walk one list, the bridges of the cut by rising cue and then by rising channel:
 //! `choosing.rt` searches them, `certifying.rt` writes their entries, `entries.rt` judges entries, and what they cost
-//! together is the sum over that list. `assembling.rt` makes a channel of cues and bridges, `comparing.rt` tells the
-//! first bit of a channel that isn't that of its cue.
+//! together is the sum over that list. `assembling.rt` makes a channel of cues and bridges, chosen ones or those that
+//! stand in a master (`standing.rt`), and `comparing.rt` tells the first bit of a channel that isn't that of its cue.
 //!
 //! The words of the contracts:
 //!
@@ -28,6 +28,7 @@ mod comparing;
 mod entries;
 mod judging;
 mod making;
+mod standing;
 mod verdict;
 
 pub use judging::judge;

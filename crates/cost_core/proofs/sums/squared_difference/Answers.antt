@@ -5,22 +5,22 @@ use Rattle.cost_core.proofs.Squares.{squared_bound, squared_is}
 use Rattle.cost_core.proofs.sums.squared_difference.Goals as goal
 use Rattle.cost_core.proofs.sums.squared_difference.Goals.{After-from-difference}
 
-difference_is : (c : After-from-difference) → c.from-difference.result ≡ c.args.a -ℤ c.args.b
-difference_is c = c.from-difference.ensures ∙ omega (arith, ints, abs_sub c.args.a c.args.b, c.requires.a, c.requires.b)
+difference_is : (c : After-from-difference) → c.from-difference.result ≡ c.args.sum -ℤ c.args.other
+difference_is c = c.from-difference.ensures ∙ omega (arith, ints, abs_sub c.args.sum c.args.other, c.requires.sum, c.requires.other)
 
 pub overflow_cast-result : goal.overflow_cast-result
 overflow_cast-result c =
     let is = difference_is (goal.at.overflow_cast-result c).After-from-difference in
-    let bound = squared_bound c.args.a c.args.b c.from-difference.result c.requires.a c.requires.b is in
-    rw (squared_is c.args.a c.args.b c.from-difference.result c.requires.a c.requires.b is) (tt, record { fits = omega (arith, bound) })
+    let bound = squared_bound c.args.sum c.args.other c.from-difference.result c.requires.sum c.requires.other is in
+    rw (squared_is c.args.sum c.args.other c.from-difference.result c.requires.sum c.requires.other is) (tt, record { fits = omega (arith, bound) })
 
 pub returns-clause-value : goal.returns-clause-value
 returns-clause-value c =
     let is = difference_is (goal.at.returns-clause-value c).After-from-difference in
-    ap unsigned_abs (squared_is c.args.a c.args.b c.from-difference.result c.requires.a c.requires.b is)
+    ap unsigned_abs (squared_is c.args.sum c.args.other c.from-difference.result c.requires.sum c.requires.other is)
 
 pub returns-clause-bound : goal.returns-clause-bound
 returns-clause-bound c =
     let is = difference_is (goal.at.returns-clause-bound c).After-from-difference in
-    let bound = squared_bound c.args.a c.args.b c.from-difference.result c.requires.a c.requires.b is in
-    omega (arith, ap unsigned_abs (squared_is c.args.a c.args.b c.from-difference.result c.requires.a c.requires.b is), bound)
+    let bound = squared_bound c.args.sum c.args.other c.from-difference.result c.requires.sum c.requires.other is in
+    omega (arith, ap unsigned_abs (squared_is c.args.sum c.args.other c.from-difference.result c.requires.sum c.requires.other is), bound)

@@ -4,4 +4,4 @@ use Rattle.cost_core.proofs.SumLaws.{weight_term}
 use Rattle.cost_core.proofs.sums.weighted_at.Given as goal
 
 abbrev pub invariant-loop-k : goal.invariant-loop-k
-invariant-loop-k l = l.sum ≡ sum_below l.k (weight_term l.weights (λ k. get_or l.bits (l.n - k) false))
+invariant-loop-k l = l.sum ≡ sum_below l.k (weight_term l.weights (λ k. get_or l.bits (l.place - k) false))

@@ -9,6 +9,6 @@ returns-clause-fits c =
     let splice = c.args.splice.now in
     let cue = c.index.result.now in
     let lt = c.requires in
-    let is : get_or (map cue_content splice.cues.items) c.args.i (cue_content cue) ≡ cue_content cue = get_or-map cue_content splice.cues.items c.args.i cue (cue_content cue) (omega (arith, length-map splice.cues.items cue_content)) ∙ ap cue_content (sym c.index.ensures) in
-    let fits = All-get_or (IsCueWithin (length splice.weights.items) (length splice.takes.items)) (map cue_content splice.cues.items) c.args.i (cue_content cue) lt splice.limits.each_fits in
+    let is : get_or (map cue_content splice.cues.items) c.args.number (cue_content cue) ≡ cue_content cue = get_or-map cue_content splice.cues.items c.args.number cue (cue_content cue) (omega (arith, length-map splice.cues.items cue_content)) ∙ ap cue_content (sym c.index.ensures) in
+    let fits = All-get_or (IsCueWithin (length splice.weights.items) (length splice.takes.items)) (map cue_content splice.cues.items) c.args.number (cue_content cue) lt splice.limits.each_fits in
     rw (length-map splice.takes.items string_bytes) (subst (λ (q : CueContent). IsCueWithin (length splice.weights.items) (length splice.takes.items) q) is fits)

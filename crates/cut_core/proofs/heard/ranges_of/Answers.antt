@@ -4,7 +4,7 @@ use Rattle.splice_core.specs.Splices.{splice_content}
 use Rattle.cut_core.specs.Hearing as specs
 use Rattle.cut_core.proofs.heard.ranges_of.Goals as goal
 
-pub loop-i-preserved : goal.loop-i-preserved
-loop-i-preserved c =
+pub loop-cue-preserved : goal.loop-cue-preserved
+loop-cue-preserved c =
     let f = specs.range_of (splice_content c.args.splice.now) c.args.number in
-    c.in_ok-push.ensures.items ∙ (λ j. c.loop-i.invariant j ++ c.range_of.ensures j ∷ []) ∙ sym (map-range_with_len_more f 0 c.loop-i.i c.loop-i.i (omega arith))
+    c.in_ok-push.ensures.items ∙ (λ j. c.loop-cue.invariant j ++ c.range_of.ensures j ∷ []) ∙ sym (map-range_with_len_more f 0 c.loop-cue.cue c.loop-cue.cue (omega arith))

@@ -23,12 +23,12 @@ overflow_add-code c = omega (arith, small (goal.at.overflow_add-code c).After-se
 pub index-requires : goal.index-requires
 index-requires c = omega (arith, code_is (goal.at.index-requires c).After-from, table_length c.self.inside c.self.invariant, c.self.inside.scaled.ok.0)
 
-pub squared_difference-requires-clause-a : goal.squared_difference-requires-clause-a
-squared_difference-requires-clause-a c =
-    rw (scaled_read c.self.inside c.self.invariant (2 * c.args.state + c.from.result) c.index.result.now (code_is (goal.at.squared_difference-requires-clause-a c).After-from) c.index.ensures) (table_in c.self.inside c.self.invariant (2 * c.args.state + c.from.result))
+pub squared_difference-requires-clause-sum : goal.squared_difference-requires-clause-sum
+squared_difference-requires-clause-sum c =
+    rw (scaled_read c.self.inside c.self.invariant (2 * c.args.state + c.from.result) c.index.result.now (code_is (goal.at.squared_difference-requires-clause-sum c).After-from) c.index.ensures) (table_in c.self.inside c.self.invariant (2 * c.args.state + c.from.result))
 
-pub squared_difference-requires-clause-b : goal.squared_difference-requires-clause-b
-squared_difference-requires-clause-b c =
+pub squared_difference-requires-clause-other : goal.squared_difference-requires-clause-other
+squared_difference-requires-clause-other c =
     rw (target_read c.self.inside c.self.invariant c.args.level c.index-target.result.now (rw (← c.self.view_is) at c.requires.level) c.index-target.ensures) (targets_in c.self.inside c.self.invariant (c.args.level + 1))
 
 pub returns-clause-value : goal.returns-clause-value

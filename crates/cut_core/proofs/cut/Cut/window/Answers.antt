@@ -22,30 +22,30 @@ next c = omega (arith, ap (λ (k : CutContent). length k.splice.cues) c.self.vie
 some : (c : After-deref) → 1 ≤ (cue_at (splice_content c.self.inside.splice) c.args.place.cue).bridge
 some c = omega (arith, ap (λ (k : CutContent). (cue_at k.splice c.args.place.cue).bridge) c.self.view_is, c.requires.bridged)
 
-pub stretch-a-requires-clause-takes : goal.stretch-a-requires-clause-takes
-stretch-a-requires-clause-takes c = ap length c.deref.ensures.value ∙ as_many c.self.inside c.self.invariant
+pub stretch-own-requires-clause-takes : goal.stretch-own-requires-clause-takes
+stretch-own-requires-clause-takes c = ap length c.deref.ensures.value ∙ as_many c.self.inside c.self.invariant
 
-pub stretch-b-requires-clause-takes : goal.stretch-b-requires-clause-takes
-stretch-b-requires-clause-takes c = ap length c.deref-2.ensures.value ∙ as_many c.self.inside c.self.invariant
+pub stretch-next-requires-clause-takes : goal.stretch-next-requires-clause-takes
+stretch-next-requires-clause-takes c = ap length c.deref-2.ensures.value ∙ as_many c.self.inside c.self.invariant
 
-pub stretch-a-requires-clause-there : goal.stretch-a-requires-clause-there
-stretch-a-requires-clause-there c =
-    let here = (goal.at.stretch-a-requires-clause-there c).After-deref in
+pub stretch-own-requires-clause-there : goal.stretch-own-requires-clause-there
+stretch-own-requires-clause-there c =
+    let here = (goal.at.stretch-own-requires-clause-there c).After-deref in
     subst (λ hs. HasStretch (splice_content c.self.inside.splice) (map heard_content hs) c.args.place.channel c.args.place.cue) (sym c.deref.ensures.value) (stretch_there c.self.inside c.self.invariant c.args.place.channel (channel here) c.args.place.cue (omega (arith, next here)))
 
-pub stretch-b-requires-clause-there : goal.stretch-b-requires-clause-there
-stretch-b-requires-clause-there c =
-    let here = (goal.at.stretch-b-requires-clause-there c).After-deref in
+pub stretch-next-requires-clause-there : goal.stretch-next-requires-clause-there
+stretch-next-requires-clause-there c =
+    let here = (goal.at.stretch-next-requires-clause-there c).After-deref in
     subst (λ hs. HasStretch (splice_content c.self.inside.splice) (map heard_content hs) c.args.place.channel (c.args.place.cue + 1)) (sym c.deref-2.ensures.value) (stretch_there c.self.inside c.self.invariant c.args.place.channel (channel here) (c.args.place.cue + 1) (next here))
 
 abbrev first : (c : After-heard_from-2) → After-deref
 first c = (goal.at.After-heard_from-2 c).After-deref
 
-a_is : (c : After-heard_from-2) → c.stretch-a.result.now ≡ stretch_at (splice_content c.self.inside.splice) (map heard_content c.self.inside.takes.items) c.args.place.channel c.args.place.cue
-a_is c = c.stretch-a.ensures ∙ ap (λ hs. stretch_at (splice_content c.self.inside.splice) (map heard_content hs) c.args.place.channel c.args.place.cue) c.deref.ensures.value
+own_is : (c : After-heard_from-2) → c.stretch-own.result.now ≡ stretch_at (splice_content c.self.inside.splice) (map heard_content c.self.inside.takes.items) c.args.place.channel c.args.place.cue
+own_is c = c.stretch-own.ensures ∙ ap (λ hs. stretch_at (splice_content c.self.inside.splice) (map heard_content hs) c.args.place.channel c.args.place.cue) c.deref.ensures.value
 
-b_is : (c : After-heard_from-2) → c.stretch-b.result.now ≡ stretch_at (splice_content c.self.inside.splice) (map heard_content c.self.inside.takes.items) c.args.place.channel (c.args.place.cue + 1)
-b_is c = c.stretch-b.ensures ∙ ap (λ hs. stretch_at (splice_content c.self.inside.splice) (map heard_content hs) c.args.place.channel (c.args.place.cue + 1)) c.deref-2.ensures.value
+next_is : (c : After-heard_from-2) → c.stretch-next.result.now ≡ stretch_at (splice_content c.self.inside.splice) (map heard_content c.self.inside.takes.items) c.args.place.channel (c.args.place.cue + 1)
+next_is c = c.stretch-next.ensures ∙ ap (λ hs. stretch_at (splice_content c.self.inside.splice) (map heard_content hs) c.args.place.channel (c.args.place.cue + 1)) c.deref-2.ensures.value
 
 stop_is : (c : After-heard_from-2) → c.cue_at.result.now.stop - c.heard_from.result ≡ stop_in (splice_content c.self.inside.splice) c.args.place.cue
 stop_is c = omega (arith, ap (λ (q : CueContent). q.stop) c.cue_at.ensures.value, c.heard_from.ensures)
@@ -58,13 +58,13 @@ between-requires-clause-room c =
     let here = (goal.at.between-requires-clause-room c).After-heard_from-2 in
     let splice = splice_content c.self.inside.splice in
     let room = bridge_there c.self.inside c.self.invariant c.args.place.channel (channel (first here)) c.args.place.cue (next (first here)) (some (first here)) in
-    room_again splice c.args.place.cue _ _ _ _ _ _ _ _ (sym (a_is here)) (sym (stop_is here)) (sym (b_is here)) (sym (start_is here)) room
+    room_again splice c.args.place.cue _ _ _ _ _ _ _ _ (sym (own_is here)) (sym (stop_is here)) (sym (next_is here)) (sym (start_is here)) room
 
 pub returns : goal.returns
 returns c =
     let here = (goal.at.returns c).After-heard_from-2 in
     let splice = splice_content c.self.inside.splice in
     let is = window_there c.self.inside c.self.invariant c.args.place.channel (channel (first here)) c.args.place.cue (next (first here)) in
-    let made : bridging_at splice c.args.place.cue c.stretch-a.result.now (c.cue_at.result.now.stop - c.heard_from.result) c.stretch-b.result.now (c.cue_at-2.result.now.start - c.heard_from-2.result) ≡ cuts.window c.args.self.now c.args.place.channel c.args.place.cue =
-    (λ j. bridging_at splice c.args.place.cue (a_is here j) (stop_is here j) (b_is here j) (start_is here j)) ∙ sym is ∙ ap (λ (k : CutContent). cuts.window k c.args.place.channel c.args.place.cue) c.self.view_is in
+    let made : bridging_at splice c.args.place.cue c.stretch-own.result.now (c.cue_at.result.now.stop - c.heard_from.result) c.stretch-next.result.now (c.cue_at-2.result.now.start - c.heard_from-2.result) ≡ cuts.window c.args.self.now c.args.place.channel c.args.place.cue =
+    (λ j. bridging_at splice c.args.place.cue (own_is here j) (stop_is here j) (next_is here j) (start_is here j)) ∙ sym is ∙ ap (λ (k : CutContent). cuts.window k c.args.place.channel c.args.place.cue) c.self.view_is in
     subst (λ (d : Bridging). IfOk c.between.result (λ window. window ≡ d)) made c.between.ensures

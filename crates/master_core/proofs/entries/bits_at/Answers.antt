@@ -1,0 +1,24 @@
+use Rattle.std.proofs.Common.{◌-◌, ◌<◌, ◌∙◌, ap, arith, get_or, length}
+use Rattle.std.proofs.lemmas.List.FromFn.{get_or-map-range_with_len, length-map-range_with_len}
+use Rattle.cut_core.proofs.CutLaws.{fits_at}
+use Rattle.master_core.specs.Claims.{bridge_start}
+use Rattle.master_core.proofs.entries.bits_at.Goals as goal
+
+pub bounds-starts-cue : goal.bounds-starts-cue
+bounds-starts-cue c =
+    let cut = c.args.cut.now in
+    omega (arith, ap length c.requires.starts, length-map-range_with_len (bridge_start cut) 0 (length cut.splice.cues - 1), c.requires.place.cue_there)
+
+pub push_standing-requires-clause-start : goal.push_standing-requires-clause-start
+push_standing-requires-clause-start c =
+    let cut = c.args.cut.now in
+    let i = c.args.place.cue in
+    let n = length cut.splice.cues - 1 in
+    let lt : i < n = omega (arith, c.requires.place.cue_there) in
+    ap (λ l. get_or l i 0) c.requires.starts ∙ get_or-map-range_with_len (bridge_start cut) 0 n i i 0 lt (omega arith)
+
+pub push_standing-requires-clause-in_limit : goal.push_standing-requires-clause-in_limit
+push_standing-requires-clause-in_limit c =
+    let cut = c.args.cut.now in
+    let fits = fits_at cut c.can_cut.ensures c.args.place.cue (omega (arith, c.requires.place.cue_there)) in
+    omega (arith, fits.bridge_fits, ap length c.new-bits.ensures)

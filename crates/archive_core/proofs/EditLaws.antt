@@ -28,7 +28,7 @@ pub any_form : (project : List ℕ) (files : List (List ℕ)) (form : Form) (cut
 any_form project files form cut says = record {
   splice = says.splice;
   project_says = says.project_says;
-  opens = record { splice_is = says.opens.splice_is; read = says.opens.read; fit = says.opens.fit; whole = λ e. absurd (no_form forms.Dsdiff e); room = says.opens.room };
+  opens = record { takes = says.opens.takes; cut_is = says.opens.cut_is; read = says.opens.read; fit = says.opens.fit; whole = λ e. absurd (no_form forms.Dsdiff e); room = says.opens.room };
 }
 
 -- a best master costs what its whole channels cost

@@ -1,11 +1,14 @@
 -- The cut that a project and the files of its takes come to.
 use Rattle.std.specs.Prelude.{ℕ, List, Option, Result}
 use Rattle.chunk_core.specs.Steps.{◌>>=◌}
+use Rattle.dsd_bits.specs.Contents.{Content}
 use Rattle.splice_core.specs.Splices.{SpliceContent}
 use Rattle.form_core.specs.declared.form.Form.{Form}
 use Rattle.form_core.specs.Steps.{map_err}
 use Rattle.cut_core.specs.Cuts.{CutContent}
-use Rattle.cut_core.specs.Opening.{OpensCut, cut_of}
+use Rattle.cut_core.specs.declared.heard.Heard.{Heard}
+use Rattle.cut_core.specs.Hearing.{AreHeard}
+use Rattle.cut_core.specs.Opening.{AreRead, OpensCut, cut_of}
 use Rattle.transfer_core.specs.declared.fault.Fault.{Fault}
 use Rattle.transfer_core.specs.Faults.{fault_of_cut}
 use Rattle.transfer_core.specs.Projects.{SaysSplice, splice_of}
@@ -15,6 +18,13 @@ pub record SaysCut (project : List ℕ) (files : List (List ℕ)) (form : Option
   pub splice : SpliceContent
   pub project_says : SaysSplice project splice
   pub opens : OpensCut splice files form cut
+
+-- the project's text says this splice, the files hold its takes, and this was heard of them
+pub record AreTakes (project : List ℕ) (files : List (List ℕ)) (splice : SpliceContent) (hs : List Heard) : Type 0 where
+  pub project_says : SaysSplice project splice
+  pub whole : List Content
+  pub read : AreRead splice files whole
+  pub heard : AreHeard splice whole hs
 
 -- the cut of a project and files, or the first fault: project, its splice, the cut
 unfoldable pub said_cut : List ℕ → List (List ℕ) → Option Form → Result CutContent Fault

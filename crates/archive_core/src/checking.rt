@@ -1,9 +1,10 @@
 //! Whether a file is the master of a project and takes, and its bridges are the best there are.
 
-ghost use Rattle.std.specs.Prelude.{◌≡◌, IfErr, IfOk, MatchOption, None, Some, ℕ};
+ghost use Rattle.std.specs.Prelude.{◌≡◌, IfErr, IfOk, List, MatchOption, None, Some, ℕ};
 ghost use Rattle.archive_core.specs.Checking as checks;
 ghost use Rattle.archive_core.specs.Checking.{Accepts, AnswersAccepted, HoldsNothing, IfAccepted, IfRejected, IsLeastMaster, RejectsFirst};
-ghost use Rattle.archive_core.specs.Cutting.{said_cut};
+ghost use Rattle.cut_core.specs.Hearing.{AreOfTakes};
+ghost use Rattle.archive_core.specs.Cutting.{AreTakes, said_cut};
 ghost use Rattle.archive_core.specs.Editing.{CostsLeast, CostsWindows, IsMaster};
 ghost use Rattle.cut_core.specs.Opening.{file_bytes};
 ghost use Rattle.dsd_bits.specs.Contents.{Content};
@@ -11,12 +12,15 @@ ghost use Rattle.form_core.specs.declared.form.Form.{Form};
 ghost use Rattle.form_core.specs.Forms.{HoldsAs};
 ghost use Rattle.form_core.specs.Opening.{IsOpened};
 ghost use Rattle.form_core.specs.Steps.{Fails};
+ghost use Rattle.splice_core.specs.Splices.{splice_content};
 
-use crate::cutting::cut_from;
+use crate::cutting::cut_heard;
+use cut_core::{Heard, hear_takes};
 use form_core::{Opened, ReadFault, read_any};
 use master_core::{Reason, Verdict, judge};
 use std::alloc::{AllocError, Global};
-use transfer_core::Fault;
+use splice_core::Splice;
+use transfer_core::{Fault, splice_of};
 
 /// Whether a file is the master of a project and its takes, and a certificate shows that no bridge in it
 /// could cost less, whoever wrote them. It is accepted exactly where this is so, with the sum of what the
@@ -52,7 +56,33 @@ pub fn check(
     // Which fault it is: the first of the project, its splice and its cut.
     ensures refused { IfErr result (λ fault. Fails Fault.Memory fault (said_cut project.now (file_bytes takes.now) None)) }
 {
-    let cut = cut_from(alloc, project, takes, None)?;
+    let splice = splice_of(alloc, project)?;
+    let takes = hear_takes(alloc, &splice, takes)?;
+    check_heard(alloc, splice, takes, master, cert)
+}
+
+/// The same verdict by a splice and what was heard of its takes, in the order of their numbers.
+///
+/// Refusals: those of [`check`] from `TakeMismatch` on, in their order.
+pub fn check_heard(
+    alloc: Global,
+    splice: Splice,
+    takes: Vec<Heard>,
+    master: &[u8],
+    cert: &[u8],
+) -> Result<Verdict, Fault>
+    requires { AreOfTakes (splice_content splice) takes.items }
+    // Of whichever project and files it was heard, the clauses of `check` hold of them.
+    ensures found { (project : List ℕ) (files : List (List ℕ)) → AreTakes project files (splice_content splice) takes.items → IfAccepted result (Accepts project files master.now cert.now) }
+    ensures master { (project : List ℕ) (files : List (List ℕ)) → AreTakes project files (splice_content splice) takes.items → IfAccepted result (λ _. IsMaster project files master.now) }
+    ensures least { (project : List ℕ) (files : List (List ℕ)) → AreTakes project files (splice_content splice) takes.items → IfAccepted result (λ _. IsLeastMaster project files master.now) }
+    ensures joint { (project : List ℕ) (files : List (List ℕ)) → AreTakes project files (splice_content splice) takes.items → IfAccepted result (CostsLeast project files master.now) }
+    ensures windows { (project : List ℕ) (files : List (List ℕ)) → AreTakes project files (splice_content splice) takes.items → IfAccepted result (CostsWindows project files master.now) }
+    ensures only { (project : List ℕ) (files : List (List ℕ)) → AreTakes project files (splice_content splice) takes.items → (cost : ℕ) → Accepts project files master.now cert.now cost → AnswersAccepted result cost }
+    ensures rejected { (project : List ℕ) (files : List (List ℕ)) → AreTakes project files (splice_content splice) takes.items → IfRejected result (RejectsFirst project files master.now cert.now) }
+    ensures refused { (project : List ℕ) (files : List (List ℕ)) → AreTakes project files (splice_content splice) takes.items → IfErr result (λ fault. Fails Fault.Memory fault (said_cut project files None)) }
+{
+    let cut = cut_heard(splice, takes, None)?;
     let Some(opened) = open_master(alloc, master)? else {
         return Ok(Verdict::Rejected(Reason::MasterUnread));
     };

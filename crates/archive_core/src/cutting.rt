@@ -1,29 +1,29 @@
-//! The cut that a project and the files of its takes come to.
+//! The cut of a splice and what was heard of its takes.
 
-ghost use Rattle.std.specs.Prelude.{IfOk};
+ghost use Rattle.std.specs.Prelude.{IfOk, List, ℕ};
+ghost use Rattle.splice_core.specs.Splices.{splice_content};
 ghost use Rattle.form_core.specs.Steps.{Gives};
-ghost use Rattle.cut_core.specs.Opening.{file_bytes};
-ghost use Rattle.archive_core.specs.Cutting.{SaysCut, said_cut};
+ghost use Rattle.cut_core.specs.Hearing.{AreOfTakes};
+ghost use Rattle.archive_core.specs.Cutting.{AreTakes, SaysCut, said_cut};
 
-use cut_core::Cut;
+use cut_core::{Cut, Heard};
 use form_core::Form;
-use std::alloc::Global;
-use transfer_core::{Fault, splice_of};
+use splice_core::Splice;
+use transfer_core::Fault;
 
-/// The cut of a project text and the files of its takes, in the order of their numbers. `form` is the form of the file
+/// The cut of a splice and what was heard of its takes, in the order of their numbers. `form` is the form of the file
 /// that is to be cut, where one is.
 ///
-/// Refusals, in this order: `Project`, `NoSplice`, then those of [`Cut::open`]. Every want of memory is `Memory`.
-#[tactic(auto, unfolding(crate::specs::Cutting::said_cut))]
-pub(crate) fn cut_from(
-    alloc: Global,
-    project: &[u8],
-    takes: &[Vec<u8>],
+/// Refusals: those of [`Cut::of`], in their order.
+pub(crate) fn cut_heard(
+    splice: Splice,
+    takes: Vec<Heard>,
     form: Option<Form>,
 ) -> Result<Cut, Fault>
-    ensures found { IfOk result (SaysCut project.now (file_bytes takes.now) form) }
-    ensures exact { Gives Fault.Memory (λ cut. cut) result (said_cut project.now (file_bytes takes.now) form) }
+    requires { AreOfTakes (splice_content splice) takes.items }
+    // Of whichever project and files it was heard, it is their cut, or refused as they are.
+    ensures found { (project : List ℕ) (files : List (List ℕ)) → AreTakes project files (splice_content splice) takes.items → IfOk result (SaysCut project files form) }
+    ensures exact { (project : List ℕ) (files : List (List ℕ)) → AreTakes project files (splice_content splice) takes.items → Gives Fault.Memory (λ cut. cut) result (said_cut project files form) }
 {
-    let splice = splice_of(alloc, project)?;
-    Ok(Cut::open(alloc, splice, takes, form)?)
+    Ok(Cut::of(splice, takes, form)?)
 }

@@ -35,8 +35,8 @@ mod cutting;
 mod editing;
 mod laws;
 
-pub use checking::check;
-pub use editing::{Edited, edit};
+pub use checking::{check, check_heard};
+pub use editing::{Edited, edit, edit_heard};
 pub use form_core::{Form, Opened, ReadFault, read_any};
 pub use laws::read_in_order;
 pub use master_core::{Reason, Verdict};

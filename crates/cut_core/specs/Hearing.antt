@@ -56,6 +56,12 @@ pub record AreHeard (splice : SpliceContent) (takes : List Content) (hs : List H
   pub shaped : All HasShape takes
   pub heard : map heard_content hs ≡ heard_takes splice takes
 
+-- what was heard is of some takes of the splice
+pub record AreOfTakes (splice : SpliceContent) (hs : List Heard) : Type 0 where
+  pub whole : List Content
+  pub heard : AreHeard splice whole hs
+  pub as_many : length whole ≡ length splice.takes
+
 -- ---- what else decides
 -- the rate of a take, how many channels it has and how many bits each
 pub record TakeShape : Type 0 where

@@ -10,7 +10,7 @@ ghost use Rattle.cut_core.specs.Bridges.{IsPlace};
 ghost use Rattle.cut_core.specs.Cuts as cuts;
 ghost use Rattle.cut_core.specs.Cuts.{cue_at, cue_bits, master_length, span};
 ghost use Rattle.cut_core.specs.Keeping.{CanCut};
-ghost use Rattle.cut_core.specs.Hearing.{AreHeard};
+ghost use Rattle.cut_core.specs.Hearing.{AreHeard, AreOfTakes};
 ghost use Rattle.cut_core.specs.Opening.{OpensCut, cut_from, cut_of, file_bytes};
 ghost use Rattle.cut_core.specs.Titles.{titles_of};
 
@@ -19,7 +19,7 @@ use crate::cues;
 use crate::fault::CutFault;
 use crate::fitting::{self, fits};
 use crate::heard::{Heard, heard_from};
-use crate::takes::takes_of;
+use crate::takes::hear_takes;
 use crate::titles::title_marks;
 use cost_core::{Window, fades_join};
 use dsd_bits::{Bits, Mark, Recording};
@@ -69,7 +69,7 @@ impl Cut {
         // What is answered or refused is what reading in order comes to, want of memory aside.
         ensures exact { Gives CutFault.Memory (λ cut. cut) result (cut_of (splice_content splice) (file_bytes files.now) form) }
     {
-        let takes = takes_of(alloc, &splice, files)?;
+        let takes = hear_takes(alloc, &splice, files)?;
         Cut::of(splice, takes, form)
     }
 
@@ -78,7 +78,7 @@ impl Cut {
     /// Refusals: those of [`Cut::open`] from `TakeMismatch` on, in their order.
     #[tactic(auto, unfolding(crate::specs::Opening::cut_from))]
     pub fn of(splice: Splice, takes: Vec<Heard>, form: Option<Form>) -> Result<Cut, CutFault>
-        requires heard { (whole : List Content) × AreHeard (splice_content splice) whole takes.items × (length whole ≡ length (splice_content splice).takes) }
+        requires { AreOfTakes (splice_content splice) takes.items }
         // Of whichever takes it was heard, what is answered or refused is what reading them in order comes to.
         ensures exact { (whole : List Content) → AreHeard (splice_content splice) whole takes.items → Gives CutFault.Memory (λ cut. cut) result (cut_from form (splice_content splice) whole) }
     {

@@ -36,3 +36,4 @@ pub use fault::CutFault;
 pub use fitting::differ;
 pub use heard::{Heard, hear, ranges_of};
 pub use laws::opens_in_order;
+pub use takes::hear_takes;

@@ -1,84 +1,65 @@
-use Rattle.std.proofs.Common.{◌≡◌, ◌∙◌, ap, inl, None, Some, refl}
+use Rattle.std.proofs.Common.{Some, arith}
 use Rattle.std.proofs.lemmas.Result.{err_from_is_err_and}
-use Rattle.splice_core.specs.Splices.{SpliceContent}
-use Rattle.cut_core.specs.Cuts.{master_length}
+use Rattle.splice_core.specs.Splices.{splice_content}
+use Rattle.form_core.specs.Forms.{HoldsSome}
 use Rattle.cut_core.specs.Opening.{file_bytes}
-use Rattle.transfer_core.specs.declared.fault.Fault.TheVariants.{Memory}
-use Rattle.archive_core.specs.Cutting.{SaysCut}
-use Rattle.transfer_core.specs.Faults.{fault_of_writing}
-use Rattle.archive_core.proofs.CuttingLaws.{one_cut, only_memory}
-use Rattle.archive_core.proofs.EditLaws.{any_form, costs_whole, file_costs, file_is_accepted, file_is_master, file_least, one_answer, write_only_memory}
+use Rattle.cut_core.proofs.OpeningLaws.{files_are}
+use Rattle.cut_core.proofs.ZipLaws.{zip_long}
+use Rattle.archive_core.specs.Cutting.{AreTakes}
+use Rattle.archive_core.proofs.CuttingLaws.{only_memory, unheard, unsaid}
 use Rattle.archive_core.proofs.editing.edit.Goals as goal
-use Rattle.archive_core.proofs.editing.edit.Goals.{In_err-master, In_ok-cut}
+use Rattle.archive_core.proofs.editing.edit.Goals.{In_ok-takes}
 
 -- ---- refusals
-pub returns-in_err-cut-clause-only : goal.returns-in_err-cut-clause-only
-returns-in_err-cut-clause-only c = λ master cost edits.
+pub returns-in_err-splice-clause-refused : goal.returns-in_err-splice-clause-refused
+returns-in_err-splice-clause-refused c =
     let p = err_from_is_err_and c.from_residual.result c.from_residual.ensures.1 in
-    rw (p.1, p.2) (only_memory c.args.project.now (file_bytes c.args.takes.now) (Some c.args.form) edits.cut edits.says c.in_err-cut.field-0.0 c.in_err-cut.ensures.exact)
+    rw (p.1, p.2) (unsaid c.args.project.now (file_bytes c.args.takes.now) (Some c.args.form) c.in_err-splice.field-0.0 c.in_err-splice.ensures.exact)
 
-pub returns-in_err-recording-clause-refused : goal.returns-in_err-recording-clause-refused
-returns-in_err-recording-clause-refused c =
-    let p = err_from_is_err_and c.from_residual-in_err-recording.result c.from_residual-in_err-recording.ensures.1 in
-    rw (p.1, p.2) (inl refl)
+pub returns-in_err-splice-clause-only : goal.returns-in_err-splice-clause-only
+returns-in_err-splice-clause-only c = λ master cost edits.
+    let p = err_from_is_err_and c.from_residual.result c.from_residual.ensures.1 in
+    rw (p.1, p.2) (only_memory c.args.project.now (file_bytes c.args.takes.now) (Some c.args.form) edits.cut edits.says c.in_err-splice.field-0.0 (unsaid c.args.project.now (file_bytes c.args.takes.now) (Some c.args.form) c.in_err-splice.field-0.0 c.in_err-splice.ensures.exact))
 
-pub returns-in_err-recording-clause-only : goal.returns-in_err-recording-clause-only
-returns-in_err-recording-clause-only c = λ master cost edits.
-    let p = err_from_is_err_and c.from_residual-in_err-recording.result c.from_residual-in_err-recording.ensures.1 in
-    rw (p.1, p.2) refl
+pub returns-in_err-takes-clause-refused : goal.returns-in_err-takes-clause-refused
+returns-in_err-takes-clause-refused c =
+    let p = err_from_is_err_and c.from_residual-in_err-takes.result c.from_residual-in_err-takes.ensures.1 in
+    rw (p.1, p.2) (unheard c.args.project.now (file_bytes c.args.takes.now) (splice_content c.in_ok-splice.splice) (Some c.args.form) c.in_err-takes.field-0.0 c.in_ok-splice.ensures.found c.in_err-takes.ensures)
 
--- a master that is cut into whole bytes is written, want of memory aside
-unwritten : (c : In_err-master) → fault_of_writing c.in_err-master.field-0.0 ≡ Memory
-unwritten c =
-    let says = c.in_ok-cut.ensures.found in
-    let long = c.in_ok-recording.ensures.master.long ∙ ap (λ (s : SpliceContent). master_length s.cues) says.opens.splice_is in
-    ap fault_of_writing (write_only_memory c.args.form says.splice c.in_ok-recording.field-0.recording says.opens.whole long c.in_err-master.field-0.0 c.in_err-master.ensures.refused)
+pub returns-in_err-takes-clause-only : goal.returns-in_err-takes-clause-only
+returns-in_err-takes-clause-only c = λ master cost edits.
+    let p = err_from_is_err_and c.from_residual-in_err-takes.result c.from_residual-in_err-takes.ensures.1 in
+    rw (p.1, p.2) (only_memory c.args.project.now (file_bytes c.args.takes.now) (Some c.args.form) edits.cut edits.says _ (unheard c.args.project.now (file_bytes c.args.takes.now) (splice_content c.in_ok-splice.splice) (Some c.args.form) c.in_err-takes.field-0.0 c.in_ok-splice.ensures.found c.in_err-takes.ensures))
 
-pub returns-in_err-master-clause-refused : goal.returns-in_err-master-clause-refused
-returns-in_err-master-clause-refused c =
-    let p = err_from_is_err_and c.from_residual-in_err-master.result c.from_residual-in_err-master.ensures.1 in
-    rw (p.1, p.2) (inl (unwritten (goal.at.returns-in_err-master-clause-refused c).In_err-master))
+-- ---- what was heard is of the files
+are : (c : In_ok-takes) → AreTakes c.args.project.now (file_bytes c.args.takes.now) (splice_content c.in_ok-splice.splice) c.in_ok-takes.takes.items
+are c =
+    let taken = c.in_ok-takes.ensures in
+    record { project_says = c.in_ok-splice.ensures.found; whole = taken.0; read = files_are (splice_content c.in_ok-splice.splice) (file_bytes c.args.takes.now) taken.0 taken.1; heard = taken.2 }
 
-pub returns-in_err-master-clause-only : goal.returns-in_err-master-clause-only
-returns-in_err-master-clause-only c = λ master cost edits.
-    let p = err_from_is_err_and c.from_residual-in_err-master.result c.from_residual-in_err-master.ensures.1 in
-    rw (p.1, p.2) (unwritten (goal.at.returns-in_err-master-clause-only c).In_err-master)
+pub edit_heard-requires : goal.edit_heard-requires
+edit_heard-requires c =
+    let here = are (goal.at.edit_heard-requires c).In_ok-takes in
+    record { whole = here.whole; heard = here.heard; as_many = omega (arith, here.read.as_many, zip_long HoldsSome (file_bytes c.args.takes.now) here.whole here.read.held) }
 
 -- ---- what is answered
-says_any : (c : In_ok-cut) → SaysCut c.args.project.now (file_bytes c.args.takes.now) None c.in_ok-cut.cut
-says_any c = any_form c.args.project.now (file_bytes c.args.takes.now) c.args.form c.in_ok-cut.cut c.in_ok-cut.ensures.found
-
 pub returns-clause-found : goal.returns-clause-found
-returns-clause-found c = record {
-  cut = c.in_ok-cut.cut;
-  says = c.in_ok-cut.ensures.found;
-  recording = c.in_ok-recording.field-0.recording;
-  best = c.in_ok-recording.ensures.best;
-  text = c.in_ok-master.ensures.text;
-}
+returns-clause-found c = c.edit_heard.ensures.found c.args.project.now (file_bytes c.args.takes.now) (are (goal.at.returns-clause-found c).In_ok-takes)
 
 pub returns-clause-master : goal.returns-clause-master
-returns-clause-master c =
-    file_is_master c.args.project.now (file_bytes c.args.takes.now) c.in_ok-cut.cut (says_any (goal.at.returns-clause-master c).In_ok-cut) c.args.form c.in_ok-recording.field-0.recording c.in_ok-recording.ensures.master c.in_ok-master.master.items c.in_ok-master.ensures.read_again
-    c.in_ok-recording.ensures.channels
+returns-clause-master c = c.edit_heard.ensures.master c.args.project.now (file_bytes c.args.takes.now) (are (goal.at.returns-clause-master c).In_ok-takes)
 
 pub returns-clause-accepted : goal.returns-clause-accepted
-returns-clause-accepted c =
-    let best = c.in_ok-recording.ensures.best in
-    file_is_accepted c.args.project.now (file_bytes c.args.takes.now) c.in_ok-cut.cut (says_any (goal.at.returns-clause-accepted c).In_ok-cut) c.args.form c.in_ok-recording.field-0.recording c.in_ok-recording.ensures.master c.in_ok-master.master.items c.in_ok-master.ensures.read_again
-    c.in_ok-recording.field-0.cert.items c.in_ok-recording.field-0.total c.in_ok-recording.ensures.shown (costs_whole c.in_ok-cut.cut c.args.form c.in_ok-recording.field-0.recording c.in_ok-recording.field-0.total best)
-
-pub returns-clause-windows : goal.returns-clause-windows
-returns-clause-windows c =
-    file_costs c.args.project.now (file_bytes c.args.takes.now) c.in_ok-cut.cut (says_any (goal.at.returns-clause-windows c).In_ok-cut) c.args.form c.in_ok-recording.field-0.recording c.in_ok-recording.ensures.master c.in_ok-master.master.items c.in_ok-master.ensures.read_again
-    c.in_ok-recording.field-0.total c.in_ok-recording.ensures.windows
+returns-clause-accepted c = c.edit_heard.ensures.accepted c.args.project.now (file_bytes c.args.takes.now) (are (goal.at.returns-clause-accepted c).In_ok-takes)
 
 pub returns-clause-joint : goal.returns-clause-joint
-returns-clause-joint c =
-    file_least c.args.project.now (file_bytes c.args.takes.now) c.in_ok-cut.cut (says_any (goal.at.returns-clause-joint c).In_ok-cut) c.args.form c.in_ok-recording.field-0.recording c.in_ok-recording.ensures.master c.in_ok-master.master.items c.in_ok-master.ensures.read_again
-    c.in_ok-recording.field-0.total c.in_ok-recording.ensures.joint
+returns-clause-joint c = c.edit_heard.ensures.joint c.args.project.now (file_bytes c.args.takes.now) (are (goal.at.returns-clause-joint c).In_ok-takes)
+
+pub returns-clause-windows : goal.returns-clause-windows
+returns-clause-windows c = c.edit_heard.ensures.windows c.args.project.now (file_bytes c.args.takes.now) (are (goal.at.returns-clause-windows c).In_ok-takes)
 
 pub returns-clause-only : goal.returns-clause-only
-returns-clause-only c = λ master cost edits.
-    let same = one_cut c.args.project.now (file_bytes c.args.takes.now) (Some c.args.form) edits.cut edits.says c.in_ok-cut.cut c.in_ok-cut.ensures.exact in
-    one_answer c.in_ok-cut.cut edits.cut c.args.form c.in_ok-recording.field-0.recording edits.recording c.in_ok-master.master.items master c.in_ok-recording.field-0.total cost same c.in_ok-recording.ensures.best edits.best c.in_ok-master.ensures.text edits.text
+returns-clause-only c = c.edit_heard.ensures.only c.args.project.now (file_bytes c.args.takes.now) (are (goal.at.returns-clause-only c).In_ok-takes)
+
+pub returns-clause-refused : goal.returns-clause-refused
+returns-clause-refused c = c.edit_heard.ensures.refused c.args.project.now (file_bytes c.args.takes.now) (are (goal.at.returns-clause-refused c).In_ok-takes)

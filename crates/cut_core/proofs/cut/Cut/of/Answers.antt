@@ -16,8 +16,7 @@ use Rattle.cut_core.proofs.cut.Cut.of.Goals.{In_ok-fits}
 
 pub fits-requires : goal.fits-requires
 fits-requires c =
-    let heard = c.requires.heard in
-    ap length c.deref.ensures.value ∙ heard_long (splice_content c.args.splice) heard.0 c.args.takes.items heard.1 ∙ heard.2
+    ap length c.deref.ensures.value ∙ heard_long (splice_content c.args.splice) c.requires.whole c.args.takes.items c.requires.heard ∙ c.requires.as_many
 
 pub returns-in_err-fits : goal.returns-in_err-fits
 returns-in_err-fits c =
@@ -36,8 +35,7 @@ fits c whole are =
 
 many : (c : In_ok-fits) (whole : List Content) → AreHeard (splice_content c.args.splice) whole c.args.takes.items → length whole ≡ length (splice_content c.args.splice).takes
 many c whole are =
-    let heard = c.requires.heard in
-    sym (heard_long (splice_content c.args.splice) whole c.args.takes.items are) ∙ heard_long (splice_content c.args.splice) heard.0 c.args.takes.items heard.1 ∙ heard.2
+    sym (heard_long (splice_content c.args.splice) whole c.args.takes.items are) ∙ heard_long (splice_content c.args.splice) c.requires.whole c.args.takes.items c.requires.heard ∙ c.requires.as_many
 
 met : (c : In_ok-fits) (whole : List Content) → AreHeard (splice_content c.args.splice) whole c.args.takes.items → FitTakes (splice_content c.args.splice) whole × IsWhole c.args.form (splice_content c.args.splice) × HaveRoom (splice_content c.args.splice) whole
 met c whole are = fits_is c.args.form (splice_content c.args.splice) whole (many c whole are) (fits c whole are)
@@ -45,9 +43,8 @@ met c whole are = fits_is c.args.form (splice_content c.args.splice) whole (many
 pub invariant_of-result : goal.invariant_of-result
 invariant_of-result c =
     let here = (goal.at.invariant_of-result c).In_ok-fits in
-    let heard = c.requires.heard in
-    let parts = met here heard.0 heard.1 in
-    record { takes = heard.0; heard = heard.1; fit = parts.0; room = parts.2 }
+    let parts = met here c.requires.whole c.requires.heard in
+    record { takes = c.requires.whole; heard = c.requires.heard; fit = parts.0; room = parts.2 }
 
 pub returns : goal.returns
 returns c =

@@ -12,7 +12,7 @@ pub(crate) fn comes_to<F: Folder>(
     number: u8,
     line: &str,
 ) -> Result<bool, AllocError> {
-    let outcome = perform(alloc, task, folder).unwrap_or_else(|outcome| outcome);
+    let outcome = perform(alloc, task, folder);
     let said = outcome_line(alloc, &outcome)?;
     Ok(status(&outcome) == number && said.as_str() == line)
 }

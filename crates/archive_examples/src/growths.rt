@@ -13,7 +13,8 @@ use crate::outcomes::{MARKED, prints};
 use crate::playing::plays_built;
 use archive_core::{Fault, Form, Reason, play_stream, read_any, take_names};
 use command_core::{
-    Folder, FolderFault, MemoryFolder, Outcome, Task, outcome_line, perform, read_files, read_whole,
+    Folder, FolderFault, MemoryFolder, Outcome, Task, outcome_line, perform, read_files,
+    read_whole, status,
 };
 use device_core::{Inlet, Outlet};
 use fixtures::files::{FILE, WAVE, mono, noted, stereo};
@@ -114,11 +115,11 @@ fn comes_to(
     written: usize,
 ) -> Result<bool, Fail> {
     let mut shelf = Shelf { files, written: 0 };
-    match perform(alloc, task, &mut shelf) {
-        Ok(outcome) => {
-            Ok(outcome_line(alloc, &outcome)?.as_str() == line && shelf.written == written)
-        }
-        Err(outcome) => Err(fault_of(outcome))?,
+    let outcome = perform(alloc, task, &mut shelf);
+    if status(&outcome) == 2 {
+        Err(fault_of(outcome))?
+    } else {
+        Ok(outcome_line(alloc, &outcome)?.as_str() == line && shelf.written == written)
     }
 }
 

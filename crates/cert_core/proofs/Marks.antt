@@ -1,9 +1,9 @@
 -- Eight values held against eight others, and rows eight values at a time.
-use Rattle.std.proofs.Common.{◌≡◌, ◌≢◌, ℕ, zero, suc, ◌+◌, ◌*◌, ◌-◌, ◌/◌, ◌%◌, ◌^◌, ◌<◌, ◌≤◌, Bool, true, false, not, replicate, refl, cond, ltb, eqb, List, [], ◌∷◌, map, drop, length, get_or, sym, ap, subst, ◌∙◌, inl, inr, IsTrue, arith, rules, tests}
+use Rattle.std.proofs.Common.{◌≡◌, ◌≢◌, ℕ, zero, suc, ◌+◌, ◌*◌, ◌-◌, ◌/◌, ◌%◌, ◌^◌, ◌<◌, ◌≤◌, Bool, true, false, not, replicate, refl, cond, ltb, eqb, List, [], ◌∷◌, map, length, get_or, sym, ap, subst, ◌∙◌, inl, inr, IsTrue, arith, rules, tests}
 use Rattle.std.specs.Simd.Lanes.{zip2, mask_l, top}
 use Rattle.std.proofs.lemmas.Bool.{ltb-false, ltb-true, cases_lt}
 use Rattle.std.proofs.Math.Nat.{zero-div}
-use Rattle.std.proofs.lemmas.List.{get_or-drop, get_or-replicate}
+use Rattle.std.proofs.lemmas.List.{get_or-replicate}
 use Rattle.std.proofs.lemmas.Simd.{bit_mask_l, get_or-chunk, length-zip2}
 use Rattle.std.specs.Simd.{first_chunks}
 use Rattle.cost_core.specs.Rows.{seconds}
@@ -63,11 +63,6 @@ one_over_value row v lr ne =
 -- one of eight values, and of those after all whole eights, where they stand in their row
 pub in_eight : (ws : List (List ℕ)) (xs : List ℕ) (i k : ℕ) → ws ≡ first_chunks 8 (length xs / 8) xs → i < length xs / 8 → k < 8 → get_or (get_or ws i []) k 0 ≡ get_or xs (8 * i + k) 0
 in_eight ws xs i k e l h = ap (λ y. get_or y k 0) (at_chunk ws xs i e l) ∙ get_or-chunk (8 * i) 8 xs k 0 h
-
-pub in_rest : (rest xs : List ℕ) (k : ℕ) → rest ≡ drop (length xs / 8 * 8) xs → get_or rest k 0 ≡ get_or xs (8 * (length xs / 8) + k) 0
-in_rest rest xs k e =
-    let n : length xs / 8 * 8 ≡ 8 * (length xs / 8) = omega arith in
-    ap (λ y. get_or y k 0) (e ∙ ap (λ m. drop m xs) n) ∙ get_or-drop (8 * (length xs / 8)) xs k 0
 
 -- eight places more
 pub eight_places : (P : ℕ → Type 0) (i : ℕ) → ((k : ℕ) → k < 8 * i → P k) → ((m : ℕ) → m < 8 → P (8 * i + m)) → (k : ℕ) → k < 8 * (i + 1) → P k

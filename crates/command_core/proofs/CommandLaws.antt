@@ -1,5 +1,5 @@
--- What becomes of the files of a master and its certificate that could not be written, and what a command says.
-use Rattle.std.proofs.Common.{◌≡◌, ◌≢◌, ℕ, inl, inr, List, Bool, IsTrue, Some, Result, Ok, Err, subst, sym, ◌∙◌}
+-- What becomes of the files of a master and its certificate that could not be written, and of those that are judged.
+use Rattle.std.proofs.Common.{◌≡◌, ◌≢◌, ℕ, inl, inr, List, Bool, IsTrue, Some, Ok, Err, subst, sym, ◌∙◌}
 use Rattle.archive_core.specs.Checking.{Accepts, IfAccepted, IfRejected, RejectsFirst}
 use Rattle.archive_core.specs.Editing.{Edits}
 use Rattle.folder_core.specs.Files.{Files, IsFront, KeepsOthers}
@@ -7,17 +7,9 @@ use Rattle.folder_core.specs.declared.fault.FileFault.{FileFault}
 use Rattle.folder_core.specs.declared.fault.FileFault.TheVariants as files
 use Rattle.transfer_commands.specs.Faults.{of_file}
 use Rattle.transfer_commands.specs.Sources.{AreSources}
-use Rattle.transfer_commands.specs.declared.fault.CommandFault.{CommandFault}
 use Rattle.master_core.specs.declared.verdict.Verdict.{Verdict}
 use Rattle.master_core.specs.declared.verdict.Verdict.TheVariants as verdicts
-use Rattle.command_core.specs.Commands.{ChecksFiles, Cut, CutsFile, EditComesTo, Ends, Judges, Says}
-use Rattle.command_core.specs.Outcomes.{outcome_of}
-use Rattle.command_core.specs.declared.outcome.Outcome.{Outcome}
-
--- a command came to this, and its outcome is answered
-pub says : {T : Type 0} (done : T → Outcome) (P : Result T CommandFault → Type 0) (came : Result T CommandFault) → P came → (r : Result Outcome Outcome) → Ends r (λ outcome. outcome ≡ outcome_of done came) → Ends r (Says done P)
-says done P came holds (Ok outcome) is = (came, is, holds)
-says done P came holds (Err outcome) is = (came, is, holds)
+use Rattle.command_core.specs.Commands.{ChecksFiles, Cut, CutsFile, EditComesTo, Judges}
 
 -- a master is cut, and could not be written
 pub cut_unwritten : (cut : Cut) (old read new : Files) (told told_read : Bool) (project master : List ℕ) (takes : List (List ℕ)) (total : ℕ) (fault : FileFault)

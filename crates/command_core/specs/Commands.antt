@@ -1,5 +1,5 @@
 -- What a command does to the files of a folder that tells them, whose names it is given.
-use Rattle.std.specs.Prelude.{◌≡◌, ◌≢◌, ℕ, List, None, Some, ◌⊎◌, Result, Ok, Err, MatchResult}
+use Rattle.std.specs.Prelude.{◌≡◌, ◌≢◌, ℕ, List, Option, None, Some, ◌⊎◌, Result, Ok, Err}
 use Rattle.transfer_core.specs.declared.fault.Fault as calls
 use Rattle.transfer_core.specs.declared.fault.Fault.TheVariants.{Memory}
 use Rattle.form_core.specs.declared.form.Form.{Form}
@@ -85,31 +85,28 @@ pub record ChecksFiles (project_name master_name cert_name : List ℕ) (old new 
   pub judges : Judges project takes master cert verdict
   pub same : new ≡ old
 
--- this fault stands first where a master is cut from the project and the files of the takes that it names
-pub record IsUncut (form : Form) (project_name : List ℕ) (old : Files) (fault : calls.Fault) : Type 0 where
+-- this fault stands first where the project and the files of the takes that it names are made a cut, into a file of the form where one is asked for
+pub record IsUncut (form : Option Form) (project_name : List ℕ) (old : Files) (fault : calls.Fault) : Type 0 where
   pub project : List ℕ
   pub takes : List (List ℕ)
   pub sources : AreSources project_name old project takes
-  pub first : Fails Memory fault (said_cut project takes (Some form))
+  pub first : Fails Memory fault (said_cut project takes form)
 
--- this fault stands first where a master is judged by the project and the files of the takes that it names
-pub record IsUnjudged (project_name : List ℕ) (old : Files) (fault : calls.Fault) : Type 0 where
-  pub project : List ℕ
-  pub takes : List (List ℕ)
-  pub sources : AreSources project_name old project takes
-  pub first : Fails Memory fault (said_cut project takes None)
+-- no file changed, and memory was wanting, or this fault stands first on the way from the project to its cut
+abbrev pub CutRefused : Option Form → List ℕ → Files → Files → calls.Fault → Type 0
+CutRefused form project old new fault = (new ≡ old) × ((fault ≡ Memory) ⊎ (IsUnnamed project old fault ⊎ IsUncut form project old fault))
 
 -- the files before and after `edit FORM PROJECT MASTER CERT` came to this
 abbrev pub EditComesTo : Cut → Files → Files → Result ℕ CommandFault → Type 0
 EditComesTo cut old new (Ok total) = EditsFiles cut old new total
-EditComesTo cut old new (Err (faults.Call fault)) = (new ≡ old) × ((fault ≡ Memory) ⊎ (IsUnnamed cut.project_name old fault ⊎ IsUncut cut.form cut.project_name old fault))
+EditComesTo cut old new (Err (faults.Call fault)) = CutRefused (Some cut.form) cut.project_name old new fault
 EditComesTo cut old new (Err faults.ReadFailed) = new ≡ old
 EditComesTo cut old new (Err faults.WriteFailed) = CutsFront cut old new ⊎ LeavesMaster cut old new
 
 -- the files before and after `check PROJECT MASTER CERT` came to this
 abbrev pub CheckComesTo : List ℕ → List ℕ → List ℕ → Files → Files → Result Verdict CommandFault → Type 0
 CheckComesTo project master cert old new (Ok verdict) = ChecksFiles project master cert old new verdict
-CheckComesTo project master cert old new (Err (faults.Call fault)) = (new ≡ old) × ((fault ≡ Memory) ⊎ (IsUnnamed project old fault ⊎ IsUnjudged project old fault))
+CheckComesTo project master cert old new (Err (faults.Call fault)) = CutRefused None project old new fault
 CheckComesTo project master cert old new (Err faults.ReadFailed) = new ≡ old
 CheckComesTo project master cert old new (Err faults.WriteFailed) = ⊥
 
@@ -135,7 +132,3 @@ IsNoCommand _ = ⊥
 -- no command was read and no file changed, or some command came to this
 abbrev pub ComesTo : Files → Files → Outcome → Type 0
 ComesTo old new outcome = (IsNoCommand outcome × (new ≡ old)) ⊎ ((task : Task) × TaskComesTo task old new outcome)
-
--- P of the outcome, also of a command that is given up
-abbrev pub Ends : Result Outcome Outcome → (Outcome → Type 0) → Type 0
-Ends result P = MatchResult result P P

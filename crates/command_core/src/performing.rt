@@ -1,7 +1,7 @@
 //! Commands over the files of a folder.
 
 ghost use Rattle.std.specs.Prelude.{◌≡◌, IsTrue};
-ghost use Rattle.command_core.specs.Commands.{CheckComesTo, EditComesTo, Ends, TaskComesTo};
+ghost use Rattle.command_core.specs.Commands.{CheckComesTo, EditComesTo, TaskComesTo};
 ghost use Rattle.command_core.specs.Outcomes.{outcome_of, verdict_of};
 ghost use Rattle.command_core.specs.declared.outcome.Outcome.TheVariants as outcomes;
 
@@ -26,8 +26,8 @@ use words_core::Task;
 /// and the other written block by block. After a fault of this the file that was created is there and may hold a front.
 ///
 /// The first fault is what the command comes to.
-pub fn perform<F: Folder>(alloc: Global, task: Task, folder: &mut F) -> Result<Outcome, Outcome>
-    ensures { IsTrue (F.is_told folder.old) → Ends result (TaskComesTo task.entry (F.file folder.old) (F.file folder.new)) }
+pub fn perform<F: Folder>(alloc: Global, task: Task, folder: &mut F) -> Outcome
+    ensures { IsTrue (F.is_told folder.old) → TaskComesTo task.entry (F.file folder.old) (F.file folder.new) result }
 {
     match task {
         Task::Play {
@@ -90,39 +90,52 @@ fn check_files<F: Folder>(
 }
 
 // What a command that played came to.
-fn played(came: Result<u64, CommandFault>) -> Result<Outcome, Outcome>
-    ensures { Ends result (λ outcome. outcome ≡ outcome_of outcomes.Played came) }
+fn played(came: Result<u64, CommandFault>) -> Outcome
+    ensures { result ≡ outcome_of outcomes.Played came }
 {
-    Ok(Outcome::Played(came?))
+    match came {
+        Ok(count) => Outcome::Played(count),
+        Err(fault) => fault.into(),
+    }
 }
 
 // What a command that converted came to.
-fn converted(came: Result<u64, CommandFault>) -> Result<Outcome, Outcome>
-    ensures { Ends result (λ outcome. outcome ≡ outcome_of outcomes.Converted came) }
+fn converted(came: Result<u64, CommandFault>) -> Outcome
+    ensures { result ≡ outcome_of outcomes.Converted came }
 {
-    Ok(Outcome::Converted(came?))
+    match came {
+        Ok(dropped) => Outcome::Converted(dropped),
+        Err(fault) => fault.into(),
+    }
 }
 
 // What a command that cut came to.
-fn edited(came: Result<u128, CommandFault>) -> Result<Outcome, Outcome>
-    ensures { Ends result (λ outcome. outcome ≡ outcome_of outcomes.Edited came) }
+fn edited(came: Result<u128, CommandFault>) -> Outcome
+    ensures { result ≡ outcome_of outcomes.Edited came }
 {
-    Ok(Outcome::Edited(came?))
+    match came {
+        Ok(total) => Outcome::Edited(total),
+        Err(fault) => fault.into(),
+    }
 }
 
 // What a command that judged came to.
-fn judged(came: Result<Verdict, CommandFault>) -> Result<Outcome, Outcome>
-    ensures { Ends result (λ outcome. outcome ≡ outcome_of verdict_of came) }
+fn judged(came: Result<Verdict, CommandFault>) -> Outcome
+    ensures { result ≡ outcome_of verdict_of came }
 {
-    match came? {
-        Verdict::Accepted { total } => Ok(Outcome::Accepted(total)),
-        Verdict::Rejected(reason) => Ok(Outcome::Rejected(reason)),
+    match came {
+        Ok(Verdict::Accepted { total }) => Outcome::Accepted(total),
+        Ok(Verdict::Rejected(reason)) => Outcome::Rejected(reason),
+        Err(fault) => fault.into(),
     }
 }
 
 // What a command that told of a file came to.
-fn told(came: Result<Told, CommandFault>) -> Result<Outcome, Outcome>
-    ensures { Ends result (λ outcome. outcome ≡ outcome_of outcomes.Info came) }
+fn told(came: Result<Told, CommandFault>) -> Outcome
+    ensures { result ≡ outcome_of outcomes.Info came }
 {
-    Ok(Outcome::Info(came?))
+    match came {
+        Ok(told) => Outcome::Info(told),
+        Err(fault) => fault.into(),
+    }
 }

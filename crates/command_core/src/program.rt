@@ -57,9 +57,7 @@ pub fn run<F: Folder>(alloc: Global, words: &[String], folder: &mut F) -> Outcom
     ensures { IsTrue (F.is_told folder.old) → ComesTo (F.file folder.old) (F.file folder.new) result }
 {
     match task_of(alloc, words) {
-        Ok(task) => match perform(alloc, task, folder) {
-            Ok(outcome) | Err(outcome) => outcome,
-        },
+        Ok(task) => perform(alloc, task, folder),
         Err(fault) => fault.into(),
     }
 }

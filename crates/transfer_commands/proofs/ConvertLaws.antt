@@ -1,5 +1,5 @@
 -- What becomes of a file that another is converted to.
-use Rattle.std.proofs.Common.{arith, is_ok, true, false, ◌≡◌, ℕ, ◌%◌, ◌⊎◌, ◌==◌, if◌then◌else◌, inl, inr, List, [], ◌++◌, Bool, IsTrue, Option, None, Some, OnErr, OnOk, Result, Ok, Err, refl, subst, sym, ap, ◌∙◌}
+use Rattle.std.proofs.Common.{arith, ◌≡◌, ℕ, ◌%◌, ◌⊎◌, ◌==◌, if◌then◌else◌, inl, inr, List, [], ◌++◌, Bool, IsTrue, Option, None, Some, Err, refl, subst, sym, ap, ◌∙◌}
 use Rattle.std.proofs.lemmas.Bool.Decides.{nat_tests}
 use Rattle.dsd_bits.specs.Channels.{count_of}
 use Rattle.dsd_bits.specs.Contents.{Content}
@@ -86,24 +86,6 @@ module _ (outline : Outline) (file : List ℕ) (form : Form) (is : IsOutlined fi
       inr (rw opens (rw none refl))
 
 -- ---- what is left of the output
-
--- what holds of an answer, or of a refusal
-pub either_way : {T E P Q : Type 0} (r : Result T E) → OnOk r P → OnErr r Q → Q ⊎ P
-either_way (Ok x) p q = inr p
-either_way (Err e) p q = inl q
-
--- the same where files are told
-pub on_told : {T E Q : Type 0} (P : Type 0) (r : Result T E) → Q → OnOk r (Q → P) → OnOk r P
-on_told P (Ok x) q h = h q
-on_told P (Err e) q h = tt
-
-pub of_ok : {T E P : Type 0} (r : Result T E) → is_ok r ≡ true → OnOk r P → P
-of_ok (Ok x) is p = p
-of_ok (Err e) is p = absurd cc
-
-pub of_err : {T E P : Type 0} (r : Result T E) → is_ok r ≡ false → OnErr r P → P
-of_err (Ok x) is p = absurd cc
-of_err (Err e) is p = p
 
 module _ (form : Form) (input output : List ℕ) (old mid new : Files) (same : mid ≡ old) (others : KeepsOthers output mid new) where
   moved : KeepsOthers output old new

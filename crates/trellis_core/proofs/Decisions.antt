@@ -1,5 +1,5 @@
 -- Decisions in bytes, and the way back by them.
-use Rattle.std.proofs.Common.{◌≡◌, ℕ, ◌+◌, ◌*◌, ◌/◌, ◌%◌, ◌<◌, ◌≤◌, ◌≢◌, Bool, true, false, cond, List, [], ◌++◌, length, get_or, refl, sym, ap, ◌∙◌, inl, inr, arith}
+use Rattle.std.proofs.Common.{◌≡◌, ℕ, ◌+◌, ◌*◌, ◌/◌, ◌%◌, ◌<◌, ◌≤◌, ◌≢◌, Bool, true, false, cond, List, ◌++◌, length, get_or, refl, sym, ap, ◌∙◌, inl, inr, arith}
 use Rattle.std.specs.Int.{bit_at}
 use Rattle.std.proofs.lemmas.Bool.{cases_Bool, cases_lt}
 use Rattle.std.proofs.lemmas.List.{length-append, get_or_append_left, get_or-append-add}
@@ -24,9 +24,6 @@ part_in level levels size k h i =
     omega arith
 
 module _ (t : Trellis) where
-  pub none : AreAllDecisions t 0 []
-  none = record { long = omega arith; each = λ level q h i. absurd (omega arith) }
-
   -- the decisions of one level more
   pub one_more : (n : ℕ) (bytes row : List ℕ) → AreAllDecisions t n bytes → length row ≡ decision_bytes (states t) → AreDecisions t n row → AreAllDecisions t (n + 1) (bytes ++ row)
   one_more n bytes row so_far long are =

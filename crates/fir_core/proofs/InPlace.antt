@@ -19,43 +19,39 @@ module _ (f g : ℕ → ℤ) (xs : List ℤ) (i : ℕ) (r : ℤ) (within : i < l
 abbrev put : List ℤ → ℕ → ℤ → List ℤ
 put xs i r = set xs i (to_z w32 (of_z w32 r))
 
--- four values are written
-module _ (f g : ℕ → ℤ) (xs : List ℤ) (i : ℕ) (a b c d : ℤ) (within : i + 4 ≤ length xs)
-    (fits_a : FitsSigned w32 a) (fits_b : FitsSigned w32 b) (fits_c : FitsSigned w32 c) (fits_d : FitsSigned w32 d)
-    (a_is : a ≡ f i) (b_is : b ≡ f (i + 1)) (c_is : c ≡ f (i + 2)) (d_is : d ≡ f (i + 3))
-    (done : (k : ℕ) → k < i → get_or xs k (pos 0) ≡ f k) (rest : (k : ℕ) → i ≤ k → k < length xs → get_or xs k (pos 0) ≡ g k) where
-  done1 : (k : ℕ) → k < i + 1 → get_or (put xs i a) k (pos 0) ≡ f k
-  done1 = one_more f g xs i a (omega arith) fits_a a_is done rest
+-- of so many values those below i are f's and the others g's
+pub record Written (f g : ℕ → ℤ) (number i : ℕ) (xs : List ℤ) : Type 0 where
+  pub long : length xs ≡ number
+  pub done : (k : ℕ) → k < i → get_or xs k (pos 0) ≡ f k
+  pub rest : (k : ℕ) → i ≤ k → k < number → get_or xs k (pos 0) ≡ g k
 
-  rest1 : (k : ℕ) → i + 1 ≤ k → k < length (put xs i a) → get_or (put xs i a) k (pos 0) ≡ g k
-  rest1 = one_less f g xs i a (omega arith) fits_a a_is done rest
+-- one more is written
+written : (f g : ℕ → ℤ) (number i j : ℕ) (xs : List ℤ) (r : ℤ) → i < number → j ≡ i + 1 → FitsSigned w32 r → r ≡ f i → Written f g number i xs → Written f g number j (put xs i r)
+written f g number i j xs r within next fits is w =
+    let rest : (k : ℕ) → i ≤ k → k < length xs → get_or xs k (pos 0) ≡ g k = λ k h l. w.rest k h (omega (arith, w.long)) in
+    let inside : i < length xs = omega (arith, w.long) in
+    let long : length (put xs i r) ≡ number = omega (arith, w.long, length-set {A = ℤ}) in
+    record {
+      long = long;
+      done = λ k h. one_more f g xs i r inside fits is w.done rest k (omega arith);
+      rest = λ k h l. one_less f g xs i r inside fits is w.done rest k (omega arith) (omega (arith, long));
+    }
 
-  within2 : i + 1 < length (put xs i a)
-  within2 = omega (arith, length-set {A = ℤ})
-
-  done2 : (k : ℕ) → k < i + 2 → get_or (put (put xs i a) (i + 1) b) k (pos 0) ≡ f k
-  done2 k h = one_more f g (put xs i a) (i + 1) b within2 fits_b b_is done1 rest1 k (omega arith)
-
-  rest2 : (k : ℕ) → i + 2 ≤ k → k < length (put (put xs i a) (i + 1) b) → get_or (put (put xs i a) (i + 1) b) k (pos 0) ≡ g k
-  rest2 k h l = one_less f g (put xs i a) (i + 1) b within2 fits_b b_is done1 rest1 k (omega arith) l
-
-  within3 : i + 2 < length (put (put xs i a) (i + 1) b)
-  within3 = omega (arith, length-set {A = ℤ})
-
-  done3 : (k : ℕ) → k < i + 3 → get_or (put (put (put xs i a) (i + 1) b) (i + 2) c) k (pos 0) ≡ f k
-  done3 k h = one_more f g (put (put xs i a) (i + 1) b) (i + 2) c within3 fits_c c_is done2 rest2 k (omega arith)
-
-  rest3 : (k : ℕ) → i + 3 ≤ k → k < length (put (put (put xs i a) (i + 1) b) (i + 2) c) → get_or (put (put (put xs i a) (i + 1) b) (i + 2) c) k (pos 0) ≡ g k
-  rest3 k h l = one_less f g (put (put xs i a) (i + 1) b) (i + 2) c within3 fits_c c_is done2 rest2 k (omega arith) l
-
-  within4 : i + 3 < length (put (put (put xs i a) (i + 1) b) (i + 2) c)
-  within4 = omega (arith, length-set {A = ℤ})
-
-  pub four_more : (k : ℕ) → k < i + 4 → get_or (put (put (put (put xs i a) (i + 1) b) (i + 2) c) (i + 3) d) k (pos 0) ≡ f k
-  four_more k h = one_more f g (put (put (put xs i a) (i + 1) b) (i + 2) c) (i + 3) d within4 fits_d d_is done3 rest3 k (omega arith)
-
-  pub four_less : (k : ℕ) → i + 4 ≤ k → k < length (put (put (put (put xs i a) (i + 1) b) (i + 2) c) (i + 3) d) → get_or (put (put (put (put xs i a) (i + 1) b) (i + 2) c) (i + 3) d) k (pos 0) ≡ g k
-  four_less k h l = one_less f g (put (put (put xs i a) (i + 1) b) (i + 2) c) (i + 3) d within4 fits_d d_is done3 rest3 k (omega arith) l
+-- eight more are written
+pub eight_written : (f g : ℕ → ℤ) (number i : ℕ) (xs : List ℤ) (a b c d p q r s : ℤ) → i + 8 ≤ number
+    → FitsSigned w32 a → FitsSigned w32 b → FitsSigned w32 c → FitsSigned w32 d → FitsSigned w32 p → FitsSigned w32 q → FitsSigned w32 r → FitsSigned w32 s
+    → a ≡ f i → b ≡ f (i + 1) → c ≡ f (i + 2) → d ≡ f (i + 3) → p ≡ f (i + 4) → q ≡ f (i + 5) → r ≡ f (i + 6) → s ≡ f (i + 7)
+    → Written f g number i xs
+    → Written f g number (i + 8) (put (put (put (put (put (put (put (put xs i a) (i + 1) b) (i + 2) c) (i + 3) d) (i + 4) p) (i + 5) q) (i + 6) r) (i + 7) s)
+eight_written f g number i xs a b c d p q r s within fa fb fc fd fp fq fr fs ea eb ec ed ep eq er es w =
+    let w1 = written f g number i (i + 1) xs a (omega arith) (omega arith) fa ea w in
+    let w2 = written f g number (i + 1) (i + 2) (put xs i a) b (omega arith) (omega arith) fb eb w1 in
+    let w3 = written f g number (i + 2) (i + 3) (put (put xs i a) (i + 1) b) c (omega arith) (omega arith) fc ec w2 in
+    let w4 = written f g number (i + 3) (i + 4) (put (put (put xs i a) (i + 1) b) (i + 2) c) d (omega arith) (omega arith) fd ed w3 in
+    let w5 = written f g number (i + 4) (i + 5) (put (put (put (put xs i a) (i + 1) b) (i + 2) c) (i + 3) d) p (omega arith) (omega arith) fp ep w4 in
+    let w6 = written f g number (i + 5) (i + 6) (put (put (put (put (put xs i a) (i + 1) b) (i + 2) c) (i + 3) d) (i + 4) p) q (omega arith) (omega arith) fq eq w5 in
+    let w7 = written f g number (i + 6) (i + 7) (put (put (put (put (put (put xs i a) (i + 1) b) (i + 2) c) (i + 3) d) (i + 4) p) (i + 5) q) r (omega arith) (omega arith) fr er w6 in
+    written f g number (i + 7) (i + 8) (put (put (put (put (put (put (put xs i a) (i + 1) b) (i + 2) c) (i + 3) d) (i + 4) p) (i + 5) q) (i + 6) r) s (omega arith) (omega arith) fs es w7
 
 pub mapped : (f : ℤ → ℤ) (xs ys : List ℤ) → length ys ≡ length xs → ((k : ℕ) → k < length xs → get_or ys k (pos 0) ≡ f (get_or xs k (pos 0))) → ys ≡ map f xs
 mapped f xs ys long each =

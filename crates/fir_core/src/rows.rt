@@ -23,14 +23,14 @@ struct Spot {
     place: usize,
 }
 
-/// How many windows of so many bytes four bytes reach, rounded up to whole fours.
+/// How many windows of so many bytes four bytes reach, rounded up to whole eights.
 pub(crate) fn span_of(size: usize, step: usize) -> usize
     requires few { size ≤ 513 }
     requires some { 1 ≤ step }
     ensures wide { size + 3 ≤ result * step }
     ensures narrow { result ≤ 1024 }
 {
-    (size + 3).div_ceil(step).div_ceil(4) * 4
+    (size + 3).div_ceil(step).div_ceil(8) * 8
 }
 
 /// The byte behind one.
@@ -175,27 +175,35 @@ fn add_bytes(taps: &[i32], bytes: &[u8], block: Block<'_>, j: usize, sum: i32) -
     add_byte(taps, bytes, step, p + 3, j, block.four[k], three)
 }
 
-/// Four bytes in the sums of four windows from window `j` on. All four sums are there before one is
+/// Four bytes in the sums of eight windows from window `j` on. All eight sums are there before one is
 /// written, so that they become a vector.
-fn add_four(taps: &[i32], bytes: &[u8], block: Block<'_>, j: usize, sums: &mut [i32])
+fn add_eight(taps: &[i32], bytes: &[u8], block: Block<'_>, j: usize, sums: &mut [i32])
     requires rows { IsBlock taps.now bytes.now block.step block.p block.start block.number block.one.now block.two.now block.three.now block.four.now }
     requires from { block.start ≤ j }
-    requires to { j + 4 ≤ block.start + block.number }
-    requires inside { j + 4 ≤ length sums.old }
+    requires to { j + 8 ≤ block.start + block.number }
+    requires inside { j + 8 ≤ length sums.old }
     requires done { (k : ℕ) → k < j → slice_index_or sums.old k (pos 0) ≡ sum_before taps.now bytes.now block.step (block.p + 4) k }
     requires rest { EachIndex sums.old (λ k. j ≤ k → slice_index_or sums.old k (pos 0) ≡ sum_before taps.now bytes.now block.step block.p k) }
     ensures len { length sums.new ≡ length sums.old }
-    ensures done { (k : ℕ) → k < j + 4 → slice_index_or sums.new k (pos 0) ≡ sum_before taps.now bytes.now block.entry.step (block.entry.p + 4) k }
-    ensures rest { EachIndex sums.new (λ k. j + 4 ≤ k → slice_index_or sums.new k (pos 0) ≡ sum_before taps.now bytes.now block.entry.step block.entry.p k) }
+    ensures done { (k : ℕ) → k < j + 8 → slice_index_or sums.new k (pos 0) ≡ sum_before taps.now bytes.now block.entry.step (block.entry.p + 4) k }
+    ensures rest { EachIndex sums.new (λ k. j + 8 ≤ k → slice_index_or sums.new k (pos 0) ≡ sum_before taps.now bytes.now block.entry.step block.entry.p k) }
 {
     let first = add_bytes(taps, bytes, block, j, sums[j]);
     let second = add_bytes(taps, bytes, block, j + 1, sums[j + 1]);
     let third = add_bytes(taps, bytes, block, j + 2, sums[j + 2]);
     let fourth = add_bytes(taps, bytes, block, j + 3, sums[j + 3]);
+    let fifth = add_bytes(taps, bytes, block, j + 4, sums[j + 4]);
+    let sixth = add_bytes(taps, bytes, block, j + 5, sums[j + 5]);
+    let seventh = add_bytes(taps, bytes, block, j + 6, sums[j + 6]);
+    let eighth = add_bytes(taps, bytes, block, j + 7, sums[j + 7]);
     sums[j] = first;
     sums[j + 1] = second;
     sums[j + 2] = third;
     sums[j + 3] = fourth;
+    sums[j + 4] = fifth;
+    sums[j + 5] = sixth;
+    sums[j + 6] = seventh;
+    sums[j + 7] = eighth;
 }
 
 /// Four bytes in the sum of each window; answers the byte behind them.
@@ -212,11 +220,11 @@ fn add_block(taps: &[i32], rows: Laid<'_>, bytes: &[u8], spot: Spot, sums: &mut 
 {
     let block = block_of(taps, rows, bytes, spot, sums.len());
     let start = block.start;
-    let fours = block.number / 4;
-    for turn in 0..fours {
-        add_four(taps, bytes, block, start + 4 * turn, sums);
+    let eights = block.number / 8;
+    for turn in 0..eights {
+        add_eight(taps, bytes, block, start + 8 * turn, sums);
     }
-    for j in start + 4 * fours..start + block.number {
+    for j in start + 8 * eights..start + block.number {
         sums[j] = add_bytes(taps, bytes, block, j, sums[j]);
     }
     block.next

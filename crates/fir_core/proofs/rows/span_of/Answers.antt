@@ -8,6 +8,6 @@ pub returns-clause-wide : goal.returns-clause-wide
 returns-clause-wide c =
     let steps = div_ceil (c.args.size + 3) c.args.step in
     let covers : c.args.size + 3 ≤ steps * c.args.step = (div_ceil_times (c.args.size + 3) c.args.step (omega arith)).0 in
-    let fours : steps ≤ c.div_ceil-2.result * 4 = omega (arith, c.div_ceil.ensures, c.div_ceil-2.ensures) in
-    let more : steps * c.args.step ≤ c.div_ceil-2.result * 4 * c.args.step = mul-le-mul_right c.args.step fours in
+    let eights : steps ≤ c.div_ceil-2.result * 8 = omega (arith, c.div_ceil.ensures, c.div_ceil-2.ensures) in
+    let more : steps * c.args.step ≤ c.div_ceil-2.result * 8 * c.args.step = mul-le-mul_right c.args.step eights in
     omega (arith, covers, more)

@@ -6,13 +6,13 @@ use Rattle.fir_core.proofs.rows.add_block.Given as goal
 abbrev pub invariant-loop-turn : goal.invariant-loop-turn
 invariant-loop-turn l = record {
   long : length l.sums ≡ length l.initial.sums;
-  done : (k : ℕ) → k < l.start + 8 * l.turn → get_or l.sums k (pos 0) ≡ sum_before l.taps l.bytes l.block.step (l.block.p + 4) k;
+  done : (k : ℕ) → k < l.start + 8 * l.turn → get_or l.sums k (pos 0) ≡ sum_before l.taps l.bytes l.block.step (l.block.p + 8) k;
   rest : (k : ℕ) → l.start + 8 * l.turn ≤ k → k < length l.sums → get_or l.sums k (pos 0) ≡ sum_before l.taps l.bytes l.block.step l.block.p k;
 }
 
 -- the sums before this one are done, and the others are as they were
 abbrev pub invariant-loop-j : goal.invariant-loop-j
 invariant-loop-j l = record {
-  done : (k : ℕ) → k < l.j → get_or l.sums k (pos 0) ≡ sum_before l.taps l.bytes l.block.step (l.block.p + 4) k;
+  done : (k : ℕ) → k < l.j → get_or l.sums k (pos 0) ≡ sum_before l.taps l.bytes l.block.step (l.block.p + 8) k;
   rest : (k : ℕ) → l.j ≤ k → k < length l.sums → get_or l.sums k (pos 0) ≡ sum_before l.taps l.bytes l.block.step l.block.p k;
 }

@@ -375,6 +375,42 @@ fn add_eight(taps: &[i32], bytes: &[u8], block: Block<'_>, j: usize, sums: &mut 
     after.copy_to_slice(&mut sums[j..]);
 }
 
+/// Eight bytes in the sums of the windows that they reach, in whole eights of windows. This stands alone, so
+/// that its loop knows no more of the rows than where they begin.
+#[inline(never)]
+fn add_eights(taps: &[i32], bytes: &[u8], block: Block<'_>, sums: &mut [i32])
+    requires front { IsBlock taps.now bytes.now block.step block.p block.start block.number block.front.one.now block.front.two.now block.front.three.now block.front.four.now }
+    requires back { IsBlock taps.now bytes.now block.step (block.p + 4) block.start block.number block.back.one.now block.back.two.now block.back.three.now block.back.four.now }
+    requires inside { block.start + block.number ≤ length sums.old }
+    requires done { (k : ℕ) → k < block.start → slice_index_or sums.old k (pos 0) ≡ sum_before taps.now bytes.now block.step (block.p + 8) k }
+    requires rest { EachIndex sums.old (λ k. block.start ≤ k → slice_index_or sums.old k (pos 0) ≡ sum_before taps.now bytes.now block.step block.p k) }
+    ensures len { length sums.new ≡ length sums.old }
+    ensures done { (k : ℕ) → k < block.entry.start + 8 * (block.entry.number / 8) → slice_index_or sums.new k (pos 0) ≡ sum_before taps.now bytes.now block.entry.step (block.entry.p + 8) k }
+    ensures rest { EachIndex sums.new (λ k. block.entry.start + 8 * (block.entry.number / 8) ≤ k → slice_index_or sums.new k (pos 0) ≡ sum_before taps.now bytes.now block.entry.step block.entry.p k) }
+{
+    for turn in 0..block.number / 8 {
+        add_eight(taps, bytes, block, block.start + 8 * turn, sums);
+    }
+}
+
+/// Eight bytes in the sums of the windows that are left over, one by one. Only at the ends of a tile are there
+/// any.
+#[inline(never)]
+fn add_rest(taps: &[i32], bytes: &[u8], block: Block<'_>, sums: &mut [i32])
+    requires front { IsBlock taps.now bytes.now block.step block.p block.start block.number block.front.one.now block.front.two.now block.front.three.now block.front.four.now }
+    requires back { IsBlock taps.now bytes.now block.step (block.p + 4) block.start block.number block.back.one.now block.back.two.now block.back.three.now block.back.four.now }
+    requires inside { block.start + block.number ≤ length sums.old }
+    requires done { (k : ℕ) → k < block.start + 8 * (block.number / 8) → slice_index_or sums.old k (pos 0) ≡ sum_before taps.now bytes.now block.step (block.p + 8) k }
+    requires rest { EachIndex sums.old (λ k. block.start + 8 * (block.number / 8) ≤ k → slice_index_or sums.old k (pos 0) ≡ sum_before taps.now bytes.now block.step block.p k) }
+    ensures len { length sums.new ≡ length sums.old }
+    ensures done { (k : ℕ) → k < block.entry.start + block.entry.number → slice_index_or sums.new k (pos 0) ≡ sum_before taps.now bytes.now block.entry.step (block.entry.p + 8) k }
+    ensures rest { EachIndex sums.new (λ k. block.entry.start + block.entry.number ≤ k → slice_index_or sums.new k (pos 0) ≡ sum_before taps.now bytes.now block.entry.step block.entry.p k) }
+{
+    for j in block.start + 8 * (block.number / 8)..block.start + block.number {
+        sums[j] = add_one(taps, bytes, block, j, sums[j]);
+    }
+}
+
 /// Eight bytes in the sum of each window; answers the byte behind them.
 #[inline(always)]
 fn add_block(taps: &[i32], rows: Laid<'_>, bytes: &[u8], spot: Spot, sums: &mut [i32]) -> Spot
@@ -390,14 +426,11 @@ fn add_block(taps: &[i32], rows: Laid<'_>, bytes: &[u8], spot: Spot, sums: &mut 
     ensures spot { IsSpot rows.entry.step result.p result.window result.place }
 {
     let block = block_of(taps, rows, bytes, spot, sums.len());
-    let start = block.start;
-    let eights = block.number / 8;
-    for turn in 0..eights {
-        add_eight(taps, bytes, block, start + 8 * turn, sums);
+    add_eights(taps, bytes, block, sums);
+    if block.number % 8 == 0 {
+        return block.next;
     }
-    for j in start + 8 * eights..start + block.number {
-        sums[j] = add_one(taps, bytes, block, j, sums[j]);
-    }
+    add_rest(taps, bytes, block, sums);
     block.next
 }
 

@@ -14,13 +14,13 @@ last_group taps (suc group) byte = dot (take 8 (drop (8 * group) taps)) (bits_of
 abbrev pub groups_at : ℕ → ℕ → ℕ → ℕ → ℕ
 groups_at step span place column = (span - column) * step + (place + 1) - step
 
--- an entry of the rows: each has span + 4 columns, and each place in a step 256 rows
+-- an entry of the rows: each has span + 8 columns, and each place in a step 256 rows; the first four entries stand before them
 abbrev pub row_entry : List ℤ → ℕ → ℕ → ℕ → ℤ
-row_entry taps step span i = last_group taps (groups_at step span (i / (span + 4) / 256) (i % (span + 4))) (i / (span + 4) % 256)
+row_entry taps step span i = last_group taps (groups_at step span ((i - 4) / (span + 8) / 256) ((i - 4) % (span + 8))) ((i - 4) / (span + 8) % 256)
 
 -- the rows of all places and bytes
 abbrev pub rows : List ℤ → ℕ → ℕ → List ℤ
-rows taps step span = map (row_entry taps step span) (range_with_len 0 (256 * step * (span + 4)))
+rows taps step span = map (row_entry taps step span) (range_with_len 0 (256 * step * (span + 8) + 4))
 
 -- byte p stands at this place in the step with which the window of this number begins
 pub record IsSpot (step p window place : ℕ) : Type 0 where
@@ -29,7 +29,7 @@ pub record IsSpot (step p window place : ℕ) : Type 0 where
 
 -- where the rows hold what a byte at a spot adds to window j
 abbrev pub row_place : ℕ → ℕ → ℕ → ℕ → ℕ → ℕ
-row_place span window place byte j = (256 * place + byte) * (span + 4) + (j + span - (window + 1))
+row_place span window place byte j = 4 + (256 * place + byte) * (span + 8) + (j + span - (window + 1))
 
 -- the sum of window j over the bytes before byte p
 unfoldable pub sum_before : List ℤ → List ℕ → ℕ → ℕ → ℕ → ℤ
@@ -53,6 +53,11 @@ pub record IsBlock (taps : List ℤ) (bytes : List ℕ) (step p j number : ℕ) 
   pub three : AreEntries taps bytes step (p + 2) j number c
   pub four : AreEntries taps bytes step (p + 3) j number d
 
+-- the sums of eight windows from window j on over the bytes before byte p
+pub record AreSums (taps : List ℤ) (bytes : List ℕ) (step p j : ℕ) (sums : List ℤ) : Type 0 where
+  pub long : length sums ≡ 8
+  pub each : (k : ℕ) → k < 8 → slice_index_or sums k (pos 0) ≡ sum_before taps bytes step p (j + k)
+
 -- taps in whole groups of eight, and the rows of all places and bytes
 pub record IsLaid (taps entries : List ℤ) (step span : ℕ) : Type 0 where
   pub whole : length taps % 8 ≡ 0
@@ -61,6 +66,7 @@ pub record IsLaid (taps entries : List ℤ) (step span : ℕ) : Type 0 where
   pub small : sum_by unsigned_abs taps ≤ 2 ^ 30
   pub least : 1 ≤ step
   pub most : step ≤ 128
-  pub wide : length taps / 8 + 3 ≤ span * step
+  pub wide : length taps / 8 ≤ span * step
+  pub loose : 0 < step % 8 → length taps / 8 + 7 ≤ span * step
   pub narrow : span ≤ 1024
   pub laid : entries ≡ rows taps step span

@@ -1,11 +1,13 @@
-//! The sums of windows that begin at each `step`-th byte, four bytes at a time: a byte's row holds what
+//! The sums of windows that begin at each `step`-th byte, eight bytes at a time: a byte's row holds what
 //! the byte adds to each window that it stands in.
 
-ghost use Rattle.std.specs.Prelude.{◌≡◌, ℕ, ◌+◌, ◌-◌, ◌*◌, ◌/◌, ◌^◌, ◌<◌, ◌≤◌, EachIndex, length, pos, slice_index, slice_index_or, take, unsigned_abs};
+ghost use Rattle.std.specs.Prelude.{◌≡◌, ℕ, ◌+◌, ◌-◌, ◌*◌, ◌/◌, ◌%◌, ◌^◌, ◌<◌, ◌≤◌, EachIndex, length, pos, slice_index, slice_index_or, take, unsigned_abs};
 ghost use Rattle.std.specs.List.{sum_by};
 ghost use Rattle.fir_core.specs.Rows as Rows;
-ghost use Rattle.fir_core.specs.Rows.{AreEntries, IsBlock, IsLaid, IsSpot, entry_of, sum_before};
+ghost use Rattle.fir_core.specs.Rows.{AreEntries, AreSums, IsBlock, IsLaid, IsSpot, entry_of, sum_before};
 ghost use Rattle.fir_core.specs.Windows.{window_sums};
+
+use std::simd::prelude::*;
 
 /// The rows of all places in a step of so many bytes, and how many windows they span.
 #[derive(Clone, Copy)]
@@ -23,17 +25,21 @@ struct Spot {
     place: usize,
 }
 
-/// How many windows of so many bytes four bytes reach, rounded up to whole fours.
+/// How many windows of so many bytes eight bytes reach, rounded up to whole eights. Where steps are eights
+/// of bytes, eight bytes from a multiple of eight on lie in one.
 pub(crate) fn span_of(size: usize, step: usize) -> usize
     requires few { size ≤ 513 }
     requires some { 1 ≤ step }
-    ensures wide { size + 3 ≤ result * step }
+    ensures wide { size ≤ result * step }
+    ensures loose { 0 < step % 8 → size + 7 ≤ result * step }
     ensures narrow { result ≤ 1024 }
 {
-    (size + 3).div_ceil(step).div_ceil(4) * 4
+    let more = if step % 8 == 0 { 0 } else { 7 };
+    (size + more).div_ceil(step).div_ceil(8) * 8
 }
 
 /// The byte behind one.
+#[inline(always)]
 fn next(spot: Spot, step: usize) -> Spot
     requires spot { IsSpot step spot.p spot.window spot.place }
     requires small { spot.p < 2 ^ 63 }
@@ -58,19 +64,77 @@ fn next(spot: Spot, step: usize) -> Spot
     }
 }
 
+/// Four bytes that follow one another.
+#[derive(Clone, Copy)]
+struct Spots {
+    one: Spot,
+    two: Spot,
+    three: Spot,
+    four: Spot,
+}
+
+/// A byte and the three behind it, which mostly lie in one step.
+#[inline(always)]
+fn spots_from(spot: Spot, step: usize) -> Spots
+    requires spot { IsSpot step spot.p spot.window spot.place }
+    requires small { spot.p + 4 ≤ 2 ^ 63 }
+    ensures one { result.one ≡ spot }
+    ensures two { IsSpot step (spot.p + 1) result.two.window result.two.place }
+    ensures three { IsSpot step (spot.p + 2) result.three.window result.three.place }
+    ensures four { IsSpot step (spot.p + 3) result.four.window result.four.place }
+    ensures places { (result.two.p ≡ spot.p + 1) × (result.three.p ≡ spot.p + 2) × (result.four.p ≡ spot.p + 3) }
+    ensures order { (spot.window ≤ result.two.window) × (result.two.window ≤ result.three.window) × (result.three.window ≤ result.four.window) }
+    ensures to { result.four.window ≤ spot.window + 3 }
+{
+    let p = spot.p;
+    let window = spot.window;
+    let place = spot.place;
+    if place + 3 < step {
+        return Spots {
+            one: spot,
+            two: Spot {
+                p: p + 1,
+                window,
+                place: place + 1,
+            },
+            three: Spot {
+                p: p + 2,
+                window,
+                place: place + 2,
+            },
+            four: Spot {
+                p: p + 3,
+                window,
+                place: place + 3,
+            },
+        };
+    }
+    let two = next(spot, step);
+    let three = next(two, step);
+    let four = next(three, step);
+    Spots {
+        one: spot,
+        two,
+        three,
+        four,
+    }
+}
+
 /// Where the rows hold what a byte at a spot adds to window `j`.
+#[inline(always)]
 fn row_place(span: usize, spot: Spot, byte: u8, j: usize) -> usize
     requires reached { spot.window < j + span }
-    requires near { j ≤ spot.window + 4 }
+    requires near { j ≤ spot.window + 8 }
     requires narrow { span ≤ 1024 }
     requires few { spot.place < 128 }
     requires small { spot.window < 2 ^ 63 }
     ensures { result ≡ Rows.row_place span spot.window spot.place byte j }
 {
-    (256 * spot.place + byte as usize) * (span + 4) + (j + span - (spot.window + 1))
+    4 + (256 * spot.place + byte as usize) * (span + 8) + (j + span - (spot.window + 1))
 }
 
 /// What a byte adds to so many windows from window `j` on: a part of its row.
+#[inline(always)]
 fn row_part<'a>(
     taps: &[i32],
     rows: Laid<'a>,
@@ -83,12 +147,99 @@ fn row_part<'a>(
     requires spot { IsSpot rows.step spot.p spot.window spot.place }
     requires within { spot.p < length bytes.now }
     requires reached { spot.window < j + rows.span }
-    requires near { j ≤ spot.window + 4 }
-    requires last { j + number ≤ spot.window + 5 }
+    requires near { j ≤ spot.window + 8 }
+    requires last { j + number ≤ spot.window + 9 }
     ensures { AreEntries taps.now bytes.now rows.entry.step spot.p j number result.now }
 {
     let at = row_place(rows.span, spot, bytes[spot.p], j);
     &rows.entries[at..at + number]
+}
+
+/// What each of four bytes adds to so many windows.
+#[derive(Clone, Copy)]
+struct Four<'a> {
+    one: &'a [i32],
+    two: &'a [i32],
+    three: &'a [i32],
+    four: &'a [i32],
+}
+
+/// What each of four bytes adds to so many windows from window `start` on: parts of their rows.
+#[inline(always)]
+fn four_of<'a>(
+    taps: &[i32],
+    rows: Laid<'a>,
+    bytes: &[u8],
+    spots: Spots,
+    start: usize,
+    number: usize,
+) -> Four<'a>
+    requires laid { IsLaid taps.now rows.entries.now rows.step rows.span }
+    requires one { IsSpot rows.step spots.one.p spots.one.window spots.one.place }
+    requires two { IsSpot rows.step (spots.one.p + 1) spots.two.window spots.two.place }
+    requires three { IsSpot rows.step (spots.one.p + 2) spots.three.window spots.three.place }
+    requires four { IsSpot rows.step (spots.one.p + 3) spots.four.window spots.four.place }
+    requires places { (spots.two.p ≡ spots.one.p + 1) × (spots.three.p ≡ spots.one.p + 2) × (spots.four.p ≡ spots.one.p + 3) }
+    requires order { (spots.one.window ≤ spots.two.window) × (spots.two.window ≤ spots.three.window) × (spots.three.window ≤ spots.four.window) }
+    requires within { spots.one.p + 4 ≤ length bytes.now }
+    requires reached { spots.four.window < start + rows.span }
+    requires near { start ≤ spots.one.window + 8 }
+    requires last { start + number ≤ spots.one.window + 9 }
+    ensures { IsBlock taps.now bytes.now rows.entry.step spots.one.p start number result.one.now result.two.now result.three.now result.four.now }
+{
+    Four {
+        one: row_part(taps, rows, bytes, spots.one, start, number),
+        two: row_part(taps, rows, bytes, spots.two, start, number),
+        three: row_part(taps, rows, bytes, spots.three, start, number),
+        four: row_part(taps, rows, bytes, spots.four, start, number),
+    }
+}
+
+/// Eight bytes from `p` on, what each of them adds to so many windows from window `start` on, and the byte
+/// behind them.
+#[derive(Clone, Copy)]
+struct Block<'a> {
+    p: usize,
+    step: usize,
+    start: usize,
+    number: usize,
+    front: Four<'a>,
+    back: Four<'a>,
+    next: Spot,
+}
+
+/// Eight bytes with the parts of their rows for all windows below a limit in which one of them stands.
+#[inline(always)]
+fn block_of<'a>(taps: &[i32], rows: Laid<'a>, bytes: &[u8], spot: Spot, limit: usize) -> Block<'a>
+    requires laid { IsLaid taps.now rows.entries.now rows.step rows.span }
+    requires spot { IsSpot rows.step spot.p spot.window spot.place }
+    requires eights { spot.p % 8 ≡ 0 }
+    requires within { spot.p + 8 ≤ length bytes.now }
+    requires reached { spot.p + 8 + rows.step ≤ limit * rows.step + length taps.now / 8 }
+    ensures p { result.p ≡ spot.p }
+    ensures step { result.step ≡ rows.entry.step }
+    ensures limit { result.start + result.number ≤ limit }
+    ensures done { (j : ℕ) → j < result.start → length taps.now / 8 + j * rows.entry.step ≤ spot.p }
+    ensures rest { (j : ℕ) → result.start + result.number ≤ j → j < limit → spot.p + 8 ≤ j * rows.entry.step }
+    ensures front { IsBlock taps.now bytes.now result.step result.p result.start result.number result.front.one.now result.front.two.now result.front.three.now result.front.four.now }
+    ensures back { IsBlock taps.now bytes.now result.step (result.p + 4) result.start result.number result.back.one.now result.back.two.now result.back.three.now result.back.four.now }
+    ensures next { result.next.p ≡ spot.p + 8 }
+    ensures spot { IsSpot rows.entry.step result.next.p result.next.window result.next.place }
+{
+    let front = spots_from(spot, rows.step);
+    let back = spots_from(next(front.four, rows.step), rows.step);
+    let behind = back.four.window + 1;
+    let start = behind.saturating_sub(rows.span);
+    let number = behind.min(limit) - start;
+    Block {
+        p: spot.p,
+        step: rows.step,
+        start,
+        number,
+        front: four_of(taps, rows, bytes, front, start, number),
+        back: four_of(taps, rows, bytes, back, start, number),
+        next: next(back.four, rows.step),
+    }
 }
 
 /// Byte `p` in the sum of window `j`, to which it adds its entry.
@@ -110,119 +261,181 @@ fn add_byte(
     sum + entry
 }
 
-/// Four bytes from `p` on, what each of them adds to so many windows from window `start` on, a part of
-/// its row, and the byte behind them.
-#[derive(Clone, Copy)]
-struct Block<'a> {
-    p: usize,
+/// Four bytes from `p` on in the sum of window `j`, one of so many from window `start` on to which they add.
+fn add_bytes(
+    taps: &[i32],
+    bytes: &[u8],
     step: usize,
+    p: usize,
     start: usize,
     number: usize,
-    one: &'a [i32],
-    two: &'a [i32],
-    three: &'a [i32],
-    four: &'a [i32],
-    next: Spot,
-}
-
-/// Four bytes with the parts of their rows for all windows below a limit in which one of them stands.
-fn block_of<'a>(taps: &[i32], rows: Laid<'a>, bytes: &[u8], spot: Spot, limit: usize) -> Block<'a>
-    requires laid { IsLaid taps.now rows.entries.now rows.step rows.span }
-    requires spot { IsSpot rows.step spot.p spot.window spot.place }
-    requires within { spot.p + 4 ≤ length bytes.now }
-    requires reached { spot.p + 4 + rows.step ≤ limit * rows.step + length taps.now / 8 }
-    ensures p { result.p ≡ spot.p }
-    ensures step { result.step ≡ rows.entry.step }
-    ensures limit { result.start + result.number ≤ limit }
-    ensures done { (j : ℕ) → j < result.start → length taps.now / 8 + j * rows.entry.step ≤ spot.p }
-    ensures rest { (j : ℕ) → result.start + result.number ≤ j → j < limit → spot.p + 4 ≤ j * rows.entry.step }
-    ensures rows { IsBlock taps.now bytes.now result.step result.p result.start result.number result.one.now result.two.now result.three.now result.four.now }
-    ensures next { result.next.p ≡ spot.p + 4 }
-    ensures spot { IsSpot rows.entry.step result.next.p result.next.window result.next.place }
+    four: Four<'_>,
+    j: usize,
+    sum: i32,
+) -> i32
+    requires rows { IsBlock taps.now bytes.now step p start number four.one.now four.two.now four.three.now four.four.now }
+    requires from { start ≤ j }
+    requires to { j < start + number }
+    requires so_far { sum ≡ sum_before taps.now bytes.now step p j }
+    ensures { result ≡ sum_before taps.now bytes.now step (p + 4) j }
 {
-    let second = next(spot, rows.step);
-    let third = next(second, rows.step);
-    let fourth = next(third, rows.step);
-    let start = (fourth.window + 1).saturating_sub(rows.span);
-    let number = (fourth.window + 1).min(limit) - start;
-    Block {
-        p: spot.p,
-        step: rows.step,
-        start,
-        number,
-        one: row_part(taps, rows, bytes, spot, start, number),
-        two: row_part(taps, rows, bytes, second, start, number),
-        three: row_part(taps, rows, bytes, third, start, number),
-        four: row_part(taps, rows, bytes, fourth, start, number),
-        next: next(fourth, rows.step),
-    }
+    let k = j - start;
+    let one = add_byte(taps, bytes, step, p, j, four.one[k], sum);
+    let two = add_byte(taps, bytes, step, p + 1, j, four.two[k], one);
+    let three = add_byte(taps, bytes, step, p + 2, j, four.three[k], two);
+    add_byte(taps, bytes, step, p + 3, j, four.four[k], three)
 }
 
-/// Four bytes in the sum of window `j`, to which each adds its entry.
-fn add_bytes(taps: &[i32], bytes: &[u8], block: Block<'_>, j: usize, sum: i32) -> i32
-    requires rows { IsBlock taps.now bytes.now block.step block.p block.start block.number block.one.now block.two.now block.three.now block.four.now }
+/// Byte `p` in the sums of eight windows from window `j` on, to which it adds its entries from `k` on.
+#[inline(always)]
+fn add_row(
+    taps: &[i32],
+    bytes: &[u8],
+    step: usize,
+    p: usize,
+    j: usize,
+    entries: &[i32],
+    k: usize,
+    sums: i32x8,
+) -> i32x8
+    requires small { sum_by unsigned_abs taps.now ≤ 2 ^ 30 }
+    requires within { p < length bytes.now }
+    requires inside { k + 8 ≤ length entries.now }
+    requires entries { (l : ℕ) → l < 8 → slice_index_or entries.now (k + l) (pos 0) ≡ entry_of taps.now bytes.now step p (j + l) }
+    requires so_far { AreSums taps.now bytes.now step p j sums }
+    ensures { AreSums taps.now bytes.now step (p + 1) j result }
+{
+    sums + i32x8::from_slice(&entries[k..])
+}
+
+/// Four bytes from `p` on in the sums of eight windows from window `j` on, of so many from window `start` on.
+#[inline(always)]
+fn add_rows(
+    taps: &[i32],
+    bytes: &[u8],
+    step: usize,
+    p: usize,
+    start: usize,
+    number: usize,
+    four: Four<'_>,
+    j: usize,
+    sums: i32x8,
+) -> i32x8
+    requires rows { IsBlock taps.now bytes.now step p start number four.one.now four.two.now four.three.now four.four.now }
+    requires from { start ≤ j }
+    requires to { j + 8 ≤ start + number }
+    requires so_far { AreSums taps.now bytes.now step p j sums }
+    ensures { AreSums taps.now bytes.now step (p + 4) j result }
+{
+    let k = j - start;
+    let one = add_row(taps, bytes, step, p, j, four.one, k, sums);
+    let two = add_row(taps, bytes, step, p + 1, j, four.two, k, one);
+    let three = add_row(taps, bytes, step, p + 2, j, four.three, k, two);
+    add_row(taps, bytes, step, p + 3, j, four.four, k, three)
+}
+
+/// Eight bytes in the sum of window `j`.
+fn add_one(taps: &[i32], bytes: &[u8], block: Block<'_>, j: usize, sum: i32) -> i32
+    requires front { IsBlock taps.now bytes.now block.step block.p block.start block.number block.front.one.now block.front.two.now block.front.three.now block.front.four.now }
+    requires back { IsBlock taps.now bytes.now block.step (block.p + 4) block.start block.number block.back.one.now block.back.two.now block.back.three.now block.back.four.now }
     requires from { block.start ≤ j }
     requires to { j < block.start + block.number }
     requires so_far { sum ≡ sum_before taps.now bytes.now block.step block.p j }
-    ensures { result ≡ sum_before taps.now bytes.now block.entry.step (block.entry.p + 4) j }
+    ensures { result ≡ sum_before taps.now bytes.now block.entry.step (block.entry.p + 8) j }
 {
-    let p = block.p;
     let step = block.step;
-    let k = j - block.start;
-    let one = add_byte(taps, bytes, step, p, j, block.one[k], sum);
-    let two = add_byte(taps, bytes, step, p + 1, j, block.two[k], one);
-    let three = add_byte(taps, bytes, step, p + 2, j, block.three[k], two);
-    add_byte(taps, bytes, step, p + 3, j, block.four[k], three)
+    let p = block.p;
+    let start = block.start;
+    let number = block.number;
+    let half = add_bytes(taps, bytes, step, p, start, number, block.front, j, sum);
+    add_bytes(taps, bytes, step, p + 4, start, number, block.back, j, half)
 }
 
-/// Four bytes in the sums of four windows from window `j` on. All four sums are there before one is
-/// written, so that they become a vector.
-fn add_four(taps: &[i32], bytes: &[u8], block: Block<'_>, j: usize, sums: &mut [i32])
-    requires rows { IsBlock taps.now bytes.now block.step block.p block.start block.number block.one.now block.two.now block.three.now block.four.now }
+/// Eight bytes in the sums of eight windows from window `j` on, as one vector.
+#[inline(always)]
+fn add_eight(taps: &[i32], bytes: &[u8], block: Block<'_>, j: usize, sums: &mut [i32])
+    requires front { IsBlock taps.now bytes.now block.step block.p block.start block.number block.front.one.now block.front.two.now block.front.three.now block.front.four.now }
+    requires back { IsBlock taps.now bytes.now block.step (block.p + 4) block.start block.number block.back.one.now block.back.two.now block.back.three.now block.back.four.now }
     requires from { block.start ≤ j }
-    requires to { j + 4 ≤ block.start + block.number }
-    requires inside { j + 4 ≤ length sums.old }
-    requires done { (k : ℕ) → k < j → slice_index_or sums.old k (pos 0) ≡ sum_before taps.now bytes.now block.step (block.p + 4) k }
+    requires to { j + 8 ≤ block.start + block.number }
+    requires inside { j + 8 ≤ length sums.old }
+    requires done { (k : ℕ) → k < j → slice_index_or sums.old k (pos 0) ≡ sum_before taps.now bytes.now block.step (block.p + 8) k }
     requires rest { EachIndex sums.old (λ k. j ≤ k → slice_index_or sums.old k (pos 0) ≡ sum_before taps.now bytes.now block.step block.p k) }
     ensures len { length sums.new ≡ length sums.old }
-    ensures done { (k : ℕ) → k < j + 4 → slice_index_or sums.new k (pos 0) ≡ sum_before taps.now bytes.now block.entry.step (block.entry.p + 4) k }
-    ensures rest { EachIndex sums.new (λ k. j + 4 ≤ k → slice_index_or sums.new k (pos 0) ≡ sum_before taps.now bytes.now block.entry.step block.entry.p k) }
+    ensures done { (k : ℕ) → k < j + 8 → slice_index_or sums.new k (pos 0) ≡ sum_before taps.now bytes.now block.entry.step (block.entry.p + 8) k }
+    ensures rest { EachIndex sums.new (λ k. j + 8 ≤ k → slice_index_or sums.new k (pos 0) ≡ sum_before taps.now bytes.now block.entry.step block.entry.p k) }
 {
-    let first = add_bytes(taps, bytes, block, j, sums[j]);
-    let second = add_bytes(taps, bytes, block, j + 1, sums[j + 1]);
-    let third = add_bytes(taps, bytes, block, j + 2, sums[j + 2]);
-    let fourth = add_bytes(taps, bytes, block, j + 3, sums[j + 3]);
-    sums[j] = first;
-    sums[j + 1] = second;
-    sums[j + 2] = third;
-    sums[j + 3] = fourth;
+    let step = block.step;
+    let p = block.p;
+    let start = block.start;
+    let number = block.number;
+    let before = i32x8::from_slice(&sums[j..]);
+    let half = add_rows(taps, bytes, step, p, start, number, block.front, j, before);
+    let after = add_rows(taps, bytes, step, p + 4, start, number, block.back, j, half);
+    after.copy_to_slice(&mut sums[j..]);
 }
 
-/// Four bytes in the sum of each window; answers the byte behind them.
+/// Eight bytes in the sums of the windows that they reach, in whole eights of windows. This stands alone, so
+/// that its loop knows no more of the rows than where they begin.
+#[inline(never)]
+fn add_eights(taps: &[i32], bytes: &[u8], block: Block<'_>, sums: &mut [i32])
+    requires front { IsBlock taps.now bytes.now block.step block.p block.start block.number block.front.one.now block.front.two.now block.front.three.now block.front.four.now }
+    requires back { IsBlock taps.now bytes.now block.step (block.p + 4) block.start block.number block.back.one.now block.back.two.now block.back.three.now block.back.four.now }
+    requires inside { block.start + block.number ≤ length sums.old }
+    requires done { (k : ℕ) → k < block.start → slice_index_or sums.old k (pos 0) ≡ sum_before taps.now bytes.now block.step (block.p + 8) k }
+    requires rest { EachIndex sums.old (λ k. block.start ≤ k → slice_index_or sums.old k (pos 0) ≡ sum_before taps.now bytes.now block.step block.p k) }
+    ensures len { length sums.new ≡ length sums.old }
+    ensures done { (k : ℕ) → k < block.entry.start + 8 * (block.entry.number / 8) → slice_index_or sums.new k (pos 0) ≡ sum_before taps.now bytes.now block.entry.step (block.entry.p + 8) k }
+    ensures rest { EachIndex sums.new (λ k. block.entry.start + 8 * (block.entry.number / 8) ≤ k → slice_index_or sums.new k (pos 0) ≡ sum_before taps.now bytes.now block.entry.step block.entry.p k) }
+{
+    for turn in 0..block.number / 8 {
+        add_eight(taps, bytes, block, block.start + 8 * turn, sums);
+    }
+}
+
+/// Eight bytes in the sums of the windows that are left over, one by one. Only at the ends of a tile are there
+/// any.
+#[inline(never)]
+fn add_rest(taps: &[i32], bytes: &[u8], block: Block<'_>, sums: &mut [i32])
+    requires front { IsBlock taps.now bytes.now block.step block.p block.start block.number block.front.one.now block.front.two.now block.front.three.now block.front.four.now }
+    requires back { IsBlock taps.now bytes.now block.step (block.p + 4) block.start block.number block.back.one.now block.back.two.now block.back.three.now block.back.four.now }
+    requires inside { block.start + block.number ≤ length sums.old }
+    requires done { (k : ℕ) → k < block.start + 8 * (block.number / 8) → slice_index_or sums.old k (pos 0) ≡ sum_before taps.now bytes.now block.step (block.p + 8) k }
+    requires rest { EachIndex sums.old (λ k. block.start + 8 * (block.number / 8) ≤ k → slice_index_or sums.old k (pos 0) ≡ sum_before taps.now bytes.now block.step block.p k) }
+    ensures len { length sums.new ≡ length sums.old }
+    ensures done { (k : ℕ) → k < block.entry.start + block.entry.number → slice_index_or sums.new k (pos 0) ≡ sum_before taps.now bytes.now block.entry.step (block.entry.p + 8) k }
+    ensures rest { EachIndex sums.new (λ k. block.entry.start + block.entry.number ≤ k → slice_index_or sums.new k (pos 0) ≡ sum_before taps.now bytes.now block.entry.step block.entry.p k) }
+{
+    for j in block.start + 8 * (block.number / 8)..block.start + block.number {
+        sums[j] = add_one(taps, bytes, block, j, sums[j]);
+    }
+}
+
+/// Eight bytes in the sum of each window; answers the byte behind them.
+#[inline(always)]
 fn add_block(taps: &[i32], rows: Laid<'_>, bytes: &[u8], spot: Spot, sums: &mut [i32]) -> Spot
     requires laid { IsLaid taps.now rows.entries.now rows.step rows.span }
     requires spot { IsSpot rows.step spot.p spot.window spot.place }
-    requires within { spot.p + 4 ≤ length bytes.now }
-    requires reached { spot.p + 4 + rows.step ≤ length sums.old * rows.step + length taps.now / 8 }
+    requires eights { spot.p % 8 ≡ 0 }
+    requires within { spot.p + 8 ≤ length bytes.now }
+    requires reached { spot.p + 8 + rows.step ≤ length sums.old * rows.step + length taps.now / 8 }
     requires so_far { EachIndex sums.old (λ j. slice_index_or sums.old j (pos 0) ≡ sum_before taps.now bytes.now rows.step spot.p j) }
     ensures len { length sums.new ≡ length sums.old }
-    ensures sums { EachIndex sums.new (λ j. slice_index_or sums.new j (pos 0) ≡ sum_before taps.now bytes.now rows.entry.step (spot.p + 4) j) }
-    ensures next { result.p ≡ spot.p + 4 }
+    ensures sums { EachIndex sums.new (λ j. slice_index_or sums.new j (pos 0) ≡ sum_before taps.now bytes.now rows.entry.step (spot.p + 8) j) }
+    ensures next { result.p ≡ spot.p + 8 }
     ensures spot { IsSpot rows.entry.step result.p result.window result.place }
 {
     let block = block_of(taps, rows, bytes, spot, sums.len());
-    let start = block.start;
-    let fours = block.number / 4;
-    for turn in 0..fours {
-        add_four(taps, bytes, block, start + 4 * turn, sums);
+    add_eights(taps, bytes, block, sums);
+    if block.number % 8 == 0 {
+        return block.next;
     }
-    for j in start + 4 * fours..start + block.number {
-        sums[j] = add_bytes(taps, bytes, block, j, sums[j]);
-    }
+    add_rest(taps, bytes, block, sums);
     block.next
 }
 
 /// A byte in the sum of each window; answers the byte behind it.
+#[inline(always)]
 fn add_last(taps: &[i32], rows: Laid<'_>, bytes: &[u8], spot: Spot, sums: &mut [i32]) -> Spot
     requires laid { IsLaid taps.now rows.entries.now rows.step rows.span }
     requires spot { IsSpot rows.step spot.p spot.window spot.place }
@@ -245,7 +458,8 @@ fn add_last(taps: &[i32], rows: Laid<'_>, bytes: &[u8], spot: Spot, sums: &mut [
 }
 
 /// The sums of windows that begin at each step's first byte.
-pub(crate) fn sum_rows(taps: &[i32], rows: Laid<'_>, bytes: &[u8], sums: &mut [i32])
+#[inline(always)]
+fn sum_steps(taps: &[i32], rows: Laid<'_>, bytes: &[u8], sums: &mut [i32])
     requires laid { IsLaid taps.now rows.entries.now rows.step rows.span }
     requires some { 1 ≤ length sums.old }
     requires within { EachIndex sums.old (λ j. j * rows.step + length taps.now / 8 ≤ length bytes.now) }
@@ -253,7 +467,7 @@ pub(crate) fn sum_rows(taps: &[i32], rows: Laid<'_>, bytes: &[u8], sums: &mut [i
 {
     sums.fill(0);
     let reach = (sums.len() - 1) * rows.step + taps.len() / 8;
-    let blocks = reach / 4;
+    let blocks = reach / 8;
     let mut spot = Spot {
         p: 0,
         window: 0,
@@ -262,7 +476,53 @@ pub(crate) fn sum_rows(taps: &[i32], rows: Laid<'_>, bytes: &[u8], sums: &mut [i
     for block in 0..blocks {
         spot = add_block(taps, rows, bytes, spot, sums);
     }
-    for last in 4 * blocks..reach {
+    for last in 8 * blocks..reach {
         spot = add_last(taps, rows, bytes, spot, sums);
+    }
+}
+
+/// The same, where short steps are told as numbers, so that the compiler knows where each byte stands in
+/// its own.
+pub(crate) fn sum_rows(taps: &[i32], rows: Laid<'_>, bytes: &[u8], sums: &mut [i32])
+    requires laid { IsLaid taps.now rows.entries.now rows.step rows.span }
+    requires some { 1 ≤ length sums.old }
+    requires within { EachIndex sums.old (λ j. j * rows.step + length taps.now / 8 ≤ length bytes.now) }
+    ensures { sums.new ≡ window_sums taps.now bytes.now rows.entry.step (length sums.old) }
+{
+    if rows.step == 1 {
+        sum_steps(
+            taps,
+            Laid {
+                entries: rows.entries,
+                step: 1,
+                span: rows.span,
+            },
+            bytes,
+            sums,
+        );
+    } else if rows.step == 2 {
+        sum_steps(
+            taps,
+            Laid {
+                entries: rows.entries,
+                step: 2,
+                span: rows.span,
+            },
+            bytes,
+            sums,
+        );
+    } else if rows.step == 4 {
+        sum_steps(
+            taps,
+            Laid {
+                entries: rows.entries,
+                step: 4,
+                span: rows.span,
+            },
+            bytes,
+            sums,
+        );
+    } else {
+        sum_steps(taps, rows, bytes, sums);
     }
 }

@@ -81,7 +81,7 @@ fn rows_of(alloc: Global, taps: &[i32], step: usize, span: usize) -> Result<Vec<
     requires narrow { span ≤ 1024 }
     ensures { IfOk result (λ made. made.items ≡ rows taps.now step span) }
 {
-    (0..256 * step * (span + 4))
+    (0..256 * step * (span + 8) + 4)
         .map(|i| row_entry(taps, step, span, i))
         .collect(alloc)
 }
@@ -92,11 +92,12 @@ fn row_entry(taps: &[i32], step: usize, span: usize, i: usize) -> i32
     requires small { sum_by unsigned_abs taps.now ≤ 2 ^ 30 }
     requires short { step ≤ 128 }
     requires narrow { span ≤ 1024 }
-    requires within { i < 256 * step * (span + 4) }
+    requires within { i < 256 * step * (span + 8) + 4 }
     ensures { result ≡ Rows.row_entry taps.now step span i }
 {
-    let row = i / (span + 4);
-    let number = groups_at(step, span, row / 256, i % (span + 4));
+    let at = i.saturating_sub(4);
+    let row = at / (span + 8);
+    let number = groups_at(step, span, row / 256, at % (span + 8));
     last_group(taps, number, (row % 256) as u8)
 }
 

@@ -78,8 +78,23 @@ fn fill_strided(
     Ok(())
 }
 
-// Writes byte `c` of each frame of so many bytes.
+// Writes byte `c` of each frame of so many bytes. Two are told as a number, so that the compiler takes many
+// frames at once.
 fn pick(to: &mut [u8], groups: &[u8], channels: usize, c: usize)
+    requires channel { c < channels }
+    requires enough { length to.old * channels ≤ length groups.now }
+    ensures { (frame : ℕ) → frame < length to.old → slice_index to.new frame ≡ slice_index groups.now (frame * channels + c) }
+{
+    if channels == 2 {
+        pick_each(to, groups, 2, c);
+        return;
+    }
+    pick_each(to, groups, channels, c);
+}
+
+// The same, frame by frame.
+#[inline(always)]
+fn pick_each(to: &mut [u8], groups: &[u8], channels: usize, c: usize)
     requires channel { c < channels }
     requires enough { length to.old * channels ≤ length groups.now }
     ensures { (frame : ℕ) → frame < length to.old → slice_index to.new frame ≡ slice_index groups.now (frame * channels + c) }

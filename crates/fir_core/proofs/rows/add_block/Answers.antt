@@ -1,41 +1,36 @@
-use Rattle.std.proofs.Common.{ℕ, ◌+◌, ◌*◌, ◌≤◌, ◌∙◌, inl, inr, arith, refl, FitsSigned, w32}
+use Rattle.std.proofs.Common.{◌≡◌, ℕ, ℤ, pos, ◌+◌, ◌*◌, ◌<◌, ◌≤◌, ◌∙◌, inl, inr, List, arith, get_or, length, refl}
 use Rattle.std.proofs.lemmas.Bool.{cases_lt}
 use Rattle.fir_core.specs.Rows.{sum_before}
-use Rattle.fir_core.proofs.InPlace.{one_less, one_more}
 use Rattle.fir_core.proofs.RowLaws.{all_before, not_begun}
 use Rattle.fir_core.proofs.rows.add_block.Goals as goal
+use Rattle.fir_core.proofs.rows.add_block.Goals.{After-block_of-block}
 
-pub loop-turn-init : goal.loop-turn-init
-loop-turn-init c =
-    let taps = c.args.taps.now in
-    let bytes = c.args.bytes.now in
-    let step = c.args.rows.step in
-    let p = c.args.spot.p in
-    record {
-      long = refl;
-      done = λ k h.
-          let ended = c.block_of-block.ensures.done k (omega arith) in
-          rw (c.block_of-block.ensures.p, c.block_of-block.ensures.step) (c.requires.so_far k (omega arith) ∙ all_before taps bytes step p (p + 4) k c.requires.laid.whole ended (omega (arith, ended)));
-      rest = λ k h l. rw (c.block_of-block.ensures.p, c.block_of-block.ensures.step) (c.requires.so_far k l);
-    }
+pub add_eights-requires-clause-done : goal.add_eights-requires-clause-done
+add_eights-requires-clause-done c = λ k h.
+    let ended = c.block_of-block.ensures.done k h in
+    rw (c.block_of-block.ensures.p, c.block_of-block.ensures.step) (c.requires.so_far k (omega (arith, c.block_of-block.ensures.limit)) ∙ all_before c.args.taps.now c.args.bytes.now c.args.rows.step c.args.spot.p (c.args.spot.p + 8) k c.requires.laid.whole ended (omega (arith, ended)))
 
-pub loop-j-preserved : goal.loop-j-preserved
-loop-j-preserved c =
+pub add_eights-requires-clause-rest : goal.add_eights-requires-clause-rest
+add_eights-requires-clause-rest c = λ k l h. rw (c.block_of-block.ensures.p, c.block_of-block.ensures.step) (c.requires.so_far k l)
+
+-- the windows behind the block have none of its bytes
+all_done : (c : After-block_of-block) (sums : List ℤ) → length sums ≡ length c.args.sums.now
+    → ((k : ℕ) → k < c.block_of-block.result.start + c.block_of-block.result.number → get_or sums k (pos 0) ≡ sum_before c.args.taps.now c.args.bytes.now c.block_of-block.result.step (c.block_of-block.result.p + 8) k)
+    → ((k : ℕ) → c.block_of-block.result.start + c.block_of-block.result.number ≤ k → k < length sums → get_or sums k (pos 0) ≡ sum_before c.args.taps.now c.args.bytes.now c.block_of-block.result.step c.block_of-block.result.p k)
+    → (k : ℕ) → k < length sums → get_or sums k (pos 0) ≡ sum_before c.args.taps.now c.args.bytes.now c.args.rows.step (c.args.spot.p + 8) k
+all_done c sums long done rest k l =
     let block = c.block_of-block.result in
-    let done = λ (k : ℕ). sum_before c.args.taps.now c.args.bytes.now block.step (block.p + 4) k in
-    let rest = λ (k : ℕ). sum_before c.args.taps.now c.args.bytes.now block.step block.p k in
-    let fits : FitsSigned w32 c.add_bytes.result = record { sfits = c.add_bytes.type_inv } in
-    record {
-      done = one_more done rest c.loop-j.sums c.loop-j.j c.add_bytes.result (omega arith) fits c.add_bytes.ensures c.loop-j.invariant.done c.loop-j.invariant.rest;
-      rest = one_less done rest c.loop-j.sums c.loop-j.j c.add_bytes.result (omega arith) fits c.add_bytes.ensures c.loop-j.invariant.done c.loop-j.invariant.rest;
-    }
+    rw (← c.block_of-block.ensures.p, ← c.block_of-block.ensures.step) (elim (cases_lt k (block.start + block.number)) [
+      | inl before ↦ done k before
+      | inr behind ↦
+          let begins : block.p + 8 ≤ k * block.step = rw (c.block_of-block.ensures.p, c.block_of-block.ensures.step) (c.block_of-block.ensures.rest k behind (omega arith)) in
+          rest k behind l ∙ not_begun c.args.taps.now c.args.bytes.now block.step block.p (block.p + 8) k (omega (arith, begins)) begins
+    ])
+
+pub returns-then-block-eq0-clause-sums : goal.returns-then-block-eq0-clause-sums
+returns-then-block-eq0-clause-sums c =
+    all_done (goal.at.returns-then-block-eq0-clause-sums c).After-block_of-block c.add_eights.new.sums (omega (arith, c.add_eights.ensures.len)) (λ k h. c.add_eights.ensures.done k (omega arith)) (λ k h l. c.add_eights.ensures.rest k l (omega arith))
 
 pub returns-clause-sums : goal.returns-clause-sums
-returns-clause-sums c = λ k l.
-    let block = c.block_of-block.result in
-    rw (← c.block_of-block.ensures.p, ← c.block_of-block.ensures.step) (elim (cases_lt k c.loop-j.j) [
-      | inl before ↦ c.loop-j.invariant.done k before
-      | inr behind ↦
-          let begins : block.p + 4 ≤ k * block.step = rw (c.block_of-block.ensures.p, c.block_of-block.ensures.step) (c.block_of-block.ensures.rest k (omega arith) (omega (arith, c.loop-j.auto.sums, c.loop-turn.auto.sums))) in
-          c.loop-j.invariant.rest k behind l ∙ not_begun c.args.taps.now c.args.bytes.now block.step block.p (block.p + 4) k (omega (arith, begins)) begins
-    ])
+returns-clause-sums c =
+    all_done (goal.at.returns-clause-sums c).After-block_of-block c.add_rest.new.sums (omega (arith, c.add_rest.ensures.len, c.add_eights.ensures.len)) c.add_rest.ensures.done (λ k h l. c.add_rest.ensures.rest k l h)

@@ -1,4 +1,4 @@
-use Rattle.std.proofs.Common.{◌≡◌, ◌+◌, ◌*◌, ◌/◌, ◌≤◌, ◌∙◌, ap, arith, length}
+use Rattle.std.proofs.Common.{◌≡◌, ◌+◌, ◌*◌, ◌/◌, ◌%◌, ◌<◌, ◌≤◌, ◌∙◌, ap, arith, length}
 use Rattle.fir_core.specs.Rows.{rows}
 use Rattle.fir_core.proofs.RowLaws.{is_laid}
 use Rattle.fir_core.proofs.WindowLaws.{abs_sum_aligned}
@@ -13,8 +13,9 @@ invariant_of-result c =
     let d = c.args.taps.now in
     let limits = c.factor.ensures.limits in
     let step = c.factor.result / 8 in
-    let wide : length c.in_ok-aligned.aligned.items / 8 + 3 ≤ c.span_of-span.result * step =
-    (let same : length c.in_ok-aligned.aligned.items ≡ c.len.result = omega (arith, c.len.ensures, c.in_ok-aligned.aligned.ok.0) in rw same c.span_of-span.ensures.wide) in
+    let same : length c.in_ok-aligned.aligned.items ≡ c.len.result = omega (arith, c.len.ensures, c.in_ok-aligned.aligned.ok.0) in
+    let wide : length c.in_ok-aligned.aligned.items / 8 ≤ c.span_of-span.result * step = rw same c.span_of-span.ensures.wide in
+    let loose : 0 < step % 8 → length c.in_ok-aligned.aligned.items / 8 + 7 ≤ c.span_of-span.result * step = rw same c.span_of-span.ensures.loose in
     is_laid d.taps c.in_ok-aligned.aligned.items c.in_ok-rows.rows.items d.delay step c.span_of-span.result c.in_ok-aligned.ensures limits.some_taps limits.few_taps limits.small_sum
-    (omega (arith, c.factor.ensures.value, limits.least_factor)) (omega (arith, c.factor.ensures.value, limits.greatest_factor)) wide c.span_of-span.ensures.narrow
+    (omega (arith, c.factor.ensures.value, limits.least_factor)) (omega (arith, c.factor.ensures.value, limits.greatest_factor)) wide loose c.span_of-span.ensures.narrow
     (c.in_ok-rows.ensures ∙ ap (λ hs. rows hs step c.span_of-span.result) c.as_slice.ensures.value)

@@ -3,7 +3,7 @@ use Rattle.std.proofs.Math.Nat.{mul-le-mul_right}
 use Rattle.std.proofs.lemmas.List.FromFn.{fill_by_all}
 use Rattle.fir_core.specs.Windows.{window_sum}
 use Rattle.fir_core.proofs.RowLaws.{none_before, whole_window}
-use Rattle.fir_core.proofs.rows.sum_rows.Goals as goal
+use Rattle.fir_core.proofs.rows.sum_steps.Goals as goal
 
 pub loop-block-init : goal.loop-block-init
 loop-block-init c = record {

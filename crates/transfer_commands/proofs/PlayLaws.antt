@@ -1,11 +1,10 @@
 -- What becomes of a file that another is played to.
-use Rattle.std.proofs.Common.{◌≡◌, ◌⊎◌, ℕ, inl, inr, List, [], ◌++◌, Bool, false, IsTrue, IsOk, is_ok, OnOk, OnErr, Option, None, Some, Result, Ok, Err, length, subst, ap, ◌∙◌}
+use Rattle.std.proofs.Common.{◌≡◌, ◌⊎◌, ℕ, inl, inr, List, [], ◌++◌, Option, None, Some, Result, Ok, Err, length, subst, ap, ◌∙◌}
 use Rattle.transfer_core.specs.Playing.{Plays}
 use Rattle.transfer_core.specs.declared.fault.Fault as calls
 use Rattle.transfer_core.specs.Streaming.{IsBeforeWriting, OnlyFromOutside, PlaysFile, StreamStands, WritesFront}
 use Rattle.device_core.specs.Outlets.{AppendsFront}
 use Rattle.folder_core.specs.Files.{Files, IsGiven, KeepsOthers}
-use Rattle.folder_core.specs.declared.folder.FolderFault.{FolderFault}
 use Rattle.transfer_commands.specs.Playing.{EndsPlaying, LeavesFront, PlayComesTo, PlayedComesTo}
 use Rattle.transfer_commands.specs.declared.fault.CommandFault.{CommandFault}
 use Rattle.transfer_commands.specs.declared.fault.CommandFault.TheVariants.{Call, ReadFailed, WriteFailed}

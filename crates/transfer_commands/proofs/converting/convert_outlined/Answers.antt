@@ -1,4 +1,4 @@
-use Rattle.std.proofs.Common.{false, true, ◌≡◌, ◌∙◌, IsTrue, Err, Some, refl, subst, sym, inr}
+use Rattle.std.proofs.Common.{false, true, ◌≡◌, ◌∙◌, IsTrue, Some, refl, subst, sym, inr}
 use Rattle.folder_core.specs.Files.{IsGiven}
 use Rattle.transfer_commands.specs.Converting.{ConvertsFront}
 use Rattle.transfer_commands.specs.Outlining.{OutlinesFile}

@@ -1,4 +1,4 @@
-use Rattle.std.proofs.Common.{◌≡◌, ◌∙◌, ◌⊎◌, OnOk, IsTrue, sym, subst, ap}
+use Rattle.std.proofs.Common.{◌≡◌, ◌∙◌, ◌⊎◌, subst, ap}
 use Rattle.transfer_core.specs.Streaming.{OnlyFromOutside, PlaysFile, StreamStands, WritesFront}
 use Rattle.device_core.specs.Inlets.{inlet_reader}
 use Rattle.device_core.specs.Outlets.{outlet_writer}

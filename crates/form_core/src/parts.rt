@@ -35,7 +35,8 @@ pub fn interleaving_in(form: Form) -> Interleaving
 
 /// What stands around the sound in the file of the form that holds the recording with `count` bits, at most `2^36`,
 /// in each channel. The bits of its channels are not looked at, only their number: so it is told of an outline,
-/// before the sound is read. What [`crate::write_in`] makes is the head, the sound bytes by [`interleaving_in`], and the tail.
+/// before the sound is read. What [`crate::write_in`] makes is the head, the sound bytes by [`interleaving_in`], and the
+/// tail.
 ///
 /// Refusals, in this order: `NotWholeBytes` where the form is DSDIFF and `count` isn't a multiple of 8, for which no
 /// memory is needed; `Memory`.

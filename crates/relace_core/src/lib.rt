@@ -1,8 +1,8 @@
 //! Sound bytes of one interleaving written in another, a stretch at a time.
 //!
-//! An [`dsd_bits::Interleaving`] is that of DSDIFF 1.5, frames of one byte of each channel in turn, or that of DSF 1.01,
-//! blocks of 4096 bytes of each channel in turn. A group, 4096 bytes (32768 bits) of each channel, is the same sound in
-//! both.
+//! An [`Interleaving`](dsd_bits::Interleaving) is that of DSDIFF 1.5, frames of one byte of each channel in turn, or
+//! that of DSF 1.01, blocks of 4096 bytes of each channel in turn with their bits in an order. A group, 4096 bytes
+//! (32768 bits) of each channel, is the same sound in both.
 //!
 //! [`push_relaced`] appends the bytes of a stretch in the other interleaving. Whole groups and what stands behind them
 //! can be written one after the other ([`groups_join`]), so that a file is converted while it is read.

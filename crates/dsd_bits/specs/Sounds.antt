@@ -1,6 +1,7 @@
 -- The sound of a file: what it is, and where its bytes stand.
-use Rattle.std.specs.Prelude.{◌≡◌, ◌≤◌, ℕ, ◌+◌, ◌*◌, ◌/◌, Bool, List, length, take, drop, Option, Some, None}
-use Rattle.dsd_bits.specs.declared.blocks.BitOrder.{BitOrder}
+use Rattle.std.specs.Prelude.{◌≡◌, ◌≤◌, ℕ, ◌+◌, ◌*◌, ◌/◌, Bool, true, false, List, length, take, drop}
+use Rattle.dsd_bits.specs.declared.interleaving.Interleaving.{Interleaving}
+use Rattle.dsd_bits.specs.declared.interleaving.Interleaving.TheVariants.{Bytes, Blocks}
 use Rattle.dsd_bits.specs.declared.sound.Sound.{Sound}
 use Rattle.dsd_bits.specs.declared.sound.SoundAt.{SoundAt}
 use Rattle.dsd_bits.specs.declared.sound.SoundAt.TheVariants.{More, Refused, Found}
@@ -10,15 +11,20 @@ use Rattle.dsd_bits.specs.Contents.{Content}
 use Rattle.dsd_bits.specs.Lacing.{unlaced_all}
 use Rattle.dsd_bits.specs.Limits.{most_bits, least_rate, greatest_rate}
 
--- how many sound bytes channels of so many bits need: a byte of each channel in turn where no order is told, else blocks
-abbrev pub sound_size : Option BitOrder → ℕ → ℕ → ℕ
-sound_size None channels count = count / 8 * channels
-sound_size (Some order) channels count = blocks_size channels count
+-- the channels stand in blocks
+abbrev pub has_blocks : Interleaving → Bool
+has_blocks Bytes = false
+has_blocks (Blocks order) = true
+
+-- how many sound bytes channels of so many bits need: a byte of each channel in turn, or blocks
+abbrev pub sound_size : Interleaving → ℕ → ℕ → ℕ
+sound_size Bytes channels count = count / 8 * channels
+sound_size (Blocks order) channels count = blocks_size channels count
 
 -- the channels in sound bytes
-abbrev pub sound_channels : Option BitOrder → ℕ → ℕ → List ℕ → List (List Bool)
-sound_channels None channels count bytes = unlaced_all bytes channels
-sound_channels (Some order) channels count bytes = unblocked_all order bytes channels count
+abbrev pub sound_channels : Interleaving → ℕ → ℕ → List ℕ → List (List Bool)
+sound_channels Bytes channels count bytes = unlaced_all bytes channels
+sound_channels (Blocks order) channels count bytes = unblocked_all order bytes channels count
 
 -- the sound lies within the limits of a recording, and its size is what its channels need
 pub record IsSound (s : Sound) : Type 0 where
@@ -27,7 +33,7 @@ pub record IsSound (s : Sound) : Type 0 where
   pub some_channel : 1 ≤ s.channels
   pub six_channels : s.channels ≤ 6
   pub in_limit : s.count ≤ most_bits
-  pub size : s.size ≡ sound_size s.order s.channels s.count
+  pub size : s.size ≡ sound_size s.interleaving s.channels s.count
 
 -- the bytes of the sound in a file
 abbrev pub sound_bytes : List ℕ → Sound → List ℕ
@@ -39,7 +45,7 @@ pub record HasSound (file : List ℕ) (r : Content) (s : Sound) : Type 0 where
   pub number : length r.channels ≡ s.channels
   pub count : count_of r.channels ≡ s.count
   pub in_file : s.start + s.size ≤ length file
-  pub channels : r.channels ≡ sound_channels s.order s.channels s.count (sound_bytes file s)
+  pub channels : r.channels ≡ sound_channels s.interleaving s.channels s.count (sound_bytes file s)
 
 -- P of the sound that was found
 abbrev pub IfFound : SoundAt → (Sound → Type 0) → Type 0

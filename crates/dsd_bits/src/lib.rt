@@ -12,8 +12,9 @@
 //! [`push_laced`] and [`push_blocks`] put the sound bytes behind what a list of bytes already holds.
 //!
 //! A [`Recording`] is one record of lists and numbers: its rate, its channels, their IDs and layout,
-//! its marks, the chunks that it keeps as they are, and its tag. A [`Sound`] says what the sound of a file
-//! is and where its bytes stand, and [`SoundAt`] what the front of the file tells of it.
+//! its marks, the chunks that it keeps as they are, and its tag. A [`Sound`] says what the sound of a file is, how its
+//! channels are interleaved ([`Interleaving`]) and where its bytes stand, and [`SoundAt`] what the front of the file
+//! tells of it.
 //!
 //! [`MOST_BITS`], [`LEAST_RATE`] and [`GREATEST_RATE`] are the limits of a recording, [`BLOCK_BYTES`] and
 //! [`BLOCK_BITS`] the size of a block; contracts have words of the same names (`specs/Limits.antt`).
@@ -51,6 +52,7 @@
 mod bits;
 mod blocks;
 mod fault;
+mod interleaving;
 mod lacing;
 mod layouts;
 mod limits;
@@ -66,6 +68,7 @@ pub use blocks::{
     BitOrder, blocks_size, lace_blocks, laced_blocks_are_read_again, push_blocks, unlace_blocks,
 };
 pub use fault::{BitsFault, LaceFault};
+pub use interleaving::Interleaving;
 pub use lacing::{lace_bytes, laced_channels_are_read_again, push_laced, unlace_bytes};
 pub use layouts::{layout_channels, usual_layout};
 pub use limits::{BLOCK_BITS, BLOCK_BYTES, GREATEST_RATE, LEAST_RATE, MOST_BITS};

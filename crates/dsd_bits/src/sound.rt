@@ -1,6 +1,6 @@
 //! Where the sound of a file stands, as the front of the file tells.
 
-use crate::blocks::BitOrder;
+use crate::interleaving::Interleaving;
 
 /// The sound of a file before its bytes are read.
 #[derive(Clone, Copy, Debug, PartialEq, Eq)]
@@ -15,9 +15,8 @@ pub struct Sound {
     pub start: usize,
     /// How many sound bytes the channels need.
     pub size: usize,
-    /// The order of the bits in a byte of DSF 1.01, whose channels stand in blocks. None for DSDIFF 1.5, which has
-    /// one byte of each channel in turn, the most significant bit the earliest.
-    pub order: Option<BitOrder>,
+    /// How the channels are interleaved.
+    pub interleaving: Interleaving,
 }
 
 /// What the front of a file tells of its sound.

@@ -13,6 +13,7 @@ use Rattle.chunk_core.specs.Places.{places, span_chunk}
 use Rattle.chunk_core.specs.Steps.{◌>>=◌}
 use Rattle.chunk_core.proofs.PlaceLaws.{spans_again}
 use Rattle.chunk_core.proofs.Steps.{bind_then, guard_ok}
+use Rattle.dsd_bits.specs.declared.interleaving.Interleaving.TheVariants.{Bytes}
 use Rattle.dsd_bits.specs.declared.sound.Sound.{Sound}
 use Rattle.dsd_bits.specs.declared.sound.SoundAt.{SoundAt}
 use Rattle.dsd_bits.specs.declared.sound.SoundAt.TheVariants.{More, Refused, Found}
@@ -255,7 +256,7 @@ more_of (Err f) e = absurd cc
 pub found_leads : (front : List ℕ) (s : Sound) → sound_at front ≡ Found s → Leads front s
 found_leads front s e = sound_ok front s (found_of (sound_in front) s e)
 
-sound_limits : (front : List ℕ) (at : ℕ) (s : Sound) → sound_behind front at ≡ Ok s → IsSound s × (s.order ≡ None) × (s.count % 8 ≡ 0)
+sound_limits : (front : List ℕ) (at : ℕ) (s : Sound) → sound_behind front at ≡ Ok s → IsSound s × (s.interleaving ≡ Bytes) × (s.count % 8 ≡ 0)
 unfolding sound_behind
 sound_limits front at s e =
     bind_then (leading_of front at) _ s e (λ top e1 h1.
@@ -270,7 +271,7 @@ sound_limits front at s e =
     let whole : size % n ≡ 0 = eqb-true _ _ (not_false _ a.0) in
     let eighth : 8 * (size / n) / 8 ≡ size / n = omega arith in
     let same : sound_told told.rate n at size ≡ s = cc (h3) in
-    subst (λ (t : Sound). IsSound t × (t.order ≡ None) × (t.count % 8 ≡ 0)) same (
+    subst (λ (t : Sound). IsSound t × (t.interleaving ≡ Bytes) × (t.count % 8 ≡ 0)) same (
       record {
         rate_low = p.is_told.rate_low;
         rate_high = p.is_told.rate_high;
@@ -293,7 +294,7 @@ sound_is_at front at s e =
     let same : sound_told told.rate (length told.ids) at (size_at front at) ≡ s = cc (h3) in
     (ap (λ (x : Sound). x.start) (sym same), ap (λ (x : Sound). x.size) (sym same)))))
 
-pub in_limits : (front : List ℕ) (x : SoundAt) → x ≡ sound_at front → IfFound x (λ s. IsSound s × (s.order ≡ None) × (s.count % 8 ≡ 0))
+pub in_limits : (front : List ℕ) (x : SoundAt) → x ≡ sound_at front → IfFound x (λ s. IsSound s × (s.interleaving ≡ Bytes) × (s.count % 8 ≡ 0))
 in_limits front More e = tt
 in_limits front Refused e = tt
 in_limits front (Found s) e = let l = found_leads front s (sym e) in sound_limits front l.at s l.is

@@ -114,7 +114,7 @@ told_at front at s form t e =
       whole = f.0;
       count = refl;
       not_long = f.1;
-      order = refl;
+      interleaving = refl;
     }))))
 
 found_told : (front : List ℕ) (s : Sound) → sound_at front ≡ Found s → TellsSound front s
@@ -158,7 +158,7 @@ behind_again front s t =
     let whole : size % length ids ≡ 0 = ap (λ (k : ℕ). size % k) number ∙ ap (λ (k : ℕ). k % s.channels) (sym t.size) ∙ t.whole in
     let short : 8 * (size / length ids) ≤ 2 ^ 36 = subst (λ (k : ℕ). k ≤ 2 ^ 36) (sym count) t.not_long in
     let frames : frames_of size (length ids) ≡ Ok tt = rw (eq-eqb (size % length ids) 0 whole, le-ltb (2 ^ 36) (8 * (size / length ids)) short) refl in
-    let same : sound_told s.rate (length ids) t.at size ≡ s = λ i. record { rate = s.rate; channels = number i; count = count i; start = sym t.start i; size = sym t.size i; order = sym t.order i } in
+    let same : sound_told s.rate (length ids) t.at size ≡ s = λ i. record { rate = s.rate; channels = number i; count = count i; start = sym t.start i; size = sym t.size i; interleaving = sym t.interleaving i } in
     rw (leading, property, frames) (ap done same)
 
 seek_there : (front : List ℕ) (s : Sound) (t : TellsSound front s) → 16 ≤ t.at → seek front ≡ Ok (Some t.at)

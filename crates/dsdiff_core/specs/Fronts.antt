@@ -7,6 +7,7 @@ use Rattle.chunk_core.specs.Chunks.{Chunk, chunks, width}
 use Rattle.chunk_core.specs.Places.{span_chunk}
 use Rattle.chunk_core.specs.Reading.{spans_in}
 use Rattle.chunk_core.specs.Steps.{◌>>=◌}
+use Rattle.dsd_bits.specs.declared.interleaving.Interleaving.TheVariants.{Bytes}
 use Rattle.dsd_bits.specs.declared.sound.Sound.{Sound}
 use Rattle.dsd_bits.specs.declared.sound.SoundAt.{SoundAt}
 use Rattle.dsd_bits.specs.declared.sound.SoundAt.TheVariants.{More, Refused, Found}
@@ -76,7 +77,7 @@ pub record TellsSound (front : List ℕ) (s : Sound) : Type 0 where
   pub whole : s.size % s.channels ≡ 0
   pub count : s.count ≡ 8 * (s.size / s.channels)
   pub not_long : s.count ≤ most_bits
-  pub order : s.order ≡ None
+  pub interleaving : s.interleaving ≡ Bytes
 
 -- ---- the reading of a front in order
 
@@ -118,7 +119,7 @@ sound_told rate number at size = record {
   count = 8 * (size / number);
   start = at + 12;
   size = size;
-  order = None;
+  interleaving = Bytes;
 }
 
 -- the chunks of the form up to a place

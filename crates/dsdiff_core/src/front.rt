@@ -1,6 +1,6 @@
 //! Where the sound of a file stands, as its front tells.
 
-ghost use Rattle.std.specs.Prelude.{None, ◌≡◌, ◌≤◌, ◌+◌, ◌++◌, ◌%◌, ◌*◌, ◌/◌, ◌^◌, All, List, ℕ, IfOk, IfSome, length, map};
+ghost use Rattle.std.specs.Prelude.{◌≡◌, ◌≤◌, ◌+◌, ◌++◌, ◌%◌, ◌*◌, ◌/◌, ◌^◌, All, List, ℕ, IfOk, IfSome, length, map};
 ghost use Rattle.chunk_core.specs.Places.{span_chunk};
 ghost use Rattle.chunk_core.specs.Reading.{spans_in};
 ghost use Rattle.dsd_bits.specs.Contents.{Content};
@@ -14,7 +14,7 @@ use crate::fault::DsdiffFault;
 use crate::form::leading_chunks;
 use crate::property::read_property;
 use chunk_core::{ChunkFault, Order, head, id_at};
-use dsd_bits::{MOST_BITS, Sound, SoundAt};
+use dsd_bits::{Interleaving, MOST_BITS, Sound, SoundAt};
 use std::alloc::{AllocError, Global};
 
 /// Where the sound of a DSDIFF 1.5 file stands, and what it is, told by the front of the file alone:
@@ -26,7 +26,7 @@ use std::alloc::{AllocError, Global};
 /// It fails for want of memory alone.
 pub fn sound_at(alloc: Global, front: &[u8]) -> Result<SoundAt, AllocError>
     ensures found { IfOk result (λ x. IfFound x (λ s. (rest : List ℕ) (r : Content) → IsDsdiff (front.now ++ rest) r → HasSound (front.now ++ rest) r s)) }
-    ensures limits { IfOk result (λ x. IfFound x (λ s. IsSound s × (s.order ≡ None) × (s.count % 8 ≡ 0))) }
+    ensures limits { IfOk result (λ x. IfFound x (λ s. IsSound s × (s.interleaving ≡ Interleaving.Bytes) × (s.count % 8 ≡ 0))) }
     ensures within { IfOk result (λ x. IfFound x (λ s. s.start ≤ length front.now)) }
     ensures refused { IfOk result (λ x. IfRefused x ((rest : List ℕ) → IsAccepted (front.now ++ rest) → ⊥)) }
     ensures more { IfOk result (λ x. IfMore x (HoldsHead front.now → ⊥)) }
@@ -129,7 +129,7 @@ fn read_sound(alloc: Global, front: &[u8], at: usize) -> Result<Sound, DsdiffFau
         count: 8 * (chunk.size as usize / number),
         start: at + 12,
         size: chunk.size as usize,
-        order: None,
+        interleaving: Interleaving::Bytes,
     })
 }
 

@@ -1,5 +1,5 @@
 -- The front of a file, and the files that begin with it.
-use Rattle.std.proofs.Common.{◌≡◌, ◌<◌, ◌↔◌, replicate, ℕ, ◌+◌, ◌-◌, ◌^◌, ◌&&◌, ◌≤◌, ◌⊎◌, inl, inr, Bool, true, false, cond, ltb, eqb, not, List, ◌++◌, length, take, drop, Some, IsSome, Result, Ok, Err, refl, sym, ap, subst, ◌∙◌, arith, eq-eqb}
+use Rattle.std.proofs.Common.{◌≡◌, ◌<◌, ◌↔◌, replicate, ℕ, ◌+◌, ◌-◌, ◌^◌, ◌&&◌, ◌≤◌, ◌⊎◌, inl, inr, Bool, true, false, cond, ltb, eqb, not, List, ◌++◌, length, take, drop, Result, Ok, Err, refl, sym, ap, subst, ◌∙◌, arith, eq-eqb}
 use Rattle.std.proofs.lemmas.Bool.{cases_lt, lt-ltb, le-ltb, ltb-false}
 use Rattle.std.proofs.lemmas.List.{drop-append-le, take-append-drop, take-append-le, length-append, length-drop, length-replicate, length-take-le}
 use Rattle.std.proofs.lemmas.List.FromFn.{length-map-range_with_len}
@@ -8,12 +8,13 @@ use Rattle.byteorder.specs.Numbers.{little_from-take}
 use Rattle.chunk_core.specs.Steps.{◌>>=◌}
 use Rattle.chunk_core.proofs.Steps.{bind_then, guard_ok}
 use Rattle.dsd_bits.specs.declared.blocks.BitOrder.{BitOrder}
+use Rattle.dsd_bits.specs.declared.interleaving.Interleaving.TheVariants.{Blocks}
 use Rattle.dsd_bits.specs.declared.sound.Sound.{Sound}
 use Rattle.dsd_bits.specs.declared.sound.SoundAt.{SoundAt}
 use Rattle.dsd_bits.specs.declared.sound.SoundAt.TheVariants.{More, Refused, Found}
 use Rattle.dsd_bits.specs.Blocks.{unblocked, unblocked_all}
 use Rattle.dsd_bits.specs.Channels.{count_of}
-use Rattle.dsd_bits.specs.Sounds.{HasSound, IfFound, IfMore, IfRefused, IsSound}
+use Rattle.dsd_bits.specs.Sounds.{HasSound, IfFound, IfMore, IfRefused, IsSound, has_blocks}
 use Rattle.dsd_bits.proofs.BlockLemmas.{unblocked_count}
 use Rattle.dsd_bits.proofs.SoundLemmas.{unblocked_all-take}
 use Rattle.dsd_bits.specs.Contents.{Content}
@@ -373,13 +374,13 @@ answers front rest r order h = elim (cases_lt (length front) 4) [
   ]
 ]
 
-pub if_found : (front : List ℕ) (x : SoundAt) → x ≡ sound_at front → IfFound x (λ s. (rest : List ℕ) (r : Content) (order : BitOrder) → IsDsf (front ++ rest) r order → HasSound (front ++ rest) r s × (s.order ≡ Some order))
+pub if_found : (front : List ℕ) (x : SoundAt) → x ≡ sound_at front → IfFound x (λ s. (rest : List ℕ) (r : Content) (order : BitOrder) → IsDsf (front ++ rest) r order → HasSound (front ++ rest) r s × (s.interleaving ≡ Blocks order))
 if_found front More e = tt
 if_found front Refused e = tt
 if_found front (Found s) e = λ rest r order h. elim (answers front rest r order h) [
   | inl told ↦
       let same : sound_told front order ≡ s = same_sound (sound_told front order) s (sym told.1 ∙ sym e) in
-      subst (λ (t : Sound). HasSound (front ++ rest) r t × (t.order ≡ Some order)) same (told_sound front rest r order told.0 h, refl)
+      subst (λ (t : Sound). HasSound (front ++ rest) r t × (t.interleaving ≡ Blocks order)) same (told_sound front rest r order told.0 h, refl)
   | inr more ↦ let none : More ≡ Found s = sym more ∙ sym e in absurd cc
 ]
 
@@ -393,10 +394,10 @@ inside front More e = tt
 inside front Refused e = tt
 inside front (Found s) e = starts_inside front s (found_leads front s (sym e))
 
-pub has_order : (front : List ℕ) (x : SoundAt) → x ≡ sound_at front → IfFound x (λ s. IsSome s.order)
-has_order front More e = tt
-has_order front Refused e = tt
-has_order front (Found s) e = let l = found_leads front s (sym e) in rw l.told refl
+pub in_blocks : (front : List ℕ) (x : SoundAt) → x ≡ sound_at front → IfFound x (λ s. has_blocks s.interleaving ≡ true)
+in_blocks front More e = tt
+in_blocks front Refused e = tt
+in_blocks front (Found s) e = let l = found_leads front s (sym e) in rw l.told refl
 
 pub if_refused : (front : List ℕ) (x : SoundAt) → x ≡ sound_at front → IfRefused x ((rest : List ℕ) → IsAccepted (front ++ rest) → ⊥)
 if_refused front More e = tt
@@ -483,7 +484,7 @@ same_told short front s holds same l =
       count = same.count_is i;
       start = ap (λ (k : ℕ). 28 + k + 12) same.second_is i;
       size = needed_same short front same i;
-      order = Some l.order;
+      interleaving = Blocks l.order;
     } in
     rw (le-ltb (length short) 4 (omega (arith, holds.fields)), chunks_again short (heads_same short front same l.heads) holds.head, order_again short l.order (limits_same short front l.order same l.limits), le-ltb (data_size short - 12) (needed short) fits)
     (ap found (told ∙ sym l.told))

@@ -1,9 +1,10 @@
 -- What a front tells of a file beside its bits.
-use Rattle.std.proofs.Common.{◌≡◌, replicate, ℕ, ◌+◌, ◌-◌, ◌<◌, ◌≤◌, inl, inr, Bool, List, [], ◌∷◌, ◌++◌, length, Some, refl, sym, ap, subst, ◌∙◌, arith}
+use Rattle.std.proofs.Common.{◌≡◌, replicate, ℕ, ◌+◌, ◌-◌, ◌<◌, ◌≤◌, inl, inr, Bool, List, [], ◌∷◌, ◌++◌, length, refl, sym, ap, subst, ◌∙◌, arith}
 use Rattle.std.proofs.lemmas.List.{length-append, length-replicate, same_lists, get_or-replicate, replicate-append-replicate}
 use Rattle.std.proofs.lemmas.List.FromFn.{length-map-range_with_len, get_or-map-range_with_len}
 use Rattle.dsd_bits.specs.declared.blocks.BitOrder.{BitOrder}
 use Rattle.dsd_bits.specs.declared.blocks.BitOrder.TheVariants.{LeastFirst}
+use Rattle.dsd_bits.specs.declared.interleaving.Interleaving.TheVariants.{Blocks}
 use Rattle.dsd_bits.specs.declared.sound.Sound.{Sound}
 use Rattle.dsd_bits.specs.declared.sound.SoundAt.TheVariants.{Found}
 use Rattle.dsd_bits.specs.Blocks.{unblocked, unblocked_all}
@@ -68,8 +69,8 @@ outline_shape front tag h =
 -- ---- the outline of a file
 
 -- of an accepted file
-filled_is : (front rest tag : List ℕ) (s : Sound) (order : BitOrder) → IsAccepted (front ++ rest) → tag ≡ tag_told (front ++ rest) → sound_at front ≡ Found s → s.order ≡ Some order
-    → IsDsf (front ++ rest) (record (outline_of front tag) { channels = sound_channels s.order s.channels s.count (sound_bytes (front ++ rest) s) }) order
+filled_is : (front rest tag : List ℕ) (s : Sound) (order : BitOrder) → IsAccepted (front ++ rest) → tag ≡ tag_told (front ++ rest) → sound_at front ≡ Found s → s.interleaving ≡ Blocks order
+    → IsDsf (front ++ rest) (record (outline_of front tag) { channels = sound_channels s.interleaving s.channels s.count (sound_bytes (front ++ rest) s) }) order
 filled_is front rest tag s order accepted tag_is found order_is =
     let file : List ℕ = front ++ rest in
     let r = accepted.0 in
@@ -78,7 +79,7 @@ filled_is front rest tag s order accepted tag_is found order_is =
     let same = same_fields front rest l.holds in
     let has = if_found front (Found s) (sym found) rest r accepted.1 is in
     let own : accepted.1 ≡ order = cc (has.1, order_is) in
-    let made : r ≡ record (outline_of front tag) { channels = sound_channels s.order s.channels s.count (sound_bytes file s) } = λ i. record {
+    let made : r ≡ record (outline_of front tag) { channels = sound_channels s.interleaving s.channels s.count (sound_bytes file s) } = λ i. record {
       rate = (is.rate_read ∙ same.rate_is) i;
       channels = has.0.channels i;
       ids = (is.ids_read ∙ ap dsf_ids same.number_is) i;

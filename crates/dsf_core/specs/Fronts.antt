@@ -3,6 +3,7 @@ use Rattle.std.specs.Prelude.{◌≡◌, ◌≤◌, ℕ, ◌+◌, ◌-◌, ◌�
 use Rattle.chunk_core.specs.Numbers.{id_at}
 use Rattle.chunk_core.specs.Steps.{◌>>=◌}
 use Rattle.dsd_bits.specs.declared.blocks.BitOrder.{BitOrder}
+use Rattle.dsd_bits.specs.declared.interleaving.Interleaving.TheVariants.{Blocks}
 use Rattle.dsd_bits.specs.declared.sound.Sound.{Sound}
 use Rattle.dsd_bits.specs.declared.sound.SoundAt.{SoundAt}
 use Rattle.dsd_bits.specs.declared.sound.SoundAt.TheVariants.{More, Refused, Found}
@@ -33,7 +34,7 @@ sound_told front order = record {
   count = count front;
   start = sound_place front;
   size = needed front;
-  order = Some order;
+  interleaving = Blocks order;
 }
 
 -- the front of a file tells of this sound: it holds the heads of three chunks and all fields of the second, in the limits
@@ -94,8 +95,8 @@ pub record IsTagPlace (front : List ℕ) (place : ℕ) : Type 0 where
 -- what a file of so many bytes that begins with this front, and has this tag, tells beside its bits: with the channels of the sound behind the front in the place of those of no bits it is the recording
 pub record IsOutline (front : List ℕ) (total : ℕ) (tag : List ℕ) (outline : Content) : Type 0 where
   pub no_bits : (s : Sound) → sound_at front ≡ Found s → outline.channels ≡ replicate s.channels []
-  pub filled : (rest : List ℕ) (s : Sound) (order : BitOrder) → length (front ++ rest) ≡ total → tag ≡ tag_told (front ++ rest) → sound_at front ≡ Found s → s.order ≡ Some order
-      → IsDsf (front ++ rest) (record outline { channels = sound_channels s.order s.channels s.count (sound_bytes (front ++ rest) s) }) order
+  pub filled : (rest : List ℕ) (s : Sound) (order : BitOrder) → length (front ++ rest) ≡ total → tag ≡ tag_told (front ++ rest) → sound_at front ≡ Found s → s.interleaving ≡ Blocks order
+      → IsDsf (front ++ rest) (record outline { channels = sound_channels s.interleaving s.channels s.count (sound_bytes (front ++ rest) s) }) order
 
 -- it is this outline, or no file of so many bytes that begins with this front is accepted
 abbrev pub TellsOutline : List ℕ → ℕ → List ℕ → Option Content → Type 0

@@ -1,10 +1,10 @@
 //! Where the sound of a file stands, as its front tells, and at which length such a file ends.
 
-ghost use Rattle.std.specs.Prelude.{◌≡◌, ◌≢◌, ◌≤◌, ◌+◌, ◌-◌, ◌++◌, ◌↔◌, IsSome, List, ℕ, Some, length, replicate, true};
+ghost use Rattle.std.specs.Prelude.{◌≡◌, ◌≢◌, ◌≤◌, ◌+◌, ◌-◌, ◌++◌, ◌↔◌, List, ℕ, length, replicate, true};
 ghost use Rattle.dsd_bits.specs.declared.blocks.BitOrder.{BitOrder};
 ghost use Rattle.dsd_bits.specs.Contents.{Content};
 ghost use Rattle.dsd_bits.specs.Limits.{most_bits};
-ghost use Rattle.dsd_bits.specs.Sounds.{HasSound, IfFound, IfMore, IfRefused, IsSound};
+ghost use Rattle.dsd_bits.specs.Sounds.{HasSound, IfFound, IfMore, IfRefused, IsSound, has_blocks};
 ghost use Rattle.dsf_core.specs.Files.{IsDsf};
 ghost use Rattle.dsf_core.specs.Fields.{channel_number, count, data_place};
 ghost use Rattle.dsf_core.specs.Fronts.{EndsAtSound, HoldsHead, IsAccepted, sound_at, sound_in, sound_told};
@@ -15,7 +15,7 @@ use crate::fault::DsfFault;
 use crate::fields::{HEAD_SIZE, channel_number, count, pointer, rate};
 use crate::format::read_order;
 use crate::sound::{data_bytes, needed_bytes};
-use dsd_bits::{BitOrder, Sound, SoundAt};
+use dsd_bits::{BitOrder, Interleaving, Sound, SoundAt};
 
 /// Where the sound of a DSF 1.01 file stands, and what it is, told by the front of the file alone:
 /// - `More`: the front does not hold the whole head of the data chunk.
@@ -25,10 +25,10 @@ use dsd_bits::{BitOrder, Sound, SoundAt};
 ///
 /// It takes no memory.
 pub fn sound_at(front: &[u8]) -> SoundAt
-    ensures found { IfFound result (λ s. (rest : List ℕ) (r : Content) (order : BitOrder) → IsDsf (front.now ++ rest) r order → HasSound (front.now ++ rest) r s × (s.order ≡ Some order)) }
+    ensures found { IfFound result (λ s. (rest : List ℕ) (r : Content) (order : BitOrder) → IsDsf (front.now ++ rest) r order → HasSound (front.now ++ rest) r s × (s.interleaving ≡ Interleaving.Blocks order)) }
     ensures limits { IfFound result IsSound }
     ensures within { IfFound result (λ s. s.start ≤ length front.now) }
-    ensures order { IfFound result (λ s. IsSome s.order) }
+    ensures interleaving { IfFound result (λ s. has_blocks s.interleaving ≡ true) }
     ensures refused { IfRefused result ((rest : List ℕ) → IsAccepted (front.now ++ rest) → ⊥) }
     ensures more { IfMore result (HoldsHead front.now → ⊥) }
     // By the order of refusals.
@@ -81,7 +81,7 @@ fn sound_told(front: &[u8], data_at: usize, order: BitOrder) -> Sound
         count: count(front) as usize,
         start: data_at + HEAD_SIZE,
         size: needed_bytes(front) as usize,
-        order: Some(order),
+        interleaving: Interleaving::Blocks(order),
     }
 }
 

@@ -1,7 +1,8 @@
 -- The file of a form in three parts: what stands before the sound, the sound, and what stands behind it.
-use Rattle.std.specs.Prelude.{◌≡◌, ℕ, ◌*◌, ◌/◌, ◌%◌, Bool, List, ◌++◌, length, Option, Some, None}
-use Rattle.dsd_bits.specs.declared.blocks.BitOrder.{BitOrder}
+use Rattle.std.specs.Prelude.{◌≡◌, ℕ, ◌*◌, ◌/◌, ◌%◌, Bool, List, ◌++◌, length, Some}
 use Rattle.dsd_bits.specs.declared.blocks.BitOrder.TheVariants.{LeastFirst, MostFirst}
+use Rattle.dsd_bits.specs.declared.interleaving.Interleaving.{Interleaving}
+use Rattle.dsd_bits.specs.declared.interleaving.Interleaving.TheVariants.{Bytes, Blocks}
 use Rattle.dsd_bits.specs.Channels.{count_of}
 use Rattle.dsd_bits.specs.Contents.{Content}
 use Rattle.dsdiff_core.specs.Writing as dsdiff
@@ -11,15 +12,15 @@ use Rattle.form_core.specs.declared.form.Form.{Form}
 use Rattle.form_core.specs.declared.form.Form.TheVariants.{Dsdiff, Dsf, Dsf8}
 use Rattle.form_core.specs.Forms.{text_in}
 
--- the order of the bits in a form's blocks; none for DSDIFF's frames of one byte of each channel
-abbrev pub order_in : Form → Option BitOrder
-order_in Dsdiff = None
-order_in Dsf = Some LeastFirst
-order_in Dsf8 = Some MostFirst
+-- how the sound of a file of a form is interleaved
+abbrev pub interleaving_in : Form → Interleaving
+interleaving_in Dsdiff = Bytes
+interleaving_in Dsf = Blocks LeastFirst
+interleaving_in Dsf8 = Blocks MostFirst
 
 -- a form has a place for channels of so many bits: DSDIFF's frames hold whole bytes
 abbrev pub FitsIn : Form → ℕ → Type 0
-FitsIn form count = order_in form ≡ None → count % 8 ≡ 0
+FitsIn form count = interleaving_in form ≡ Bytes → count % 8 ≡ 0
 
 -- the bytes before the sound of a file that is written for a recording with so many bits in each channel
 abbrev pub head_in : Form → Content → ℕ → List ℕ
@@ -36,4 +37,4 @@ tail_in Dsf8 r count = r.tag
 -- the file of channels is a head, their bytes and a tail, and head and tail are those of any recording with as many channels and the same parts beside
 abbrev pub WrittenInParts : Type 0
 WrittenInParts = (form : Form) (r : Content) (channels : List (List Bool)) → length r.channels ≡ length channels → FitsIn form (count_of channels)
-    → text_in form (record r { channels = channels }) ≡ Some (head_in form r (count_of channels) ++ (laced_in (order_in form) channels ++ tail_in form r (count_of channels)))
+    → text_in form (record r { channels = channels }) ≡ Some (head_in form r (count_of channels) ++ (laced_in (interleaving_in form) channels ++ tail_in form r (count_of channels)))

@@ -2,7 +2,7 @@
 //!
 //! [`read_any`] reads a DSDIFF 1.5 or DSF 1.01 file, and [`write_in`] makes the file of a [`Form`] that holds
 //! a recording; [`dropped_in`] counts what such a file has no place for. [`ends_in`] makes what stands around the sound
-//! of that file from a recording without its bits, and [`order_in`] says how the sound between is interleaved.
+//! of that file from a recording without its bits, and [`interleaving_in`] says how the sound between is interleaved.
 //!
 //! The words of its contracts:
 //!
@@ -41,6 +41,6 @@ pub use fault::ReadFault;
 pub use form::Form;
 pub use laws::{held_is_opened, written_in_parts};
 pub use opening::{Opened, read_any};
-pub use parts::{Ends, ends_in, order_in};
+pub use parts::{Ends, ends_in, interleaving_in};
 pub use shape::has_shape;
 pub use writing::{dropped_in, write_in};

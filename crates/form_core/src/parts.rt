@@ -9,7 +9,7 @@ ghost use Rattle.form_core.specs.Parts.{FitsIn, head_in, tail_in};
 
 use crate::form::Form;
 use crate::shape::has_shape;
-use dsd_bits::{BitOrder, Recording};
+use dsd_bits::{BitOrder, Interleaving, Recording};
 use dsdiff_core::WriteFault;
 use std::alloc::{AllocError, Global};
 
@@ -22,21 +22,21 @@ pub struct Ends {
     pub tail: Vec<u8>,
 }
 
-/// The order of the bits in the form's blocks: none for DSDIFF, whose frames hold one byte of each channel, the
-/// earliest bit the most significant.
-pub fn order_in(form: Form) -> Option<BitOrder>
-    ensures { result ≡ parts.order_in form }
+/// How the sound of a file of the form is interleaved.
+pub fn interleaving_in(form: Form) -> Interleaving
+    ensures { result ≡ parts.interleaving_in form }
 {
     match form {
-        Form::Dsdiff => None,
-        Form::Dsf => Some(BitOrder::LeastFirst),
-        Form::Dsf8 => Some(BitOrder::MostFirst),
+        Form::Dsdiff => Interleaving::Bytes,
+        Form::Dsf => Interleaving::Blocks(BitOrder::LeastFirst),
+        Form::Dsf8 => Interleaving::Blocks(BitOrder::MostFirst),
     }
 }
 
 /// What stands around the sound in the file of the form that holds the recording with `count` bits, at most `2^36`,
 /// in each channel. The bits of its channels are not looked at, only their number: so it is told of an outline,
-/// before the sound is read. What [`crate::write_in`] makes is the head, the sound bytes by [`order_in`], and the tail.
+/// before the sound is read. What [`crate::write_in`] makes is the head, the sound bytes by [`interleaving_in`], and the
+/// tail.
 ///
 /// Refusals, in this order: `NotWholeBytes` where the form is DSDIFF and `count` isn't a multiple of 8, for which no
 /// memory is needed; `Memory`.

@@ -1,6 +1,6 @@
 //! What the front of a DSDIFF 1.5 file tells of its sound, and which ends close such a file.
 
-use dsd_bits::{Sound, SoundAt};
+use dsd_bits::{Interleaving, Sound, SoundAt};
 use dsdiff_core::{closes, sound_at};
 use fixtures::files::{FILE, changed};
 use std::alloc::{AllocError, Global};
@@ -13,7 +13,7 @@ fn finds_the_sound(rt: HostRuntime) {
         count: 8,
         start: 126,
         size: 1,
-        order: None,
+        interleaving: Interleaving::Bytes,
     };
     assert!(rt; sound_at(rt.alloc(), &FILE[..125]) == Ok(SoundAt::More));
     assert!(rt; sound_at(rt.alloc(), &FILE[..126]) == Ok(SoundAt::Found(sound)));

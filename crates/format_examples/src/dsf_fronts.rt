@@ -1,6 +1,6 @@
 //! What the front of a DSF 1.01 file tells of its sound, and at which length such a file ends.
 
-use dsd_bits::{BitOrder, Sound, SoundAt};
+use dsd_bits::{BitOrder, Interleaving, Sound, SoundAt};
 use dsf_core::{closes, sound_at};
 use fixtures::files::DSF_FRONT;
 
@@ -12,7 +12,7 @@ fn finds_the_sound(rt: HostRuntime) {
         count: 1,
         start: 92,
         size: 4096,
-        order: Some(BitOrder::LeastFirst),
+        interleaving: Interleaving::Blocks(BitOrder::LeastFirst),
     };
     assert!(rt; sound_at(&DSF_FRONT[..91]) == SoundAt::More);
     assert!(rt; sound_at(&DSF_FRONT[..92]) == SoundAt::Found(sound));

@@ -11,7 +11,7 @@ use crate::certificates::WORKED;
 use cert_core::{CertVerdict, CertWriter, Version};
 use cost_core::{LevelSink, SinkFault, Window, WindowFault};
 use device_core::Outlet;
-use dsd_bits::{BitOrder, Bits, Sound};
+use dsd_bits::{BitOrder, Bits, Interleaving, Sound};
 use fir_core::{Kernel, Stream, Taps, decimate, decimate_with};
 use fixtures::windows::{bits_of, by_newest, ones, zeros};
 use player_core::Player;
@@ -27,7 +27,7 @@ const FORTY: Sound = Sound {
     count: 40,
     start: 0,
     size: 5,
-    order: None,
+    interleaving: Interleaving::Bytes,
 };
 
 // Counts the rows of a window.
@@ -275,9 +275,16 @@ fn a_stretch_is_written_in_blocks(rt: HostRuntime) -> Result<(), Fail> {
         channels: 2,
         count: 8,
     };
-    let least = Some(BitOrder::LeastFirst);
+    let least = Interleaving::Blocks(BitOrder::LeastFirst);
     let mut out = Vec::new(alloc);
-    push_relaced(alloc, &mut out, &[0xf0, 0x0f], stretch, None, least)?;
+    push_relaced(
+        alloc,
+        &mut out,
+        &[0xf0, 0x0f],
+        stretch,
+        Interleaving::Bytes,
+        least,
+    )?;
     assert!(rt; out.len() == 8192);
     Ok(())
 }

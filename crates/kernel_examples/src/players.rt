@@ -3,7 +3,7 @@
 ghost use Rattle.std.specs.Prelude.{◌≡◌};
 ghost use Rattle.player_core.specs.PlayerView.{IsPlayer, fed_of, sound_of};
 
-use dsd_bits::{BitOrder, Sound};
+use dsd_bits::{BitOrder, Interleaving, Sound};
 use fir_core::Taps;
 use player_core::Player;
 use std::alloc::{AllocError, Global};
@@ -16,7 +16,7 @@ const LACED: Sound = Sound {
     count: 40,
     start: 0,
     size: 10,
-    order: None,
+    interleaving: Interleaving::Bytes,
 };
 
 // One channel of 8 bits in a block, as in DSF 1.01 with 1 bit per sample.
@@ -26,7 +26,7 @@ const BLOCKED: Sound = Sound {
     count: 8,
     start: 0,
     size: 4096,
-    order: Some(BitOrder::LeastFirst),
+    interleaving: Interleaving::Blocks(BitOrder::LeastFirst),
 };
 
 // Feeds a player ones to the left and zeros to the right; how many bytes of frames it gave after nine of the

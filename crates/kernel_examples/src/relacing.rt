@@ -3,25 +3,29 @@
 ghost use Rattle.std.specs.Prelude.{◌≡◌, ◌≤◌, ◌^◌, length, true};
 ghost use Rattle.dsd_bits.specs.Sounds.{sound_size};
 
-use dsd_bits::{BitOrder, Bits, LaceFault, MOST_BITS, blocks_size, unlace_blocks, unlace_bytes};
+use dsd_bits::{
+    BitOrder, Bits, Interleaving, LaceFault, MOST_BITS, blocks_size, unlace_blocks, unlace_bytes,
+};
 use fixtures::compared::equal;
 use relace_core::{Stretch, push_relaced};
 use std::alloc::Global;
 use std::test::Fail;
 
-const LEAST: Option<BitOrder> = Some(BitOrder::LeastFirst);
+const FRAMES: Interleaving = Interleaving::Bytes;
 
-const MOST: Option<BitOrder> = Some(BitOrder::MostFirst);
+const LEAST: Interleaving = Interleaving::Blocks(BitOrder::LeastFirst);
+
+const MOST: Interleaving = Interleaving::Blocks(BitOrder::MostFirst);
 
 // Interleavings, and the bits of each channel: within the second group, and within a byte where both have blocks.
-const CASES: [(Option<BitOrder>, Option<BitOrder>, usize); 9] = [
-    (None, None, 32808),
-    (None, LEAST, 32808),
-    (None, MOST, 32808),
-    (LEAST, None, 32808),
+const CASES: [(Interleaving, Interleaving, usize); 9] = [
+    (FRAMES, FRAMES, 32808),
+    (FRAMES, LEAST, 32808),
+    (FRAMES, MOST, 32808),
+    (LEAST, FRAMES, 32808),
     (LEAST, LEAST, 32805),
     (LEAST, MOST, 32805),
-    (MOST, None, 32808),
+    (MOST, FRAMES, 32808),
     (MOST, LEAST, 32805),
     (MOST, MOST, 32805),
 ];
@@ -38,14 +42,14 @@ fn bytes_of(alloc: Global, size: usize) -> Result<Vec<u8>, Fail> {
 }
 
 // Whether a stretch within the limits takes just these bytes.
-fn takes(bytes: &[u8], stretch: Stretch, from: Option<BitOrder>) -> bool
+fn takes(bytes: &[u8], stretch: Stretch, from: Interleaving) -> bool
     requires channels { stretch.channels ≤ 6 }
     requires in_limit { stretch.count ≤ 2 ^ 36 }
     ensures { result ≡ true → length bytes.now ≡ sound_size from stretch.channels stretch.count }
 {
     match from {
-        None => bytes.len() == stretch.count / 8 * stretch.channels,
-        Some(_) => bytes.len() == blocks_size(stretch.channels, stretch.count),
+        Interleaving::Bytes => bytes.len() == stretch.count / 8 * stretch.channels,
+        Interleaving::Blocks(_) => bytes.len() == blocks_size(stretch.channels, stretch.count),
     }
 }
 
@@ -55,8 +59,8 @@ fn push(
     out: &mut Vec<u8>,
     bytes: &[u8],
     stretch: Stretch,
-    from: Option<BitOrder>,
-    to: Option<BitOrder>,
+    from: Interleaving,
+    to: Interleaving,
 ) -> Result<(), Fail> {
     if stretch.channels < 1 || 6 < stretch.channels || MOST_BITS < stretch.count {
         return Err("a stretch within the limits")?;
@@ -64,7 +68,7 @@ fn push(
     if !takes(bytes, stretch, from) {
         return Err("as many bytes as the stretch takes")?;
     }
-    if (from.is_none() || to.is_none()) && stretch.count % 8 != 0 {
+    if !(from.has_blocks() && to.has_blocks()) && stretch.count % 8 != 0 {
         return Err("whole bytes of each channel")?;
     }
     Ok(push_relaced(alloc, out, bytes, stretch, from, to)?)
@@ -74,14 +78,14 @@ fn push(
 fn channels_in(
     alloc: Global,
     bytes: &[u8],
-    order: Option<BitOrder>,
+    interleaving: Interleaving,
     count: usize,
 ) -> Result<Vec<Bits>, LaceFault>
     requires { (count ≤ 65536) × (length bytes.now ≤ 65536) }
 {
-    match order {
-        None => unlace_bytes(alloc, bytes, 3),
-        Some(order) => unlace_blocks(alloc, bytes, 3, count, order),
+    match interleaving {
+        Interleaving::Bytes => unlace_bytes(alloc, bytes, 3),
+        Interleaving::Blocks(order) => unlace_blocks(alloc, bytes, 3, count, order),
     }
 }
 
@@ -107,8 +111,8 @@ fn are_filled(channels: &[Bits], others: &[Bits]) -> bool {
 // Whether three channels of so many bits stand in the bytes that are written, with zeros behind them.
 fn holds_channels(
     alloc: Global,
-    from: Option<BitOrder>,
-    to: Option<BitOrder>,
+    from: Interleaving,
+    to: Interleaving,
     count: usize,
 ) -> Result<bool, Fail> {
     let stretch = Stretch { channels: 3, count };
@@ -124,12 +128,12 @@ fn holds_channels(
 }
 
 // How many bytes the stretches of the cases take.
-fn size_of(order: Option<BitOrder>) -> usize
+fn size_of(interleaving: Interleaving) -> usize
     ensures { result ≤ 65536 }
 {
-    match order {
-        None => 12303,
-        Some(_) => 24576,
+    match interleaving {
+        Interleaving::Bytes => 12303,
+        Interleaving::Blocks(_) => 24576,
     }
 }
 
@@ -142,7 +146,7 @@ fn writes_the_channels_that_stand_in_the_bytes(rt: HostRuntime) -> Result<(), Fa
 }
 
 // Whether the first group and what stands behind it are written as both together.
-fn joins(alloc: Global, from: Option<BitOrder>, to: Option<BitOrder>) -> Result<bool, Fail> {
+fn joins(alloc: Global, from: Interleaving, to: Interleaving) -> Result<bool, Fail> {
     let bytes = bytes_of(alloc, size_of(from))?;
     let mut whole = Vec::new(alloc);
     push(

@@ -18,24 +18,24 @@ use Rattle.player_core.proofs.FeedLaws.{part_of_front, sample_stays}
 use Rattle.player_core.proofs.FrameLaws.{in_two, moved}
 
 -- ---- what stands behind the last whole group is not heard
-module _ (s : Sound) (front rest : List ℕ) (k : ℕ) (long : length front ≡ k * group_size s.order s.channels) (part : length rest < group_size s.order s.channels) where
-  pub whole : length (front ++ rest) / group_size s.order s.channels ≡ k
+module _ (s : Sound) (front rest : List ℕ) (k : ℕ) (long : length front ≡ k * group_size s.interleaving s.channels) (part : length rest < group_size s.interleaving s.channels) where
+  pub whole : length (front ++ rest) / group_size s.interleaving s.channels ≡ k
   whole =
-      ap (λ n. n / group_size s.order s.channels) (length-append front rest ∙ ap (λ n. n + length rest) long) ∙ div-mul-add k (group_size s.order s.channels) (length rest) part
+      ap (λ n. n / group_size s.interleaving s.channels) (length-append front rest ∙ ap (λ n. n + length rest) long) ∙ div-mul-add k (group_size s.interleaving s.channels) (length rest) part
 
-  whole_front : length front / group_size s.order s.channels ≡ k
+  whole_front : length front / group_size s.interleaving s.channels ≡ k
   whole_front =
-      let more : k * group_size s.order s.channels ≡ k * group_size s.order s.channels + 0 = omega arith in
-      ap (λ n. n / group_size s.order s.channels) (long ∙ more) ∙ div-mul-add k (group_size s.order s.channels) 0 (omega (arith, part))
+      let more : k * group_size s.interleaving s.channels ≡ k * group_size s.interleaving s.channels + 0 = omega arith in
+      ap (λ n. n / group_size s.interleaving s.channels) (long ∙ more) ∙ div-mul-add k (group_size s.interleaving s.channels) 0 (omega (arith, part))
 
   pub heard_of_front : bytes_heard s (length (front ++ rest)) ≡ bytes_heard s (length front)
-  heard_of_front = ap (λ n. min (div_ceil s.count 8) (n * part_size s.order)) (whole ∙ sym whole_front)
+  heard_of_front = ap (λ n. min (div_ceil s.count 8) (n * part_size s.interleaving)) (whole ∙ sym whole_front)
 
   pub bytes_of_front : (c : ℕ) → c < s.channels → channel_bytes s (front ++ rest) c ≡ channel_bytes s front c
   bytes_of_front c low =
-      part_of_front s.order s.channels front rest c k (bytes_heard s (length (front ++ rest))) low long
-      (let e = ap (λ n. n * part_size s.order) whole in omega (arith, e))
-      ∙ ap (channel_part s.order s.channels front c 0) heard_of_front
+      part_of_front s.interleaving s.channels front rest c k (bytes_heard s (length (front ++ rest))) low long
+      (let e = ap (λ n. n * part_size s.interleaving) whole in omega (arith, e))
+      ∙ ap (channel_part s.interleaving s.channels front c 0) heard_of_front
 
   bits_of_front : (c : ℕ) → c < s.channels → channel_bits s (front ++ rest) c ≡ channel_bits s front c
   bits_of_front c low = ap₂ (λ bs n. unpacked bs (heard s.count n)) (bytes_of_front c low) heard_of_front
@@ -48,7 +48,7 @@ module _ (s : Sound) (front rest : List ℕ) (k : ℕ) (long : length front ≡ 
       ap₂ (λ channels n. flat_map (sample_bytes d.width) (frames_below d channels (due_number d s.count n))) channels_of_front heard_of_front
 
 -- ---- more whole groups
-module _ (d : Decimator) (s : Sound) (fed number : ℕ) (front groups : List ℕ) (k : ℕ) (long : length front ≡ k * group_size s.order s.channels)
+module _ (d : Decimator) (s : Sound) (fed number : ℕ) (front groups : List ℕ) (k : ℕ) (long : length front ≡ k * group_size s.interleaving s.channels)
     (was : bytes_heard s (length front) ≡ fed) (is : bytes_heard s (length (front ++ groups)) ≡ fed + number) (least : 8 ≤ d.factor) where
   abbrev all : List ℕ
   all = front ++ groups

@@ -1,5 +1,5 @@
 -- What more groups of sound bytes give of each channel.
-use Rattle.std.proofs.Common.{◌≡◌, ℕ, ◌+◌, ◌-◌, ◌*◌, ◌/◌, ◌%◌, ◌<◌, ◌≤◌, min, ℤ, pos, Bool, inl, inr, List, [], ◌∷◌, ◌++◌, map, drop, length, get_or, slice_index, Option, None, Some, refl, sym, subst, ap, ap₂, ◌∙◌, arith}
+use Rattle.std.proofs.Common.{◌≡◌, ℕ, ◌+◌, ◌-◌, ◌*◌, ◌/◌, ◌%◌, ◌<◌, ◌≤◌, min, ℤ, pos, Bool, inl, inr, List, [], ◌∷◌, ◌++◌, map, drop, length, get_or, slice_index, refl, sym, subst, ap, ap₂, ◌∙◌, arith}
 use Rattle.std.specs.List.{flat_map, range_with_len}
 use Rattle.std.specs.Int.{div_ceil}
 use Rattle.std.proofs.Math.Nat.{mul-add-div_right, mul-add-mod_self_right, mul-div_cancel}
@@ -9,7 +9,8 @@ use Rattle.std.proofs.lemmas.Grind.{div_ceil_times, flat_map-append}
 use Rattle.std.proofs.lemmas.Nat.{div_below, mod_below, mul-add-lt}
 use Rattle.std.proofs.lemmas.List.{append-nil, get_or_append_left, get_or-append_right}
 use Rattle.std.proofs.lemmas.List.FromFn.{get_or-map-range_with_len, length-map-range_with_len, map-range_with_len_more}
-use Rattle.dsd_bits.specs.declared.blocks.BitOrder.{BitOrder}
+use Rattle.dsd_bits.specs.declared.interleaving.Interleaving.{Interleaving}
+use Rattle.dsd_bits.specs.declared.interleaving.Interleaving.TheVariants.{Bytes, Blocks}
 use Rattle.dsd_bits.specs.declared.sound.Sound.{Sound}
 use Rattle.dsd_bits.specs.Packing.{unpacked}
 use Rattle.dsd_bits.proofs.BlockLemmas.{map_range_join}
@@ -26,18 +27,18 @@ use Rattle.player_core.specs.Frames.{tile_of}
 use Rattle.player_core.specs.Groups.{channel_byte, channel_part, group_size, in_order, part_size, place_in}
 
 -- ---- places, on plain numbers
-pub some_part : (order : Option BitOrder) → 0 < part_size order
-some_part None = omega arith
-some_part (Some order) = omega arith
+pub some_part : (interleaving : Interleaving) → 0 < part_size interleaving
+some_part Bytes = omega arith
+some_part (Blocks order) = omega arith
 
 pub mul_some : (a b : ℕ) → 0 < a → 0 < b → 0 < a * b
 mul_some a b h k = grind arith
 
 -- a byte of the first groups stands in them
-place_before : (order : Option BitOrder) (channels c p k : ℕ) → c < channels → p < k * part_size order → place_in order channels c p < k * (channels * part_size order)
-place_before order channels c p k low before =
-    let ps = part_size order in
-    let some = some_part order in
+place_before : (interleaving : Interleaving) (channels c p k : ℕ) → c < channels → p < k * part_size interleaving → place_in interleaving channels c p < k * (channels * part_size interleaving)
+place_before interleaving channels c p k low before =
+    let ps = part_size interleaving in
+    let some = some_part interleaving in
     let q : p / ps < k = div_below p ps k some before in
     let row : p / ps * channels + c < channels * k = mul-add-lt (p / ps) channels c k q low in
     let all : (p / ps * channels + c) * ps + p % ps < ps * (channels * k) = mul-add-lt (p / ps * channels + c) ps (p % ps) (channels * k) row (mod_below p ps some) in
@@ -45,51 +46,51 @@ place_before order channels c p k low before =
     subst (λ (n : ℕ). (p / ps * channels + c) * ps + p % ps < n) turned all
 
 -- a byte behind the first groups stands as far behind them as it stands in the later ones
-place_behind : (order : Option BitOrder) (channels c p k : ℕ) → place_in order channels c (k * part_size order + p) ≡ k * (channels * part_size order) + place_in order channels c p
-place_behind order channels c p k =
-    let ps = part_size order in
-    let q : (k * ps + p) / ps ≡ k + p / ps = mul-add-div_right (some_part order) k p in
+place_behind : (interleaving : Interleaving) (channels c p k : ℕ) → place_in interleaving channels c (k * part_size interleaving + p) ≡ k * (channels * part_size interleaving) + place_in interleaving channels c p
+place_behind interleaving channels c p k =
+    let ps = part_size interleaving in
+    let q : (k * ps + p) / ps ≡ k + p / ps = mul-add-div_right (some_part interleaving) k p in
     let r : (k * ps + p) % ps ≡ p % ps = mul-add-mod_self_right k ps p in
     let spread : ((k + p / ps) * channels + c) * ps + p % ps ≡ k * (channels * ps) + ((p / ps * channels + c) * ps + p % ps) = grind arith in
     ap₂ (λ m n. (m * channels + c) * ps + n) q r ∙ spread
 
 -- ---- the bytes of a channel
 -- those of a front, whatever follows it
-pub part_of_front : (order : Option BitOrder) (channels : ℕ) (front groups : List ℕ) (c k number : ℕ) → c < channels → length front ≡ k * (channels * part_size order) → number ≤ k * part_size order
-    → channel_part order channels (front ++ groups) c 0 number ≡ channel_part order channels front c 0 number
-part_of_front order channels front groups c k number low long within =
-    map_range_same number (channel_byte order channels (front ++ groups) c) (channel_byte order channels front c)
-    (λ p h. ap (in_order order) (get_or_append_left front groups 0 (place_in order channels c p) (omega (arith, long, place_before order channels c p k low (omega arith)))))
+pub part_of_front : (interleaving : Interleaving) (channels : ℕ) (front groups : List ℕ) (c k number : ℕ) → c < channels → length front ≡ k * (channels * part_size interleaving) → number ≤ k * part_size interleaving
+    → channel_part interleaving channels (front ++ groups) c 0 number ≡ channel_part interleaving channels front c 0 number
+part_of_front interleaving channels front groups c k number low long within =
+    map_range_same number (channel_byte interleaving channels (front ++ groups) c) (channel_byte interleaving channels front c)
+    (λ p h. ap (in_order interleaving) (get_or_append_left front groups 0 (place_in interleaving channels c p) (omega (arith, long, place_before interleaving channels c p k low (omega arith)))))
 
 -- those behind it
-part_behind : (order : Option BitOrder) (channels : ℕ) (front groups : List ℕ) (c k p : ℕ) → length front ≡ k * (channels * part_size order)
-    → channel_byte order channels (front ++ groups) c (k * part_size order + p) ≡ channel_byte order channels groups c p
-part_behind order channels front groups c k p long =
-    let behind = place_behind order channels c p k in
-    let at = place_in order channels c p in
-    let back : k * (channels * part_size order) + at - length front ≡ at = omega (arith, long) in
-    ap (λ n. in_order order (slice_index (front ++ groups) n)) behind
-    ∙ ap (in_order order) (get_or-append_right front groups (length front) (k * (channels * part_size order) + at) 0 refl (omega (arith, long)) ∙ ap (slice_index groups) back)
+part_behind : (interleaving : Interleaving) (channels : ℕ) (front groups : List ℕ) (c k p : ℕ) → length front ≡ k * (channels * part_size interleaving)
+    → channel_byte interleaving channels (front ++ groups) c (k * part_size interleaving + p) ≡ channel_byte interleaving channels groups c p
+part_behind interleaving channels front groups c k p long =
+    let behind = place_behind interleaving channels c p k in
+    let at = place_in interleaving channels c p in
+    let back : k * (channels * part_size interleaving) + at - length front ≡ at = omega (arith, long) in
+    ap (λ n. in_order interleaving (slice_index (front ++ groups) n)) behind
+    ∙ ap (in_order interleaving) (get_or-append_right front groups (length front) (k * (channels * part_size interleaving) + at) 0 refl (omega (arith, long)) ∙ ap (slice_index groups) back)
 
 -- both
-pub bytes_more : (s : Sound) (front groups : List ℕ) (c k fed number : ℕ) → c < s.channels → length front ≡ k * group_size s.order s.channels
+pub bytes_more : (s : Sound) (front groups : List ℕ) (c k fed number : ℕ) → c < s.channels → length front ≡ k * group_size s.interleaving s.channels
     → bytes_heard s (length front) ≡ fed → bytes_heard s (length (front ++ groups)) ≡ fed + number
-    → channel_bytes s (front ++ groups) c ≡ channel_bytes s front c ++ channel_part s.order s.channels groups c 0 number
+    → channel_bytes s (front ++ groups) c ≡ channel_bytes s front c ++ channel_part s.interleaving s.channels groups c 0 number
 bytes_more s front groups c k fed number low long was is =
-    let ps = part_size s.order in
-    let byte = channel_byte s.order s.channels (front ++ groups) c in
-    let some : 0 < s.channels * ps = mul_some s.channels ps (omega arith) (some_part s.order) in
+    let ps = part_size s.interleaving in
+    let byte = channel_byte s.interleaving s.channels (front ++ groups) c in
+    let some : 0 < s.channels * ps = mul_some s.channels ps (omega arith) (some_part s.interleaving) in
     let whole : length front / (s.channels * ps) ≡ k = ap (λ n. n / (s.channels * ps)) long ∙ mul-div_cancel k some in
     let exact : min (div_ceil s.count 8) (k * ps) ≡ fed = ap (λ n. min (div_ceil s.count 8) (n * ps)) (sym whole) ∙ was in
     let within : fed ≤ k * ps = omega arith in
     let most : fed + number ≤ div_ceil s.count 8 = omega arith in
-    ap (channel_part s.order s.channels (front ++ groups) c 0) is
-    ∙ sym (map_range_join byte (channel_byte s.order s.channels groups c) fed 0 number
+    ap (channel_part s.interleaving s.channels (front ++ groups) c 0) is
+    ∙ sym (map_range_join byte (channel_byte s.interleaving s.channels groups c) fed 0 number
     (λ p h.
     let seam : fed ≡ k * ps = omega arith in
     let place : 0 + p ≡ p = omega arith in
-    ap (channel_byte s.order s.channels groups c) place ∙ sym (part_behind s.order s.channels front groups c k p long) ∙ ap (λ n. byte (n + p)) (sym seam)))
-    ∙ ap (λ xs. xs ++ channel_part s.order s.channels groups c 0 number) (part_of_front s.order s.channels front groups c k fed low long within ∙ ap (channel_part s.order s.channels front c 0) (sym was))
+    ap (channel_byte s.interleaving s.channels groups c) place ∙ sym (part_behind s.interleaving s.channels front groups c k p long) ∙ ap (λ n. byte (n + p)) (sym seam)))
+    ∙ ap (λ xs. xs ++ channel_part s.interleaving s.channels groups c 0 number) (part_of_front s.interleaving s.channels front groups c k fed low long within ∙ ap (channel_part s.interleaving s.channels front c 0) (sym was))
 
 -- ---- a stream that is fed them
 -- lists with fronts of one length
@@ -105,19 +106,19 @@ ceil_grows a b f some h = elim (cases_lt (div_ceil b f) (div_ceil a f)) [
 pub due_grows : (d : Decimator) (count a b : ℕ) → 0 < d.factor → a ≤ b → due_number d count a ≤ due_number d count b
 due_grows d count a b some h = ceil_grows (heard count a - d.delay) (heard count b - d.delay) d.factor some (omega arith)
 
-module _ (d : Decimator) (s : Sound) (fed number : ℕ) (front groups : List ℕ) (k c : ℕ) (low : c < s.channels) (long : length front ≡ k * group_size s.order s.channels)
+module _ (d : Decimator) (s : Sound) (fed number : ℕ) (front groups : List ℕ) (k c : ℕ) (low : c < s.channels) (long : length front ≡ k * group_size s.interleaving s.channels)
     (was : bytes_heard s (length front) ≡ fed) (is : bytes_heard s (length (front ++ groups)) ≡ fed + number) where
   abbrev all : List ℕ
   all = front ++ groups
 
   abbrev piece : List ℕ
-  piece = channel_part s.order s.channels groups c 0 number
+  piece = channel_part s.interleaving s.channels groups c 0 number
 
   both : channel_bytes s all c ≡ channel_bytes s front c ++ piece
   both = bytes_more s front groups c k fed number low long was is
 
   length-bytes : (bytes : List ℕ) → length (channel_bytes s bytes c) ≡ bytes_heard s (length bytes)
-  length-bytes bytes = length-map-range_with_len (channel_byte s.order s.channels bytes c) 0 (bytes_heard s (length bytes))
+  length-bytes bytes = length-map-range_with_len (channel_byte s.interleaving s.channels bytes c) 0 (bytes_heard s (length bytes))
 
   -- what is due of the channel are its first samples
   due_is : (bytes : List ℕ) → due d s.count (channel_bytes s bytes c) ≡ samples_of d (channel_bits s bytes c) 0 (frames_due d s (length bytes))

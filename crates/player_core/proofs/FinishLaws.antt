@@ -1,11 +1,12 @@
 -- The rest of the frames, after all sound bytes.
-use Rattle.std.proofs.Common.{◌≡◌, ℕ, ◌+◌, ◌-◌, ◌*◌, ◌/◌, ◌%◌, ◌≤◌, ◌⊎◌, ℤ, Bool, List, [], ◌++◌, All, map, length, slice_index, Option, None, Some, refl, sym, subst, ap, ap₂, ◌∙◌, arith}
+use Rattle.std.proofs.Common.{◌≡◌, ℕ, ◌+◌, ◌-◌, ◌*◌, ◌/◌, ◌%◌, ◌≤◌, ◌⊎◌, ℤ, Bool, List, [], ◌++◌, All, map, length, slice_index, refl, sym, subst, ap, ap₂, ◌∙◌, arith}
 use Rattle.std.specs.List.{flat_map, range_with_len}
 use Rattle.std.specs.Int.{div_ceil}
 use Rattle.std.proofs.Math.Nat.{mul-div_cancel, mul-div_cancel_left}
 use Rattle.std.proofs.lemmas.Grind.{flat_map-append}
 use Rattle.std.proofs.lemmas.List.FromFn.{get_or-map-range_with_len, length-map-range_with_len}
-use Rattle.dsd_bits.specs.declared.blocks.BitOrder.{BitOrder}
+use Rattle.dsd_bits.specs.declared.interleaving.Interleaving.{Interleaving}
+use Rattle.dsd_bits.specs.declared.interleaving.Interleaving.TheVariants.{Bytes, Blocks}
 use Rattle.dsd_bits.specs.declared.sound.Sound.{Sound}
 use Rattle.dsd_bits.specs.Blocks.{unblocked}
 use Rattle.dsd_bits.specs.Channels.{count_of}
@@ -43,7 +44,7 @@ module _ (d : Decimator) (s : Sound) (bytes : List ℕ) (c : ℕ) (least : 8 ≤
   within = ceil_grows (heard s.count (bytes_heard s (length bytes)) - d.delay) s.count d.factor (omega arith) (omega arith)
 
   size : length (channel_bytes s bytes c) ≡ bytes_heard s (length bytes)
-  size = length-map-range_with_len (channel_byte s.order s.channels bytes c) 0 (bytes_heard s (length bytes))
+  size = length-map-range_with_len (channel_byte s.interleaving s.channels bytes c) 0 (bytes_heard s (length bytes))
 
   pub rest_of : (old : Stream) (fed : ℕ) (before after : List ℤ) → IsChannel d s.count fed old → Finishes (state_of old) before after → Fits (state_of old) (channel_bytes s bytes c)
       → after ≡ before ++ samples_of d (channel_whole s bytes c) (frames_due d s (length bytes)) (div_ceil s.count d.factor - frames_due d s (length bytes))
@@ -63,40 +64,40 @@ module _ (d : Decimator) (s : Sound) (bytes : List ℕ) (c : ℕ) (least : 8 ≤
 
 -- ---- channel by channel
 -- channel c of the sound bytes
-abbrev get_channel : Option BitOrder → ℕ → ℕ → List ℕ → ℕ → List Bool
-get_channel None channels count bytes c = unlaced bytes channels c
-get_channel (Some order) channels count bytes c = unblocked order bytes channels count c
+abbrev get_channel : Interleaving → ℕ → ℕ → List ℕ → ℕ → List Bool
+get_channel Bytes channels count bytes c = unlaced bytes channels c
+get_channel (Blocks order) channels count bytes c = unblocked order bytes channels count c
 
-all_channels : (order : Option BitOrder) (channels count : ℕ) (bytes : List ℕ) → map (get_channel order channels count bytes) (range_with_len 0 channels) ≡ sound_channels order channels count bytes
-all_channels None channels count bytes = refl
-all_channels (Some order) channels count bytes = refl
+all_channels : (interleaving : Interleaving) (channels count : ℕ) (bytes : List ℕ) → map (get_channel interleaving channels count bytes) (range_with_len 0 channels) ≡ sound_channels interleaving channels count bytes
+all_channels Bytes channels count bytes = refl
+all_channels (Blocks order) channels count bytes = refl
 
-strided_part : (bytes : List ℕ) (channels c number : ℕ) → channel_part None channels bytes c 0 number ≡ own_bytes bytes channels c number
+strided_part : (bytes : List ℕ) (channels c number : ℕ) → channel_part Bytes channels bytes c 0 number ≡ own_bytes bytes channels c number
 strided_part bytes channels c number =
-    map_range_same number (channel_byte None channels bytes c) (λ frame. slice_index bytes (frame * channels + c))
+    map_range_same number (channel_byte Bytes channels bytes c) (λ frame. slice_index bytes (frame * channels + c))
     (λ p h.
     let q : p / 1 ≡ p = omega arith in
     let place : (p / 1 * channels + c) * 1 + p % 1 ≡ p * channels + c = ap (λ n. (n * channels + c) * 1 + p % 1) q ∙ omega arith in
     ap (slice_index bytes) place)
 
 -- ---- all bytes are heard
-module _ (s : Sound) (is : IsSound s) (whole : s.order ≡ None → s.count % 8 ≡ 0) where
+module _ (s : Sound) (is : IsSound s) (whole : s.interleaving ≡ Bytes → s.count % 8 ≡ 0) where
   pub heard_whole : bytes_heard s s.size ≡ div_ceil s.count 8
-  heard_whole = by s.order refl
+  heard_whole = by s.interleaving refl
     where
-      by : (order : Option BitOrder) → s.order ≡ order → bytes_heard s s.size ≡ div_ceil s.count 8
-      by None e =
-          let part : part_size s.order ≡ 1 = ap part_size e in
+      by : (interleaving : Interleaving) → s.interleaving ≡ interleaving → bytes_heard s s.size ≡ div_ceil s.count 8
+      by Bytes e =
+          let part : part_size s.interleaving ≡ 1 = ap part_size e in
           let size : s.size ≡ s.count / 8 * s.channels = is.size ∙ ap (λ o. sound_size o s.channels s.count) e in
           let one : s.channels * 1 ≡ s.channels = omega arith in
-          let parts : s.size / (s.channels * part_size s.order) * part_size s.order ≡ s.count / 8 * 1 =
+          let parts : s.size / (s.channels * part_size s.interleaving) * part_size s.interleaving ≡ s.count / 8 * 1 =
           ap (λ p. s.size / (s.channels * p) * p) part ∙ ap₂ (λ a b. a / b * 1) size one ∙ ap (λ a. a * 1) (mul-div_cancel (s.count / 8) is.some_channel) in
           omega (arith, parts, whole e)
-      by (Some order) e =
-          let part : part_size s.order ≡ 4096 = ap part_size e in
+      by (Blocks order) e =
+          let part : part_size s.interleaving ≡ 4096 = ap part_size e in
           let size : s.size ≡ div_ceil s.count 32768 * s.channels * 4096 = is.size ∙ ap (λ o. sound_size o s.channels s.count) e in
           let grouped : div_ceil s.count 32768 * s.channels * 4096 ≡ div_ceil s.count 32768 * (s.channels * 4096) = grind arith in
-          let parts : s.size / (s.channels * part_size s.order) * part_size s.order ≡ div_ceil s.count 32768 * 4096 =
+          let parts : s.size / (s.channels * part_size s.interleaving) * part_size s.interleaving ≡ div_ceil s.count 32768 * 4096 =
           ap (λ p. s.size / (s.channels * p) * p) part ∙ ap (λ a. a / (s.channels * 4096) * 4096) (size ∙ grouped) ∙ ap (λ a. a * 4096) (mul-div_cancel (div_ceil s.count 32768) (mul_some s.channels 4096 is.some_channel (omega arith))) in
           omega (arith, parts)
 
@@ -105,11 +106,11 @@ module _ (s : Sound) (is : IsSound s) (whole : s.order ≡ None → s.count % 8 
     heard_all = ap (bytes_heard s) all ∙ heard_whole
 
     -- a channel's bits are those of the sound
-    channel_is : (c : ℕ) → channel_whole s bytes c ≡ get_channel s.order s.channels s.count bytes c
-    channel_is c = by s.order refl
+    channel_is : (c : ℕ) → channel_whole s bytes c ≡ get_channel s.interleaving s.channels s.count bytes c
+    channel_is c = by s.interleaving refl
       where
-        by : (order : Option BitOrder) → s.order ≡ order → channel_whole s bytes c ≡ get_channel s.order s.channels s.count bytes c
-        by None e =
+        by : (interleaving : Interleaving) → s.interleaving ≡ interleaving → channel_whole s bytes c ≡ get_channel s.interleaving s.channels s.count bytes c
+        by Bytes e =
             let size : length bytes ≡ s.count / 8 * s.channels = all ∙ is.size ∙ ap (λ o. sound_size o s.channels s.count) e in
             let number : div_ceil s.count 8 ≡ s.count / 8 = omega (arith, whole e) in
             let bits : s.count ≡ 8 * (s.count / 8) = omega (arith, whole e) in
@@ -120,16 +121,16 @@ module _ (s : Sound) (is : IsSound s) (whole : s.order ≡ None → s.count % 8 
             ∙ unpacked-own_bytes bytes s.channels c (s.count / 8)
             ∙ ap (λ (n : ℕ). map (laced_bit bytes s.channels c) (range_with_len 0 (8 * n))) (sym frames)
             ∙ ap (λ o. get_channel o s.channels s.count bytes c) (sym e)
-        by (Some order) e =
+        by (Blocks order) e =
             ap₂ (λ o (n : ℕ). unpacked (channel_part o s.channels bytes c 0 n) s.count) e heard_all
             ∙ ap (λ xs. unpacked xs s.count) (sym (blocks_are order s.channels bytes c (div_ceil s.count 8)))
             ∙ unblocked_is order bytes s.channels c s.count
             ∙ ap (λ o. get_channel o s.channels s.count bytes c) (sym e)
 
-    pub channels_are : map (channel_whole s bytes) (range_with_len 0 s.channels) ≡ sound_channels s.order s.channels s.count bytes
+    pub channels_are : map (channel_whole s bytes) (range_with_len 0 s.channels) ≡ sound_channels s.interleaving s.channels s.count bytes
     channels_are =
-        map_range_same s.channels (channel_whole s bytes) (get_channel s.order s.channels s.count bytes) (λ c h. channel_is c)
-        ∙ all_channels s.order s.channels s.count bytes
+        map_range_same s.channels (channel_whole s bytes) (get_channel s.interleaving s.channels s.count bytes) (λ c h. channel_is c)
+        ∙ all_channels s.interleaving s.channels s.count bytes
 
     -- and all of them are heard
     heard_are : channels_heard s bytes ≡ map (channel_whole s bytes) (range_with_len 0 s.channels)

@@ -1,5 +1,6 @@
 -- What is given of a front of the sound bytes is a front of what the whole gives.
-use Rattle.std.proofs.Common.{◌≡◌, ℕ, ◌≤◌, ◌%◌, List, ◌++◌, length, None, ap, ◌∙◌, append_assoc}
+use Rattle.std.proofs.Common.{◌≡◌, ℕ, ◌≤◌, ◌%◌, List, ◌++◌, length, ap, ◌∙◌, append_assoc}
+use Rattle.dsd_bits.specs.declared.interleaving.Interleaving.TheVariants.{Bytes}
 use Rattle.dsd_bits.specs.declared.sound.Sound.{Sound}
 use Rattle.dsd_bits.specs.Sounds.{IsSound}
 use Rattle.fir_core.specs.Decimator.{Decimator}
@@ -10,7 +11,7 @@ use Rattle.player_core.proofs.StepLaws.{due_step}
 pub front_of_more : (d : Decimator) (s : Sound) (before bytes : List ℕ) → 1 ≤ s.channels → 8 ≤ d.factor → (more : List ℕ) × (due_bytes d s (before ++ bytes) ≡ due_bytes d s before ++ more)
 front_of_more d s before bytes some least = due_step s before bytes some d least
 
-pub front_of_all : (d : Decimator) (s : Sound) (before bytes : List ℕ) → IsSound s → (s.order ≡ None → s.count % 8 ≡ 0) → 8 ≤ d.factor → length (before ++ bytes) ≡ s.size
+pub front_of_all : (d : Decimator) (s : Sound) (before bytes : List ℕ) → IsSound s → (s.interleaving ≡ Bytes → s.count % 8 ≡ 0) → 8 ≤ d.factor → length (before ++ bytes) ≡ s.size
     → (more : List ℕ) × (all_bytes d s (before ++ bytes) ≡ due_bytes d s before ++ more)
 front_of_all d s before bytes is whole least all =
     let next = front_of_more d s before bytes is.some_channel least in

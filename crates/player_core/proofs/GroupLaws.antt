@@ -1,21 +1,23 @@
 -- The bytes of one channel in groups of sound bytes.
-use Rattle.std.proofs.Common.{◌≡◌, ℕ, ◌+◌, ◌*◌, ◌/◌, ◌%◌, ◌<◌, ◌≤◌, List, map, length, slice_index, Option, None, Some, sym, ap, ◌∙◌, arith}
+use Rattle.std.proofs.Common.{◌≡◌, ℕ, ◌+◌, ◌*◌, ◌/◌, ◌%◌, ◌<◌, ◌≤◌, List, map, length, slice_index, sym, ap, ◌∙◌, arith}
 use Rattle.std.specs.List.{range_with_len}
 use Rattle.std.proofs.lemmas.Grind.{same_number_lists}
 use Rattle.std.proofs.lemmas.Simd.{map-map}
 use Rattle.std.proofs.lemmas.List.FromFn.{get_or-map-range_with_len, length-map-range_with_len}
 use Rattle.dsd_bits.specs.declared.blocks.BitOrder.{BitOrder}
+use Rattle.dsd_bits.specs.declared.interleaving.Interleaving.{Interleaving}
+use Rattle.dsd_bits.specs.declared.interleaving.Interleaving.TheVariants.{Bytes, Blocks}
 use Rattle.dsd_bits.specs.Blocks.{ordered}
 use Rattle.std.proofs.Math.Nat.{div-mul-le_self}
 use Rattle.std.proofs.lemmas.Nat.{mul-add-lt}
 use Rattle.dsd_bits.proofs.BlockLemmas.{own_blocks, block_source}
 use Rattle.player_core.specs.Groups.{channel_byte, channel_part}
 
-pub length-part : (order : Option BitOrder) (channels : ℕ) (bytes : List ℕ) (c from number : ℕ) → length (channel_part order channels bytes c from number) ≡ number
-length-part order channels bytes c from number = length-map-range_with_len (channel_byte order channels bytes c) from number
+pub length-part : (interleaving : Interleaving) (channels : ℕ) (bytes : List ℕ) (c from number : ℕ) → length (channel_part interleaving channels bytes c from number) ≡ number
+length-part interleaving channels bytes c from number = length-map-range_with_len (channel_byte interleaving channels bytes c) from number
 
 -- ---- a byte of each channel in turn
-pub strided_is : (to bytes : List ℕ) (channels c : ℕ) → ((frame : ℕ) → frame < length to → slice_index to frame ≡ slice_index bytes (frame * channels + c)) → to ≡ channel_part None channels bytes c 0 (length to)
+pub strided_is : (to bytes : List ℕ) (channels c : ℕ) → ((frame : ℕ) → frame < length to → slice_index to frame ≡ slice_index bytes (frame * channels + c)) → to ≡ channel_part Bytes channels bytes c 0 (length to)
 strided_is to bytes channels c at =
     let f : ℕ → ℕ = λ p. slice_index bytes ((p / 1 * channels + c) * 1 + p % 1) in
     same_number_lists to (map f (range_with_len 0 (length to))) (sym (length-map-range_with_len f 0 (length to)))
@@ -25,7 +27,7 @@ strided_is to bytes channels c at =
     at k h ∙ ap (slice_index bytes) (sym place) ∙ sym (get_or-map-range_with_len f 0 (length to) k k 0 h (omega arith)))
 
 -- ---- blocks of each channel in turn
-pub blocks_are : (order : BitOrder) (channels : ℕ) (bytes : List ℕ) (c number : ℕ) → map (ordered order) (own_blocks bytes channels c number) ≡ channel_part (Some order) channels bytes c 0 number
+pub blocks_are : (order : BitOrder) (channels : ℕ) (bytes : List ℕ) (c number : ℕ) → map (ordered order) (own_blocks bytes channels c number) ≡ channel_part (Blocks order) channels bytes c 0 number
 blocks_are order channels bytes c number = map-map (ordered order) (block_source bytes channels c) (range_with_len 0 number)
 
 -- a block, or its front, stands in the bytes

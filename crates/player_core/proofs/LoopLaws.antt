@@ -18,14 +18,14 @@ pub record FedUpTo (s : Sound) (number : ℕ) (groups : List ℕ) (old now : Lis
   pub long : length now ≡ length old
   pub later : (k : ℕ) (t : Stream) → c ≤ k → get_or now k t ≡ get_or old k t
   pub done : (d : Decimator) (fed : ℕ) → AreChannels d s.count fed old → (k : ℕ) (t : Stream) → k < c → IsChannel d s.count (fed + number) (get_or now k t)
-  pub fits : (d : Decimator) (fed : ℕ) → AreChannels d s.count fed old → (front : List ℕ) (k : ℕ) → length front ≡ k * group_size s.order s.channels
+  pub fits : (d : Decimator) (fed : ℕ) → AreChannels d s.count fed old → (front : List ℕ) (k : ℕ) → length front ≡ k * group_size s.interleaving s.channels
       → bytes_heard s (length front) ≡ fed → bytes_heard s (length (front ++ groups)) ≡ fed + number → AllFit s old front
       → ((i : ℕ) (t : Stream) → i < c → Fits (state_of (get_or now i t)) (channel_bytes s (front ++ groups) i))
       × (tile ≡ tile_of d (map (channel_bits s (front ++ groups)) (range_with_len 0 c)) (frames_due d s (length front)) (frames_due d s (length (front ++ groups)) - frames_due d s (length front)))
 
 module _ (s : Sound) (number : ℕ) (groups : List ℕ) (old now : List Stream) (tile tile' : List ℤ) (c : ℕ) (new t : Stream)
     (so_far : FedUpTo s number groups old now tile c) (low : c < length old) (few : length old ≤ s.channels)
-    (ready : IsStream new) (feeds : Feeds (state_of (get_or now c t)) (state_of new) (channel_part s.order s.channels groups c 0 number) tile tile')
+    (ready : IsStream new) (feeds : Feeds (state_of (get_or now c t)) (state_of new) (channel_part s.interleaving s.channels groups c 0 number) tile tile')
     (fed_is : new.fed ≡ (get_or now c t).fed + number) (filter : new.taps ≡ (get_or now c t).taps) (bits : new.count ≡ (get_or now c t).count) where
   same : get_or now c t ≡ get_or old c t
   same = so_far.later c t (omega arith)

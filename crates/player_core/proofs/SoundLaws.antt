@@ -40,7 +40,7 @@ sound_is_played law file r s d has is =
 -- ---- sizes
 pub frames_fill : FramesFill
 frames_fill d s bytes is whole all =
-    let channels = sound_channels s.order s.channels s.count bytes in
+    let channels = sound_channels s.interleaving s.channels s.count bytes in
     let same = channels_are s is whole bytes all in
     let count : frame_count d channels ≡ total_frames d s = ap (λ cs. frame_count d cs) (sym same) ∙ ap (λ k. div_ceil k d.factor) (count_is s is whole bytes all) in
     let number : length channels ≡ s.channels = ap length (sym same) ∙ length-map-range_with_len (channel_whole s bytes) 0 s.channels in

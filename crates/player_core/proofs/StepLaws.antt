@@ -26,19 +26,19 @@ use Rattle.player_core.proofs.FrameLaws.{all_samples, frames_are, length-tile}
 -- ---- how many bytes a channel gets
 pub heard_grows : (s : Sound) (a b : ℕ) → 1 ≤ s.channels → a ≤ b → bytes_heard s a ≤ bytes_heard s b
 heard_grows s a b some h =
-    let gs = s.channels * part_size s.order in
-    let whole : a / gs ≤ b / gs = le-div (a / gs) b gs (mul_some s.channels (part_size s.order) some (some_part s.order)) (omega (arith, div-mul-le_self a gs)) in
-    let parts : a / gs * part_size s.order ≤ b / gs * part_size s.order = mul-le-mul_right (part_size s.order) whole in
+    let gs = s.channels * part_size s.interleaving in
+    let whole : a / gs ≤ b / gs = le-div (a / gs) b gs (mul_some s.channels (part_size s.interleaving) some (some_part s.interleaving)) (omega (arith, div-mul-le_self a gs)) in
+    let parts : a / gs * part_size s.interleaving ≤ b / gs * part_size s.interleaving = mul-le-mul_right (part_size s.interleaving) whole in
     omega (arith, parts)
 
 -- ---- the next bytes
 module _ (s : Sound) (before bytes : List ℕ) (some : 1 ≤ s.channels) where
   gs : ℕ
-  gs = group_size s.order s.channels
+  gs = group_size s.interleaving s.channels
 
   positive : 0 < gs
   unfolding gs
-  positive = mul_some s.channels (part_size s.order) some (some_part s.order)
+  positive = mul_some s.channels (part_size s.interleaving) some (some_part s.interleaving)
 
   -- the whole groups before, and what stands behind them
   k : ℕ
@@ -97,9 +97,9 @@ module _ (s : Sound) (before bytes : List ℕ) (some : 1 ≤ s.channels) where
   unfolding gs
   heard_next = ap (λ xs. bytes_heard s (length xs)) (sym parted_next) ∙ heard_of_front s (front ++ groups) left (k + more) long_next part_left
 
-  pub held_next : (held : List ℕ) → held ≡ drop (length before / group_size s.order s.channels * group_size s.order s.channels) before
-      → drop (length (held ++ bytes) / group_size s.order s.channels * group_size s.order s.channels) (held ++ bytes)
-      ≡ drop (length (before ++ bytes) / group_size s.order s.channels * group_size s.order s.channels) (before ++ bytes)
+  pub held_next : (held : List ℕ) → held ≡ drop (length before / group_size s.interleaving s.channels * group_size s.interleaving s.channels) before
+      → drop (length (held ++ bytes) / group_size s.interleaving s.channels * group_size s.interleaving s.channels) (held ++ bytes)
+      ≡ drop (length (before ++ bytes) / group_size s.interleaving s.channels * group_size s.interleaving s.channels) (before ++ bytes)
   unfolding gs k rest more left
   held_next held is =
       let all : length (before ++ bytes) / gs ≡ k + more = ap (λ xs. length xs / gs) (sym parted_next) ∙ whole s (front ++ groups) left (k + more) long_next part_left in
@@ -133,12 +133,12 @@ module _ (s : Sound) (before bytes : List ℕ) (some : 1 ≤ s.channels) where
   -- what the next bytes give
   module _ (d : Decimator) (old new : List Stream) (tile : List ℤ) (fed number : ℕ) (all_old : length old ≡ s.channels) (all_new : length new ≡ s.channels) (least : 8 ≤ d.factor)
       (was : bytes_heard s (length before) ≡ fed) (is : bytes_heard s (length (before ++ bytes)) ≡ fed + number) (fits : AllFit s old before)
-      (held given : List ℕ) (held_is : held ≡ drop (length before / group_size s.order s.channels * group_size s.order s.channels) before)
-      (given_is : given ≡ take (length (held ++ bytes) / group_size s.order s.channels * group_size s.order s.channels) (held ++ bytes))
+      (held given : List ℕ) (held_is : held ≡ drop (length before / group_size s.interleaving s.channels * group_size s.interleaving s.channels) before)
+      (given_is : given ≡ take (length (held ++ bytes) / group_size s.interleaving s.channels * group_size s.interleaving s.channels) (held ++ bytes))
       (feeds_given : FeedAll d s fed number old new given tile) where
     feeds : FeedAll d s fed number old new groups tile
     unfolding gs k rest more groups
-    feeds = subst (λ (xs : List ℕ). FeedAll d s fed number old new xs tile) (given_is ∙ ap (λ (xs : List ℕ). take (length (xs ++ bytes) / group_size s.order s.channels * group_size s.order s.channels) (xs ++ bytes)) held_is) feeds_given
+    feeds = subst (λ (xs : List ℕ). FeedAll d s fed number old new xs tile) (given_is ∙ ap (λ (xs : List ℕ). take (length (xs ++ bytes) / group_size s.interleaving s.channels * group_size s.interleaving s.channels) (xs ++ bytes)) held_is) feeds_given
 
     was_front : bytes_heard s (length front) ≡ fed
     was_front = sym heard_before ∙ was
@@ -177,12 +177,12 @@ module _ (s : Sound) (before bytes : List ℕ) (some : 1 ≤ s.channels) where
         ∙ ap₂ (λ xs ys. xs ++ flat_map (sample_bytes d.width) ys) (sym (due_of_front s front rest k long part d) ∙ ap (due_bytes d s) parted)
         (sym (frames_are d (channels_heard s (front ++ groups)) n m) ∙ ap₂ (λ xs (l : ℕ). frames_of xs l) (sym fed_all.1) (sym columns))
 
-pub heard_more : (s : Sound) (fed size held whole : ℕ) → 1 ≤ s.channels → held ≡ fed % group_size s.order s.channels → whole ≡ (held + size) / group_size s.order s.channels * group_size s.order s.channels
-    → bytes_heard s (fed + size) - bytes_heard s fed ≤ whole / group_size s.order s.channels * part_size s.order
+pub heard_more : (s : Sound) (fed size held whole : ℕ) → 1 ≤ s.channels → held ≡ fed % group_size s.interleaving s.channels → whole ≡ (held + size) / group_size s.interleaving s.channels * group_size s.interleaving s.channels
+    → bytes_heard s (fed + size) - bytes_heard s fed ≤ whole / group_size s.interleaving s.channels * part_size s.interleaving
 heard_more s fed size held whole some rest is =
-    let gs = s.channels * part_size s.order in
-    let ps = part_size s.order in
-    let positive : 0 < gs = mul_some s.channels ps some (some_part s.order) in
+    let gs = s.channels * part_size s.interleaving in
+    let ps = part_size s.interleaving in
+    let positive : 0 < gs = mul_some s.channels ps some (some_part s.interleaving) in
     let spelled : fed + size ≡ fed / gs * gs + (held + size) = omega (arith, rest, div-add-mod' fed gs) in
     let next : (fed + size) / gs ≡ fed / gs + (held + size) / gs = ap (λ n. n / gs) spelled ∙ mul-add-div_right positive (fed / gs) (held + size) in
     let both : (fed + size) / gs * ps ≡ fed / gs * ps + (held + size) / gs * ps = ap (λ n. n * ps) next ∙ add-mul (fed / gs) ((held + size) / gs) ps in

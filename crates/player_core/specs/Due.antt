@@ -12,11 +12,11 @@ use Rattle.player_core.specs.Groups.{channel_part, channel_size}
 
 -- how many bytes of each channel are heard after so many sound bytes
 abbrev pub bytes_heard : Sound → ℕ → ℕ
-bytes_heard s size = channel_size s.order s.channels s.count size
+bytes_heard s size = channel_size s.interleaving s.channels s.count size
 
 -- those of channel c
 abbrev pub channel_bytes : Sound → List ℕ → ℕ → List ℕ
-channel_bytes s bytes c = channel_part s.order s.channels bytes c 0 (bytes_heard s (length bytes))
+channel_bytes s bytes c = channel_part s.interleaving s.channels bytes c 0 (bytes_heard s (length bytes))
 
 -- the bits of channel c that are heard
 abbrev pub channel_bits : Sound → List ℕ → ℕ → List Bool
@@ -40,4 +40,4 @@ due_bytes d s bytes = flat_map (sample_bytes d.width) (frames_below d (channels_
 
 -- the bytes of all frames of the sound
 abbrev pub all_bytes : Decimator → Sound → List ℕ → List ℕ
-all_bytes d s bytes = flat_map (sample_bytes d.width) (frames d (sound_channels s.order s.channels s.count bytes))
+all_bytes d s bytes = flat_map (sample_bytes d.width) (frames d (sound_channels s.interleaving s.channels s.count bytes))

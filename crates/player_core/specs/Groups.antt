@@ -1,36 +1,37 @@
 -- Sound bytes in groups: for each channel in turn as many of its bytes as the form puts side by side.
-use Rattle.std.specs.Prelude.{ℕ, ◌+◌, ◌*◌, ◌/◌, ◌%◌, min, List, map, slice_index, Option, None, Some}
+use Rattle.std.specs.Prelude.{ℕ, ◌+◌, ◌*◌, ◌/◌, ◌%◌, min, List, map, slice_index}
 use Rattle.std.specs.List.{range_with_len}
 use Rattle.std.specs.Int.{div_ceil}
-use Rattle.dsd_bits.specs.declared.blocks.BitOrder.{BitOrder}
+use Rattle.dsd_bits.specs.declared.interleaving.Interleaving.{Interleaving}
+use Rattle.dsd_bits.specs.declared.interleaving.Interleaving.TheVariants.{Bytes, Blocks}
 use Rattle.dsd_bits.specs.Blocks.{ordered}
 
--- how many bytes of a channel stand side by side: one where no order is told, else a block
-abbrev pub part_size : Option BitOrder → ℕ
-part_size None = 1
-part_size (Some order) = 4096
+-- how many bytes of a channel stand side by side: one, or a block
+abbrev pub part_size : Interleaving → ℕ
+part_size Bytes = 1
+part_size (Blocks order) = 4096
 
 -- how many bytes a group has
-abbrev pub group_size : Option BitOrder → ℕ → ℕ
-group_size order channels = channels * part_size order
+abbrev pub group_size : Interleaving → ℕ → ℕ
+group_size interleaving channels = channels * part_size interleaving
 
 -- a sound byte with its earliest bit the most significant
-abbrev pub in_order : Option BitOrder → ℕ → ℕ
-in_order None b = b
-in_order (Some order) b = ordered order b
+abbrev pub in_order : Interleaving → ℕ → ℕ
+in_order Bytes b = b
+in_order (Blocks order) b = ordered order b
 
 -- where byte p of channel c stands
-abbrev pub place_in : Option BitOrder → ℕ → ℕ → ℕ → ℕ
-place_in order channels c p = (p / part_size order * channels + c) * part_size order + p % part_size order
+abbrev pub place_in : Interleaving → ℕ → ℕ → ℕ → ℕ
+place_in interleaving channels c p = (p / part_size interleaving * channels + c) * part_size interleaving + p % part_size interleaving
 
 -- byte p of channel c, its earliest bit the most significant
-abbrev pub channel_byte : Option BitOrder → ℕ → List ℕ → ℕ → ℕ → ℕ
-channel_byte order channels bytes c p = in_order order (slice_index bytes (place_in order channels c p))
+abbrev pub channel_byte : Interleaving → ℕ → List ℕ → ℕ → ℕ → ℕ
+channel_byte interleaving channels bytes c p = in_order interleaving (slice_index bytes (place_in interleaving channels c p))
 
 -- how many bytes of each channel of so many bits stand in the whole groups of so many sound bytes
-abbrev pub channel_size : Option BitOrder → ℕ → ℕ → ℕ → ℕ
-channel_size order channels count size = min (div_ceil count 8) (size / group_size order channels * part_size order)
+abbrev pub channel_size : Interleaving → ℕ → ℕ → ℕ → ℕ
+channel_size interleaving channels count size = min (div_ceil count 8) (size / group_size interleaving channels * part_size interleaving)
 
 -- the bytes of channel c from one on
-abbrev pub channel_part : Option BitOrder → ℕ → List ℕ → ℕ → ℕ → ℕ → List ℕ
-channel_part order channels bytes c from number = map (channel_byte order channels bytes c) (range_with_len from number)
+abbrev pub channel_part : Interleaving → ℕ → List ℕ → ℕ → ℕ → ℕ → List ℕ
+channel_part interleaving channels bytes c from number = map (channel_byte interleaving channels bytes c) (range_with_len from number)

@@ -1,6 +1,7 @@
 -- Laws of a file that a player fills: its header, what the player gives, its pad.
 use Rattle.std.specs.Prelude.{◌≡◌, ℕ, ◌/◌, ◌%◌, ◌^◌, ◌≤◌, List, [], ◌++◌, length, Some, None}
 use Rattle.std.specs.Int.{div_ceil}
+use Rattle.dsd_bits.specs.declared.interleaving.Interleaving.TheVariants.{Bytes}
 use Rattle.dsd_bits.specs.declared.sound.Sound.{Sound}
 use Rattle.dsd_bits.specs.Contents.{Content}
 use Rattle.dsd_bits.specs.Sounds.{HasSound, IsSound, sound_bytes}
@@ -30,7 +31,7 @@ SoundIsPlayed = (file : List ℕ) (r : Content) (s : Sound) (d : Decimator) → 
 
 -- the bytes of all frames are as many as the header tells
 abbrev pub FramesFill : Type 0
-FramesFill = (d : Decimator) (s : Sound) (bytes : List ℕ) → IsSound s → (s.order ≡ None → s.count % 8 ≡ 0)
+FramesFill = (d : Decimator) (s : Sound) (bytes : List ℕ) → IsSound s → (s.interleaving ≡ Bytes → s.count % 8 ≡ 0)
     → length bytes ≡ s.size → length (all_bytes d s bytes) ≡ data_size s.channels d.width (total_frames d s)
 
 -- a file around so many bytes has its size
@@ -44,5 +45,5 @@ NothingIsDue = (d : Decimator) (s : Sound) → due_bytes d s [] ≡ []
 
 -- the bytes that are due after a front of the sound bytes are a front of those of all frames
 abbrev pub FrontComesFirst : Type 0
-FrontComesFirst = (d : Decimator) (s : Sound) (before bytes : List ℕ) → IsSound s → (s.order ≡ None → s.count % 8 ≡ 0) → 8 ≤ d.factor
+FrontComesFirst = (d : Decimator) (s : Sound) (before bytes : List ℕ) → IsSound s → (s.interleaving ≡ Bytes → s.count % 8 ≡ 0) → 8 ≤ d.factor
     → length (before ++ bytes) ≡ s.size → (more : List ℕ) × (all_bytes d s (before ++ bytes) ≡ due_bytes d s before ++ more)

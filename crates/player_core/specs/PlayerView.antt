@@ -1,7 +1,8 @@
 -- What a `Player` stands for.
-use Rattle.std.specs.Prelude.{◌≡◌, ℕ, ◌+◌, ◌-◌, ◌*◌, ◌/◌, ◌%◌, ◌<◌, ◌≤◌, ℤ, List, [], ◌++◌, map, length, drop, slice_index_or, None}
+use Rattle.std.specs.Prelude.{◌≡◌, ℕ, ◌+◌, ◌-◌, ◌*◌, ◌/◌, ◌%◌, ◌<◌, ◌≤◌, ℤ, List, [], ◌++◌, map, length, drop, slice_index_or}
 use Rattle.std.specs.Int.{div_ceil}
 use Rattle.std.specs.List.{range_with_len}
+use Rattle.dsd_bits.specs.declared.interleaving.Interleaving.TheVariants.{Bytes}
 use Rattle.dsd_bits.specs.declared.sound.Sound.{Sound}
 use Rattle.dsd_bits.specs.Sounds.{IsSound}
 use Rattle.fir_core.specs.Decimator.{Decimator}
@@ -55,13 +56,13 @@ AllFit s streams bytes = (c : ℕ) (t : Stream) → c < length streams → Fits 
 -- the player was fed these sound bytes
 pub record IsFed (p : Player) (bytes : List ℕ) : Type 0 where
   pub fed : p.fed ≡ length bytes
-  pub held : p.held.items ≡ drop (length bytes / group_size p.sound.order p.sound.channels * group_size p.sound.order p.sound.channels) bytes
+  pub held : p.held.items ≡ drop (length bytes / group_size p.sound.interleaving p.sound.channels * group_size p.sound.interleaving p.sound.channels) bytes
   pub each : AllFit p.sound p.streams.items bytes
 
 -- what each player keeps to: a stream for each channel, after some sound bytes
 pub record IsPlayer (p : Player) : Type 0 where
   pub sound : IsSound p.sound
-  pub whole : p.sound.order ≡ None → p.sound.count % 8 ≡ 0
+  pub whole : p.sound.interleaving ≡ Bytes → p.sound.count % 8 ≡ 0
   pub within : p.fed ≤ p.sound.size
   pub number : length p.streams.items ≡ p.sound.channels
   pub each : AreChannels p.taps.now p.sound.count (bytes_heard p.sound p.fed) p.streams.items
@@ -69,7 +70,7 @@ pub record IsPlayer (p : Player) : Type 0 where
 
 -- streams that fit whole groups of sound bytes, of which each channel has so many bytes, fit so many more behind them, and gave the samples that are due then and not before
 abbrev pub FeedAll : Decimator → Sound → ℕ → ℕ → List Stream → List Stream → List ℕ → List ℤ → Type 0
-FeedAll d s fed number old new groups tile = (front : List ℕ) (k : ℕ) → length front ≡ k * group_size s.order s.channels
+FeedAll d s fed number old new groups tile = (front : List ℕ) (k : ℕ) → length front ≡ k * group_size s.interleaving s.channels
     → bytes_heard s (length front) ≡ fed → bytes_heard s (length (front ++ groups)) ≡ fed + number
     → AllFit s old front → AllFit s new (front ++ groups) × (tile ≡ tile_of d (channels_heard s (front ++ groups)) (frames_due d s (length front)) (frames_due d s (length (front ++ groups)) - frames_due d s (length front)))
 

@@ -1,34 +1,34 @@
 //! The bytes of one channel among sound bytes that hold several.
 
-ghost use Rattle.std.specs.Prelude.{◌≡◌, ℕ, ◌+◌, ◌-◌, ◌*◌, ◌/◌, ◌%◌, ◌<◌, ◌≤◌, ◌++◌, OnOk, Some, None, drop, length, map, slice_index};
+ghost use Rattle.std.specs.Prelude.{◌≡◌, ℕ, ◌+◌, ◌-◌, ◌*◌, ◌/◌, ◌%◌, ◌<◌, ◌≤◌, ◌++◌, OnOk, drop, length, map, slice_index};
 ghost use Rattle.std.specs.List.{range_with_len};
 ghost use Rattle.dsd_bits.specs.Blocks.{ordered};
 ghost use Rattle.player_core.specs.Due as Due;
 ghost use Rattle.player_core.specs.Groups as Groups;
 ghost use Rattle.player_core.specs.Groups.{channel_part, in_order};
 
-use dsd_bits::{BitOrder, Sound, turn};
+use dsd_bits::{BitOrder, Interleaving, Sound, turn};
 use std::alloc::AllocError;
 
 // The bytes of a block.
 const BLOCK: usize = 4096;
 
 /// How many bytes of a channel stand side by side: one in DSDIFF 1.5, a block in DSF 1.01.
-pub(crate) fn part_size(order: Option<BitOrder>) -> usize
-    ensures { result ≡ Groups.part_size order }
+pub(crate) fn part_size(interleaving: Interleaving) -> usize
+    ensures { result ≡ Groups.part_size interleaving }
 {
-    match order {
-        None => 1,
-        Some(_) => BLOCK,
+    match interleaving {
+        Interleaving::Bytes => 1,
+        Interleaving::Blocks(_) => BLOCK,
     }
 }
 
 /// How many bytes a group of sound bytes has: for each channel in turn as many as stand side by side.
 pub(crate) fn group_size(sound: &Sound) -> usize
     requires { sound.now.channels ≤ 6 }
-    ensures { result ≡ Groups.group_size sound.now.order sound.now.channels }
+    ensures { result ≡ Groups.group_size sound.now.interleaving sound.now.channels }
 {
-    sound.channels * part_size(sound.order)
+    sound.channels * part_size(sound.interleaving)
 }
 
 /// How many bytes of each channel stand in the whole groups of so many sound bytes.
@@ -36,7 +36,7 @@ pub(crate) fn bytes_heard(sound: &Sound, size: usize) -> usize
     requires { (1 ≤ sound.now.channels) × (sound.now.channels ≤ 6) }
     ensures { result ≡ Due.bytes_heard sound.now size }
 {
-    let whole = size / group_size(sound) * part_size(sound.order);
+    let whole = size / group_size(sound) * part_size(sound.interleaving);
     sound.count.div_ceil(8).min(whole)
 }
 
@@ -47,17 +47,17 @@ pub(crate) fn fill_channel(
     groups: &[u8],
     channels: usize,
     c: usize,
-    order: Option<BitOrder>,
+    interleaving: Interleaving,
     number: usize,
 ) -> Result<(), AllocError>
     requires channel { (c < channels) × (channels ≤ 6) }
-    requires enough { number ≤ length groups.now / Groups.group_size order channels * Groups.part_size order }
-    ensures { OnOk result (own.new.items ≡ channel_part order channels groups.now c 0 number) }
+    requires enough { number ≤ length groups.now / Groups.group_size interleaving channels * Groups.part_size interleaving }
+    ensures { OnOk result (own.new.items ≡ channel_part interleaving channels groups.now c 0 number) }
 {
     own.clear();
-    match order {
-        None => fill_strided(own, groups, channels, c, number),
-        Some(order) => push_blocks(own, groups, channels, c, order, number),
+    match interleaving {
+        Interleaving::Bytes => fill_strided(own, groups, channels, c, number),
+        Interleaving::Blocks(order) => push_blocks(own, groups, channels, c, order, number),
     }
 }
 
@@ -71,7 +71,7 @@ fn fill_strided(
 ) -> Result<(), AllocError>
     requires channel { c < channels }
     requires enough { number * channels ≤ length groups.now }
-    ensures { OnOk result (own.new.items ≡ channel_part None channels groups.now c 0 number) }
+    ensures { OnOk result (own.new.items ≡ channel_part Interleaving.Bytes channels groups.now c 0 number) }
 {
     own.resize(number, 0)?;
     pick(own.as_mut_slice(), groups, channels, c);
@@ -115,7 +115,7 @@ fn push_blocks(
 ) -> Result<(), AllocError>
     requires channel { (c < channels) × (channels ≤ 6) }
     requires enough { number ≤ length groups.now / (channels * 4096) * 4096 }
-    ensures { OnOk result (own.new.items ≡ own.old.items ++ channel_part (Some order) channels groups.now c 0 number) }
+    ensures { OnOk result (own.new.items ≡ own.old.items ++ channel_part (Interleaving.Blocks order) channels groups.now c 0 number) }
 {
     for group in 0..number.div_ceil(BLOCK) {
         let (_, block) = groups.split_at((group * channels + c) * BLOCK);

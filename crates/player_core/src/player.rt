@@ -15,7 +15,7 @@ ghost use Rattle.player_core.specs.Groups.{channel_part};
 ghost use Rattle.player_core.specs.PlayerView.{AreChannels, AreNew, AreReady, AreWhole, FeedAll, FinishAll};
 
 use crate::groups::{bytes_heard, drop_front, fill_channel, group_size};
-use dsd_bits::{BitOrder, Sound};
+use dsd_bits::{Interleaving, Sound};
 use fir_core::{Stream, Taps};
 use std::alloc::{AllocError, Global};
 use wave_core::push_frames;
@@ -34,15 +34,15 @@ pub struct Player<'a> {
 }
 
 impl<'a> Player<'a> {
-    ghost use Rattle.std.specs.Prelude.{◌≡◌, ◌+◌, ◌%◌, ◌≤◌, [], IfOk, None, OnOk, length};
+    ghost use Rattle.std.specs.Prelude.{◌≡◌, ◌+◌, ◌%◌, ◌≤◌, [], IfOk, OnOk, length};
     ghost use Rattle.dsd_bits.specs.Sounds.{IsSound};
     ghost use Rattle.player_core.specs.PlayerView.{FeedsPlayer, FinishesPlayer, IsFed, IsPlayer};
 
     /// The player before the first byte of a sound: 1 to 6 channels of the same number of bits, whole bytes where
-    /// no order is told. It is refused only for want of memory.
+    /// they stand in frames. It is refused only for want of memory.
     pub fn new(alloc: Global, taps: &'a Taps, sound: Sound) -> Result<Player<'a>, AllocError>
         requires sound { IsSound sound }
-        requires whole { sound.order ≡ None → sound.count % 8 ≡ 0 }
+        requires whole { sound.interleaving ≡ Interleaving.Bytes → sound.count % 8 ≡ 0 }
         ensures ready { IfOk result IsPlayer }
         ensures made { IfOk result (λ p. (p.taps.now ≡ taps.now) × (p.sound ≡ sound) × (p.fed ≡ 0)) }
         ensures fed { IfOk result (λ p. IsFed p []) }
@@ -156,7 +156,7 @@ fn feed_all(
 ) -> Result<(), AllocError>
     requires channels { (length streams.old ≡ sound.now.channels) × (sound.now.channels ≤ 6) }
     requires ready { AreReady number streams.old }
-    requires enough { number ≤ length groups.now / Groups.group_size sound.now.order sound.now.channels * Groups.part_size sound.now.order }
+    requires enough { number ≤ length groups.now / Groups.group_size sound.now.interleaving sound.now.channels * Groups.part_size sound.now.interleaving }
     ensures channels { OnOk result ((d : Decimator) (fed : ℕ) → AreChannels d sound.now.count fed streams.old → AreChannels d sound.now.count (fed + number) streams.new) }
     ensures fed { OnOk result ((d : Decimator) (fed : ℕ) → AreChannels d sound.now.count fed streams.old → FeedAll d sound.now fed number streams.old streams.new groups.now tile.new.items) }
 {
@@ -165,7 +165,7 @@ fn feed_all(
         let part = Part {
             channels: sound.channels,
             c,
-            order: sound.order,
+            interleaving: sound.interleaving,
             number,
         };
         feed_one(stream, own, tile, groups, part)?;
@@ -178,7 +178,7 @@ fn feed_all(
 struct Part {
     channels: usize,
     c: usize,
-    order: Option<BitOrder>,
+    interleaving: Interleaving,
     number: usize,
 }
 
@@ -193,13 +193,20 @@ fn feed_one(
     requires ready { IsStream stream.old }
     requires few { stream.old.fed + part.number ≤ div_ceil stream.old.count 8 }
     requires channel { (part.c < part.channels) × (part.channels ≤ 6) }
-    requires enough { part.number ≤ length groups.now / Groups.group_size part.order part.channels * Groups.part_size part.order }
+    requires enough { part.number ≤ length groups.now / Groups.group_size part.interleaving part.channels * Groups.part_size part.interleaving }
     ensures ready { IsStream stream.new }
-    ensures ok { OnOk result (Feeds (state_of stream.old) (state_of stream.new) (channel_part part.order part.channels groups.now part.c 0 part.number) tile.old.items tile.new.items) }
+    ensures ok { OnOk result (Feeds (state_of stream.old) (state_of stream.new) (channel_part part.interleaving part.channels groups.now part.c 0 part.number) tile.old.items tile.new.items) }
     ensures fed { OnOk result (stream.new.fed ≡ stream.old.fed + part.number) }
     ensures same { (stream.new.taps ≡ stream.old.taps) × (stream.new.count ≡ stream.old.count) }
 {
-    fill_channel(own, groups, part.channels, part.c, part.order, part.number)?;
+    fill_channel(
+        own,
+        groups,
+        part.channels,
+        part.c,
+        part.interleaving,
+        part.number,
+    )?;
     stream.feed(own.as_slice(), tile)
 }
 

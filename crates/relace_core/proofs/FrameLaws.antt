@@ -1,16 +1,17 @@
 -- Frames that are taken apart and put together again.
-use Rattle.std.proofs.Common.{◌≡◌, ℕ, ◌+◌, ◌*◌, ◌/◌, ◌%◌, ◌<◌, ◌≤◌, ◌^◌, false, List, [], map, length, get_or, slice_index, Option, None, Some, sym, ap, ap₂, ◌∙◌, refl, arith, inl, inr}
+use Rattle.std.proofs.Common.{◌≡◌, ℕ, ◌+◌, ◌*◌, ◌/◌, ◌%◌, ◌<◌, ◌≤◌, ◌^◌, false, List, [], map, length, get_or, slice_index, sym, ap, ap₂, ◌∙◌, refl, arith, inl, inr}
 use Rattle.std.proofs.lemmas.Bool.{cases_lt}
 use Rattle.std.proofs.lemmas.List.{get_or_past}
 use Rattle.std.proofs.lemmas.Grind.{same_number_lists}
 use Rattle.std.proofs.lemmas.List.FromFn.{length-map-range_with_len, get_or-map-range_with_len}
 use Rattle.std.proofs.lemmas.Nat.{div-add-mod', div_below, mod_below}
-use Rattle.std.specs.Option.{is_some}
 use Rattle.std.specs.List.{range_with_len}
 use Rattle.std.specs.Int.{div_ceil}
-use Rattle.dsd_bits.specs.declared.blocks.BitOrder.{BitOrder}
+use Rattle.dsd_bits.specs.declared.interleaving.Interleaving.{Interleaving}
+use Rattle.dsd_bits.specs.declared.interleaving.Interleaving.TheVariants.{Bytes, Blocks}
 use Rattle.dsd_bits.specs.Lacing.{frames_of, laced, laced_bit, laced_byte, unlaced, unlaced_all}
 use Rattle.dsd_bits.specs.Packing.{IsTight, packed_byte, unpacked}
+use Rattle.dsd_bits.specs.Sounds.{has_blocks}
 use Rattle.dsd_bits.proofs.LacingLemmas.{own_bytes, unpacked-own_bytes}
 use Rattle.dsd_bits.proofs.PackingLemmas.{length-unpacked, packed-unpacked, past_end}
 use Rattle.relace_core.specs.Relacing.{relaced}
@@ -57,7 +58,7 @@ module _ (bytes : List ℕ) (n count : ℕ) (some : 1 ≤ n) (whole : count % 8 
       ∙ sym (ap (λ bs. slice_index bs j) again)
       ∙ own_at c j below
 
-  pub frames_again : relaced None None n count bytes ≡ bytes
+  pub frames_again : relaced Bytes Bytes n count bytes ≡ bytes
   frames_again =
       let all = unlaced_all bytes n in
       let number = unlaced_number bytes n count some whole size in
@@ -73,10 +74,10 @@ module _ (bytes : List ℕ) (n count : ℕ) (some : 1 ≤ n) (whole : count % 8 
       ∙ byte_again (p % n) (p / n) (div_below p n (count / 8) some below)
       ∙ ap (slice_index bytes) (div-add-mod' p n))
 
-  pub same_frames : (from to : Option BitOrder) → from ≡ None → to ≡ None → relaced from to n count bytes ≡ bytes
-  same_frames from to from_none to_none = ap₂ (λ (f t : Option BitOrder). relaced f t n count bytes) from_none to_none ∙ frames_again
+  pub same_frames : (from to : Interleaving) → from ≡ Bytes → to ≡ Bytes → relaced from to n count bytes ≡ bytes
+  same_frames from to from_none to_none = ap₂ (λ (f t : Interleaving). relaced f t n count bytes) from_none to_none ∙ frames_again
 
--- that there is no order
-pub none_is : (order : Option BitOrder) → is_some order ≡ false → order ≡ None
-none_is None e = refl
-none_is (Some order) e = absurd cc
+-- what has no blocks has bytes
+pub no_blocks : (interleaving : Interleaving) → has_blocks interleaving ≡ false → interleaving ≡ Bytes
+no_blocks Bytes e = refl
+no_blocks (Blocks order) e = absurd cc

@@ -1,5 +1,5 @@
 -- Whole groups of sound, and what stands behind them.
-use Rattle.std.proofs.Common.{◌≡◌, ℕ, zero, suc, ◌+◌, ◌*◌, ◌/◌, ◌%◌, ◌<◌, ◌≤◌, Bool, List, [], ◌++◌, map, length, get_or, Option, None, Some, sym, ap, ap₂, ◌∙◌, refl, arith}
+use Rattle.std.proofs.Common.{◌≡◌, ℕ, zero, suc, ◌+◌, ◌*◌, ◌/◌, ◌%◌, ◌<◌, ◌≤◌, Bool, List, [], ◌++◌, map, length, get_or, sym, ap, ap₂, ◌∙◌, refl, arith}
 use Rattle.std.proofs.lemmas.List.{length-append}
 use Rattle.std.proofs.lemmas.List.FromFn.{length-map-range_with_len, get_or-map-range_with_len}
 use Rattle.std.proofs.lemmas.Nat.{div_below, mod_below}
@@ -7,6 +7,8 @@ use Rattle.std.proofs.Math.Nat.{add-mul, mul-add-div_right, mul-add-mod_self_rig
 use Rattle.std.specs.List.{range_with_len}
 use Rattle.std.specs.Int.{div_ceil}
 use Rattle.dsd_bits.specs.declared.blocks.BitOrder.{BitOrder}
+use Rattle.dsd_bits.specs.declared.interleaving.Interleaving.{Interleaving}
+use Rattle.dsd_bits.specs.declared.interleaving.Interleaving.TheVariants.{Bytes, Blocks}
 use Rattle.dsd_bits.specs.Blocks.{block_byte, blocked, blocks_size, ordered, unblocked}
 use Rattle.dsd_bits.specs.Channels.{count_of}
 use Rattle.dsd_bits.specs.Lacing.{frames_of, laced, laced_byte, unlaced}
@@ -36,13 +38,13 @@ by_channel f fa fb n a each bits =
       bits = λ c h. ap length (at fa c h) ∙ bits c h;
     }
 
-taken : (from : Option BitOrder) (n a b : ℕ) (first more : List ℕ) → a % 32768 ≡ 0 → length first ≡ sound_size from n a → length more ≡ sound_size from n b
+taken : (from : Interleaving) (n a b : ℕ) (first more : List ℕ) → a % 32768 ≡ 0 → length first ≡ sound_size from n a → length more ≡ sound_size from n b
     → Appended (sound_channels from n (a + b) (first ++ more)) (sound_channels from n a first) (sound_channels from n b more) n a
-taken None n a b first more whole size more_size =
+taken Bytes n a b first more whole size more_size =
     by_channel (unlaced (first ++ more) n) (unlaced first n) (unlaced more n) n a
     (λ c h. unlaced_join first more n c a (b / 8) h (omega arith) size more_size)
     (λ c h. unlaced_bits first more n c a (b / 8) h (omega arith) size more_size)
-taken (Some order) n a b first more whole size more_size =
+taken (Blocks order) n a b first more whole size more_size =
     by_channel (unblocked order (first ++ more) n (a + b)) (unblocked order first n a) (unblocked order more n b) n a
     (λ c h. unblocked_join order first more n c a h whole size b)
     (λ c h. unblocked_bits order first more n c a h whole size)
@@ -136,21 +138,21 @@ module _ (all first more : List (List Bool)) (n a : ℕ) (some : 1 ≤ n) (whole
         (λ p below. block_left p (omega (arith, one)))
         (λ p below. ap (λ k. block_byte order all (k + p)) one ∙ block_right p)
 
-written : (to : Option BitOrder) (all first more : List (List Bool)) (n a : ℕ) → 1 ≤ n → a % 32768 ≡ 0 → Appended all first more n a → laced_in to all ≡ laced_in to first ++ laced_in to more
-written None all first more n a some whole h = laced_join all first more n a some whole h
-written (Some order) all first more n a some whole h = blocked_join all first more n a some whole h order
+written : (to : Interleaving) (all first more : List (List Bool)) (n a : ℕ) → 1 ≤ n → a % 32768 ≡ 0 → Appended all first more n a → laced_in to all ≡ laced_in to first ++ laced_in to more
+written Bytes all first more n a some whole h = laced_join all first more n a some whole h
+written (Blocks order) all first more n a some whole h = blocked_join all first more n a some whole h order
 
 -- ---- no channels
 
-none_taken : (from : Option BitOrder) (count : ℕ) (bytes : List ℕ) → sound_channels from 0 count bytes ≡ []
-none_taken None count bytes = refl
-none_taken (Some order) count bytes = refl
+none_taken : (from : Interleaving) (count : ℕ) (bytes : List ℕ) → sound_channels from 0 count bytes ≡ []
+none_taken Bytes count bytes = refl
+none_taken (Blocks order) count bytes = refl
 
-none_written : (to : Option BitOrder) → laced_in to [] ≡ []
-none_written None = refl
-none_written (Some order) = refl
+none_written : (to : Interleaving) → laced_in to [] ≡ []
+none_written Bytes = refl
+none_written (Blocks order) = refl
 
-no_bytes : (from to : Option BitOrder) (count : ℕ) (bytes : List ℕ) → relaced from to 0 count bytes ≡ []
+no_bytes : (from to : Interleaving) (count : ℕ) (bytes : List ℕ) → relaced from to 0 count bytes ≡ []
 no_bytes from to count bytes = ap (laced_in to) (none_taken from count bytes) ∙ none_written to
 
 -- ---- the law

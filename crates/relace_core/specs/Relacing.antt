@@ -1,21 +1,22 @@
--- Sound bytes of one interleaving in another: a byte of each channel in turn where no order is told, else blocks with their bits in that order.
-use Rattle.std.specs.Prelude.{◌≡◌, ℕ, ◌+◌, ◌%◌, Bool, List, ◌++◌, length, Option, None, Some}
-use Rattle.dsd_bits.specs.declared.blocks.BitOrder.{BitOrder}
+-- Sound bytes of one interleaving in another.
+use Rattle.std.specs.Prelude.{◌≡◌, ℕ, ◌+◌, ◌%◌, Bool, List, ◌++◌, length}
+use Rattle.dsd_bits.specs.declared.interleaving.Interleaving.{Interleaving}
+use Rattle.dsd_bits.specs.declared.interleaving.Interleaving.TheVariants.{Bytes, Blocks}
 use Rattle.dsd_bits.specs.Blocks.{blocked}
 use Rattle.dsd_bits.specs.Lacing.{laced}
 use Rattle.dsd_bits.specs.Limits.{block_bits}
 use Rattle.dsd_bits.specs.Sounds.{sound_channels, sound_size}
 
 -- the sound bytes of the channels
-abbrev pub laced_in : Option BitOrder → List (List Bool) → List ℕ
-laced_in None channels = laced channels
-laced_in (Some order) channels = blocked order channels
+abbrev pub laced_in : Interleaving → List (List Bool) → List ℕ
+laced_in Bytes channels = laced channels
+laced_in (Blocks order) channels = blocked order channels
 
 -- the sound bytes of the same channels, so many of so many bits, in the other interleaving
-abbrev pub relaced : Option BitOrder → Option BitOrder → ℕ → ℕ → List ℕ → List ℕ
+abbrev pub relaced : Interleaving → Interleaving → ℕ → ℕ → List ℕ → List ℕ
 relaced from to channels count bytes = laced_in to (sound_channels from channels count bytes)
 
 -- sound bytes of whole groups of 4096 bytes a channel, and those behind them, each written in the other interleaving, are all of them written so
 abbrev pub GroupsJoin : Type 0
-GroupsJoin = (from to : Option BitOrder) (channels a b : ℕ) (first more : List ℕ) → a % block_bits ≡ 0 → length first ≡ sound_size from channels a → length more ≡ sound_size from channels b
+GroupsJoin = (from to : Interleaving) (channels a b : ℕ) (first more : List ℕ) → a % block_bits ≡ 0 → length first ≡ sound_size from channels a → length more ≡ sound_size from channels b
     → relaced from to channels (a + b) (first ++ more) ≡ relaced from to channels a first ++ relaced from to channels b more

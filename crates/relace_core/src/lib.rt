@@ -1,8 +1,8 @@
 //! Sound bytes of one interleaving written in another, a stretch at a time.
 //!
-//! An interleaving is an `Option` of a [`dsd_bits::BitOrder`], as of [`dsd_bits::Sound`]: None for the frames of
-//! DSDIFF 1.5, one byte of each channel in turn, and an order for the blocks of DSF 1.01, 4096 bytes of each channel in
-//! turn with their bits in that order. A group, 4096 bytes (32768 bits) of each channel, is the same sound in both.
+//! An [`Interleaving`](dsd_bits::Interleaving) is that of DSDIFF 1.5, frames of one byte of each channel in turn, or
+//! that of DSF 1.01, blocks of 4096 bytes of each channel in turn with their bits in an order. A group, 4096 bytes
+//! (32768 bits) of each channel, is the same sound in both.
 //!
 //! [`push_relaced`] appends the bytes of a stretch in the other interleaving. Whole groups and what stands behind them
 //! can be written one after the other ([`groups_join`]), so that a file is converted while it is read.
@@ -14,7 +14,8 @@
 //!
 //! ```text
 //! let stretch = Stretch { channels: 2, count: 16 };
-//! push_relaced(alloc, &mut out, &[0xf0, 0x0f, 0xaa, 0x55], stretch, None, Some(BitOrder::MostFirst))?;
+//! let blocks = Interleaving::Blocks(BitOrder::MostFirst);
+//! push_relaced(alloc, &mut out, &[0xf0, 0x0f, 0xaa, 0x55], stretch, Interleaving::Bytes, blocks)?;
 //! // f0 aa and 4094 zeros, 0f 55 and 4094 zeros
 //! ```
 #![tactic(auto)]

@@ -1,13 +1,15 @@
 //! Sound bytes of one interleaving written in another.
 
-ghost use Rattle.std.specs.Prelude.{◌≡◌, ◌≤◌, ◌*◌, ◌/◌, ◌%◌, ◌++◌, IfOk, None, OnErr, OnOk, Some, length};
+ghost use Rattle.std.specs.Prelude.{◌≡◌, ◌≤◌, ◌*◌, ◌/◌, ◌%◌, ◌++◌, IfOk, OnErr, OnOk, length};
 ghost use Rattle.dsd_bits.specs.Blocks.{blocks_size};
 ghost use Rattle.dsd_bits.specs.Channels.{IsLevel, count_of};
 ghost use Rattle.dsd_bits.specs.Limits.{most_bits};
 ghost use Rattle.dsd_bits.specs.Sounds.{sound_channels, sound_size};
 ghost use Rattle.relace_core.specs.Relacing.{relaced};
 
-use dsd_bits::{BitOrder, Bits, LaceFault, push_blocks, push_laced, unlace_blocks, unlace_bytes};
+use dsd_bits::{
+    BitOrder, Bits, Interleaving, LaceFault, push_blocks, push_laced, unlace_blocks, unlace_bytes,
+};
 use std::alloc::{AllocError, Global};
 
 /// How many channels a stretch of sound has, and how many bits each of them.
@@ -20,32 +22,31 @@ pub struct Stretch {
 }
 
 /// Appends the sound bytes of a stretch, which stand in `bytes` interleaved as `from` says, interleaved as `to`
-/// says: a byte of each channel in turn for None, whole bytes of each channel, else blocks of 4096 bytes of each
-/// channel with their bits in that order. What stands behind the bits in the last blocks is not looked at, and
-/// is written as zeros. Where there is no memory for them `out` stays as it was.
+/// says. Frames hold whole bytes of each channel. What stands behind the bits in the last blocks is not looked at,
+/// and is written as zeros. Where there is no memory for them `out` stays as it was.
 pub fn push_relaced(
     alloc: Global,
     out: &mut Vec<u8>,
     bytes: &[u8],
     stretch: Stretch,
-    from: Option<BitOrder>,
-    to: Option<BitOrder>,
+    from: Interleaving,
+    to: Interleaving,
 ) -> Result<(), AllocError>
     requires channel_number { (1 ≤ stretch.channels) × (stretch.channels ≤ 6) }
     requires in_limit { stretch.count ≤ most_bits }
     requires size { length bytes.now ≡ sound_size from stretch.channels stretch.count }
-    requires from_whole { from ≡ None → stretch.count % 8 ≡ 0 }
-    requires to_whole { to ≡ None → stretch.count % 8 ≡ 0 }
+    requires from_whole { from ≡ Interleaving.Bytes → stretch.count % 8 ≡ 0 }
+    requires to_whole { to ≡ Interleaving.Bytes → stretch.count % 8 ≡ 0 }
     ensures ok { OnOk result (out.new.items ≡ out.old.items ++ relaced from to stretch.channels stretch.count bytes.now) }
     ensures err { OnErr result (out.new.items ≡ out.old.items) }
 {
-    if from.is_none() && to.is_none() {
+    if !from.has_blocks() && !to.has_blocks() {
         return out.extend_from_slice(bytes);
     }
     let channels = unlace(alloc, bytes, stretch, from)?;
     match to {
-        None => push_laced(out, &channels),
-        Some(order) => push_blocks(out, &channels, order),
+        Interleaving::Bytes => push_laced(out, &channels),
+        Interleaving::Blocks(order) => push_blocks(out, &channels, order),
     }
 }
 
@@ -54,20 +55,20 @@ fn unlace(
     alloc: Global,
     bytes: &[u8],
     stretch: Stretch,
-    from: Option<BitOrder>,
+    from: Interleaving,
 ) -> Result<Vec<Bits>, AllocError>
     requires channel_number { (1 ≤ stretch.channels) × (stretch.channels ≤ 6) }
     requires in_limit { stretch.count ≤ most_bits }
     requires size { length bytes.now ≡ sound_size from stretch.channels stretch.count }
-    requires from_whole { from ≡ None → stretch.count % 8 ≡ 0 }
+    requires from_whole { from ≡ Interleaving.Bytes → stretch.count % 8 ≡ 0 }
     ensures bits { IfOk result (λ made. made.items ≡ sound_channels from stretch.channels stretch.count bytes.now) }
     ensures number { IfOk result (λ made. length made.items ≡ stretch.channels) }
     ensures level { IfOk result (λ made. IsLevel made.items) }
     ensures count { IfOk result (λ made. count_of made.items ≡ stretch.count) }
 {
     match from {
-        None => unlace_frames(alloc, bytes, stretch),
-        Some(order) => unlace_groups(alloc, bytes, stretch, order),
+        Interleaving::Bytes => unlace_frames(alloc, bytes, stretch),
+        Interleaving::Blocks(order) => unlace_groups(alloc, bytes, stretch, order),
     }
 }
 
@@ -77,7 +78,7 @@ fn unlace_frames(alloc: Global, bytes: &[u8], stretch: Stretch) -> Result<Vec<Bi
     requires in_limit { stretch.count ≤ most_bits }
     requires size { length bytes.now ≡ stretch.count / 8 * stretch.channels }
     requires whole { stretch.count % 8 ≡ 0 }
-    ensures bits { IfOk result (λ made. made.items ≡ sound_channels None stretch.channels stretch.count bytes.now) }
+    ensures bits { IfOk result (λ made. made.items ≡ sound_channels Interleaving.Bytes stretch.channels stretch.count bytes.now) }
     ensures number { IfOk result (λ made. length made.items ≡ stretch.channels) }
     ensures level { IfOk result (λ made. IsLevel made.items) }
     ensures count { IfOk result (λ made. count_of made.items ≡ stretch.count) }
@@ -99,7 +100,7 @@ fn unlace_groups(
     requires channel_number { (1 ≤ stretch.channels) × (stretch.channels ≤ 6) }
     requires in_limit { stretch.count ≤ most_bits }
     requires size { length bytes.now ≡ blocks_size stretch.channels stretch.count }
-    ensures bits { IfOk result (λ made. made.items ≡ sound_channels (Some order) stretch.channels stretch.count bytes.now) }
+    ensures bits { IfOk result (λ made. made.items ≡ sound_channels (Interleaving.Blocks order) stretch.channels stretch.count bytes.now) }
     ensures number { IfOk result (λ made. length made.items ≡ stretch.channels) }
     ensures level { IfOk result (λ made. IsLevel made.items) }
     ensures count { IfOk result (λ made. count_of made.items ≡ stretch.count) }

@@ -7,7 +7,8 @@ use Rattle.std.proofs.lemmas.List.{append_cancel_left, nil_from_length}
 use Rattle.std.specs.Io.KnownBytes.{Appends, Consumes, IsAtEnd}
 use Rattle.std.proofs.KnownBytes.{Appends-nil, Appends-trans, Consumes-nil, Consumes-trans}
 use Rattle.device_core.specs.Outlets.{AppendsFront}
-use Rattle.dsd_bits.specs.declared.blocks.BitOrder.{BitOrder}
+use Rattle.dsd_bits.specs.declared.interleaving.Interleaving.{Interleaving}
+use Rattle.dsd_bits.specs.declared.interleaving.Interleaving.TheVariants.{Bytes, Blocks}
 use Rattle.dsd_bits.specs.declared.sound.Sound.{Sound}
 use Rattle.dsd_bits.specs.Sounds.{IsSound, sound_size}
 use Rattle.relace_core.specs.Relacing.{GroupsJoin, relaced}
@@ -47,48 +48,48 @@ whole_front a b all out = (all, [], sym (append-nil all), out)
 
 -- ---- stretches
 -- the bytes of whole groups and those behind them are as many as those of all
-pub size_on : (order : Option BitOrder) (n a b : ℕ) → a % 32768 ≡ 0 → sound_size order n (a + b) ≡ sound_size order n a + sound_size order n b
-size_on None n a b whole = let bytes : (a + b) / 8 ≡ a / 8 + b / 8 = omega arith in ap (λ k. k * n) bytes ∙ add-mul (a / 8) (b / 8) n
-size_on (Some order) n a b whole =
+pub size_on : (interleaving : Interleaving) (n a b : ℕ) → a % 32768 ≡ 0 → sound_size interleaving n (a + b) ≡ sound_size interleaving n a + sound_size interleaving n b
+size_on Bytes n a b whole = let bytes : (a + b) / 8 ≡ a / 8 + b / 8 = omega arith in ap (λ k. k * n) bytes ∙ add-mul (a / 8) (b / 8) n
+size_on (Blocks order) n a b whole =
     let groups : div_ceil (a + b) 32768 ≡ div_ceil a 32768 + div_ceil b 32768 = omega arith in
     ap (λ k. k * n * 4096) groups ∙ ap (λ k. k * 4096) (add-mul (div_ceil a 32768) (div_ceil b 32768) n) ∙ add-mul (div_ceil a 32768 * n) (div_ceil b 32768 * n) 4096
 
 -- those of as many groups as fit are at most a block
-pub size_fits : (order : Option BitOrder) (n bits most : ℕ) → bits ≤ most → most % 32768 ≡ 0 → most / 32768 * n ≤ 16 → sound_size order n bits ≤ 65536
-size_fits None n bits most few whole fits =
+pub size_fits : (interleaving : Interleaving) (n bits most : ℕ) → bits ≤ most → most % 32768 ≡ 0 → most / 32768 * n ≤ 16 → sound_size interleaving n bits ≤ 65536
+size_fits Bytes n bits most few whole fits =
     let k = most / 32768 in
     let below : bits / 8 * n ≤ k * 4096 * n = mul-le-mul_right n (omega arith) in
     let turned : k * 4096 * n ≡ k * n * 4096 = mul_assoc k 4096 n ∙ ap (λ m. k * m) (mul_comm 4096 n) ∙ sym (mul_assoc k n 4096) in
     omega (arith, below, turned, fits)
-size_fits (Some order) n bits most few whole fits =
+size_fits (Blocks order) n bits most few whole fits =
     let k = most / 32768 in
     let below : div_ceil bits 32768 * n ≤ k * n = mul-le-mul_right n (omega arith) in
     omega (arith, below, fits)
 
 -- a front of what a stretch is was written
-pub stretch_front : (s : Sound) (to : Option BitOrder) (bits : ℕ) (left new a b : Option (List ℕ)) (read : List ℕ) → Consumes left new read → length read ≡ sound_size s.order s.channels bits → AppendsFront a b (relaced s.order to s.channels bits read) → PartFront left s to bits a b
+pub stretch_front : (s : Sound) (to : Interleaving) (bits : ℕ) (left new a b : Option (List ℕ)) (read : List ℕ) → Consumes left new read → length read ≡ sound_size s.interleaving s.channels bits → AppendsFront a b (relaced s.interleaving to s.channels bits read) → PartFront left s to bits a b
 stretch_front s to bits None new a b read consumed long out = tt
 stretch_front s to bits (Some xs) new a b read consumed long out = λ part rest is size.
     let ys = left_is (Some xs) new read xs consumed refl in
-    subst (λ zs. AppendsFront a b (relaced s.order to s.channels bits zs)) (same_front read part ys.0 rest (sym ys.2 ∙ is) (long ∙ sym size)) out
+    subst (λ zs. AppendsFront a b (relaced s.interleaving to s.channels bits zs)) (same_front read part ys.0 rest (sym ys.2 ∙ is) (long ∙ sym size)) out
 
 -- nothing of a sound is nothing of another
-pub part_none : (law : GroupsJoin) (s : Sound) (to : Option BitOrder) (left a : Option (List ℕ)) → RelaysPart left left s to 0 a a
+pub part_none : (law : GroupsJoin) (s : Sound) (to : Interleaving) (left a : Option (List ℕ)) → RelaysPart left left s to 0 a a
 part_none law s to left a = record {
   part = [];
   consumed = Consumes-nil left;
-  long = sym (none s.order);
+  long = sym (none s.interleaving);
   written = subst (Appends a a) (sym nothing) (Appends-nil a);
 }
   where
-    none : (order : Option BitOrder) → sound_size order s.channels 0 ≡ 0
-    none None = omega arith
-    none (Some order) = omega arith
+    none : (interleaving : Interleaving) → sound_size interleaving s.channels 0 ≡ 0
+    none Bytes = omega arith
+    none (Blocks order) = omega arith
 
-    nothing : relaced s.order to s.channels 0 [] ≡ []
+    nothing : relaced s.interleaving to s.channels 0 [] ≡ []
     nothing =
-        let made = relaced s.order to s.channels 0 [] in
-        let twice : made ≡ made ++ made = law s.order to s.channels 0 0 [] [] refl (sym (none s.order)) (sym (none s.order)) in
+        let made = relaced s.interleaving to s.channels 0 [] in
+        let twice : made ≡ made ++ made = law s.interleaving to s.channels 0 0 [] [] refl (sym (none s.interleaving)) (sym (none s.interleaving)) in
         nil_from_length made (omega (arith, ap length twice, length-append made made))
 
 -- where more comes, whole groups were read
@@ -103,12 +104,12 @@ last_groups left most bits whole is = elim (cases_lt left most) [
   | inr more ↦ inl (let same : bits ≡ most = omega (arith, is, more) in ap (λ n. n % 32768) same ∙ whole)
 ]
 
-module _ (law : GroupsJoin) (s : Sound) (to : Option BitOrder) (left now a b : Option (List ℕ)) (done : ℕ) (so_far : RelaysPart left now s to done a b) (whole : done % 32768 ≡ 0) where
+module _ (law : GroupsJoin) (s : Sound) (to : Interleaving) (left now a b : Option (List ℕ)) (done : ℕ) (so_far : RelaysPart left now s to done a b) (whole : done % 32768 ≡ 0) where
   abbrev size : ℕ → ℕ
-  size bits = sound_size s.order s.channels bits
+  size bits = sound_size s.interleaving s.channels bits
 
   abbrev made : ℕ → List ℕ → List ℕ
-  made bits bytes = relaced s.order to s.channels bits bytes
+  made bits bytes = relaced s.interleaving to s.channels bits bytes
 
   pub part_on : (new c : Option (List ℕ)) (bits : ℕ) → RelaysPart now new s to bits b c → RelaysPart left new s to (done + bits) a c
   part_on new c bits more =
@@ -116,8 +117,8 @@ module _ (law : GroupsJoin) (s : Sound) (to : Option BitOrder) (left now a b : O
       record {
         part = both;
         consumed = Consumes-trans left now new so_far.part more.part so_far.consumed more.consumed;
-        long = length-append so_far.part more.part ∙ ap₂ (λ m n. m + n) so_far.long more.long ∙ sym (size_on s.order s.channels done bits whole);
-        written = subst (Appends a c) (sym (law s.order to s.channels done bits so_far.part more.part whole so_far.long more.long)) (Appends-trans a b c (made done so_far.part) (made bits more.part) so_far.written more.written);
+        long = length-append so_far.part more.part ∙ ap₂ (λ m n. m + n) so_far.long more.long ∙ sym (size_on s.interleaving s.channels done bits whole);
+        written = subst (Appends a c) (sym (law s.interleaving to s.channels done bits so_far.part more.part whole so_far.long more.long)) (Appends-trans a b c (made done so_far.part) (made bits more.part) so_far.written more.written);
       }
 
   -- what comes behind the bytes that were read
@@ -126,7 +127,7 @@ module _ (law : GroupsJoin) (s : Sound) (to : Option BitOrder) (left now a b : O
       let ys = left_is left now so_far.part xs so_far.consumed known in
       let first = take (size done) part in
       let behind = drop (size done) part in
-      let total : length part ≡ size done + size rest = long ∙ size_on s.order s.channels done rest whole in
+      let total : length part ≡ size done + size rest = long ∙ size_on s.interleaving s.channels done rest whole in
       let split : part ≡ first ++ behind = sym (take-append-drop (size done) part) in
       let whole_is : first ++ (behind ++ more) ≡ so_far.part ++ ys.0 = sym (append_assoc first behind more) ∙ ap (λ zs. zs ++ more) (sym split) ∙ sym is ∙ ys.2 in
       let first_long : length first ≡ length so_far.part = omega (arith, length-take (size done) part, total, so_far.long) in (
@@ -144,11 +145,11 @@ module _ (law : GroupsJoin) (s : Sound) (to : Option BitOrder) (left now a b : O
   ahead bits rest c (inl groups) bytes more long front =
       let first = take (size bits) bytes in
       let behind = drop (size bits) bytes in
-      let total : length bytes ≡ size bits + size rest = long ∙ size_on s.order s.channels bits rest groups in
+      let total : length bytes ≡ size bits + size rest = long ∙ size_on s.interleaving s.channels bits rest groups in
       let split : bytes ≡ first ++ behind = sym (take-append-drop (size bits) bytes) in
       let first_long : length first ≡ size bits = omega (arith, length-take (size bits) bytes, total) in
       let behind_long : length behind ≡ size rest = omega (arith, length-drop (size bits) bytes, total) in
-      let is : made (bits + rest) bytes ≡ made bits first ++ made rest behind = ap (made (bits + rest)) split ∙ law s.order to s.channels bits rest first behind groups first_long behind_long in
+      let is : made (bits + rest) bytes ≡ made bits first ++ made rest behind = ap (made (bits + rest)) split ∙ law s.interleaving to s.channels bits rest first behind groups first_long behind_long in
       subst (AppendsFront b c) (sym is) (front_more b c (made bits first) (made rest behind) (front first (behind ++ more) (ap (λ zs. zs ++ more) split ∙ append_assoc first behind more) first_long))
 
   pub part_front : (bits rest : ℕ) (c : Option (List ℕ)) → (bits % 32768 ≡ 0) ⊎ (rest ≡ 0) → PartFront now s to bits b c → PartFront left s to (done + (bits + rest)) a c
@@ -158,14 +159,14 @@ module _ (law : GroupsJoin) (s : Sound) (to : Option BitOrder) (left now a b : O
       by None known = tt
       by (Some xs) known = λ part more is long.
           let n = next xs part more (bits + rest) known is long in
-          let joined : made (done + (bits + rest)) part ≡ made done so_far.part ++ made (bits + rest) n.0 = ap (made (done + (bits + rest))) n.1 ∙ law s.order to s.channels done (bits + rest) so_far.part n.0 whole so_far.long n.2 in
+          let joined : made (done + (bits + rest)) part ≡ made done so_far.part ++ made (bits + rest) n.0 = ap (made (done + (bits + rest))) n.1 ∙ law s.interleaving to s.channels done (bits + rest) so_far.part n.0 whole so_far.long n.2 in
           subst (AppendsFront a c) (sym joined) (front_on a b c (made done so_far.part) (made (bits + rest) n.0) so_far.written (ahead bits rest c last n.0 more n.2 (subst (λ o. PartFront o s to bits b c) n.3 front)))
 
   pub part_fault : (bits rest : ℕ) (f : StreamFault) → (bits % 32768 ≡ 0) ⊎ (rest ≡ 0) → IsPartFault now s bits f → IsPartFault left s (done + (bits + rest)) f
   part_fault bits rest FileRefused last h = by left refl
     where
       more : (bits % 32768 ≡ 0) ⊎ (rest ≡ 0) → size bits ≤ size (bits + rest)
-      more (inl groups) = omega (arith, size_on s.order s.channels bits rest groups)
+      more (inl groups) = omega (arith, size_on s.interleaving s.channels bits rest groups)
       more (inr none) = let same : bits + rest ≡ bits = omega (arith, none) in omega (arith, ap size same)
 
       by : (o : Option (List ℕ)) → left ≡ o → IsPartFault o s (done + (bits + rest)) FileRefused
@@ -173,7 +174,7 @@ module _ (law : GroupsJoin) (s : Sound) (to : Option BitOrder) (left now a b : O
       by (Some xs) known =
           let ys = left_is left now so_far.part xs so_far.consumed known in
           let fewer : length ys.0 < size bits = subst (λ o. IsPartFault o s bits FileRefused) ys.1 h in
-          omega (arith, fewer, more last, ap length ys.2, length-append so_far.part ys.0, so_far.long, size_on s.order s.channels done (bits + rest) whole)
+          omega (arith, fewer, more last, ap length ys.2, length-append so_far.part ys.0, so_far.long, size_on s.interleaving s.channels done (bits + rest) whole)
   part_fault bits rest RateNotDivided last h = absurd h
   part_fault bits rest TooLarge last h = absurd h
   part_fault bits rest ReadFailed last h = tt
@@ -253,7 +254,7 @@ module _ (o : Surroundings) (left : Option (List ℕ)) where
 -- ---- the whole file
 module _ (t : Target) (o : Surroundings) (sized : IsSound o.sound) (l0 a0 : Option (List ℕ)) where
   abbrev others : List ℕ → List ℕ
-  others sound = relaced_sound o.sound t.order sound
+  others sound = relaced_sound o.sound t.interleaving sound
 
   -- every file in the surroundings begins with the head
   pub head_fault : (f : StreamFault) → IsExpectFault l0 o.head f → IsRelayFault l0 o f
@@ -302,7 +303,7 @@ module _ (t : Target) (o : Surroundings) (sized : IsSound o.sound) (l0 a0 : Opti
           by (Some xs) known = λ around.
               let sound = around.0 in
               let behind = around.1.gap ++ (o.back ++ around.1.rest) in
-              let fewer : length (sound ++ behind) < sound_size o.sound.order o.sound.channels o.sound.count = subst (λ l. IsPartFault l o.sound o.sound.count FileRefused) (from_sound xs sound around.1 known) h in
+              let fewer : length (sound ++ behind) < sound_size o.sound.interleaving o.sound.channels o.sound.count = subst (λ l. IsPartFault l o.sound o.sound.count FileRefused) (from_sound xs sound around.1 known) h in
               omega (arith, fewer, length-append sound behind, around.1.sound_long, sized.size)
       sound_fault RateNotDivided h = absurd h
       sound_fault TooLarge h = absurd h
@@ -311,17 +312,17 @@ module _ (t : Target) (o : Surroundings) (sized : IsSound o.sound) (l0 a0 : Opti
       sound_fault TurnLimit h = absurd h
       sound_fault Memory h = tt
 
-      pub sound_part : (a2 : Option (List ℕ)) → PartFront l1 o.sound t.order o.sound.count a1 a2 → RelaysFront l0 t o a0 a2
+      pub sound_part : (a2 : Option (List ℕ)) → PartFront l1 o.sound t.interleaving o.sound.count a1 a2 → RelaysFront l0 t o a0 a2
       sound_part a2 front = by l0 refl
         where
           by : (l : Option (List ℕ)) → l0 ≡ l → RelaysFront l t o a0 a2
           by None known = tt
           by (Some xs) known = λ sound stands.
               let behind = stands.gap ++ (o.back ++ stands.rest) in
-              let out = subst (λ l. PartFront l o.sound t.order o.sound.count a1 a2) (from_sound xs sound stands known) front sound behind refl (stands.sound_long ∙ sized.size) in
+              let out = subst (λ l. PartFront l o.sound t.interleaving o.sound.count a1 a2) (from_sound xs sound stands known) front sound behind refl (stands.sound_long ∙ sized.size) in
               front_on a0 a1 a2 t.head.now (others sound ++ t.tail.now) head_out (front_more a1 a2 (others sound) t.tail.now out)
 
-      module _ (l2 a2 : Option (List ℕ)) (played : RelaysPart l1 l2 o.sound t.order o.sound.count a1 a2) where
+      module _ (l2 a2 : Option (List ℕ)) (played : RelaysPart l1 l2 o.sound t.interleaving o.sound.count a1 a2) where
         -- what was read is the sound, and what comes behind it
         same_sound : (xs sound : List ℕ) (stands : StandsIn o xs sound) → l0 ≡ Some xs → (played.part ≡ sound) × (l2 ≡ Some (stands.gap ++ (o.back ++ stands.rest)))
         same_sound xs sound stands known =

@@ -1,8 +1,9 @@
 -- What is written of a file whose outline is known, and which faults stand.
-use Rattle.std.specs.Prelude.{◌≡◌, ℕ, ◌%◌, ◌<◌, true, List, [], ◌++◌, length, Option, None, IfSome, ⊤}
+use Rattle.std.specs.Prelude.{◌≡◌, ℕ, ◌%◌, ◌<◌, true, List, [], ◌++◌, length, Option, IfSome, ⊤}
 use Rattle.std.specs.Io.KnownBytes.{Appends, Consumes, IsAtEnd}
 use Rattle.device_core.specs.Outlets.{AppendsFront}
-use Rattle.dsd_bits.specs.declared.blocks.BitOrder.{BitOrder}
+use Rattle.dsd_bits.specs.declared.interleaving.Interleaving.{Interleaving}
+use Rattle.dsd_bits.specs.declared.interleaving.Interleaving.TheVariants.{Bytes}
 use Rattle.dsd_bits.specs.declared.sound.Sound.{Sound}
 use Rattle.dsd_bits.specs.Sounds.{IsSound, sound_size}
 use Rattle.relace_core.specs.Relacing.{relaced}
@@ -13,12 +14,12 @@ use Rattle.relay_core.specs.declared.relaying.Relacing.{Relacing}
 use Rattle.relay_core.specs.declared.relaying.Target.{Target}
 
 -- the sound bytes of a sound, interleaved otherwise
-abbrev pub relaced_sound : Sound → Option BitOrder → List ℕ → List ℕ
-relaced_sound s to sound = relaced s.order to s.channels s.count sound
+abbrev pub relaced_sound : Sound → Interleaving → List ℕ → List ℕ
+relaced_sound s to sound = relaced s.interleaving to s.channels s.count sound
 
 -- what is written of a file with this sound: a head, the sound interleaved otherwise, a tail
 abbrev pub relayed : Target → Sound → List ℕ → List ℕ
-relayed target s sound = target.head.now ++ (relaced_sound s target.order sound ++ target.tail.now)
+relayed target s sound = target.head.now ++ (relaced_sound s target.interleaving sound ++ target.tail.now)
 
 -- whatever file stands there, it is some sound in the outline, and what is made of that sound was written
 abbrev pub Relays : Option (List ℕ) → Target → Surroundings → Option (List ℕ) → Option (List ℕ) → Type 0
@@ -45,8 +46,8 @@ IsRelayFault left o _ = ⊥
 -- a sound whose channels end with whole bytes where it is read or written in frames
 pub record IsRelacing (x : Relacing) : Type 0 where
   pub is_sound : IsSound x.sound
-  pub from_whole : x.sound.order ≡ None → x.sound.count % 8 ≡ 0
-  pub to_whole : x.to ≡ None → x.sound.count % 8 ≡ 0
+  pub from_whole : x.sound.interleaving ≡ Bytes → x.sound.count % 8 ≡ 0
+  pub to_whole : x.to ≡ Bytes → x.sound.count % 8 ≡ 0
 
 -- what stands behind the sound was read: as many bytes as the gap has, those that were kept, and nothing more where the file ends there
 pub record PassesRest (left_old left_new : Option (List ℕ)) (o : Surroundings) : Type 0 where
@@ -62,19 +63,19 @@ IsRestFault left o ReadFailed = ⊤
 IsRestFault left o _ = ⊥
 
 -- the next bytes were read, which are those of so many bits of each channel, and written interleaved otherwise
-pub record RelaysPart (left_old left_new : Option (List ℕ)) (s : Sound) (to : Option BitOrder) (bits : ℕ) (held_old held_new : Option (List ℕ)) : Type 0 where
+pub record RelaysPart (left_old left_new : Option (List ℕ)) (s : Sound) (to : Interleaving) (bits : ℕ) (held_old held_new : Option (List ℕ)) : Type 0 where
   pub part : List ℕ
   pub consumed : Consumes left_old left_new part
-  pub long : length part ≡ sound_size s.order s.channels bits
-  pub written : Appends held_old held_new (relaced s.order to s.channels bits part)
+  pub long : length part ≡ sound_size s.interleaving s.channels bits
+  pub written : Appends held_old held_new (relaced s.interleaving to s.channels bits part)
 
 -- whatever bytes of so many bits of each channel come next, a front of what they are interleaved otherwise was written
-abbrev pub PartFront : Option (List ℕ) → Sound → Option BitOrder → ℕ → Option (List ℕ) → Option (List ℕ) → Type 0
-PartFront left s to bits held_old held_new = IfSome left (λ left. (part rest : List ℕ) → left ≡ part ++ rest → length part ≡ sound_size s.order s.channels bits → AppendsFront held_old held_new (relaced s.order to s.channels bits part))
+abbrev pub PartFront : Option (List ℕ) → Sound → Interleaving → ℕ → Option (List ℕ) → Option (List ℕ) → Type 0
+PartFront left s to bits held_old held_new = IfSome left (λ left. (part rest : List ℕ) → left ≡ part ++ rest → length part ≡ sound_size s.interleaving s.channels bits → AppendsFront held_old held_new (relaced s.interleaving to s.channels bits part))
 
 -- a fault of this: there are fewer bytes left, or one of a device or memory
 abbrev pub IsPartFault : Option (List ℕ) → Sound → ℕ → StreamFault → Type 0
-IsPartFault left s bits FileRefused = IfSome left (λ left. length left < sound_size s.order s.channels bits)
+IsPartFault left s bits FileRefused = IfSome left (λ left. length left < sound_size s.interleaving s.channels bits)
 IsPartFault left s bits ReadFailed = ⊤
 IsPartFault left s bits WriteFailed = ⊤
 IsPartFault left s bits Memory = ⊤

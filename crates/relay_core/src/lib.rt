@@ -13,7 +13,7 @@
 //! - `RelaysFront left target outline old new` says that a front of it was written, if the file is one.
 //!
 //! ```text
-//! let target = Target { order: None, head: &head, tail: &tail };
+//! let target = Target { interleaving: Interleaving::Bytes, head: &head, tail: &tail };
 //! relay(alloc, &outline, &target, &mut inlet, &mut outlet)?;
 //! ```
 #![tactic(auto)]

@@ -1,6 +1,6 @@
 //! A file of a known outline, its sound handed on in another interleaving.
 
-ghost use Rattle.std.specs.Prelude.{◌≡◌, ◌+◌, ◌*◌, ◌/◌, ◌%◌, ◌-◌, ◌<◌, ◌≤◌, ◌^◌, ◌++◌, ◌⊎◌, None, IfErr, IfOk, OnErr, OnOk, length};
+ghost use Rattle.std.specs.Prelude.{◌≡◌, ◌+◌, ◌*◌, ◌/◌, ◌%◌, ◌-◌, ◌<◌, ◌≤◌, ◌^◌, ◌++◌, ◌⊎◌, IfErr, IfOk, OnErr, OnOk, length};
 ghost use Rattle.std.specs.Io.KnownBytes.{Appends};
 ghost use Rattle.device_core.specs.Inlets.{inlet_failures, inlet_reader};
 ghost use Rattle.device_core.specs.Outlets.{AppendsFront, outlet_failures, outlet_writer};
@@ -11,7 +11,7 @@ ghost use Rattle.relay_core.specs.Relays.{IsPartFault, IsRelacing, IsRelayFault,
 
 use crate::comparing::{BLOCK, expect, expect_end, fill, pass};
 use device_core::{Inlet, Outlet};
-use dsd_bits::{BitOrder, Sound, blocks_size};
+use dsd_bits::{Interleaving, Sound, blocks_size};
 use relace_core::{Stretch, groups_join, push_relaced};
 use std::alloc::Global;
 use std::io::{Read, Write};
@@ -23,8 +23,8 @@ const GROUP_BITS: usize = 32_768;
 /// What is written around a sound, and how it is interleaved between.
 #[derive(Clone, Copy)]
 pub struct Target<'a> {
-    /// DSDIFF's frames of one byte of each channel for none, else DSF's blocks, their bits in this order.
-    pub order: Option<BitOrder>,
+    /// How the sound between is interleaved.
+    pub interleaving: Interleaving,
     /// The bytes before the sound.
     pub head: &'a [u8],
     /// The bytes behind it.
@@ -51,7 +51,7 @@ pub fn relay<R: Read, W: Write>(
     outlet: &mut Outlet<W>,
 ) -> Result<(), StreamFault>
     requires told { AreTold (around_of outline.now) }
-    requires whole { target.now.order ≡ None → outline.now.sound.count % 8 ≡ 0 }
+    requires whole { target.now.interleaving ≡ Interleaving.Bytes → outline.now.sound.count % 8 ≡ 0 }
     requires inlet_ready { inlet_failures inlet.old < 2 ^ 64 - 1 }
     requires outlet_ready { outlet_failures outlet.old < 2 ^ 64 - 1 }
     // The reader's file is some sound in the outline, and what is made of it was written.
@@ -71,7 +71,7 @@ pub fn relay<R: Read, W: Write>(
     expect(inlet, &mut buffers.block, &outline.head)?;
     let sound = Relacing {
         sound: outline.sound,
-        to: target.order,
+        to: target.interleaving,
     };
     relay_sound(alloc, &sound, inlet, &mut buffers, outlet)?;
     expect_rest(outline, inlet, &mut buffers.block)?;
@@ -82,7 +82,7 @@ pub fn relay<R: Read, W: Write>(
 #[derive(Clone, Copy)]
 struct Relacing {
     sound: Sound,
-    to: Option<BitOrder>,
+    to: Interleaving,
 }
 
 // Reads what stands behind the sound of a file of this outline.
@@ -146,7 +146,7 @@ fn relay_stretch<R: Read, W: Write>(
 ) -> Result<(), StreamFault>
     requires sound { IsRelacing relacing.now }
     requires within { bits ≤ relacing.now.sound.count }
-    requires fits { sound_size relacing.now.sound.order relacing.now.sound.channels bits ≤ 65536 }
+    requires fits { sound_size relacing.now.sound.interleaving relacing.now.sound.channels bits ≤ 65536 }
     requires whole { (bits % 8 ≡ 0) ⊎ (bits % 8 ≡ relacing.now.sound.count % 8) }
     requires inlet_ready { inlet_failures inlet.old < 2 ^ 64 - 1 }
     requires outlet_ready { outlet_failures outlet.old < 2 ^ 64 - 1 }
@@ -171,7 +171,7 @@ fn relay_stretch<R: Read, W: Write>(
         &mut buffers.out,
         bytes,
         stretch,
-        relacing.sound.order,
+        relacing.sound.interleaving,
         relacing.to,
     )?;
     put(outlet, &buffers.out)
@@ -181,11 +181,11 @@ fn relay_stretch<R: Read, W: Write>(
 fn stretch_size(sound: &Sound, bits: usize) -> usize
     requires channels { (1 ≤ sound.now.channels) × (sound.now.channels ≤ 6) }
     requires in_limit { bits ≤ 2 ^ 36 }
-    ensures { result ≡ sound_size sound.now.order sound.now.channels bits }
+    ensures { result ≡ sound_size sound.now.interleaving sound.now.channels bits }
 {
-    match sound.order {
-        None => bits / 8 * sound.channels,
-        Some(_) => blocks_size(sound.channels, bits),
+    match sound.interleaving {
+        Interleaving::Bytes => bits / 8 * sound.channels,
+        Interleaving::Blocks(_) => blocks_size(sound.channels, bits),
     }
 }
 

@@ -8,6 +8,8 @@ use Rattle.std.specs.Prelude.{◌↔◌, nat_eq, nat_lt, if◌then◌else◌}
 use Rattle.device_core.specs.Inlets.{inlet_reader}
 use Rattle.device_core.specs.declared.inlet.Inlet.{Inlet}
 use Rattle.dsd_bits.specs.declared.blocks.BitOrder.{BitOrder}
+use Rattle.dsd_bits.specs.declared.interleaving.Interleaving.{Interleaving}
+use Rattle.dsd_bits.specs.declared.interleaving.Interleaving.TheVariants.{Bytes, Blocks}
 use Rattle.dsd_bits.specs.declared.sound.Sound.{Sound}
 use Rattle.dsd_bits.specs.Contents.{Content}
 use Rattle.dsd_bits.specs.Lacing.{unlaced_all}
@@ -30,7 +32,7 @@ use Rattle.stream_core.proofs.HeadLaws.{never_found}
 use Rattle.stream_core.proofs.OutlineLaws.{left_is}
 
 -- ---- a DSF file
-module _ (head : List ℕ) (s : Sound) (at : EndsAt head s) (order : BitOrder) (told : s.order ≡ Some order) (is_sound : IsSound s) where
+module _ (head : List ℕ) (s : Sound) (at : EndsAt head s) (order : BitOrder) (told : s.interleaving ≡ Blocks order) (is_sound : IsSound s) where
   -- the sound bytes behind the head
   own_bytes : (sound rest : List ℕ) → length sound ≡ s.size → sound_bytes (head ++ (sound ++ rest)) s ≡ sound
   own_bytes sound rest long =
@@ -66,7 +68,7 @@ module _ (head : List ℕ) (s : Sound) (at : EndsAt head s) (order : BitOrder) (
       blocks_told : AreTold around
       blocks_told = record {
         is_sound = is_sound;
-        whole = λ other. (let both : Some order ≡ None = sym told ∙ other in absurd cc);
+        whole = λ other. (let both : Blocks order ≡ Bytes = sym told ∙ other in absurd cc);
         silent = outline.no_bits s (leads head s at order told);
         holds = λ file sound stands.
             let rest = sound ++ (stands.gap ++ tag) in
@@ -76,7 +78,7 @@ module _ (head : List ℕ) (s : Sound) (at : EndsAt head s) (order : BitOrder) (
             let holds = outline.filled rest s order long (own_tag sound stands.gap stands.sound_long stands.gap_long) (leads head s at order told) told in
             let bytes : sound_bytes (head ++ rest) s ≡ sound = own_bytes sound (stands.gap ++ tag) stands.sound_long in
             subst (λ o. HoldsIn o file (with_sound recording s sound)) (sym told)
-            (subst (λ f. IsDsf f (with_sound recording s sound) order) is (subst (λ xs. IsDsf (head ++ rest) (record recording { channels = sound_channels s.order s.channels s.count xs }) order) bytes holds));
+            (subst (λ f. IsDsf f (with_sound recording s sound) order) is (subst (λ xs. IsDsf (head ++ rest) (record recording { channels = sound_channels s.interleaving s.channels s.count xs }) order) bytes holds));
       }
 
   pub blocks_around : {R : Type 0} (left : R → Option (List ℕ)) (i j : Inlet R) (place gap total stop : ℕ) (back tag : List ℕ) (recording : Content) → dsf.IsTagPlace head place → stop ≡ length head + s.size → (read : ReadsTag left i j place stop back tag gap)
@@ -164,7 +166,7 @@ is_behind head size all back ends new wanted left enough short cut = record {
     at_end (inl more) fewer = absurd (omega (arith, more, fewer))
     at_end (inr end) fewer = end
 
-module _ (head : List ℕ) (s : Sound) (at : EndsAt head s) (told : s.order ≡ None) (is_sound : IsSound s) (whole_bytes : s.count % 8 ≡ 0) where
+module _ (head : List ℕ) (s : Sound) (at : EndsAt head s) (told : s.interleaving ≡ Bytes) (is_sound : IsSound s) (whole_bytes : s.count % 8 ≡ 0) where
   -- with what follows a whole form, or nothing, a file holds what it holds without
   followed : (sound back rest : List ℕ) (ends : Bool) (r : Content) → length sound ≡ s.size → (ends ≡ true → rest ≡ []) → (ends ≡ false → dsdiff.left_behind head s.size ≤ length back)
       → IsDsdiff (head ++ (sound ++ back)) r ↔ IsDsdiff (head ++ (sound ++ (back ++ rest))) r
@@ -186,12 +188,12 @@ module _ (head : List ℕ) (s : Sound) (at : EndsAt head s) (told : s.order ≡ 
           let none : stands.gap ≡ [] = nil_from_length stands.gap stands.gap_long in
           let is : file ≡ head ++ (sound ++ (back ++ stands.rest)) = stands.file_is ∙ ap (λ xs. head ++ (sound ++ (xs ++ (back ++ stands.rest)))) none in
           let holds = (followed sound back stands.rest ends (record recording { channels = unlaced_all sound s.channels }) stands.sound_long stands.ended enough).0 (outline.1 sound stands.sound_long) in
-          in_order s.order told file sound (subst (λ f. IsDsdiff f (record recording { channels = unlaced_all sound s.channels })) (sym is) holds);
+          in_order s.interleaving told file sound (subst (λ f. IsDsdiff f (record recording { channels = unlaced_all sound s.channels })) (sym is) holds);
     }
       where
-        in_order : (o : Option BitOrder) → o ≡ None → (file sound : List ℕ) → IsDsdiff file (record recording { channels = unlaced_all sound s.channels }) → HoldsIn o file (record recording { channels = sound_channels o s.channels s.count sound })
-        in_order None is file sound h = h
-        in_order (Some order) is file sound h = absurd cc
+        in_order : (o : Interleaving) → o ≡ Bytes → (file sound : List ℕ) → IsDsdiff file (record recording { channels = unlaced_all sound s.channels }) → HoldsIn o file (record recording { channels = sound_channels o s.channels s.count sound })
+        in_order Bytes is file sound h = h
+        in_order (Blocks order) is file sound h = absurd cc
 
   pub frames_around : {R : Type 0} (left : R → Option (List ℕ)) (i j : Inlet R) (old all back read : List ℕ) (ends : Bool) (recording : Content) → Reads left i j read → all ≡ old ++ read → IsBehind head s.size all back ends (left (inlet_reader j))
       → frames.TellsOutline head s back (Some recording) → Surrounds left i j old (record { sound = s; head = head; gap = 0; back = back; ends = ends; recording = recording })

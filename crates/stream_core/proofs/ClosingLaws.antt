@@ -1,15 +1,18 @@
 -- The bytes behind a sound, by the format's own reading.
-use Rattle.std.proofs.Common.{◌≡◌, ℕ, ◌+◌, ◌-◌, ◌≤◌, ◌⊎◌, ◌↔◌, inl, inr, Bool, true, false, List, [], ◌++◌, length, take, replicate, Option, Some, None, IsSome, is_some, refl, sym, subst, ap, ◌∙◌, arith, append_assoc, append-nil, length-append}
+use Rattle.std.proofs.Common.{◌≡◌, ℕ, ◌+◌, ◌-◌, ◌≤◌, ◌⊎◌, ◌↔◌, inl, inr, Bool, true, false, List, [], ◌++◌, length, take, replicate, Option, Some, None, refl, sym, subst, ap, ◌∙◌, arith, append_assoc, append-nil, length-append}
 use Rattle.std.proofs.lemmas.List.{length-replicate, take-append-le}
 use Rattle.std.specs.Io.KnownBytes.{IsAtEnd}
 use Rattle.device_core.specs.Inlets.{inlet_reader}
 use Rattle.device_core.specs.declared.inlet.Inlet.{Inlet}
 use Rattle.dsd_bits.specs.declared.blocks.BitOrder.{BitOrder}
+use Rattle.dsd_bits.specs.declared.interleaving.Interleaving.{Interleaving}
+use Rattle.dsd_bits.specs.declared.interleaving.Interleaving.TheVariants.{Bytes, Blocks}
 use Rattle.dsd_bits.specs.declared.sound.Sound.{Sound}
 use Rattle.dsd_bits.specs.declared.sound.SoundAt.TheVariants.{Found}
 use Rattle.dsd_bits.specs.Contents.{Content}
 use Rattle.dsd_bits.specs.Ids.{DSD, same_id}
 use Rattle.dsd_bits.specs.Lacing.{unlaced_all}
+use Rattle.dsd_bits.specs.Sounds.{has_blocks}
 use Rattle.dsdiff_core.specs.Fields.{form_size}
 use Rattle.dsdiff_core.specs.Files.{IsDsdiff}
 use Rattle.dsdiff_core.specs.Fronts as dsdiff
@@ -36,18 +39,18 @@ apart e = let differs : false ≡ true = ap (λ id. same_id id DSD) e in absurd 
 never : (b : Bool) → b ≡ true → b ≡ false → ⊥
 never b is is_not = let both : true ≡ false = sym is ∙ is_not in absurd cc
 
-pub has_order : (o : Option BitOrder) → IsSome o → (order : BitOrder) × (o ≡ Some order)
-has_order None some = absurd cc
-has_order (Some order) some = (order, refl)
+pub has_order : (o : Interleaving) → has_blocks o ≡ true → (order : BitOrder) × (o ≡ Blocks order)
+has_order Bytes some = absurd cc
+has_order (Blocks order) some = (order, refl)
 
-pub no_order : (o : Option BitOrder) → is_some o ≡ false → o ≡ None
-no_order None none = refl
-no_order (Some order) none = absurd cc
+pub no_order : (o : Interleaving) → has_blocks o ≡ false → o ≡ Bytes
+no_order Bytes none = refl
+no_order (Blocks order) none = absurd cc
 
 -- ---- a DSF file
-module _ (head : List ℕ) (s : Sound) (at : EndsAt head s) (order : BitOrder) (told : s.order ≡ Some order) where
+module _ (head : List ℕ) (s : Sound) (at : EndsAt head s) (order : BitOrder) (told : s.interleaving ≡ Blocks order) where
   pub leads : dsf.sound_at head ≡ Found s
-  leads = told_found (Some order) head s (subst (λ o. LeadsTo o head s) told at.leads)
+  leads = told_found (Blocks order) head s (subst (λ o. LeadsTo o head s) told at.leads)
 
   pub ends : dsf.EndsAtSound head
   ends = (s, leads, at.start)
@@ -88,9 +91,9 @@ module _ (head : List ℕ) (s : Sound) where
   form_behind back new is (inl enough) = inl (omega (arith, enough, is))
   form_behind back new is (inr end) = inr end
 
-module _ (head : List ℕ) (s : Sound) (at : EndsAt head s) (told : s.order ≡ None) where
+module _ (head : List ℕ) (s : Sound) (at : EndsAt head s) (told : s.interleaving ≡ Bytes) where
   pub found : dsdiff.sound_at head ≡ Found s
-  found = told_found None head s (subst (λ o. LeadsTo o head s) told at.leads)
+  found = told_found Bytes head s (subst (λ o. LeadsTo o head s) told at.leads)
 
   pub form_ends_at : dsdiff.EndsAt head s
   form_ends_at = record { found = found; start = at.start }

@@ -1,14 +1,16 @@
 -- What the front of a file of either format tells of its sound.
-use Rattle.std.proofs.Common.{◌≡◌, ◌≢◌, ℕ, ◌%◌, ◌≤◌, ◌⊎◌, inl, inr, List, [], ◌++◌, length, take, Option, Some, None, IsSome, refl, sym, subst, ◌∙◌, arith, append-nil}
+use Rattle.std.proofs.Common.{◌≡◌, ◌≢◌, ℕ, ◌%◌, ◌≤◌, ◌⊎◌, inl, inr, true, List, [], ◌++◌, length, take, refl, sym, subst, ◌∙◌, arith, append-nil}
 use Rattle.std.proofs.lemmas.Bool.{cases_lt, lt-ltb, le-ltb}
 use Rattle.std.proofs.lemmas.List.{take-append-le}
 use Rattle.dsd_bits.specs.declared.blocks.BitOrder.{BitOrder}
+use Rattle.dsd_bits.specs.declared.interleaving.Interleaving.{Interleaving}
+use Rattle.dsd_bits.specs.declared.interleaving.Interleaving.TheVariants.{Bytes, Blocks}
 use Rattle.dsd_bits.specs.declared.sound.Sound.{Sound}
 use Rattle.dsd_bits.specs.declared.sound.SoundAt.{SoundAt}
 use Rattle.dsd_bits.specs.declared.sound.SoundAt.TheVariants.{More, Refused, Found}
 use Rattle.dsd_bits.specs.Contents.{Content}
 use Rattle.dsd_bits.specs.Ids.{DSD}
-use Rattle.dsd_bits.specs.Sounds.{HasSound, IfFound, IfMore, IfRefused, IsSound}
+use Rattle.dsd_bits.specs.Sounds.{HasSound, IfFound, IfMore, IfRefused, IsSound, has_blocks}
 use Rattle.dsdiff_core.specs.Files.{IsDsdiff}
 use Rattle.dsdiff_core.specs.Fronts as dsdiff
 use Rattle.dsdiff_core.proofs.OtherSound.{has_head}
@@ -53,17 +55,17 @@ never_more front r order more is =
     absurd cc
 
 -- ---- what a front tells of is what the reading of its format finds
-abbrev pub IsFound : Option BitOrder → List ℕ → Sound → Type 0
-IsFound None front s = dsdiff.sound_at front ≡ Found s
-IsFound (Some order) front s = dsf.sound_at front ≡ Found s
+abbrev pub IsFound : Interleaving → List ℕ → Sound → Type 0
+IsFound Bytes front s = dsdiff.sound_at front ≡ Found s
+IsFound (Blocks order) front s = dsf.sound_at front ≡ Found s
 
-pub told_found : (o : Option BitOrder) (front : List ℕ) (s : Sound) → LeadsTo o front s → IsFound o front s
-told_found None front s leads = (form_told.found_is_told front s).1 leads
-told_found (Some order) front s leads = (blocks_told.found_is_told front s).1 leads
+pub told_found : (o : Interleaving) (front : List ℕ) (s : Sound) → LeadsTo o front s → IsFound o front s
+told_found Bytes front s leads = (form_told.found_is_told front s).1 leads
+told_found (Blocks order) front s leads = (blocks_told.found_is_told front s).1 leads
 
-pub found_told : (o : Option BitOrder) (front : List ℕ) (s : Sound) → IsFound o front s → LeadsTo o front s
-found_told None front s found = (form_told.found_is_told front s).0 found
-found_told (Some order) front s found = (blocks_told.found_is_told front s).0 found
+pub found_told : (o : Interleaving) (front : List ℕ) (s : Sound) → IsFound o front s → LeadsTo o front s
+found_told Bytes front s found = (form_told.found_is_told front s).0 found
+found_told (Blocks order) front s found = (blocks_told.found_is_told front s).0 found
 
 -- ---- by the DSDIFF reading
 pub not_refused : (x : SoundAt) (P : Type 0) → x ≢ Refused → IfRefused x P
@@ -73,15 +75,15 @@ not_refused Refused P other = absurd (other refl)
 
 module _ (front : List ℕ) (x : SoundAt) (is : x ≡ dsdiff.sound_at front) where
   pub dsdiff_found : IfFound x (λ s. (rest : List ℕ) (r : Content) → IsDsdiff (front ++ rest) r → HasSound (front ++ rest) r s)
-      → IfFound x (λ s. IsSound s × (s.order ≡ None) × (s.count % 8 ≡ 0)) → IfFound x (λ s. s.start ≤ length front) → IfFound x (TellsSound front)
+      → IfFound x (λ s. IsSound s × (s.interleaving ≡ Bytes) × (s.count % 8 ≡ 0)) → IfFound x (λ s. s.start ≤ length front) → IfFound x (TellsSound front)
   dsdiff_found has limits within = by x is has limits within
     where
       by : (x : SoundAt) → x ≡ dsdiff.sound_at front → IfFound x (λ s. (rest : List ℕ) (r : Content) → IsDsdiff (front ++ rest) r → HasSound (front ++ rest) r s)
-          → IfFound x (λ s. IsSound s × (s.order ≡ None) × (s.count % 8 ≡ 0)) → IfFound x (λ s. s.start ≤ length front) → IfFound x (TellsSound front)
+          → IfFound x (λ s. IsSound s × (s.interleaving ≡ Bytes) × (s.count % 8 ≡ 0)) → IfFound x (λ s. s.start ≤ length front) → IfFound x (TellsSound front)
       by More is has limits within = tt
       by Refused is has limits within = tt
       by (Found s) is has limits within = record {
-        leads = subst (λ o. LeadsTo o front s) (sym limits.1) (found_told None front s (sym is));
+        leads = subst (λ o. LeadsTo o front s) (sym limits.1) (found_told Bytes front s (sym is));
         is_sound = limits.0;
         whole = λ _. limits.2;
         within = within;
@@ -104,26 +106,26 @@ module _ (front : List ℕ) (x : SoundAt) (is : x ≡ dsdiff.sound_at front) whe
 
 -- ---- by the DSF reading, where the DSDIFF reading refuses
 module _ (front : List ℕ) (no_form : (rest : List ℕ) → dsdiff.IsAccepted (front ++ rest) → ⊥) (x : SoundAt) (is : x ≡ dsf.sound_at front) where
-  pub dsf_found : IfFound x (λ s. (rest : List ℕ) (r : Content) (order : BitOrder) → IsDsf (front ++ rest) r order → HasSound (front ++ rest) r s × (s.order ≡ Some order))
-      → IfFound x IsSound → IfFound x (λ s. s.start ≤ length front) → IfFound x (λ s. IsSome s.order) → IfFound x (TellsSound front)
+  pub dsf_found : IfFound x (λ s. (rest : List ℕ) (r : Content) (order : BitOrder) → IsDsf (front ++ rest) r order → HasSound (front ++ rest) r s × (s.interleaving ≡ Blocks order))
+      → IfFound x IsSound → IfFound x (λ s. s.start ≤ length front) → IfFound x (λ s. has_blocks s.interleaving ≡ true) → IfFound x (TellsSound front)
   dsf_found has limits within order = by x is has limits within order
     where
-      leads : (o : Option BitOrder) (s : Sound) → IsSome o → dsf.sound_at front ≡ Found s → LeadsTo o front s
-      leads None s some e = absurd cc
-      leads (Some order) s some e = found_told (Some order) front s e
+      leads : (o : Interleaving) (s : Sound) → has_blocks o ≡ true → dsf.sound_at front ≡ Found s → LeadsTo o front s
+      leads Bytes s some e = absurd cc
+      leads (Blocks order) s some e = found_told (Blocks order) front s e
 
-      is_some : (o : Option BitOrder) → IsSome o → o ≡ None → ⊥
-      is_some None some e = absurd cc
-      is_some (Some order) some e = absurd cc
+      not_bytes : (o : Interleaving) → has_blocks o ≡ true → o ≡ Bytes → ⊥
+      not_bytes Bytes some e = absurd cc
+      not_bytes (Blocks order) some e = absurd cc
 
-      by : (x : SoundAt) → x ≡ dsf.sound_at front → IfFound x (λ s. (rest : List ℕ) (r : Content) (order : BitOrder) → IsDsf (front ++ rest) r order → HasSound (front ++ rest) r s × (s.order ≡ Some order))
-          → IfFound x IsSound → IfFound x (λ s. s.start ≤ length front) → IfFound x (λ s. IsSome s.order) → IfFound x (TellsSound front)
+      by : (x : SoundAt) → x ≡ dsf.sound_at front → IfFound x (λ s. (rest : List ℕ) (r : Content) (order : BitOrder) → IsDsf (front ++ rest) r order → HasSound (front ++ rest) r s × (s.interleaving ≡ Blocks order))
+          → IfFound x IsSound → IfFound x (λ s. s.start ≤ length front) → IfFound x (λ s. has_blocks s.interleaving ≡ true) → IfFound x (TellsSound front)
       by More is has limits within order = tt
       by Refused is has limits within order = tt
       by (Found s) is has limits within order = record {
-        leads = leads s.order s order (sym is);
+        leads = leads s.interleaving s order (sym is);
         is_sound = limits;
-        whole = λ none. absurd (is_some s.order order none);
+        whole = λ none. absurd (not_bytes s.interleaving order none);
         within = within;
         has = λ rest r h. elim h [
           | inl form ↦ absurd (no_form rest (r, form))

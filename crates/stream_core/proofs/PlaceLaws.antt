@@ -1,5 +1,5 @@
 -- Frames whose places stand in a front of the sound are due, and how many bytes they are.
-use Rattle.std.proofs.Common.{◌≡◌, ℕ, ◌+◌, ◌-◌, ◌*◌, ◌/◌, ◌%◌, ◌<◌, ◌≤◌, inl, inr, min, List, length, Option, None, Some, refl, sym, subst, ap, ◌∙◌, arith}
+use Rattle.std.proofs.Common.{◌≡◌, ℕ, ◌+◌, ◌-◌, ◌*◌, ◌/◌, ◌%◌, ◌<◌, ◌≤◌, inl, inr, min, List, length, refl, sym, subst, ap, ◌∙◌, arith}
 use Rattle.std.specs.Int.{div_ceil}
 use Rattle.std.proofs.Math.Nat.{div-add-mod', mul-le-mul_right, mul_assoc}
 use Rattle.std.proofs.lemmas.Bool.{cases_lt}
@@ -7,7 +7,8 @@ use Rattle.std.proofs.lemmas.Grind.{div_ceil_times}
 use Rattle.std.proofs.lemmas.List.{length-map}
 use Rattle.std.proofs.lemmas.List.FromFn.{length-map-range_with_len}
 use Rattle.std.proofs.lemmas.Nat.{le-div, mod_below}
-use Rattle.dsd_bits.specs.declared.blocks.BitOrder.{BitOrder}
+use Rattle.dsd_bits.specs.declared.interleaving.Interleaving.{Interleaving}
+use Rattle.dsd_bits.specs.declared.interleaving.Interleaving.TheVariants.{Bytes, Blocks}
 use Rattle.dsd_bits.specs.declared.sound.Sound.{Sound}
 use Rattle.dsd_bits.specs.Sounds.{IsSound, sound_size}
 use Rattle.fir_core.specs.Decimator.{Decimator, sample_at}
@@ -89,16 +90,16 @@ module _ (s : Sound) (is : IsSound s) (u i : ℕ) (within : u ≤ s.size) (stand
   pub place_heard : i < heard s.count (bytes_heard s u)
   place_heard =
       let one = one_less s.channels is.some_channel in
-      by s.order one.0 one.1 (subst (λ n. n ≤ sound_size s.order s.channels s.count) refl (omega (arith, within, is.size))) (stands one.0 (omega (arith, one.1)))
+      by s.interleaving one.0 one.1 (subst (λ n. n ≤ sound_size s.interleaving s.channels s.count) refl (omega (arith, within, is.size))) (stands one.0 (omega (arith, one.1)))
     where
-      by : (o : Option BitOrder) (c : ℕ) → s.channels ≡ c + 1 → u ≤ sound_size o s.channels s.count → place_in o s.channels c (i / 8) < u - 131072
+      by : (o : Interleaving) (c : ℕ) → s.channels ≡ c + 1 → u ≤ sound_size o s.channels s.count → place_in o s.channels c (i / 8) < u - 131072
           → i < min (8 * min (div_ceil s.count 8) (u / (s.channels * part_size o) * part_size o)) s.count
-      by None c number few at =
+      by Bytes c number few at =
           let size : s.count / 8 * s.channels ≡ s.count / 8 * ((c + 1) * 1) = rw number (grind arith) in
           let place : (i / 8 / 1 * (c + 1) + c) * 1 + i / 8 % 1 < u - 131072 = subst (λ n. (i / 8 / 1 * n + c) * 1 + i / 8 % 1 < u - 131072) number at in
           subst (λ n. i < min (8 * min (div_ceil s.count 8) (u / (n * 1) * 1)) s.count) (sym number)
           (is_heard c 1 (s.count / 8) s.count u i (omega (arith, number, is.six_channels)) (omega arith) (omega arith) (omega (arith, few, size)) (omega arith) place)
-      by (Some o) c number few at =
+      by (Blocks o) c number few at =
           let groups = div_ceil s.count 32768 in
           let size : groups * s.channels * 4096 ≡ groups * ((c + 1) * 4096) = rw number (mul_assoc groups (c + 1) 4096) in
           let place : (i / 8 / 4096 * (c + 1) + c) * 4096 + i / 8 % 4096 < u - 131072 = subst (λ n. (i / 8 / 4096 * n + c) * 4096 + i / 8 % 4096 < u - 131072) number at in

@@ -8,7 +8,8 @@ use Rattle.std.proofs.KnownBytes.{Appends-trans}
 use Rattle.device_core.specs.Inlets.{inlet_given, inlet_reader}
 use Rattle.device_core.specs.Outlets.{AppendsFront}
 use Rattle.device_core.specs.declared.inlet.Inlet.{Inlet}
-use Rattle.dsd_bits.specs.declared.blocks.BitOrder.{BitOrder}
+use Rattle.dsd_bits.specs.declared.interleaving.Interleaving.{Interleaving}
+use Rattle.dsd_bits.specs.declared.interleaving.Interleaving.TheVariants.{Bytes, Blocks}
 use Rattle.dsd_bits.specs.declared.sound.Sound.{Sound}
 use Rattle.dsd_bits.specs.Sounds.{HasSound, sound_bytes}
 use Rattle.dsdiff_core.proofs.FrontEnds as dsdiff
@@ -34,11 +35,11 @@ use Rattle.stream_core.proofs.RestLaws.{front_on}
 
 -- ---- the head, up to the sound
 pub ends_at : (front : List ℕ) (s : Sound) → TellsSound front s → EndsAt (take s.start front) s
-ends_at front s tells = record { leads = found_told s.order (take s.start front) s (by s.order (told_found s.order front s tells.leads)); start = sym (length-take-le s.start front tells.within) }
+ends_at front s tells = record { leads = found_told s.interleaving (take s.start front) s (by s.interleaving (told_found s.interleaving front s tells.leads)); start = sym (length-take-le s.start front tells.within) }
   where
-    by : (o : Option BitOrder) → IsFound o front s → IsFound o (take s.start front) s
-    by None e = dsdiff.ends_front front s e
-    by (Some order) e = dsf.ends_front front s e
+    by : (o : Interleaving) → IsFound o front s → IsFound o (take s.start front) s
+    by Bytes e = dsdiff.ends_front front s e
+    by (Blocks order) e = dsf.ends_front front s e
 
 module _ (law : SoundIsPlayed) (d : Decimator) (front : List ℕ) (s : Sound) (tells : TellsSound front s) where
   abbrev head : List ℕ

@@ -1,10 +1,12 @@
 -- The one sound that a file tells of, whichever front of it was read.
-use Rattle.std.proofs.Common.{◌≡◌, ℕ, ◌+◌, ◌-◌, ◌≤◌, inl, inr, List, [], ◌++◌, length, take, drop, Option, Some, None, sym, subst, ap, ◌∙◌, arith, append-nil, length-append, take-append-drop}
+use Rattle.std.proofs.Common.{◌≡◌, ℕ, ◌+◌, ◌-◌, ◌≤◌, inl, inr, List, [], ◌++◌, length, take, drop, Option, Some, sym, subst, ap, ◌∙◌, arith, append-nil, length-append, take-append-drop}
 use Rattle.std.specs.Prelude.{Result, Ok, slice_range}
 use Rattle.std.proofs.lemmas.Bool.{cases_lt}
 use Rattle.std.proofs.lemmas.List.{take-append-le}
 use Rattle.chunk_core.specs.Chunks.{chunks}
 use Rattle.dsd_bits.specs.declared.blocks.BitOrder.{BitOrder}
+use Rattle.dsd_bits.specs.declared.interleaving.Interleaving.{Interleaving}
+use Rattle.dsd_bits.specs.declared.interleaving.Interleaving.TheVariants.{Bytes, Blocks}
 use Rattle.dsd_bits.specs.declared.sound.Sound.{Sound}
 use Rattle.dsd_bits.specs.declared.sound.SoundAt.{SoundAt}
 use Rattle.dsd_bits.specs.declared.sound.SoundAt.TheVariants.{More, Refused, Found}
@@ -139,13 +141,13 @@ other_blocks front rest s t e f =
     absurd cc
 
 pub told_once : (front rest : List ℕ) (s t : Sound) → TellsSound front s → TellsSound (front ++ rest) t → t ≡ s
-told_once front rest s t tells later = by s.order t.order (told_found s.order front s tells.leads) (told_found t.order (front ++ rest) t later.leads)
+told_once front rest s t tells later = by s.interleaving t.interleaving (told_found s.interleaving front s tells.leads) (told_found t.interleaving (front ++ rest) t later.leads)
   where
-    by : (o p : Option BitOrder) → IsFound o front s → IsFound p (front ++ rest) t → t ≡ s
-    by None None e f = form_once front rest s t e f
-    by None (Some p) e f = absurd (other_form front rest s t e f)
-    by (Some o) None e f = absurd (other_blocks front rest s t e f)
-    by (Some o) (Some p) e f = dsf_once front rest s t e f
+    by : (o p : Interleaving) → IsFound o front s → IsFound p (front ++ rest) t → t ≡ s
+    by Bytes Bytes e f = form_once front rest s t e f
+    by Bytes (Blocks p) e f = absurd (other_form front rest s t e f)
+    by (Blocks o) Bytes e f = absurd (other_blocks front rest s t e f)
+    by (Blocks o) (Blocks p) e f = dsf_once front rest s t e f
 
 -- ---- a file that holds a recording
 form_tells : (file : List ℕ) (r : Content) → IsDsdiff file r → (s : Sound) × TellsSound file s
@@ -161,7 +163,7 @@ blocks_tell file r order h =
     let s : Sound = told.0 in
     let is : Found s ≡ dsf.sound_at file = sym ((blocks_told.found_is_told file s).1 told.1) in
     let no_form = form_fronts.if_refused file Refused (sym (other_head file (omega (arith, h.second_long, h.in_file)) h.first)) in
-    (s, dsf_found file no_form (Found s) is (blocks.if_found file (Found s) is) (blocks.in_limits file (Found s) is) (blocks.inside file (Found s) is) (blocks.has_order file (Found s) is))
+    (s, dsf_found file no_form (Found s) is (blocks.if_found file (Found s) is) (blocks.in_limits file (Found s) is) (blocks.inside file (Found s) is) (blocks.in_blocks file (Found s) is))
 
 only : (file : List ℕ) → (s : Sound) × TellsSound file s → (s : Sound) × TellsSound file s × ((t : Sound) → TellsSound file t → t ≡ s)
 only file tells = (tells.0, tells.1, λ t told. told_once file [] tells.0 t tells.1 (subst (λ xs. TellsSound xs t) (sym (append-nil file)) told))
@@ -179,11 +181,11 @@ form_wanted front x is more = by x is more
     by : (x : SoundAt) → x ≡ dsdiff.sound_at front → IfMore x (dsdiff.HoldsHead front → ⊥) → IfMore x (IsBeforeSound front)
     by Refused is more = tt
     by (Found s) is more = tt
-    by More is more = λ rest t accepted tells. of rest t t.order (told_found t.order (front ++ rest) t tells.leads)
+    by More is more = λ rest t accepted tells. of rest t t.interleaving (told_found t.interleaving (front ++ rest) t tells.leads)
       where
-        of : (rest : List ℕ) (t : Sound) (o : Option BitOrder) → IsFound o (front ++ rest) t → length front ≤ t.start
-        of rest t None f = form_later front rest t more f
-        of rest t (Some o) f = elim (cases_lt (length front) 16) [
+        of : (rest : List ℕ) (t : Sound) (o : Interleaving) → IsFound o (front ++ rest) t → length front ≤ t.start
+        of rest t Bytes f = form_later front rest t more f
+        of rest t (Blocks o) f = elim (cases_lt (length front) 16) [
           | inl short ↦ omega (arith, short, (dsf_start (front ++ rest) t f).1)
           | inr long ↦ (let refused : More ≡ Refused = is ∙ other_head front long (first_four front rest t (omega (arith, long)) f) in absurd cc)
         ]
@@ -198,11 +200,11 @@ dsf_wanted front no_form x more = by x more
     by : (x : SoundAt) → IfMore x (dsf.HoldsHead front → ⊥) → IfMore x (IsBeforeSound front)
     by Refused more = tt
     by (Found s) more = tt
-    by More more = λ rest t accepted tells. of rest t accepted t.order (told_found t.order (front ++ rest) t tells.leads)
+    by More more = λ rest t accepted tells. of rest t accepted t.interleaving (told_found t.interleaving (front ++ rest) t tells.leads)
       where
-        of : (rest : List ℕ) (t : Sound) → IsAccepted (front ++ rest) → (o : Option BitOrder) → IsFound o (front ++ rest) t → length front ≤ t.start
-        of rest t accepted None f = absurd (never rest t accepted.0 accepted.1 f)
-        of rest t accepted (Some o) f = dsf_later front rest t more f
+        of : (rest : List ℕ) (t : Sound) → IsAccepted (front ++ rest) → (o : Interleaving) → IsFound o (front ++ rest) t → length front ≤ t.start
+        of rest t accepted Bytes f = absurd (never rest t accepted.0 accepted.1 f)
+        of rest t accepted (Blocks o) f = dsf_later front rest t more f
 
 -- before the first byte
 pub before_first : (front : List ℕ) → front ≡ [] → IsBeforeSound front

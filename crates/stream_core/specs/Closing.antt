@@ -8,7 +8,7 @@ use Rattle.stream_core.specs.Reads.{Reads}
 
 -- the head of a file leads to this sound, and ends where that starts
 pub record EndsAt (head : List ℕ) (s : Sound) : Type 0 where
-  pub leads : LeadsTo s.order head s
+  pub leads : LeadsTo s.interleaving head s
   pub start : s.start ≡ length head
 
 -- whatever its sound bytes are, the file that was read is accepted, and with all that is left; or it is not, with all that is left

@@ -1,6 +1,8 @@
 -- The files that are played: what they hold, and what their fronts tell.
-use Rattle.std.specs.Prelude.{◌≡◌, ℕ, ◌%◌, ◌≤◌, ◌⊎◌, List, ◌++◌, length, Option, Some, None, IfSome, ⊤}
+use Rattle.std.specs.Prelude.{◌≡◌, ℕ, ◌%◌, ◌≤◌, ◌⊎◌, List, ◌++◌, length, Option, IfSome, ⊤}
 use Rattle.dsd_bits.specs.declared.blocks.BitOrder.{BitOrder}
+use Rattle.dsd_bits.specs.declared.interleaving.Interleaving.{Interleaving}
+use Rattle.dsd_bits.specs.declared.interleaving.Interleaving.TheVariants.{Bytes, Blocks}
 use Rattle.dsd_bits.specs.declared.sound.Sound.{Sound}
 use Rattle.dsd_bits.specs.Contents.{Content}
 use Rattle.dsd_bits.specs.Sounds.{HasSound, IsSound}
@@ -23,16 +25,16 @@ IsAccepted file = (r : Content) × HoldsRecording file r
 abbrev pub IsRefused : List ℕ → Type 0
 IsRefused file = (r : Content) → HoldsRecording file r → ⊥
 
--- the front of a DSDIFF file, or where an order is told of a DSF file, tells of this sound in its format's words
-abbrev pub LeadsTo : Option BitOrder → List ℕ → Sound → Type 0
-LeadsTo None front s = dsdiff.TellsSound front s
-LeadsTo (Some order) front s = dsf.TellsSound front s
+-- the front of a DSDIFF file, or of a DSF file where the sound stands in blocks, tells of this sound in its format's words
+abbrev pub LeadsTo : Interleaving → List ℕ → Sound → Type 0
+LeadsTo Bytes front s = dsdiff.TellsSound front s
+LeadsTo (Blocks order) front s = dsf.TellsSound front s
 
 -- the front of a file tells of this sound: it stands behind it or in it, and every recording of a file that begins so has it
 pub record TellsSound (front : List ℕ) (s : Sound) : Type 0 where
-  pub leads : LeadsTo s.order front s
+  pub leads : LeadsTo s.interleaving front s
   pub is_sound : IsSound s
-  pub whole : s.order ≡ None → s.count % 8 ≡ 0
+  pub whole : s.interleaving ≡ Bytes → s.count % 8 ≡ 0
   pub within : s.start ≤ length front
   pub has : (rest : List ℕ) (r : Content) → HoldsRecording (front ++ rest) r → HasSound (front ++ rest) r s
 

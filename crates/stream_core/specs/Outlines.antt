@@ -1,9 +1,10 @@
 -- What a file holds beside its sound, and where that stands.
-use Rattle.std.specs.Prelude.{◌≡◌, ◌≢◌, ◌⊎◌, ℕ, ◌+◌, ◌%◌, ◌<◌, Bool, true, List, [], ◌++◌, length, replicate, take, Option, Some, None, IfSome, ⊤}
+use Rattle.std.specs.Prelude.{◌≡◌, ◌≢◌, ◌⊎◌, ℕ, ◌+◌, ◌%◌, ◌<◌, Bool, true, List, [], ◌++◌, length, replicate, take, Option, Some, IfSome, ⊤}
 use Rattle.std.specs.Io.KnownBytes.{IsAtEnd}
 use Rattle.device_core.specs.Inlets.{inlet_reader}
 use Rattle.device_core.specs.declared.inlet.Inlet.{Inlet}
-use Rattle.dsd_bits.specs.declared.blocks.BitOrder.{BitOrder}
+use Rattle.dsd_bits.specs.declared.interleaving.Interleaving.{Interleaving}
+use Rattle.dsd_bits.specs.declared.interleaving.Interleaving.TheVariants.{Bytes, Blocks}
 use Rattle.dsd_bits.specs.declared.sound.Sound.{Sound}
 use Rattle.dsd_bits.specs.Contents.{Content}
 use Rattle.dsd_bits.specs.Sounds.{IsSound, sound_channels}
@@ -36,14 +37,14 @@ around_of o = record {
   recording = o.recording;
 }
 
--- the file holds this recording: a DSDIFF file, or where an order is told a DSF file in this order
-abbrev pub HoldsIn : Option BitOrder → List ℕ → Content → Type 0
-HoldsIn None file r = IsDsdiff file r
-HoldsIn (Some order) file r = IsDsf file r order
+-- the file holds this recording: a DSDIFF file where the sound stands in frames, or a DSF file whose blocks have their bits in this order
+abbrev pub HoldsIn : Interleaving → List ℕ → Content → Type 0
+HoldsIn Bytes file r = IsDsdiff file r
+HoldsIn (Blocks order) file r = IsDsf file r order
 
 -- the recording with the channels that stand in these sound bytes
 abbrev pub with_sound : Content → Sound → List ℕ → Content
-with_sound r s bytes = record r { channels = sound_channels s.order s.channels s.count bytes }
+with_sound r s bytes = record r { channels = sound_channels s.interleaving s.channels s.count bytes }
 
 -- the file is these sound bytes in their surroundings: the head, the sound, a gap whose bytes do not matter, what was kept behind it, and whatever follows where the file need not end there
 pub record StandsIn (o : Surroundings) (file sound : List ℕ) : Type 0 where
@@ -57,9 +58,9 @@ pub record StandsIn (o : Surroundings) (file sound : List ℕ) : Type 0 where
 -- what surroundings tell: every file that is some sound in them holds their recording, with the channels of that sound
 pub record AreTold (o : Surroundings) : Type 0 where
   pub is_sound : IsSound o.sound
-  pub whole : o.sound.order ≡ None → o.sound.count % 8 ≡ 0
+  pub whole : o.sound.interleaving ≡ Bytes → o.sound.count % 8 ≡ 0
   pub silent : o.recording.channels ≡ replicate o.sound.channels []
-  pub holds : (file sound : List ℕ) → StandsIn o file sound → HoldsIn o.sound.order file (with_sound o.recording o.sound sound)
+  pub holds : (file sound : List ℕ) → StandsIn o file sound → HoldsIn o.sound.interleaving file (with_sound o.recording o.sound sound)
 
 -- the file is some sound in the surroundings
 abbrev pub AreAround : Surroundings → List ℕ → Type 0

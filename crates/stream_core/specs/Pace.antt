@@ -17,7 +17,7 @@ sound_given s given = min (given - s.start) s.size
 
 -- bit i of every channel stands in the first n bytes of the sound
 abbrev pub StandsIn : Sound → ℕ → ℕ → Type 0
-StandsIn s n i = (c : ℕ) → c < s.channels → place_in s.order s.channels c (i / 8) < n
+StandsIn s n i = (c : ℕ) → c < s.channels → place_in s.interleaving s.channels c (i / 8) < n
 
 -- so many first bytes of a WAVE file hold its header, and each frame j whose place stands in the first n bytes of the sound
 pub record HoldsFrames (d : Decimator) (s : Sound) (n size : ℕ) : Type 0 where

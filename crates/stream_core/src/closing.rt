@@ -39,7 +39,7 @@ pub(crate) fn closes<R: Read>(
     ensures most { inlet_reads inlet.new ≤ limit }
     ensures fault { IfErr result IsReadingFault }
 {
-    if sound.order.is_some() {
+    if sound.interleaving.has_blocks() {
         read_to_end(inlet, limit, block)?;
         return Ok(dsf_core::closes(head, inlet.given() - given));
     }

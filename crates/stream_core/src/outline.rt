@@ -1,8 +1,8 @@
 //! What a file holds beside its sound, read in one pass.
 
-ghost use Rattle.std.specs.Prelude.{◌≡◌, ◌+◌, ◌-◌, ◌%◌, ◌<◌, ◌≤◌, ◌^◌, ◌++◌, IfErr, IfOk, IfSome, IsErrOf, IsSome, None, OnOk, drop, length};
+ghost use Rattle.std.specs.Prelude.{◌≡◌, ◌+◌, ◌-◌, ◌%◌, ◌<◌, ◌≤◌, ◌^◌, ◌++◌, IfErr, IfOk, IfSome, IsErrOf, OnOk, drop, length, true};
 ghost use Rattle.device_core.specs.Inlets.{inlet_failures, inlet_given, inlet_reader, inlet_reads};
-ghost use Rattle.dsd_bits.specs.Sounds.{IsSound};
+ghost use Rattle.dsd_bits.specs.Sounds.{IsSound, has_blocks};
 ghost use Rattle.stream_core.specs.Closing.{EndsAt};
 ghost use Rattle.stream_core.specs.Faults.{failed_reads};
 ghost use Rattle.stream_core.specs.Files.{TellsSound};
@@ -13,7 +13,7 @@ use crate::fault::StreamFault;
 use crate::front::read_front;
 use crate::pulling::{MOST_READS, new_block, read_all, read_to_end, read_until, skip};
 use device_core::Inlet;
-use dsd_bits::{Recording, Sound};
+use dsd_bits::{Interleaving, Recording, Sound};
 use std::alloc::Global;
 use std::io::Read;
 
@@ -120,7 +120,7 @@ fn read_behind<R: Read>(
     ensures fault { IfErr result (IsBehindFault (R.remaining (inlet_reader inlet.old)) front.old.items) }
 {
     pass_sound(sound, front, inlet, reading.limit, &mut reading.block, back)?;
-    if sound.order.is_some() {
+    if sound.interleaving.has_blocks() {
         behind_blocks(alloc, sound, front, back, inlet, reading)
     } else {
         behind_frames(alloc, sound, front, back, inlet, reading)
@@ -172,7 +172,7 @@ fn behind_blocks<R: Read>(
     reading: &mut Reading,
 ) -> Result<Behind, StreamFault>
     requires at_sound { EndsAt head.now sound.now }
-    requires order { IsSome sound.now.order }
+    requires interleaving { has_blocks sound.now.interleaving ≡ true }
     requires sound { IsSound sound.now }
     requires given { inlet_given inlet.old ≡ reading.old.given + (length head.now + sound.now.size + length back.old.items) }
     requires ready { inlet_failures inlet.old < 2 ^ 64 - 1 }
@@ -209,7 +209,7 @@ fn behind_frames<R: Read>(
     reading: &mut Reading,
 ) -> Result<Behind, StreamFault>
     requires at_sound { EndsAt head.now sound.now }
-    requires order { sound.now.order ≡ None }
+    requires interleaving { sound.now.interleaving ≡ Interleaving.Bytes }
     requires sound { IsSound sound.now }
     requires whole { sound.now.count % 8 ≡ 0 }
     requires ready { inlet_failures inlet.old < 2 ^ 64 - 1 }

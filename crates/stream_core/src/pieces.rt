@@ -1,6 +1,6 @@
 //! The sound, read and played piece by piece.
 
-ghost use Rattle.std.specs.Prelude.{◌≡◌, ◌+◌, ◌-◌, ◌%◌, ◌<◌, ◌≤◌, ◌^◌, ◌++◌, [], IfErr, IfOk, IsErrOf, OnErr, OnOk, None, drop, length, take};
+ghost use Rattle.std.specs.Prelude.{◌≡◌, ◌+◌, ◌-◌, ◌%◌, ◌<◌, ◌≤◌, ◌^◌, ◌++◌, [], IfErr, IfOk, IsErrOf, OnErr, OnOk, drop, length, take};
 ghost use Rattle.device_core.specs.Inlets.{inlet_failures, inlet_given, inlet_reader, inlet_reads};
 ghost use Rattle.device_core.specs.Outlets.{outlet_failures, outlet_writer};
 ghost use Rattle.dsd_bits.specs.Sounds.{IsSound};
@@ -14,7 +14,7 @@ use crate::fault::StreamFault;
 use crate::pulling::pull_block;
 use crate::wave::put;
 use device_core::{Inlet, Outlet};
-use dsd_bits::Sound;
+use dsd_bits::{Interleaving, Sound};
 use fir_core::Taps;
 use player_core::Player;
 use std::alloc::Global;
@@ -35,7 +35,7 @@ pub(crate) fn play_sound<R: Read, W: Write>(
     outlet: &mut Outlet<W>,
 ) -> Result<(), StreamFault>
     requires sound { IsSound sound.now }
-    requires whole { sound.now.order ≡ None → sound.now.count % 8 ≡ 0 }
+    requires whole { sound.now.interleaving ≡ Interleaving.Bytes → sound.now.count % 8 ≡ 0 }
     requires empty { length back.old.items ≡ 0 }
     requires inlet_ready { inlet_failures inlet.old < 2 ^ 64 - 1 }
     requires outlet_ready { outlet_failures outlet.old < 2 ^ 64 - 1 }

@@ -58,10 +58,10 @@ module _ (outline : Outline) (file : List ℕ) (form : Form) (is : IsOutlined fi
   recorded = with_sound outline.recording outline.sound is.around.0
 
   counted : count_of recorded.channels ≡ outline.sound.count
-  counted = channels_count outline.sound.order outline.sound.channels outline.sound.count is.around.0 is.told.is_sound.some_channel is.told.whole (is.around.1.sound_long ∙ is.told.is_sound.size)
+  counted = channels_count outline.sound.interleaving outline.sound.channels outline.sound.count is.around.0 is.told.is_sound.some_channel is.told.whole (is.around.1.sound_long ∙ is.told.is_sound.size)
 
-  held : HoldsAs file (form_in outline.sound.order) recorded
-  held = holds_as outline.sound.order file recorded (is.told.holds file is.around.0 is.around.1)
+  held : HoldsAs file (form_in outline.sound.interleaving) recorded
+  held = holds_as outline.sound.interleaving file recorded (is.told.holds file is.around.0 is.around.1)
 
   -- it is converted to something where the form has a place for its channels
   pub outlined_converts : WrittenInParts → FitsIn form outline.sound.count → (bytes : List ℕ) × (dropped : ℕ) × Converts file form bytes dropped
@@ -69,7 +69,7 @@ module _ (outline : Outline) (file : List ℕ) (form : Form) (is : IsOutlined fi
     _,
     dropped_in form recorded,
     record {
-      source = form_in outline.sound.order;
+      source = form_in outline.sound.interleaving;
       recording = recorded;
       file_holds = held;
       text = in_parts form outline.recording recorded.channels (told_number outline file is) (subst (FitsIn form) (sym counted) fits);
@@ -81,7 +81,7 @@ module _ (outline : Outline) (file : List ℕ) (form : Form) (is : IsOutlined fi
   pub outlined_unconverted : HeldIsOpened → (FitsIn form outline.sound.count → ⊥) → Fails Memory NotWholeBytes (converted_of file form)
   unfolding converted_of
   outlined_unconverted law cut =
-      let opens = (law file (form_in outline.sound.order) recorded).0 held in
+      let opens = (law file (form_in outline.sound.interleaving) recorded).0 held in
       let none = no_text form recorded (λ fits. cut (subst (FitsIn form) counted fits)) in
       inr (rw opens (rw none refl))
 

@@ -1,10 +1,11 @@
 -- What is told of a file by its outline.
-use Rattle.std.proofs.Common.{◌≡◌, ℕ, ◌*◌, ◌/◌, ◌%◌, ◌≤◌, List, [], None, Option, Some, length, sym, ap, ◌∙◌, refl, arith, add-zero, subst}
+use Rattle.std.proofs.Common.{◌≡◌, ℕ, ◌*◌, ◌/◌, ◌%◌, ◌≤◌, List, [], Some, length, sym, ap, ◌∙◌, refl, arith, add-zero, subst}
 use Rattle.std.proofs.lemmas.List.{length-replicate}
 use Rattle.std.proofs.lemmas.List.FromFn.{length-map-range_with_len, get_or-map-range_with_len}
 use Rattle.std.proofs.lemmas.Nat.{div-mul-add}
-use Rattle.dsd_bits.specs.declared.blocks.BitOrder.{BitOrder}
 use Rattle.dsd_bits.specs.declared.blocks.BitOrder.TheVariants.{LeastFirst, MostFirst}
+use Rattle.dsd_bits.specs.declared.interleaving.Interleaving.{Interleaving}
+use Rattle.dsd_bits.specs.declared.interleaving.Interleaving.TheVariants.{Bytes, Blocks}
 use Rattle.dsd_bits.specs.Blocks.{block_bit, unblocked}
 use Rattle.dsd_bits.specs.Channels.{count_of}
 use Rattle.dsd_bits.specs.Contents.{Content}
@@ -22,45 +23,45 @@ times_over : (frames channels : ℕ) → 1 ≤ channels → frames * channels / 
 times_over frames channels some = ap (λ m. m / channels) (sym (add-zero (frames * channels))) ∙ div-mul-add frames channels 0 some
 
 -- the channels of a sound are as many as it tells
-pub channels_number : (order : Option BitOrder) (channels count : ℕ) (bytes : List ℕ) → length (sound_channels order channels count bytes) ≡ channels
-channels_number None channels count bytes = length-map-range_with_len (unlaced bytes channels) 0 channels
-channels_number (Some order) channels count bytes = length-map-range_with_len (unblocked order bytes channels count) 0 channels
+pub channels_number : (interleaving : Interleaving) (channels count : ℕ) (bytes : List ℕ) → length (sound_channels interleaving channels count bytes) ≡ channels
+channels_number Bytes channels count bytes = length-map-range_with_len (unlaced bytes channels) 0 channels
+channels_number (Blocks order) channels count bytes = length-map-range_with_len (unblocked order bytes channels count) 0 channels
 
 -- and each has as many bits
-pub channels_count : (order : Option BitOrder) (channels count : ℕ) (bytes : List ℕ) → 1 ≤ channels → (order ≡ None → count % 8 ≡ 0) → length bytes ≡ sound_size order channels count → count_of (sound_channels order channels count bytes) ≡ count
-channels_count None channels count bytes some whole long =
+pub channels_count : (interleaving : Interleaving) (channels count : ℕ) (bytes : List ℕ) → 1 ≤ channels → (interleaving ≡ Bytes → count % 8 ≡ 0) → length bytes ≡ sound_size interleaving channels count → count_of (sound_channels interleaving channels count bytes) ≡ count
+channels_count Bytes channels count bytes some whole long =
     let frames : length bytes / channels ≡ count / 8 = ap (λ k. k / channels) long ∙ times_over (count / 8) channels some in
     ap length (get_or-map-range_with_len (unlaced bytes channels) 0 channels 0 0 [] (omega arith) refl)
     ∙ length-map-range_with_len (laced_bit bytes channels 0) 0 (8 * (length bytes / channels))
     ∙ omega (arith, frames, whole refl)
-channels_count (Some order) channels count bytes some whole long =
+channels_count (Blocks order) channels count bytes some whole long =
     ap length (get_or-map-range_with_len (unblocked order bytes channels count) 0 channels 0 0 [] (omega arith) refl)
     ∙ length-map-range_with_len (block_bit order bytes channels 0) 0 count
 
 -- a file in a form
-pub holds_as : (order : Option BitOrder) (file : List ℕ) (r : Content) → HoldsIn order file r → HoldsAs file (form_in order) r
-holds_as None file r h = h
-holds_as (Some LeastFirst) file r h = h
-holds_as (Some MostFirst) file r h = h
+pub holds_as : (interleaving : Interleaving) (file : List ℕ) (r : Content) → HoldsIn interleaving file r → HoldsAs file (form_in interleaving) r
+holds_as Bytes file r h = h
+holds_as (Blocks LeastFirst) file r h = h
+holds_as (Blocks MostFirst) file r h = h
 
 -- the silent channels of an outline are as many as those of its file
-pub told_number : (outline : Outline) (file : List ℕ) (is : IsOutlined file outline) → length outline.recording.channels ≡ length (sound_channels outline.sound.order outline.sound.channels outline.sound.count is.around.0)
+pub told_number : (outline : Outline) (file : List ℕ) (is : IsOutlined file outline) → length outline.recording.channels ≡ length (sound_channels outline.sound.interleaving outline.sound.channels outline.sound.count is.around.0)
 told_number outline file is =
     let s = outline.sound in
-    ap length is.told.silent ∙ length-replicate s.channels [] ∙ sym (channels_number s.order s.channels s.count is.around.0)
+    ap length is.told.silent ∙ length-replicate s.channels [] ∙ sym (channels_number s.interleaving s.channels s.count is.around.0)
 
 -- what is told by an outline is what the file holds
-pub told_by_outline : (outline : Outline) (file : List ℕ) → IsOutlined file outline → IsToldOf file (record { form = form_in outline.sound.order; recording = outline.recording; count = outline.sound.count })
+pub told_by_outline : (outline : Outline) (file : List ℕ) → IsOutlined file outline → IsToldOf file (record { form = form_in outline.sound.interleaving; recording = outline.recording; count = outline.sound.count })
 told_by_outline outline file is =
     let o = around_of outline in
     let sound = is.around.0 in
     record {
       recording = with_sound o.recording o.sound sound;
-      holds = holds_as o.sound.order file (with_sound o.recording o.sound sound) (is.told.holds file sound is.around.1);
+      holds = holds_as o.sound.interleaving file (with_sound o.recording o.sound sound) (is.told.holds file sound is.around.1);
       tells = record {
         parts = refl;
         number = told_number outline file is;
-        count = sym (channels_count o.sound.order o.sound.channels o.sound.count sound is.told.is_sound.some_channel is.told.whole (is.around.1.sound_long ∙ is.told.is_sound.size));
+        count = sym (channels_count o.sound.interleaving o.sound.channels o.sound.count sound is.told.is_sound.some_channel is.told.whole (is.around.1.sound_long ∙ is.told.is_sound.size));
       };
     }
 

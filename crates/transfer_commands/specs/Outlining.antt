@@ -1,7 +1,8 @@
 -- What is known of a file of a folder without its sound.
 use Rattle.std.specs.Prelude.{◌≡◌, ℕ, List, Option, Some, None, ⊤}
-use Rattle.dsd_bits.specs.declared.blocks.BitOrder.{BitOrder}
 use Rattle.dsd_bits.specs.declared.blocks.BitOrder.TheVariants.{LeastFirst, MostFirst}
+use Rattle.dsd_bits.specs.declared.interleaving.Interleaving.{Interleaving}
+use Rattle.dsd_bits.specs.declared.interleaving.Interleaving.TheVariants.{Bytes, Blocks}
 use Rattle.stream_core.specs.Files.{IsRefused}
 use Rattle.stream_core.specs.Outlines.{AreAround, AreTold, around_of}
 use Rattle.stream_core.specs.declared.outline.Outline.{Outline}
@@ -28,11 +29,11 @@ pub record OutlinesFile (file_name : List ℕ) (old : Files) (found : Option Out
   pub file_stands : old file_name ≡ Some file
   pub is_outline : IsOutlineOf file found
 
--- the form of a file in which no order of bits is told, or this
-abbrev pub form_in : Option BitOrder → Form
-form_in None = Dsdiff
-form_in (Some LeastFirst) = Dsf
-form_in (Some MostFirst) = Dsf8
+-- the form of a file whose sound is interleaved so
+abbrev pub form_in : Interleaving → Form
+form_in Bytes = Dsdiff
+form_in (Blocks LeastFirst) = Dsf
+form_in (Blocks MostFirst) = Dsf8
 
 -- a file was not read: it could not be, or memory was wanting
 abbrev pub IsUnread : CommandFault → Type 0

@@ -8,7 +8,7 @@ ghost use Rattle.transfer_commands.specs.Telling.{IsToldOf, IsUntoldOf, TellCome
 
 use crate::fault::CommandFault;
 use crate::outlining::outline_file;
-use dsd_bits::BitOrder;
+use dsd_bits::{BitOrder, Interleaving};
 use folder_core::{Folder, read_file, read_short};
 use form_core::{Form, read_any};
 use info_core::Told;
@@ -52,7 +52,7 @@ fn told_of(alloc: Global, file: &[u8]) -> Result<Told, CommandFault>
 fn told_by(outline: Outline) -> Told
     ensures { (file : _) → IsOutlined file outline → IsToldOf file result }
 {
-    let form = form_in(outline.sound.order);
+    let form = form_in(outline.sound.interleaving);
     let count = outline.sound.count;
     Told {
         form,
@@ -61,13 +61,13 @@ fn told_by(outline: Outline) -> Told
     }
 }
 
-// The form of a file in which no order of bits is told, or this.
-fn form_in(order: Option<BitOrder>) -> Form
-    ensures { result ≡ outlining.form_in order }
+// The form of a file whose sound is interleaved so.
+fn form_in(interleaving: Interleaving) -> Form
+    ensures { result ≡ outlining.form_in interleaving }
 {
-    match order {
-        None => Form::Dsdiff,
-        Some(BitOrder::LeastFirst) => Form::Dsf,
-        Some(BitOrder::MostFirst) => Form::Dsf8,
+    match interleaving {
+        Interleaving::Bytes => Form::Dsdiff,
+        Interleaving::Blocks(BitOrder::LeastFirst) => Form::Dsf,
+        Interleaving::Blocks(BitOrder::MostFirst) => Form::Dsf8,
     }
 }

@@ -3,7 +3,8 @@ use Rattle.std.proofs.Common.{◌≡◌, ℕ, ◌%◌, ◌≤◌, List, [], ◌+
 use Rattle.std.proofs.lemmas.List.{length-replicate}
 use Rattle.std.proofs.lemmas.List.FromFn.{length-map-range_with_len}
 use Rattle.device_core.specs.Outlets.{AppendsFront}
-use Rattle.dsd_bits.specs.declared.blocks.BitOrder.{BitOrder}
+use Rattle.dsd_bits.specs.declared.interleaving.Interleaving.{Interleaving}
+use Rattle.dsd_bits.specs.declared.interleaving.Interleaving.TheVariants.{Bytes, Blocks}
 use Rattle.dsd_bits.specs.Blocks.{unblocked}
 use Rattle.dsd_bits.specs.Channels.{count_of}
 use Rattle.dsd_bits.specs.Contents.{Content}
@@ -22,29 +23,29 @@ use Rattle.form_core.specs.declared.form.Form.TheVariants as forms
 use Rattle.form_core.specs.declared.opening.Opened.{Opened}
 use Rattle.form_core.specs.Forms.{HoldsAs, dropped_in, form_of, text_in}
 use Rattle.form_core.specs.Opening.{opened_of}
-use Rattle.form_core.specs.Parts.{FitsIn, WrittenInParts, head_in, order_in, tail_in}
+use Rattle.form_core.specs.Parts.{FitsIn, WrittenInParts, head_in, interleaving_in, tail_in}
 use Rattle.form_core.proofs.OpeningLaws.{held_is_opened, holds_dsf}
 use Rattle.transfer_core.specs.Conversions.{ConvertsFile, ConvertsFront, ConvertsGiven}
 use Rattle.transfer_core.specs.Converting.{Converts}
 
 -- ---- channels in sound bytes
-channel_number : (order : Option BitOrder) (channels count : ℕ) (bytes : List ℕ) → length (sound_channels order channels count bytes) ≡ channels
-channel_number None channels count bytes = length-map-range_with_len (unlaced bytes channels) 0 channels
-channel_number (Some order) channels count bytes = length-map-range_with_len (unblocked order bytes channels count) 0 channels
+channel_number : (interleaving : Interleaving) (channels count : ℕ) (bytes : List ℕ) → length (sound_channels interleaving channels count bytes) ≡ channels
+channel_number Bytes channels count bytes = length-map-range_with_len (unlaced bytes channels) 0 channels
+channel_number (Blocks order) channels count bytes = length-map-range_with_len (unblocked order bytes channels count) 0 channels
 
-channel_count : (order : Option BitOrder) (channels count : ℕ) (bytes : List ℕ) → 1 ≤ channels → (order ≡ None → count % 8 ≡ 0) → length bytes ≡ sound_size order channels count
-    → count_of (sound_channels order channels count bytes) ≡ count
-channel_count None channels count bytes some whole size = unlaced_count bytes channels count some (whole refl) size
-channel_count (Some order) channels count bytes some whole size = unblocked_count order bytes channels count some
+channel_count : (interleaving : Interleaving) (channels count : ℕ) (bytes : List ℕ) → 1 ≤ channels → (interleaving ≡ Bytes → count % 8 ≡ 0) → length bytes ≡ sound_size interleaving channels count
+    → count_of (sound_channels interleaving channels count bytes) ≡ count
+channel_count Bytes channels count bytes some whole size = unlaced_count bytes channels count some (whole refl) size
+channel_count (Blocks order) channels count bytes some whole size = unblocked_count order bytes channels count some
 
 -- ---- the form of a file
-abbrev source_of : Option BitOrder → Form
-source_of None = forms.Dsdiff
-source_of (Some order) = form_of order
+abbrev source_of : Interleaving → Form
+source_of Bytes = forms.Dsdiff
+source_of (Blocks order) = form_of order
 
-held : (order : Option BitOrder) (file : List ℕ) (r : Content) → HoldsIn order file r → HoldsAs file (source_of order) r
-held None file r is = is
-held (Some order) file r is = holds_dsf file r order is
+held : (interleaving : Interleaving) (file : List ℕ) (r : Content) → HoldsIn interleaving file r → HoldsAs file (source_of interleaving) r
+held Bytes file r is = is
+held (Blocks order) file r is = holds_dsf file r order is
 
 -- ---- what is dropped stands beside the channels
 dropped_beside : (form : Form) (o : Surroundings) (sound : List ℕ) → dropped_in form o.recording ≡ dropped_in form (with_sound o.recording o.sound sound)
@@ -65,22 +66,22 @@ one_text file bytes-1 bytes-2 form dropped-1 dropped-2 a b =
     same_bytes (text_in form a.recording) bytes-1 bytes-2 a.text (ap (text_in form) same ∙ b.text)
 
 -- ---- a target that stands for the ends of a form
-module _ (laws : WrittenInParts) (o : Surroundings) (told : AreTold o) (form : Form) (fits : FitsIn form o.sound.count) (target : Target) (order : target.order ≡ order_in form) (head : target.head.now ≡ head_in form o.recording o.sound.count) (tail : target.tail.now ≡ tail_in form o.recording o.sound.count) where
+module _ (laws : WrittenInParts) (o : Surroundings) (told : AreTold o) (form : Form) (fits : FitsIn form o.sound.count) (target : Target) (interleaving : target.interleaving ≡ interleaving_in form) (head : target.head.now ≡ head_in form o.recording o.sound.count) (tail : target.tail.now ≡ tail_in form o.recording o.sound.count) where
   -- what is relayed is what is written for the recording
   text : (sound : List ℕ) → length sound ≡ o.sound.size → text_in form (with_sound o.recording o.sound sound) ≡ Some (relayed target o.sound sound)
   text sound long =
       let s = o.sound in
-      let channels = sound_channels s.order s.channels s.count sound in
-      let count : count_of channels ≡ s.count = channel_count s.order s.channels s.count sound told.is_sound.some_channel told.whole (long ∙ told.is_sound.size) in
-      let number : length o.recording.channels ≡ length channels = ap length told.silent ∙ length-replicate s.channels [] ∙ sym (channel_number s.order s.channels s.count sound) in
-      let parts = subst (λ n. text_in form (with_sound o.recording s sound) ≡ Some (head_in form o.recording n ++ (laced_in (order_in form) channels ++ tail_in form o.recording n))) count (laws form o.recording channels number (subst (FitsIn form) (sym count) fits)) in
-      rw (order, head, tail) parts
+      let channels = sound_channels s.interleaving s.channels s.count sound in
+      let count : count_of channels ≡ s.count = channel_count s.interleaving s.channels s.count sound told.is_sound.some_channel told.whole (long ∙ told.is_sound.size) in
+      let number : length o.recording.channels ≡ length channels = ap length told.silent ∙ length-replicate s.channels [] ∙ sym (channel_number s.interleaving s.channels s.count sound) in
+      let parts = subst (λ n. text_in form (with_sound o.recording s sound) ≡ Some (head_in form o.recording n ++ (laced_in (interleaving_in form) channels ++ tail_in form o.recording n))) count (laws form o.recording channels number (subst (FitsIn form) (sym count) fits)) in
+      rw (interleaving, head, tail) parts
 
   converts : (file sound : List ℕ) → StandsIn o file sound → Converts file form (relayed target o.sound sound) (dropped_in form o.recording)
   converts file sound stands = record {
-    source = source_of o.sound.order;
+    source = source_of o.sound.interleaving;
     recording = with_sound o.recording o.sound sound;
-    file_holds = held o.sound.order file (with_sound o.recording o.sound sound) (told.holds file sound stands);
+    file_holds = held o.sound.interleaving file (with_sound o.recording o.sound sound) (told.holds file sound stands);
     text = text sound stands.sound_long;
     dropped_is = dropped_beside form o sound;
   }

@@ -12,7 +12,7 @@ ghost use Rattle.transfer_core.specs.Streaming.{failed_reads, failed_writes};
 
 use crate::fault::Fault;
 use device_core::{Inlet, Outlet};
-use form_core::{Form, dropped_in, ends_in, order_in, read_any, write_in, written_in_parts};
+use form_core::{Form, dropped_in, ends_in, interleaving_in, read_any, write_in, written_in_parts};
 use relay_core::{Target, relay};
 use std::alloc::Global;
 use std::io::{Read, Write};
@@ -83,7 +83,7 @@ pub fn convert_stream<R: Read, W: Write>(
     written_in_parts();
     let ends = ends_in(alloc, &outline.recording, form, outline.sound.count)?;
     let target = Target {
-        order: order_in(form),
+        interleaving: interleaving_in(form),
         head: &ends.head,
         tail: &ends.tail,
     };

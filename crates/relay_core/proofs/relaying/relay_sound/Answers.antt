@@ -23,7 +23,7 @@ loop-left-init g c =
 pub relay_stretch-requires-clause-fits : goal.relay_stretch-requires-clause-fits
 relay_stretch-requires-clause-fits g c =
     let s = c.args.relacing.now.sound in
-    size_fits s.order s.channels c.min-bits.result c.stretch_bits-most.result (omega (arith, c.min-bits.ensures)) c.stretch_bits-most.ensures.groups c.stretch_bits-most.ensures.fits
+    size_fits s.interleaving s.channels c.min-bits.result c.stretch_bits-most.result (omega (arith, c.min-bits.ensures)) c.stretch_bits-most.ensures.groups c.stretch_bits-most.ensures.fits
 
 pub relay_stretch-requires-clause-whole : goal.relay_stretch-requires-clause-whole
 relay_stretch-requires-clause-whole g c =

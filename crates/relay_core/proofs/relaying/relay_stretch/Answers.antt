@@ -12,7 +12,7 @@ returns-clause-front g c =
     let n = c.stretch_size-size.result in
     let read = take n c.fill.new.block.items in
     let bytes : c.split_at.result.0.now ≡ read = c.split_at.ensures.front ∙ ap (take n) c.deref.ensures.value in
-    let made : c.deref-2.result.now ≡ relaced s.order to s.channels c.args.bits read = c.deref-2.ensures.value ∙ c.in_ok-push_relaced.ensures.ok ∙ ap (λ xs. xs ++ relaced s.order to s.channels c.args.bits c.split_at.result.0.now) c.clear.ensures.items ∙ ap (relaced s.order to s.channels c.args.bits) bytes in
+    let made : c.deref-2.result.now ≡ relaced s.interleaving to s.channels c.args.bits read = c.deref-2.ensures.value ∙ c.in_ok-push_relaced.ensures.ok ∙ ap (λ xs. xs ++ relaced s.interleaving to s.channels c.args.bits c.split_at.result.0.now) c.clear.ensures.items ∙ ap (relaced s.interleaving to s.channels c.args.bits) bytes in
     let a = g.W.Write.contents (outlet_writer c.args.outlet.now) in
     let b = g.W.Write.contents (outlet_writer c.put.new.outlet) in
     on_err c.put.result (λ front. stretch_front s to c.args.bits (g.R.Read.remaining (inlet_reader c.args.inlet.now)) (g.R.Read.remaining (inlet_reader c.fill.new.inlet)) a b read c.in_ok-fill.ensures.read (omega (arith, length-take n c.fill.new.block.items, c.stretch_size-size.ensures, c.requires.fits, c.requires.size, c.fill.ensures.size)) (subst (AppendsFront a b) made front)) c.put.ensures.err

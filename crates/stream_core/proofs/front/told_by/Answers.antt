@@ -6,7 +6,7 @@ pub returns-in-Refused-clause-found : goal.returns-in-Refused-clause-found
 returns-in-Refused-clause-found c =
     let no_form = rw c.in-Refused.is at c.in_ok-told.ensures.refused in
     let told = c.sound_at-in-Refused in
-    dsf_found c.args.front.now no_form told.result told.ensures.exact told.ensures.found told.ensures.limits told.ensures.within told.ensures.order
+    dsf_found c.args.front.now no_form told.result told.ensures.exact told.ensures.found told.ensures.limits told.ensures.within told.ensures.interleaving
 
 pub returns-in-Refused-clause-refused : goal.returns-in-Refused-clause-refused
 returns-in-Refused-clause-refused c =

@@ -7,23 +7,23 @@ use Rattle.stream_core.proofs.outline.behind_blocks.Goals as goal
 
 pub tag_at-requires : goal.tag_at-requires
 tag_at-requires g c =
-    let told = has_order c.args.sound.now.order c.requires.order in
+    let told = has_order c.args.sound.now.interleaving c.requires.interleaving in
     record { at_sound = ends c.args.head.now c.args.sound.now c.requires.at_sound told.0 told.1 }
 
 pub returns-in_err-gap-clause-fault : goal.returns-in_err-gap-clause-fault
 returns-in_err-gap-clause-fault g c =
-    let told = has_order c.args.sound.now.order c.requires.order in
+    let told = has_order c.args.sound.now.interleaving c.requires.interleaving in
     let e = err_from_is_err_and c.from_residual.result c.from_residual.ensures.1 in
     rw (e.1, e.2) (tag_fault c.args.head.now c.args.sound.now c.requires.at_sound told.0 told.1 c.requires.sound _ _ _ _ c.in_err-gap.field-0.0 c.tag_at.ensures.place (omega arith) c.in_err-gap.ensures.fault)
 
 pub outline-requires-clause-at_sound : goal.outline-requires-clause-at_sound
 outline-requires-clause-at_sound g c =
-    let told = has_order c.args.sound.now.order c.requires.order in
+    let told = has_order c.args.sound.now.interleaving c.requires.interleaving in
     ends c.args.head.now c.args.sound.now c.requires.at_sound told.0 told.1
 
 pub returns-in_default-clause-fault : goal.returns-in_default-clause-fault
 returns-in_default-clause-fault g c =
-    let told = has_order c.args.sound.now.order c.requires.order in
+    let told = has_order c.args.sound.now.interleaving c.requires.interleaving in
     let read = c.in_ok-gap.ensures.ok in
     let refused = subst (TellsOutline c.args.head.now (c.given.result - c.read_tag.new.reading.given) c.in_ok-tag.tag.items) c.in_default.is c.in_ok-recording.ensures.told in
     let total : c.given.result - c.read_tag.new.reading.given ≡ length c.args.head.now + c.args.sound.now.size + length c.args.back.now.items + length read.read = omega (arith, c.given.ensures, c.in_ok-gap.ensures.same.0, read.reads.given, c.requires.given) in
@@ -31,7 +31,7 @@ returns-in_default-clause-fault g c =
 
 pub returns-clause-ok : goal.returns-clause-ok
 returns-clause-ok g c =
-    let told = has_order c.args.sound.now.order c.requires.order in
+    let told = has_order c.args.sound.now.interleaving c.requires.interleaving in
     let read = c.in_ok-gap.ensures.ok in
     let tag = c.in_ok-tag.ensures.items ∙ c.deref.ensures.value in
     let outline = subst (λ xs. TellsOutline c.args.head.now (c.given.result - c.read_tag.new.reading.given) xs (Some c.in-Some.recording)) tag (subst (TellsOutline c.args.head.now (c.given.result - c.read_tag.new.reading.given) c.in_ok-tag.tag.items) c.in-Some.is c.in_ok-recording.ensures.told) in

@@ -25,7 +25,7 @@ pub behind_blocks-requires-clause-at_sound : goal.behind_blocks-requires-clause-
 behind_blocks-requires-clause-at_sound g c = subst (λ xs. EndsAt xs c.args.sound.now) (sym c.deref.ensures.value) (at_sound g (goal.at.behind_blocks-requires-clause-at_sound g c).In_ok-pass_sound)
 
 pub behind_frames-requires-clause-at_sound : goal.behind_frames-requires-clause-at_sound
-behind_frames-requires-clause-at_sound g c = subst (λ xs. EndsAt xs c.args.sound.now) (sym c.deref-else-is_some.ensures.value) (at_sound g (goal.at.behind_frames-requires-clause-at_sound g c).In_ok-pass_sound)
+behind_frames-requires-clause-at_sound g c = subst (λ xs. EndsAt xs c.args.sound.now) (sym c.deref-else-has_blocks.ensures.value) (at_sound g (goal.at.behind_frames-requires-clause-at_sound g c).In_ok-pass_sound)
 
 pub behind_blocks-requires-clause-given : goal.behind_blocks-requires-clause-given
 behind_blocks-requires-clause-given g c =
@@ -34,22 +34,22 @@ behind_blocks-requires-clause-given g c =
     let head = c.pass_sound.new.front.items in
     omega (arith, c.requires.given, p.reads.given, ap length p.parts, ap length p.kept, ap length c.deref.ensures.value, p.long, length-append c.args.front.now.items p.read, length-append head (p.sound ++ p.behind), length-append p.sound p.behind)
 
-pub returns-then-is_some-clause-ok : goal.returns-then-is_some-clause-ok
-returns-then-is_some-clause-ok g c =
-    let k = (goal.at.returns-then-is_some-clause-ok g c).In_ok-pass_sound in
+pub returns-then-has_blocks-clause-ok : goal.returns-then-has_blocks-clause-ok
+returns-then-has_blocks-clause-ok g c =
+    let k = (goal.at.returns-then-has_blocks-clause-ok g c).In_ok-pass_sound in
     IfOk-weaker c.behind_blocks.result _ _ (λ b surrounds. rest_surrounds c.args.front.now.items c.args.sound.now c.requires.tells g.R.Read.remaining c.args.inlet.now c.pass_sound.new.inlet c.pass_sound.new.front.items c.pass_sound.new.back.items (passes g k) _ _ refl refl (rw c.deref.ensures.value at surrounds)) c.behind_blocks.ensures.ok
 
-pub returns-then-is_some-clause-fault : goal.returns-then-is_some-clause-fault
-returns-then-is_some-clause-fault g c =
-    let k = (goal.at.returns-then-is_some-clause-fault g c).In_ok-pass_sound in
+pub returns-then-has_blocks-clause-fault : goal.returns-then-has_blocks-clause-fault
+returns-then-has_blocks-clause-fault g c =
+    let k = (goal.at.returns-then-has_blocks-clause-fault g c).In_ok-pass_sound in
     IfErr-weaker c.behind_blocks.result _ _ (λ f stands. rest_stands c.args.front.now.items c.args.sound.now c.requires.tells g.R.Read.remaining c.args.inlet.now c.pass_sound.new.inlet c.pass_sound.new.front.items c.pass_sound.new.back.items (passes g k) f (rw c.deref.ensures.value at stands)) c.behind_blocks.ensures.fault
 
-pub returns-else-is_some-clause-ok : goal.returns-else-is_some-clause-ok
-returns-else-is_some-clause-ok g c =
-    let k = (goal.at.returns-else-is_some-clause-ok g c).In_ok-pass_sound in
-    IfOk-weaker c.behind_frames.result _ _ (λ b surrounds. rest_surrounds c.args.front.now.items c.args.sound.now c.requires.tells g.R.Read.remaining c.args.inlet.now c.pass_sound.new.inlet c.pass_sound.new.front.items c.pass_sound.new.back.items (passes g k) _ _ refl refl (rw c.deref-else-is_some.ensures.value at surrounds)) c.behind_frames.ensures.ok
+pub returns-else-has_blocks-clause-ok : goal.returns-else-has_blocks-clause-ok
+returns-else-has_blocks-clause-ok g c =
+    let k = (goal.at.returns-else-has_blocks-clause-ok g c).In_ok-pass_sound in
+    IfOk-weaker c.behind_frames.result _ _ (λ b surrounds. rest_surrounds c.args.front.now.items c.args.sound.now c.requires.tells g.R.Read.remaining c.args.inlet.now c.pass_sound.new.inlet c.pass_sound.new.front.items c.pass_sound.new.back.items (passes g k) _ _ refl refl (rw c.deref-else-has_blocks.ensures.value at surrounds)) c.behind_frames.ensures.ok
 
-pub returns-else-is_some-clause-fault : goal.returns-else-is_some-clause-fault
-returns-else-is_some-clause-fault g c =
-    let k = (goal.at.returns-else-is_some-clause-fault g c).In_ok-pass_sound in
-    IfErr-weaker c.behind_frames.result _ _ (λ f stands. rest_stands c.args.front.now.items c.args.sound.now c.requires.tells g.R.Read.remaining c.args.inlet.now c.pass_sound.new.inlet c.pass_sound.new.front.items c.pass_sound.new.back.items (passes g k) f (rw c.deref-else-is_some.ensures.value at stands)) c.behind_frames.ensures.fault
+pub returns-else-has_blocks-clause-fault : goal.returns-else-has_blocks-clause-fault
+returns-else-has_blocks-clause-fault g c =
+    let k = (goal.at.returns-else-has_blocks-clause-fault g c).In_ok-pass_sound in
+    IfErr-weaker c.behind_frames.result _ _ (λ f stands. rest_stands c.args.front.now.items c.args.sound.now c.requires.tells g.R.Read.remaining c.args.inlet.now c.pass_sound.new.inlet c.pass_sound.new.front.items c.pass_sound.new.back.items (passes g k) f (rw c.deref-else-has_blocks.ensures.value at stands)) c.behind_frames.ensures.fault

@@ -11,12 +11,12 @@ returns-in_err-ends-clause-front g c = any_err c.from_residual.result (nothing_c
 
 pub returns-in_err-relay-clause-front : goal.returns-in_err-relay-clause-front
 returns-in_err-relay-clause-front g c =
-    any_err c.from_residual-in_err-relay.result (converts_front c.written_in_parts.ensures (around_of c.args.outline.now) c.requires.told c.args.form c.in_ok-ends.ensures.fits (record { order = c.order_in.result; head = c.deref.result; tail = c.deref-2.result }) c.order_in.ensures (c.deref.ensures.value ∙ c.in_ok-ends.ensures.head) (c.deref-2.ensures.value ∙ c.in_ok-ends.ensures.tail) (g.R.Read.remaining (inlet_reader c.args.inlet.now)) (g.W.Write.contents (outlet_writer c.args.outlet.now)) (g.W.Write.contents (outlet_writer c.relay.new.outlet)) c.in_err-relay.ensures.front)
+    any_err c.from_residual-in_err-relay.result (converts_front c.written_in_parts.ensures (around_of c.args.outline.now) c.requires.told c.args.form c.in_ok-ends.ensures.fits (record { interleaving = c.interleaving_in.result; head = c.deref.result; tail = c.deref-2.result }) c.interleaving_in.ensures (c.deref.ensures.value ∙ c.in_ok-ends.ensures.head) (c.deref-2.ensures.value ∙ c.in_ok-ends.ensures.tail) (g.R.Read.remaining (inlet_reader c.args.inlet.now)) (g.W.Write.contents (outlet_writer c.args.outlet.now)) (g.W.Write.contents (outlet_writer c.relay.new.outlet)) c.in_err-relay.ensures.front)
 
 pub returns-clause-ok : goal.returns-clause-ok
 returns-clause-ok g c =
-    rw c.dropped_in.ensures (converts_file c.written_in_parts.ensures (around_of c.args.outline.now) c.requires.told c.args.form c.in_ok-ends.ensures.fits (record { order = c.order_in.result; head = c.deref.result; tail = c.deref-2.result }) c.order_in.ensures (c.deref.ensures.value ∙ c.in_ok-ends.ensures.head) (c.deref-2.ensures.value ∙ c.in_ok-ends.ensures.tail) (g.R.Read.remaining (inlet_reader c.args.inlet.now)) (g.W.Write.contents (outlet_writer c.args.outlet.now)) (g.W.Write.contents (outlet_writer c.relay.new.outlet)) c.in_ok-relay.ensures.ok)
+    rw c.dropped_in.ensures (converts_file c.written_in_parts.ensures (around_of c.args.outline.now) c.requires.told c.args.form c.in_ok-ends.ensures.fits (record { interleaving = c.interleaving_in.result; head = c.deref.result; tail = c.deref-2.result }) c.interleaving_in.ensures (c.deref.ensures.value ∙ c.in_ok-ends.ensures.head) (c.deref-2.ensures.value ∙ c.in_ok-ends.ensures.tail) (g.R.Read.remaining (inlet_reader c.args.inlet.now)) (g.W.Write.contents (outlet_writer c.args.outlet.now)) (g.W.Write.contents (outlet_writer c.relay.new.outlet)) c.in_ok-relay.ensures.ok)
 
 pub returns-clause-any_reader : goal.returns-clause-any_reader
 returns-clause-any_reader g c =
-    rw c.dropped_in.ensures (converts_given c.written_in_parts.ensures (around_of c.args.outline.now) c.requires.told c.args.form c.in_ok-ends.ensures.fits (record { order = c.order_in.result; head = c.deref.result; tail = c.deref-2.result }) c.order_in.ensures (c.deref.ensures.value ∙ c.in_ok-ends.ensures.head) (c.deref-2.ensures.value ∙ c.in_ok-ends.ensures.tail) (g.R.Read.remaining (inlet_reader c.args.inlet.now)) (g.R.Read.remaining (inlet_reader c.relay.new.inlet)) (g.W.Write.contents (outlet_writer c.args.outlet.now)) (g.W.Write.contents (outlet_writer c.relay.new.outlet)) c.in_ok-relay.ensures.any_reader)
+    rw c.dropped_in.ensures (converts_given c.written_in_parts.ensures (around_of c.args.outline.now) c.requires.told c.args.form c.in_ok-ends.ensures.fits (record { interleaving = c.interleaving_in.result; head = c.deref.result; tail = c.deref-2.result }) c.interleaving_in.ensures (c.deref.ensures.value ∙ c.in_ok-ends.ensures.head) (c.deref-2.ensures.value ∙ c.in_ok-ends.ensures.tail) (g.R.Read.remaining (inlet_reader c.args.inlet.now)) (g.R.Read.remaining (inlet_reader c.relay.new.inlet)) (g.W.Write.contents (outlet_writer c.args.outlet.now)) (g.W.Write.contents (outlet_writer c.relay.new.outlet)) c.in_ok-relay.ensures.any_reader)

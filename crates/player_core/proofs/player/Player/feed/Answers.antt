@@ -26,20 +26,20 @@ feed_all-requires-clause-ready c =
     (rw (c.bytes_heard.ensures, c.bytes_heard-2.ensures) refl) c.requires.ready.each)
 
 -- the whole groups that are fed
-groups_are : (c : After-deref_mut) → c.split_at.result.0.now ≡ take (length (c.args.self.now.held.items ++ c.args.bytes.now) / group_size c.args.self.now.sound.order c.args.self.now.sound.channels * group_size c.args.self.now.sound.order c.args.self.now.sound.channels) (c.args.self.now.held.items ++ c.args.bytes.now)
+groups_are : (c : After-deref_mut) → c.split_at.result.0.now ≡ take (length (c.args.self.now.held.items ++ c.args.bytes.now) / group_size c.args.self.now.sound.interleaving c.args.self.now.sound.channels * group_size c.args.self.now.sound.interleaving c.args.self.now.sound.channels) (c.args.self.now.held.items ++ c.args.bytes.now)
 groups_are c =
     let all = c.deref.ensures.value ∙ c.in_ok-extend_from_slice.ensures.items in
     let size : c.len.result ≡ length (c.args.self.now.held.items ++ c.args.bytes.now) = omega (arith, c.len.ensures, c.extend_from_slice.new.self.ok.0, ap length c.in_ok-extend_from_slice.ensures.items) in
     c.split_at.ensures.front ∙ ap₂ (λ n (g : ℕ). take (n / g * g) c.deref.result.now) size c.group_size-size.ensures
-    ∙ ap (take (length (c.args.self.now.held.items ++ c.args.bytes.now) / group_size c.args.self.now.sound.order c.args.self.now.sound.channels * group_size c.args.self.now.sound.order c.args.self.now.sound.channels)) all
+    ∙ ap (take (length (c.args.self.now.held.items ++ c.args.bytes.now) / group_size c.args.self.now.sound.interleaving c.args.self.now.sound.channels * group_size c.args.self.now.sound.interleaving c.args.self.now.sound.channels)) all
 
 pub feed_all-requires-clause-enough : goal.feed_all-requires-clause-enough
 feed_all-requires-clause-enough c =
     let p = c.args.self.now in
     let s = p.sound in
     let past = c.requires.ready.history in
-    let rest = held_size past.0 p.held.items (group_size s.order s.channels) past.1.held ∙ ap (λ n. n % group_size s.order s.channels) (sym past.1.fed) in
-    let size = ap length (groups_are (goal.at.feed_all-requires-clause-enough c).After-deref_mut) ∙ groups_size p.held.items c.args.bytes.now (group_size s.order s.channels) in
+    let rest = held_size past.0 p.held.items (group_size s.interleaving s.channels) past.1.held ∙ ap (λ n. n % group_size s.interleaving s.channels) (sym past.1.fed) in
+    let size = ap length (groups_are (goal.at.feed_all-requires-clause-enough c).After-deref_mut) ∙ groups_size p.held.items c.args.bytes.now (group_size s.interleaving s.channels) in
     rw (c.bytes_heard.ensures, c.bytes_heard-2.ensures) (heard_more s p.fed (length c.args.bytes.now) (length p.held.items) (length c.split_at.result.0.now) c.requires.ready.sound.some_channel rest size)
 
 next_heard : (c : After-deref_mut) (before : List ℕ) → IsFed c.args.self.now before
@@ -80,11 +80,11 @@ streams_back c =
     ap (λ n. take n (c.feed_all.new.streams ++ drop (length c.feed_all.new.streams) c.args.self.now.streams.items)) size ∙ take-append_seam c.feed_all.new.streams (drop (length c.feed_all.new.streams) c.args.self.now.streams.items)
 
 -- what is held then
-held_now : (c : After-drop_front) → c.drop_front.new.held.items ≡ drop (length (c.args.self.now.held.items ++ c.args.bytes.now) / group_size c.args.self.now.sound.order c.args.self.now.sound.channels * group_size c.args.self.now.sound.order c.args.self.now.sound.channels) (c.args.self.now.held.items ++ c.args.bytes.now)
+held_now : (c : After-drop_front) → c.drop_front.new.held.items ≡ drop (length (c.args.self.now.held.items ++ c.args.bytes.now) / group_size c.args.self.now.sound.interleaving c.args.self.now.sound.channels * group_size c.args.self.now.sound.interleaving c.args.self.now.sound.channels) (c.args.self.now.held.items ++ c.args.bytes.now)
 held_now c =
     let size : c.len.result ≡ length (c.args.self.now.held.items ++ c.args.bytes.now) = omega (arith, c.len.ensures, c.extend_from_slice.new.self.ok.0, ap length c.in_ok-extend_from_slice.ensures.items) in
     c.drop_front.ensures ∙ ap₂ (λ n (g : ℕ). drop (n / g * g) c.extend_from_slice.new.self.items) size c.group_size-size.ensures
-    ∙ ap (drop (length (c.args.self.now.held.items ++ c.args.bytes.now) / group_size c.args.self.now.sound.order c.args.self.now.sound.channels * group_size c.args.self.now.sound.order c.args.self.now.sound.channels)) c.in_ok-extend_from_slice.ensures.items
+    ∙ ap (drop (length (c.args.self.now.held.items ++ c.args.bytes.now) / group_size c.args.self.now.sound.interleaving c.args.self.now.sound.channels * group_size c.args.self.now.sound.interleaving c.args.self.now.sound.channels)) c.in_ok-extend_from_slice.ensures.items
 
 pub returns-clause-ok : goal.returns-clause-ok
 returns-clause-ok c =
@@ -134,7 +134,7 @@ pub group_size-size-requires : goal.group_size-size-requires
 group_size-size-requires c = c.requires.ready.sound.six_channels
 
 pub nonzero_div-whole : goal.nonzero_div-whole
-nonzero_div-whole c = subst (λ n. 0 < n) (sym c.group_size-size.ensures) (mul_some c.args.self.now.sound.channels (part_size c.args.self.now.sound.order) c.requires.ready.sound.some_channel (some_part c.args.self.now.sound.order))
+nonzero_div-whole c = subst (λ n. 0 < n) (sym c.group_size-size.ensures) (mul_some c.args.self.now.sound.channels (part_size c.args.self.now.sound.interleaving) c.requires.ready.sound.some_channel (some_part c.args.self.now.sound.interleaving))
 
 pub overflow_mul-whole : goal.overflow_mul-whole
 overflow_mul-whole c = omega (arith, div-mul-le_self c.len.result c.group_size-size.result)

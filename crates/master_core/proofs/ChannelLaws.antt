@@ -16,7 +16,7 @@ use Rattle.cut_core.specs.Cuts.{CutContent, channel_number, cue_at, cue_bits, ma
 use Rattle.cut_core.specs.Keeping.{CanCut}
 use Rattle.cut_core.proofs.BridgeLaws.{range_more}
 use Rattle.cut_core.proofs.ZipLaws.{zip_is_map, zip_long, zip_map, zip_more, zip_of_map}
-use Rattle.master_core.specs.Assembling.{IsAssembled, IsBridged, IsGiven}
+use Rattle.master_core.specs.Assembling.{IsAssembled, IsBridged, IsOfSource}
 use Rattle.master_core.specs.declared.assembling.BridgeSource.{BridgeSource}
 use Rattle.master_core.specs.Checking.{rebuilt}
 use Rattle.master_core.specs.Claims.{bridge_bits, bridge_start}
@@ -70,7 +70,7 @@ module _ (cut : CutContent) (c : ℕ) (source : BridgeSource) where
   unfolding channel
   assembled_nothing = record { bridges = []; given = tt; made = refl }
 
-  pub assembled_more : (i : ℕ) (z z1 z2 : List Bool) → IsAssembled cut c source i z → IsBridged (IsGiven cut c source i) z z1 → z2 ≡ z1 ++ cue_bits cut c (i + 1) → IsAssembled cut c source (i + 1) z2
+  pub assembled_more : (i : ℕ) (z z1 z2 : List Bool) → IsAssembled cut c source i z → IsBridged (IsOfSource cut c source i) z z1 → z2 ≡ z1 ++ cue_bits cut c (i + 1) → IsAssembled cut c source (i + 1) z2
   assembled_more i z z1 z2 so_far bridged next =
       let xs = so_far.bridges in
       let x = bridged.bits in
@@ -78,28 +78,28 @@ module _ (cut : CutContent) (c : ℕ) (source : BridgeSource) where
       let first = cue_bits cut c 0 in
       let ps = map (part_at cut c) (range_with_len 0 i) in
       let zero : 0 + i ≡ i = omega arith in
-      let many : length xs ≡ length ps = zip_long (IsGiven cut c source) (range_with_len 0 i) xs so_far.given ∙ sym (length-map (range_with_len 0 i) (part_at cut c)) in
+      let many : length xs ≡ length ps = zip_long (IsOfSource cut c source) (range_with_len 0 i) xs so_far.given ∙ sym (length-map (range_with_len 0 i) (part_at cut c)) in
       let more : map (part_at cut c) (range_with_len 0 (i + 1)) ≡ ps ++ d ∷ [] = map-range_with_len_more (part_at cut c) 0 i i (omega arith) in
       record {
         bridges = xs ++ x ∷ [];
-        given = rw (range_more 0 i, zero) (zip_more (IsGiven cut c source) (range_with_len 0 i) xs i x so_far.given bridged.given);
+        given = rw (range_more 0 i, zero) (zip_more (IsOfSource cut c source) (range_with_len 0 i) xs i x so_far.given bridged.given);
         made = next ∙ ap (λ l. l ++ d.cue) (bridged.appended ∙ ap (λ l. l ++ x) so_far.made) ∙ append_assoc (channel first ps xs) x d.cue ∙ sym (channel_on first ps xs d x many) ∙ ap (λ l. channel first l (xs ++ x ∷ [])) (sym more);
       }
 
   -- of bits that were chosen, and of those that stand in a channel
-  pub best_of : (z : List Bool) → ((i : ℕ) (x : List Bool) → IsGiven cut c source i x → IsFirstLeastPart (part_at cut c i) x) → IsAssembled cut c source (length cut.splice.cues - 1) z → IsBestChannel cut c z
+  pub best_of : (z : List Bool) → ((i : ℕ) (x : List Bool) → IsOfSource cut c source i x → IsFirstLeastPart (part_at cut c i) x) → IsAssembled cut c source (length cut.splice.cues - 1) z → IsBestChannel cut c z
   best_of z chosen made =
       let numbers = range_with_len 0 (length cut.splice.cues - 1) in
       record {
         bridges = made.bridges;
-        best = zip_of_map IsFirstLeastPart (part_at cut c) numbers made.bridges (zip_map (IsGiven cut c source) (λ i x. IsFirstLeastPart (part_at cut c i) x) numbers made.bridges chosen made.given);
+        best = zip_of_map IsFirstLeastPart (part_at cut c) numbers made.bridges (zip_map (IsOfSource cut c source) (λ i x. IsFirstLeastPart (part_at cut c i) x) numbers made.bridges chosen made.given);
         made = made.made;
       }
 
-  pub rebuilt_of : (own : List Bool) → ((i : ℕ) (x : List Bool) → IsGiven cut c source i x → x ≡ bridge_bits cut own i) → (answer : Result (List Bool) AllocError) → IfOk answer (IsAssembled cut c source (length cut.splice.cues - 1)) → IfOk answer (λ z. z ≡ rebuilt cut c own)
+  pub rebuilt_of : (own : List Bool) → ((i : ℕ) (x : List Bool) → IsOfSource cut c source i x → x ≡ bridge_bits cut own i) → (answer : Result (List Bool) AllocError) → IfOk answer (IsAssembled cut c source (length cut.splice.cues - 1)) → IfOk answer (λ z. z ≡ rebuilt cut c own)
   rebuilt_of own stand (Ok z) made =
       let numbers = range_with_len 0 (length cut.splice.cues - 1) in
-      made.made ∙ ap (master_channel cut c) (zip_is_map (bridge_bits cut own) numbers made.bridges (zip_map (IsGiven cut c source) (λ i x. x ≡ bridge_bits cut own i) numbers made.bridges stand made.given))
+      made.made ∙ ap (master_channel cut c) (zip_is_map (bridge_bits cut own) numbers made.bridges (zip_map (IsOfSource cut c source) (λ i x. x ≡ bridge_bits cut own i) numbers made.bridges stand made.given))
   rebuilt_of own stand (Err fault) made = tt
 
 -- a plain cut

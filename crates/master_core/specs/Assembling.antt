@@ -21,9 +21,9 @@ IsSource cut (Chosen places chosen) = (places.now ≡ bridges cut) × AreChosen 
 IsSource cut (Standing bits) = length bits.now ≡ master_length cut.splice.cues
 
 -- the bits are those of a source for the bridge behind cue i in channel c: the first least that were chosen, or those that stand there
-abbrev pub IsGiven : CutContent → ℕ → BridgeSource → ℕ → List Bool → Type 0
-IsGiven cut c (Chosen places chosen) i x = IsFirstLeastPart (part_at cut c i) x
-IsGiven cut c (Standing bits) i x = x ≡ bridge_bits cut bits.now i
+abbrev pub IsOfSource : CutContent → ℕ → BridgeSource → ℕ → List Bool → Type 0
+IsOfSource cut c (Chosen places chosen) i x = IsFirstLeastPart (part_at cut c i) x
+IsOfSource cut c (Standing bits) i x = x ≡ bridge_bits cut bits.now i
 
 -- bits that P holds of were appended
 pub record IsBridged (P : List Bool → Type 0) (before after : List Bool) : Type 0 where
@@ -34,5 +34,5 @@ pub record IsBridged (P : List Bool → Type 0) (before after : List Bool) : Typ
 -- channel c of the first cue, and then of so many bridges of a source with the cues behind them
 pub record IsAssembled (cut : CutContent) (c : ℕ) (source : BridgeSource) (number : ℕ) (z : List Bool) : Type 0 where
   pub bridges : List (List Bool)
-  pub given : AllZip (IsGiven cut c source) (range_with_len 0 number) bridges
+  pub given : AllZip (IsOfSource cut c source) (range_with_len 0 number) bridges
   pub made : z ≡ channel (cue_bits cut c 0) (map (part_at cut c) (range_with_len 0 number)) bridges

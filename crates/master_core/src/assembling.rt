@@ -3,7 +3,7 @@
 ghost use Rattle.std.specs.Prelude.{◌≡◌, ◌+◌, ◌-◌, ◌^◌, ◌<◌, ◌≤◌, All, IfOk, MatchOption, OnOk, length};
 ghost use Rattle.cut_core.specs.Bridges.{bridges};
 ghost use Rattle.cut_core.specs.Cuts.{channel_number, cue_at, master_length};
-ghost use Rattle.master_core.specs.Assembling.{IsAssembled, IsBridged, IsGiven, IsNoBridge, IsSource};
+ghost use Rattle.master_core.specs.Assembling.{IsAssembled, IsBridged, IsOfSource, IsNoBridge, IsSource};
 ghost use Rattle.master_core.specs.Choosing.{AreChosen, IsChosenAt};
 ghost use Rattle.master_core.specs.Claims.{bridge_start};
 ghost use Rattle.master_core.specs.Masters.{AreBestChannels, IsFirstLeastPart, part_at};
@@ -78,7 +78,7 @@ fn push_bridge(
     requires channel { place.channel < channel_number cut.now }
     requires cue { place.cue + 1 < length cut.now.splice.cues }
     requires start { length out.old ≡ bridge_start cut.now place.cue }
-    ensures bridged { OnOk result (IsBridged (IsGiven cut.now place.channel source.entry place.cue) out.old out.new) }
+    ensures bridged { OnOk result (IsBridged (IsOfSource cut.now place.channel source.entry place.cue) out.old out.new) }
     ensures long { OnOk result (length out.new ≡ length out.old + (cue_at cut.now place.cue).bridge) }
 {
     cut.can_cut();

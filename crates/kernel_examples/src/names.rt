@@ -4,9 +4,19 @@ use cert_core::{CertFault, CertReason, CheckFault};
 use cost_core::{RoomFault, SinkFault, WindowFault};
 use fir_core::TapsFault;
 use std::alloc::Global;
-use std::fmt::Display;
+use std::fmt::{Debug, Display};
 use std::test::Fail;
 use trellis_core::BridgeFault;
+
+// Whether these are printed for debugging as the text says, a semicolon behind each.
+fn are_shown<T: Debug>(alloc: Global, values: &[T], text: &str) -> Result<bool, Fail> {
+    let mut shown = String::new(alloc);
+    for value in values {
+        shown.push_str(format!(in alloc; "{value:?}")?.as_str())?;
+        shown.push(';')?;
+    }
+    Ok(shown.as_str() == text)
+}
 
 // Whether these are printed as the text says, a semicolon behind each.
 fn are_told<T: Display>(alloc: Global, values: &[T], text: &str) -> Result<bool, Fail> {
@@ -31,7 +41,7 @@ fn refusals_of_decimators_and_bridges(rt: HostRuntime) -> Result<(), Fail> {
         TapsFault::Memory,
     ];
     assert!(rt;
-        are_told(
+        are_shown(
             alloc,
             &limits,
             "TapNumber;TapSum;Factor;Delay;Shift;Width;Memory;"

@@ -1,9 +1,9 @@
 -- What was consumed so far, and what is left.
-use Rattle.std.proofs.Common.{◌≡◌, ℕ, ◌*◌, List, [], ◌∷◌, ◌++◌, Option, None, Some, Result, Ok, Err, IfSome, refl, sym, subst, length, arith}
+use Rattle.std.proofs.Common.{◌≡◌, ℕ, ◌*◌, ◌<◌, List, [], ◌∷◌, ◌++◌, ◌∙◌, Option, None, Some, Result, Ok, Err, IfSome, refl, sym, ap, subst, length, arith}
 use Rattle.std.proofs.lemmas.List.{length-append}
 use Rattle.std.specs.Int.{w64, to_be_bytes}
 use Rattle.std.specs.Result.{IsErrAnd}
-use Rattle.std.specs.Io.KnownBytes.{Consumes}
+use Rattle.std.specs.Io.KnownBytes.{Consumes, IsAtEnd}
 use Rattle.cert_core.specs.Spelling.{row_text}
 use Rattle.cert_core.specs.declared.version.Version.TheVariants.{One}
 use Rattle.cert_core.specs.declared.verdict.CertReason.{CertReason}
@@ -43,3 +43,16 @@ maps (Err Memory) P Q f p = tt
 pub if_some : (a : Option (List ℕ)) (P Q : List ℕ → Type 0) → ((bytes : List ℕ) → P bytes → Q bytes) → IfSome a P → IfSome a Q
 if_some None P Q f p = tt
 if_some (Some xs) P Q f p = f xs p
+
+-- where nothing was consumed and nothing is left, nothing was left
+pub end_before : (a b : Option (List ℕ)) (bs : List ℕ) → Consumes a b bs → IsAtEnd b → length bs ≡ 0 → IsAtEnd a
+end_before None b bs c e n = tt
+end_before (Some xs) None bs c e n = absurd c
+end_before (Some xs) (Some ys) [] c e n = c ∙ e
+end_before (Some xs) (Some ys) (x ∷ bs) c e n = absurd (omega arith)
+
+-- all that was left is shorter
+pub short_before : (a b : Option (List ℕ)) (bs : List ℕ) (n : ℕ) → Consumes a b bs → IsAtEnd b → length bs < n → IfSome a (λ bytes. length bytes < n)
+short_before None b bs n c e h = tt
+short_before (Some xs) None bs n c e h = absurd c
+short_before (Some xs) (Some ys) bs n c e h = omega (arith, ap length c, length-append bs ys, ap length e)

@@ -69,3 +69,7 @@ module _ (t : Trellis) (fine : IsBounded t) (spelling : List ℕ → List ℕ) (
 
 pub hands_none : (t : Trellis) → IsBounded t → (spelling : List ℕ → List ℕ) (old : Option (List ℕ)) → HandsOverSome t spelling old old
 hands_none t fine spelling old = hands_some t fine spelling old old 0 (omega arith) (Appends-nil old)
+
+-- all rows are the first of them
+pub some_of_all : (t : Trellis) (spelling : List ℕ → List ℕ) (old new : Option (List ℕ)) → HandsOverAll t spelling old new → HandsOverSome t spelling old new
+some_of_all t spelling old new (rows, best, handed) = (rows, [], rw append-nil best, handed)

@@ -1,8 +1,9 @@
-use Rattle.std.proofs.Common.{◌≡◌, ◌+◌, ◌-◌, ◌<◌, ◌≤◌, min, max, take, drop, length, get_or, ap, sym, ◌∙◌, subst, inl, inr, arith, rules}
+use Rattle.std.proofs.Common.{◌≡◌, ℕ, ◌+◌, ◌-◌, ◌<◌, ◌≤◌, List, [], ◌∷◌, min, max, take, drop, length, get_or, refl, ap, sym, ◌∙◌, subst, inl, inr, arith, rules}
 use Rattle.std.specs.List.{fold}
 use Rattle.std.proofs.lemmas.Bool.{cases_lt}
-use Rattle.std.proofs.lemmas.List.{get_or-drop}
+use Rattle.std.proofs.lemmas.List.{get_or-drop, take_all}
 use Rattle.std.proofs.lemmas.List.Sums.{fold_more}
+use Rattle.cert_core.specs.Spelling.{floor}
 use Rattle.cert_core.proofs.spelling.bounds_of.Goals as goal
 
 pub loop-place-preserved : goal.loop-place-preserved
@@ -24,3 +25,14 @@ loop-place-preserved c =
             subst (λ k. c.min-least.result ≤ get_or row k 0) e (omega (arith, c.min-least.ensures))
       ],
     )
+
+floor_is : (row : List ℕ) → 0 < length row → floor row ≡ fold min (get_or row 0 0) (drop 1 row)
+floor_is [] h = absurd (omega arith)
+floor_is (v ∷ row) h = refl
+
+pub returns-clause-least : goal.returns-clause-least
+returns-clause-least c =
+    let row = c.args.row.now in
+    c.loop-place.invariant.0
+    ∙ ap (fold min (get_or row 0 0)) (take_all (c.loop-place.place - 1) (drop 1 row) (search (arith, rules)))
+    ∙ sym (floor_is row c.requires)

@@ -24,3 +24,6 @@ returns-clause-level c = rw (read (goal.at.returns-clause-level c).After-loop-c)
 
 pub returns-clause-count : goal.returns-clause-count
 returns-clause-count c = ap count_of (read (goal.at.returns-clause-count c).After-loop-c) ∙ unblocked_count c.args.order c.args.bytes.now c.args.channels c.args.count c.requires.channel_number.0
+
+pub returns-clause-ok : goal.returns-clause-ok
+returns-clause-ok c = read (goal.at.returns-clause-ok c).After-loop-c

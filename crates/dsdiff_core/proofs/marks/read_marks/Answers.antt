@@ -1,10 +1,11 @@
-use Rattle.std.proofs.Common.{◌<◌, ◌^◌, ◌∙◌, length, refl, sym, arith}
-use Rattle.std.proofs.lemmas.List.{map_push}
+use Rattle.std.proofs.Common.{◌<◌, ◌^◌, ◌∙◌, ap, length, refl, sym, arith}
+use Rattle.std.proofs.lemmas.List.{map_push, take_all}
 use Rattle.std.proofs.lemmas.List.Elements.{All-push}
 use Rattle.dsd_bits.specs.declared.marks.Mark.{Mark}
 use Rattle.dsd_bits.specs.Ids.{MARK}
 use Rattle.dsdiff_core.specs.Kinds.{has_id}
 use Rattle.dsdiff_core.specs.Marks.{mark_in}
+use Rattle.dsdiff_core.specs.Reading.{marks_of}
 use Rattle.dsdiff_core.proofs.KeptLoop.{passed_more, passed_by}
 use Rattle.dsdiff_core.proofs.MarkLaws.{whole_at}
 use Rattle.dsdiff_core.proofs.OnceLoop.{no_span}
@@ -36,3 +37,7 @@ loop-span-preserved c =
             short = c.loop-span.invariant.short;
           })
     ]
+
+pub returns-clause-marks : goal.returns-clause-marks
+returns-clause-marks c =
+    c.loop-span.invariant.marks ∙ ap (marks_of c.args.file.now) (take_all c.loop-span.span-index c.args.inner.now c.loop-span-test.false)

@@ -21,6 +21,12 @@ pub returns-in-Ok-clause-least : goal.returns-in-Ok-clause-least
 returns-in-Ok-clause-least g c =
     entry_least c.args.self.now.version c.args.window.now c.args.cue c.args.channel c.args.bits.now _ _ c.read_entry.ensures.limits c.requires.bits c.in-Ok.ensures.entry
 
+pub returns-in-Ok-clause-reason : goal.returns-in-Ok-clause-reason
+returns-in-Ok-clause-reason g c = tt
+
+pub returns-in-Ok-clause-only : goal.returns-in-Ok-clause-only
+returns-in-Ok-clause-only g c = tt
+
 pub returns-in-Err-Reason-clause-reason : goal.returns-in-Err-Reason-clause-reason
 returns-in-Err-Reason-clause-reason g c =
     let t = trellis_of c.args.window.now in

@@ -1,4 +1,4 @@
-use Rattle.std.proofs.Common.{subst}
+use Rattle.std.proofs.Common.{refl, subst}
 use Rattle.std.specs.Io.KnownBytes.{Appends}
 use Rattle.std.proofs.lemmas.Result.{err_from_is_err_and}
 use Rattle.device_core.specs.Outlets.{outlet_writer, AppendsPart}
@@ -20,3 +20,6 @@ returns-in_err-put_all-clause-failed g c =
 pub returns-clause-ok : goal.returns-clause-ok
 returns-clause-ok g c =
     subst (Appends (g.W.Write.contents (outlet_writer (fused_outlet c.args.self.now.outlet))) (g.W.Write.contents (outlet_writer (fused_outlet c.put_all.new.self)))) c.to_be_bytes.ensures c.in_ok-put_all.ensures.ok
+
+pub returns-clause-ended : goal.returns-clause-ended
+returns-clause-ended g c = refl

@@ -10,3 +10,4 @@ pub mod PlayLaws
 pub mod PlaceLaws
 pub mod ToldLaws
 pub mod PaceLaws
+pub mod ReaderLaws

@@ -1,6 +1,7 @@
 pub mod Faults
 pub mod Files
 pub mod Reads
+pub mod Readers
 pub mod Wave
 pub mod Pieces
 pub mod Closing

@@ -3,7 +3,7 @@
 //! [`play`] reads a DSDIFF 1.5 or DSF 1.01 file piece by piece and writes its RIFF WAVE file. Of the sound it holds
 //! at most one block of 65,536 bytes, a part of one group of the channels' blocks, and what each channel's filter
 //! still reads; what stands before the sound is held whole, and so is what a DSDIFF form has behind it. `playing.rt`
-//! shows the whole way, and each stage has a module: reads (`pulling.rt`), the front up to the sound (`front.rt`),
+//! shows the whole way, and each stage has a module: reads (`reader.rt`), the front up to the sound (`front.rt`),
 //! the sound piece by piece (`pieces.rt`), what stands behind it (`closing.rt`), and what is written around the
 //! frames (`wave.rt`).
 //!
@@ -42,7 +42,7 @@ mod laws;
 mod outline;
 mod pieces;
 mod playing;
-mod pulling;
+mod reader;
 mod wave;
 
 pub use fault::StreamFault;

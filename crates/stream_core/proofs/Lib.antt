@@ -11,3 +11,5 @@ pub mod PlaceLaws
 pub mod ToldLaws
 pub mod PaceLaws
 pub mod ReaderLaws
+pub mod KeeperLaws
+pub mod KeepingLaws

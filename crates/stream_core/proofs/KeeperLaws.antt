@@ -132,34 +132,11 @@ pub record GrownUpTo (range : BitRange) (channels : List (List Bool)) (done : �
   pub later : (k : ℕ) → c ≤ k → get_or now k [] ≡ get_or old k []
   pub grown : (k : ℕ) → k < c → get_or now k [] ≡ get_or old k [] ++ slice_range (get_or channels k []) (range.start - done) (range.stop - done)
 
-pub grown_none : (range : BitRange) (channels : List (List Bool)) (done : ℕ) (old : List (List Bool)) → GrownUpTo range channels done old old 0
-grown_none range channels done old = record { number = refl; later = λ k h. refl; grown = λ k h. absurd (omega arith) }
-
-pub grown_next : (range : BitRange) (channels : List (List Bool)) (done : ℕ) (old now : List (List Bool)) (c : ℕ) (new : List Bool) → GrownUpTo range channels done old now c → c < length now
-    → new ≡ get_or now c [] ++ slice_range (get_or channels c []) (range.start - done) (range.stop - done) → GrownUpTo range channels done old (set now c new) (c + 1)
-grown_next range channels done old now c new so_far low is = record {
-  number = length-set now c new ∙ so_far.number;
-  later = λ k h. get_or-set_other now c k new [] (λ same. omega (arith, h, same)) ∙ so_far.later k (omega (arith, h));
-  grown = λ k h. elim (cases_lt k c) [
-    | inl before ↦ get_or-set_other now c k new [] (λ same. omega (arith, before, same)) ∙ so_far.grown k before
-    | inr at ↦ (
-        let same : k ≡ c = omega (arith, h, at) in
-        let part : ℕ → List Bool = λ j. slice_range (get_or channels j []) (range.start - done) (range.stop - done) in
-        ap (λ j. get_or (set now c new) j []) same ∙ get_or-set_same now c new [] low ∙ is ∙ ap (λ xs. xs ++ part c) (so_far.later c (omega arith)) ∙ ap (λ j. get_or old j [] ++ part j) (sym same))
-  ];
-}
-
-pub grown_all : (range : BitRange) (channels : List (List Bool)) (done : ℕ) (old now : List (List Bool)) (c : ℕ) → GrownUpTo range channels done old now c → length old ≤ c → IsGrown range channels done old now
-grown_all range channels done old now c so_far enough = record { number = so_far.number; each = λ k h. so_far.grown k (omega (arith, h, enough)) }
-
 -- the first stretches have grown, and the others are as they were
 pub record AllGrownUpTo (ranges : List BitRange) (channels : List (List Bool)) (done : ℕ) (old now : List (List (List Bool))) (i : ℕ) : Type 0 where
   pub number : length now ≡ length old
   pub later : (k : ℕ) → i ≤ k → get_or now k [] ≡ get_or old k []
   pub grown : (k : ℕ) (r : BitRange) → k < i → IsGrown (get_or ranges k r) channels done (get_or old k []) (get_or now k [])
-
-pub all_none : (ranges : List BitRange) (channels : List (List Bool)) (done : ℕ) (old : List (List (List Bool))) → AllGrownUpTo ranges channels done old old 0
-all_none ranges channels done old = record { number = refl; later = λ k h. refl; grown = λ k r h. absurd (omega arith) }
 
 pub all_next : (ranges : List BitRange) (channels : List (List Bool)) (done : ℕ) (old now : List (List (List Bool))) (i : ℕ) (new : List (List Bool)) → AllGrownUpTo ranges channels done old now i → i < length now
     → ((r : BitRange) → IsGrown (get_or ranges i r) channels done (get_or now i []) new) → AllGrownUpTo ranges channels done old (set now i new) (i + 1)
@@ -221,9 +198,6 @@ module _ (s : Sound) (ranges : List BitRange) (done : ℕ) (old : List (List (Li
 
   pub keeps_roomy : AreRoomy more old
   keeps_roomy = roomy _ _ more s.channels done joined ranges old keeps.kept bits few (record { start = 0; stop = 0 }) (omega (arith, within, keeps.is_sound.in_limit)) joined.more_long
-
-  pub keeps_number : length old ≡ length ranges
-  keeps_number = keeps.kept.number
 
 -- before the first byte
 pub keeps_none : (s : Sound) (ranges : List BitRange) (number : ℕ) → IsSound s → (s.order ≡ None → s.count % 8 ≡ 0) → number ≡ length ranges → Keeps s ranges 0 (replicate number (replicate s.channels [])) []

@@ -1,13 +1,11 @@
 -- What was read of a file, part by part, and what its outline tells.
-use Rattle.std.proofs.Common.{◌≡◌, ◌≢◌, ℕ, ◌+◌, ◌<◌, ◌≤◌, List, [], ◌++◌, length, take, drop, Option, None, Some, refl, sym, subst, ap, ◌∙◌, arith, append_assoc, append-nil, length-append, length-take, take-append-drop}
-use Rattle.std.specs.Io.KnownBytes.{Consumes, IsAtEnd}
+use Rattle.std.proofs.Common.{◌≡◌, ◌≢◌, ℕ, ◌+◌, ◌≤◌, List, [], ◌++◌, length, take, drop, Option, None, Some, refl, sym, subst, ap, ◌∙◌, arith, append_assoc, append-nil, length-append, length-take, take-append-drop}
+use Rattle.std.specs.Io.KnownBytes.{Consumes}
 use Rattle.device_core.specs.Inlets.{inlet_reader}
 use Rattle.device_core.specs.declared.inlet.Inlet.{Inlet}
 use Rattle.stream_core.specs.Outlines.{ReadsTag}
-use Rattle.stream_core.specs.Readers.{IsPassFault, Passes}
+use Rattle.stream_core.specs.Readers.{Passes}
 use Rattle.stream_core.specs.Reads.{Reads, ReadsAll, ReadsToEnd}
-use Rattle.stream_core.specs.declared.fault.StreamFault.TheVariants.{FileRefused}
-use Rattle.stream_core.proofs.ClosingLaws.{nothing_left}
 use Rattle.stream_core.proofs.ReadLaws.{reads_none, reads_on}
 
 -- as many bytes are left as there are behind those that were read
@@ -42,17 +40,6 @@ module _ {R : Type 0} (left : R → Option (List ℕ)) (i j : Inlet R) (n : ℕ)
     parts = passes.parts ∙ ap (λ xs. passes.passed ++ xs) (sym (take-append-drop m ahead) ∙ ap (λ xs. take m ahead ++ xs) (sym is)) ∙ sym (append_assoc passes.passed (take m ahead) rest);
     long = omega (arith, length-append passes.passed (take m ahead), length-take m ahead, passes.long, within);
   }
-
-  -- there are fewer bytes, where what is ahead is too few and nothing follows
-  pub pass_short : (k : Inlet R) (wanted : ℕ) (read : List ℕ) → Reads left j k read → length read ≡ 0 → IsAtEnd (left (inlet_reader k)) → n + length ahead < wanted → IsPassFault (left (inlet_reader i)) wanted old FileRefused
-  pass_short k wanted read reads none end short = by (left (inlet_reader i)) refl
-    where
-      by : (o : Option (List ℕ)) → left (inlet_reader i) ≡ o → IsPassFault o wanted old FileRefused
-      by None known = tt
-      by (Some xs) known =
-          let ys = left_is left i j passes.read passes.reads xs known in
-          let zs = left_is left j k read reads ys.0 ys.1 in
-          omega (arith, short, ap length (nothing_left (left (inlet_reader k)) zs.0 end zs.1), none, ap length ys.2, ap length zs.2, ap length passes.parts, passes.long, length-append old xs, length-append passes.read ys.0, length-append read zs.0, length-append old passes.read, length-append passes.passed ahead)
 
 -- ---- what stands between a sound and a tag
 pub tag_none : {R : Type 0} (left : R → Option (List ℕ)) (i j : Inlet R) (place stop gap : ℕ) (back none : List ℕ) → place ≡ 0 → (all : ReadsToEnd left i j) → none ≡ [] → gap ≡ length back + length all.bytes → ReadsTag left i j place stop back none gap

@@ -18,12 +18,12 @@ use Rattle.relace_core.specs.Relacing.{GroupsJoin, laced_in, relaced}
 use Rattle.relace_core.proofs.PlaceLaws.{join_by, packed_left, packed_right, unblocked_bits, unblocked_join, unlaced_bits, unlaced_join}
 
 -- channels, each the first ones' bits and behind these the others'
-record Appended (all first more : List (List Bool)) (n a : ℕ) : Type 0 where
-  all_long : length all ≡ n
-  first_long : length first ≡ n
-  more_long : length more ≡ n
-  each : (c : ℕ) → c < n → get_or all c [] ≡ get_or first c [] ++ get_or more c []
-  bits : (c : ℕ) → c < n → length (get_or first c []) ≡ a
+pub record Appended (all first more : List (List Bool)) (n a : ℕ) : Type 0 where
+  pub all_long : length all ≡ n
+  pub first_long : length first ≡ n
+  pub more_long : length more ≡ n
+  pub each : (c : ℕ) → c < n → get_or all c [] ≡ get_or first c [] ++ get_or more c []
+  pub bits : (c : ℕ) → c < n → length (get_or first c []) ≡ a
 
 -- ---- channels taken from sound bytes
 
@@ -38,7 +38,8 @@ by_channel f fa fb n a each bits =
       bits = λ c h. ap length (at fa c h) ∙ bits c h;
     }
 
-taken : (from : Interleaving) (n a b : ℕ) (first more : List ℕ) → a % 32768 ≡ 0 → length first ≡ sound_size from n a → length more ≡ sound_size from n b
+-- of whole groups and what stands behind them
+pub taken : (from : Interleaving) (n a b : ℕ) (first more : List ℕ) → a % 32768 ≡ 0 → length first ≡ sound_size from n a → length more ≡ sound_size from n b
     → Appended (sound_channels from n (a + b) (first ++ more)) (sound_channels from n a first) (sound_channels from n b more) n a
 taken Bytes n a b first more whole size more_size =
     by_channel (unlaced (first ++ more) n) (unlaced first n) (unlaced more n) n a

@@ -2,3 +2,4 @@ pub mod FrameLaws
 pub mod JoinLaws
 pub mod PlaceLaws
 pub mod TakenLaws
+pub mod GroupLaws

@@ -16,7 +16,7 @@ module _ (bytes : List ℕ) (n count : ℕ) (some : 1 ≤ n) (whole : count % 8 
   pub no_part : length bytes % n ≡ 0
   no_part = ap (λ k. k % n) (size ∙ sym (add-zero (count / 8 * n))) ∙ mod-mul-add (count / 8) n 0 some
 
-  channel_long : (c : ℕ) → length (unlaced bytes n c) ≡ count
+  pub channel_long : (c : ℕ) → length (unlaced bytes n c) ≡ count
   channel_long c = length-map-range_with_len (laced_bit bytes n c) 0 (8 * (length bytes / n)) ∙ omega (arith, frames_are)
 
   pub unlaced_number : length (unlaced_all bytes n) ≡ n

@@ -4,8 +4,9 @@
 //! that of DSF 1.01, blocks of 4096 bytes of each channel in turn with their bits in an order. A group, 4096 bytes
 //! (32768 bits) of each channel, is the same sound in both.
 //!
-//! [`push_relaced`] appends the bytes of a stretch in the other interleaving. Whole groups and what stands behind them
-//! can be written one after the other ([`groups_join`]), so that a file is converted while it is read.
+//! [`unlace`] takes a stretch apart into channels, [`push_relaced`] appends its bytes in the other interleaving. Whole groups and what stands behind them
+//! can be written one after the other ([`groups_join`]), so that a file is converted while it is read; [`stretch_bits`]
+//! says how much is taken at a time, [`stretch_size`] how many bytes that are.
 //!
 //! The words of the contracts (`specs/Relacing.antt`):
 //! - `relaced from to channels count bytes` is what is written: the sound bytes, by `to`, of the channels that stand in
@@ -20,8 +21,10 @@
 //! ```
 #![tactic(auto)]
 
+mod groups;
 mod laws;
 mod relacing;
 
+pub use groups::{stretch_bits, stretch_size};
 pub use laws::groups_join;
-pub use relacing::{Stretch, push_relaced};
+pub use relacing::{Stretch, push_relaced, unlace};

@@ -50,8 +50,8 @@ pub fn push_relaced(
     }
 }
 
-// The channels of a stretch.
-fn unlace(
+/// The channels of a stretch, whose sound bytes stand in `bytes` interleaved as `from` says.
+pub fn unlace(
     alloc: Global,
     bytes: &[u8],
     stretch: Stretch,

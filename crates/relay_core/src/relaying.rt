@@ -11,14 +11,11 @@ ghost use Rattle.relay_core.specs.Relays.{IsPartFault, IsRelacing, IsRelayFault,
 
 use crate::comparing::{BLOCK, expect, expect_end, fill, pass};
 use device_core::{Inlet, Outlet};
-use dsd_bits::{Interleaving, Sound, blocks_size};
-use relace_core::{Stretch, groups_join, push_relaced};
+use dsd_bits::{Interleaving, Sound};
+use relace_core::{Stretch, groups_join, push_relaced, stretch_bits, stretch_size};
 use std::alloc::Global;
 use std::io::{Read, Write};
 use stream_core::{Outline, StreamFault};
-
-// The bits of each channel in a group of blocks.
-const GROUP_BITS: usize = 32_768;
 
 /// What is written around a sound, and how it is interleaved between.
 #[derive(Clone, Copy)]
@@ -158,7 +155,7 @@ fn relay_stretch<R: Read, W: Write>(
     ensures read_failed { inlet_failures inlet.new ≡ inlet_failures inlet.old + failed_reads result }
     ensures write_failed { outlet_failures outlet.new ≡ outlet_failures outlet.old + failed_writes result }
 {
-    let size = stretch_size(&relacing.sound, bits);
+    let size = stretch_size(relacing.sound.interleaving, relacing.sound.channels, bits);
     fill(inlet, &mut buffers.block, size)?;
     let (bytes, _) = buffers.block.split_at(size);
     let stretch = Stretch {
@@ -175,36 +172,6 @@ fn relay_stretch<R: Read, W: Write>(
         relacing.to,
     )?;
     put(outlet, &buffers.out)
-}
-
-// How many bytes hold so many bits of each channel of a sound.
-fn stretch_size(sound: &Sound, bits: usize) -> usize
-    requires channels { (1 ≤ sound.now.channels) × (sound.now.channels ≤ 6) }
-    requires in_limit { bits ≤ 2 ^ 36 }
-    ensures { result ≡ sound_size sound.now.interleaving sound.now.channels bits }
-{
-    match sound.interleaving {
-        Interleaving::Bytes => bits / 8 * sound.channels,
-        Interleaving::Blocks(_) => blocks_size(sound.channels, bits),
-    }
-}
-
-// How many bits of each channel are read at a time: those of as many groups of blocks as fit 65,536 bytes.
-fn stretch_bits(channels: usize) -> usize
-    requires { (1 ≤ channels) × (channels ≤ 6) }
-    ensures some { 32768 ≤ result }
-    ensures groups { result % 32768 ≡ 0 }
-    ensures fits { result / 32768 * channels ≤ 16 }
-{
-    let groups = match channels {
-        1 => 16,
-        2 => 8,
-        3 => 5,
-        4 => 4,
-        5 => 3,
-        _ => 2,
-    };
-    groups * GROUP_BITS
 }
 
 // Writes these bytes.

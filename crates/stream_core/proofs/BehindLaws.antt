@@ -5,7 +5,7 @@ use Rattle.std.proofs.lemmas.Bool.{cases_lt, ltb-false, ltb-true, ne_eqb}
 use Rattle.std.proofs.Math.Seq.{drop-append_seam, take-append_seam}
 use Rattle.std.specs.Io.KnownBytes.{IsAtEnd}
 use Rattle.std.specs.Prelude.{◌↔◌, nat_eq, nat_lt, if◌then◌else◌}
-use Rattle.device_core.specs.Inlets.{inlet_reader}
+use Rattle.device_core.specs.Inlets.{inlet_given, inlet_reader}
 use Rattle.device_core.specs.declared.inlet.Inlet.{Inlet}
 use Rattle.dsd_bits.specs.declared.blocks.BitOrder.{BitOrder}
 use Rattle.dsd_bits.specs.declared.interleaving.Interleaving.{Interleaving}
@@ -23,13 +23,16 @@ use Rattle.dsf_core.specs.Fronts as dsf
 use Rattle.dsf_core.proofs.FrontLaws.{found_leads}
 use Rattle.stream_core.specs.Closing.{EndsAt}
 use Rattle.stream_core.specs.Files.{HoldsRecording, IsRefused, TellsSound}
-use Rattle.stream_core.specs.Outlines.{AreAround, AreTold, HoldsIn, IsBehindFault, IsOutlineFault, IsPassFault, IsRestFault, IsTagFault, PassesSound, ReadsTag, StandsIn, Surroundings, Surrounds, SurroundsFile, SurroundsRest, with_sound}
+use Rattle.stream_core.specs.Outlines.{AreAround, AreTold, HoldsIn, IsOutlineFault, IsRestFault, IsTagFault, ReadsTag, StandsIn, Surroundings, Surrounds, SurroundsFile, with_sound}
+use Rattle.stream_core.specs.Readers.{IsPassFault, Passes}
 use Rattle.stream_core.specs.Reads.{Reads}
 use Rattle.stream_core.specs.declared.fault.StreamFault.{StreamFault}
 use Rattle.stream_core.specs.declared.fault.StreamFault.TheVariants.{FileRefused, RateNotDivided, TooLarge, ReadFailed, WriteFailed, TurnLimit, Memory}
 use Rattle.stream_core.proofs.ClosingLaws.{ends, found, leads, no_form, nothing_left, same_form}
 use Rattle.stream_core.proofs.HeadLaws.{never_found}
 use Rattle.stream_core.proofs.OutlineLaws.{left_is}
+use Rattle.stream_core.proofs.PlayLaws.{ends_at}
+use Rattle.stream_core.proofs.ReadLaws.{reads_on}
 
 -- ---- a DSF file
 module _ (head : List ℕ) (s : Sound) (at : EndsAt head s) (order : BitOrder) (told : s.interleaving ≡ Blocks order) (is_sound : IsSound s) where
@@ -89,6 +92,14 @@ module _ (head : List ℕ) (s : Sound) (at : EndsAt head s) (order : BitOrder) (
         read = read.read;
         reads = read.reads;
         told = blocks_told place gap tag tag_place read.none (λ some. omega (arith, read.at_place some, stop_is)) recording total whole outline;
+        given = λ sound long. record {
+          gap = read.passed;
+          rest = [];
+          file_is = ap (λ xs. head ++ (sound ++ xs)) (read.parts ∙ ap (λ xs. read.passed ++ xs) (sym (append-nil tag)));
+          sound_long = long;
+          gap_long = read.long;
+          ended = λ _. refl;
+        };
         stands = λ sound rest long known.
             let none : rest ≡ [] = nothing_left (left (inlet_reader j)) rest read.at_end known in
             record {
@@ -201,6 +212,14 @@ module _ (head : List ℕ) (s : Sound) (at : EndsAt head s) (told : s.interleavi
     read = read;
     reads = reads;
     told = frames_told back ends behind.whole recording outline;
+    given = λ sound long. record {
+      gap = [];
+      rest = behind.rest;
+      file_is = ap (λ xs. head ++ (sound ++ xs)) (sym is ∙ behind.parts);
+      sound_long = long;
+      gap_long = refl;
+      ended = λ yes. (behind.shorter yes).0;
+    };
     stands = λ sound rest long known. record {
       gap = [];
       rest = behind.rest ++ rest;
@@ -229,15 +248,30 @@ module _ (head : List ℕ) (s : Sound) (at : EndsAt head s) (told : s.interleavi
             | inr (order, is_dsf) ↦ never_found head (sound ++ (back ++ (behind.rest ++ ys.0))) s r order (found head s at told) is_dsf
           ]
 
--- ---- a file whose front was read
-module _ (front : List ℕ) (s : Sound) (tells : TellsSound front s) {R : Type 0} (left : R → Option (List ℕ)) (i j : Inlet R) where
+-- ---- the whole file, of which the front was read, and then the sound passed
+module _ {R : Type 0} (left : R → Option (List ℕ)) (i j : Inlet R) (front head ahead : List ℕ) (s : Sound) (reads : Reads left i j front) (tells : TellsSound front s) (head_is : head ≡ take s.start front) (ahead_is : ahead ≡ drop s.start front) where
+  front_is : front ≡ head ++ ahead
+  front_is = sym (take-append-drop s.start front) ∙ ap₂ (λ xs ys. xs ++ ys) (sym head_is) (sym ahead_is)
+
+  head_long : length head ≡ s.start
+  head_long = omega (arith, ap length head_is, length-take s.start front, tells.within)
+
+  -- the head ends at the sound
+  pub at_sound : EndsAt head s
+  at_sound = subst (λ xs. EndsAt xs s) (sym head_is) (ends_at front s tells)
+
   -- a file that holds a recording has all of its sound
-  pub pass_stands : (f : StreamFault) → IsPassFault (left (inlet_reader i)) front s f → IsBehindFault (left (inlet_reader i)) front f
-  pass_stands FileRefused h = by (left (inlet_reader i)) h
+  pub pass_stands : (f : StreamFault) → IsPassFault (left (inlet_reader j)) s.size ahead f → IsOutlineFault (left (inlet_reader i)) f
+  pass_stands FileRefused h = by (left (inlet_reader i)) refl
     where
-      by : (o : Option (List ℕ)) → IsPassFault o front s FileRefused → IsBehindFault o front FileRefused
-      by None h = tt
-      by (Some xs) h = λ r holds. omega (arith, h, (tells.has xs r holds).in_file)
+      by : (o : Option (List ℕ)) → left (inlet_reader i) ≡ o → IsOutlineFault o FileRefused
+      by None known = tt
+      by (Some xs) known =
+          let ys = left_is left i j front reads xs known in
+          let fewer : length (ahead ++ ys.0) < s.size = subst (λ o. IsPassFault o s.size ahead FileRefused) ys.1 h in
+          λ r holds.
+          let has = tells.has ys.0 r (subst (λ f. HoldsRecording f r) ys.2 holds) in
+          omega (arith, fewer, has.in_file, length-append front ys.0, length-append ahead ys.0, length-append head ahead, ap length front_is, head_long)
   pass_stands RateNotDivided h = absurd h
   pass_stands TooLarge h = absurd h
   pass_stands ReadFailed h = tt
@@ -245,27 +279,33 @@ module _ (front : List ℕ) (s : Sound) (tells : TellsSound front s) {R : Type 0
   pass_stands TurnLimit h = tt
   pass_stands Memory h = tt
 
-  module _ (head back : List ℕ) (passes : PassesSound left i j s front head [] back) where
-    -- what is left is the rest of the sound, what was read behind it, and what is left behind that
-    parted : (xs : List ℕ) → left (inlet_reader i) ≡ Some xs → (ys : List ℕ) × (left (inlet_reader j) ≡ Some ys) × (front ++ xs ≡ head ++ (passes.sound ++ (back ++ ys)))
-    parted xs known =
-        let ys = left_is left i j passes.read passes.reads xs known in
-        let own : passes.behind ≡ back = sym passes.kept in (
-          ys.0,
-          ys.1,
-          ap (λ zs. front ++ zs) ys.2 ∙ sym (append_assoc front passes.read ys.0) ∙ ap (λ zs. zs ++ ys.0) passes.parts
-              ∙ append_assoc head (passes.sound ++ passes.behind) ys.0 ∙ ap (λ zs. head ++ zs) (append_assoc passes.sound passes.behind ys.0)
-              ∙ ap (λ zs. head ++ (passes.sound ++ (zs ++ ys.0))) own,
-        )
+  module _ (k : Inlet R) (back : List ℕ) (passes : Passes left j k s.size ahead back) where
+    -- how many bytes were given so far
+    pub given_is : (given : ℕ) → inlet_given i ≡ given → inlet_given k ≡ given + (length head + s.size + length back)
+    given_is given from =
+        omega (arith, from, reads.given, passes.reads.given, passes.long, ap length front_is, ap length passes.parts, length-append head ahead, length-append ahead passes.read, length-append passes.passed back)
 
-    pub rest_stands : (f : StreamFault) → IsRestFault (left (inlet_reader j)) s head back f → IsBehindFault (left (inlet_reader i)) front f
+    -- what was read so far
+    read_is : (more : List ℕ) → front ++ (passes.read ++ more) ≡ head ++ (passes.passed ++ (back ++ more))
+    read_is more =
+        ap (λ xs. xs ++ (passes.read ++ more)) front_is ∙ append_assoc head ahead (passes.read ++ more)
+        ∙ ap (λ xs. head ++ xs) (sym (append_assoc ahead passes.read more) ∙ ap (λ xs. xs ++ more) passes.parts ∙ append_assoc passes.passed back more)
+
+    -- the file is the head, the sound, what was read behind it, and what is left
+    parted : (xs : List ℕ) → left (inlet_reader i) ≡ Some xs → (ys : List ℕ) × (left (inlet_reader k) ≡ Some ys) × (xs ≡ head ++ (passes.passed ++ (back ++ ys)))
+    parted xs known =
+        let ys = left_is left i j front reads xs known in
+        let zs = left_is left j k passes.read passes.reads ys.0 ys.1 in
+        (zs.0, zs.1, ys.2 ∙ ap (λ us. front ++ us) zs.2 ∙ read_is zs.0)
+
+    pub rest_stands : (f : StreamFault) → IsRestFault (left (inlet_reader k)) s head back f → IsOutlineFault (left (inlet_reader i)) f
     rest_stands FileRefused h = by (left (inlet_reader i)) refl
       where
-        by : (o : Option (List ℕ)) → left (inlet_reader i) ≡ o → IsBehindFault o front FileRefused
+        by : (o : Option (List ℕ)) → left (inlet_reader i) ≡ o → IsOutlineFault o FileRefused
         by None known = tt
         by (Some xs) known =
             let ys = parted xs known in
-            subst IsRefused (sym ys.2) (subst (λ o. IsRestFault o s head back FileRefused) ys.1 h passes.sound passes.long)
+            subst IsRefused (sym ys.2) (subst (λ o. IsRestFault o s head back FileRefused) ys.1 h passes.passed passes.long)
     rest_stands RateNotDivided h = absurd h
     rest_stands TooLarge h = absurd h
     rest_stands ReadFailed h = tt
@@ -273,39 +313,28 @@ module _ (front : List ℕ) (s : Sound) (tells : TellsSound front s) {R : Type 0
     rest_stands TurnLimit h = tt
     rest_stands Memory h = tt
 
-    pub rest_surrounds : (k : Inlet R) (o : Surroundings) → o.sound ≡ s → o.head ≡ head → Surrounds left j k back o → SurroundsRest (left (inlet_reader i)) front o
-    rest_surrounds k o sound_is head_is surrounds = (surrounds.told, by (left (inlet_reader i)) refl)
-      where
-        by : (l : Option (List ℕ)) → left (inlet_reader i) ≡ l → IfSome l (λ xs. AreAround o (front ++ xs))
-        by None known = tt
-        by (Some xs) known =
-            let ys = parted xs known in
-            let zs = left_is left j k surrounds.read surrounds.reads ys.0 ys.1 in
-            let is : o.head ++ (passes.sound ++ (back ++ (surrounds.read ++ zs.0))) ≡ front ++ xs = ap (λ us. us ++ (passes.sound ++ (back ++ (surrounds.read ++ zs.0)))) head_is ∙ ap (λ us. head ++ (passes.sound ++ (back ++ us))) (sym zs.2) ∙ sym ys.2 in
-            (passes.sound, subst (λ f. StandsIn o f passes.sound) is (surrounds.stands passes.sound zs.0 (passes.long ∙ ap (λ (t : Sound). t.size) (sym sound_is)) zs.1))
+    module _ (l : Inlet R) (o : Surroundings) (sound_is : o.sound ≡ s) (own_head : o.head ≡ head) (surrounds : Surrounds left k l back o) where
+      long : length passes.passed ≡ o.sound.size
+      long = passes.long ∙ ap (λ (t : Sound). t.size) (sym sound_is)
 
--- ---- the whole file
-module _ {R : Type 0} (left : R → Option (List ℕ)) (i j : Inlet R) (front : List ℕ) (reads : Reads left i j front) where
-  pub surrounds_file : (o : Surroundings) → SurroundsRest (left (inlet_reader j)) front o → SurroundsFile (left (inlet_reader i)) o
-  surrounds_file o rest = (rest.0, by (left (inlet_reader i)) refl)
-    where
-      by : (l : Option (List ℕ)) → left (inlet_reader i) ≡ l → IfSome l (AreAround o)
-      by None known = tt
-      by (Some xs) known =
-          let ys = left_is left i j front reads xs known in
-          subst (AreAround o) (sym ys.2) (subst (λ l. IfSome l (λ us. AreAround o (front ++ us))) ys.1 rest.1)
+      -- what was read is that sound in the surroundings
+      pub given_stands : Reads left i l (front ++ (passes.read ++ surrounds.read)) × StandsIn o (front ++ (passes.read ++ surrounds.read)) passes.passed
+      given_stands = (
+        reads_on left i j l front (passes.read ++ surrounds.read) reads (reads_on left j k l passes.read surrounds.read passes.reads surrounds.reads),
+        subst (λ f. StandsIn o f passes.passed) (ap (λ xs. xs ++ (passes.passed ++ (back ++ surrounds.read))) own_head ∙ sym (read_is surrounds.read)) (surrounds.given passes.passed long),
+      )
 
-  pub outline_stands : (f : StreamFault) → IsBehindFault (left (inlet_reader j)) front f → IsOutlineFault (left (inlet_reader i)) f
-  outline_stands FileRefused h = by (left (inlet_reader i)) refl
-    where
-      by : (l : Option (List ℕ)) → left (inlet_reader i) ≡ l → IsOutlineFault l FileRefused
-      by None known = tt
-      by (Some xs) known =
-          let ys = left_is left i j front reads xs known in
-          subst IsRefused (sym ys.2) (subst (λ l. IsBehindFault l front FileRefused) ys.1 h)
-  outline_stands RateNotDivided h = absurd h
-  outline_stands TooLarge h = absurd h
-  outline_stands ReadFailed h = tt
-  outline_stands WriteFailed h = absurd h
-  outline_stands TurnLimit h = tt
-  outline_stands Memory h = tt
+      -- and so is the file
+      pub file_stands : (xs : List ℕ) → left (inlet_reader i) ≡ Some xs → StandsIn o xs passes.passed
+      file_stands xs known =
+          let ys = parted xs known in
+          let zs = left_is left k l surrounds.read surrounds.reads ys.0 ys.1 in
+          let is : o.head ++ (passes.passed ++ (back ++ (surrounds.read ++ zs.0))) ≡ xs = ap (λ us. us ++ (passes.passed ++ (back ++ (surrounds.read ++ zs.0)))) own_head ∙ ap (λ us. head ++ (passes.passed ++ (back ++ us))) (sym zs.2) ∙ sym ys.2 in
+          subst (λ f. StandsIn o f passes.passed) is (surrounds.stands passes.passed zs.0 long zs.1)
+
+      pub surrounds_file : SurroundsFile (left (inlet_reader i)) o
+      surrounds_file = (surrounds.told, by (left (inlet_reader i)) refl)
+        where
+          by : (o' : Option (List ℕ)) → left (inlet_reader i) ≡ o' → IfSome o' (AreAround o)
+          by None known = tt
+          by (Some xs) known = (passes.passed, file_stands xs known)

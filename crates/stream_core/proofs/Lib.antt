@@ -10,3 +10,6 @@ pub mod PlayLaws
 pub mod PlaceLaws
 pub mod ToldLaws
 pub mod PaceLaws
+pub mod ReaderLaws
+pub mod KeeperLaws
+pub mod KeepingLaws

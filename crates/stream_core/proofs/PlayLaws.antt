@@ -1,5 +1,5 @@
 -- A file whose front was read: what it plays, by its parts.
-use Rattle.std.proofs.Common.{◌≡◌, ℕ, ◌+◌, ◌%◌, ◌^◌, ◌≤◌, inl, inr, true, false, Bool, List, [], ◌++◌, length, take, drop, Option, None, Some, IfSome, OnErr, Result, refl, sym, subst, ap, ap₂, ◌∙◌, arith, append_assoc, length-append, length-take-le, length-drop, take-append-drop}
+use Rattle.std.proofs.Common.{◌≡◌, ℕ, ◌+◌, ◌%◌, ◌^◌, ◌≤◌, inl, inr, true, false, Bool, List, ◌++◌, length, take, drop, Option, None, Some, IfSome, OnErr, Result, refl, sym, subst, ap, ap₂, ◌∙◌, arith, append_assoc, length-append, length-take-le, length-drop, take-append-drop}
 use Rattle.std.proofs.lemmas.Bool.{cases_lt}
 use Rattle.std.proofs.lemmas.List.{drop-append-le}
 use Rattle.std.proofs.Math.Seq.{take-append_seam}
@@ -193,12 +193,12 @@ module _ (law : SoundIsPlayed) (d : Decimator) (front : List ℕ) (s : Sound) (t
           }
 
 -- ---- the front and what follows it
-pub none_front : (left : Option (List ℕ)) (d : Decimator) (a : Option (List ℕ)) → WritesFront left d [] a a
-none_front None d a = tt
-none_front (Some xs) d a = λ bytes plays. front_nil a bytes
+pub none_front : (left : Option (List ℕ)) (d : Decimator) (front : List ℕ) (a : Option (List ℕ)) → WritesFront left d front a a
+none_front None d front a = tt
+none_front (Some xs) d front a = λ bytes plays. front_nil a bytes
 
-pub none_written : {X E : Type 0} (r : Result X E) (left : Option (List ℕ)) (d : Decimator) (a : Option (List ℕ)) → OnErr r (WritesFront left d [] a a)
-none_written r left d a = any_err r (none_front left d a)
+pub none_written : {X E : Type 0} (r : Result X E) (left : Option (List ℕ)) (d : Decimator) (front : List ℕ) (a : Option (List ℕ)) → OnErr r (WritesFront left d front a a)
+none_written r left d front a = any_err r (none_front left d front a)
 
 module _ {R : Type 0} (left : R → Option (List ℕ)) (i j k : Inlet R) (d : Decimator) (front bytes : List ℕ) (is : bytes ≡ front) (a e : Option (List ℕ)) (before : Reads left i j front) where
   pub plays_given : (n : ℕ) → PlaysRead left j k d bytes a e n → PlaysGiven left i k d a e n

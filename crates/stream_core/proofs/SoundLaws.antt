@@ -22,8 +22,8 @@ use Rattle.stream_core.proofs.RestLaws.{due_on, front_on}
 
 -- ---- bytes that were read before, and those that are left
 -- of both, so many are those before and the rest of the others
-pub whole_is : (size : ℕ) (xs ys : List ℕ) → take size (xs ++ ys) ≡ take size xs ++ take (size - length (take size xs)) ys
-whole_is size xs ys = elim (cases_lt size (length xs)) [
+pub whole_is : {X : Type 0} (size : ℕ) (xs ys : List X) → take size (xs ++ ys) ≡ take size xs ++ take (size - length (take size xs)) ys
+whole_is {X} size xs ys = elim (cases_lt size (length xs)) [
   | inl less ↦ (let none : size - length (take size xs) ≡ 0 = omega (arith, length-take size xs) in
       take-append-le size xs ys (omega arith) ∙ sym (append-nil (take size xs)) ∙ ap (λ n. take size xs ++ take n ys) (sym none))
   | inr more ↦ (let all : take size xs ≡ xs = sym (take_min size xs) ∙ (let m : min size (length xs) ≡ length xs = omega arith in ap (λ n. take n xs) m) ∙ sym (append-nil (take (length xs) xs)) ∙ all_taken xs in
@@ -31,7 +31,7 @@ whole_is size xs ys = elim (cases_lt size (length xs)) [
       ap (λ n. take n (xs ++ ys)) (sym total) ∙ take-append-add xs ys (size - length xs) ∙ ap (λ zs. zs ++ take (size - length zs) ys) (sym all))
 ]
   where
-    all_taken : (xs : List ℕ) → take (length xs) xs ++ [] ≡ xs
+    all_taken : (xs : List X) → take (length xs) xs ++ [] ≡ xs
     all_taken xs = ap (λ zs. take (length xs) xs ++ zs) (sym (nil_from_length (drop (length xs) xs) (omega (arith, length-drop (length xs) xs)))) ∙ take-append-drop (length xs) xs
 
 -- either nothing stands behind the first of them, or none is wanted of the others

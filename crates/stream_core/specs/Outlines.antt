@@ -1,5 +1,5 @@
 -- What a file holds beside its sound, and where that stands.
-use Rattle.std.specs.Prelude.{◌≡◌, ◌≢◌, ◌⊎◌, ℕ, ◌+◌, ◌%◌, ◌<◌, Bool, true, List, [], ◌++◌, length, replicate, take, Option, Some, IfSome, ⊤}
+use Rattle.std.specs.Prelude.{◌≡◌, ◌≢◌, ◌⊎◌, ℕ, ◌+◌, ◌%◌, ◌<◌, Bool, true, List, [], ◌++◌, length, replicate, Option, Some, IfSome, ⊤}
 use Rattle.std.specs.Io.KnownBytes.{IsAtEnd}
 use Rattle.device_core.specs.Inlets.{inlet_reader}
 use Rattle.device_core.specs.declared.inlet.Inlet.{Inlet}
@@ -68,49 +68,6 @@ AreAround o file = (sound : List ℕ) × StandsIn o file sound
 
 -- ---- stages
 
--- a fault of reading bytes that are not kept: there are fewer left, or one of reading
-abbrev pub IsSkipFault : Option (List ℕ) → ℕ → StreamFault → Type 0
-IsSkipFault left_old wanted FileRefused = IfSome left_old (λ left. length left < wanted)
-IsSkipFault left_old wanted ReadFailed = ⊤
-IsSkipFault left_old wanted TurnLimit = ⊤
-IsSkipFault left_old wanted Memory = ⊤
-IsSkipFault left_old wanted _ = ⊥
-
--- a sound was read to its end: what was read before it is its head now, and what was read behind it was kept
-pub record PassesSound {R : Type 0} (left : R → Option (List ℕ)) (old new : Inlet R) (s : Sound) (front_old front_new back_old back_new : List ℕ) : Type 0 where
-  pub sound : List ℕ
-  pub behind : List ℕ
-  pub read : List ℕ
-  pub reads : Reads left old new read
-  pub parts : front_old ++ read ≡ front_new ++ (sound ++ behind)
-  pub head : front_new ≡ take s.start front_old
-  pub long : length sound ≡ s.size
-  pub kept : back_new ≡ back_old ++ behind
-
--- a fault of reading a sound to its end: there are fewer bytes, or one of reading
-abbrev pub IsPassFault : Option (List ℕ) → List ℕ → Sound → StreamFault → Type 0
-IsPassFault left_old front s FileRefused = IfSome left_old (λ left. length (front ++ left) < s.start + s.size)
-IsPassFault left_old front s ReadFailed = ⊤
-IsPassFault left_old front s TurnLimit = ⊤
-IsPassFault left_old front s Memory = ⊤
-IsPassFault left_old front s _ = ⊥
-
--- so many of the bytes behind a sound were dropped, of which some were read before
-pub record PassesGap {R : Type 0} (left : R → Option (List ℕ)) (old new : Inlet R) (gap : ℕ) (back_old back_new : List ℕ) : Type 0 where
-  pub passed : List ℕ
-  pub read : List ℕ
-  pub reads : Reads left old new read
-  pub parts : back_old ++ read ≡ passed ++ back_new
-  pub long : length passed ≡ gap
-
--- a fault of this: there are fewer, or one of reading
-abbrev pub IsGapFault : Option (List ℕ) → ℕ → List ℕ → StreamFault → Type 0
-IsGapFault left_old gap back FileRefused = IfSome left_old (λ left. length (back ++ left) < gap)
-IsGapFault left_old gap back ReadFailed = ⊤
-IsGapFault left_old gap back TurnLimit = ⊤
-IsGapFault left_old gap back Memory = ⊤
-IsGapFault left_old gap back _ = ⊥
-
 -- behind a sound, all was read to the tag's place, which is 0 for none, and the tag was kept, with nothing behind it
 pub record ReadsTag {R : Type 0} (left : R → Option (List ℕ)) (old new : Inlet R) (place stop : ℕ) (back_old back_new : List ℕ) (gap : ℕ) : Type 0 where
   pub passed : List ℕ
@@ -139,6 +96,7 @@ pub record Surrounds {R : Type 0} (left : R → Option (List ℕ)) (old new : In
   pub read : List ℕ
   pub reads : Reads left old new read
   pub told : AreTold o
+  pub given : (sound : List ℕ) → length sound ≡ o.sound.size → StandsIn o (o.head ++ (sound ++ (back ++ read))) sound
   pub stands : (sound rest : List ℕ) → length sound ≡ o.sound.size → left (inlet_reader new) ≡ Some rest → StandsIn o (o.head ++ (sound ++ (back ++ (read ++ rest)))) sound
 
 -- a fault of this: no file that goes on so is accepted, whichever bytes the sound has, or one of reading
@@ -162,15 +120,3 @@ IsOutlineFault left_old ReadFailed = ⊤
 IsOutlineFault left_old TurnLimit = ⊤
 IsOutlineFault left_old Memory = ⊤
 IsOutlineFault left_old _ = ⊥
-
--- a file whose front was read is some sound in the surroundings, whatever is left, and they tell what it holds
-abbrev pub SurroundsRest : Option (List ℕ) → List ℕ → Surroundings → Type 0
-SurroundsRest left_old front o = AreTold o × IfSome left_old (λ left. AreAround o (front ++ left))
-
--- a fault of this: the file holds no recording, whatever is left, or one of reading
-abbrev pub IsBehindFault : Option (List ℕ) → List ℕ → StreamFault → Type 0
-IsBehindFault left_old front FileRefused = IfSome left_old (λ left. IsRefused (front ++ left))
-IsBehindFault left_old front ReadFailed = ⊤
-IsBehindFault left_old front TurnLimit = ⊤
-IsBehindFault left_old front Memory = ⊤
-IsBehindFault left_old front _ = ⊥

@@ -28,12 +28,6 @@ pub record ReadsToEnd {R : Type 0} (left : R → Option (List ℕ)) (old new : I
   pub reads : Reads left old new bytes
   pub at_end : IsAtEnd (left (inlet_reader new))
 
--- so many bytes were read
-pub record ReadsMany {R : Type 0} (left : R → Option (List ℕ)) (old new : Inlet R) (n : ℕ) : Type 0 where
-  pub bytes : List ℕ
-  pub reads : Reads left old new bytes
-  pub long : length bytes ≡ n
-
 -- all was read, and appended
 pub record ReadsAll {R : Type 0} (left : R → Option (List ℕ)) (old new : Inlet R) (bytes_old bytes_new : List ℕ) : Type 0 where
   pub bytes : List ℕ

@@ -1,48 +1,39 @@
 //! What stands behind the sound.
 
-ghost use Rattle.std.specs.Prelude.{◌≡◌, ◌+◌, ◌-◌, ◌<◌, ◌≤◌, ◌^◌, IfErr, IfOk, IsErrOf, length};
-ghost use Rattle.device_core.specs.Inlets.{inlet_failures, inlet_given, inlet_reader, inlet_reads};
+ghost use Rattle.std.specs.Prelude.{◌≡◌, ◌+◌, ◌-◌, ◌<◌, ◌≤◌, ◌^◌, IfErr, IfOk, length};
+ghost use Rattle.device_core.specs.Inlets.{inlet_given};
 ghost use Rattle.stream_core.specs.Closing.{Closes, EndsAt};
-ghost use Rattle.stream_core.specs.Faults.{IsReadingFault, failed_reads};
-ghost use Rattle.stream_core.specs.Reads.{HasBudget};
+ghost use Rattle.stream_core.specs.Faults.{IsReadingFault};
+ghost use Rattle.stream_core.specs.Readers.{Counts, IsReading, IsSame};
 
 use crate::fault::StreamFault;
-use crate::pulling::{read_to_end, read_until};
-use device_core::Inlet;
+use crate::reader::SoundReader;
 use dsd_bits::Sound;
 use std::alloc::Global;
 use std::io::Read;
 
-/// Whether a file is accepted whose `head` leads to this sound, and of which `back` was read behind the sound: of a
-/// DSDIFF file the rest of the form is read and kept, of a DSF file all is read and counted. `given` is how many
-/// bytes the inlet counted before the file's first.
+/// Whether a file is accepted whose `head` leads to this sound, which was read: of a DSDIFF file the rest of the form is
+/// read and kept ahead, of a DSF file all is read and counted.
 ///
 /// Refusals: those of reading.
 pub(crate) fn closes<R: Read>(
     alloc: Global,
     head: &[u8],
     sound: &Sound,
-    back: &mut Vec<u8>,
-    inlet: &mut Inlet<R>,
-    given: u64,
-    limit: u64,
-    block: &mut Vec<u8>,
+    reader: &mut SoundReader<'_, R>,
 ) -> Result<bool, StreamFault>
     requires at_sound { EndsAt head.now sound.now }
-    requires given { inlet_given inlet.old ≡ given + (length head.now + sound.now.size + length back.old.items) }
-    requires ready { inlet_failures inlet.old < 2 ^ 64 - 1 }
-    requires budget { HasBudget limit inlet.old }
-    requires size { length block.old.items ≡ 65536 }
-    ensures ok { IfOk result (Closes R.remaining inlet.old inlet.new head.now sound.now back.old.items) }
-    ensures failures { inlet_failures inlet.new ≡ inlet_failures inlet.old + failed_reads result }
-    ensures turns { IsErrOf result StreamFault.TurnLimit → inlet_reads inlet.new ≡ limit }
-    ensures most { inlet_reads inlet.new ≤ limit }
+    requires reading { IsReading reader.old }
+    requires given { inlet_given reader.old.inlet.now ≡ reader.old.given + (length head.now + sound.now.size + length reader.old.ahead.now.items) }
+    ensures same { IsSame reader.old reader.new }
+    ensures ok { IfOk result (Closes R.remaining reader.old.inlet.now reader.new.inlet.now head.now sound.now reader.old.ahead.now.items) }
+    ensures counts { Counts reader.old reader.new result }
     ensures fault { IfErr result IsReadingFault }
 {
     if sound.interleaving.has_blocks() {
-        read_to_end(inlet, limit, block)?;
-        return Ok(dsf_core::closes(head, inlet.given() - given));
+        reader.read_to_end()?;
+        return Ok(dsf_core::closes(head, reader.inlet.given() - reader.given));
     }
-    read_until(inlet, limit, block, back, dsdiff_core::bytes_behind(head))?;
-    Ok(dsdiff_core::closes(alloc, head, back.as_slice())?)
+    reader.read_until(dsdiff_core::bytes_behind(head))?;
+    Ok(dsdiff_core::closes(alloc, head, reader.ahead.as_slice())?)
 }

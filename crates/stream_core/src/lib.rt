@@ -3,12 +3,13 @@
 //! [`play`] reads a DSDIFF 1.5 or DSF 1.01 file piece by piece and writes its RIFF WAVE file. Of the sound it holds
 //! at most one block of 65,536 bytes, a part of one group of the channels' blocks, and what each channel's filter
 //! still reads; what stands before the sound is held whole, and so is what a DSDIFF form has behind it. `playing.rt`
-//! shows the whole way, and each stage has a module: reads (`pulling.rt`), the front up to the sound (`front.rt`),
+//! shows the whole way, and each stage has a module: reads (`reader.rt`), the front up to the sound (`front.rt`),
 //! the sound piece by piece (`pieces.rt`), what stands behind it (`closing.rt`), and what is written around the
 //! frames (`wave.rt`).
 //!
 //! [`read_outline`] reads a file once and tells all of it but the bits of its sound: an [`Outline`], by which the file
 //! can be read again and written in another form while it is read. Of the sound it holds one block.
+//! [`read_stretches`] does so too, and keeps of the sound the bits of each channel in the ranges that it is given.
 //!
 //! The words of the contracts:
 //!
@@ -23,6 +24,8 @@
 //! - `StandsIn around file sound` says that a file is these sound bytes in their surroundings, `AreTold around` that
 //!   every such file holds what the surroundings tell, with the channels of its sound, and `SurroundsFile left around`
 //!   both of a reader's file (`specs/Outlines.antt`).
+//! - `KeepsFile left around ranges kept` says that a reader's file is some sound in these surroundings, and which stretches
+//!   of its channels were kept (`specs/Keeping.antt`).
 //!
 //! What it promises: Ok means that exactly the bytes that the reader's file plays were written, however its reads are
 //! cut; a fault stands that is named; and a file that is played is refused only for memory, a device or the number of
@@ -38,14 +41,17 @@
 mod closing;
 mod fault;
 mod front;
+mod keeper;
+mod keeping;
 mod laws;
 mod outline;
 mod pieces;
 mod playing;
-mod pulling;
+mod reader;
 mod wave;
 
 pub use fault::StreamFault;
+pub use keeping::{BitRange, Kept, read_stretches};
 pub use laws::accepted_files_tell_one_sound;
 pub use outline::{Outline, read_outline};
 pub use playing::play;

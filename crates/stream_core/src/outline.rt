@@ -1,17 +1,16 @@
 //! What a file holds beside its sound, read in one pass.
 
-ghost use Rattle.std.specs.Prelude.{◌≡◌, ◌+◌, ◌-◌, ◌%◌, ◌<◌, ◌≤◌, ◌^◌, ◌++◌, IfErr, IfOk, IfSome, IsErrOf, OnOk, drop, length, true};
+ghost use Rattle.std.specs.Prelude.{◌≡◌, ◌+◌, ◌-◌, ◌%◌, ◌<◌, ◌≤◌, ◌^◌, ◌++◌, IfErr, IfOk, IsErrOf, length, true};
 ghost use Rattle.device_core.specs.Inlets.{inlet_failures, inlet_given, inlet_reader, inlet_reads};
 ghost use Rattle.dsd_bits.specs.Sounds.{IsSound, has_blocks};
 ghost use Rattle.stream_core.specs.Closing.{EndsAt};
 ghost use Rattle.stream_core.specs.Faults.{failed_reads};
-ghost use Rattle.stream_core.specs.Files.{TellsSound};
-ghost use Rattle.stream_core.specs.Outlines.{IsBehindFault, IsGapFault, IsOutlineFault, IsPassFault, IsRestFault, IsTagFault, PassesGap, PassesSound, ReadsTag, Surrounds, SurroundsFile, SurroundsRest, around_of, with_ends};
-ghost use Rattle.stream_core.specs.Reads.{HasBudget};
+ghost use Rattle.stream_core.specs.Outlines.{IsOutlineFault, IsRestFault, IsTagFault, ReadsTag, Surrounds, SurroundsFile, around_of, with_ends};
+ghost use Rattle.stream_core.specs.Readers.{Counts, IsAtStart, IsReading, IsSame};
 
 use crate::fault::StreamFault;
 use crate::front::read_front;
-use crate::pulling::{MOST_READS, new_block, read_all, read_to_end, read_until, skip};
+use crate::reader::{SoundReader, new_block};
 use device_core::Inlet;
 use dsd_bits::{Interleaving, Recording, Sound};
 use std::alloc::Global;
@@ -56,15 +55,50 @@ pub fn read_outline<R: Read>(alloc: Global, inlet: &mut Inlet<R>) -> Result<Outl
     ensures reads { inlet_reads inlet.new ≤ inlet_reads inlet.old + 2 ^ 40 }
     ensures turn_limit { IsErrOf result StreamFault.TurnLimit → inlet_reads inlet.new ≡ inlet_reads inlet.old + 2 ^ 40 }
 {
-    let mut reading = Reading {
-        given: inlet.given(),
-        limit: inlet.reads() + MOST_READS,
-        block: new_block(alloc)?,
-    };
-    let mut head = Vec::new(alloc);
-    let sound = read_front(alloc, inlet, reading.limit, &mut reading.block, &mut head)?;
-    let mut back = Vec::new(alloc);
-    let behind = read_behind(alloc, &sound, &mut head, &mut back, inlet, &mut reading)?;
+    let mut block = new_block(alloc)?;
+    let mut ahead = Vec::new(alloc);
+    outline_of(alloc, &mut SoundReader::new(inlet, &mut block, &mut ahead))
+}
+
+// Reads a file, and tells all of it but the bits of its sound.
+fn outline_of<R: Read>(
+    alloc: Global,
+    reader: &mut SoundReader<'_, R>,
+) -> Result<Outline, StreamFault>
+    requires { IsAtStart reader.old }
+    ensures same { IsSame reader.old reader.new }
+    ensures ok { IfOk result (λ o. SurroundsFile (R.remaining (inlet_reader reader.old.inlet.now)) (around_of o)) }
+    ensures counts { Counts reader.old reader.new result }
+    ensures fault { IfErr result (IsOutlineFault (R.remaining (inlet_reader reader.old.inlet.now))) }
+{
+    let sound = read_front(alloc, reader)?;
+    let head = reader.take_head(alloc, sound.start)?;
+    reader.pass(sound.size as u64)?;
+    read_rest(alloc, sound, head, reader)
+}
+
+/// Reads the rest of a file behind its sound, as far as it matters: what is told of the whole file, which begins with
+/// this head.
+///
+/// Refusals: `FileRefused` where no file that goes on so holds a recording; those of reading.
+pub(crate) fn read_rest<R: Read>(
+    alloc: Global,
+    sound: Sound,
+    head: Vec<u8>,
+    reader: &mut SoundReader<'_, R>,
+) -> Result<Outline, StreamFault>
+    requires at_sound { EndsAt head.items sound }
+    requires sound { IsSound sound }
+    requires whole { sound.interleaving ≡ Interleaving.Bytes → sound.count % 8 ≡ 0 }
+    requires reading { IsReading reader.old }
+    requires given { inlet_given reader.old.inlet.now ≡ reader.old.given + (length head.items + sound.size + length reader.old.ahead.now.items) }
+    ensures same { IsSame reader.old reader.new }
+    ensures ok { IfOk result (λ o. (o.sound ≡ sound) × (o.head.items ≡ head.items) × Surrounds R.remaining reader.old.inlet.now reader.new.inlet.now reader.old.ahead.now.items (around_of o)) }
+    ensures counts { Counts reader.old reader.new result }
+    ensures fault { IfErr result (IsRestFault (R.remaining (inlet_reader reader.old.inlet.now)) sound head.items reader.old.ahead.now.items) }
+{
+    let behind = read_behind(alloc, &sound, &head, reader)?;
+    let back = reader.take_ahead(alloc);
     Ok(Outline {
         sound,
         head,
@@ -86,108 +120,51 @@ struct Behind {
     recording: Recording,
 }
 
-// What the reading of one file holds.
-#[derive(Drop)]
-struct Reading {
-    // How many bytes the inlet counted before the file's first.
-    given: u64,
-    // How many reads it may count.
-    limit: u64,
-    // What is read into.
-    block: Vec<u8>,
-}
-
-// Reads the rest of a file whose front was read and tells of this sound: the front is cut to what stands before the
-// sound, and what is kept behind it is put into `back`.
+// Reads the rest of a file that begins with this head: what is kept behind the sound is ahead then.
 fn read_behind<R: Read>(
     alloc: Global,
     sound: &Sound,
-    front: &mut Vec<u8>,
-    back: &mut Vec<u8>,
-    inlet: &mut Inlet<R>,
-    reading: &mut Reading,
+    head: &[u8],
+    reader: &mut SoundReader<'_, R>,
 ) -> Result<Behind, StreamFault>
-    requires tells { TellsSound front.old.items sound.now }
-    requires empty { length back.old.items ≡ 0 }
-    requires given { inlet_given inlet.old ≡ reading.old.given + length front.old.items }
-    requires ready { inlet_failures inlet.old < 2 ^ 64 - 1 }
-    requires budget { HasBudget reading.old.limit inlet.old }
-    requires size { length reading.old.block.items ≡ 65536 }
-    ensures ok { IfOk result (λ b. SurroundsRest (R.remaining (inlet_reader inlet.old)) front.old.items (with_ends sound.now front.new.items back.new.items b)) }
-    ensures failures { inlet_failures inlet.new ≡ inlet_failures inlet.old + failed_reads result }
-    ensures turns { IsErrOf result StreamFault.TurnLimit → inlet_reads inlet.new ≡ reading.old.limit }
-    ensures most { inlet_reads inlet.new ≤ reading.old.limit }
-    ensures fault { IfErr result (IsBehindFault (R.remaining (inlet_reader inlet.old)) front.old.items) }
+    requires at_sound { EndsAt head.now sound.now }
+    requires sound { IsSound sound.now }
+    requires whole { sound.now.interleaving ≡ Interleaving.Bytes → sound.now.count % 8 ≡ 0 }
+    requires reading { IsReading reader.old }
+    requires given { inlet_given reader.old.inlet.now ≡ reader.old.given + (length head.now + sound.now.size + length reader.old.ahead.now.items) }
+    ensures same { IsSame reader.old reader.new }
+    ensures ok { IfOk result (λ b. Surrounds R.remaining reader.old.inlet.now reader.new.inlet.now reader.old.ahead.now.items (with_ends sound.now head.now reader.new.ahead.now.items b)) }
+    ensures counts { Counts reader.old reader.new result }
+    ensures fault { IfErr result (IsRestFault (R.remaining (inlet_reader reader.old.inlet.now)) sound.now head.now reader.old.ahead.now.items) }
 {
-    pass_sound(sound, front, inlet, reading.limit, &mut reading.block, back)?;
     if sound.interleaving.has_blocks() {
-        behind_blocks(alloc, sound, front, back, inlet, reading)
+        behind_blocks(alloc, sound, head, reader)
     } else {
-        behind_frames(alloc, sound, front, back, inlet, reading)
+        behind_frames(alloc, sound, head, reader)
     }
 }
 
-// Reads to the end of a sound of which the front of a file tells, and cuts the front to what stands before it. What
-// was read behind the sound is appended to `back`.
-fn pass_sound<R: Read>(
-    sound: &Sound,
-    front: &mut Vec<u8>,
-    inlet: &mut Inlet<R>,
-    limit: u64,
-    block: &mut Vec<u8>,
-    back: &mut Vec<u8>,
-) -> Result<(), StreamFault>
-    requires within { sound.now.start ≤ length front.old.items }
-    requires ready { inlet_failures inlet.old < 2 ^ 64 - 1 }
-    requires budget { HasBudget limit inlet.old }
-    requires size { length block.old.items ≡ 65536 }
-    ensures size { length block.new.items ≡ 65536 }
-    ensures ok { OnOk result (PassesSound R.remaining inlet.old inlet.new sound.now front.old.items front.new.items back.old.items back.new.items) }
-    ensures budget { OnOk result (HasBudget limit inlet.new) }
-    ensures failures { inlet_failures inlet.new ≡ inlet_failures inlet.old + failed_reads result }
-    ensures turns { IsErrOf result StreamFault.TurnLimit → inlet_reads inlet.new ≡ limit }
-    ensures most { inlet_reads inlet.new ≤ limit }
-    ensures fault { IfErr result (IsPassFault (R.remaining (inlet_reader inlet.old)) front.old.items sound.now) }
-{
-    let ahead = front.len() - sound.start;
-    if ahead < sound.size {
-        skip(inlet, limit, block, (sound.size - ahead) as u64)?;
-    } else {
-        let (_, sound_on) = front.split_at(sound.start);
-        let (_, behind) = sound_on.split_at(sound.size);
-        back.extend_from_slice(behind)?;
-    }
-    front.truncate(sound.start);
-    Ok(())
-}
-
-// Reads the rest of a DSF file that begins with this head, and of which `back` was read behind the sound: its tag is
-// kept.
+// The same of a DSF file: its tag is kept.
 fn behind_blocks<R: Read>(
     alloc: Global,
     sound: &Sound,
     head: &[u8],
-    back: &mut Vec<u8>,
-    inlet: &mut Inlet<R>,
-    reading: &mut Reading,
+    reader: &mut SoundReader<'_, R>,
 ) -> Result<Behind, StreamFault>
     requires at_sound { EndsAt head.now sound.now }
     requires interleaving { has_blocks sound.now.interleaving ≡ true }
     requires sound { IsSound sound.now }
-    requires given { inlet_given inlet.old ≡ reading.old.given + (length head.now + sound.now.size + length back.old.items) }
-    requires ready { inlet_failures inlet.old < 2 ^ 64 - 1 }
-    requires budget { HasBudget reading.old.limit inlet.old }
-    requires size { length reading.old.block.items ≡ 65536 }
-    ensures ok { IfOk result (λ b. Surrounds R.remaining inlet.old inlet.new back.old.items (with_ends sound.now head.now back.new.items b)) }
-    ensures failures { inlet_failures inlet.new ≡ inlet_failures inlet.old + failed_reads result }
-    ensures turns { IsErrOf result StreamFault.TurnLimit → inlet_reads inlet.new ≡ reading.old.limit }
-    ensures most { inlet_reads inlet.new ≤ reading.old.limit }
-    ensures fault { IfErr result (IsRestFault (R.remaining (inlet_reader inlet.old)) sound.now head.now back.old.items) }
+    requires reading { IsReading reader.old }
+    requires given { inlet_given reader.old.inlet.now ≡ reader.old.given + (length head.now + sound.now.size + length reader.old.ahead.now.items) }
+    ensures same { IsSame reader.old reader.new }
+    ensures ok { IfOk result (λ b. Surrounds R.remaining reader.old.inlet.now reader.new.inlet.now reader.old.ahead.now.items (with_ends sound.now head.now reader.new.ahead.now.items b)) }
+    ensures counts { Counts reader.old reader.new result }
+    ensures fault { IfErr result (IsRestFault (R.remaining (inlet_reader reader.old.inlet.now)) sound.now head.now reader.old.ahead.now.items) }
 {
     let stop = (head.len() + sound.size) as u64;
-    let gap = read_tag(dsf_core::tag_at(head), stop, inlet, reading, back)?;
-    let total = inlet.given() - reading.given;
-    let tag = Vec::from_slice(alloc, back)?;
+    let gap = read_tag(dsf_core::tag_at(head), stop, reader)?;
+    let total = reader.inlet.given() - reader.given;
+    let tag = Vec::from_slice(alloc, reader.ahead.as_slice())?;
     let Some(recording) = dsf_core::outline(alloc, head, total, tag)? else {
         return Err(StreamFault::FileRefused);
     };
@@ -198,34 +175,29 @@ fn behind_blocks<R: Read>(
     })
 }
 
-// Reads the rest of a DSDIFF form that begins with this head, and of which `back` was read behind the sound: all of it
-// is kept.
+// The same of a DSDIFF form: all of it is kept.
 fn behind_frames<R: Read>(
     alloc: Global,
     sound: &Sound,
     head: &[u8],
-    back: &mut Vec<u8>,
-    inlet: &mut Inlet<R>,
-    reading: &mut Reading,
+    reader: &mut SoundReader<'_, R>,
 ) -> Result<Behind, StreamFault>
     requires at_sound { EndsAt head.now sound.now }
     requires interleaving { sound.now.interleaving ≡ Interleaving.Bytes }
     requires sound { IsSound sound.now }
     requires whole { sound.now.count % 8 ≡ 0 }
-    requires ready { inlet_failures inlet.old < 2 ^ 64 - 1 }
-    requires budget { HasBudget reading.old.limit inlet.old }
-    requires size { length reading.old.block.items ≡ 65536 }
-    ensures ok { IfOk result (λ b. Surrounds R.remaining inlet.old inlet.new back.old.items (with_ends sound.now head.now back.new.items b)) }
-    ensures failures { inlet_failures inlet.new ≡ inlet_failures inlet.old + failed_reads result }
-    ensures turns { IsErrOf result StreamFault.TurnLimit → inlet_reads inlet.new ≡ reading.old.limit }
-    ensures most { inlet_reads inlet.new ≤ reading.old.limit }
-    ensures fault { IfErr result (IsRestFault (R.remaining (inlet_reader inlet.old)) sound.now head.now back.old.items) }
+    requires reading { IsReading reader.old }
+    ensures same { IsSame reader.old reader.new }
+    ensures ok { IfOk result (λ b. Surrounds R.remaining reader.old.inlet.now reader.new.inlet.now reader.old.ahead.now.items (with_ends sound.now head.now reader.new.ahead.now.items b)) }
+    ensures counts { Counts reader.old reader.new result }
+    ensures fault { IfErr result (IsRestFault (R.remaining (inlet_reader reader.old.inlet.now)) sound.now head.now reader.old.ahead.now.items) }
 {
     let wanted = dsdiff_core::bytes_behind(head);
-    read_until(inlet, reading.limit, &mut reading.block, back, wanted)?;
-    let ends = (back.len() as u64) < wanted;
-    back.truncate(back.len().min(wanted as usize));
-    let Some(recording) = dsdiff_core::outline(alloc, head, back)? else {
+    reader.read_until(wanted)?;
+    let ends = (reader.ahead.len() as u64) < wanted;
+    let kept = reader.ahead.len().min(wanted as usize);
+    reader.ahead.truncate(kept);
+    let Some(recording) = dsdiff_core::outline(alloc, head, reader.ahead.as_slice())? else {
         return Err(StreamFault::FileRefused);
     };
     Ok(Behind {
@@ -235,75 +207,30 @@ fn behind_frames<R: Read>(
     })
 }
 
-// Reads a DSF file to its end, and keeps its tag, which stands at this place, 0 for none. The sound ends at `stop`,
-// and `back` was read behind it. It answers how many bytes stand between the sound and the tag.
+// Reads a DSF file to its end, and keeps its tag, which stands at this place, 0 for none. The sound ends at `stop`. It
+// answers how many bytes stand between the sound and the tag.
 fn read_tag<R: Read>(
     place: u64,
     stop: u64,
-    inlet: &mut Inlet<R>,
-    reading: &mut Reading,
-    back: &mut Vec<u8>,
+    reader: &mut SoundReader<'_, R>,
 ) -> Result<u64, StreamFault>
-    requires given { inlet_given inlet.old ≡ reading.old.given + (stop + length back.old.items) }
-    requires ready { inlet_failures inlet.old < 2 ^ 64 - 1 }
-    requires budget { HasBudget reading.old.limit inlet.old }
-    requires size { length reading.old.block.items ≡ 65536 }
-    ensures same { (reading.new.given ≡ reading.old.given) × (reading.new.limit ≡ reading.old.limit) }
-    ensures ok { IfOk result (ReadsTag R.remaining inlet.old inlet.new place stop back.old.items back.new.items) }
-    ensures failures { inlet_failures inlet.new ≡ inlet_failures inlet.old + failed_reads result }
-    ensures turns { IsErrOf result StreamFault.TurnLimit → inlet_reads inlet.new ≡ reading.old.limit }
-    ensures most { inlet_reads inlet.new ≤ reading.old.limit }
-    ensures fault { IfErr result (IsTagFault (R.remaining (inlet_reader inlet.old)) place stop back.old.items) }
+    requires reading { IsReading reader.old }
+    requires given { inlet_given reader.old.inlet.now ≡ reader.old.given + (stop + length reader.old.ahead.now.items) }
+    ensures same { IsSame reader.old reader.new }
+    ensures ok { IfOk result (ReadsTag R.remaining reader.old.inlet.now reader.new.inlet.now place stop reader.old.ahead.now.items reader.new.ahead.now.items) }
+    ensures counts { Counts reader.old reader.new result }
+    ensures fault { IfErr result (IsTagFault (R.remaining (inlet_reader reader.old.inlet.now)) place stop reader.old.ahead.now.items) }
 {
     if place == 0 {
-        read_to_end(inlet, reading.limit, &mut reading.block)?;
-        back.clear();
-        return Ok(inlet.given() - reading.given - stop);
+        reader.read_to_end()?;
+        reader.ahead.clear();
+        return Ok(reader.inlet.given() - reader.given - stop);
     }
     if place < stop {
         return Err(StreamFault::FileRefused);
     }
     let gap = place - stop;
-    pass_gap(gap, inlet, reading, back)?;
-    read_all(inlet, reading.limit, &mut reading.block, back)?;
+    reader.pass(gap)?;
+    reader.read_all()?;
     Ok(gap)
-}
-
-// Drops so many of the bytes behind a sound, of which `back` was read.
-fn pass_gap<R: Read>(
-    gap: u64,
-    inlet: &mut Inlet<R>,
-    reading: &mut Reading,
-    back: &mut Vec<u8>,
-) -> Result<(), StreamFault>
-    requires ready { inlet_failures inlet.old < 2 ^ 64 - 1 }
-    requires budget { HasBudget reading.old.limit inlet.old }
-    requires size { length reading.old.block.items ≡ 65536 }
-    ensures same { (reading.new.given ≡ reading.old.given) × (reading.new.limit ≡ reading.old.limit) }
-    ensures size { length reading.new.block.items ≡ 65536 }
-    ensures ok { OnOk result (PassesGap R.remaining inlet.old inlet.new gap back.old.items back.new.items) }
-    ensures budget { OnOk result (HasBudget reading.old.limit inlet.new) }
-    ensures failures { inlet_failures inlet.new ≡ inlet_failures inlet.old + failed_reads result }
-    ensures turns { IsErrOf result StreamFault.TurnLimit → inlet_reads inlet.new ≡ reading.old.limit }
-    ensures most { inlet_reads inlet.new ≤ reading.old.limit }
-    ensures fault { IfErr result (IsGapFault (R.remaining (inlet_reader inlet.old)) gap back.old.items) }
-{
-    let ahead = back.len() as u64;
-    if ahead < gap {
-        skip(inlet, reading.limit, &mut reading.block, gap - ahead)?;
-        back.clear();
-        return Ok(());
-    }
-    drop_front(back, gap as usize);
-    Ok(())
-}
-
-// Drops the first bytes.
-fn drop_front(bytes: &mut Vec<u8>, cut: usize)
-    requires { cut ≤ length bytes.old.items }
-    ensures { bytes.new.items ≡ drop cut bytes.old.items }
-{
-    let left = bytes.len() - cut;
-    bytes.copy_within(cut.., 0);
-    bytes.truncate(left);
 }

@@ -1,71 +1,60 @@
 //! The sound, read and played piece by piece.
 
-ghost use Rattle.std.specs.Prelude.{◌≡◌, ◌+◌, ◌-◌, ◌%◌, ◌<◌, ◌≤◌, ◌^◌, ◌++◌, [], IfErr, IfOk, IsErrOf, OnErr, OnOk, drop, length, take};
-ghost use Rattle.device_core.specs.Inlets.{inlet_failures, inlet_given, inlet_reader, inlet_reads};
+ghost use Rattle.std.specs.Prelude.{◌≡◌, ◌+◌, ◌-◌, ◌%◌, ◌<◌, ◌≤◌, ◌^◌, ◌++◌, [], IfErr, IfOk, OnErr, OnOk, drop, length, take};
+ghost use Rattle.device_core.specs.Inlets.{inlet_given, inlet_reader};
 ghost use Rattle.device_core.specs.Outlets.{outlet_failures, outlet_writer};
 ghost use Rattle.dsd_bits.specs.Sounds.{IsSound};
 ghost use Rattle.player_core.specs.PlayerView.{IsPlayer, fed_of, filter_of, sound_of};
-ghost use Rattle.stream_core.specs.Faults.{IsWritingFault, StopsReading, failed_reads, failed_writes};
+ghost use Rattle.stream_core.specs.Faults.{IsWritingFault, StopsReading, failed_writes};
 ghost use Rattle.stream_core.specs.Pace.{PlaysGivenPart, PlaysGivenSound};
 ghost use Rattle.stream_core.specs.Pieces.{IsPieceFault, IsSoundFault, PlaysFront, PlaysPart, PlaysSound, PutsDue, PutsFrontLeft, PutsFrontOf, PutsRest};
-ghost use Rattle.stream_core.specs.Reads.{HasBudget};
+ghost use Rattle.stream_core.specs.Readers.{Counts, IsReading, IsSame};
 
 use crate::fault::StreamFault;
-use crate::pulling::pull_block;
+use crate::reader::SoundReader;
 use crate::wave::put;
-use device_core::{Inlet, Outlet};
+use device_core::Outlet;
 use dsd_bits::{Interleaving, Sound};
 use fir_core::Taps;
 use player_core::Player;
 use std::alloc::Global;
 use std::io::{Read, Write};
 
-/// Reads a sound whose first bytes are `ahead`, and writes its frames. What was read behind it is appended to `back`.
+/// Reads a sound, of which the first bytes are ahead, and writes its frames. What was read behind it is ahead then.
 ///
 /// Refusals: `FileRefused` where the reader ends in the sound; those of reading and of writing.
 pub(crate) fn play_sound<R: Read, W: Write>(
     alloc: Global,
     taps: &Taps,
     sound: &Sound,
-    ahead: &[u8],
-    inlet: &mut Inlet<R>,
-    limit: u64,
-    block: &mut Vec<u8>,
-    back: &mut Vec<u8>,
+    reader: &mut SoundReader<'_, R>,
     outlet: &mut Outlet<W>,
 ) -> Result<(), StreamFault>
     requires sound { IsSound sound.now }
     requires whole { sound.now.interleaving ≡ Interleaving.Bytes → sound.now.count % 8 ≡ 0 }
-    requires empty { length back.old.items ≡ 0 }
-    requires inlet_ready { inlet_failures inlet.old < 2 ^ 64 - 1 }
+    requires reading { IsReading reader.old }
     requires outlet_ready { outlet_failures outlet.old < 2 ^ 64 - 1 }
-    requires budget { HasBudget limit inlet.old }
-    requires size { length block.old.items ≡ 65536 }
-    ensures size { length block.new.items ≡ 65536 }
-    ensures ok { OnOk result (PlaysSound R.remaining inlet.old inlet.new taps.now sound.now ahead.now back.new.items (W.contents (outlet_writer outlet.old)) (W.contents (outlet_writer outlet.new))) }
-    ensures budget { OnOk result (HasBudget limit inlet.new) }
-    ensures front { OnErr result (PlaysFront (R.remaining (inlet_reader inlet.old)) taps.now sound.now ahead.now (W.contents (outlet_writer outlet.old)) (W.contents (outlet_writer outlet.new))) }
-    ensures fault { IfErr result (IsSoundFault (R.remaining (inlet_reader inlet.old)) ahead.now sound.now) }
-    ensures stopped { IfErr result (λ f. StopsReading f → PlaysGivenSound (R.remaining (inlet_reader inlet.old)) (inlet_given inlet.old) (inlet_given inlet.new) taps.now sound.now ahead.now (W.contents (outlet_writer outlet.old)) (W.contents (outlet_writer outlet.new))) }
-    ensures read_failed { inlet_failures inlet.new ≡ inlet_failures inlet.old + failed_reads result }
+    ensures same_reader { IsSame reader.old reader.new }
+    ensures reading { OnOk result (IsReading reader.new) }
+    ensures ok { OnOk result (PlaysSound R.remaining reader.old.inlet.now reader.new.inlet.now taps.now sound.now reader.old.ahead.now.items reader.new.ahead.now.items (W.contents (outlet_writer outlet.old)) (W.contents (outlet_writer outlet.new))) }
+    ensures front { OnErr result (PlaysFront (R.remaining (inlet_reader reader.old.inlet.now)) taps.now sound.now reader.old.ahead.now.items (W.contents (outlet_writer outlet.old)) (W.contents (outlet_writer outlet.new))) }
+    ensures fault { IfErr result (IsSoundFault (R.remaining (inlet_reader reader.old.inlet.now)) reader.old.ahead.now.items sound.now) }
+    ensures stopped { IfErr result (λ f. StopsReading f → PlaysGivenSound (R.remaining (inlet_reader reader.old.inlet.now)) (inlet_given reader.old.inlet.now) (inlet_given reader.new.inlet.now) taps.now sound.now reader.old.ahead.now.items (W.contents (outlet_writer outlet.old)) (W.contents (outlet_writer outlet.new))) }
+    ensures counts { Counts reader.old reader.new result }
     ensures write_failed { outlet_failures outlet.new ≡ outlet_failures outlet.old + failed_writes result }
-    ensures turns { IsErrOf result StreamFault.TurnLimit → inlet_reads inlet.new ≡ limit }
-    ensures most { inlet_reads inlet.new ≤ limit }
 {
+    let ahead = reader.take_ahead(alloc);
     let mut frames = Vec::new(alloc);
     let mut player = Player::new(alloc, taps, *sound)?;
-    let first = play_bytes(&mut player, sound.size, ahead, back, &mut frames, outlet)?;
-    let left = sound.size - first;
-    play_rest(
+    let first = play_bytes(
         &mut player,
-        left,
-        inlet,
-        limit,
-        block,
-        back,
+        sound.size,
+        &ahead,
+        reader.ahead,
         &mut frames,
         outlet,
     )?;
+    play_rest(&mut player, sound.size - first, reader, &mut frames, outlet)?;
     put_rest(&mut player, &mut frames, outlet)
 }
 
@@ -110,40 +99,33 @@ fn put_rest<W: Write>(
     put(outlet, frames.as_slice())
 }
 
-// Reads the next `wanted` bytes of the sound, and writes the frames that are due. What was read behind them is
-// appended to `back`.
+// Reads the next `wanted` bytes of the sound, and writes the frames that are due. What was read behind them is put behind
+// the bytes ahead.
 fn play_rest<R: Read, W: Write>(
     player: &mut Player<'_>,
     wanted: usize,
-    inlet: &mut Inlet<R>,
-    limit: u64,
-    block: &mut Vec<u8>,
-    back: &mut Vec<u8>,
+    reader: &mut SoundReader<'_, R>,
     frames: &mut Vec<u8>,
     outlet: &mut Outlet<W>,
 ) -> Result<(), StreamFault>
     requires player { IsPlayer player.old }
     requires few { fed_of player.old + wanted ≤ (sound_of player.old).size }
-    requires inlet_ready { inlet_failures inlet.old < 2 ^ 64 - 1 }
+    requires reading { IsReading reader.old }
     requires outlet_ready { outlet_failures outlet.old < 2 ^ 64 - 1 }
-    requires budget { HasBudget limit inlet.old }
-    requires size { length block.old.items ≡ 65536 }
-    ensures size { length block.new.items ≡ 65536 }
+    ensures same_reader { IsSame reader.old reader.new }
+    ensures reading { OnOk result (IsReading reader.new) }
     ensures player { OnOk result (IsPlayer player.new) }
     ensures same { OnOk result ((filter_of player.new ≡ filter_of player.old) × (sound_of player.new ≡ sound_of player.old) × (fed_of player.new ≡ fed_of player.old + wanted)) }
-    ensures ok { OnOk result (PlaysPart R.remaining inlet.old inlet.new player.old player.new wanted wanted back.old.items back.new.items (W.contents (outlet_writer outlet.old)) (W.contents (outlet_writer outlet.new))) }
-    ensures budget { OnOk result (HasBudget limit inlet.new) }
-    ensures front { OnErr result (PutsFrontLeft (R.remaining (inlet_reader inlet.old)) player.old wanted (W.contents (outlet_writer outlet.old)) (W.contents (outlet_writer outlet.new))) }
-    ensures fault { IfErr result (IsPieceFault (R.remaining (inlet_reader inlet.old)) wanted) }
-    ensures stopped { IfErr result (λ f. StopsReading f → PlaysGivenPart (R.remaining (inlet_reader inlet.old)) (inlet_given inlet.old) (inlet_given inlet.new) player.old wanted (W.contents (outlet_writer outlet.old)) (W.contents (outlet_writer outlet.new))) }
-    ensures read_failed { inlet_failures inlet.new ≡ inlet_failures inlet.old + failed_reads result }
+    ensures ok { OnOk result (PlaysPart R.remaining reader.old.inlet.now reader.new.inlet.now player.old player.new wanted wanted reader.old.ahead.now.items reader.new.ahead.now.items (W.contents (outlet_writer outlet.old)) (W.contents (outlet_writer outlet.new))) }
+    ensures front { OnErr result (PutsFrontLeft (R.remaining (inlet_reader reader.old.inlet.now)) player.old wanted (W.contents (outlet_writer outlet.old)) (W.contents (outlet_writer outlet.new))) }
+    ensures fault { IfErr result (IsPieceFault (R.remaining (inlet_reader reader.old.inlet.now)) wanted) }
+    ensures stopped { IfErr result (λ f. StopsReading f → PlaysGivenPart (R.remaining (inlet_reader reader.old.inlet.now)) (inlet_given reader.old.inlet.now) (inlet_given reader.new.inlet.now) player.old wanted (W.contents (outlet_writer outlet.old)) (W.contents (outlet_writer outlet.new))) }
+    ensures counts { Counts reader.old reader.new result }
     ensures write_failed { outlet_failures outlet.new ≡ outlet_failures outlet.old + failed_writes result }
-    ensures turns { IsErrOf result StreamFault.TurnLimit → inlet_reads inlet.new ≡ limit }
-    ensures most { inlet_reads inlet.new ≤ limit }
 {
     let mut left = wanted;
     while left > 0 {
-        left -= play_read(player, left, inlet, limit, block, back, frames, outlet)?;
+        left -= play_read(player, left, reader, frames, outlet)?;
     }
     Ok(())
 }
@@ -152,40 +134,33 @@ fn play_rest<R: Read, W: Write>(
 fn play_read<R: Read, W: Write>(
     player: &mut Player<'_>,
     wanted: usize,
-    inlet: &mut Inlet<R>,
-    limit: u64,
-    block: &mut Vec<u8>,
-    back: &mut Vec<u8>,
+    reader: &mut SoundReader<'_, R>,
     frames: &mut Vec<u8>,
     outlet: &mut Outlet<W>,
 ) -> Result<usize, StreamFault>
     requires some { 1 ≤ wanted }
     requires player { IsPlayer player.old }
     requires few { fed_of player.old + wanted ≤ (sound_of player.old).size }
-    requires inlet_ready { inlet_failures inlet.old < 2 ^ 64 - 1 }
+    requires reading { IsReading reader.old }
     requires outlet_ready { outlet_failures outlet.old < 2 ^ 64 - 1 }
-    requires budget { HasBudget limit inlet.old }
-    requires size { length block.old.items ≡ 65536 }
-    ensures size { length block.new.items ≡ 65536 }
+    ensures same_reader { IsSame reader.old reader.new }
+    ensures reading { OnOk result (IsReading reader.new) }
     ensures some { IfOk result (λ n. (1 ≤ n) × (n ≤ wanted)) }
     ensures player { OnOk result (IsPlayer player.new) }
     ensures same { IfOk result (λ n. (filter_of player.new ≡ filter_of player.old) × (sound_of player.new ≡ sound_of player.old) × (fed_of player.new ≡ fed_of player.old + n)) }
-    ensures ok { IfOk result (λ n. PlaysPart R.remaining inlet.old inlet.new player.old player.new wanted n back.old.items back.new.items (W.contents (outlet_writer outlet.old)) (W.contents (outlet_writer outlet.new))) }
-    ensures budget { OnOk result (HasBudget limit inlet.new) }
-    ensures front { OnErr result (PutsFrontLeft (R.remaining (inlet_reader inlet.old)) player.old wanted (W.contents (outlet_writer outlet.old)) (W.contents (outlet_writer outlet.new))) }
-    ensures fault { IfErr result (IsPieceFault (R.remaining (inlet_reader inlet.old)) wanted) }
-    ensures stopped { IfErr result (λ f. StopsReading f → (outlet_writer outlet.new ≡ outlet_writer outlet.old) × (inlet_given inlet.new ≡ inlet_given inlet.old)) }
-    ensures read_failed { inlet_failures inlet.new ≡ inlet_failures inlet.old + failed_reads result }
+    ensures ok { IfOk result (λ n. PlaysPart R.remaining reader.old.inlet.now reader.new.inlet.now player.old player.new wanted n reader.old.ahead.now.items reader.new.ahead.now.items (W.contents (outlet_writer outlet.old)) (W.contents (outlet_writer outlet.new))) }
+    ensures front { OnErr result (PutsFrontLeft (R.remaining (inlet_reader reader.old.inlet.now)) player.old wanted (W.contents (outlet_writer outlet.old)) (W.contents (outlet_writer outlet.new))) }
+    ensures fault { IfErr result (IsPieceFault (R.remaining (inlet_reader reader.old.inlet.now)) wanted) }
+    ensures stopped { IfErr result (λ f. StopsReading f → (outlet_writer outlet.new ≡ outlet_writer outlet.old) × (inlet_given reader.new.inlet.now ≡ inlet_given reader.old.inlet.now)) }
+    ensures counts { Counts reader.old reader.new result }
     ensures write_failed { outlet_failures outlet.new ≡ outlet_failures outlet.old + failed_writes result }
-    ensures turns { IsErrOf result StreamFault.TurnLimit → inlet_reads inlet.new ≡ limit }
-    ensures most { inlet_reads inlet.new ≤ limit }
 {
-    let count = pull_block(inlet, limit, block)?;
+    let count = reader.pull()?;
     if count == 0 {
         return Err(StreamFault::FileRefused);
     }
-    let (read, _) = block.split_at(count);
-    play_bytes(player, wanted, read, back, frames, outlet)
+    let (read, _) = reader.block.split_at(count);
+    play_bytes(player, wanted, read, reader.ahead, frames, outlet)
 }
 
 // Plays as many of these bytes as are wanted of the sound: how many. Those behind them are appended to `back`.

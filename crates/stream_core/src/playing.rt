@@ -7,14 +7,14 @@ ghost use Rattle.stream_core.specs.Faults.{IsBeforeWriting, StopsReading, failed
 ghost use Rattle.stream_core.specs.Files.{TellsSound};
 ghost use Rattle.stream_core.specs.Pace.{KeepsUp};
 ghost use Rattle.stream_core.specs.Playing.{OnlyFromOutside, PlaysFile, PlaysGiven, PlaysRead, Stands, WritesFront};
-ghost use Rattle.stream_core.specs.Reads.{HasBudget};
+ghost use Rattle.stream_core.specs.Readers.{Counts, IsAtStart, IsReading, IsSame};
 
 use crate::closing::closes;
 use crate::fault::StreamFault;
 use crate::front::read_front;
 use crate::laws::accepted_files_tell_one_sound;
 use crate::pieces::play_sound;
-use crate::pulling::{MOST_READS, new_block};
+use crate::reader::{SoundReader, new_block};
 use crate::wave::{file_size, put_header, put_pad};
 use device_core::{Inlet, Outlet};
 use dsd_bits::Sound;
@@ -54,65 +54,69 @@ pub fn play<R: Read, W: Write>(
     ensures reads { inlet_reads inlet.new ≤ inlet_reads inlet.old + 2 ^ 40 }
     ensures turn_limit { IsErrOf result StreamFault.TurnLimit → inlet_reads inlet.new ≡ inlet_reads inlet.old + 2 ^ 40 }
 {
+    let mut block = new_block(alloc)?;
+    let mut ahead = Vec::new(alloc);
+    let mut reader = SoundReader::new(inlet, &mut block, &mut ahead);
+    play_file(alloc, taps, &mut reader, outlet)
+}
+
+// Plays a file.
+#[tactic(auto, using(crate::proofs::PlayLaws::none_front, crate::proofs::PlayLaws::none_written))]
+fn play_file<R: Read, W: Write>(
+    alloc: Global,
+    taps: &Taps,
+    reader: &mut SoundReader<'_, R>,
+    outlet: &mut Outlet<W>,
+) -> Result<u64, StreamFault>
+    requires start { IsAtStart reader.old }
+    requires outlet_ready { outlet_failures outlet.old < 2 ^ 64 - 1 }
+    ensures same { IsSame reader.old reader.new }
+    ensures ok { IfOk result (PlaysFile (R.remaining (inlet_reader reader.old.inlet.now)) taps.now (W.contents (outlet_writer outlet.old)) (W.contents (outlet_writer outlet.new))) }
+    ensures any_reader { IfOk result (PlaysGiven R.remaining reader.old.inlet.now reader.new.inlet.now taps.now (W.contents (outlet_writer outlet.old)) (W.contents (outlet_writer outlet.new))) }
+    ensures fault { IfErr result (λ f. IfSome (R.remaining (inlet_reader reader.old.inlet.now)) (λ file. Stands taps.now file f)) }
+    ensures cause { IfErr result (OnlyFromOutside (R.remaining (inlet_reader reader.old.inlet.now)) taps.now) }
+    ensures unwritten { IfErr result (λ f. IsBeforeWriting f → outlet_writer outlet.new ≡ outlet_writer outlet.old) }
+    ensures front { OnErr result (WritesFront (R.remaining (inlet_reader reader.old.inlet.now)) taps.now [] (W.contents (outlet_writer outlet.old)) (W.contents (outlet_writer outlet.new))) }
+    ensures keeps_up { IfErr result (λ f. StopsReading f → KeepsUp (R.remaining (inlet_reader reader.old.inlet.now)) taps.now [] (inlet_given reader.new.inlet.now - inlet_given reader.old.inlet.now) (W.contents (outlet_writer outlet.old)) (W.contents (outlet_writer outlet.new))) }
+    ensures counts { Counts reader.old reader.new result }
+    ensures write_failed { outlet_failures outlet.new ≡ outlet_failures outlet.old + failed_writes result }
+{
     sound_is_played();
     accepted_files_tell_one_sound();
-    let given = inlet.given();
-    let limit = inlet.reads() + MOST_READS;
-    let mut block = new_block(alloc)?;
-    let mut front = Vec::new(alloc);
-    let sound = read_front(alloc, inlet, limit, &mut block, &mut front)?;
-    play_found(
-        alloc,
-        taps,
-        &sound,
-        front.as_slice(),
-        inlet,
-        given,
-        limit,
-        &mut block,
-        outlet,
-    )
+    let sound = read_front(alloc, reader)?;
+    play_found(alloc, taps, &sound, reader, outlet)
 }
 
 // Plays a file whose front was read, and tells of this sound.
+#[tactic(auto, using(crate::proofs::PlayLaws::none_front, crate::proofs::PlayLaws::none_written))]
 fn play_found<R: Read, W: Write>(
     alloc: Global,
     taps: &Taps,
     sound: &Sound,
-    front: &[u8],
-    inlet: &mut Inlet<R>,
-    given: u64,
-    limit: u64,
-    block: &mut Vec<u8>,
+    reader: &mut SoundReader<'_, R>,
     outlet: &mut Outlet<W>,
 ) -> Result<u64, StreamFault>
-    requires tells { TellsSound front.now sound.now }
-    requires given { inlet_given inlet.old ≡ given + length front.now }
-    requires inlet_ready { inlet_failures inlet.old < 2 ^ 64 - 1 }
+    requires tells { TellsSound reader.old.ahead.now.items sound.now }
+    requires given { inlet_given reader.old.inlet.now ≡ reader.old.given + length reader.old.ahead.now.items }
+    requires reading { IsReading reader.old }
     requires outlet_ready { outlet_failures outlet.old < 2 ^ 64 - 1 }
-    requires budget { HasBudget limit inlet.old }
-    requires size { length block.old.items ≡ 65536 }
-    ensures ok { IfOk result (PlaysRead R.remaining inlet.old inlet.new taps.now front.now (W.contents (outlet_writer outlet.old)) (W.contents (outlet_writer outlet.new))) }
-    ensures fault { IfErr result (λ f. IfSome (R.remaining (inlet_reader inlet.old)) (λ left. Stands taps.now (front.now ++ left) f)) }
+    ensures same { IsSame reader.old reader.new }
+    ensures ok { IfOk result (PlaysRead R.remaining reader.old.inlet.now reader.new.inlet.now taps.now reader.old.ahead.now.items (W.contents (outlet_writer outlet.old)) (W.contents (outlet_writer outlet.new))) }
+    ensures fault { IfErr result (λ f. IfSome (R.remaining (inlet_reader reader.old.inlet.now)) (λ left. Stands taps.now (reader.old.ahead.now.items ++ left) f)) }
     ensures unwritten { IfErr result (λ f. IsBeforeWriting f → outlet_writer outlet.new ≡ outlet_writer outlet.old) }
-    ensures front { OnErr result (WritesFront (R.remaining (inlet_reader inlet.old)) taps.now front.now (W.contents (outlet_writer outlet.old)) (W.contents (outlet_writer outlet.new))) }
-    ensures keeps_up { IfErr result (λ f. StopsReading f → KeepsUp (R.remaining (inlet_reader inlet.old)) taps.now front.now (inlet_given inlet.new - given) (W.contents (outlet_writer outlet.old)) (W.contents (outlet_writer outlet.new))) }
-    ensures read_failed { inlet_failures inlet.new ≡ inlet_failures inlet.old + failed_reads result }
+    ensures front { OnErr result (WritesFront (R.remaining (inlet_reader reader.old.inlet.now)) taps.now reader.old.ahead.now.items (W.contents (outlet_writer outlet.old)) (W.contents (outlet_writer outlet.new))) }
+    ensures keeps_up { IfErr result (λ f. StopsReading f → KeepsUp (R.remaining (inlet_reader reader.old.inlet.now)) taps.now reader.old.ahead.now.items (inlet_given reader.new.inlet.now - reader.old.given) (W.contents (outlet_writer outlet.old)) (W.contents (outlet_writer outlet.new))) }
+    ensures counts { Counts reader.old reader.new result }
     ensures write_failed { outlet_failures outlet.new ≡ outlet_failures outlet.old + failed_writes result }
-    ensures turn_limit { IsErrOf result StreamFault.TurnLimit → inlet_reads inlet.new ≡ limit }
-    ensures most { inlet_reads inlet.new ≤ limit }
 {
     sound_is_played();
-    let (head, ahead) = front.split_at(sound.start);
-    let mut back = Vec::new(alloc);
-    put_header(taps, sound, &mut back, outlet)?;
-    back.clear();
-    play_sound(
-        alloc, taps, sound, ahead, inlet, limit, block, &mut back, outlet,
-    )?;
-    if !closes(alloc, head, sound, &mut back, inlet, given, limit, block)? {
+    let head = reader.take_head(alloc, sound.start)?;
+    let mut out = Vec::new(alloc);
+    put_header(taps, sound, &mut out, outlet)?;
+    play_sound(alloc, taps, sound, reader, outlet)?;
+    if !closes(alloc, &head, sound, reader)? {
         return Err(StreamFault::FileRefused);
     }
-    put_pad(taps, sound, &mut back, outlet)?;
+    put_pad(taps, sound, &mut out, outlet)?;
     Ok(file_size(taps, sound))
 }

@@ -4,6 +4,7 @@
 use crate::converting::stream;
 use crate::played::{NEVER, ONES, play_from};
 use archive_core::play;
+use device_core::Inlet;
 use fixtures::devices::{Sipping, drip, sip};
 use fixtures::files::{WAVE, dsf_of, mono, noted};
 use fixtures::projects::{DECIMATE, with_ones};
@@ -11,6 +12,7 @@ use form_core::Form;
 use std::alloc::{AllocError, Global};
 use std::process::Abort;
 use std::test::Fail;
+use stream_core::{BitRange, read_stretches};
 use transfer_core::convert;
 
 // A writer that takes so many bytes without a growth: of one that is refused it would say that the write failed.
@@ -70,5 +72,21 @@ fn a_file_is_converted(rt: HostRuntime) -> Result<(), Fail> {
     assert!(rt; made.bytes.starts_with(&streamed.bytes));
     assert!(rt; streamed.answer? == made.dropped);
     assert!(rt; streamed.bytes.len() == made.bytes.len());
+    Ok(())
+}
+
+// Two groups of blocks, and a range over their seam.
+#[test]
+fn stretches_are_kept(rt: HostRuntime) -> Result<(), Fail> {
+    let alloc = rt.alloc();
+    let file = dsf_of(alloc, (2, 1, 32_769), b"some bits", 16_384, b"a tag")?;
+    let mut inlet = Inlet::new(drip(&file, 100, NEVER));
+    let range = BitRange {
+        start: 8,
+        stop: 32_769,
+    };
+    let kept = read_stretches(alloc, &mut inlet, &[range])?;
+    assert!(rt; kept.stretches.len() == 1);
+    assert!(rt; kept.outline.back.as_slice() == b"a tag".as_slice());
     Ok(())
 }

@@ -8,6 +8,8 @@ mod failing;
 #[cfg(test)]
 mod growths;
 #[cfg(test)]
+mod kept;
+#[cfg(test)]
 mod long_sounds;
 #[cfg(test)]
 mod lying_sizes;

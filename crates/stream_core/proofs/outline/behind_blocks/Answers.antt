@@ -25,15 +25,15 @@ pub returns-in_default-clause-fault : goal.returns-in_default-clause-fault
 returns-in_default-clause-fault g c =
     let told = has_order c.args.sound.now.interleaving c.requires.interleaving in
     let read = c.in_ok-gap.ensures.ok in
-    let refused = subst (TellsOutline c.args.head.now (c.given.result - c.read_tag.new.reading.given) c.in_ok-tag.tag.items) c.in_default.is c.in_ok-recording.ensures.told in
-    let total : c.given.result - c.read_tag.new.reading.given ≡ length c.args.head.now + c.args.sound.now.size + length c.args.back.now.items + length read.read = omega (arith, c.given.ensures, c.in_ok-gap.ensures.same.0, read.reads.given, c.requires.given) in
-    blocks_refused c.args.head.now c.args.sound.now c.requires.at_sound told.0 told.1 c.requires.sound g.R.Read.remaining c.args.inlet.now c.read_tag.new.inlet _ c.in_ok-gap.gap _ _ c.args.back.now.items _ read total refused
+    let refused = subst (TellsOutline c.args.head.now (c.given.result - c.read_tag.new.reader.given) c.in_ok-tag.tag.items) c.in_default.is c.in_ok-recording.ensures.told in
+    let total : c.given.result - c.read_tag.new.reader.given ≡ length c.args.head.now + c.args.sound.now.size + length c.args.reader.now.ahead.now.items + length read.read = omega (arith, c.given.ensures, c.read_tag.ensures.same.given, read.reads.given, c.requires.given) in
+    blocks_refused c.args.head.now c.args.sound.now c.requires.at_sound told.0 told.1 c.requires.sound g.R.Read.remaining c.args.reader.now.inlet.now c.read_tag.new.reader.inlet.now _ c.in_ok-gap.gap _ _ c.args.reader.now.ahead.now.items _ read total refused
 
 pub returns-clause-ok : goal.returns-clause-ok
 returns-clause-ok g c =
     let told = has_order c.args.sound.now.interleaving c.requires.interleaving in
     let read = c.in_ok-gap.ensures.ok in
-    let tag = c.in_ok-tag.ensures.items ∙ c.deref.ensures.value in
-    let outline = subst (λ xs. TellsOutline c.args.head.now (c.given.result - c.read_tag.new.reading.given) xs (Some c.in-Some.recording)) tag (subst (TellsOutline c.args.head.now (c.given.result - c.read_tag.new.reading.given) c.in_ok-tag.tag.items) c.in-Some.is c.in_ok-recording.ensures.told) in
-    let total : c.given.result - c.read_tag.new.reading.given ≡ length c.args.head.now + c.args.sound.now.size + length c.args.back.now.items + length read.read = omega (arith, c.given.ensures, c.in_ok-gap.ensures.same.0, read.reads.given, c.requires.given) in
-    blocks_around c.args.head.now c.args.sound.now c.requires.at_sound told.0 told.1 c.requires.sound g.R.Read.remaining c.args.inlet.now c.read_tag.new.inlet _ c.in_ok-gap.gap _ _ c.args.back.now.items _ c.in-Some.recording c.tag_at.ensures.place (omega arith) read total outline
+    let tag = c.in_ok-tag.ensures.items ∙ c.as_slice.ensures.value in
+    let outline = subst (λ xs. TellsOutline c.args.head.now (c.given.result - c.read_tag.new.reader.given) xs (Some c.in-Some.recording)) tag (subst (TellsOutline c.args.head.now (c.given.result - c.read_tag.new.reader.given) c.in_ok-tag.tag.items) c.in-Some.is c.in_ok-recording.ensures.told) in
+    let total : c.given.result - c.read_tag.new.reader.given ≡ length c.args.head.now + c.args.sound.now.size + length c.args.reader.now.ahead.now.items + length read.read = omega (arith, c.given.ensures, c.read_tag.ensures.same.given, read.reads.given, c.requires.given) in
+    blocks_around c.args.head.now c.args.sound.now c.requires.at_sound told.0 told.1 c.requires.sound g.R.Read.remaining c.args.reader.now.inlet.now c.read_tag.new.reader.inlet.now _ c.in_ok-gap.gap _ _ c.args.reader.now.ahead.now.items _ c.in-Some.recording c.tag_at.ensures.place (omega arith) read total outline

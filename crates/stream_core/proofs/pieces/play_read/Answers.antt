@@ -9,7 +9,7 @@ returns-in_err-count-clause-front g c = any_err c.from_residual.result (none_lef
 
 pub returns-clause-front : goal.returns-clause-front
 returns-clause-front g c =
-    let read = take c.in_ok-count.count c.pull_block.new.block.items in
+    let read = take c.in_ok-count.count c.pull.new.self.block.now.items in
     let piece = c.split_at.ensures.front ∙ ap (take c.in_ok-count.count) c.deref.ensures.value in
     let a = g.W.Write.contents (outlet_writer c.args.outlet.now) in
     let b = g.W.Write.contents (outlet_writer c.play_bytes.new.outlet) in

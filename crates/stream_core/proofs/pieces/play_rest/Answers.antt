@@ -4,6 +4,7 @@ use Rattle.device_core.specs.Outlets.{outlet_writer}
 use Rattle.stream_core.specs.Pieces.{PlaysPart}
 use Rattle.stream_core.proofs.PaceLaws.{part_given}
 use Rattle.stream_core.proofs.PieceLaws.{any_err}
+use Rattle.stream_core.proofs.ReaderLaws.{same_on, same_self}
 use Rattle.stream_core.proofs.RestLaws.{part_fault, part_front, part_more, part_none}
 use Rattle.stream_core.proofs.pieces.play_rest.Goals as goal
 
@@ -11,15 +12,15 @@ pub loop-left-init : goal.loop-left-init
 loop-left-init g c =
     let none : 0 ≡ c.args.wanted - c.args.wanted = omega arith in
     let held = g.W.Write.contents (outlet_writer c.args.outlet.now) in (
-      subst (λ n. PlaysPart g.R.Read.remaining c.args.inlet.now c.args.inlet.now c.args.player.now c.args.player.now c.args.wanted n c.args.back.now.items c.args.back.now.items held held) none
-          (part_none g.R.Read.remaining c.args.inlet.now c.args.player.now c.args.wanted c.args.back.now.items held),
+      subst (λ n. PlaysPart g.R.Read.remaining c.args.reader.now.inlet.now c.args.reader.now.inlet.now c.args.player.now c.args.player.now c.args.wanted n c.args.reader.now.ahead.now.items c.args.reader.now.ahead.now.items held held) none
+          (part_none g.R.Read.remaining c.args.reader.now.inlet.now c.args.player.now c.args.wanted c.args.reader.now.ahead.now.items held),
       omega arith,
       c.requires.player,
       refl,
       refl,
       refl,
-      c.requires.budget,
-      c.requires.size,
+      c.requires.reading,
+      same_self c.args.reader.now,
       refl,
       refl,
     )
@@ -48,15 +49,15 @@ loop-left-preserved g c =
     let some = c.in_ok-left.ensures.some in
     let same = c.in_ok-left.ensures.same in
     let sum : c.args.wanted - c.loop-left.left + n ≡ c.args.wanted - (c.loop-left.left - n) = omega (arith, so_far.1, some) in (
-      subst (λ k. PlaysPart g.R.Read.remaining c.args.inlet.now c.play_read.new.inlet c.args.player.now c.play_read.new.player c.args.wanted k c.args.back.now.items c.play_read.new.back.items (g.W.Write.contents (outlet_writer c.args.outlet.now)) (g.W.Write.contents (outlet_writer c.play_read.new.outlet))) sum
+      subst (λ k. PlaysPart g.R.Read.remaining c.args.reader.now.inlet.now c.play_read.new.reader.inlet.now c.args.player.now c.play_read.new.player c.args.wanted k c.args.reader.now.ahead.now.items c.play_read.new.reader.ahead.now.items (g.W.Write.contents (outlet_writer c.args.outlet.now)) (g.W.Write.contents (outlet_writer c.play_read.new.outlet))) sum
           (part_more g.R.Read.remaining _ _ _ _ _ _ _ _ _ _ so_far.0 (omega (arith, so_far.1)) so_far.3 so_far.4 _ _ c.loop-left.left n _ _ (omega (arith, so_far.1)) c.in_ok-left.ensures.ok),
       omega (arith, so_far.1),
       c.in_ok-left.ensures.player,
       same.0 ∙ so_far.3,
       same.1 ∙ so_far.4,
       omega (arith, so_far.5, same.2, some),
-      c.in_ok-left.ensures.budget,
-      c.play_read.ensures.size,
-      omega (arith, so_far.8, c.in_ok-left.ensures.read_failed),
+      c.in_ok-left.ensures.reading,
+      same_on c.args.reader.now c.loop-left.reader c.play_read.new.reader so_far.7 c.play_read.ensures.same_reader,
+      omega (arith, so_far.8, c.in_ok-left.ensures.counts.failures),
       omega (arith, so_far.9, c.in_ok-left.ensures.write_failed),
     )

@@ -1,5 +1,4 @@
 use Rattle.std.proofs.Common.{◌≡◌, ℕ, List, ◌++◌, ◌-◌, ◌∙◌, drop, take, length, length-take, ap, arith, sym, subst}
-use Rattle.std.proofs.lemmas.List.{nil_from_length}
 use Rattle.std.proofs.lemmas.Result.{err_from_is_err_and}
 use Rattle.device_core.specs.Inlets.{inlet_given, inlet_reader}
 use Rattle.device_core.specs.Outlets.{outlet_writer}
@@ -11,21 +10,25 @@ use Rattle.stream_core.proofs.PieceLaws.{any_err, on_err, on_ok}
 use Rattle.stream_core.proofs.SoundLaws.{ahead_front, end_front, front_of_none, rest_fault, rest_front, said, sound_played}
 use Rattle.stream_core.proofs.pieces.play_sound.Given.{Over}
 use Rattle.stream_core.proofs.pieces.play_sound.Goals as goal
-use Rattle.stream_core.proofs.pieces.play_sound.Goals.{After-put_rest}
+use Rattle.stream_core.proofs.pieces.play_sound.Goals.{After-deref, After-put_rest}
+
+-- the bytes that were ahead
+ahead_is : (g : Over) (c : After-deref g) → c.deref.result.now ≡ c.args.reader.now.ahead.now.items
+ahead_is g c = c.deref.ensures.value ∙ c.take_ahead-ahead.ensures.taken
 
 pub returns-in_err-player-clause-front : goal.returns-in_err-player-clause-front
-returns-in_err-player-clause-front g c = any_err c.from_residual.result (front_of_none (g.R.Read.remaining (inlet_reader c.args.inlet.now)) c.args.taps.now c.args.sound.now c.args.ahead.now (g.W.Write.contents (outlet_writer c.args.outlet.now)))
+returns-in_err-player-clause-front g c = any_err c.from_residual.result (front_of_none (g.R.Read.remaining (inlet_reader c.args.reader.now.inlet.now)) c.args.taps.now c.args.sound.now c.args.reader.now.ahead.now.items (g.W.Write.contents (outlet_writer c.args.outlet.now)))
 
 pub returns-in_err-first-clause-front : goal.returns-in_err-first-clause-front
 returns-in_err-first-clause-front g c =
     let p = c.in_ok-player.player in
     let made = c.in_ok-player.ensures.made in
-    let ahead = c.args.ahead.now in
-    let left = g.R.Read.remaining (inlet_reader c.args.inlet.now) in
+    let ahead = c.deref.result.now in
+    let left = g.R.Read.remaining (inlet_reader c.args.reader.now.inlet.now) in
     let a = g.W.Write.contents (outlet_writer c.args.outlet.now) in
     let b = g.W.Write.contents (outlet_writer c.play_bytes.new.outlet) in
-    any_err c.from_residual-in_err-first.result (said (λ d s. PlaysFront left d s ahead a b) made.0 made.1
-    (ahead_front p c.in_ok-player.ensures.fed ahead left a b (subst (λ (s : Sound). PutsFrontOf p (take s.size ahead) a b) (sym made.1) c.in_err-first.ensures.front)))
+    any_err c.from_residual-in_err-first.result (subst (λ xs. PlaysFront left c.args.taps.now c.args.sound.now xs a b) (ahead_is g (goal.at.returns-in_err-first-clause-front g c).After-deref) (said (λ d s. PlaysFront left d s ahead a b) made.0 made.1
+    (ahead_front p c.in_ok-player.ensures.fed ahead left a b (subst (λ (s : Sound). PutsFrontOf p (take s.size ahead) a b) (sym made.1) c.in_err-first.ensures.front))))
 
 pub returns-in_err-play_rest-clause-front : goal.returns-in_err-play_rest-clause-front
 returns-in_err-play_rest-clause-front g c =
@@ -33,30 +36,30 @@ returns-in_err-play_rest-clause-front g c =
     let q = c.play_bytes.new.player in
     let made = c.in_ok-player.ensures.made in
     let same = c.in_ok-first.ensures.same in
-    let ahead = c.args.ahead.now in
-    let left = g.R.Read.remaining (inlet_reader c.args.inlet.now) in
+    let ahead = c.deref.result.now in
+    let left = g.R.Read.remaining (inlet_reader c.args.reader.now.inlet.now) in
     let a = g.W.Write.contents (outlet_writer c.args.outlet.now) in
     let b = g.W.Write.contents (outlet_writer c.play_bytes.new.outlet) in
     let e = g.W.Write.contents (outlet_writer c.play_rest.new.outlet) in
     let number : c.in_ok-first.first ≡ length (take p.sound.size ahead) = c.in_ok-first.ensures.number ∙ ap (λ (s : Sound). length (take s.size ahead)) (sym made.1) in
     let wanted : c.args.sound.now.size - c.in_ok-first.first ≡ p.sound.size - length (take p.sound.size ahead) = omega (arith, number, ap (λ (s : Sound). s.size) made.1) in
     let puts = subst (λ (s : Sound). PutsDue p q (take s.size ahead) a b) (sym made.1) c.in_ok-first.ensures.ok in
-    let front = subst (λ n. PutsFrontLeft left q n b e) wanted c.in_err-play_rest.ensures.front in
-    any_err c.from_residual-in_err-play_rest.result (said (λ d s. PlaysFront left d s ahead a e) made.0 made.1
-    (rest_front p c.in_ok-player.ensures.fed ahead left a q b puts same.0 same.1 e (omega (arith, made.2, same.2, number, ap (λ (s : Sound). s.size) same.1, length-take p.sound.size ahead)) front))
+    let front = subst (λ n. PutsFrontLeft left q n b e) wanted (rw c.take_ahead-ahead.ensures.untouched at c.in_err-play_rest.ensures.front) in
+    any_err c.from_residual-in_err-play_rest.result (subst (λ xs. PlaysFront left c.args.taps.now c.args.sound.now xs a e) (ahead_is g (goal.at.returns-in_err-play_rest-clause-front g c).After-deref) (said (λ d s. PlaysFront left d s ahead a e) made.0 made.1
+    (rest_front p c.in_ok-player.ensures.fed ahead left a q b puts same.0 same.1 e (omega (arith, made.2, same.2, number, ap (λ (s : Sound). s.size) same.1, length-take p.sound.size ahead)) front)))
 
 pub returns-in_err-play_rest-clause-fault : goal.returns-in_err-play_rest-clause-fault
 returns-in_err-play_rest-clause-fault g c =
     let p = c.in_ok-player.player in
     let made = c.in_ok-player.ensures.made in
-    let ahead = c.args.ahead.now in
-    let left = g.R.Read.remaining (inlet_reader c.args.inlet.now) in
+    let ahead = c.deref.result.now in
+    let left = g.R.Read.remaining (inlet_reader c.args.reader.now.inlet.now) in
     let number : c.in_ok-first.first ≡ length (take p.sound.size ahead) = c.in_ok-first.ensures.number ∙ ap (λ (s : Sound). length (take s.size ahead)) (sym made.1) in
     let wanted : c.args.sound.now.size - c.in_ok-first.first ≡ p.sound.size - length (take p.sound.size ahead) = omega (arith, number, ap (λ (s : Sound). s.size) made.1) in
     let f = c.in_err-play_rest.field-0.0 in
-    let stands = rest_fault p c.in_ok-player.ensures.fed ahead left (g.W.Write.contents (outlet_writer c.args.outlet.now)) f (subst (λ n. IsPieceFault left n f) wanted c.in_err-play_rest.ensures.fault) in
+    let stands = rest_fault p c.in_ok-player.ensures.fed ahead left (g.W.Write.contents (outlet_writer c.args.outlet.now)) f (subst (λ n. IsPieceFault left n f) wanted (rw c.take_ahead-ahead.ensures.untouched at c.in_err-play_rest.ensures.fault)) in
     let e = err_from_is_err_and c.from_residual-in_err-play_rest.result c.from_residual-in_err-play_rest.ensures.1 in
-    rw (e.1, e.2) (subst (λ s. IsSoundFault left ahead s f) made.1 stands)
+    rw (e.1, e.2) (subst (λ xs. IsSoundFault left xs c.args.sound.now f) (ahead_is g (goal.at.returns-in_err-play_rest-clause-fault g c).After-deref) (subst (λ s. IsSoundFault left ahead s f) made.1 stands))
 
 pub returns-in_err-play_rest-clause-stopped : goal.returns-in_err-play_rest-clause-stopped
 returns-in_err-play_rest-clause-stopped g c =
@@ -64,8 +67,8 @@ returns-in_err-play_rest-clause-stopped g c =
     let q = c.play_bytes.new.player in
     let made = c.in_ok-player.ensures.made in
     let same = c.in_ok-first.ensures.same in
-    let ahead = c.args.ahead.now in
-    let left = g.R.Read.remaining (inlet_reader c.args.inlet.now) in
+    let ahead = c.deref.result.now in
+    let left = g.R.Read.remaining (inlet_reader c.args.reader.now.inlet.now) in
     let a = g.W.Write.contents (outlet_writer c.args.outlet.now) in
     let b = g.W.Write.contents (outlet_writer c.play_bytes.new.outlet) in
     let e = g.W.Write.contents (outlet_writer c.play_rest.new.outlet) in
@@ -73,22 +76,22 @@ returns-in_err-play_rest-clause-stopped g c =
     let wanted : c.args.sound.now.size - c.in_ok-first.first ≡ p.sound.size - length (take p.sound.size ahead) = omega (arith, number, ap (λ (s : Sound). s.size) made.1) in
     let puts = subst (λ (s : Sound). PutsDue p q (take s.size ahead) a b) (sym made.1) c.in_ok-first.ensures.ok in
     let x = err_from_is_err_and c.from_residual-in_err-play_rest.result c.from_residual-in_err-play_rest.ensures.1 in
-    rw (x.1, x.2) (λ stops. said (λ d s. PlaysGivenSound left (inlet_given c.args.inlet.now) (inlet_given c.play_rest.new.inlet) d s ahead a e) made.0 made.1
-    (sound_so_far p q c.in_ok-player.ensures.fed ahead left a b e _ _ _ puts same.0 same.1 wanted (c.in_err-play_rest.ensures.stopped stops)))
+    rw (x.1, x.2) (λ stops. subst (λ xs. PlaysGivenSound left (inlet_given c.args.reader.now.inlet.now) (inlet_given c.play_rest.new.reader.inlet.now) c.args.taps.now c.args.sound.now xs a e) (ahead_is g (goal.at.returns-in_err-play_rest-clause-stopped g c).After-deref) (said (λ d s. PlaysGivenSound left (inlet_given c.args.reader.now.inlet.now) (inlet_given c.play_rest.new.reader.inlet.now) d s ahead a e) made.0 made.1
+    (sound_so_far p q c.in_ok-player.ensures.fed ahead left a b e _ _ _ puts same.0 same.1 wanted (rw c.take_ahead-ahead.ensures.untouched at (c.in_err-play_rest.ensures.stopped stops)))))
 
 -- what was read behind the bytes before, and played
-rest_is : (g : Over) (c : After-put_rest g) → PlaysPart g.R.Read.remaining c.args.inlet.now c.play_rest.new.inlet c.play_bytes.new.player c.play_rest.new.player (c.in_ok-player.player.sound.size - c.in_ok-first.first) (c.in_ok-player.player.sound.size - c.in_ok-first.first)
-    (drop c.in_ok-player.player.sound.size c.args.ahead.now) c.play_rest.new.back.items (g.W.Write.contents (outlet_writer c.play_bytes.new.outlet)) (g.W.Write.contents (outlet_writer c.play_rest.new.outlet))
+rest_is : (g : Over) (c : After-put_rest g) → PlaysPart g.R.Read.remaining c.args.reader.now.inlet.now c.play_rest.new.reader.inlet.now c.play_bytes.new.player c.play_rest.new.player (c.in_ok-player.player.sound.size - c.in_ok-first.first) (c.in_ok-player.player.sound.size - c.in_ok-first.first)
+    (drop c.in_ok-player.player.sound.size c.deref.result.now) c.play_rest.new.reader.ahead.now.items (g.W.Write.contents (outlet_writer c.play_bytes.new.outlet)) (g.W.Write.contents (outlet_writer c.play_rest.new.outlet))
 rest_is g c =
-    let back = c.in_ok-first.ensures.kept ∙ ap (λ xs. xs ++ drop c.args.sound.now.size c.args.ahead.now) (nil_from_length c.args.back.now.items c.requires.empty) in
-    let played = λ (s : Sound) (xs : List ℕ). PlaysPart g.R.Read.remaining c.args.inlet.now c.play_rest.new.inlet c.play_bytes.new.player c.play_rest.new.player (s.size - c.in_ok-first.first) (s.size - c.in_ok-first.first) xs c.play_rest.new.back.items (g.W.Write.contents (outlet_writer c.play_bytes.new.outlet)) (g.W.Write.contents (outlet_writer c.play_rest.new.outlet)) in
-    subst (λ s. played s (drop s.size c.args.ahead.now)) (sym c.in_ok-player.ensures.made.1) (subst (played c.args.sound.now) back c.in_ok-play_rest.ensures.ok)
+    let back = c.in_ok-first.ensures.kept ∙ ap (λ xs. xs ++ drop c.args.sound.now.size c.deref.result.now) c.take_ahead-ahead.ensures.none in
+    let played = λ (s : Sound) (xs : List ℕ). PlaysPart g.R.Read.remaining c.args.reader.now.inlet.now c.play_rest.new.reader.inlet.now c.play_bytes.new.player c.play_rest.new.player (s.size - c.in_ok-first.first) (s.size - c.in_ok-first.first) xs c.play_rest.new.reader.ahead.now.items (g.W.Write.contents (outlet_writer c.play_bytes.new.outlet)) (g.W.Write.contents (outlet_writer c.play_rest.new.outlet)) in
+    subst (λ s. played s (drop s.size c.deref.result.now)) (sym c.in_ok-player.ensures.made.1) (subst (played c.args.sound.now) back (rw c.take_ahead-ahead.ensures.untouched at c.in_ok-play_rest.ensures.ok))
 
-first_is : (g : Over) (c : After-put_rest g) → PutsDue c.in_ok-player.player c.play_bytes.new.player (take c.in_ok-player.player.sound.size c.args.ahead.now) (g.W.Write.contents (outlet_writer c.args.outlet.now)) (g.W.Write.contents (outlet_writer c.play_bytes.new.outlet))
-first_is g c = subst (λ (s : Sound). PutsDue c.in_ok-player.player c.play_bytes.new.player (take s.size c.args.ahead.now) (g.W.Write.contents (outlet_writer c.args.outlet.now)) (g.W.Write.contents (outlet_writer c.play_bytes.new.outlet))) (sym c.in_ok-player.ensures.made.1) c.in_ok-first.ensures.ok
+first_is : (g : Over) (c : After-put_rest g) → PutsDue c.in_ok-player.player c.play_bytes.new.player (take c.in_ok-player.player.sound.size c.deref.result.now) (g.W.Write.contents (outlet_writer c.args.outlet.now)) (g.W.Write.contents (outlet_writer c.play_bytes.new.outlet))
+first_is g c = subst (λ (s : Sound). PutsDue c.in_ok-player.player c.play_bytes.new.player (take s.size c.deref.result.now) (g.W.Write.contents (outlet_writer c.args.outlet.now)) (g.W.Write.contents (outlet_writer c.play_bytes.new.outlet))) (sym c.in_ok-player.ensures.made.1) c.in_ok-first.ensures.ok
 
-number_is : (g : Over) (c : After-put_rest g) → c.in_ok-first.first ≡ length (take c.in_ok-player.player.sound.size c.args.ahead.now)
-number_is g c = c.in_ok-first.ensures.number ∙ ap (λ (s : Sound). length (take s.size c.args.ahead.now)) (sym c.in_ok-player.ensures.made.1)
+number_is : (g : Over) (c : After-put_rest g) → c.in_ok-first.first ≡ length (take c.in_ok-player.player.sound.size c.deref.result.now)
+number_is g c = c.in_ok-first.ensures.number ∙ ap (λ (s : Sound). length (take s.size c.deref.result.now)) (sym c.in_ok-player.ensures.made.1)
 
 pub returns-clause-ok : goal.returns-clause-ok
 returns-clause-ok g c =
@@ -98,8 +101,8 @@ returns-clause-ok g c =
     let later = c.in_ok-play_rest.ensures.same in
     let a = g.W.Write.contents (outlet_writer c.args.outlet.now) in
     let e = g.W.Write.contents (outlet_writer c.put_rest.new.outlet) in
-    on_ok c.put_rest.result (λ rest. said (λ d s. PlaysSound g.R.Read.remaining c.args.inlet.now c.play_rest.new.inlet d s c.args.ahead.now c.play_rest.new.back.items a e) made.0 made.1
-    (sound_played g.R.Read.remaining _ _ c.in_ok-player.player _ _ c.in_ok-player.ensures.fed c.args.ahead.now _ a _ _ _ (number_is g k) (first_is g k) same.0 same.1 (rest_is g k) later.0 later.1 e rest)) c.put_rest.ensures.ok
+    on_ok c.put_rest.result (λ rest. subst (λ xs. PlaysSound g.R.Read.remaining c.args.reader.now.inlet.now c.play_rest.new.reader.inlet.now c.args.taps.now c.args.sound.now xs c.play_rest.new.reader.ahead.now.items a e) (ahead_is g (goal.at.returns-clause-ok g c).After-deref) (said (λ d s. PlaysSound g.R.Read.remaining c.args.reader.now.inlet.now c.play_rest.new.reader.inlet.now d s c.deref.result.now c.play_rest.new.reader.ahead.now.items a e) made.0 made.1
+    (sound_played g.R.Read.remaining _ _ c.in_ok-player.player _ _ c.in_ok-player.ensures.fed c.deref.result.now _ a _ _ _ (number_is g k) (first_is g k) same.0 same.1 (rest_is g k) later.0 later.1 e rest))) c.put_rest.ensures.ok
 
 pub returns-clause-front : goal.returns-clause-front
 returns-clause-front g c =
@@ -110,6 +113,6 @@ returns-clause-front g c =
     let later = c.in_ok-play_rest.ensures.same in
     let a = g.W.Write.contents (outlet_writer c.args.outlet.now) in
     let e = g.W.Write.contents (outlet_writer c.put_rest.new.outlet) in
-    let all : c.play_rest.new.player.fed ≡ c.play_rest.new.player.sound.size = omega (arith, made.2, same.2, later.2, c.in_ok-first.ensures.number, ap (λ (s : Sound). s.size) made.1, ap (λ (s : Sound). s.size) same.1, ap (λ (s : Sound). s.size) later.1, length-take c.args.sound.now.size c.args.ahead.now) in
-    on_err c.put_rest.result (λ front. said (λ d s. PlaysFront (g.R.Read.remaining (inlet_reader c.args.inlet.now)) d s c.args.ahead.now a e) made.0 made.1
-    (end_front g.R.Read.remaining _ _ p _ _ c.in_ok-player.ensures.fed c.args.ahead.now _ a _ _ _ (number_is g k) (first_is g k) same.0 same.1 (rest_is g k) later.0 later.1 e all front)) c.put_rest.ensures.front
+    let all : c.play_rest.new.player.fed ≡ c.play_rest.new.player.sound.size = omega (arith, made.2, same.2, later.2, c.in_ok-first.ensures.number, ap (λ (s : Sound). s.size) made.1, ap (λ (s : Sound). s.size) same.1, ap (λ (s : Sound). s.size) later.1, length-take c.args.sound.now.size c.deref.result.now) in
+    on_err c.put_rest.result (λ front. subst (λ xs. PlaysFront (g.R.Read.remaining (inlet_reader c.args.reader.now.inlet.now)) c.args.taps.now c.args.sound.now xs a e) (ahead_is g (goal.at.returns-clause-front g c).After-deref) (said (λ d s. PlaysFront (g.R.Read.remaining (inlet_reader c.args.reader.now.inlet.now)) d s c.deref.result.now a e) made.0 made.1
+    (end_front g.R.Read.remaining _ _ p _ _ c.in_ok-player.ensures.fed c.deref.result.now _ a _ _ _ (number_is g k) (first_is g k) same.0 same.1 (rest_is g k) later.0 later.1 e all front))) c.put_rest.ensures.front

@@ -16,51 +16,52 @@ use Rattle.stream_core.proofs.playing.play_found.Goals.{In_ok-closes, In_ok-play
 
 pub returns-in_err-put_header-clause-front : goal.returns-in_err-put_header-clause-front
 returns-in_err-put_header-clause-front g c =
-    any_err c.from_residual.result (header_part c.sound_is_played.ensures c.args.taps.now c.args.front.now c.args.sound.now c.requires.tells (g.R.Read.remaining (inlet_reader c.args.inlet.now)) (g.W.Write.contents (outlet_writer c.args.outlet.now)) (g.W.Write.contents (outlet_writer c.put_header.new.outlet)) c.in_err-put_header.ensures.err)
+    any_err c.from_residual-in_err-put_header.result (header_part c.sound_is_played.ensures c.args.taps.now c.args.reader.now.ahead.now.items c.args.sound.now c.requires.tells (g.R.Read.remaining (inlet_reader c.args.reader.now.inlet.now)) (g.W.Write.contents (outlet_writer c.args.outlet.now)) (g.W.Write.contents (outlet_writer c.put_header.new.outlet)) c.in_err-put_header.ensures.err)
 
 pub returns-in_err-play_sound-clause-fault : goal.returns-in_err-play_sound-clause-fault
 returns-in_err-play_sound-clause-fault g c =
-    let left = g.R.Read.remaining (inlet_reader c.args.inlet.now) in
+    let left = g.R.Read.remaining (inlet_reader c.args.reader.now.inlet.now) in
     let f = c.in_err-play_sound.field-0.0 in
     let e = err_from_is_err_and c.from_residual-in_err-play_sound.result c.from_residual-in_err-play_sound.ensures.1 in
-    rw (e.1, e.2) (sound_stands c.sound_is_played.ensures c.args.taps.now c.args.front.now c.args.sound.now c.requires.tells left f (subst (λ xs. IsSoundFault left xs c.args.sound.now f) c.split_at.ensures.back c.in_err-play_sound.ensures.fault))
+    rw (e.1, e.2) (sound_stands c.sound_is_played.ensures c.args.taps.now c.args.reader.now.ahead.now.items c.args.sound.now c.requires.tells left f (subst (λ xs. IsSoundFault left xs c.args.sound.now f) c.in_ok-head.ensures.rest (rw c.take_head.ensures.untouched at c.in_err-play_sound.ensures.fault)))
 
 pub returns-in_err-play_sound-clause-front : goal.returns-in_err-play_sound-clause-front
 returns-in_err-play_sound-clause-front g c =
-    let left = g.R.Read.remaining (inlet_reader c.args.inlet.now) in
+    let left = g.R.Read.remaining (inlet_reader c.args.reader.now.inlet.now) in
     let a = g.W.Write.contents (outlet_writer c.args.outlet.now) in
     let b = g.W.Write.contents (outlet_writer c.put_header.new.outlet) in
     let e = g.W.Write.contents (outlet_writer c.play_sound.new.outlet) in
-    any_err c.from_residual-in_err-play_sound.result (sound_part c.sound_is_played.ensures c.args.taps.now c.args.front.now c.args.sound.now c.requires.tells left a b e c.in_ok-put_header.ensures.ok.written
-    (subst (λ xs. PlaysFront left c.args.taps.now c.args.sound.now xs b e) c.split_at.ensures.back c.in_err-play_sound.ensures.front))
+    any_err c.from_residual-in_err-play_sound.result (sound_part c.sound_is_played.ensures c.args.taps.now c.args.reader.now.ahead.now.items c.args.sound.now c.requires.tells left a b e c.in_ok-put_header.ensures.ok.written
+    (subst (λ xs. PlaysFront left c.args.taps.now c.args.sound.now xs b e) c.in_ok-head.ensures.rest (rw c.take_head.ensures.untouched at c.in_err-play_sound.ensures.front)))
 
 pub returns-in_err-play_sound-clause-keeps_up : goal.returns-in_err-play_sound-clause-keeps_up
 returns-in_err-play_sound-clause-keeps_up g c =
-    let left = g.R.Read.remaining (inlet_reader c.args.inlet.now) in
+    let left = g.R.Read.remaining (inlet_reader c.args.reader.now.inlet.now) in
     let a = g.W.Write.contents (outlet_writer c.args.outlet.now) in
     let b = g.W.Write.contents (outlet_writer c.put_header.new.outlet) in
     let e = g.W.Write.contents (outlet_writer c.play_sound.new.outlet) in
     let x = err_from_is_err_and c.from_residual-in_err-play_sound.result c.from_residual-in_err-play_sound.ensures.1 in
-    rw (x.1, x.2) (λ stops. keeps_part c.sound_is_played.ensures c.args.taps.now c.args.front.now c.args.sound.now c.requires.tells c.in_ok-put_header.ensures.least left a b e c.args.given _ _ c.requires.given c.in_ok-put_header.ensures.ok.written
-    (subst (λ xs. PlaysGivenSound left (inlet_given c.args.inlet.now) (inlet_given c.play_sound.new.inlet) c.args.taps.now c.args.sound.now xs b e) c.split_at.ensures.back (c.in_err-play_sound.ensures.stopped stops)))
+    rw (x.1, x.2) (λ stops. keeps_part c.sound_is_played.ensures c.args.taps.now c.args.reader.now.ahead.now.items c.args.sound.now c.requires.tells c.in_ok-put_header.ensures.least left a b e c.args.reader.now.given _ _ c.requires.given c.in_ok-put_header.ensures.ok.written
+    (subst (λ xs. PlaysGivenSound left (inlet_given c.args.reader.now.inlet.now) (inlet_given c.play_sound.new.reader.inlet.now) c.args.taps.now c.args.sound.now xs b e) c.in_ok-head.ensures.rest (rw c.take_head.ensures.untouched at (c.in_err-play_sound.ensures.stopped stops))))
 
 pub closes-requires-clause-at_sound : goal.closes-requires-clause-at_sound
-closes-requires-clause-at_sound g c = subst (λ xs. EndsAt xs c.args.sound.now) (sym c.split_at.ensures.front) (ends_at c.args.front.now c.args.sound.now c.requires.tells)
+closes-requires-clause-at_sound g c = subst (λ xs. EndsAt xs c.args.sound.now) (sym (c.deref.ensures.value ∙ c.in_ok-head.ensures.head)) (ends_at c.args.reader.now.ahead.now.items c.args.sound.now c.requires.tells)
 
 -- what was played of the sound
-played_is : (g : Over) (c : In_ok-play_sound g) → PlaysSound g.R.Read.remaining c.args.inlet.now c.play_sound.new.inlet c.args.taps.now c.args.sound.now (drop c.args.sound.now.start c.args.front.now) c.play_sound.new.back.items (g.W.Write.contents (outlet_writer c.put_header.new.outlet)) (g.W.Write.contents (outlet_writer c.play_sound.new.outlet))
+played_is : (g : Over) (c : In_ok-play_sound g) → PlaysSound g.R.Read.remaining c.args.reader.now.inlet.now c.play_sound.new.reader.inlet.now c.args.taps.now c.args.sound.now (drop c.args.sound.now.start c.args.reader.now.ahead.now.items) c.play_sound.new.reader.ahead.now.items (g.W.Write.contents (outlet_writer c.put_header.new.outlet)) (g.W.Write.contents (outlet_writer c.play_sound.new.outlet))
 played_is g c =
-    subst (λ xs. PlaysSound g.R.Read.remaining c.args.inlet.now c.play_sound.new.inlet c.args.taps.now c.args.sound.now xs c.play_sound.new.back.items (g.W.Write.contents (outlet_writer c.put_header.new.outlet)) (g.W.Write.contents (outlet_writer c.play_sound.new.outlet))) c.split_at.ensures.back c.in_ok-play_sound.ensures.ok
+    subst (λ xs. PlaysSound g.R.Read.remaining c.args.reader.now.inlet.now c.play_sound.new.reader.inlet.now c.args.taps.now c.args.sound.now xs c.play_sound.new.reader.ahead.now.items (g.W.Write.contents (outlet_writer c.put_header.new.outlet)) (g.W.Write.contents (outlet_writer c.play_sound.new.outlet))) c.in_ok-head.ensures.rest (rw c.take_head.ensures.untouched at c.in_ok-play_sound.ensures.ok)
 
 -- all but the pad was written
-whole_is : (g : Over) (c : In_ok-play_sound g) → WritesFront (g.R.Read.remaining (inlet_reader c.args.inlet.now)) c.args.taps.now c.args.front.now (g.W.Write.contents (outlet_writer c.args.outlet.now)) (g.W.Write.contents (outlet_writer c.play_sound.new.outlet))
-whole_is g c = pad_part c.sound_is_played.ensures c.args.taps.now c.args.front.now c.args.sound.now c.requires.tells g.R.Read.remaining _ _ _ _ _ _ c.in_ok-put_header.ensures.ok (played_is g c) _ (front_nil (g.W.Write.contents (outlet_writer c.play_sound.new.outlet)) (pad_of c.args.taps.now c.args.sound.now))
+whole_is : (g : Over) (c : In_ok-play_sound g) → WritesFront (g.R.Read.remaining (inlet_reader c.args.reader.now.inlet.now)) c.args.taps.now c.args.reader.now.ahead.now.items (g.W.Write.contents (outlet_writer c.args.outlet.now)) (g.W.Write.contents (outlet_writer c.play_sound.new.outlet))
+whole_is g c = pad_part c.sound_is_played.ensures c.args.taps.now c.args.reader.now.ahead.now.items c.args.sound.now c.requires.tells g.R.Read.remaining _ _ _ _ _ _ c.in_ok-put_header.ensures.ok (played_is g c) _ (front_nil (g.W.Write.contents (outlet_writer c.play_sound.new.outlet)) (pad_of c.args.taps.now c.args.sound.now))
 
 pub closes-requires-clause-given : goal.closes-requires-clause-given
 closes-requires-clause-given g c =
     let k = (goal.at.closes-requires-clause-given g c).In_ok-play_sound in
-    given_is c.sound_is_played.ensures c.args.taps.now c.args.front.now c.args.sound.now c.requires.tells g.R.Read.remaining _ _ _ _ _ _ c.in_ok-put_header.ensures.ok (played_is g k) c.args.given c.requires.given
-    ∙ ap (λ xs. c.args.given + (length xs + c.args.sound.now.size + length c.play_sound.new.back.items)) (sym c.split_at.ensures.front)
+    given_is c.sound_is_played.ensures c.args.taps.now c.args.reader.now.ahead.now.items c.args.sound.now c.requires.tells g.R.Read.remaining _ _ _ _ _ _ c.in_ok-put_header.ensures.ok (played_is g k) c.args.reader.now.given c.requires.given
+    ∙ ap (λ xs. c.args.reader.now.given + (length xs + c.args.sound.now.size + length c.play_sound.new.reader.ahead.now.items)) (sym (c.deref.ensures.value ∙ c.in_ok-head.ensures.head))
+    ∙ ap (λ n. n + (length c.deref.result.now + c.args.sound.now.size + length c.play_sound.new.reader.ahead.now.items)) (sym (c.play_sound.ensures.same_reader.given ∙ c.take_head.ensures.same.given))
 
 pub returns-in_err-closes-clause-front : goal.returns-in_err-closes-clause-front
 returns-in_err-closes-clause-front g c = any_err c.from_residual-in_err-closes.result (whole_is g (goal.at.returns-in_err-closes-clause-front g c).In_ok-play_sound)
@@ -69,17 +70,17 @@ pub returns-in_err-closes-clause-keeps_up : goal.returns-in_err-closes-clause-ke
 returns-in_err-closes-clause-keeps_up g c =
     let k = (goal.at.returns-in_err-closes-clause-keeps_up g c).In_ok-play_sound in
     let x = err_from_is_err_and c.from_residual-in_err-closes.result c.from_residual-in_err-closes.ensures.1 in
-    rw (x.1, x.2) (λ stops. keeps_all c.sound_is_played.ensures c.args.taps.now c.args.front.now c.args.sound.now c.requires.tells c.in_ok-put_header.ensures.least g.R.Read.remaining _ _ _ _ _ _ c.in_ok-put_header.ensures.ok (played_is g k) _)
+    rw (x.1, x.2) (λ stops. keeps_all c.sound_is_played.ensures c.args.taps.now c.args.reader.now.ahead.now.items c.args.sound.now c.requires.tells c.in_ok-put_header.ensures.least g.R.Read.remaining _ _ _ _ _ _ c.in_ok-put_header.ensures.ok (played_is g k) _)
 
 -- what stands behind the sound, seen from the head
-closes_is : (g : Over) (c : In_ok-closes g) → Closes g.R.Read.remaining c.play_sound.new.inlet c.closes.new.inlet (take c.args.sound.now.start c.args.front.now) c.args.sound.now c.play_sound.new.back.items c.in_ok-closes.field-0
-closes_is g c = subst (λ xs. Closes g.R.Read.remaining c.play_sound.new.inlet c.closes.new.inlet xs c.args.sound.now c.play_sound.new.back.items c.in_ok-closes.field-0) c.split_at.ensures.front c.in_ok-closes.ensures.ok
+closes_is : (g : Over) (c : In_ok-closes g) → Closes g.R.Read.remaining c.play_sound.new.reader.inlet.now c.closes.new.reader.inlet.now (take c.args.sound.now.start c.args.reader.now.ahead.now.items) c.args.sound.now c.play_sound.new.reader.ahead.now.items c.in_ok-closes.field-0
+closes_is g c = subst (λ xs. Closes g.R.Read.remaining c.play_sound.new.reader.inlet.now c.closes.new.reader.inlet.now xs c.args.sound.now c.play_sound.new.reader.ahead.now.items c.in_ok-closes.field-0) (c.deref.ensures.value ∙ c.in_ok-head.ensures.head) c.in_ok-closes.ensures.ok
 
 pub returns-then-not-branch-clause-fault : goal.returns-then-not-branch-clause-fault
 returns-then-not-branch-clause-fault g c =
     let k = (goal.at.returns-then-not-branch-clause-fault g c).In_ok-play_sound in
     let m = (goal.at.returns-then-not-branch-clause-fault g c).In_ok-closes in
-    not_closed c.sound_is_played.ensures c.args.taps.now c.args.front.now c.args.sound.now c.requires.tells g.R.Read.remaining _ _ _ _ _ _ c.in_ok-put_header.ensures.ok (played_is g k) _ c.in_ok-closes.field-0 (closes_is g m) c.if-not-branch.true
+    not_closed c.sound_is_played.ensures c.args.taps.now c.args.reader.now.ahead.now.items c.args.sound.now c.requires.tells g.R.Read.remaining _ _ _ _ _ _ c.in_ok-put_header.ensures.ok (played_is g k) _ c.in_ok-closes.field-0 (closes_is g m) c.if-not-branch.true
 
 pub returns-then-not-branch-clause-front : goal.returns-then-not-branch-clause-front
 returns-then-not-branch-clause-front g c = whole_is g (goal.at.returns-then-not-branch-clause-front g c).In_ok-play_sound
@@ -87,10 +88,10 @@ returns-then-not-branch-clause-front g c = whole_is g (goal.at.returns-then-not-
 pub returns-in_err-put_pad-clause-front : goal.returns-in_err-put_pad-clause-front
 returns-in_err-put_pad-clause-front g c =
     let k = (goal.at.returns-in_err-put_pad-clause-front g c).In_ok-play_sound in
-    any_err c.from_residual-in_err-put_pad.result (pad_part c.sound_is_played.ensures c.args.taps.now c.args.front.now c.args.sound.now c.requires.tells g.R.Read.remaining _ _ _ _ _ _ c.in_ok-put_header.ensures.ok (played_is g k) (g.W.Write.contents (outlet_writer c.put_pad.new.outlet)) c.in_err-put_pad.ensures.err)
+    any_err c.from_residual-in_err-put_pad.result (pad_part c.sound_is_played.ensures c.args.taps.now c.args.reader.now.ahead.now.items c.args.sound.now c.requires.tells g.R.Read.remaining _ _ _ _ _ _ c.in_ok-put_header.ensures.ok (played_is g k) (g.W.Write.contents (outlet_writer c.put_pad.new.outlet)) c.in_err-put_pad.ensures.err)
 
 pub returns-clause-ok : goal.returns-clause-ok
 returns-clause-ok g c =
     let k = (goal.at.returns-clause-ok g c).In_ok-play_sound in
     let m = (goal.at.returns-clause-ok g c).In_ok-closes in
-    plays_read c.sound_is_played.ensures c.args.taps.now c.args.front.now c.args.sound.now c.requires.tells g.R.Read.remaining _ _ _ _ _ _ c.in_ok-put_header.ensures.ok (played_is g k) _ c.in_ok-closes.field-0 (closes_is g m) c.if-not-branch.false (g.W.Write.contents (outlet_writer c.put_pad.new.outlet)) c.file_size.result c.in_ok-put_pad.ensures.ok c.file_size.ensures
+    plays_read c.sound_is_played.ensures c.args.taps.now c.args.reader.now.ahead.now.items c.args.sound.now c.requires.tells g.R.Read.remaining _ _ _ _ _ _ c.in_ok-put_header.ensures.ok (played_is g k) _ c.in_ok-closes.field-0 (closes_is g m) c.if-not-branch.false (g.W.Write.contents (outlet_writer c.put_pad.new.outlet)) c.file_size.result c.in_ok-put_pad.ensures.ok c.file_size.ensures

@@ -14,8 +14,9 @@ use Rattle.relace_core.proofs.GroupLaws.{size_on}
 use Rattle.relace_core.proofs.JoinLaws.{Appended, taken}
 use Rattle.relace_core.proofs.TakenLaws.{channel_long}
 use Rattle.stream_core.specs.Keepers.{Keeps}
-use Rattle.stream_core.specs.Stretches.{AreApart, AreGrown, AreRoomy, AreStretches, IsGrown, stretch_of, stretches_of}
-use Rattle.stream_core.specs.declared.keeping.BitRange.{BitRange}
+use Rattle.dsd_bits.specs.Stretches.{stretch_of, stretches_of}
+use Rattle.stream_core.specs.Stretches.{AreApart, AreGrown, AreRoomy, AreStretches, IsGrown}
+use Rattle.dsd_bits.specs.declared.stretches.BitRange.{BitRange}
 use Rattle.stream_core.proofs.SoundLaws.{whole_is}
 
 -- ---- parts of a channel

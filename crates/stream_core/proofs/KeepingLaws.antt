@@ -13,8 +13,8 @@ use Rattle.stream_core.specs.Readers.{IsPassFault, Passes}
 use Rattle.stream_core.specs.declared.fault.StreamFault.{StreamFault}
 use Rattle.stream_core.specs.declared.fault.StreamFault.TheVariants.{FileRefused, RateNotDivided, TooLarge, ReadFailed, WriteFailed, TurnLimit, Memory}
 use Rattle.stream_core.specs.declared.keeper.Keeper.{Keeper}
-use Rattle.stream_core.specs.declared.keeping.BitRange.{BitRange}
-use Rattle.stream_core.specs.Stretches.{stretches_of}
+use Rattle.dsd_bits.specs.declared.stretches.BitRange.{BitRange}
+use Rattle.dsd_bits.specs.Stretches.{stretches_of}
 use Rattle.stream_core.proofs.KeeperLaws.{same_stretches}
 use Rattle.stream_core.proofs.OutlineLaws.{left_is, pass_none}
 use Rattle.stream_core.proofs.ReadLaws.{reads_on}

@@ -6,7 +6,7 @@ use Rattle.dsd_bits.specs.declared.sound.Sound.{Sound}
 use Rattle.dsd_bits.specs.Sounds.{IsSound, sound_channels, sound_size}
 use Rattle.stream_core.specs.Readers.{Passes}
 use Rattle.stream_core.specs.Stretches.{AreStretches, items_of}
-use Rattle.stream_core.specs.declared.keeping.BitRange.{BitRange}
+use Rattle.dsd_bits.specs.declared.stretches.BitRange.{BitRange}
 use Rattle.stream_core.specs.declared.keeper.Keeper.{Keeper}
 
 -- after these bytes of a sound, which are whole groups of blocks or all, there are the stretches of their channels

@@ -3,8 +3,9 @@ use Rattle.std.specs.Prelude.{◌≡◌, ℕ, Bool, List, Option, IfSome}
 use Rattle.device_core.specs.declared.inlet.Inlet.{Inlet}
 use Rattle.stream_core.specs.Outlines.{AreTold, StandsIn, Surroundings, with_sound}
 use Rattle.stream_core.specs.Reads.{Reads}
-use Rattle.stream_core.specs.Stretches.{items_of, stretches_of}
-use Rattle.stream_core.specs.declared.keeping.BitRange.{BitRange}
+use Rattle.dsd_bits.specs.Stretches.{stretches_of}
+use Rattle.stream_core.specs.Stretches.{items_of}
+use Rattle.dsd_bits.specs.declared.stretches.BitRange.{BitRange}
 use Rattle.stream_core.specs.declared.keeping.Kept.{Kept}
 
 -- the stretches that were kept

@@ -2,15 +2,8 @@
 use Rattle.std.specs.Prelude.{◌≡◌, ℕ, ◌+◌, ◌-◌, ◌<◌, ◌≤◌, ◌⊎◌, Bool, List, [], ◌++◌, Vec, get_or, length, map, slice_range}
 use Rattle.std.specs.declared.alloc.Global.{Global}
 use Rattle.dsd_bits.specs.Limits.{most_bits}
-use Rattle.stream_core.specs.declared.keeping.BitRange.{BitRange}
-
--- the bits of each channel in a range; behind the channels' end there are none
-abbrev pub stretch_of : List (List Bool) → BitRange → List (List Bool)
-stretch_of channels range = map (λ bits. slice_range bits range.start range.stop) channels
-
--- those in each of some ranges
-abbrev pub stretches_of : List (List Bool) → List BitRange → List (List (List Bool))
-stretches_of channels ranges = map (stretch_of channels) ranges
+use Rattle.dsd_bits.specs.Stretches.{stretch_of}
+use Rattle.dsd_bits.specs.declared.stretches.BitRange.{BitRange}
 
 -- the channels of stretches in memory
 abbrev pub items_of : List (Vec (List Bool) Global) → List (List (List Bool))

@@ -4,8 +4,7 @@ ghost use Rattle.std.specs.Prelude.{◌≡◌, ◌+◌, ◌-◌, ◌<◌, ◌≤
 ghost use Rattle.dsd_bits.specs.Limits.{most_bits};
 ghost use Rattle.stream_core.specs.Stretches.{AreApart, AreGrown, AreRoomy, IsGrown, IsRoomy, items_of};
 
-use crate::keeping::BitRange;
-use dsd_bits::{Bits, Interleaving, Sound};
+use dsd_bits::{BitRange, Bits, Interleaving, Sound};
 use relace_core::{Stretch, unlace};
 use std::alloc::{AllocError, Global};
 

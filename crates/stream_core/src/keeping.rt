@@ -15,19 +15,10 @@ use crate::keeper::Keeper;
 use crate::outline::{Outline, read_rest};
 use crate::reader::{SoundReader, new_block};
 use device_core::Inlet;
-use dsd_bits::Bits;
+use dsd_bits::{BitRange, Bits};
 use relace_core::{stretch_bits, stretch_size};
 use std::alloc::Global;
 use std::io::Read;
-
-/// Bits of each channel of a sound, from one place to another.
-#[derive(Clone, Copy, Debug, PartialEq, Eq)]
-pub struct BitRange {
-    /// The place of the first bit.
-    pub start: usize,
-    /// The place behind the last bit.
-    pub stop: usize,
-}
 
 /// A file without its sound, and stretches of that.
 #[derive(Drop)]

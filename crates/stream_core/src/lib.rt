@@ -51,7 +51,7 @@ mod reader;
 mod wave;
 
 pub use fault::StreamFault;
-pub use keeping::{BitRange, Kept, read_stretches};
+pub use keeping::{Kept, read_stretches};
 pub use laws::accepted_files_tell_one_sound;
 pub use outline::{Outline, read_outline};
 pub use playing::play;

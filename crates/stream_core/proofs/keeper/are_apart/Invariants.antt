@@ -1,5 +1,5 @@
 use Rattle.std.proofs.Common.{ℕ, ◌<◌, ◌≤◌, ◌⊎◌, get_or}
-use Rattle.stream_core.specs.declared.keeping.BitRange.{BitRange}
+use Rattle.dsd_bits.specs.declared.stretches.BitRange.{BitRange}
 use Rattle.stream_core.proofs.keeper.are_apart.Given as goal
 
 abbrev pub invariant-loop-range : goal.invariant-loop-range

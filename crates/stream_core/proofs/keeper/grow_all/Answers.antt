@@ -3,7 +3,7 @@ use Rattle.std.specs.Prelude.{Vec}
 use Rattle.std.proofs.lemmas.List.{get_or-map, get_or_default, length-map, map-set}
 use Rattle.std.specs.declared.alloc.Global.{Global}
 use Rattle.stream_core.specs.Stretches.{IsGrown, items_of}
-use Rattle.stream_core.specs.declared.keeping.BitRange.{BitRange}
+use Rattle.dsd_bits.specs.declared.stretches.BitRange.{BitRange}
 use Rattle.stream_core.proofs.KeeperLaws.{AllGrownUpTo, all_grown, all_next}
 use Rattle.stream_core.proofs.keeper.grow_all.Goals as goal
 

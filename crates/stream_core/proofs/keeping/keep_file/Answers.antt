@@ -5,7 +5,7 @@ use Rattle.stream_core.specs.Keeping.{stretches_in}
 use Rattle.stream_core.specs.Outlines.{around_of, with_sound}
 use Rattle.stream_core.specs.Readers.{Passes}
 use Rattle.stream_core.specs.Reads.{Reads}
-use Rattle.stream_core.specs.Stretches.{stretches_of}
+use Rattle.dsd_bits.specs.Stretches.{stretches_of}
 use Rattle.stream_core.proofs.BehindLaws.{at_sound, file_stands, given_is, given_stands, pass_stands, rest_stands}
 use Rattle.stream_core.proofs.KeepingLaws.{file_kept, kept_are}
 use Rattle.stream_core.proofs.keeping.keep_file.Given.{Over}

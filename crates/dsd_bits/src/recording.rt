@@ -75,25 +75,9 @@ impl Recording {
     pub fn into_silent(self, alloc: Global) -> Result<Recording, AllocError>
         ensures { IfOk result (λ r. r ≡ silent self) }
     {
-        let Recording {
-            rate,
-            channels,
-            ids,
-            layout,
-            marks,
-            others,
-            tag,
-        } = self;
-        let channels = silent_channels(alloc, channels.len())?;
-        Ok(Recording {
-            rate,
-            channels,
-            ids,
-            layout,
-            marks,
-            others,
-            tag: tag,
-        })
+        let mut silent = self;
+        silent.channels = silent_channels(alloc, silent.channels.len())?;
+        Ok(silent)
     }
 
     /// Bits a second of each channel, in hertz.

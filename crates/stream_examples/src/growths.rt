@@ -5,6 +5,7 @@ use crate::converting::stream;
 use crate::played::{NEVER, ONES, play_from};
 use archive_core::play;
 use device_core::Inlet;
+use dsd_bits::BitRange;
 use fixtures::devices::{Sipping, drip, sip};
 use fixtures::files::{WAVE, dsf_of, mono, noted};
 use fixtures::projects::{DECIMATE, with_ones};
@@ -12,7 +13,7 @@ use form_core::Form;
 use std::alloc::{AllocError, Global};
 use std::process::Abort;
 use std::test::Fail;
-use stream_core::{BitRange, read_stretches};
+use stream_core::read_stretches;
 use transfer_core::convert;
 
 // A writer that takes so many bytes without a growth: of one that is refused it would say that the write failed.

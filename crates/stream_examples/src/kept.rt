@@ -5,13 +5,13 @@ ghost use Rattle.std.specs.Prelude.{◌<◌};
 use crate::long_sounds::{blocks, laced};
 use crate::played::NEVER;
 use device_core::Inlet;
-use dsd_bits::{Bits, Recording};
+use dsd_bits::{BitRange, Bits, Recording};
 use fixtures::devices::drip;
 use fixtures::files::{FILE, STEREO, mono, noted, one_bit, stereo};
 use form_core::read_any;
 use std::alloc::{AllocError, Global};
 use std::test::Fail;
-use stream_core::{BitRange, Kept, StreamFault, read_stretches};
+use stream_core::{Kept, StreamFault, read_stretches};
 use transfer_core::Fault;
 
 // The bits from one place to another.

@@ -18,8 +18,8 @@ use crate::cutting::cut_heard;
 use cut_core::{Heard, hear_takes};
 use form_core::{Opened, ReadFault, read_any};
 use master_core::{Reason, Verdict, judge};
-use std::alloc::{AllocError, Global};
 use splice_core::Splice;
+use std::alloc::{AllocError, Global};
 use transfer_core::{Fault, splice_of};
 
 /// Whether a file is the master of a project and its takes, and a certificate shows that no bridge in it

@@ -58,14 +58,14 @@ module _ (weights : List ℤ) (a : List Bool) (a_from a_to stop : ℕ) (b : List
       let left = λ (x y : ℤ). (pos (levels + 1 - i) *ℤ x) +ℤ (pos i *ℤ y) in
       both (leb i levels) _ _ _ _
       (λ h.
-        let le = leb-true i levels h in
-        let has = room (omega arith) in
-        let x = weighted_at weights a a_from a_to (stop + i - 1) (stop - a_from + i - 1) (omega arith) (λ k lt. omega arith) (omega arith) in
-        let y = weighted_at weights b b_from b_to (start - levels + i - 1) (start - b_from - levels + i - 1) (omega arith) (λ k lt. omega arith) (omega arith) in
-        (λ j. left (x j) (y j)))
+      let le = leb-true i levels h in
+      let has = room (omega arith) in
+      let x = weighted_at weights a a_from a_to (stop + i - 1) (stop - a_from + i - 1) (omega arith) (λ k lt. omega arith) (omega arith) in
+      let y = weighted_at weights b b_from b_to (start - levels + i - 1) (start - b_from - levels + i - 1) (omega arith) (λ k lt. omega arith) (omega arith) in
+      (λ j. left (x j) (y j)))
       (λ h.
-        let gt = leb-false i levels h in
-        ap (λ (z : ℤ). pos (levels + 1) *ℤ z) (weighted_at weights b b_from b_to (start + i - levels - 1) (start - b_from + i - levels - 1) (omega arith) (λ k lt. omega arith) (omega arith)))
+      let gt = leb-false i levels h in
+      ap (λ (z : ℤ). pos (levels + 1) *ℤ z) (weighted_at weights b b_from b_to (start + i - levels - 1) (start - b_from + i - levels - 1) (omega arith) (λ k lt. omega arith) (omega arith)))
 
 -- ---- the bridge after cue i, which ends at place `stop` of its take a, where the next one begins at place `start` of its take b
 module _ (splice : SpliceContent) (i : ℕ) (a : List Bool) (a_from a_to stop : ℕ) (b : List Bool) (b_from b_to start : ℕ) (some : 1 ≤ length splice.weights) (ends : a_from + length splice.weights ≤ stop + 1)

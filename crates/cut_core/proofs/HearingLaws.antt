@@ -169,9 +169,9 @@ module _ (splice : SpliceContent) (takes : List Content) (fine : IsSplicing spli
       let windows : List (List Bridging) = each_below (cues - 1) (λ i. each_below number (λ c. fades.bridging splice i (source splice takes c i) (source splice takes c (i + 1)))) in
       let first = ap (λ (h : HeardContent). h.recording) first_is in
       let bits = ap (λ (n : ℕ). each_below cues (λ i. each_below n (λ c. slice_range (stretch_at splice hs c i) (start_in splice i) (stop_in splice i)))) number_is
-          ∙ map_range_same cues _ _ (λ i lt. map_range_same number _ _ (λ c there. cued_is c i there lt)) in
+      ∙ map_range_same cues _ _ (λ i lt. map_range_same number _ _ (λ c there. cued_is c i there lt)) in
       let joins = ap (λ (n : ℕ). each_below (cues - 1) (λ i. each_below n (λ c. bridging_at splice i (stretch_at splice hs c i) (stop_in splice i) (stretch_at splice hs c (i + 1)) (start_in splice (i + 1))))) number_is
-          ∙ map_range_same (cues - 1) _ _ (λ i lt. map_range_same number _ _ (λ c there. window_is room c i there (omega arith))) in
+      ∙ map_range_same (cues - 1) _ _ (λ i lt. map_range_same number _ _ (λ c there. window_is room c i there (omega arith))) in
       λ j. record { splice = splice; first = first j; cued = bits j; windows = joins j }
 
   -- ---- what it keeps
@@ -258,4 +258,3 @@ shapes_are splice takes hs are =
     ∙ same_lists (map (λ i. heard_shape (f i)) (range_with_len 0 n)) (map shape_of takes) long (λ i d lt.
     let there : i < n = omega (arith, length-map-range_with_len (λ i. heard_shape (f i)) 0 n, lt) in
     below_at n (λ i. heard_shape (f i)) i d there ∙ one i ∙ sym (get_or-map shape_of takes i _ d there))
-

@@ -93,8 +93,8 @@ module _ (form : Option Form) (splice : SpliceContent) (takes : List Content) wh
   unfolding fitting
   fits_met fit whole room =
       let alike = each_from (alike_at shapes) (length shapes) (λ i lt.
-          let a : IsAlike takes (take_at takes i) = fit.alike i _ (omega (arith, long_shapes, lt)) in
-          rw (shape_of_take takes i, shape_of_take takes 0, eq-eqb _ _ a.same_rate, eq-eqb _ _ a.as_many_channels) refl) in
+      let a : IsAlike takes (take_at takes i) = fit.alike i _ (omega (arith, long_shapes, lt)) in
+      rw (shape_of_take takes i, shape_of_take takes 0, eq-eqb _ _ a.same_rate, eq-eqb _ _ a.as_many_channels) refl) in
       let inside = each_from (inside_at splice shapes) (length splice.cues) (λ i lt. let a : IsInside takes (cue_at splice i) = fit.inside i _ lt in rw (count_is splice takes i, le-leb _ _ a) refl) in
       let rooms = each_from (room_at splice shapes) (length splice.cues - 1) (λ i lt. room_met splice takes i (room i (omega arith))) in
       rw (alike, inside, le-leb _ _ fit.in_limit, whole_met form splice whole) rooms

@@ -25,11 +25,7 @@ pub struct Heard {
 /// For each cue of a splice the bits that are heard for it of the take of a number: those of the cue, before them what
 /// the target of the bridge there reads, and behind them the same. Of a cue of another take there are none. Err is want
 /// of memory.
-pub fn ranges_of(
-    alloc: Global,
-    splice: &Splice,
-    number: usize,
-) -> Result<Vec<BitRange>, AllocError>
+pub fn ranges_of(alloc: Global, splice: &Splice, number: usize) -> Result<Vec<BitRange>, AllocError>
     ensures { IfOk result (λ made. made.items ≡ specs.ranges_of (splice_content splice.now) number) }
 {
     let mut ranges = Vec::new(alloc);

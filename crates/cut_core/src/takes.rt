@@ -19,11 +19,7 @@ use std::alloc::Global;
 /// Refusals, in this order: `TakeNumber` where there are not as many files as takes, `TakeUnread` of the
 /// first file that isn't read. Every want of memory is `Memory`.
 #[tactic(auto, unfolding(crate::specs::Opening::takes_of))]
-pub fn hear_takes(
-    alloc: Global,
-    splice: &Splice,
-    files: &[Vec<u8>],
-) -> Result<Vec<Heard>, CutFault>
+pub fn hear_takes(alloc: Global, splice: &Splice, files: &[Vec<u8>]) -> Result<Vec<Heard>, CutFault>
     ensures { HearsTakes (splice_content splice.now) result (specs.takes_of (splice_content splice.now) (file_bytes files.now)) }
 {
     if files.len() != splice.takes.len() {

@@ -31,11 +31,7 @@ pub fn stretches_of(
 }
 
 // The bits that each channel has in a range.
-fn stretch_of(
-    alloc: Global,
-    channels: &[Bits],
-    range: BitRange,
-) -> Result<Vec<Bits>, AllocError>
+fn stretch_of(alloc: Global, channels: &[Bits], range: BitRange) -> Result<Vec<Bits>, AllocError>
     ensures { IfOk result (λ made. made.items ≡ specs.stretch_of channels.now range) }
 {
     let mut made = Vec::new(alloc);

@@ -9,12 +9,12 @@ use Rattle.transfer_commands.specs.Faults.{of_file}
 use Rattle.transfer_commands.specs.Sources.{AreSources}
 use Rattle.master_core.specs.declared.verdict.Verdict.{Verdict}
 use Rattle.master_core.specs.declared.verdict.Verdict.TheVariants as verdicts
-use Rattle.command_core.specs.Commands.{ChecksFiles, Cut, CutsFile, EditComesTo, Judges}
+use Rattle.command_core.specs.Commands.{ChecksFiles, Cut, CutsFile, EditComesTo, EditsFiles, Judges}
 
 -- a master is cut, and could not be written
 pub cut_unwritten : (cut : Cut) (old read new : Files) (told told_read : Bool) (project master : List ℕ) (takes : List (List ℕ)) (total : ℕ) (fault : FileFault)
     → read ≡ old → told_read ≡ told
-    → (IsTrue told → AreSources cut.project_name old project takes)
+    → AreSources cut.project_name old project takes
     → Edits project takes cut.form master total
     → KeepsOthers cut.master_name read new
     → (IsTrue told_read → IsFront (read cut.master_name) (new cut.master_name) master)
@@ -26,16 +26,30 @@ cut_unwritten cut old read new told told_read project master takes total fault
       takes = takes;
       master = master;
       total = total;
-      sources = sources is_told;
+      sources = sources;
       front = subst (λ (f : Files). IsFront (f cut.master_name) (new cut.master_name) master) same (front (subst IsTrue (sym tells) is_told));
       others = subst (λ (f : Files). KeepsOthers cut.master_name f new) same others;
       edits = edits;
     }))
 
+-- a master is written, and then what stands under another name
+cuts_still : (cut : Cut) (old read written new : Files) (told told_read : Bool) (project master : List ℕ) (takes : List (List ℕ)) (total : ℕ)
+    → read ≡ old → told_read ≡ told → AreSources cut.project_name old project takes → Edits project takes cut.form master total
+    → KeepsOthers cut.master_name read written → (IsTrue told_read → written cut.master_name ≡ Some master) → KeepsOthers cut.cert_name written new → IsTrue told → CutsFile cut old new project takes master total
+cuts_still cut old read written new told told_read project master takes total
+    same tells sources edits others master_stands others_second is_told =
+    let kept = subst (λ (f : Files). KeepsOthers cut.master_name f written) same others in
+    record {
+      sources = sources;
+      master_stands = λ (differs : cut.master_name ≢ cut.cert_name). others_second cut.master_name differs ∙ master_stands (subst IsTrue (sym tells) is_told);
+      others = λ (other : List ℕ) (differs : other ≢ cut.master_name) (differs_second : other ≢ cut.cert_name). others_second other differs_second ∙ kept other differs;
+      edits = edits;
+    }
+
 -- a master is written, and its certificate could not be
 pub cert_unwritten : (cut : Cut) (old read written new : Files) (told told_read told_written : Bool) (project master cert : List ℕ) (takes : List (List ℕ)) (total : ℕ) (fault : FileFault)
     → read ≡ old → told_read ≡ told → told_written ≡ told_read
-    → (IsTrue told → AreSources cut.project_name old project takes)
+    → AreSources cut.project_name old project takes
     → Edits project takes cut.form master total
     → KeepsOthers cut.master_name read written
     → (IsTrue told_read → written cut.master_name ≡ Some master)
@@ -47,23 +61,39 @@ cert_unwritten cut old read written new told told_read told_written project mast
     same tells tells_written sources edits others master_stands others_second front accepted is is_told =
     let is_told_read = subst IsTrue (sym tells) is_told in
     let kept = subst (λ (f : Files). KeepsOthers cut.master_name f written) same others in
-    let cuts : CutsFile cut old new project takes master total = record {
-      sources = sources is_told;
-      master_stands = λ (differs : cut.master_name ≢ cut.cert_name). others_second cut.master_name differs ∙ master_stands is_told_read;
-      others = λ (other : List ℕ) (differs : other ≢ cut.master_name) (differs_second : other ≢ cut.cert_name).
-          others_second other differs_second ∙ kept other differs;
-      edits = edits;
-    } in
     subst (λ (f : FileFault). EditComesTo cut old new (Err (of_file f))) (sym is) (inr (record {
       project = project;
       takes = takes;
       master = master;
       cert = cert;
       total = total;
-      cuts = cuts;
+      cuts = cuts_still cut old read written new told told_read project master takes total same tells sources edits others master_stands others_second is_told;
       front = λ (differs : cut.cert_name ≢ cut.master_name). subst (λ x. IsFront x (new cut.cert_name) cert) (kept cut.cert_name differs) (front (subst IsTrue (sym tells_written) is_told_read));
       accepted = accepted;
     }))
+
+-- a master is written, and its certificate
+pub both_written : (cut : Cut) (old read written new : Files) (told told_read told_written : Bool) (project master cert : List ℕ) (takes : List (List ℕ)) (total : ℕ)
+    → read ≡ old → told_read ≡ told → told_written ≡ told_read
+    → AreSources cut.project_name old project takes
+    → Edits project takes cut.form master total
+    → KeepsOthers cut.master_name read written
+    → (IsTrue told_read → written cut.master_name ≡ Some master)
+    → KeepsOthers cut.cert_name written new
+    → (IsTrue told_written → new cut.cert_name ≡ Some cert)
+    → Accepts project takes master cert total
+    → IsTrue told → EditsFiles cut old new total
+both_written cut old read written new told told_read told_written project master cert takes total
+    same tells tells_written sources edits others master_stands others_second cert_stands accepted is_told =
+    record {
+      project = project;
+      takes = takes;
+      master = master;
+      cert = cert;
+      cuts = cuts_still cut old read written new told told_read project master takes total same tells sources edits others master_stands others_second is_told;
+      cert_stands = cert_stands (subst IsTrue (sym tells_written) (subst IsTrue (sym tells) is_told));
+      accepted = accepted;
+    }
 
 -- a master is judged by the project and its takes, and no file changes
 pub judged : (project_name master_name cert_name : List ℕ) (old read held new : Files) (project : List ℕ) (takes : List (List ℕ)) (master cert : List ℕ)

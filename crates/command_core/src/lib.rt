@@ -14,6 +14,7 @@
 mod outcome;
 mod performing;
 mod program;
+mod sources;
 
 pub use folder_core::{Folder, FolderFault, MemoryFolder, read_files, read_whole};
 pub use info_core::{Told, form_named, name_of};

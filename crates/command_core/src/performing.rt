@@ -6,12 +6,13 @@ ghost use Rattle.command_core.specs.Outcomes.{outcome_of, verdict_of};
 ghost use Rattle.command_core.specs.declared.outcome.Outcome.TheVariants as outcomes;
 
 use crate::outcome::Outcome;
-use archive_core::{Form, Verdict, check, edit};
+use crate::sources::{cut_sources, judge_sources};
+use archive_core::{Form, Verdict};
 use folder_core::{Folder, read_file, write_file};
 use info_core::Told;
 use std::alloc::Global;
 use transfer_commands::{
-    CommandFault, MOST_KEPT, convert_file, open_file, play_file, read_sources,
+    CommandFault, MOST_KEPT, convert_file, hear_sources, open_file, play_file,
 };
 use words_core::Task;
 
@@ -66,8 +67,8 @@ fn edit_files<F: Folder>(
 ) -> Result<u128, CommandFault>
     ensures { IsTrue (F.is_told folder.old) → EditComesTo (record { form = form; project_name = project.now; master_name = master.now; cert_name = cert.now }) (F.file folder.old) (F.file folder.new) result }
 {
-    let sources = read_sources(alloc, folder, project)?;
-    let edited = edit(alloc, &sources.project, &sources.takes, form)?;
+    let sources = hear_sources(alloc, folder, project)?;
+    let edited = cut_sources(alloc, sources, form)?;
     write_file(folder, master, &edited.master)?;
     write_file(folder, cert, &edited.cert)?;
     Ok(edited.total)
@@ -83,10 +84,10 @@ fn check_files<F: Folder>(
 ) -> Result<Verdict, CommandFault>
     ensures { IsTrue (F.is_told folder.old) → CheckComesTo project.now master.now cert.now (F.file folder.old) (F.file folder.new) result }
 {
-    let sources = read_sources(alloc, folder, project)?;
+    let sources = hear_sources(alloc, folder, project)?;
     let master = read_file(alloc, folder, master)?;
     let cert = read_file(alloc, folder, cert)?;
-    Ok(check(alloc, &sources.project, &sources.takes, &master, &cert)?)
+    Ok(judge_sources(alloc, sources, &master, &cert)?)
 }
 
 // What a command that played came to.

@@ -1,5 +1,5 @@
 -- What was heard of takes gives the same cut as the takes.
-use Rattle.std.proofs.Common.{◌≡◌, ℕ, zero, suc, ◌+◌, ◌-◌, ◌<◌, ◌≤◌, Bool, true, eqb, List, [], ◌∷◌, ◌++◌, cond, length, map, get_or, slice_range, take, drop, replicate, refl, sym, ap, subst, ◌∙◌, add-one, arith}
+use Rattle.std.proofs.Common.{◌≡◌, ℕ, zero, suc, ◌+◌, ◌-◌, ◌<◌, ◌≤◌, Bool, true, eqb, inl, inr, Ok, List, [], ◌∷◌, ◌++◌, cond, length, map, get_or, slice_range, take, drop, replicate, refl, sym, ap, subst, ◌∙◌, add-one, arith}
 use Rattle.std.specs.List.{All, range_with_len}
 use Rattle.std.proofs.Math.Seq.{get_or-append_seam}
 use Rattle.std.proofs.lemmas.Bool.{eq-eqb}
@@ -25,6 +25,11 @@ use Rattle.cost_core.proofs.Hearing.{bridging_heard, part_of_part}
 use Rattle.cut_core.specs.Cuts.{CutContent, FitTakes, IsAlike, IsInside, channel_number, cue_at, cue_bits, cut_with, each_below, no_bridging, source, take_at, window}
 use Rattle.cut_core.specs.Hearing.{AreHeard, HasStretch, HeardContent, heard_at, heard_content, heard_cut, heard_from, heard_of, heard_shape, heard_shapes, heard_takes, heard_to, range_of, shape_of, ranges_of, start_in, stop_in, stretch_at, stretches_at}
 use Rattle.cut_core.specs.declared.heard.Heard.{Heard}
+use Rattle.form_core.specs.Steps.{Fails}
+use Rattle.cut_core.specs.declared.fault.CutFault.{CutFault}
+use Rattle.cut_core.specs.declared.fault.CutFault.TheVariants.{Memory}
+use Rattle.cut_core.specs.Opening.{take_in, takes_before}
+use Rattle.cut_core.proofs.Steps.{failed_before, file_fails, file_more, takes_long}
 use Rattle.cut_core.specs.Keeping.{CanCut, HasWindow}
 use Rattle.cut_core.specs.Rooms.{HaveRoom}
 
@@ -258,3 +263,24 @@ shapes_are splice takes hs are =
     ∙ same_lists (map (λ i. heard_shape (f i)) (range_with_len 0 n)) (map shape_of takes) long (λ i d lt.
     let there : i < n = omega (arith, length-map-range_with_len (λ i. heard_shape (f i)) 0 n, lt) in
     below_at n (λ i. heard_shape (f i)) i d there ∙ one i ∙ sym (get_or-map shape_of takes i _ d there))
+
+-- ---- files one by one, to the first fault
+module _ (splice : SpliceContent) (files : List (List ℕ)) (file : List ℕ) where
+  pub none_more : (e : CutFault) → Fails Memory e (takes_before files (length files)) → Fails Memory e (takes_before (files ++ file ∷ []) (length files + 1))
+  none_more e (inl memory) = inl memory
+  none_more e (inr fails) = inr (failed_before files file e fails)
+
+  pub not_more : (hs : List Heard) (e : CutFault) → (takes : List Content) × (takes_before files (length files) ≡ Ok takes) × AreHeard splice takes hs → Fails Memory e (take_in (length files) file) → Fails Memory e (takes_before (files ++ file ∷ []) (length files + 1))
+  not_more hs e before (inl memory) = inl memory
+  not_more hs e before (inr fails) = inr (file_fails files file before.0 e before.1 fails)
+
+  pub one_more : (hs made : List Heard) (h : Heard) → made ≡ hs ++ h ∷ [] → (takes : List Content) × (takes_before files (length files) ≡ Ok takes) × AreHeard splice takes hs
+      → (r : Content) × (take_in (length files) file ≡ Ok r) × HasShape r × (heard_content h ≡ heard_of splice (length files) r)
+      → (takes : List Content) × (takes_before (files ++ file ∷ []) (length files + 1) ≡ Ok takes) × AreHeard splice takes made
+  one_more hs made h pushed before next =
+      (before.0 ++ next.0 ∷ [], file_more files file before.0 next.0 before.1 next.1, heard_more splice before.0 hs made next.0 h (length files) (takes_long files (length files) before.0 before.1) before.2 next.2 next.3 pushed)
+
+pub of_more : (splice : SpliceContent) (n : ℕ) (hs made : List Heard) (h : Heard) → made ≡ hs ++ h ∷ [] → (whole : List Content) × AreHeard splice whole hs × (length whole ≡ n) → (r : Content) × HasShape r × (heard_content h ≡ heard_of splice n r)
+    → (whole : List Content) × AreHeard splice whole made × (length whole ≡ n + 1)
+of_more splice n hs made h pushed before next =
+    (before.0 ++ next.0 ∷ [], heard_more splice before.0 hs made next.0 h n before.2 before.1 next.1 next.2 pushed, omega (arith, length-append before.0 (next.0 ∷ []), before.2))

@@ -1,10 +1,12 @@
 -- Steps of a reading in their order.
-use Rattle.std.proofs.Common.{◌≡◌, ℕ, zero, suc, ◌+◌, ◌<◌, inl, inr, Bool, true, false, List, ◌∷◌, [], ◌++◌, Ok, Err, Result, refl, add-one, arith}
+use Rattle.std.proofs.Common.{◌≡◌, ℕ, zero, suc, ◌+◌, ◌<◌, ◌≤◌, inl, inr, Bool, true, false, List, ◌∷◌, [], ◌++◌, Ok, Err, Result, get_or, length, refl, ◌∙◌, add-one, arith}
 use Rattle.std.specs.Prelude.{⊤}
+use Rattle.std.proofs.Math.Seq.{get_or-append_seam}
 use Rattle.std.proofs.lemmas.Bool.{cases_lt}
+use Rattle.std.proofs.lemmas.List.{get_or_append_left, length-append}
 use Rattle.chunk_core.proofs.Steps.{bind_then}
 use Rattle.dsd_bits.specs.Contents.{Content}
-use Rattle.cut_core.specs.Opening.{each_before, required, take_from, takes_before}
+use Rattle.cut_core.specs.Opening.{each_before, required, take_from, take_in, takes_before}
 use Rattle.cut_core.specs.declared.fault.CutFault.{CutFault}
 
 -- a test that was met
@@ -43,3 +45,29 @@ module _ (files : List (List ℕ)) where
     | inl later ↦ rw (takes_stop n i takes e later before here) refl
     | inr last ↦ (let same : i ≡ n = omega arith in rw (← same, before, here) refl)
   ]
+
+-- ---- one file more
+module _ (files : List (List ℕ)) (file : List ℕ) where
+  front : (n : ℕ) → n ≤ length files → takes_before (files ++ file ∷ []) n ≡ takes_before files n
+  front zero le = refl
+  front (suc n) le = rw (front n (omega arith), get_or_append_left files (file ∷ []) [] n (omega arith)) refl
+
+  last : get_or (files ++ file ∷ []) (length files) [] ≡ file
+  last = get_or-append_seam files file [] []
+
+  pub file_more : (takes : List Content) (r : Content) → takes_before files (length files) ≡ Ok takes → take_in (length files) file ≡ Ok r → takes_before (files ++ file ∷ []) (length files + 1) ≡ Ok (takes ++ r ∷ [])
+  file_more takes r before here = takes_more (files ++ file ∷ []) (length files) takes r (front (length files) (omega arith) ∙ before) (rw last here)
+
+  pub file_fails : (takes : List Content) (e : CutFault) → takes_before files (length files) ≡ Ok takes → take_in (length files) file ≡ Err e → takes_before (files ++ file ∷ []) (length files + 1) ≡ Err e
+  file_fails takes e before here = takes_stop (files ++ file ∷ []) (length files + 1) (length files) takes e (omega arith) (front (length files) (omega arith) ∙ before) (rw last here)
+
+  pub failed_before : (e : CutFault) → takes_before files (length files) ≡ Err e → takes_before (files ++ file ∷ []) (length files + 1) ≡ Err e
+  failed_before e before = rw (add-one (length files), front (length files) (omega arith), before) refl
+
+-- as many takes as files
+pub takes_long : (files : List (List ℕ)) (n : ℕ) (takes : List Content) → takes_before files n ≡ Ok takes → length takes ≡ n
+takes_long files zero takes e = let none : [] ≡ takes = cc in rw (← none) refl
+takes_long files (suc n) takes e =
+    bind_then (takes_before files n) _ takes e (λ before b e. bind_then (take_from files n) _ takes e (λ r here e.
+    let same : before ++ r ∷ [] ≡ takes = cc in
+    rw (← same) (omega (arith, length-append before (r ∷ []), takes_long files n before b))))

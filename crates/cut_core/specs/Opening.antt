@@ -61,11 +61,15 @@ each_before (suc n) step = do
   before ← each_before n step
   step n
 
--- the recording that file i holds
-abbrev pub take_from : List (List ℕ) → ℕ → Result Content CutFault
-take_from files i = do
-  opened ← map_err (fault_of_take i) (opened_of (slice_index_or files i []))
+-- the recording that a file holds, the take of a number
+abbrev pub take_in : ℕ → List ℕ → Result Content CutFault
+take_in number file = do
+  opened ← map_err (fault_of_take number) (opened_of file)
   Ok opened.recording
+
+-- that of file i
+abbrev pub take_from : List (List ℕ) → ℕ → Result Content CutFault
+take_from files i = take_in i (slice_index_or files i [])
 
 -- the recordings that the first n files hold
 abbrev pub takes_before : List (List ℕ) → ℕ → Result (List Content) CutFault
@@ -119,6 +123,16 @@ cut_of splice files form = do
 abbrev pub HearsTake : SpliceContent → ℕ → Result Heard CutFault → Result Content CutFault → Type 0
 HearsTake splice number (Ok h) steps = (r : Content) × (steps ≡ Ok r) × HasShape r × (heard_content h ≡ heard_of splice number r)
 HearsTake splice number (Err fault) steps = Fails Memory fault steps
+
+-- whatever it was, what was heard is of some recording, the take of a number
+abbrev pub IsOfTake : SpliceContent → ℕ → Result Heard CutFault → Type 0
+IsOfTake splice number (Ok h) = (r : Content) × HasShape r × (heard_content h ≡ heard_of splice number r)
+IsOfTake splice number (Err fault) = ⊤
+
+-- of the first so many takes
+abbrev pub IsOfTakes : SpliceContent → ℕ → Result (Vec Heard Global) CutFault → Type 0
+IsOfTakes splice n (Ok hs) = (whole : List Content) × AreHeard splice whole hs.items × (length whole ≡ n)
+IsOfTakes splice n (Err fault) = ⊤
 
 -- a call heard the takes that the steps come to, want of memory aside
 abbrev pub HearsTakes : SpliceContent → Result (Vec Heard Global) CutFault → Result (List Content) CutFault → Type 0

@@ -40,4 +40,4 @@ pub use fault::CutFault;
 pub use fitting::differ;
 pub use heard::{Heard, hear, ranges_of};
 pub use laws::opens_in_order;
-pub use takes::hear_takes;
+pub use takes::{hear_file, hear_takes, push_heard};

@@ -1,11 +1,11 @@
 //! The takes of a splice, read from their files.
 
-ghost use Rattle.std.specs.Prelude.{◌≡◌, ◌<◌, IfOk, length};
+ghost use Rattle.std.specs.Prelude.{◌≡◌, ℕ, ◌+◌, ◌<◌, ◌++◌, ◌∷◌, [], IfOk, List, length};
 ghost use Rattle.dsd_bits.specs.Shape.{HasShape};
-ghost use Rattle.splice_core.specs.Splices.{splice_content};
+ghost use Rattle.splice_core.specs.Splices.{SpliceContent, splice_content};
 ghost use Rattle.form_core.specs.Steps.{Gives};
 ghost use Rattle.cut_core.specs.Opening as specs;
-ghost use Rattle.cut_core.specs.Opening.{HearsTake, HearsTakes, fault_of_take, file_bytes, take_from, takes_before};
+ghost use Rattle.cut_core.specs.Opening.{HearsTake, HearsTakes, IsOfTake, IsOfTakes, fault_of_take, file_bytes, take_from, take_in, takes_before};
 
 use crate::fault::CutFault;
 use crate::heard::{Heard, hear};
@@ -40,7 +40,7 @@ fn read_takes(alloc: Global, splice: &Splice, files: &[Vec<u8>]) -> Result<Vec<H
     Ok(takes)
 }
 
-// What a splice hears of the recording of the file of a number.
+// What a splice hears of the file of a number.
 fn hear_take(
     alloc: Global,
     splice: &Splice,
@@ -50,17 +50,46 @@ fn hear_take(
     requires { number < length files.now }
     ensures { HearsTake (splice_content splice.now) number result (take_from (file_bytes files.now) number) }
 {
-    let recording = read_take(alloc, files, number)?;
+    hear_file(alloc, splice, number, &files[number])
+}
+
+/// What a splice hears of a file, the take of a number.
+///
+/// Refusals: `TakeUnread` where the file isn't read; `Memory`.
+pub fn hear_file(
+    alloc: Global,
+    splice: &Splice,
+    number: usize,
+    file: &[u8],
+) -> Result<Heard, CutFault>
+    ensures heard { HearsTake (splice_content splice.now) number result (take_in number file.now) }
+    ensures of { IsOfTake (splice_content splice.now) number result }
+{
+    let recording = read_take(alloc, number, file)?;
     Ok(hear(alloc, splice, number, recording)?)
 }
 
-// The recording of the file of a number.
-fn read_take(alloc: Global, files: &[Vec<u8>], number: usize) -> Result<Recording, CutFault>
-    requires { number < length files.now }
-    ensures exact { Gives CutFault.Memory (λ r. r) result (take_from (file_bytes files.now) number) }
+/// What was heard of takes, and of the next one behind them: the first fault is kept.
+pub fn push_heard(
+    takes: Result<Vec<Heard>, CutFault>,
+    next: Result<Heard, CutFault>,
+) -> Result<Vec<Heard>, CutFault>
+    ensures heard { (splice : SpliceContent) (files : List (List ℕ)) (file : List ℕ) → HearsTakes splice takes (takes_before files (length files)) → HearsTake splice (length files) next (take_in (length files) file) → HearsTakes splice result (takes_before (files ++ file ∷ []) (length files + 1)) }
+    ensures of { (splice : SpliceContent) (n : ℕ) → IsOfTakes splice n takes → IsOfTake splice n next → IsOfTakes splice (n + 1) result }
+{
+    let mut takes = takes?;
+    match takes.push(next?) {
+        Ok(()) => Ok(takes),
+        Err(_) => Err(CutFault::Memory),
+    }
+}
+
+// The recording of a file, the take of a number.
+fn read_take(alloc: Global, number: usize, file: &[u8]) -> Result<Recording, CutFault>
+    ensures exact { Gives CutFault.Memory (λ r. r) result (take_in number file.now) }
     ensures shape { IfOk result HasShape }
 {
-    match read_any(alloc, &files[number]) {
+    match read_any(alloc, file) {
         Ok(opened) => {
             let Opened { recording, .. } = opened;
             has_shape(&recording);

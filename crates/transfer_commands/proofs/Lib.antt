@@ -1,3 +1,4 @@
 pub mod ConvertLaws
+pub mod HearLaws
 pub mod PlayLaws
 pub mod TellLaws

@@ -1,5 +1,6 @@
 pub mod Converting
 pub mod Faults
+pub mod Hearing
 pub mod Outlining
 pub mod Playing
 pub mod Sources

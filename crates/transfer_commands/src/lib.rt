@@ -3,18 +3,21 @@
 //!
 //! [`play_file`] reads a project, opens a recording, and writes its WAVE file piece by piece; [`convert_file`] reads a
 //! recording whole, and only then creates the file in the other form; [`open_file`] reads one to be told of.
-//! [`read_sources`] reads a project and then its takes by their numbers. The calls are `transfer_core`'s, the files
+//! [`hear_sources`] reads a project and then its takes by their numbers, of which it keeps what the
+//! splice hears. The calls are `transfer_core`'s, the files
 //! `folder_core`'s. The first fault is what a command comes to.
 //!
 //! The words of the contracts, over the files of a folder that tells them, `old` before and `new` after:
 //!
 //! - `PlayComesTo`, `ConvertComesTo` and `TellComesTo` say what became of the files by a command and what it answered,
 //!   whether it was done or refused (`specs/Playing.antt`, `specs/Converting.antt`, `specs/Telling.antt`).
-//! - `AreSources` says that a project and its takes were read, `SourcesUnread` why not (`specs/Sources.antt`).
+//! - `AreSources` says that a project and its takes stand there, `SourcesUnread` why they weren't read (`specs/Sources.antt`);
+//!   `HearsSources` what was heard of them (`specs/Hearing.antt`).
 #![tactic(auto)]
 
 mod converting;
 mod fault;
+mod hearing;
 mod outlining;
 mod playing;
 mod sources;
@@ -24,5 +27,5 @@ pub use converting::convert_file;
 pub use fault::CommandFault;
 pub use outlining::MOST_KEPT;
 pub use playing::play_file;
-pub use sources::{Sources, read_sources};
+pub use sources::{Sources, hear_sources};
 pub use telling::open_file;

@@ -1,0 +1,47 @@
+//! Masters cut and judged by what was heard of a project's takes.
+
+ghost use Rattle.std.specs.Prelude.{List, ℕ, IfErr, IfOk, None, Some, length};
+ghost use Rattle.splice_core.specs.Splices.{splice_content};
+ghost use Rattle.form_core.specs.Steps.{Fails};
+ghost use Rattle.cut_core.specs.Opening.{IsOfTakes};
+ghost use Rattle.archive_core.specs.Checking.{Accepts, IfAccepted, IfRejected, RejectsFirst};
+ghost use Rattle.archive_core.specs.Cutting.{said_cut};
+ghost use Rattle.archive_core.specs.Editing.{IsEdited};
+ghost use Rattle.command_core.specs.Sources.{AreHeardOf};
+
+use archive_core::{Edited, Fault, Form, Verdict, check_heard, edit_heard};
+use std::alloc::Global;
+use transfer_commands::Sources;
+
+/// The master of what was heard, with its certificate.
+///
+/// Refusals: the first fault of what the takes' files hold; those of [`edit_heard`].
+pub(crate) fn cut_sources(alloc: Global, sources: Sources, form: Form) -> Result<Edited, Fault>
+    requires { IsOfTakes (splice_content sources.splice) (length (splice_content sources.splice).takes) sources.takes }
+    // Of whichever project and files it was heard, it is cut of them, or refused as they are.
+    ensures found { (project : List ℕ) (files : List (List ℕ)) → AreHeardOf project files sources → IfOk result (IsEdited project files form) }
+    ensures accepted { (project : List ℕ) (files : List (List ℕ)) → AreHeardOf project files sources → IfOk result (λ made. Accepts project files made.master.items made.cert.items made.total) }
+    ensures refused { (project : List ℕ) (files : List (List ℕ)) → AreHeardOf project files sources → IfErr result (λ fault. Fails Fault.Memory fault (said_cut project files (Some form))) }
+{
+    let Sources { splice, takes } = sources;
+    edit_heard(alloc, splice, takes?, form)
+}
+
+/// What a master and its certificate come to by what was heard.
+///
+/// Refusals: the first fault of what the takes' files hold; those of [`check_heard`].
+pub(crate) fn judge_sources(
+    alloc: Global,
+    sources: Sources,
+    master: &[u8],
+    cert: &[u8],
+) -> Result<Verdict, Fault>
+    requires { IsOfTakes (splice_content sources.splice) (length (splice_content sources.splice).takes) sources.takes }
+    // Of whichever project and files it was heard, it is judged by them, or refused as they are.
+    ensures found { (project : List ℕ) (files : List (List ℕ)) → AreHeardOf project files sources → IfAccepted result (Accepts project files master.now cert.now) }
+    ensures rejected { (project : List ℕ) (files : List (List ℕ)) → AreHeardOf project files sources → IfRejected result (RejectsFirst project files master.now cert.now) }
+    ensures refused { (project : List ℕ) (files : List (List ℕ)) → AreHeardOf project files sources → IfErr result (λ fault. Fails Fault.Memory fault (said_cut project files None)) }
+{
+    let Sources { splice, takes } = sources;
+    check_heard(alloc, splice, takes?, master, cert)
+}

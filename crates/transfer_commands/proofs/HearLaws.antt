@@ -1,0 +1,79 @@
+-- What is heard of files one by one, and of those of a project.
+use Rattle.std.proofs.Common.{◌≡◌, ℕ, ◌+◌, ◌<◌, ◌≤◌, List, [], ◌∷◌, ◌++◌, Result, Ok, Err, Some, Global, Vec, inl, inr, get_or, length, map, take, refl, sym, ap, subst, ◌∙◌, arith}
+use Rattle.std.proofs.lemmas.Bool.{eq-eqb}
+use Rattle.std.proofs.lemmas.List.{length-append, length-map, length-take-le, map-append, take_more}
+use Rattle.dsd_bits.specs.Contents.{Content}
+use Rattle.splice_core.specs.Splices.{SpliceContent}
+use Rattle.form_core.specs.Steps.{Fails}
+use Rattle.cut_core.specs.declared.fault.CutFault.{CutFault}
+use Rattle.cut_core.specs.declared.heard.Heard.{Heard}
+use Rattle.cut_core.specs.Opening.{HearsTake, HearsTakes, take_in, takes_before, takes_of}
+use Rattle.cut_core.proofs.HearingLaws.{heard_none}
+use Rattle.transfer_core.specs.declared.fault.Fault.{Fault}
+use Rattle.transfer_core.specs.declared.fault.Fault.TheVariants.{Memory}
+use Rattle.transfer_core.specs.Projects.{SaysSplice, splice_of, take_names_of}
+use Rattle.folder_core.specs.Files.{AreFiles, Files}
+use Rattle.transfer_commands.specs.declared.fault.CommandFault.{CommandFault}
+use Rattle.transfer_commands.specs.declared.fault.CommandFault.TheVariants as faults
+use Rattle.transfer_commands.specs.Hearing.{HearsFile, HearsFiles, HearsSources}
+use Rattle.transfer_commands.specs.Outlining.{IsUnread}
+use Rattle.transfer_commands.specs.Sources.{IsUnnamed, SourcesUnread}
+
+-- ---- files one by one
+pub no_files : (old : Files) (splice : SpliceContent) (heard : Result (Vec Heard Global) CutFault) (hs : Vec Heard Global) → heard ≡ Ok hs → hs.items ≡ [] → HearsFiles old splice [] heard
+no_files old splice heard hs is none = record {
+  files = [];
+  stand = refl;
+  hears = subst (λ h. HearsTakes splice h (takes_before [] 0)) (sym is) ([], refl, rw none (heard_none splice));
+}
+
+pub as_many : (old : Files) (names files : List (List ℕ)) → AreFiles old names files → length files ≡ length names
+as_many old names files stand = sym (length-map files (λ (bytes : List ℕ). Some bytes)) ∙ sym (ap length stand) ∙ length-map names old
+
+module _ (old : Files) (splice : SpliceContent) (names : List (List ℕ)) (n : ℕ) (there : n < length names) where
+  pub files_more : (heard made : Result (Vec Heard Global) CutFault) (next : Result Heard CutFault) → HearsFiles old splice (take n names) heard → HearsFile old splice n (get_or names n []) next
+      → ((files : List (List ℕ)) (file : List ℕ) → HearsTakes splice heard (takes_before files (length files)) → HearsTake splice (length files) next (take_in (length files) file) → HearsTakes splice made (takes_before (files ++ file ∷ []) (length files + 1)))
+      → HearsFiles old splice (take (n + 1) names) made
+  files_more heard made next before one pushed =
+      let Bytes : Type 0 = List ℕ in
+      let many : length before.files ≡ n = as_many old (take n names) before.files before.stand ∙ length-take-le n names (omega arith) in
+      let more : length (before.files ++ one.file ∷ []) ≡ length before.files + 1 = length-append before.files (one.file ∷ []) in
+      let hears = pushed before.files one.file before.hears (subst (λ k. HearsTake splice k next (take_in k one.file)) (sym many) one.hears) in
+      record {
+        files = before.files ++ one.file ∷ [];
+        stand = ap (map old) (take_more names n [] there) ∙ map-append old (take n names) (get_or names n [] ∷ []) ∙ (λ j. before.stand j ++ one.file_stands j ∷ []) ∙ sym (map-append (λ (bytes : List ℕ). Some bytes) before.files (one.file ∷ []));
+        hears = subst (λ k. HearsTakes splice made (takes_before (before.files ++ one.file ∷ []) k)) (sym more) hears;
+      }
+
+-- ---- those of a project
+pub all_takes : (splice : SpliceContent) (files : List (List ℕ)) → length files ≡ length splice.takes → takes_of splice files ≡ takes_before files (length files)
+unfolding takes_of
+all_takes splice files many = rw (eq-eqb _ _ many) refl
+
+pub sources_heard : (name : List ℕ) (old read : Files) (project : List ℕ) (splice : SpliceContent) (heard : Result (Vec Heard Global) CutFault) → read ≡ old → old name ≡ Some project → SaysSplice project splice → HearsFiles read splice splice.takes heard → HearsSources name old splice heard
+sources_heard name old read project splice heard same stands says h = record {
+  project = project;
+  takes = h.files;
+  sources = record {
+    names = splice.takes;
+    project_stands = stands;
+    names_said = record { splice = splice; says = says; names_are = refl };
+    takes_stand = subst (λ (f : Files). AreFiles f splice.takes h.files) same h.stand;
+  };
+  project_says = says;
+  hears = rw (all_takes splice h.files (as_many read splice.takes h.files h.stand)) h.hears;
+}
+
+-- a project without a splice names no takes
+named_by : (project : List ℕ) (fault : Fault) → Fails Memory fault (splice_of project) → Fails Memory fault (take_names_of project)
+unfolding take_names_of
+named_by project fault (inl memory) = inl memory
+named_by project fault (inr refused) = inr (rw refused refl)
+
+pub unnamed : (name : List ℕ) (old : Files) (project : List ℕ) (fault : Fault) → old name ≡ Some project → Fails Memory fault (splice_of project) → IsUnnamed name old fault
+unnamed name old project fault stands fails = record { project = project; project_stands = stands; first = named_by project fault fails }
+
+pub unread : (name : List ℕ) (old new : Files) (fault : CommandFault) → new ≡ old → IsUnread fault → SourcesUnread name old new fault
+unread name old new (faults.Call Memory) same is = (same, inl refl)
+unread name old new faults.ReadFailed same is = same
+unread name old new fault same is = absurd is

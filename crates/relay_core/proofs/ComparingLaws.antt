@@ -1,15 +1,15 @@
 -- Bytes that are read one after the other.
-use Rattle.std.proofs.Common.{◌≡◌, ◌≢◌, ℕ, ◌+◌, ◌-◌, ◌<◌, ◌≤◌, List, [], ◌++◌, length, take, drop, take-append-drop, Option, None, Some, refl, sym, subst, ap, ap₂, ◌∙◌, arith, append_assoc, append-nil, length-append}
+use Rattle.std.proofs.Common.{◌≡◌, ◌≢◌, ℕ, ◌+◌, List, ◌++◌, length, take, drop, take-append-drop, Option, None, Some, refl, sym, subst, ap, ap₂, ◌∙◌, arith, append_assoc, length-append}
 use Rattle.std.proofs.lemmas.List.{append_cancel_left}
 use Rattle.std.proofs.Math.Seq.{take-append_seam}
 use Rattle.std.specs.Io.KnownBytes.{Consumes}
-use Rattle.std.proofs.KnownBytes.{Consumes-nil, Consumes-trans}
+use Rattle.std.proofs.KnownBytes.{Consumes-trans}
 use Rattle.std.specs.Prelude.{true, false}
 use Rattle.std.specs.Str.{bytes_eq}
 use Rattle.std.proofs.lemmas.Slice.Eq.{bytes_eq-Decides}
 use Rattle.stream_core.specs.declared.fault.StreamFault.{StreamFault}
 use Rattle.stream_core.specs.declared.fault.StreamFault.TheVariants.{FileRefused, RateNotDivided, TooLarge, ReadFailed, WriteFailed, TurnLimit, Memory}
-use Rattle.relay_core.specs.Comparing.{ConsumesMany, IsExpectFault, IsFillFault}
+use Rattle.relay_core.specs.Comparing.{ConsumesMany, IsExpectFault}
 
 -- as many bytes are left as there are behind those that were read
 pub left_is : (a b : Option (List ℕ)) (read xs : List ℕ) → Consumes a b read → a ≡ Some xs → (ys : List ℕ) × (b ≡ Some ys) × (xs ≡ read ++ ys)
@@ -32,16 +32,6 @@ pub differ : (xs ys : List ℕ) → xs ≡ ys → false ≡ bytes_eq xs ys → �
 differ xs ys same apart =
     let both : false ≡ true = apart ∙ (bytes_eq-Decides xs ys).1 same in
     absurd cc
-
-pub part_short : (a : Option (List ℕ)) (part : List ℕ) (n : ℕ) (f : StreamFault) → n ≡ length part → IsFillFault a n f → IsExpectFault a part f
-part_short None part n FileRefused size h = tt
-part_short (Some xs) part n FileRefused size h = λ rest is. omega (arith, h, size, ap length is, length-append part rest)
-part_short a part n RateNotDivided size h = absurd h
-part_short a part n TooLarge size h = absurd h
-part_short a part n ReadFailed size h = tt
-part_short a part n WriteFailed size h = absurd h
-part_short a part n TurnLimit size h = absurd h
-part_short a part n Memory size h = absurd h
 
 pub part_differs : (a b : Option (List ℕ)) (read part : List ℕ) → Consumes a b read → length read ≡ length part → read ≢ part → IsExpectFault a part FileRefused
 part_differs None b read part consumed long differs = tt
@@ -73,33 +63,10 @@ module _ (a b : Option (List ℕ)) (bytes done left : List ℕ) (is : bytes ≡ 
   expect_fault part rest TurnLimit split h = absurd h
   expect_fault part rest Memory split h = absurd h
 
-  -- nothing is left to be read
-  pub expect_all : left ≡ [] → Consumes a b bytes
-  expect_all none = subst (Consumes a b) (sym (is ∙ ap (λ zs. done ++ zs) none ∙ append-nil done)) so_far
-
 -- ---- so many bytes
-pub many_none : (a : Option (List ℕ)) → ConsumesMany a a 0
-many_none a = record { bytes = []; consumed = Consumes-nil a; long = refl }
-
 pub many_on : (a b c : Option (List ℕ)) (m n : ℕ) (read : List ℕ) → ConsumesMany a b m → Consumes b c read → length read ≡ n → ConsumesMany a c (m + n)
 many_on a b c m n read so_far consumed long = record {
   bytes = so_far.bytes ++ read;
   consumed = Consumes-trans a b c so_far.bytes read so_far.consumed consumed;
   long = omega (arith, length-append so_far.bytes read, so_far.long, long);
 }
-
-pub many_fault : (a b : Option (List ℕ)) (wanted left size : ℕ) (so_far : ConsumesMany a b (wanted - left)) → left ≤ wanted → size ≤ left → (f : StreamFault) → IsFillFault b size f → IsFillFault a wanted f
-many_fault a b wanted left size so_far within few FileRefused h = by a refl
-  where
-    by : (o : Option (List ℕ)) → a ≡ o → IsFillFault o wanted FileRefused
-    by None known = tt
-    by (Some xs) known =
-        let ys = left_is a b so_far.bytes xs so_far.consumed known in
-        let fewer : length ys.0 < size = subst (λ o. IsFillFault o size FileRefused) ys.1 h in
-        omega (arith, fewer, ap length ys.2, length-append so_far.bytes ys.0, so_far.long, within, few)
-many_fault a b wanted left size so_far within few RateNotDivided h = absurd h
-many_fault a b wanted left size so_far within few TooLarge h = absurd h
-many_fault a b wanted left size so_far within few ReadFailed h = tt
-many_fault a b wanted left size so_far within few WriteFailed h = absurd h
-many_fault a b wanted left size so_far within few TurnLimit h = absurd h
-many_fault a b wanted left size so_far within few Memory h = absurd h

@@ -2,7 +2,7 @@
 use Rattle.std.proofs.Common.{◌≡◌, ℕ, ◌+◌, ◌-◌, ◌%◌, ◌<◌, ◌≤◌, ◌^◌, ◌⊎◌, inl, inr, min, Bool, List, [], ◌++◌, map, length, get_or, set, take, drop, replicate, refl, sym, subst, ap, ap₂, ◌∙◌, arith, append-nil, length-append, length-take, length-drop}
 use Rattle.std.specs.Prelude.{slice_range}
 use Rattle.std.proofs.lemmas.Bool.{cases_lt}
-use Rattle.std.proofs.lemmas.List.{drop-append-le, drop-drop, drop_at, ext_get_or, get_or-map, get_or-replicate, get_or-set_other, get_or-set_same, length-map, length-replicate, length-set, nil_from_length, take_min}
+use Rattle.std.proofs.lemmas.List.{drop-append-le, drop-drop, drop_at, ext_get_or, get_or-map, get_or-replicate, get_or-set_other, get_or-set_same, length-map, length-replicate, length-set, nil_from_length}
 use Rattle.std.proofs.lemmas.List.FromFn.{get_or-map-range_with_len, length-map-range_with_len}
 use Rattle.dsd_bits.specs.declared.interleaving.Interleaving.{Interleaving}
 use Rattle.dsd_bits.specs.declared.interleaving.Interleaving.TheVariants.{Bytes, Blocks}
@@ -27,11 +27,6 @@ long_slice xs a b = omega (arith, length-take (b - a) (drop a xs), length-drop a
 pub slice_none : (xs : List Bool) (a b : ℕ) → (b ≤ a) ⊎ (length xs ≤ a) → slice_range xs a b ≡ []
 slice_none xs a b (inl before) = nil_from_length (slice_range xs a b) (omega (arith, long_slice xs a b, before))
 slice_none xs a b (inr behind) = nil_from_length (slice_range xs a b) (omega (arith, long_slice xs a b, behind))
-
-pub slice_min : (xs : List Bool) (a b end : ℕ) → end ≡ min b (length xs) → slice_range xs a end ≡ slice_range xs a b
-slice_min xs a b end is =
-    let size : end - a ≡ min (b - a) (length (drop a xs)) = omega (arith, is, length-drop a xs) in
-    ap (λ n. take n (drop a xs)) size ∙ take_min (b - a) (drop a xs)
 
 -- of two parts of a channel
 pub slice_join : (xs ys : List Bool) (a b : ℕ) → slice_range (xs ++ ys) a b ≡ slice_range xs a b ++ slice_range ys (a - length xs) (b - length xs)

@@ -4,6 +4,7 @@ pub mod LayoutLaws
 pub mod PackingLemmas
 pub mod PartLemmas
 pub mod RangeLemmas
+pub mod RoomLemmas
 pub mod RoundTrip
 pub mod ShiftingLemmas
 pub mod SoundLemmas

@@ -6,6 +6,8 @@ pub mod Lacing
 pub mod Layouts
 pub mod Limits
 pub mod Packing
+pub mod RoomView
+pub mod Rooms
 pub mod Shape
 pub mod Shifting
 pub mod Sounds

@@ -6,7 +6,8 @@ ghost use Rattle.dsd_bits.specs.Limits.{most_bits};
 ghost use Rattle.dsd_bits.specs.Packing.{IsTight, packed, unpacked};
 
 use crate::fault::BitsFault;
-use crate::packing::{append_bytes, clear_from, fill_byte, put_bit};
+use crate::packing::{clear_from, put_bit};
+use crate::ranges::append_range;
 use std::alloc::{AllocError, Global};
 use std::marker::Model;
 
@@ -121,15 +122,8 @@ impl Bits {
         ensures ok { OnOk result (self.new ≡ self.old ++ slice_range source.now start stop) }
         ensures err { OnErr result (self.new ≡ self.old) }
     {
-        let before = self.count;
-        let count = before + (stop - start);
-        let kept = self.bytes.len();
-        let added = count.div_ceil(8) - kept;
-        let from = source.as_bytes();
-        append_bytes(&mut self.bytes, from, start + (8 * kept - before), added)?;
-        fill_byte(&mut self.bytes, before, from, start);
-        clear_from(&mut self.bytes, count);
-        self.count = count;
+        append_range(&mut self.bytes, self.count, source, start, stop)?;
+        self.count += stop - start;
         Ok(())
     }
 }

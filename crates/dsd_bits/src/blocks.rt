@@ -119,7 +119,7 @@ pub fn push_blocks(out: &mut Vec<u8>, channels: &[Bits], order: BitOrder) -> Res
 
 // Appends the block of a channel in a group: 4096 of its bytes, with zeros behind their end. It fails
 // only where room is missing.
-fn push_block(
+pub(crate) fn push_block(
     out: &mut Vec<u8>,
     bytes: &[u8],
     group: usize,

@@ -241,7 +241,7 @@ fn bytes_from(channel: &Bits, from: usize, size: usize) -> &[u8]
 }
 
 // Writes the bytes of two channels in turn.
-fn lace_two(to: &mut [u8], left: &[u8], right: &[u8])
+pub(crate) fn lace_two(to: &mut [u8], left: &[u8], right: &[u8])
     requires left { length to.old ≡ 2 * length left.now }
     requires right { length right.now ≡ length left.now }
     ensures left { (frame : ℕ) → frame < length left.now →
@@ -256,7 +256,7 @@ fn lace_two(to: &mut [u8], left: &[u8], right: &[u8])
 }
 
 // Writes the bytes of a channel over byte `c` of each frame of so many channels.
-fn spread(to: &mut [u8], bytes: &[u8], channels: usize, c: usize)
+pub(crate) fn spread(to: &mut [u8], bytes: &[u8], channels: usize, c: usize)
     requires channel { c < channels }
     requires enough { channels * length bytes.now ≤ length to.old }
     ensures own { (frame : ℕ) → frame < length bytes.now →

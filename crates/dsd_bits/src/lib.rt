@@ -9,7 +9,9 @@
 //! [`unlace_bytes`] takes the sound bytes of DSDIFF apart into channels, and [`lace_bytes`] puts them
 //! together: what was laced is read again. [`unlace_blocks`] and [`lace_blocks`] do so with the blocks of
 //! DSF 1.01, in which each byte has the earliest bit at the one end or the other ([`BitOrder`]).
-//! [`push_laced`] and [`push_blocks`] put the sound bytes behind what a list of bytes already holds.
+//! [`push_laced`] and [`push_blocks`] put the sound bytes behind what a list of bytes already holds. A [`BitRoom`] is
+//! bits for which room is held: bits are added to it, and [`push_laced_rooms`] and [`push_blocked_rooms`] put its sound
+//! bytes where room is held, without memory and without a way to fail.
 //!
 //! A [`Recording`] is one record of lists and numbers: its rate, its channels, their IDs and layout,
 //! its marks, the chunks that it keeps as they are, and its tag. A [`Sound`] says what the sound of a file is, how its
@@ -23,6 +25,7 @@
 //!
 //! - `unpacked bytes n` is the list of the first `n` bits of some bytes, `packed bits` the bytes of a
 //!   list, `IsTight bytes n` says that bytes hold just `n` bits.
+//! - `RoomContent` is the bits of a [`BitRoom`] and how many there may be, `rooms_bits` the bits of several.
 //! - `laced_bit bytes channels c i` is bit `i` of channel `c` among sound bytes, `unlaced_all` all the
 //!   channels, `laced` the sound bytes of channels, `AreLaced` says where each bit stands.
 //! - `block_bit order bytes channels c i` is bit `i` of channel `c` among sound bytes in blocks,
@@ -58,7 +61,10 @@ mod layouts;
 mod limits;
 mod marks;
 mod packing;
+mod ranges;
 mod recording;
+mod room;
+mod room_lacing;
 mod sound;
 mod stretches;
 mod turning;
@@ -74,6 +80,8 @@ pub use layouts::{layout_channels, usual_layout};
 pub use limits::{BLOCK_BITS, BLOCK_BYTES, GREATEST_RATE, LEAST_RATE, MOST_BITS};
 pub use marks::{Mark, Other, Place};
 pub use recording::Recording;
+pub use room::BitRoom;
+pub use room_lacing::{push_blocked_rooms, push_laced_rooms};
 pub use sound::{Sound, SoundAt};
 pub use stretches::{BitRange, silent_channels, stretches_of};
 pub use turning::{turn, turn_byte};

@@ -1,6 +1,6 @@
 //! Packed bits that are written into bytes, whole bytes at a time.
 
-ghost use Rattle.std.specs.Prelude.{◌≡◌, ℕ, ◌+◌, ◌-◌, ◌*◌, ◌/◌, ◌%◌, ◌<◌, ◌≤◌, ◌++◌, ◌∷◌, [], Bool, List, false, if◌then◌else◌, is_ok, length, OnOk, slice_index, vec_len};
+ghost use Rattle.std.specs.Prelude.{◌≡◌, ℕ, ◌+◌, ◌-◌, ◌*◌, ◌/◌, ◌%◌, ◌<◌, ◌≤◌, ◌++◌, ◌∷◌, [], Bool, List, false, if◌then◌else◌, IsOk, is_ok, length, OnOk, slice_index, vec_capacity, vec_len};
 ghost use Rattle.std.specs.Int.{div_ceil};
 ghost use Rattle.dsd_bits.specs.Packing.{Holds, packed_bit, unpacked};
 ghost use Rattle.dsd_bits.specs.Shifting.{byte_across, byte_from, bytes_from};
@@ -11,6 +11,7 @@ use std::alloc::AllocError;
 pub(crate) fn clear_from(bytes: &mut Vec<u8>, from: usize)
     requires in_last { (from ≤ 8 * vec_len bytes.old) × (8 * vec_len bytes.old < from + 8) }
     ensures len { vec_len bytes.new ≡ vec_len bytes.old }
+    ensures capacity { vec_capacity bytes.new ≡ vec_capacity bytes.old }
     ensures holds { Holds bytes.new.items (unpacked bytes.old.items from) }
 {
     let used = from % 8;
@@ -37,6 +38,7 @@ pub(crate) fn fill_byte(bytes: &mut Vec<u8>, at: usize, source: &[u8], from: usi
     requires in_bytes { at ≤ 8 * vec_len bytes.old }
     requires spare { (i : ℕ) → at ≤ i → i < 8 * div_ceil at 8 → packed_bit bytes.old.items i ≡ false }
     ensures len { vec_len bytes.new ≡ vec_len bytes.old }
+    ensures capacity { vec_capacity bytes.new ≡ vec_capacity bytes.old }
     ensures before { (i : ℕ) → i < at → packed_bit bytes.new.items i ≡ packed_bit bytes.old.items i }
     ensures filled { (i : ℕ) → at ≤ i → i < 8 * div_ceil at 8 →
         packed_bit bytes.new.items i ≡ packed_bit source.now (from + (i - at)) }
@@ -60,6 +62,8 @@ pub(crate) fn append_bytes(
     ensures len { OnOk result (vec_len bytes.new ≡ vec_len bytes.old + size) }
     ensures items { bytes.new.items ≡
         (if is_ok result then bytes.old.items ++ bytes_from source.now at size else bytes.old.items) }
+    ensures capacity { vec_capacity bytes.old ≤ vec_capacity bytes.new }
+    ensures succeeds { vec_len bytes.old + size ≤ vec_capacity bytes.old → IsOk result }
 {
     let first = at / 8;
     if at % 8 == 0 {

@@ -1,44 +1,10 @@
-use Rattle.std.proofs.Common.{◌≡◌, ℕ, ◌<◌, ◌+◌, ◌-◌, ◌*◌, ◌++◌, List, length, slice_index, vec_len, ◌∙◌, sym, ap, arith, rules}
-use Rattle.std.specs.Int.{div_ceil}
-use Rattle.dsd_bits.specs.Packing.{packed_bit}
-use Rattle.dsd_bits.specs.Shifting.{bytes_from}
-use Rattle.dsd_bits.proofs.PackingLemmas.{unpacked_is, IsTight-from_holds, length-unpacked}
-use Rattle.dsd_bits.proofs.RangeLemmas.{range_appended}
+use Rattle.std.proofs.Common.{◌++◌, Bool, List, length, slice_range, ◌∙◌, ap, arith}
+use Rattle.dsd_bits.proofs.PackingLemmas.{length-unpacked}
 use Rattle.dsd_bits.proofs.bits.Bits.push_range.Goals as goal
-use Rattle.dsd_bits.proofs.bits.Bits.push_range.Goals.{In_ok-append_bytes}
 
--- the bytes that there are now are as many as the bits need
-all_bytes : (c : In_ok-append_bytes) → vec_len c.append_bytes.new.bytes ≡ div_ceil (c.self.inside.count + (c.args.stop - c.args.start)) 8
-all_bytes c = omega (arith, c.in_ok-append_bytes.ensures.len, c.len-kept.ensures, c.div_ceil.ensures, c.self.inside.bytes.ok.0, c.self.invariant.no_more, c.self.invariant.enough)
-
-pub clear_from-requires : goal.clear_from-requires
-clear_from-requires c =
-    let size = all_bytes (goal.at.clear_from-requires c).In_ok-append_bytes in
-    let same = c.fill_byte.ensures.len in
-    record { in_last = (omega arith, omega arith) }
-
-pub invariant_of-self-2 : goal.invariant_of-self-2
-invariant_of-self-2 c =
-    let size = all_bytes (goal.at.invariant_of-self-2 c).In_ok-append_bytes in
-    let filled = c.fill_byte.ensures.len in
-    let cleared = c.clear_from.ensures.len in
-    let items = c.clear_from.new.bytes.ok.0 in
-    let old = ap length (sym c.self.view_is) ∙ length-unpacked c.self.inside.bytes.items c.self.inside.count in
-    IsTight-from_holds _ _ _ c.clear_from.ensures.holds (length-unpacked _ _) (omega arith) (omega arith) (omega (arith, c.requires.in_limit))
+pub append_range-requires-clause-in_limit : goal.append_range-requires-clause-in_limit
+append_range-requires-clause-in_limit c = omega (arith, c.requires.in_limit, ap length c.self.view_is, length-unpacked c.self.inside.bytes.items c.self.inside.count)
 
 pub returns-clause-ok : goal.returns-clause-ok
 returns-clause-ok c =
-    let bytes = c.self.inside.bytes.items in
-    let n = c.self.inside.count in
-    let source = c.as_bytes-from.result.now in
-    let kept : c.len-kept.result ≡ length bytes = omega (arith, c.len-kept.ensures, c.self.inside.bytes.ok.0) in
-    let size : length bytes + (c.div_ceil.result - c.len-kept.result) ≡ div_ceil (n + (c.args.stop - c.args.start)) 8 = omega (arith, c.div_ceil.ensures, c.self.invariant.no_more, c.self.invariant.enough) in
-    let small : (j : ℕ) → slice_index source j < 256 = λ j. search rules in
-    let added = c.div_ceil.result - c.len-kept.result in
-    let appended = c.in_ok-append_bytes.ensures.items ∙ ap (λ (k : ℕ). bytes ++ bytes_from source (c.args.start + (8 * k - n)) added) kept in
-    unpacked_is _ _ _ c.clear_from.ensures.holds (length-unpacked _ _)
-    ∙ range_appended bytes n c.self.invariant c.args.self.now c.self.view_is source small c.args.source.now c.as_bytes-from.ensures.bits c.as_bytes-from.ensures.tight
-    c.args.start c.args.stop added c.requires.in_order c.requires.in_source size c.fill_byte.new.bytes.items
-    (λ i h. c.fill_byte.ensures.before i h ∙ ap (λ (b : List ℕ). packed_bit b i) appended)
-    (λ i h below. c.fill_byte.ensures.filled i h below)
-    (λ i h. c.fill_byte.ensures.behind i h ∙ ap (λ (b : List ℕ). packed_bit b i) appended)
+    c.in_ok-append_range.ensures.appended ∙ ap (λ (xs : List Bool). xs ++ slice_range c.args.source.now c.args.start c.args.stop) c.self.view_is

@@ -1,0 +1,16 @@
+-- What a `BitRoom` stands for.
+use Rattle.std.specs.Prelude.{◌*◌, ◌≤◌, vec_capacity}
+use Rattle.dsd_bits.specs.declared.room.BitRoom.TheInside.{Inside}
+use Rattle.dsd_bits.specs.Limits.{most_bits}
+use Rattle.dsd_bits.specs.Packing.{IsTight, unpacked}
+use Rattle.dsd_bits.specs.Rooms.{RoomContent}
+
+-- the bits in the bytes, and the room for them
+abbrev pub room_content : Inside → RoomContent
+room_content x = record { bits = unpacked x.bytes.items x.count; most = x.most }
+
+-- the bytes hold just the bits, and memory for as many as there may be is held
+pub record KeepsRoom (x : Inside) : Type 0 where
+  pub tight : IsTight x.bytes.items x.count
+  pub in_limit : x.most ≤ most_bits
+  pub held : x.most ≤ 8 * vec_capacity x.bytes

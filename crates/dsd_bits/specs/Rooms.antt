@@ -1,0 +1,11 @@
+-- Bits for which room is held.
+use Rattle.std.specs.Prelude.{ℕ, Bool, List, map}
+
+-- the bits, and how many there may be
+pub record RoomContent : Type 0 where
+  pub bits : List Bool
+  pub most : ℕ
+
+-- the bits in each of some rooms
+abbrev pub rooms_bits : List RoomContent → List (List Bool)
+rooms_bits rooms = map (λ room. room.bits) rooms

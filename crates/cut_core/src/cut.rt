@@ -1,6 +1,6 @@
 //! A splice with its takes.
 
-ghost use Rattle.std.specs.Prelude.{◌≡◌, ◌+◌, ◌-◌, ◌^◌, ◌<◌, ◌≤◌, ◌++◌, All, IfOk, List, OnOk, length, map};
+ghost use Rattle.std.specs.Prelude.{◌≡◌, ◌+◌, ◌-◌, ◌^◌, ◌<◌, ◌≤◌, ◌++◌, All, IfOk, List, OnOk, length, map, slice_range};
 ghost use Rattle.dsd_bits.specs.Contents.{Content, mark_content};
 ghost use Rattle.splice_core.specs.Cues.{IsCueWithin, cue_content};
 ghost use Rattle.splice_core.specs.Splices.{splice_content};
@@ -35,6 +35,17 @@ use std::marker::Model;
 pub struct Cut {
     splice: Splice,
     takes: Vec<Heard>,
+}
+
+/// The bits of a cue in a channel, where they stand.
+#[derive(Clone, Copy)]
+pub struct CuedBits<'a> {
+    /// What is heard of the take round the cue.
+    pub bits: &'a Bits,
+    /// The place of the cue's first bit in it.
+    pub start: usize,
+    /// The place after its last.
+    pub stop: usize,
 }
 
 impl Model for Cut {
@@ -153,6 +164,25 @@ impl Cut {
         self.first().channels().len()
     }
 
+    /// Where the bits of a cue in a channel stand.
+    pub fn cued(&self, channel: usize, cue: usize) -> CuedBits<'_>
+        requires channel { channel < cuts.channel_number self.now }
+        requires cue { cue < length self.now.splice.cues }
+        ensures bits { slice_range result.bits.now result.start result.stop ≡ cue_bits self.now channel cue }
+        ensures in_order { result.start ≤ result.stop }
+        ensures inside { result.stop ≤ length result.bits.now }
+        ensures long { result.stop - result.start ≡ (cue_at self.now cue).stop - (cue_at self.now cue).start }
+    {
+        let from = heard_from(&self.splice, cue);
+        let here = cues::cue_at(&self.splice, cue);
+        let stretch = cues::stretch(&self.splice, &self.takes, channel, cue);
+        CuedBits {
+            bits: stretch,
+            start: here.start - from,
+            stop: here.stop - from,
+        }
+    }
+
     /// Appends the bits of a cue in a channel. Err is want of memory.
     pub fn push_cue(&self, out: &mut Bits, channel: usize, cue: usize) -> Result<(), AllocError>
         requires channel { channel < cuts.channel_number self.now }
@@ -161,10 +191,8 @@ impl Cut {
         ensures appended { OnOk result (out.new ≡ out.old ++ cue_bits self.now channel cue) }
         ensures long { OnOk result (length out.new ≡ length out.old + ((cue_at self.now cue).stop - (cue_at self.now cue).start)) }
     {
-        let from = heard_from(&self.splice, cue);
-        let here = cues::cue_at(&self.splice, cue);
-        let stretch = cues::stretch(&self.splice, &self.takes, channel, cue);
-        out.push_range(stretch, here.start - from, here.stop - from)
+        let here = self.cued(channel, cue);
+        out.push_range(here.bits, here.start, here.stop)
     }
 
     /// The places of all bridges, by rising cue and then by rising channel. A plain cut is no bridge. Err is want of

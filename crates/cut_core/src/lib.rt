@@ -35,7 +35,7 @@ mod takes;
 mod titles;
 
 pub use bridges::BridgePlace;
-pub use cut::Cut;
+pub use cut::{CuedBits, Cut};
 pub use fault::CutFault;
 pub use fitting::differ;
 pub use heard::{Heard, hear, ranges_of};

@@ -139,7 +139,7 @@ module _ (all first more : List (List Bool)) (n a : ℕ) (some : 1 ≤ n) (whole
         (λ p below. block_left p (omega (arith, one)))
         (λ p below. ap (λ k. block_byte order all (k + p)) one ∙ block_right p)
 
-written : (to : Interleaving) (all first more : List (List Bool)) (n a : ℕ) → 1 ≤ n → a % 32768 ≡ 0 → Appended all first more n a → laced_in to all ≡ laced_in to first ++ laced_in to more
+pub written : (to : Interleaving) (all first more : List (List Bool)) (n a : ℕ) → 1 ≤ n → a % 32768 ≡ 0 → Appended all first more n a → laced_in to all ≡ laced_in to first ++ laced_in to more
 written Bytes all first more n a some whole h = laced_join all first more n a some whole h
 written (Blocks order) all first more n a some whole h = blocked_join all first more n a some whole h order
 

@@ -6,7 +6,8 @@
 //!
 //! [`unlace`] takes a stretch apart into channels, [`push_relaced`] appends its bytes in the other interleaving. Whole groups and what stands behind them
 //! can be written one after the other ([`groups_join`]), so that a file is converted while it is read; [`stretch_bits`]
-//! says how much is taken at a time, [`stretch_size`] how many bytes that are.
+//! says how much is taken at a time, [`stretch_size`] how many bytes that are. [`push_rooms`] writes bits that stand in
+//! held rooms, without memory.
 //!
 //! The words of the contracts (`specs/Relacing.antt`):
 //! - `relaced from to channels count bytes` is what is written: the sound bytes, by `to`, of the channels that stand in
@@ -24,7 +25,9 @@
 mod groups;
 mod laws;
 mod relacing;
+mod rooms;
 
 pub use groups::{stretch_bits, stretch_size};
 pub use laws::groups_join;
 pub use relacing::{Stretch, push_relaced, unlace};
+pub use rooms::push_rooms;

@@ -6,3 +6,6 @@ pub mod JudgeLaws
 pub mod LeastLaws
 pub mod MasterLaws
 pub mod TotalLaws
+pub mod PartLaws
+pub mod SliceLaws
+pub mod WritingLaws

@@ -5,3 +5,5 @@ pub mod Choosing
 pub mod Claims
 pub mod Judging
 pub mod Masters
+pub mod Parting
+pub mod Writing

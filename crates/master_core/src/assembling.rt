@@ -115,7 +115,7 @@ fn push_chosen(
 }
 
 // The bits that were chosen for the bridge at a place, if there is a bridge.
-fn chosen_at<'a>(
+pub(crate) fn chosen_at<'a>(
     cut: &Cut,
     places: &[BridgePlace],
     chosen: &'a [Chosen],

@@ -28,9 +28,13 @@ mod comparing;
 mod entries;
 mod judging;
 mod making;
+mod parting;
 mod standing;
 mod verdict;
+mod writing;
 
 pub use judging::judge;
 pub use making::{Made, make};
+pub use parting::MasterSource;
 pub use verdict::{Reason, Verdict};
+pub use writing::{MasterRoom, has_one_best, master_room, write_sound};

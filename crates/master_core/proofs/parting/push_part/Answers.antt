@@ -1,0 +1,50 @@
+use Rattle.std.proofs.Common.{◌≡◌, ◌≤◌, ◌<◌, ◌+◌, ◌-◌, ◌++◌, ◌∙◌, Bool, List, ap, arith, length, sum_by, take}
+use Rattle.std.proofs.lemmas.List.Sums.{sum_by_more}
+use Rattle.dsd_bits.specs.Rooms.{RoomContent}
+use Rattle.splice_core.specs.Cues.{CueContent}
+use Rattle.cut_core.specs.Cuts.{cue_at, cue_bits, span}
+use Rattle.master_core.specs.Parting.{within}
+use Rattle.master_core.proofs.PartLaws.{front_best, front_long, front_nothing, part_more}
+use Rattle.master_core.proofs.parting.push_part.Goals as goal
+
+pub loop-cue-init : goal.loop-cue-init
+loop-cue-init c =
+    let cut = c.args.source.now.cut.now in
+    let first = cue_bits cut c.args.channel 0 in
+    record {
+      so_far = record {
+        whole = first;
+        front = front_nothing cut c.can_cut.ensures c.args.channel c.requires.channel (omega (arith, c.cue_number-cue-end.ensures.value, c.cue_number-cue-end.ensures.some));
+        part_is = ap (λ (r : RoomContent). r.bits) c.push_cue_part.ensures ∙ ap (λ (l : List Bool). l ++ within c.args.range first) c.requires.empty;
+      };
+      place = omega (arith, c.cue_length-at.ensures);
+      most = ap (λ (r : RoomContent). r.most) c.push_cue_part.ensures;
+      can = c.can_cut.ensures;
+    }
+
+pub loop-cue-preserved : goal.loop-cue-preserved
+loop-cue-preserved c =
+    let cut = c.args.source.now.cut.now in
+    let i = c.loop-cue.cue in
+    let so_far = c.loop-cue.invariant in
+    let lt : i + 1 < length cut.splice.cues = omega (arith, c.cue_number-cue-end.ensures.value) in
+    let one : sum_by span (take (i + 1) cut.splice.cues) ≡ sum_by span (take i cut.splice.cues) + span (cue_at cut i) = sum_by_more span cut.splice.cues i _ (omega (arith, lt)) in
+    record {
+      so_far = part_more cut c.can_cut.ensures c.args.channel c.requires.channel i c.args.range c.loop-cue.room.bits c.push_step.new.room.bits lt so_far.so_far c.push_step.ensures.step;
+      place = omega (arith, so_far.place, ap (λ (q : CueContent). q.bridge) c.cue.ensures.value, c.cue_length-at-in-loop-cue.ensures, one);
+      most = c.push_step.ensures.most ∙ so_far.most;
+      can = c.can_cut.ensures;
+    }
+
+pub returns-clause-part : goal.returns-clause-part
+returns-clause-part c =
+    let cut = c.args.source.now.cut.now in
+    let so_far = c.loop-cue.invariant.so_far in
+    let n = c.loop-cue.cue in
+    let all : n + 1 ≡ length cut.splice.cues = omega (arith, c.cue_number-cue-end.ensures.value, c.cue_number-cue-end.ensures.some, c.loop-cue-test.false, c.loop-cue.auto.cue-end) in
+    record {
+      whole = so_far.whole;
+      best = front_best cut c.can_cut.ensures c.args.channel c.requires.channel so_far.whole n all so_far.front;
+      long = front_long cut c.can_cut.ensures c.args.channel c.requires.channel so_far.whole n all so_far.front;
+      part_is = so_far.part_is;
+    }

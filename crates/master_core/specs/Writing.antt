@@ -1,0 +1,56 @@
+-- What is written of a master, and the room that it is written through.
+use Rattle.std.specs.Prelude.{◌≡◌, ℕ, ◌*◌, ◌/◌, ◌%◌, ◌≤◌, Bool, List, Option, All, length, map, vec_capacity}
+use Rattle.std.specs.Io.KnownBytes.{Appends}
+use Rattle.device_core.specs.Outlets.{AppendsFront}
+use Rattle.dsd_bits.specs.declared.interleaving.Interleaving.{Interleaving}
+use Rattle.dsd_bits.specs.declared.stretches.BitRange.{BitRange}
+use Rattle.dsd_bits.specs.Rooms.{RoomContent}
+use Rattle.relace_core.specs.Relacing.{laced_in}
+use Rattle.cut_core.specs.Cuts.{CutContent, channel_number, master_length}
+use Rattle.master_core.specs.Masters.{AreBestChannels}
+use Rattle.master_core.specs.Parting.{within}
+use Rattle.master_core.specs.declared.writing.MasterRoom.{MasterRoom}
+
+-- so many rooms, each for so many bits
+pub record AreRooms (number most : ℕ) (rooms : List RoomContent) : Type 0 where
+  pub as_many : length rooms ≡ number
+  pub large : All (λ room. most ≤ room.most) rooms
+
+-- a master of the cut can be written through the room: whole groups of blocks of its channels fit, and their sound bytes
+pub record IsRoomFor (cut : CutContent) (room : MasterRoom) : Type 0 where
+  pub rooms : AreRooms (channel_number cut) room.stretch room.rooms.items
+  pub some : 32768 ≤ room.stretch
+  pub groups : room.stretch % 32768 ≡ 0
+  pub fits : room.stretch / 32768 * channel_number cut ≤ 16
+  pub held : 65536 ≤ vec_capacity room.out
+
+-- the cut has one list of best channels, each as long as the master, and no other
+pub record HasOneBest (cut : CutContent) : Type 0 where
+  pub channels : List (List Bool)
+  pub best : AreBestChannels cut channels
+  pub long : All (λ z. length z ≡ master_length cut.splice.cues) channels
+  pub only : (others : List (List Bool)) → AreBestChannels cut others → others ≡ channels
+
+-- the sound bytes of the best channels were appended
+pub record WritesBest (cut : CutContent) (to : Interleaving) (old new : Option (List ℕ)) : Type 0 where
+  pub channels : List (List Bool)
+  pub best : AreBestChannels cut channels
+  pub written : Appends old new (laced_in to channels)
+
+-- a front of them was appended
+pub record WritesBestFront (cut : CutContent) (to : Interleaving) (old new : Option (List ℕ)) : Type 0 where
+  pub channels : List (List Bool)
+  pub best : AreBestChannels cut channels
+  pub written : AppendsFront old new (laced_in to channels)
+
+-- the sound bytes of the part of the best channels in a range were appended
+pub record WritesPart (cut : CutContent) (to : Interleaving) (range : BitRange) (old new : Option (List ℕ)) : Type 0 where
+  pub channels : List (List Bool)
+  pub best : AreBestChannels cut channels
+  pub written : Appends old new (laced_in to (map (within range) channels))
+
+-- a front of them was appended
+pub record WritesPartFront (cut : CutContent) (to : Interleaving) (range : BitRange) (old new : Option (List ℕ)) : Type 0 where
+  pub channels : List (List Bool)
+  pub best : AreBestChannels cut channels
+  pub written : AppendsFront old new (laced_in to (map (within range) channels))

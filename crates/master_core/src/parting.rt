@@ -1,0 +1,143 @@
+//! The part of a master's channel that lies in a range, put into held room.
+
+ghost use Rattle.std.specs.Prelude.{◌≡◌, ◌+◌, ◌-◌, ◌<◌, ◌≤◌, ◌++◌, [], length, slice_range};
+ghost use Rattle.cut_core.specs.Cuts.{channel_number, cue_at, cue_bits};
+ghost use Rattle.master_core.specs.Claims.{bridge_start};
+ghost use Rattle.master_core.specs.Masters.{IsFirstLeastPart, part_at};
+ghost use Rattle.master_core.specs.Parting.{IsBestPart, IsPartAdded, IsReady, IsStepAdded};
+
+use crate::assembling::chosen_at;
+use cut_core::{BridgePlace, Cut};
+use dsd_bits::{BitRange, BitRoom, Bits};
+use trellis_core::Chosen;
+
+/// What a master is made of: a cut, and the bits that were chosen for its bridges.
+#[derive(Clone, Copy)]
+pub struct MasterSource<'a> {
+    /// The cut.
+    pub cut: &'a Cut,
+    /// The places of its bridges, in their order.
+    pub places: &'a [BridgePlace],
+    /// The bits that were chosen for each.
+    pub chosen: &'a [Chosen],
+}
+
+/// Adds the part of a channel of the master that lies in a range to empty room, which is large enough for it.
+pub fn push_part(room: &mut BitRoom, source: &MasterSource<'_>, channel: usize, range: BitRange)
+    requires ready { IsReady source.now }
+    requires channel { channel < channel_number source.now.cut.now }
+    requires empty { room.old.bits ≡ [] }
+    requires in_room { range.stop - range.start ≤ room.old.most }
+    ensures most { room.new.most ≡ room.old.most }
+    ensures part { IsBestPart source.now.cut.now channel range room.new.bits }
+{
+    let cut = source.cut;
+    cut.can_cut();
+    push_cue_part(room, cut, channel, 0, range);
+    let mut at = cue_length(cut, 0);
+    for cue in 0..cut.cue_number() - 1 {
+        push_step(room, source, BridgePlace { cue, channel }, at, range);
+        at += cut.cue(cue).bridge;
+        at += cue_length(cut, cue + 1);
+    }
+}
+
+// Adds the parts of the bridge at a place, which starts at a bit of the channel, and of the cue behind it that lie in a
+// range.
+fn push_step(
+    room: &mut BitRoom,
+    source: &MasterSource<'_>,
+    place: BridgePlace,
+    at: usize,
+    range: BitRange,
+)
+    requires ready { IsReady source.now }
+    requires channel { place.channel < channel_number source.now.cut.now }
+    requires cue { place.cue + 1 < length source.now.cut.now.splice.cues }
+    requires start { at ≡ bridge_start source.now.cut.now place.cue }
+    requires in_room { length room.old.bits + ((range.stop - at) - (range.start - at)) ≤ room.old.most }
+    ensures most { room.new.most ≡ room.old.most }
+    ensures step { IsStepAdded source.now.cut.now place range room.old.bits room.new.bits }
+{
+    let cut = source.cut;
+    cut.can_cut();
+    push_bridge_part(room, source, place, behind(range, at));
+    let next = at + cut.cue(place.cue).bridge;
+    push_cue_part(room, cut, place.channel, place.cue + 1, behind(range, next));
+}
+
+// How many bits a cue has.
+fn cue_length(cut: &Cut, cue: usize) -> usize
+    requires { cue < length cut.now.splice.cues }
+    ensures { result ≡ (cue_at cut.now cue).stop - (cue_at cut.now cue).start }
+{
+    cut.can_cut();
+    let cue = cut.cue(cue);
+    cue.stop - cue.start
+}
+
+// A range as it stands to what begins at a place.
+fn behind(range: BitRange, at: usize) -> BitRange
+    ensures start { result.start ≡ range.start - at }
+    ensures stop { result.stop ≡ range.stop - at }
+{
+    BitRange {
+        start: range.start.saturating_sub(at),
+        stop: range.stop.saturating_sub(at),
+    }
+}
+
+// Adds the part of a cue in a channel that lies in a range of it.
+fn push_cue_part(room: &mut BitRoom, cut: &Cut, channel: usize, cue: usize, range: BitRange)
+    requires channel { channel < channel_number cut.now }
+    requires cue { cue < length cut.now.splice.cues }
+    requires in_room { length room.old.bits + (range.stop - range.start) ≤ room.old.most }
+    ensures { room.new ≡ record room.old { bits = room.old.bits ++ slice_range (cue_bits cut.now channel cue) range.start range.stop } }
+{
+    let here = cut.cued(channel, cue);
+    let piece = BitRange {
+        start: here.start,
+        stop: here.stop,
+    };
+    push_within(room, here.bits, piece, range);
+}
+
+// Adds the part of the bits that were chosen for the bridge at a place that lies in a range of them. A plain cut has
+// none.
+fn push_bridge_part(
+    room: &mut BitRoom,
+    source: &MasterSource<'_>,
+    place: BridgePlace,
+    range: BitRange,
+)
+    requires ready { IsReady source.now }
+    requires channel { place.channel < channel_number source.now.cut.now }
+    requires cue { place.cue + 1 < length source.now.cut.now.splice.cues }
+    requires in_room { length room.old.bits + (range.stop - range.start) ≤ room.old.most }
+    ensures most { room.new.most ≡ room.old.most }
+    ensures bridged { IsPartAdded (IsFirstLeastPart (part_at source.now.cut.now place.channel place.cue)) range room.old.bits room.new.bits }
+{
+    source.cut.can_cut();
+    match chosen_at(source.cut, source.places, source.chosen, place) {
+        Some(bridge) => {
+            let piece = BitRange {
+                start: 0,
+                stop: bridge.bits.len(),
+            };
+            push_within(room, &bridge.bits, piece, range);
+        }
+        None => {}
+    }
+}
+
+// Adds the part of a piece of some bits that lies in a range of the piece.
+fn push_within(room: &mut BitRoom, bits: &Bits, piece: BitRange, range: BitRange)
+    requires in_order { piece.start ≤ piece.stop }
+    requires inside { piece.stop ≤ length bits.now }
+    requires in_room { length room.old.bits + (range.stop - range.start) ≤ room.old.most }
+    ensures { room.new ≡ record room.old { bits = room.old.bits ++ slice_range (slice_range bits.now piece.start piece.stop) range.start range.stop } }
+{
+    let stop = range.stop.min(piece.stop - piece.start);
+    let start = range.start.min(stop);
+    room.push_range(bits, piece.start + start, piece.start + stop);
+}

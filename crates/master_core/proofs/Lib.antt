@@ -6,6 +6,7 @@ pub mod JudgeLaws
 pub mod LeastLaws
 pub mod MasterLaws
 pub mod TotalLaws
+pub mod FilingLaws
 pub mod PartLaws
 pub mod SliceLaws
 pub mod WritingLaws

@@ -34,7 +34,7 @@ titles_short rate place weights takes (cue ∷ cues) h =
     let fits : IsCueWithin weights takes cue = h 0 cue (omega arith) in
     All-append (λ (mark : MarkContent). length mark.text < 2 ^ 32) (mark_of_title rate place cue.title) (titles_from rate (place + span cue) cues) (title_short rate place cue.title fits.title_fits) (titles_short rate (place + span cue) weights takes cues (λ k d lt. h (suc k) d (omega arith)))
 
-marks_short : (form : Form) (cut : CutContent) → CanCut cut → All (λ (mark : MarkContent). length mark.text < 2 ^ 32) (marks_in form cut)
+pub marks_short : (form : Form) (cut : CutContent) → CanCut cut → All (λ (mark : MarkContent). length mark.text < 2 ^ 32) (marks_in form cut)
 marks_short forms.Dsdiff cut can = titles_short cut.first.rate 0 (length cut.splice.weights) (length cut.splice.takes) cut.splice.cues can.splicing.each_fits
 marks_short forms.Dsf cut can = All-nil (λ (mark : MarkContent). length mark.text < 2 ^ 32)
 marks_short forms.Dsf8 cut can = All-nil (λ (mark : MarkContent). length mark.text < 2 ^ 32)

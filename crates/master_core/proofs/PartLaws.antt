@@ -1,5 +1,5 @@
 -- A part of a channel in the making, and that there is a best channel.
-use Rattle.std.proofs.Common.{◌≡◌, ℕ, zero, suc, ◌+◌, ◌-◌, ◌<◌, ◌≤◌, ◌⊎◌, ◌&&◌, inl, inr, Bool, true, false, eqb, List, [], ◌∷◌, ◌++◌, length, map, get_or, slice_range, sum_by, take, append_assoc, refl, sym, ap, ap₂, subst, ◌∙◌, arith}
+use Rattle.std.proofs.Common.{◌≡◌, ℕ, zero, suc, ◌+◌, ◌-◌, ◌<◌, ◌≤◌, ◌⊎◌, ◌&&◌, inl, inr, Bool, true, false, eqb, List, [], ◌∷◌, ◌++◌, length, map, slice_range, sum_by, take, append_assoc, refl, sym, ap, ap₂, subst, ◌∙◌, arith}
 use Rattle.std.specs.List.{All, AllZip, range_with_len}
 use Rattle.std.proofs.lemmas.List.{length-append, length-map}
 use Rattle.std.proofs.lemmas.List.Elements.{All-append, All-cons, All-nil}
@@ -9,19 +9,18 @@ use Rattle.dsd_bits.specs.declared.stretches.BitRange.{BitRange}
 use Rattle.dsd_bits.specs.Contents.{Content}
 use Rattle.form_core.specs.declared.form.Form.TheVariants.{Dsf}
 use Rattle.cost_core.specs.Bridges.{IsFirstLeastBridge, bridge_cost}
-use Rattle.cost_core.specs.Channels.{Part, channel}
+use Rattle.cost_core.specs.Channels.{channel}
 use Rattle.trellis_core.specs.declared.bridging.Chosen.{Chosen}
 use Rattle.cut_core.specs.Bridges.{bridges}
 use Rattle.cut_core.specs.Cuts.{CutContent, channel_number, cue_at, cue_bits, master_length, span, window}
 use Rattle.cut_core.specs.Keeping.{CanCut}
 use Rattle.cut_core.specs.declared.bridges.BridgePlace.{BridgePlace}
 use Rattle.cut_core.proofs.BridgeLaws.{no_bridge, other_place, range_more, same_place}
-use Rattle.cut_core.proofs.CutLaws.{first_shape}
 use Rattle.cut_core.proofs.ZipLaws.{zip_long, zip_more, zip_of_map}
 use Rattle.master_core.specs.Choosing.{AreChosen, IsChosenAt}
 use Rattle.master_core.specs.Claims.{bridge_start}
-use Rattle.master_core.specs.Masters.{AreBestChannels, IsBestChannel, IsFirstLeastPart, channel_numbers, master_of, part_at, total_cost}
-use Rattle.master_core.specs.Parting.{IsBestPart, IsStepAdded, behind, within}
+use Rattle.master_core.specs.Masters.{AreBestChannels, IsBestChannel, IsFirstLeastPart, master_of, part_at, total_cost}
+use Rattle.master_core.specs.Parting.{IsStepAdded, behind, within}
 use Rattle.master_core.specs.Writing.{HasOneBest}
 use Rattle.master_core.proofs.ChannelLaws.{channel_on, nothing_first, whole_length}
 use Rattle.master_core.proofs.MasterLaws.{one_master}

@@ -1,15 +1,14 @@
 -- Parts of channels that are written one after the other, and the room that they are written through.
-use Rattle.std.proofs.Common.{◌≡◌, ℕ, ◌+◌, ◌-◌, ◌*◌, ◌/◌, ◌%◌, ◌<◌, ◌≤◌, ◌⊎◌, inl, inr, min, Bool, List, [], ◌∷◌, ◌++◌, Option, Result, Ok, Err, OnOk, OnErr, length, map, get_or, slice_range, set, append_assoc, append-nil, zero-mul, refl, sym, ap, subst, ◌∙◌, arith}
+use Rattle.std.proofs.Common.{◌≡◌, ℕ, ◌+◌, ◌-◌, ◌*◌, ◌/◌, ◌%◌, ◌<◌, ◌≤◌, ◌⊎◌, inl, inr, min, Bool, List, [], ◌∷◌, ◌++◌, Option, Result, Ok, Err, OnOk, OnErr, length, map, get_or, slice_range, set, append_assoc, zero-mul, refl, sym, ap, subst, ◌∙◌, arith}
 use Rattle.std.specs.List.{All, AllZip, range_with_len}
 use Rattle.std.specs.Int.{div_ceil}
 use Rattle.std.specs.Io.KnownBytes.{Appends}
 use Rattle.std.proofs.KnownBytes.{Appends-nil, Appends-trans}
 use Rattle.std.proofs.lemmas.Bool.{cases_lt}
-use Rattle.std.proofs.lemmas.List.{ext_get_or, get_or-map, get_or-set_other, get_or-set_same, get_or_append_left, get_or_push, length_push, length-map, length-set, map-set}
+use Rattle.std.proofs.lemmas.List.{ext_get_or, get_or-map, get_or-set_other, get_or-set_same, get_or_append_left, get_or_push, length_push, length-map, map-set}
 use Rattle.std.proofs.lemmas.List.Elements.{All-append, All-cons, All-nil}
 use Rattle.std.proofs.Math.Seq.{map-set_same}
 use Rattle.device_core.specs.Outlets.{AppendsFront}
-use Rattle.dsd_bits.specs.declared.blocks.BitOrder.{BitOrder}
 use Rattle.dsd_bits.specs.declared.interleaving.Interleaving.{Interleaving}
 use Rattle.dsd_bits.specs.declared.interleaving.Interleaving.TheVariants.{Bytes, Blocks}
 use Rattle.dsd_bits.specs.declared.stretches.BitRange.{BitRange}
@@ -24,7 +23,7 @@ use Rattle.relace_core.proofs.JoinLaws.{Appended, written}
 use Rattle.relace_core.specs.Relacing.{laced_in}
 use Rattle.cut_core.specs.Cuts.{CutContent, channel_number, master_length}
 use Rattle.cut_core.proofs.BridgeLaws.{range_more}
-use Rattle.cut_core.proofs.ZipLaws.{zip_long, zip_more, zip_numbers_long}
+use Rattle.cut_core.proofs.ZipLaws.{zip_more, zip_numbers_long}
 use Rattle.master_core.specs.Masters.{AreBestChannels, IsBestChannel}
 use Rattle.master_core.specs.Parting.{AreBestParts, IsBestPart, within}
 use Rattle.master_core.specs.Writing.{AreRooms, HasOneBest, WritesBest, WritesBestFront, WritesPart, WritesPartFront}
@@ -43,10 +42,10 @@ pub on_err : {X E : Type 0} {P Q : Type 0} (r : Result X E) → (P → Q) → On
 on_err (Ok x) f p = tt
 on_err (Err e) f p = f p
 
-front_more : (a b : Option (List ℕ)) (xs ys : List ℕ) → AppendsFront a b xs → AppendsFront a b (xs ++ ys)
+pub front_more : (a b : Option (List ℕ)) (xs ys : List ℕ) → AppendsFront a b xs → AppendsFront a b (xs ++ ys)
 front_more a b xs ys f = (f.0, f.1 ++ ys, ap (λ zs. zs ++ ys) f.2 ∙ append_assoc f.0 f.1 ys, f.3)
 
-front_on : (a b c : Option (List ℕ)) (xs ys : List ℕ) → Appends a b xs → AppendsFront b c ys → AppendsFront a c (xs ++ ys)
+pub front_on : (a b c : Option (List ℕ)) (xs ys : List ℕ) → Appends a b xs → AppendsFront b c ys → AppendsFront a c (xs ++ ys)
 front_on a b c xs ys p q = (xs ++ q.0, q.1, ap (λ zs. xs ++ zs) q.2 ∙ sym (append_assoc xs q.0 q.1), Appends-trans a b c xs q.0 p q.3)
 
 -- ---- parts of channels, as many and each as long

@@ -5,5 +5,6 @@ pub mod Choosing
 pub mod Claims
 pub mod Judging
 pub mod Masters
+pub mod Filing
 pub mod Parting
 pub mod Writing

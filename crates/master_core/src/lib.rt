@@ -26,6 +26,7 @@ mod certifying;
 mod choosing;
 mod comparing;
 mod entries;
+mod filing;
 mod judging;
 mod making;
 mod parting;
@@ -33,6 +34,7 @@ mod standing;
 mod verdict;
 mod writing;
 
+pub use filing::{master_ends, write_master};
 pub use judging::judge;
 pub use making::{Made, make};
 pub use parting::MasterSource;

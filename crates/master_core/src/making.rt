@@ -69,7 +69,7 @@ pub fn make(alloc: Global, cut: &Cut, form: Form) -> Result<Made, AllocError>
 }
 
 // The marks of a master in a form: those of the titles in a DSDIFF file, none in a DSF file.
-fn marks_in(alloc: Global, cut: &Cut, form: Form) -> Result<Vec<Mark>, AllocError>
+pub(crate) fn marks_in(alloc: Global, cut: &Cut, form: Form) -> Result<Vec<Mark>, AllocError>
     ensures { IfOk result (λ marks. map mark_content marks.items ≡ masters.marks_in form cut.now) }
 {
     match form {

@@ -1,4 +1,4 @@
-use Rattle.std.proofs.Common.{◌≡◌, ◌+◌, ◌-◌, ◌++◌, ◌∙◌, Bool, List, [], ap, arith, length, slice_range, sym}
+use Rattle.std.proofs.Common.{◌≡◌, ◌++◌, ◌∙◌, Bool, List, [], ap, arith, slice_range, sym}
 use Rattle.std.proofs.lemmas.List.{append-nil, nil_from_length}
 use Rattle.dsd_bits.specs.Rooms.{RoomContent}
 use Rattle.cost_core.specs.Bridges.{bridge_cost}

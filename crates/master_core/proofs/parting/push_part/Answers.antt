@@ -1,4 +1,4 @@
-use Rattle.std.proofs.Common.{◌≡◌, ◌≤◌, ◌<◌, ◌+◌, ◌-◌, ◌++◌, ◌∙◌, Bool, List, ap, arith, length, sum_by, take}
+use Rattle.std.proofs.Common.{◌≡◌, ◌<◌, ◌+◌, ◌++◌, ◌∙◌, Bool, List, ap, arith, length, sum_by, take}
 use Rattle.std.proofs.lemmas.List.Sums.{sum_by_more}
 use Rattle.dsd_bits.specs.Rooms.{RoomContent}
 use Rattle.splice_core.specs.Cues.{CueContent}

@@ -1,5 +1,4 @@
-use Rattle.std.proofs.Common.{◌++◌, Bool, List, ap, arith}
-use Rattle.dsd_bits.specs.Rooms.{RoomContent}
+use Rattle.std.proofs.Common.{◌++◌, Bool, List, ap}
 use Rattle.master_core.proofs.SliceLaws.{slice-slice}
 use Rattle.master_core.proofs.parting.push_within.Goals as goal
 

@@ -1,4 +1,4 @@
-use Rattle.std.proofs.Common.{◌≡◌, ◌+◌, ◌-◌, ◌<◌, ◌≤◌, length, map, refl, subst, ◌∙◌, arith}
+use Rattle.std.proofs.Common.{◌≡◌, ◌-◌, ◌<◌, length, refl, subst, ◌∙◌, arith}
 use Rattle.dsd_bits.specs.Rooms.{rooms_bits}
 use Rattle.dsd_bits.proofs.RoomLemmas.{length-rooms_bits}
 use Rattle.cut_core.specs.Cuts.{channel_number}

@@ -1,4 +1,4 @@
-use Rattle.std.proofs.Common.{◌≡◌, ◌+◌, ◌-◌, ◌%◌, ◌≤◌, ℕ, List, length, sym, ap, ap₂, subst, ◌∙◌, arith}
+use Rattle.std.proofs.Common.{◌≡◌, ◌-◌, ◌%◌, ℕ, List, length, sym, ap, ap₂, subst, ◌∙◌, arith}
 use Rattle.dsd_bits.specs.Channels.{IsLevel, count_of}
 use Rattle.dsd_bits.specs.Rooms.{RoomContent, rooms_bits}
 use Rattle.dsd_bits.specs.Sounds.{sound_size}

@@ -1,4 +1,4 @@
-use Rattle.std.proofs.Common.{◌≡◌, ◌+◌, ◌-◌, ◌<◌, ◌≤◌, ◌∙◌, Bool, List, ap, arith, length, map, slice_range, subst, sym}
+use Rattle.std.proofs.Common.{◌≡◌, ◌-◌, ◌<◌, ◌≤◌, ◌∙◌, ap, arith, length, map, slice_range, subst, sym}
 use Rattle.splice_core.specs.Cues.{CueContent}
 use Rattle.splice_core.specs.Splices.{splice_content}
 use Rattle.cut_core.specs.Cuts.{CutContent, channel_number, cue_at, cue_bits}

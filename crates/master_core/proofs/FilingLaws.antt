@@ -1,0 +1,88 @@
+-- The file of the best master, part by part.
+use Rattle.std.proofs.Common.{◌≡◌, ℕ, ◌≤◌, ◌<◌, Bool, List, [], ◌++◌, Option, Some, length, get_or, replicate, refl, sym, ap, ap₂, subst, ◌∙◌, arith}
+use Rattle.std.specs.Io.KnownBytes.{Appends}
+use Rattle.std.proofs.KnownBytes.{Appends-trans}
+use Rattle.std.proofs.lemmas.List.{get_or-replicate, length-replicate}
+use Rattle.std.proofs.lemmas.List.Elements.{All-nil}
+use Rattle.device_core.specs.Outlets.{AppendsFront, AppendsPart}
+use Rattle.dsd_bits.specs.Channels.{count_of}
+use Rattle.dsd_bits.specs.Shape.{HasShape}
+use Rattle.relace_core.specs.Relacing.{laced_in}
+use Rattle.form_core.specs.declared.form.Form.{Form}
+use Rattle.form_core.specs.declared.parts.Ends.{Ends}
+use Rattle.form_core.specs.Forms.{text_in}
+use Rattle.form_core.specs.Parts.{FitsIn, WrittenInParts, head_in, interleaving_in, tail_in}
+use Rattle.cut_core.specs.Cuts.{CutContent, channel_number, master_length}
+use Rattle.cut_core.specs.Keeping.{CanCut}
+use Rattle.cut_core.proofs.CutLaws.{first_shape}
+use Rattle.cut_core.proofs.ZipLaws.{zip_numbers_long}
+use Rattle.master_core.specs.Filing.{AreMasterEnds, WritesMaster, WritesMasterFront, silent_master}
+use Rattle.master_core.specs.Masters.{IsBestChannel, master_of}
+use Rattle.master_core.specs.Writing.{HasOneBest, WritesBest, WritesBestFront}
+use Rattle.master_core.proofs.MasterLaws.{marks_short}
+use Rattle.master_core.proofs.WritingLaws.{front_more, front_on}
+
+-- a master without its bits keeps the rules of recordings
+pub silent_shape : (cut : CutContent) → CanCut cut → (form : Form) → HasShape (silent_master cut form)
+silent_shape cut can form =
+    let first = first_shape cut can in
+    let many : length (replicate {A = List Bool} (channel_number cut) []) ≡ channel_number cut = length-replicate (channel_number cut) [] in
+    record {
+      rate_low = first.rate_low;
+      rate_high = first.rate_high;
+      some_channel = omega (arith, many, first.some_channel);
+      six_channels = omega (arith, many, first.six_channels);
+      level = record { same = λ k d lt. silent k d (omega (arith, many)) ∙ sym (silent 0 [] (omega (arith, first.some_channel))) };
+      in_limit = omega (arith, silent 0 [] (omega (arith, first.some_channel)));
+      id_for_each = first.id_for_each ∙ sym many;
+      layout_fits = first.layout_fits ∙ sym many;
+      short_texts = marks_short form cut can;
+      in_order = refl;
+      no_parts = All-nil _;
+    }
+  where
+    silent : (k : ℕ) (d : List Bool) → k < channel_number cut → length (get_or (replicate (channel_number cut) []) k d) ≡ 0
+    silent k d lt = ap length (get_or-replicate (channel_number cut) k [] d lt)
+
+part_front : (a b : Option (List ℕ)) (all : List ℕ) → AppendsPart a b all → AppendsFront a b all
+part_front a b all p = (p.0, p.1, p.2, p.4)
+
+module _ (cut : CutContent) (form : Form) (law : WrittenInParts) (ends : Ends) (are : AreMasterEnds cut form ends) (one : HasOneBest cut) (some : 1 ≤ channel_number cut) where
+  abbrev sound : List ℕ
+  sound = laced_in (interleaving_in form) one.channels
+
+  abbrev file : List ℕ
+  file = ends.head.items ++ (sound ++ ends.tail.items)
+
+  many : length one.channels ≡ channel_number cut
+  many = zip_numbers_long (IsBestChannel cut) (channel_number cut) one.channels one.best
+
+  count : count_of one.channels ≡ master_length cut.splice.cues
+  count = one.long 0 [] (omega (arith, many, some))
+
+  file_is : text_in form (master_of cut form one.channels) ≡ Some file
+  file_is =
+      let r = silent_master cut form in
+      law form r one.channels (length-replicate (channel_number cut) [] ∙ sym many) (subst (FitsIn form) (sym count) are.fits)
+      ∙ ap (λ n. Some (head_in form r n ++ (sound ++ tail_in form r n))) count
+      ∙ ap₂ (λ (h t : List ℕ). Some (h ++ (sound ++ t))) (sym are.head) (sym are.tail)
+
+  module _ (a0 a1 : Option (List ℕ)) where
+    pub head_front : AppendsPart a0 a1 ends.head.items → WritesMasterFront cut form a0 a1
+    head_front p = record { channels = one.channels; best = one.best; text = file; text_is = file_is; written = front_more a0 a1 ends.head.items (sound ++ ends.tail.items) (part_front a0 a1 ends.head.items p) }
+
+    module _ (head_out : Appends a0 a1 ends.head.items) (a2 : Option (List ℕ)) where
+      pub sound_front : WritesBestFront cut (interleaving_in form) a1 a2 → WritesMasterFront cut form a0 a2
+      sound_front p =
+          let here : AppendsFront a1 a2 sound = subst (λ zs. AppendsFront a1 a2 (laced_in (interleaving_in form) zs)) (one.only p.channels p.best) p.written in
+          record { channels = one.channels; best = one.best; text = file; text_is = file_is; written = front_on a0 a1 a2 ends.head.items (sound ++ ends.tail.items) head_out (front_more a1 a2 sound ends.tail.items here) }
+
+      module _ (written : WritesBest cut (interleaving_in form) a1 a2) (a3 : Option (List ℕ)) where
+        sound_out : Appends a1 a2 sound
+        sound_out = subst (λ zs. Appends a1 a2 (laced_in (interleaving_in form) zs)) (one.only written.channels written.best) written.written
+
+        pub tail_front : AppendsPart a2 a3 ends.tail.items → WritesMasterFront cut form a0 a3
+        tail_front p = record { channels = one.channels; best = one.best; text = file; text_is = file_is; written = front_on a0 a1 a3 ends.head.items (sound ++ ends.tail.items) head_out (front_on a1 a2 a3 sound ends.tail.items sound_out (part_front a2 a3 ends.tail.items p)) }
+
+        pub file_whole : Appends a2 a3 ends.tail.items → WritesMaster cut form a0 a3
+        file_whole tail_out = record { channels = one.channels; best = one.best; text = file; text_is = file_is; written = Appends-trans a0 a1 a3 ends.head.items (sound ++ ends.tail.items) head_out (Appends-trans a1 a2 a3 sound ends.tail.items sound_out tail_out) }

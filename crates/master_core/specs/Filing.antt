@@ -1,0 +1,37 @@
+-- The file of a master, in three parts.
+use Rattle.std.specs.Prelude.{◌≡◌, ℕ, Bool, List, [], Option, Some, replicate}
+use Rattle.std.specs.Io.KnownBytes.{Appends}
+use Rattle.device_core.specs.Outlets.{AppendsFront}
+use Rattle.dsd_bits.specs.Contents.{Content}
+use Rattle.form_core.specs.declared.form.Form.{Form}
+use Rattle.form_core.specs.declared.parts.Ends.{Ends}
+use Rattle.form_core.specs.Forms.{text_in}
+use Rattle.form_core.specs.Parts.{FitsIn, head_in, tail_in}
+use Rattle.cut_core.specs.Cuts.{CutContent, channel_number, master_length}
+use Rattle.master_core.specs.Masters.{AreBestChannels, master_of}
+
+-- the recording of a master without its bits
+abbrev pub silent_master : CutContent → Form → Content
+silent_master cut form = master_of cut form (replicate (channel_number cut) [])
+
+-- what stands around the sound in the master's file
+pub record AreMasterEnds (cut : CutContent) (form : Form) (ends : Ends) : Type 0 where
+  pub head : ends.head.items ≡ head_in form (silent_master cut form) (master_length cut.splice.cues)
+  pub tail : ends.tail.items ≡ tail_in form (silent_master cut form) (master_length cut.splice.cues)
+  pub fits : FitsIn form (master_length cut.splice.cues)
+
+-- the file of the best master was written
+pub record WritesMaster (cut : CutContent) (form : Form) (old new : Option (List ℕ)) : Type 0 where
+  pub channels : List (List Bool)
+  pub best : AreBestChannels cut channels
+  pub text : List ℕ
+  pub text_is : text_in form (master_of cut form channels) ≡ Some text
+  pub written : Appends old new text
+
+-- a front of it was written
+pub record WritesMasterFront (cut : CutContent) (form : Form) (old new : Option (List ℕ)) : Type 0 where
+  pub channels : List (List Bool)
+  pub best : AreBestChannels cut channels
+  pub text : List ℕ
+  pub text_is : text_in form (master_of cut form channels) ≡ Some text
+  pub written : AppendsFront old new text

@@ -62,6 +62,11 @@ fn fill_frames(to: &mut [u8], width: u32, samples: &[i32], frames: usize)
     ensures { to.new ≡ flat_map (sample_bytes width) (frames_of samples.now frames) }
 {
     let channels = samples.len() / frames;
+    if channels == 2 {
+        let (left, right) = samples.split_at(frames);
+        fill_pairs(to, width, left, right);
+        return;
+    }
     for c in 0..channels {
         spread(
             to,
@@ -70,6 +75,27 @@ fn fill_frames(to: &mut [u8], width: u32, samples: &[i32], frames: usize)
             channels,
             c,
         );
+    }
+}
+
+// Writes the samples of two channels over the frames of both, front to back: a frame's six bytes are one place in the
+// cache, which channel by channel is come to twice.
+#[inline(always)]
+fn fill_pairs(to: &mut [u8], width: u32, left: &[i32], right: &[i32])
+    requires width { IsWidth width }
+    requires left { All (IsSample width) left.now }
+    requires right { All (IsSample width) right.now }
+    requires as_many { length left.now ≤ length right.now }
+    requires enough { length left.now * 2 * (width / 8) ≤ length to.old }
+    ensures size { length to.new ≡ length to.old }
+    ensures left { (i k : ℕ) → i < length left.now → k < width / 8 →
+        slice_index to.new (i * 2 * (width / 8) + k) ≡ slice_index (sample_bytes width (slice_index_or left.now i (pos 0))) k }
+    ensures right { (i k : ℕ) → i < length left.now → k < width / 8 →
+        slice_index to.new ((i * 2 + 1) * (width / 8) + k) ≡ slice_index (sample_bytes width (slice_index_or right.now i (pos 0))) k }
+{
+    for i in 0..left.len() {
+        put_sample(to, width, i * 2, left[i]);
+        put_sample(to, width, i * 2 + 1, right[i]);
     }
 }
 

@@ -1,4 +1,5 @@
-use Rattle.std.proofs.Common.{◌≡◌, ◌+◌, ◌-◌, ◌*◌, ◌<◌, ◌∙◌, ap, arith, drop, get_or-drop, get_or-take, inl, inr, length, length-drop, length-take-le, pos, slice_index}
+use Rattle.std.proofs.Common.{◌≡◌, ◌+◌, ◌-◌, ◌*◌, ◌/◌, ◌≤◌, ◌<◌, ◌∙◌, ap, arith, drop, get_or, get_or-drop, get_or-take, inl, inr, length, length-drop, length-take-le, pos, slice_index}
+use Rattle.std.proofs.Math.Nat.{div-mul-le_self}
 use Rattle.std.proofs.lemmas.Bool.{cases_lt}
 use Rattle.wave_core.specs.Texts.{sample_bytes}
 use Rattle.wave_core.proofs.FrameLaws.{frames_joined, place_within}
@@ -23,3 +24,26 @@ pub returns : goal.returns
 returns c =
     frames_joined c.args.width c.requires.width c.args.samples.now c.args.frames c.loop-c.to (c.loop-c.auto.to ∙ c.requires.size)
     (λ i d k below in_frame in_bytes. c.loop-c.invariant i d k below (omega (arith, c.loop-c-test.false)) in_bytes)
+
+pub returns-then-channels-eq2 : goal.returns-then-channels-eq2
+returns-then-channels-eq2 c =
+    let frames = c.args.frames in
+    let samples = c.args.samples.now in
+    let width = c.args.width in
+    let to = c.fill_pairs.new.to in
+    let two = c.if-channels-eq2.true in
+    let enough : frames + frames ≤ length samples = omega (arith, div-mul-le_self (length samples) frames, ap (λ m. m * frames) two) in
+    let long = ap length c.split_at.ensures.front ∙ length-take-le frames samples (omega (arith, enough)) in
+    frames_joined width c.requires.width samples frames to (c.fill_pairs.ensures.size ∙ c.requires.size)
+    (λ i d k below in_frame in_bytes. elim (cases_lt d 1) [
+      | inl low ↦
+          let zero : 0 ≡ d = omega (arith, low) in
+          let place : (i * (length samples / frames) + d) * (width / 8) + k ≡ i * 2 * (width / 8) + k = ap (λ m. (i * m + d) * (width / 8) + k) two ∙ ap (λ m. m * (width / 8) + k) (omega (arith, low)) in
+          let read : get_or c.split_at.result.0.now i (pos 0) ≡ get_or samples (d * frames + i) (pos 0) = ap (λ xs. get_or xs i (pos 0)) c.split_at.ensures.front ∙ get_or-take frames samples i (pos 0) below ∙ ap (λ m. get_or samples m (pos 0)) (omega (arith, ap (λ m. m * frames) zero)) in
+          ap (λ m. slice_index to m) place ∙ c.fill_pairs.ensures.left i k (omega (arith, below, long)) in_bytes ∙ ap (λ z. slice_index (sample_bytes width z) k) read
+      | inr high ↦
+          let one : d ≡ 1 = omega (arith, high, in_frame, two) in
+          let place : (i * (length samples / frames) + d) * (width / 8) + k ≡ (i * 2 + 1) * (width / 8) + k = ap (λ m. (i * m + d) * (width / 8) + k) two ∙ ap (λ m. (i * 2 + m) * (width / 8) + k) one in
+          let read : get_or c.split_at.result.1.now i (pos 0) ≡ get_or samples (d * frames + i) (pos 0) = ap (λ xs. get_or xs i (pos 0)) c.split_at.ensures.back ∙ get_or-drop frames samples i (pos 0) ∙ ap (λ m. get_or samples m (pos 0)) (omega (arith, ap (λ m. m * frames) one)) in
+          ap (λ m. slice_index to m) place ∙ c.fill_pairs.ensures.right i k (omega (arith, below, long)) in_bytes ∙ ap (λ z. slice_index (sample_bytes width z) k) read
+    ])

@@ -67,7 +67,7 @@ fn edit_files<F: Folder>(
 ) -> Result<u128, CommandFault>
     ensures { IsTrue (F.is_told folder.old) → EditComesTo (record { form = form; project_name = project.now; master_name = master.now; cert_name = cert.now }) (F.file folder.old) (F.file folder.new) result }
 {
-    let sources = hear_sources(alloc, folder, project)?;
+    let sources = hear_sources(alloc, folder, project, MOST_KEPT)?;
     let edited = cut_sources(alloc, sources, form)?;
     write_file(folder, master, &edited.master)?;
     write_file(folder, cert, &edited.cert)?;
@@ -84,7 +84,7 @@ fn check_files<F: Folder>(
 ) -> Result<Verdict, CommandFault>
     ensures { IsTrue (F.is_told folder.old) → CheckComesTo project.now master.now cert.now (F.file folder.old) (F.file folder.new) result }
 {
-    let sources = hear_sources(alloc, folder, project)?;
+    let sources = hear_sources(alloc, folder, project, MOST_KEPT)?;
     let master = read_file(alloc, folder, master)?;
     let cert = read_file(alloc, folder, cert)?;
     Ok(judge_sources(alloc, sources, &master, &cert)?)

@@ -3,7 +3,10 @@
 
 ghost use Rattle.std.specs.Prelude.{None, false};
 
-use crate::builders::{CUES, file_in, mono_sources, stereo_sources, titled, titled_sources};
+use crate::builders::{
+    CUES, Sources, file_in, mono_sources, sources_of, splice, stereo_sources, titled,
+    titled_sources,
+};
 use crate::certifying::{LEVEL, cert_of};
 use crate::checking::accepts;
 use crate::conversion::{commented, converts, tagged};
@@ -17,7 +20,7 @@ use command_core::{
     read_whole, status,
 };
 use device_core::{Inlet, Outlet};
-use fixtures::files::{FILE, WAVE, mono, noted, stereo};
+use fixtures::files::{FILE, WAVE, dsf_of, mono, noted, stereo};
 use fixtures::projects::{DECIMATE, SPLICE};
 use fixtures::waves::TWO_CHANNELS;
 use folder_core::FileFault;
@@ -25,7 +28,7 @@ use std::alloc::{AllocError, Global};
 use std::io;
 use std::io::{ErrorKind, Read, Write};
 use std::test::Fail;
-use transfer_commands::{convert_file, open_file};
+use transfer_commands::{convert_file, hear_sources, open_file};
 
 // A writer that takes just these bytes, in their order, and no memory: what was written is a front of them.
 #[derive(Drop)]
@@ -330,6 +333,38 @@ fn a_file_is_told_of_in_one_pass(rt: HostRuntime) -> Result<(), Fail> {
     let alloc = rt.alloc();
     assert!(rt; count_told(alloc, &commented(alloc)?)? == 8);
     assert!(rt; count_told(alloc, &tagged(alloc, 1, 0x0f)?)? == 8);
+    Ok(())
+}
+
+// How many takes are heard of files that aren't held.
+fn takes_heard(alloc: Global, sources: &Sources) -> Result<usize, Fault> {
+    let [first, second] = &sources.takes;
+    let files: [(&str, &[u8]); 3] = [
+        ("e.toml", sources.text.as_bytes()),
+        ("a.dff", first),
+        ("b.dff", second),
+    ];
+    let mut shelf = Shelf {
+        files: &files,
+        written: 0,
+    };
+    match hear_sources(alloc, &mut shelf, "e.toml", 0) {
+        Ok(found) => Ok(found.takes?.len()),
+        Err(fault) => Err(fault_of(Outcome::from(fault))),
+    }
+}
+
+// One in frames and one in blocks.
+#[test]
+fn takes_are_heard_in_one_pass(rt: HostRuntime) -> Result<(), Fail> {
+    let alloc = rt.alloc();
+    let second = dsf_of(alloc, (2, 1, 16), &[0xf0], 8192, b"a tag");
+    let sources = sources_of(
+        splice(alloc, "1, 0", &CUES),
+        stereo(alloc, &[0xff; 4]),
+        second,
+    )?;
+    assert!(rt; takes_heard(alloc, &sources)? == 2);
     Ok(())
 }
 

@@ -153,12 +153,13 @@ fn asks_for_files_in_order(rt: HostRuntime) -> Result<(), Fail> {
     Ok(())
 }
 
-// A folder in which a file is another one from some opening on. It tells nothing.
+/// A folder in which a file is another one from some opening on. It tells nothing.
 #[derive(Drop)]
-struct ChangingFolder {
-    files: MemoryFolder,
-    // How often files are opened before.
-    left: usize,
+pub(crate) struct ChangingFolder {
+    /// The files, and under the name `changed` the other one.
+    pub(crate) files: MemoryFolder,
+    /// How often files are opened before.
+    pub(crate) left: usize,
 }
 
 impl Folder for ChangingFolder {

@@ -26,6 +26,8 @@ mod in_blocks;
 #[cfg(test)]
 mod lines;
 #[cfg(test)]
+mod long_takes;
+#[cfg(test)]
 mod master_commands;
 #[cfg(test)]
 mod opening;

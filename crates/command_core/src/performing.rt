@@ -21,10 +21,11 @@ use words_core::Task;
 /// answers is a file created.
 ///
 /// But the recording that is played is opened, the WAVE file created, and the one then read and the other written piece
-/// by piece. A recording that is converted or told of is read whole only where it has fewer than 2 MiB. Else it is
-/// opened again and read in one pass without its sound; where it holds no recording it is opened a third time and read
-/// whole, for the fault to be named; and what is converted is opened once more, the other file created, and the one read
-/// and the other written block by block. After a fault of this the file that was created is there and may hold a front.
+/// by piece. A recording that is converted or told of, and a take, is read whole only where it has fewer than 2 MiB. Else
+/// it is opened again and read in one pass without its sound, of a take with the bits that are heard; where it holds no
+/// recording it is opened a third time and read whole, for the fault to be named; and what is converted is opened once
+/// more, the other file created, and the one read and the other written block by block. After a fault of this the file
+/// that was created is there and may hold a front.
 ///
 /// The first fault is what the command comes to.
 pub fn perform<F: Folder>(alloc: Global, task: Task, folder: &mut F) -> Outcome
@@ -67,7 +68,7 @@ fn edit_files<F: Folder>(
 ) -> Result<u128, CommandFault>
     ensures { IsTrue (F.is_told folder.old) → EditComesTo (record { form = form; project_name = project.now; master_name = master.now; cert_name = cert.now }) (F.file folder.old) (F.file folder.new) result }
 {
-    let sources = hear_sources(alloc, folder, project)?;
+    let sources = hear_sources(alloc, folder, project, MOST_KEPT)?;
     let edited = cut_sources(alloc, sources, form)?;
     write_file(folder, master, &edited.master)?;
     write_file(folder, cert, &edited.cert)?;
@@ -84,7 +85,7 @@ fn check_files<F: Folder>(
 ) -> Result<Verdict, CommandFault>
     ensures { IsTrue (F.is_told folder.old) → CheckComesTo project.now master.now cert.now (F.file folder.old) (F.file folder.new) result }
 {
-    let sources = hear_sources(alloc, folder, project)?;
+    let sources = hear_sources(alloc, folder, project, MOST_KEPT)?;
     let master = read_file(alloc, folder, master)?;
     let cert = read_file(alloc, folder, cert)?;
     Ok(judge_sources(alloc, sources, &master, &cert)?)

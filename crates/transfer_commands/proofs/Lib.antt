@@ -1,4 +1,5 @@
 pub mod ConvertLaws
 pub mod HearLaws
 pub mod PlayLaws
+pub mod StreamLaws
 pub mod TellLaws

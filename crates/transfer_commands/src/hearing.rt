@@ -1,25 +1,37 @@
 //! What a splice hears of the files of its takes.
 
-ghost use Rattle.std.specs.Prelude.{◌≡◌, ◌<◌, [], IfErr, IfOk, IsTrue, length, slice_index_or};
-ghost use Rattle.splice_core.specs.Splices.{splice_content};
+ghost use Rattle.std.specs.Prelude.{◌≡◌, ◌<◌, [], ℕ, List, IfErr, IfOk, IfSome, IsTrue, Ok, length, slice_index_or};
+ghost use Rattle.splice_core.specs.Splices.{SpliceContent, splice_content};
+ghost use Rattle.cut_core.specs.Hearing.{ranges_of};
 ghost use Rattle.cut_core.specs.Opening.{IsOfTake, IsOfTakes};
-ghost use Rattle.transfer_commands.specs.Hearing.{HearsFile, HearsFiles};
+ghost use Rattle.stream_core.specs.Keeping.{IsKeptOf, stretches_in};
+ghost use Rattle.stream_core.specs.Outlines.{AreTold, around_of};
+ghost use Rattle.transfer_commands.specs.Hearing.{HearsFile, HearsFiles, HearsHeld, IsHeardIn, StreamsFile};
 ghost use Rattle.transfer_commands.specs.Outlining.{IsUnread};
 
 use crate::fault::CommandFault;
-use cut_core::{CutFault, Heard, hear_file, push_heard};
-use folder_core::{Folder, read_file};
+use cut_core::{CutFault, Heard, hear_file, push_heard, ranges_of};
+use device_core::Inlet;
+use folder_core::{Folder, read_file, read_short};
+use form_core::{has_shape, held_is_opened};
 use splice_core::Splice;
 use std::alloc::Global;
+use std::io::Read;
+use stream_core::{Kept, StreamFault, read_stretches};
+use transfer_core::Fault;
 
 /// What a splice hears of the files of its takes, each read before the next is opened: of each no more is kept than is
 /// heard. The first fault of what they hold is answered only when all of them were read.
+///
+/// A file of fewer than `most` bytes is read whole. Any other is opened again and read in one pass, in which its sound
+/// isn't held; and only where it holds no recording it is opened a third time and read whole, for the fault to be named.
 ///
 /// Refusals: `ReadFailed` of the first file that can't be opened or read; `Memory`.
 pub(crate) fn hear_files<F: Folder>(
     alloc: Global,
     folder: &mut F,
     splice: &Splice,
+    most: usize,
 ) -> Result<Result<Vec<Heard>, CutFault>, CommandFault>
     ensures same { F.file folder.new ≡ F.file folder.old }
     ensures told { F.is_told folder.new ≡ F.is_told folder.old }
@@ -29,7 +41,7 @@ pub(crate) fn hear_files<F: Folder>(
 {
     let mut heard = Ok(Vec::new(alloc));
     for number in 0..splice.takes.len() {
-        let next = hear_named(alloc, folder, splice, number)?;
+        let next = hear_named(alloc, folder, splice, number, most)?;
         heard = push_heard(heard, next);
     }
     Ok(heard)
@@ -41,6 +53,7 @@ fn hear_named<F: Folder>(
     folder: &mut F,
     splice: &Splice,
     number: usize,
+    most: usize,
 ) -> Result<Result<Heard, CutFault>, CommandFault>
     requires { number < length (splice_content splice.now).takes }
     ensures same { F.file folder.new ≡ F.file folder.old }
@@ -49,6 +62,72 @@ fn hear_named<F: Folder>(
     ensures of { IfOk result (IsOfTake (splice_content splice.now) number) }
     ensures fault { IfErr result IsUnread }
 {
-    let file = read_file(alloc, folder, &splice.takes[number])?;
+    held_is_opened();
+    let name = &splice.takes[number];
+    if let Some(file) = read_short(alloc, folder, name, most)? {
+        return Ok(hear_file(alloc, splice, number, &file));
+    }
+    if let Some(heard) = hear_streamed(alloc, folder, splice, number, name)? {
+        return Ok(Ok(heard));
+    }
+    let file = read_file(alloc, folder, name)?;
     Ok(hear_file(alloc, splice, number, &file))
+}
+
+// What a splice hears of the file of a name, the take of a number, read in one pass, or none of a file that holds no
+// recording.
+fn hear_streamed<F: Folder>(
+    alloc: Global,
+    folder: &mut F,
+    splice: &Splice,
+    number: usize,
+    name: &str,
+) -> Result<Option<Heard>, CommandFault>
+    ensures same { F.file folder.new ≡ F.file folder.old }
+    ensures told { F.is_told folder.new ≡ F.is_told folder.old }
+    ensures heard { IfOk result (λ found. IsTrue (F.is_told folder.old) → StreamsFile (F.file folder.old) (splice_content splice.now) number name.now found) }
+    ensures of { IfOk result (λ found. IfSome found (λ heard. IsOfTake (splice_content splice.now) number (Ok heard))) }
+    ensures fault { IfErr result IsUnread }
+{
+    match folder.open(name) {
+        Ok(file) => hear_reader(alloc, splice, number, file),
+        Err(_) => Err(CommandFault::ReadFailed),
+    }
+}
+
+// The same of the file that a reader has.
+fn hear_reader<R: Read + Drop>(
+    alloc: Global,
+    splice: &Splice,
+    number: usize,
+    file: R,
+) -> Result<Option<Heard>, CommandFault>
+    ensures heard { IfOk result (λ found. IfSome (R.remaining file) (λ left. IsHeardIn (splice_content splice.now) number left found)) }
+    ensures of { IfOk result (λ found. IfSome found (λ heard. IsOfTake (splice_content splice.now) number (Ok heard))) }
+    ensures fault { IfErr result IsUnread }
+{
+    let Ok(ranges) = ranges_of(alloc, splice, number) else {
+        return Err(CommandFault::Call(Fault::Memory));
+    };
+    let mut inlet = Inlet::new(file);
+    match read_stretches(alloc, &mut inlet, &ranges) {
+        Ok(kept) => Ok(Some(heard_by(kept))),
+        Err(StreamFault::FileRefused) => Ok(None),
+        Err(StreamFault::Memory) => Err(CommandFault::Call(Fault::Memory)),
+        Err(_) => Err(CommandFault::ReadFailed),
+    }
+}
+
+// What is heard by what was kept of a file.
+fn heard_by(kept: Kept) -> Heard
+    ensures { (splice : SpliceContent) (number : ℕ) (file : List ℕ) → AreTold (around_of kept.outline) → IsKeptOf (around_of kept.outline) (ranges_of splice number) (stretches_in kept) file → HearsHeld splice number file result }
+{
+    let Kept { outline, stretches } = kept;
+    has_shape(&outline.recording);
+    let count = outline.sound.count;
+    Heard {
+        recording: outline.recording,
+        count,
+        stretches,
+    }
 }

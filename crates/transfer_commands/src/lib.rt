@@ -2,10 +2,10 @@
 //! is read, its project and the files of its takes.
 //!
 //! [`play_file`] reads a project, opens a recording, and writes its WAVE file piece by piece; [`convert_file`] reads a
-//! recording whole, and only then creates the file in the other form; [`open_file`] reads one to be told of.
+//! recording through, and only then creates the file in the other form; [`open_file`] reads one to be told of.
 //! [`hear_sources`] reads a project and then its takes by their numbers, of which it keeps what the
-//! splice hears. The calls are `transfer_core`'s, the files
-//! `folder_core`'s. The first fault is what a command comes to.
+//! splice hears. These three read a short file whole, and another one in one pass. The calls are `transfer_core`'s, the
+//! files `folder_core`'s. The first fault is what a command comes to.
 //!
 //! The words of the contracts, over the files of a folder that tells them, `old` before and `new` after:
 //!

@@ -23,11 +23,14 @@ pub struct Sources {
     pub takes: Result<Vec<Heard>, CutFault>,
 }
 
-/// Reads the project, then the takes that it names, of which it keeps what the splice hears.
+/// Reads the project, then the takes that it names, of which it keeps what the splice hears. A take's file of fewer than
+/// `most` bytes is read whole. Any other is opened again and read in one pass, in which its sound isn't held; and only
+/// where it holds no recording it is opened a third time and read whole, for the fault to be named.
 pub fn hear_sources<F: Folder>(
     alloc: Global,
     folder: &mut F,
     project: &str,
+    most: usize,
 ) -> Result<Sources, CommandFault>
     ensures same { F.file folder.new ≡ F.file folder.old }
     ensures told { F.is_told folder.new ≡ F.is_told folder.old }
@@ -37,6 +40,6 @@ pub fn hear_sources<F: Folder>(
 {
     let project = read_file(alloc, folder, project)?;
     let splice = splice_of(alloc, &project)?;
-    let takes = hear_files(alloc, folder, &splice)?;
+    let takes = hear_files(alloc, folder, &splice, most)?;
     Ok(Sources { splice, takes })
 }

@@ -1,11 +1,10 @@
-use Rattle.std.proofs.Common.{◌<◌, ◌∙◌, [], IsTrue, get_or, length, subst, sym, refl, arith}
+use Rattle.std.proofs.Common.{◌<◌, ◌∙◌, [], IsTrue, get_or, length, subst, sym, arith}
 use Rattle.std.specs.Prelude.{string_bytes}
-use Rattle.std.proofs.lemmas.List.{length-map, take_all}
+use Rattle.std.proofs.lemmas.List.{length-map}
 use Rattle.splice_core.specs.Splices.{splice_content}
-use Rattle.cut_core.proofs.HearingLaws.{heard_none}
 use Rattle.folder_core.specs.Files.{Files}
-use Rattle.transfer_commands.specs.Hearing.{HearsFile, HearsFiles}
-use Rattle.transfer_commands.proofs.HearLaws.{files_more, no_files}
+use Rattle.transfer_commands.specs.Hearing.{HearsFile}
+use Rattle.transfer_commands.proofs.HearLaws.{files_more}
 use Rattle.transfer_commands.proofs.hearing.hear_files.Goals as goal
 
 pub loop-number-preserved : goal.loop-number-preserved

@@ -7,15 +7,16 @@ use Rattle.std.proofs.lemmas.List.Sums.{sum_by-cons, sum_by_push}
 use Rattle.cost_core.specs.Bridges.{Bridging, bridge_cost}
 use Rattle.cost_core.specs.Limits.{IsBridging}
 use Rattle.trellis_core.specs.declared.bridging.Chosen.{Chosen}
-use Rattle.cert_core.specs.Certificates.{Claim}
+use Rattle.cert_core.specs.Certificates.{Claim, IsCert}
 use Rattle.cut_core.specs.Bridges.{IsPlace, bridges}
 use Rattle.cut_core.specs.Cuts.{CutContent, window}
 use Rattle.cut_core.specs.Keeping.{CanCut}
 use Rattle.cut_core.specs.declared.bridges.BridgePlace.{BridgePlace}
 use Rattle.cut_core.proofs.ZipLaws.{zip_at, zip_long, zip_more, zip_number}
+use Rattle.master_core.specs.Certifying.{Certifies}
 use Rattle.master_core.specs.Choosing.{AreBridgesOf, AreChosen, IsChosen, IsChosenAt, chosen_claims, chosen_cost, window_at}
 use Rattle.master_core.specs.declared.choosing.ChosenBridges.{ChosenBridges}
-use Rattle.master_core.specs.Claims.{bridge_bits, claim_at, claim_cost, claim_of, claims, windows_total}
+use Rattle.master_core.specs.Claims.{IsCertOf, bridge_bits, claim_at, claim_cost, claim_of, claims, windows_total}
 use Rattle.master_core.specs.Masters.{AreBestChannels, IsBestChannel, IsFirstLeastPart, part_at, parts_of}
 use Rattle.master_core.proofs.CertLaws.{IsShowable}
 use Rattle.master_core.proofs.ChannelLaws.{best_lengths, bridge_in_channel, part_is, part_number}
@@ -144,3 +145,7 @@ module _ (cut : CutContent) (zs : List (List Bool)) where
 
       pub costs_stand : chosen_cost xs ≡ windows_total cut zs
       costs_stand = costs_are (bridges cut) xs (all_stand (bridges cut) xs each chosen) chosen
+
+-- a certificate of chosen bits that stand in a master is one of that
+pub cert_stands : (cut : CutContent) (made : ChosenBridges) (zs : List (List Bool)) (cert : List ℕ) → chosen_claims cut made.places.items made.chosen.items ≡ claims cut zs → Certifies cut made cert → IsCertOf cut zs cert
+cert_stands cut made zs cert e shown = subst (λ (cs : List Claim). IsCert (length cut.splice.weights) cs cert) e shown

@@ -2,3 +2,4 @@ pub mod Checking
 pub mod Cutting
 pub mod Editing
 pub mod Laws
+pub mod Planning

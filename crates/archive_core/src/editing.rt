@@ -1,20 +1,21 @@
 //! Masters cut from takes by cue lists.
 
-ghost use Rattle.std.specs.Prelude.{IfErr, IfOk, List, Some, ℕ};
+ghost use Rattle.std.specs.Prelude.{◌≡◌, IfErr, IfOk, List, Some, ℕ};
 ghost use Rattle.archive_core.specs.Checking.{Accepts};
 ghost use Rattle.archive_core.specs.Editing.{AnswersEdited, CostsLeast, CostsWindows, Edits, IsEdited, IsMaster};
+ghost use Rattle.archive_core.specs.Planning.{CertifiesPlanned, IsPlanned, planned_master};
 ghost use Rattle.cut_core.specs.Hearing.{AreOfTakes};
 ghost use Rattle.archive_core.specs.Cutting.{AreTakes, said_cut};
 ghost use Rattle.splice_core.specs.Splices.{splice_content};
 ghost use Rattle.cut_core.specs.Opening.{file_bytes};
 ghost use Rattle.form_core.specs.Steps.{Fails};
 
-use crate::cutting::cut_heard;
+use crate::planning::{PlannedMaster, plan_master};
 use cut_core::{Heard, hear_takes};
-use form_core::{Form, write_in};
-use master_core::{Made, make};
+use device_core::Outlet;
+use form_core::Form;
 use splice_core::Splice;
-use std::alloc::Global;
+use std::alloc::{AllocError, Global};
 use transfer_core::{Fault, splice_of};
 
 /// A master that was cut.
@@ -22,7 +23,7 @@ use transfer_core::{Fault, splice_of};
 pub struct Edited {
     /// The bytes of the master's file.
     pub master: Vec<u8>,
-    /// The bytes of its certificate, version 1.
+    /// The bytes of its certificate, version 2.
     pub cert: Vec<u8>,
     /// What its bridges cost: the sum over all bridges of all channels.
     pub total: u128,
@@ -81,16 +82,36 @@ pub fn edit_heard(
     ensures only { (project : List ℕ) (files : List (List ℕ)) → AreTakes project files (splice_content splice) takes.items → (master : List ℕ) (cost : ℕ) → Edits project files form master cost → AnswersEdited result master cost }
     ensures refused { (project : List ℕ) (files : List (List ℕ)) → AreTakes project files (splice_content splice) takes.items → IfErr result (λ fault. Fails Fault.Memory fault (said_cut project files (Some form))) }
 {
-    let cut = cut_heard(splice, takes, Some(form))?;
-    let Made {
-        recording,
-        cert,
-        total,
-    } = make(alloc, &cut, form)?;
-    let master = write_in(alloc, &recording, form)?;
+    let planned = plan_master(alloc, splice, takes, form)?;
+    let total = planned.total();
+    let master = master_of(alloc, &planned)?;
+    let cert = cert_of(alloc, planned)?;
     Ok(Edited {
         master,
         cert,
         total,
     })
+}
+
+// The file of a planned master, in memory, where no write fails but for want of that.
+fn master_of(alloc: Global, planned: &PlannedMaster) -> Result<Vec<u8>, AllocError>
+    ensures { IfOk result (λ master. master.items ≡ planned_master planned.now) }
+{
+    let mut outlet = Outlet::new(Vec::new(alloc));
+    match planned.write_master(&mut outlet) {
+        Ok(()) => Ok(outlet.into_inner()),
+        Err(_) => Err(AllocError),
+    }
+}
+
+// Its certificate.
+fn cert_of(alloc: Global, planned: PlannedMaster) -> Result<Vec<u8>, AllocError>
+    requires { IsPlanned planned }
+    ensures { IfOk result (λ cert. CertifiesPlanned planned cert.items) }
+{
+    let (came, outlet) = planned.write_certificate(Outlet::new(Vec::new(alloc)));
+    match came {
+        Ok(()) => Ok(outlet.into_inner()),
+        Err(_) => Err(AllocError),
+    }
 }

@@ -1,8 +1,10 @@
 pub mod Certificates
 pub mod Composing
+pub mod Counting
 pub mod Entries
 pub mod Readers
 pub mod Reasons
+pub mod Rooms
 pub mod Spelling
 pub mod Stops
 pub mod Text

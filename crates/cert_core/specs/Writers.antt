@@ -33,17 +33,22 @@ rows_left writer = writer.rows_left
 abbrev pub rows_taken : {W : Type 0} → CertWriter W → ℕ
 rows_taken writer = if has_failed writer then 2 ^ 16 else rows_left writer
 
--- what no row changes: the version, the number of weights, whether the head was written, how many entries are still to begin, whether an entry was begun and not ended
+-- what no row changes: the version, the number of weights, whether the head was written, how many entries are still to begin, whether an entry was begun and not ended, how many failures the outlet had before
 pub record Stage : Type 0 where
   pub version : Version
   pub weights : ℕ
   pub has_head : Bool
   pub entries_left : ℕ
   pub is_open : Bool
+  pub failures : ℕ
 
 -- where a writer stands
 abbrev pub stage : {W : Type 0} → CertWriter W → Stage
-stage writer = record { version = writer.version; weights = writer.weights; has_head = writer.has_head; entries_left = writer.entries_left; is_open = writer.is_open }
+stage writer = record { version = writer.version; weights = writer.weights; has_head = writer.has_head; entries_left = writer.entries_left; is_open = writer.is_open; failures = writer.failures }
+
+-- how many failures its outlet had before
+abbrev pub failures_before : {W : Type 0} → CertWriter W → ℕ
+failures_before writer = writer.failures
 
 -- whether the head was written
 abbrev pub has_head : {W : Type 0} → CertWriter W → Bool

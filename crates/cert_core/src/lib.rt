@@ -6,8 +6,8 @@
 //! needs neither the search that chose the bits nor trust in who wrote the table. `docs/CERTIFICATES.md`
 //! says why, and has the format and an example by hand.
 //!
-//! A [`CertWriter`] writes a certificate of either [`Version`] to an outlet, part by part; as a `LevelSink` it takes
-//! the rows of a search. A [`CertReader`] reads one of either version from an inlet, two rows at a time (`row_reader`), and
+//! A [`CertWriter`] writes a certificate of either [`Version`] to an outlet, part by part, within a [`CertRoom`] that is
+//! made with it or before it; as a `LevelSink` it takes the rows of a search. A [`CertReader`] reads one of either version from an inlet, two rows at a time (`row_reader`), and
 //! [`check_bridge`](CertReader::check_bridge) judges the bits of a bridge by the next entry: bounds, steps and
 //! ends eight states at a time, and one at a time what is left, and where something is wrong (`rows`). This
 //! crate knows nothing of the search.
@@ -55,6 +55,7 @@ mod filling;
 mod laws;
 mod numbers;
 mod reader;
+mod room;
 mod row_reader;
 mod rows;
 mod sink;
@@ -67,6 +68,7 @@ mod writer;
 pub use device_core::FusedFault as CertFault;
 pub use laws::{cert_goes_on, one_reason, parts_join, read_is_cert, shown_is_least, shown_is_read};
 pub use reader::CertReader;
+pub use room::CertRoom;
 pub use verdict::{CertReason, CertVerdict, CheckFault};
 pub use version::Version;
 pub use writer::CertWriter;

@@ -5,11 +5,14 @@ ghost use Rattle.std.specs.Int.{w64, to_be_bytes};
 ghost use Rattle.std.specs.Io.KnownBytes.{Appends};
 ghost use Rattle.device_core.specs.FusedOutlets.{failed_parts};
 ghost use Rattle.device_core.specs.Outlets.{outlet_writer, outlet_failures, AppendsPart};
+ghost use Rattle.cert_core.specs.Counting.{IsCounted};
+ghost use Rattle.cert_core.specs.Rooms.{room_weights};
 ghost use Rattle.cert_core.specs.Spelling.{row_text};
 ghost use Rattle.cert_core.specs.Text.{entry_start, cert_head};
 
 use crate::CertFault;
-use crate::numbers::{head_bytes, make_buffer, start_bytes};
+use crate::numbers::{head_bytes, start_bytes};
+use crate::room::CertRoom;
 use crate::spelling::put_row;
 use crate::version::Version;
 use device_core::{FusedOutlet, Outlet};
@@ -18,7 +21,8 @@ use std::io::Write;
 
 /// A certificate that is written to an outlet: [`begin`](CertWriter::begin), then for each entry
 /// [`begin_bridge`](CertWriter::begin_bridge), [`level`](CertWriter::level) for each row, and
-/// [`end_bridge`](CertWriter::end_bridge); last [`finish`](CertWriter::finish). It holds the bytes of one row.
+/// [`end_bridge`](CertWriter::end_bridge); last [`finish`](CertWriter::finish). It holds the bytes of one row, and takes no
+/// memory once it is made.
 ///
 /// After `Device` each call but `finish` may be made in whatever order: it answers `Failed`, writes nothing
 /// and leaves the writer as it is.
@@ -32,8 +36,11 @@ pub struct CertWriter<W> {
     entries_left: u32,
     is_open: bool,
     rows_left: u32,
+    // How many failures the outlet had before.
+    failures: u64,
     ghost few: { weights ≤ 12 },
     ghost room: { length buffer.items ≡ 17 + 8 * 2 ^ (weights - 1) },
+    ghost counted: { IsCounted failures outlet },
 }
 
 impl<W: Write> CertWriter<W> {
@@ -52,22 +59,36 @@ impl<W: Write> CertWriter<W> {
         requires few { weights ≤ 12 }
         ensures outlet { IfOk result (λ writer. cert_outlet writer ≡ outlet) }
         ensures failed { IfOk result (λ writer. has_failed writer ≡ false) }
-        ensures stage { IfOk result (λ writer. stage writer ≡ record { version = version; weights = weights; has_head = false; entries_left = 0; is_open = false }) }
+        ensures stage { IfOk result (λ writer. stage writer ≡ record { version = version; weights = weights; has_head = false; entries_left = 0; is_open = false; failures = outlet_failures outlet }) }
         ensures rows { IfOk result (λ writer. rows_left writer ≡ 0) }
         ensures back { IfErr result (λ given. given ≡ outlet) }
     {
-        match make_buffer(alloc, 17 + (8 << (weights - 1))) {
-            Ok(buffer) => Ok(CertWriter {
-                outlet: FusedOutlet::new(outlet),
-                buffer,
-                version,
-                weights,
-                has_head: false,
-                entries_left: 0,
-                is_open: false,
-                rows_left: 0,
-            }),
+        match CertRoom::new(alloc, weights) {
+            Ok(room) => Ok(CertWriter::in_room(outlet, room, version)),
             Err(_) => Err(outlet),
+        }
+    }
+
+    /// The same in room that was made before, for bridges of as many weights as that. It takes no memory.
+    pub fn in_room(outlet: Outlet<W>, room: CertRoom, version: Version) -> CertWriter<W>
+        requires ready { outlet_failures outlet < 2 ^ 64 - 1 }
+        ensures outlet { cert_outlet result ≡ outlet }
+        ensures failed { has_failed result ≡ false }
+        ensures stage { stage result ≡ record { version = version; weights = room_weights room; has_head = false; entries_left = 0; is_open = false; failures = outlet_failures outlet } }
+        ensures rows { rows_left result ≡ 0 }
+    {
+        let failures = outlet.failures();
+        let CertRoom { buffer, weights } = room;
+        CertWriter {
+            outlet: FusedOutlet::new(outlet),
+            buffer,
+            version,
+            weights,
+            has_head: false,
+            entries_left: 0,
+            is_open: false,
+            rows_left: 0,
+            failures,
         }
     }
 
@@ -181,6 +202,7 @@ impl<W: Write> CertWriter<W> {
             entries_left: _,
             is_open: _,
             rows_left: _,
+            failures: _,
         } = self;
         outlet.into_inner()
     }

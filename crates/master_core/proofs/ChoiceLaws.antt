@@ -1,122 +1,101 @@
 -- Chosen bits, their entries, and that they stand in the master.
-use Rattle.std.proofs.Common.{◌≡◌, ℕ, suc, ◌+◌, ◌-◌, ◌<◌, Bool, List, [], ◌∷◌, ◌++◌, Vec, Global, length, get_or, map, flat_map, sum_by, take, append_assoc, refl, sym, ap, subst, ◌∙◌, arith}
-use Rattle.std.specs.Int.{w64, to_be_bytes}
+use Rattle.std.proofs.Common.{◌≡◌, ℕ, zero, suc, ◌+◌, ◌-◌, ◌<◌, Bool, List, [], ◌∷◌, ◌++◌, length, get_or, map, sum_by, take, refl, sym, ap, subst, ◌∙◌, arith}
 use Rattle.std.specs.List.{All, AllZip}
-use Rattle.std.proofs.lemmas.List.{append-nil, length-append, length-take-le, take_more}
+use Rattle.std.proofs.lemmas.List.{get_or-map, length-map, map-append, take_more}
+use Rattle.std.proofs.lemmas.List.Elements.{All-cons, All-nil}
 use Rattle.std.proofs.lemmas.List.Sums.{sum_by-cons, sum_by_push}
 use Rattle.cost_core.specs.Bridges.{Bridging, bridge_cost}
-use Rattle.cost_core.specs.StateCosts.{trellis_of}
-use Rattle.cost_core.specs.Tables.{IsTable, value_in}
-use Rattle.cost_core.specs.Validity.{IsValid}
+use Rattle.cost_core.specs.Limits.{IsBridging}
 use Rattle.trellis_core.specs.declared.bridging.Chosen.{Chosen}
-use Rattle.cert_core.specs.Spelling.{row_text}
-use Rattle.cert_core.specs.Text.{cert_head, entry_start}
-use Rattle.cert_core.specs.declared.version.Version.TheVariants.{Two}
-use Rattle.cert_core.specs.declared.writer.CertWriter.{CertWriter}
-use Rattle.cert_core.specs.Certificates.{AreEntries, Claim, IsCert}
-use Rattle.cert_core.specs.Composing.{ReadIsCert}
-use Rattle.cert_core.specs.Writers.{entries_left}
+use Rattle.cert_core.specs.Certificates.{Claim, IsCert}
 use Rattle.cut_core.specs.Bridges.{IsPlace, bridges}
 use Rattle.cut_core.specs.Cuts.{CutContent, window}
 use Rattle.cut_core.specs.Keeping.{CanCut}
 use Rattle.cut_core.specs.declared.bridges.BridgePlace.{BridgePlace}
-use Rattle.cut_core.proofs.ZipLaws.{zip_at, zip_more, zip_number}
-use Rattle.master_core.specs.Certifying.{Writes, written}
-use Rattle.master_core.specs.Choosing.{AreChosen, IsChosenAt, chosen_claims, chosen_cost}
-use Rattle.master_core.specs.Claims.{bridge_bits, claim_at, claim_cost, claim_of, claims, windows_total}
+use Rattle.cut_core.proofs.ZipLaws.{zip_at, zip_long, zip_more, zip_number}
+use Rattle.master_core.specs.Certifying.{Certifies}
+use Rattle.master_core.specs.Choosing.{AreBridgesOf, AreChosen, IsChosen, IsChosenAt, chosen_claims, chosen_cost, window_at}
+use Rattle.master_core.specs.declared.choosing.ChosenBridges.{ChosenBridges}
+use Rattle.master_core.specs.Claims.{IsCertOf, bridge_bits, claim_at, claim_cost, claim_of, claims, windows_total}
 use Rattle.master_core.specs.Masters.{AreBestChannels, IsBestChannel, IsFirstLeastPart, part_at, parts_of}
+use Rattle.master_core.proofs.CertLaws.{IsShowable}
 use Rattle.master_core.proofs.ChannelLaws.{best_lengths, bridge_in_channel, part_is, part_number}
 use Rattle.master_core.proofs.MasterLaws.{one_first_least}
-
--- ---- entries, one after the other
-entries_append : (cs ds : List Claim) (a b : List ℕ) → AreEntries Two cs a → AreEntries Two ds b → AreEntries Two (cs ++ ds) (a ++ b)
-entries_append [] ds a b h k = rw h k
-entries_append (c ∷ cs) ds a b (entry, rest, is, one, more) k = (entry, rest ++ b, ap (λ l. l ++ b) is ∙ append_assoc entry rest b, one, entries_append cs ds rest b more k)
-
-pub writes_nothing : (w : CertWriter (Vec ℕ Global)) → Writes [] w w
-writes_nothing w = record { entries = []; shown = refl; appended = sym (append-nil (written w)); counted = omega arith }
-
-pub writes_more : (cs ds : List Claim) (u v w : CertWriter (Vec ℕ Global)) → Writes cs u v → Writes ds v w → Writes (cs ++ ds) u w
-writes_more cs ds u v w h k = record {
-  entries = h.entries ++ k.entries;
-  shown = entries_append cs ds h.entries k.entries h.shown k.shown;
-  appended = k.appended ∙ ap (λ l. l ++ k.entries) h.appended ∙ append_assoc (written u) h.entries k.entries;
-  counted = omega (arith, h.counted, k.counted, length-append cs ds);
-}
-
--- the one claim of a place
-abbrev pub record_of : BridgePlace → Bridging → List Bool → List Claim
-record_of p d bits = record { cue = p.cue; channel = p.channel; bridging = d; bits = bits } ∷ []
-
--- the parts of an entry, written one after the other
-pub writes_entry : (u v w x : CertWriter (Vec ℕ Global)) (d : Bridging) (cue channel levels : ℕ) (chosen : Chosen) (rows : List (List ℕ)) → IsTable (trellis_of d) rows → IsValid (trellis_of d) (value_in rows) chosen.cost chosen.bits → levels ≡ d.levels
-    → written v ≡ written u ++ entry_start cue channel levels → written w ≡ written v ++ flat_map (row_text Two) rows → written x ≡ written w ++ to_be_bytes w64 chosen.cost → entries_left x ≡ entries_left u - 1 → 0 < entries_left u
-    → Writes (record { cue = cue; channel = channel; bridging = d; bits = chosen.bits } ∷ []) u x
-writes_entry u v w x d cue channel levels chosen rows table valid long start middle end left some =
-    let first = entry_start cue channel d.levels in
-    let second = flat_map (row_text Two) rows in
-    let third = to_be_bytes w64 chosen.cost in
-    let begun : written v ≡ written u ++ first = start ∙ ap (λ n. written u ++ entry_start cue channel n) long in
-    let entry = first ++ (second ++ third) in
-    record {
-      entries = entry;
-      shown = (entry, [], sym (append-nil entry), (rows, chosen.cost, table, valid, refl), refl);
-      appended = end ∙ ap (λ l. l ++ third) (middle ∙ ap (λ l. l ++ second) begun) ∙ append_assoc (written u ++ first) second third ∙ append_assoc (written u) first (second ++ third);
-      counted = omega arith;
-    }
 
 -- ---- one bridge more
 pub cost_more : (xs : List Chosen) (x : Chosen) (total k : ℕ) → total ≡ chosen_cost xs → k ≡ x.cost → total + k ≡ chosen_cost (xs ++ x ∷ [])
 cost_more xs x total k h e = omega (arith, h, e, sum_by_push (λ (y : Chosen). y.cost) xs x)
 
 module _ (cut : CutContent) where
-  pub no_claims : chosen_claims cut [] [] ≡ []
-  unfolding chosen_claims
-  no_claims = refl
-
-  claims_on : (ps : List BridgePlace) (xs : List Chosen) (p : BridgePlace) (x : Chosen) → length xs ≡ length ps → chosen_claims cut (ps ++ p ∷ []) (xs ++ x ∷ []) ≡ chosen_claims cut ps xs ++ claim_of cut p x.bits ∷ []
-  unfolding chosen_claims
-  claims_on [] [] p x e = refl
-  claims_on [] (y ∷ xs) p x e = absurd (omega arith)
-  claims_on (q ∷ ps) [] p x e = absurd (omega arith)
-  claims_on (q ∷ ps) (y ∷ xs) p x e = ap (λ l. claim_of cut q y.bits ∷ l) (claims_on ps xs p x (omega arith))
-
-  claims_long : (ps : List BridgePlace) (xs : List Chosen) → length xs ≡ length ps → length (chosen_claims cut ps xs) ≡ length ps
+  pub claims_long : (ps : List BridgePlace) (xs : List Chosen) → length xs ≡ length ps → length (chosen_claims cut ps xs) ≡ length ps
   unfolding chosen_claims
   claims_long [] xs e = refl
   claims_long (p ∷ ps) [] e = absurd (omega arith)
   claims_long (p ∷ ps) (x ∷ xs) e = ap suc (claims_long ps xs (omega arith))
 
-  module _ (ps : List BridgePlace) (xs : List Chosen) (k : ℕ) (p : BridgePlace) (lt : k < length ps) (is : get_or ps k p ≡ p) (long : length xs ≡ k) where
+  module _ (ps : List BridgePlace) (k : ℕ) (p : BridgePlace) (lt : k < length ps) (is : get_or ps k p ≡ p) where
     next_place : take (k + 1) ps ≡ take k ps ++ p ∷ []
     next_place = take_more ps k p lt ∙ ap (λ (q : BridgePlace). take k ps ++ q ∷ []) is
 
-    many : length xs ≡ length (take k ps)
-    many = long ∙ sym (length-take-le k ps (omega arith))
+    pub chosen_more : (xs : List Chosen) (x : Chosen) → AllZip (IsChosenAt cut) (take k ps) xs → IsChosenAt cut p x → AllZip (IsChosenAt cut) (take (k + 1) ps) (xs ++ x ∷ [])
+    chosen_more xs x h one = rw next_place (zip_more (IsChosenAt cut) (take k ps) xs p x h one)
 
-    -- an entry is left for it
-    pub entry_left : (left all : ℕ) → left + length (chosen_claims cut (take k ps) xs) ≡ all → all ≡ length ps → 0 < left
-    entry_left left all counted e = omega (arith, claims_long (take k ps) xs many, many)
+    pub window_more : (ds : List Bridging) (d : Bridging) → ds ≡ map (window_at cut) (take k ps) → d ≡ window_at cut p → ds ++ d ∷ [] ≡ map (window_at cut) (take (k + 1) ps)
+    window_more ds d h one = rw (h, one, next_place) (sym (map-append (window_at cut) (take k ps) (p ∷ [])))
 
-    module _ (x : Chosen) where
-      pub chosen_more : AllZip (IsChosenAt cut) (take k ps) xs → IsChosenAt cut p x → AllZip (IsChosenAt cut) (take (k + 1) ps) (xs ++ x ∷ [])
-      chosen_more h one = rw next_place (zip_more (IsChosenAt cut) (take k ps) xs p x h one)
+  -- the claim of a bridge
+  pub claim_there : (ps : List BridgePlace) (xs : List Chosen) (k : ℕ) (p : BridgePlace) (x : Chosen) → get_or ps k p ≡ p → get_or xs k x ≡ x → k < length ps → length xs ≡ length ps
+      → get_or (chosen_claims cut ps xs) k (claim_of cut p x.bits) ≡ claim_of cut p x.bits
+  unfolding chosen_claims
+  claim_there [] xs k p x e f lt long = absurd (omega arith)
+  claim_there (q ∷ ps) [] k p x e f lt long = absurd (omega arith)
+  claim_there (q ∷ ps) (y ∷ xs) zero p x e f lt long = rw (e, f) refl
+  claim_there (q ∷ ps) (y ∷ xs) (suc k) p x e f lt long = claim_there ps xs k p x e f (omega arith) (omega arith)
 
-      pub writes_on : (u v w : CertWriter (Vec ℕ Global)) → Writes (chosen_claims cut (take k ps) xs) u v → Writes (claim_of cut p x.bits ∷ []) v w → Writes (chosen_claims cut (take (k + 1) ps) (xs ++ x ∷ [])) u w
-      writes_on u v w h one =
-          let more : chosen_claims cut (take (k + 1) ps) (xs ++ x ∷ []) ≡ chosen_claims cut (take k ps) xs ++ claim_of cut p x.bits ∷ [] = ap (λ (l : List BridgePlace). chosen_claims cut l (xs ++ x ∷ [])) next_place ∙ claims_on (take k ps) xs p x many in
-          subst (λ (cs : List Claim). Writes cs u w) (sym more) (writes_more (chosen_claims cut (take k ps) xs) (claim_of cut p x.bits ∷ []) u v w h one)
+  -- first least bits can be shown to be least
+  pub all_showable : (ps : List BridgePlace) (xs : List Chosen) → AllZip (IsChosenAt cut) ps xs → All IsBridging (map (window_at cut) ps) → All IsShowable (chosen_claims cut ps xs)
+  unfolding chosen_claims
+  all_showable [] [] h within = All-nil IsShowable
+  all_showable [] (x ∷ xs) h within = absurd h
+  all_showable (p ∷ ps) [] h within = absurd h
+  all_showable (p ∷ ps) (x ∷ xs) h within =
+      All-cons IsShowable (claim_of cut p x.bits) (chosen_claims cut ps xs) (within 0 (window_at cut p) (omega arith), h.0.first_least.is_least) (all_showable ps xs h.1 (λ k d lt. within (suc k) d (omega arith)))
 
-  -- no entry is left
-  pub none_left : (ps : List BridgePlace) (xs : List Chosen) (left all : ℕ) → length xs ≡ length ps → left + length (chosen_claims cut ps xs) ≡ all → all ≡ length ps → left ≡ 0
-  none_left ps xs left all long counted e = omega (arith, claims_long ps xs long)
+-- the bridges of a cut
+module _ (cut : CutContent) (made : ChosenBridges) (are : AreBridgesOf cut made) where
+  pub chosen_there : AllZip (IsChosenAt cut) made.places.items made.chosen.items
+  chosen_there = subst (λ (l : List BridgePlace). AllZip (IsChosenAt cut) l made.chosen.items) (sym are.places_are) are.chosen
 
--- a head and the entries that it announces
-pub whole_cert : ReadIsCert → (weights n : ℕ) (cs : List Claim) (u w : CertWriter (Vec ℕ Global)) (cert : List ℕ) → written u ≡ cert_head Two weights n → entries_left u ≡ n → entries_left w ≡ 0 → Writes cs u w → cert ≡ written w → IsCert weights cs cert
-whole_cert law weights n cs u w cert head announced none writes is =
-    let all : n ≡ length cs = omega (arith, writes.counted) in
-    let text = is ∙ writes.appended ∙ ap (λ l. l ++ writes.entries) (head ∙ ap (cert_head Two weights) all) in
-    subst (IsCert weights cs) (sym text) (law Two weights cs writes.entries writes.shown)
+  pub as_many : length made.chosen.items ≡ length made.places.items
+  as_many = zip_long (IsChosenAt cut) made.places.items made.chosen.items chosen_there
+
+  pub as_many_windows : length made.windows.items ≡ length made.places.items
+  as_many_windows = ap length are.windows_are ∙ length-map made.places.items (window_at cut)
+
+  pub claim_number : length (chosen_claims cut made.places.items made.chosen.items) ≡ length made.places.items
+  claim_number = claims_long cut made.places.items made.chosen.items as_many
+
+  pub showable : All IsShowable (chosen_claims cut made.places.items made.chosen.items)
+  showable = all_showable cut made.places.items made.chosen.items chosen_there (subst (All IsBridging) are.windows_are are.within)
+
+  module _ (k : ℕ) (p : BridgePlace) (d : Bridging) (x : Chosen) (lt : k < length made.places.items) (place : get_or made.places.items k p ≡ p) (window : get_or made.windows.items k d ≡ d) (chosen : get_or made.chosen.items k x ≡ x) where
+    pub window_is : d ≡ window_at cut p
+    window_is =
+        sym window ∙ ap (λ (l : List Bridging). get_or l k d) are.windows_are ∙ get_or-map (window_at cut) made.places.items k p d lt ∙ ap (window_at cut) place
+
+    pub chosen_is : IsChosen d x
+    chosen_is =
+        let there : IsChosenAt cut (get_or made.places.items k p) (get_or made.chosen.items k x) = zip_at (IsChosenAt cut) made.places.items made.chosen.items k p x chosen_there lt in
+        let here : IsChosenAt cut p x = subst (λ (q : BridgePlace). IsChosenAt cut q x) place (subst (IsChosenAt cut (get_or made.places.items k p)) chosen there) in
+        subst (λ (w : Bridging). IsChosen w x) (sym window_is) here
+
+    pub weights_are : CanCut cut → length d.weights ≡ length cut.splice.weights
+    weights_are can =
+        let there : IsPlace cut p = subst (IsPlace cut) place (are.each_there k p lt) in
+        ap (λ (w : Bridging). length w.weights) window_is ∙ ap length (can.windowed p.channel p.cue there.channel_there there.cue_there).weights
+
+    pub claim_is : get_or (chosen_claims cut made.places.items made.chosen.items) k (record { cue = p.cue; channel = p.channel; bridging = d; bits = x.bits }) ≡ record { cue = p.cue; channel = p.channel; bridging = d; bits = x.bits }
+    claim_is = rw window_is (claim_there cut made.places.items made.chosen.items k p x place chosen lt as_many)
 
 -- ---- the chosen bits stand in the master
 module _ (cut : CutContent) (zs : List (List Bool)) where
@@ -166,3 +145,7 @@ module _ (cut : CutContent) (zs : List (List Bool)) where
 
       pub costs_stand : chosen_cost xs ≡ windows_total cut zs
       costs_stand = costs_are (bridges cut) xs (all_stand (bridges cut) xs each chosen) chosen
+
+-- a certificate of chosen bits that stand in a master is one of that
+pub cert_stands : (cut : CutContent) (made : ChosenBridges) (zs : List (List Bool)) (cert : List ℕ) → chosen_claims cut made.places.items made.chosen.items ≡ claims cut zs → Certifies cut made cert → IsCertOf cut zs cert
+cert_stands cut made zs cert e shown = subst (λ (cs : List Claim). IsCert (length cut.splice.weights) cs cert) e shown

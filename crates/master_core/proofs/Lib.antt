@@ -1,3 +1,4 @@
+pub mod CertLaws
 pub mod ChannelLaws
 pub mod ChoiceLaws
 pub mod CompareLaws

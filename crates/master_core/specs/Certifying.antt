@@ -1,27 +1,55 @@
--- A certificate in the making.
-use Rattle.std.specs.Prelude.{◌≡◌, ℕ, ◌+◌, true, false, List, ◌++◌, Vec, length}
-use Rattle.std.specs.declared.alloc.Global.{Global}
-use Rattle.device_core.specs.Outlets.{outlet_writer}
-use Rattle.cert_core.specs.declared.writer.CertWriter.{CertWriter}
-use Rattle.cert_core.specs.Certificates.{AreEntries, Claim}
+-- The certificate of chosen bridges, whole and in the making.
+use Rattle.std.specs.Prelude.{◌≡◌, ℕ, ◌-◌, ◌^◌, true, false, List, Option, length}
+use Rattle.std.specs.Io.KnownBytes.{Appends}
+use Rattle.device_core.specs.Outlets.{AppendsFront}
+use Rattle.trellis_core.specs.Passes.{HasBuffers}
+use Rattle.cert_core.specs.Certificates.{AreEntries, Claim, IsCert}
+use Rattle.cert_core.specs.Rooms.{room_weights}
+use Rattle.cert_core.specs.Writers.{cert_version, cert_weights, has_failed, has_head, is_open}
 use Rattle.cert_core.specs.declared.version.Version.TheVariants.{Two}
-use Rattle.cert_core.specs.Writers.{cert_outlet, cert_version, cert_weights, entries_left, has_failed, has_head, is_open}
+use Rattle.cert_core.specs.declared.writer.CertWriter.{CertWriter}
+use Rattle.cut_core.specs.Cuts.{CutContent}
+use Rattle.master_core.specs.Choosing.{chosen_claims}
+use Rattle.master_core.specs.declared.certifying.CertifyingRoom.{CertifyingRoom}
+use Rattle.master_core.specs.declared.choosing.ChosenBridges.{ChosenBridges}
 
--- the bytes that a writer over memory has written
-abbrev pub written : CertWriter (Vec ℕ Global) → List ℕ
-written writer = (outlet_writer (cert_outlet writer)).items
+-- the room serves for the bridges of the cut
+pub record IsRoomOf (cut : CutContent) (room : CertifyingRoom) : Type 0 where
+  pub pass_fits : HasBuffers (2 ^ (length cut.splice.weights - 1)) room.pass
+  pub row_fits : room_weights room.row ≡ length cut.splice.weights
 
--- the writer, by the second version, has written its head and whole entries, and takes further ones
-pub record IsReady (weights : ℕ) (writer : CertWriter (Vec ℕ Global)) : Type 0 where
+-- the bytes are a certificate that shows the chosen bits of each bridge to be least
+abbrev pub Certifies : CutContent → ChosenBridges → List ℕ → Type 0
+Certifies cut made cert = IsCert (length cut.splice.weights) (chosen_claims cut made.places.items made.chosen.items) cert
+
+-- known bytes grew by such a certificate
+abbrev pub AppendsCert : CutContent → ChosenBridges → Option (List ℕ) → Option (List ℕ) → Type 0
+AppendsCert cut made old new = (cert : List ℕ) × Certifies cut made cert × Appends old new cert
+
+-- or by a front of one
+abbrev pub AppendsCertFront : CutContent → ChosenBridges → Option (List ℕ) → Option (List ℕ) → Type 0
+AppendsCertFront cut made old new = (cert : List ℕ) × Certifies cut made cert × AppendsFront old new cert
+
+-- known bytes grew by entries of the second version that show these claims
+abbrev pub AppendsEntries : List Claim → Option (List ℕ) → Option (List ℕ) → Type 0
+AppendsEntries claims old new = (entries : List ℕ) × AreEntries Two claims entries × Appends old new entries
+
+-- or by a front of such entries
+abbrev pub AppendsSomeEntries : List Claim → Option (List ℕ) → Option (List ℕ) → Type 0
+AppendsSomeEntries claims old new = (entries : List ℕ) × AreEntries Two claims entries × AppendsFront old new entries
+
+-- the writer, by the second version, has written nothing
+pub record IsFresh {W : Type 0} (weights : ℕ) (writer : CertWriter W) : Type 0 where
   pub version_is : cert_version writer ≡ Two
-  pub weights_is : cert_weights writer ≡ weights
-  pub begun : has_head writer ≡ true
+  pub weights_are : cert_weights writer ≡ weights
+  pub unbegun : has_head writer ≡ false
   pub closed : is_open writer ≡ false
   pub fine : has_failed writer ≡ false
 
--- entries that show these claims were written
-pub record Writes (claims : List Claim) (old new : CertWriter (Vec ℕ Global)) : Type 0 where
-  pub entries : List ℕ
-  pub shown : AreEntries Two claims entries
-  pub appended : written new ≡ written old ++ entries
-  pub counted : entries_left new + length claims ≡ entries_left old
+-- it has written its head and whole entries, and takes further ones
+pub record IsReady {W : Type 0} (weights : ℕ) (writer : CertWriter W) : Type 0 where
+  pub version_is : cert_version writer ≡ Two
+  pub weights_are : cert_weights writer ≡ weights
+  pub begun : has_head writer ≡ true
+  pub closed : is_open writer ≡ false
+  pub fine : has_failed writer ≡ false

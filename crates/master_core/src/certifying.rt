@@ -1,87 +1,157 @@
-//! The certificate of a master, written entry by entry while its bridges are searched.
+//! The certificate of chosen bridges, written entry by entry to an outlet in room that was made before.
 
-ghost use Rattle.std.specs.Prelude.{◌≡◌, ◌<◌, ◌≤◌, IfOk, OnOk, [], ◌∷◌, length};
-ghost use Rattle.cert_core.specs.Text.{cert_head};
-ghost use Rattle.cert_core.specs.Writers.{entries_left};
-ghost use Rattle.cut_core.specs.Bridges.{IsPlace};
-ghost use Rattle.cut_core.specs.Cuts as cuts;
-ghost use Rattle.master_core.specs.Certifying.{IsReady, Writes, written};
-ghost use Rattle.master_core.specs.Choosing.{IsChosenAt};
-ghost use Rattle.master_core.specs.Claims.{claim_of};
+ghost use Rattle.std.specs.Prelude.{◌≡◌, ◌+◌, ◌-◌, ◌<◌, ◌≤◌, ◌^◌, [], ◌∷◌, IfOk, List, MatchResult, OnErr, OnOk, false, is_ok, length, not, ℕ};
+ghost use Rattle.cert_core.specs.Writers.{cert_outlet, entries_left, failures_before, has_failed};
+ghost use Rattle.cut_core.specs.Cuts.{CutContent};
+ghost use Rattle.device_core.specs.Outlets.{outlet_failures, outlet_writer};
+ghost use Rattle.master_core.specs.Certifying.{AppendsCert, AppendsCertFront, AppendsEntries, AppendsSomeEntries, Certifies, IsFresh, IsReady, IsRoomOf};
+ghost use Rattle.master_core.specs.Choosing.{AreBridgesOf, IsChosen, chosen_claims};
+ghost use Rattle.trellis_core.specs.Passes.{HasBuffers};
 
-use cert_core::{CertWriter, Version, parts_join};
+use crate::choosing::ChosenBridges;
+use cert_core::{CertRoom, CertWriter, Version, read_is_cert};
 use cost_core::Window;
 use cut_core::{BridgePlace, Cut};
-use device_core::Outlet;
+use device_core::{Device, Outlet};
 use std::alloc::{AllocError, Global};
-use trellis_core::{Chosen, bridge_cut_into, cut_rows_are_valid};
+use std::io::Write;
+use trellis_core::{Chosen, PassRoom, cut_rows_are_valid, hand_cut};
 
-/// A writer over memory of a certificate of the second version with so many entries, whose head is written. Room is asked for as rows are made,
-/// never by a number of the project. Err is want of memory.
-pub fn begin(alloc: Global, cut: &Cut, entries: usize) -> Result<CertWriter<Vec<u8>>, AllocError>
-    requires { entries ≤ 1536 }
-    ensures ready { IfOk result (IsReady (length cut.now.splice.weights)) }
-    ensures left { IfOk result (λ writer. entries_left writer ≡ entries) }
-    ensures head { IfOk result (λ writer. written writer ≡ cert_head Version.Two (length cut.now.splice.weights) entries) }
-{
-    cut.can_cut();
-    let outlet = Outlet::new(Vec::new(alloc));
-    let Ok(mut writer) = CertWriter::new(alloc, outlet, cut.weight_number(), Version::Two) else {
-        return Err(AllocError);
-    };
-    let Ok(()) = writer.begin(entries as u32) else {
-        return Err(AllocError);
-    };
-    Ok(writer)
+/// All memory that the certificate of a cut needs while it is written: room for a pass over the levels of a bridge, and
+/// for the bytes of a row.
+#[derive(Drop)]
+pub struct CertifyingRoom {
+    pub(crate) pass: PassRoom,
+    pub(crate) row: CertRoom,
 }
 
-/// The first least bits of the bridge at a place, searched while its entry is written. Err is want of memory.
-pub fn choose_bridge(
-    alloc: Global,
-    writer: &mut CertWriter<Vec<u8>>,
-    cut: &Cut,
-    place: BridgePlace,
-) -> Result<Chosen, AllocError>
-    requires place { IsPlace cut.now place }
-    requires ready { IsReady (length cut.now.splice.weights) writer.old }
-    requires entries { 0 < entries_left writer.old }
-    ensures chosen { IfOk result (IsChosenAt cut.now place) }
-    ensures entry { IfOk result (λ chosen. Writes (claim_of cut.now place chosen.bits ∷ []) writer.old writer.new) }
-    ensures ready { OnOk result (IsReady (length cut.now.splice.weights) writer.new) }
-{
-    let window = cut.window(alloc, place)?;
-    write_entry(alloc, writer, cut, place, &window)
+impl CertifyingRoom {
+    /// Room for the bridges of a cut. Err is want of memory.
+    pub fn new(alloc: Global, cut: &Cut) -> Result<CertifyingRoom, AllocError>
+        ensures { IfOk result (IsRoomOf cut.now) }
+    {
+        let weights = cut.weight_number();
+        let pass = PassRoom::new(alloc, 1 << (weights - 1))?;
+        let row = CertRoom::new(alloc, weights)?;
+        Ok(CertifyingRoom { pass, row })
+    }
 }
 
-// The same in its window, which is lent here, so that no exit has to let go of it.
-fn write_entry(
-    alloc: Global,
-    writer: &mut CertWriter<Vec<u8>>,
+/// Writes the certificate, of the second version, that shows the chosen bits of each bridge of a cut to be least. The rows
+/// of each bridge are made while they are written; no memory is asked for. The outlet is handed back.
+///
+/// Refusal: `Device` where a write fails, and a front of the certificate went out.
+pub fn certify<W: Write>(
     cut: &Cut,
-    place: BridgePlace,
-    window: &Window,
-) -> Result<Chosen, AllocError>
-    requires place { IsPlace cut.now place }
-    requires window { window.now ≡ cuts.window cut.now place.channel place.cue }
+    bridges: &ChosenBridges,
+    room: CertifyingRoom,
+    outlet: Outlet<W>,
+) -> (Result<(), Device>, Outlet<W>)
+    requires bridges { AreBridgesOf cut.now bridges.now }
+    requires room { IsRoomOf cut.now room }
+    requires ready { outlet_failures outlet < 2 ^ 64 - 1 }
+    ensures ok { OnOk result.0 (AppendsCert cut.now bridges.now (W.contents (outlet_writer outlet)) (W.contents (outlet_writer result.1))) }
+    ensures err { OnErr result.0 (AppendsCertFront cut.now bridges.now (W.contents (outlet_writer outlet)) (W.contents (outlet_writer result.1))) }
+    ensures failures { MatchResult result.0 (λ _. outlet_failures result.1 ≡ outlet_failures outlet) (λ _. outlet_failures result.1 ≡ outlet_failures outlet + 1) }
+{
+    let CertifyingRoom { mut pass, row } = room;
+    let mut writer = CertWriter::in_room(outlet, row, Version::Two);
+    let came = write_cert(cut, bridges, &mut pass, &mut writer);
+    (came, writer.finish())
+}
+
+/// There is a certificate that shows the chosen bits to be least. It does nothing.
+pub fn can_certify(cut: &Cut, bridges: &ChosenBridges)
+    requires { AreBridgesOf cut.now bridges.now }
+    ensures { (cert : List ℕ) × Certifies cut.now bridges.now cert }
+{
+    cut_rows_are_valid();
+    read_is_cert();
+    let _ = cut.weight_number();
+    let _ = bridges.places.len();
+}
+
+// Writes the head and then all entries.
+fn write_cert<W: Write>(
+    cut: &Cut,
+    bridges: &ChosenBridges,
+    pass: &mut PassRoom,
+    writer: &mut CertWriter<W>,
+) -> Result<(), Device>
+    requires bridges { AreBridgesOf cut.now bridges.now }
+    requires room { HasBuffers (2 ^ (length cut.now.splice.weights - 1)) pass.old }
+    requires fresh { IsFresh (length cut.now.splice.weights) writer.old }
+    ensures ok { OnOk result (AppendsCert cut.now bridges.now (W.contents (outlet_writer (cert_outlet writer.old))) (W.contents (outlet_writer (cert_outlet writer.new)))) }
+    ensures err { OnErr result (AppendsCertFront cut.now bridges.now (W.contents (outlet_writer (cert_outlet writer.old))) (W.contents (outlet_writer (cert_outlet writer.new)))) }
+    ensures failed { has_failed writer.new ≡ not (is_ok result) }
+    ensures before { failures_before writer.new ≡ failures_before writer.old }
+{
+    cut_rows_are_valid();
+    read_is_cert();
+    let Ok(()) = writer.begin(bridges.places.len() as u32) else {
+        return Err(Device);
+    };
+    write_entries(cut, bridges, pass, writer)
+}
+
+// Writes the entries of all bridges.
+fn write_entries<W: Write>(
+    cut: &Cut,
+    bridges: &ChosenBridges,
+    pass: &mut PassRoom,
+    writer: &mut CertWriter<W>,
+) -> Result<(), Device>
+    requires bridges { AreBridgesOf cut.now bridges.now }
+    requires room { HasBuffers (2 ^ (length cut.now.splice.weights - 1)) pass.old }
     requires ready { IsReady (length cut.now.splice.weights) writer.old }
-    requires entries { 0 < entries_left writer.old }
-    ensures chosen { IfOk result (IsChosenAt cut.now place) }
-    ensures entry { IfOk result (λ chosen. Writes (claim_of cut.now place chosen.bits ∷ []) writer.old writer.new) }
-    ensures ready { OnOk result (IsReady (length cut.now.splice.weights) writer.new) }
+    requires entries { entries_left writer.old ≡ length bridges.now.places.items }
+    ensures ok { OnOk result (AppendsEntries (chosen_claims cut.now bridges.now.places.items bridges.now.chosen.items) (W.contents (outlet_writer (cert_outlet writer.old))) (W.contents (outlet_writer (cert_outlet writer.new)))) }
+    ensures err { OnErr result (AppendsSomeEntries (chosen_claims cut.now bridges.now.places.items bridges.now.chosen.items) (W.contents (outlet_writer (cert_outlet writer.old))) (W.contents (outlet_writer (cert_outlet writer.new)))) }
+    ensures failed { has_failed writer.new ≡ not (is_ok result) }
+    ensures before { failures_before writer.new ≡ failures_before writer.old }
 {
     cut.can_cut();
     cut_rows_are_valid();
-    parts_join();
+    for k in 0..bridges.places.len() {
+        let window = &bridges.windows[k];
+        write_entry(bridges.places[k], window, &bridges.chosen[k], pass, writer)?;
+    }
+    Ok(())
+}
+
+// Writes the entry of the bridge at a place, whose rows are made in its window.
+fn write_entry<W: Write>(
+    place: BridgePlace,
+    window: &Window,
+    chosen: &Chosen,
+    pass: &mut PassRoom,
+    writer: &mut CertWriter<W>,
+) -> Result<(), Device>
+    requires cue { place.cue < 2 ^ 16 }
+    requires channel { place.channel < 2 ^ 16 }
+    requires chosen { IsChosen window.now chosen.now }
+    requires room { HasBuffers (2 ^ (length window.now.weights - 1)) pass.old }
+    requires ready { IsReady (length window.now.weights) writer.old }
+    requires entries { 0 < entries_left writer.old }
+    ensures ok { OnOk result (AppendsEntries (record { cue = place.cue; channel = place.channel; bridging = window.now; bits = chosen.now.bits } ∷ []) (W.contents (outlet_writer (cert_outlet writer.old))) (W.contents (outlet_writer (cert_outlet writer.new)))) }
+    ensures err { OnErr result (AppendsSomeEntries (record { cue = place.cue; channel = place.channel; bridging = window.now; bits = chosen.now.bits } ∷ []) (W.contents (outlet_writer (cert_outlet writer.old))) (W.contents (outlet_writer (cert_outlet writer.new)))) }
+    ensures ready { OnOk result (IsReady (length window.now.weights) writer.new) }
+    ensures left { OnOk result (entries_left writer.new + 1 ≡ entries_left writer.old) }
+    ensures room { OnOk result (HasBuffers (2 ^ (length window.now.weights - 1)) pass.new) }
+    ensures failed { has_failed writer.new ≡ not (is_ok result) }
+    ensures before { failures_before writer.new ≡ failures_before writer.old }
+{
+    cut_rows_are_valid();
     let BridgePlace { cue, channel } = place;
     let length = window.length();
     let Ok(()) = writer.begin_bridge(cue as u16, channel as u16, length as u16) else {
-        return Err(AllocError);
+        return Err(Device);
     };
-    let Ok(chosen) = bridge_cut_into(alloc, window, writer) else {
-        return Err(AllocError);
+    let Ok(()) = hand_cut(window, pass, chosen.cost, writer) else {
+        return Err(Device);
     };
     let Ok(()) = writer.end_bridge(chosen.cost) else {
-        return Err(AllocError);
+        return Err(Device);
     };
-    Ok(chosen)
+    Ok(())
 }

@@ -1,56 +1,82 @@
 //! The bits of a master's bridges, searched in their order.
 
-ghost use Rattle.std.specs.Prelude.{◌≡◌, All, IfOk, length};
-ghost use Rattle.cert_core.specs.Certificates.{IsCert};
-ghost use Rattle.cut_core.specs.Bridges.{IsPlace, bridges};
-ghost use Rattle.master_core.specs.Choosing.{AreChosen, chosen_claims};
+ghost use Rattle.std.specs.Prelude.{◌≡◌, IfOk};
+ghost use Rattle.cost_core.specs.Limits.{IsBridging};
+ghost use Rattle.cut_core.specs.Bridges.{IsPlace};
 ghost use Rattle.master_core.specs.Choosing as specs;
+ghost use Rattle.master_core.specs.Choosing.{AreBridgesOf, IsChosen, window_at};
 
-use crate::certifying::{begin, choose_bridge};
-use cert_core::read_is_cert;
+use cost_core::Window;
 use cut_core::{BridgePlace, Cut};
 use std::alloc::{AllocError, Global};
-use trellis_core::Chosen;
+use trellis_core::{Chosen, bridge};
 
-/// The bits of all bridges of a master, and the certificate that shows them to be least.
+/// The bridges of a cut in their order, by rising cue and then by rising channel, and the bits of least cost of each.
 #[derive(Drop)]
 pub struct ChosenBridges {
-    /// The places of the bridges, in their order.
-    pub places: Vec<BridgePlace>,
-    /// The bits of each, and what they cost.
-    pub chosen: Vec<Chosen>,
-    /// The bytes of the certificate, version 1.
-    pub cert: Vec<u8>,
-    /// What all of them cost.
-    pub total: u128,
+    pub(crate) places: Vec<BridgePlace>,
+    // The window of each.
+    pub(crate) windows: Vec<Window>,
+    // The bits of each, and what they cost.
+    pub(crate) chosen: Vec<Chosen>,
+    // What all of them cost.
+    pub(crate) total: u128,
 }
 
-/// The bits of least cost for each bridge of a cut, of several such the first, and their certificate. Err is want of
-/// memory.
+impl ChosenBridges {
+    /// What the bits of all bridges cost together.
+    pub fn total(&self) -> u128
+        ensures { result ≡ self.now.total }
+    {
+        self.total
+    }
+}
+
+// The window of a bridge and the bits that were chosen in it.
+struct Choice {
+    window: Window,
+    chosen: Chosen,
+}
+
+/// The bits of least cost for each bridge of a cut, of several such the first. Err is want of memory.
 pub fn choose_bridges(alloc: Global, cut: &Cut) -> Result<ChosenBridges, AllocError>
-    ensures places { IfOk result (λ made. made.places.items ≡ bridges cut.now) }
-    ensures each { IfOk result (λ made. All (IsPlace cut.now) made.places.items) }
-    ensures chosen { IfOk result (λ made. AreChosen cut.now made.chosen.items) }
-    ensures cert { IfOk result (λ made. IsCert (length cut.now.splice.weights) (chosen_claims cut.now made.places.items made.chosen.items) made.cert.items) }
+    ensures bridges { IfOk result (AreBridgesOf cut.now) }
     ensures total { IfOk result (λ made. made.total ≡ specs.chosen_cost made.chosen.items) }
 {
-    read_is_cert();
     let places = cut.bridges(alloc)?;
-    let mut writer = begin(alloc, cut, places.len())?;
+    let mut windows = Vec::with_capacity(alloc, places.len())?;
     let mut chosen = Vec::with_capacity(alloc, places.len())?;
     let mut total = 0;
     for k in 0..places.len() {
-        let bridge = choose_bridge(alloc, &mut writer, cut, places[k])?;
-        total += u128::from(cost_of(&bridge));
-        chosen.push_reserved(bridge);
+        let Choice {
+            window,
+            chosen: bits,
+        } = choose_bridge(alloc, cut, places[k])?;
+        total += u128::from(cost_of(&bits));
+        windows.push_reserved(window);
+        chosen.push_reserved(bits);
     }
-    let cert = writer.finish().into_inner();
     Ok(ChosenBridges {
         places,
+        windows,
         chosen,
-        cert,
         total,
     })
+}
+
+// The first least bits of the bridge at a place, with its window. Err is want of memory.
+fn choose_bridge(alloc: Global, cut: &Cut, place: BridgePlace) -> Result<Choice, AllocError>
+    requires { IsPlace cut.now place }
+    ensures window { IfOk result (λ choice. choice.window ≡ window_at cut.now place) }
+    ensures within { IfOk result (λ choice. IsBridging choice.window) }
+    ensures chosen { IfOk result (λ choice. IsChosen choice.window choice.chosen) }
+{
+    let window = cut.window(alloc, place)?;
+    let _ = window.length();
+    match bridge(alloc, &window) {
+        Ok(chosen) => Ok(Choice { window, chosen }),
+        Err(_) => Err(AllocError),
+    }
 }
 
 // What chosen bits cost.

@@ -1,9 +1,10 @@
 //! Masters of a cut: made with least bridges and their certificate, and judged, whoever made them.
 //!
-//! [`make`] searches each bridge of a [`Cut`](cut_core::Cut), writes the certificate that shows them to be least, and
-//! puts cues and bridges together; [`judge`] says whether a recording is such a master and a certificate shows that no
+//! [`make`] searches each bridge of a [`Cut`](cut_core::Cut), puts cues and bridges together, and writes the certificate
+//! that shows the bridges to be least; [`plan`] does all but the last, and [`certify`] writes that to an outlet while its
+//! rows are made, in room that [`plan`] made. [`judge`] says whether a recording is such a master and a certificate shows that no
 //! bridge of it could cost less. Both walk one list, the bridges of the cut by rising cue and then by rising channel:
-//! `choosing.rt` searches them, `certifying.rt` writes their entries, `entries.rt` judges entries, and what they cost
+//! `choosing.rt` searches them, `certifying.rt` makes their rows again and writes their entries, `entries.rt` judges entries, and what they cost
 //! together is the sum over that list. `assembling.rt` makes a channel of cues and bridges, chosen ones or those that
 //! stand in a master (`standing.rt`), and `comparing.rt` tells the first bit of a channel that isn't that of its cue.
 //!
@@ -11,6 +12,8 @@
 //!
 //! - `IsBestMaster cut form recording cost`: the master whose every bridge is the first least one, and its cost;
 //!   `IsMasterOf cut form recording`: a master, whatever its bridges (`specs/Masters.antt`, `specs/Checking.antt`).
+//! - `AreBridgesOf cut bridges`: the bridges of a cut with the first least bits of each; `Certifies cut bridges cert`: a
+//!   certificate that shows them to be least (`specs/Choosing.antt`, `specs/Certifying.antt`).
 //! - `claims cut channels`: what a certificate is to show of these channels, bridge by bridge; `IsCertOf` that it
 //!   does; `windows_total` the sum over the bridges, `total_cost` the sum over whole channels (`specs/Claims.antt`).
 //! - `JudgesMaster cut form recording cert verdict`: what a verdict says (`specs/Judging.antt`).
@@ -34,9 +37,11 @@ mod standing;
 mod verdict;
 mod writing;
 
+pub use certifying::{CertifyingRoom, can_certify, certify};
+pub use choosing::ChosenBridges;
 pub use filing::{master_ends, write_master};
 pub use judging::judge;
-pub use making::{Made, make};
+pub use making::{Made, Planned, make, plan};
 pub use parting::MasterSource;
 pub use verdict::{Reason, Verdict};
 pub use writing::{MasterRoom, has_one_best, master_room, write_sound};

@@ -1,12 +1,11 @@
--- What a pass over the levels leaves for another one.
-use Rattle.std.specs.Prelude.{◌≡◌, ◌*◌, length}
-use Rattle.cost_core.specs.Trellis.{Trellis, states}
+-- The room of a pass over the levels.
+use Rattle.std.specs.Prelude.{◌≡◌, ℕ, ◌*◌, length}
 use Rattle.trellis_core.specs.Decisions.{decision_bytes}
-use Rattle.trellis_core.specs.declared.rows.Searched.{Searched}
+use Rattle.trellis_core.specs.declared.rows.PassRoom.{PassRoom}
 
--- room for the steps of a level, for two rows and for the decisions of a level
-pub record HasBuffers (t : Trellis) (s : Searched) : Type 0 where
-  pub steps : length s.steps.items ≡ 2 * states t
-  pub row : length s.row.items ≡ states t
-  pub totals : length s.totals.items ≡ states t
-  pub decided : length s.decided.items ≡ decision_bytes (states t)
+-- room for the steps of a level, for two rows and for the decisions of a level, of so many states
+pub record HasBuffers (count : ℕ) (room : PassRoom) : Type 0 where
+  pub steps : length room.steps.items ≡ 2 * count
+  pub row : length room.row.items ≡ count
+  pub totals : length room.totals.items ≡ count
+  pub decided : length room.decided.items ≡ decision_bytes count

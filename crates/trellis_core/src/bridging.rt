@@ -104,21 +104,21 @@ pub fn bridge_cut_into<S: LevelSink>(
         return Err(BridgeFault::Memory);
     };
     let chosen = choose(alloc, window, &searched)?;
-    hand_cut(window, &mut searched, chosen.cost, sink)?;
+    hand_cut(window, &mut searched.room, chosen.cost, sink)?;
     Ok(chosen)
 }
 
 // The bits that a search leads to, and their cost.
 fn choose(alloc: Global, window: &Window, searched: &Searched) -> Result<Chosen, AllocError>
-    requires totals { searched.now.totals.items ≡ total_row (trellis_of window.now) }
+    requires totals { searched.now.room.totals.items ≡ total_row (trellis_of window.now) }
     requires decisions { AreAllDecisions (trellis_of window.now) (trellis_of window.now).levels searched.now.decisions.items }
     ensures first_least { IfOk result (λ chosen. IsFirstLeastBridge window.now chosen.bits) }
     ensures cost { IfOk result (λ chosen. chosen.cost ≡ bridge_cost window.now chosen.bits) }
 {
-    let end = end_state(window, &searched.totals, window.width(), 0);
+    let end = end_state(window, &searched.room.totals, window.width(), 0);
     let newest_first = trace(alloc, window, &searched.decisions, end)?;
     Ok(Chosen {
         bits: reversed(alloc, &newest_first)?,
-        cost: searched.totals[end],
+        cost: searched.room.totals[end],
     })
 }

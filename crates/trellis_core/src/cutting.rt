@@ -6,7 +6,7 @@ ghost use Rattle.cost_core.specs.StateCosts.{trellis_of};
 ghost use Rattle.trellis_core.specs.Handing.{HandsOverAll, HandsOverUpTo, cut_spelling};
 ghost use Rattle.trellis_core.specs.Passes.{HasBuffers};
 
-use crate::rows::{Searched, next_row, write_first_row};
+use crate::rows::{PassRoom, next_row, write_first_row};
 use cost_core::{LevelSink, SinkFault, Window};
 
 // Writes the values of a row, each above the cost as the cost. (A plain loop over two slices, which the compiler turns
@@ -20,22 +20,28 @@ fn cut_row(row: &[u64], cost: u64, cut: &mut [u64])
     }
 }
 
-/// Makes the rows of all levels again, in what a search left, and hands each over cut at the cost when it is made.
-/// Nothing is allocated.
+/// Makes the rows of all levels in the room for a pass, and hands each over when it is made, each number above the cost
+/// as the cost. Nothing is chosen and nothing is allocated, so a bridge whose bits are known is certified with room that
+/// was made before.
 ///
 /// Refusal: `SinkFault` where the sink refuses a row, after those of the levels before it.
 pub fn hand_cut<S: LevelSink>(
     window: &Window,
-    room: &mut Searched,
+    room: &mut PassRoom,
     cost: u64,
     sink: &mut S,
 ) -> Result<(), SinkFault>
-    requires buffers { HasBuffers (trellis_of window.now) room.old }
+    requires buffers { HasBuffers (states (trellis_of window.now)) room.old }
     requires rows { window.now.levels + 1 ≤ S.rows_left sink.old }
     requires row_length { S.row_length sink.old ≡ states (trellis_of window.now) }
     requires ready { S.has_refused sink.old ≡ false }
+    ensures buffers { OnOk result (HasBuffers (states (trellis_of window.now)) room.new) }
+
+    // The rows that were handed over.
     ensures ok { OnOk result (HandsOverAll (trellis_of window.now) (cut_spelling cost (S.spelling (S.kind sink.old))) (S.text sink.old) (S.text sink.new)) }
     ensures err { OnErr result (HandsOverUpTo (trellis_of window.now) (cut_spelling cost (S.spelling (S.kind sink.old))) (S.text sink.old) (S.text sink.new)) }
+
+    // What the sink is afterwards.
     ensures refused { MatchResult result (λ _. S.has_refused sink.new ≡ false) (λ _. S.has_refused sink.new ≡ true) }
     ensures rows_left { OnOk result (S.rows_left sink.new + (window.now.levels + 1) ≡ S.rows_left sink.old) }
     ensures row_length { S.row_length sink.new ≡ S.row_length sink.old }

@@ -15,7 +15,8 @@
 //! [`bridge_into`] answers the same, and hands these least sums to a sink, a row for each level: they show
 //! that the bits are least to whoever has no search ([`best_rows_are_valid`]). [`bridge_cut_into`] hands over those
 //! of them that are above the cost as the cost, which shows it as well ([`cut_rows_are_valid`]), and goes through the
-//! levels twice.
+//! levels twice. [`hand_cut`] is the second of these passes alone, for bits that were chosen before: it asks for no memory,
+//! and one [`PassRoom`] serves for all windows of as many weights.
 //!
 //! The words of the contracts are those of `cost_core`, `IsFirstLeastBridge` and `bridge_cost`, and
 //!
@@ -49,5 +50,7 @@ mod tracing;
 mod unheard;
 
 pub use bridging::{Chosen, bridge, bridge_cut_into, bridge_into};
+pub use cutting::hand_cut;
 pub use fault::BridgeFault;
 pub use laws::{best_rows_are_valid, cut_rows_are_valid};
+pub use rows::PassRoom;

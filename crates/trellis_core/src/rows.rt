@@ -1,6 +1,6 @@
 //! The least sums of steps, level by level.
 
-ghost use Rattle.std.specs.Prelude.{◌≡◌, ◌+◌, ◌*◌, ◌<◌, ◌≤◌, ◌↔◌, true, false, [], length, IfOk, OnOk, IsErrOf};
+ghost use Rattle.std.specs.Prelude.{◌≡◌, ◌+◌, ◌*◌, ◌<◌, ◌≤◌, ◌^◌, ◌↔◌, true, false, [], length, IfOk, OnOk, IsErrOf};
 ghost use Rattle.cost_core.specs.Trellis.{IsBounded, states};
 ghost use Rattle.cost_core.specs.StateCosts.{trellis_of};
 ghost use Rattle.trellis_core.specs.Best.{best, best_row, total_row};
@@ -14,16 +14,41 @@ use crate::fault::BridgeFault;
 use cost_core::{LevelSink, Window};
 use std::alloc::{AllocError, Global};
 
-/// What a search leaves: by state the least cost of the bits that end in it, the decisions of all levels, and what
-/// another pass over the levels is made in: the steps of a level, a row (a second one is that of the costs), and the
-/// decisions of a level.
+/// Room for a pass over the levels of a window with so many states: the steps of a level, two rows, and the decisions of
+/// a level. It serves for one pass after another.
+#[derive(Drop)]
+pub struct PassRoom {
+    pub(crate) steps: Vec<u64>,
+    pub(crate) row: Vec<u64>,
+    // The second row. A search leaves in it by state the least cost of the bits that end there.
+    pub(crate) totals: Vec<u64>,
+    pub(crate) decided: Vec<u8>,
+}
+
+impl PassRoom {
+    /// Room for windows with so many states. Err is want of memory.
+    pub fn new(alloc: Global, states: usize) -> Result<PassRoom, AllocError>
+        requires { states ≤ 2 ^ 11 }
+        ensures { IfOk result (HasBuffers states) }
+    {
+        let decided = vec![in alloc; 0; states.div_ceil(8)]?;
+        let steps = make_row(alloc, 2 * states)?;
+        let row = make_row(alloc, states)?;
+        let totals = make_row(alloc, states)?;
+        Ok(PassRoom {
+            steps,
+            row,
+            totals,
+            decided,
+        })
+    }
+}
+
+/// What a search leaves: the room of its pass, with the least costs, and the decisions of all levels.
 #[derive(Drop)]
 pub struct Searched {
-    pub totals: Vec<u64>,
+    pub room: PassRoom,
     pub decisions: Vec<u8>,
-    pub steps: Vec<u64>,
-    pub row: Vec<u64>,
-    pub decided: Vec<u8>,
 }
 
 // The least sum of a state of level 0.
@@ -72,22 +97,12 @@ pub fn next_row(
 // Room for a search of a window.
 fn make_room(alloc: Global, window: &Window) -> Result<Searched, AllocError>
     ensures bounded { IsBounded (trellis_of window.now) }
-    ensures buffers { IfOk result (HasBuffers (trellis_of window.now)) }
+    ensures buffers { IfOk result (λ room. HasBuffers (states (trellis_of window.now)) room.room) }
     ensures none { IfOk result (λ room. room.decisions.items ≡ []) }
 {
-    let states = window.states();
-    let decided = vec![in alloc; 0; states.div_ceil(8)]?;
-    let decisions = Vec::with_capacity(alloc, window.length() * decided.len())?;
-    let steps = make_row(alloc, 2 * states)?;
-    let row = make_row(alloc, states)?;
-    let totals = make_row(alloc, states)?;
-    Ok(Searched {
-        totals,
-        decisions,
-        steps,
-        row,
-        decided,
-    })
+    let room = PassRoom::new(alloc, window.states())?;
+    let decisions = Vec::with_capacity(alloc, window.length() * room.decided.len())?;
+    Ok(Searched { room, decisions })
 }
 
 // A row of so many zeros.
@@ -100,17 +115,18 @@ fn make_row(alloc: Global, count: usize) -> Result<Vec<u64>, AllocError>
 // Searches all levels in the room for it, which is lent here, so that no exit has to let go of it.
 fn search<S: LevelSink>(
     window: &Window,
-    room: &mut Searched,
+    room: &mut PassRoom,
+    decisions: &mut Vec<u8>,
     sink: &mut S,
 ) -> Result<(), BridgeFault>
-    requires buffers { HasBuffers (trellis_of window.now) room.old }
-    requires none { room.old.decisions.items ≡ [] }
+    requires buffers { HasBuffers (states (trellis_of window.now)) room.old }
+    requires none { decisions.old.items ≡ [] }
     requires rows { window.now.levels + 1 ≤ S.rows_left sink.old }
     requires row_length { S.row_length sink.old ≡ states (trellis_of window.now) }
     requires ready { S.has_refused sink.old ≡ false }
     ensures totals { OnOk result (room.new.totals.items ≡ total_row (trellis_of window.now)) }
-    ensures buffers { OnOk result (HasBuffers (trellis_of window.now) room.new) }
-    ensures decisions { OnOk result (AreAllDecisions (trellis_of window.now) (trellis_of window.now).levels room.new.decisions.items) }
+    ensures decisions { OnOk result (AreAllDecisions (trellis_of window.now) (trellis_of window.now).levels decisions.new.items) }
+    ensures buffers { OnOk result (HasBuffers (states (trellis_of window.now)) room.new) }
     ensures rows { OnOk result (HandsOverAll (trellis_of window.now) (S.spelling (S.kind sink.old)) (S.text sink.old) (S.text sink.new)) }
     ensures memory { IsErrOf result BridgeFault.Memory → HandsOverSome (trellis_of window.now) (S.spelling (S.kind sink.old)) (S.text sink.old) (S.text sink.new) }
     ensures sink { IsErrOf result BridgeFault.Sink → HandsOverUpTo (trellis_of window.now) (S.spelling (S.kind sink.old)) (S.text sink.old) (S.text sink.new) }
@@ -131,7 +147,7 @@ fn search<S: LevelSink>(
             &mut room.totals,
             &mut room.decided,
         );
-        room.decisions.extend_from_slice(&room.decided)?;
+        decisions.extend_from_slice(&room.decided)?;
         std::mem::swap(&mut room.row, &mut room.totals);
     }
     sink.level(&room.row)?;
@@ -149,8 +165,8 @@ pub fn forward<S: LevelSink>(
     requires rows { window.now.levels + 1 ≤ S.rows_left sink.old }
     requires row_length { S.row_length sink.old ≡ states (trellis_of window.now) }
     requires ready { S.has_refused sink.old ≡ false }
-    ensures totals { IfOk result (λ searched. searched.totals.items ≡ total_row (trellis_of window.now)) }
-    ensures buffers { IfOk result (HasBuffers (trellis_of window.now)) }
+    ensures totals { IfOk result (λ searched. searched.room.totals.items ≡ total_row (trellis_of window.now)) }
+    ensures buffers { IfOk result (λ searched. HasBuffers (states (trellis_of window.now)) searched.room) }
     ensures decisions { IfOk result (λ searched. AreAllDecisions (trellis_of window.now) (trellis_of window.now).levels searched.decisions.items) }
     ensures rows { OnOk result (HandsOverAll (trellis_of window.now) (S.spelling (S.kind sink.old)) (S.text sink.old) (S.text sink.new)) }
     ensures memory { IsErrOf result BridgeFault.Memory → HandsOverSome (trellis_of window.now) (S.spelling (S.kind sink.old)) (S.text sink.old) (S.text sink.new) }
@@ -161,7 +177,7 @@ pub fn forward<S: LevelSink>(
     ensures kind { S.kind sink.new ≡ S.kind sink.old }
     ensures kept { S.kept sink.new ≡ S.kept sink.old }
 {
-    let mut room = make_room(alloc, window)?;
-    search(window, &mut room, sink)?;
-    Ok(room)
+    let mut searched = make_room(alloc, window)?;
+    search(window, &mut searched.room, &mut searched.decisions, sink)?;
+    Ok(searched)
 }

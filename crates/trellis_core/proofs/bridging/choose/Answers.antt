@@ -21,13 +21,13 @@ reversed-requires c =
     let e : length c.deref-3.result.now ≡ t.levels = ap length (c.deref-3.ensures.value ∙ c.in_ok-newest_first.ensures) ∙ traced_length t fine.some_state t.levels c.end_state-end.result in
     omega (arith, c.width.ensures.limits.levels_in)
 
-end_in : (c : After-end_state-end) → c.end_state-end.result < length c.args.searched.now.totals.items
+end_in : (c : After-end_state-end) → c.end_state-end.result < length c.args.searched.now.room.totals.items
 end_in c = omega (arith, ap length c.requires.totals ∙ totals_length (trellis_of c.args.window.now), c.end_state-end.ensures.in_range)
 
 cost_is : (c : After-index) → c.index.result.now ≡ total (trellis_of c.args.window.now) c.end_state-end.result
 cost_is c =
     let t = trellis_of c.args.window.now in
-    let totals = c.args.searched.now.totals.items in
+    let totals = c.args.searched.now.room.totals.items in
     get_or_read totals c.end_state-end.result c.index.result.now (omega (arith, ap length c.requires.totals ∙ totals_length t, c.end_state-end.ensures.in_range)) c.index.ensures 0
     ∙ total_at t totals c.requires.totals c.end_state-end.result c.end_state-end.ensures.in_range
 
@@ -44,4 +44,4 @@ returns-clause-cost c =
     ∙ steps_are_cost c.args.window.now c.in_ok-reversed.field-0 c.width.ensures.limits least.is_least.long
 
 pub index-requires : goal.index-requires
-index-requires c = omega (arith, end_in (goal.at.index-requires c).After-end_state-end, c.args.searched.now.totals.ok.0)
+index-requires c = omega (arith, end_in (goal.at.index-requires c).After-end_state-end, c.args.searched.now.room.totals.ok.0)

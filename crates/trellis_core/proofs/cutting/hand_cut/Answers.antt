@@ -102,3 +102,15 @@ returns-clause-ok g c =
     let more = cut_more t c.args.cost g.S.LevelSink.spelling (g.S.LevelSink.kind c.args.sink.now) (g.S.LevelSink.kind c.loop-level.sink) (g.S.LevelSink.text c.args.sink.now) (g.S.LevelSink.text c.loop-level.sink) (g.S.LevelSink.text c.level-2.new.self) c.loop-level.level c.deref-2.result.now c.deref-3.result.now
     inv.kind (last_is g here) (last_cut g here) inv.handed c.in_ok-level-2.ensures.ok in
     hands_all t c.length-level-end.ensures.bounded (cut_spelling c.args.cost (g.S.LevelSink.spelling (g.S.LevelSink.kind c.args.sink.now))) (g.S.LevelSink.text c.args.sink.now) (g.S.LevelSink.text c.level-2.new.self) c.loop-level.level (omega (arith, c.loop-level-test.false, c.length-level-end.ensures.value, c.loop-level.auto.level-end)) more
+
+pub returns-clause-buffers : goal.returns-clause-buffers
+returns-clause-buffers g c =
+    let t = trellis_of c.args.window.now in
+    let inv = c.loop-level.invariant in
+    let here = (goal.at.returns-clause-buffers g c).After-deref-3 in
+    record {
+      steps = inv.steps;
+      row = ap length inv.row ∙ row_length t c.loop-level.level;
+      totals = written_length c.loop-level.room.totals.len (states t) c.cut_row-2.new.cut c.loop-level.room.totals.items c.loop-level.room.totals.ok.0 (last_long g here) inv.totals;
+      decided = inv.decided;
+    }

@@ -38,13 +38,13 @@ loop-level-preserved g c =
     let following = written c.loop-level.room.totals.len c.next_row.new.following c.loop-level.room.totals.items c.loop-level.room.totals.ok.0 (ap length kept.following ∙ row_length t (c.loop-level.level + 1) ∙ sym inv.totals) in
     let decided = written c.loop-level.room.decided.len c.next_row.new.decisions c.loop-level.room.decided.items c.loop-level.room.decided.ok.0 (omega (arith, kept.decisions_length)) in
     let part : c.deref-in-loop-level-2.result.now ≡ c.next_row.new.decisions = c.deref-in-loop-level-2.ensures.value ∙ decided in
-    let items : c.extend_from_slice.new.self.items ≡ c.loop-level.room.decisions.items ++ c.next_row.new.decisions = c.in_ok-extend_from_slice.ensures.items ∙ ap (λ r. c.loop-level.room.decisions.items ++ r) part in
+    let items : c.extend_from_slice.new.self.items ≡ c.loop-level.decisions.items ++ c.next_row.new.decisions = c.in_ok-extend_from_slice.ensures.items ∙ ap (λ r. c.loop-level.decisions.items ++ r) part in
     record {
       steps = written_length c.loop-level.room.steps.len (2 * states t) c.next_row.new.steps c.loop-level.room.steps.items c.loop-level.room.steps.ok.0 (omega (arith, kept.steps_length)) inv.steps;
       row = ap (λ v. v.items) c.swap.ensures.x_after ∙ following ∙ kept.following;
       totals = ap (λ v. length v.items) c.swap.ensures.y_after ∙ ap length inv.row ∙ row_length t c.loop-level.level;
       decided = ap length decided ∙ omega (arith, kept.decisions_length, inv.decided);
-      decisions = subst (AreAllDecisions t (c.loop-level.level + 1)) (sym items) (one_more t c.loop-level.level c.loop-level.room.decisions.items c.next_row.new.decisions inv.decisions (omega (arith, kept.decisions_length, inv.decided)) kept.decisions);
+      decisions = subst (AreAllDecisions t (c.loop-level.level + 1)) (sym items) (one_more t c.loop-level.level c.loop-level.decisions.items c.next_row.new.decisions inv.decisions (omega (arith, kept.decisions_length, inv.decided)) kept.decisions);
       handed = more;
       left = omega (arith, c.in_ok-level.ensures.rows, inv.left);
       row_length = c.level.ensures.row_length ∙ inv.row_length;

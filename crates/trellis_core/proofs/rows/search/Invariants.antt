@@ -15,7 +15,7 @@ invariant-loop-level g l =
       row : l.room.row.items ≡ best_row t l.level;
       totals : length l.room.totals.items ≡ states t;
       decided : length l.room.decided.items ≡ decision_bytes (states t);
-      decisions : AreAllDecisions t l.level l.room.decisions.items;
+      decisions : AreAllDecisions t l.level l.decisions.items;
       handed : HandsOver (g.S.LevelSink.spelling (g.S.LevelSink.kind l.initial.sink)) (g.S.LevelSink.text l.initial.sink) (g.S.LevelSink.text l.sink) (best_rows t l.level);
       left : g.S.LevelSink.rows_left l.sink + l.level ≡ g.S.LevelSink.rows_left l.initial.sink;
       row_length : g.S.LevelSink.row_length l.sink ≡ g.S.LevelSink.row_length l.initial.sink;

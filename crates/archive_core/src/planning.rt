@@ -1,0 +1,117 @@
+//! Masters that are planned: all is chosen and all memory is held, before a byte is written.
+
+ghost use Rattle.std.specs.Prelude.{◌≡◌, ◌+◌, ◌-◌, ◌<◌, ◌^◌, IfErr, IfOk, List, MatchResult, OnErr, OnOk, Some, ℕ};
+ghost use Rattle.std.specs.Io.KnownBytes.{Appends};
+ghost use Rattle.archive_core.specs.Cutting.{AreTakes, said_cut};
+ghost use Rattle.archive_core.specs.Editing.{Edits};
+ghost use Rattle.archive_core.specs.Planning.{AnswersPlanned, IsPlanned, Plans};
+ghost use Rattle.cut_core.specs.Hearing.{AreOfTakes};
+ghost use Rattle.device_core.specs.Outlets.{AppendsPart, outlet_failures, outlet_writer};
+ghost use Rattle.form_core.specs.Steps.{Fails};
+ghost use Rattle.master_core.specs.Certifying.{AppendsCert, AppendsCertFront};
+ghost use Rattle.splice_core.specs.Splices.{splice_content};
+
+use crate::cutting::cut_heard;
+use cut_core::{Cut, Heard};
+use device_core::{Device, Outlet};
+use form_core::{Form, write_in};
+use master_core::{CertifyingRoom, ChosenBridges, Planned, can_certify, certify, plan};
+use splice_core::Splice;
+use std::alloc::Global;
+use std::io::Write;
+use transfer_core::Fault;
+
+/// A master whose bridges are chosen, with all memory that its file and its certificate need to be written.
+#[derive(Drop)]
+pub struct PlannedMaster {
+    cut: Cut,
+    bridges: ChosenBridges,
+    room: CertifyingRoom,
+    master: Vec<u8>,
+}
+
+/// The master of a splice and what was heard of its takes, in the order of their numbers, before it is written.
+///
+/// Refusals: those of [`edit`](crate::edit) from `TakeMismatch` on, in their order.
+pub fn plan_master(
+    alloc: Global,
+    splice: Splice,
+    takes: Vec<Heard>,
+    form: Form,
+) -> Result<PlannedMaster, Fault>
+    requires { AreOfTakes (splice_content splice) takes.items }
+    ensures planned { IfOk result IsPlanned }
+    // Of whichever project and files it was heard, it is their master, whose certificate shows it to be least.
+    ensures found { (project : List ℕ) (files : List (List ℕ)) → AreTakes project files (splice_content splice) takes.items → IfOk result (Plans project files form) }
+    ensures only { (project : List ℕ) (files : List (List ℕ)) → AreTakes project files (splice_content splice) takes.items → (master : List ℕ) (cost : ℕ) → Edits project files form master cost → AnswersPlanned result master cost }
+    ensures refused { (project : List ℕ) (files : List (List ℕ)) → AreTakes project files (splice_content splice) takes.items → IfErr result (λ fault. Fails Fault.Memory fault (said_cut project files (Some form))) }
+{
+    let cut = cut_heard(splice, takes, Some(form))?;
+    let Planned {
+        recording,
+        bridges,
+        room,
+    } = plan(alloc, &cut, form)?;
+    let master = write_in(alloc, &recording, form)?;
+    Ok(PlannedMaster {
+        cut,
+        bridges,
+        room,
+        master,
+    })
+}
+
+impl PlannedMaster {
+    ghost use Rattle.archive_core.specs.Planning.{CertifiesPlanned, planned_master, planned_total};
+
+    /// What the bridges of the master cost: the sum over all bridges of all channels.
+    pub fn total(&self) -> u128
+        ensures { result ≡ planned_total self.now }
+    {
+        self.bridges.total()
+    }
+
+    /// Writes the master's file. No memory is asked for.
+    ///
+    /// Refusal: `Device` where a write fails, and a front of the file went out, not all of it.
+    pub fn write_master<W: Write>(&self, outlet: &mut Outlet<W>) -> Result<(), Device>
+        requires ready { outlet_failures outlet.old < 2 ^ 64 - 1 }
+        ensures ok { OnOk result (Appends (W.contents (outlet_writer outlet.old)) (W.contents (outlet_writer outlet.new)) (planned_master self.now)) }
+        ensures err { OnErr result (AppendsPart (W.contents (outlet_writer outlet.old)) (W.contents (outlet_writer outlet.new)) (planned_master self.now)) }
+        ensures failures { MatchResult result
+            (λ _. outlet_failures outlet.new ≡ outlet_failures outlet.old)
+            (λ _. outlet_failures outlet.new ≡ outlet_failures outlet.old + 1) }
+    {
+        outlet.put_all(&self.master)
+    }
+
+    /// There is a certificate of the master. It does nothing.
+    pub fn is_certifiable(&self)
+        requires { IsPlanned self.now }
+        ensures { (cert : List ℕ) × CertifiesPlanned self.now cert }
+    {
+        can_certify(&self.cut, &self.bridges);
+    }
+
+    /// Writes the certificate of the master to an outlet, which is handed back. The rows of each bridge are made while they
+    /// are written; no memory is asked for.
+    ///
+    /// Refusal: `Device` where a write fails, and a front of the certificate went out.
+    pub fn write_certificate<W: Write>(self, outlet: Outlet<W>) -> (Result<(), Device>, Outlet<W>)
+        requires planned { IsPlanned self }
+        requires ready { outlet_failures outlet < 2 ^ 64 - 1 }
+        ensures ok { OnOk result.0 (AppendsCert self.cut self.bridges (W.contents (outlet_writer outlet)) (W.contents (outlet_writer result.1))) }
+        ensures err { OnErr result.0 (AppendsCertFront self.cut self.bridges (W.contents (outlet_writer outlet)) (W.contents (outlet_writer result.1))) }
+        ensures failures { MatchResult result.0
+            (λ _. outlet_failures result.1 ≡ outlet_failures outlet)
+            (λ _. outlet_failures result.1 ≡ outlet_failures outlet + 1) }
+    {
+        let PlannedMaster {
+            cut,
+            bridges,
+            room,
+            master: _,
+        } = self;
+        certify(&cut, &bridges, room, outlet)
+    }
+}

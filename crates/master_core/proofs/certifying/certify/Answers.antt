@@ -1,0 +1,15 @@
+use Rattle.std.proofs.Common.{subst, sym}
+use Rattle.std.specs.Prelude.{OnErr}
+use Rattle.cert_core.specs.Writers.{cert_outlet}
+use Rattle.device_core.specs.Outlets.{outlet_writer}
+use Rattle.device_core.specs.declared.outlet.Outlet.{Outlet}
+use Rattle.master_core.specs.Certifying.{AppendsCertFront}
+use Rattle.master_core.proofs.certifying.certify.Goals as goal
+
+pub returns-clause-err : goal.returns-clause-err
+returns-clause-err g c =
+    let cut = c.args.cut.now in
+    let made = c.args.bridges.now in
+    let came = c.write_cert-came.result in
+    subst (λ o. OnErr came (AppendsCertFront cut made (g.W.Write.contents (outlet_writer o)) (g.W.Write.contents (outlet_writer c.finish.result)))) c.in_room-writer.ensures.outlet
+    (subst (λ o. OnErr came (AppendsCertFront cut made (g.W.Write.contents (outlet_writer (cert_outlet c.in_room-writer.result))) (g.W.Write.contents (outlet_writer o)))) (sym c.finish.ensures) c.write_cert-came.ensures.err)

@@ -2,10 +2,11 @@
 //!
 //! [`make`] searches each bridge of a [`Cut`](cut_core::Cut), writes the certificate that shows them to be least, and
 //! puts cues and bridges together; [`judge`] says whether a recording is such a master and a certificate shows that no
-//! bridge of it could cost less. Both walk one list, the bridges of the cut by rising cue and then by rising channel:
-//! `choosing.rt` searches them, `certifying.rt` writes their entries, `entries.rt` judges entries, and what they cost
-//! together is the sum over that list. `assembling.rt` makes a channel of cues and bridges, chosen ones or those that
-//! stand in a master (`standing.rt`), and `comparing.rt` tells the first bit of a channel that isn't that of its cue.
+//! bridge of it could cost less, [`judge_read`] the same by a certificate that is judged while it is read. All walk one
+//! list, the bridges of the cut by rising cue and then by rising channel: `choosing.rt` searches them, `certifying.rt`
+//! writes their entries, `entries.rt` judges entries, and what they cost together is the sum over that list.
+//! `assembling.rt` makes a channel of cues and bridges, chosen ones or those that stand in a master (`standing.rt`), and
+//! `comparing.rt` tells the first bit of a channel that isn't that of its cue.
 //!
 //! The words of the contracts:
 //!
@@ -31,6 +32,6 @@ mod making;
 mod standing;
 mod verdict;
 
-pub use judging::judge;
+pub use judging::{judge, judge_read};
 pub use making::{Made, make};
 pub use verdict::{Reason, Verdict};

@@ -5,6 +5,8 @@ use Rattle.form_core.specs.declared.fault.ReadFault.{ReadFault}
 use Rattle.form_core.specs.declared.fault.ReadFault.TheVariants as reads
 use Rattle.form_core.specs.declared.form.Form.{Form}
 use Rattle.form_core.specs.Forms.{HoldsAs}
+use Rattle.cert_core.specs.declared.verdict.CheckFault.{CheckFault}
+use Rattle.cert_core.specs.declared.verdict.CheckFault.TheVariants as certs
 use Rattle.cut_core.specs.Cuts.{CutContent}
 use Rattle.master_core.specs.declared.verdict.Reason.{Reason}
 use Rattle.master_core.specs.declared.verdict.Reason.TheVariants.{MasterUnread}
@@ -12,9 +14,10 @@ use Rattle.master_core.specs.declared.verdict.Verdict.{Verdict}
 use Rattle.master_core.specs.declared.verdict.Verdict.TheVariants.{Accepted, Rejected}
 use Rattle.master_core.specs.Checking.{IsMasterOf, StandsAgainst}
 use Rattle.master_core.specs.Claims.{IsCertOf}
-use Rattle.master_core.specs.Masters.{AreLeastChannels, total_cost}
+use Rattle.master_core.specs.Judging.{JudgesMaster}
+use Rattle.master_core.specs.Masters.{AreLeastChannels, AreMasterChannels, CostLeast, total_cost}
 use Rattle.transfer_core.specs.declared.fault.Fault.{Fault}
-use Rattle.transfer_core.specs.declared.fault.Fault.TheVariants.{Memory}
+use Rattle.transfer_core.specs.declared.fault.Fault.TheVariants.{ReadFailed, Memory}
 use Rattle.archive_core.specs.Cutting.{SaysCut}
 
 -- a refusal of reading is want of memory
@@ -70,3 +73,36 @@ abbrev pub AnswersAccepted : Result Verdict Fault → ℕ → Type 0
 AnswersAccepted (Ok (Accepted total)) cost = total ≡ cost
 AnswersAccepted (Ok (Rejected reason)) cost = ⊥
 AnswersAccepted (Err fault) cost = fault ≡ Memory
+
+-- the same of a certificate that is read, failed reads aside too
+abbrev pub ReadsAccepted : Result Verdict Fault → ℕ → Type 0
+ReadsAccepted (Ok (Accepted total)) cost = total ≡ cost
+ReadsAccepted (Ok (Rejected reason)) cost = ⊥
+ReadsAccepted (Err fault) cost = (fault ≡ ReadFailed) ⊎ (fault ≡ Memory)
+
+-- what a certificate that wasn't judged is refused for
+abbrev pub fault_of_check : CheckFault → Fault
+fault_of_check certs.Device = ReadFailed
+fault_of_check certs.Memory = Memory
+
+-- ---- by a cut
+
+-- what a verdict says of the file of a master and a certificate: it is no file of any form, or what it says of its recording
+abbrev pub JudgesFile : CutContent → List ℕ → List ℕ → Verdict → Type 0
+JudgesFile cut master cert verdict = ((verdict ≡ Rejected MasterUnread) × HoldsNothing master)
+    ⊎ ((form : Form) × (r : Content) × HoldsAs master form r × JudgesMaster cut form r cert verdict)
+
+-- the file holds a master of the cut, no bridge of which could cost less, and of all masters of the cut none costs less than this
+pub record IsLeastFile (cut : CutContent) (file : List ℕ) (cost : ℕ) : Type 0 where
+  pub form : Form
+  pub recording : Content
+  pub file_holds : HoldsAs file form recording
+  pub is_master : IsMasterOf cut form recording
+  pub made : AreMasterChannels cut recording.channels
+  pub least : AreLeastChannels cut recording.channels
+  pub joint : CostLeast cut recording.channels cost
+
+-- it was accepted at this cost
+abbrev pub IsAcceptedAt : ℕ → Verdict → Type 0
+IsAcceptedAt cost (Accepted total) = total ≡ cost
+IsAcceptedAt cost (Rejected reason) = ⊥

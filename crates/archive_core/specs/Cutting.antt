@@ -1,11 +1,12 @@
 -- The cut that a project and the files of its takes come to.
-use Rattle.std.specs.Prelude.{ℕ, List, Option, Result}
+use Rattle.std.specs.Prelude.{◌≡◌, ℕ, List, Option, Result}
 use Rattle.chunk_core.specs.Steps.{◌>>=◌}
 use Rattle.dsd_bits.specs.Contents.{Content}
 use Rattle.splice_core.specs.Splices.{SpliceContent}
 use Rattle.form_core.specs.declared.form.Form.{Form}
 use Rattle.form_core.specs.Steps.{map_err}
 use Rattle.cut_core.specs.Cuts.{CutContent}
+use Rattle.cut_core.specs.declared.fault.CutFault.{CutFault}
 use Rattle.cut_core.specs.declared.heard.Heard.{Heard}
 use Rattle.cut_core.specs.Hearing.{AreHeard}
 use Rattle.cut_core.specs.Opening.{AreRead, OpensCut, cut_of}
@@ -31,3 +32,7 @@ unfoldable pub said_cut : List ℕ → List (List ℕ) → Option Form → Resul
 said_cut project files form = do
   splice ← splice_of project
   map_err fault_of_cut (cut_of splice files form)
+
+-- a fault of a cut
+abbrev pub IsCutFault : Fault → Type 0
+IsCutFault fault = (cut : CutFault) × (fault ≡ fault_of_cut cut)

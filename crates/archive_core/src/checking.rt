@@ -1,10 +1,17 @@
 //! Whether a file is the master of a project and takes, and its bridges are the best there are.
 
-ghost use Rattle.std.specs.Prelude.{◌≡◌, IfErr, IfOk, List, MatchOption, None, Some, ℕ};
+ghost use Rattle.std.specs.Prelude.{◌≡◌, ◌+◌, ◌-◌, ◌^◌, ◌<◌, ◌⊎◌, IfErr, IfOk, IfSome, List, MatchOption, None, Some, ℕ};
 ghost use Rattle.archive_core.specs.Checking as checks;
-ghost use Rattle.archive_core.specs.Checking.{Accepts, AnswersAccepted, HoldsNothing, IfAccepted, IfRejected, IsLeastMaster, RejectsFirst};
+ghost use Rattle.archive_core.specs.Checking.{Accepts, AnswersAccepted, HoldsNothing, IfAccepted, IfRejected, IsAcceptedAt, IsLeastFile, IsLeastMaster, JudgesFile, ReadsAccepted, RejectsFirst, fault_of_check};
 ghost use Rattle.cut_core.specs.Hearing.{AreOfTakes};
 ghost use Rattle.archive_core.specs.Cutting.{AreTakes, said_cut};
+ghost use Rattle.cert_core.specs.Readers.{cert_inlet, failed_checks};
+ghost use Rattle.device_core.specs.Inlets.{inlet_failures, inlet_reader};
+ghost use Rattle.master_core.specs.Checking.{IsMasterOf};
+ghost use Rattle.master_core.specs.Claims.{IsCertOf};
+ghost use Rattle.master_core.specs.Judging.{AtCost};
+ghost use Rattle.master_core.specs.Masters.{total_cost};
+ghost use Rattle.transfer_core.specs.Streaming.{failed_reads};
 ghost use Rattle.archive_core.specs.Editing.{CostsLeast, CostsWindows, IsMaster};
 ghost use Rattle.cut_core.specs.Opening.{file_bytes};
 ghost use Rattle.dsd_bits.specs.Contents.{Content};
@@ -15,11 +22,14 @@ ghost use Rattle.form_core.specs.Steps.{Fails};
 ghost use Rattle.splice_core.specs.Splices.{splice_content};
 
 use crate::cutting::cut_heard;
-use cut_core::{Heard, hear_takes};
+use cert_core::{CertReader, CheckFault};
+use cut_core::{Cut, Heard, hear_takes};
+use device_core::Inlet;
 use form_core::{Opened, ReadFault, read_any};
-use master_core::{Reason, Verdict, judge};
+use master_core::{Reason, Verdict, judge_read};
 use splice_core::Splice;
 use std::alloc::{AllocError, Global};
+use std::io::Read;
 use transfer_core::{Fault, splice_of};
 
 /// Whether a file is the master of a project and its takes, and a certificate shows that no bridge in it
@@ -83,10 +93,73 @@ pub fn check_heard(
     ensures refused { (project : List ℕ) (files : List (List ℕ)) → AreTakes project files (splice_content splice) takes.items → IfErr result (λ fault. Fails Fault.Memory fault (said_cut project files None)) }
 {
     let cut = cut_heard(splice, takes, None)?;
+    let mut reader = CertReader::new(Inlet::new(cert));
+    match judge_file(alloc, &cut, master, &mut reader) {
+        Ok(verdict) => Ok(verdict),
+        Err(_) => Err(Fault::Memory),
+    }
+}
+
+/// The same verdict by a certificate that is judged while it is read, two rows of it at a time. Only a certificate that is
+/// accepted is read to its end, and none is read where there is a fault, or a reason against the master.
+///
+/// Refusals: those of [`check_heard`]; `ReadFailed` where a read fails.
+pub fn check_read<R: Read>(
+    alloc: Global,
+    splice: Splice,
+    takes: Vec<Heard>,
+    master: &[u8],
+    cert: &mut CertReader<R>,
+) -> Result<Verdict, Fault>
+    requires heard { AreOfTakes (splice_content splice) takes.items }
+    requires ready { inlet_failures (cert_inlet cert.old) < 2 ^ 64 - 1 }
+    // Of whichever project and files it was heard, the clauses of `check` hold of them and of the bytes that the reader has left, where it
+    // tells them. What is accepted is a least master whichever reader it was.
+    ensures found { (project : List ℕ) (files : List (List ℕ)) → AreTakes project files (splice_content splice) takes.items → IfAccepted result (λ cost. IfSome (R.remaining (inlet_reader (cert_inlet cert.old))) (λ bytes. Accepts project files master.now bytes cost)) }
+    ensures master { (project : List ℕ) (files : List (List ℕ)) → AreTakes project files (splice_content splice) takes.items → IfAccepted result (λ _. IsMaster project files master.now) }
+    ensures least { (project : List ℕ) (files : List (List ℕ)) → AreTakes project files (splice_content splice) takes.items → IfAccepted result (λ _. IsLeastMaster project files master.now) }
+    ensures joint { (project : List ℕ) (files : List (List ℕ)) → AreTakes project files (splice_content splice) takes.items → IfAccepted result (CostsLeast project files master.now) }
+    ensures windows { (project : List ℕ) (files : List (List ℕ)) → AreTakes project files (splice_content splice) takes.items → IfAccepted result (λ cost. IfSome (R.remaining (inlet_reader (cert_inlet cert.old))) (λ _. CostsWindows project files master.now cost)) }
+    ensures only { (project : List ℕ) (files : List (List ℕ)) → AreTakes project files (splice_content splice) takes.items → (cost : ℕ) → IfSome (R.remaining (inlet_reader (cert_inlet cert.old))) (λ bytes. Accepts project files master.now bytes cost → ReadsAccepted result cost) }
+    ensures rejected { (project : List ℕ) (files : List (List ℕ)) → AreTakes project files (splice_content splice) takes.items → IfRejected result (λ reason. IfSome (R.remaining (inlet_reader (cert_inlet cert.old))) (λ bytes. RejectsFirst project files master.now bytes reason)) }
+    ensures refused { (project : List ℕ) (files : List (List ℕ)) → AreTakes project files (splice_content splice) takes.items → IfErr result (λ fault. (fault ≡ Fault.ReadFailed) ⊎ Fails Fault.Memory fault (said_cut project files None)) }
+    // The answer is `ReadFailed` exactly where a read failed.
+    ensures failures { inlet_failures (cert_inlet cert.new) ≡ inlet_failures (cert_inlet cert.old) + failed_reads result }
+{
+    let cut = cut_heard(splice, takes, None)?;
+    match judge_file(alloc, &cut, master, cert) {
+        Ok(verdict) => Ok(verdict),
+        Err(fault) => Err(fault_of(fault)),
+    }
+}
+
+// What a certificate that wasn't judged is refused for.
+fn fault_of(fault: CheckFault) -> Fault
+    ensures { result ≡ fault_of_check fault }
+{
+    match fault {
+        CheckFault::Device => Fault::ReadFailed,
+        CheckFault::Memory => Fault::Memory,
+    }
+}
+
+// Whether a file is the master of a cut, and a certificate that is read shows its bridges to be least.
+fn judge_file<R: Read>(
+    alloc: Global,
+    cut: &Cut,
+    master: &[u8],
+    cert: &mut CertReader<R>,
+) -> Result<Verdict, CheckFault>
+    requires { inlet_failures (cert_inlet cert.old) < 2 ^ 64 - 1 }
+    ensures judged { IfOk result (λ verdict. IfSome (R.remaining (inlet_reader (cert_inlet cert.old))) (λ bytes. JudgesFile cut.now master.now bytes verdict)) }
+    ensures least { IfOk result (λ verdict. AtCost verdict (IsLeastFile cut.now master.now)) }
+    ensures only { (form : Form) (r : Content) → HoldsAs master.now form r → IsMasterOf cut.now form r → IfSome (R.remaining (inlet_reader (cert_inlet cert.old))) (λ bytes. IsCertOf cut.now r.channels bytes → IfOk result (IsAcceptedAt (total_cost cut.now r.channels))) }
+    ensures failures { inlet_failures (cert_inlet cert.new) ≡ inlet_failures (cert_inlet cert.old) + failed_checks result }
+{
     let Some(opened) = open_master(alloc, master)? else {
         return Ok(Verdict::Rejected(Reason::MasterUnread));
     };
-    Ok(judge(alloc, &cut, &opened, cert)?)
+    judge_read(alloc, cut, &opened, cert)
 }
 
 // The form and the recording of a file, if it is a DSDIFF or DSF file that can be read.

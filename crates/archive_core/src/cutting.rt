@@ -1,10 +1,10 @@
 //! The cut of a splice and what was heard of its takes.
 
-ghost use Rattle.std.specs.Prelude.{IfOk, List, ℕ};
+ghost use Rattle.std.specs.Prelude.{IfErr, IfOk, List, ℕ};
 ghost use Rattle.splice_core.specs.Splices.{splice_content};
 ghost use Rattle.form_core.specs.Steps.{Gives};
 ghost use Rattle.cut_core.specs.Hearing.{AreOfTakes};
-ghost use Rattle.archive_core.specs.Cutting.{AreTakes, SaysCut, said_cut};
+ghost use Rattle.archive_core.specs.Cutting.{AreTakes, IsCutFault, SaysCut, said_cut};
 
 use cut_core::{Cut, Heard};
 use form_core::Form;
@@ -20,6 +20,7 @@ pub(crate) fn cut_heard(splice: Splice, takes: Vec<Heard>, form: Option<Form>) -
     // Of whichever project and files it was heard, it is their cut, or refused as they are.
     ensures found { (project : List ℕ) (files : List (List ℕ)) → AreTakes project files (splice_content splice) takes.items → IfOk result (SaysCut project files form) }
     ensures exact { (project : List ℕ) (files : List (List ℕ)) → AreTakes project files (splice_content splice) takes.items → Gives Fault.Memory (λ cut. cut) result (said_cut project files form) }
+    ensures fault { IfErr result IsCutFault }
 {
     Ok(Cut::of(splice, takes, form)?)
 }

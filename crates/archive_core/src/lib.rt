@@ -4,7 +4,8 @@
 //! [`read_any`] reads a DSDIFF 1.5 or DSF 1.01 file ([`form_core`]), [`convert`] writes its recording in another
 //! [`Form`], and [`play`] makes a RIFF WAVE file of it, decimated as a project text says; [`play_stream`] does so from
 //! a reader to a writer. [`take_names`] tells which takes a project text cuts, [`edit`] cuts its master from them and
-//! certifies it, [`plan_master`] does so up to the writing, and [`check`] judges a master and its certificate, whoever made them. What is done with one recording is
+//! certifies it, [`plan_master`] does so up to the writing, and [`check`] judges a master and its certificate, whoever made
+//! them, [`check_read`] by a certificate that is judged while it is read. What is done with one recording is
 //! [`transfer_core`]'s; cuts are [`cut_core`]'s, masters [`master_core`]'s: here stand the calls over them whole, from
 //! project and files on.
 //!
@@ -36,7 +37,7 @@ mod editing;
 mod laws;
 mod planning;
 
-pub use checking::{check, check_heard};
+pub use checking::{check, check_heard, check_read};
 pub use editing::{Edited, edit, edit_heard};
 pub use form_core::{Form, Opened, ReadFault, read_any};
 pub use laws::read_in_order;

@@ -36,6 +36,8 @@ mod outcomes;
 #[cfg(test)]
 mod playing;
 #[cfg(test)]
+mod reading_certificates;
+#[cfg(test)]
 mod reading_files;
 #[cfg(test)]
 mod rejecting;

@@ -36,10 +36,10 @@ IfRejected (Ok (Accepted cost)) P = ⊤
 IfRejected (Err fault) P = ⊤
 
 -- one where the answer is `Device`
-abbrev pub failed_checks : Result CertVerdict CheckFault → ℕ
+abbrev pub failed_checks : {T : Type 0} → Result T CheckFault → ℕ
 failed_checks (Err Device) = 1
 failed_checks (Err Memory) = 0
-failed_checks (Ok verdict) = 0
+failed_checks (Ok x) = 0
 
 -- all is well
 abbrev pub IsWell : Result (Option CertReason) CheckFault → Type 0
@@ -50,12 +50,6 @@ abbrev pub IfReason : Result (Option CertReason) CheckFault → (CertReason → 
 IfReason (Ok (Some reason)) P = P reason
 IfReason (Ok None) P = ⊤
 IfReason (Err fault) P = ⊤
-
--- one where the answer is `Device`
-abbrev pub failed_reads : Result (Option CertReason) CheckFault → ℕ
-failed_reads (Err Device) = 1
-failed_reads (Err Memory) = 0
-failed_reads (Ok reason) = 0
 
 -- known bytes have this reason first in the head
 abbrev pub InHead : ℕ → ℕ → Option (List ℕ) → CertReason → Type 0

@@ -31,7 +31,7 @@ pub struct CertReader<R> {
 }
 
 impl<R: Read> CertReader<R> {
-    ghost use Rattle.cert_core.specs.Readers.{cert_inlet, has_read_head, read_version, IfAccepted, IfRejected, failed_checks, IsWell, IfReason, InHead, InRest, failed_reads};
+    ghost use Rattle.cert_core.specs.Readers.{cert_inlet, has_read_head, read_version, IfAccepted, IfRejected, failed_checks, IsWell, IfReason, InHead, InRest};
 
     /// A reader at the inlet's place.
     pub fn new(inlet: Inlet<R>) -> CertReader<R>
@@ -43,6 +43,18 @@ impl<R: Read> CertReader<R> {
             version: Version::One,
             has_head: false,
         }
+    }
+
+    /// The inlet, as it stands.
+    pub fn into_inlet(self) -> Inlet<R>
+        ensures { result ≡ cert_inlet self }
+    {
+        let CertReader {
+            inlet,
+            version: _,
+            has_head: _,
+        } = self;
+        inlet
     }
 
     /// Reads the head, which has to be that of so many weights and entries in either version. None means that it is.
@@ -64,7 +76,7 @@ impl<R: Read> CertReader<R> {
         ensures only { IfReason result (λ _. IfSome (R.remaining (inlet_reader (cert_inlet self.old))) (λ bytes. (v : Version) → (rest : List ℕ) → bytes ≡ cert_head v weights entries ++ rest → ⊥)) }
 
         // The answer is `Device` exactly where a read failed, and never `Memory`.
-        ensures failures { inlet_failures (cert_inlet self.new) ≡ inlet_failures (cert_inlet self.old) + failed_reads result }
+        ensures failures { inlet_failures (cert_inlet self.new) ≡ inlet_failures (cert_inlet self.old) + failed_checks result }
         ensures memory { IsErrOf result CheckFault.Memory → ⊥ }
     {
         let mut bytes = [0u8; 12];
@@ -144,7 +156,7 @@ impl<R: Read> CertReader<R> {
         ensures reason { IfReason result (InRest (R.remaining (inlet_reader (cert_inlet self.old)))) }
 
         // The answer is `Device` exactly where a read failed, and never `Memory`.
-        ensures failures { inlet_failures (cert_inlet self.new) ≡ inlet_failures (cert_inlet self.old) + failed_reads result }
+        ensures failures { inlet_failures (cert_inlet self.new) ≡ inlet_failures (cert_inlet self.old) + failed_checks result }
         ensures memory { IsErrOf result CheckFault.Memory → ⊥ }
     {
         let mut bytes = [0u8; 1];

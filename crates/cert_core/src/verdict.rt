@@ -1,5 +1,6 @@
 //! What a reader of certificates answers.
 
+use std::alloc::AllocError;
 use std::{error, fmt};
 use thiserror::Error;
 
@@ -61,4 +62,15 @@ pub enum CheckFault {
     /// Want of memory.
     #[error("Memory")]
     Memory,
+}
+
+impl From<AllocError> for CheckFault {
+    ghost use Rattle.std.specs.Prelude.{◌≡◌};
+    ghost use Rattle.cert_core.specs.declared.verdict.CheckFault.TheVariants.{Memory};
+
+    ghost from_gives = { λ _ e. e ≡ Memory };
+
+    fn from(_: AllocError) -> CheckFault {
+        CheckFault::Memory
+    }
 }

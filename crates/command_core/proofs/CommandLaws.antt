@@ -1,15 +1,16 @@
 -- What becomes of the files of a master and its certificate that could not be written, and of those that are judged.
-use Rattle.std.proofs.Common.{◌≡◌, ◌≢◌, ℕ, inl, inr, List, Bool, IsTrue, Some, Ok, Err, subst, sym, ◌∙◌}
-use Rattle.archive_core.specs.Checking.{Accepts, IfAccepted, IfRejected, RejectsFirst}
+use Rattle.std.proofs.Common.{◌≡◌, ◌≢◌, ℕ, inl, inr, List, Bool, IsTrue, Some, Ok, Err, Result, subst, sym, ◌∙◌}
+use Rattle.archive_core.specs.Checking.{Accepts}
 use Rattle.archive_core.specs.Editing.{Edits}
 use Rattle.folder_core.specs.Files.{Files, IsFront, KeepsOthers}
 use Rattle.folder_core.specs.declared.fault.FileFault.{FileFault}
 use Rattle.folder_core.specs.declared.fault.FileFault.TheVariants as files
 use Rattle.transfer_commands.specs.Faults.{of_file}
 use Rattle.transfer_commands.specs.Sources.{AreSources}
+use Rattle.transfer_commands.specs.declared.fault.CommandFault.{CommandFault}
+use Rattle.transfer_commands.specs.declared.fault.CommandFault.TheVariants as faults
 use Rattle.master_core.specs.declared.verdict.Verdict.{Verdict}
-use Rattle.master_core.specs.declared.verdict.Verdict.TheVariants as verdicts
-use Rattle.command_core.specs.Commands.{ChecksFiles, Cut, CutsFile, EditComesTo, EditsFiles, Judges}
+use Rattle.command_core.specs.Commands.{CheckComesTo, Cut, CutsFile, EditComesTo, EditsFiles, JudgedComesTo}
 
 -- a master is cut, and could not be written
 pub cut_unwritten : (cut : Cut) (old read new : Files) (told told_read : Bool) (project master : List ℕ) (takes : List (List ℕ)) (total : ℕ) (fault : FileFault)
@@ -95,25 +96,22 @@ both_written cut old read written new told told_read told_written project master
       accepted = accepted;
     }
 
--- a master is judged by the project and its takes, and no file changes
-pub judged : (project_name master_name cert_name : List ℕ) (old read held new : Files) (project : List ℕ) (takes : List (List ℕ)) (master cert : List ℕ)
-    → read ≡ old → held ≡ read → new ≡ held
-    → AreSources project_name old project takes → read master_name ≡ Some master → held cert_name ≡ Some cert
-    → (verdict : Verdict) → IfAccepted (Ok verdict) (Accepts project takes master cert) → IfRejected (Ok verdict) (RejectsFirst project takes master cert)
-    → ChecksFiles project_name master_name cert_name old new verdict
-judged project_name master_name cert_name old read held new project takes master cert
-    same_read same_held same_new sources master_stands cert_stands verdict accepted rejected = record {
-      project = project;
-      takes = takes;
-      master = master;
-      cert = cert;
-      sources = sources;
-      master_stands = subst (λ (f : Files). f master_name ≡ Some master) same_read master_stands;
-      cert_stands = subst (λ (f : Files). f cert_name ≡ Some cert) (same_held ∙ same_read) cert_stands;
-      judges = by verdict accepted rejected;
-      same = same_new ∙ (same_held ∙ same_read);
-    }
-  where
-    by : (v : Verdict) → IfAccepted (Ok v) (Accepts project takes master cert) → IfRejected (Ok v) (RejectsFirst project takes master cert) → Judges project takes master cert v
-    by (verdicts.Accepted cost) accepted rejected = accepted
-    by (verdicts.Rejected reason) accepted rejected = rejected
+-- a master is judged by the project and its takes, or refused, and no file changes
+module _ (project_name master_name cert_name : List ℕ) (old read held new : Files) (project : List ℕ) (takes : List (List ℕ)) (master cert : List ℕ) where
+  pub checked : read ≡ old → held ≡ read → new ≡ held
+      → AreSources project_name old project takes → read master_name ≡ Some master → held cert_name ≡ Some cert
+      → (came : Result Verdict CommandFault) → JudgedComesTo project takes master cert came → CheckComesTo project_name master_name cert_name old new came
+  checked same_read same_held same_new sources master_stands cert_stands (Ok verdict) judges = record {
+    project = project;
+    takes = takes;
+    master = master;
+    cert = cert;
+    sources = sources;
+    master_stands = subst (λ (f : Files). f master_name ≡ Some master) same_read master_stands;
+    cert_stands = subst (λ (f : Files). f cert_name ≡ Some cert) (same_held ∙ same_read) cert_stands;
+    judges = judges;
+    same = same_new ∙ (same_held ∙ same_read);
+  }
+  checked same_read same_held same_new sources master_stands cert_stands (Err (faults.Call fault)) fails = (same_new ∙ (same_held ∙ same_read), inr (inr (record { project = project; takes = takes; sources = sources; first = fails })))
+  checked same_read same_held same_new sources master_stands cert_stands (Err faults.ReadFailed) h = same_new ∙ (same_held ∙ same_read)
+  checked same_read same_held same_new sources master_stands cert_stands (Err faults.WriteFailed) h = absurd h

@@ -1,6 +1,6 @@
 -- What was heard of a project's takes, as a cut takes it.
 use Rattle.std.proofs.Common.{◌≡◌, List, Ok, Err, Option, Result, Global, Vec, length, subst, ℕ}
-use Rattle.splice_core.specs.Splices.{SpliceContent, splice_content}
+use Rattle.splice_core.specs.Splices.{splice_content}
 use Rattle.form_core.specs.Steps.{Fails}
 use Rattle.form_core.specs.declared.form.Form.{Form}
 use Rattle.cut_core.specs.declared.fault.CutFault.{CutFault}

@@ -73,6 +73,13 @@ abbrev pub Judges : List ℕ → List (List ℕ) → List ℕ → List ℕ → V
 Judges project takes master cert (verdicts.Accepted cost) = Accepts project takes master cert cost
 Judges project takes master cert (verdicts.Rejected reason) = RejectsFirst project takes master cert reason
 
+-- a master and a certificate came to this by a project and the files of its takes: a verdict, the first fault of their cut, or a read that failed
+abbrev pub JudgedComesTo : List ℕ → List (List ℕ) → List ℕ → List ℕ → Result Verdict CommandFault → Type 0
+JudgedComesTo project takes master cert (Ok verdict) = Judges project takes master cert verdict
+JudgedComesTo project takes master cert (Err (faults.Call fault)) = Fails Memory fault (said_cut project takes None)
+JudgedComesTo project takes master cert (Err faults.ReadFailed) = Unit {0}
+JudgedComesTo project takes master cert (Err faults.WriteFailed) = ⊥
+
 -- this is what the files of a master and a certificate come to by the project and the files of its takes, and no file changed
 pub record ChecksFiles (project_name master_name cert_name : List ℕ) (old new : Files) (verdict : Verdict) : Type 0 where
   pub project : List ℕ

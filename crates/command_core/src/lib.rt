@@ -11,6 +11,7 @@
 //!   (`specs/Outcomes.antt`).
 #![tactic(auto)]
 
+mod judging;
 mod outcome;
 mod performing;
 mod program;

@@ -5,8 +5,9 @@ ghost use Rattle.command_core.specs.Commands.{CheckComesTo, EditComesTo, TaskCom
 ghost use Rattle.command_core.specs.Outcomes.{outcome_of, verdict_of};
 ghost use Rattle.command_core.specs.declared.outcome.Outcome.TheVariants as outcomes;
 
+use crate::judging::judge_opened;
 use crate::outcome::Outcome;
-use crate::sources::{cut_sources, judge_sources};
+use crate::sources::cut_sources;
 use archive_core::{Form, Verdict};
 use folder_core::{Folder, read_file, write_file};
 use info_core::Told;
@@ -19,6 +20,9 @@ use words_core::Task;
 /// Does a command. Each file is opened and read whole in the order in which the command names it, and a
 /// project's takes behind it by their numbers; the call of `archive_core` comes next, and only where it
 /// answers is a file created.
+///
+/// But a certificate that is judged is read while it is judged, whatever it comes to to its end, and no more than two rows
+/// and a block of it are held. And a master and its certificate are written while they are made.
 ///
 /// But the recording that is played is opened, the WAVE file created, and the one then read and the other written piece
 /// by piece. A recording that is converted or told of, and a take, is read whole only where it has fewer than 2 MiB. Else
@@ -75,7 +79,7 @@ fn edit_files<F: Folder>(
     Ok(edited.total)
 }
 
-// Reads the project and its takes, then a master and its certificate, and judges them.
+// Reads the project and its takes, then a master, and judges it by its certificate while that is read.
 fn check_files<F: Folder>(
     alloc: Global,
     folder: &mut F,
@@ -87,8 +91,10 @@ fn check_files<F: Folder>(
 {
     let sources = hear_sources(alloc, folder, project, MOST_KEPT)?;
     let master = read_file(alloc, folder, master)?;
-    let cert = read_file(alloc, folder, cert)?;
-    Ok(judge_sources(alloc, sources, &master, &cert)?)
+    let Ok(file) = folder.open(cert) else {
+        return Err(CommandFault::ReadFailed);
+    };
+    judge_opened(alloc, sources, &master, file)
 }
 
 // What a command that played came to.

@@ -1,13 +1,13 @@
 -- A recording that is judged a master: its channels, and that they are least.
-use Rattle.std.proofs.Common.{◌≡◌, ℕ, ◌-◌, ◌<◌, inl, inr, Bool, List, [], length, get_or, map, false, IfOk, Option, Some, Result, Ok, Err, sym, ap, subst, ◌∙◌, arith}
+use Rattle.std.proofs.Common.{◌≡◌, ℕ, ◌-◌, ◌<◌, inl, inr, Bool, List, [], length, get_or, map, false, IfOk, IfSome, Option, None, Some, Result, Ok, Err, sym, ap, subst, ◌∙◌, arith}
 use Rattle.std.specs.Prelude.{MatchOption}
-use Rattle.std.specs.declared.alloc.AllocError.{AllocError}
 use Rattle.std.specs.List.{All, range_with_len}
 use Rattle.std.proofs.lemmas.Bool.{cases_lt}
 use Rattle.std.proofs.lemmas.List.{get_or-map, length-map, nil_from_length}
 use Rattle.std.proofs.lemmas.List.FromFn.{get_or-map-range_with_len, length-map-range_with_len}
 use Rattle.dsd_bits.specs.Contents.{Content}
 use Rattle.dsd_bits.specs.Shape.{HasShape}
+use Rattle.cert_core.specs.declared.verdict.CheckFault.{CheckFault}
 use Rattle.cost_core.specs.Bridges.{IsLeastBridge, bridge_cost}
 use Rattle.cost_core.specs.Channels.{LeastTogether, Part, PlacesAreWindows}
 use Rattle.cost_core.specs.Least.{IsLeast}
@@ -67,10 +67,15 @@ pub some_is : {X : Type 0} (P : Type 0) (Q : X → Type 0) (o : Option X) (x : X
 some_is P Q o x e h = subst (λ k. MatchOption k P Q) e h
 
 -- what stands anyway stands where it is accepted
-pub where_known : (P : Type 0) (answer : Result Verdict AllocError) → P → IfOk answer (λ v. WhereAccepted v P)
+pub where_known : (P : Type 0) (answer : Result Verdict CheckFault) → P → IfOk answer (λ v. WhereAccepted v P)
 where_known P (Ok (Accepted cost)) p = p
 where_known P (Ok (Rejected reason)) p = tt
 where_known P (Err fault) p = tt
+
+-- what stands of all bytes stands of known ones
+pub for_known : (known : Option (List ℕ)) (P : List ℕ → Type 0) → ((bytes : List ℕ) → P bytes) → IfSome known P
+for_known None P p = tt
+for_known (Some bytes) P p = p bytes
 
 -- ---- a recording that is a master
 module _ (cut : CutContent) (can : CanCut cut) (form : Form) (r : Content) (is : IsMasterOf cut form r) (shape : HasShape r) where
@@ -105,25 +110,27 @@ module _ (cut : CutContent) (can : CanCut cut) (form : Form) (r : Content) (is :
         made = rebuilt_at c there;
       })
 
-  -- a verdict by a whole certificate
-  module _ (cert : List ℕ) where
-    pub judged_only : (answer : Result Verdict AllocError) → IfOk answer (JudgesCert cut r.channels (Some cert)) → IsCertOf cut r.channels cert → IfOk answer IsNoRejection
-    judged_only (Ok (Accepted cost)) h shown = tt
-    judged_only (Ok (Rejected reason)) h shown = absurd (h.1 shown)
-    judged_only (Err fault) h shown = tt
+  -- a verdict by a certificate that is read
+  pub judged_only : (known : Option (List ℕ)) (answer : Result Verdict CheckFault) → IfOk answer (JudgesCert cut r.channels known) → IfSome known (λ cert. IsCertOf cut r.channels cert → IfOk answer IsNoRejection)
+  judged_only None answer h = tt
+  judged_only (Some cert) (Ok (Accepted cost)) h = λ shown. tt
+  judged_only (Some cert) (Ok (Rejected reason)) h = λ shown. absurd (h.1 shown)
+  judged_only (Some cert) (Err fault) h = λ shown. tt
 
-    pub judged_least : (answer : Result Verdict AllocError) → IfOk answer (JudgesCert cut r.channels (Some cert)) → IfOk answer (λ v. WhereAccepted v (AreLeastChannels cut r.channels))
-    judged_least (Ok (Accepted cost)) h = channels_least h.least
-    judged_least (Ok (Rejected reason)) h = tt
-    judged_least (Err fault) h = tt
+  pub judged_least : (known : Option (List ℕ)) (answer : Result Verdict CheckFault) → IfOk answer (JudgesCert cut r.channels known) → IfOk answer (λ v. WhereAccepted v (AreLeastChannels cut r.channels))
+  judged_least known (Ok (Accepted cost)) h = channels_least h.least
+  judged_least known (Ok (Rejected reason)) h = tt
+  judged_least known (Err fault) h = tt
 
-    pub judged_whole : PlacesAreWindows → (answer : Result Verdict AllocError) → IfOk answer (JudgesCert cut r.channels (Some cert)) → IfOk answer (JudgesMaster cut form r cert)
-    judged_whole places (Ok (Accepted cost)) h = (is, h.shown, h.cost_is ∙ windows_are_total cut r.channels can have_shape is.cued places, h.cost_is)
-    judged_whole places (Ok (Rejected reason)) h = inr (is, h.0)
-    judged_whole places (Err fault) h = tt
+  pub judged_whole : PlacesAreWindows → (known : Option (List ℕ)) (answer : Result Verdict CheckFault) → IfOk answer (JudgesCert cut r.channels known) → IfOk answer (λ v. IfSome known (λ cert. JudgesMaster cut form r cert v))
+  judged_whole places None (Ok verdict) h = tt
+  judged_whole places None (Err fault) h = tt
+  judged_whole places (Some cert) (Ok (Accepted cost)) h = (is, h.shown, h.cost_is ∙ windows_are_total cut r.channels can have_shape is.cued places, h.cost_is)
+  judged_whole places (Some cert) (Ok (Rejected reason)) h = inr (is, h.0)
+  judged_whole places (Some cert) (Err fault) h = tt
 
-    pub judged_joint : PlacesAreWindows → LeastTogether → (answer : Result Verdict AllocError) → IfOk answer (JudgesCert cut r.channels (Some cert)) → IfOk answer (λ v. AtCost v (CostLeast cut r.channels))
-    judged_joint places together (Ok (Accepted cost)) h =
-        cost_least cut can together r.channels cost (channels_least h.least) (h.cost_is ∙ windows_are_total cut r.channels can have_shape is.cued places)
-    judged_joint places together (Ok (Rejected reason)) h = tt
-    judged_joint places together (Err fault) h = tt
+  pub judged_joint : PlacesAreWindows → LeastTogether → (known : Option (List ℕ)) (answer : Result Verdict CheckFault) → IfOk answer (JudgesCert cut r.channels known) → IfOk answer (λ v. AtCost v (CostLeast cut r.channels))
+  judged_joint places together known (Ok (Accepted cost)) h =
+      cost_least cut can together r.channels cost (channels_least h.least) (h.cost_is ∙ windows_are_total cut r.channels can have_shape is.cued places)
+  judged_joint places together known (Ok (Rejected reason)) h = tt
+  judged_joint places together known (Err fault) h = tt

@@ -1,9 +1,9 @@
 //! Whether a certificate shows the bridges of a master to be least.
 
-ghost use Rattle.std.specs.Prelude.{◌≡◌, ◌+◌, ◌-◌, ◌^◌, ◌<◌, ◌≤◌, All, IfOk, IfSome, None, OnOk, Some, [], false, length, map, slice_index_or, true};
+ghost use Rattle.std.specs.Prelude.{◌≡◌, ◌+◌, ◌-◌, ◌^◌, ◌<◌, ◌≤◌, All, IfOk, IfSome, None, OnOk, [], false, length, map, slice_index_or, true};
 ghost use Rattle.std.specs.Io.KnownBytes.{IsAtEnd};
 ghost use Rattle.device_core.specs.Inlets.{inlet_failures, inlet_reader};
-ghost use Rattle.cert_core.specs.Readers.{cert_inlet, has_read_head, read_version};
+ghost use Rattle.cert_core.specs.Readers.{cert_inlet, failed_checks, has_read_head, read_version};
 ghost use Rattle.cut_core.specs.Bridges as lists;
 ghost use Rattle.cut_core.specs.Bridges.{IsPlace};
 ghost use Rattle.cut_core.specs.Cuts.{cue_at};
@@ -14,32 +14,32 @@ ghost use Rattle.master_core.specs.Judging.{JudgesCert, JudgesClaim, JudgesClaim
 
 use crate::standing::{bridge_starts, push_standing};
 use crate::verdict::{Reason, Verdict};
-use cert_core::{CertReader, CertReason, CertVerdict, cert_goes_on, read_is_cert};
+use cert_core::{CertReader, CertReason, CertVerdict, CheckFault, cert_goes_on, read_is_cert};
 use cost_core::Window;
 use cut_core::{BridgePlace, Cut};
-use device_core::Inlet;
 use dsd_bits::{Bits, Recording};
 use std::alloc::{AllocError, Global};
 use std::io::Read;
 
-/// Whether a certificate shows the bridges of a master's channels to be least. It is accepted exactly where
-/// it does, with the sum of what they cost.
+/// Whether a certificate shows the bridges of a master's channels to be least, judged as it is read. It is accepted
+/// exactly where it does, with the sum of what they cost.
 ///
 /// Else the answer is the first reason of this order: `CertHead`, `Cert` with the first such entry,
-/// `CertExtra`. Err is want of memory.
-pub fn judge_certificate(
+/// `CertExtra`. Refusals: `Device` where a read fails, `Memory`.
+pub fn judge_certificate<R: Read>(
     alloc: Global,
     cut: &Cut,
     recording: &Recording,
-    cert: &[u8],
-) -> Result<Verdict, AllocError>
-    requires { HaveShape cut.now recording.now.channels }
-    ensures { IfOk result (JudgesCert cut.now recording.now.channels (Some cert.now)) }
+    reader: &mut CertReader<R>,
+) -> Result<Verdict, CheckFault>
+    requires ready { inlet_failures (cert_inlet reader.old) < 2 ^ 64 - 1 }
+    requires shape { HaveShape cut.now recording.now.channels }
+    ensures judged { IfOk result (JudgesCert cut.now recording.now.channels (R.remaining (inlet_reader (cert_inlet reader.old)))) }
+    ensures failures { inlet_failures (cert_inlet reader.new) ≡ inlet_failures (cert_inlet reader.old) + failed_checks result }
 {
     let places = cut.bridges(alloc)?;
     let starts = bridge_starts(alloc, cut)?;
-    let mut reader = CertReader::new(Inlet::new(cert));
-    judge_bytes(alloc, cut, recording, &places, &starts, &mut reader)
+    judge_bytes(alloc, cut, recording, &places, &starts, reader)
 }
 
 // Judges all bridges, which stand at these places, by a whole certificate.
@@ -50,14 +50,15 @@ fn judge_bytes<R: Read>(
     places: &[BridgePlace],
     starts: &[usize],
     reader: &mut CertReader<R>,
-) -> Result<Verdict, AllocError>
+) -> Result<Verdict, CheckFault>
     requires ready { inlet_failures (cert_inlet reader.old) < 2 ^ 64 - 1 }
     requires shape { HaveShape cut.now recording.now.channels }
     requires places { places.now ≡ lists.bridges cut.now }
     requires starts { starts.now ≡ claims.bridge_starts cut.now }
     requires each { All (IsPlace cut.now) places.now }
     requires few { length places.now ≤ 1536 }
-    ensures { IfOk result (JudgesCert cut.now recording.now.channels (R.remaining (inlet_reader (cert_inlet reader.old)))) }
+    ensures judged { IfOk result (JudgesCert cut.now recording.now.channels (R.remaining (inlet_reader (cert_inlet reader.old)))) }
+    ensures failures { inlet_failures (cert_inlet reader.new) ≡ inlet_failures (cert_inlet reader.old) + failed_checks result }
 {
     read_is_cert();
     cert_goes_on();
@@ -81,29 +82,28 @@ fn judge_head<R: Read>(
     reader: &mut CertReader<R>,
     cut: &Cut,
     entries: usize,
-) -> Result<Option<CertReason>, AllocError>
+) -> Result<Option<CertReason>, CheckFault>
     requires ready { inlet_failures (cert_inlet reader.old) < 2 ^ 64 - 1 }
     requires few { entries ≤ 1536 }
     ensures judged { IfOk result (JudgesHead (read_version reader.new) (length cut.now.splice.weights) entries (R.remaining (inlet_reader (cert_inlet reader.old))) (R.remaining (inlet_reader (cert_inlet reader.new)))) }
     ensures read { IfOk result (λ reason. reason ≡ None → has_read_head reader.new ≡ true) }
-    ensures failures { OnOk result (inlet_failures (cert_inlet reader.new) ≡ inlet_failures (cert_inlet reader.old)) }
+    ensures failures { inlet_failures (cert_inlet reader.new) ≡ inlet_failures (cert_inlet reader.old) + failed_checks result }
 {
-    let Ok(reason) = reader.read_head(cut.weight_number(), entries as u32) else {
-        return Err(AllocError);
-    };
+    let reason = reader.read_head(cut.weight_number(), entries as u32)?;
     Ok(reason)
 }
 
 // Whether more bytes follow.
-fn has_more<R: Read>(reader: &mut CertReader<R>) -> Result<bool, AllocError>
+fn has_more<R: Read>(reader: &mut CertReader<R>) -> Result<bool, CheckFault>
     requires ready { inlet_failures (cert_inlet reader.old) < 2 ^ 64 - 1 }
     ensures end { IfOk result (λ more. more ≡ false → IsAtEnd (R.remaining (inlet_reader (cert_inlet reader.old)))) }
     ensures more { IfOk result (λ more. more ≡ true → IfSome (R.remaining (inlet_reader (cert_inlet reader.old))) (λ bytes. 0 < length bytes)) }
+    ensures failures { inlet_failures (cert_inlet reader.new) ≡ inlet_failures (cert_inlet reader.old) + failed_checks result }
 {
     match reader.at_end() {
         Ok(None) => Ok(false),
         Ok(Some(_)) => Ok(true),
-        Err(_) => Err(AllocError),
+        Err(fault) => Err(fault),
     }
 }
 
@@ -115,7 +115,7 @@ fn judge_entries<R: Read>(
     places: &[BridgePlace],
     starts: &[usize],
     reader: &mut CertReader<R>,
-) -> Result<Verdict, AllocError>
+) -> Result<Verdict, CheckFault>
     requires ready { inlet_failures (cert_inlet reader.old) < 2 ^ 64 - 1 }
     requires head { has_read_head reader.old ≡ true }
     requires shape { HaveShape cut.now recording.now.channels }
@@ -123,7 +123,7 @@ fn judge_entries<R: Read>(
     requires few { length places.now ≤ 1536 }
     requires starts { starts.now ≡ claims.bridge_starts cut.now }
     ensures judged { IfOk result (JudgesClaims (read_version reader.old) (map (claim_at cut.now recording.now.channels) places.now) (R.remaining (inlet_reader (cert_inlet reader.old))) (R.remaining (inlet_reader (cert_inlet reader.new)))) }
-    ensures failures { OnOk result (inlet_failures (cert_inlet reader.new) ≡ inlet_failures (cert_inlet reader.old)) }
+    ensures failures { inlet_failures (cert_inlet reader.new) ≡ inlet_failures (cert_inlet reader.old) + failed_checks result }
 {
     read_is_cert();
     cert_goes_on();
@@ -147,14 +147,14 @@ fn judge_entry<R: Read>(
     place: BridgePlace,
     starts: &[usize],
     reader: &mut CertReader<R>,
-) -> Result<CertVerdict, AllocError>
+) -> Result<CertVerdict, CheckFault>
     requires ready { inlet_failures (cert_inlet reader.old) < 2 ^ 64 - 1 }
     requires head { has_read_head reader.old ≡ true }
     requires shape { HaveShape cut.now recording.now.channels }
     requires place { IsPlace cut.now place }
     requires starts { starts.now ≡ claims.bridge_starts cut.now }
     ensures judged { IfOk result (JudgesClaim (read_version reader.old) (claim_at cut.now recording.now.channels place) (R.remaining (inlet_reader (cert_inlet reader.old))) (R.remaining (inlet_reader (cert_inlet reader.new)))) }
-    ensures failures { OnOk result (inlet_failures (cert_inlet reader.new) ≡ inlet_failures (cert_inlet reader.old)) }
+    ensures failures { inlet_failures (cert_inlet reader.new) ≡ inlet_failures (cert_inlet reader.old) + failed_checks result }
     ensures read { OnOk result (has_read_head reader.new ≡ true) }
     ensures version { OnOk result (read_version reader.new ≡ read_version reader.old) }
 {
@@ -171,21 +171,19 @@ fn check_bits<R: Read>(
     window: &Window,
     bits: &Bits,
     reader: &mut CertReader<R>,
-) -> Result<CertVerdict, AllocError>
+) -> Result<CertVerdict, CheckFault>
     requires ready { inlet_failures (cert_inlet reader.old) < 2 ^ 64 - 1 }
     requires head { has_read_head reader.old ≡ true }
     requires cue { place.cue < 2 ^ 16 }
     requires channel { place.channel < 2 ^ 16 }
     requires bits { length bits.now ≡ window.now.levels }
     ensures judged { IfOk result (JudgesClaim (read_version reader.old) (record { cue = place.cue; channel = place.channel; bridging = window.now; bits = bits.now }) (R.remaining (inlet_reader (cert_inlet reader.old))) (R.remaining (inlet_reader (cert_inlet reader.new)))) }
-    ensures failures { OnOk result (inlet_failures (cert_inlet reader.new) ≡ inlet_failures (cert_inlet reader.old)) }
+    ensures failures { inlet_failures (cert_inlet reader.new) ≡ inlet_failures (cert_inlet reader.old) + failed_checks result }
     ensures read { OnOk result (has_read_head reader.new ≡ true) }
     ensures version { OnOk result (read_version reader.new ≡ read_version reader.old) }
 {
     let BridgePlace { cue, channel } = place;
-    let Ok(verdict) = reader.check_bridge(alloc, cue as u16, channel as u16, window, bits) else {
-        return Err(AllocError);
-    };
+    let verdict = reader.check_bridge(alloc, cue as u16, channel as u16, window, bits)?;
     Ok(verdict)
 }
 

@@ -2,11 +2,12 @@
 //!
 //! [`make`] searches each bridge of a [`Cut`](cut_core::Cut), puts cues and bridges together, and writes the certificate
 //! that shows the bridges to be least; [`plan`] does all but the last, and [`certify`] writes that to an outlet while its
-//! rows are made, in room that [`plan`] made. [`judge`] says whether a recording is such a master and a certificate shows that no
-//! bridge of it could cost less. Both walk one list, the bridges of the cut by rising cue and then by rising channel:
-//! `choosing.rt` searches them, `certifying.rt` makes their rows again and writes their entries, `entries.rt` judges entries, and what they cost
-//! together is the sum over that list. `assembling.rt` makes a channel of cues and bridges, chosen ones or those that
-//! stand in a master (`standing.rt`), and `comparing.rt` tells the first bit of a channel that isn't that of its cue.
+//! rows are made, in room that [`plan`] made. [`judge`] says whether a recording is such a master and a certificate shows
+//! that no bridge of it could cost less, [`judge_read`] the same by a certificate that is judged while it is read. All walk
+//! one list, the bridges of the cut by rising cue and then by rising channel: `choosing.rt` searches them, `certifying.rt`
+//! makes their rows again and writes their entries, `entries.rt` judges entries, and what they cost together is the sum
+//! over that list. `assembling.rt` makes a channel of cues and bridges, chosen ones or those that stand in a master
+//! (`standing.rt`), and `comparing.rt` tells the first bit of a channel that isn't that of its cue.
 //!
 //! The words of the contracts:
 //!
@@ -40,7 +41,7 @@ mod writing;
 pub use certifying::{CertifyingRoom, can_certify, certify};
 pub use choosing::ChosenBridges;
 pub use filing::{master_ends, write_master};
-pub use judging::judge;
+pub use judging::{judge, judge_read};
 pub use making::{Made, Planned, make, plan};
 pub use parting::MasterSource;
 pub use verdict::{Reason, Verdict};

@@ -1,3 +1,4 @@
+use Rattle.std.proofs.Common.{refl}
 use Rattle.std.proofs.lemmas.Result.{err_from_is_err_and}
 use Rattle.archive_core.proofs.CuttingLaws.{heard_fails, heard_gives, heard_says}
 use Rattle.archive_core.proofs.cutting.cut_heard.Goals as goal
@@ -12,3 +13,8 @@ returns-clause-exact c = λ project files are. heard_gives project files c.args.
 
 pub returns-clause-found : goal.returns-clause-found
 returns-clause-found c = λ project files are. heard_says project files c.args.splice c.args.takes.items c.args.form are c.in_ok-of.field-0 (c.in_ok-of.ensures.exact are.whole are.heard)
+
+pub returns-in_err-of-clause-fault : goal.returns-in_err-of-clause-fault
+returns-in_err-of-clause-fault c =
+    let p = err_from_is_err_and c.from_residual.result c.from_residual.ensures.1 in
+    rw (p.1, p.2) (c.in_err-of.field-0.0, refl)

@@ -5,8 +5,8 @@ use Rattle.master_core.specs.declared.verdict.Verdict.TheVariants.{Accepted, Rej
 use Rattle.master_core.proofs.EntryLaws.{all_accepted, claims_at, entries_rejected, head_at, head_rejected, more_rejected}
 use Rattle.master_core.proofs.entries.judge_bytes.Goals as goal
 
-pub returns-in-Some : goal.returns-in-Some
-returns-in-Some g c =
+pub returns-in-Some-clause-judged : goal.returns-in-Some-clause-judged
+returns-in-Some-clause-judged g c =
     let cut = c.args.cut.now in
     let zs = c.args.recording.now.channels in
     let from = g.R.Read.remaining (inlet_reader (cert_inlet c.args.reader.now)) in
@@ -14,8 +14,8 @@ returns-in-Some g c =
     let reason = c.in-Some.reason in
     head_rejected cut zs c.read_is_cert.ensures.head c.judge_head.new.reader.version from here reason (head_at cut zs c.args.places.now c.requires.places c.judge_head.new.reader.version from here c.in_ok-reason.field-0 (Some reason) c.in-Some.is c.in_ok-reason.ensures.judged)
 
-pub returns-in-Rejected : goal.returns-in-Rejected
-returns-in-Rejected g c =
+pub returns-in-Rejected-clause-judged : goal.returns-in-Rejected-clause-judged
+returns-in-Rejected-clause-judged g c =
     let cut = c.args.cut.now in
     let zs = c.args.recording.now.channels in
     let from = g.R.Read.remaining (inlet_reader (cert_inlet c.args.reader.now)) in
@@ -26,8 +26,8 @@ returns-in-Rejected g c =
     let wrong = claims_at cut zs c.args.places.now c.requires.places c.judge_head.new.reader.version here to c.in_ok-verdict.verdict (Rejected reason) c.in-Rejected.is c.in_ok-verdict.ensures.judged in
     entries_rejected cut zs c.judge_head.new.reader.version from here read c.read_is_cert.ensures.only to reason wrong
 
-pub returns-then-branch : goal.returns-then-branch
-returns-then-branch g c =
+pub returns-then-branch-clause-judged : goal.returns-then-branch-clause-judged
+returns-then-branch-clause-judged g c =
     let cut = c.args.cut.now in
     let zs = c.args.recording.now.channels in
     let from = g.R.Read.remaining (inlet_reader (cert_inlet c.args.reader.now)) in
@@ -37,8 +37,8 @@ returns-then-branch g c =
     let shows = claims_at cut zs c.args.places.now c.requires.places c.judge_head.new.reader.version here to c.in_ok-verdict.verdict (Accepted c.in-Accepted.total) c.in-Accepted.is c.in_ok-verdict.ensures.judged in
     more_rejected cut zs c.judge_head.new.reader.version from here read to c.in-Accepted.total shows c.read_is_cert.ensures.only c.cert_goes_on.ensures.end (c.in_ok-has_more-in-Accepted.ensures.more c.if-branch.true)
 
-pub returns-else-branch : goal.returns-else-branch
-returns-else-branch g c =
+pub returns-else-branch-clause-judged : goal.returns-else-branch-clause-judged
+returns-else-branch-clause-judged g c =
     let cut = c.args.cut.now in
     let zs = c.args.recording.now.channels in
     let from = g.R.Read.remaining (inlet_reader (cert_inlet c.args.reader.now)) in

@@ -47,7 +47,7 @@ loop-k-preserved g c =
       least = All-more IsLeastClaim (map f places) k claim lt so.least (subst IsLeastClaim (sym is) shows.least);
       read = c.in_ok-cost.ensures.read;
       version = c.in_ok-cost.ensures.version ∙ so.version;
-      failures = c.in_ok-cost.ensures.failures ∙ so.failures;
+      failures = omega (arith, c.in_ok-cost.ensures.failures, so.failures);
     }
 
 pub returns-clause-judged : goal.returns-clause-judged
@@ -66,6 +66,3 @@ returns-clause-judged g c =
 
 pub returns-in_err-cost-clause-judged : goal.returns-in_err-cost-clause-judged
 returns-in_err-cost-clause-judged g c = IfOk-from_err c.from_residual.result _ c.from_residual.ensures.0
-
-pub returns-in_err-cost-clause-failures : goal.returns-in_err-cost-clause-failures
-returns-in_err-cost-clause-failures g c = IfOk-from_err c.from_residual.result _ c.from_residual.ensures.0

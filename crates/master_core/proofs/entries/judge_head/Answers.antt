@@ -9,4 +9,4 @@ pub returns-clause-judged : goal.returns-clause-judged
 returns-clause-judged g c =
     let from = g.R.Read.remaining (inlet_reader (cert_inlet c.args.reader.now)) in
     let to = g.R.Read.remaining (inlet_reader (cert_inlet c.read_head.new.self)) in
-    subst (λ n. JudgesHead c.read_head.new.self.version n c.args.entries from to c.in-Ok.reason) c.weight_number.ensures.value (head_judged c.read_head.new.self.version c.weight_number.result c.args.entries from to c.in-Ok.reason c.in-Ok.ensures.none c.in-Ok.ensures.reason c.in-Ok.ensures.only)
+    subst (λ n. JudgesHead c.read_head.new.self.version n c.args.entries from to c.in_ok-reason.reason) c.weight_number.ensures.value (head_judged c.read_head.new.self.version c.weight_number.result c.args.entries from to c.in_ok-reason.reason c.in_ok-reason.ensures.none c.in_ok-reason.ensures.reason c.in_ok-reason.ensures.only)

@@ -1,0 +1,181 @@
+//! A certificate is read while a master is judged by it, and to its end whatever comes of that: a read that fails there is
+//! told before any reason against the master.
+
+ghost use Rattle.std.specs.Prelude.{None, false};
+
+use crate::builders::{CUES, fast, splice, with_byte};
+use crate::certifying::CERT;
+use crate::folders::{comes_to, is_refused};
+use crate::master_commands::CHECK;
+use command_core::{Folder, FolderFault, MemoryFolder};
+use fixtures::files::mono;
+use std::alloc::{AllocError, Global};
+use std::io;
+use std::io::{Cursor, ErrorKind, Read};
+
+// A file that gives seven bytes a read, and so many before a read fails.
+#[derive(Drop)]
+struct BreakingInput {
+    bytes: Cursor<Vec<u8>>,
+    left: usize,
+}
+
+impl Read for BreakingInput {
+    fn read(&mut self, buffer: &mut [u8]) -> io::Result<usize> {
+        if self.left == 0 {
+            return Err(io::Error::from(ErrorKind::TimedOut));
+        }
+        let count = buffer.len().min(self.left).min(7);
+        let given = self.bytes.read(&mut buffer[..count])?;
+        self.left = self.left.saturating_sub(given);
+        Ok(given)
+    }
+}
+
+// Files in memory, whose certificate gives so many bytes before a read fails.
+#[derive(Drop)]
+struct BreakingFolder {
+    files: MemoryFolder,
+    left: usize,
+}
+
+impl Folder for BreakingFolder {
+    type In = BreakingInput;
+
+    type Out = Vec<u8>;
+
+    ghost file = { λ f n. None };
+
+    ghost is_told = { λ f. false };
+
+    fn open(&mut self, name: &str) -> Result<BreakingInput, FolderFault> {
+        let left = if name == "c.cert" {
+            self.left
+        } else {
+            usize::MAX
+        };
+        let bytes = self.files.open(name)?;
+        Ok(BreakingInput { bytes, left })
+    }
+
+    fn create(&mut self, _name: &str) -> Result<Vec<u8>, FolderFault> {
+        Err(FolderFault)
+    }
+
+    fn keep(&mut self, _name: &str, _out: Vec<u8>) -> Result<(), FolderFault> {
+        Err(FolderFault)
+    }
+
+    fn give_up(&mut self, _name: &str, _out: Vec<u8>) {}
+}
+
+// A folder with the project of `CUES` by the weights 1 and 0, a take of ones, this second take and this master.
+fn folder_of(
+    alloc: Global,
+    second: Result<Vec<u8>, AllocError>,
+    master: Result<Vec<u8>, AllocError>,
+) -> Result<MemoryFolder, AllocError> {
+    let mut folder = MemoryFolder::new(alloc);
+    folder.put("e.toml", splice(alloc, "1, 0", &CUES)?.as_bytes())?;
+    folder.put("a.dff", &mono(alloc, &[0xff; 2])?)?;
+    folder.put("b.dff", &second?)?;
+    folder.put("m.dff", &master?)?;
+    Ok(folder)
+}
+
+// Whether a check in this folder comes to this status and line by the certificate with another byte at a place, which
+// gives so many bytes before a read fails.
+fn checks(
+    alloc: Global,
+    folder: Result<MemoryFolder, AllocError>,
+    (place, byte): (usize, u8),
+    left: usize,
+    (number, line): (u8, &str),
+) -> Result<bool, AllocError> {
+    let mut files = folder?;
+    files.put("c.cert", &with_byte(alloc, &CERT, place, byte)?)?;
+    let mut folder = BreakingFolder { files, left };
+    comes_to(alloc, &mut folder, CHECK, number, line)
+}
+
+// What is unusual, the master's sound, the byte of the certificate that is changed, how many of its 46 bytes come before a
+// read fails, and what the check comes to. Its byte 5 is its version, 2; its byte 36 the bound of level 1, 4.
+const CASES: [(&str, [u8; 2], (usize, u8), usize, (u8, &str)); 9] = [
+    ("nothing", [0xff, 0], (5, 2), 47, (0, "accepted total 4")),
+    ("no end", [0xff, 0], (5, 2), 46, (2, "fault: ReadFailed")),
+    ("cut off", [0xff, 0], (5, 2), 20, (2, "fault: ReadFailed")),
+    (
+        "a wrong row",
+        [0xff, 0],
+        (36, 5),
+        47,
+        (1, "rejected Cert 0 Step 1 0"),
+    ),
+    (
+        "a wrong row and no end",
+        [0xff, 0],
+        (36, 5),
+        46,
+        (2, "fault: ReadFailed"),
+    ),
+    (
+        "a wrong head",
+        [0xff, 0],
+        (5, 3),
+        47,
+        (1, "rejected CertHead Head"),
+    ),
+    (
+        "a wrong head and no end",
+        [0xff, 0],
+        (5, 3),
+        46,
+        (2, "fault: ReadFailed"),
+    ),
+    (
+        "a wrong master",
+        [0x7f, 0],
+        (5, 2),
+        47,
+        (1, "rejected CuedBit 0 0"),
+    ),
+    (
+        "a wrong master and no byte",
+        [0x7f, 0],
+        (5, 2),
+        0,
+        (2, "fault: ReadFailed"),
+    ),
+];
+
+#[test]
+fn reads_a_certificate_to_its_end(rt: HostRuntime) {
+    let alloc = rt.alloc();
+    for (case, sound, change, left, came) in &CASES {
+        let folder = folder_of(alloc, mono(alloc, &[0; 2]), mono(alloc, sound));
+        assert!(rt;
+            checks(alloc, folder, *change, *left, *came) == Ok(true),
+            "{case}"
+        );
+    }
+}
+
+// A take of another rate is told only once the certificate was read.
+#[test]
+fn reads_a_certificate_before_a_fault_of_the_takes(rt: HostRuntime) {
+    let alloc = rt.alloc();
+    let folder = folder_of(alloc, fast(alloc, &[0; 2]), mono(alloc, &[0xff, 0]));
+    let told = (2, "fault: TakeMismatch 1");
+    assert!(rt; checks(alloc, folder, (5, 2), 47, told) == Ok(true));
+    let folder = folder_of(alloc, fast(alloc, &[0; 2]), mono(alloc, &[0xff, 0]));
+    let unread = (2, "fault: ReadFailed");
+    assert!(rt; checks(alloc, folder, (5, 2), 46, unread) == Ok(true));
+}
+
+// A master that is no file, and no certificate beside it.
+#[test]
+fn a_missing_certificate_is_told_before_a_wrong_master(rt: HostRuntime) {
+    let alloc = rt.alloc();
+    let folder = folder_of(alloc, mono(alloc, &[0; 2]), Ok(Vec::new(alloc)));
+    assert!(rt; is_refused(alloc, folder, CHECK, "fault: ReadFailed") == Ok(true));
+}

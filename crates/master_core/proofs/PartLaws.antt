@@ -129,7 +129,7 @@ module _ (cut : CutContent) (can : CanCut cut) (chosen : List Chosen) (are : Are
     ]
   ]
 
-  best_bridge : (c i : ℕ) → c < channel_number cut → i + 1 < length cut.splice.cues → (x : List Bool) × IsBestBridge cut c i x
+  pub best_bridge : (c i : ℕ) → c < channel_number cut → i + 1 < length cut.splice.cues → (x : List Bool) × IsBestBridge cut c i x
   best_bridge c i there lt = elim (find (record { cue = i; channel = c }) (bridges cut) chosen are) [
     | inl found ↦ found
     | inr none ↦

@@ -10,7 +10,7 @@ use Rattle.master_core.specs.Masters.{AreBestChannels, IsBestChannel, IsFirstLea
 use Rattle.master_core.specs.declared.parting.MasterSource.{MasterSource}
 
 -- the bits are those that were chosen for all bridges of the cut
-pub record IsReady (s : MasterSource) : Type 0 where
+pub record HasChosen (s : MasterSource) : Type 0 where
   pub places : s.places.now ≡ bridges s.cut.now
   pub chosen : AreChosen s.cut.now s.chosen.now
 

@@ -5,7 +5,7 @@ ghost use Rattle.device_core.specs.Outlets.{outlet_failures, outlet_writer};
 ghost use Rattle.form_core.specs.Parts.{FitsIn};
 ghost use Rattle.cut_core.specs.Cuts.{master_length};
 ghost use Rattle.master_core.specs.Filing.{AreMasterEnds, WritesMaster, WritesMasterFront, silent_master};
-ghost use Rattle.master_core.specs.Parting.{IsReady};
+ghost use Rattle.master_core.specs.Parting.{HasChosen};
 ghost use Rattle.master_core.specs.Writing.{IsRoomFor};
 
 use crate::making::marks_in;
@@ -61,7 +61,7 @@ pub fn write_master<W: Write>(
     room: &mut MasterRoom,
     outlet: &mut Outlet<W>,
 ) -> Result<(), Device>
-    requires ready { IsReady source.now }
+    requires ready { HasChosen source.now }
     requires ends { AreMasterEnds source.now.cut.now form ends.now }
     requires room { IsRoomFor source.now.cut.now room.old }
     requires outlet_ready { outlet_failures outlet.old < 2 ^ 64 - 1 }

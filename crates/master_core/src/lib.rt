@@ -9,6 +9,10 @@
 //! over that list. `assembling.rt` makes a channel of cues and bridges, chosen ones or those that stand in a master
 //! (`standing.rt`), and `comparing.rt` tells the first bit of a channel that isn't that of its cue.
 //!
+//! [`write_sound`] and [`write_master`] write the best master without its channels ever standing in memory: group by
+//! group, each channel's part of it made of cues and chosen bridges (`parting.rt`, `writing.rt`, `filing.rt`). They write
+//! through room that [`master_room`] and [`master_ends`] took before, and take none themselves.
+//!
 //! The words of the contracts:
 //!
 //! - `IsBestMaster cut form recording cost`: the master whose every bridge is the first least one, and its cost;
@@ -18,6 +22,8 @@
 //! - `claims cut channels`: what a certificate is to show of these channels, bridge by bridge; `IsCertOf` that it
 //!   does; `windows_total` the sum over the bridges, `total_cost` the sum over whole channels (`specs/Claims.antt`).
 //! - `JudgesMaster cut form recording cert verdict`: what a verdict says (`specs/Judging.antt`).
+//! - `WritesBest cut to old new`, `WritesMaster cut form old new`: the sound of the best master, or its file, was
+//!   appended; `IsRoomFor cut room`: it can be written through the room (`specs/Writing.antt`, `specs/Filing.antt`).
 //!
 //! ```text
 //! let made = make(alloc, &cut, Form::Dsdiff)?;

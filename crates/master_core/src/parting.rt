@@ -4,7 +4,7 @@ ghost use Rattle.std.specs.Prelude.{◌≡◌, ◌+◌, ◌-◌, ◌<◌, ◌≤
 ghost use Rattle.cut_core.specs.Cuts.{channel_number, cue_at, cue_bits};
 ghost use Rattle.master_core.specs.Claims.{bridge_start};
 ghost use Rattle.master_core.specs.Masters.{IsFirstLeastPart, part_at};
-ghost use Rattle.master_core.specs.Parting.{IsBestPart, IsPartAdded, IsReady, IsStepAdded};
+ghost use Rattle.master_core.specs.Parting.{IsBestPart, IsPartAdded, HasChosen, IsStepAdded};
 
 use crate::assembling::chosen_at;
 use cut_core::{BridgePlace, Cut};
@@ -24,7 +24,7 @@ pub struct MasterSource<'a> {
 
 /// Adds the part of a channel of the master that lies in a range to empty room, which is large enough for it.
 pub fn push_part(room: &mut BitRoom, source: &MasterSource<'_>, channel: usize, range: BitRange)
-    requires ready { IsReady source.now }
+    requires ready { HasChosen source.now }
     requires channel { channel < channel_number source.now.cut.now }
     requires empty { room.old.bits ≡ [] }
     requires in_room { range.stop - range.start ≤ room.old.most }
@@ -51,7 +51,7 @@ fn push_step(
     at: usize,
     range: BitRange,
 )
-    requires ready { IsReady source.now }
+    requires ready { HasChosen source.now }
     requires channel { place.channel < channel_number source.now.cut.now }
     requires cue { place.cue + 1 < length source.now.cut.now.splice.cues }
     requires start { at ≡ bridge_start source.now.cut.now place.cue }
@@ -102,15 +102,37 @@ fn push_cue_part(room: &mut BitRoom, cut: &Cut, channel: usize, cue: usize, rang
     push_within(room, here.bits, piece, range);
 }
 
-// Adds the part of the bits that were chosen for the bridge at a place that lies in a range of them. A plain cut has
-// none.
+// Adds the part of the bridge at a place that lies in a range of it. Its bits are looked for only where there is some.
 fn push_bridge_part(
     room: &mut BitRoom,
     source: &MasterSource<'_>,
     place: BridgePlace,
     range: BitRange,
 )
-    requires ready { IsReady source.now }
+    requires ready { HasChosen source.now }
+    requires channel { place.channel < channel_number source.now.cut.now }
+    requires cue { place.cue + 1 < length source.now.cut.now.splice.cues }
+    requires in_room { length room.old.bits + (range.stop - range.start) ≤ room.old.most }
+    ensures most { room.new.most ≡ room.old.most }
+    ensures bridged { IsPartAdded (IsFirstLeastPart (part_at source.now.cut.now place.channel place.cue)) range room.old.bits room.new.bits }
+{
+    source.cut.can_cut();
+    let stop = range.stop.min(source.cut.cue(place.cue).bridge);
+    if stop <= range.start {
+        return;
+    }
+    push_chosen_part(room, source, place, range);
+}
+
+// Adds the part of the bits that were chosen for the bridge at a place that lies in a range of them. A plain cut has
+// none.
+fn push_chosen_part(
+    room: &mut BitRoom,
+    source: &MasterSource<'_>,
+    place: BridgePlace,
+    range: BitRange,
+)
+    requires ready { HasChosen source.now }
     requires channel { place.channel < channel_number source.now.cut.now }
     requires cue { place.cue + 1 < length source.now.cut.now.splice.cues }
     requires in_room { length room.old.bits + (range.stop - range.start) ≤ room.old.most }

@@ -9,7 +9,7 @@ ghost use Rattle.dsd_bits.specs.Rooms.{rooms_bits};
 ghost use Rattle.dsd_bits.specs.Sounds.{sound_size};
 ghost use Rattle.relace_core.specs.Relacing.{laced_in};
 ghost use Rattle.cut_core.specs.Cuts.{channel_number, master_length};
-ghost use Rattle.master_core.specs.Parting.{AreBestParts, IsBestPart, IsReady};
+ghost use Rattle.master_core.specs.Parting.{AreBestParts, IsBestPart, HasChosen};
 ghost use Rattle.master_core.specs.Writing.{AreRooms, HasOneBest, IsRoomFor, WritesBest, WritesBestFront, WritesPart, WritesPartFront};
 
 use crate::parting::{MasterSource, push_part};
@@ -59,7 +59,7 @@ fn bit_rooms(alloc: Global, number: usize, most: usize) -> Result<Vec<BitRoom>, 
 /// The law of best masters: bits that were chosen for all bridges make one list of best channels, and there is no
 /// other. It does nothing.
 pub fn has_one_best(source: &MasterSource<'_>)
-    requires { IsReady source.now }
+    requires { HasChosen source.now }
     ensures { HasOneBest source.now.cut.now }
 {
     source.cut.can_cut();
@@ -75,7 +75,7 @@ pub fn write_sound<W: Write>(
     room: &mut MasterRoom,
     outlet: &mut Outlet<W>,
 ) -> Result<(), Device>
-    requires ready { IsReady source.now }
+    requires ready { HasChosen source.now }
     requires whole { to ≡ Interleaving.Bytes → master_length source.now.cut.now.splice.cues % 8 ≡ 0 }
     requires room { IsRoomFor source.now.cut.now room.old }
     requires outlet_ready { outlet_failures outlet.old < 2 ^ 64 - 1 }
@@ -106,7 +106,7 @@ fn write_stretch<W: Write>(
     room: &mut MasterRoom,
     outlet: &mut Outlet<W>,
 ) -> Result<(), Device>
-    requires ready { IsReady source.now }
+    requires ready { HasChosen source.now }
     requires whole { to ≡ Interleaving.Bytes → (range.stop - range.start) % 8 ≡ 0 }
     requires inside { range.stop ≤ master_length source.now.cut.now.splice.cues }
     requires room { IsRoomFor source.now.cut.now room.old }
@@ -129,7 +129,7 @@ fn write_stretch<W: Write>(
 
 // Fills the room of each channel with its part that lies in a range.
 fn fill_rooms(rooms: &mut Vec<BitRoom>, source: &MasterSource<'_>, range: BitRange)
-    requires ready { IsReady source.now }
+    requires ready { HasChosen source.now }
     requires number { length rooms.old.items ≡ channel_number source.now.cut.now }
     requires fits { All (λ room. range.stop - range.start ≤ room.most) rooms.old.items }
     ensures most { map (λ room. room.most) rooms.new.items ≡ map (λ room. room.most) rooms.old.items }
@@ -142,7 +142,7 @@ fn fill_rooms(rooms: &mut Vec<BitRoom>, source: &MasterSource<'_>, range: BitRan
 
 // Fills the room of a channel.
 fn fill_room(room: &mut BitRoom, source: &MasterSource<'_>, channel: usize, range: BitRange)
-    requires ready { IsReady source.now }
+    requires ready { HasChosen source.now }
     requires channel { channel < channel_number source.now.cut.now }
     requires in_room { range.stop - range.start ≤ room.old.most }
     ensures most { room.new.most ≡ room.old.most }

@@ -1,2 +1,3 @@
 pub mod CommandLaws
 pub mod SourceLaws
+pub mod WritingLaws

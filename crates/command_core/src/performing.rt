@@ -7,8 +7,9 @@ ghost use Rattle.command_core.specs.declared.outcome.Outcome.TheVariants as outc
 
 use crate::outcome::Outcome;
 use crate::sources::{cut_sources, judge_sources};
+use crate::writing::{write_certificate, write_master};
 use archive_core::{Form, Verdict};
-use folder_core::{Folder, read_file, write_file};
+use folder_core::{Folder, read_file};
 use info_core::Told;
 use std::alloc::Global;
 use transfer_commands::{
@@ -18,7 +19,8 @@ use words_core::Task;
 
 /// Does a command. Each file is opened and read whole in the order in which the command names it, and a
 /// project's takes behind it by their numbers; the call of `archive_core` comes next, and only where it
-/// answers is a file created.
+/// answers is a file created. What `edit` writes is made while it is written: all memory that this needs is held before
+/// the master is created, and its certificate is created once the master stands.
 ///
 /// But the recording that is played is opened, the WAVE file created, and the one then read and the other written piece
 /// by piece. A recording that is converted or told of is read whole only where it has fewer than 2 MiB. Else it is
@@ -56,7 +58,8 @@ pub fn perform<F: Folder>(alloc: Global, task: Task, folder: &mut F) -> Outcome
     }
 }
 
-// Reads the project and its takes, cuts the master and only then creates its file and that of its certificate.
+// Reads the project and its takes, plans the master with all memory that both its files need, and only then creates its
+// file; that of its certificate is created once the master is written and kept.
 fn edit_files<F: Folder>(
     alloc: Global,
     folder: &mut F,
@@ -68,10 +71,11 @@ fn edit_files<F: Folder>(
     ensures { IsTrue (F.is_told folder.old) → EditComesTo (record { form = form; project_name = project.now; master_name = master.now; cert_name = cert.now }) (F.file folder.old) (F.file folder.new) result }
 {
     let sources = hear_sources(alloc, folder, project)?;
-    let edited = cut_sources(alloc, sources, form)?;
-    write_file(folder, master, &edited.master)?;
-    write_file(folder, cert, &edited.cert)?;
-    Ok(edited.total)
+    let planned = cut_sources(alloc, sources, form)?;
+    let total = planned.total();
+    write_master(folder, &planned, master)?;
+    write_certificate(folder, planned, cert)?;
+    Ok(total)
 }
 
 // Reads the project and its takes, then a master and its certificate, and judges them.

@@ -1,3 +1,4 @@
 pub mod CommandLaws
 pub mod JudgingLaws
 pub mod SourceLaws
+pub mod WritingLaws

@@ -1,3 +1,4 @@
 pub mod Commands
 pub mod Outcomes
 pub mod Sources
+pub mod Writing

@@ -16,6 +16,7 @@ mod outcome;
 mod performing;
 mod program;
 mod sources;
+mod writing;
 
 pub use folder_core::{Folder, FolderFault, MemoryFolder, read_files, read_whole};
 pub use info_core::{Told, form_named, name_of};

@@ -8,8 +8,9 @@ ghost use Rattle.command_core.specs.declared.outcome.Outcome.TheVariants as outc
 use crate::judging::judge_opened;
 use crate::outcome::Outcome;
 use crate::sources::cut_sources;
+use crate::writing::{write_certificate, write_master};
 use archive_core::{Form, Verdict};
-use folder_core::{Folder, read_file, write_file};
+use folder_core::{Folder, read_file};
 use info_core::Told;
 use std::alloc::Global;
 use transfer_commands::{
@@ -19,12 +20,13 @@ use words_core::Task;
 
 /// Does a command. Each file is opened and read whole in the order in which the command names it, and a
 /// project's takes behind it by their numbers; the call of `archive_core` comes next, and only where it
-/// answers is a file created.
+/// answers is a file created. What is cut is made while it is written: all memory that this needs is held before the
+/// master is created, and its certificate is created once the master stands.
 ///
-/// But a certificate that is judged is read while it is judged, whatever it comes to to its end, and no more than two rows
-/// and a block of it are held. And a master and its certificate are written while they are made.
+/// A certificate that is judged is read while it is judged, whatever it comes to to its end, and no more than two rows and
+/// a block of it are held.
 ///
-/// But the recording that is played is opened, the WAVE file created, and the one then read and the other written piece
+/// And the recording that is played is opened, the WAVE file created, and the one then read and the other written piece
 /// by piece. A recording that is converted or told of, and a take, is read whole only where it has fewer than 2 MiB. Else
 /// it is opened again and read in one pass without its sound, of a take with the bits that are heard; where it holds no
 /// recording it is opened a third time and read whole, for the fault to be named; and what is converted is opened once
@@ -61,7 +63,8 @@ pub fn perform<F: Folder>(alloc: Global, task: Task, folder: &mut F) -> Outcome
     }
 }
 
-// Reads the project and its takes, cuts the master and only then creates its file and that of its certificate.
+// Reads the project and its takes, plans the master with all memory that both its files need, and only then creates its
+// file; that of its certificate is created once the master is written and kept.
 fn edit_files<F: Folder>(
     alloc: Global,
     folder: &mut F,
@@ -73,10 +76,11 @@ fn edit_files<F: Folder>(
     ensures { IsTrue (F.is_told folder.old) → EditComesTo (record { form = form; project_name = project.now; master_name = master.now; cert_name = cert.now }) (F.file folder.old) (F.file folder.new) result }
 {
     let sources = hear_sources(alloc, folder, project, MOST_KEPT)?;
-    let edited = cut_sources(alloc, sources, form)?;
-    write_file(folder, master, &edited.master)?;
-    write_file(folder, cert, &edited.cert)?;
-    Ok(edited.total)
+    let planned = cut_sources(alloc, sources, form)?;
+    let total = planned.total();
+    write_master(folder, &planned, master)?;
+    write_certificate(folder, planned, cert)?;
+    Ok(total)
 }
 
 // Reads the project and its takes, then a master, and judges it by its certificate while that is read.

@@ -8,27 +8,31 @@ ghost use Rattle.form_core.specs.Steps.{Fails};
 ghost use Rattle.cut_core.specs.Opening.{IsOfTakes};
 ghost use Rattle.archive_core.specs.Checking.{Accepts, IfAccepted, IfRejected, RejectsFirst};
 ghost use Rattle.archive_core.specs.Cutting.{said_cut};
-ghost use Rattle.archive_core.specs.Editing.{IsEdited};
+ghost use Rattle.archive_core.specs.Planning.{IsPlanned, Plans};
 ghost use Rattle.command_core.specs.Sources.{AreHeardOf};
 
-use archive_core::{Edited, Fault, Form, Verdict, check_read, edit_heard};
+use archive_core::{Fault, Form, PlannedMaster, Verdict, check_read, plan_master};
 use cert_core::CertReader;
 use std::alloc::Global;
 use std::io::Read;
 use transfer_commands::Sources;
 
-/// The master of what was heard, with its certificate.
+/// The master of what was heard, planned.
 ///
-/// Refusals: the first fault of what the takes' files hold; those of [`edit_heard`].
-pub(crate) fn cut_sources(alloc: Global, sources: Sources, form: Form) -> Result<Edited, Fault>
+/// Refusals: the first fault of what the takes' files hold; those of [`plan_master`].
+pub(crate) fn cut_sources(
+    alloc: Global,
+    sources: Sources,
+    form: Form,
+) -> Result<PlannedMaster, Fault>
     requires { IsOfTakes (splice_content sources.splice) (length (splice_content sources.splice).takes) sources.takes }
     // Of whichever project and files it was heard, it is cut of them, or refused as they are.
-    ensures found { (project : List ℕ) (files : List (List ℕ)) → AreHeardOf project files sources → IfOk result (IsEdited project files form) }
-    ensures accepted { (project : List ℕ) (files : List (List ℕ)) → AreHeardOf project files sources → IfOk result (λ made. Accepts project files made.master.items made.cert.items made.total) }
+    ensures found { (project : List ℕ) (files : List (List ℕ)) → AreHeardOf project files sources → IfOk result (Plans project files form) }
+    ensures planned { IfOk result IsPlanned }
     ensures refused { (project : List ℕ) (files : List (List ℕ)) → AreHeardOf project files sources → IfErr result (λ fault. Fails Fault.Memory fault (said_cut project files (Some form))) }
 {
     let Sources { splice, takes } = sources;
-    edit_heard(alloc, splice, takes?, form)
+    plan_master(alloc, splice, takes?, form)
 }
 
 /// What a master comes to by what was heard and by its certificate, which is judged while it is read.

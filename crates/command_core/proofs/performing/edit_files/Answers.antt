@@ -1,62 +1,70 @@
-use Rattle.std.proofs.Common.{IsTrue, Some, inr, refl}
+use Rattle.std.proofs.Common.{IsTrue, Some, inr, refl, subst, sym}
 use Rattle.std.proofs.lemmas.Result.{err_from_is_err_and}
 use Rattle.splice_core.specs.Splices.{splice_content}
 use Rattle.transfer_commands.specs.Hearing.{HearsSources}
+use Rattle.archive_core.specs.Planning.{planned_master, planned_total}
 use Rattle.command_core.specs.Commands.{Cut}
 use Rattle.command_core.specs.Sources.{AreHeardOf}
 use Rattle.command_core.proofs.CommandLaws.{both_written, cert_unwritten, cut_unwritten}
 use Rattle.command_core.proofs.performing.edit_files.Goals as goal
 
-pub returns-in_err-edited : goal.returns-in_err-edited
-returns-in_err-edited g c = λ told.
+pub returns-in_err-planned : goal.returns-in_err-planned
+returns-in_err-planned g c = λ told.
     let h = c.in_ok-sources.ensures.heard told in
-    let p = err_from_is_err_and c.from_residual-in_err-edited.result c.from_residual-in_err-edited.ensures.1 in
-    rw (p.1, p.2) (c.hear_sources.ensures.same, inr (inr (record { project = h.project; takes = h.takes; sources = h.sources; first = c.in_err-edited.ensures.refused h.project h.takes (record { project_says = h.project_says; hears = h.hears }) })))
+    let p = err_from_is_err_and c.from_residual-in_err-planned.result c.from_residual-in_err-planned.ensures.1 in
+    rw (p.1, p.2) (c.hear_sources.ensures.same, inr (inr (record { project = h.project; takes = h.takes; sources = h.sources; first = c.in_err-planned.ensures.refused h.project h.takes (record { project_says = h.project_says; hears = h.hears }) })))
 
-pub returns-in_err-write_file : goal.returns-in_err-write_file
-returns-in_err-write_file g c = λ told.
+pub returns-in_err-write_master : goal.returns-in_err-write_master
+returns-in_err-write_master g c = λ told.
     let h = c.in_ok-sources.ensures.heard told in
-    let p = err_from_is_err_and c.from_residual-in_err-write_file.result c.from_residual-in_err-write_file.ensures.1 in
+    let plans = c.in_ok-planned.ensures.found h.project h.takes (record { project_says = h.project_says; hears = h.hears }) in
+    let p = err_from_is_err_and c.from_residual-in_err-write_master.result c.from_residual-in_err-write_master.ensures.1 in
     rw (p.1, p.2) (cut_unwritten (record { form = c.args.form; project_name = c.args.project.now; master_name = c.args.master.now; cert_name = c.args.cert.now })
-    (g.F.Folder.file c.args.folder.now) (g.F.Folder.file c.hear_sources.new.folder) (g.F.Folder.file c.write_file.new.folder)
+    (g.F.Folder.file c.args.folder.now) (g.F.Folder.file c.hear_sources.new.folder) (g.F.Folder.file c.write_master.new.folder)
     (g.F.Folder.is_told c.args.folder.now) (g.F.Folder.is_told c.hear_sources.new.folder)
-    h.project c.in_ok-edited.edited.master.items h.takes c.in_ok-edited.edited.total c.in_err-write_file.field-0.0
+    h.project (planned_master c.in_ok-planned.planned) h.takes (planned_total c.in_ok-planned.planned) c.in_err-write_master.field-0.0
     c.hear_sources.ensures.same c.hear_sources.ensures.told h.sources
-    (c.in_ok-edited.ensures.found h.project h.takes (record { project_says = h.project_says; hears = h.hears }))
-    c.in_err-write_file.ensures.others
-    (rw c.deref.ensures.value at c.in_err-write_file.ensures.refused)
-    c.in_err-write_file.ensures.fault told)
+    plans.edits
+    c.in_err-write_master.ensures.others
+    c.in_err-write_master.ensures.refused
+    c.in_err-write_master.ensures.fault told)
 
-pub returns-in_err-write_file-2 : goal.returns-in_err-write_file-2
-returns-in_err-write_file-2 g c = λ told.
+pub returns-in_err-write_certificate : goal.returns-in_err-write_certificate
+returns-in_err-write_certificate g c = λ told.
     let h = c.in_ok-sources.ensures.heard told in
-    let are : AreHeardOf h.project h.takes c.in_ok-sources.sources = record { project_says = h.project_says; hears = h.hears } in
-    let p = err_from_is_err_and c.from_residual-in_err-write_file-2.result c.from_residual-in_err-write_file-2.ensures.1 in
+    let plans = c.in_ok-planned.ensures.found h.project h.takes (record { project_says = h.project_says; hears = h.hears }) in
+    let told_read = subst IsTrue (sym c.hear_sources.ensures.told) told in
+    let told_written = subst IsTrue (sym c.write_master.ensures.told) told_read in
+    let left = c.in_err-write_certificate.ensures.refused told_written in
+    let p = err_from_is_err_and c.from_residual-in_err-write_certificate.result c.from_residual-in_err-write_certificate.ensures.1 in
     rw (p.1, p.2) (cert_unwritten (record { form = c.args.form; project_name = c.args.project.now; master_name = c.args.master.now; cert_name = c.args.cert.now })
-    (g.F.Folder.file c.args.folder.now) (g.F.Folder.file c.hear_sources.new.folder) (g.F.Folder.file c.write_file.new.folder) (g.F.Folder.file c.write_file-2.new.folder)
-    (g.F.Folder.is_told c.args.folder.now) (g.F.Folder.is_told c.hear_sources.new.folder) (g.F.Folder.is_told c.write_file.new.folder)
-    h.project c.in_ok-edited.edited.master.items c.in_ok-edited.edited.cert.items h.takes c.in_ok-edited.edited.total c.in_err-write_file-2.field-0.0
-    c.hear_sources.ensures.same c.hear_sources.ensures.told c.write_file.ensures.told h.sources
-    (c.in_ok-edited.ensures.found h.project h.takes are)
-    c.in_ok-write_file.ensures.others
-    (rw c.deref.ensures.value at c.in_ok-write_file.ensures.bytes)
-    c.in_err-write_file-2.ensures.others
-    (rw c.deref-2.ensures.value at c.in_err-write_file-2.ensures.refused)
-    (c.in_ok-edited.ensures.accepted h.project h.takes are)
-    c.in_err-write_file-2.ensures.fault told)
+    (g.F.Folder.file c.args.folder.now) (g.F.Folder.file c.hear_sources.new.folder) (g.F.Folder.file c.write_master.new.folder) (g.F.Folder.file c.write_certificate.new.folder)
+    (g.F.Folder.is_told c.args.folder.now) (g.F.Folder.is_told c.hear_sources.new.folder) (g.F.Folder.is_told c.write_master.new.folder)
+    h.project (planned_master c.in_ok-planned.planned) left.0 h.takes (planned_total c.in_ok-planned.planned) c.in_err-write_certificate.field-0.0
+    c.hear_sources.ensures.same c.hear_sources.ensures.told c.write_master.ensures.told h.sources
+    plans.edits
+    c.in_ok-write_master.ensures.others
+    c.in_ok-write_master.ensures.bytes
+    c.in_err-write_certificate.ensures.others
+    (λ _. left.2)
+    (plans.accepted left.0 left.1)
+    c.in_err-write_certificate.ensures.fault told)
 
 pub returns : goal.returns
 returns g c = λ told.
     let h = c.in_ok-sources.ensures.heard told in
-    let are : AreHeardOf h.project h.takes c.in_ok-sources.sources = record { project_says = h.project_says; hears = h.hears } in
+    let plans = c.in_ok-planned.ensures.found h.project h.takes (record { project_says = h.project_says; hears = h.hears }) in
+    let told_read = subst IsTrue (sym c.hear_sources.ensures.told) told in
+    let told_written = subst IsTrue (sym c.write_master.ensures.told) told_read in
+    let whole = c.in_ok-write_certificate.ensures.bytes told_written in
     both_written (record { form = c.args.form; project_name = c.args.project.now; master_name = c.args.master.now; cert_name = c.args.cert.now })
-    (g.F.Folder.file c.args.folder.now) (g.F.Folder.file c.hear_sources.new.folder) (g.F.Folder.file c.write_file.new.folder) (g.F.Folder.file c.write_file-2.new.folder)
-    (g.F.Folder.is_told c.args.folder.now) (g.F.Folder.is_told c.hear_sources.new.folder) (g.F.Folder.is_told c.write_file.new.folder)
-    h.project c.in_ok-edited.edited.master.items c.in_ok-edited.edited.cert.items h.takes c.in_ok-edited.edited.total
-    c.hear_sources.ensures.same c.hear_sources.ensures.told c.write_file.ensures.told h.sources
-    (c.in_ok-edited.ensures.found h.project h.takes are)
-    c.in_ok-write_file.ensures.others
-    (rw c.deref.ensures.value at c.in_ok-write_file.ensures.bytes)
-    c.in_ok-write_file-2.ensures.others
-    (rw c.deref-2.ensures.value at c.in_ok-write_file-2.ensures.bytes)
-    (c.in_ok-edited.ensures.accepted h.project h.takes are) told
+    (g.F.Folder.file c.args.folder.now) (g.F.Folder.file c.hear_sources.new.folder) (g.F.Folder.file c.write_master.new.folder) (g.F.Folder.file c.write_certificate.new.folder)
+    (g.F.Folder.is_told c.args.folder.now) (g.F.Folder.is_told c.hear_sources.new.folder) (g.F.Folder.is_told c.write_master.new.folder)
+    h.project (planned_master c.in_ok-planned.planned) whole.0 h.takes c.total-total.result
+    c.hear_sources.ensures.same c.hear_sources.ensures.told c.write_master.ensures.told h.sources
+    (rw c.total-total.ensures plans.edits)
+    c.in_ok-write_master.ensures.others
+    c.in_ok-write_master.ensures.bytes
+    c.in_ok-write_certificate.ensures.others
+    (λ _. whole.2)
+    (rw c.total-total.ensures (plans.accepted whole.0 whole.1)) told

@@ -8,14 +8,11 @@ returns-in_err-takes-clause-refused c = λ project files are.
     let p = err_from_is_err_and c.from_residual.result c.from_residual.ensures.1 in
     rw (p.1, p.2) (not_heard c.args.sources project files are (Some c.args.form) c.in_err-takes.field-0.0 c.in_err-takes.was)
 
-pub edit_heard-requires : goal.edit_heard-requires
-edit_heard-requires c = of_takes c.args.sources c.in_ok-takes.field-0 c.in_ok-takes.was c.requires
+pub plan_master-requires : goal.plan_master-requires
+plan_master-requires c = of_takes c.args.sources c.in_ok-takes.field-0 c.in_ok-takes.was c.requires
 
 pub returns-clause-found : goal.returns-clause-found
-returns-clause-found c = λ project files are. c.edit_heard.ensures.found project files (are_takes c.args.sources project files are c.in_ok-takes.field-0 c.in_ok-takes.was)
-
-pub returns-clause-accepted : goal.returns-clause-accepted
-returns-clause-accepted c = λ project files are. c.edit_heard.ensures.accepted project files (are_takes c.args.sources project files are c.in_ok-takes.field-0 c.in_ok-takes.was)
+returns-clause-found c = λ project files are. c.plan_master.ensures.found project files (are_takes c.args.sources project files are c.in_ok-takes.field-0 c.in_ok-takes.was)
 
 pub returns-clause-refused : goal.returns-clause-refused
-returns-clause-refused c = λ project files are. c.edit_heard.ensures.refused project files (are_takes c.args.sources project files are c.in_ok-takes.field-0 c.in_ok-takes.was)
+returns-clause-refused c = λ project files are. c.plan_master.ensures.refused project files (are_takes c.args.sources project files are c.in_ok-takes.field-0 c.in_ok-takes.was)

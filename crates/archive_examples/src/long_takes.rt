@@ -10,7 +10,7 @@ use command_core::{Folder, MemoryFolder, Outcome, outcome_line};
 use fixtures::files::{dsf_of, mono, stereo};
 use std::alloc::{AllocError, Global};
 use std::test::Fail;
-use transfer_commands::{Sources as Heard, hear_sources};
+use transfer_commands::{CommandFault, Sources as Heard, hear_sources};
 
 // Cues that begin and end inside bytes, to the last bits of each take: 128 bits in all, with their bridges.
 const LONG_CUES: [CueNumbers; 4] = [
@@ -110,16 +110,23 @@ fn refuses_long_takes_that_are_cut_off_as_in_memory(rt: HostRuntime) -> Result<(
     Ok(())
 }
 
-// How many takes are heard in a folder where each is taken for a long one, or the fault, as it is printed.
+// How many takes were heard, or the first fault of what they hold.
+fn number_of(sources: Heard) -> Result<usize, Fault> {
+    Ok(sources.takes?.len())
+}
+
+// How many takes are heard in a folder where each is taken for a long one.
+fn number_heard<F: Folder>(alloc: Global, folder: &mut F) -> Result<usize, CommandFault> {
+    let sources = hear_sources(alloc, folder, "e.toml", 0)?;
+    Ok(number_of(sources)?)
+}
+
+// The same, or the fault, as it is printed.
 fn heard<F: Folder>(alloc: Global, folder: &mut F) -> Result<String, AllocError> {
-    let fault = match hear_sources(alloc, folder, "e.toml", 0) {
-        Ok(Heard { takes, .. }) => match takes {
-            Ok(takes) => return format!(in alloc; "takes {}", takes.len()),
-            Err(fault) => Outcome::Fault(Fault::from(fault)),
-        },
-        Err(fault) => Outcome::from(fault),
-    };
-    outcome_line(alloc, &fault)
+    match number_heard(alloc, folder) {
+        Ok(number) => format!(in alloc; "takes {number}"),
+        Err(fault) => outcome_line(alloc, &Outcome::from(fault)),
+    }
 }
 
 // The folder of `SPLICE` with a take of ones and this second take.

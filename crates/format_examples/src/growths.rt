@@ -6,8 +6,8 @@ use crate::dsdiff_writing::WITH_PARTS;
 use crate::projects::EXAMPLE;
 use chunk_core::{Order, push_chunk, push_u16, push_u32, push_u64, walk};
 use dsd_bits::{
-    BitOrder, Bits, SoundAt, lace_blocks, lace_bytes, push_blocks, push_laced, unlace_blocks,
-    unlace_bytes,
+    BitOrder, BitRoom, Bits, SoundAt, lace_blocks, lace_bytes, push_blocks, push_laced,
+    unlace_blocks, unlace_bytes,
 };
 use fixtures::files::{FILE, one_bit};
 use std::alloc::Global;
@@ -70,6 +70,13 @@ fn ranges_are_added(rt: HostRuntime) -> Result<(), Fail> {
         bits.push_range(&source, *start, 10)?;
         assert!(rt; bits.len() == 10 - *start);
     }
+    Ok(())
+}
+
+#[test]
+fn room_is_held_for_bits(rt: HostRuntime) -> Result<(), Fail> {
+    let room = BitRoom::new(rt.alloc(), 12)?;
+    assert!(rt; room.len() == 0);
     Ok(())
 }
 

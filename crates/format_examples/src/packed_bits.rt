@@ -2,7 +2,7 @@
 //! All values are worked out by hand.
 
 use crate::compared::check_printed;
-use dsd_bits::{Bits, BitsFault, turn, turn_byte};
+use dsd_bits::{BitRoom, Bits, BitsFault, turn, turn_byte};
 use fixtures::compared::equal;
 use std::alloc::{AllocError, Global};
 
@@ -116,6 +116,24 @@ fn adds_a_range_and_a_bit(rt: HostRuntime) {
     let mut bits = Bits::new(rt.alloc());
     let is_so = adds_a_bit(rt.alloc(), &mut bits);
     assert!(rt; is_so == Ok(true));
+}
+
+// How many bits two ranges make in held room, and how many are left when it is cleared.
+fn adds_to_room(alloc: Global) -> Result<(usize, usize), BitsFault> {
+    let source = Bits::from_packed(alloc, &[0x12, 0x34, 0x56], 24)?;
+    let mut room = BitRoom::new(alloc, 16)?;
+    if source.len() == 24 {
+        room.push_range(&source, 4, 7);
+        room.push_range(&source, 7, 20);
+    }
+    let full = room.len();
+    room.clear();
+    Ok((full, room.len()))
+}
+
+#[test]
+fn adds_ranges_to_held_room(rt: HostRuntime) {
+    assert!(rt; adds_to_room(rt.alloc()) == Ok((16, 0)));
 }
 
 #[test]

@@ -1,5 +1,5 @@
 -- What is edited is what a project and takes come to, and which fault stands first.
-use Rattle.std.proofs.Common.{◌≡◌, ℕ, ◌%◌, cond, eqb, Bool, List, length, None, Some, refl, sym, ap, subst, ◌∙◌}
+use Rattle.std.proofs.Common.{◌≡◌, ℕ, Bool, List, length, None, Some, refl, sym, ap, subst, ◌∙◌}
 use Rattle.dsd_bits.specs.Channels.{count_of}
 use Rattle.dsd_bits.specs.Contents.{Content}
 use Rattle.dsdiff_core.specs.declared.write_fault.WriteFault.{WriteFault}
@@ -8,12 +8,13 @@ use Rattle.splice_core.specs.Splices.{SpliceContent}
 use Rattle.form_core.specs.declared.form.Form.{Form}
 use Rattle.form_core.specs.declared.form.Form.TheVariants as forms
 use Rattle.form_core.specs.Forms.{text_in}
-use Rattle.form_core.specs.Writing.{HoldsSound, IsWriteFault}
+use Rattle.form_core.specs.Parts.{FitsIn}
+use Rattle.form_core.specs.Writing.{HoldsSound}
 use Rattle.cut_core.specs.Cuts.{CutContent, master_length}
 use Rattle.cut_core.specs.Opening.{IsWhole}
 use Rattle.master_core.specs.Checking.{HoldCues, IsMasterOf}
 use Rattle.master_core.specs.Claims.{IsCertOf, windows_total}
-use Rattle.master_core.specs.Masters.{AreMasterChannels, CostLeast, IsBestMaster, channel_numbers, total_cost}
+use Rattle.master_core.specs.Masters.{AreBestChannels, AreMasterChannels, CostLeast, IsBestMaster, channel_numbers, master_of, total_cost}
 use Rattle.master_core.proofs.MasterLaws.{one_master}
 use Rattle.archive_core.specs.Checking.{Accepts}
 use Rattle.archive_core.specs.Editing.{CostsLeast, CostsWindows, IsMaster}
@@ -43,21 +44,22 @@ one_answer s t form p q made file m n e h k text told =
     let same : made ≡ file = cc in
     (same, both.1)
 
--- a master of whole bytes has a text
-even_text : (n : ℕ) (text : List ℕ) → n % 8 ≡ 0 → cond (eqb (n % 8) 0) (Some text) None ≡ None → ⊥
-even_text n text e none =
-    let some : cond (eqb (n % 8) 0) (Some text) None ≡ Some text = rw e refl in
-    let both : Some text ≡ None = sym some ∙ none in
-    absurd cc
+-- one cut has one file in a form
+pub one_file : (cut : CutContent) (form : Form) (xs ys : List (List Bool)) (made file : List ℕ) → AreBestChannels cut xs → AreBestChannels cut ys → text_in form (master_of cut form xs) ≡ Some made → text_in form (master_of cut form ys) ≡ Some file → made ≡ file
+one_file cut form xs ys made file h k text told =
+    let both = one_answer cut cut form (master_of cut form xs) (master_of cut form ys) made file (total_cost cut xs) (total_cost cut ys) refl
+    (record { channels = xs; best = h; recording_is = refl; cost_is = refl }) (record { channels = ys; best = k; recording_is = refl; cost_is = refl }) text told in
+    both.0
 
-has_text : (form : Form) (splice : SpliceContent) (r : Content) → IsWhole (Some form) splice → count_of r.channels ≡ master_length splice.cues → text_in form r ≡ None → ⊥
-has_text forms.Dsdiff splice r whole long none = even_text (count_of r.channels) _ (ap (λ n. n % 8) long ∙ whole refl) none
-has_text forms.Dsf splice r whole long none = absurd cc
-has_text forms.Dsf8 splice r whole long none = absurd cc
+-- a cut into whole bytes fits a file of the form
+fits_form : (form : Form) (splice : SpliceContent) → IsWhole (Some form) splice → FitsIn form (master_length splice.cues)
+fits_form forms.Dsdiff splice whole = λ e. whole refl
+fits_form forms.Dsf splice whole = λ e. absurd cc
+fits_form forms.Dsf8 splice whole = λ e. absurd cc
 
-pub write_only_memory : (form : Form) (splice : SpliceContent) (r : Content) → IsWhole (Some form) splice → count_of r.channels ≡ master_length splice.cues → (e : WriteFault) → IsWriteFault form r e → e ≡ writes.Memory
-write_only_memory form splice r whole long writes.NotWholeBytes none = absurd (has_text form splice r whole long none)
-write_only_memory form splice r whole long writes.Memory h = refl
+pub plan_only_memory : (form : Form) (splice : SpliceContent) → IsWhole (Some form) splice → (e : WriteFault) → (e ≡ writes.NotWholeBytes → FitsIn form (master_length splice.cues) → ⊥) → e ≡ writes.Memory
+plan_only_memory form splice whole writes.NotWholeBytes h = absurd (h refl (fits_form form splice whole))
+plan_only_memory form splice whole writes.Memory h = refl
 
 -- a file with the sound of a master is a master
 module _ (project : List ℕ) (files : List (List ℕ)) (cut : CutContent) (says : SaysCut project files None cut) (form : Form) (r : Content) (is : IsMasterOf cut form r) (file : List ℕ) (sound : HoldsSound form r file) where

@@ -1,17 +1,23 @@
 -- What is planned of a project and takes before it is written.
-use Rattle.std.specs.Prelude.{◌≡◌, ℕ, List, Result, Ok, Err}
+use Rattle.std.specs.Prelude.{◌≡◌, ℕ, Bool, List, Some, Result, Ok, Err}
 use Rattle.form_core.specs.declared.form.Form.{Form}
+use Rattle.form_core.specs.Forms.{text_in}
 use Rattle.master_core.specs.Certifying.{Certifies, IsRoomOf}
 use Rattle.master_core.specs.Choosing.{AreBridgesOf}
+use Rattle.master_core.specs.Filing.{AreMasterEnds}
+use Rattle.master_core.specs.Masters.{AreBestChannels, master_of}
+use Rattle.master_core.specs.Writing.{IsRoomFor}
 use Rattle.transfer_core.specs.declared.fault.Fault.{Fault}
 use Rattle.transfer_core.specs.declared.fault.Fault.TheVariants.{Memory}
 use Rattle.archive_core.specs.Checking.{Accepts}
 use Rattle.archive_core.specs.Editing.{CostsLeast, CostsWindows, Edits, IsMaster}
 use Rattle.archive_core.specs.declared.planning.PlannedMaster.{PlannedMaster}
 
--- the bytes of the master's file
-abbrev pub planned_master : PlannedMaster → List ℕ
-planned_master planned = planned.master.items
+-- the bytes are the master's file: the text of the best channels of its cut
+pub record IsFileOf (planned : PlannedMaster) (file : List ℕ) : Type 0 where
+  pub channels : List (List Bool)
+  pub best : AreBestChannels planned.cut channels
+  pub text : text_in planned.form (master_of planned.cut planned.form channels) ≡ Some file
 
 -- what its bridges cost
 abbrev pub planned_total : PlannedMaster → ℕ
@@ -21,20 +27,29 @@ planned_total planned = planned.bridges.total
 abbrev pub CertifiesPlanned : PlannedMaster → List ℕ → Type 0
 CertifiesPlanned planned cert = Certifies planned.cut planned.bridges cert
 
--- its bridges are those of its cut, and its room serves for them
+-- its bridges and what stands around its sound are those of its cut, and its rooms serve for it
 pub record IsPlanned (planned : PlannedMaster) : Type 0 where
   pub bridges_are : AreBridgesOf planned.cut planned.bridges
-  pub room_fits : IsRoomOf planned.cut planned.room
+  pub ends_are : AreMasterEnds planned.cut planned.form planned.ends
+  pub room_fits : IsRoomFor planned.cut planned.room
+  pub cert_room_fits : IsRoomOf planned.cut planned.cert_room
 
--- the planned file is the master of the project and the takes with the first least bridges, and with each certificate of its own it is accepted; of all masters none costs less
+-- the same is planned, whatever the room for its file holds now
+abbrev pub IsSamePlan : PlannedMaster → PlannedMaster → Type 0
+IsSamePlan old new = new ≡ record old { room = new.room }
+
+-- the plan has one file, and no other: it is the master of the project and the takes with the first least bridges, and with each certificate of the plan it is accepted; of all masters none costs less
 pub record Plans (project : List ℕ) (files : List (List ℕ)) (form : Form) (planned : PlannedMaster) : Type 0 where
-  pub edits : Edits project files form (planned_master planned) (planned_total planned)
-  pub is_master : IsMaster project files (planned_master planned)
-  pub accepted : (cert : List ℕ) → CertifiesPlanned planned cert → Accepts project files (planned_master planned) cert (planned_total planned)
-  pub joint : CostsLeast project files (planned_master planned) (planned_total planned)
-  pub windows : CostsWindows project files (planned_master planned) (planned_total planned)
+  pub file : List ℕ
+  pub is_file : IsFileOf planned file
+  pub only : (other : List ℕ) → IsFileOf planned other → other ≡ file
+  pub edits : Edits project files form file (planned_total planned)
+  pub is_master : IsMaster project files file
+  pub accepted : (cert : List ℕ) → CertifiesPlanned planned cert → Accepts project files file cert (planned_total planned)
+  pub joint : CostsLeast project files file (planned_total planned)
+  pub windows : CostsWindows project files file (planned_total planned)
 
--- this master and this cost were planned, want of memory aside
+-- a master of this file and this cost was planned, want of memory aside
 abbrev pub AnswersPlanned : Result PlannedMaster Fault → List ℕ → ℕ → Type 0
-AnswersPlanned (Ok planned) master cost = (planned_master planned ≡ master) × (planned_total planned ≡ cost)
+AnswersPlanned (Ok planned) master cost = IsFileOf planned master × (planned_total planned ≡ cost)
 AnswersPlanned (Err fault) master cost = fault ≡ Memory

@@ -3,7 +3,7 @@
 ghost use Rattle.std.specs.Prelude.{◌≡◌, IfErr, IfOk, List, Some, ℕ};
 ghost use Rattle.archive_core.specs.Checking.{Accepts};
 ghost use Rattle.archive_core.specs.Editing.{AnswersEdited, CostsLeast, CostsWindows, Edits, IsEdited, IsMaster};
-ghost use Rattle.archive_core.specs.Planning.{CertifiesPlanned, IsPlanned, planned_master};
+ghost use Rattle.archive_core.specs.Planning.{CertifiesPlanned, IsFileOf, IsPlanned, IsSamePlan};
 ghost use Rattle.cut_core.specs.Hearing.{AreOfTakes};
 ghost use Rattle.archive_core.specs.Cutting.{AreTakes, said_cut};
 ghost use Rattle.splice_core.specs.Splices.{splice_content};
@@ -82,9 +82,9 @@ pub fn edit_heard(
     ensures only { (project : List ℕ) (files : List (List ℕ)) → AreTakes project files (splice_content splice) takes.items → (master : List ℕ) (cost : ℕ) → Edits project files form master cost → AnswersEdited result master cost }
     ensures refused { (project : List ℕ) (files : List (List ℕ)) → AreTakes project files (splice_content splice) takes.items → IfErr result (λ fault. Fails Fault.Memory fault (said_cut project files (Some form))) }
 {
-    let planned = plan_master(alloc, splice, takes, form)?;
+    let mut planned = plan_master(alloc, splice, takes, form)?;
     let total = planned.total();
-    let master = master_of(alloc, &planned)?;
+    let master = master_of(alloc, &mut planned)?;
     let cert = cert_of(alloc, planned)?;
     Ok(Edited {
         master,
@@ -94,8 +94,11 @@ pub fn edit_heard(
 }
 
 // The file of a planned master, in memory, where no write fails but for want of that.
-fn master_of(alloc: Global, planned: &PlannedMaster) -> Result<Vec<u8>, AllocError>
-    ensures { IfOk result (λ master. master.items ≡ planned_master planned.now) }
+fn master_of(alloc: Global, planned: &mut PlannedMaster) -> Result<Vec<u8>, AllocError>
+    requires { IsPlanned planned.old }
+    ensures planned { IsPlanned planned.new }
+    ensures same { IsSamePlan planned.old planned.new }
+    ensures bytes { (file : List ℕ) → IsFileOf planned.old file → IfOk result (λ master. master.items ≡ file) }
 {
     let mut outlet = Outlet::new(Vec::new(alloc));
     match planned.write_master(&mut outlet) {

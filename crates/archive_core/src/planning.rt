@@ -14,20 +14,27 @@ ghost use Rattle.splice_core.specs.Splices.{splice_content};
 use crate::cutting::cut_heard;
 use cut_core::{Cut, Heard};
 use device_core::{Device, Outlet};
-use form_core::{Form, write_in};
-use master_core::{CertifyingRoom, ChosenBridges, Planned, can_certify, certify, plan};
+use form_core::{Ends, Form};
+use master_core::{
+    CertifyingRoom, ChosenBridges, MasterRoom, Planned, can_certify, certify, plan, write_master,
+};
 use splice_core::Splice;
 use std::alloc::Global;
 use std::io::Write;
 use transfer_core::Fault;
 
-/// A master whose bridges are chosen, with all memory that its file and its certificate need to be written.
+/// A master whose bridges are chosen, with all memory that its file and its certificate need to be written. Its channels
+/// are never in memory: they are put together of what was heard while they are written.
 #[derive(Drop)]
 pub struct PlannedMaster {
     cut: Cut,
+    form: Form,
     bridges: ChosenBridges,
-    room: CertifyingRoom,
-    master: Vec<u8>,
+    // What stands around its sound.
+    ends: Ends,
+    // The rooms that its file and its certificate are written through.
+    room: MasterRoom,
+    cert_room: CertifyingRoom,
 }
 
 /// The master of a splice and what was heard of its takes, in the order of their numbers, before it is written.
@@ -48,21 +55,23 @@ pub fn plan_master(
 {
     let cut = cut_heard(splice, takes, Some(form))?;
     let Planned {
-        recording,
         bridges,
+        ends,
         room,
+        cert_room,
     } = plan(alloc, &cut, form)?;
-    let master = write_in(alloc, &recording, form)?;
     Ok(PlannedMaster {
         cut,
+        form,
         bridges,
+        ends,
         room,
-        master,
+        cert_room,
     })
 }
 
 impl PlannedMaster {
-    ghost use Rattle.archive_core.specs.Planning.{CertifiesPlanned, planned_master, planned_total};
+    ghost use Rattle.archive_core.specs.Planning.{CertifiesPlanned, IsFileOf, IsSamePlan, planned_total};
 
     /// What the bridges of the master cost: the sum over all bridges of all channels.
     pub fn total(&self) -> u128
@@ -71,18 +80,29 @@ impl PlannedMaster {
         self.bridges.total()
     }
 
-    /// Writes the master's file. No memory is asked for.
+    /// Writes the master's file. No memory is asked for, and nothing of the plan changes but what its room holds.
     ///
     /// Refusal: `Device` where a write fails, and a front of the file went out, not all of it.
-    pub fn write_master<W: Write>(&self, outlet: &mut Outlet<W>) -> Result<(), Device>
+    pub fn write_master<W: Write>(&mut self, outlet: &mut Outlet<W>) -> Result<(), Device>
+        requires planned { IsPlanned self.old }
         requires ready { outlet_failures outlet.old < 2 ^ 64 - 1 }
-        ensures ok { OnOk result (Appends (W.contents (outlet_writer outlet.old)) (W.contents (outlet_writer outlet.new)) (planned_master self.now)) }
-        ensures err { OnErr result (AppendsPart (W.contents (outlet_writer outlet.old)) (W.contents (outlet_writer outlet.new)) (planned_master self.now)) }
+        ensures planned { IsPlanned self.new }
+        ensures same { IsSamePlan self.old self.new }
+        ensures ok { (file : List ℕ) → IsFileOf self.old file → OnOk result (Appends (W.contents (outlet_writer outlet.old)) (W.contents (outlet_writer outlet.new)) file) }
+        ensures err { (file : List ℕ) → IsFileOf self.old file → OnErr result (AppendsPart (W.contents (outlet_writer outlet.old)) (W.contents (outlet_writer outlet.new)) file) }
         ensures failures { MatchResult result
             (λ _. outlet_failures outlet.new ≡ outlet_failures outlet.old)
             (λ _. outlet_failures outlet.new ≡ outlet_failures outlet.old + 1) }
     {
-        outlet.put_all(&self.master)
+        let form = self.form;
+        write_master(
+            &self.cut,
+            &self.bridges,
+            form,
+            &self.ends,
+            &mut self.room,
+            outlet,
+        )
     }
 
     /// There is a certificate of the master. It does nothing.
@@ -108,10 +128,12 @@ impl PlannedMaster {
     {
         let PlannedMaster {
             cut,
+            form: _,
             bridges,
-            room,
-            master: _,
+            ends: _,
+            room: _,
+            cert_room,
         } = self;
-        certify(&cut, &bridges, room, outlet)
+        certify(&cut, &bridges, cert_room, outlet)
     }
 }

@@ -55,6 +55,8 @@ impl Write for Awaited<'_> {
 #[derive(Drop)]
 struct Shelf<'a> {
     files: &'a [(&'a str, &'a [u8])],
+    // How many files were created.
+    created: usize,
     // How many files were written whole.
     written: usize,
 }
@@ -86,6 +88,7 @@ impl<'a> Folder for Shelf<'a> {
 
     fn create(&mut self, name: &str) -> Result<Awaited<'a>, FolderFault> {
         let left = self.bytes(name)?;
+        self.created = self.created.saturating_add(1);
         Ok(Awaited { left })
     }
 
@@ -100,6 +103,15 @@ impl<'a> Folder for Shelf<'a> {
     fn give_up(&mut self, _name: &str, _out: Awaited<'a>) {}
 }
 
+// These files, before any is created.
+fn shelf_of<'a>(files: &'a [(&'a str, &'a [u8])]) -> Shelf<'a> {
+    Shelf {
+        files,
+        created: 0,
+        written: 0,
+    }
+}
+
 // The fault of a command that was refused.
 fn fault_of(outcome: Outcome) -> Fault {
     match outcome {
@@ -109,7 +121,8 @@ fn fault_of(outcome: Outcome) -> Fault {
     }
 }
 
-// Whether a task over these files comes to this line, and writes so many of them.
+// Whether a task over these files comes to this line, and writes so many of them. A task that is refused memory has created
+// none, unless it plays.
 fn comes_to(
     alloc: Global,
     files: &[(&str, &[u8])],
@@ -117,9 +130,10 @@ fn comes_to(
     line: &str,
     written: usize,
 ) -> Result<bool, Fail> {
-    let mut shelf = Shelf { files, written: 0 };
+    let mut shelf = shelf_of(files);
+    let plays = matches!(&task, Task::Play { .. });
     let outcome = perform(alloc, task, &mut shelf);
-    if status(&outcome) == 2 {
+    if status(&outcome) == 2 && (plays || shelf.created == 0) {
         Err(fault_of(outcome))?
     } else {
         Ok(outcome_line(alloc, &outcome)?.as_str() == line && shelf.written == written)
@@ -297,10 +311,7 @@ fn the_command_info_ends(rt: HostRuntime) -> Result<(), Fail> {
 // Whether a file is converted to this one in blocks, without its mark and its kept chunk.
 fn converts_in_blocks(alloc: Global, file: &[u8], made: &[u8]) -> Result<bool, Fault> {
     let files: [(&str, &[u8]); 2] = [("in", file), ("out", made)];
-    let mut shelf = Shelf {
-        files: &files,
-        written: 0,
-    };
+    let mut shelf = shelf_of(&files);
     match convert_file(alloc, &mut shelf, Form::Dsf, "in", "out", 0) {
         Ok(dropped) => Ok(dropped == 2 && shelf.written == 1),
         Err(fault) => Err(fault_of(Outcome::from(fault))),
@@ -318,10 +329,7 @@ fn a_file_is_converted_in_blocks(rt: HostRuntime) -> Result<(), Fail> {
 // How many bits a channel of a file has, which isn't held.
 fn count_told(alloc: Global, file: &[u8]) -> Result<usize, Fault> {
     let files: [(&str, &[u8]); 1] = [("in", file)];
-    let mut shelf = Shelf {
-        files: &files,
-        written: 0,
-    };
+    let mut shelf = shelf_of(&files);
     match open_file(alloc, &mut shelf, "in", 0) {
         Ok(told) => Ok(told.count),
         Err(fault) => Err(fault_of(Outcome::from(fault))),
@@ -376,7 +384,7 @@ fn length_of(alloc: Global, bytes: &[u8]) -> Result<usize, FileFault> {
 // How many files are read of those that `SPLICE` names.
 fn number_read(alloc: Global, files: &[(&str, &[u8])]) -> Result<usize, Fail> {
     let names = take_names(alloc, SPLICE.as_bytes())?;
-    Ok(read_files(alloc, &mut Shelf { files, written: 0 }, &names)?.len())
+    Ok(read_files(alloc, &mut shelf_of(files), &names)?.len())
 }
 
 #[test]

@@ -1,9 +1,9 @@
 //! `edit` and `check` over folders in memory: what they print and which files they create.
 
 use crate::builders::{CUES, CueNumbers, cut_off, fast, splice, titled};
-use crate::certifying::{FALLING, LEVEL, cert_of};
+use crate::certifying::{CERT, FALLING, LEVEL, cert_of};
 use crate::folders::{asks, comes_to, holds, is_refused};
-use crate::watched_folder::Failure;
+use crate::watched_folder::{Failure, WatchedFolder};
 use archive_core::Form;
 use command_core::{MemoryFolder, Task};
 use fixtures::files::{FILE, dsf_of, mono};
@@ -246,7 +246,7 @@ fn cuts_nothing_where_a_take_is_missing(rt: HostRuntime) {
 
 // What fails, what is printed, and what the folder is asked for, and no more: takes by their numbers, and the
 // certificate is created once the master is written and kept.
-const CUTS: [(&str, Option<Failure>, &str, &str); 6] = [
+const CUTS: [(&str, Option<Failure>, &str, &str); 7] = [
     (
         "nothing",
         None,
@@ -275,13 +275,19 @@ const CUTS: [(&str, Option<Failure>, &str, &str); 6] = [
         "writing the master",
         Some(Failure::Write(100)),
         "fault: WriteFailed",
-        "open e.toml\nopen a.dff\nopen b.dff\ncreate m.dff\nkeep m.dff\n",
+        "open e.toml\nopen a.dff\nopen b.dff\ncreate m.dff\ngive up m.dff\n",
     ),
     (
         "creating the certificate",
         Some(Failure::At("create", "c.cert")),
         "fault: WriteFailed",
         "open e.toml\nopen a.dff\nopen b.dff\ncreate m.dff\nkeep m.dff\ncreate c.cert\n",
+    ),
+    (
+        "writing the certificate",
+        Some(Failure::WriteTo("c.cert", 10)),
+        "fault: WriteFailed",
+        "open e.toml\nopen a.dff\nopen b.dff\ncreate m.dff\nkeep m.dff\ncreate c.cert\ngive up c.cert\n",
     ),
 ];
 
@@ -294,6 +300,26 @@ fn asks_for_takes_by_number(rt: HostRuntime) {
             asks(alloc, folder, *failure, CUT, (line, calls)) == Ok(true),
             "{case} fails"
         );
+    }
+}
+
+// Whether the cut of `CUES` fails where the certificate has room for so many of its bytes, with a whole master and these.
+fn leaves_a_front(alloc: Global, cert: &[u8], room: usize) -> Result<bool, AllocError> {
+    let folder = folder_by(alloc, "1, 0", &CUES)?;
+    let failure = Some(Failure::WriteTo("c.cert", room));
+    let mut watched = WatchedFolder::over(alloc, folder, failure);
+    let failed = comes_to(alloc, &mut watched, CUT, 2, "fault: WriteFailed")?;
+    let master = holds_built(&watched.files, "m.dff", mono(alloc, &[0xff, 0]))?;
+    let (front, _) = cert.split_at(room.min(cert.len()));
+    Ok(failed && master && holds(&watched.files, "c.cert", front))
+}
+
+// The certificate has 46 bytes.
+#[test]
+fn leaves_the_master_where_the_certificate_is_not_written(rt: HostRuntime) {
+    let alloc = rt.alloc();
+    for room in 0..46 {
+        assert!(rt; leaves_a_front(alloc, &CERT, room) == Ok(true), "{room}");
     }
 }
 

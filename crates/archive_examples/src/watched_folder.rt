@@ -15,6 +15,8 @@ pub(crate) enum Failure {
     At(&'static str, &'static str),
     /// Writing, after so many bytes.
     Write(usize),
+    /// Writing the file of this name, after so many bytes.
+    WriteTo(&'static str, usize),
 }
 
 /// Files in memory, of which it tells nothing.
@@ -53,10 +55,11 @@ impl WatchedFolder {
         }
     }
 
-    // How many bytes a file has room for.
-    fn room(&self) -> usize {
+    // How many bytes the file of a name has room for.
+    fn room(&self, name: &str) -> usize {
         match self.failure {
             Some(Failure::Write(room)) => room,
+            Some(Failure::WriteTo(at, room)) if at == name => room,
             _ => usize::MAX,
         }
     }
@@ -118,7 +121,7 @@ impl Folder for WatchedFolder {
 
     fn create(&mut self, name: &str) -> Result<WatchedOutput, FolderFault> {
         self.note("create", name)?;
-        let room = self.room();
+        let room = self.room(name);
         let bytes = self.files.create(name)?;
         Ok(WatchedOutput { bytes, room })
     }

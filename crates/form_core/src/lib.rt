@@ -15,7 +15,7 @@
 //! - `head_in form r count` and `tail_in form r count` are what stands before and behind the sound of so many bits a
 //!   channel (`specs/Parts.antt`). That `text_in` is both around the sound bytes is the law on [`written_in_parts`].
 //! - `HoldsSound form r bytes` says that the bytes are a file of the form with the recording's sound
-//!   (`specs/Writing.antt`).
+//!   (`specs/Writing.antt`). That what is written for any recording does is the law on [`written_is_read`].
 //!
 //! What it promises: what is read is what the file holds; whatever recording a file of either format holds is
 //! read; any other file is refused with the first fault that stands. What is written is exactly `text_in`, is
@@ -36,10 +36,10 @@ mod parts;
 mod shape;
 mod writing;
 
-pub use dsdiff_core::WriteFault;
+pub use dsdiff_core::{WriteFault, fields_fit};
 pub use fault::ReadFault;
 pub use form::Form;
-pub use laws::{held_is_opened, written_in_parts};
+pub use laws::{held_is_opened, written_in_parts, written_is_read};
 pub use opening::{Opened, read_any};
 pub use parts::{Ends, ends_in, interleaving_in};
 pub use shape::has_shape;

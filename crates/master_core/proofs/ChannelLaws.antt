@@ -7,7 +7,6 @@ use Rattle.std.proofs.lemmas.List.{ext_get_or, length-append, length-map, length
 use Rattle.std.proofs.lemmas.List.Sums.{sum_by_more}
 use Rattle.std.proofs.lemmas.List.FromFn.{get_or-map-range_with_len, length-map-range_with_len, map-range_with_len_more}
 use Rattle.std.proofs.lemmas.Option.{slice_get-get_or}
-use Rattle.dsd_bits.proofs.PackingLemmas.{length-slice_range}
 use Rattle.splice_core.specs.Cues.{bridge_or, last_bridge}
 use Rattle.cost_core.specs.Bridges.{bridge_cost}
 use Rattle.cost_core.specs.Channels.{AreJoined, HaveLengths, Part, channel}

@@ -1,17 +1,28 @@
 -- The file of the best master, part by part.
-use Rattle.std.proofs.Common.{◌≡◌, ℕ, ◌≤◌, ◌<◌, Bool, List, [], ◌++◌, Option, Some, length, get_or, replicate, refl, sym, ap, ap₂, subst, ◌∙◌, arith}
+use Rattle.std.proofs.Common.{◌≡◌, ℕ, ◌*◌, ◌/◌, ◌≤◌, ◌<◌, ◌^◌, Bool, List, [], ◌++◌, Option, Some, length, get_or, replicate, refl, sym, ap, ap₂, subst, ◌∙◌, arith}
 use Rattle.std.specs.Io.KnownBytes.{Appends}
 use Rattle.std.proofs.KnownBytes.{Appends-trans}
-use Rattle.std.proofs.lemmas.List.{get_or-replicate, length-replicate}
+use Rattle.std.specs.Int.{div_ceil}
+use Rattle.std.proofs.Math.Nat.{mul-le-mul_right}
+use Rattle.std.proofs.lemmas.List.{get_or-replicate, length-append, length-replicate}
 use Rattle.std.proofs.lemmas.List.Elements.{All-nil}
-use Rattle.device_core.specs.Outlets.{AppendsFront, AppendsPart}
+use Rattle.std.proofs.lemmas.List.FromFn.{length-map-range_with_len}
+use Rattle.device_core.specs.Outlets.{AppendsPart}
+use Rattle.dsd_bits.specs.declared.interleaving.Interleaving.{Interleaving}
+use Rattle.dsd_bits.specs.declared.interleaving.Interleaving.TheVariants.{Bytes, Blocks}
+use Rattle.dsd_bits.specs.Blocks.{block_byte}
 use Rattle.dsd_bits.specs.Channels.{count_of}
+use Rattle.dsd_bits.specs.Lacing.{laced_byte}
 use Rattle.dsd_bits.specs.Shape.{HasShape}
+use Rattle.dsd_bits.specs.Sounds.{sound_size}
 use Rattle.relace_core.specs.Relacing.{laced_in}
+use Rattle.dsdiff_core.specs.ReadAgain.{FitsFields}
 use Rattle.form_core.specs.declared.form.Form.{Form}
 use Rattle.form_core.specs.declared.parts.Ends.{Ends}
 use Rattle.form_core.specs.Forms.{text_in}
+use Rattle.form_core.specs.Laws.{WrittenIsRead}
 use Rattle.form_core.specs.Parts.{FitsIn, WrittenInParts, head_in, interleaving_in, tail_in}
+use Rattle.form_core.specs.Writing.{HoldsSound}
 use Rattle.cut_core.specs.Cuts.{CutContent, channel_number, master_length}
 use Rattle.cut_core.specs.Keeping.{CanCut}
 use Rattle.cut_core.proofs.CutLaws.{first_shape}
@@ -19,7 +30,7 @@ use Rattle.cut_core.proofs.ZipLaws.{zip_numbers_long}
 use Rattle.master_core.specs.Filing.{AreMasterEnds, WritesMaster, WritesMasterFront, silent_master}
 use Rattle.master_core.specs.Masters.{IsBestChannel, master_of}
 use Rattle.master_core.specs.Writing.{HasOneBest, WritesBest, WritesBestFront}
-use Rattle.master_core.proofs.MasterLaws.{marks_short}
+use Rattle.master_core.proofs.MasterLaws.{marks_short, master_shape}
 use Rattle.master_core.proofs.WritingLaws.{front_more, front_on}
 
 -- a master without its bits keeps the rules of recordings
@@ -44,14 +55,21 @@ silent_shape cut can form =
     silent : (k : ℕ) (d : List Bool) → k < channel_number cut → length (get_or (replicate (channel_number cut) []) k d) ≡ 0
     silent k d lt = ap length (get_or-replicate (channel_number cut) k [] d lt)
 
-part_front : (a b : Option (List ℕ)) (all : List ℕ) → AppendsPart a b all → AppendsFront a b all
-part_front a b all p = (p.0, p.1, p.2, p.4)
+-- how many sound bytes there are
+sound_long : (to : Interleaving) (zs : List (List Bool)) → length (laced_in to zs) ≡ sound_size to (length zs) (count_of zs)
+sound_long Bytes zs = length-map-range_with_len (laced_byte zs) 0 _
+sound_long (Blocks order) zs = length-map-range_with_len (block_byte order zs) 0 _
+
+sound_small : (to : Interleaving) (number count : ℕ) → number ≤ 6 → count ≤ 2 ^ 36 → sound_size to number count ≤ 2 ^ 40
+sound_small Bytes number count few short = let below : count / 8 * number ≤ 8589934592 * number = mul-le-mul_right number (omega arith) in omega (arith, below, few)
+sound_small (Blocks order) number count few short = let below : div_ceil count 32768 * number ≤ 2097152 * number = mul-le-mul_right number (omega arith) in omega (arith, below, few)
 
 module _ (cut : CutContent) (form : Form) (law : WrittenInParts) (ends : Ends) (are : AreMasterEnds cut form ends) (one : HasOneBest cut) (some : 1 ≤ channel_number cut) where
   abbrev sound : List ℕ
   sound = laced_in (interleaving_in form) one.channels
 
-  abbrev file : List ℕ
+  -- the file
+  abbrev pub file : List ℕ
   file = ends.head.items ++ (sound ++ ends.tail.items)
 
   many : length one.channels ≡ channel_number cut
@@ -60,21 +78,36 @@ module _ (cut : CutContent) (form : Form) (law : WrittenInParts) (ends : Ends) (
   count : count_of one.channels ≡ master_length cut.splice.cues
   count = one.long 0 [] (omega (arith, many, some))
 
-  file_is : text_in form (master_of cut form one.channels) ≡ Some file
+  pub file_is : text_in form (master_of cut form one.channels) ≡ Some file
   file_is =
       let r = silent_master cut form in
       law form r one.channels (length-replicate (channel_number cut) [] ∙ sym many) (subst (FitsIn form) (sym count) are.fits)
       ∙ ap (λ n. Some (head_in form r n ++ (sound ++ tail_in form r n))) count
       ∙ ap₂ (λ (h t : List ℕ). Some (h ++ (sound ++ t))) (sym are.head) (sym are.tail)
 
+  -- it is read again
+  module _ (can : CanCut cut) (law_again : WrittenIsRead) where
+    file_short : length file < 2 ^ 63
+    file_short =
+        let few = (first_shape cut can).six_channels in
+        let long : length sound ≡ sound_size (interleaving_in form) (length one.channels) (count_of one.channels) = sound_long (interleaving_in form) one.channels in
+        let small = sound_small (interleaving_in form) (length one.channels) (count_of one.channels) (omega (arith, many, few)) (omega (arith, count, can.in_limit)) in
+        omega (arith, length-append ends.head.items (sound ++ ends.tail.items), length-append sound ends.tail.items, long, small, are.head_short, are.tail_short)
+
+    fields : FitsFields (master_of cut form one.channels)
+    fields = record { ids = are.fields.ids; marks = are.fields.marks; others = are.fields.others }
+
+    pub file_holds : HoldsSound form (master_of cut form one.channels) file
+    file_holds = law_again form (master_of cut form one.channels) file (master_shape cut can form one.channels one.best one.long) fields file_is file_short
+
   module _ (a0 a1 : Option (List ℕ)) where
     pub head_front : AppendsPart a0 a1 ends.head.items → WritesMasterFront cut form a0 a1
-    head_front p = record { channels = one.channels; best = one.best; text = file; text_is = file_is; written = front_more a0 a1 ends.head.items (sound ++ ends.tail.items) (part_front a0 a1 ends.head.items p) }
+    head_front p = record { channels = one.channels; best = one.best; text = file; text_is = file_is; written = front_more a0 a1 ends.head.items (sound ++ ends.tail.items) p }
 
     module _ (head_out : Appends a0 a1 ends.head.items) (a2 : Option (List ℕ)) where
       pub sound_front : WritesBestFront cut (interleaving_in form) a1 a2 → WritesMasterFront cut form a0 a2
       sound_front p =
-          let here : AppendsFront a1 a2 sound = subst (λ zs. AppendsFront a1 a2 (laced_in (interleaving_in form) zs)) (one.only p.channels p.best) p.written in
+          let here : AppendsPart a1 a2 sound = subst (λ zs. AppendsPart a1 a2 (laced_in (interleaving_in form) zs)) (one.only p.channels p.best) p.written in
           record { channels = one.channels; best = one.best; text = file; text_is = file_is; written = front_on a0 a1 a2 ends.head.items (sound ++ ends.tail.items) head_out (front_more a1 a2 sound ends.tail.items here) }
 
       module _ (written : WritesBest cut (interleaving_in form) a1 a2) (a3 : Option (List ℕ)) where
@@ -82,7 +115,7 @@ module _ (cut : CutContent) (form : Form) (law : WrittenInParts) (ends : Ends) (
         sound_out = subst (λ zs. Appends a1 a2 (laced_in (interleaving_in form) zs)) (one.only written.channels written.best) written.written
 
         pub tail_front : AppendsPart a2 a3 ends.tail.items → WritesMasterFront cut form a0 a3
-        tail_front p = record { channels = one.channels; best = one.best; text = file; text_is = file_is; written = front_on a0 a1 a3 ends.head.items (sound ++ ends.tail.items) head_out (front_on a1 a2 a3 sound ends.tail.items sound_out (part_front a2 a3 ends.tail.items p)) }
+        tail_front p = record { channels = one.channels; best = one.best; text = file; text_is = file_is; written = front_on a0 a1 a3 ends.head.items (sound ++ ends.tail.items) head_out (front_on a1 a2 a3 sound ends.tail.items sound_out p) }
 
         pub file_whole : Appends a2 a3 ends.tail.items → WritesMaster cut form a0 a3
         file_whole tail_out = record { channels = one.channels; best = one.best; text = file; text_is = file_is; written = Appends-trans a0 a1 a3 ends.head.items (sound ++ ends.tail.items) head_out (Appends-trans a1 a2 a3 sound ends.tail.items sound_out tail_out) }

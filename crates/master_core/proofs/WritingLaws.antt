@@ -5,10 +5,10 @@ use Rattle.std.specs.Int.{div_ceil}
 use Rattle.std.specs.Io.KnownBytes.{Appends}
 use Rattle.std.proofs.KnownBytes.{Appends-nil, Appends-trans}
 use Rattle.std.proofs.lemmas.Bool.{cases_lt}
-use Rattle.std.proofs.lemmas.List.{ext_get_or, get_or-map, get_or-set_other, get_or-set_same, get_or_append_left, get_or_push, length_push, length-map, map-set}
+use Rattle.std.proofs.lemmas.List.{ext_get_or, get_or-map, get_or-set_other, get_or-set_same, get_or_append_left, get_or_push, length-append, length_push, length-map, map-set}
 use Rattle.std.proofs.lemmas.List.Elements.{All-append, All-cons, All-nil}
 use Rattle.std.proofs.Math.Seq.{map-set_same}
-use Rattle.device_core.specs.Outlets.{AppendsFront}
+use Rattle.device_core.specs.Outlets.{AppendsPart}
 use Rattle.dsd_bits.specs.declared.interleaving.Interleaving.{Interleaving}
 use Rattle.dsd_bits.specs.declared.interleaving.Interleaving.TheVariants.{Bytes, Blocks}
 use Rattle.dsd_bits.specs.declared.stretches.BitRange.{BitRange}
@@ -42,11 +42,11 @@ pub on_err : {X E : Type 0} {P Q : Type 0} (r : Result X E) → (P → Q) → On
 on_err (Ok x) f p = tt
 on_err (Err e) f p = f p
 
-pub front_more : (a b : Option (List ℕ)) (xs ys : List ℕ) → AppendsFront a b xs → AppendsFront a b (xs ++ ys)
-front_more a b xs ys f = (f.0, f.1 ++ ys, ap (λ zs. zs ++ ys) f.2 ∙ append_assoc f.0 f.1 ys, f.3)
+pub front_more : (a b : Option (List ℕ)) (xs ys : List ℕ) → AppendsPart a b xs → AppendsPart a b (xs ++ ys)
+front_more a b xs ys f = (f.0, f.1 ++ ys, ap (λ zs. zs ++ ys) f.2 ∙ append_assoc f.0 f.1 ys, omega (arith, length-append f.1 ys, f.3), f.4)
 
-pub front_on : (a b c : Option (List ℕ)) (xs ys : List ℕ) → Appends a b xs → AppendsFront b c ys → AppendsFront a c (xs ++ ys)
-front_on a b c xs ys p q = (xs ++ q.0, q.1, ap (λ zs. xs ++ zs) q.2 ∙ sym (append_assoc xs q.0 q.1), Appends-trans a b c xs q.0 p q.3)
+pub front_on : (a b c : Option (List ℕ)) (xs ys : List ℕ) → Appends a b xs → AppendsPart b c ys → AppendsPart a c (xs ++ ys)
+front_on a b c xs ys p q = (xs ++ q.0, q.1, ap (λ zs. xs ++ zs) q.2 ∙ sym (append_assoc xs q.0 q.1), q.3, Appends-trans a b c xs q.0 p q.4)
 
 -- ---- parts of channels, as many and each as long
 abbrev pub from_to : ℕ → ℕ → BitRange
@@ -101,10 +101,10 @@ module _ (to : Interleaving) (zs : List (List Bool)) (long : ℕ) (some : 1 ≤ 
       ap (laced_in to) same
 
   -- a front of some groups is one of all
-  pub front_of_all : (old new : Option (List ℕ)) (b : ℕ) → b ≤ long → (b % 32768 ≡ 0) ⊎ (b ≡ long) → AppendsFront old new (sound_of to zs 0 b) → AppendsFront old new (laced_in to zs)
+  pub front_of_all : (old new : Option (List ℕ)) (b : ℕ) → b ≤ long → (b % 32768 ≡ 0) ⊎ (b ≡ long) → AppendsPart old new (sound_of to zs 0 b) → AppendsPart old new (laced_in to zs)
   front_of_all old new b inside (inl groups) front =
-      subst (AppendsFront old new) (sym (sound_join b long groups inside (omega arith)) ∙ sound_whole) (front_more old new (sound_of to zs 0 b) (sound_of to zs b long) front)
-  front_of_all old new b inside (inr all) front = subst (AppendsFront old new) (ap (sound_of to zs 0) all ∙ sound_whole) front
+      subst (AppendsPart old new) (sym (sound_join b long groups inside (omega arith)) ∙ sound_whole) (front_more old new (sound_of to zs 0 b) (sound_of to zs b long) front)
+  front_of_all old new b inside (inr all) front = subst (AppendsPart old new) (ap (sound_of to zs 0) all ∙ sound_whole) front
 
 -- ---- stretch by stretch
 -- so many bits of each best channel were written
@@ -131,12 +131,12 @@ module _ (cut : CutContent) (to : Interleaving) (one : HasOneBest cut) (some : 1
   pub written_front : (a b : ℕ) (old mid new : Option (List ℕ)) → a % 32768 ≡ 0 → a ≤ b → b ≤ master_length cut.splice.cues → (b % 32768 ≡ 0) ⊎ (b ≡ master_length cut.splice.cues) → HasWritten cut to a old mid → WritesPartFront cut to (from_to a b) mid new → WritesBestFront cut to old new
   written_front a b old mid new groups order inside last before part =
       let ws = one.channels in
-      let here : AppendsFront mid new (sound_of to ws a b) = subst (λ l. AppendsFront mid new (sound_of to l a b)) (one.only part.channels part.best) part.written in
-      let all : AppendsFront old new (sound_of to ws 0 a ++ sound_of to ws a b) = front_on old mid new (sound_of to ws 0 a) (sound_of to ws a b) (before ws one.best) here in
+      let here : AppendsPart mid new (sound_of to ws a b) = subst (λ l. AppendsPart mid new (sound_of to l a b)) (one.only part.channels part.best) part.written in
+      let all : AppendsPart old new (sound_of to ws 0 a ++ sound_of to ws a b) = front_on old mid new (sound_of to ws 0 a) (sound_of to ws a b) (before ws one.best) here in
       record {
         channels = ws;
         best = one.best;
-        written = front_of_all to ws (master_length cut.splice.cues) some_best one.long old new b inside last (subst (AppendsFront old new) (sym (sound_join to ws (master_length cut.splice.cues) some_best one.long a b groups order inside)) all);
+        written = front_of_all to ws (master_length cut.splice.cues) some_best one.long old new b inside last (subst (AppendsPart old new) (sym (sound_join to ws (master_length cut.splice.cues) some_best one.long a b groups order inside)) all);
       }
 
   pub written_whole : (old new : Option (List ℕ)) → HasWritten cut to (master_length cut.splice.cues) old new → WritesBest cut to old new

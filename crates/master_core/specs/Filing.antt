@@ -1,8 +1,9 @@
 -- The file of a master, in three parts.
-use Rattle.std.specs.Prelude.{◌≡◌, ℕ, Bool, List, [], Option, Some, replicate}
+use Rattle.std.specs.Prelude.{◌≡◌, ◌≤◌, ◌^◌, ℕ, Bool, List, [], Option, Some, length, replicate}
 use Rattle.std.specs.Io.KnownBytes.{Appends}
-use Rattle.device_core.specs.Outlets.{AppendsFront}
+use Rattle.device_core.specs.Outlets.{AppendsPart}
 use Rattle.dsd_bits.specs.Contents.{Content}
+use Rattle.dsdiff_core.specs.ReadAgain.{FitsFields}
 use Rattle.form_core.specs.declared.form.Form.{Form}
 use Rattle.form_core.specs.declared.parts.Ends.{Ends}
 use Rattle.form_core.specs.Forms.{text_in}
@@ -14,11 +15,14 @@ use Rattle.master_core.specs.Masters.{AreBestChannels, master_of}
 abbrev pub silent_master : CutContent → Form → Content
 silent_master cut form = master_of cut form (replicate (channel_number cut) [])
 
--- what stands around the sound in the master's file
+-- what stands around the sound in the master's file, which is short enough to be read again
 pub record AreMasterEnds (cut : CutContent) (form : Form) (ends : Ends) : Type 0 where
   pub head : ends.head.items ≡ head_in form (silent_master cut form) (master_length cut.splice.cues)
   pub tail : ends.tail.items ≡ tail_in form (silent_master cut form) (master_length cut.splice.cues)
   pub fits : FitsIn form (master_length cut.splice.cues)
+  pub fields : FitsFields (silent_master cut form)
+  pub head_short : length ends.head.items ≤ 2 ^ 40
+  pub tail_short : length ends.tail.items ≤ 2 ^ 40
 
 -- the file of the best master was written
 pub record WritesMaster (cut : CutContent) (form : Form) (old new : Option (List ℕ)) : Type 0 where
@@ -28,10 +32,10 @@ pub record WritesMaster (cut : CutContent) (form : Form) (old new : Option (List
   pub text_is : text_in form (master_of cut form channels) ≡ Some text
   pub written : Appends old new text
 
--- a front of it was written
+-- a front of it was written, and not all of it
 pub record WritesMasterFront (cut : CutContent) (form : Form) (old new : Option (List ℕ)) : Type 0 where
   pub channels : List (List Bool)
   pub best : AreBestChannels cut channels
   pub text : List ℕ
   pub text_is : text_in form (master_of cut form channels) ≡ Some text
-  pub written : AppendsFront old new text
+  pub written : AppendsPart old new text

@@ -7,4 +7,5 @@ pub mod Judging
 pub mod Masters
 pub mod Filing
 pub mod Parting
+pub mod Planning
 pub mod Writing

@@ -1,7 +1,7 @@
 -- What is written of a master, and the room that it is written through.
 use Rattle.std.specs.Prelude.{◌≡◌, ℕ, ◌*◌, ◌/◌, ◌%◌, ◌≤◌, Bool, List, Option, All, length, map, vec_capacity}
 use Rattle.std.specs.Io.KnownBytes.{Appends}
-use Rattle.device_core.specs.Outlets.{AppendsFront}
+use Rattle.device_core.specs.Outlets.{AppendsPart}
 use Rattle.dsd_bits.specs.declared.interleaving.Interleaving.{Interleaving}
 use Rattle.dsd_bits.specs.declared.stretches.BitRange.{BitRange}
 use Rattle.dsd_bits.specs.Rooms.{RoomContent}
@@ -37,11 +37,11 @@ pub record WritesBest (cut : CutContent) (to : Interleaving) (old new : Option (
   pub best : AreBestChannels cut channels
   pub written : Appends old new (laced_in to channels)
 
--- a front of them was appended
+-- a front of them was appended, and not all of them
 pub record WritesBestFront (cut : CutContent) (to : Interleaving) (old new : Option (List ℕ)) : Type 0 where
   pub channels : List (List Bool)
   pub best : AreBestChannels cut channels
-  pub written : AppendsFront old new (laced_in to channels)
+  pub written : AppendsPart old new (laced_in to channels)
 
 -- the sound bytes of the part of the best channels in a range were appended
 pub record WritesPart (cut : CutContent) (to : Interleaving) (range : BitRange) (old new : Option (List ℕ)) : Type 0 where
@@ -49,8 +49,8 @@ pub record WritesPart (cut : CutContent) (to : Interleaving) (range : BitRange) 
   pub best : AreBestChannels cut channels
   pub written : Appends old new (laced_in to (map (within range) channels))
 
--- a front of them was appended
+-- a front of them was appended, and not all of them
 pub record WritesPartFront (cut : CutContent) (to : Interleaving) (range : BitRange) (old new : Option (List ℕ)) : Type 0 where
   pub channels : List (List Bool)
   pub best : AreBestChannels cut channels
-  pub written : AppendsFront old new (laced_in to (map (within range) channels))
+  pub written : AppendsPart old new (laced_in to (map (within range) channels))

@@ -23,28 +23,6 @@ pub enum BridgeSource<'a> {
     Standing(&'a Bits),
 }
 
-/// The channels of the master: in each the cues, and between them the chosen bits, which stand for the bridges at these
-/// places. Err is want of memory.
-pub fn assemble(
-    alloc: Global,
-    cut: &Cut,
-    places: &[BridgePlace],
-    chosen: &[Chosen],
-) -> Result<Vec<Bits>, AllocError>
-    requires places { places.now ≡ bridges cut.now }
-    requires chosen { AreChosen cut.now chosen.now }
-    ensures best { IfOk result (λ made. AreBestChannels cut.now made.items) }
-    ensures long { IfOk result (λ made. All (λ z. length z ≡ master_length cut.now.splice.cues) made.items) }
-{
-    let number = cut.channel_number();
-    let mut channels = Vec::with_capacity(alloc, number)?;
-    for channel in 0..number {
-        let source = BridgeSource::Chosen(places, chosen);
-        channels.push_reserved(assemble_channel(alloc, cut, channel, source)?);
-    }
-    Ok(channels)
-}
-
 /// A channel of the cues, and between them the bits of a source for the bridges. Err is want of memory.
 pub fn assemble_channel(
     alloc: Global,

@@ -1,32 +1,44 @@
 //! The whole file of a master, written from cues and bridges.
 
-ghost use Rattle.std.specs.Prelude.{◌≡◌, ◌↔◌, ◌+◌, ◌-◌, ◌<◌, ◌^◌, Err, IfOk, MatchResult, OnErr, OnOk};
+ghost use Rattle.std.specs.Prelude.{◌≡◌, ◌↔◌, ◌+◌, ◌-◌, ◌<◌, ◌^◌, Err, IfOk, MatchResult, OnErr, OnOk, map};
 ghost use Rattle.device_core.specs.Outlets.{outlet_failures, outlet_writer};
+ghost use Rattle.dsd_bits.specs.Contents.{mark_content};
 ghost use Rattle.form_core.specs.Parts.{FitsIn};
 ghost use Rattle.cut_core.specs.Cuts.{master_length};
+ghost use Rattle.master_core.specs.Choosing.{AreBridgesOf};
 ghost use Rattle.master_core.specs.Filing.{AreMasterEnds, WritesMaster, WritesMasterFront, silent_master};
-ghost use Rattle.master_core.specs.Parting.{HasChosen};
+ghost use Rattle.master_core.specs.Masters as masters;
 ghost use Rattle.master_core.specs.Writing.{IsRoomFor};
 
-use crate::making::marks_in;
+use crate::choosing::ChosenBridges;
 use crate::parting::MasterSource;
 use crate::writing::{MasterRoom, has_one_best, write_sound};
 use cut_core::Cut;
 use device_core::{Device, Outlet};
-use dsd_bits::{Recording, silent_channels};
-use form_core::{Ends, Form, WriteFault, ends_in, interleaving_in, written_in_parts};
+use dsd_bits::{Mark, Recording, silent_channels};
+use form_core::{Ends, Form, WriteFault, ends_in, fields_fit, interleaving_in, written_in_parts};
 use std::alloc::{AllocError, Global};
 use std::io::Write;
 
+// The most bytes before the sound of a master, and behind it: far more than the marks of its titles need, and so few
+// that the whole file has fewer than 2^63 bytes, as each that is read.
+const MOST_AROUND: usize = 1 << 40;
+
 /// What stands around the sound in the file of a form that holds the master of a cut.
 ///
-/// Refusals: `NotWholeBytes` only where the form is DSDIFF and the master's channels would end inside a byte; `Memory`.
+/// Refusals: `NotWholeBytes` only where the form is DSDIFF and the master's channels would end inside a byte; `Memory`,
+/// also where head or tail had more than `2^40` bytes.
 pub fn master_ends(alloc: Global, cut: &Cut, form: Form) -> Result<Ends, WriteFault>
     ensures ok { IfOk result (AreMasterEnds cut.now form) }
     ensures not_whole_bytes { result ≡ Err WriteFault.NotWholeBytes → FitsIn form (master_length cut.now.splice.cues) → ⊥ }
 {
     let silent = make_silent(alloc, cut, form)?;
-    ends_in(alloc, &silent, form, cut.length())
+    fields_fit(&silent);
+    let ends = ends_in(alloc, &silent, form, cut.length())?;
+    if ends.head.len() > MOST_AROUND || ends.tail.len() > MOST_AROUND {
+        return Err(WriteFault::Memory);
+    }
+    Ok(ends)
 }
 
 // The recording of a master without its bits.
@@ -50,32 +62,49 @@ fn make_silent(alloc: Global, cut: &Cut, form: Form) -> Result<Recording, AllocE
     Ok(recording)
 }
 
+// The marks of a master in a form: those of the titles in a DSDIFF file, none in a DSF file.
+fn marks_in(alloc: Global, cut: &Cut, form: Form) -> Result<Vec<Mark>, AllocError>
+    ensures { IfOk result (λ marks. map mark_content marks.items ≡ masters.marks_in form cut.now) }
+{
+    match form {
+        Form::Dsdiff => cut.titles(alloc),
+        Form::Dsf | Form::Dsf8 => Ok(Vec::new(alloc)),
+    }
+}
+
 /// Writes the file of the best master: what stands before its sound, the sound, and what stands behind it. It takes no
 /// memory: the room was made for the cut by [`master_room`](crate::master_room), and `ends` by [`master_ends`].
 ///
-/// Refusal: `Device` at the first write that answers an error or takes nothing. A front of the file was written then.
+/// Refusal: `Device` at the first write that answers an error or takes nothing. A front of the file was written then, and
+/// not all of it.
 pub fn write_master<W: Write>(
-    source: &MasterSource<'_>,
+    cut: &Cut,
+    bridges: &ChosenBridges,
     form: Form,
     ends: &Ends,
     room: &mut MasterRoom,
     outlet: &mut Outlet<W>,
 ) -> Result<(), Device>
-    requires ready { HasChosen source.now }
-    requires ends { AreMasterEnds source.now.cut.now form ends.now }
-    requires room { IsRoomFor source.now.cut.now room.old }
+    requires bridges { AreBridgesOf cut.now bridges.now }
+    requires ends { AreMasterEnds cut.now form ends.now }
+    requires room { IsRoomFor cut.now room.old }
     requires outlet_ready { outlet_failures outlet.old < 2 ^ 64 - 1 }
-    ensures room { IsRoomFor source.now.cut.now room.new }
-    ensures ok { OnOk result (WritesMaster source.now.cut.now form (W.contents (outlet_writer outlet.old)) (W.contents (outlet_writer outlet.new))) }
-    ensures front { OnErr result (WritesMasterFront source.now.cut.now form (W.contents (outlet_writer outlet.old)) (W.contents (outlet_writer outlet.new))) }
+    ensures room { IsRoomFor cut.now room.new }
+    ensures ok { OnOk result (WritesMaster cut.now form (W.contents (outlet_writer outlet.old)) (W.contents (outlet_writer outlet.new))) }
+    ensures front { OnErr result (WritesMasterFront cut.now form (W.contents (outlet_writer outlet.old)) (W.contents (outlet_writer outlet.new))) }
     ensures failures { MatchResult result
         (λ _. outlet_failures outlet.new ≡ outlet_failures outlet.old)
         (λ _. outlet_failures outlet.new ≡ outlet_failures outlet.old + 1) }
 {
-    source.cut.can_cut();
+    cut.can_cut();
     written_in_parts();
-    has_one_best(source);
+    let source = MasterSource {
+        cut,
+        places: &bridges.places,
+        chosen: &bridges.chosen,
+    };
+    has_one_best(&source);
     outlet.put_all(&ends.head)?;
-    write_sound(source, interleaving_in(form), room, outlet)?;
+    write_sound(&source, interleaving_in(form), room, outlet)?;
     outlet.put_all(&ends.tail)
 }

@@ -1,13 +1,13 @@
-//! Masters of a cut: made with least bridges and their certificate, and judged, whoever made them.
+//! Masters of a cut: planned with least bridges and written with their certificate, and judged, whoever made them.
 //!
-//! [`make`] searches each bridge of a [`Cut`](cut_core::Cut), puts cues and bridges together, and writes the certificate
-//! that shows the bridges to be least; [`plan`] does all but the last, and [`certify`] writes that to an outlet while its
-//! rows are made, in room that [`plan`] made. [`judge`] says whether a recording is such a master and a certificate shows
-//! that no bridge of it could cost less, [`judge_read`] the same by a certificate that is judged while it is read. All walk
-//! one list, the bridges of the cut by rising cue and then by rising channel: `choosing.rt` searches them, `certifying.rt`
-//! makes their rows again and writes their entries, `entries.rt` judges entries, and what they cost together is the sum
-//! over that list. `assembling.rt` makes a channel of cues and bridges, chosen ones or those that stand in a master
-//! (`standing.rt`), and `comparing.rt` tells the first bit of a channel that isn't that of its cue.
+//! [`plan`] searches each bridge of a [`Cut`](cut_core::Cut) and takes all memory that writing needs. [`write_master`]
+//! writes the file of the best master, and [`certify`] the certificate that shows its bridges to be least, while its rows
+//! are made. [`judge`] says whether a recording is such a master and a certificate shows that no bridge of it could cost
+//! less, [`judge_read`] the same by a certificate that is judged while it is read. All walk one list, the bridges of the
+//! cut by rising cue and then by rising channel: `choosing.rt` searches them, `certifying.rt` makes their rows again and
+//! writes their entries, `entries.rt` judges entries, and what they cost together is the sum over that list.
+//! `assembling.rt` makes a channel of cues and the bridges that stand in a master (`standing.rt`), and `comparing.rt` tells
+//! the first bit of a channel that isn't that of its cue.
 //!
 //! [`write_sound`] and [`write_master`] write the best master without its channels ever standing in memory: group by
 //! group, each channel's part of it made of cues and chosen bridges (`parting.rt`, `writing.rt`, `filing.rt`). They write
@@ -17,6 +17,8 @@
 //!
 //! - `IsBestMaster cut form recording cost`: the master whose every bridge is the first least one, and its cost;
 //!   `IsMasterOf cut form recording`: a master, whatever its bridges (`specs/Masters.antt`, `specs/Checking.antt`).
+//! - `PlansMaster cut form bridges`: there is one list of best channels, what they cost, what is shown of them, and their
+//!   file (`specs/Planning.antt`).
 //! - `AreBridgesOf cut bridges`: the bridges of a cut with the first least bits of each; `Certifies cut bridges cert`: a
 //!   certificate that shows them to be least (`specs/Choosing.antt`, `specs/Certifying.antt`).
 //! - `claims cut channels`: what a certificate is to show of these channels, bridge by bridge; `IsCertOf` that it
@@ -26,8 +28,10 @@
 //!   appended; `IsRoomFor cut room`: it can be written through the room (`specs/Writing.antt`, `specs/Filing.antt`).
 //!
 //! ```text
-//! let made = make(alloc, &cut, Form::Dsdiff)?;
-//! judge(alloc, &cut, &opened, &made.cert)?    // Accepted { total: made.total }, where made.recording was opened
+//! let Planned { bridges, ends, mut room, cert_room } = plan(alloc, &cut, form)?;
+//! write_master(&cut, &bridges, form, &ends, &mut room, &mut outlet)?;
+//! let (came, outlet) = certify(&cut, &bridges, cert_room, outlet_of_certificate);
+//! judge(alloc, &cut, &opened, &cert)?    // Accepted { total: bridges.total() }, where both were read again
 //! ```
 #![tactic(auto)]
 
@@ -38,8 +42,8 @@ mod comparing;
 mod entries;
 mod filing;
 mod judging;
-mod making;
 mod parting;
+mod planning;
 mod standing;
 mod verdict;
 mod writing;
@@ -48,7 +52,7 @@ pub use certifying::{CertifyingRoom, can_certify, certify};
 pub use choosing::ChosenBridges;
 pub use filing::{master_ends, write_master};
 pub use judging::{judge, judge_read};
-pub use making::{Made, Planned, make, plan};
 pub use parting::MasterSource;
+pub use planning::{Planned, plan};
 pub use verdict::{Reason, Verdict};
 pub use writing::{MasterRoom, has_one_best, master_room, write_sound};

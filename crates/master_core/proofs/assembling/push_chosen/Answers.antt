@@ -1,4 +1,4 @@
-use Rattle.std.proofs.Common.{◌≡◌, ◌+◌, ◌-◌, ◌∙◌, ap, arith, length, slice_range, sym}
+use Rattle.std.proofs.Common.{◌≡◌, ◌∙◌, ap, arith, length, slice_range, sym}
 use Rattle.std.proofs.lemmas.List.{append-nil, length-append}
 use Rattle.dsd_bits.proofs.PackingLemmas.{length-slice_range}
 use Rattle.cut_core.specs.Cuts.{cue_at, window}

@@ -2,7 +2,6 @@ use Rattle.std.proofs.Common.{subst, sym}
 use Rattle.std.specs.Prelude.{OnErr}
 use Rattle.cert_core.specs.Writers.{cert_outlet}
 use Rattle.device_core.specs.Outlets.{outlet_writer}
-use Rattle.device_core.specs.declared.outlet.Outlet.{Outlet}
 use Rattle.master_core.specs.Certifying.{AppendsCertFront}
 use Rattle.master_core.proofs.certifying.certify.Goals as goal
 

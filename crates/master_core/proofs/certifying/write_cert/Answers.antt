@@ -1,4 +1,4 @@
-use Rattle.std.proofs.Common.{◌≡◌, ◌∙◌, length, subst, sym, arith}
+use Rattle.std.proofs.Common.{◌≡◌, length, subst, arith}
 use Rattle.std.specs.Io.KnownBytes.{Appends}
 use Rattle.cert_core.specs.Text.{cert_head}
 use Rattle.cert_core.specs.Writers.{cert_outlet, cert_weights, has_failed}

@@ -1,5 +1,4 @@
-use Rattle.std.proofs.Common.{◌≡◌, ◌-◌, ◌<◌, ◌^◌, [], List, ℕ, length, get_or, take, subst, sym, arith, refl, ap, ◌∙◌}
-use Rattle.std.proofs.KnownBytes.{Appends-nil}
+use Rattle.std.proofs.Common.{◌≡◌, ◌-◌, ◌<◌, ◌^◌, List, length, get_or, take, subst, sym, arith, ◌∙◌}
 use Rattle.std.proofs.lemmas.List.{take_all}
 use Rattle.std.proofs.lemmas.Result.{err_from_is_err_and}
 use Rattle.cert_core.specs.Certificates.{Claim}
@@ -9,7 +8,7 @@ use Rattle.trellis_core.specs.Passes.{HasBuffers}
 use Rattle.master_core.specs.Certifying.{AppendsEntries, IsReady}
 use Rattle.master_core.specs.Choosing.{chosen_claims}
 use Rattle.master_core.proofs.CertLaws.{cut_short, entry_more}
-use Rattle.master_core.proofs.ChoiceLaws.{as_many, as_many_windows, chosen_is, claim_is, claim_number, showable, weights_are}
+use Rattle.master_core.proofs.ChoiceLaws.{as_many, chosen_is, claim_is, claim_number, showable, weights_are}
 use Rattle.master_core.proofs.certifying.write_entries.Goals as goal
 use Rattle.master_core.proofs.certifying.write_entries.Goals.{After-index-in-loop-k}
 use Rattle.master_core.proofs.certifying.write_entries.Given.{Over}

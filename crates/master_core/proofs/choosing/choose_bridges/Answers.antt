@@ -1,10 +1,8 @@
-use Rattle.std.proofs.Common.{◌≡◌, ◌<◌, ◌∙◌, ap, arith, get_or, length, refl, subst, sym, take}
-use Rattle.std.specs.List.{AllZip}
-use Rattle.std.proofs.lemmas.List.{take_all}
+use Rattle.std.proofs.Common.{◌≡◌, ◌<◌, ◌∙◌, arith, get_or, length, refl, subst, sym}
 use Rattle.std.proofs.lemmas.List.Elements.{All-nil, All-push}
 use Rattle.cost_core.specs.Bridges.{Bridging}
 use Rattle.cost_core.specs.Limits.{IsBridging}
-use Rattle.master_core.specs.Choosing.{IsChosen, IsChosenAt, window_at}
+use Rattle.master_core.specs.Choosing.{IsChosen, IsChosenAt}
 use Rattle.master_core.proofs.ChoiceLaws.{chosen_more, cost_more, window_more}
 use Rattle.master_core.proofs.choosing.choose_bridges.Goals as goal
 use Rattle.master_core.proofs.choosing.choose_bridges.Goals.{After-index}

@@ -11,22 +11,22 @@ use Rattle.master_core.proofs.filing.write_master.Goals.{In_ok-put_all, In_ok-wr
 
 pub returns-in_err-put_all-clause-front : goal.returns-in_err-put_all-clause-front
 returns-in_err-put_all-clause-front g c =
-    let cut = c.args.source.now.cut.now in
+    let cut = c.args.cut.now in
     let a0 = g.W.Write.contents (outlet_writer c.args.outlet.now) in
     let a1 = g.W.Write.contents (outlet_writer c.put_all.new.self) in
     any_err c.from_residual.result (head_front cut c.args.form c.written_in_parts.ensures c.args.ends.now c.requires.ends c.has_one_best.ensures (first_shape cut c.can_cut.ensures).some_channel a0 a1
-    (subst (AppendsPart a0 a1) c.deref.ensures.value c.in_err-put_all.ensures.err))
+    (subst (AppendsPart a0 a1) c.deref-3.ensures.value c.in_err-put_all.ensures.err))
 
 -- what stands before the sound was written
 head_out : (g : Over) (c : In_ok-put_all g) → Appends (g.W.Write.contents (outlet_writer c.args.outlet.now)) (g.W.Write.contents (outlet_writer c.put_all.new.self)) c.args.ends.now.head.items
 head_out g c =
     let a0 = g.W.Write.contents (outlet_writer c.args.outlet.now) in
     let a1 = g.W.Write.contents (outlet_writer c.put_all.new.self) in
-    subst (Appends a0 a1) c.deref.ensures.value c.in_ok-put_all.ensures.ok
+    subst (Appends a0 a1) c.deref-3.ensures.value c.in_ok-put_all.ensures.ok
 
 pub returns-in_err-write_sound-clause-front : goal.returns-in_err-write_sound-clause-front
 returns-in_err-write_sound-clause-front g c =
-    let cut = c.args.source.now.cut.now in
+    let cut = c.args.cut.now in
     let a0 = g.W.Write.contents (outlet_writer c.args.outlet.now) in
     let a1 = g.W.Write.contents (outlet_writer c.put_all.new.self) in
     let a2 = g.W.Write.contents (outlet_writer c.write_sound.new.outlet) in
@@ -35,22 +35,22 @@ returns-in_err-write_sound-clause-front g c =
 
 pub returns-clause-ok : goal.returns-clause-ok
 returns-clause-ok g c =
-    let cut = c.args.source.now.cut.now in
+    let cut = c.args.cut.now in
     let a0 = g.W.Write.contents (outlet_writer c.args.outlet.now) in
     let a1 = g.W.Write.contents (outlet_writer c.put_all.new.self) in
     let a2 = g.W.Write.contents (outlet_writer c.write_sound.new.outlet) in
     let a3 = g.W.Write.contents (outlet_writer c.put_all-2.new.self) in
     let written = subst (λ to. WritesBest cut to a1 a2) c.interleaving_in.ensures c.in_ok-write_sound.ensures.ok in
     on_ok c.put_all-2.result (λ out. file_whole cut c.args.form c.written_in_parts.ensures c.args.ends.now c.requires.ends c.has_one_best.ensures (first_shape cut c.can_cut.ensures).some_channel a0 a1
-    (head_out g (goal.at.returns-clause-ok g c).In_ok-put_all) a2 written a3 (subst (Appends a2 a3) c.deref-2.ensures.value out)) c.put_all-2.ensures.ok
+    (head_out g (goal.at.returns-clause-ok g c).In_ok-put_all) a2 written a3 (subst (Appends a2 a3) c.deref-4.ensures.value out)) c.put_all-2.ensures.ok
 
 pub returns-clause-front : goal.returns-clause-front
 returns-clause-front g c =
-    let cut = c.args.source.now.cut.now in
+    let cut = c.args.cut.now in
     let a0 = g.W.Write.contents (outlet_writer c.args.outlet.now) in
     let a1 = g.W.Write.contents (outlet_writer c.put_all.new.self) in
     let a2 = g.W.Write.contents (outlet_writer c.write_sound.new.outlet) in
     let a3 = g.W.Write.contents (outlet_writer c.put_all-2.new.self) in
     let written = subst (λ to. WritesBest cut to a1 a2) c.interleaving_in.ensures c.in_ok-write_sound.ensures.ok in
     on_err c.put_all-2.result (λ out. tail_front cut c.args.form c.written_in_parts.ensures c.args.ends.now c.requires.ends c.has_one_best.ensures (first_shape cut c.can_cut.ensures).some_channel a0 a1
-    (head_out g (goal.at.returns-clause-front g c).In_ok-put_all) a2 written a3 (subst (AppendsPart a2 a3) c.deref-2.ensures.value out)) c.put_all-2.ensures.err
+    (head_out g (goal.at.returns-clause-front g c).In_ok-put_all) a2 written a3 (subst (AppendsPart a2 a3) c.deref-4.ensures.value out)) c.put_all-2.ensures.err

@@ -76,9 +76,9 @@ fn edit_files<F: Folder>(
     ensures { IsTrue (F.is_told folder.old) → EditComesTo (record { form = form; project_name = project.now; master_name = master.now; cert_name = cert.now }) (F.file folder.old) (F.file folder.new) result }
 {
     let sources = hear_sources(alloc, folder, project, MOST_KEPT)?;
-    let planned = cut_sources(alloc, sources, form)?;
+    let mut planned = cut_sources(alloc, sources, form)?;
     let total = planned.total();
-    write_master(folder, &planned, master)?;
+    write_master(folder, &mut planned, master)?;
     write_certificate(folder, planned, cert)?;
     Ok(total)
 }

@@ -1,7 +1,7 @@
 //! The files of a master that is planned, each created when it is written.
 
-ghost use Rattle.std.specs.Prelude.{◌≡◌, ◌⊎◌, IfErr, IsErr, IsOk, IsTrue, OnErr, OnOk, Some};
-ghost use Rattle.archive_core.specs.Planning.{IsPlanned, planned_master};
+ghost use Rattle.std.specs.Prelude.{◌≡◌, ◌⊎◌, IfErr, IsErr, IsOk, IsTrue, List, OnErr, OnOk, Some, ℕ};
+ghost use Rattle.archive_core.specs.Planning.{IsFileOf, IsPlanned, IsSamePlan};
 ghost use Rattle.command_core.specs.Writing.{CertifiesFront, CertifiesWhole};
 ghost use Rattle.folder_core.specs.Files.{IsFront, KeepsOthers};
 ghost use Rattle.folder_core.specs.declared.fault.FileFault.TheVariants as faults;
@@ -15,13 +15,16 @@ use folder_core::{FileFault, Folder};
 /// Refusal: `WriteFailed` where it can't be created, written or kept; it may hold a front of the master then.
 pub(crate) fn write_master<F: Folder>(
     folder: &mut F,
-    planned: &PlannedMaster,
+    planned: &mut PlannedMaster,
     name: &str,
 ) -> Result<(), FileFault>
+    requires { IsPlanned planned.old }
+    ensures planned { IsPlanned planned.new }
+    ensures same { IsSamePlan planned.old planned.new }
     ensures others { KeepsOthers name.now (F.file folder.old) (F.file folder.new) }
     ensures told { F.is_told folder.new ≡ F.is_told folder.old }
-    ensures bytes { OnOk result (IsTrue (F.is_told folder.old) → F.file folder.new name.now ≡ Some (planned_master planned.now)) }
-    ensures refused { OnErr result (IsTrue (F.is_told folder.old) → IsFront (F.file folder.old name.now) (F.file folder.new name.now) (planned_master planned.now)) }
+    ensures bytes { (file : List ℕ) → IsFileOf planned.old file → OnOk result (IsTrue (F.is_told folder.old) → F.file folder.new name.now ≡ Some file) }
+    ensures refused { (file : List ℕ) → IsFileOf planned.old file → OnErr result (IsTrue (F.is_told folder.old) → IsFront (F.file folder.old name.now) (F.file folder.new name.now) file) }
     ensures fault { IfErr result (λ fault. fault ≡ faults.WriteFailed) }
 {
     let Ok(made) = folder.create(name) else {

@@ -1,11 +1,8 @@
-use Rattle.std.proofs.Common.{IsTrue, Some, inr, refl, subst, sym}
+use Rattle.std.proofs.Common.{IsTrue, inr, subst, sym}
 use Rattle.std.proofs.lemmas.Result.{err_from_is_err_and}
-use Rattle.splice_core.specs.Splices.{splice_content}
-use Rattle.transfer_commands.specs.Hearing.{HearsSources}
-use Rattle.archive_core.specs.Planning.{planned_master, planned_total}
-use Rattle.command_core.specs.Commands.{Cut}
-use Rattle.command_core.specs.Sources.{AreHeardOf}
+use Rattle.archive_core.specs.Planning.{planned_total}
 use Rattle.command_core.proofs.CommandLaws.{both_written, cert_unwritten, cut_unwritten}
+use Rattle.command_core.proofs.WritingLaws.{still_certifies}
 use Rattle.command_core.proofs.performing.edit_files.Goals as goal
 
 pub returns-in_err-planned : goal.returns-in_err-planned
@@ -22,11 +19,11 @@ returns-in_err-write_master g c = λ told.
     rw (p.1, p.2) (cut_unwritten (record { form = c.args.form; project_name = c.args.project.now; master_name = c.args.master.now; cert_name = c.args.cert.now })
     (g.F.Folder.file c.args.folder.now) (g.F.Folder.file c.hear_sources.new.folder) (g.F.Folder.file c.write_master.new.folder)
     (g.F.Folder.is_told c.args.folder.now) (g.F.Folder.is_told c.hear_sources.new.folder)
-    h.project (planned_master c.in_ok-planned.planned) h.takes (planned_total c.in_ok-planned.planned) c.in_err-write_master.field-0.0
+    h.project plans.file h.takes (planned_total c.in_ok-planned.planned) c.in_err-write_master.field-0.0
     c.hear_sources.ensures.same c.hear_sources.ensures.told h.sources
     plans.edits
     c.in_err-write_master.ensures.others
-    c.in_err-write_master.ensures.refused
+    (c.in_err-write_master.ensures.refused plans.file plans.is_file)
     c.in_err-write_master.ensures.fault told)
 
 pub returns-in_err-write_certificate : goal.returns-in_err-write_certificate
@@ -40,14 +37,14 @@ returns-in_err-write_certificate g c = λ told.
     rw (p.1, p.2) (cert_unwritten (record { form = c.args.form; project_name = c.args.project.now; master_name = c.args.master.now; cert_name = c.args.cert.now })
     (g.F.Folder.file c.args.folder.now) (g.F.Folder.file c.hear_sources.new.folder) (g.F.Folder.file c.write_master.new.folder) (g.F.Folder.file c.write_certificate.new.folder)
     (g.F.Folder.is_told c.args.folder.now) (g.F.Folder.is_told c.hear_sources.new.folder) (g.F.Folder.is_told c.write_master.new.folder)
-    h.project (planned_master c.in_ok-planned.planned) left.0 h.takes (planned_total c.in_ok-planned.planned) c.in_err-write_certificate.field-0.0
+    h.project plans.file left.0 h.takes (planned_total c.in_ok-planned.planned) c.in_err-write_certificate.field-0.0
     c.hear_sources.ensures.same c.hear_sources.ensures.told c.write_master.ensures.told h.sources
     plans.edits
     c.in_ok-write_master.ensures.others
-    c.in_ok-write_master.ensures.bytes
+    (c.in_ok-write_master.ensures.bytes plans.file plans.is_file)
     c.in_err-write_certificate.ensures.others
     (λ _. left.2)
-    (plans.accepted left.0 left.1)
+    (plans.accepted left.0 (still_certifies c.in_ok-planned.planned c.write_master.new.planned left.0 c.write_master.ensures.same left.1))
     c.in_err-write_certificate.ensures.fault told)
 
 pub returns : goal.returns
@@ -60,11 +57,11 @@ returns g c = λ told.
     both_written (record { form = c.args.form; project_name = c.args.project.now; master_name = c.args.master.now; cert_name = c.args.cert.now })
     (g.F.Folder.file c.args.folder.now) (g.F.Folder.file c.hear_sources.new.folder) (g.F.Folder.file c.write_master.new.folder) (g.F.Folder.file c.write_certificate.new.folder)
     (g.F.Folder.is_told c.args.folder.now) (g.F.Folder.is_told c.hear_sources.new.folder) (g.F.Folder.is_told c.write_master.new.folder)
-    h.project (planned_master c.in_ok-planned.planned) whole.0 h.takes c.total-total.result
+    h.project plans.file whole.0 h.takes c.total-total.result
     c.hear_sources.ensures.same c.hear_sources.ensures.told c.write_master.ensures.told h.sources
     (rw c.total-total.ensures plans.edits)
     c.in_ok-write_master.ensures.others
-    c.in_ok-write_master.ensures.bytes
+    (c.in_ok-write_master.ensures.bytes plans.file plans.is_file)
     c.in_ok-write_certificate.ensures.others
     (λ _. whole.2)
-    (rw c.total-total.ensures (plans.accepted whole.0 whole.1)) told
+    (rw c.total-total.ensures (plans.accepted whole.0 (still_certifies c.in_ok-planned.planned c.write_master.new.planned whole.0 c.write_master.ensures.same whole.1))) told

@@ -1,4 +1,4 @@
-use Rattle.std.proofs.Common.{Some, None}
+use Rattle.std.proofs.Common.{Some}
 use Rattle.std.proofs.lemmas.Result.{err_from_is_err_and}
 use Rattle.command_core.proofs.SourceLaws.{are_takes, not_heard, of_takes}
 use Rattle.command_core.proofs.sources.cut_sources.Goals as goal

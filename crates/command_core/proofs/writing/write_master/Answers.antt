@@ -1,0 +1,32 @@
+use Rattle.std.proofs.Common.{◌≡◌, ◌∙◌, [], IsTrue, Some, ap, subst}
+use Rattle.std.specs.Prelude.{OnErr, ◌⊎◌, IsErr}
+use Rattle.device_core.specs.Outlets.{outlet_writer}
+use Rattle.folder_core.specs.Files.{Files}
+use Rattle.command_core.proofs.WritingLaws.{file_front, file_whole}
+use Rattle.command_core.proofs.writing.write_master.Goals as goal
+use Rattle.command_core.proofs.writing.write_master.Goals.{After-hand_back}
+use Rattle.command_core.proofs.writing.write_master.Given.{Over}
+
+-- the file was created without bytes
+empty : (g : Over) (c : After-hand_back g) → IsTrue (g.F.Folder.is_told c.args.folder.now) → g.F.Out.Write.contents (outlet_writer c.new-outlet.result) ≡ Some []
+empty g c = λ told. ap g.F.Out.Write.contents c.new-outlet.ensures.writer ∙ c.in-Ok.ensures.empty told
+
+pub returns-clause-bytes : goal.returns-clause-bytes
+returns-clause-bytes g c = λ file is.
+    let name = c.args.name.now in
+    let contents = g.F.Out.Write.contents in
+    let outlet = c.write_master-came.new.outlet in
+    file_whole file (contents (outlet_writer c.new-outlet.result)) (contents (outlet_writer outlet)) (contents c.into_inner.result) (g.F.Folder.file c.args.folder.now name) (g.F.Folder.file c.hand_back.new.folder name)
+    (g.F.Folder.is_told c.args.folder.now) (g.F.Folder.is_told c.create.new.self) c.create.ensures.told (ap contents c.into_inner.ensures) (empty g (goal.at.returns-clause-bytes g c).After-hand_back)
+    c.hand_back.result c.write_master-came.result (c.write_master-came.ensures.ok file is) c.hand_back.ensures.whole c.hand_back.ensures.bytes
+
+pub returns-clause-refused : goal.returns-clause-refused
+returns-clause-refused g c = λ file is.
+    let name = c.args.name.now in
+    let contents = g.F.Out.Write.contents in
+    let outlet = c.write_master-came.new.outlet in
+    let new = g.F.Folder.file c.hand_back.new.folder name in
+    let left = subst (λ (f : Files). OnErr c.hand_back.result (IsTrue (g.F.Folder.is_told c.create.new.self) → (new ≡ f name) ⊎ (IsErr c.write_master-came.result × (new ≡ contents c.into_inner.result)))) c.create.ensures.same c.hand_back.ensures.refused in
+    file_front file (contents (outlet_writer c.new-outlet.result)) (contents (outlet_writer outlet)) (contents c.into_inner.result) (g.F.Folder.file c.args.folder.now name) new
+    (g.F.Folder.is_told c.args.folder.now) (g.F.Folder.is_told c.create.new.self) c.create.ensures.told (ap contents c.into_inner.ensures) (empty g (goal.at.returns-clause-refused g c).After-hand_back)
+    c.hand_back.result c.write_master-came.result (c.write_master-came.ensures.err file is) left

@@ -1,7 +1,8 @@
 -- A certificate read entry by entry.
 use Rattle.std.proofs.Common.{◌≡◌, ℕ, ◌+◌, ◌<◌, Bool, List, [], ◌∷◌, ◌++◌, IfSome, Ok, Option, None, Some, length, get_or, map, take, drop, append_assoc, refl, sym, ap, subst, ◌∙◌, arith}
+use Rattle.std.specs.List.{All}
 use Rattle.std.specs.Io.KnownBytes.{Consumes, IsAtEnd}
-use Rattle.std.proofs.lemmas.List.{append-nil, length-map, take-append-drop, take_more}
+use Rattle.std.proofs.lemmas.List.{append-nil, ext_get_or, get_or-map, length-map, take-append-drop, take_more}
 use Rattle.cost_core.specs.Bridges.{Bridging, IsLeastBridge}
 use Rattle.cost_core.specs.StateCosts.{trellis_of}
 use Rattle.cert_core.specs.declared.verdict.CertReason.{CertReason}
@@ -16,7 +17,7 @@ use Rattle.cert_core.specs.Stops.{InEntry}
 use Rattle.cert_core.specs.Text.{cert_head}
 use Rattle.cert_core.specs.declared.version.Version.{Version}
 use Rattle.cut_core.specs.declared.bridges.BridgePlace.{BridgePlace}
-use Rattle.cut_core.specs.Bridges.{bridges}
+use Rattle.cut_core.specs.Bridges.{IsPlace, bridges}
 use Rattle.cut_core.specs.Cuts.{CutContent}
 use Rattle.master_core.specs.declared.verdict.Reason.{Reason}
 use Rattle.master_core.specs.declared.verdict.Reason.TheVariants.{MasterUnread, MasterShape, MasterLength, MasterMarks, CuedBit, CertHead, Cert, CertExtra}
@@ -24,7 +25,9 @@ use Rattle.master_core.specs.declared.verdict.Verdict.{Verdict}
 use Rattle.master_core.specs.declared.verdict.Verdict.TheVariants.{Rejected}
 use Rattle.master_core.specs.Checking.{CertReasons}
 use Rattle.master_core.specs.Judging.{IsWrongFrom, JudgesCert, JudgesClaim, JudgesClaims, JudgesHead, LacksClaim, ReadsEntries, ShowsBridges, ShowsClaims}
-use Rattle.master_core.specs.Claims.{IsCertOf, claim_at, claim_cost, claims}
+use Rattle.master_core.specs.Claims.{IsCertOf, claim_at, claim_cost, claim_of, claims}
+use Rattle.master_core.specs.Standing.{AreBitsOf, claim_from}
+use Rattle.master_core.specs.declared.standing.StandingBits.{StandingBits}
 
 -- what was read, and then more
 consumes_more : (a b d : Option (List ℕ)) (xs ys : List ℕ) → Consumes a b xs → Consumes b d ys → Consumes a d (xs ++ ys)
@@ -97,6 +100,17 @@ record_of cue channel d x = record { cue = cue; channel = channel; bridging = d;
 pub claim_is : (cue channel : ℕ) (d e : Bridging) (x y : List Bool) → d ≡ e → x ≡ y → record_of cue channel d x ≡ record_of cue channel e y
 claim_is cue channel d e x y p q = ap (λ (f : Bridging). record_of cue channel f x) p ∙ ap (λ (z : List Bool). record_of cue channel e z) q
 
+map_alike : {X Y : Type 0} (f g : X → Y) (xs : List X) (d : X) → ((k : ℕ) → k < length xs → f (get_or xs k d) ≡ g (get_or xs k d)) → map f xs ≡ map g xs
+map_alike f g xs d same = ext_get_or (f d) (map f xs) (map g xs) (length-map xs f ∙ sym (length-map xs g)) (λ k lt.
+    let inside : k < length xs = omega (arith, lt, length-map xs f) in
+    get_or-map f xs k d (f d) inside ∙ same k inside ∙ sym (get_or-map g xs k d (f d) inside))
+
+-- what is to be shown of a source's bits is what is to be shown of the channels that have them
+pub same_claims : (cut : CutContent) (source : StandingBits) (zs : List (List Bool)) (places : List BridgePlace) → places ≡ bridges cut → All (IsPlace cut) places → AreBitsOf cut source zs → map (claim_from cut source) places ≡ claims cut zs
+same_claims cut source zs places are each bits =
+    let d : BridgePlace = record { cue = 0; channel = 0 } in
+    map_alike (claim_from cut source) (claim_at cut zs) places d (λ k lt. ap (claim_of cut (get_or places k d)) (bits (get_or places k d) (each k d lt))) ∙ ap (map (claim_at cut zs)) are
+
 -- ---- the whole certificate
 module _ (cut : CutContent) (zs : List (List Bool)) where
   abbrev head : Version → List ℕ
@@ -105,18 +119,15 @@ module _ (cut : CutContent) (zs : List (List Bool)) where
   abbrev Stands : Reason → List ℕ → Type 0
   Stands reason cert = CertReasons cut zs cert reason × (IsCertOf cut zs cert → ⊥)
 
-  -- the places are those of the claims
-  module _ (places : List BridgePlace) (are : places ≡ bridges cut) where
-    same_claims : map (claim_at cut zs) places ≡ claims cut zs
-    same_claims = ap (map (claim_at cut zs)) are
-
+  -- the claims of these places are those of the master
+  module _ (f : BridgePlace → Claim) (places : List BridgePlace) (are : map f places ≡ claims cut zs) where
     pub head_at : (v : Version) (a b : Option (List ℕ)) (answer found : Option CertReason) → answer ≡ found → JudgesHead v (length cut.splice.weights) (length places) a b answer → JudgesHead v (length cut.splice.weights) (length (claims cut zs)) a b found
     head_at v a b answer found is judged =
-        let as_many : length places ≡ length (claims cut zs) = sym (length-map places (claim_at cut zs)) ∙ ap length same_claims in
+        let as_many : length places ≡ length (claims cut zs) = sym (length-map places f) ∙ ap length are in
         subst (λ n. JudgesHead v (length cut.splice.weights) n a b found) as_many (subst (λ x. JudgesHead v (length cut.splice.weights) (length places) a b x) is judged)
 
-    pub claims_at : (v : Version) (b d : Option (List ℕ)) (answer found : Verdict) → answer ≡ found → JudgesClaims v (map (claim_at cut zs) places) b d answer → JudgesClaims v (claims cut zs) b d found
-    claims_at v b d answer found is judged = subst (λ x. JudgesClaims v (claims cut zs) b d x) is (subst (λ (cs : List Claim). JudgesClaims v cs b d answer) same_claims judged)
+    pub claims_at : (v : Version) (b d : Option (List ℕ)) (answer found : Verdict) → answer ≡ found → JudgesClaims v (map f places) b d answer → JudgesClaims v (claims cut zs) b d found
+    claims_at v b d answer found is judged = subst (λ x. JudgesClaims v (claims cut zs) b d x) is (subst (λ (cs : List Claim). JudgesClaims v cs b d answer) are judged)
 
   -- where there is no such head, there is no certificate
   pub head_rejected : CertHasHead → (v : Version) (a b : Option (List ℕ)) (reason : CertReason) → JudgesHead v (length cut.splice.weights) (length (claims cut zs)) a b (Some reason) → JudgesCert cut zs a (Rejected (CertHead reason))

@@ -11,3 +11,4 @@ pub mod FilingLaws
 pub mod PartLaws
 pub mod SliceLaws
 pub mod WritingLaws
+pub mod FoundLaws

@@ -43,6 +43,19 @@ pub record IsMasterOf (cut : CutContent) (form : Form) (r : Content) : Type 0 wh
   pub titled : IsTitled cut form r
   pub cued : HoldCues cut (channel_numbers cut) r.channels
 
+-- what needs none of its bits: it is like the takes, has as many bits as a master, and the marks of the titles
+pub record IsLike (cut : CutContent) (form : Form) (r : Content) (count : ℕ) : Type 0 where
+  pub shape : AreAlike cut.first r
+  pub long : count ≡ master_length cut.splice.cues
+  pub titled : IsTitled cut form r
+
+-- or the first reason why it is not
+abbrev pub OuterReason : CutContent → Form → Content → ℕ → Reason → Type 0
+OuterReason cut form r count MasterShape = AreAlike cut.first r → ⊥
+OuterReason cut form r count MasterLength = AreAlike cut.first r × (count ≢ master_length cut.splice.cues)
+OuterReason cut form r count MasterMarks = AreAlike cut.first r × (count ≡ master_length cut.splice.cues) × (form ≡ Dsdiff) × (r.marks ≢ titles_of cut)
+OuterReason cut form r count _ = ⊥
+
 -- the first place where two channels differ
 pub record IsFirstDifference (x y : List Bool) (place : ℕ) : Type 0 where
   pub there : place < length x

@@ -9,3 +9,4 @@ pub mod Filing
 pub mod Parting
 pub mod Planning
 pub mod Writing
+pub mod Standing

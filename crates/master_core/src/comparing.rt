@@ -5,7 +5,7 @@ ghost use Rattle.dsd_bits.specs.Contents.{mark_content};
 ghost use Rattle.form_core.specs.declared.form.Form.TheVariants.{Dsdiff};
 ghost use Rattle.cut_core.specs.Cuts.{channel_number, master_length};
 ghost use Rattle.cut_core.specs.Titles.{titles_of};
-ghost use Rattle.master_core.specs.Checking.{HaveShape, HoldCues, IsFirstDifference, IsMasterOf, IsTitled, MasterReason};
+ghost use Rattle.master_core.specs.Checking.{HaveShape, HoldCues, IsFirstDifference, IsLike, IsMasterOf, IsTitled, MasterReason, OuterReason};
 ghost use Rattle.master_core.specs.Checking as checks;
 ghost use Rattle.master_core.specs.Judging.{IsCuedBit};
 ghost use Rattle.master_core.specs.Masters.{channel_numbers};
@@ -29,26 +29,47 @@ pub fn master_reason(
 {
     let recording = &opened.recording;
     has_shape(recording);
-    if differ(cut.first(), recording) {
-        return Ok(Some(Reason::MasterShape));
-    }
-    if recording.count() != cut.length() {
-        return Ok(Some(Reason::MasterLength));
-    }
-    if !is_titled(alloc, cut, opened)? {
-        return Ok(Some(Reason::MasterMarks));
+    if let Some(reason) = outer_reason(alloc, cut, opened.form, recording, recording.count())? {
+        return Ok(Some(reason));
     }
     first_cued_bit(alloc, cut, recording)
 }
 
-// Whether a DSDIFF file has the marks of the titles and no others.
-fn is_titled(alloc: Global, cut: &Cut, opened: &Opened) -> Result<bool, AllocError>
-    ensures yes { IfOk result (λ titled. titled ≡ true → IsTitled cut.now opened.now.form opened.now.recording) }
-    ensures no { IfOk result (λ titled. titled ≡ false → (opened.now.form ≡ Dsdiff) × (opened.now.recording.marks ≢ titles_of cut.now)) }
+/// The first of these reasons that needs none of its bits, by the recording with them or without, and by how many each
+/// channel has. Err is want of memory.
+pub fn outer_reason(
+    alloc: Global,
+    cut: &Cut,
+    form: Form,
+    recording: &Recording,
+    count: usize,
+) -> Result<Option<Reason>, AllocError>
+    ensures { IfOk result (λ found. MatchOption found (IsLike cut.now form recording.now count) (OuterReason cut.now form recording.now count)) }
 {
-    match opened.form {
+    if differ(cut.first(), recording) {
+        return Ok(Some(Reason::MasterShape));
+    }
+    if count != cut.length() {
+        return Ok(Some(Reason::MasterLength));
+    }
+    if !is_titled(alloc, cut, form, recording)? {
+        return Ok(Some(Reason::MasterMarks));
+    }
+    Ok(None)
+}
+
+// Whether the recording of a DSDIFF file has the marks of the titles and no others.
+fn is_titled(
+    alloc: Global,
+    cut: &Cut,
+    form: Form,
+    recording: &Recording,
+) -> Result<bool, AllocError>
+    ensures yes { IfOk result (λ titled. titled ≡ true → IsTitled cut.now form recording.now) }
+    ensures no { IfOk result (λ titled. titled ≡ false → (form ≡ Dsdiff) × (recording.now.marks ≢ titles_of cut.now)) }
+{
+    match form {
         Form::Dsdiff => {
-            let recording = &opened.recording;
             let titles = cut.titles(alloc)?;
             Ok(same_marks(recording.marks(), &titles))
         }

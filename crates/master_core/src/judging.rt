@@ -10,6 +10,7 @@ ghost use Rattle.master_core.specs.Masters.{AreLeastChannels, AreMasterChannels,
 
 use crate::comparing::master_reason;
 use crate::entries::judge_certificate;
+use crate::standing::StandingBits;
 use crate::verdict::Verdict;
 use cert_core::{CertReader, CheckFault};
 use cost_core::{least_together, places_are_windows};
@@ -68,5 +69,10 @@ pub fn judge_read<R: Read>(
     if let Some(reason) = master_reason(alloc, cut, opened)? {
         return Ok(Verdict::Rejected(reason));
     }
-    judge_certificate(alloc, cut, &opened.recording, reader)
+    judge_certificate(
+        alloc,
+        cut,
+        StandingBits::Channels(opened.recording.channels()),
+        reader,
+    )
 }

@@ -3,7 +3,8 @@
 //! [`plan`] searches each bridge of a [`Cut`](cut_core::Cut) and takes all memory that writing needs. [`write_master`]
 //! writes the file of the best master, and [`certify`] the certificate that shows its bridges to be least, while its rows
 //! are made. [`judge`] says whether a recording is such a master and a certificate shows that no bridge of it could cost
-//! less, [`judge_read`] the same by a certificate that is judged while it is read. All walk one list, the bridges of the
+//! less, [`judge_read`] the same by a certificate that is judged while it is read, and [`judge_found`] the same of a
+//! recording whose bits are gone, by what was [`Found`] of it. All walk one list, the bridges of the
 //! cut by rising cue and then by rising channel: `choosing.rt` searches them, `certifying.rt` makes their rows again and
 //! writes their entries, `entries.rt` judges entries, and what they cost together is the sum over that list.
 //! `assembling.rt` makes a channel of cues and the bridges that stand in a master (`standing.rt`), and `comparing.rt` tells
@@ -24,6 +25,7 @@
 //! - `claims cut channels`: what a certificate is to show of these channels, bridge by bridge; `IsCertOf` that it
 //!   does; `windows_total` the sum over the bridges, `total_cost` the sum over whole channels (`specs/Claims.antt`).
 //! - `JudgesMaster cut form recording cert verdict`: what a verdict says (`specs/Judging.antt`).
+//! - `IsFoundOf cut found recording`: this was found of the recording, and kept of its bridges (`specs/Standing.antt`).
 //! - `WritesBest cut to old new`, `WritesMaster cut form old new`: the sound of the best master, or its file, was
 //!   appended; `IsRoomFor cut room`: it can be written through the room (`specs/Writing.antt`, `specs/Filing.antt`).
 //!
@@ -41,6 +43,7 @@ mod choosing;
 mod comparing;
 mod entries;
 mod filing;
+mod finding;
 mod judging;
 mod parting;
 mod planning;
@@ -51,6 +54,7 @@ mod writing;
 pub use certifying::{CertifyingRoom, can_certify, certify};
 pub use choosing::ChosenBridges;
 pub use filing::{master_ends, write_master};
+pub use finding::{CuedPlace, Found, judge_found};
 pub use judging::{judge, judge_read};
 pub use parting::MasterSource;
 pub use planning::{Planned, plan};

@@ -9,6 +9,15 @@ use cut_core::Cut;
 use dsd_bits::Bits;
 use std::alloc::{AllocError, Global};
 
+/// Where the bits are that stand in a master for its bridges.
+#[derive(Clone, Copy)]
+pub enum StandingBits<'a> {
+    /// In its channels.
+    Channels(&'a [Bits]),
+    /// They were kept of it: by cue but the last, and by channel, those of the bridge behind the cue.
+    Kept(&'a [Vec<Bits>]),
+}
+
 /// Where the bridge behind each cue but the last starts in the master. Err is want of memory.
 pub fn bridge_starts(alloc: Global, cut: &Cut) -> Result<Vec<usize>, AllocError>
     ensures { IfOk result (λ starts. starts.items ≡ claims.bridge_starts cut.now) }

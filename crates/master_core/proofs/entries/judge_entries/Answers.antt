@@ -7,13 +7,14 @@ use Rattle.std.proofs.lemmas.List.Sums.{sum_by_more}
 use Rattle.device_core.specs.Inlets.{inlet_reader}
 use Rattle.cert_core.specs.Readers.{cert_inlet}
 use Rattle.master_core.specs.Judging.{JudgesClaim, LacksClaim, ReadsEntries, ShowsClaim}
-use Rattle.master_core.specs.Claims.{IsLeastClaim, claim_at, claim_cost}
+use Rattle.master_core.specs.Claims.{IsLeastClaim, claim_cost}
+use Rattle.master_core.specs.Standing.{claim_from}
 use Rattle.master_core.proofs.EntryLaws.{lacks_one, shown_more}
 use Rattle.master_core.proofs.entries.judge_entries.Goals as goal
 
 pub returns-in-Rejected-clause-judged : goal.returns-in-Rejected-clause-judged
 returns-in-Rejected-clause-judged g c =
-    let f = claim_at c.args.cut.now c.args.recording.now.channels in
+    let f = claim_from c.args.cut.now c.args.source in
     let places = c.args.places.now in
     let v = c.args.reader.now.version in
     let k = c.loop-k.k in
@@ -28,7 +29,7 @@ returns-in-Rejected-clause-judged g c =
 
 pub loop-k-preserved : goal.loop-k-preserved
 loop-k-preserved g c =
-    let f = claim_at c.args.cut.now c.args.recording.now.channels in
+    let f = claim_from c.args.cut.now c.args.source in
     let places = c.args.places.now in
     let v = c.args.reader.now.version in
     let k = c.loop-k.k in
@@ -52,7 +53,7 @@ loop-k-preserved g c =
 
 pub returns-clause-judged : goal.returns-clause-judged
 returns-clause-judged g c =
-    let f = claim_at c.args.cut.now c.args.recording.now.channels in
+    let f = claim_from c.args.cut.now c.args.source in
     let places = c.args.places.now in
     let from = g.R.Read.remaining (inlet_reader (cert_inlet c.args.reader.now)) in
     let here = g.R.Read.remaining (inlet_reader (cert_inlet c.loop-k.reader)) in

@@ -1,10 +1,10 @@
-use Rattle.std.proofs.Common.{arith, get_or, []}
+use Rattle.std.proofs.Common.{arith}
 use Rattle.std.specs.Result.{IfOk}
 use Rattle.device_core.specs.Inlets.{inlet_reader}
 use Rattle.cert_core.specs.Readers.{cert_inlet}
 use Rattle.cut_core.specs.Cuts as cuts
 use Rattle.cut_core.proofs.CutLaws.{first_shape}
-use Rattle.master_core.specs.Claims.{bridge_bits}
+use Rattle.master_core.specs.Standing.{standing_bits}
 use Rattle.master_core.specs.Judging.{JudgesClaim}
 use Rattle.master_core.proofs.EntryLaws.{claim_is}
 use Rattle.std.proofs.Common.{subst}
@@ -23,5 +23,5 @@ returns-clause-judged g c =
     let to = g.R.Read.remaining (inlet_reader (cert_inlet c.check_bits.new.reader)) in
     let window = c.in_ok-window.window in
     let bits = c.in_ok-bits.bits in
-    let same = claim_is place.cue place.channel window (cuts.window cut place.channel place.cue) bits (bridge_bits cut (get_or c.args.recording.now.channels place.channel []) place.cue) c.in_ok-window.ensures c.in_ok-bits.ensures.bits in
+    let same = claim_is place.cue place.channel window (cuts.window cut place.channel place.cue) bits (standing_bits cut c.args.source place.channel place.cue) c.in_ok-window.ensures c.in_ok-bits.ensures.bits in
     subst (λ claim. IfOk c.check_bits.result (JudgesClaim c.args.reader.now.version claim from to)) same c.check_bits.ensures.judged

@@ -2,7 +2,7 @@ use Rattle.std.proofs.Common.{◌-◌, ◌<◌, ◌∙◌, ap, arith, get_or, le
 use Rattle.std.proofs.lemmas.List.FromFn.{get_or-map-range_with_len, length-map-range_with_len}
 use Rattle.cut_core.proofs.CutLaws.{fits_at}
 use Rattle.master_core.specs.Claims.{bridge_start}
-use Rattle.master_core.proofs.entries.bits_at.Goals as goal
+use Rattle.master_core.proofs.entries.standing_at.Goals as goal
 
 pub bounds-starts-cue : goal.bounds-starts-cue
 bounds-starts-cue c =

@@ -5,12 +5,14 @@ use Rattle.dsd_bits.specs.Contents.{Content}
 use Rattle.form_core.specs.declared.form.Form.{Form}
 use Rattle.form_core.specs.declared.opening.Opened.{Opened}
 use Rattle.form_core.specs.Forms.{HoldsAs}
+use Rattle.form_core.proofs.OpeningLaws.{held_is_opened}
 use Rattle.cert_core.specs.declared.verdict.CheckFault.{CheckFault}
 use Rattle.cert_core.specs.declared.verdict.CheckFault.TheVariants as certs
 use Rattle.cert_core.specs.Readers.{failed_checks}
 use Rattle.cut_core.specs.Cuts.{CutContent}
 use Rattle.cut_core.specs.declared.fault.CutFault.{CutFault}
 use Rattle.cut_core.specs.declared.fault.CutFault.TheVariants as cuts
+use Rattle.master_core.specs.declared.finding.Found.{Found}
 use Rattle.master_core.specs.declared.verdict.Verdict.{Verdict}
 use Rattle.master_core.specs.declared.verdict.Verdict.TheVariants.{Accepted, Rejected}
 use Rattle.master_core.specs.declared.verdict.Reason.TheVariants.{MasterUnread}
@@ -21,7 +23,7 @@ use Rattle.master_core.specs.Masters.{AreLeastChannels, AreMasterChannels, CostL
 use Rattle.transfer_core.specs.Faults.{fault_of_cut}
 use Rattle.transfer_core.specs.Streaming.{failed_reads}
 use Rattle.transfer_core.specs.declared.fault.Fault.TheVariants.{Memory, ReadFailed}
-use Rattle.archive_core.specs.Checking.{Accepts, AnswersAccepted, IfAccepted, IfRejected, IsAcceptedAt, IsLeastFile, IsLeastMaster, JudgesFile, ReadsAccepted, RejectsFirst, fault_of_check}
+use Rattle.archive_core.specs.Checking.{Accepts, AnswersAccepted, IfAccepted, IfRejected, IsAcceptedAt, IsFoundIn, IsLeastFile, IsLeastMaster, JudgesFile, ReadsAccepted, RejectsFirst, fault_of_check}
 use Rattle.archive_core.specs.Editing.{CostsLeast, CostsWindows, IsMaster}
 use Rattle.archive_core.specs.Cutting.{SaysCut}
 
@@ -82,6 +84,31 @@ opened_only cut form r None answer h only = tt
 opened_only cut form r (Some cert) (Ok (Accepted cost)) h only = λ shown. h.2
 opened_only cut form r (Some cert) (Ok (Rejected reason)) h only = λ shown. absurd (only shown)
 opened_only cut form r (Some cert) (Err fault) h only = λ shown. tt
+
+-- ---- the verdict on a file by what was found of it
+abbrev opened_as : Form → Content → Opened
+opened_as form r = record { form = form; recording = r }
+
+-- a file holds one recording in one form
+one_held : (file : List ℕ) (form other : Form) (r s : Content) → HoldsAs file form r → HoldsAs file other s → opened_as form r ≡ opened_as other s
+one_held file form other r s a b = let both : Ok (opened_as form r) ≡ Ok (opened_as other s) = sym (held_is_opened file form r a) ∙ held_is_opened file other s b in cc
+
+module _ (project : List ℕ) (files : List (List ℕ)) (cut : CutContent) (found : Found) (master : List ℕ) (is : IsFoundIn project files cut found master) where
+  abbrev here : Opened
+  here = opened_as found.form is.recording
+
+  pub found_file : (known : Option (List ℕ)) (v : Verdict) → IfSome known (λ cert. JudgesMaster cut found.form is.recording cert v) → IfSome known (λ cert. JudgesFile cut master cert v)
+  found_file known v h = opened_judged cut master here is.master_holds known (Ok v) h
+
+  pub found_least : (v : Verdict) → WhereAccepted v (IsMasterOf cut found.form is.recording) → WhereAccepted v (AreMasterChannels cut is.recording.channels) → WhereAccepted v (AreLeastChannels cut is.recording.channels) → AtCost v (CostLeast cut is.recording.channels) → AtCost v (IsLeastFile cut master)
+  found_least v own made least joint = opened_least cut master here is.master_holds (Ok v) own made least joint
+
+  pub found_only : (known : Option (List ℕ)) (v : Verdict) → IfSome known (λ cert. JudgesMaster cut found.form is.recording cert v) → (IsMasterOf cut found.form is.recording → IfSome known (λ cert. IsCertOf cut is.recording.channels cert → IsNoRejection v))
+      → (form : Form) (r : Content) → HoldsAs master form r → IsMasterOf cut form r → IfSome known (λ cert. IsCertOf cut r.channels cert → IsAcceptedAt (total_cost cut r.channels) v)
+  found_only known v judges only form r holds own =
+      let one : here ≡ opened_as form r = one_held master found.form form is.recording r is.master_holds holds in
+      let mine : IsMasterOf cut found.form is.recording = subst (λ (o : Opened). IsMasterOf cut o.form o.recording) (sym one) own in
+      subst (λ (o : Opened). IfSome known (λ cert. IsCertOf cut o.recording.channels cert → IsAcceptedAt (total_cost cut o.recording.channels) v)) one (opened_only cut found.form is.recording known (Ok v) judges (only mine))
 
 -- ---- the verdict on the files of a project
 no_master : (cost : ℕ) → Accepted cost ≡ Rejected MasterUnread → ⊥

@@ -8,6 +8,7 @@ use Rattle.form_core.specs.Forms.{HoldsAs}
 use Rattle.cert_core.specs.declared.verdict.CheckFault.{CheckFault}
 use Rattle.cert_core.specs.declared.verdict.CheckFault.TheVariants as certs
 use Rattle.cut_core.specs.Cuts.{CutContent}
+use Rattle.master_core.specs.declared.finding.Found.{Found}
 use Rattle.master_core.specs.declared.verdict.Reason.{Reason}
 use Rattle.master_core.specs.declared.verdict.Reason.TheVariants.{MasterUnread}
 use Rattle.master_core.specs.declared.verdict.Verdict.{Verdict}
@@ -16,6 +17,7 @@ use Rattle.master_core.specs.Checking.{IsMasterOf, StandsAgainst}
 use Rattle.master_core.specs.Claims.{IsCertOf}
 use Rattle.master_core.specs.Judging.{JudgesMaster}
 use Rattle.master_core.specs.Masters.{AreLeastChannels, AreMasterChannels, CostLeast, total_cost}
+use Rattle.master_core.specs.Standing.{IsFoundOf}
 use Rattle.transfer_core.specs.declared.fault.Fault.{Fault}
 use Rattle.transfer_core.specs.declared.fault.Fault.TheVariants.{ReadFailed, Memory}
 use Rattle.archive_core.specs.Cutting.{SaysCut}
@@ -106,3 +108,12 @@ pub record IsLeastFile (cut : CutContent) (file : List ℕ) (cost : ℕ) : Type 
 abbrev pub IsAcceptedAt : ℕ → Verdict → Type 0
 IsAcceptedAt cost (Accepted total) = total ≡ cost
 IsAcceptedAt cost (Rejected reason) = ⊥
+
+-- ---- by what was found of a master whose bits are gone
+
+-- the project and files come to this cut, and this was found of the recording that the file of the master holds
+pub record IsFoundIn (project : List ℕ) (files : List (List ℕ)) (cut : CutContent) (found : Found) (master : List ℕ) : Type 0 where
+  pub says : SaysCut project files None cut
+  pub recording : Content
+  pub master_holds : HoldsAs master found.form recording
+  pub found_of : IsFoundOf cut found recording

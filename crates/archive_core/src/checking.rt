@@ -2,7 +2,7 @@
 
 ghost use Rattle.std.specs.Prelude.{◌≡◌, ◌+◌, ◌-◌, ◌^◌, ◌<◌, ◌⊎◌, IfErr, IfOk, IfSome, List, MatchOption, None, Some, ℕ};
 ghost use Rattle.archive_core.specs.Checking as checks;
-ghost use Rattle.archive_core.specs.Checking.{Accepts, AnswersAccepted, HoldsNothing, IfAccepted, IfRejected, IsAcceptedAt, IsLeastFile, IsLeastMaster, JudgesFile, ReadsAccepted, RejectsFirst, fault_of_check};
+ghost use Rattle.archive_core.specs.Checking.{Accepts, AnswersAccepted, HoldsNothing, IfAccepted, IfRejected, IsAcceptedAt, IsFoundIn, IsLeastFile, IsLeastMaster, JudgesFile, ReadsAccepted, RejectsFirst, fault_of_check};
 ghost use Rattle.cut_core.specs.Hearing.{AreOfTakes};
 ghost use Rattle.archive_core.specs.Cutting.{AreTakes, said_cut};
 ghost use Rattle.cert_core.specs.Readers.{cert_inlet, failed_checks};
@@ -11,6 +11,7 @@ ghost use Rattle.master_core.specs.Checking.{IsMasterOf};
 ghost use Rattle.master_core.specs.Claims.{IsCertOf};
 ghost use Rattle.master_core.specs.Judging.{AtCost};
 ghost use Rattle.master_core.specs.Masters.{total_cost};
+ghost use Rattle.master_core.specs.Standing.{IsFoundOf};
 ghost use Rattle.transfer_core.specs.Streaming.{failed_reads};
 ghost use Rattle.archive_core.specs.Editing.{CostsLeast, CostsWindows, IsMaster};
 ghost use Rattle.cut_core.specs.Opening.{file_bytes};
@@ -26,7 +27,7 @@ use cert_core::{CertReader, CheckFault};
 use cut_core::{Cut, Heard, hear_takes};
 use device_core::Inlet;
 use form_core::{Opened, ReadFault, read_any};
-use master_core::{Reason, Verdict, judge_read};
+use master_core::{Found, Reason, Verdict, judge_found, judge_read};
 use splice_core::Splice;
 use std::alloc::{AllocError, Global};
 use std::io::Read;
@@ -128,6 +129,35 @@ pub fn check_read<R: Read>(
 {
     let cut = cut_heard(splice, takes, None)?;
     match judge_file(alloc, &cut, master, cert) {
+        Ok(verdict) => Ok(verdict),
+        Err(fault) => Err(fault_of(fault)),
+    }
+}
+
+/// The same verdict on a master whose bits are gone, by a cut of its project and takes and what was found of it.
+///
+/// Refusals: `ReadFailed` where a read fails, `Memory`.
+pub fn check_found<R: Read>(
+    alloc: Global,
+    cut: &Cut,
+    found: &Found,
+    cert: &mut CertReader<R>,
+) -> Result<Verdict, Fault>
+    requires ready { inlet_failures (cert_inlet cert.old) < 2 ^ 64 - 1 }
+    requires some { (r : Content) × IsFoundOf cut.now found.now r }
+    // Of whichever project and files it is the cut, and of whichever file it was found, the clauses of `check_read` hold.
+    ensures found { (project : List ℕ) (files : List (List ℕ)) (master : List ℕ) → IsFoundIn project files cut.now found.now master → IfAccepted result (λ cost. IfSome (R.remaining (inlet_reader (cert_inlet cert.old))) (λ bytes. Accepts project files master bytes cost)) }
+    ensures master { (project : List ℕ) (files : List (List ℕ)) (master : List ℕ) → IsFoundIn project files cut.now found.now master → IfAccepted result (λ _. IsMaster project files master) }
+    ensures least { (project : List ℕ) (files : List (List ℕ)) (master : List ℕ) → IsFoundIn project files cut.now found.now master → IfAccepted result (λ _. IsLeastMaster project files master) }
+    ensures joint { (project : List ℕ) (files : List (List ℕ)) (master : List ℕ) → IsFoundIn project files cut.now found.now master → IfAccepted result (CostsLeast project files master) }
+    ensures windows { (project : List ℕ) (files : List (List ℕ)) (master : List ℕ) → IsFoundIn project files cut.now found.now master → IfAccepted result (λ cost. IfSome (R.remaining (inlet_reader (cert_inlet cert.old))) (λ _. CostsWindows project files master cost)) }
+    ensures only { (project : List ℕ) (files : List (List ℕ)) (master : List ℕ) → IsFoundIn project files cut.now found.now master → (cost : ℕ) → IfSome (R.remaining (inlet_reader (cert_inlet cert.old))) (λ bytes. Accepts project files master bytes cost → ReadsAccepted result cost) }
+    ensures rejected { (project : List ℕ) (files : List (List ℕ)) (master : List ℕ) → IsFoundIn project files cut.now found.now master → IfRejected result (λ reason. IfSome (R.remaining (inlet_reader (cert_inlet cert.old))) (λ bytes. RejectsFirst project files master bytes reason)) }
+    ensures refused { IfErr result (λ fault. (fault ≡ Fault.ReadFailed) ⊎ (fault ≡ Fault.Memory)) }
+    // The answer is `ReadFailed` exactly where a read failed.
+    ensures failures { inlet_failures (cert_inlet cert.new) ≡ inlet_failures (cert_inlet cert.old) + failed_reads result }
+{
+    match judge_found(alloc, cut, found, cert) {
         Ok(verdict) => Ok(verdict),
         Err(fault) => Err(fault_of(fault)),
     }

@@ -15,7 +15,7 @@ use transfer_core::Fault;
 /// that is to be cut, where one is.
 ///
 /// Refusals: those of [`Cut::of`], in their order.
-pub(crate) fn cut_heard(splice: Splice, takes: Vec<Heard>, form: Option<Form>) -> Result<Cut, Fault>
+pub fn cut_heard(splice: Splice, takes: Vec<Heard>, form: Option<Form>) -> Result<Cut, Fault>
     requires { AreOfTakes (splice_content splice) takes.items }
     // Of whichever project and files it was heard, it is their cut, or refused as they are.
     ensures found { (project : List ℕ) (files : List (List ℕ)) → AreTakes project files (splice_content splice) takes.items → IfOk result (SaysCut project files form) }

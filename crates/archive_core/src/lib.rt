@@ -5,7 +5,8 @@
 //! [`Form`], and [`play`] makes a RIFF WAVE file of it, decimated as a project text says; [`play_stream`] does so from
 //! a reader to a writer. [`take_names`] tells which takes a project text cuts, [`edit`] cuts its master from them and
 //! certifies it, [`plan_master`] does so up to the writing, and [`check`] judges a master and its certificate, whoever made
-//! them, [`check_read`] by a certificate that is judged while it is read. What is done with one recording is
+//! them, [`check_read`] by a certificate that is judged while it is read, [`check_found`] also by what was found of the
+//! master while it was read. What is done with one recording is
 //! [`transfer_core`]'s; cuts are [`cut_core`]'s, masters [`master_core`]'s: here stand the calls over them whole, from
 //! project and files on.
 //!
@@ -37,10 +38,11 @@ mod editing;
 mod laws;
 mod planning;
 
-pub use checking::{check, check_heard, check_read};
+pub use checking::{check, check_found, check_heard, check_read};
+pub use cutting::cut_heard;
 pub use editing::{Edited, edit, edit_heard};
 pub use form_core::{Form, Opened, ReadFault, read_any};
 pub use laws::read_in_order;
-pub use master_core::{Reason, Verdict};
+pub use master_core::{CuedPlace, Found, Reason, Verdict};
 pub use planning::{PlannedMaster, plan_master};
 pub use transfer_core::{Converted, Fault, convert, play, play_stream, take_names};

@@ -1,17 +1,15 @@
 -- What was found of a recording, and the reasons against it.
 use Rattle.std.proofs.Common.{◌≡◌, ℕ, ◌+◌, ◌-◌, ◌<◌, Bool, List, [], length, get_or, map, IfOk, Option, None, Some, Result, Ok, Err, sym, ap, subst, ◌∙◌, arith}
 use Rattle.std.specs.Prelude.{MatchOption}
-use Rattle.std.specs.List.{All, range_with_len}
 use Rattle.std.specs.declared.alloc.AllocError.{AllocError}
 use Rattle.std.proofs.lemmas.List.{get_or-map, length-map, length-replicate}
 use Rattle.std.proofs.lemmas.List.FromFn.{get_or-map-range_with_len, length-map-range_with_len}
 use Rattle.dsd_bits.specs.Channels.{count_of}
 use Rattle.dsd_bits.specs.Contents.{Content}
 use Rattle.dsd_bits.specs.Shape.{HasShape}
-use Rattle.dsd_bits.specs.Stretches.{silent}
 use Rattle.form_core.specs.declared.form.Form.{Form}
 use Rattle.cut_core.specs.Bridges.{IsPlace}
-use Rattle.cut_core.specs.Cuts.{AreAlike, CutContent, channel_number, cue_at, master_length}
+use Rattle.cut_core.specs.Cuts.{AreAlike, CutContent, channel_number}
 use Rattle.cut_core.specs.declared.bridges.BridgePlace.{BridgePlace}
 use Rattle.master_core.specs.declared.finding.CuedPlace.{CuedPlace}
 use Rattle.master_core.specs.declared.finding.Found.{Found}
@@ -21,7 +19,7 @@ use Rattle.master_core.specs.Checking.{HaveShape, HoldCues, IsLike, IsMasterOf, 
 use Rattle.master_core.specs.Claims.{bridge_bits}
 use Rattle.master_core.specs.Judging.{IsCuedBit}
 use Rattle.master_core.specs.Masters.{channel_numbers}
-use Rattle.master_core.specs.Standing.{AreBitsOf, AreKept, FindsCued, IsFoundOf, bridges_kept, kept_at, rows_of}
+use Rattle.master_core.specs.Standing.{AreKept, FindsCued, IsFoundOf, bridges_kept, kept_at, rows_of}
 use Rattle.master_core.proofs.TotalLaws.{own_long}
 
 -- ---- a recording q tells what another one, r, has beside its bits

@@ -12,3 +12,5 @@ pub mod PartLaws
 pub mod SliceLaws
 pub mod WritingLaws
 pub mod FoundLaws
+pub mod CuedLaws
+pub mod OffLaws

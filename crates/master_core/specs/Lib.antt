@@ -10,3 +10,4 @@ pub mod Parting
 pub mod Planning
 pub mod Writing
 pub mod Standing
+pub mod Comparing

@@ -1,12 +1,11 @@
 -- The bits of a master's bridges, where they stand: in its channels, or kept of them.
-use Rattle.std.specs.Prelude.{◌≡◌, ℕ, ◌+◌, ◌-◌, ◌<◌, Bool, List, [], Option, None, Some, Vec, MatchOption, length, map, slice_index_or}
+use Rattle.std.specs.Prelude.{◌≡◌, ℕ, ◌+◌, ◌-◌, ◌<◌, Bool, List, [], Option, Vec, MatchOption, length, map, slice_index_or}
 use Rattle.std.specs.declared.alloc.Global.{Global}
 use Rattle.std.specs.List.{range_with_len}
 use Rattle.dsd_bits.specs.Channels.{count_of}
 use Rattle.dsd_bits.specs.Contents.{Content}
 use Rattle.dsd_bits.specs.Shape.{HasShape}
 use Rattle.dsd_bits.specs.Stretches.{silent}
-use Rattle.form_core.specs.declared.form.Form.{Form}
 use Rattle.cert_core.specs.Certificates.{Claim}
 use Rattle.cut_core.specs.Bridges.{IsPlace}
 use Rattle.cut_core.specs.Cuts.{AreAlike, CutContent, channel_number, cue_at, master_length}

@@ -8,7 +8,7 @@
 //! cut by rising cue and then by rising channel: `choosing.rt` searches them, `certifying.rt` makes their rows again and
 //! writes their entries, `entries.rt` judges entries, and what they cost together is the sum over that list.
 //! `assembling.rt` makes a channel of cues and the bridges that stand in a master (`standing.rt`), and `comparing.rt` tells
-//! the first bit of a channel that isn't that of its cue.
+//! the first bit of a channel that isn't that of its cue, [`first_off_so_far`] of a channel that comes part by part.
 //!
 //! [`write_sound`] and [`write_master`] write the best master without its channels ever standing in memory: group by
 //! group, each channel's part of it made of cues and chosen bridges (`parting.rt`, `writing.rt`, `filing.rt`). They write
@@ -41,6 +41,7 @@ mod assembling;
 mod certifying;
 mod choosing;
 mod comparing;
+mod cueing;
 mod entries;
 mod filing;
 mod finding;
@@ -53,6 +54,7 @@ mod writing;
 
 pub use certifying::{CertifyingRoom, can_certify, certify};
 pub use choosing::ChosenBridges;
+pub use cueing::first_off_so_far;
 pub use filing::{master_ends, write_master};
 pub use finding::{CuedPlace, Found, judge_found};
 pub use judging::{judge, judge_read};

@@ -1,4 +1,4 @@
-use Rattle.std.proofs.Common.{◌∙◌, Bool, IfOk, List, [], ap, get_or, inl, refl, subst}
+use Rattle.std.proofs.Common.{◌∙◌, Bool, IfOk, List, ap, inl, subst}
 use Rattle.std.specs.Prelude.{MatchOption}
 use Rattle.device_core.specs.Inlets.{inlet_reader}
 use Rattle.cert_core.specs.Readers.{cert_inlet}

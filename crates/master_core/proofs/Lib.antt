@@ -14,3 +14,4 @@ pub mod WritingLaws
 pub mod FoundLaws
 pub mod CuedLaws
 pub mod OffLaws
+pub mod LowestLaws

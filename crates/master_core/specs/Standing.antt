@@ -1,5 +1,5 @@
 -- The bits of a master's bridges, where they stand: in its channels, or kept of them.
-use Rattle.std.specs.Prelude.{◌≡◌, ℕ, ◌+◌, ◌-◌, ◌<◌, Bool, List, [], Option, Vec, MatchOption, length, map, slice_index_or}
+use Rattle.std.specs.Prelude.{◌≡◌, ℕ, ◌+◌, ◌-◌, ◌<◌, Bool, List, None, [], Option, Vec, MatchOption, length, map, slice_index_or}
 use Rattle.std.specs.declared.alloc.Global.{Global}
 use Rattle.std.specs.List.{range_with_len}
 use Rattle.dsd_bits.specs.Channels.{count_of}
@@ -16,6 +16,7 @@ use Rattle.master_core.specs.declared.standing.StandingBits.{StandingBits}
 use Rattle.master_core.specs.declared.standing.StandingBits.TheVariants.{Channels, Kept}
 use Rattle.master_core.specs.Checking.{HaveShape, HoldCues, IsFirstCuedBit}
 use Rattle.master_core.specs.Claims.{bridge_bits, claim_of}
+use Rattle.master_core.specs.Comparing.{TellsOff}
 use Rattle.master_core.specs.Masters.{channel_numbers}
 
 -- ---- bits that are kept
@@ -60,6 +61,10 @@ AreBitsOf cut source zs = (p : BridgePlace) → IsPlace cut p → standing_bits 
 -- the first bit that isn't that of a cue, if there is one
 abbrev pub FindsCued : CutContent → Content → Option CuedPlace → Type 0
 FindsCued cut r place = MatchOption place (HoldCues cut (channel_numbers cut) r.channels) (λ p. IsFirstCuedBit cut r p.channel p.place)
+
+-- of each channel the first bit that isn't that of the cue there, if there is one
+abbrev pub TellAll : CutContent → Content → List (Option ℕ) → Type 0
+TellAll cut r firsts = (c : ℕ) → c < channel_number cut → TellsOff cut c (slice_index_or r.channels c []) (slice_index_or firsts c None)
 
 -- this was found of a recording, and kept of its bridges, where it has the shape and the length of a master
 pub record IsFoundOf (cut : CutContent) (found : Found) (r : Content) : Type 0 where

@@ -1,14 +1,15 @@
 //! What was found of a master whose bits are gone, and the verdict by that.
 
-ghost use Rattle.std.specs.Prelude.{◌≡◌, ◌+◌, ◌-◌, ◌^◌, ◌<◌, IfOk, IfSome, MatchOption, None};
+ghost use Rattle.std.specs.Prelude.{◌≡◌, ◌+◌, ◌-◌, ◌^◌, ◌<◌, IfOk, IfSome, MatchOption, None, length};
 ghost use Rattle.dsd_bits.specs.Contents.{Content};
 ghost use Rattle.device_core.specs.Inlets.{inlet_failures, inlet_reader};
 ghost use Rattle.cert_core.specs.Readers.{cert_inlet, failed_checks};
-ghost use Rattle.master_core.specs.Checking.{IsMasterOf, MasterReason};
+ghost use Rattle.cut_core.specs.Cuts.{channel_number};
+ghost use Rattle.master_core.specs.Checking.{HaveShape, IsMasterOf, MasterReason};
 ghost use Rattle.master_core.specs.Claims.{IsCertOf};
 ghost use Rattle.master_core.specs.Judging.{AtCost, IsNoRejection, JudgesMaster, WhereAccepted};
 ghost use Rattle.master_core.specs.Masters.{AreLeastChannels, AreMasterChannels, CostLeast};
-ghost use Rattle.master_core.specs.Standing.{AreKept, IsFoundOf, rows_of};
+ghost use Rattle.master_core.specs.Standing.{AreKept, FindsCued, IsFoundOf, TellAll, rows_of};
 
 use crate::comparing::outer_reason;
 use crate::entries::judge_certificate;
@@ -46,6 +47,20 @@ pub struct Found {
     /// By cue but the last, and by channel, the bits that stand there for the bridge behind the cue. They matter where
     /// `differs` does.
     pub kept: Vec<Vec<Bits>>,
+}
+
+/// The first bit of a master that isn't that of the cue there, by the first such place of each of its channels.
+pub fn lowest_off(cut: &Cut, firsts: &[Option<usize>]) -> Option<CuedPlace>
+    requires { length firsts.now ≡ channel_number cut.now }
+    ensures { (r : Content) → HaveShape cut.now r.channels → TellAll cut.now r firsts.now → FindsCued cut.now r result }
+{
+    cut.can_cut();
+    for channel in 0..firsts.len() {
+        if let Some(place) = firsts[channel] {
+            return Some(CuedPlace { channel, place });
+        }
+    }
+    None
 }
 
 /// The verdict of [`judge_read`](crate::judge_read) on a recording whose bits are gone, by what was found of it.

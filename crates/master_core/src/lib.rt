@@ -56,7 +56,7 @@ pub use certifying::{CertifyingRoom, can_certify, certify};
 pub use choosing::ChosenBridges;
 pub use cueing::first_off_so_far;
 pub use filing::{master_ends, write_master};
-pub use finding::{CuedPlace, Found, judge_found};
+pub use finding::{CuedPlace, Found, judge_found, lowest_off};
 pub use judging::{judge, judge_read};
 pub use parting::MasterSource;
 pub use planning::{Planned, plan};

@@ -352,10 +352,7 @@ fn takes_heard(alloc: Global, sources: &Sources) -> Result<usize, Fault> {
         ("a.dff", first),
         ("b.dff", second),
     ];
-    let mut shelf = Shelf {
-        files: &files,
-        written: 0,
-    };
+    let mut shelf = shelf_of(&files);
     match hear_sources(alloc, &mut shelf, "e.toml", 0) {
         Ok(found) => Ok(found.takes?.len()),
         Err(fault) => Err(fault_of(Outcome::from(fault))),

@@ -57,7 +57,7 @@ channel_bits Bytes n bits bytes c some whole size below =
 channel_bits (Blocks order) n bits bytes c some whole size below =
     ap length (get_or-map-range_with_len (unblocked order bytes n bits) 0 n c c [] below (omega arith)) ∙ length-map-range_with_len (block_bit order bytes n c) 0 bits
 
-no_size : (interleaving : Interleaving) (n : ℕ) → sound_size interleaving n 0 ≡ 0
+pub no_size : (interleaving : Interleaving) (n : ℕ) → sound_size interleaving n 0 ≡ 0
 no_size Bytes n = omega arith
 no_size (Blocks order) n = omega arith
 

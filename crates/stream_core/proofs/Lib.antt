@@ -12,4 +12,5 @@ pub mod ToldLaws
 pub mod PaceLaws
 pub mod ReaderLaws
 pub mod KeeperLaws
+pub mod TakingLaws
 pub mod KeepingLaws

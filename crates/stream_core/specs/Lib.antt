@@ -8,6 +8,7 @@ pub mod Closing
 pub mod Playing
 pub mod Pace
 pub mod Outlines
+pub mod Sinks
 pub mod Stretches
 pub mod Keepers
 pub mod Keeping

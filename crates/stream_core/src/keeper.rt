@@ -4,6 +4,7 @@ ghost use Rattle.std.specs.Prelude.{◌≡◌, ◌+◌, ◌-◌, ◌<◌, ◌≤
 ghost use Rattle.dsd_bits.specs.Limits.{most_bits};
 ghost use Rattle.stream_core.specs.Stretches.{AreApart, AreGrown, AreRoomy, IsGrown, IsRoomy, items_of};
 
+use crate::sink::SoundSink;
 use dsd_bits::{BitRange, Bits, Interleaving, Sound};
 use relace_core::{Stretch, unlace};
 use std::alloc::{AllocError, Global};
@@ -21,29 +22,46 @@ pub(crate) struct Keeper<'a> {
     pub(crate) stretches: Vec<Vec<Bits>>,
 }
 
+// The sound of a keeper that has not begun.
+const NO_SOUND: Sound = Sound {
+    rate: 0,
+    channels: 0,
+    count: 0,
+    start: 0,
+    size: 0,
+    interleaving: Interleaving::Bytes,
+};
+
 impl<'a> Keeper<'a> {
     ghost use Rattle.std.specs.Prelude.{◌≡◌, ℕ, ◌+◌, ◌%◌, ◌≤◌, ◌⊎◌, ◌++◌, [], List, IfOk, OnOk, length};
     ghost use Rattle.dsd_bits.specs.Sounds.{IsSound, sound_size};
     ghost use Rattle.stream_core.specs.Keepers.{IsKeeping};
 
-    /// The keeper before the first byte of a sound.
-    pub(crate) fn new(
-        alloc: Global,
-        sound: Sound,
-        ranges: &'a [BitRange],
-    ) -> Result<Keeper<'a>, AllocError>
-        requires sound { IsSound sound }
-        requires whole { sound.interleaving ≡ Interleaving.Bytes → sound.count % 8 ≡ 0 }
-        ensures new { IfOk result (λ k. IsKeeping k []) }
-        ensures made { IfOk result (λ k. (k.sound ≡ sound) × (k.ranges.now ≡ ranges.now) × (k.done ≡ 0)) }
+    /// A keeper of these ranges, before any sound.
+    pub(crate) fn new(alloc: Global, ranges: &'a [BitRange]) -> Keeper<'a>
+        ensures { result.ranges.now ≡ ranges.now }
     {
-        let stretches = no_stretches(alloc, ranges.len(), sound.channels)?;
-        Ok(Keeper {
-            sound,
+        Keeper {
+            sound: NO_SOUND,
             ranges,
             done: 0,
-            stretches,
-        })
+            stretches: Vec::new(alloc),
+        }
+    }
+
+    /// Begins with a sound, before its first byte.
+    pub(crate) fn begin(&mut self, alloc: Global, sound: Sound) -> Result<(), AllocError>
+        requires sound { IsSound sound }
+        requires whole { sound.interleaving ≡ Interleaving.Bytes → sound.count % 8 ≡ 0 }
+        ensures same { self.new.ranges.now ≡ self.old.ranges.now }
+        ensures new { OnOk result (IsKeeping self.new []) }
+        ensures made { OnOk result ((self.new.sound ≡ sound) × (self.new.done ≡ 0)) }
+    {
+        let stretches = no_stretches(alloc, self.ranges.len(), sound.channels)?;
+        self.sound = sound;
+        self.done = 0;
+        self.stretches = stretches;
+        Ok(())
     }
 
     /// Takes the next bytes of the sound, those of so many bits of each channel: whole groups of blocks, or all that
@@ -74,6 +92,30 @@ impl<'a> Keeper<'a> {
         }
         self.done = done + bits;
         Ok(())
+    }
+}
+
+impl<'a> SoundSink for Keeper<'a> {
+    ghost use Rattle.std.specs.Prelude.{List};
+    ghost use Rattle.dsd_bits.specs.declared.stretches.BitRange.{BitRange as Range};
+    ghost use Rattle.stream_core.specs.Keepers.{IsKeeping};
+
+    ghost source = { λ k. k.sound };
+
+    ghost done = { λ k. k.done };
+
+    ghost has = { λ k bytes. IsKeeping k bytes };
+
+    ghost Kept = { List Range };
+
+    ghost kept = { λ k. k.ranges.now };
+
+    fn begin(&mut self, alloc: Global, sound: Sound) -> Result<(), AllocError> {
+        Keeper::begin(self, alloc, sound)
+    }
+
+    fn take(&mut self, alloc: Global, bytes: &[u8], bits: usize) -> Result<(), AllocError> {
+        Keeper::take(self, alloc, bytes, bits)
     }
 }
 

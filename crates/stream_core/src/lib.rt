@@ -9,7 +9,8 @@
 //!
 //! [`read_outline`] reads a file once and tells all of it but the bits of its sound: an [`Outline`], by which the file
 //! can be read again and written in another form while it is read. Of the sound it holds one block.
-//! [`read_stretches`] does so too, and keeps of the sound the bits of each channel in the ranges that it is given.
+//! [`read_into`] does so too, and has a [`SoundSink`] take the sound (`taking.rt`); [`read_stretches`] keeps of it the bits
+//! of each channel in the ranges that it is given, by a sink (`keeper.rt`).
 //!
 //! The words of the contracts:
 //!
@@ -24,6 +25,8 @@
 //! - `StandsIn around file sound` says that a file is these sound bytes in their surroundings, `AreTold around` that
 //!   every such file holds what the surroundings tell, with the channels of its sound, and `SurroundsFile left around`
 //!   both of a reader's file (`specs/Outlines.antt`).
+//! - `IsFed s done bytes` says that these bytes of a sound came, those of so many bits of each channel, and `TakesFile has
+//!   left around` that a reader's file is some sound in these surroundings, of whose bytes this holds (`specs/Sinks.antt`).
 //! - `KeepsFile left around ranges kept` says that a reader's file is some sound in these surroundings, and which stretches
 //!   of its channels were kept (`specs/Keeping.antt`).
 //!
@@ -48,6 +51,8 @@ mod outline;
 mod pieces;
 mod playing;
 mod reader;
+mod sink;
+mod taking;
 mod wave;
 
 pub use fault::StreamFault;
@@ -55,3 +60,5 @@ pub use keeping::{Kept, read_stretches};
 pub use laws::accepted_files_tell_one_sound;
 pub use outline::{Outline, read_outline};
 pub use playing::play;
+pub use sink::SoundSink;
+pub use taking::read_into;

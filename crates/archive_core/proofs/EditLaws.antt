@@ -32,10 +32,6 @@ any_form project files form cut says = record {
   opens = record { takes = says.opens.takes; cut_is = says.opens.cut_is; read = says.opens.read; fit = says.opens.fit; whole = λ e. absurd (no_form forms.Dsdiff e); room = says.opens.room };
 }
 
--- a best master costs what its whole channels cost
-pub costs_whole : (cut : CutContent) (form : Form) (r : Content) (cost : ℕ) → IsBestMaster cut form r cost → cost ≡ total_cost cut r.channels
-costs_whole cut form r cost best = best.cost_is ∙ ap (λ (x : Content). total_cost cut x.channels) (sym best.recording_is)
-
 -- one cut comes to one master
 pub one_answer : (s t : CutContent) (form : Form) (p q : Content) (made file : List ℕ) (m n : ℕ) → s ≡ t → IsBestMaster s form p m → IsBestMaster t form q n → text_in form p ≡ Some made → text_in form q ≡ Some file → (made ≡ file) × (m ≡ n)
 one_answer s t form p q made file m n e h k text told =

@@ -74,7 +74,3 @@ slice_join xs s t order =
           let place : 0 + i ≡ s + (i - length a) = omega (arith, la, all, high, lt) in
           ap (λ m. get_or xs m false) place ∙ sym (slice_at xs s t (i - length a) below) ∙ sym (get_or-append_right a b (length a) i false refl high)
     ])
-
--- what is left of a range behind a part fits where the whole range does
-pub room_left : (xs : List Bool) (at s t most : ℕ) → length xs ≡ at → t - s ≤ most → length (slice_range xs s t) + ((t - at) - (s - at)) ≤ most
-room_left xs at s t most long fits = omega (arith, length-slice xs s t, long, fits)

@@ -1,11 +1,11 @@
 -- Parts of channels that are written one after the other, and the room that they are written through.
-use Rattle.std.proofs.Common.{◌≡◌, ℕ, ◌+◌, ◌-◌, ◌*◌, ◌/◌, ◌%◌, ◌<◌, ◌≤◌, ◌⊎◌, inl, inr, min, Bool, List, [], ◌∷◌, ◌++◌, Option, Result, Ok, Err, OnOk, OnErr, length, map, get_or, slice_range, set, append_assoc, zero-mul, refl, sym, ap, subst, ◌∙◌, arith}
+use Rattle.std.proofs.Common.{◌≡◌, ℕ, ◌+◌, ◌-◌, ◌*◌, ◌/◌, ◌%◌, ◌<◌, ◌≤◌, ◌⊎◌, inl, inr, min, Bool, List, [], ◌∷◌, ◌++◌, Option, Result, Ok, Err, OnOk, OnErr, length, map, get_or, slice_range, set, append_assoc, zero-mul, sym, ap, subst, ◌∙◌, arith}
 use Rattle.std.specs.List.{All, AllZip, range_with_len}
 use Rattle.std.specs.Int.{div_ceil}
 use Rattle.std.specs.Io.KnownBytes.{Appends}
 use Rattle.std.proofs.KnownBytes.{Appends-nil, Appends-trans}
 use Rattle.std.proofs.lemmas.Bool.{cases_lt}
-use Rattle.std.proofs.lemmas.List.{ext_get_or, get_or-map, get_or-set_other, get_or-set_same, get_or_append_left, get_or_push, length-append, length_push, length-map, map-set}
+use Rattle.std.proofs.lemmas.List.{ext_get_or, get_or-map, get_or-set_other, get_or-set_same, get_or_append_left, get_or_push, length-append, length-map, map-set}
 use Rattle.std.proofs.lemmas.List.Elements.{All-append, All-cons, All-nil}
 use Rattle.std.proofs.Math.Seq.{map-set_same}
 use Rattle.device_core.specs.Outlets.{AppendsPart}
@@ -16,9 +16,7 @@ use Rattle.dsd_bits.specs.Blocks.{block_byte}
 use Rattle.dsd_bits.specs.Channels.{IsLevel, count_of}
 use Rattle.dsd_bits.specs.Lacing.{laced_byte}
 use Rattle.dsd_bits.specs.Rooms.{RoomContent, rooms_bits}
-use Rattle.dsd_bits.specs.Sounds.{sound_size}
 use Rattle.dsd_bits.proofs.RoomLemmas.{length-rooms_bits}
-use Rattle.relace_core.proofs.GroupLaws.{size_fits}
 use Rattle.relace_core.proofs.JoinLaws.{Appended, written}
 use Rattle.relace_core.specs.Relacing.{laced_in}
 use Rattle.cut_core.specs.Cuts.{CutContent, channel_number, master_length}
@@ -246,16 +244,3 @@ rooms_kept number most old new same are =
           let large : most ≤ (get_or old i d).most = are.large i d there in
           omega (arith, equal, large);
     }
-
-pub part_fits : (to : Interleaving) (number most bits held : ℕ) → bits ≤ most → most % 32768 ≡ 0 → most / 32768 * number ≤ 16 → 65536 ≤ held → 0 + sound_size to number bits ≤ held
-part_fits to number most bits held few groups fits room = omega (arith, size_fits to number bits most few groups fits)
-
--- one room more
-pub no_rooms : (most : ℕ) → AreRooms 0 most []
-no_rooms most = record { as_many = refl; large = All-nil (λ (r : RoomContent). most ≤ r.most) }
-
-pub rooms_more : (k most : ℕ) (rooms : List RoomContent) (room : RoomContent) → AreRooms k most rooms → most ≤ room.most → AreRooms (k + 1) most (rooms ++ room ∷ [])
-rooms_more k most rooms room are large = record {
-  as_many = omega (arith, length_push rooms room, are.as_many);
-  large = All-append (λ (r : RoomContent). most ≤ r.most) rooms (room ∷ []) are.large (All-cons (λ (r : RoomContent). most ≤ r.most) room [] large (All-nil (λ (r : RoomContent). most ≤ r.most)));
-}

@@ -1,5 +1,5 @@
 -- What is heard of files one by one, and of those of a project.
-use Rattle.std.proofs.Common.{◌≡◌, ℕ, ◌+◌, ◌<◌, List, [], ◌∷◌, ◌++◌, Result, Ok, Some, Global, Vec, inl, inr, get_or, length, map, take, refl, sym, ap, subst, ◌∙◌, arith}
+use Rattle.std.proofs.Common.{◌≡◌, ℕ, ◌+◌, ◌<◌, List, [], ◌∷◌, ◌++◌, Result, Some, Global, Vec, inl, inr, get_or, length, map, take, refl, sym, ap, subst, ◌∙◌, arith}
 use Rattle.std.proofs.lemmas.Bool.{eq-eqb}
 use Rattle.std.proofs.lemmas.List.{length-append, length-map, length-take-le, map-append, take_more}
 use Rattle.splice_core.specs.Splices.{SpliceContent}
@@ -7,7 +7,6 @@ use Rattle.form_core.specs.Steps.{Fails}
 use Rattle.cut_core.specs.declared.fault.CutFault.{CutFault}
 use Rattle.cut_core.specs.declared.heard.Heard.{Heard}
 use Rattle.cut_core.specs.Opening.{HearsTake, HearsTakes, take_in, takes_before, takes_of}
-use Rattle.cut_core.proofs.HearingLaws.{heard_none}
 use Rattle.transfer_core.specs.declared.fault.Fault.{Fault}
 use Rattle.transfer_core.specs.declared.fault.Fault.TheVariants.{Memory}
 use Rattle.transfer_core.specs.Projects.{SaysSplice, splice_of, take_names_of}
@@ -19,13 +18,6 @@ use Rattle.transfer_commands.specs.Outlining.{IsUnread}
 use Rattle.transfer_commands.specs.Sources.{IsUnnamed, SourcesUnread}
 
 -- ---- files one by one
-pub no_files : (old : Files) (splice : SpliceContent) (heard : Result (Vec Heard Global) CutFault) (hs : Vec Heard Global) → heard ≡ Ok hs → hs.items ≡ [] → HearsFiles old splice [] heard
-no_files old splice heard hs is none = record {
-  files = [];
-  stand = refl;
-  hears = subst (λ h. HearsTakes splice h (takes_before [] 0)) (sym is) ([], refl, rw none (heard_none splice));
-}
-
 pub as_many : (old : Files) (names files : List (List ℕ)) → AreFiles old names files → length files ≡ length names
 as_many old names files stand = sym (length-map files (λ (bytes : List ℕ). Some bytes)) ∙ sym (ap length stand) ∙ length-map names old
 

@@ -10,10 +10,10 @@ use Rattle.dsd_bits.specs.declared.sound.Sound.{Sound}
 use Rattle.dsd_bits.specs.Sounds.{IsSound, sound_size}
 use Rattle.relace_core.proofs.GroupLaws.{size_on}
 use Rattle.relace_core.specs.Relacing.{GroupsJoin, relaced}
-use Rattle.stream_core.specs.Faults.{IsWritingFault, failed_reads, failed_writes}
-use Rattle.stream_core.specs.Outlines.{StandsIn, Surroundings}
-use Rattle.stream_core.specs.declared.fault.StreamFault.{StreamFault}
-use Rattle.stream_core.specs.declared.fault.StreamFault.TheVariants.{FileRefused, RateNotDivided, TooLarge, ReadFailed, WriteFailed, TurnLimit, Memory}
+use Rattle.sound_core.specs.Faults.{IsWritingFault, failed_reads, failed_writes}
+use Rattle.sound_core.specs.Outlines.{StandsIn, Surroundings}
+use Rattle.sound_core.specs.declared.fault.StreamFault.{StreamFault}
+use Rattle.sound_core.specs.declared.fault.StreamFault.TheVariants.{FileRefused, RateNotDivided, TooLarge, ReadFailed, WriteFailed, TurnLimit, Memory}
 use Rattle.relay_core.specs.Comparing.{ConsumesMany, IsExpectFault, IsFillFault, IsMoreFault}
 use Rattle.relay_core.specs.Relays.{IsPartFault, IsRelayFault, IsRestFault, PartFront, PassesRest, Relays, RelaysFront, RelaysGiven, RelaysPart, relaced_sound, relayed}
 use Rattle.relay_core.specs.declared.relaying.Target.{Target}

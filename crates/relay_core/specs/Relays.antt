@@ -7,9 +7,9 @@ use Rattle.dsd_bits.specs.declared.interleaving.Interleaving.TheVariants.{Bytes}
 use Rattle.dsd_bits.specs.declared.sound.Sound.{Sound}
 use Rattle.dsd_bits.specs.Sounds.{IsSound, sound_size}
 use Rattle.relace_core.specs.Relacing.{relaced}
-use Rattle.stream_core.specs.Outlines.{AreAround, StandsIn, Surroundings}
-use Rattle.stream_core.specs.declared.fault.StreamFault.{StreamFault}
-use Rattle.stream_core.specs.declared.fault.StreamFault.TheVariants.{FileRefused, ReadFailed, WriteFailed, Memory}
+use Rattle.sound_core.specs.Outlines.{AreAround, StandsIn, Surroundings}
+use Rattle.sound_core.specs.declared.fault.StreamFault.{StreamFault}
+use Rattle.sound_core.specs.declared.fault.StreamFault.TheVariants.{FileRefused, ReadFailed, WriteFailed, Memory}
 use Rattle.relay_core.specs.declared.relaying.Relacing.{Relacing}
 use Rattle.relay_core.specs.declared.relaying.Target.{Target}
 

@@ -3,12 +3,12 @@
 ghost use Rattle.std.specs.Prelude.{◌≡◌, ◌+◌, ◌-◌, ◌<◌, ◌≤◌, ◌^◌, [], IfErr, OnOk, length, take};
 ghost use Rattle.std.specs.Io.KnownBytes.{Consumes, IsAtEnd};
 ghost use Rattle.device_core.specs.Inlets.{inlet_failures, inlet_reader};
-ghost use Rattle.stream_core.specs.Faults.{failed_reads};
+ghost use Rattle.sound_core.specs.Faults.{failed_reads};
 ghost use Rattle.relay_core.specs.Comparing.{ConsumesMany, IsExpectFault, IsFillFault, IsMoreFault};
 
 use device_core::Inlet;
 use std::io::Read;
-use stream_core::StreamFault;
+use sound_core::StreamFault;
 
 /// How many bytes are read at a time, at most.
 pub(crate) const BLOCK: usize = 65_536;

@@ -1,6 +1,6 @@
 //! A file's sound handed on in another interleaving, from a reader to a writer.
 //!
-//! [`relay`] reads a file whose outline is known ([`stream_core::Outline`]): it writes a head, then the file's sound
+//! [`relay`] reads a file whose outline is known ([`sound_core::Outline`]): it writes a head, then the file's sound
 //! interleaved as asked for, then a tail. Of the sound it holds whole groups of the channels' blocks, at most 65,536
 //! bytes, and what is made of them. A file that isn't a sound in that outline is refused; which bytes its sound has
 //! isn't compared with anything.

@@ -5,8 +5,8 @@ ghost use Rattle.std.specs.Io.KnownBytes.{Appends};
 ghost use Rattle.device_core.specs.Inlets.{inlet_failures, inlet_reader};
 ghost use Rattle.device_core.specs.Outlets.{AppendsFront, outlet_failures, outlet_writer};
 ghost use Rattle.dsd_bits.specs.Sounds.{sound_size};
-ghost use Rattle.stream_core.specs.Faults.{IsWritingFault, failed_reads, failed_writes};
-ghost use Rattle.stream_core.specs.Outlines.{AreTold, around_of};
+ghost use Rattle.sound_core.specs.Faults.{IsWritingFault, failed_reads, failed_writes};
+ghost use Rattle.sound_core.specs.Outlines.{AreTold, around_of};
 ghost use Rattle.relay_core.specs.Relays.{IsPartFault, IsRelacing, IsRelayFault, IsRestFault, PartFront, PassesRest, Relays, RelaysFront, RelaysGiven, RelaysPart};
 
 use crate::comparing::{BLOCK, expect, expect_end, fill, pass};
@@ -15,7 +15,7 @@ use dsd_bits::{Interleaving, Sound};
 use relace_core::{Stretch, groups_join, push_relaced, stretch_bits, stretch_size};
 use std::alloc::Global;
 use std::io::{Read, Write};
-use stream_core::{Outline, StreamFault};
+use sound_core::{Outline, StreamFault};
 
 /// What is written around a sound, and how it is interleaved between.
 #[derive(Clone, Copy)]

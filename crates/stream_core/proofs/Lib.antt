@@ -1,16 +1,6 @@
-pub mod ReadLaws
-pub mod OutlineLaws
-pub mod BehindLaws
 pub mod PieceLaws
 pub mod RestLaws
-pub mod HeadLaws
 pub mod SoundLaws
-pub mod ClosingLaws
 pub mod PlayLaws
 pub mod PlaceLaws
-pub mod ToldLaws
 pub mod PaceLaws
-pub mod ReaderLaws
-pub mod KeeperLaws
-pub mod TakingLaws
-pub mod KeepingLaws

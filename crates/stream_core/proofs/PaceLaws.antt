@@ -1,5 +1,5 @@
 -- Where the reading stops, all that was read of the sound was played.
-use Rattle.std.proofs.Common.{◌≡◌, ℕ, ◌+◌, ◌-◌, ◌*◌, ◌/◌, ◌<◌, ◌≤◌, List, [], ◌++◌, length, take, drop, Option, None, Some, IfSome, refl, sym, subst, ap, ap₂, ◌∙◌, arith, append_assoc, append-nil, length-append, length-take, length-drop}
+use Rattle.std.proofs.Common.{◌≡◌, ℕ, ◌+◌, ◌-◌, ◌*◌, ◌/◌, ◌<◌, ◌≤◌, List, [], ◌++◌, length, take, drop, Option, None, Some, refl, sym, subst, ap, ap₂, ◌∙◌, arith, append_assoc, append-nil, length-append, length-take, length-drop}
 use Rattle.std.proofs.lemmas.List.{take_all}
 use Rattle.std.specs.Io.KnownBytes.{Appends, Consumes}
 use Rattle.std.proofs.KnownBytes.{Appends-trans}
@@ -15,35 +15,16 @@ use Rattle.player_core.proofs.FrontLaws.{front_of_all}
 use Rattle.player_core.proofs.SoundLaws.{frames_fill, nothing_is_due}
 use Rattle.wave_core.specs.Sizes.{header_size}
 use Rattle.wave_core.proofs.SizeLaws.{length_of_header}
-use Rattle.stream_core.specs.Files.{IsAccepted, TellsSound}
-use Rattle.stream_core.specs.Pace.{Gives, GivesNone, IsBeforeSound, KeepsUp, PlaysGivenPart, PlaysGivenSound, StandsIn, WritesFrames, sound_given}
+use Rattle.sound_core.specs.Files.{GivesNone, TellsSound}
+use Rattle.stream_core.specs.Pace.{KeepsUp, PlaysGivenPart, PlaysGivenSound, StandsIn, WritesFrames, sound_given}
 use Rattle.stream_core.specs.Pieces.{PlaysPart, PlaysSound, PutsDue}
 use Rattle.stream_core.specs.Playing.{PlaysBy}
-use Rattle.stream_core.specs.Reads.{Reads}
+use Rattle.sound_core.specs.Reads.{Reads}
 use Rattle.stream_core.specs.Wave.{OpensWave, header_of, pad_of}
 use Rattle.stream_core.proofs.PlaceLaws.{frame_due, frame_there, frames_held, length-due}
 use Rattle.stream_core.proofs.PlayLaws.{begins, sound_is, text_of, written}
-use Rattle.stream_core.proofs.SoundLaws.{whole_is}
-use Rattle.stream_core.proofs.ToldLaws.{told_once}
-
--- ---- what was given
-pub gives_read : {R : Type 0} (left : R → Option (List ℕ)) (i j : Inlet R) (n : ℕ) (xs : List ℕ) → Reads left i j xs → n ≡ inlet_given j → Gives (left (inlet_reader i)) (inlet_given i) n xs
-gives_read left i j n xs reads same = record { begins = by (left (inlet_reader i)) (left (inlet_reader j)) reads.consumed; given = same ∙ reads.given }
-  where
-    by : (o m : Option (List ℕ)) → Consumes o m xs → IfSome o (λ ys. (rest : List ℕ) × (ys ≡ xs ++ rest))
-    by None m h = tt
-    by (Some ys) None h = absurd h
-    by (Some ys) (Some zs) h = (zs, h)
-
--- before the sound
-pub gives_none : {R : Type 0} (left : R → Option (List ℕ)) (i j : Inlet R) (n : ℕ) (front : List ℕ) → Reads left i j front → IsBeforeSound front → n ≡ inlet_given j → GivesNone (left (inlet_reader i)) (inlet_given i) n
-gives_none left i j n front reads before same = by (left (inlet_reader i)) (gives_read left i j n front reads same)
-  where
-    by : (o : Option (List ℕ)) → Gives o (inlet_given i) n front → GivesNone o (inlet_given i) n
-    by None gives = tt
-    by (Some xs) gives = λ s accepted tells.
-        let start = gives.begins in
-        omega (arith, before start.0 s (subst IsAccepted start.1 accepted) (subst (λ ys. TellsSound ys s) start.1 tells), gives.given)
+use Rattle.sound_core.proofs.ReadLaws.{gives_read, whole_is}
+use Rattle.sound_core.proofs.ToldLaws.{told_once}
 
 -- ---- a part of the sound
 pub part_given : {R : Type 0} (left : R → Option (List ℕ)) (i j : Inlet R) (p q : Player) (wanted size : ℕ) (back kept : List ℕ) (a b c : Option (List ℕ)) (n : ℕ) → PlaysPart left i j p q wanted size back kept a b → size < wanted → c ≡ b → n ≡ inlet_given j

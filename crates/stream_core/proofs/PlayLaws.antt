@@ -8,38 +8,25 @@ use Rattle.std.proofs.KnownBytes.{Appends-trans}
 use Rattle.device_core.specs.Inlets.{inlet_given, inlet_reader}
 use Rattle.device_core.specs.Outlets.{AppendsFront}
 use Rattle.device_core.specs.declared.inlet.Inlet.{Inlet}
-use Rattle.dsd_bits.specs.declared.interleaving.Interleaving.{Interleaving}
-use Rattle.dsd_bits.specs.declared.interleaving.Interleaving.TheVariants.{Bytes, Blocks}
 use Rattle.dsd_bits.specs.declared.sound.Sound.{Sound}
 use Rattle.dsd_bits.specs.Sounds.{HasSound, sound_bytes}
-use Rattle.dsdiff_core.proofs.FrontEnds as dsdiff
-use Rattle.dsf_core.proofs.FrontLaws as dsf
 use Rattle.fir_core.specs.Decimator.{Decimator}
 use Rattle.player_core.specs.Due.{all_bytes}
 use Rattle.player_core.specs.Laws.{SoundIsPlayed, file_around, total_frames}
 use Rattle.player_core.proofs.SoundLaws.{file_has_size, frames_fill}
 use Rattle.wave_core.specs.Sizes.{riff_size}
-use Rattle.stream_core.specs.Closing.{Closes, EndsAt}
-use Rattle.stream_core.specs.Faults.{IsFromOutside}
-use Rattle.stream_core.specs.Files.{HoldsRecording, IsAccepted, IsFrontFault, IsRefused, TellsSound}
+use Rattle.sound_core.specs.Closing.{Closes}
+use Rattle.sound_core.specs.Faults.{IsFromOutside}
+use Rattle.sound_core.specs.Files.{HoldsRecording, IsAccepted, IsFrontFault, IsRefused, TellsSound}
 use Rattle.stream_core.specs.Pieces.{IsSoundFault, PlaysFront, PlaysSound}
 use Rattle.stream_core.specs.Playing.{OnlyFromOutside, PlaysBy, PlaysFile, PlaysGiven, PlaysRead, Stands, WritesFront}
-use Rattle.stream_core.specs.Reads.{Reads}
+use Rattle.sound_core.specs.Reads.{Reads}
 use Rattle.stream_core.specs.Wave.{OpensWave, file_size, header_of, pad_of}
-use Rattle.stream_core.specs.declared.fault.StreamFault.{StreamFault}
-use Rattle.stream_core.specs.declared.fault.StreamFault.TheVariants.{FileRefused, RateNotDivided, TooLarge, ReadFailed, WriteFailed, TurnLimit, Memory}
-use Rattle.stream_core.proofs.HeadLaws.{IsFound, found_told, told_found}
+use Rattle.sound_core.specs.declared.fault.StreamFault.{StreamFault}
+use Rattle.sound_core.specs.declared.fault.StreamFault.TheVariants.{FileRefused, RateNotDivided, TooLarge, ReadFailed, WriteFailed, TurnLimit, Memory}
 use Rattle.stream_core.proofs.PieceLaws.{any_err, front_more, front_nil}
-use Rattle.stream_core.proofs.ReadLaws.{reads_on}
+use Rattle.sound_core.proofs.ReadLaws.{reads_on}
 use Rattle.stream_core.proofs.RestLaws.{front_on}
-
--- ---- the head, up to the sound
-pub ends_at : (front : List ℕ) (s : Sound) → TellsSound front s → EndsAt (take s.start front) s
-ends_at front s tells = record { leads = found_told s.interleaving (take s.start front) s (by s.interleaving (told_found s.interleaving front s tells.leads)); start = sym (length-take-le s.start front tells.within) }
-  where
-    by : (o : Interleaving) → IsFound o front s → IsFound o (take s.start front) s
-    by Bytes e = dsdiff.ends_front front s e
-    by (Blocks order) e = dsf.ends_front front s e
 
 module _ (law : SoundIsPlayed) (d : Decimator) (front : List ℕ) (s : Sound) (tells : TellsSound front s) where
   abbrev head : List ℕ

@@ -10,10 +10,10 @@ use Rattle.player_core.specs.Due.{due_bytes}
 use Rattle.player_core.specs.PlayerView.{IsFed, fed_of, filter_of, sound_of}
 use Rattle.player_core.specs.declared.player.Player.{Player}
 use Rattle.stream_core.specs.Pieces.{IsPieceFault, PlaysPart, PutsDue, PutsFront, PutsFrontLeft}
-use Rattle.stream_core.specs.Reads.{Reads}
-use Rattle.stream_core.specs.declared.fault.StreamFault.{StreamFault}
-use Rattle.stream_core.specs.declared.fault.StreamFault.TheVariants.{FileRefused, RateNotDivided, TooLarge, ReadFailed, WriteFailed, TurnLimit, Memory}
-use Rattle.stream_core.proofs.ReadLaws.{reads_none, reads_on}
+use Rattle.sound_core.specs.Reads.{Reads}
+use Rattle.sound_core.specs.declared.fault.StreamFault.{StreamFault}
+use Rattle.sound_core.specs.declared.fault.StreamFault.TheVariants.{FileRefused, RateNotDivided, TooLarge, ReadFailed, WriteFailed, TurnLimit, Memory}
+use Rattle.sound_core.proofs.ReadLaws.{reads_none, reads_on}
 
 -- ---- what is written, one after the other
 pub front_on : (a b c : Option (List ℕ)) (xs ys : List ℕ) → Appends a b xs → AppendsFront b c ys → AppendsFront a c (xs ++ ys)

@@ -1,8 +1,8 @@
 -- A whole sound, of which the first bytes were read before.
-use Rattle.std.proofs.Common.{◌≡◌, ℕ, ◌+◌, ◌-◌, ◌⊎◌, inl, inr, min, List, [], ◌++◌, length, take, drop, Option, None, Some, refl, sym, subst, ap, ap₂, ◌∙◌, arith, append_assoc, append-nil, length-append, length-take, length-drop, take-append-drop}
+use Rattle.std.proofs.Common.{◌≡◌, ℕ, ◌+◌, ◌-◌, ◌⊎◌, inl, inr, List, [], ◌++◌, length, take, drop, Option, None, Some, refl, sym, subst, ap, ap₂, ◌∙◌, arith, append_assoc, append-nil, length-append, length-take, length-drop, take-append-drop}
 use Rattle.std.proofs.lemmas.Bool.{cases_lt}
-use Rattle.std.proofs.lemmas.List.{nil_from_length, take-append-le, take_min}
-use Rattle.std.proofs.Math.Seq.{take-append-add, take-append_seam}
+use Rattle.std.proofs.lemmas.List.{nil_from_length}
+use Rattle.std.proofs.Math.Seq.{take-append_seam}
 use Rattle.std.specs.Io.KnownBytes.{Appends, Consumes}
 use Rattle.std.proofs.KnownBytes.{Appends-trans}
 use Rattle.device_core.specs.Inlets.{inlet_reader}
@@ -15,25 +15,13 @@ use Rattle.player_core.specs.PlayerView.{IsFed, filter_of, sound_of}
 use Rattle.player_core.specs.declared.player.Player.{Player}
 use Rattle.player_core.proofs.SoundLaws.{nothing_is_due}
 use Rattle.stream_core.specs.Pieces.{IsPieceFault, IsSoundFault, PlaysFront, PlaysPart, PlaysSound, PutsDue, PutsFront, PutsFrontLeft, PutsFrontOf, PutsRest}
-use Rattle.stream_core.specs.declared.fault.StreamFault.{StreamFault}
-use Rattle.stream_core.specs.declared.fault.StreamFault.TheVariants.{FileRefused, RateNotDivided, TooLarge, ReadFailed, WriteFailed, TurnLimit, Memory}
+use Rattle.sound_core.specs.declared.fault.StreamFault.{StreamFault}
+use Rattle.sound_core.specs.declared.fault.StreamFault.TheVariants.{FileRefused, RateNotDivided, TooLarge, ReadFailed, WriteFailed, TurnLimit, Memory}
+use Rattle.sound_core.proofs.ReadLaws.{whole_is}
 use Rattle.stream_core.proofs.PieceLaws.{front_nil}
 use Rattle.stream_core.proofs.RestLaws.{due_on, front_on}
 
 -- ---- bytes that were read before, and those that are left
--- of both, so many are those before and the rest of the others
-pub whole_is : {X : Type 0} (size : ℕ) (xs ys : List X) → take size (xs ++ ys) ≡ take size xs ++ take (size - length (take size xs)) ys
-whole_is {X} size xs ys = elim (cases_lt size (length xs)) [
-  | inl less ↦ (let none : size - length (take size xs) ≡ 0 = omega (arith, length-take size xs) in
-      take-append-le size xs ys (omega arith) ∙ sym (append-nil (take size xs)) ∙ ap (λ n. take size xs ++ take n ys) (sym none))
-  | inr more ↦ (let all : take size xs ≡ xs = sym (take_min size xs) ∙ (let m : min size (length xs) ≡ length xs = omega arith in ap (λ n. take n xs) m) ∙ sym (append-nil (take (length xs) xs)) ∙ all_taken xs in
-      let total : length xs + (size - length xs) ≡ size = omega arith in
-      ap (λ n. take n (xs ++ ys)) (sym total) ∙ take-append-add xs ys (size - length xs) ∙ ap (λ zs. zs ++ take (size - length zs) ys) (sym all))
-]
-  where
-    all_taken : (xs : List X) → take (length xs) xs ++ [] ≡ xs
-    all_taken xs = ap (λ zs. take (length xs) xs ++ zs) (sym (nil_from_length (drop (length xs) xs) (omega (arith, length-drop (length xs) xs)))) ∙ take-append-drop (length xs) xs
-
 -- either nothing stands behind the first of them, or none is wanted of the others
 one_is_empty : (size : ℕ) (xs part : List ℕ) → length part ≡ size - length (take size xs) → (drop size xs ≡ []) ⊎ (part ≡ [])
 one_is_empty size xs part long = elim (cases_lt size (length xs)) [

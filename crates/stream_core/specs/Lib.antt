@@ -1,15 +1,4 @@
-pub mod Faults
-pub mod Files
-pub mod Reads
-pub mod Readers
 pub mod Wave
 pub mod Pieces
-pub mod Closing
 pub mod Playing
 pub mod Pace
-pub mod Outlines
-pub mod Sinks
-pub mod Stretches
-pub mod Keepers
-pub mod Keeping
-pub mod Laws

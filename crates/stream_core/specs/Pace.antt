@@ -8,7 +8,8 @@ use Rattle.player_core.specs.Groups.{place_in}
 use Rattle.player_core.specs.PlayerView.{IsFed, filter_of, sound_of}
 use Rattle.player_core.specs.declared.player.Player.{Player}
 use Rattle.wave_core.specs.Sizes.{block_align, header_size}
-use Rattle.stream_core.specs.Files.{IsAccepted, TellsSound}
+use Rattle.sound_core.specs.Files.{TellsSound}
+use Rattle.sound_core.specs.Reads.{Gives}
 use Rattle.stream_core.specs.Playing.{PlaysBy}
 
 -- how many bytes of the sound stand among so many first bytes of its file
@@ -34,19 +35,6 @@ KeepsUp left_old d front given held_old held_new = IfSome left_old (λ left. (by
     → WritesFrames d s (sound_given s given - 131072) bytes held_old held_new)
 
 -- ---- stages
-
--- these bytes were read of those that are left, and counted
-pub record Gives (left_old : Option (List ℕ)) (given_old given_new : ℕ) (read : List ℕ) : Type 0 where
-  pub begins : IfSome left_old (λ left. (rest : List ℕ) × (left ≡ read ++ rest))
-  pub given : given_new ≡ given_old + length read
-
--- bytes that stand before the sound of every accepted file that begins with them
-abbrev pub IsBeforeSound : List ℕ → Type 0
-IsBeforeSound front = (rest : List ℕ) (s : Sound) → IsAccepted (front ++ rest) → TellsSound (front ++ rest) s → length front ≤ s.start
-
--- no byte of the sound was given
-abbrev pub GivesNone : Option (List ℕ) → ℕ → ℕ → Type 0
-GivesNone left_old given_old given_new = IfSome left_old (λ file. (s : Sound) → IsAccepted file → TellsSound file s → given_new ≤ given_old + s.start)
 
 -- what was read of the next bytes of the sound was played
 pub record PlaysGivenPart (left_old : Option (List ℕ)) (given_old given_new : ℕ) (p : Player) (wanted : ℕ) (held_old held_new : Option (List ℕ)) : Type 0 where

@@ -8,9 +8,9 @@ use Rattle.fir_core.specs.Decimator.{Decimator}
 use Rattle.player_core.specs.Due.{all_bytes, due_bytes}
 use Rattle.player_core.specs.PlayerView.{IsFed, fed_of, filter_of, sound_of}
 use Rattle.player_core.specs.declared.player.Player.{Player}
-use Rattle.stream_core.specs.Reads.{Reads}
-use Rattle.stream_core.specs.declared.fault.StreamFault.{StreamFault}
-use Rattle.stream_core.specs.declared.fault.StreamFault.TheVariants.{FileRefused, ReadFailed, WriteFailed, TurnLimit, Memory}
+use Rattle.sound_core.specs.Reads.{Reads}
+use Rattle.sound_core.specs.declared.fault.StreamFault.{StreamFault}
+use Rattle.sound_core.specs.declared.fault.StreamFault.TheVariants.{FileRefused, ReadFailed, WriteFailed, TurnLimit, Memory}
 
 -- after whatever bytes the player was fed, it was fed these, and what was due then and not before was written
 abbrev pub PutsDue : Player → Player → List ℕ → Option (List ℕ) → Option (List ℕ) → Type 0

@@ -11,11 +11,11 @@ use Rattle.player_core.specs.Laws.{total_frames}
 use Rattle.player_core.specs.Samples.{pcm}
 use Rattle.wave_core.specs.Sizes.{riff_size}
 use Rattle.wave_core.specs.Texts.{wave_text}
-use Rattle.stream_core.specs.Faults.{IsFromOutside}
-use Rattle.stream_core.specs.Files.{HoldsRecording, IsRefused, TellsSound}
-use Rattle.stream_core.specs.Reads.{Reads}
-use Rattle.stream_core.specs.declared.fault.StreamFault.{StreamFault}
-use Rattle.stream_core.specs.declared.fault.StreamFault.TheVariants.{FileRefused, RateNotDivided, TooLarge, ReadFailed, WriteFailed, TurnLimit, Memory}
+use Rattle.sound_core.specs.Faults.{IsFromOutside}
+use Rattle.sound_core.specs.Files.{HoldsRecording, IsRefused, TellsSound}
+use Rattle.sound_core.specs.Reads.{Reads}
+use Rattle.sound_core.specs.declared.fault.StreamFault.{StreamFault}
+use Rattle.sound_core.specs.declared.fault.StreamFault.TheVariants.{FileRefused, RateNotDivided, TooLarge, ReadFailed, WriteFailed, TurnLimit, Memory}
 
 -- the file holds a recording whose rate the factor divides, and these bytes are the WAVE text of its samples
 pub record PlaysBy (d : Decimator) (file bytes : List ℕ) : Type 0 where

@@ -7,8 +7,8 @@ use Rattle.player_core.specs.Laws.{total_frames}
 use Rattle.wave_core.specs.Sizes as sizes
 use Rattle.wave_core.specs.Sizes.{FitsRiff, riff_size}
 use Rattle.wave_core.specs.Texts.{header, pad_bytes}
-use Rattle.stream_core.specs.declared.fault.StreamFault.{StreamFault}
-use Rattle.stream_core.specs.declared.fault.StreamFault.TheVariants.{RateNotDivided, TooLarge, WriteFailed, Memory}
+use Rattle.sound_core.specs.declared.fault.StreamFault.{StreamFault}
+use Rattle.sound_core.specs.declared.fault.StreamFault.TheVariants.{RateNotDivided, TooLarge, WriteFailed, Memory}
 
 -- what stands before the frames, and behind them
 abbrev pub header_of : Decimator → Sound → List ℕ

@@ -5,18 +5,17 @@ ghost use Rattle.device_core.specs.Inlets.{inlet_given, inlet_reader};
 ghost use Rattle.device_core.specs.Outlets.{outlet_failures, outlet_writer};
 ghost use Rattle.dsd_bits.specs.Sounds.{IsSound};
 ghost use Rattle.player_core.specs.PlayerView.{IsPlayer, fed_of, filter_of, sound_of};
-ghost use Rattle.stream_core.specs.Faults.{IsWritingFault, StopsReading, failed_writes};
+ghost use Rattle.sound_core.specs.Faults.{IsWritingFault, StopsReading, failed_writes};
 ghost use Rattle.stream_core.specs.Pace.{PlaysGivenPart, PlaysGivenSound};
 ghost use Rattle.stream_core.specs.Pieces.{IsPieceFault, IsSoundFault, PlaysFront, PlaysPart, PlaysSound, PutsDue, PutsFrontLeft, PutsFrontOf, PutsRest};
-ghost use Rattle.stream_core.specs.Readers.{Counts, IsReading, IsSame};
+ghost use Rattle.sound_core.specs.Readers.{Counts, IsReading, IsSame};
 
-use crate::fault::StreamFault;
-use crate::reader::SoundReader;
 use crate::wave::put;
 use device_core::Outlet;
 use dsd_bits::{Interleaving, Sound};
 use fir_core::Taps;
 use player_core::Player;
+use sound_core::{SoundReader, StreamFault};
 use std::alloc::Global;
 use std::io::{Read, Write};
 

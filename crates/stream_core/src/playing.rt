@@ -3,23 +3,21 @@
 ghost use Rattle.std.specs.Prelude.{◌≡◌, ◌+◌, ◌-◌, ◌<◌, ◌≤◌, ◌^◌, ◌++◌, [], IfErr, IfOk, IfSome, IsErrOf, OnErr, OnOk, length};
 ghost use Rattle.device_core.specs.Inlets.{inlet_failures, inlet_given, inlet_reader, inlet_reads};
 ghost use Rattle.device_core.specs.Outlets.{outlet_failures, outlet_writer};
-ghost use Rattle.stream_core.specs.Faults.{IsBeforeWriting, StopsReading, failed_reads, failed_writes};
-ghost use Rattle.stream_core.specs.Files.{TellsSound};
+ghost use Rattle.sound_core.specs.Faults.{IsBeforeWriting, StopsReading, failed_reads, failed_writes};
+ghost use Rattle.sound_core.specs.Files.{TellsSound};
 ghost use Rattle.stream_core.specs.Pace.{KeepsUp};
 ghost use Rattle.stream_core.specs.Playing.{OnlyFromOutside, PlaysFile, PlaysGiven, PlaysRead, Stands, WritesFront};
-ghost use Rattle.stream_core.specs.Readers.{Counts, IsAtStart, IsReading, IsSame};
+ghost use Rattle.sound_core.specs.Readers.{Counts, IsAtStart, IsReading, IsSame};
 
-use crate::closing::closes;
-use crate::fault::StreamFault;
-use crate::front::read_front;
-use crate::laws::accepted_files_tell_one_sound;
 use crate::pieces::play_sound;
-use crate::reader::{SoundReader, new_block};
 use crate::wave::{file_size, put_header, put_pad};
 use device_core::{Inlet, Outlet};
 use dsd_bits::Sound;
 use fir_core::Taps;
 use player_core::sound_is_played;
+use sound_core::{
+    SoundReader, StreamFault, accepted_files_tell_one_sound, closes, new_block, read_front,
+};
 use std::alloc::Global;
 use std::io::{Read, Write};
 

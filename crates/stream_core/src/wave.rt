@@ -6,16 +6,16 @@ ghost use Rattle.device_core.specs.Outlets.{AppendsFront, outlet_failures, outle
 ghost use Rattle.dsd_bits.specs.Sounds.{IsSound};
 ghost use Rattle.player_core.specs.Laws.{total_frames};
 ghost use Rattle.wave_core.specs.Contents.{spec_of};
-ghost use Rattle.stream_core.specs.Faults.{IsBeforeWriting, IsWritingFault, failed_writes};
+ghost use Rattle.sound_core.specs.Faults.{IsBeforeWriting, IsWritingFault, failed_writes};
 ghost use Rattle.stream_core.specs.Wave.{IsOpeningFault, OpensWave, file_size, header_of, pad_of};
 
-use crate::fault::StreamFault;
 use device_core::Outlet;
 use dsd_bits::Sound;
 use fir_core::Taps;
 use player_core::wave_spec;
+use sound_core::StreamFault;
 use std::io::Write;
-use wave_core::WaveSpec;
+use wave_core::{WaveFault, WaveSpec};
 
 /// Writes these bytes.
 ///
@@ -79,8 +79,11 @@ pub(crate) fn put_header<W: Write>(
         return Err(StreamFault::RateNotDivided);
     }
     out.clear();
-    spec_of(taps, sound).push_header(out, total_frames(taps, sound))?;
-    put(outlet, out.as_slice())
+    match spec_of(taps, sound).push_header(out, total_frames(taps, sound)) {
+        Ok(()) => put(outlet, out.as_slice()),
+        Err(WaveFault::TooLarge) => Err(StreamFault::TooLarge),
+        Err(WaveFault::Memory) => Err(StreamFault::Memory),
+    }
 }
 
 /// Writes what stands behind the frames of a sound: a byte where their bytes are odd.

@@ -11,7 +11,7 @@ use fixtures::files::{FILE, STEREO, changed, followed, mono, noted, one_bit, thr
 use form_core::Form;
 use std::alloc::{AllocError, Global};
 use std::test::Fail;
-use stream_core::read_outline;
+use sound_core::read_outline;
 use transfer_core::{Converted, Fault, convert, convert_stream};
 
 const FORMS: [Form; 3] = [Form::Dsdiff, Form::Dsf, Form::Dsf8];

@@ -13,7 +13,7 @@ use form_core::Form;
 use std::alloc::{AllocError, Global};
 use std::process::Abort;
 use std::test::Fail;
-use stream_core::read_stretches;
+use sound_core::read_stretches;
 use transfer_core::convert;
 
 // A writer that takes so many bytes without a growth: of one that is refused it would say that the write failed.

@@ -11,7 +11,7 @@ use fixtures::files::{FILE, STEREO, mono, noted, one_bit, stereo};
 use form_core::read_any;
 use std::alloc::{AllocError, Global};
 use std::test::Fail;
-use stream_core::{Kept, StreamFault, read_stretches};
+use sound_core::{Kept, StreamFault, read_stretches};
 use transfer_core::Fault;
 
 // The bits from one place to another.

@@ -13,8 +13,8 @@ use Rattle.form_core.specs.declared.form.Form.TheVariants.{Dsdiff, Dsf, Dsf8}
 use Rattle.folder_core.specs.Files.{Files, IsFront, IsGiven, KeepsOthers}
 use Rattle.folder_core.specs.declared.fault.FileFault.{FileFault}
 use Rattle.folder_core.specs.declared.fault.FileFault.TheVariants as files
-use Rattle.stream_core.specs.Outlines.{around_of, with_sound}
-use Rattle.stream_core.specs.declared.outline.Outline.{Outline}
+use Rattle.sound_core.specs.Outlines.{around_of, with_sound}
+use Rattle.sound_core.specs.declared.outline.Outline.{Outline}
 use Rattle.transfer_core.specs.Converting.{Converts, converted_of}
 use Rattle.transfer_core.specs.Conversions as streams
 use Rattle.transfer_core.specs.declared.fault.Fault.TheVariants.{Memory, NotWholeBytes}

@@ -19,10 +19,10 @@ use Rattle.form_core.specs.Laws.{HeldIsOpened}
 use Rattle.cut_core.specs.declared.heard.Heard.{Heard}
 use Rattle.cut_core.specs.Hearing.{ranges_of}
 use Rattle.cut_core.specs.Opening.{HearsTake, IsOfTake, take_in}
-use Rattle.stream_core.specs.Keeping.{IsKeptOf, stretches_in}
-use Rattle.stream_core.specs.Outlines.{AreTold, StandsIn, around_of, with_sound}
-use Rattle.stream_core.specs.declared.keeping.Kept.{Kept}
-use Rattle.stream_core.specs.declared.outline.Outline.{Outline}
+use Rattle.sound_core.specs.Keeping.{IsKeptOf, stretches_in}
+use Rattle.sound_core.specs.Outlines.{AreTold, StandsIn, around_of, with_sound}
+use Rattle.sound_core.specs.declared.keeping.Kept.{Kept}
+use Rattle.sound_core.specs.declared.outline.Outline.{Outline}
 use Rattle.folder_core.specs.Files.{Files}
 use Rattle.transfer_commands.specs.Hearing.{HearsFile, HearsHeld, StreamsFile}
 use Rattle.transfer_commands.specs.Outlining.{form_in}

@@ -12,8 +12,8 @@ use Rattle.dsd_bits.specs.Contents.{Content}
 use Rattle.dsd_bits.specs.Lacing.{laced_bit, unlaced}
 use Rattle.dsd_bits.specs.Sounds.{sound_channels, sound_size}
 use Rattle.form_core.specs.Forms.{HoldsAs}
-use Rattle.stream_core.specs.Outlines.{HoldsIn, around_of, with_sound}
-use Rattle.stream_core.specs.declared.outline.Outline.{Outline}
+use Rattle.sound_core.specs.Outlines.{HoldsIn, around_of, with_sound}
+use Rattle.sound_core.specs.declared.outline.Outline.{Outline}
 use Rattle.folder_core.specs.Files.{Files}
 use Rattle.info_core.specs.declared.told.Told.{Told}
 use Rattle.transfer_commands.specs.Outlining.{IsOutlined, OutlinesFile, form_in}

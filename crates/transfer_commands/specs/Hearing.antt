@@ -9,7 +9,7 @@ use Rattle.cut_core.specs.declared.fault.CutFault.{CutFault}
 use Rattle.cut_core.specs.declared.heard.Heard.{Heard}
 use Rattle.cut_core.specs.Hearing.{heard_content, heard_of}
 use Rattle.cut_core.specs.Opening.{HearsTake, HearsTakes, take_in, takes_before, takes_of}
-use Rattle.stream_core.specs.Files.{IsRefused}
+use Rattle.sound_core.specs.Files.{IsRefused}
 use Rattle.transfer_core.specs.Projects.{SaysSplice}
 use Rattle.folder_core.specs.Files.{AreFiles, Files}
 use Rattle.transfer_commands.specs.Sources.{AreSources}

@@ -3,9 +3,9 @@ use Rattle.std.specs.Prelude.{◌≡◌, ℕ, List, Option, Some, None, ⊤}
 use Rattle.dsd_bits.specs.declared.blocks.BitOrder.TheVariants.{LeastFirst, MostFirst}
 use Rattle.dsd_bits.specs.declared.interleaving.Interleaving.{Interleaving}
 use Rattle.dsd_bits.specs.declared.interleaving.Interleaving.TheVariants.{Bytes, Blocks}
-use Rattle.stream_core.specs.Files.{IsRefused}
-use Rattle.stream_core.specs.Outlines.{AreAround, AreTold, around_of}
-use Rattle.stream_core.specs.declared.outline.Outline.{Outline}
+use Rattle.sound_core.specs.Files.{IsRefused}
+use Rattle.sound_core.specs.Outlines.{AreAround, AreTold, around_of}
+use Rattle.sound_core.specs.declared.outline.Outline.{Outline}
 use Rattle.transfer_core.specs.declared.fault.Fault.TheVariants.{Memory}
 use Rattle.form_core.specs.declared.form.Form.{Form}
 use Rattle.form_core.specs.declared.form.Form.TheVariants.{Dsdiff, Dsf, Dsf8}

@@ -2,7 +2,7 @@
 
 ghost use Rattle.std.specs.Prelude.{◌≡◌, ◌↔◌, List, ℕ, Some, IfErr, IfOk, IsTrue, OnErr};
 ghost use Rattle.form_core.specs.Parts.{FitsIn};
-ghost use Rattle.stream_core.specs.Outlines.{AreTold, around_of};
+ghost use Rattle.sound_core.specs.Outlines.{AreTold, around_of};
 ghost use Rattle.transfer_core.specs.Conversions.{ConversionStands, ConvertsFile, ConvertsFront};
 ghost use Rattle.transfer_commands.specs.Converting.{ConvertComesTo};
 ghost use Rattle.transfer_commands.specs.Outlining.{OutlinesFile};
@@ -14,7 +14,7 @@ use folder_core::{Folder, read_file, read_short, write_file};
 use form_core::{Form, held_is_opened, written_in_parts};
 use std::alloc::Global;
 use std::io::{Read, Write};
-use stream_core::Outline;
+use sound_core::Outline;
 use transfer_core::{Fault, convert, convert_stream};
 
 /// Converts a file to the other form: how many parts of its recording have no place in it.

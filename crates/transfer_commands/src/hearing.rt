@@ -4,8 +4,8 @@ ghost use Rattle.std.specs.Prelude.{◌≡◌, ◌<◌, [], ℕ, List, IfErr, If
 ghost use Rattle.splice_core.specs.Splices.{SpliceContent, splice_content};
 ghost use Rattle.cut_core.specs.Hearing.{ranges_of};
 ghost use Rattle.cut_core.specs.Opening.{IsOfTake, IsOfTakes};
-ghost use Rattle.stream_core.specs.Keeping.{IsKeptOf, stretches_in};
-ghost use Rattle.stream_core.specs.Outlines.{AreTold, around_of};
+ghost use Rattle.sound_core.specs.Keeping.{IsKeptOf, stretches_in};
+ghost use Rattle.sound_core.specs.Outlines.{AreTold, around_of};
 ghost use Rattle.transfer_commands.specs.Hearing.{HearsFile, HearsFiles, HearsHeld, IsHeardIn, StreamsFile};
 ghost use Rattle.transfer_commands.specs.Outlining.{IsUnread};
 
@@ -17,7 +17,7 @@ use form_core::{has_shape, held_is_opened};
 use splice_core::Splice;
 use std::alloc::Global;
 use std::io::Read;
-use stream_core::{Kept, StreamFault, read_stretches};
+use sound_core::{Kept, StreamFault, read_stretches};
 use transfer_core::Fault;
 
 /// What a splice hears of the files of its takes, each read before the next is opened: of each no more is kept than is

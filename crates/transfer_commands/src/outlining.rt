@@ -1,14 +1,14 @@
 //! What a file of a folder holds beside its sound.
 
 ghost use Rattle.std.specs.Prelude.{◌≡◌, IfErr, IfOk, IfSome, IsTrue};
-ghost use Rattle.stream_core.specs.Outlines.{AreTold, around_of};
+ghost use Rattle.sound_core.specs.Outlines.{AreTold, around_of};
 ghost use Rattle.transfer_commands.specs.Outlining.{IsUnread, OutlinesFile};
 
 use crate::fault::CommandFault;
 use device_core::Inlet;
 use folder_core::Folder;
 use std::alloc::Global;
-use stream_core::{Outline, StreamFault, read_outline};
+use sound_core::{Outline, StreamFault, read_outline};
 use transfer_core::Fault;
 
 /// Files of fewer bytes are held whole, 2 MiB.

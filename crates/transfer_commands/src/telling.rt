@@ -13,7 +13,7 @@ use folder_core::{Folder, read_file, read_short};
 use form_core::{Form, read_any};
 use info_core::Told;
 use std::alloc::Global;
-use stream_core::Outline;
+use sound_core::Outline;
 use transfer_core::Fault;
 
 /// What a file holds, told without its bits. A file of fewer than `most` bytes is read whole. Any other is opened again

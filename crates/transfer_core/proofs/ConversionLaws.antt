@@ -13,7 +13,7 @@ use Rattle.dsd_bits.specs.Sounds.{sound_channels, sound_size}
 use Rattle.dsd_bits.proofs.BlockLemmas.{unblocked_count}
 use Rattle.relace_core.specs.Relacing.{laced_in}
 use Rattle.relace_core.proofs.TakenLaws.{unlaced_count}
-use Rattle.stream_core.specs.Outlines.{AreTold, HoldsIn, StandsIn, Surroundings, with_sound}
+use Rattle.sound_core.specs.Outlines.{AreTold, HoldsIn, StandsIn, Surroundings, with_sound}
 use Rattle.stream_core.proofs.PieceLaws.{front_nil}
 use Rattle.relay_core.specs.declared.relaying.Target.{Target}
 use Rattle.relay_core.specs.Relays.{Relays, RelaysFront, RelaysGiven, relayed}

@@ -4,15 +4,15 @@ use Rattle.device_core.specs.declared.inlet.Inlet.{Inlet}
 use Rattle.dsd_bits.specs.declared.blocks.BitOrder.TheVariants.{LeastFirst, MostFirst}
 use Rattle.dsd_bits.specs.Contents.{Content}
 use Rattle.fir_core.specs.Decimator.{Decimator}
-use Rattle.stream_core.specs.Faults.{IsFromOutside as IsOutside}
-use Rattle.stream_core.specs.Faults as reading
-use Rattle.stream_core.specs.Files.{HoldsRecording}
+use Rattle.sound_core.specs.Faults.{IsFromOutside as IsOutside}
+use Rattle.sound_core.specs.Faults as reading
+use Rattle.sound_core.specs.Files.{HoldsRecording}
 use Rattle.stream_core.specs.Pace as pace
 use Rattle.stream_core.specs.Pace.{WritesFrames, sound_given}
 use Rattle.stream_core.specs.Playing as streams
 use Rattle.stream_core.specs.Playing.{PlaysBy}
-use Rattle.stream_core.specs.declared.fault.StreamFault.{StreamFault}
-use Rattle.stream_core.specs.declared.fault.StreamFault.TheVariants as faults
+use Rattle.sound_core.specs.declared.fault.StreamFault.{StreamFault}
+use Rattle.sound_core.specs.declared.fault.StreamFault.TheVariants as faults
 use Rattle.form_core.specs.declared.form.Form.{Form}
 use Rattle.form_core.specs.declared.form.Form.TheVariants as forms
 use Rattle.form_core.specs.Forms.{HoldsAs, form_of}

@@ -2,7 +2,7 @@
 use Rattle.std.specs.Prelude.{ℕ, List, Option, IfSome, ⊤}
 use Rattle.std.specs.Io.KnownBytes.{Appends, Consumes}
 use Rattle.device_core.specs.Outlets.{AppendsFront}
-use Rattle.stream_core.specs.Outlines.{AreAround, Surroundings}
+use Rattle.sound_core.specs.Outlines.{AreAround, Surroundings}
 use Rattle.form_core.specs.declared.form.Form.{Form}
 use Rattle.form_core.specs.Parts.{FitsIn}
 use Rattle.transfer_core.specs.declared.fault.Fault.{Fault}

@@ -3,8 +3,8 @@ use Rattle.dsdiff_core.specs.declared.write_fault.WriteFault.{WriteFault}
 use Rattle.dsdiff_core.specs.declared.write_fault.WriteFault.TheVariants as writes
 use Rattle.project_core.specs.declared.fault.ProjectFault.{ProjectFault}
 use Rattle.project_core.specs.declared.fault.ProjectFault.TheVariants as projects
-use Rattle.stream_core.specs.declared.fault.StreamFault.{StreamFault}
-use Rattle.stream_core.specs.declared.fault.StreamFault.TheVariants as streams
+use Rattle.sound_core.specs.declared.fault.StreamFault.{StreamFault}
+use Rattle.sound_core.specs.declared.fault.StreamFault.TheVariants as streams
 use Rattle.wave_core.specs.declared.fault.WaveFault.{WaveFault}
 use Rattle.wave_core.specs.declared.fault.WaveFault.TheVariants as waves
 use Rattle.form_core.specs.declared.fault.ReadFault.{ReadFault}

@@ -6,10 +6,10 @@ use Rattle.device_core.specs.declared.inlet.Inlet.{Inlet}
 use Rattle.dsd_bits.specs.declared.sound.Sound.{Sound}
 use Rattle.dsd_bits.specs.Contents.{Content}
 use Rattle.fir_core.specs.Decimator.{Decimator}
-use Rattle.stream_core.specs.Files.{TellsSound}
+use Rattle.sound_core.specs.Files.{TellsSound}
 use Rattle.stream_core.specs.Pace.{WritesFrames, sound_given}
 use Rattle.stream_core.specs.Playing as streams
-use Rattle.stream_core.specs.Reads.{Reads}
+use Rattle.sound_core.specs.Reads.{Reads}
 use Rattle.form_core.specs.declared.form.Form.{Form}
 use Rattle.form_core.specs.Forms.{HoldsAs}
 use Rattle.transfer_core.specs.declared.fault.Fault.{Fault}

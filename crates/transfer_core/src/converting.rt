@@ -3,7 +3,7 @@
 ghost use Rattle.std.specs.Prelude.{◌≡◌, ◌+◌, ◌-◌, ◌<◌, ◌^◌, Err, IfErr, IfOk, IsErrOf, OnErr};
 ghost use Rattle.device_core.specs.Inlets.{inlet_failures, inlet_reader, inlet_reads};
 ghost use Rattle.device_core.specs.Outlets.{outlet_failures, outlet_writer};
-ghost use Rattle.stream_core.specs.Outlines.{AreTold, around_of};
+ghost use Rattle.sound_core.specs.Outlines.{AreTold, around_of};
 ghost use Rattle.form_core.specs.Parts.{FitsIn};
 ghost use Rattle.form_core.specs.Steps.{Gives};
 ghost use Rattle.transfer_core.specs.Conversions.{ConversionStands, ConvertsFile, ConvertsFront, ConvertsGiven};
@@ -16,7 +16,7 @@ use form_core::{Form, dropped_in, ends_in, interleaving_in, read_any, write_in, 
 use relay_core::{Target, relay};
 use std::alloc::Global;
 use std::io::{Read, Write};
-use stream_core::Outline;
+use sound_core::Outline;
 
 /// A recording's file in another form.
 #[derive(Drop)]

@@ -8,7 +8,7 @@ use cut_core::CutFault;
 use form_core::{ReadFault, WriteFault};
 use project_core::ProjectFault;
 use std::alloc::AllocError;
-use stream_core::StreamFault;
+use sound_core::StreamFault;
 use thiserror::Error;
 use wave_core::WaveFault;
 

@@ -2,7 +2,7 @@ use Rattle.std.proofs.Common.{subst}
 use Rattle.std.specs.Io.KnownBytes.{Consumes}
 use Rattle.std.proofs.lemmas.Result.{IfErr-weaker, err_from_is_err_and}
 use Rattle.device_core.specs.Inlets.{inlet_reader}
-use Rattle.stream_core.specs.Outlines.{around_of}
+use Rattle.sound_core.specs.Outlines.{around_of}
 use Rattle.relay_core.specs.Comparing.{IsExpectFault}
 use Rattle.relay_core.proofs.RelayLaws.{back_fault, end_fault, gap_fault, on_ok, passes_end, passes_open}
 use Rattle.relay_core.proofs.relaying.expect_rest.Goals as goal

@@ -3,7 +3,7 @@ use Rattle.std.specs.Io.KnownBytes.{Consumes}
 use Rattle.std.proofs.lemmas.Result.{err_from_is_err_and}
 use Rattle.device_core.specs.Inlets.{inlet_reader}
 use Rattle.device_core.specs.Outlets.{outlet_writer}
-use Rattle.stream_core.specs.Outlines.{around_of}
+use Rattle.sound_core.specs.Outlines.{around_of}
 use Rattle.relay_core.specs.Comparing.{IsExpectFault}
 use Rattle.relay_core.proofs.RelayLaws.{any_err, head_fault, head_part, head_whole, on_err, on_ok, relays, relays_given, rest_fault, sound_fault, sound_part, sound_whole, tail_part, unread, unwritten_expect, unwritten_rest, writing_stands}
 use Rattle.relay_core.proofs.relaying.relay.Given.{Over}

@@ -4,7 +4,7 @@ use Rattle.device_core.specs.Outlets.{outlet_writer}
 use Rattle.stream_core.specs.Pieces.{PlaysPart}
 use Rattle.stream_core.proofs.PaceLaws.{part_given}
 use Rattle.stream_core.proofs.PieceLaws.{any_err}
-use Rattle.stream_core.proofs.ReaderLaws.{same_on, same_self}
+use Rattle.sound_core.proofs.ReaderLaws.{same_on, same_self}
 use Rattle.stream_core.proofs.RestLaws.{part_fault, part_front, part_more, part_none}
 use Rattle.stream_core.proofs.pieces.play_rest.Goals as goal
 

@@ -4,7 +4,7 @@ use Rattle.device_core.specs.Inlets.{inlet_failures}
 use Rattle.device_core.specs.Outlets.{outlet_failures, outlet_writer}
 use Rattle.player_core.specs.PlayerView.{IsPlayer, fed_of, filter_of, sound_of}
 use Rattle.stream_core.specs.Pieces.{PlaysPart}
-use Rattle.stream_core.specs.Readers.{IsReading, IsSame}
+use Rattle.sound_core.specs.Readers.{IsReading, IsSame}
 use Rattle.stream_core.proofs.pieces.play_rest.Given as goal
 
 abbrev pub invariant-loop-left : goal.invariant-loop-left

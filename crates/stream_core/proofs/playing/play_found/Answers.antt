@@ -2,14 +2,15 @@ use Rattle.std.proofs.Common.{◌∙◌, ◌+◌, take, drop, sym, subst, ap, le
 use Rattle.std.proofs.lemmas.Result.{err_from_is_err_and}
 use Rattle.device_core.specs.Inlets.{inlet_given, inlet_reader}
 use Rattle.device_core.specs.Outlets.{outlet_writer}
-use Rattle.stream_core.specs.Closing.{Closes, EndsAt}
+use Rattle.sound_core.specs.Closing.{Closes, EndsAt}
 use Rattle.stream_core.specs.Pace.{PlaysGivenSound}
 use Rattle.stream_core.specs.Pieces.{IsSoundFault, PlaysFront, PlaysSound}
 use Rattle.stream_core.specs.Playing.{WritesFront}
 use Rattle.stream_core.specs.Wave.{pad_of}
+use Rattle.sound_core.proofs.ClosingLaws.{ends_at}
 use Rattle.stream_core.proofs.PaceLaws.{keeps_all, keeps_part}
 use Rattle.stream_core.proofs.PieceLaws.{any_err, front_nil}
-use Rattle.stream_core.proofs.PlayLaws.{ends_at, given_is, header_part, not_closed, pad_part, plays_read, sound_part, sound_stands}
+use Rattle.stream_core.proofs.PlayLaws.{given_is, header_part, not_closed, pad_part, plays_read, sound_part, sound_stands}
 use Rattle.stream_core.proofs.playing.play_found.Given.{Over}
 use Rattle.stream_core.proofs.playing.play_found.Goals as goal
 use Rattle.stream_core.proofs.playing.play_found.Goals.{In_ok-closes, In_ok-play_sound}

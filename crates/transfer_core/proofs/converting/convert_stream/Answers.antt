@@ -2,7 +2,7 @@ use Rattle.std.proofs.Common.{◌∙◌}
 use Rattle.device_core.specs.Inlets.{inlet_reader}
 use Rattle.device_core.specs.Outlets.{outlet_writer}
 use Rattle.stream_core.proofs.PieceLaws.{any_err}
-use Rattle.stream_core.specs.Outlines.{around_of}
+use Rattle.sound_core.specs.Outlines.{around_of}
 use Rattle.transfer_core.proofs.ConversionLaws.{converts_file, converts_front, converts_given, nothing_converted}
 use Rattle.transfer_core.proofs.converting.convert_stream.Goals as goal
 

@@ -1,0 +1,339 @@
+-- What stands around a sound, by the format's own reading.
+use Rattle.std.proofs.Common.{◌≡◌, ◌≢◌, ℕ, ◌+◌, ◌%◌, ◌<◌, ◌≤◌, ◌⊎◌, inl, inr, min, Bool, true, false, List, [], ◌++◌, length, take, drop, Option, Some, None, IfSome, refl, sym, subst, ap, ap₂, ◌∙◌, arith, append_assoc, append-nil, length-append, length-drop, length-take, take-append-drop}
+use Rattle.std.proofs.lemmas.List.{nil_from_length}
+use Rattle.std.proofs.lemmas.Bool.{cases_lt, ltb-false, ltb-true, ne_eqb}
+use Rattle.std.proofs.Math.Seq.{drop-append_seam, take-append_seam}
+use Rattle.std.specs.Io.KnownBytes.{IsAtEnd}
+use Rattle.std.specs.Prelude.{◌↔◌, nat_eq, nat_lt, if◌then◌else◌}
+use Rattle.device_core.specs.Inlets.{inlet_given, inlet_reader}
+use Rattle.device_core.specs.declared.inlet.Inlet.{Inlet}
+use Rattle.dsd_bits.specs.declared.blocks.BitOrder.{BitOrder}
+use Rattle.dsd_bits.specs.declared.interleaving.Interleaving.{Interleaving}
+use Rattle.dsd_bits.specs.declared.interleaving.Interleaving.TheVariants.{Bytes, Blocks}
+use Rattle.dsd_bits.specs.declared.sound.Sound.{Sound}
+use Rattle.dsd_bits.specs.Contents.{Content}
+use Rattle.dsd_bits.specs.Lacing.{unlaced_all}
+use Rattle.dsd_bits.specs.Sounds.{IsSound, sound_bytes, sound_channels}
+use Rattle.dsdiff_core.specs.Files.{IsDsdiff}
+use Rattle.dsdiff_core.specs.Fronts as dsdiff
+use Rattle.dsdiff_core.specs.Outlines as frames
+use Rattle.dsf_core.specs.Fields.{needed, tag_told}
+use Rattle.dsf_core.specs.Files.{IsDsf}
+use Rattle.dsf_core.specs.Fronts as dsf
+use Rattle.dsf_core.proofs.FrontLaws.{found_leads}
+use Rattle.sound_core.specs.Closing.{EndsAt}
+use Rattle.sound_core.specs.Files.{HoldsRecording, IsRefused, TellsSound}
+use Rattle.sound_core.specs.Outlines.{AreAround, AreTold, HoldsIn, IsOutlineFault, IsRestFault, IsTagFault, ReadsTag, StandsIn, Surroundings, Surrounds, SurroundsFile, with_sound}
+use Rattle.sound_core.specs.Readers.{IsPassFault, Passes}
+use Rattle.sound_core.specs.Reads.{Reads}
+use Rattle.sound_core.specs.declared.fault.StreamFault.{StreamFault}
+use Rattle.sound_core.specs.declared.fault.StreamFault.TheVariants.{FileRefused, RateNotDivided, TooLarge, ReadFailed, WriteFailed, TurnLimit, Memory}
+use Rattle.sound_core.proofs.ClosingLaws.{ends, ends_at, found, leads, no_form, nothing_left, same_form}
+use Rattle.sound_core.proofs.HeadLaws.{never_found}
+use Rattle.sound_core.proofs.OutlineLaws.{left_is}
+use Rattle.sound_core.proofs.ReadLaws.{reads_on}
+
+-- ---- a DSF file
+module _ (head : List ℕ) (s : Sound) (at : EndsAt head s) (order : BitOrder) (told : s.interleaving ≡ Blocks order) (is_sound : IsSound s) where
+  -- the sound bytes behind the head
+  own_bytes : (sound rest : List ℕ) → length sound ≡ s.size → sound_bytes (head ++ (sound ++ rest)) s ≡ sound
+  own_bytes sound rest long =
+      ap (take s.size) (ap (λ n. drop n (head ++ (sound ++ rest))) at.start ∙ drop-append_seam head (sound ++ rest))
+      ∙ ap (λ n. take n (sound ++ rest)) (sym long) ∙ take-append_seam sound rest
+
+  module _ (place gap : ℕ) (tag : List ℕ) (tag_place : dsf.IsTagPlace head place) (none : place ≡ 0 → tag ≡ []) (at_place : place ≢ 0 → length head + s.size + gap ≡ place) where
+    -- the tag behind a gap is that of the file
+    own_tag : (sound passed : List ℕ) → length sound ≡ s.size → length passed ≡ gap → tag ≡ tag_told (head ++ (sound ++ (passed ++ tag)))
+    own_tag sound passed long gap_long = elim (cases_lt 0 place) [
+      | inl some ↦ (
+          let differs : place ≢ 0 = λ zero. omega (arith, some, zero) in
+          let file = head ++ (sound ++ (passed ++ tag)) in
+          let parted : file ≡ (head ++ (sound ++ passed)) ++ tag = ap (λ xs. head ++ xs) (sym (append_assoc sound passed tag)) ∙ sym (append_assoc head (sound ++ passed) tag) in
+          let before : place ≡ length (head ++ (sound ++ passed)) = omega (arith, at_place differs, length-append head (sound ++ passed), length-append sound passed, long, gap_long) in
+          let dropped : drop place file ≡ tag = ap₂ (λ n xs. drop n xs) before parted ∙ drop-append_seam (head ++ (sound ++ passed)) tag in
+          sym (tag_place.tag (sound ++ (passed ++ tag)) ∙ chosen place (drop place file) differs ∙ dropped))
+      | inr least ↦ (
+          let is : place ≡ 0 = omega (arith, least) in
+          none is ∙ sym (tag_place.tag (sound ++ (passed ++ tag)) ∙ nothing place (drop place (head ++ (sound ++ (passed ++ tag)))) is))
+    ]
+      where
+        chosen : (n : ℕ) (xs : List ℕ) → n ≢ 0 → (if nat_eq n 0 then [] else xs) ≡ xs
+        chosen n xs some = rw (ne_eqb n 0 some) refl
+
+        nothing : (n : ℕ) (xs : List ℕ) → n ≡ 0 → (if nat_eq n 0 then [] else xs) ≡ []
+        nothing n xs is = rw is refl
+
+    module _ (recording : Content) (total : ℕ) (size : total ≡ length head + s.size + gap + length tag) (outline : dsf.IsOutline head total tag recording) where
+      abbrev around : Surroundings
+      around = record { sound = s; head = head; gap = gap; back = tag; ends = true; recording = recording }
+
+      blocks_told : AreTold around
+      blocks_told = record {
+        is_sound = is_sound;
+        whole = λ other. (let both : Blocks order ≡ Bytes = sym told ∙ other in absurd cc);
+        silent = outline.no_bits s (leads head s at order told);
+        holds = λ file sound stands.
+            let rest = sound ++ (stands.gap ++ tag) in
+            let ended : stands.gap ++ (tag ++ stands.rest) ≡ stands.gap ++ tag = ap (λ xs. stands.gap ++ xs) (ap (λ xs. tag ++ xs) (stands.ended refl) ∙ append-nil tag) in
+            let is : head ++ rest ≡ file = sym (stands.file_is ∙ ap (λ xs. head ++ (sound ++ xs)) ended) in
+            let long : length (head ++ rest) ≡ total = omega (arith, size, length-append head rest, length-append sound (stands.gap ++ tag), length-append stands.gap tag, stands.sound_long, stands.gap_long) in
+            let holds = outline.filled rest s order long (own_tag sound stands.gap stands.sound_long stands.gap_long) (leads head s at order told) told in
+            let bytes : sound_bytes (head ++ rest) s ≡ sound = own_bytes sound (stands.gap ++ tag) stands.sound_long in
+            subst (λ o. HoldsIn o file (with_sound recording s sound)) (sym told)
+            (subst (λ f. IsDsf f (with_sound recording s sound) order) is (subst (λ xs. IsDsf (head ++ rest) (record recording { channels = sound_channels s.interleaving s.channels s.count xs }) order) bytes holds));
+      }
+
+  pub blocks_around : {R : Type 0} (left : R → Option (List ℕ)) (i j : Inlet R) (place gap total stop : ℕ) (back tag : List ℕ) (recording : Content) → dsf.IsTagPlace head place → stop ≡ length head + s.size → (read : ReadsTag left i j place stop back tag gap)
+      → total ≡ length head + s.size + length back + length read.read → dsf.IsOutline head total tag recording → Surrounds left i j back (record { sound = s; head = head; gap = gap; back = tag; ends = true; recording = recording })
+  blocks_around left i j place gap total stop back tag recording tag_place stop_is read size outline =
+      let whole : total ≡ length head + s.size + gap + length tag = omega (arith, size, ap length read.parts, length-append back read.read, length-append read.passed tag, read.long) in
+      record {
+        read = read.read;
+        reads = read.reads;
+        told = blocks_told place gap tag tag_place read.none (λ some. omega (arith, read.at_place some, stop_is)) recording total whole outline;
+        given = λ sound long. record {
+          gap = read.passed;
+          rest = [];
+          file_is = ap (λ xs. head ++ (sound ++ xs)) (read.parts ∙ ap (λ xs. read.passed ++ xs) (sym (append-nil tag)));
+          sound_long = long;
+          gap_long = read.long;
+          ended = λ _. refl;
+        };
+        stands = λ sound rest long known.
+            let none : rest ≡ [] = nothing_left (left (inlet_reader j)) rest read.at_end known in
+            record {
+              gap = read.passed;
+              rest = [];
+              file_is = ap (λ xs. head ++ (sound ++ xs)) (ap (λ xs. back ++ (read.read ++ xs)) none ∙ ap (λ xs. back ++ xs) (append-nil read.read) ∙ read.parts ∙ ap (λ xs. read.passed ++ xs) (sym (append-nil tag)));
+              sound_long = long;
+              gap_long = read.long;
+              ended = λ _. refl;
+            };
+      }
+
+  -- what holds of each file that goes on so with a sound holds of what is left
+  pub tag_fault : (left : Option (List ℕ)) (place stop : ℕ) (back : List ℕ) (f : StreamFault) → dsf.IsTagPlace head place → stop ≡ length head + s.size → IsTagFault left place stop back f → IsRestFault left s head back f
+  tag_fault None place stop back FileRefused tag_place stop_is h = tt
+  tag_fault (Some xs) place stop back FileRefused tag_place stop_is h = λ sound long r holds.
+      let rest = sound ++ (back ++ xs) in
+      elim holds [
+        | inl form ↦ no_form head s at order told rest r form
+        | inr (other, is) ↦ (
+            let needs : s.size ≡ needed head = ap (λ (t : Sound). t.size) (found_leads head s (leads head s at order told)).told in
+            elim (tag_place.behind rest (r, other, is)) [
+              | inl nowhere ↦ h.0 nowhere
+              | inr there ↦ outside sound long there needs h.1
+            ])
+      ]
+    where
+      outside : (sound : List ℕ) → length sound ≡ s.size → (length head + needed head ≤ place) × (place ≤ length (head ++ (sound ++ (back ++ xs)))) → s.size ≡ needed head → (place < stop) ⊎ (stop + length (back ++ xs) < place) → ⊥
+      outside sound long there needs (inl early) = omega (arith, there.0, needs, early, stop_is)
+      outside sound long there needs (inr late) = omega (arith, there.1, late, stop_is, long, length-append head (sound ++ (back ++ xs)), length-append sound (back ++ xs))
+  tag_fault left place stop back RateNotDivided tag_place stop_is h = absurd h
+  tag_fault left place stop back TooLarge tag_place stop_is h = absurd h
+  tag_fault left place stop back ReadFailed tag_place stop_is h = tt
+  tag_fault left place stop back WriteFailed tag_place stop_is h = absurd h
+  tag_fault left place stop back TurnLimit tag_place stop_is h = tt
+  tag_fault left place stop back Memory tag_place stop_is h = tt
+
+  pub blocks_refused : {R : Type 0} (left : R → Option (List ℕ)) (i j : Inlet R) (place gap total stop : ℕ) (back tag : List ℕ) → (read : ReadsTag left i j place stop back tag gap) → total ≡ length head + s.size + length back + length read.read
+      → dsf.TellsOutline head total tag None → IsRestFault (left (inlet_reader i)) s head back FileRefused
+  blocks_refused left i j place gap total stop back tag read size refused = by (left (inlet_reader i)) refl
+    where
+      by : (o : Option (List ℕ)) → left (inlet_reader i) ≡ o → IsRestFault o s head back FileRefused
+      by None known = tt
+      by (Some xs) known =
+          let ys = left_is left i j read.read read.reads xs known in
+          let none : ys.0 ≡ [] = nothing_left (left (inlet_reader j)) ys.0 read.at_end ys.1 in
+          let long_is : length xs ≡ length read.read = ap length (ys.2 ∙ ap (λ zs. read.read ++ zs) none ∙ append-nil read.read) in
+          λ sound long r holds.
+          let rest = sound ++ (back ++ xs) in
+          elim holds [
+            | inl form ↦ no_form head s at order told rest r form
+            | inr (other, is) ↦ refused rest (omega (arith, size, long, long_is, length-append head rest, length-append sound (back ++ xs), length-append back xs)) (r, other, is)
+          ]
+
+-- ---- a DSDIFF file
+-- what is kept of the bytes behind a sound: those of the form; whether the file ends with them
+pub record IsBehind (head : List ℕ) (size : ℕ) (all back : List ℕ) (ends : Bool) (new : Option (List ℕ)) : Type 0 where
+  pub rest : List ℕ
+  pub parts : all ≡ back ++ rest
+  pub shorter : ends ≡ true → (rest ≡ []) × IsAtEnd new
+  pub whole : ends ≡ false → dsdiff.left_behind head size ≤ length back
+
+pub is_behind : (head : List ℕ) (size : ℕ) (all back : List ℕ) (ends : Bool) (new : Option (List ℕ)) (wanted : ℕ) → wanted ≡ dsdiff.left_behind head size → (wanted ≤ length all) ⊎ IsAtEnd new
+    → ends ≡ nat_lt (length all) wanted → back ≡ take (min (length all) wanted) all → IsBehind head size all back ends new
+is_behind head size all back ends new wanted left enough short cut = record {
+  rest = drop (min (length all) wanted) all;
+  parts = sym (take-append-drop (min (length all) wanted) all) ∙ ap (λ xs. xs ++ drop (min (length all) wanted) all) (sym cut);
+  shorter = λ yes. (
+      let fewer : length all < wanted = ltb-true (length all) wanted (sym short ∙ yes) in
+      (nil_from_length (drop (min (length all) wanted) all) (omega (arith, length-drop (min (length all) wanted) all, fewer)), at_end enough fewer));
+  whole = λ no. (let more : wanted ≤ length all = ltb-false (length all) wanted (sym short ∙ no) in omega (arith, more, ap length cut, length-take (min (length all) wanted) all, left));
+}
+  where
+    at_end : (wanted ≤ length all) ⊎ IsAtEnd new → length all < wanted → IsAtEnd new
+    at_end (inl more) fewer = absurd (omega (arith, more, fewer))
+    at_end (inr end) fewer = end
+
+module _ (head : List ℕ) (s : Sound) (at : EndsAt head s) (told : s.interleaving ≡ Bytes) (is_sound : IsSound s) (whole_bytes : s.count % 8 ≡ 0) where
+  -- with what follows a whole form, or nothing, a file holds what it holds without
+  followed : (sound back rest : List ℕ) (ends : Bool) (r : Content) → length sound ≡ s.size → (ends ≡ true → rest ≡ []) → (ends ≡ false → dsdiff.left_behind head s.size ≤ length back)
+      → IsDsdiff (head ++ (sound ++ back)) r ↔ IsDsdiff (head ++ (sound ++ (back ++ rest))) r
+  followed sound back rest false r long none enough = same_form head s at told sound back rest r long (enough refl)
+  followed sound back rest true r long none enough =
+      let same : back ++ rest ≡ back = ap (λ xs. back ++ xs) (none refl) ∙ append-nil back in
+      (λ is. subst (λ xs. IsDsdiff (head ++ (sound ++ xs)) r) (sym same) is, λ is. subst (λ xs. IsDsdiff (head ++ (sound ++ xs)) r) same is)
+
+  module _ (back : List ℕ) (ends : Bool) (enough : ends ≡ false → dsdiff.left_behind head s.size ≤ length back) (recording : Content) (outline : frames.TellsOutline head s back (Some recording)) where
+    abbrev own : Surroundings
+    own = record { sound = s; head = head; gap = 0; back = back; ends = ends; recording = recording }
+
+    frames_told : AreTold own
+    frames_told = record {
+      is_sound = is_sound;
+      whole = λ _. whole_bytes;
+      silent = outline.0;
+      holds = λ file sound stands.
+          let none : stands.gap ≡ [] = nil_from_length stands.gap stands.gap_long in
+          let is : file ≡ head ++ (sound ++ (back ++ stands.rest)) = stands.file_is ∙ ap (λ xs. head ++ (sound ++ (xs ++ (back ++ stands.rest)))) none in
+          let holds = (followed sound back stands.rest ends (record recording { channels = unlaced_all sound s.channels }) stands.sound_long stands.ended enough).0 (outline.1 sound stands.sound_long) in
+          in_order s.interleaving told file sound (subst (λ f. IsDsdiff f (record recording { channels = unlaced_all sound s.channels })) (sym is) holds);
+    }
+      where
+        in_order : (o : Interleaving) → o ≡ Bytes → (file sound : List ℕ) → IsDsdiff file (record recording { channels = unlaced_all sound s.channels }) → HoldsIn o file (record recording { channels = sound_channels o s.channels s.count sound })
+        in_order Bytes is file sound h = h
+        in_order (Blocks order) is file sound h = absurd cc
+
+  pub frames_around : {R : Type 0} (left : R → Option (List ℕ)) (i j : Inlet R) (old all back read : List ℕ) (ends : Bool) (recording : Content) → Reads left i j read → all ≡ old ++ read → IsBehind head s.size all back ends (left (inlet_reader j))
+      → frames.TellsOutline head s back (Some recording) → Surrounds left i j old (record { sound = s; head = head; gap = 0; back = back; ends = ends; recording = recording })
+  frames_around left i j old all back read ends recording reads is behind outline = record {
+    read = read;
+    reads = reads;
+    told = frames_told back ends behind.whole recording outline;
+    given = λ sound long. record {
+      gap = [];
+      rest = behind.rest;
+      file_is = ap (λ xs. head ++ (sound ++ xs)) (sym is ∙ behind.parts);
+      sound_long = long;
+      gap_long = refl;
+      ended = λ yes. (behind.shorter yes).0;
+    };
+    stands = λ sound rest long known. record {
+      gap = [];
+      rest = behind.rest ++ rest;
+      file_is = ap (λ xs. head ++ (sound ++ xs)) (sym (append_assoc old read rest) ∙ ap (λ xs. xs ++ rest) (sym is ∙ behind.parts) ∙ append_assoc back behind.rest rest);
+      sound_long = long;
+      gap_long = refl;
+      ended = λ yes. ap₂ (λ xs ys. xs ++ ys) (behind.shorter yes).0 (nothing_left (left (inlet_reader j)) rest (behind.shorter yes).1 known);
+    };
+  }
+
+  pub frames_refused : {R : Type 0} (left : R → Option (List ℕ)) (i j : Inlet R) (old all back read : List ℕ) (ends : Bool) → Reads left i j read → all ≡ old ++ read → IsBehind head s.size all back ends (left (inlet_reader j))
+      → frames.TellsOutline head s back None → IsRestFault (left (inlet_reader i)) s head old FileRefused
+  frames_refused left i j old all back read ends reads is behind refused = by (left (inlet_reader i)) refl
+    where
+      by : (o : Option (List ℕ)) → left (inlet_reader i) ≡ o → IsRestFault o s head old FileRefused
+      by None known = tt
+      by (Some xs) known =
+          let ys = left_is left i j read reads xs known in
+          λ sound long r holds.
+          let parted : old ++ xs ≡ back ++ (behind.rest ++ ys.0) = ap (λ zs. old ++ zs) ys.2 ∙ sym (append_assoc old read ys.0) ∙ ap (λ zs. zs ++ ys.0) (sym is ∙ behind.parts) ∙ append_assoc back behind.rest ys.0 in
+          elim (subst (λ zs. HoldsRecording (head ++ (sound ++ zs)) r) parted holds) [
+            | inl form ↦ (
+                let none = λ (yes : ends ≡ true). ap₂ (λ us vs. us ++ vs) (behind.shorter yes).0 (nothing_left (left (inlet_reader j)) ys.0 (behind.shorter yes).1 ys.1) in
+                let short = (followed sound back (behind.rest ++ ys.0) ends r long none behind.whole).1 form in
+                refused sound long (r, short))
+            | inr (order, is_dsf) ↦ never_found head (sound ++ (back ++ (behind.rest ++ ys.0))) s r order (found head s at told) is_dsf
+          ]
+
+-- ---- the whole file, of which the front was read, and then the sound passed
+module _ {R : Type 0} (left : R → Option (List ℕ)) (i j : Inlet R) (front head ahead : List ℕ) (s : Sound) (reads : Reads left i j front) (tells : TellsSound front s) (head_is : head ≡ take s.start front) (ahead_is : ahead ≡ drop s.start front) where
+  front_is : front ≡ head ++ ahead
+  front_is = sym (take-append-drop s.start front) ∙ ap₂ (λ xs ys. xs ++ ys) (sym head_is) (sym ahead_is)
+
+  head_long : length head ≡ s.start
+  head_long = omega (arith, ap length head_is, length-take s.start front, tells.within)
+
+  -- the head ends at the sound
+  pub at_sound : EndsAt head s
+  at_sound = subst (λ xs. EndsAt xs s) (sym head_is) (ends_at front s tells)
+
+  -- a file that holds a recording has all of its sound
+  pub pass_stands : (f : StreamFault) → IsPassFault (left (inlet_reader j)) s.size ahead f → IsOutlineFault (left (inlet_reader i)) f
+  pass_stands FileRefused h = by (left (inlet_reader i)) refl
+    where
+      by : (o : Option (List ℕ)) → left (inlet_reader i) ≡ o → IsOutlineFault o FileRefused
+      by None known = tt
+      by (Some xs) known =
+          let ys = left_is left i j front reads xs known in
+          let fewer : length (ahead ++ ys.0) < s.size = subst (λ o. IsPassFault o s.size ahead FileRefused) ys.1 h in
+          λ r holds.
+          let has = tells.has ys.0 r (subst (λ f. HoldsRecording f r) ys.2 holds) in
+          omega (arith, fewer, has.in_file, length-append front ys.0, length-append ahead ys.0, length-append head ahead, ap length front_is, head_long)
+  pass_stands RateNotDivided h = absurd h
+  pass_stands TooLarge h = absurd h
+  pass_stands ReadFailed h = tt
+  pass_stands WriteFailed h = absurd h
+  pass_stands TurnLimit h = tt
+  pass_stands Memory h = tt
+
+  module _ (k : Inlet R) (back : List ℕ) (passes : Passes left j k s.size ahead back) where
+    -- how many bytes were given so far
+    pub given_is : (given : ℕ) → inlet_given i ≡ given → inlet_given k ≡ given + (length head + s.size + length back)
+    given_is given from =
+        omega (arith, from, reads.given, passes.reads.given, passes.long, ap length front_is, ap length passes.parts, length-append head ahead, length-append ahead passes.read, length-append passes.passed back)
+
+    -- what was read so far
+    read_is : (more : List ℕ) → front ++ (passes.read ++ more) ≡ head ++ (passes.passed ++ (back ++ more))
+    read_is more =
+        ap (λ xs. xs ++ (passes.read ++ more)) front_is ∙ append_assoc head ahead (passes.read ++ more)
+        ∙ ap (λ xs. head ++ xs) (sym (append_assoc ahead passes.read more) ∙ ap (λ xs. xs ++ more) passes.parts ∙ append_assoc passes.passed back more)
+
+    -- the file is the head, the sound, what was read behind it, and what is left
+    parted : (xs : List ℕ) → left (inlet_reader i) ≡ Some xs → (ys : List ℕ) × (left (inlet_reader k) ≡ Some ys) × (xs ≡ head ++ (passes.passed ++ (back ++ ys)))
+    parted xs known =
+        let ys = left_is left i j front reads xs known in
+        let zs = left_is left j k passes.read passes.reads ys.0 ys.1 in
+        (zs.0, zs.1, ys.2 ∙ ap (λ us. front ++ us) zs.2 ∙ read_is zs.0)
+
+    pub rest_stands : (f : StreamFault) → IsRestFault (left (inlet_reader k)) s head back f → IsOutlineFault (left (inlet_reader i)) f
+    rest_stands FileRefused h = by (left (inlet_reader i)) refl
+      where
+        by : (o : Option (List ℕ)) → left (inlet_reader i) ≡ o → IsOutlineFault o FileRefused
+        by None known = tt
+        by (Some xs) known =
+            let ys = parted xs known in
+            subst IsRefused (sym ys.2) (subst (λ o. IsRestFault o s head back FileRefused) ys.1 h passes.passed passes.long)
+    rest_stands RateNotDivided h = absurd h
+    rest_stands TooLarge h = absurd h
+    rest_stands ReadFailed h = tt
+    rest_stands WriteFailed h = absurd h
+    rest_stands TurnLimit h = tt
+    rest_stands Memory h = tt
+
+    module _ (l : Inlet R) (o : Surroundings) (sound_is : o.sound ≡ s) (own_head : o.head ≡ head) (surrounds : Surrounds left k l back o) where
+      long : length passes.passed ≡ o.sound.size
+      long = passes.long ∙ ap (λ (t : Sound). t.size) (sym sound_is)
+
+      -- what was read is that sound in the surroundings
+      pub given_stands : Reads left i l (front ++ (passes.read ++ surrounds.read)) × StandsIn o (front ++ (passes.read ++ surrounds.read)) passes.passed
+      given_stands = (
+        reads_on left i j l front (passes.read ++ surrounds.read) reads (reads_on left j k l passes.read surrounds.read passes.reads surrounds.reads),
+        subst (λ f. StandsIn o f passes.passed) (ap (λ xs. xs ++ (passes.passed ++ (back ++ surrounds.read))) own_head ∙ sym (read_is surrounds.read)) (surrounds.given passes.passed long),
+      )
+
+      -- and so is the file
+      pub file_stands : (xs : List ℕ) → left (inlet_reader i) ≡ Some xs → StandsIn o xs passes.passed
+      file_stands xs known =
+          let ys = parted xs known in
+          let zs = left_is left k l surrounds.read surrounds.reads ys.0 ys.1 in
+          let is : o.head ++ (passes.passed ++ (back ++ (surrounds.read ++ zs.0))) ≡ xs = ap (λ us. us ++ (passes.passed ++ (back ++ (surrounds.read ++ zs.0)))) own_head ∙ ap (λ us. head ++ (passes.passed ++ (back ++ us))) (sym zs.2) ∙ sym ys.2 in
+          subst (λ f. StandsIn o f passes.passed) is (surrounds.stands passes.passed zs.0 long zs.1)
+
+      pub surrounds_file : SurroundsFile (left (inlet_reader i)) o
+      surrounds_file = (surrounds.told, by (left (inlet_reader i)) refl)
+        where
+          by : (o' : Option (List ℕ)) → left (inlet_reader i) ≡ o' → IfSome o' (AreAround o)
+          by None known = tt
+          by (Some xs) known = (passes.passed, file_stands xs known)

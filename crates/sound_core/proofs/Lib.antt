@@ -1,0 +1,10 @@
+pub mod ReadLaws
+pub mod ReaderLaws
+pub mod HeadLaws
+pub mod ToldLaws
+pub mod OutlineLaws
+pub mod ClosingLaws
+pub mod BehindLaws
+pub mod KeeperLaws
+pub mod TakingLaws
+pub mod KeepingLaws

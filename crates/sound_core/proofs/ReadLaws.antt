@@ -1,0 +1,54 @@
+-- Bytes that are read, one after the other.
+use Rattle.std.proofs.Common.{◌≡◌, ℕ, ◌+◌, ◌-◌, inl, inr, min, List, [], ◌++◌, length, take, drop, Option, None, Some, IfSome, subst, sym, ap, ◌∙◌, arith, append-nil, length-append, length-drop, length-take, take-append-drop}
+use Rattle.std.specs.Io.KnownBytes.{Consumes, IsAtEnd}
+use Rattle.std.proofs.KnownBytes.{Consumes-nil, Consumes-trans, Consumes-whole}
+use Rattle.std.proofs.lemmas.Bool.{cases_lt}
+use Rattle.std.proofs.lemmas.List.{nil_from_length, take-append-le, take_min}
+use Rattle.std.proofs.Math.Seq.{take-append-add}
+use Rattle.device_core.specs.Inlets.{inlet_given, inlet_reader}
+use Rattle.device_core.specs.declared.inlet.Inlet.{Inlet}
+use Rattle.sound_core.specs.Reads.{Gives, Reads}
+
+pub reads_none : {R : Type 0} (left : R → Option (List ℕ)) (inlet : Inlet R) → Reads left inlet inlet []
+reads_none left inlet = record { consumed = Consumes-nil (left (inlet_reader inlet)); given = omega arith }
+
+pub reads_on : {R : Type 0} (left : R → Option (List ℕ)) (a b c : Inlet R) (xs ys : List ℕ) → Reads left a b xs → Reads left b c ys → Reads left a c (xs ++ ys)
+reads_on left a b c xs ys p q = record {
+  consumed = Consumes-trans (left (inlet_reader a)) (left (inlet_reader b)) (left (inlet_reader c)) xs ys p.consumed q.consumed;
+  given = omega (arith, p.given, q.given, length-append xs ys);
+}
+
+-- what holds of what was read and anything behind it holds of what there is
+pub after : (Q : List ℕ → Type 0) (a b : Option (List ℕ)) (bs : List ℕ) → Consumes a b bs → ((rest : List ℕ) → Q (bs ++ rest)) → IfSome a Q
+after Q None b bs c f = tt
+after Q (Some xs) None bs c f = absurd c
+after Q (Some xs) (Some ys) bs c f = subst Q (sym c) (f ys)
+
+-- what was read before a read that gave nothing is all
+pub at_end : {R : Type 0} (left : R → Option (List ℕ)) (a b c : Inlet R) (xs ys : List ℕ) (Q : List ℕ → Type 0) → Reads left a b xs → Reads left b c ys → length ys ≡ 0 → IsAtEnd (left (inlet_reader c)) → Q xs → IfSome (left (inlet_reader a)) Q
+at_end left a b c xs ys Q p q none end holds =
+    let same : xs ++ ys ≡ xs = ap (λ zs. xs ++ zs) (nil_from_length ys none) ∙ append-nil xs in
+    Consumes-whole (left (inlet_reader a)) (left (inlet_reader c)) (xs ++ ys) Q (reads_on left a b c xs ys p q).consumed end (subst Q (sym same) holds)
+
+-- what was given
+pub gives_read : {R : Type 0} (left : R → Option (List ℕ)) (i j : Inlet R) (n : ℕ) (xs : List ℕ) → Reads left i j xs → n ≡ inlet_given j → Gives (left (inlet_reader i)) (inlet_given i) n xs
+gives_read left i j n xs reads same = record { begins = by (left (inlet_reader i)) (left (inlet_reader j)) reads.consumed; given = same ∙ reads.given }
+  where
+    by : (o m : Option (List ℕ)) → Consumes o m xs → IfSome o (λ ys. (rest : List ℕ) × (ys ≡ xs ++ rest))
+    by None m h = tt
+    by (Some ys) None h = absurd h
+    by (Some ys) (Some zs) h = (zs, h)
+
+-- ---- bytes that were read before, and those behind them
+-- of both, so many are those before and the rest of the others
+pub whole_is : {X : Type 0} (size : ℕ) (xs ys : List X) → take size (xs ++ ys) ≡ take size xs ++ take (size - length (take size xs)) ys
+whole_is {X} size xs ys = elim (cases_lt size (length xs)) [
+  | inl less ↦ (let none : size - length (take size xs) ≡ 0 = omega (arith, length-take size xs) in
+      take-append-le size xs ys (omega arith) ∙ sym (append-nil (take size xs)) ∙ ap (λ n. take size xs ++ take n ys) (sym none))
+  | inr more ↦ (let all : take size xs ≡ xs = sym (take_min size xs) ∙ (let m : min size (length xs) ≡ length xs = omega arith in ap (λ n. take n xs) m) ∙ sym (append-nil (take (length xs) xs)) ∙ all_taken xs in
+      let total : length xs + (size - length xs) ≡ size = omega arith in
+      ap (λ n. take n (xs ++ ys)) (sym total) ∙ take-append-add xs ys (size - length xs) ∙ ap (λ zs. zs ++ take (size - length zs) ys) (sym all))
+]
+  where
+    all_taken : (xs : List X) → take (length xs) xs ++ [] ≡ xs
+    all_taken xs = ap (λ zs. take (length xs) xs ++ zs) (sym (nil_from_length (drop (length xs) xs) (omega (arith, length-drop (length xs) xs)))) ∙ take-append-drop (length xs) xs

@@ -1,0 +1,46 @@
+use Rattle.std.proofs.Common.{◌∙◌, arith, subst, sym}
+use Rattle.std.proofs.lemmas.Result.{err_from_is_err_and}
+use Rattle.device_core.specs.Inlets.{inlet_given}
+use Rattle.sound_core.specs.Files.{IsBeforeSound, IsRefused}
+use Rattle.sound_core.specs.Reads.{Reads}
+use Rattle.sound_core.proofs.ToldLaws.{gives_none}
+use Rattle.sound_core.proofs.ReadLaws.{after, at_end, reads_on}
+use Rattle.sound_core.proofs.ReaderLaws.{same_on}
+use Rattle.sound_core.proofs.front.read_front.Goals as goal
+
+pub returns-in_err-count-clause-stopped : goal.returns-in_err-count-clause-stopped
+returns-in_err-count-clause-stopped g c =
+    let so_far = c.loop-count.invariant in
+    let e = err_from_is_err_and c.from_residual.result c.from_residual.ensures.1 in
+    rw (e.1, e.2) (λ stops. gives_none g.R.Read.remaining c.args.reader.now.inlet.now c.loop-count.reader.inlet.now (inlet_given c.read_more.new.self.inlet.now) c.loop-count.reader.ahead.now.items so_far.0 so_far.5 (c.in_err-count.ensures.none stops))
+
+pub returns-then-count-eq0-clause-fault : goal.returns-then-count-eq0-clause-fault
+returns-then-count-eq0-clause-fault g c =
+    let read = c.in_ok-count.ensures.read in
+    at_end g.R.Read.remaining c.args.reader.now.inlet.now c.loop-count.reader.inlet.now c.read_more.new.self.inlet.now c.loop-count.reader.ahead.now.items read.0 IsRefused c.loop-count.invariant.0 read.1 (omega (arith, read.2, c.if-count-eq0.true)) (c.in_ok-count.ensures.end c.if-count-eq0.true) c.loop-count.invariant.1
+
+pub returns-in-Found-clause-read : goal.returns-in-Found-clause-read
+returns-in-Found-clause-read g c =
+    let read = c.in_ok-count.ensures.read in
+    rw read.3 (reads_on g.R.Read.remaining c.args.reader.now.inlet.now c.loop-count.reader.inlet.now c.read_more.new.self.inlet.now c.loop-count.reader.ahead.now.items read.0 c.loop-count.invariant.0 read.1)
+
+pub returns-in-Refused-clause-fault : goal.returns-in-Refused-clause-fault
+returns-in-Refused-clause-fault g c =
+    let read = c.in_ok-count.ensures.read in
+    let front = reads_on g.R.Read.remaining c.args.reader.now.inlet.now c.loop-count.reader.inlet.now c.read_more.new.self.inlet.now c.loop-count.reader.ahead.now.items read.0 c.loop-count.invariant.0 read.1 in
+    let refused = rw c.in-Refused.is at c.in_ok-sound.ensures.refused in
+    after IsRefused _ _ _ front.consumed (rw (c.as_slice.ensures.value ∙ read.3) at refused)
+
+pub loop-count-preserved : goal.loop-count-preserved
+loop-count-preserved g c =
+    let so_far = c.loop-count.invariant in
+    let read = c.in_ok-count.ensures.read in
+    let more = rw c.in-More.is at c.in_ok-sound.ensures.more in
+    let before = rw c.in-More.is at c.in_ok-sound.ensures.before in (
+      subst (Reads g.R.Read.remaining c.args.reader.now.inlet.now c.read_more.new.self.inlet.now) (sym read.3) (reads_on g.R.Read.remaining c.args.reader.now.inlet.now c.loop-count.reader.inlet.now c.read_more.new.self.inlet.now c.loop-count.reader.ahead.now.items read.0 so_far.0 read.1),
+      subst IsRefused c.as_slice.ensures.value more,
+      c.in_ok-count.ensures.reading,
+      same_on c.args.reader.now c.loop-count.reader c.read_more.new.self so_far.3 c.read_more.ensures.same,
+      omega (arith, so_far.4, c.in_ok-count.ensures.counts.failures),
+      subst IsBeforeSound c.as_slice.ensures.value before,
+    )

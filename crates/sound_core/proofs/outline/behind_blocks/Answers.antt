@@ -1,0 +1,39 @@
+use Rattle.std.proofs.Common.{◌≡◌, ◌+◌, ◌-◌, ◌∙◌, Some, arith, length, subst}
+use Rattle.std.proofs.lemmas.Result.{err_from_is_err_and}
+use Rattle.dsf_core.specs.Fronts.{TellsOutline}
+use Rattle.sound_core.proofs.BehindLaws.{blocks_around, blocks_refused, tag_fault}
+use Rattle.sound_core.proofs.ClosingLaws.{ends, has_order}
+use Rattle.sound_core.proofs.outline.behind_blocks.Goals as goal
+
+pub tag_at-requires : goal.tag_at-requires
+tag_at-requires g c =
+    let told = has_order c.args.sound.now.interleaving c.requires.interleaving in
+    record { at_sound = ends c.args.head.now c.args.sound.now c.requires.at_sound told.0 told.1 }
+
+pub returns-in_err-gap-clause-fault : goal.returns-in_err-gap-clause-fault
+returns-in_err-gap-clause-fault g c =
+    let told = has_order c.args.sound.now.interleaving c.requires.interleaving in
+    let e = err_from_is_err_and c.from_residual.result c.from_residual.ensures.1 in
+    rw (e.1, e.2) (tag_fault c.args.head.now c.args.sound.now c.requires.at_sound told.0 told.1 c.requires.sound _ _ _ _ c.in_err-gap.field-0.0 c.tag_at.ensures.place (omega arith) c.in_err-gap.ensures.fault)
+
+pub outline-requires-clause-at_sound : goal.outline-requires-clause-at_sound
+outline-requires-clause-at_sound g c =
+    let told = has_order c.args.sound.now.interleaving c.requires.interleaving in
+    ends c.args.head.now c.args.sound.now c.requires.at_sound told.0 told.1
+
+pub returns-in_default-clause-fault : goal.returns-in_default-clause-fault
+returns-in_default-clause-fault g c =
+    let told = has_order c.args.sound.now.interleaving c.requires.interleaving in
+    let read = c.in_ok-gap.ensures.ok in
+    let refused = subst (TellsOutline c.args.head.now (c.given.result - c.read_tag.new.reader.given) c.in_ok-tag.tag.items) c.in_default.is c.in_ok-recording.ensures.told in
+    let total : c.given.result - c.read_tag.new.reader.given ≡ length c.args.head.now + c.args.sound.now.size + length c.args.reader.now.ahead.now.items + length read.read = omega (arith, c.given.ensures, c.read_tag.ensures.same.given, read.reads.given, c.requires.given) in
+    blocks_refused c.args.head.now c.args.sound.now c.requires.at_sound told.0 told.1 c.requires.sound g.R.Read.remaining c.args.reader.now.inlet.now c.read_tag.new.reader.inlet.now _ c.in_ok-gap.gap _ _ c.args.reader.now.ahead.now.items _ read total refused
+
+pub returns-clause-ok : goal.returns-clause-ok
+returns-clause-ok g c =
+    let told = has_order c.args.sound.now.interleaving c.requires.interleaving in
+    let read = c.in_ok-gap.ensures.ok in
+    let tag = c.in_ok-tag.ensures.items ∙ c.as_slice.ensures.value in
+    let outline = subst (λ xs. TellsOutline c.args.head.now (c.given.result - c.read_tag.new.reader.given) xs (Some c.in-Some.recording)) tag (subst (TellsOutline c.args.head.now (c.given.result - c.read_tag.new.reader.given) c.in_ok-tag.tag.items) c.in-Some.is c.in_ok-recording.ensures.told) in
+    let total : c.given.result - c.read_tag.new.reader.given ≡ length c.args.head.now + c.args.sound.now.size + length c.args.reader.now.ahead.now.items + length read.read = omega (arith, c.given.ensures, c.read_tag.ensures.same.given, read.reads.given, c.requires.given) in
+    blocks_around c.args.head.now c.args.sound.now c.requires.at_sound told.0 told.1 c.requires.sound g.R.Read.remaining c.args.reader.now.inlet.now c.read_tag.new.reader.inlet.now _ c.in_ok-gap.gap _ _ c.args.reader.now.ahead.now.items _ c.in-Some.recording c.tag_at.ensures.place (omega arith) read total outline

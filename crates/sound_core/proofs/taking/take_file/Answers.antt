@@ -1,0 +1,84 @@
+use Rattle.std.proofs.Common.{◌∙◌, ◌++◌, arith, subst, sym}
+use Rattle.std.proofs.lemmas.Result.{err_from_is_err_and}
+use Rattle.sound_core.specs.Outlines.{around_of}
+use Rattle.sound_core.specs.Readers.{Passes}
+use Rattle.sound_core.specs.Reads.{Reads}
+use Rattle.sound_core.proofs.BehindLaws.{at_sound, file_stands, given_is, given_stands, pass_stands, rest_stands}
+use Rattle.sound_core.proofs.TakingLaws.{fed_none, file_taken}
+use Rattle.sound_core.proofs.taking.take_file.Given.{Over}
+use Rattle.sound_core.proofs.taking.take_file.Goals as goal
+use Rattle.sound_core.proofs.taking.take_file.Goals.{In_ok-head, In_ok-take_sound}
+
+-- the front was read before the head was taken of it
+reads_is : (g : Over) (c : In_ok-head g) → Reads g.R.Read.remaining c.args.reader.now.inlet.now c.take_head.new.self.inlet.now c.read_front.new.reader.ahead.now.items
+reads_is g c = subst (λ k. Reads g.R.Read.remaining c.args.reader.now.inlet.now k c.read_front.new.reader.ahead.now.items) (sym c.take_head.ensures.untouched) c.in_ok-sound.ensures.read
+
+-- what was taken was read
+abbrev passes_is : (g : Over) (c : In_ok-take_sound g) → Passes g.R.Read.remaining c.take_head.new.self.inlet.now c.take_sound.new.reader.inlet.now c.in_ok-sound.sound.size c.take_head.new.self.ahead.now.items c.take_sound.new.reader.ahead.now.items
+passes_is g c =
+    let passes = c.in_ok-take_sound.ensures.ok.passes in
+    record {
+      passed = passes.passed;
+      read = passes.read;
+      reads = passes.reads;
+      parts = passes.parts;
+      long = passes.long ∙ sym c.in_ok-sound.ensures.tells.is_sound.size;
+    }
+
+pub begin-requires : goal.begin-requires
+begin-requires g c = fed_none c.in_ok-sound.sound c.in_ok-sound.ensures.tells.is_sound c.in_ok-sound.ensures.tells.whole
+
+pub take_sound-requires-clause-fed : goal.take_sound-requires-clause-fed
+take_sound-requires-clause-fed g c = fed_none c.in_ok-sound.sound c.in_ok-sound.ensures.tells.is_sound c.in_ok-sound.ensures.tells.whole
+
+pub returns-in_err-take_sound-clause-fault : goal.returns-in_err-take_sound-clause-fault
+returns-in_err-take_sound-clause-fault g c =
+    let k = (goal.at.returns-in_err-take_sound-clause-fault g c).In_ok-head in
+    let f = c.in_err-take_sound.field-0.0 in
+    let e = err_from_is_err_and c.from_residual-in_err-take_sound.result c.from_residual-in_err-take_sound.ensures.1 in
+    rw (e.1, e.2) (pass_stands g.R.Read.remaining _ _ _ _ _ c.in_ok-sound.sound (reads_is g k) c.in_ok-sound.ensures.tells c.in_ok-head.ensures.head c.in_ok-head.ensures.rest f c.in_err-take_sound.ensures.fault)
+
+pub read_rest-requires-clause-at_sound : goal.read_rest-requires-clause-at_sound
+read_rest-requires-clause-at_sound g c =
+    let k = (goal.at.read_rest-requires-clause-at_sound g c).In_ok-head in
+    at_sound g.R.Read.remaining _ _ _ _ _ c.in_ok-sound.sound (reads_is g k) c.in_ok-sound.ensures.tells c.in_ok-head.ensures.head c.in_ok-head.ensures.rest
+
+pub read_rest-requires-clause-given : goal.read_rest-requires-clause-given
+read_rest-requires-clause-given g c =
+    let k = (goal.at.read_rest-requires-clause-given g c).In_ok-head in
+    let l = (goal.at.read_rest-requires-clause-given g c).In_ok-take_sound in
+    omega (
+      arith,
+      c.take_sound.ensures.same.given,
+      c.take_head.ensures.same.given,
+      c.read_front.ensures.same.given,
+      given_is g.R.Read.remaining _ _ _ _ _ c.in_ok-sound.sound (reads_is g k) c.in_ok-sound.ensures.tells c.in_ok-head.ensures.head c.in_ok-head.ensures.rest _ _ (passes_is g l) c.args.reader.now.given c.requires.given,
+    )
+
+pub returns-in_err-outline-clause-fault : goal.returns-in_err-outline-clause-fault
+returns-in_err-outline-clause-fault g c =
+    let k = (goal.at.returns-in_err-outline-clause-fault g c).In_ok-head in
+    let l = (goal.at.returns-in_err-outline-clause-fault g c).In_ok-take_sound in
+    let e = err_from_is_err_and c.from_residual-in_err-outline.result c.from_residual-in_err-outline.ensures.1 in
+    rw (e.1, e.2) (rest_stands g.R.Read.remaining _ _ _ _ _ c.in_ok-sound.sound (reads_is g k) c.in_ok-sound.ensures.tells c.in_ok-head.ensures.head c.in_ok-head.ensures.rest _ _ (passes_is g l) c.in_err-outline.field-0.0 c.in_err-outline.ensures.fault)
+
+pub returns-clause-ok : goal.returns-clause-ok
+returns-clause-ok g c =
+    let k = (goal.at.returns-clause-ok g c).In_ok-head in
+    let l = (goal.at.returns-clause-ok g c).In_ok-take_sound in
+    let told = c.in_ok-outline.ensures.ok in
+    file_taken (g.S.SoundSink.has c.take_sound.new.sink) (g.R.Read.remaining _) (around_of c.in_ok-outline.outline) c.in_ok-take_sound.ensures.ok.passes.passed told.2.told
+    (file_stands g.R.Read.remaining _ _ _ _ _ c.in_ok-sound.sound (reads_is g k) c.in_ok-sound.ensures.tells c.in_ok-head.ensures.head c.in_ok-head.ensures.rest _ _ (passes_is g l) _ (around_of c.in_ok-outline.outline) told.0 told.1 told.2)
+    c.in_ok-take_sound.ensures.ok.taken
+
+pub returns-clause-any_reader : goal.returns-clause-any_reader
+returns-clause-any_reader g c =
+    let k = (goal.at.returns-clause-any_reader g c).In_ok-head in
+    let l = (goal.at.returns-clause-any_reader g c).In_ok-take_sound in
+    let told = c.in_ok-outline.ensures.ok in
+    let passes = c.in_ok-take_sound.ensures.ok.passes in
+    let stands = given_stands g.R.Read.remaining _ _ _ _ _ c.in_ok-sound.sound (reads_is g k) c.in_ok-sound.ensures.tells c.in_ok-head.ensures.head c.in_ok-head.ensures.rest _ _ (passes_is g l) _ (around_of c.in_ok-outline.outline) told.0 told.1 told.2 in (
+      c.read_front.new.reader.ahead.now.items ++ (passes.read ++ told.2.read),
+      stands.0,
+      (passes.passed, stands.1, c.in_ok-take_sound.ensures.ok.taken),
+    )

@@ -1,0 +1,13 @@
+-- What came so far of the sound was taken.
+use Rattle.std.proofs.Common.{◌≡◌, ◌-◌}
+use Rattle.device_core.specs.Inlets.{inlet_failures}
+use Rattle.sound_core.specs.Readers.{IsReading, IsSame}
+use Rattle.sound_core.specs.Sinks.{TakesSome}
+use Rattle.sound_core.proofs.taking.take_sound.Given as goal
+
+abbrev pub invariant-loop-done : goal.invariant-loop-done
+invariant-loop-done g l = TakesSome g.R.Read.remaining g.S.SoundSink.source g.S.SoundSink.done g.S.SoundSink.has g.S.SoundSink.kept l.sound l.initial.reader.inlet.now l.reader.inlet.now l.initial.sink l.sink l.done l.initial.reader.ahead.now.items l.reader.ahead.now.items
+    × IsReading l.reader × IsSame l.initial.reader l.reader × (inlet_failures l.reader.inlet.now ≡ inlet_failures l.initial.reader.inlet.now)
+
+abbrev pub decreases-loop-done : goal.decreases-loop-done
+decreases-loop-done g l = l.sound.count - l.done

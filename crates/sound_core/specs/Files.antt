@@ -1,0 +1,55 @@
+-- The files that are played: what they hold, and what their fronts tell.
+use Rattle.std.specs.Prelude.{◌≡◌, ℕ, ◌+◌, ◌%◌, ◌≤◌, ◌⊎◌, List, ◌++◌, length, Option, IfSome, ⊤}
+use Rattle.dsd_bits.specs.declared.blocks.BitOrder.{BitOrder}
+use Rattle.dsd_bits.specs.declared.interleaving.Interleaving.{Interleaving}
+use Rattle.dsd_bits.specs.declared.interleaving.Interleaving.TheVariants.{Bytes, Blocks}
+use Rattle.dsd_bits.specs.declared.sound.Sound.{Sound}
+use Rattle.dsd_bits.specs.Contents.{Content}
+use Rattle.dsd_bits.specs.Sounds.{HasSound, IsSound}
+use Rattle.dsdiff_core.specs.Files.{IsDsdiff}
+use Rattle.dsdiff_core.specs.Fronts as dsdiff
+use Rattle.dsf_core.specs.Files.{IsDsf}
+use Rattle.dsf_core.specs.Fronts as dsf
+use Rattle.sound_core.specs.declared.fault.StreamFault.{StreamFault}
+use Rattle.sound_core.specs.declared.fault.StreamFault.TheVariants.{FileRefused, ReadFailed, TurnLimit, Memory}
+
+-- the file is a DSDIFF or a DSF file that holds this recording
+abbrev pub HoldsRecording : List ℕ → Content → Type 0
+HoldsRecording file r = IsDsdiff file r ⊎ ((order : BitOrder) × IsDsf file r order)
+
+-- the file holds a recording
+abbrev pub IsAccepted : List ℕ → Type 0
+IsAccepted file = (r : Content) × HoldsRecording file r
+
+-- the file holds none
+abbrev pub IsRefused : List ℕ → Type 0
+IsRefused file = (r : Content) → HoldsRecording file r → ⊥
+
+-- the front of a DSDIFF file, or of a DSF file where the sound stands in blocks, tells of this sound in its format's words
+abbrev pub LeadsTo : Interleaving → List ℕ → Sound → Type 0
+LeadsTo Bytes front s = dsdiff.TellsSound front s
+LeadsTo (Blocks order) front s = dsf.TellsSound front s
+
+-- the front of a file tells of this sound: it stands behind it or in it, and every recording of a file that begins so has it
+pub record TellsSound (front : List ℕ) (s : Sound) : Type 0 where
+  pub leads : LeadsTo s.interleaving front s
+  pub is_sound : IsSound s
+  pub whole : s.interleaving ≡ Bytes → s.count % 8 ≡ 0
+  pub within : s.start ≤ length front
+  pub has : (rest : List ℕ) (r : Content) → HoldsRecording (front ++ rest) r → HasSound (front ++ rest) r s
+
+-- bytes that stand before the sound of every accepted file that begins with them
+abbrev pub IsBeforeSound : List ℕ → Type 0
+IsBeforeSound front = (rest : List ℕ) (s : Sound) → IsAccepted (front ++ rest) → TellsSound (front ++ rest) s → length front ≤ s.start
+
+-- no byte of the sound was given
+abbrev pub GivesNone : Option (List ℕ) → ℕ → ℕ → Type 0
+GivesNone left_old given_old given_new = IfSome left_old (λ file. (s : Sound) → IsAccepted file → TellsSound file s → given_new ≤ given_old + s.start)
+
+-- a fault of reading the front of a file: the file that the reader has holds no recording, or one of reading
+abbrev pub IsFrontFault : Option (List ℕ) → StreamFault → Type 0
+IsFrontFault left_old FileRefused = IfSome left_old IsRefused
+IsFrontFault left_old ReadFailed = ⊤
+IsFrontFault left_old TurnLimit = ⊤
+IsFrontFault left_old Memory = ⊤
+IsFrontFault left_old _ = ⊥

@@ -1,0 +1,25 @@
+-- Stretches of a file's sound: the bits of each channel in ranges of places.
+use Rattle.std.specs.Prelude.{◌≡◌, ℕ, Bool, List, Option, IfSome}
+use Rattle.device_core.specs.declared.inlet.Inlet.{Inlet}
+use Rattle.sound_core.specs.Outlines.{AreTold, StandsIn, Surroundings, with_sound}
+use Rattle.sound_core.specs.Reads.{Reads}
+use Rattle.dsd_bits.specs.Stretches.{stretches_of}
+use Rattle.sound_core.specs.Stretches.{items_of}
+use Rattle.dsd_bits.specs.declared.stretches.BitRange.{BitRange}
+use Rattle.sound_core.specs.declared.keeping.Kept.{Kept}
+
+-- the stretches that were kept
+abbrev pub stretches_in : Kept → List (List (List Bool))
+stretches_in k = items_of k.stretches.items
+
+-- the file is some sound in the surroundings, and these are the stretches of its channels
+abbrev pub IsKeptOf : Surroundings → List BitRange → List (List (List Bool)) → List ℕ → Type 0
+IsKeptOf o ranges kept file = (sound : List ℕ) × StandsIn o file sound × (kept ≡ stretches_of (with_sound o.recording o.sound sound).channels ranges)
+
+-- whatever file stands there, it is some sound in the surroundings, they tell what it holds, and these are the stretches of its channels
+abbrev pub KeepsFile : Option (List ℕ) → Surroundings → List BitRange → List (List (List Bool)) → Type 0
+KeepsFile left_old o ranges kept = AreTold o × IfSome left_old (IsKeptOf o ranges kept)
+
+-- a reader that does not tell its bytes gave some, which are some sound in the surroundings, and these are the stretches of its channels
+abbrev pub KeepsGiven : {R : Type 0} → (R → Option (List ℕ)) → Inlet R → Inlet R → Surroundings → List BitRange → List (List (List Bool)) → Type 0
+KeepsGiven left old new o ranges kept = (read : List ℕ) × Reads left old new read × IsKeptOf o ranges kept read

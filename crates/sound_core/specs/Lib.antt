@@ -1,0 +1,11 @@
+pub mod Faults
+pub mod Files
+pub mod Reads
+pub mod Readers
+pub mod Closing
+pub mod Outlines
+pub mod Sinks
+pub mod Stretches
+pub mod Keepers
+pub mod Keeping
+pub mod Laws

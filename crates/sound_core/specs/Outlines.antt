@@ -1,0 +1,122 @@
+-- What a file holds beside its sound, and where that stands.
+use Rattle.std.specs.Prelude.{◌≡◌, ◌≢◌, ◌⊎◌, ℕ, ◌+◌, ◌%◌, ◌<◌, Bool, true, List, [], ◌++◌, length, replicate, Option, Some, IfSome, ⊤}
+use Rattle.std.specs.Io.KnownBytes.{IsAtEnd}
+use Rattle.device_core.specs.Inlets.{inlet_reader}
+use Rattle.device_core.specs.declared.inlet.Inlet.{Inlet}
+use Rattle.dsd_bits.specs.declared.interleaving.Interleaving.{Interleaving}
+use Rattle.dsd_bits.specs.declared.interleaving.Interleaving.TheVariants.{Bytes, Blocks}
+use Rattle.dsd_bits.specs.declared.sound.Sound.{Sound}
+use Rattle.dsd_bits.specs.Contents.{Content}
+use Rattle.dsd_bits.specs.Sounds.{IsSound, sound_channels}
+use Rattle.dsdiff_core.specs.Files.{IsDsdiff}
+use Rattle.dsf_core.specs.Files.{IsDsf}
+use Rattle.sound_core.specs.Files.{IsRefused}
+use Rattle.sound_core.specs.Reads.{Reads}
+use Rattle.sound_core.specs.declared.fault.StreamFault.{StreamFault}
+use Rattle.sound_core.specs.declared.fault.StreamFault.TheVariants.{FileRefused, ReadFailed, TurnLimit, Memory}
+use Rattle.sound_core.specs.declared.outline.Behind.{Behind}
+use Rattle.sound_core.specs.declared.outline.Outline.{Outline}
+
+-- the bytes around a sound, and what they tell
+pub record Surroundings : Type 0 where
+  pub sound : Sound
+  pub head : List ℕ
+  pub gap : ℕ
+  pub back : List ℕ
+  pub ends : Bool
+  pub recording : Content
+
+-- those of an outline in memory
+abbrev pub around_of : Outline → Surroundings
+around_of o = record {
+  sound = o.sound;
+  head = o.head.items;
+  gap = o.gap;
+  back = o.back.items;
+  ends = o.ends;
+  recording = o.recording;
+}
+
+-- the file holds this recording: a DSDIFF file where the sound stands in frames, or a DSF file whose blocks have their bits in this order
+abbrev pub HoldsIn : Interleaving → List ℕ → Content → Type 0
+HoldsIn Bytes file r = IsDsdiff file r
+HoldsIn (Blocks order) file r = IsDsf file r order
+
+-- the recording with the channels that stand in these sound bytes
+abbrev pub with_sound : Content → Sound → List ℕ → Content
+with_sound r s bytes = record r { channels = sound_channels s.interleaving s.channels s.count bytes }
+
+-- the file is these sound bytes in their surroundings: the head, the sound, a gap whose bytes do not matter, what was kept behind it, and whatever follows where the file need not end there
+pub record StandsIn (o : Surroundings) (file sound : List ℕ) : Type 0 where
+  pub gap : List ℕ
+  pub rest : List ℕ
+  pub file_is : file ≡ o.head ++ (sound ++ (gap ++ (o.back ++ rest)))
+  pub sound_long : length sound ≡ o.sound.size
+  pub gap_long : length gap ≡ o.gap
+  pub ended : o.ends ≡ true → rest ≡ []
+
+-- what surroundings tell: every file that is some sound in them holds their recording, with the channels of that sound
+pub record AreTold (o : Surroundings) : Type 0 where
+  pub is_sound : IsSound o.sound
+  pub whole : o.sound.interleaving ≡ Bytes → o.sound.count % 8 ≡ 0
+  pub silent : o.recording.channels ≡ replicate o.sound.channels []
+  pub holds : (file sound : List ℕ) → StandsIn o file sound → HoldsIn o.sound.interleaving file (with_sound o.recording o.sound sound)
+
+-- the file is some sound in the surroundings
+abbrev pub AreAround : Surroundings → List ℕ → Type 0
+AreAround o file = (sound : List ℕ) × StandsIn o file sound
+
+-- ---- stages
+
+-- behind a sound, all was read to the tag's place, which is 0 for none, and the tag was kept, with nothing behind it
+pub record ReadsTag {R : Type 0} (left : R → Option (List ℕ)) (old new : Inlet R) (place stop : ℕ) (back_old back_new : List ℕ) (gap : ℕ) : Type 0 where
+  pub passed : List ℕ
+  pub read : List ℕ
+  pub reads : Reads left old new read
+  pub at_end : IsAtEnd (left (inlet_reader new))
+  pub parts : back_old ++ read ≡ passed ++ back_new
+  pub long : length passed ≡ gap
+  pub none : place ≡ 0 → back_new ≡ []
+  pub at_place : place ≢ 0 → stop + gap ≡ place
+
+-- a fault of this: the tag would stand before the sound's end or behind the file's, or one of reading
+abbrev pub IsTagFault : Option (List ℕ) → ℕ → ℕ → List ℕ → StreamFault → Type 0
+IsTagFault left_old place stop back FileRefused = IfSome left_old (λ left. (place ≢ 0) × ((place < stop) ⊎ (stop + length (back ++ left) < place)))
+IsTagFault left_old place stop back ReadFailed = ⊤
+IsTagFault left_old place stop back TurnLimit = ⊤
+IsTagFault left_old place stop back Memory = ⊤
+IsTagFault left_old place stop back _ = ⊥
+
+-- those of a sound with this head and these bytes behind it
+abbrev pub with_ends : Sound → List ℕ → List ℕ → Behind → Surroundings
+with_ends s head back b = record { sound = s; head = head; gap = b.gap; back = back; ends = b.ends; recording = b.recording }
+
+-- behind a head and a sound, of which some bytes were read, the rest of a file was read as far as it matters: its surroundings are known, whichever bytes the sound has
+pub record Surrounds {R : Type 0} (left : R → Option (List ℕ)) (old new : Inlet R) (back : List ℕ) (o : Surroundings) : Type 0 where
+  pub read : List ℕ
+  pub reads : Reads left old new read
+  pub told : AreTold o
+  pub given : (sound : List ℕ) → length sound ≡ o.sound.size → StandsIn o (o.head ++ (sound ++ (back ++ read))) sound
+  pub stands : (sound rest : List ℕ) → length sound ≡ o.sound.size → left (inlet_reader new) ≡ Some rest → StandsIn o (o.head ++ (sound ++ (back ++ (read ++ rest)))) sound
+
+-- a fault of this: no file that goes on so is accepted, whichever bytes the sound has, or one of reading
+abbrev pub IsRestFault : Option (List ℕ) → Sound → List ℕ → List ℕ → StreamFault → Type 0
+IsRestFault left_old s head back FileRefused = IfSome left_old (λ left. (sound : List ℕ) → length sound ≡ s.size → IsRefused (head ++ (sound ++ (back ++ left))))
+IsRestFault left_old s head back ReadFailed = ⊤
+IsRestFault left_old s head back TurnLimit = ⊤
+IsRestFault left_old s head back Memory = ⊤
+IsRestFault left_old s head back _ = ⊥
+
+-- ---- the whole file
+
+-- whatever file stands there, it is some sound in the surroundings, and they tell what it holds
+abbrev pub SurroundsFile : Option (List ℕ) → Surroundings → Type 0
+SurroundsFile left_old o = AreTold o × IfSome left_old (AreAround o)
+
+-- a fault of this: the file holds no recording, or one of reading
+abbrev pub IsOutlineFault : Option (List ℕ) → StreamFault → Type 0
+IsOutlineFault left_old FileRefused = IfSome left_old IsRefused
+IsOutlineFault left_old ReadFailed = ⊤
+IsOutlineFault left_old TurnLimit = ⊤
+IsOutlineFault left_old Memory = ⊤
+IsOutlineFault left_old _ = ⊥

@@ -1,0 +1,49 @@
+-- A reader of a file: what it keeps to, and how far it goes.
+use Rattle.std.specs.Prelude.{◌≡◌, ℕ, ◌+◌, ◌-◌, ◌<◌, ◌≤◌, ◌^◌, List, [], ◌++◌, length, Option, IfSome, Result, IsErrOf, ⊤}
+use Rattle.device_core.specs.Inlets.{inlet_failures, inlet_given, inlet_reads}
+use Rattle.device_core.specs.declared.inlet.Inlet.{Inlet}
+use Rattle.sound_core.specs.Faults.{failed_reads}
+use Rattle.sound_core.specs.Reads.{HasBudget, Reads}
+use Rattle.sound_core.specs.declared.fault.StreamFault.{StreamFault}
+use Rattle.sound_core.specs.declared.fault.StreamFault.TheVariants.{FileRefused, ReadFailed, TurnLimit, Memory}
+use Rattle.sound_core.specs.declared.reader.SoundReader.{SoundReader}
+
+-- a reader that may read on: one more failure can be counted, no count comes to its end, and it has a block to read into
+pub record IsReading {R : Type 0} (r : SoundReader R) : Type 0 where
+  pub ready : inlet_failures r.inlet.now < 2 ^ 64 - 1
+  pub budget : HasBudget r.limit r.inlet.now
+  pub size : length r.block.now.items ≡ 65536
+
+-- before the first byte of a file
+pub record IsAtStart {R : Type 0} (r : SoundReader R) : Type 0 where
+  pub reading : IsReading r
+  pub given : inlet_given r.inlet.now ≡ r.given
+  pub empty : r.ahead.now.items ≡ []
+
+-- a reader of the same file
+pub record IsSame {R : Type 0} (old new : SoundReader R) : Type 0 where
+  pub reference : new.inlet.ghost_name ≡ old.inlet.ghost_name
+  pub given : new.given ≡ old.given
+  pub limit : new.limit ≡ old.limit
+
+-- what was counted where this was answered: a failure where a read failed, and no more reads than its limit
+pub record Counts {R X : Type 0} (old new : SoundReader R) (r : Result X StreamFault) : Type 0 where
+  pub failures : inlet_failures new.inlet.now ≡ inlet_failures old.inlet.now + failed_reads r
+  pub turns : IsErrOf r TurnLimit → inlet_reads new.inlet.now ≡ old.limit
+  pub most : inlet_reads new.inlet.now ≤ old.limit
+
+-- so many bytes were passed: of those ahead and those that were read, the first; the others are ahead
+pub record Passes {R : Type 0} (left : R → Option (List ℕ)) (old new : Inlet R) (n : ℕ) (ahead_old ahead_new : List ℕ) : Type 0 where
+  pub passed : List ℕ
+  pub read : List ℕ
+  pub reads : Reads left old new read
+  pub parts : ahead_old ++ read ≡ passed ++ ahead_new
+  pub long : length passed ≡ n
+
+-- a fault of this: there are fewer, or one of reading
+abbrev pub IsPassFault : Option (List ℕ) → ℕ → List ℕ → StreamFault → Type 0
+IsPassFault left_old n ahead FileRefused = IfSome left_old (λ left. length (ahead ++ left) < n)
+IsPassFault left_old n ahead ReadFailed = ⊤
+IsPassFault left_old n ahead TurnLimit = ⊤
+IsPassFault left_old n ahead Memory = ⊤
+IsPassFault left_old n ahead _ = ⊥

@@ -1,0 +1,33 @@
+//! Why a reader's file is not read or played.
+
+ghost use Rattle.std.specs.Prelude.{◌≡◌};
+ghost use Rattle.sound_core.specs.declared.fault.StreamFault.TheVariants as faults;
+
+use std::alloc::AllocError;
+
+/// Why a reader's file is not read or played, or not to its end.
+#[derive(Clone, Copy, Debug, PartialEq, Eq)]
+pub enum StreamFault {
+    /// The bytes are neither a DSDIFF 1.5 nor a DSF 1.01 file that holds a recording.
+    FileRefused,
+    /// The decimation factor doesn't divide the sample rate.
+    RateNotDivided,
+    /// The WAVE file would be larger than its 32-bit sizes can say.
+    TooLarge,
+    /// A read failed.
+    ReadFailed,
+    /// A write failed, or took nothing.
+    WriteFailed,
+    /// There were `2^40` reads, and the file wasn't at its end.
+    TurnLimit,
+    /// Want of memory.
+    Memory,
+}
+
+impl From<AllocError> for StreamFault {
+    ghost from_gives = { λ _ e. e ≡ faults.Memory };
+
+    fn from(_e: AllocError) -> StreamFault {
+        StreamFault::Memory
+    }
+}

@@ -1,0 +1,57 @@
+//! Reading a DSDIFF 1.5 or DSF 1.01 file from a reader, a block at a time: what stands around its sound, and the sound
+//! itself, which whoever wants it takes piece by piece.
+//!
+//! [`read_outline`] reads a file once and tells all of it but the bits of its sound: an [`Outline`], by which the file
+//! can be read again and written in another form while it is read. Of the sound it holds one block of 65,536 bytes; what
+//! stands before the sound is held whole, and so is what a DSDIFF form has behind it.
+//! [`read_into`] does so too, and has a [`SoundSink`] take the sound (`taking.rt`); [`read_stretches`] keeps of it the bits
+//! of each channel in the ranges that it is given, by a sink (`keeper.rt`).
+//!
+//! The stages, each a module, serve whoever plays a file as well: a [`SoundReader`] has the inlet, a block to read into,
+//! the limit of its reads and what was read ahead (`reader.rt`); [`read_front`] leads up to the sound (`front.rt`), and
+//! [`closes`] asks whether what stands behind it closes the file (`closing.rt`).
+//!
+//! The words of the contracts:
+//!
+//! - `HoldsRecording file r` says that the file is a DSDIFF or a DSF file that holds this recording, `TellsSound front
+//!   s` that the front of a file tells of this sound (`specs/Files.antt`), in the words of its format: the chunks that
+//!   lead up to it, or the fields. A file that holds a recording tells of one ([`accepted_files_tell_one_sound`]).
+//! - `Reads left old new bytes` says that an inlet gave these bytes and counted them (`specs/Reads.antt`), `IsReading
+//!   reader` that a reader may read on (`specs/Readers.antt`).
+//! - `StandsIn around file sound` says that a file is these sound bytes in their surroundings, `AreTold around` that
+//!   every such file holds what the surroundings tell, with the channels of its sound, and `SurroundsFile left around`
+//!   both of a reader's file (`specs/Outlines.antt`).
+//! - `IsFed s done bytes` says that these bytes of a sound came, those of so many bits of each channel, and `TakesFile has
+//!   left around` that a reader's file is some sound in these surroundings, of whose bytes this holds (`specs/Sinks.antt`).
+//! - `KeepsFile left around ranges kept` says that a reader's file is some sound in these surroundings, and which stretches
+//!   of its channels were kept (`specs/Keeping.antt`).
+//!
+//! What it promises: Ok means that the reader's file is some sound in the outline, however its reads are cut, and that
+//! every such file holds what the outline tells; a file that is refused holds no recording.
+//!
+//! ```text
+//! let mut inlet = Inlet::new(file);
+//! let outline = read_outline(alloc, &mut inlet)?;    // what the file holds beside the bits of its sound
+//! ```
+#![tactic(auto)]
+
+mod closing;
+mod fault;
+mod front;
+mod keeper;
+mod keeping;
+mod laws;
+mod outline;
+mod reader;
+mod sink;
+mod taking;
+
+pub use closing::closes;
+pub use fault::StreamFault;
+pub use front::read_front;
+pub use keeping::{Kept, read_stretches};
+pub use laws::accepted_files_tell_one_sound;
+pub use outline::{Outline, read_outline};
+pub use reader::{SoundReader, new_block};
+pub use sink::SoundSink;
+pub use taking::read_into;

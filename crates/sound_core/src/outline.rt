@@ -1,0 +1,236 @@
+//! What a file holds beside its sound, read in one pass.
+
+ghost use Rattle.std.specs.Prelude.{◌≡◌, ◌+◌, ◌-◌, ◌%◌, ◌<◌, ◌≤◌, ◌^◌, ◌++◌, IfErr, IfOk, IsErrOf, length, true};
+ghost use Rattle.device_core.specs.Inlets.{inlet_failures, inlet_given, inlet_reader, inlet_reads};
+ghost use Rattle.dsd_bits.specs.Sounds.{IsSound, has_blocks};
+ghost use Rattle.sound_core.specs.Closing.{EndsAt};
+ghost use Rattle.sound_core.specs.Faults.{failed_reads};
+ghost use Rattle.sound_core.specs.Outlines.{IsOutlineFault, IsRestFault, IsTagFault, ReadsTag, Surrounds, SurroundsFile, around_of, with_ends};
+ghost use Rattle.sound_core.specs.Readers.{Counts, IsAtStart, IsReading, IsSame};
+
+use crate::fault::StreamFault;
+use crate::front::read_front;
+use crate::reader::{SoundReader, new_block};
+use device_core::Inlet;
+use dsd_bits::{Interleaving, Recording, Sound};
+use std::alloc::Global;
+use std::io::Read;
+
+/// A file without its sound: what stands around it, and what it tells.
+///
+/// The file is `head`, the bytes of the sound, `gap` bytes that don't matter, `back`, and whatever follows where it
+/// need not end there.
+#[derive(Drop)]
+pub struct Outline {
+    /// What the sound is, and where it stands.
+    pub sound: Sound,
+    /// The bytes before the sound.
+    pub head: Vec<u8>,
+    /// How many bytes between the sound and `back` don't matter: those before the tag of a DSF file.
+    pub gap: u64,
+    /// The bytes behind it: what a DSDIFF form has behind its sound, or the tag of a DSF file.
+    pub back: Vec<u8>,
+    /// Whether the file ends behind `back`: bytes behind a whole DSDIFF form don't matter.
+    pub ends: bool,
+    /// The recording that it holds, with channels of no bits.
+    pub recording: Recording,
+}
+
+/// Reads a file to its end, or to that of a DSDIFF form, and tells all of it but the bits of its sound. What stands
+/// before the sound is held, and what is kept behind it, of the sound one block of 65,536 bytes at a time.
+///
+/// The inlet counts fewer than `2^63` reads and bytes at entry.
+///
+/// Refusals: `FileRefused` where the bytes are neither a DSDIFF nor a DSF file that holds a recording; `ReadFailed`;
+/// `TurnLimit` after `2^40` reads, and whatever is answered there were no more; `Memory`.
+pub fn read_outline<R: Read>(alloc: Global, inlet: &mut Inlet<R>) -> Result<Outline, StreamFault>
+    requires inlet_ready { inlet_failures inlet.old < 2 ^ 64 - 1 }
+    requires reads_low { inlet_reads inlet.old < 2 ^ 63 }
+    requires given_low { inlet_given inlet.old < 2 ^ 63 }
+    // The reader's file is some sound in the outline, and every such file holds what the outline tells.
+    ensures ok { IfOk result (λ o. SurroundsFile (R.remaining (inlet_reader inlet.old)) (around_of o)) }
+    ensures fault { IfErr result (IsOutlineFault (R.remaining (inlet_reader inlet.old))) }
+    ensures read_failed { inlet_failures inlet.new ≡ inlet_failures inlet.old + failed_reads result }
+    // Whatever is answered, there were at most 2^40 reads.
+    ensures reads { inlet_reads inlet.new ≤ inlet_reads inlet.old + 2 ^ 40 }
+    ensures turn_limit { IsErrOf result StreamFault.TurnLimit → inlet_reads inlet.new ≡ inlet_reads inlet.old + 2 ^ 40 }
+{
+    let mut block = new_block(alloc)?;
+    let mut ahead = Vec::new(alloc);
+    outline_of(alloc, &mut SoundReader::new(inlet, &mut block, &mut ahead))
+}
+
+// Reads a file, and tells all of it but the bits of its sound.
+fn outline_of<R: Read>(
+    alloc: Global,
+    reader: &mut SoundReader<'_, R>,
+) -> Result<Outline, StreamFault>
+    requires { IsAtStart reader.old }
+    ensures same { IsSame reader.old reader.new }
+    ensures ok { IfOk result (λ o. SurroundsFile (R.remaining (inlet_reader reader.old.inlet.now)) (around_of o)) }
+    ensures counts { Counts reader.old reader.new result }
+    ensures fault { IfErr result (IsOutlineFault (R.remaining (inlet_reader reader.old.inlet.now))) }
+{
+    let sound = read_front(alloc, reader)?;
+    let head = reader.take_head(alloc, sound.start)?;
+    reader.pass(sound.size as u64)?;
+    read_rest(alloc, sound, head, reader)
+}
+
+/// Reads the rest of a file behind its sound, as far as it matters: what is told of the whole file, which begins with
+/// this head.
+///
+/// Refusals: `FileRefused` where no file that goes on so holds a recording; those of reading.
+pub(crate) fn read_rest<R: Read>(
+    alloc: Global,
+    sound: Sound,
+    head: Vec<u8>,
+    reader: &mut SoundReader<'_, R>,
+) -> Result<Outline, StreamFault>
+    requires at_sound { EndsAt head.items sound }
+    requires sound { IsSound sound }
+    requires whole { sound.interleaving ≡ Interleaving.Bytes → sound.count % 8 ≡ 0 }
+    requires reading { IsReading reader.old }
+    requires given { inlet_given reader.old.inlet.now ≡ reader.old.given + (length head.items + sound.size + length reader.old.ahead.now.items) }
+    ensures same { IsSame reader.old reader.new }
+    ensures ok { IfOk result (λ o. (o.sound ≡ sound) × (o.head.items ≡ head.items) × Surrounds R.remaining reader.old.inlet.now reader.new.inlet.now reader.old.ahead.now.items (around_of o)) }
+    ensures counts { Counts reader.old reader.new result }
+    ensures fault { IfErr result (IsRestFault (R.remaining (inlet_reader reader.old.inlet.now)) sound head.items reader.old.ahead.now.items) }
+{
+    let behind = read_behind(alloc, &sound, &head, reader)?;
+    let back = reader.take_ahead(alloc);
+    Ok(Outline {
+        sound,
+        head,
+        gap: behind.gap,
+        back,
+        ends: behind.ends,
+        recording: behind.recording,
+    })
+}
+
+// What was found behind a sound.
+#[derive(Drop)]
+struct Behind {
+    // How many bytes stand between the sound and what was kept.
+    gap: u64,
+    // Whether the file ends behind what was kept.
+    ends: bool,
+    // The recording, with channels of no bits.
+    recording: Recording,
+}
+
+// Reads the rest of a file that begins with this head: what is kept behind the sound is ahead then.
+fn read_behind<R: Read>(
+    alloc: Global,
+    sound: &Sound,
+    head: &[u8],
+    reader: &mut SoundReader<'_, R>,
+) -> Result<Behind, StreamFault>
+    requires at_sound { EndsAt head.now sound.now }
+    requires sound { IsSound sound.now }
+    requires whole { sound.now.interleaving ≡ Interleaving.Bytes → sound.now.count % 8 ≡ 0 }
+    requires reading { IsReading reader.old }
+    requires given { inlet_given reader.old.inlet.now ≡ reader.old.given + (length head.now + sound.now.size + length reader.old.ahead.now.items) }
+    ensures same { IsSame reader.old reader.new }
+    ensures ok { IfOk result (λ b. Surrounds R.remaining reader.old.inlet.now reader.new.inlet.now reader.old.ahead.now.items (with_ends sound.now head.now reader.new.ahead.now.items b)) }
+    ensures counts { Counts reader.old reader.new result }
+    ensures fault { IfErr result (IsRestFault (R.remaining (inlet_reader reader.old.inlet.now)) sound.now head.now reader.old.ahead.now.items) }
+{
+    if sound.interleaving.has_blocks() {
+        behind_blocks(alloc, sound, head, reader)
+    } else {
+        behind_frames(alloc, sound, head, reader)
+    }
+}
+
+// The same of a DSF file: its tag is kept.
+fn behind_blocks<R: Read>(
+    alloc: Global,
+    sound: &Sound,
+    head: &[u8],
+    reader: &mut SoundReader<'_, R>,
+) -> Result<Behind, StreamFault>
+    requires at_sound { EndsAt head.now sound.now }
+    requires interleaving { has_blocks sound.now.interleaving ≡ true }
+    requires sound { IsSound sound.now }
+    requires reading { IsReading reader.old }
+    requires given { inlet_given reader.old.inlet.now ≡ reader.old.given + (length head.now + sound.now.size + length reader.old.ahead.now.items) }
+    ensures same { IsSame reader.old reader.new }
+    ensures ok { IfOk result (λ b. Surrounds R.remaining reader.old.inlet.now reader.new.inlet.now reader.old.ahead.now.items (with_ends sound.now head.now reader.new.ahead.now.items b)) }
+    ensures counts { Counts reader.old reader.new result }
+    ensures fault { IfErr result (IsRestFault (R.remaining (inlet_reader reader.old.inlet.now)) sound.now head.now reader.old.ahead.now.items) }
+{
+    let stop = (head.len() + sound.size) as u64;
+    let gap = read_tag(dsf_core::tag_at(head), stop, reader)?;
+    let total = reader.inlet.given() - reader.given;
+    let tag = Vec::from_slice(alloc, reader.ahead.as_slice())?;
+    let Some(recording) = dsf_core::outline(alloc, head, total, tag)? else {
+        return Err(StreamFault::FileRefused);
+    };
+    Ok(Behind {
+        gap,
+        ends: true,
+        recording,
+    })
+}
+
+// The same of a DSDIFF form: all of it is kept.
+fn behind_frames<R: Read>(
+    alloc: Global,
+    sound: &Sound,
+    head: &[u8],
+    reader: &mut SoundReader<'_, R>,
+) -> Result<Behind, StreamFault>
+    requires at_sound { EndsAt head.now sound.now }
+    requires interleaving { sound.now.interleaving ≡ Interleaving.Bytes }
+    requires sound { IsSound sound.now }
+    requires whole { sound.now.count % 8 ≡ 0 }
+    requires reading { IsReading reader.old }
+    ensures same { IsSame reader.old reader.new }
+    ensures ok { IfOk result (λ b. Surrounds R.remaining reader.old.inlet.now reader.new.inlet.now reader.old.ahead.now.items (with_ends sound.now head.now reader.new.ahead.now.items b)) }
+    ensures counts { Counts reader.old reader.new result }
+    ensures fault { IfErr result (IsRestFault (R.remaining (inlet_reader reader.old.inlet.now)) sound.now head.now reader.old.ahead.now.items) }
+{
+    let wanted = dsdiff_core::bytes_behind(head);
+    reader.read_until(wanted)?;
+    let ends = (reader.ahead.len() as u64) < wanted;
+    let kept = reader.ahead.len().min(wanted as usize);
+    reader.ahead.truncate(kept);
+    let Some(recording) = dsdiff_core::outline(alloc, head, reader.ahead.as_slice())? else {
+        return Err(StreamFault::FileRefused);
+    };
+    Ok(Behind {
+        gap: 0,
+        ends,
+        recording,
+    })
+}
+
+// Reads a DSF file to its end, and keeps its tag, which stands at this place, 0 for none. The sound ends at `stop`. It
+// answers how many bytes stand between the sound and the tag.
+fn read_tag<R: Read>(
+    place: u64,
+    stop: u64,
+    reader: &mut SoundReader<'_, R>,
+) -> Result<u64, StreamFault>
+    requires reading { IsReading reader.old }
+    requires given { inlet_given reader.old.inlet.now ≡ reader.old.given + (stop + length reader.old.ahead.now.items) }
+    ensures same { IsSame reader.old reader.new }
+    ensures ok { IfOk result (ReadsTag R.remaining reader.old.inlet.now reader.new.inlet.now place stop reader.old.ahead.now.items reader.new.ahead.now.items) }
+    ensures counts { Counts reader.old reader.new result }
+    ensures fault { IfErr result (IsTagFault (R.remaining (inlet_reader reader.old.inlet.now)) place stop reader.old.ahead.now.items) }
+{
+    if place == 0 {
+        reader.read_to_end()?;
+        reader.ahead.clear();
+        return Ok(reader.inlet.given() - reader.given - stop);
+    }
+    if place < stop {
+        return Err(StreamFault::FileRefused);
+    }
+    let gap = place - stop;
+    reader.pass(gap)?;
+    reader.read_all()?;
+    Ok(gap)
+}

@@ -1,0 +1,242 @@
+//! A file that is read: a block at a time, and in no more reads than one call may ask for.
+
+ghost use Rattle.std.specs.Prelude.{◌≡◌, ◌+◌, ◌-◌, ◌<◌, ◌≤◌, ◌^◌, ◌++◌, [], List, ℕ, IfErr, IfOk, OnOk, drop, length, take};
+ghost use Rattle.std.specs.Io.KnownBytes.{IsAtEnd};
+ghost use Rattle.device_core.specs.Inlets.{inlet_failures, inlet_given, inlet_reader, inlet_reads};
+ghost use Rattle.sound_core.specs.Faults.{IsReadingFault, StopsReading};
+ghost use Rattle.sound_core.specs.Readers.{Counts, IsAtStart, IsPassFault, IsReading, IsSame, Passes};
+ghost use Rattle.sound_core.specs.Reads.{Reads, ReadsAll, ReadsToEnd, ReadsUntil};
+
+use crate::fault::StreamFault;
+use device_core::Inlet;
+use std::alloc::{AllocError, Global};
+use std::io::Read;
+use std::mem;
+
+// How many bytes one read asks for.
+const BLOCK: usize = 65_536;
+
+// How many reads one call may ask for.
+const MOST_READS: u64 = 1 << 40;
+
+/// A block of 65,536 zeros, for bytes to be read into.
+///
+/// Refusal: want of memory.
+pub fn new_block(alloc: Global) -> Result<Vec<u8>, AllocError>
+    ensures { IfOk result (λ block. length block.items ≡ 65536) }
+{
+    vec![in alloc; 0u8; BLOCK]
+}
+
+/// A file that is read from an inlet. That is lent, and so is the memory that is read into.
+#[derive(Drop)]
+pub struct SoundReader<'a, R> {
+    /// What is read.
+    pub inlet: &'a mut Inlet<R>,
+    /// How many bytes the inlet counted before the file's first.
+    pub given: u64,
+    /// How many reads the inlet may count.
+    pub limit: u64,
+    /// What one read gives.
+    pub block: &'a mut Vec<u8>,
+    /// The bytes that were read, and not yet taken or passed.
+    pub ahead: &'a mut Vec<u8>,
+}
+
+impl<'a, R: Read> SoundReader<'a, R> {
+    /// A reader before the first byte of a file, of at most `2^40` reads.
+    ///
+    /// The inlet counts fewer than `2^63` reads and bytes, `block` is one of [`new_block`], and `ahead` is empty.
+    pub fn new(
+        inlet: &'a mut Inlet<R>,
+        block: &'a mut Vec<u8>,
+        ahead: &'a mut Vec<u8>,
+    ) -> SoundReader<'a, R>
+        requires ready { inlet_failures inlet.old < 2 ^ 64 - 1 }
+        requires reads_low { inlet_reads inlet.old < 2 ^ 63 }
+        requires given_low { inlet_given inlet.old < 2 ^ 63 }
+        requires size { length block.old.items ≡ 65536 }
+        requires empty { ahead.old.items ≡ [] }
+        ensures reference { result.inlet.ghost_name ≡ inlet.entry.ghost_name }
+        ensures inlet { result.inlet.now ≡ inlet.old }
+        ensures limit { result.limit ≡ inlet_reads inlet.old + 2 ^ 40 }
+        ensures start { IsAtStart result }
+    {
+        let given = inlet.given();
+        let limit = inlet.reads() + MOST_READS;
+        SoundReader {
+            inlet,
+            given,
+            limit,
+            block,
+            ahead,
+        }
+    }
+
+    /// One read into the front of the block: how many bytes it gave, none only at the end.
+    ///
+    /// Refusals: `TurnLimit` where the inlet counts `limit` reads; `ReadFailed`.
+    pub fn pull(&mut self) -> Result<usize, StreamFault>
+        requires reading { IsReading self.old }
+        ensures same { IsSame self.old self.new }
+        ensures reading { OnOk result (IsReading self.new) }
+        ensures kept { self.new.ahead.now.items ≡ self.old.ahead.now.items }
+        ensures few { IfOk result (λ n. n ≤ 65536) }
+        ensures read { IfOk result (λ n. Reads R.remaining self.old.inlet.now self.new.inlet.now (take n self.new.block.now.items)) }
+        ensures end { IfOk result (λ n. n ≡ 0 → IsAtEnd (R.remaining (inlet_reader self.new.inlet.now))) }
+        ensures turn { IfOk result (λ n. inlet_reads self.new.inlet.now ≡ inlet_reads self.old.inlet.now + 1) }
+        ensures none { IfErr result (λ f. inlet_given self.new.inlet.now ≡ inlet_given self.old.inlet.now) }
+        ensures counts { Counts self.old self.new result }
+        ensures fault { IfErr result IsReadingFault }
+    {
+        if self.inlet.reads() == self.limit {
+            return Err(StreamFault::TurnLimit);
+        }
+        match self.inlet.pull(self.block.as_mut_slice()) {
+            Ok(count) => Ok(count),
+            Err(_) => Err(StreamFault::ReadFailed),
+        }
+    }
+
+    /// One read, whose bytes are appended to those ahead: how many it gave, none only at the end.
+    ///
+    /// Refusals: as of [`SoundReader::pull`]; `Memory`.
+    pub(crate) fn read_more(&mut self) -> Result<usize, StreamFault>
+        requires reading { IsReading self.old }
+        ensures same { IsSame self.old self.new }
+        ensures reading { OnOk result (IsReading self.new) }
+        ensures read { IfOk result (λ n. (read : List ℕ) × Reads R.remaining self.old.inlet.now self.new.inlet.now read × (n ≡ length read) × (self.new.ahead.now.items ≡ self.old.ahead.now.items ++ read)) }
+        ensures end { IfOk result (λ n. n ≡ 0 → IsAtEnd (R.remaining (inlet_reader self.new.inlet.now))) }
+        ensures turn { IfOk result (λ n. inlet_reads self.new.inlet.now ≡ inlet_reads self.old.inlet.now + 1) }
+        ensures none { IfErr result (λ f. StopsReading f → inlet_given self.new.inlet.now ≡ inlet_given self.old.inlet.now) }
+        ensures counts { Counts self.old self.new result }
+        ensures fault { IfErr result IsReadingFault }
+    {
+        let count = self.pull()?;
+        let (read, _) = self.block.split_at(count);
+        self.ahead.extend_from_slice(read)?;
+        Ok(count)
+    }
+
+    /// Reads until there are so many bytes ahead, or the file is at its end.
+    ///
+    /// Refusals: as of [`SoundReader::read_more`].
+    pub fn read_until(&mut self, wanted: u64) -> Result<(), StreamFault>
+        requires reading { IsReading self.old }
+        ensures same { IsSame self.old self.new }
+        ensures reading { OnOk result (IsReading self.new) }
+        ensures read { OnOk result (ReadsUntil R.remaining self.old.inlet.now self.new.inlet.now self.old.ahead.now.items self.new.ahead.now.items wanted) }
+        ensures counts { Counts self.old self.new result }
+        ensures fault { IfErr result IsReadingFault }
+    {
+        while (self.ahead.len() as u64) < wanted {
+            let count = self.read_more()?;
+            if count == 0 {
+                return Ok(());
+            }
+        }
+        Ok(())
+    }
+
+    /// Reads to the file's end, and keeps nothing.
+    ///
+    /// Refusals: as of [`SoundReader::pull`].
+    pub(crate) fn read_to_end(&mut self) -> Result<(), StreamFault>
+        requires reading { IsReading self.old }
+        ensures same { IsSame self.old self.new }
+        ensures kept { self.new.ahead.now.items ≡ self.old.ahead.now.items }
+        ensures read { OnOk result (ReadsToEnd R.remaining self.old.inlet.now self.new.inlet.now) }
+        ensures counts { Counts self.old self.new result }
+        ensures fault { IfErr result IsReadingFault }
+    {
+        loop {
+            let count = self.pull()?;
+            if count == 0 {
+                return Ok(());
+            }
+        }
+    }
+
+    /// Reads to the file's end.
+    ///
+    /// Refusals: as of [`SoundReader::read_more`].
+    pub(crate) fn read_all(&mut self) -> Result<(), StreamFault>
+        requires reading { IsReading self.old }
+        ensures same { IsSame self.old self.new }
+        ensures read { OnOk result (ReadsAll R.remaining self.old.inlet.now self.new.inlet.now self.old.ahead.now.items self.new.ahead.now.items) }
+        ensures counts { Counts self.old self.new result }
+        ensures fault { IfErr result IsReadingFault }
+    {
+        loop {
+            let count = self.read_more()?;
+            if count == 0 {
+                return Ok(());
+            }
+        }
+    }
+
+    /// Takes the first so many bytes ahead out.
+    ///
+    /// Refusal: `Memory`.
+    pub fn take_head(&mut self, alloc: Global, size: usize) -> Result<Vec<u8>, StreamFault>
+        requires within { size ≤ length self.old.ahead.now.items }
+        ensures same { IsSame self.old self.new }
+        ensures untouched { self.new.inlet.now ≡ self.old.inlet.now }
+        ensures reading { IsReading self.old → IsReading self.new }
+        ensures head { IfOk result (λ head. head.items ≡ take size self.old.ahead.now.items) }
+        ensures rest { OnOk result (self.new.ahead.now.items ≡ drop size self.old.ahead.now.items) }
+        ensures fault { IfErr result (λ f. f ≡ StreamFault.Memory) }
+    {
+        let (_, behind) = self.ahead.split_at(size);
+        let rest = Vec::from_slice(alloc, behind)?;
+        self.ahead.truncate(size);
+        Ok(mem::replace(&mut *self.ahead, rest))
+    }
+
+    /// Takes all bytes ahead out.
+    pub fn take_ahead(&mut self, alloc: Global) -> Vec<u8>
+        ensures same { IsSame self.old self.new }
+        ensures untouched { self.new.inlet.now ≡ self.old.inlet.now }
+        ensures reading { IsReading self.old → IsReading self.new }
+        ensures taken { result.items ≡ self.old.ahead.now.items }
+        ensures none { self.new.ahead.now.items ≡ [] }
+    {
+        mem::replace(&mut *self.ahead, Vec::new(alloc))
+    }
+
+    /// Drops the first so many bytes ahead.
+    pub(crate) fn drop_ahead(&mut self, size: usize)
+        requires within { size ≤ length self.old.ahead.now.items }
+        ensures same { IsSame self.old self.new }
+        ensures untouched { self.new.inlet.now ≡ self.old.inlet.now }
+        ensures reading { IsReading self.old → IsReading self.new }
+        ensures rest { self.new.ahead.now.items ≡ drop size self.old.ahead.now.items }
+    {
+        let left = self.ahead.len() - size;
+        self.ahead.copy_within(size.., 0);
+        self.ahead.truncate(left);
+    }
+
+    /// Passes so many bytes: those ahead first, and then what is read; none of them is kept.
+    ///
+    /// Refusals: `FileRefused` where the file ends before; those of [`SoundReader::read_more`].
+    pub(crate) fn pass(&mut self, wanted: u64) -> Result<(), StreamFault>
+        requires reading { IsReading self.old }
+        ensures same { IsSame self.old self.new }
+        ensures reading { OnOk result (IsReading self.new) }
+        ensures ok { OnOk result (Passes R.remaining self.old.inlet.now self.new.inlet.now wanted self.old.ahead.now.items self.new.ahead.now.items) }
+        ensures counts { Counts self.old self.new result }
+        ensures fault { IfErr result (IsPassFault (R.remaining (inlet_reader self.old.inlet.now)) wanted self.old.ahead.now.items) }
+    {
+        let mut left = wanted;
+        while (self.ahead.len() as u64) < left {
+            left -= self.ahead.len() as u64;
+            self.ahead.clear();
+            if self.read_more()? == 0 {
+                return Err(StreamFault::FileRefused);
+            }
+        }
+        self.drop_ahead(left as usize);
+        Ok(())
+    }
+}

@@ -1,5 +1,0 @@
-use Rattle.std.proofs.Common.{◌≡◌, Bool, List, [], replicate}
-use Rattle.stream_core.proofs.keeper.no_stretch.Given as goal
-
-abbrev pub invariant-loop-channel : goal.invariant-loop-channel
-invariant-loop-channel l = l.made.items ≡ replicate {A = List Bool} l._channel []

@@ -1,25 +1,19 @@
 -- A channel of a master, part by part, and where its bridges stand.
-use Rattle.std.proofs.Common.{◌≡◌, ℕ, zero, suc, ◌+◌, ◌-◌, ◌<◌, Bool, List, [], ◌∷◌, ◌++◌, length, get_or, map, slice_get, take, drop, slice_range, sum_by, IfOk, Result, Ok, Err, append_assoc, refl, sym, ap, subst, ◌∙◌, arith}
-use Rattle.std.specs.declared.alloc.AllocError.{AllocError}
+use Rattle.std.proofs.Common.{◌≡◌, ℕ, zero, suc, ◌+◌, ◌-◌, ◌<◌, Bool, List, [], ◌∷◌, ◌++◌, length, get_or, map, slice_get, take, drop, slice_range, sum_by, append_assoc, refl, sym, ap, subst, ◌∙◌, arith}
 use Rattle.std.specs.List.{AllZip, range_with_len}
 use Rattle.std.proofs.Math.Seq.{drop-append_seam, take-append_seam}
-use Rattle.std.proofs.lemmas.List.{ext_get_or, length-append, length-map, length-take-le, nil_from_length, take_all, take_more}
+use Rattle.std.proofs.lemmas.List.{ext_get_or, length-append, length-take-le, nil_from_length, take_all, take_more}
 use Rattle.std.proofs.lemmas.List.Sums.{sum_by_more}
-use Rattle.std.proofs.lemmas.List.FromFn.{get_or-map-range_with_len, length-map-range_with_len, map-range_with_len_more}
+use Rattle.std.proofs.lemmas.List.FromFn.{get_or-map-range_with_len, length-map-range_with_len}
 use Rattle.std.proofs.lemmas.Option.{slice_get-get_or}
 use Rattle.splice_core.specs.Cues.{bridge_or, last_bridge}
-use Rattle.cost_core.specs.Bridges.{bridge_cost}
 use Rattle.cost_core.specs.Channels.{AreJoined, HaveLengths, Part, channel}
 use Rattle.cost_core.specs.Least.{IsFirstLeast, NotAfter}
 use Rattle.cut_core.specs.Cuts.{CutContent, channel_number, cue_at, cue_bits, master_length, span}
 use Rattle.cut_core.specs.Keeping.{CanCut}
-use Rattle.cut_core.proofs.BridgeLaws.{range_more}
-use Rattle.cut_core.proofs.ZipLaws.{zip_is_map, zip_long, zip_map, zip_more, zip_of_map}
-use Rattle.master_core.specs.Assembling.{IsAssembled, IsBridged, IsOfSource}
-use Rattle.master_core.specs.declared.assembling.BridgeSource.{BridgeSource}
 use Rattle.master_core.specs.Checking.{rebuilt}
 use Rattle.master_core.specs.Claims.{bridge_bits, bridge_start}
-use Rattle.master_core.specs.Masters.{IsBestChannel, IsFirstLeastPart, master_channel, part_at, parts_of}
+use Rattle.master_core.specs.Masters.{IsFirstLeastPart, master_channel, part_at, parts_of}
 
 -- a part more
 pub channel_on : (cue : List Bool) (ps : List Part) (xs : List (List Bool)) (p : Part) (x : List Bool) → length xs ≡ length ps → channel cue (ps ++ p ∷ []) (xs ++ x ∷ []) ≡ channel cue ps xs ++ (x ++ p.cue)
@@ -63,51 +57,10 @@ part_of a x rest n m e f =
     let count : n + m - n ≡ length x = omega arith in
     ap (λ k. take k (drop n (a ++ (x ++ rest)))) count ∙ ap (λ k. take (length x) (drop k (a ++ (x ++ rest)))) (sym e) ∙ ap (take (length x)) (drop-append_seam a (x ++ rest)) ∙ take-append_seam x rest
 
--- ---- a channel in the making
-module _ (cut : CutContent) (c : ℕ) (source : BridgeSource) where
-  pub assembled_nothing : IsAssembled cut c source 0 (cue_bits cut c 0)
-  unfolding channel
-  assembled_nothing = record { bridges = []; given = tt; made = refl }
-
-  pub assembled_more : (i : ℕ) (z z1 z2 : List Bool) → IsAssembled cut c source i z → IsBridged (IsOfSource cut c source i) z z1 → z2 ≡ z1 ++ cue_bits cut c (i + 1) → IsAssembled cut c source (i + 1) z2
-  assembled_more i z z1 z2 so_far bridged next =
-      let xs = so_far.bridges in
-      let x = bridged.bits in
-      let d = part_at cut c i in
-      let first = cue_bits cut c 0 in
-      let ps = map (part_at cut c) (range_with_len 0 i) in
-      let zero : 0 + i ≡ i = omega arith in
-      let many : length xs ≡ length ps = zip_long (IsOfSource cut c source) (range_with_len 0 i) xs so_far.given ∙ sym (length-map (range_with_len 0 i) (part_at cut c)) in
-      let more : map (part_at cut c) (range_with_len 0 (i + 1)) ≡ ps ++ d ∷ [] = map-range_with_len_more (part_at cut c) 0 i i (omega arith) in
-      record {
-        bridges = xs ++ x ∷ [];
-        given = rw (range_more 0 i, zero) (zip_more (IsOfSource cut c source) (range_with_len 0 i) xs i x so_far.given bridged.given);
-        made = next ∙ ap (λ l. l ++ d.cue) (bridged.appended ∙ ap (λ l. l ++ x) so_far.made) ∙ append_assoc (channel first ps xs) x d.cue ∙ sym (channel_on first ps xs d x many) ∙ ap (λ l. channel first l (xs ++ x ∷ [])) (sym more);
-      }
-
-  -- of bits that were chosen, and of those that stand in a channel
-  pub best_of : (z : List Bool) → ((i : ℕ) (x : List Bool) → IsOfSource cut c source i x → IsFirstLeastPart (part_at cut c i) x) → IsAssembled cut c source (length cut.splice.cues - 1) z → IsBestChannel cut c z
-  best_of z chosen made =
-      let numbers = range_with_len 0 (length cut.splice.cues - 1) in
-      record {
-        bridges = made.bridges;
-        best = zip_of_map IsFirstLeastPart (part_at cut c) numbers made.bridges (zip_map (IsOfSource cut c source) (λ i x. IsFirstLeastPart (part_at cut c i) x) numbers made.bridges chosen made.given);
-        made = made.made;
-      }
-
-  pub rebuilt_of : (own : List Bool) → ((i : ℕ) (x : List Bool) → IsOfSource cut c source i x → x ≡ bridge_bits cut own i) → (answer : Result (List Bool) AllocError) → IfOk answer (IsAssembled cut c source (length cut.splice.cues - 1)) → IfOk answer (λ z. z ≡ rebuilt cut c own)
-  rebuilt_of own stand (Ok z) made =
-      let numbers = range_with_len 0 (length cut.splice.cues - 1) in
-      made.made ∙ ap (master_channel cut c) (zip_is_map (bridge_bits cut own) numbers made.bridges (zip_map (IsOfSource cut c source) (λ i x. x ≡ bridge_bits cut own i) numbers made.bridges stand made.given))
-  rebuilt_of own stand (Err fault) made = tt
-
 -- a plain cut
 pub nothing_first : (levels : ℕ) (cost : List Bool → ℕ) → levels ≡ 0 → IsFirstLeast levels cost []
 unfolding NotAfter
 nothing_first levels cost e = record { is_least = record { long = sym e; least = λ y h. let none : y ≡ [] = nil_from_length y (h ∙ e) in rw none (omega arith) }; first = λ y h same. tt }
-
-pub bridged_nothing : (p : Part) (before : List Bool) → p.bridging.levels ≡ 0 → before ≡ before ++ [] → IsBridged (IsFirstLeastPart p) before before
-bridged_nothing p before e same = record { bits = []; given = nothing_first p.bridging.levels (bridge_cost p.bridging) e; appended = same }
 
 -- first least bits have the bridges' lengths
 pub best_lengths : (ps : List Part) (xs : List (List Bool)) → AllZip IsFirstLeastPart ps xs → HaveLengths ps xs

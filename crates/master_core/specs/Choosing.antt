@@ -6,7 +6,7 @@ use Rattle.cost_core.specs.Limits.{IsBridging}
 use Rattle.cert_core.specs.Certificates.{Claim}
 use Rattle.trellis_core.specs.declared.bridging.Chosen.{Chosen}
 use Rattle.cut_core.specs.Bridges.{IsPlace, bridges}
-use Rattle.cut_core.specs.Cuts.{CutContent, window}
+use Rattle.cut_core.specs.Cuts.{CutContent, cue_at, window}
 use Rattle.cut_core.specs.declared.bridges.BridgePlace.{BridgePlace}
 use Rattle.master_core.specs.Claims.{claim_of}
 use Rattle.master_core.specs.declared.choosing.ChosenBridges.{ChosenBridges}
@@ -19,6 +19,10 @@ pub record IsChosen (d : Bridging) (chosen : Chosen) : Type 0 where
 -- those of the bridge at a place
 abbrev pub IsChosenAt : CutContent → BridgePlace → Chosen → Type 0
 IsChosenAt cut p chosen = IsChosen (window cut p.channel p.cue) chosen
+
+-- there is a plain cut at the place
+abbrev pub IsNoBridge : CutContent → BridgePlace → Type 0
+IsNoBridge cut p = (cue_at cut p.cue).bridge ≡ 0
 
 -- the window of the bridge at a place
 abbrev pub window_at : CutContent → BridgePlace → Bridging

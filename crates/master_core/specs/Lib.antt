@@ -1,4 +1,3 @@
-pub mod Assembling
 pub mod Certifying
 pub mod Checking
 pub mod Choosing

@@ -1,10 +1,11 @@
 //! The bits of a master's bridges, searched in their order.
 
-ghost use Rattle.std.specs.Prelude.{◌≡◌, IfOk};
+ghost use Rattle.std.specs.Prelude.{◌≡◌, ◌+◌, ◌<◌, IfOk, MatchOption, length};
 ghost use Rattle.cost_core.specs.Limits.{IsBridging};
-ghost use Rattle.cut_core.specs.Bridges.{IsPlace};
+ghost use Rattle.cut_core.specs.Bridges.{IsPlace, bridges};
+ghost use Rattle.cut_core.specs.Cuts.{channel_number};
 ghost use Rattle.master_core.specs.Choosing as specs;
-ghost use Rattle.master_core.specs.Choosing.{AreBridgesOf, IsChosen, window_at};
+ghost use Rattle.master_core.specs.Choosing.{AreBridgesOf, AreChosen, IsChosen, IsChosenAt, IsNoBridge, window_at};
 
 use cost_core::Window;
 use cut_core::{BridgePlace, Cut};
@@ -84,4 +85,25 @@ fn cost_of(bridge: &Chosen) -> u64
     ensures { result ≡ bridge.now.cost }
 {
     bridge.cost
+}
+
+// The bits that were chosen for the bridge at a place, if there is a bridge.
+pub(crate) fn chosen_at<'a>(
+    cut: &Cut,
+    places: &[BridgePlace],
+    chosen: &'a [Chosen],
+    place: BridgePlace,
+) -> Option<&'a Chosen>
+    requires places { places.now ≡ bridges cut.now }
+    requires chosen { AreChosen cut.now chosen.now }
+    requires channel { place.channel < channel_number cut.now }
+    requires cue { place.cue + 1 < length cut.now.splice.cues }
+    ensures { MatchOption result (IsNoBridge cut.now place) (λ bridge. IsChosenAt cut.now place bridge.now) }
+{
+    for k in 0..chosen.len() {
+        if places[k] == place {
+            return Some(&chosen[k]);
+        }
+    }
+    None
 }

@@ -1,19 +1,17 @@
 //! Whether a recording is the master of a cut, whatever its bridges.
 
-ghost use Rattle.std.specs.Prelude.{◌≡◌, ◌≢◌, ◌<◌, ◌≤◌, IfOk, MatchOption, false, length, map, slice_index, true, ℕ};
+ghost use Rattle.std.specs.Prelude.{◌≡◌, ◌≢◌, IfOk, MatchOption, false, map, true};
 ghost use Rattle.dsd_bits.specs.Contents.{mark_content};
 ghost use Rattle.form_core.specs.declared.form.Form.TheVariants.{Dsdiff};
-ghost use Rattle.cut_core.specs.Cuts.{channel_number, master_length};
 ghost use Rattle.cut_core.specs.Titles.{titles_of};
-ghost use Rattle.master_core.specs.Checking.{HaveShape, HoldCues, IsFirstDifference, IsLike, IsMasterOf, IsTitled, MasterReason, OuterReason};
-ghost use Rattle.master_core.specs.Checking as checks;
+ghost use Rattle.master_core.specs.Checking.{HaveShape, HoldCues, IsLike, IsMasterOf, IsTitled, MasterReason, OuterReason};
 ghost use Rattle.master_core.specs.Judging.{IsCuedBit};
 ghost use Rattle.master_core.specs.Masters.{channel_numbers};
 
-use crate::assembling::{BridgeSource, assemble_channel};
+use crate::cueing::first_off_so_far;
 use crate::verdict::Reason;
 use cut_core::{Cut, differ};
-use dsd_bits::{Bits, Mark, Recording};
+use dsd_bits::{Mark, Recording};
 use form_core::{Form, Opened, has_shape};
 use std::alloc::{AllocError, Global};
 
@@ -32,7 +30,7 @@ pub fn master_reason(
     if let Some(reason) = outer_reason(alloc, cut, opened.form, recording, recording.count())? {
         return Ok(Some(reason));
     }
-    first_cued_bit(alloc, cut, recording)
+    Ok(first_cued_bit(cut, recording))
 }
 
 /// The first of these reasons that needs none of its bits, by the recording with them or without, and by how many each
@@ -102,62 +100,16 @@ fn same_mark(a: &Mark, b: &Mark) -> bool
 }
 
 // The first bit that isn't that of the cue there.
-fn first_cued_bit(
-    alloc: Global,
-    cut: &Cut,
-    recording: &Recording,
-) -> Result<Option<Reason>, AllocError>
+fn first_cued_bit(cut: &Cut, recording: &Recording) -> Option<Reason>
     requires shape { HaveShape cut.now recording.now.channels }
-    ensures { IfOk result (λ found. MatchOption found (HoldCues cut.now (channel_numbers cut.now) recording.now.channels) (IsCuedBit cut.now recording.now)) }
+    ensures { MatchOption result (HoldCues cut.now (channel_numbers cut.now) recording.now.channels) (IsCuedBit cut.now recording.now) }
 {
+    cut.can_cut();
     let channels = recording.channels();
-    for c in 0..channels.len() {
-        let channel = &channels[c];
-        let cued = rebuild(alloc, cut, channel, c)?;
-        if let Some(place) = first_difference(channel, &cued) {
-            return Ok(Some(Reason::CuedBit(c, place)));
-        }
-    }
-    Ok(None)
-}
-
-// A channel of the cues, and between them the bits that stand in this channel of the master.
-fn rebuild(alloc: Global, cut: &Cut, channel: &Bits, number: usize) -> Result<Bits, AllocError>
-    requires there { number < channel_number cut.now }
-    requires long { length channel.now ≡ master_length cut.now.splice.cues }
-    ensures cued { IfOk result (λ bits. bits ≡ checks.rebuilt cut.now number channel.now) }
-    ensures long { IfOk result (λ bits. length bits ≡ length channel.now) }
-{
-    assemble_channel(alloc, cut, number, BridgeSource::Standing(channel))
-}
-
-// The first place where two lists of bits of one length differ. Whole bytes are compared first.
-fn first_difference(a: &Bits, b: &Bits) -> Option<usize>
-    requires { length a.now ≡ length b.now }
-    ensures { MatchOption result (a.now ≡ b.now) (IsFirstDifference a.now b.now) }
-{
-    if a.as_bytes() == b.as_bytes() {
-        return None;
-    }
-    let start = 8 * equal_bytes(a.as_bytes(), b.as_bytes());
-    for place in start..a.len() {
-        if a.get(place) != b.get(place) {
-            return Some(place);
+    for channel in 0..channels.len() {
+        if let Some(place) = first_off_so_far(cut, channel, 0, &channels[channel], None) {
+            return Some(Reason::CuedBit(channel, place));
         }
     }
     None
-}
-
-// How many bytes two lists of one length have alike before the first that differ.
-fn equal_bytes(a: &[u8], b: &[u8]) -> usize
-    requires { length a.now ≡ length b.now }
-    ensures inside { result ≤ length a.now }
-    ensures alike { (i : ℕ) → i < result → slice_index a.now i ≡ slice_index b.now i }
-{
-    for place in 0..a.len() {
-        if a[place] != b[place] {
-            return place;
-        }
-    }
-    a.len()
 }

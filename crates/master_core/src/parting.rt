@@ -6,7 +6,7 @@ ghost use Rattle.master_core.specs.Claims.{bridge_start};
 ghost use Rattle.master_core.specs.Masters.{IsFirstLeastPart, part_at};
 ghost use Rattle.master_core.specs.Parting.{IsBestPart, IsPartAdded, HasChosen, IsStepAdded};
 
-use crate::assembling::chosen_at;
+use crate::choosing::chosen_at;
 use cut_core::{BridgePlace, Cut};
 use dsd_bits::{BitRange, BitRoom, Bits};
 use trellis_core::Chosen;
@@ -102,7 +102,8 @@ fn push_cue_part(room: &mut BitRoom, cut: &Cut, channel: usize, cue: usize, rang
     push_within(room, here.bits, piece, range);
 }
 
-// Adds the part of the bridge at a place that lies in a range of it. Its bits are looked for only where there is some.
+// Adds the part of the bridge at a place that lies in a range of it. Its bits are looked for only where there is some, and
+// a plain cut has none.
 fn push_bridge_part(
     room: &mut BitRoom,
     source: &MasterSource<'_>,
@@ -121,25 +122,6 @@ fn push_bridge_part(
     if stop <= range.start {
         return;
     }
-    push_chosen_part(room, source, place, range);
-}
-
-// Adds the part of the bits that were chosen for the bridge at a place that lies in a range of them. A plain cut has
-// none.
-fn push_chosen_part(
-    room: &mut BitRoom,
-    source: &MasterSource<'_>,
-    place: BridgePlace,
-    range: BitRange,
-)
-    requires ready { HasChosen source.now }
-    requires channel { place.channel < channel_number source.now.cut.now }
-    requires cue { place.cue + 1 < length source.now.cut.now.splice.cues }
-    requires in_room { length room.old.bits + (range.stop - range.start) ≤ room.old.most }
-    ensures most { room.new.most ≡ room.old.most }
-    ensures bridged { IsPartAdded (IsFirstLeastPart (part_at source.now.cut.now place.channel place.cue)) range room.old.bits room.new.bits }
-{
-    source.cut.can_cut();
     match chosen_at(source.cut, source.places, source.chosen, place) {
         Some(bridge) => {
             let piece = BitRange {

@@ -1,24 +1,46 @@
-use Rattle.std.proofs.Common.{◌≡◌, ◌+◌, ◌∷◌, [], ◌++◌, ◌∙◌, ap, arith, get_or, length, sym, take}
-use Rattle.std.proofs.lemmas.Result.{IfOk-from_err}
-use Rattle.std.specs.List.{range_with_len}
-use Rattle.std.proofs.lemmas.List.{take_more}
-use Rattle.cut_core.proofs.BridgeLaws.{range_more}
-use Rattle.cut_core.proofs.ZipLaws.{zip_more}
-use Rattle.master_core.specs.Checking.{rebuilt}
+use Rattle.std.proofs.Common.{◌≡◌, ◌∙◌, ◌<◌, None, [], ap, arith, get_or, inl, inr, length, refl, subst}
+use Rattle.std.proofs.lemmas.Bool.{cases_lt}
+use Rattle.std.proofs.lemmas.List.{get_or_default}
+use Rattle.master_core.specs.Comparing.{TellsOff}
+use Rattle.master_core.proofs.LowestLaws.{all_on, first_is}
 use Rattle.master_core.proofs.comparing.first_cued_bit.Goals as goal
+use Rattle.master_core.proofs.comparing.first_cued_bit.Goals.{After-first_off_so_far}
 
-pub loop-c-preserved : goal.loop-c-preserved
-loop-c-preserved c =
+-- what is told of the channel at hand
+tells : (c : After-first_off_so_far) → TellsOff c.args.cut.now c.loop-channel.channel (get_or c.args.recording.now.channels c.loop-channel.channel []) c.first_off_so_far.result
+tells c =
+    let zs = c.args.recording.now.channels in
+    let k = c.loop-channel.channel in
+    let z = c.index-channels-channel.result in
+    let there : k < length zs = omega (arith, c.loop-channel-test.true, ap length c.channels-channels.ensures.value) in
+    let is : z ≡ get_or zs k [] = c.index-channels-channel.is ∙ ap (λ l. get_or l k z) c.channels-channels.ensures.value ∙ get_or_default zs k z [] there in
+    subst (λ l. TellsOff c.args.cut.now k l c.first_off_so_far.result) is (c.first_off_so_far.ensures [] refl (λ p h. absurd (omega (arith, h.0))))
+
+pub returns-in-Some : goal.returns-in-Some
+returns-in-Some c =
+    let cut = c.args.cut.now in
+    let k = c.loop-channel.channel in
+    let z = get_or c.args.recording.now.channels k [] in
+    first_is cut c.can_cut.ensures c.can_cut.ensures.splicing.some_cues c.args.recording.now c.requires.shape k c.in-Some.place
+    (omega (arith, c.loop-channel-test.true, ap length c.channels-channels.ensures.value, c.requires.shape.as_many)) c.loop-channel.invariant.none
+    (subst (TellsOff cut k z) c.in-Some.is (tells (goal.at.returns-in-Some c).After-first_off_so_far))
+
+pub loop-channel-preserved : goal.loop-channel-preserved
+loop-channel-preserved c =
     let cut = c.args.cut.now in
     let zs = c.args.recording.now.channels in
-    let z = c.index-channels-c.result in
-    let n = c.loop-c.c in
-    let is : z ≡ get_or zs n z = c.index-channels-c.is ∙ ap (λ l. get_or l n z) c.channels-channels.ensures.value in
-    let there = ap length c.channels-channels.ensures.value in
-    let more : take (n + 1) zs ≡ take n zs ++ z ∷ [] = take_more zs n z (omega (arith, there)) ∙ ap (λ q. take n zs ++ q ∷ []) (sym is) in
-    let zero : 0 + n ≡ n = omega arith in
-    let cued : z ≡ rebuilt cut n z = c.in_default.ensures ∙ c.in_ok-cued.ensures.cued in
-    record { cued = rw (range_more 0 n, zero, more) (zip_more (λ k x. x ≡ rebuilt cut k x) (range_with_len 0 n) (take n zs) n z c.loop-c.invariant.cued cued) }
+    let k = c.loop-channel.channel in
+    record {
+      none = λ b lt. elim (cases_lt b k) [
+        | inl before ↦ c.loop-channel.invariant.none b before
+        | inr past ↦ (
+            let is : k ≡ b = omega (arith, lt, past) in
+            subst (λ n. TellsOff cut n (get_or zs n []) None) is (subst (TellsOff cut k (get_or zs k [])) c.in_default.is (tells (goal.at.loop-channel-preserved c).After-first_off_so_far))
+            )
+      ];
+    }
 
-pub returns-in_err-cued : goal.returns-in_err-cued
-returns-in_err-cued c = IfOk-from_err c.from_residual.result _ c.from_residual.ensures.0
+pub returns : goal.returns
+returns c =
+    all_on c.args.cut.now c.can_cut.ensures c.can_cut.ensures.splicing.some_cues c.args.recording.now c.requires.shape
+    (λ b there. c.loop-channel.invariant.none b (omega (arith, there, c.loop-channel-test.false, ap length c.channels-channels.ensures.value, c.requires.shape.as_many)))

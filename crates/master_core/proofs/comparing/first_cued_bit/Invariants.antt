@@ -1,7 +1,6 @@
-use Rattle.std.proofs.Common.{take}
-use Rattle.std.specs.List.{range_with_len}
-use Rattle.master_core.specs.Checking.{HoldCues}
+use Rattle.std.proofs.Common.{ℕ, ◌<◌, None, [], get_or}
+use Rattle.master_core.specs.Comparing.{TellsOff}
 use Rattle.master_core.proofs.comparing.first_cued_bit.Given as goal
 
-abbrev pub invariant-loop-c : goal.invariant-loop-c
-invariant-loop-c l = record { cued : HoldCues l.cut (range_with_len 0 l.c) (take l.c l.recording.channels) }
+abbrev pub invariant-loop-channel : goal.invariant-loop-channel
+invariant-loop-channel l = record { none : (b : ℕ) → b < l.channel → TellsOff l.cut b (get_or l.recording.channels b []) None }

@@ -7,8 +7,8 @@ use Rattle.cut_core.specs.declared.bridges.BridgePlace.{BridgePlace}
 use Rattle.cut_core.proofs.BridgeLaws.{no_bridge, other_place, same_place}
 use Rattle.cut_core.proofs.ZipLaws.{zip_at, zip_long}
 use Rattle.master_core.specs.Choosing.{IsChosenAt}
-use Rattle.master_core.proofs.assembling.chosen_at.Goals as goal
-use Rattle.master_core.proofs.assembling.chosen_at.Goals.{In-loop-k}
+use Rattle.master_core.proofs.choosing.chosen_at.Goals as goal
+use Rattle.master_core.proofs.choosing.chosen_at.Goals.{In-loop-k}
 
 many : (c : In-loop-k) → length c.args.places.now ≡ length c.args.chosen.now
 many c = ap length c.requires.places ∙ sym (zip_long (IsChosenAt c.args.cut.now) (bridges c.args.cut.now) c.args.chosen.now c.requires.chosen)

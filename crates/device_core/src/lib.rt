@@ -10,7 +10,8 @@
 //! and its fault, [`FusedFault`], tells the write that failed from those that came behind it. So whoever writes
 //! part by part may make each call and look at the answers last.
 //!
-//! None of them takes memory of its own, and none knows a file by name.
+//! None of them takes memory of its own, and none knows a file by name. [`MOST_READS`] is how many reads whoever reads a
+//! file to its end gives it.
 //!
 //! The words of its contracts:
 //! - `inlet_reader`, `inlet_failures`, `inlet_reads`, `inlet_given` (`specs/Inlets.antt`), `outlet_writer`
@@ -33,7 +34,7 @@
 //! let mut outlet = Outlet::new(Vec::new(alloc));
 //! outlet.put_all(b"AAAA")?;                     // four bytes more
 //!
-//! let mut reader = FusedInlet::new(file, 1 << 40);
+//! let mut reader = FusedInlet::new(file, MOST_READS);
 //! reader.read_to_end(&mut bytes)                // Err after 2^40 reads, or at the first that fails
 //! reader.has_failed()                           // and whether it was that, or want of memory
 //! ```
@@ -43,10 +44,12 @@ mod device;
 mod fused_inlet;
 mod fused_outlet;
 mod inlet;
+mod limits;
 mod outlet;
 
 pub use device::Device;
 pub use fused_inlet::FusedInlet;
 pub use fused_outlet::{FusedFault, FusedOutlet};
 pub use inlet::Inlet;
+pub use limits::MOST_READS;
 pub use outlet::Outlet;

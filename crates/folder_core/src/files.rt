@@ -6,12 +6,9 @@ ghost use Rattle.folder_core.specs.declared.fault.FileFault.TheVariants as fault
 
 use crate::fault::FileFault;
 use crate::folder::Folder;
-use device_core::{FusedInlet, Outlet};
+use device_core::{FusedInlet, MOST_READS, Outlet};
 use std::alloc::Global;
 use std::io::Read;
-
-/// How many reads a file may take to come to its end.
-const MOST_READS: u64 = 1 << 40;
 
 /// The bytes of a file, opened and read to its end.
 ///

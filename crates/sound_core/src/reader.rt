@@ -8,16 +8,13 @@ ghost use Rattle.sound_core.specs.Readers.{Counts, IsAtStart, IsPassFault, IsRea
 ghost use Rattle.sound_core.specs.Reads.{Reads, ReadsAll, ReadsToEnd, ReadsUntil};
 
 use crate::fault::StreamFault;
-use device_core::Inlet;
+use device_core::{Inlet, MOST_READS};
 use std::alloc::{AllocError, Global};
 use std::io::Read;
 use std::mem;
 
 // How many bytes one read asks for.
 const BLOCK: usize = 65_536;
-
-// How many reads one call may ask for.
-const MOST_READS: u64 = 1 << 40;
 
 /// A block of 65,536 zeros, for bytes to be read into.
 ///

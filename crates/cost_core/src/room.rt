@@ -23,7 +23,8 @@ pub fn has_room(splice: &Splice, cue: usize, count: usize) -> Result<(), RoomFau
     ensures only { HasRoom (splice_content splice.now) cue count → IsOk result }
 
     // Which fault it is: the first want of room.
-    ensures order { MatchResult result (λ _. first_fault (splice_content splice.now) cue count ≡ None) (λ fault. first_fault (splice_content splice.now) cue count ≡ Some fault) }
+    ensures order { MatchResult result (λ _. first_fault (splice_content splice.now) cue count ≡ None)
+        (λ fault. first_fault (splice_content splice.now) cue count ≡ Some fault) }
 {
     let here = &splice.cues[cue];
     let (before, after) = reach_at(splice, cue);

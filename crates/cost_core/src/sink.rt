@@ -48,7 +48,8 @@ pub trait LevelSink {
         ensures telling { IsSome (text self.old) → IsSome (text self.new) }
         ensures ok { OnOk result (Appends (text self.old) (text self.new) (spelling (kind self.old) row.now)) }
         ensures err { OnErr result (AppendsFront (text self.old) (text self.new) (spelling (kind self.old) row.now)) }
-        ensures refused { has_refused self.old ≡ false → MatchResult result (λ _. has_refused self.new ≡ false) (λ _. has_refused self.new ≡ true) };
+        ensures refused { has_refused self.old ≡ false
+            → MatchResult result (λ _. has_refused self.new ≡ false) (λ _. has_refused self.new ≡ true) };
 
     /// Whether a row was refused.
     fn refused(&self) -> bool

@@ -85,7 +85,8 @@ pub fn squared_differences(sums: &[i32], other: i32, squares: &mut [u64])
     requires sums { (k : ℕ) → k < length sums.now → unsigned_abs (slice_index_or sums.now k (pos 0)) ≤ greatest_sum }
     requires other { unsigned_abs other ≤ greatest_sum }
     requires as_many { length squares.old ≡ length sums.now }
-    ensures { (k : ℕ) → k < length sums.now → slice_index squares.new k ≡ square (slice_index_or sums.now k (pos 0) -ℤ other) }
+    ensures { (k : ℕ) → k < length sums.now
+        → slice_index squares.new k ≡ square (slice_index_or sums.now k (pos 0) -ℤ other) }
 {
     for i in 0..squares.len() {
         squares[i] = squared_difference(sums[i], other);
@@ -108,7 +109,9 @@ pub fn add_squared_differences(
     requires other { unsigned_abs other ≤ greatest_sum }
     requires short { length row.old ≤ 2048 }
     requires row { (k : ℕ) → k < length row.old → slice_index row.old k ≤ 2 ^ 62 }
-    ensures { (k : ℕ) → k < length row.old → slice_index row.new k ≡ slice_index row.old k + square (slice_index_or sums.now ((k * 2 ^ shift + first) % length sums.now) (pos 0) -ℤ other) }
+    ensures { (k : ℕ) → k < length row.old
+        → slice_index row.new k ≡ slice_index row.old k
+        + square (slice_index_or sums.now ((k * 2 ^ shift + first) % length sums.now) (pos 0) -ℤ other) }
 {
     let last = sums.len() - 1;
     for k in 0..row.len() {
@@ -120,7 +123,9 @@ pub fn add_squared_differences(
 pub fn scaled_sums(alloc: Global, weights: &[i32], levels: usize) -> Result<Vec<i32>, AllocError>
     requires weights { AreWeights weights.now }
     requires levels { levels ≤ 4096 }
-    ensures { IfOk result (λ made. made.items ≡ map (λ code. pos (levels + 1) *ℤ weighted_code weights.now code) (range_with_len 0 (2 ^ length weights.now))) }
+    ensures { IfOk result (λ made. made.items
+        ≡ map (λ code. pos (levels + 1) *ℤ weighted_code weights.now code)
+        (range_with_len 0 (2 ^ length weights.now))) }
 {
     (0..1 << weights.len())
         .map(|code| scale(levels, weigh(weights, code)))

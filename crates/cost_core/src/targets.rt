@@ -24,7 +24,8 @@ pub fn targets_after(
 ) -> Result<Vec<i32>, AllocError>
     requires cues { cue + 1 < length (splice_content splice.now).cues }
     requires room { CanBridge (splice_content splice.now) cue own.now stop next.now start }
-    ensures { IfOk result (λ made. made.items ≡ (bridging_at (splice_content splice.now) cue own.now stop next.now start).targets) }
+    ensures { IfOk result (λ made. made.items
+        ≡ (bridging_at (splice_content splice.now) cue own.now stop next.now start).targets) }
 {
     let weights = splice.weights.as_slice();
     let levels = splice.cues[cue].bridge;

@@ -70,7 +70,8 @@ impl Window {
         ensures only { HasRoom (splice_content splice.now) cue (length own.now) → IsOkUnless result WindowFault.Memory }
 
         // Which fault it is: the first want of room.
-        ensures order { MatchResult result (λ _. first_fault (splice_content splice.now) cue (length own.now) ≡ None) (λ fault. first_fault (splice_content splice.now) cue (length own.now) ≡ named fault) }
+        ensures order { MatchResult result (λ _. first_fault (splice_content splice.now) cue (length own.now) ≡ None)
+            (λ fault. first_fault (splice_content splice.now) cue (length own.now) ≡ named fault) }
     {
         has_room(splice, cue, own.len())?;
         let stop = splice.cues[cue].stop;
@@ -91,7 +92,8 @@ impl Window {
     ) -> Result<Window, AllocError>
         requires cues { cue + 1 < length (splice_content splice.now).cues }
         requires room { CanBridge (splice_content splice.now) cue own.now stop next.now start }
-        ensures { IfOk result (λ window. window ≡ bridging_at (splice_content splice.now) cue own.now stop next.now start) }
+        ensures { IfOk result (λ window. window
+            ≡ bridging_at (splice_content splice.now) cue own.now stop next.now start) }
     {
         let weights = splice.weights.as_slice();
         let width = weights.len() - 1;

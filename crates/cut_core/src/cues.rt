@@ -24,7 +24,8 @@ pub fn cue_number(splice: &Splice) -> usize
 pub fn cue_at(splice: &Splice, number: usize) -> &Cue
     requires { number < length (splice_content splice.now).cues }
     ensures value { cue_content result.now ≡ fades.cue_at (splice_content splice.now) number }
-    ensures fits { IsCueWithin (length (splice_content splice.now).weights) (length (splice_content splice.now).takes) (cue_content result.now) }
+    ensures fits { IsCueWithin (length (splice_content splice.now).weights) (length (splice_content splice.now).takes)
+        (cue_content result.now) }
 {
     &splice.cues[number]
 }
@@ -43,8 +44,10 @@ pub fn span_at(splice: &Splice, number: usize) -> usize
 pub fn take_of<'a>(splice: &Splice, takes: &'a [Heard], cue: usize) -> &'a Heard
     requires cue { cue < length (splice_content splice.now).cues }
     requires takes { length takes.now ≡ length (splice_content splice.now).takes }
-    ensures heard { heard_content result.now ≡ heard_at (map heard_content takes.now) (fades.cue_at (splice_content splice.now) cue).take }
-    ensures shape { heard_shape (heard_content result.now) ≡ shape_of_cue (splice_content splice.now) (heard_shapes takes.now) cue }
+    ensures heard { heard_content result.now
+        ≡ heard_at (map heard_content takes.now) (fades.cue_at (splice_content splice.now) cue).take }
+    ensures shape { heard_shape (heard_content result.now)
+        ≡ shape_of_cue (splice_content splice.now) (heard_shapes takes.now) cue }
 {
     &takes[cue_at(splice, cue).take]
 }

@@ -78,7 +78,8 @@ impl Cut {
         // What is answered is the cut of takes that the files hold, and can be cut.
         ensures found { IfOk result (OpensCut (splice_content splice) (file_bytes files.now) form) }
         // What is answered or refused is what reading in order comes to, want of memory aside.
-        ensures exact { Gives CutFault.Memory (λ cut. cut) result (cut_of (splice_content splice) (file_bytes files.now) form) }
+        ensures exact { Gives CutFault.Memory (λ cut. cut) result
+            (cut_of (splice_content splice) (file_bytes files.now) form) }
     {
         let takes = hear_takes(alloc, &splice, files)?;
         Cut::of(splice, takes, form)
@@ -91,7 +92,8 @@ impl Cut {
     pub fn of(splice: Splice, takes: Vec<Heard>, form: Option<Form>) -> Result<Cut, CutFault>
         requires { AreOfTakes (splice_content splice) takes.items }
         // Of whichever takes it was heard, what is answered or refused is what reading them in order comes to.
-        ensures exact { (whole : List Content) → AreHeard (splice_content splice) whole takes.items → Gives CutFault.Memory (λ cut. cut) result (cut_from form (splice_content splice) whole) }
+        ensures exact { (whole : List Content) → AreHeard (splice_content splice) whole takes.items
+            → Gives CutFault.Memory (λ cut. cut) result (cut_from form (splice_content splice) whole) }
     {
         fits(&splice, &takes, form)?;
         Ok(Cut { splice, takes })
@@ -118,7 +120,8 @@ impl Cut {
     pub fn cue(&self, number: usize) -> &Cue
         requires { number < length self.now.splice.cues }
         ensures value { cue_content result.now ≡ cue_at self.now number }
-        ensures fits { IsCueWithin (length self.now.splice.weights) (length self.now.splice.takes) (cue_content result.now) }
+        ensures fits { IsCueWithin (length self.now.splice.weights) (length self.now.splice.takes)
+            (cue_content result.now) }
     {
         cues::cue_at(&self.splice, number)
     }
@@ -189,7 +192,8 @@ impl Cut {
         requires cue { cue < length self.now.splice.cues }
         requires in_limit { length out.old + ((cue_at self.now cue).stop - (cue_at self.now cue).start) ≤ 2 ^ 36 }
         ensures appended { OnOk result (out.new ≡ out.old ++ cue_bits self.now channel cue) }
-        ensures long { OnOk result (length out.new ≡ length out.old + ((cue_at self.now cue).stop - (cue_at self.now cue).start)) }
+        ensures long { OnOk result (length out.new
+            ≡ length out.old + ((cue_at self.now cue).stop - (cue_at self.now cue).start)) }
     {
         let here = self.cued(channel, cue);
         out.push_range(here.bits, here.start, here.stop)

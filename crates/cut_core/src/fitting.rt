@@ -73,7 +73,8 @@ pub fn differ(first: &Recording, take: &Recording) -> bool
 #[tactic(auto, using(crate::proofs::Steps::each_stops))]
 fn are_inside(splice: &Splice, takes: &[Heard]) -> Result<(), CutFault>
     requires { length takes.now ≡ length (splice_content splice.now).takes }
-    ensures { result ≡ each_before (length (splice_content splice.now).cues) (specs.inside_at (splice_content splice.now) (heard_shapes takes.now)) }
+    ensures { result ≡ each_before (length (splice_content splice.now).cues)
+        (specs.inside_at (splice_content splice.now) (heard_shapes takes.now)) }
 {
     for i in 0..cue_number(splice) {
         inside_at(splice, takes, i)?;
@@ -118,7 +119,8 @@ fn is_whole(splice: &Splice, form: Option<Form>) -> bool
 #[tactic(auto, using(crate::proofs::Steps::each_stops))]
 fn have_room(splice: &Splice, takes: &[Heard]) -> Result<(), CutFault>
     requires { length takes.now ≡ length (splice_content splice.now).takes }
-    ensures { result ≡ each_before (length (splice_content splice.now).cues - 1) (room_at (splice_content splice.now) (heard_shapes takes.now)) }
+    ensures { result ≡ each_before (length (splice_content splice.now).cues - 1)
+        (room_at (splice_content splice.now) (heard_shapes takes.now)) }
 {
     for i in 0..cue_number(splice) - 1 {
         has_room_at(splice, takes, i)?;

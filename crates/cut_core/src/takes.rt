@@ -20,7 +20,8 @@ use std::alloc::Global;
 /// first file that isn't read. Every want of memory is `Memory`.
 #[tactic(auto, unfolding(crate::specs::Opening::takes_of))]
 pub fn hear_takes(alloc: Global, splice: &Splice, files: &[Vec<u8>]) -> Result<Vec<Heard>, CutFault>
-    ensures { HearsTakes (splice_content splice.now) result (specs.takes_of (splice_content splice.now) (file_bytes files.now)) }
+    ensures { HearsTakes (splice_content splice.now) result
+        (specs.takes_of (splice_content splice.now) (file_bytes files.now)) }
 {
     if files.len() != splice.takes.len() {
         return Err(CutFault::TakeNumber);
@@ -74,8 +75,12 @@ pub fn push_heard(
     takes: Result<Vec<Heard>, CutFault>,
     next: Result<Heard, CutFault>,
 ) -> Result<Vec<Heard>, CutFault>
-    ensures heard { (splice : SpliceContent) (files : List (List ℕ)) (file : List ℕ) → HearsTakes splice takes (takes_before files (length files)) → HearsTake splice (length files) next (take_in (length files) file) → HearsTakes splice result (takes_before (files ++ file ∷ []) (length files + 1)) }
-    ensures of { (splice : SpliceContent) (n : ℕ) → IsOfTakes splice n takes → IsOfTake splice n next → IsOfTakes splice (n + 1) result }
+    ensures heard { (splice : SpliceContent) (files : List (List ℕ)) (file : List ℕ)
+        → HearsTakes splice takes (takes_before files (length files))
+        → HearsTake splice (length files) next (take_in (length files) file)
+        → HearsTakes splice result (takes_before (files ++ file ∷ []) (length files + 1)) }
+    ensures of { (splice : SpliceContent) (n : ℕ) → IsOfTakes splice n takes → IsOfTake splice n next
+        → IsOfTakes splice (n + 1) result }
 {
     let mut takes = takes?;
     match takes.push(next?) {

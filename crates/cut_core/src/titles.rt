@@ -38,7 +38,8 @@ fn push_title(
 ) -> Result<(), AllocError>
     requires rate { (1000000 ≤ rate) × (rate ≤ 50000000) }
     requires place { place ≤ 2 ^ 36 }
-    ensures { OnOk result (map mark_content out.new.items ≡ map mark_content out.old.items ++ mark_of_title rate place (cue_content cue.now).title) }
+    ensures { OnOk result (map mark_content out.new.items
+        ≡ map mark_content out.old.items ++ mark_of_title rate place (cue_content cue.now).title) }
 {
     if let Some(title) = &cue.title {
         out.push(mark_at(alloc, place, rate, title.as_bytes())?)?;

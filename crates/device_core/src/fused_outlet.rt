@@ -47,11 +47,15 @@ impl<W: Write> FusedOutlet<W> {
     /// Refusals: `Device` at the first write that answers an error or takes nothing, and a front of the bytes
     /// went out, not all of them; `Failed` after a `Device`, and nothing is written.
     pub fn put_all(&mut self, bytes: &[u8]) -> Result<(), FusedFault>
-        ensures ok { OnOk result (Appends (W.contents (outlet_writer (fused_outlet self.old))) (W.contents (outlet_writer (fused_outlet self.new))) bytes.now) }
-        ensures device { IsErrOf result FusedFault.Device → AppendsPart (W.contents (outlet_writer (fused_outlet self.old))) (W.contents (outlet_writer (fused_outlet self.new))) bytes.now }
+        ensures ok { OnOk result (Appends (W.contents (outlet_writer (fused_outlet self.old)))
+            (W.contents (outlet_writer (fused_outlet self.new))) bytes.now) }
+        ensures device { IsErrOf result FusedFault.Device
+            → AppendsPart (W.contents (outlet_writer (fused_outlet self.old)))
+            (W.contents (outlet_writer (fused_outlet self.new))) bytes.now }
         ensures failed { IsErrOf result FusedFault.Failed ↔ (fused_failed self.old ≡ true) }
         ensures unchanged { IsErrOf result FusedFault.Failed → self.new ≡ self.old }
-        ensures failures { outlet_failures (fused_outlet self.new) ≡ outlet_failures (fused_outlet self.old) + failed_parts result }
+        ensures failures { outlet_failures (fused_outlet self.new)
+            ≡ outlet_failures (fused_outlet self.old) + failed_parts result }
         ensures refused { fused_failed self.new ≡ not (is_ok result) }
     {
         if self.has_failed {

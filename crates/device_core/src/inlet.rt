@@ -44,7 +44,8 @@ impl<R: Read> Inlet<R> {
         ensures bound { IfOk result (λ n. n ≤ length buffer.new) }
         // Known bytes are given in their order and lost to the reader, none of them after `Device`. A
         // buffer with room is given none only where none are left.
-        ensures bytes { ReadConsumes (R.remaining (inlet_reader self.old)) (R.remaining (inlet_reader self.new)) result buffer.new }
+        ensures bytes { ReadConsumes (R.remaining (inlet_reader self.old))
+            (R.remaining (inlet_reader self.new)) result buffer.new }
 
         ensures failures { MatchResult result
             (λ _. inlet_failures self.new ≡ inlet_failures self.old)
@@ -97,7 +98,8 @@ impl<R: Read> Inlet<R> {
     fn pull_behind(&mut self, buffer: &mut [u8], filled: usize) -> Result<usize, Device>
         requires ready { inlet_failures self.old < 2 ^ 64 - 1 }
         requires room { filled < length buffer.old }
-        ensures bytes { PullsBehind (R.remaining (inlet_reader self.old)) (R.remaining (inlet_reader self.new)) result filled buffer.old buffer.new }
+        ensures bytes { PullsBehind (R.remaining (inlet_reader self.old))
+            (R.remaining (inlet_reader self.new)) result filled buffer.old buffer.new }
         ensures failures { MatchResult result
             (λ _. inlet_failures self.new ≡ inlet_failures self.old)
             (λ _. inlet_failures self.new ≡ inlet_failures self.old + 1) }

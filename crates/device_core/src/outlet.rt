@@ -34,8 +34,10 @@ impl<W: Write> Outlet<W> {
     /// Refusal: `Device` at the first write that answers an error, whichever it is, or takes nothing.
     pub fn put_all(&mut self, bytes: &[u8]) -> Result<(), Device>
         requires { outlet_failures self.old < 2 ^ 64 - 1 }
-        ensures ok { OnOk result (Appends (W.contents (outlet_writer self.old)) (W.contents (outlet_writer self.new)) bytes.now) }
-        ensures err { OnErr result (AppendsPart (W.contents (outlet_writer self.old)) (W.contents (outlet_writer self.new)) bytes.now) }
+        ensures ok { OnOk result (Appends (W.contents (outlet_writer self.old))
+            (W.contents (outlet_writer self.new)) bytes.now) }
+        ensures err { OnErr result (AppendsPart (W.contents (outlet_writer self.old))
+            (W.contents (outlet_writer self.new)) bytes.now) }
         ensures failures { MatchResult result
             (λ _. outlet_failures self.new ≡ outlet_failures self.old)
             (λ _. outlet_failures self.new ≡ outlet_failures self.old + 1) }

@@ -25,7 +25,9 @@ use dsd_bits::{BitOrder, Interleaving, Sound, SoundAt};
 ///
 /// It takes no memory.
 pub fn sound_at(front: &[u8]) -> SoundAt
-    ensures found { IfFound result (λ s. (rest : List ℕ) (r : Content) (order : BitOrder) → IsDsf (front.now ++ rest) r order → HasSound (front.now ++ rest) r s × (s.interleaving ≡ Interleaving.Blocks order)) }
+    ensures found { IfFound result (λ s. (rest : List ℕ) (r : Content) (order : BitOrder)
+        → IsDsf (front.now ++ rest) r order
+        → HasSound (front.now ++ rest) r s × (s.interleaving ≡ Interleaving.Blocks order)) }
     ensures limits { IfFound result IsSound }
     ensures within { IfFound result (λ s. s.start ≤ length front.now) }
     ensures interleaving { IfFound result (λ s. has_blocks s.interleaving ≡ true) }

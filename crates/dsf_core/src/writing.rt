@@ -121,7 +121,8 @@ fn push_format(
     bits_per_sample: u32,
     count: u64,
 ) -> Result<(), AllocError>
-    ensures { OnOk result (out.new.items ≡ out.old.items ++ format_text channel_type channel_number rate bits_per_sample count) }
+    ensures { OnOk result (out.new.items
+        ≡ out.old.items ++ format_text channel_type channel_number rate bits_per_sample count) }
 {
     out.extend_from_slice(b"fmt ")?;
     push_u64(out, Order::Little, FORMAT_SIZE as u64)?;

@@ -17,7 +17,8 @@ use std::io::Read;
 pub fn read_file<F: Folder>(alloc: Global, folder: &mut F, name: &str) -> Result<Vec<u8>, FileFault>
     ensures same { F.file folder.new ≡ F.file folder.old }
     ensures told { F.is_told folder.new ≡ F.is_told folder.old }
-    ensures bytes { IfOk result (λ bytes. IsTrue (F.is_told folder.old) → F.file folder.old name.now ≡ Some bytes.items) }
+    ensures bytes { IfOk result (λ bytes. IsTrue (F.is_told folder.old)
+        → F.file folder.old name.now ≡ Some bytes.items) }
     ensures fault { IfErr result IsReadFault }
 {
     match folder.open(name) {
@@ -36,7 +37,8 @@ pub fn read_files<F: Folder>(
 ) -> Result<Vec<Vec<u8>>, FileFault>
     ensures same { F.file folder.new ≡ F.file folder.old }
     ensures told { F.is_told folder.new ≡ F.is_told folder.old }
-    ensures bytes { IfOk result (λ files. IsTrue (F.is_told folder.old) → AreFiles (F.file folder.old) (map string_bytes names.now) (map (λ file. file.items) files.items)) }
+    ensures bytes { IfOk result (λ files. IsTrue (F.is_told folder.old)
+        → AreFiles (F.file folder.old) (map string_bytes names.now) (map (λ file. file.items) files.items)) }
     ensures fault { IfErr result IsReadFault }
 {
     let mut files = Vec::new(alloc);
@@ -55,7 +57,9 @@ fn push_file<F: Folder>(
 ) -> Result<(), FileFault>
     ensures same { F.file folder.new ≡ F.file folder.old }
     ensures told { F.is_told folder.new ≡ F.is_told folder.old }
-    ensures bytes { OnOk result (IsTrue (F.is_told folder.old) → map (λ bytes. Some bytes) (map (λ file. file.items) files.new.items) ≡ map (λ bytes. Some bytes) (map (λ file. file.items) files.old.items) ++ F.file folder.old name.now ∷ []) }
+    ensures bytes { OnOk result (IsTrue (F.is_told folder.old)
+        → map (λ bytes. Some bytes) (map (λ file. file.items) files.new.items)
+        ≡ map (λ bytes. Some bytes) (map (λ file. file.items) files.old.items) ++ F.file folder.old name.now ∷ []) }
     ensures fault { IfErr result IsReadFault }
 {
     let file = read_file(alloc, folder, name)?;
@@ -88,7 +92,8 @@ pub fn write_file<F: Folder>(folder: &mut F, name: &str, bytes: &[u8]) -> Result
     ensures others { KeepsOthers name.now (F.file folder.old) (F.file folder.new) }
     ensures told { F.is_told folder.new ≡ F.is_told folder.old }
     ensures bytes { OnOk result (IsTrue (F.is_told folder.old) → F.file folder.new name.now ≡ Some bytes.now) }
-    ensures refused { OnErr result (IsTrue (F.is_told folder.old) → IsFront (F.file folder.old name.now) (F.file folder.new name.now) bytes.now) }
+    ensures refused { OnErr result (IsTrue (F.is_told folder.old)
+        → IsFront (F.file folder.old name.now) (F.file folder.new name.now) bytes.now) }
     ensures fault { IfErr result (λ fault. fault ≡ faults.WriteFailed) }
 {
     let Ok(file) = folder.create(name) else {

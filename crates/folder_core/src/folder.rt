@@ -35,7 +35,8 @@ pub trait Folder {
     fn open(&mut self, name: &str) -> Result<Self::In, FolderFault>
         ensures same { file self.new ≡ file self.old }
         ensures told { is_told self.new ≡ is_told self.old }
-        ensures bytes { IfOk result (λ r. IsTrue (is_told self.old) → IsGiven (file self.old name.now) (Self.In.remaining r)) };
+        ensures bytes { IfOk result (λ r. IsTrue (is_told self.old)
+            → IsGiven (file self.old name.now) (Self.In.remaining r)) };
 
     /// A file without bytes, to be written and then kept under the same name.
     ///
@@ -59,5 +60,6 @@ pub trait Folder {
     fn give_up(&mut self, name: &str, out: Self::Out)
         ensures others { KeepsOthers name.now (file self.old) (file self.new) }
         ensures told { is_told self.new ≡ is_told self.old }
-        ensures left { IsTrue (is_told self.old) → (file self.new name.now ≡ file self.old name.now) ⊎ (file self.new name.now ≡ Self.Out.contents out) };
+        ensures left { IsTrue (is_told self.old)
+            → (file self.new name.now ≡ file self.old name.now) ⊎ (file self.new name.now ≡ Self.Out.contents out) };
 }

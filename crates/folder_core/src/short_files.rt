@@ -21,7 +21,8 @@ pub fn read_short<F: Folder>(
 ) -> Result<Option<Vec<u8>>, FileFault>
     ensures same { F.file folder.new ≡ F.file folder.old }
     ensures told { F.is_told folder.new ≡ F.is_told folder.old }
-    ensures bytes { IfOk result (λ short. IsTrue (F.is_told folder.old) → IsShort most (F.file folder.old name.now) short) }
+    ensures bytes { IfOk result (λ short. IsTrue (F.is_told folder.old)
+        → IsShort most (F.file folder.old name.now) short) }
     ensures fault { IfErr result IsReadFault }
 {
     match folder.open(name) {

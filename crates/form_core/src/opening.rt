@@ -32,7 +32,8 @@ pub fn read_any(alloc: Global, file: &[u8]) -> Result<Opened, ReadFault>
     // What is read is what the file holds.
     ensures found { IfOk result (IsOpened file.now) }
     // What a file holds is read, want of memory aside.
-    ensures only { (form : Form) (r : Content) → HoldsAs file.now form r → Opens result (Ok (record { form = form; recording = r })) }
+    ensures only { (form : Form) (r : Content) → HoldsAs file.now form r
+        → Opens result (Ok (record { form = form; recording = r })) }
     // Which fault it is.
     ensures exact { Opens result (opened_of file.now) }
 {

@@ -34,7 +34,8 @@ pub fn info_lines(alloc: Global, told: &Told) -> Result<String, AllocError>
 
 // The lines before that of the IDs.
 fn first_lines(alloc: Global, told: &Told) -> Result<String, AllocError>
-    ensures { IfOk result (λ text. string_bytes text ≡ infos.first_lines told.now.form told.now.recording told.now.count) }
+    ensures { IfOk result (λ text. string_bytes text
+        ≡ infos.first_lines told.now.form told.now.recording told.now.count) }
 {
     let form = name_of(told.form);
     let rate = told.recording.rate();
@@ -74,7 +75,8 @@ fn push_byte(text: &mut String, byte: u8) -> Result<(), AllocError>
 
 // Appends a line for each mark.
 fn push_marks(text: &mut String, marks: &[Mark], rate: u32) -> Result<(), AllocError>
-    ensures { OnOk result (string_bytes text.new ≡ string_bytes text.old ++ flat_map (mark_line rate) (map mark_content marks.now)) }
+    ensures { OnOk result (string_bytes text.new
+        ≡ string_bytes text.old ++ flat_map (mark_line rate) (map mark_content marks.now)) }
 {
     for mark in marks {
         push_mark(text, mark, rate)?;

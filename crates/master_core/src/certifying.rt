@@ -50,9 +50,12 @@ pub fn certify<W: Write>(
     requires bridges { AreBridgesOf cut.now bridges.now }
     requires room { IsRoomOf cut.now room }
     requires ready { outlet_failures outlet < 2 ^ 64 - 1 }
-    ensures ok { OnOk result.0 (AppendsCert cut.now bridges.now (W.contents (outlet_writer outlet)) (W.contents (outlet_writer result.1))) }
-    ensures err { OnErr result.0 (AppendsCertFront cut.now bridges.now (W.contents (outlet_writer outlet)) (W.contents (outlet_writer result.1))) }
-    ensures failures { MatchResult result.0 (λ _. outlet_failures result.1 ≡ outlet_failures outlet) (λ _. outlet_failures result.1 ≡ outlet_failures outlet + 1) }
+    ensures ok { OnOk result.0 (AppendsCert cut.now bridges.now (W.contents (outlet_writer outlet))
+        (W.contents (outlet_writer result.1))) }
+    ensures err { OnErr result.0 (AppendsCertFront cut.now bridges.now (W.contents (outlet_writer outlet))
+        (W.contents (outlet_writer result.1))) }
+    ensures failures { MatchResult result.0 (λ _. outlet_failures result.1 ≡ outlet_failures outlet)
+        (λ _. outlet_failures result.1 ≡ outlet_failures outlet + 1) }
 {
     let CertifyingRoom { mut pass, row } = room;
     let mut writer = CertWriter::in_room(outlet, row, Version::Two);
@@ -81,8 +84,10 @@ fn write_cert<W: Write>(
     requires bridges { AreBridgesOf cut.now bridges.now }
     requires room { HasBuffers (2 ^ (length cut.now.splice.weights - 1)) pass.old }
     requires fresh { IsFresh (length cut.now.splice.weights) writer.old }
-    ensures ok { OnOk result (AppendsCert cut.now bridges.now (W.contents (outlet_writer (cert_outlet writer.old))) (W.contents (outlet_writer (cert_outlet writer.new)))) }
-    ensures err { OnErr result (AppendsCertFront cut.now bridges.now (W.contents (outlet_writer (cert_outlet writer.old))) (W.contents (outlet_writer (cert_outlet writer.new)))) }
+    ensures ok { OnOk result (AppendsCert cut.now bridges.now (W.contents (outlet_writer (cert_outlet writer.old)))
+        (W.contents (outlet_writer (cert_outlet writer.new)))) }
+    ensures err { OnErr result (AppendsCertFront cut.now bridges.now
+        (W.contents (outlet_writer (cert_outlet writer.old))) (W.contents (outlet_writer (cert_outlet writer.new)))) }
     ensures failed { has_failed writer.new ≡ not (is_ok result) }
     ensures before { failures_before writer.new ≡ failures_before writer.old }
 {
@@ -105,8 +110,11 @@ fn write_entries<W: Write>(
     requires room { HasBuffers (2 ^ (length cut.now.splice.weights - 1)) pass.old }
     requires ready { IsReady (length cut.now.splice.weights) writer.old }
     requires entries { entries_left writer.old ≡ length bridges.now.places.items }
-    ensures ok { OnOk result (AppendsEntries (chosen_claims cut.now bridges.now.places.items bridges.now.chosen.items) (W.contents (outlet_writer (cert_outlet writer.old))) (W.contents (outlet_writer (cert_outlet writer.new)))) }
-    ensures err { OnErr result (AppendsSomeEntries (chosen_claims cut.now bridges.now.places.items bridges.now.chosen.items) (W.contents (outlet_writer (cert_outlet writer.old))) (W.contents (outlet_writer (cert_outlet writer.new)))) }
+    ensures ok { OnOk result (AppendsEntries (chosen_claims cut.now bridges.now.places.items bridges.now.chosen.items)
+        (W.contents (outlet_writer (cert_outlet writer.old))) (W.contents (outlet_writer (cert_outlet writer.new)))) }
+    ensures err { OnErr result (AppendsSomeEntries
+        (chosen_claims cut.now bridges.now.places.items bridges.now.chosen.items)
+        (W.contents (outlet_writer (cert_outlet writer.old))) (W.contents (outlet_writer (cert_outlet writer.new)))) }
     ensures failed { has_failed writer.new ≡ not (is_ok result) }
     ensures before { failures_before writer.new ≡ failures_before writer.old }
 {
@@ -133,8 +141,12 @@ fn write_entry<W: Write>(
     requires room { HasBuffers (2 ^ (length window.now.weights - 1)) pass.old }
     requires ready { IsReady (length window.now.weights) writer.old }
     requires entries { 0 < entries_left writer.old }
-    ensures ok { OnOk result (AppendsEntries (record { cue = place.cue; channel = place.channel; bridging = window.now; bits = chosen.now.bits } ∷ []) (W.contents (outlet_writer (cert_outlet writer.old))) (W.contents (outlet_writer (cert_outlet writer.new)))) }
-    ensures err { OnErr result (AppendsSomeEntries (record { cue = place.cue; channel = place.channel; bridging = window.now; bits = chosen.now.bits } ∷ []) (W.contents (outlet_writer (cert_outlet writer.old))) (W.contents (outlet_writer (cert_outlet writer.new)))) }
+    ensures ok { OnOk result (AppendsEntries
+        (record { cue = place.cue; channel = place.channel; bridging = window.now; bits = chosen.now.bits } ∷ [])
+        (W.contents (outlet_writer (cert_outlet writer.old))) (W.contents (outlet_writer (cert_outlet writer.new)))) }
+    ensures err { OnErr result (AppendsSomeEntries
+        (record { cue = place.cue; channel = place.channel; bridging = window.now; bits = chosen.now.bits } ∷ [])
+        (W.contents (outlet_writer (cert_outlet writer.old))) (W.contents (outlet_writer (cert_outlet writer.new)))) }
     ensures ready { OnOk result (IsReady (length window.now.weights) writer.new) }
     ensures left { OnOk result (entries_left writer.new + 1 ≡ entries_left writer.old) }
     ensures room { OnOk result (HasBuffers (2 ^ (length window.now.weights - 1)) pass.new) }

@@ -23,7 +23,8 @@ pub fn master_reason(
     cut: &Cut,
     opened: &Opened,
 ) -> Result<Option<Reason>, AllocError>
-    ensures { IfOk result (λ found. MatchOption found (IsMasterOf cut.now opened.now.form opened.now.recording) (MasterReason cut.now opened.now.form opened.now.recording)) }
+    ensures { IfOk result (λ found. MatchOption found (IsMasterOf cut.now opened.now.form opened.now.recording)
+        (MasterReason cut.now opened.now.form opened.now.recording)) }
 {
     let recording = &opened.recording;
     has_shape(recording);
@@ -42,7 +43,8 @@ pub fn outer_reason(
     recording: &Recording,
     count: usize,
 ) -> Result<Option<Reason>, AllocError>
-    ensures { IfOk result (λ found. MatchOption found (IsLike cut.now form recording.now count) (OuterReason cut.now form recording.now count)) }
+    ensures { IfOk result (λ found. MatchOption found (IsLike cut.now form recording.now count)
+        (OuterReason cut.now form recording.now count)) }
 {
     if differ(cut.first(), recording) {
         return Ok(Some(Reason::MasterShape));
@@ -102,7 +104,8 @@ fn same_mark(a: &Mark, b: &Mark) -> bool
 // The first bit that isn't that of the cue there.
 fn first_cued_bit(cut: &Cut, recording: &Recording) -> Option<Reason>
     requires shape { HaveShape cut.now recording.now.channels }
-    ensures { MatchOption result (HoldCues cut.now (channel_numbers cut.now) recording.now.channels) (IsCuedBit cut.now recording.now) }
+    ensures { MatchOption result (HoldCues cut.now (channel_numbers cut.now) recording.now.channels)
+        (IsCuedBit cut.now recording.now) }
 {
     cut.can_cut();
     let channels = recording.channels();

@@ -30,7 +30,8 @@ const MOST_AROUND: usize = 1 << 40;
 /// also where head or tail had more than `2^40` bytes.
 pub fn master_ends(alloc: Global, cut: &Cut, form: Form) -> Result<Ends, WriteFault>
     ensures ok { IfOk result (AreMasterEnds cut.now form) }
-    ensures not_whole_bytes { result ≡ Err WriteFault.NotWholeBytes → FitsIn form (master_length cut.now.splice.cues) → ⊥ }
+    ensures not_whole_bytes { result ≡ Err WriteFault.NotWholeBytes → FitsIn form (master_length cut.now.splice.cues)
+        → ⊥ }
 {
     let silent = make_silent(alloc, cut, form)?;
     fields_fit(&silent);
@@ -90,8 +91,10 @@ pub fn write_master<W: Write>(
     requires room { IsRoomFor cut.now room.old }
     requires outlet_ready { outlet_failures outlet.old < 2 ^ 64 - 1 }
     ensures room { IsRoomFor cut.now room.new }
-    ensures ok { OnOk result (WritesMaster cut.now form (W.contents (outlet_writer outlet.old)) (W.contents (outlet_writer outlet.new))) }
-    ensures front { OnErr result (WritesMasterFront cut.now form (W.contents (outlet_writer outlet.old)) (W.contents (outlet_writer outlet.new))) }
+    ensures ok { OnOk result (WritesMaster cut.now form (W.contents (outlet_writer outlet.old))
+        (W.contents (outlet_writer outlet.new))) }
+    ensures front { OnErr result (WritesMasterFront cut.now form (W.contents (outlet_writer outlet.old))
+        (W.contents (outlet_writer outlet.new))) }
     ensures failures { MatchResult result
         (λ _. outlet_failures outlet.new ≡ outlet_failures outlet.old)
         (λ _. outlet_failures outlet.new ≡ outlet_failures outlet.old + 1) }

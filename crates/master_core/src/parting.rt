@@ -1,10 +1,10 @@
 //! The part of a master's channel that lies in a range, put into held room.
 
-ghost use Rattle.std.specs.Prelude.{◌≡◌, ◌+◌, ◌-◌, ◌<◌, ◌≤◌, ◌++◌, [], length, slice_range};
+ghost use Rattle.std.specs.Prelude.{◌≡◌, ◌+◌, ◌-◌, ◌<◌, ◌≤◌, ◌++◌, [], length};
 ghost use Rattle.cut_core.specs.Cuts.{channel_number, cue_at, cue_bits};
 ghost use Rattle.master_core.specs.Claims.{bridge_start};
 ghost use Rattle.master_core.specs.Masters.{IsFirstLeastPart, part_at};
-ghost use Rattle.master_core.specs.Parting.{IsBestPart, IsPartAdded, HasChosen, IsStepAdded};
+ghost use Rattle.master_core.specs.Parting.{IsBestPart, IsPartAdded, HasChosen, IsStepAdded, within};
 
 use crate::choosing::chosen_at;
 use cut_core::{BridgePlace, Cut};
@@ -92,7 +92,7 @@ fn push_cue_part(room: &mut BitRoom, cut: &Cut, channel: usize, cue: usize, rang
     requires channel { channel < channel_number cut.now }
     requires cue { cue < length cut.now.splice.cues }
     requires in_room { length room.old.bits + (range.stop - range.start) ≤ room.old.most }
-    ensures { room.new ≡ record room.old { bits = room.old.bits ++ slice_range (cue_bits cut.now channel cue) range.start range.stop } }
+    ensures { room.new ≡ record room.old { bits = room.old.bits ++ within range (cue_bits cut.now channel cue) } }
 {
     let here = cut.cued(channel, cue);
     let piece = BitRange {
@@ -115,7 +115,8 @@ fn push_bridge_part(
     requires cue { place.cue + 1 < length source.now.cut.now.splice.cues }
     requires in_room { length room.old.bits + (range.stop - range.start) ≤ room.old.most }
     ensures most { room.new.most ≡ room.old.most }
-    ensures bridged { IsPartAdded (IsFirstLeastPart (part_at source.now.cut.now place.channel place.cue)) range room.old.bits room.new.bits }
+    ensures bridged { IsPartAdded (IsFirstLeastPart (part_at source.now.cut.now place.channel place.cue)) range
+        room.old.bits room.new.bits }
 {
     source.cut.can_cut();
     let stop = range.stop.min(source.cut.cue(place.cue).bridge);
@@ -139,7 +140,7 @@ fn push_within(room: &mut BitRoom, bits: &Bits, piece: BitRange, range: BitRange
     requires in_order { piece.start ≤ piece.stop }
     requires inside { piece.stop ≤ length bits.now }
     requires in_room { length room.old.bits + (range.stop - range.start) ≤ room.old.most }
-    ensures { room.new ≡ record room.old { bits = room.old.bits ++ slice_range (slice_range bits.now piece.start piece.stop) range.start range.stop } }
+    ensures { room.new ≡ record room.old { bits = room.old.bits ++ within range (within piece bits.now) } }
 {
     let stop = range.stop.min(piece.stop - piece.start);
     let start = range.start.min(stop);

@@ -47,7 +47,8 @@ pub fn plan(alloc: Global, cut: &Cut, form: Form) -> Result<Planned, WriteFault>
     ensures ends { IfOk result (λ made. AreMasterEnds cut.now form made.ends) }
     ensures room { IfOk result (λ made. IsRoomFor cut.now made.room) }
     ensures cert_room { IfOk result (λ made. IsRoomOf cut.now made.cert_room) }
-    ensures not_whole_bytes { IfErr result (λ fault. fault ≡ WriteFault.NotWholeBytes → FitsIn form (master_length cut.now.splice.cues) → ⊥) }
+    ensures not_whole_bytes { IfErr result (λ fault. fault ≡ WriteFault.NotWholeBytes
+        → FitsIn form (master_length cut.now.splice.cues) → ⊥) }
 {
     let bridges = choose_bridges(alloc, cut)?;
     let cert_room = CertifyingRoom::new(alloc, cut)?;

@@ -80,8 +80,10 @@ pub fn write_sound<W: Write>(
     requires room { IsRoomFor source.now.cut.now room.old }
     requires outlet_ready { outlet_failures outlet.old < 2 ^ 64 - 1 }
     ensures room { IsRoomFor source.now.cut.now room.new }
-    ensures ok { OnOk result (WritesBest source.now.cut.now to (W.contents (outlet_writer outlet.old)) (W.contents (outlet_writer outlet.new))) }
-    ensures front { OnErr result (WritesBestFront source.now.cut.now to (W.contents (outlet_writer outlet.old)) (W.contents (outlet_writer outlet.new))) }
+    ensures ok { OnOk result (WritesBest source.now.cut.now to (W.contents (outlet_writer outlet.old))
+        (W.contents (outlet_writer outlet.new))) }
+    ensures front { OnErr result (WritesBestFront source.now.cut.now to (W.contents (outlet_writer outlet.old))
+        (W.contents (outlet_writer outlet.new))) }
     ensures failures { MatchResult result
         (λ _. outlet_failures outlet.new ≡ outlet_failures outlet.old)
         (λ _. outlet_failures outlet.new ≡ outlet_failures outlet.old + 1) }
@@ -114,8 +116,10 @@ fn write_stretch<W: Write>(
     requires outlet_ready { outlet_failures outlet.old < 2 ^ 64 - 1 }
     ensures room { IsRoomFor source.now.cut.now room.new }
     ensures stretch { room.new.stretch ≡ room.old.stretch }
-    ensures ok { OnOk result (WritesPart source.now.cut.now to range (W.contents (outlet_writer outlet.old)) (W.contents (outlet_writer outlet.new))) }
-    ensures front { OnErr result (WritesPartFront source.now.cut.now to range (W.contents (outlet_writer outlet.old)) (W.contents (outlet_writer outlet.new))) }
+    ensures ok { OnOk result (WritesPart source.now.cut.now to range (W.contents (outlet_writer outlet.old))
+        (W.contents (outlet_writer outlet.new))) }
+    ensures front { OnErr result (WritesPartFront source.now.cut.now to range (W.contents (outlet_writer outlet.old))
+        (W.contents (outlet_writer outlet.new))) }
     ensures failures { MatchResult result
         (λ _. outlet_failures outlet.new ≡ outlet_failures outlet.old)
         (λ _. outlet_failures outlet.new ≡ outlet_failures outlet.old + 1) }

@@ -51,7 +51,8 @@ pub(crate) fn fill_channel(
     number: usize,
 ) -> Result<(), AllocError>
     requires channel { (c < channels) × (channels ≤ 6) }
-    requires enough { number ≤ length groups.now / Groups.group_size interleaving channels * Groups.part_size interleaving }
+    requires enough { number ≤ length groups.now / Groups.group_size interleaving channels * Groups.part_size
+        interleaving }
     ensures { OnOk result (own.new.items ≡ channel_part interleaving channels groups.now c 0 number) }
 {
     own.clear();
@@ -83,7 +84,8 @@ fn fill_strided(
 fn pick(to: &mut [u8], groups: &[u8], channels: usize, c: usize)
     requires channel { c < channels }
     requires enough { length to.old * channels ≤ length groups.now }
-    ensures { (frame : ℕ) → frame < length to.old → slice_index to.new frame ≡ slice_index groups.now (frame * channels + c) }
+    ensures { (frame : ℕ) → frame < length to.old
+        → slice_index to.new frame ≡ slice_index groups.now (frame * channels + c) }
 {
     if channels == 2 {
         pick_each(to, groups, 2, c);
@@ -97,7 +99,8 @@ fn pick(to: &mut [u8], groups: &[u8], channels: usize, c: usize)
 fn pick_each(to: &mut [u8], groups: &[u8], channels: usize, c: usize)
     requires channel { c < channels }
     requires enough { length to.old * channels ≤ length groups.now }
-    ensures { (frame : ℕ) → frame < length to.old → slice_index to.new frame ≡ slice_index groups.now (frame * channels + c) }
+    ensures { (frame : ℕ) → frame < length to.old
+        → slice_index to.new frame ≡ slice_index groups.now (frame * channels + c) }
 {
     for frame in 0..to.len() {
         to[frame] = groups[frame * channels + c];
@@ -115,7 +118,8 @@ fn push_blocks(
 ) -> Result<(), AllocError>
     requires channel { (c < channels) × (channels ≤ 6) }
     requires enough { number ≤ length groups.now / (channels * 4096) * 4096 }
-    ensures { OnOk result (own.new.items ≡ own.old.items ++ channel_part (Interleaving.Blocks order) channels groups.now c 0 number) }
+    ensures { OnOk result (own.new.items
+        ≡ own.old.items ++ channel_part (Interleaving.Blocks order) channels groups.now c 0 number) }
 {
     for group in 0..number.div_ceil(BLOCK) {
         let (_, block) = groups.split_at((group * channels + c) * BLOCK);

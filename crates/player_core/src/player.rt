@@ -99,7 +99,8 @@ impl<'a> Player<'a> {
     pub fn finish(&mut self, out: &mut Vec<u8>) -> Result<(), AllocError>
         requires ready { IsPlayer self.old }
         requires all { self.old.fed ≡ self.old.sound.size }
-        ensures same { (self.new.taps ≡ self.old.taps) × (self.new.sound ≡ self.old.sound) × (self.new.fed ≡ self.old.fed) }
+        ensures same { (self.new.taps ≡ self.old.taps) × (self.new.sound ≡ self.old.sound)
+            × (self.new.fed ≡ self.old.fed) }
         ensures ok { OnOk result (FinishesPlayer self.old out.old.items out.new.items) }
     {
         finish_all(&mut self.streams, &mut self.tile)?;
@@ -135,7 +136,8 @@ fn push_tile(out: &mut Vec<u8>, width: u32, tile: &[i32], channels: usize) -> Re
     requires channels { 1 ≤ channels }
     requires width { IsWidth width }
     requires values { All (IsSample width) tile.now }
-    ensures { OnOk result (out.new.items ≡ out.old.items ++ flat_map (sample_bytes width) (frames_of tile.now (length tile.now / channels))) }
+    ensures { OnOk result (out.new.items
+        ≡ out.old.items ++ flat_map (sample_bytes width) (frames_of tile.now (length tile.now / channels))) }
 {
     let frames = tile.len() / channels;
     if frames == 0 {
@@ -156,9 +158,12 @@ fn feed_all(
 ) -> Result<(), AllocError>
     requires channels { (length streams.old ≡ sound.now.channels) × (sound.now.channels ≤ 6) }
     requires ready { AreReady number streams.old }
-    requires enough { number ≤ length groups.now / Groups.group_size sound.now.interleaving sound.now.channels * Groups.part_size sound.now.interleaving }
-    ensures channels { OnOk result ((d : Decimator) (fed : ℕ) → AreChannels d sound.now.count fed streams.old → AreChannels d sound.now.count (fed + number) streams.new) }
-    ensures fed { OnOk result ((d : Decimator) (fed : ℕ) → AreChannels d sound.now.count fed streams.old → FeedAll d sound.now fed number streams.old streams.new groups.now tile.new.items) }
+    requires enough { number ≤ length groups.now / Groups.group_size sound.now.interleaving
+        sound.now.channels * Groups.part_size sound.now.interleaving }
+    ensures channels { OnOk result ((d : Decimator) (fed : ℕ) → AreChannels d sound.now.count fed streams.old
+        → AreChannels d sound.now.count (fed + number) streams.new) }
+    ensures fed { OnOk result ((d : Decimator) (fed : ℕ) → AreChannels d sound.now.count fed streams.old
+        → FeedAll d sound.now fed number streams.old streams.new groups.now tile.new.items) }
 {
     tile.clear();
     for (c, stream) in streams.iter_mut().enumerate() {
@@ -193,9 +198,11 @@ fn feed_one(
     requires ready { IsStream stream.old }
     requires few { stream.old.fed + part.number ≤ div_ceil stream.old.count 8 }
     requires channel { (part.c < part.channels) × (part.channels ≤ 6) }
-    requires enough { part.number ≤ length groups.now / Groups.group_size part.interleaving part.channels * Groups.part_size part.interleaving }
+    requires enough { part.number ≤ length groups.now / Groups.group_size part.interleaving
+        part.channels * Groups.part_size part.interleaving }
     ensures ready { IsStream stream.new }
-    ensures ok { OnOk result (Feeds (state_of stream.old) (state_of stream.new) (channel_part part.interleaving part.channels groups.now part.c 0 part.number) tile.old.items tile.new.items) }
+    ensures ok { OnOk result (Feeds (state_of stream.old) (state_of stream.new)
+        (channel_part part.interleaving part.channels groups.now part.c 0 part.number) tile.old.items tile.new.items) }
     ensures fed { OnOk result (stream.new.fed ≡ stream.old.fed + part.number) }
     ensures same { (stream.new.taps ≡ stream.old.taps) × (stream.new.count ≡ stream.old.count) }
 {
@@ -213,7 +220,8 @@ fn feed_one(
 // Gives the rest of each stream's samples. They take the place of what `tile` held, channel by channel.
 fn finish_all(streams: &mut [Stream], tile: &mut Vec<i32>) -> Result<(), AllocError>
     requires ready { AreWhole streams.old }
-    ensures { OnOk result ((d : Decimator) (s : Sound) → length streams.old ≡ s.channels → FinishAll d s streams.old tile.new.items) }
+    ensures { OnOk result ((d : Decimator) (s : Sound) → length streams.old ≡ s.channels
+        → FinishAll d s streams.old tile.new.items) }
 {
     tile.clear();
     for stream in streams.iter_mut() {

@@ -50,7 +50,8 @@ fn push_tiles(
 ) -> Result<(), AllocError>
     requires level { IsLevel channels.now }
     requires count { count ≡ frame_count taps.now channels.now }
-    ensures { OnOk result (out.new.items ≡ out.old.items ++ flat_map (sample_bytes taps.now.width) (frames_below taps.now channels.now count)) }
+    ensures { OnOk result (out.new.items
+        ≡ out.old.items ++ flat_map (sample_bytes taps.now.width) (frames_below taps.now channels.now count)) }
 {
     let tables = Tables::new(alloc, taps)?;
     let width = taps.width();

@@ -32,7 +32,8 @@ pub fn convert_file<F: Folder>(
     output: &str,
     most: usize,
 ) -> Result<u64, CommandFault>
-    ensures { IsTrue (F.is_told folder.old) → ConvertComesTo form input.now output.now (F.file folder.old) (F.file folder.new) result }
+    ensures { IsTrue (F.is_told folder.old)
+        → ConvertComesTo form input.now output.now (F.file folder.old) (F.file folder.new) result }
 {
     if let Some(file) = read_short(alloc, folder, input, most)? {
         return convert_whole(alloc, folder, form, &file, output);
@@ -52,7 +53,8 @@ fn convert_whole<F: Folder>(
     file: &[u8],
     output: &str,
 ) -> Result<u64, CommandFault>
-    ensures { IsTrue (F.is_told folder.old) → (input : List ℕ) → F.file folder.old input ≡ Some file.now → ConvertComesTo form input output.now (F.file folder.old) (F.file folder.new) result }
+    ensures { IsTrue (F.is_told folder.old) → (input : List ℕ) → F.file folder.old input ≡ Some file.now
+        → ConvertComesTo form input output.now (F.file folder.old) (F.file folder.new) result }
 {
     let converted = convert(alloc, file, form)?;
     write_file(folder, output, &converted.bytes)?;
@@ -70,7 +72,8 @@ fn convert_outlined<F: Folder>(
     output: &str,
 ) -> Result<u64, CommandFault>
     requires told { AreTold (around_of outline.now) }
-    ensures { IsTrue (F.is_told folder.old) → OutlinesFile input.now (F.file folder.old) (Some outline.now) → ConvertComesTo form input.now output.now (F.file folder.old) (F.file folder.new) result }
+    ensures { IsTrue (F.is_told folder.old) → OutlinesFile input.now (F.file folder.old) (Some outline.now)
+        → ConvertComesTo form input.now output.now (F.file folder.old) (F.file folder.new) result }
 {
     held_is_opened();
     written_in_parts();
@@ -110,7 +113,8 @@ fn convert_between<R: Read + Drop, W: Write>(
 ) -> (Result<u64, Fault>, W)
     requires told { AreTold (around_of outline.now) }
     ensures ok { IfOk result.0 (ConvertsFile (R.remaining file) form (W.contents made) (W.contents result.1)) }
-    ensures front { OnErr result.0 (ConvertsFront (R.remaining file) (around_of outline.now) form (W.contents made) (W.contents result.1)) }
+    ensures front { OnErr result.0 (ConvertsFront (R.remaining file) (around_of outline.now) form (W.contents made)
+        (W.contents result.1)) }
     ensures refused { IfErr result.0 (ConversionStands (R.remaining file) (around_of outline.now) form) }
 {
     let mut inlet = Inlet::new(file);

@@ -35,7 +35,8 @@ pub(crate) fn hear_files<F: Folder>(
 ) -> Result<Result<Vec<Heard>, CutFault>, CommandFault>
     ensures same { F.file folder.new ≡ F.file folder.old }
     ensures told { F.is_told folder.new ≡ F.is_told folder.old }
-    ensures heard { IfOk result (λ heard. IsTrue (F.is_told folder.old) → HearsFiles (F.file folder.old) (splice_content splice.now) (splice_content splice.now).takes heard) }
+    ensures heard { IfOk result (λ heard. IsTrue (F.is_told folder.old)
+        → HearsFiles (F.file folder.old) (splice_content splice.now) (splice_content splice.now).takes heard) }
     ensures of { IfOk result (IsOfTakes (splice_content splice.now) (length (splice_content splice.now).takes)) }
     ensures fault { IfErr result IsUnread }
 {
@@ -58,7 +59,9 @@ fn hear_named<F: Folder>(
     requires { number < length (splice_content splice.now).takes }
     ensures same { F.file folder.new ≡ F.file folder.old }
     ensures told { F.is_told folder.new ≡ F.is_told folder.old }
-    ensures heard { IfOk result (λ heard. IsTrue (F.is_told folder.old) → HearsFile (F.file folder.old) (splice_content splice.now) number (slice_index_or (splice_content splice.now).takes number []) heard) }
+    ensures heard { IfOk result (λ heard. IsTrue (F.is_told folder.old)
+        → HearsFile (F.file folder.old) (splice_content splice.now) number
+        (slice_index_or (splice_content splice.now).takes number []) heard) }
     ensures of { IfOk result (IsOfTake (splice_content splice.now) number) }
     ensures fault { IfErr result IsUnread }
 {
@@ -85,7 +88,8 @@ fn hear_streamed<F: Folder>(
 ) -> Result<Option<Heard>, CommandFault>
     ensures same { F.file folder.new ≡ F.file folder.old }
     ensures told { F.is_told folder.new ≡ F.is_told folder.old }
-    ensures heard { IfOk result (λ found. IsTrue (F.is_told folder.old) → StreamsFile (F.file folder.old) (splice_content splice.now) number name.now found) }
+    ensures heard { IfOk result (λ found. IsTrue (F.is_told folder.old)
+        → StreamsFile (F.file folder.old) (splice_content splice.now) number name.now found) }
     ensures of { IfOk result (λ found. IfSome found (λ heard. IsOfTake (splice_content splice.now) number (Ok heard))) }
     ensures fault { IfErr result IsUnread }
 {
@@ -102,7 +106,8 @@ fn hear_reader<R: Read + Drop>(
     number: usize,
     file: R,
 ) -> Result<Option<Heard>, CommandFault>
-    ensures heard { IfOk result (λ found. IfSome (R.remaining file) (λ left. IsHeardIn (splice_content splice.now) number left found)) }
+    ensures heard { IfOk result (λ found. IfSome (R.remaining file) (λ left. IsHeardIn
+        (splice_content splice.now) number left found)) }
     ensures of { IfOk result (λ found. IfSome found (λ heard. IsOfTake (splice_content splice.now) number (Ok heard))) }
     ensures fault { IfErr result IsUnread }
 {
@@ -120,7 +125,9 @@ fn hear_reader<R: Read + Drop>(
 
 // What is heard by what was kept of a file.
 fn heard_by(kept: Kept) -> Heard
-    ensures { (splice : SpliceContent) (number : ℕ) (file : List ℕ) → AreTold (around_of kept.outline) → IsKeptOf (around_of kept.outline) (ranges_of splice number) (stretches_in kept) file → HearsHeld splice number file result }
+    ensures { (splice : SpliceContent) (number : ℕ) (file : List ℕ) → AreTold (around_of kept.outline)
+        → IsKeptOf (around_of kept.outline) (ranges_of splice number) (stretches_in kept) file
+        → HearsHeld splice number file result }
 {
     let Kept { outline, stretches } = kept;
     has_shape(&outline.recording);

@@ -25,7 +25,8 @@ pub(crate) fn outline_file<F: Folder>(
     ensures same { F.file folder.new ≡ F.file folder.old }
     ensures told { F.is_told folder.new ≡ F.is_told folder.old }
     ensures around { IfOk result (λ found. IfSome found (λ outline. AreTold (around_of outline))) }
-    ensures found { IfOk result (λ found. IsTrue (F.is_told folder.old) → OutlinesFile name.now (F.file folder.old) found) }
+    ensures found { IfOk result (λ found. IsTrue (F.is_told folder.old)
+        → OutlinesFile name.now (F.file folder.old) found) }
     ensures fault { IfErr result IsUnread }
 {
     let Ok(file) = folder.open(name) else {

@@ -18,7 +18,8 @@ pub fn play_file<F: Folder>(
     input: &str,
     output: &str,
 ) -> Result<u64, CommandFault>
-    ensures { IsTrue (F.is_told folder.old) → PlayComesTo project.now input.now output.now (F.file folder.old) (F.file folder.new) result }
+    ensures { IsTrue (F.is_told folder.old)
+        → PlayComesTo project.now input.now output.now (F.file folder.old) (F.file folder.new) result }
 {
     let project = read_file(alloc, folder, project)?;
     let Ok(file) = folder.open(input) else {
@@ -39,7 +40,9 @@ fn play_to<F: Folder>(
     output: &str,
     wave: F::Out,
 ) -> Result<u64, CommandFault>
-    ensures { IsTrue (F.is_told folder.old) → PlayedComesTo project.now (F.In.remaining file) (F.Out.contents wave) output.now (F.file folder.old) (F.file folder.new) result }
+    ensures { IsTrue (F.is_told folder.old)
+        → PlayedComesTo project.now (F.In.remaining file) (F.Out.contents wave) output.now (F.file folder.old)
+        (F.file folder.new) result }
 {
     let mut inlet = Inlet::new(file);
     let mut outlet = Outlet::new(wave);

@@ -34,9 +34,12 @@ pub fn hear_sources<F: Folder>(
 ) -> Result<Sources, CommandFault>
     ensures same { F.file folder.new ≡ F.file folder.old }
     ensures told { F.is_told folder.new ≡ F.is_told folder.old }
-    ensures heard { IfOk result (λ found. IsTrue (F.is_told folder.old) → HearsSources project.now (F.file folder.old) (splice_content found.splice) found.takes) }
-    ensures of { IfOk result (λ found. IsOfTakes (splice_content found.splice) (length (splice_content found.splice).takes) found.takes) }
-    ensures fault { IfErr result (λ fault. IsTrue (F.is_told folder.old) → SourcesUnread project.now (F.file folder.old) (F.file folder.new) fault) }
+    ensures heard { IfOk result (λ found. IsTrue (F.is_told folder.old)
+        → HearsSources project.now (F.file folder.old) (splice_content found.splice) found.takes) }
+    ensures of { IfOk result (λ found. IsOfTakes (splice_content found.splice)
+        (length (splice_content found.splice).takes) found.takes) }
+    ensures fault { IfErr result (λ fault. IsTrue (F.is_told folder.old)
+        → SourcesUnread project.now (F.file folder.old) (F.file folder.new) fault) }
 {
     let project = read_file(alloc, folder, project)?;
     let splice = splice_of(alloc, &project)?;

@@ -66,13 +66,18 @@ pub fn convert_stream<R: Read, W: Write>(
     requires inlet_ready { inlet_failures inlet.old < 2 ^ 64 - 1 }
     requires outlet_ready { outlet_failures outlet.old < 2 ^ 64 - 1 }
     // What the reader's file is converted to was written, however the reads are cut.
-    ensures ok { IfOk result (ConvertsFile (R.remaining (inlet_reader inlet.old)) form (W.contents (outlet_writer outlet.old)) (W.contents (outlet_writer outlet.new))) }
+    ensures ok { IfOk result (ConvertsFile (R.remaining (inlet_reader inlet.old)) form
+        (W.contents (outlet_writer outlet.old)) (W.contents (outlet_writer outlet.new))) }
     // The same of what was read, where the reader doesn't tell its bytes.
-    ensures any_reader { IfOk result (ConvertsGiven (R.remaining (inlet_reader inlet.old)) (R.remaining (inlet_reader inlet.new)) form (W.contents (outlet_writer outlet.old)) (W.contents (outlet_writer outlet.new))) }
+    ensures any_reader { IfOk result (ConvertsGiven (R.remaining (inlet_reader inlet.old))
+        (R.remaining (inlet_reader inlet.new)) form (W.contents (outlet_writer outlet.old))
+        (W.contents (outlet_writer outlet.new))) }
     // Of what is refused a front was written.
-    ensures front { OnErr result (ConvertsFront (R.remaining (inlet_reader inlet.old)) (around_of outline.now) form (W.contents (outlet_writer outlet.old)) (W.contents (outlet_writer outlet.new))) }
+    ensures front { OnErr result (ConvertsFront (R.remaining (inlet_reader inlet.old)) (around_of outline.now) form
+        (W.contents (outlet_writer outlet.old)) (W.contents (outlet_writer outlet.new))) }
     // A fault stands that is named.
-    ensures refused { IfErr result (ConversionStands (R.remaining (inlet_reader inlet.old)) (around_of outline.now) form) }
+    ensures refused { IfErr result (ConversionStands (R.remaining (inlet_reader inlet.old))
+        (around_of outline.now) form) }
     ensures not_whole_bytes { (FitsIn form outline.now.sound.count → ⊥) → result ≡ Err Fault.NotWholeBytes }
     ensures read_failed { inlet_failures inlet.new ≡ inlet_failures inlet.old + failed_reads result }
     ensures write_failed { outlet_failures outlet.new ≡ outlet_failures outlet.old + failed_writes result }

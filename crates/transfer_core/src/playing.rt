@@ -63,15 +63,20 @@ pub fn play_stream<R: Read, W: Write>(
     requires reads_low { inlet_reads inlet.old < 2 ^ 63 }
     requires given_low { inlet_given inlet.old < 2 ^ 63 }
     // What project and file play was written, however the reads are cut.
-    ensures ok { IfOk result (PlaysFile (R.remaining (inlet_reader inlet.old)) project.now (W.contents (outlet_writer outlet.old)) (W.contents (outlet_writer outlet.new))) }
+    ensures ok { IfOk result (PlaysFile (R.remaining (inlet_reader inlet.old)) project.now
+        (W.contents (outlet_writer outlet.old)) (W.contents (outlet_writer outlet.new))) }
     // The same of what was read, where the reader doesn't tell its bytes.
-    ensures any_reader { IfOk result (PlaysGiven R.remaining inlet.old inlet.new project.now (W.contents (outlet_writer outlet.old)) (W.contents (outlet_writer outlet.new))) }
+    ensures any_reader { IfOk result (PlaysGiven R.remaining inlet.old inlet.new project.now
+        (W.contents (outlet_writer outlet.old)) (W.contents (outlet_writer outlet.new))) }
     // What is played is refused from outside alone, and a front of it was written.
     ensures cause { IfErr result (OnlyFromOutside (R.remaining (inlet_reader inlet.old)) project.now) }
-    ensures front { OnErr result (WritesFront (R.remaining (inlet_reader inlet.old)) project.now (W.contents (outlet_writer outlet.old)) (W.contents (outlet_writer outlet.new))) }
+    ensures front { OnErr result (WritesFront (R.remaining (inlet_reader inlet.old)) project.now
+        (W.contents (outlet_writer outlet.old)) (W.contents (outlet_writer outlet.new))) }
     // Where the reading stops, what was written lags behind by at most 131,072 bytes of the one sound that the
     // file tells of.
-    ensures keeps_up { IfErr result (λ fault. StopsReading fault → KeepsUp (R.remaining (inlet_reader inlet.old)) project.now (inlet_given inlet.new - inlet_given inlet.old) (W.contents (outlet_writer outlet.old)) (W.contents (outlet_writer outlet.new))) }
+    ensures keeps_up { IfErr result (λ fault. StopsReading fault
+        → KeepsUp (R.remaining (inlet_reader inlet.old)) project.now (inlet_given inlet.new - inlet_given inlet.old)
+        (W.contents (outlet_writer outlet.old)) (W.contents (outlet_writer outlet.new))) }
     // A fault stands that is named.
     ensures refused { IfErr result (StreamStands (R.remaining (inlet_reader inlet.old)) project.now) }
     ensures read_failed { inlet_failures inlet.new ≡ inlet_failures inlet.old + failed_reads result }
@@ -81,7 +86,8 @@ pub fn play_stream<R: Read, W: Write>(
     ensures turn_limit { IsErrOf result Fault.TurnLimit → inlet_reads inlet.new ≡ inlet_reads inlet.old + 2 ^ 40 }
     // What comes before the first read, and before the first write.
     ensures unread { SaysNone project.now → inlet_reads inlet.new ≡ inlet_reads inlet.old }
-    ensures unwritten { IfErr result (λ fault. IsBeforeWriting fault → outlet_writer outlet.new ≡ outlet_writer outlet.old) }
+    ensures unwritten { IfErr result (λ fault. IsBeforeWriting fault
+        → outlet_writer outlet.new ≡ outlet_writer outlet.old) }
 {
     accepted_files_tell_one_sound();
     let taps = decimator_of(alloc, project)?;

@@ -57,9 +57,12 @@ pub fn bridge_into<S: LevelSink>(
     ensures cost { IfOk result (λ chosen. chosen.cost ≡ bridge_cost window.now chosen.bits) }
 
     // The rows that were handed over.
-    ensures rows { OnOk result (HandsOverAll (trellis_of window.now) (S.spelling (S.kind sink.old)) (S.text sink.old) (S.text sink.new)) }
-    ensures memory { IsErrOf result BridgeFault.Memory → HandsOverSome (trellis_of window.now) (S.spelling (S.kind sink.old)) (S.text sink.old) (S.text sink.new) }
-    ensures sink { IsErrOf result BridgeFault.Sink → HandsOverUpTo (trellis_of window.now) (S.spelling (S.kind sink.old)) (S.text sink.old) (S.text sink.new) }
+    ensures rows { OnOk result (HandsOverAll (trellis_of window.now) (S.spelling (S.kind sink.old)) (S.text sink.old)
+        (S.text sink.new)) }
+    ensures memory { IsErrOf result BridgeFault.Memory
+        → HandsOverSome (trellis_of window.now) (S.spelling (S.kind sink.old)) (S.text sink.old) (S.text sink.new) }
+    ensures sink { IsErrOf result BridgeFault.Sink
+        → HandsOverUpTo (trellis_of window.now) (S.spelling (S.kind sink.old)) (S.text sink.old) (S.text sink.new) }
 
     // What the sink is afterwards.
     ensures refused { IsErrOf result BridgeFault.Sink ↔ (S.has_refused sink.new ≡ true) }
@@ -89,9 +92,11 @@ pub fn bridge_cut_into<S: LevelSink>(
     ensures cost { IfOk result (λ chosen. chosen.cost ≡ bridge_cost window.now chosen.bits) }
 
     // The rows that were handed over.
-    ensures rows { IfOk result (λ chosen. HandsOverAll (trellis_of window.now) (cut_spelling chosen.cost (S.spelling (S.kind sink.old))) (S.text sink.old) (S.text sink.new)) }
+    ensures rows { IfOk result (λ chosen. HandsOverAll (trellis_of window.now)
+        (cut_spelling chosen.cost (S.spelling (S.kind sink.old))) (S.text sink.old) (S.text sink.new)) }
     ensures memory { IsErrOf result BridgeFault.Memory → S.text sink.new ≡ S.text sink.old }
-    ensures sink { IsErrOf result BridgeFault.Sink → HandsOverCutUpTo window.now (S.spelling (S.kind sink.old)) (S.text sink.old) (S.text sink.new) }
+    ensures sink { IsErrOf result BridgeFault.Sink
+        → HandsOverCutUpTo window.now (S.spelling (S.kind sink.old)) (S.text sink.old) (S.text sink.new) }
 
     // What the sink is afterwards.
     ensures refused { IsErrOf result BridgeFault.Sink ↔ (S.has_refused sink.new ≡ true) }
@@ -111,7 +116,8 @@ pub fn bridge_cut_into<S: LevelSink>(
 // The bits that a search leads to, and their cost.
 fn choose(alloc: Global, window: &Window, searched: &Searched) -> Result<Chosen, AllocError>
     requires totals { searched.now.room.totals.items ≡ total_row (trellis_of window.now) }
-    requires decisions { AreAllDecisions (trellis_of window.now) (trellis_of window.now).levels searched.now.decisions.items }
+    requires decisions { AreAllDecisions (trellis_of window.now)
+        (trellis_of window.now).levels searched.now.decisions.items }
     ensures first_least { IfOk result (λ chosen. IsFirstLeastBridge window.now chosen.bits) }
     ensures cost { IfOk result (λ chosen. chosen.cost ≡ bridge_cost window.now chosen.bits) }
 {

@@ -38,8 +38,10 @@ pub fn hand_cut<S: LevelSink>(
     ensures buffers { OnOk result (HasBuffers (states (trellis_of window.now)) room.new) }
 
     // The rows that were handed over.
-    ensures ok { OnOk result (HandsOverAll (trellis_of window.now) (cut_spelling cost (S.spelling (S.kind sink.old))) (S.text sink.old) (S.text sink.new)) }
-    ensures err { OnErr result (HandsOverUpTo (trellis_of window.now) (cut_spelling cost (S.spelling (S.kind sink.old))) (S.text sink.old) (S.text sink.new)) }
+    ensures ok { OnOk result (HandsOverAll (trellis_of window.now) (cut_spelling cost (S.spelling (S.kind sink.old)))
+        (S.text sink.old) (S.text sink.new)) }
+    ensures err { OnErr result (HandsOverUpTo (trellis_of window.now) (cut_spelling cost (S.spelling (S.kind sink.old)))
+        (S.text sink.old) (S.text sink.new)) }
 
     // What the sink is afterwards.
     ensures refused { MatchResult result (λ _. S.has_refused sink.new ≡ false) (λ _. S.has_refused sink.new ≡ true) }

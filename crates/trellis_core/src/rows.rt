@@ -125,11 +125,15 @@ fn search<S: LevelSink>(
     requires row_length { S.row_length sink.old ≡ states (trellis_of window.now) }
     requires ready { S.has_refused sink.old ≡ false }
     ensures totals { OnOk result (room.new.totals.items ≡ total_row (trellis_of window.now)) }
-    ensures decisions { OnOk result (AreAllDecisions (trellis_of window.now) (trellis_of window.now).levels decisions.new.items) }
+    ensures decisions { OnOk result (AreAllDecisions (trellis_of window.now)
+        (trellis_of window.now).levels decisions.new.items) }
     ensures buffers { OnOk result (HasBuffers (states (trellis_of window.now)) room.new) }
-    ensures rows { OnOk result (HandsOverAll (trellis_of window.now) (S.spelling (S.kind sink.old)) (S.text sink.old) (S.text sink.new)) }
-    ensures memory { IsErrOf result BridgeFault.Memory → HandsOverSome (trellis_of window.now) (S.spelling (S.kind sink.old)) (S.text sink.old) (S.text sink.new) }
-    ensures sink { IsErrOf result BridgeFault.Sink → HandsOverUpTo (trellis_of window.now) (S.spelling (S.kind sink.old)) (S.text sink.old) (S.text sink.new) }
+    ensures rows { OnOk result (HandsOverAll (trellis_of window.now) (S.spelling (S.kind sink.old)) (S.text sink.old)
+        (S.text sink.new)) }
+    ensures memory { IsErrOf result BridgeFault.Memory
+        → HandsOverSome (trellis_of window.now) (S.spelling (S.kind sink.old)) (S.text sink.old) (S.text sink.new) }
+    ensures sink { IsErrOf result BridgeFault.Sink
+        → HandsOverUpTo (trellis_of window.now) (S.spelling (S.kind sink.old)) (S.text sink.old) (S.text sink.new) }
     ensures refused { IsErrOf result BridgeFault.Sink ↔ (S.has_refused sink.new ≡ true) }
     ensures rows_left { OnOk result (S.rows_left sink.new + (window.now.levels + 1) ≡ S.rows_left sink.old) }
     ensures row_length { S.row_length sink.new ≡ S.row_length sink.old }
@@ -167,10 +171,14 @@ pub fn forward<S: LevelSink>(
     requires ready { S.has_refused sink.old ≡ false }
     ensures totals { IfOk result (λ searched. searched.room.totals.items ≡ total_row (trellis_of window.now)) }
     ensures buffers { IfOk result (λ searched. HasBuffers (states (trellis_of window.now)) searched.room) }
-    ensures decisions { IfOk result (λ searched. AreAllDecisions (trellis_of window.now) (trellis_of window.now).levels searched.decisions.items) }
-    ensures rows { OnOk result (HandsOverAll (trellis_of window.now) (S.spelling (S.kind sink.old)) (S.text sink.old) (S.text sink.new)) }
-    ensures memory { IsErrOf result BridgeFault.Memory → HandsOverSome (trellis_of window.now) (S.spelling (S.kind sink.old)) (S.text sink.old) (S.text sink.new) }
-    ensures sink { IsErrOf result BridgeFault.Sink → HandsOverUpTo (trellis_of window.now) (S.spelling (S.kind sink.old)) (S.text sink.old) (S.text sink.new) }
+    ensures decisions { IfOk result (λ searched. AreAllDecisions (trellis_of window.now)
+        (trellis_of window.now).levels searched.decisions.items) }
+    ensures rows { OnOk result (HandsOverAll (trellis_of window.now) (S.spelling (S.kind sink.old)) (S.text sink.old)
+        (S.text sink.new)) }
+    ensures memory { IsErrOf result BridgeFault.Memory
+        → HandsOverSome (trellis_of window.now) (S.spelling (S.kind sink.old)) (S.text sink.old) (S.text sink.new) }
+    ensures sink { IsErrOf result BridgeFault.Sink
+        → HandsOverUpTo (trellis_of window.now) (S.spelling (S.kind sink.old)) (S.text sink.old) (S.text sink.new) }
     ensures refused { IsErrOf result BridgeFault.Sink ↔ (S.has_refused sink.new ≡ true) }
     ensures rows_left { OnOk result (S.rows_left sink.new + (window.now.levels + 1) ≡ S.rows_left sink.old) }
     ensures row_length { S.row_length sink.new ≡ S.row_length sink.old }

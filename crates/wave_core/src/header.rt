@@ -59,9 +59,11 @@ impl WaveSpec {
     /// Appends the bytes before the samples of so many frames. Refusals as of [`push_header`].
     #[tactic(auto, unfolding(crate::specs::Texts::header))]
     pub fn push_header(&self, out: &mut Vec<u8>, frames: u64) -> Result<(), WaveFault>
-        ensures ok { OnOk result (out.new.items ≡ out.old.items ++ header self.now.channels self.now.rate self.now.width frames) }
+        ensures ok { OnOk result (out.new.items
+            ≡ out.old.items ++ header self.now.channels self.now.rate self.now.width frames) }
         ensures fits { OnOk result (FitsRiff self.now.channels self.now.width frames) }
-        ensures too_large { (result ≡ Err WaveFault.TooLarge) ↔ (2 ^ 32 ≤ riff_size self.now.channels self.now.width frames) }
+        ensures too_large { (result ≡ Err WaveFault.TooLarge)
+            ↔ (2 ^ 32 ≤ riff_size self.now.channels self.now.width frames) }
         ensures unchanged { OnErr result (out.new.items ≡ out.old.items) }
     {
         let Some(sizes) = sizes_of(self, frames) else {
@@ -122,7 +124,8 @@ fn push_riff_head(out: &mut Vec<u8>, riff_size: u32) -> Result<(), AllocError>
 
 // Appends the format chunk.
 fn push_format(out: &mut Vec<u8>, spec: &WaveSpec) -> Result<(), AllocError>
-    ensures { OnOk result (out.new.items ≡ out.old.items ++ format_chunk spec.now.channels spec.now.rate spec.now.width) }
+    ensures { OnOk result (out.new.items
+        ≡ out.old.items ++ format_chunk spec.now.channels spec.now.rate spec.now.width) }
 {
     let block_align = spec.block_align();
     out.extend_from_slice(b"fmt ")?;

@@ -36,7 +36,8 @@ pub fn push_frames(
     requires width { IsWidth width }
     requires values { All (IsSample width) samples.now }
     requires frames { 1 ≤ frames }
-    ensures ok { OnOk result (out.new.items ≡ out.old.items ++ flat_map (sample_bytes width) (frames_of samples.now frames)) }
+    ensures ok { OnOk result (out.new.items
+        ≡ out.old.items ++ flat_map (sample_bytes width) (frames_of samples.now frames)) }
     ensures unchanged { OnErr result (out.new.items ≡ out.old.items) }
 {
     let before = out.len();
@@ -122,8 +123,10 @@ fn put_sample(to: &mut [u8], width: u32, place: usize, value: i32)
     requires width { IsWidth width }
     requires value { IsSample width value }
     requires inside { place * (width / 8) + width / 8 ≤ length to.old }
-    ensures own { (k : ℕ) → k < width / 8 → slice_index to.new (place * (width / 8) + k) ≡ slice_index (sample_bytes width value) k }
-    ensures others { (p k : ℕ) → p ≢ place → k < width / 8 → slice_index to.new (p * (width / 8) + k) ≡ slice_index to.old (p * (width / 8) + k) }
+    ensures own { (k : ℕ) → k < width / 8 → slice_index to.new (place * (width / 8) + k)
+        ≡ slice_index (sample_bytes width value) k }
+    ensures others { (p k : ℕ) → p ≢ place → k < width / 8
+        → slice_index to.new (p * (width / 8) + k) ≡ slice_index to.old (p * (width / 8) + k) }
 {
     let [low, middle, high, _] = value.to_le_bytes();
     if width == 16 {

@@ -7,7 +7,7 @@ use Rattle.std.proofs.lemmas.List.{nil_from_length, take-append-le, take_min}
 use Rattle.std.proofs.Math.Seq.{take-append-add}
 use Rattle.device_core.specs.Inlets.{inlet_given, inlet_reader}
 use Rattle.device_core.specs.declared.inlet.Inlet.{Inlet}
-use Rattle.sound_core.specs.Reads.{Gives, Reads}
+use Rattle.sound_core.specs.Reads.{GivesBytes, Reads}
 
 pub reads_none : {R : Type 0} (left : R → Option (List ℕ)) (inlet : Inlet R) → Reads left inlet inlet []
 reads_none left inlet = record { consumed = Consumes-nil (left (inlet_reader inlet)); given = omega arith }
@@ -31,7 +31,7 @@ at_end left a b c xs ys Q p q none end holds =
     Consumes-whole (left (inlet_reader a)) (left (inlet_reader c)) (xs ++ ys) Q (reads_on left a b c xs ys p q).consumed end (subst Q (sym same) holds)
 
 -- what was given
-pub gives_read : {R : Type 0} (left : R → Option (List ℕ)) (i j : Inlet R) (n : ℕ) (xs : List ℕ) → Reads left i j xs → n ≡ inlet_given j → Gives (left (inlet_reader i)) (inlet_given i) n xs
+pub gives_read : {R : Type 0} (left : R → Option (List ℕ)) (i j : Inlet R) (n : ℕ) (xs : List ℕ) → Reads left i j xs → n ≡ inlet_given j → GivesBytes (left (inlet_reader i)) (inlet_given i) n xs
 gives_read left i j n xs reads same = record { begins = by (left (inlet_reader i)) (left (inlet_reader j)) reads.consumed; given = same ∙ reads.given }
   where
     by : (o m : Option (List ℕ)) → Consumes o m xs → IfSome o (λ ys. (rest : List ℕ) × (ys ≡ xs ++ rest))

@@ -31,7 +31,7 @@ use Rattle.dsf_core.proofs.FrontLaws as blocks
 use Rattle.dsf_core.proofs.ToldLaws as blocks_told
 use Rattle.sound_core.specs.Files.{GivesNone, HoldsRecording, IsAccepted, IsBeforeSound, TellsSound}
 use Rattle.sound_core.specs.Laws.{OneSoundIsTold}
-use Rattle.sound_core.specs.Reads.{Gives, Reads}
+use Rattle.sound_core.specs.Reads.{GivesBytes, Reads}
 use Rattle.sound_core.proofs.HeadLaws.{IsFound, dsdiff_found, dsf_found, never_found, other_head, told_found}
 use Rattle.sound_core.proofs.ReadLaws.{gives_read}
 
@@ -217,7 +217,7 @@ before_first front none = λ rest t accepted tells. let e : length front ≡ 0 =
 pub gives_none : {R : Type 0} (left : R → Option (List ℕ)) (i j : Inlet R) (n : ℕ) (front : List ℕ) → Reads left i j front → IsBeforeSound front → n ≡ inlet_given j → GivesNone (left (inlet_reader i)) (inlet_given i) n
 gives_none left i j n front reads before same = by (left (inlet_reader i)) (gives_read left i j n front reads same)
   where
-    by : (o : Option (List ℕ)) → Gives o (inlet_given i) n front → GivesNone o (inlet_given i) n
+    by : (o : Option (List ℕ)) → GivesBytes o (inlet_given i) n front → GivesNone o (inlet_given i) n
     by None gives = tt
     by (Some xs) gives = λ s accepted tells.
         let start = gives.begins in

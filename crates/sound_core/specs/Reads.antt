@@ -16,7 +16,7 @@ pub record Reads {R : Type 0} (left : R → Option (List ℕ)) (old new : Inlet 
   pub given : inlet_given new ≡ inlet_given old + length bytes
 
 -- these bytes were read of those that are left, and counted
-pub record Gives (left_old : Option (List ℕ)) (given_old given_new : ℕ) (read : List ℕ) : Type 0 where
+pub record GivesBytes (left_old : Option (List ℕ)) (given_old given_new : ℕ) (read : List ℕ) : Type 0 where
   pub begins : IfSome left_old (λ left. (rest : List ℕ) × (left ≡ read ++ rest))
   pub given : given_new ≡ given_old + length read
 

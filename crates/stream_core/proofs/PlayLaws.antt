@@ -19,7 +19,7 @@ use Rattle.sound_core.specs.Closing.{Closes}
 use Rattle.sound_core.specs.Faults.{IsFromOutside}
 use Rattle.sound_core.specs.Files.{HoldsRecording, IsAccepted, IsFrontFault, IsRefused, TellsSound}
 use Rattle.stream_core.specs.Pieces.{IsSoundFault, PlaysFront, PlaysSound}
-use Rattle.stream_core.specs.Playing.{OnlyFromOutside, PlaysBy, PlaysFile, PlaysGiven, PlaysRead, Stands, WritesFront}
+use Rattle.stream_core.specs.Playing.{OnlyFromOutside, PlaysBehind, PlaysBy, PlaysFile, PlaysGiven, PlaysRead, Stands, WritesFront}
 use Rattle.sound_core.specs.Reads.{Reads}
 use Rattle.stream_core.specs.Wave.{OpensWave, file_size, header_of, pad_of}
 use Rattle.sound_core.specs.declared.fault.StreamFault.{StreamFault}
@@ -68,13 +68,13 @@ module _ (law : SoundIsPlayed) (d : Decimator) (front : List ℕ) (s : Sound) (t
       same e = cc
 
   -- ---- refusals, one after the other
-  pub header_part : (left a b : Option (List ℕ)) → AppendsFront a b (header_of d s) → WritesFront left d front a b
+  pub header_part : (left a b : Option (List ℕ)) → AppendsFront a b (header_of d s) → WritesFront left (PlaysBehind d front) a b
   header_part None a b out = tt
   header_part (Some xs) a b out = λ bytes plays.
       let text = text_of xs bytes plays in
       subst (AppendsFront a b) (sym text.is) (front_more a b (header_of d s) (all_bytes d s (take s.size (ahead ++ xs)) ++ pad_of d s) out)
 
-  pub sound_part : (left a b c : Option (List ℕ)) → Appends a b (header_of d s) → PlaysFront left d s ahead b c → WritesFront left d front a c
+  pub sound_part : (left a b c : Option (List ℕ)) → Appends a b (header_of d s) → PlaysFront left d s ahead b c → WritesFront left (PlaysBehind d front) a c
   sound_part None a b c opens out = tt
   sound_part (Some xs) a b c opens out = λ bytes plays.
       let text = text_of xs bytes plays in
@@ -122,10 +122,10 @@ module _ (law : SoundIsPlayed) (d : Decimator) (front : List ℕ) (s : Sound) (t
     written = Appends-trans a b c (header_of d s) (all_bytes d s played.sound) opens.written played.written
 
     -- all but the pad was written, and a front of it
-    pub pad_part : (e : Option (List ℕ)) → AppendsFront c e (pad_of d s) → WritesFront (left (inlet_reader i)) d front a e
+    pub pad_part : (e : Option (List ℕ)) → AppendsFront c e (pad_of d s) → WritesFront (left (inlet_reader i)) (PlaysBehind d front) a e
     pad_part e out = by (left (inlet_reader i)) refl
       where
-        by : (o : Option (List ℕ)) → left (inlet_reader i) ≡ o → WritesFront o d front a e
+        by : (o : Option (List ℕ)) → left (inlet_reader i) ≡ o → WritesFront o (PlaysBehind d front) a e
         by None known = tt
         by (Some xs) known = λ bytes plays.
             let text = text_of xs bytes plays in
@@ -180,21 +180,21 @@ module _ (law : SoundIsPlayed) (d : Decimator) (front : List ℕ) (s : Sound) (t
           }
 
 -- ---- the front and what follows it
-pub none_front : (left : Option (List ℕ)) (d : Decimator) (front : List ℕ) (a : Option (List ℕ)) → WritesFront left d front a a
-none_front None d front a = tt
-none_front (Some xs) d front a = λ bytes plays. front_nil a bytes
+pub none_front : (left : Option (List ℕ)) (Plays : List ℕ → List ℕ → Type 0) (a : Option (List ℕ)) → WritesFront left Plays a a
+none_front None Plays a = tt
+none_front (Some file) Plays a = λ bytes plays. front_nil a bytes
 
-pub none_written : {X E : Type 0} (r : Result X E) (left : Option (List ℕ)) (d : Decimator) (front : List ℕ) (a : Option (List ℕ)) → OnErr r (WritesFront left d front a a)
-none_written r left d front a = any_err r (none_front left d front a)
+pub none_written : {X E : Type 0} (r : Result X E) (left : Option (List ℕ)) (Plays : List ℕ → List ℕ → Type 0) (a : Option (List ℕ)) → OnErr r (WritesFront left Plays a a)
+none_written r left Plays a = any_err r (none_front left Plays a)
 
 module _ {R : Type 0} (left : R → Option (List ℕ)) (i j k : Inlet R) (d : Decimator) (front bytes : List ℕ) (is : bytes ≡ front) (a e : Option (List ℕ)) (before : Reads left i j front) where
-  pub plays_given : (n : ℕ) → PlaysRead left j k d bytes a e n → PlaysGiven left i k d a e n
+  pub plays_given : (n : ℕ) → PlaysRead left j k d bytes a e n → PlaysGiven left i k (PlaysBy d) a e n
   plays_given n played = (front ++ played.read, played.bytes, reads_on left i j k front played.read before played.reads, subst (λ xs. PlaysBy d (xs ++ played.read) played.bytes) is played.plays, played.size, played.written)
 
-  pub plays_file : (n : ℕ) → PlaysRead left j k d bytes a e n → PlaysFile (left (inlet_reader i)) d a e n
+  pub plays_file : (n : ℕ) → PlaysRead left j k d bytes a e n → PlaysFile (left (inlet_reader i)) (PlaysBy d) a e n
   plays_file n played = by (left (inlet_reader i)) (left (inlet_reader k)) refl (reads_on left i j k front played.read before played.reads).consumed
     where
-      by : (o m : Option (List ℕ)) → left (inlet_reader k) ≡ m → Consumes o m (front ++ played.read) → PlaysFile o d a e n
+      by : (o m : Option (List ℕ)) → left (inlet_reader k) ≡ m → Consumes o m (front ++ played.read) → PlaysFile o (PlaysBy d) a e n
       by None m known h = tt
       by (Some xs) None known h = absurd h
       by (Some xs) (Some rest) known h =

@@ -9,7 +9,7 @@ use Rattle.player_core.specs.PlayerView.{IsFed, filter_of, sound_of}
 use Rattle.player_core.specs.declared.player.Player.{Player}
 use Rattle.wave_core.specs.Sizes.{block_align, header_size}
 use Rattle.sound_core.specs.Files.{TellsSound}
-use Rattle.sound_core.specs.Reads.{Gives}
+use Rattle.sound_core.specs.Reads.{GivesBytes}
 use Rattle.stream_core.specs.Playing.{PlaysBy}
 
 -- how many bytes of the sound stand among so many first bytes of its file
@@ -40,7 +40,7 @@ KeepsUp left_old d front given held_old held_new = IfSome left_old (λ left. (by
 pub record PlaysGivenPart (left_old : Option (List ℕ)) (given_old given_new : ℕ) (p : Player) (wanted : ℕ) (held_old held_new : Option (List ℕ)) : Type 0 where
   pub part : List ℕ
   pub more : List ℕ
-  pub gives : Gives left_old given_old given_new part
+  pub gives : GivesBytes left_old given_old given_new part
   pub few : length part ≤ wanted
   pub written : Appends held_old held_new more
   pub due : (before : List ℕ) → IsFed p before → due_bytes (filter_of p) (sound_of p) (before ++ part) ≡ due_bytes (filter_of p) (sound_of p) before ++ more
@@ -48,5 +48,5 @@ pub record PlaysGivenPart (left_old : Option (List ℕ)) (given_old given_new : 
 -- what was read of the sound, which begins with bytes that were read before, was played
 pub record PlaysGivenSound (left_old : Option (List ℕ)) (given_old given_new : ℕ) (d : Decimator) (s : Sound) (ahead : List ℕ) (held_old held_new : Option (List ℕ)) : Type 0 where
   pub read : List ℕ
-  pub gives : Gives left_old given_old given_new read
+  pub gives : GivesBytes left_old given_old given_new read
   pub written : Appends held_old held_new (due_bytes d s (take s.size (ahead ++ read)))

@@ -63,17 +63,23 @@ pub record PlaysRead {R : Type 0} (left : R → Option (List ℕ)) (old new : In
   pub size : n ≡ length bytes
   pub written : Appends held_old held_new bytes
 
+-- the same of a file that begins with bytes that were read before
+abbrev pub PlaysBehind : Decimator → List ℕ → List ℕ → List ℕ → Type 0
+PlaysBehind d front left bytes = PlaysBy d (front ++ left) bytes
+
+-- ---- whatever it is that says what a file plays
+
 -- whatever file stands there, so many bytes were written, those that it plays
-abbrev pub PlaysFile : Option (List ℕ) → Decimator → Option (List ℕ) → Option (List ℕ) → ℕ → Type 0
-PlaysFile left_old d held_old held_new n = IfSome left_old (λ file. (bytes : List ℕ) × PlaysBy d file bytes × (n ≡ length bytes) × Appends held_old held_new bytes)
+abbrev pub PlaysFile : Option (List ℕ) → (List ℕ → List ℕ → Type 0) → Option (List ℕ) → Option (List ℕ) → ℕ → Type 0
+PlaysFile left Plays held_old held_new n = IfSome left (λ file. (bytes : List ℕ) × Plays file bytes × (n ≡ length bytes) × Appends held_old held_new bytes)
 
 -- a reader that does not tell its bytes gave some, and what they play was written
-abbrev pub PlaysGiven : {R : Type 0} → (R → Option (List ℕ)) → Inlet R → Inlet R → Decimator → Option (List ℕ) → Option (List ℕ) → ℕ → Type 0
-PlaysGiven left old new d held_old held_new n = (read : List ℕ) × (bytes : List ℕ) × Reads left old new read × PlaysBy d read bytes × (n ≡ length bytes) × Appends held_old held_new bytes
+abbrev pub PlaysGiven : {R : Type 0} → (R → Option (List ℕ)) → Inlet R → Inlet R → (List ℕ → List ℕ → Type 0) → Option (List ℕ) → Option (List ℕ) → ℕ → Type 0
+PlaysGiven left old new Plays held_old held_new n = (read : List ℕ) × (bytes : List ℕ) × Reads left old new read × Plays read bytes × (n ≡ length bytes) × Appends held_old held_new bytes
 
--- whatever these bytes and those that are left play, a front of it was written
-abbrev pub WritesFront : Option (List ℕ) → Decimator → List ℕ → Option (List ℕ) → Option (List ℕ) → Type 0
-WritesFront left_old d front held_old held_new = IfSome left_old (λ left. (bytes : List ℕ) → PlaysBy d (front ++ left) bytes → AppendsFront held_old held_new bytes)
+-- whatever it plays, a front of that was written
+abbrev pub WritesFront : Option (List ℕ) → (List ℕ → List ℕ → Type 0) → Option (List ℕ) → Option (List ℕ) → Type 0
+WritesFront left Plays held_old held_new = IfSome left (λ file. (bytes : List ℕ) → Plays file bytes → AppendsFront held_old held_new bytes)
 
 -- a file that is played is refused for memory, a device or the number of reads alone
 abbrev pub OnlyFromOutside : Option (List ℕ) → Decimator → StreamFault → Type 0

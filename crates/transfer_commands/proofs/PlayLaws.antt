@@ -2,7 +2,8 @@
 use Rattle.std.proofs.Common.{◌≡◌, ◌⊎◌, ℕ, inl, inr, List, [], ◌++◌, Option, None, Some, Result, Ok, Err, length, subst, ap, ◌∙◌}
 use Rattle.transfer_core.specs.Playing.{Plays}
 use Rattle.transfer_core.specs.declared.fault.Fault as calls
-use Rattle.transfer_core.specs.Streaming.{IsBeforeWriting, OnlyFromOutside, PlaysFile, StreamStands, WritesFront}
+use Rattle.stream_core.specs.Playing.{PlaysFile, WritesFront}
+use Rattle.transfer_core.specs.Streaming.{IsBeforeWriting, OnlyFromOutside, StreamStands}
 use Rattle.device_core.specs.Outlets.{AppendsFront}
 use Rattle.folder_core.specs.Files.{Files, IsGiven, KeepsOthers}
 use Rattle.transfer_commands.specs.Playing.{EndsPlaying, LeavesFront, PlayComesTo, PlayedComesTo}
@@ -12,16 +13,16 @@ use Rattle.transfer_commands.specs.declared.fault.CommandFault.TheVariants.{Call
 -- ---- a file that is played
 -- all of it was written, and stands there
 pub played : (project output : List ℕ) (old new : Files) (remaining held written : Option (List ℕ)) → KeepsOthers output old new → new output ≡ written
-    → (n : ℕ) → PlaysFile remaining project held written n → PlayedComesTo project remaining held output old new (Ok n)
-played project output old new remaining held written others stands n plays = λ file left empty. (others, by written (subst (λ o. PlaysFile o project (Some []) written n) left (subst (λ o. PlaysFile remaining project o written n) empty plays)) stands)
+    → (n : ℕ) → PlaysFile remaining (Plays project) held written n → PlayedComesTo project remaining held output old new (Ok n)
+played project output old new remaining held written others stands n plays = λ file left empty. (others, by written (subst (λ o. PlaysFile o (Plays project) (Some []) written n) left (subst (λ o. PlaysFile remaining (Plays project) o written n) empty plays)) stands)
   where
-    by : {file : List ℕ} (w : Option (List ℕ)) → PlaysFile (Some file) project (Some []) w n → new output ≡ w → (bytes : List ℕ) × (new output ≡ Some bytes) × Plays project file bytes × (n ≡ length bytes)
+    by : {file : List ℕ} (w : Option (List ℕ)) → PlaysFile (Some file) (Plays project) (Some []) w n → new output ≡ w → (bytes : List ℕ) × (new output ≡ Some bytes) × Plays project file bytes × (n ≡ length bytes)
     by None h stands = absurd h.3
     by (Some w) h stands = (h.0, stands ∙ ap (λ xs. Some xs) h.3, h.1, h.2)
 
 -- a fault ended it, and what was written stands there, or what stood there
 pub ended : (project output : List ℕ) (old new : Files) (remaining held written : Option (List ℕ)) → KeepsOthers output old new → (new output ≡ old output) ⊎ (new output ≡ written)
-    → (fault : calls.Fault) → StreamStands remaining project fault → OnlyFromOutside remaining project fault → WritesFront remaining project held written → (IsBeforeWriting fault → written ≡ held)
+    → (fault : calls.Fault) → StreamStands remaining project fault → OnlyFromOutside remaining project fault → WritesFront remaining (Plays project) held written → (IsBeforeWriting fault → written ≡ held)
     → (file : List ℕ) → remaining ≡ Some file → held ≡ Some [] → EndsPlaying project file output old new fault
 ended project output old new remaining held written others stays fault stands outside front unwritten file left empty = record {
   stands = subst (λ o. StreamStands o project fault) left stands;
@@ -30,14 +31,14 @@ ended project output old new remaining held written others stays fault stands ou
   others = others;
 }
   where
-    own : WritesFront (Some file) project (Some []) written
-    own = subst (λ o. WritesFront o project (Some []) written) left (subst (λ o. WritesFront remaining project o written) empty front)
+    own : WritesFront (Some file) (Plays project) (Some []) written
+    own = subst (λ o. WritesFront o (Plays project) (Some []) written) left (subst (λ o. WritesFront remaining (Plays project) o written) empty front)
 
     front_of : (w : Option (List ℕ)) (bytes : List ℕ) → new output ≡ w → AppendsFront (Some []) w bytes → (front : List ℕ) × (back : List ℕ) × (new output ≡ Some front) × (bytes ≡ front ++ back)
     front_of None bytes is h = absurd h.3
     front_of (Some w) bytes is h = (h.0, h.1, is ∙ ap (λ xs. Some xs) h.3, h.2)
 
-    rest : (w : Option (List ℕ)) → WritesFront (Some file) project (Some []) w → (IsBeforeWriting fault → w ≡ Some []) → new output ≡ w → LeavesFront project file fault (old output) (new output)
+    rest : (w : Option (List ℕ)) → WritesFront (Some file) (Plays project) (Some []) w → (IsBeforeWriting fault → w ≡ Some []) → new output ≡ w → LeavesFront project file fault (old output) (new output)
     rest w h none is = inr (λ bytes plays. front_of w bytes is (h bytes plays), λ before. is ∙ none before)
 
     by : (new output ≡ old output) ⊎ (new output ≡ written) → LeavesFront project file fault (old output) (new output)

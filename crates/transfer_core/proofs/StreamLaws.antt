@@ -10,7 +10,7 @@ use Rattle.sound_core.specs.Files.{HoldsRecording}
 use Rattle.stream_core.specs.Pace as pace
 use Rattle.stream_core.specs.Pace.{WritesFrames, sound_given}
 use Rattle.stream_core.specs.Playing as streams
-use Rattle.stream_core.specs.Playing.{PlaysBy}
+use Rattle.stream_core.specs.Playing.{PlaysBy, PlaysFile, PlaysGiven, WritesFront}
 use Rattle.sound_core.specs.declared.fault.StreamFault.{StreamFault}
 use Rattle.sound_core.specs.declared.fault.StreamFault.TheVariants as faults
 use Rattle.form_core.specs.declared.form.Form.{Form}
@@ -23,8 +23,7 @@ use Rattle.transfer_core.specs.Faults.{fault_of_stream}
 use Rattle.transfer_core.specs.Playing.{Plays}
 use Rattle.transfer_core.specs.Projects.{SaysDecimator, decimator_of}
 use Rattle.transfer_core.proofs.ReadingLaws.{says_decimator}
-use Rattle.stream_core.proofs.PieceLaws.{front_nil}
-use Rattle.transfer_core.specs.Streaming.{IsFromOutside, KeepsUp, OnlyFromOutside, PlaysFile, PlaysGiven, StopsReading, StreamStands, WritesFront}
+use Rattle.transfer_core.specs.Streaming.{IsFromOutside, KeepsUp, OnlyFromOutside, StopsReading, StreamStands}
 
 -- ---- the form of a file
 form_held : (file : List ℕ) (r : Content) → HoldsRecording file r → (form : Form) × HoldsAs file form r
@@ -51,11 +50,11 @@ module _ (project : List ℕ) (d : Decimator) (says : SaysDecimator project d) w
         text = by.text;
       }
 
-  pub plays_file : (left a b : Option (List ℕ)) (n : ℕ) → streams.PlaysFile left d a b n → PlaysFile left project a b n
+  pub plays_file : (left a b : Option (List ℕ)) (n : ℕ) → PlaysFile left (PlaysBy d) a b n → PlaysFile left (Plays project) a b n
   plays_file None a b n h = tt
   plays_file (Some file) a b n h = (h.0, plays file h.0 h.1, h.2, h.3)
 
-  pub plays_given : {R : Type 0} (left : R → Option (List ℕ)) (old new : Inlet R) (a b : Option (List ℕ)) (n : ℕ) → streams.PlaysGiven left old new d a b n → PlaysGiven left old new project a b n
+  pub plays_given : {R : Type 0} (left : R → Option (List ℕ)) (old new : Inlet R) (a b : Option (List ℕ)) (n : ℕ) → PlaysGiven left old new (PlaysBy d) a b n → PlaysGiven left old new (Plays project) a b n
   plays_given left old new a b n h = (h.0, h.1, h.2, plays h.0 h.1 h.3, h.4, h.5)
 
   pub stands : (left : Option (List ℕ)) (f : StreamFault) → IfSome left (λ file. streams.Stands d file f) → StreamStands left project (fault_of_stream f)
@@ -100,7 +99,7 @@ module _ (project : List ℕ) (d : Decimator) (is_said : decimator_of project �
       told faults.TurnLimit h = tt
       told faults.Memory h = tt
 
-  pub writes_front : (left a b : Option (List ℕ)) → streams.WritesFront left d [] a b → WritesFront left project a b
+  pub writes_front : (left a b : Option (List ℕ)) → WritesFront left (PlaysBy d) a b → WritesFront left (Plays project) a b
   writes_front None a b h = tt
   writes_front (Some file) a b h = λ bytes is. h bytes (played file bytes is)
 
@@ -127,7 +126,3 @@ pub project_outside : (left : Option (List ℕ)) (project : List ℕ) (e : Fault
 project_outside None project e h = tt
 project_outside (Some file) project e (inl is) = λ bytes plays. rw is tt
 project_outside (Some file) project e (inr is) = λ bytes plays. let says = says_decimator project plays.decimator plays.project_says in absurd cc
-
-pub nothing_written : (left : Option (List ℕ)) (project : List ℕ) (a : Option (List ℕ)) → WritesFront left project a a
-nothing_written None project a = tt
-nothing_written (Some file) project a = λ bytes is. front_nil a bytes

@@ -17,18 +17,6 @@ use Rattle.transfer_core.specs.declared.fault.Fault.TheVariants.{Project, NoDeci
 use Rattle.transfer_core.specs.Playing.{Plays}
 use Rattle.transfer_core.specs.Projects.{SaysDecimator, decimator_of}
 
--- whatever file stands there, so many bytes were written, those that project and file play
-abbrev pub PlaysFile : Option (List ℕ) → List ℕ → Option (List ℕ) → Option (List ℕ) → ℕ → Type 0
-PlaysFile left project held_old held_new n = IfSome left (λ file. (bytes : List ℕ) × Plays project file bytes × (n ≡ length bytes) × Appends held_old held_new bytes)
-
--- a reader that does not tell its bytes gave some, and what they play was written
-abbrev pub PlaysGiven : {R : Type 0} → (R → Option (List ℕ)) → Inlet R → Inlet R → List ℕ → Option (List ℕ) → Option (List ℕ) → ℕ → Type 0
-PlaysGiven left old new project held_old held_new n = (read : List ℕ) × (bytes : List ℕ) × Reads left old new read × Plays project read bytes × (n ≡ length bytes) × Appends held_old held_new bytes
-
--- whatever project and file play, a front of it was written
-abbrev pub WritesFront : Option (List ℕ) → List ℕ → Option (List ℕ) → Option (List ℕ) → Type 0
-WritesFront left project held_old held_new = IfSome left (λ file. (bytes : List ℕ) → Plays project file bytes → AppendsFront held_old held_new bytes)
-
 -- a file that is played is refused for memory, a device or the number of reads alone
 abbrev pub IsFromOutside : Fault → Type 0
 IsFromOutside ReadFailed = ⊤

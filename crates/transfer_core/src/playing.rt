@@ -5,7 +5,8 @@ ghost use Rattle.device_core.specs.Inlets.{inlet_failures, inlet_given, inlet_re
 ghost use Rattle.device_core.specs.Outlets.{outlet_failures, outlet_writer};
 ghost use Rattle.transfer_core.specs.Playing.{Plays, played_of};
 ghost use Rattle.form_core.specs.Steps.{Gives};
-ghost use Rattle.transfer_core.specs.Streaming.{IsBeforeWriting, KeepsUp, OnlyFromOutside, PlaysFile, PlaysGiven, SaysNone, StopsReading, StreamStands, WritesFront, failed_reads, failed_writes};
+ghost use Rattle.transfer_core.specs.Streaming.{IsBeforeWriting, KeepsUp, OnlyFromOutside, SaysNone, StopsReading, StreamStands, failed_reads, failed_writes};
+ghost use Rattle.stream_core.specs.Playing.{PlaysFile, PlaysGiven, WritesFront};
 
 use crate::fault::Fault;
 use crate::projects::decimator_of;
@@ -63,14 +64,14 @@ pub fn play_stream<R: Read, W: Write>(
     requires reads_low { inlet_reads inlet.old < 2 ^ 63 }
     requires given_low { inlet_given inlet.old < 2 ^ 63 }
     // What project and file play was written, however the reads are cut.
-    ensures ok { IfOk result (PlaysFile (R.remaining (inlet_reader inlet.old)) project.now
+    ensures ok { IfOk result (PlaysFile (R.remaining (inlet_reader inlet.old)) (Plays project.now)
         (W.contents (outlet_writer outlet.old)) (W.contents (outlet_writer outlet.new))) }
     // The same of what was read, where the reader doesn't tell its bytes.
-    ensures any_reader { IfOk result (PlaysGiven R.remaining inlet.old inlet.new project.now
+    ensures any_reader { IfOk result (PlaysGiven R.remaining inlet.old inlet.new (Plays project.now)
         (W.contents (outlet_writer outlet.old)) (W.contents (outlet_writer outlet.new))) }
     // What is played is refused from outside alone, and a front of it was written.
     ensures cause { IfErr result (OnlyFromOutside (R.remaining (inlet_reader inlet.old)) project.now) }
-    ensures front { OnErr result (WritesFront (R.remaining (inlet_reader inlet.old)) project.now
+    ensures front { OnErr result (WritesFront (R.remaining (inlet_reader inlet.old)) (Plays project.now)
         (W.contents (outlet_writer outlet.old)) (W.contents (outlet_writer outlet.new))) }
     // Where the reading stops, what was written lags behind by at most 131,072 bytes of the one sound that the
     // file tells of.

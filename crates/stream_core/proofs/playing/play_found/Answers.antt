@@ -5,7 +5,7 @@ use Rattle.device_core.specs.Outlets.{outlet_writer}
 use Rattle.sound_core.specs.Closing.{Closes, EndsAt}
 use Rattle.stream_core.specs.Pace.{PlaysGivenSound}
 use Rattle.stream_core.specs.Pieces.{IsSoundFault, PlaysFront, PlaysSound}
-use Rattle.stream_core.specs.Playing.{WritesFront}
+use Rattle.stream_core.specs.Playing.{PlaysBehind, WritesFront}
 use Rattle.stream_core.specs.Wave.{pad_of}
 use Rattle.sound_core.proofs.ClosingLaws.{ends_at}
 use Rattle.stream_core.proofs.PaceLaws.{keeps_all, keeps_part}
@@ -54,7 +54,7 @@ played_is g c =
     subst (λ xs. PlaysSound g.R.Read.remaining c.args.reader.now.inlet.now c.play_sound.new.reader.inlet.now c.args.taps.now c.args.sound.now xs c.play_sound.new.reader.ahead.now.items (g.W.Write.contents (outlet_writer c.put_header.new.outlet)) (g.W.Write.contents (outlet_writer c.play_sound.new.outlet))) c.in_ok-head.ensures.rest (rw c.take_head.ensures.untouched at c.in_ok-play_sound.ensures.ok)
 
 -- all but the pad was written
-whole_is : (g : Over) (c : In_ok-play_sound g) → WritesFront (g.R.Read.remaining (inlet_reader c.args.reader.now.inlet.now)) c.args.taps.now c.args.reader.now.ahead.now.items (g.W.Write.contents (outlet_writer c.args.outlet.now)) (g.W.Write.contents (outlet_writer c.play_sound.new.outlet))
+whole_is : (g : Over) (c : In_ok-play_sound g) → WritesFront (g.R.Read.remaining (inlet_reader c.args.reader.now.inlet.now)) (PlaysBehind c.args.taps.now c.args.reader.now.ahead.now.items) (g.W.Write.contents (outlet_writer c.args.outlet.now)) (g.W.Write.contents (outlet_writer c.play_sound.new.outlet))
 whole_is g c = pad_part c.sound_is_played.ensures c.args.taps.now c.args.reader.now.ahead.now.items c.args.sound.now c.requires.tells g.R.Read.remaining _ _ _ _ _ _ c.in_ok-put_header.ensures.ok (played_is g c) _ (front_nil (g.W.Write.contents (outlet_writer c.play_sound.new.outlet)) (pad_of c.args.taps.now c.args.sound.now))
 
 pub closes-requires-clause-given : goal.closes-requires-clause-given

@@ -1,5 +1,7 @@
 use Rattle.std.proofs.Common.{◌≡◌, ◌∙◌, ◌⊎◌, subst, ap}
-use Rattle.transfer_core.specs.Streaming.{OnlyFromOutside, PlaysFile, StreamStands, WritesFront}
+use Rattle.transfer_core.specs.Playing.{Plays}
+use Rattle.stream_core.specs.Playing.{PlaysFile, WritesFront}
+use Rattle.transfer_core.specs.Streaming.{OnlyFromOutside, StreamStands}
 use Rattle.device_core.specs.Inlets.{inlet_reader}
 use Rattle.device_core.specs.Outlets.{outlet_writer}
 use Rattle.transfer_commands.proofs.PlayLaws.{ended, played}
@@ -11,7 +13,7 @@ returns-in-Ok-keep g c =
     let written = g.F.Out.Write.contents (outlet_writer c.play_stream-played.new.outlet) in
     let left = ap g.F.In.Read.remaining c.new-inlet.ensures.reader in
     let held = ap g.F.Out.Write.contents c.new-outlet.ensures.writer in
-    let plays = subst (λ o. PlaysFile o project (g.F.Out.Write.contents c.args.wave) written c.in-Ok.count) left (subst (λ o. PlaysFile (g.F.In.Read.remaining (inlet_reader c.new-inlet.result)) project o written c.in-Ok.count) held c.in-Ok.ensures.ok) in
+    let plays = subst (λ o. PlaysFile o (Plays project) (g.F.Out.Write.contents c.args.wave) written c.in-Ok.count) left (subst (λ o. PlaysFile (g.F.In.Read.remaining (inlet_reader c.new-inlet.result)) (Plays project) o written c.in-Ok.count) held c.in-Ok.ensures.ok) in
     λ told. (let stands = subst (λ w. g.F.Folder.file c.keep.new.self c.args.output.now ≡ g.F.Out.Write.contents w) c.into_inner-wave.ensures (c.in-Ok-keep.ensures.bytes told) in
     played project c.args.output.now (g.F.Folder.file c.args.folder.now) (g.F.Folder.file c.keep.new.self) (g.F.In.Read.remaining c.args.file) (g.F.Out.Write.contents c.args.wave) written c.keep.ensures.others stands c.in-Ok.count plays)
 
@@ -24,7 +26,7 @@ returns g c =
     let held = ap g.F.Out.Write.contents c.new-outlet.ensures.writer in
     let old = g.F.Folder.file c.args.folder.now in
     let new = g.F.Folder.file c.give_up.new.self in
-    let front = subst (λ o. WritesFront o project (g.F.Out.Write.contents c.args.wave) written) left (subst (λ o. WritesFront (g.F.In.Read.remaining (inlet_reader c.new-inlet.result)) project o written) held c.in-Err.ensures.front) in
+    let front = subst (λ o. WritesFront o (Plays project) (g.F.Out.Write.contents c.args.wave) written) left (subst (λ o. WritesFront (g.F.In.Read.remaining (inlet_reader c.new-inlet.result)) (Plays project) o written) held c.in-Err.ensures.front) in
     λ told. (let stays = subst (λ w. (new c.args.output.now ≡ old c.args.output.now) ⊎ (new c.args.output.now ≡ g.F.Out.Write.contents w)) c.into_inner-wave.ensures (c.give_up.ensures.left told) in
     ended project c.args.output.now old new (g.F.In.Read.remaining c.args.file) (g.F.Out.Write.contents c.args.wave) written c.give_up.ensures.others stays
     fault (subst (λ o. StreamStands o project fault) left c.in-Err.ensures.refused) (subst (λ o. OnlyFromOutside o project fault) left c.in-Err.ensures.cause) front

@@ -2,7 +2,9 @@ use Rattle.std.proofs.lemmas.Result.{err_from_is_err_and}
 use Rattle.device_core.specs.Inlets.{inlet_reader}
 use Rattle.device_core.specs.Outlets.{outlet_writer}
 use Rattle.stream_core.proofs.PieceLaws.{any_err}
-use Rattle.transfer_core.proofs.StreamLaws.{keeps_up, nothing_written, only_outside, plays_file, plays_given, project_outside, stands, stops, writes_front}
+use Rattle.stream_core.proofs.PlayLaws.{none_written}
+use Rattle.transfer_core.specs.Playing.{Plays}
+use Rattle.transfer_core.proofs.StreamLaws.{keeps_up, only_outside, plays_file, plays_given, project_outside, stands, stops, writes_front}
 use Rattle.transfer_core.proofs.playing.play_stream.Goals as goal
 
 pub returns-in_err-taps-clause-cause : goal.returns-in_err-taps-clause-cause
@@ -11,7 +13,7 @@ returns-in_err-taps-clause-cause g c =
     rw (e.1, e.2) (project_outside (g.R.Read.remaining (inlet_reader c.args.inlet.now)) c.args.project.now c.in_err-taps.field-0.0 c.in_err-taps.ensures.exact)
 
 pub returns-in_err-taps-clause-front : goal.returns-in_err-taps-clause-front
-returns-in_err-taps-clause-front g c = any_err c.from_residual.result (nothing_written (g.R.Read.remaining (inlet_reader c.args.inlet.now)) c.args.project.now (g.W.Write.contents (outlet_writer c.args.outlet.now)))
+returns-in_err-taps-clause-front g c = none_written c.from_residual.result (g.R.Read.remaining (inlet_reader c.args.inlet.now)) (Plays c.args.project.now) (g.W.Write.contents (outlet_writer c.args.outlet.now))
 
 pub returns-in_err-play-clause-cause : goal.returns-in_err-play-clause-cause
 returns-in_err-play-clause-cause g c =

@@ -78,7 +78,7 @@ fn edit_files<F: Folder>(
     let sources = hear_sources(alloc, folder, project, MOST_KEPT)?;
     let mut planned = cut_sources(alloc, sources, form)?;
     let total = planned.total();
-    write_master(folder, &mut planned, master)?;
+    write_master(folder, &mut planned, master, cert)?;
     write_certificate(folder, planned, cert)?;
     Ok(total)
 }

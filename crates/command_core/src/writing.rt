@@ -1,6 +1,6 @@
 //! The files of a master that is planned, each created when it is written.
 
-ghost use Rattle.std.specs.Prelude.{◌≡◌, ◌⊎◌, IfErr, IsErr, IsOk, IsTrue, List, OnErr, OnOk, Some, ℕ};
+ghost use Rattle.std.specs.Prelude.{◌≡◌, ◌⊎◌, [], IfErr, IfOk, IsErr, IsOk, IsTrue, List, OnErr, OnOk, Some, ℕ};
 ghost use Rattle.archive_core.specs.Planning.{IsFileOf, IsPlanned, IsSamePlan};
 ghost use Rattle.command_core.specs.Writing.{CertifiesFront, CertifiesWhole};
 ghost use Rattle.folder_core.specs.Files.{IsFront, KeepsOthers};
@@ -8,15 +8,18 @@ ghost use Rattle.folder_core.specs.declared.fault.FileFault.TheVariants as fault
 
 use archive_core::PlannedMaster;
 use device_core::{Device, Outlet};
-use folder_core::{FileFault, Folder};
+use folder_core::{FileFault, Folder, FolderFault};
 
-/// Creates a file, writes the planned master to it and hands it back, or gives it up after a write that failed.
+/// Creates a file, writes the planned master to it and hands it back, or gives it up after a write that failed. What it
+/// takes to create the file of its certificate is held before.
 ///
-/// Refusal: `WriteFailed` where it can't be created, written or kept; it may hold a front of the master then.
+/// Refusal: `WriteFailed` where that can't be held, or the file can't be created, written or kept; it may hold a front of
+/// the master then.
 pub(crate) fn write_master<F: Folder>(
     folder: &mut F,
     planned: &mut PlannedMaster,
     name: &str,
+    cert: &str,
 ) -> Result<(), FileFault>
     requires { IsPlanned planned.old }
     ensures planned { IsPlanned planned.new }
@@ -27,7 +30,7 @@ pub(crate) fn write_master<F: Folder>(
     ensures refused { (file : List ℕ) → IsFileOf planned.old file → OnErr result (IsTrue (F.is_told folder.old) → IsFront (F.file folder.old name.now) (F.file folder.new name.now) file) }
     ensures fault { IfErr result (λ fault. fault ≡ faults.WriteFailed) }
 {
-    let Ok(made) = folder.create(name) else {
+    let Ok(made) = create_before(folder, name, cert) else {
         return Err(FileFault::WriteFailed);
     };
     let mut outlet = Outlet::new(made);
@@ -57,6 +60,16 @@ pub(crate) fn write_certificate<F: Folder>(
     };
     let (came, outlet) = planned.write_certificate(Outlet::new(made));
     hand_back(folder, name, came, outlet.into_inner())
+}
+
+// Creates a file once the memory is held that it takes to create the next.
+fn create_before<F: Folder>(folder: &mut F, name: &str, next: &str) -> Result<F::Out, FolderFault>
+    ensures same { F.file folder.new ≡ F.file folder.old }
+    ensures told { F.is_told folder.new ≡ F.is_told folder.old }
+    ensures empty { IfOk result (λ made. IsTrue (F.is_told folder.old) → F.Out.contents made ≡ Some []) }
+{
+    folder.hold(next)?;
+    folder.create(name)
 }
 
 // Hands a created file back that was written whole, and gives up one of which a write failed.

@@ -4,8 +4,8 @@ ghost use Rattle.std.specs.Prelude.{None, false};
 
 use crate::disk_file::DiskFile;
 use crate::folder::{Folder, FolderFault};
-use crate::places::{Target, is_refused_beside, target_of};
-use std::io::ErrorKind;
+use crate::places::Place;
+use std::io::{Error, ErrorKind};
 use std::os::fd::AsFd;
 use std::rt::Files;
 use std::{fs, io};
@@ -24,7 +24,15 @@ use std::{fs, io};
 pub struct Disk<'a, R: Files> {
     rt: &'a R,
     process: u32,
+    held: Option<Held>,
     wanted_memory: bool,
+}
+
+// A name, and where its file goes.
+#[derive(Drop)]
+struct Held {
+    name: String,
+    place: Place,
 }
 
 impl<'a, R: Files> Disk<'a, R> {
@@ -33,6 +41,7 @@ impl<'a, R: Files> Disk<'a, R> {
         Disk {
             rt,
             process,
+            held: None,
             wanted_memory: false,
         }
     }
@@ -41,30 +50,35 @@ impl<'a, R: Files> Disk<'a, R> {
     pub fn has_wanted_memory(&self) -> bool {
         self.wanted_memory
     }
+
+    // The fault of an error, of which is remembered whether it is want of memory.
+    fn fault_of(&mut self, error: Error) -> FolderFault {
+        self.wanted_memory |= error.kind() == ErrorKind::OutOfMemory;
+        FolderFault
+    }
 }
 
 impl<R: Files + AllocGlobal> Disk<'_, R>
 where
     R::File: AsFd,
 {
-    // A file beside the one of this name, or that one where none can be made beside it.
-    fn create_file(&self, name: &str) -> io::Result<DiskFile<R::File>> {
-        match target_of(self.rt, name) {
-            Ok(target) => self.create_at(target),
-            Err(error) if error.kind() == ErrorKind::OutOfMemory => Err(error),
-            Err(_) => Ok(DiskFile::in_place(fs::create(self.rt, name)?)),
+    fn held_of(&self, name: &str) -> io::Result<Held> {
+        let place = Place::of(self.rt, name)?;
+        let name = String::from_str(self.rt.alloc(), name)?;
+        Ok(Held { name, place })
+    }
+
+    // The place that is held for a name, or else is made for it.
+    fn place_of(&mut self, name: &str) -> io::Result<Place> {
+        match self.held.take() {
+            Some(held) if held.name.as_str() == name => Ok(held.place),
+            _ => Place::of(self.rt, name),
         }
     }
 
-    fn create_at(&self, target: Target) -> io::Result<DiskFile<R::File>> {
-        target.check_writable(self.rt)?;
-        match target.create_beside(self.rt, self.process) {
-            Ok((file, leftover)) => Ok(DiskFile::beside(file, leftover, target)),
-            Err(error) if is_refused_beside(&error) => {
-                Ok(DiskFile::in_place(fs::create(self.rt, target.path())?))
-            }
-            Err(error) => Err(error),
-        }
+    fn create_file(&mut self, name: &str) -> io::Result<DiskFile<R::File>> {
+        let place = self.place_of(name)?;
+        place.create(self.rt, name, self.process)
     }
 }
 
@@ -84,13 +98,21 @@ where
         fs::open(self.rt, name).map_err(|_| FolderFault)
     }
 
+    // Of one name at a time.
+    fn hold(&mut self, name: &str) -> Result<(), FolderFault> {
+        match self.held_of(name) {
+            Ok(held) => {
+                self.held = Some(held);
+                Ok(())
+            }
+            Err(error) => Err(self.fault_of(error)),
+        }
+    }
+
     fn create(&mut self, name: &str) -> Result<DiskFile<R::File>, FolderFault> {
         match self.create_file(name) {
             Ok(file) => Ok(file),
-            Err(error) => {
-                self.wanted_memory |= error.kind() == ErrorKind::OutOfMemory;
-                Err(FolderFault)
-            }
+            Err(error) => Err(self.fault_of(error)),
         }
     }
 

@@ -10,14 +10,14 @@ use std::{fs, io};
 /// [`keep`](crate::Folder::keep) and [`give_up`](crate::Folder::give_up).
 pub struct DiskFile<F> {
     file: F,
-    // Where it is written and what it is to replace; none where it is written as it stands.
-    place: Option<Place>,
+    // Where it is written and where it is to go; none where it is written as it stands.
+    beside: Option<Beside>,
     has_failed: bool,
 }
 
 // A path beside that of a file, and where it is to go.
 #[derive(Drop)]
-struct Place {
+struct Beside {
     leftover: String,
     target: Target,
 }
@@ -27,7 +27,7 @@ impl<F> DiskFile<F> {
     pub(crate) fn in_place(file: F) -> DiskFile<F> {
         DiskFile {
             file,
-            place: None,
+            beside: None,
             has_failed: false,
         }
     }
@@ -36,7 +36,7 @@ impl<F> DiskFile<F> {
     pub(crate) fn beside(file: F, leftover: String, target: Target) -> DiskFile<F> {
         DiskFile {
             file,
-            place: Some(Place { leftover, target }),
+            beside: Some(Beside { leftover, target }),
             has_failed: false,
         }
     }
@@ -47,10 +47,10 @@ impl<F: OpenFile + Drop> DiskFile<F> {
     pub(crate) fn put_in_place<R: Files>(self, rt: &R) -> io::Result<()> {
         let DiskFile {
             file,
-            place,
+            beside,
             has_failed,
         } = self;
-        let Some(Place { leftover, target }) = place else {
+        let Some(Beside { leftover, target }) = beside else {
             return Ok(());
         };
         let put = if has_failed {
@@ -71,8 +71,8 @@ impl<F: OpenFile + Drop> DiskFile<F> {
     }
 
     fn replaces(&self) -> bool {
-        match &self.place {
-            Some(place) => place.target.is_there(),
+        match &self.beside {
+            Some(beside) => beside.target.is_there(),
             None => false,
         }
     }

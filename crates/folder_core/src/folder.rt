@@ -38,6 +38,18 @@ pub trait Folder {
         ensures bytes { IfOk result (λ r. IsTrue (is_told self.old)
             → IsGiven (file self.old name.now) (Self.In.remaining r)) };
 
+    /// Holds the memory that it takes to create a file of this name, whenever that is. A folder that takes none, or that
+    /// fails where it is refused, holds none.
+    ///
+    /// Refusal: `FolderFault` where there is none to be held.
+    fn hold(&mut self, name: &str) -> Result<(), FolderFault>
+        ensures same { file self.new ≡ file self.old }
+        ensures told { is_told self.new ≡ is_told self.old }
+    {
+        let _ = name;
+        Ok(())
+    }
+
     /// A file without bytes, to be written and then kept under the same name.
     ///
     /// Refusal: `FolderFault` where none can be made.

@@ -1,6 +1,8 @@
 //! Where new files of the operating system go.
 
-use std::alloc::{AllocError, Global};
+use crate::disk_file::DiskFile;
+use std::alloc::AllocError;
+use std::fmt::Write;
 use std::fs::{Metadata, OpenFile, OpenOptions, Permissions};
 use std::io::{Error, ErrorKind};
 use std::os::fd::AsFd;
@@ -18,7 +20,69 @@ const MOST_LEFTOVERS: u32 = 1000;
 // Longer names don't stand in a leftover's, for a name has 255 bytes at most.
 const MOST_NAME_BYTES: usize = 200;
 
-// The place of a new file, and what is known of the file that stands there.
+// How many bytes a leftover's name has at most beside the file's own: `.`, `.dsdarc-`, ten digits, `-`, three digits.
+const MOST_ADDED_BYTES: usize = 23;
+
+// Where the file of a name goes.
+#[derive(Drop)]
+pub(crate) enum Place {
+    // To a path, each link followed, once it is written beside it; the text has room for its name there.
+    Path(PathBuf, String),
+    // Where it stands, for it is no file of a folder, or cannot be asked about.
+    AsItStands,
+}
+
+impl Place {
+    // The place of a name, and all memory that it takes to create its file. It fails only for want of that.
+    pub(crate) fn of<R: Files + AllocGlobal>(rt: &R, name: &str) -> io::Result<Place> {
+        match path_of(rt, name) {
+            Ok(path) => {
+                let room = path.as_str().len().saturating_add(MOST_ADDED_BYTES);
+                let leftover = String::with_capacity(rt.alloc(), room)?;
+                Ok(Place::Path(path, leftover))
+            }
+            Err(error) if error.kind() == ErrorKind::OutOfMemory => Err(error),
+            Err(_) => Ok(Place::AsItStands),
+        }
+    }
+
+    // A file beside the one of this name, or that one where none can be made beside it.
+    pub(crate) fn create<R: Files>(
+        self,
+        rt: &R,
+        name: &str,
+        process: u32,
+    ) -> io::Result<DiskFile<R::File>>
+    where
+        R::File: AsFd,
+    {
+        match self {
+            Place::Path(path, leftover) => create_at(rt, Target::at(rt, path)?, leftover, process),
+            Place::AsItStands => Ok(DiskFile::in_place(fs::create(rt, name)?)),
+        }
+    }
+}
+
+fn create_at<R: Files>(
+    rt: &R,
+    target: Target,
+    mut leftover: String,
+    process: u32,
+) -> io::Result<DiskFile<R::File>>
+where
+    R::File: AsFd,
+{
+    target.check_writable(rt)?;
+    match target.create_beside(rt, process, &mut leftover) {
+        Ok(file) => Ok(DiskFile::beside(file, leftover, target)),
+        Err(error) if is_refused_beside(&error) => {
+            Ok(DiskFile::in_place(fs::create(rt, target.path())?))
+        }
+        Err(error) => Err(error),
+    }
+}
+
+// Where a file is to stand, and what is known of the one that stands there.
 #[derive(Drop)]
 pub(crate) struct Target {
     path: PathBuf,
@@ -26,6 +90,17 @@ pub(crate) struct Target {
 }
 
 impl Target {
+    fn at<R: Files>(rt: &R, path: PathBuf) -> io::Result<Target> {
+        match fs::symlink_metadata(rt, path.as_str()) {
+            Ok(found) => Ok(Target {
+                path,
+                old: Some(found),
+            }),
+            Err(error) if error.kind() == ErrorKind::NotFound => Ok(Target { path, old: None }),
+            Err(error) => Err(error),
+        }
+    }
+
     pub(crate) fn path(&self) -> &str {
         self.path.as_str()
     }
@@ -45,19 +120,20 @@ impl Target {
     }
 
     // Fails where a file stands there that may not be written.
-    pub(crate) fn check_writable<R: Files>(&self, rt: &R) -> io::Result<()> {
+    fn check_writable<R: Files>(&self, rt: &R) -> io::Result<()> {
         if self.is_there() {
             OpenOptions::new().write(true).open(rt, self.path())?;
         }
         Ok(())
     }
 
-    // A new file beside it, which others may read as they may read the old one, and its path.
-    pub(crate) fn create_beside<R: Files + AllocGlobal>(
+    // A new file beside it, which others may read as they may read the old one. The text becomes its path.
+    fn create_beside<R: Files>(
         &self,
         rt: &R,
         process: u32,
-    ) -> io::Result<(R::File, String)>
+        leftover: &mut String,
+    ) -> io::Result<R::File>
     where
         R::File: AsFd,
     {
@@ -67,13 +143,13 @@ impl Target {
             how.mode(0o600);
         }
         for number in 0..MOST_LEFTOVERS {
-            let leftover = leftover_path(rt.alloc(), self.path(), process, number)?;
+            write_leftover(leftover, self.path(), process, number)?;
             match how.open(rt, leftover.as_str()) {
                 Ok(file) => {
                     if let Some(old) = &self.old {
                         hand_down(old, &file);
                     }
-                    return Ok((file, leftover));
+                    return Ok(file);
                 }
                 Err(error) if error.kind() == ErrorKind::AlreadyExists => {}
                 Err(error) => return Err(error),
@@ -84,7 +160,7 @@ impl Target {
 }
 
 // Whether no file may be made beside one, which may still be written as it stands.
-pub(crate) fn is_refused_beside(error: &Error) -> bool {
+fn is_refused_beside(error: &Error) -> bool {
     matches!(
         error.kind(),
         ErrorKind::PermissionDenied | ErrorKind::ReadOnlyFilesystem | ErrorKind::InvalidFilename
@@ -93,19 +169,14 @@ pub(crate) fn is_refused_beside(error: &Error) -> bool {
 
 // Where a file of this name goes, each link followed. It fails for want of memory, and where what stands there, or
 // cannot be asked about, is to be written as it stands.
-pub(crate) fn target_of<R: Files + AllocGlobal>(rt: &R, name: &str) -> io::Result<Target> {
+fn path_of<R: Files + AllocGlobal>(rt: &R, name: &str) -> io::Result<PathBuf> {
     let mut path = PathBuf::from_str(rt.alloc(), name)?;
     for _ in 0..MOST_LINKS {
         match fs::symlink_metadata(rt, path.as_str()) {
             Ok(found) if found.is_symlink() => follow(rt, &mut path, &found)?,
-            Ok(found) if found.is_file() => {
-                return Ok(Target {
-                    path,
-                    old: Some(found),
-                });
-            }
+            Ok(found) if found.is_file() => return Ok(path),
             Err(error) if error.kind() == ErrorKind::NotFound && is_name(path.as_str()) => {
-                return Ok(Target { path, old: None });
+                return Ok(path);
             }
             Ok(_) => break,
             Err(error) => return Err(error),
@@ -135,13 +206,13 @@ fn follow<R: Files + AllocGlobal>(rt: &R, path: &mut PathBuf, link: &Metadata) -
     Ok(())
 }
 
-// The name beside a path for a file that isn't kept yet.
-fn leftover_path(
-    alloc: Global,
+// Makes the text the name beside a path for a file that isn't kept yet. It takes memory only where the text has no room.
+fn write_leftover(
+    leftover: &mut String,
     path: &str,
     process: u32,
     number: u32,
-) -> Result<String, AllocError> {
+) -> Result<(), AllocError> {
     let (folder, slash, name) = match path.rsplit_once('/') {
         Some((folder, name)) => (folder, "/", name),
         None => ("", "", path),
@@ -151,7 +222,8 @@ fn leftover_path(
     } else {
         name
     };
-    format!(in alloc; "{folder}{slash}.{name}.dsdarc-{process}-{number}")
+    leftover.clear();
+    write!(leftover, "{folder}{slash}.{name}.dsdarc-{process}-{number}")
 }
 
 // Gives a new file the owner and the group of an old one, as far as the system lets us, and what each may do with it.

@@ -78,6 +78,10 @@ where
         })
     }
 
+    fn hold(&mut self, name: &str) -> Result<(), FolderFault> {
+        self.folder.hold(name)
+    }
+
     fn create(&mut self, name: &str) -> Result<F::Out, FolderFault> {
         self.folder.create(name)
     }

@@ -17,7 +17,7 @@ returns-clause-bytes g c = λ file is.
     let contents = g.F.Out.Write.contents in
     let outlet = c.write_master-came.new.outlet in
     file_whole file (contents (outlet_writer c.new-outlet.result)) (contents (outlet_writer outlet)) (contents c.into_inner.result) (g.F.Folder.file c.args.folder.now name) (g.F.Folder.file c.hand_back.new.folder name)
-    (g.F.Folder.is_told c.args.folder.now) (g.F.Folder.is_told c.create.new.self) c.create.ensures.told (ap contents c.into_inner.ensures) (empty g (goal.at.returns-clause-bytes g c).After-hand_back)
+    (g.F.Folder.is_told c.args.folder.now) (g.F.Folder.is_told c.create_before.new.folder) c.create_before.ensures.told (ap contents c.into_inner.ensures) (empty g (goal.at.returns-clause-bytes g c).After-hand_back)
     c.hand_back.result c.write_master-came.result (c.write_master-came.ensures.ok file is) c.hand_back.ensures.whole c.hand_back.ensures.bytes
 
 pub returns-clause-refused : goal.returns-clause-refused
@@ -26,7 +26,7 @@ returns-clause-refused g c = λ file is.
     let contents = g.F.Out.Write.contents in
     let outlet = c.write_master-came.new.outlet in
     let new = g.F.Folder.file c.hand_back.new.folder name in
-    let left = subst (λ (f : Files). OnErr c.hand_back.result (IsTrue (g.F.Folder.is_told c.create.new.self) → (new ≡ f name) ⊎ (IsErr c.write_master-came.result × (new ≡ contents c.into_inner.result)))) c.create.ensures.same c.hand_back.ensures.refused in
+    let left = subst (λ (f : Files). OnErr c.hand_back.result (IsTrue (g.F.Folder.is_told c.create_before.new.folder) → (new ≡ f name) ⊎ (IsErr c.write_master-came.result × (new ≡ contents c.into_inner.result)))) c.create_before.ensures.same c.hand_back.ensures.refused in
     file_front file (contents (outlet_writer c.new-outlet.result)) (contents (outlet_writer outlet)) (contents c.into_inner.result) (g.F.Folder.file c.args.folder.now name) new
-    (g.F.Folder.is_told c.args.folder.now) (g.F.Folder.is_told c.create.new.self) c.create.ensures.told (ap contents c.into_inner.ensures) (empty g (goal.at.returns-clause-refused g c).After-hand_back)
+    (g.F.Folder.is_told c.args.folder.now) (g.F.Folder.is_told c.create_before.new.folder) c.create_before.ensures.told (ap contents c.into_inner.ensures) (empty g (goal.at.returns-clause-refused g c).After-hand_back)
     c.hand_back.result c.write_master-came.result (c.write_master-came.ensures.err file is) left

@@ -70,9 +70,9 @@ where
 
     // The place that is held for a name, or else is made for it.
     fn place_of(&mut self, name: &str) -> io::Result<Place> {
-        match self.held.take() {
-            Some(held) if held.name.as_str() == name => Ok(held.place),
-            _ => Place::of(self.rt, name),
+        match self.held.take_if(|held| held.name.as_str() == name) {
+            Some(held) => Ok(held.place),
+            None => Place::of(self.rt, name),
         }
     }
 

@@ -1,0 +1,82 @@
+//! Frames, which are one byte of each channel in turn, and planes, which are 4096 bytes of each channel in turn.
+
+ghost use Rattle.std.specs.Prelude.{◌≡◌, ℕ, ◌+◌, ◌*◌, ◌/◌, ◌%◌, ◌<◌, ◌≤◌, ◌⊎◌, length, slice_index};
+ghost use Rattle.dsd_bits.specs.Limits.{block_bytes};
+
+/// Writes `count` frames of one to six channels into planes: the byte of channel `c` in frame `k` to place
+/// `4096 * c + k`. At most 4096 frames; the rest of each plane stays as it was.
+pub fn frames_to_planes(planes: &mut [u8], frames: &[u8], channels: usize, count: usize)
+    requires channel_number { (1 ≤ channels) × (channels ≤ 6) }
+    requires few { count ≤ block_bytes }
+    requires frames { count * channels ≤ length frames.now }
+    requires planes { block_bytes * channels ≤ length planes.old }
+    ensures written { (c k : ℕ) → c < channels → k < count →
+        slice_index planes.new (block_bytes * c + k) ≡ slice_index frames.now (k * channels + c) }
+    ensures others { (place : ℕ) → (channels ≤ place / block_bytes) ⊎ (count ≤ place % block_bytes) →
+        slice_index planes.new place ≡ slice_index planes.old place }
+{
+    match channels {
+        1 => take_apart::<1>(planes, frames, count),
+        2 => take_apart::<2>(planes, frames, count),
+        3 => take_apart::<3>(planes, frames, count),
+        4 => take_apart::<4>(planes, frames, count),
+        5 => take_apart::<5>(planes, frames, count),
+        _ => take_apart::<6>(planes, frames, count),
+    }
+}
+
+// The same for a number of channels that is known when it is compiled, which makes vectors of it.
+fn take_apart<const N: usize>(planes: &mut [u8], frames: &[u8], count: usize)
+    requires number { N ≤ 6 }
+    requires few { count ≤ block_bytes }
+    requires frames { count * N ≤ length frames.now }
+    requires planes { block_bytes * N ≤ length planes.old }
+    ensures written { (c k : ℕ) → c < N → k < count →
+        slice_index planes.new (block_bytes * c + k) ≡ slice_index frames.now (k * N + c) }
+    ensures others { (place : ℕ) → (N ≤ place / block_bytes) ⊎ (count ≤ place % block_bytes) →
+        slice_index planes.new place ≡ slice_index planes.old place }
+{
+    for k in 0..count {
+        for c in 0..N {
+            planes[4096 * c + k] = frames[k * N + c];
+        }
+    }
+}
+
+/// Writes `count` frames of one to six channels from planes: the byte of channel `c` in frame `k` from place
+/// `4096 * c + k`. At most 4096 frames; what stands behind them stays as it was.
+pub fn planes_to_frames(frames: &mut [u8], planes: &[u8], channels: usize, count: usize)
+    requires channel_number { (1 ≤ channels) × (channels ≤ 6) }
+    requires few { count ≤ block_bytes }
+    requires frames { count * channels ≤ length frames.old }
+    requires planes { block_bytes * channels ≤ length planes.now }
+    ensures written { (c k : ℕ) → c < channels → k < count →
+        slice_index frames.new (k * channels + c) ≡ slice_index planes.now (block_bytes * c + k) }
+    ensures others { (place : ℕ) → count * channels ≤ place → slice_index frames.new place ≡ slice_index frames.old place }
+{
+    match channels {
+        1 => put_together::<1>(frames, planes, count),
+        2 => put_together::<2>(frames, planes, count),
+        3 => put_together::<3>(frames, planes, count),
+        4 => put_together::<4>(frames, planes, count),
+        5 => put_together::<5>(frames, planes, count),
+        _ => put_together::<6>(frames, planes, count),
+    }
+}
+
+// The same for a number of channels that is known when it is compiled, which makes vectors of it.
+fn put_together<const N: usize>(frames: &mut [u8], planes: &[u8], count: usize)
+    requires number { N ≤ 6 }
+    requires few { count ≤ block_bytes }
+    requires frames { count * N ≤ length frames.old }
+    requires planes { block_bytes * N ≤ length planes.now }
+    ensures written { (c k : ℕ) → c < N → k < count →
+        slice_index frames.new (k * N + c) ≡ slice_index planes.now (block_bytes * c + k) }
+    ensures others { (place : ℕ) → count * N ≤ place → slice_index frames.new place ≡ slice_index frames.old place }
+{
+    for k in 0..count {
+        for c in 0..N {
+            frames[k * N + c] = planes[4096 * c + k];
+        }
+    }
+}

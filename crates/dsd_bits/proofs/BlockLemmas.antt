@@ -174,7 +174,7 @@ module _ (order : BitOrder) (bytes : List ℕ) (channels count : ℕ) (some : 1 
 past_worth : (xs : List Bool) (i w : ℕ) → length xs ≤ i → bit_worth xs i w ≡ 0
 past_worth xs i w h = rw (get_or_past xs i false h) refl
 
-packed_at : (xs : List Bool) (j : ℕ) → slice_index (packed xs) j ≡ packed_byte xs j
+pub packed_at : (xs : List Bool) (j : ℕ) → slice_index (packed xs) j ≡ packed_byte xs j
 packed_at xs j =
     let size = length-map-range_with_len (packed_byte xs) 0 (div_ceil (length xs) 8) in
     elim (cases_lt j (div_ceil (length xs) 8)) [

@@ -153,8 +153,8 @@ fn push_in_order(out: &mut Vec<u8>, bytes: &[u8], order: BitOrder) -> Result<(),
     Ok(())
 }
 
-// Changes bytes between this order of their bits and the most significant bit first.
-fn put_in_order(bytes: &mut [u8], order: BitOrder)
+/// Changes bytes between this order of their bits and the most significant bit first.
+pub fn put_in_order(bytes: &mut [u8], order: BitOrder)
     ensures { bytes.new ≡ map (ordered order) bytes.old }
 {
     match order {

@@ -72,7 +72,7 @@ mod turning;
 
 pub use bits::Bits;
 pub use blocks::{
-    BitOrder, blocks_size, lace_blocks, laced_blocks_are_read_again, push_blocks, unlace_blocks,
+    BitOrder, blocks_size, lace_blocks, laced_blocks_are_read_again, push_blocks, put_in_order, unlace_blocks,
 };
 pub use fault::{BitsFault, LaceFault};
 pub use interleaving::Interleaving;

@@ -4,18 +4,19 @@ use Rattle.std.proofs.lemmas.Bool.{cases_lt}
 use Rattle.std.proofs.lemmas.List.{get_or_past}
 use Rattle.std.proofs.lemmas.Grind.{same_number_lists}
 use Rattle.std.proofs.lemmas.List.FromFn.{length-map-range_with_len, get_or-map-range_with_len}
-use Rattle.std.proofs.lemmas.Nat.{div-add-mod', div_below, mod_below}
+use Rattle.std.proofs.lemmas.Nat.{div-add-mod', div_below, mod_below, mul-le}
 use Rattle.std.specs.List.{range_with_len}
 use Rattle.std.specs.Int.{div_ceil}
 use Rattle.dsd_bits.specs.declared.interleaving.Interleaving.{Interleaving}
 use Rattle.dsd_bits.specs.declared.interleaving.Interleaving.TheVariants.{Bytes, Blocks}
 use Rattle.dsd_bits.specs.Lacing.{frames_of, laced, laced_bit, laced_byte, unlaced, unlaced_all}
-use Rattle.dsd_bits.specs.Packing.{IsTight, packed_byte, unpacked}
+use Rattle.dsd_bits.specs.Packing.{IsTight, packed, packed_byte, unpacked}
+use Rattle.dsd_bits.proofs.BlockLemmas.{packed_at}
 use Rattle.dsd_bits.specs.Sounds.{has_blocks}
 use Rattle.dsd_bits.proofs.LacingLemmas.{own_bytes, unpacked-own_bytes}
 use Rattle.dsd_bits.proofs.PackingLemmas.{length-unpacked, packed-unpacked, past_end}
 use Rattle.relace_core.specs.Relacing.{relaced}
-use Rattle.relace_core.proofs.TakenLaws.{frames_are, unlaced_count, unlaced_number}
+use Rattle.relace_core.proofs.TakenLaws.{channel_long, frames_are, unlaced_count, unlaced_number}
 
 module _ (bytes : List ℕ) (n count : ℕ) (some : 1 ≤ n) (whole : count % 8 ≡ 0) (size : length bytes ≡ count / 8 * n) (short : count ≤ 2 ^ 36) (small : (k : ℕ) → slice_index bytes k < 256) where
   -- the bytes of a channel
@@ -57,6 +58,17 @@ module _ (bytes : List ℕ) (n count : ℕ) (some : 1 ≤ n) (whole : count % 8 
       ∙ sym (get_or-map-range_with_len (packed_byte xs) 0 (div_ceil (length xs) 8) j j 0 (omega (arith, long)) (omega arith))
       ∙ sym (ap (λ bs. slice_index bs j) again)
       ∙ own_at c j below
+
+  -- the same of a byte past the end, where both are zero
+  pub frame_byte : (c j : ℕ) → packed_byte (unlaced bytes n c) j ≡ slice_index bytes (j * n + c)
+  frame_byte c j = elim (cases_lt j (count / 8)) [
+    | inl low ↦ byte_again c j low
+    | inr high ↦
+        let past : count / 8 * n ≤ j * n = mul-le (count / 8) n j n high (omega arith) in
+        let xs = unlaced bytes n c in
+        let long : div_ceil (length xs) 8 ≡ count / 8 = omega (arith, channel_long bytes n count some whole size c) in
+        sym (packed_at xs j) ∙ get_or_past (packed xs) j 0 (omega (arith, long, length-map-range_with_len (packed_byte xs) 0 (div_ceil (length xs) 8))) ∙ sym (get_or_past bytes (j * n + c) 0 (omega arith))
+  ]
 
   pub frames_again : relaced Bytes Bytes n count bytes ≡ bytes
   frames_again =

@@ -3,3 +3,4 @@ pub mod JoinLaws
 pub mod PlaceLaws
 pub mod TakenLaws
 pub mod GroupLaws
+pub mod MovingLaws

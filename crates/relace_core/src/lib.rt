@@ -24,6 +24,7 @@
 
 mod groups;
 mod laws;
+mod moving;
 mod relacing;
 mod rooms;
 

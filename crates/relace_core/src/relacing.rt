@@ -7,8 +7,9 @@ ghost use Rattle.dsd_bits.specs.Limits.{most_bits};
 ghost use Rattle.dsd_bits.specs.Sounds.{sound_channels, sound_size};
 ghost use Rattle.relace_core.specs.Relacing.{relaced};
 
+use crate::moving::{push_as_blocks, push_as_frames};
 use dsd_bits::{
-    BitOrder, Bits, Interleaving, LaceFault, push_blocks, push_laced, unlace_blocks, unlace_bytes,
+    BitOrder, Bits, Interleaving, LaceFault, push_blocks, unlace_blocks, unlace_bytes,
 };
 use std::alloc::{AllocError, Global};
 
@@ -40,13 +41,18 @@ pub fn push_relaced(
     ensures ok { OnOk result (out.new.items ≡ out.old.items ++ relaced from to stretch.channels stretch.count bytes.now) }
     ensures err { OnErr result (out.new.items ≡ out.old.items) }
 {
-    if !from.has_blocks() && !to.has_blocks() {
-        return out.extend_from_slice(bytes);
-    }
-    let channels = unlace(alloc, bytes, stretch, from)?;
-    match to {
-        Interleaving::Bytes => push_laced(out, &channels),
-        Interleaving::Blocks(order) => push_blocks(out, &channels, order),
+    match (from, to) {
+        (Interleaving::Bytes, Interleaving::Bytes) => out.extend_from_slice(bytes),
+        (Interleaving::Bytes, Interleaving::Blocks(order)) => {
+            push_as_blocks(out, bytes, stretch, order)
+        }
+        (Interleaving::Blocks(order), Interleaving::Bytes) => {
+            push_as_frames(out, bytes, stretch, order)
+        }
+        (Interleaving::Blocks(_), Interleaving::Blocks(order)) => {
+            let channels = unlace(alloc, bytes, stretch, from)?;
+            push_blocks(out, &channels, order)
+        }
     }
 }
 

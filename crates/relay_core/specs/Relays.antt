@@ -1,5 +1,5 @@
 -- What is written of a file whose outline is known, and which faults stand.
-use Rattle.std.specs.Prelude.{◌≡◌, ℕ, ◌%◌, ◌<◌, true, List, [], ◌++◌, length, Option, IfSome, ⊤}
+use Rattle.std.specs.Prelude.{◌≡◌, ◌⊎◌, ℕ, ◌%◌, ◌<◌, ◌≤◌, true, List, [], ◌++◌, length, Option, IfSome, ⊤}
 use Rattle.std.specs.Io.KnownBytes.{Appends, Consumes, IsAtEnd}
 use Rattle.device_core.specs.Outlets.{AppendsFront}
 use Rattle.dsd_bits.specs.declared.interleaving.Interleaving.{Interleaving}
@@ -10,6 +10,7 @@ use Rattle.relace_core.specs.Relacing.{relaced}
 use Rattle.sound_core.specs.Outlines.{AreAround, StandsIn, Surroundings}
 use Rattle.sound_core.specs.declared.fault.StreamFault.{StreamFault}
 use Rattle.sound_core.specs.declared.fault.StreamFault.TheVariants.{FileRefused, ReadFailed, WriteFailed, Memory}
+use Rattle.relay_core.specs.declared.relaying.Part.{Part}
 use Rattle.relay_core.specs.declared.relaying.Relacing.{Relacing}
 use Rattle.relay_core.specs.declared.relaying.Target.{Target}
 
@@ -48,6 +49,13 @@ pub record IsRelacing (x : Relacing) : Type 0 where
   pub is_sound : IsSound x.sound
   pub from_whole : x.sound.interleaving ≡ Bytes → x.sound.count % 8 ≡ 0
   pub to_whole : x.to ≡ Bytes → x.sound.count % 8 ≡ 0
+
+-- a part of such a sound: no more bits than it has, whose bytes fit a block, and whole bytes of each channel unless it is the last
+pub record IsPart (x : Part) : Type 0 where
+  pub relacing : IsRelacing x.relacing
+  pub within : x.bits ≤ x.relacing.sound.count
+  pub fits : sound_size x.relacing.sound.interleaving x.relacing.sound.channels x.bits ≤ 65536
+  pub whole : (x.bits % 8 ≡ 0) ⊎ (x.bits % 8 ≡ x.relacing.sound.count % 8)
 
 -- what stands behind the sound was read: as many bytes as the gap has, those that were kept, and nothing more where the file ends there
 pub record PassesRest (left_old left_new : Option (List ℕ)) (o : Surroundings) : Type 0 where

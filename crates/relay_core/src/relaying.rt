@@ -1,13 +1,12 @@
 //! A file of a known outline, its sound handed on in another interleaving.
 
-ghost use Rattle.std.specs.Prelude.{◌≡◌, ◌+◌, ◌*◌, ◌/◌, ◌%◌, ◌-◌, ◌<◌, ◌≤◌, ◌^◌, ◌++◌, ◌⊎◌, IfErr, IfOk, OnErr, OnOk, length};
+ghost use Rattle.std.specs.Prelude.{◌≡◌, ◌+◌, ◌*◌, ◌/◌, ◌%◌, ◌-◌, ◌<◌, ◌≤◌, ◌^◌, ◌++◌, IfErr, IfOk, OnErr, OnOk, length};
 ghost use Rattle.std.specs.Io.KnownBytes.{Appends};
 ghost use Rattle.device_core.specs.Inlets.{inlet_failures, inlet_reader};
 ghost use Rattle.device_core.specs.Outlets.{AppendsFront, outlet_failures, outlet_writer};
-ghost use Rattle.dsd_bits.specs.Sounds.{sound_size};
 ghost use Rattle.sound_core.specs.Faults.{IsWritingFault, failed_reads, failed_writes};
 ghost use Rattle.sound_core.specs.Outlines.{AreTold, around_of};
-ghost use Rattle.relay_core.specs.Relays.{IsPartFault, IsRelacing, IsRelayFault, IsRestFault, PartFront, PassesRest, Relays, RelaysFront, RelaysGiven, RelaysPart};
+ghost use Rattle.relay_core.specs.Relays.{IsPart, IsPartFault, IsRelacing, IsRelayFault, IsRestFault, PartFront, PassesRest, Relays, RelaysFront, RelaysGiven, RelaysPart};
 
 use crate::comparing::{BLOCK, expect, expect_end, fill, pass};
 use device_core::{Inlet, Outlet};
@@ -82,6 +81,13 @@ struct Relacing {
     to: Interleaving,
 }
 
+// The next bits of each channel of a sound.
+#[derive(Clone, Copy)]
+struct Part {
+    relacing: Relacing,
+    bits: usize,
+}
+
 // Reads what stands behind the sound of a file of this outline.
 fn expect_rest<R: Read>(
     outline: &Outline,
@@ -126,41 +132,42 @@ fn relay_sound<R: Read, W: Write>(
     let mut left = relacing.sound.count;
     while left > 0 {
         let bits = left.min(most);
-        relay_stretch(alloc, relacing, bits, inlet, buffers, outlet)?;
+        let part = Part {
+            relacing: *relacing,
+            bits,
+        };
+        relay_part(alloc, part, inlet, buffers, outlet)?;
         left -= bits;
     }
     Ok(())
 }
 
-// Reads the next bytes of a sound, those of so many bits of each channel, and writes them interleaved otherwise.
-fn relay_stretch<R: Read, W: Write>(
+// Reads the bytes of a part of a sound, and writes them interleaved otherwise.
+fn relay_part<R: Read, W: Write>(
     alloc: Global,
-    relacing: &Relacing,
-    bits: usize,
+    part: Part,
     inlet: &mut Inlet<R>,
     buffers: &mut Buffers,
     outlet: &mut Outlet<W>,
 ) -> Result<(), StreamFault>
-    requires sound { IsRelacing relacing.now }
-    requires within { bits ≤ relacing.now.sound.count }
-    requires fits { sound_size relacing.now.sound.interleaving relacing.now.sound.channels bits ≤ 65536 }
-    requires whole { (bits % 8 ≡ 0) ⊎ (bits % 8 ≡ relacing.now.sound.count % 8) }
+    requires part { IsPart part }
     requires inlet_ready { inlet_failures inlet.old < 2 ^ 64 - 1 }
     requires outlet_ready { outlet_failures outlet.old < 2 ^ 64 - 1 }
     requires size { length buffers.old.block.items ≡ 65536 }
     ensures size { length buffers.new.block.items ≡ 65536 }
-    ensures ok { OnOk result (RelaysPart (R.remaining (inlet_reader inlet.old)) (R.remaining (inlet_reader inlet.new)) relacing.now.sound relacing.now.to bits (W.contents (outlet_writer outlet.old)) (W.contents (outlet_writer outlet.new))) }
-    ensures front { OnErr result (PartFront (R.remaining (inlet_reader inlet.old)) relacing.now.sound relacing.now.to bits (W.contents (outlet_writer outlet.old)) (W.contents (outlet_writer outlet.new))) }
-    ensures fault { IfErr result (IsPartFault (R.remaining (inlet_reader inlet.old)) relacing.now.sound bits) }
+    ensures ok { OnOk result (RelaysPart (R.remaining (inlet_reader inlet.old)) (R.remaining (inlet_reader inlet.new)) part.relacing.sound part.relacing.to part.bits (W.contents (outlet_writer outlet.old)) (W.contents (outlet_writer outlet.new))) }
+    ensures front { OnErr result (PartFront (R.remaining (inlet_reader inlet.old)) part.relacing.sound part.relacing.to part.bits (W.contents (outlet_writer outlet.old)) (W.contents (outlet_writer outlet.new))) }
+    ensures fault { IfErr result (IsPartFault (R.remaining (inlet_reader inlet.old)) part.relacing.sound part.bits) }
     ensures read_failed { inlet_failures inlet.new ≡ inlet_failures inlet.old + failed_reads result }
     ensures write_failed { outlet_failures outlet.new ≡ outlet_failures outlet.old + failed_writes result }
 {
-    let size = stretch_size(relacing.sound.interleaving, relacing.sound.channels, bits);
+    let Relacing { sound, to } = part.relacing;
+    let size = stretch_size(sound.interleaving, sound.channels, part.bits);
     fill(inlet, &mut buffers.block, size)?;
     let (bytes, _) = buffers.block.split_at(size);
     let stretch = Stretch {
-        channels: relacing.sound.channels,
-        count: bits,
+        channels: sound.channels,
+        count: part.bits,
     };
     buffers.out.clear();
     push_relaced(
@@ -168,8 +175,8 @@ fn relay_stretch<R: Read, W: Write>(
         &mut buffers.out,
         bytes,
         stretch,
-        relacing.sound.interleaving,
-        relacing.to,
+        sound.interleaving,
+        to,
     )?;
     put(outlet, &buffers.out)
 }

@@ -21,22 +21,23 @@ loop-left-init g c =
       omega arith,
     )
 
-pub relay_stretch-requires-clause-fits : goal.relay_stretch-requires-clause-fits
-relay_stretch-requires-clause-fits g c =
-    let s = c.args.relacing.now.sound in
-    size_fits s.interleaving s.channels c.min-bits.result c.stretch_bits-most.result (omega (arith, c.min-bits.ensures)) c.stretch_bits-most.ensures.groups c.stretch_bits-most.ensures.fits
-
-pub relay_stretch-requires-clause-whole : goal.relay_stretch-requires-clause-whole
-relay_stretch-requires-clause-whole g c =
+pub relay_part-requires-clause-part : goal.relay_part-requires-clause-part
+relay_part-requires-clause-part g c =
     let so_far = c.loop-left.invariant in
     let s = c.args.relacing.now.sound in
-    elim (last_groups c.loop-left.left c.stretch_bits-most.result c.min-bits.result c.stretch_bits-most.ensures.groups c.min-bits.ensures) [
-      | inl groups ↦ inl (omega (arith, groups))
-      | inr last ↦ inr (omega (arith, last, c.min-bits.ensures, so_far.1, so_far.2 (omega (arith, c.loop-left-test.true))))
-    ]
+    let bits = c.min-bits.result in
+    record {
+      relacing = c.requires.sound;
+      within = omega (arith, so_far.1, c.min-bits.ensures);
+      fits = size_fits s.interleaving s.channels bits c.stretch_bits-most.result (omega (arith, c.min-bits.ensures)) c.stretch_bits-most.ensures.groups c.stretch_bits-most.ensures.fits;
+      whole = elim (last_groups c.loop-left.left c.stretch_bits-most.result bits c.stretch_bits-most.ensures.groups c.min-bits.ensures) [
+        | inl groups ↦ inl (omega (arith, groups))
+        | inr last ↦ inr (omega (arith, last, c.min-bits.ensures, so_far.1, so_far.2 (omega (arith, c.loop-left-test.true))))
+      ];
+    }
 
-pub returns-in_err-relay_stretch-clause-front : goal.returns-in_err-relay_stretch-clause-front
-returns-in_err-relay_stretch-clause-front g c =
+pub returns-in_err-relay_part-clause-front : goal.returns-in_err-relay_part-clause-front
+returns-in_err-relay_part-clause-front g c =
     let so_far = c.loop-left.invariant in
     let s = c.args.relacing.now.sound in
     let to = c.args.relacing.now.to in
@@ -44,14 +45,14 @@ returns-in_err-relay_stretch-clause-front g c =
     let bits = c.min-bits.result in
     let l0 = g.R.Read.remaining (inlet_reader c.args.inlet.now) in
     let a0 = g.W.Write.contents (outlet_writer c.args.outlet.now) in
-    let a2 = g.W.Write.contents (outlet_writer c.relay_stretch.new.outlet) in
+    let a2 = g.W.Write.contents (outlet_writer c.relay_part.new.outlet) in
     let all : done + (bits + (c.loop-left.left - bits)) ≡ s.count = omega (arith, so_far.1, c.min-bits.ensures) in
     let last = last_groups c.loop-left.left c.stretch_bits-most.result bits c.stretch_bits-most.ensures.groups c.min-bits.ensures in
     any_err c.from_residual.result (subst (λ n. PartFront l0 s to n a0 a2) all
-    (part_front c.groups_join.ensures s to l0 (g.R.Read.remaining (inlet_reader c.loop-left.inlet)) a0 (g.W.Write.contents (outlet_writer c.loop-left.outlet)) done so_far.0 (so_far.2 (omega (arith, c.loop-left-test.true))) bits (c.loop-left.left - bits) a2 last c.in_err-relay_stretch.ensures.front))
+    (part_front c.groups_join.ensures s to l0 (g.R.Read.remaining (inlet_reader c.loop-left.inlet)) a0 (g.W.Write.contents (outlet_writer c.loop-left.outlet)) done so_far.0 (so_far.2 (omega (arith, c.loop-left-test.true))) bits (c.loop-left.left - bits) a2 last c.in_err-relay_part.ensures.front))
 
-pub returns-in_err-relay_stretch-clause-fault : goal.returns-in_err-relay_stretch-clause-fault
-returns-in_err-relay_stretch-clause-fault g c =
+pub returns-in_err-relay_part-clause-fault : goal.returns-in_err-relay_part-clause-fault
+returns-in_err-relay_part-clause-fault g c =
     let so_far = c.loop-left.invariant in
     let s = c.args.relacing.now.sound in
     let to = c.args.relacing.now.to in
@@ -59,12 +60,12 @@ returns-in_err-relay_stretch-clause-fault g c =
     let bits = c.min-bits.result in
     let l0 = g.R.Read.remaining (inlet_reader c.args.inlet.now) in
     let a0 = g.W.Write.contents (outlet_writer c.args.outlet.now) in
-    let f = c.in_err-relay_stretch.field-0.0 in
+    let f = c.in_err-relay_part.field-0.0 in
     let all : done + (bits + (c.loop-left.left - bits)) ≡ s.count = omega (arith, so_far.1, c.min-bits.ensures) in
     let last = last_groups c.loop-left.left c.stretch_bits-most.result bits c.stretch_bits-most.ensures.groups c.min-bits.ensures in
     let e = err_from_is_err_and c.from_residual.result c.from_residual.ensures.1 in
     rw (e.1, e.2) (subst (λ n. IsPartFault l0 s n f) all
-    (part_fault c.groups_join.ensures s to l0 (g.R.Read.remaining (inlet_reader c.loop-left.inlet)) a0 (g.W.Write.contents (outlet_writer c.loop-left.outlet)) done so_far.0 (so_far.2 (omega (arith, c.loop-left-test.true))) bits (c.loop-left.left - bits) f last c.in_err-relay_stretch.ensures.fault))
+    (part_fault c.groups_join.ensures s to l0 (g.R.Read.remaining (inlet_reader c.loop-left.inlet)) a0 (g.W.Write.contents (outlet_writer c.loop-left.outlet)) done so_far.0 (so_far.2 (omega (arith, c.loop-left-test.true))) bits (c.loop-left.left - bits) f last c.in_err-relay_part.ensures.fault))
 
 pub loop-left-preserved : goal.loop-left-preserved
 loop-left-preserved g c =
@@ -74,19 +75,19 @@ loop-left-preserved g c =
     let done = s.count - c.loop-left.left in
     let bits = c.min-bits.result in
     let l0 = g.R.Read.remaining (inlet_reader c.args.inlet.now) in
-    let l2 = g.R.Read.remaining (inlet_reader c.relay_stretch.new.inlet) in
+    let l2 = g.R.Read.remaining (inlet_reader c.relay_part.new.inlet) in
     let a0 = g.W.Write.contents (outlet_writer c.args.outlet.now) in
-    let a2 = g.W.Write.contents (outlet_writer c.relay_stretch.new.outlet) in
+    let a2 = g.W.Write.contents (outlet_writer c.relay_part.new.outlet) in
     let whole = so_far.2 (omega (arith, c.loop-left-test.true)) in
     let few : bits ≤ c.loop-left.left = omega (arith, c.min-bits.ensures) in
     let sum : done + bits ≡ s.count - (c.loop-left.left - bits) = omega (arith, so_far.1, few) in
     let last = last_groups c.loop-left.left c.stretch_bits-most.result bits c.stretch_bits-most.ensures.groups c.min-bits.ensures in (
-      subst (λ n. RelaysPart l0 l2 s to n a0 a2) sum (part_on c.groups_join.ensures s to l0 (g.R.Read.remaining (inlet_reader c.loop-left.inlet)) a0 (g.W.Write.contents (outlet_writer c.loop-left.outlet)) done so_far.0 whole l2 a2 bits c.in_ok-relay_stretch.ensures.ok),
+      subst (λ n. RelaysPart l0 l2 s to n a0 a2) sum (part_on c.groups_join.ensures s to l0 (g.R.Read.remaining (inlet_reader c.loop-left.inlet)) a0 (g.W.Write.contents (outlet_writer c.loop-left.outlet)) done so_far.0 whole l2 a2 bits c.in_ok-relay_part.ensures.ok),
       omega (arith, so_far.1),
       λ some. whole_on done bits (c.loop-left.left - bits) _ whole last some sum,
-      c.relay_stretch.ensures.size,
-      omega (arith, so_far.4, c.in_ok-relay_stretch.ensures.read_failed),
-      omega (arith, so_far.5, c.in_ok-relay_stretch.ensures.write_failed),
+      c.relay_part.ensures.size,
+      omega (arith, so_far.4, c.in_ok-relay_part.ensures.read_failed),
+      omega (arith, so_far.5, c.in_ok-relay_part.ensures.write_failed),
     )
 
 pub returns-clause-ok : goal.returns-clause-ok

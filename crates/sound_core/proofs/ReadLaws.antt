@@ -1,5 +1,5 @@
 -- Bytes that are read, one after the other.
-use Rattle.std.proofs.Common.{◌≡◌, ℕ, ◌+◌, ◌-◌, inl, inr, min, List, [], ◌++◌, length, take, drop, Option, None, Some, IfSome, subst, sym, ap, ◌∙◌, arith, append-nil, length-append, length-drop, length-take, take-append-drop}
+use Rattle.std.proofs.Common.{◌≡◌, ℕ, ◌+◌, ◌-◌, inl, inr, min, List, [], ◌++◌, length, take, drop, Option, None, Some, IfSome, subst, sym, ap, ◌∙◌, arith, append_assoc, append-nil, length-append, length-drop, length-take, take-append-drop}
 use Rattle.std.specs.Io.KnownBytes.{Consumes, IsAtEnd}
 use Rattle.std.proofs.KnownBytes.{Consumes-nil, Consumes-trans, Consumes-whole}
 use Rattle.std.proofs.lemmas.Bool.{cases_lt}
@@ -17,6 +17,10 @@ reads_on left a b c xs ys p q = record {
   consumed = Consumes-trans (left (inlet_reader a)) (left (inlet_reader b)) (left (inlet_reader c)) xs ys p.consumed q.consumed;
   given = omega (arith, p.given, q.given, length-append xs ys);
 }
+
+-- the bytes ahead after one read and another
+pub ahead_on : (a b c xs ys : List ℕ) → b ≡ a ++ xs → c ≡ b ++ ys → c ≡ a ++ (xs ++ ys)
+ahead_on a b c xs ys p q = q ∙ ap (λ zs. zs ++ ys) p ∙ append_assoc a xs ys
 
 -- what holds of what was read and anything behind it holds of what there is
 pub after : (Q : List ℕ → Type 0) (a b : Option (List ℕ)) (bs : List ℕ) → Consumes a b bs → ((rest : List ℕ) → Q (bs ++ rest)) → IfSome a Q

@@ -75,8 +75,7 @@ fn take_file<R: Read, S: SoundSink>(
     let head = reader.take_head(alloc, sound.start)?;
     sink.begin(alloc, sound)?;
     take_sound(alloc, sound, sink, reader)?;
-    let outline = read_rest(alloc, sound, head, reader)?;
-    Ok(outline)
+    read_rest(alloc, sound, head, reader)
 }
 
 // Reads a sound to its end, a few groups of blocks at a time.

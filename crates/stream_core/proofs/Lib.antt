@@ -4,3 +4,5 @@ pub mod SoundLaws
 pub mod PlayLaws
 pub mod PlaceLaws
 pub mod PaceLaws
+pub mod FaultLaws
+pub mod WaveLaws

@@ -86,7 +86,6 @@ fn play_file<R: Read, W: Write>(
 }
 
 // Plays a file whose front was read, and tells of this sound.
-#[tactic(auto, using(crate::proofs::PlayLaws::none_front, crate::proofs::PlayLaws::none_written))]
 fn play_found<R: Read, W: Write>(
     alloc: Global,
     taps: &Taps,

@@ -1,5 +1,6 @@
-use Rattle.std.proofs.Common.{◌∙◌, ◌++◌, arith, subst, sym}
-use Rattle.std.proofs.lemmas.Result.{err_from_is_err_and}
+use Rattle.std.proofs.Common.{◌∙◌, ◌++◌, ap, arith, subst, sym}
+use Rattle.std.proofs.lemmas.Result.{IfErr-weaker, IfOk-weaker, err_from_is_err_and}
+use Rattle.dsd_bits.specs.declared.sound.Sound.{Sound}
 use Rattle.sound_core.specs.Outlines.{around_of}
 use Rattle.sound_core.specs.Readers.{Passes}
 use Rattle.sound_core.specs.Reads.{Reads}
@@ -55,30 +56,34 @@ read_rest-requires-clause-given g c =
       given_is g.R.Read.remaining _ _ _ _ _ c.in_ok-sound.sound (reads_is g k) c.in_ok-sound.ensures.tells c.in_ok-head.ensures.head c.in_ok-head.ensures.rest _ _ (passes_is g l) c.args.reader.now.given c.requires.given,
     )
 
-pub returns-in_err-outline-clause-fault : goal.returns-in_err-outline-clause-fault
-returns-in_err-outline-clause-fault g c =
-    let k = (goal.at.returns-in_err-outline-clause-fault g c).In_ok-head in
-    let l = (goal.at.returns-in_err-outline-clause-fault g c).In_ok-take_sound in
-    let e = err_from_is_err_and c.from_residual-in_err-outline.result c.from_residual-in_err-outline.ensures.1 in
-    rw (e.1, e.2) (rest_stands g.R.Read.remaining _ _ _ _ _ c.in_ok-sound.sound (reads_is g k) c.in_ok-sound.ensures.tells c.in_ok-head.ensures.head c.in_ok-head.ensures.rest _ _ (passes_is g l) c.in_err-outline.field-0.0 c.in_err-outline.ensures.fault)
+pub returns-clause-fault : goal.returns-clause-fault
+returns-clause-fault g c =
+    let k = (goal.at.returns-clause-fault g c).In_ok-head in
+    let l = (goal.at.returns-clause-fault g c).In_ok-take_sound in
+    IfErr-weaker c.read_rest.result _ _ (λ f stands. rest_stands g.R.Read.remaining _ _ _ _ _ c.in_ok-sound.sound (reads_is g k) c.in_ok-sound.ensures.tells c.in_ok-head.ensures.head c.in_ok-head.ensures.rest _ _ (passes_is g l) f stands) c.read_rest.ensures.fault
 
 pub returns-clause-ok : goal.returns-clause-ok
 returns-clause-ok g c =
     let k = (goal.at.returns-clause-ok g c).In_ok-head in
     let l = (goal.at.returns-clause-ok g c).In_ok-take_sound in
-    let told = c.in_ok-outline.ensures.ok in
-    file_taken (g.S.SoundSink.has c.take_sound.new.sink) (g.R.Read.remaining _) (around_of c.in_ok-outline.outline) c.in_ok-take_sound.ensures.ok.passes.passed told.2.told
-    (file_stands g.R.Read.remaining _ _ _ _ _ c.in_ok-sound.sound (reads_is g k) c.in_ok-sound.ensures.tells c.in_ok-head.ensures.head c.in_ok-head.ensures.rest _ _ (passes_is g l) _ (around_of c.in_ok-outline.outline) told.0 told.1 told.2)
-    c.in_ok-take_sound.ensures.ok.taken
+    IfOk-weaker c.read_rest.result _ _ (λ o told.
+    file_taken (g.S.SoundSink.has c.take_sound.new.sink) (g.R.Read.remaining _) (around_of o) c.in_ok-take_sound.ensures.ok.passes.passed told.2.told
+    (file_stands g.R.Read.remaining _ _ _ _ _ c.in_ok-sound.sound (reads_is g k) c.in_ok-sound.ensures.tells c.in_ok-head.ensures.head c.in_ok-head.ensures.rest _ _ (passes_is g l) _ (around_of o) told.0 told.1 told.2)
+    c.in_ok-take_sound.ensures.ok.taken) c.read_rest.ensures.ok
 
 pub returns-clause-any_reader : goal.returns-clause-any_reader
 returns-clause-any_reader g c =
     let k = (goal.at.returns-clause-any_reader g c).In_ok-head in
     let l = (goal.at.returns-clause-any_reader g c).In_ok-take_sound in
-    let told = c.in_ok-outline.ensures.ok in
     let passes = c.in_ok-take_sound.ensures.ok.passes in
-    let stands = given_stands g.R.Read.remaining _ _ _ _ _ c.in_ok-sound.sound (reads_is g k) c.in_ok-sound.ensures.tells c.in_ok-head.ensures.head c.in_ok-head.ensures.rest _ _ (passes_is g l) _ (around_of c.in_ok-outline.outline) told.0 told.1 told.2 in (
+    IfOk-weaker c.read_rest.result _ _ (λ o told.
+    let stands = given_stands g.R.Read.remaining _ _ _ _ _ c.in_ok-sound.sound (reads_is g k) c.in_ok-sound.ensures.tells c.in_ok-head.ensures.head c.in_ok-head.ensures.rest _ _ (passes_is g l) _ (around_of o) told.0 told.1 told.2 in (
       c.read_front.new.reader.ahead.now.items ++ (passes.read ++ told.2.read),
       stands.0,
       (passes.passed, stands.1, c.in_ok-take_sound.ensures.ok.taken),
-    )
+    )) c.read_rest.ensures.ok
+
+pub returns-clause-source : goal.returns-clause-source
+returns-clause-source g c =
+    let taken = c.in_ok-take_sound.ensures.ok in
+    IfOk-weaker c.read_rest.result _ _ (λ o told. (taken.source_is ∙ sym told.0, taken.done_is ∙ ap (λ (s : Sound). s.count) (sym told.0))) c.read_rest.ensures.ok

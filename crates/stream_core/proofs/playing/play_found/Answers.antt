@@ -8,9 +8,10 @@ use Rattle.stream_core.specs.Pieces.{IsSoundFault, PlaysFront, PlaysSound}
 use Rattle.stream_core.specs.Playing.{PlaysBehind, WritesFront}
 use Rattle.stream_core.specs.Wave.{pad_of}
 use Rattle.sound_core.proofs.ClosingLaws.{ends_at}
+use Rattle.stream_core.proofs.FaultLaws.{opening_goes_on, opening_stands, reading_later, reading_stands, sound_later, writing_goes_on, writing_later, writing_stands}
 use Rattle.stream_core.proofs.PaceLaws.{keeps_all, keeps_part}
 use Rattle.stream_core.proofs.PieceLaws.{any_err, front_nil}
-use Rattle.stream_core.proofs.PlayLaws.{given_is, header_part, not_closed, pad_part, plays_read, sound_part, sound_stands}
+use Rattle.stream_core.proofs.PlayLaws.{given_is, header_part, none_written, not_closed, pad_part, plays_read, sound_part, sound_stands}
 use Rattle.stream_core.proofs.playing.play_found.Given.{Over}
 use Rattle.stream_core.proofs.playing.play_found.Goals as goal
 use Rattle.stream_core.proofs.playing.play_found.Goals.{In_ok-closes, In_ok-play_sound}
@@ -96,3 +97,47 @@ returns-clause-ok g c =
     let k = (goal.at.returns-clause-ok g c).In_ok-play_sound in
     let m = (goal.at.returns-clause-ok g c).In_ok-closes in
     plays_read c.sound_is_played.ensures c.args.taps.now c.args.reader.now.ahead.now.items c.args.sound.now c.requires.tells g.R.Read.remaining _ _ _ _ _ _ c.in_ok-put_header.ensures.ok (played_is g k) _ c.in_ok-closes.field-0 (closes_is g m) c.if-not-branch.false (g.W.Write.contents (outlet_writer c.put_pad.new.outlet)) c.file_size.result c.in_ok-put_pad.ensures.ok c.file_size.ensures
+
+-- ---- which fault it is, and what came before it
+pub returns-in_err-head-clause-front : goal.returns-in_err-head-clause-front
+returns-in_err-head-clause-front g c = none_written c.from_residual.result (g.R.Read.remaining (inlet_reader c.args.reader.now.inlet.now)) c.args.taps.now c.args.reader.now.ahead.now.items (g.W.Write.contents (outlet_writer c.args.outlet.now))
+
+pub returns-in_err-put_header-clause-fault : goal.returns-in_err-put_header-clause-fault
+returns-in_err-put_header-clause-fault g c =
+    let e = err_from_is_err_and c.from_residual-in_err-put_header.result c.from_residual-in_err-put_header.ensures.1 in
+    rw (e.1, e.2) (opening_stands (g.R.Read.remaining (inlet_reader c.args.reader.now.inlet.now)) c.args.taps.now c.args.reader.now.ahead.now.items c.args.sound.now c.requires.tells c.in_err-put_header.field-0.0 c.in_err-put_header.ensures.fault)
+
+pub returns-in_err-put_header-clause-keeps_up : goal.returns-in_err-put_header-clause-keeps_up
+returns-in_err-put_header-clause-keeps_up g c =
+    let e = err_from_is_err_and c.from_residual-in_err-put_header.result c.from_residual-in_err-put_header.ensures.1 in
+    rw (e.1, e.2) (λ stops. absurd (opening_goes_on c.args.taps.now c.args.sound.now c.in_err-put_header.field-0.0 c.in_err-put_header.ensures.fault stops))
+
+pub returns-in_err-play_sound-clause-unwritten : goal.returns-in_err-play_sound-clause-unwritten
+returns-in_err-play_sound-clause-unwritten g c =
+    let e = err_from_is_err_and c.from_residual-in_err-play_sound.result c.from_residual-in_err-play_sound.ensures.1 in
+    rw (e.1, e.2) (λ early. absurd (sound_later (g.R.Read.remaining (inlet_reader c.take_head.new.self.inlet.now)) c.take_head.new.self.ahead.now.items c.args.sound.now c.in_err-play_sound.field-0.0 c.in_err-play_sound.ensures.fault early))
+
+pub returns-in_err-closes-clause-fault : goal.returns-in_err-closes-clause-fault
+returns-in_err-closes-clause-fault g c =
+    let e = err_from_is_err_and c.from_residual-in_err-closes.result c.from_residual-in_err-closes.ensures.1 in
+    rw (e.1, e.2) (reading_stands (g.R.Read.remaining (inlet_reader c.args.reader.now.inlet.now)) c.args.taps.now c.args.reader.now.ahead.now.items c.in_err-closes.field-0.0 c.in_err-closes.ensures.fault)
+
+pub returns-in_err-closes-clause-unwritten : goal.returns-in_err-closes-clause-unwritten
+returns-in_err-closes-clause-unwritten g c =
+    let e = err_from_is_err_and c.from_residual-in_err-closes.result c.from_residual-in_err-closes.ensures.1 in
+    rw (e.1, e.2) (λ early. absurd (reading_later c.in_err-closes.field-0.0 c.in_err-closes.ensures.fault early))
+
+pub returns-in_err-put_pad-clause-fault : goal.returns-in_err-put_pad-clause-fault
+returns-in_err-put_pad-clause-fault g c =
+    let e = err_from_is_err_and c.from_residual-in_err-put_pad.result c.from_residual-in_err-put_pad.ensures.1 in
+    rw (e.1, e.2) (writing_stands (g.R.Read.remaining (inlet_reader c.args.reader.now.inlet.now)) c.args.taps.now c.args.reader.now.ahead.now.items c.in_err-put_pad.field-0.0 c.in_err-put_pad.ensures.fault)
+
+pub returns-in_err-put_pad-clause-unwritten : goal.returns-in_err-put_pad-clause-unwritten
+returns-in_err-put_pad-clause-unwritten g c =
+    let e = err_from_is_err_and c.from_residual-in_err-put_pad.result c.from_residual-in_err-put_pad.ensures.1 in
+    rw (e.1, e.2) (λ early. absurd (writing_later c.in_err-put_pad.field-0.0 c.in_err-put_pad.ensures.fault early))
+
+pub returns-in_err-put_pad-clause-keeps_up : goal.returns-in_err-put_pad-clause-keeps_up
+returns-in_err-put_pad-clause-keeps_up g c =
+    let e = err_from_is_err_and c.from_residual-in_err-put_pad.result c.from_residual-in_err-put_pad.ensures.1 in
+    rw (e.1, e.2) (λ stops. absurd (writing_goes_on c.in_err-put_pad.field-0.0 c.in_err-put_pad.ensures.fault stops))

@@ -35,10 +35,18 @@ pub(crate) fn play_sound<R: Read, W: Write>(
     requires outlet_ready { outlet_failures outlet.old < 2 ^ 64 - 1 }
     ensures same_reader { IsSame reader.old reader.new }
     ensures reading { OnOk result (IsReading reader.new) }
-    ensures ok { OnOk result (PlaysSound R.remaining reader.old.inlet.now reader.new.inlet.now taps.now sound.now reader.old.ahead.now.items reader.new.ahead.now.items (W.contents (outlet_writer outlet.old)) (W.contents (outlet_writer outlet.new))) }
-    ensures front { OnErr result (PlaysFront (R.remaining (inlet_reader reader.old.inlet.now)) taps.now sound.now reader.old.ahead.now.items (W.contents (outlet_writer outlet.old)) (W.contents (outlet_writer outlet.new))) }
-    ensures fault { IfErr result (IsSoundFault (R.remaining (inlet_reader reader.old.inlet.now)) reader.old.ahead.now.items sound.now) }
-    ensures stopped { IfErr result (λ f. StopsReading f → PlaysGivenSound (R.remaining (inlet_reader reader.old.inlet.now)) (inlet_given reader.old.inlet.now) (inlet_given reader.new.inlet.now) taps.now sound.now reader.old.ahead.now.items (W.contents (outlet_writer outlet.old)) (W.contents (outlet_writer outlet.new))) }
+    ensures ok { OnOk result (PlaysSound R.remaining reader.old.inlet.now reader.new.inlet.now taps.now sound.now
+        reader.old.ahead.now.items reader.new.ahead.now.items (W.contents (outlet_writer outlet.old))
+        (W.contents (outlet_writer outlet.new))) }
+    ensures front { OnErr result (PlaysFront
+        (R.remaining (inlet_reader reader.old.inlet.now)) taps.now sound.now reader.old.ahead.now.items
+        (W.contents (outlet_writer outlet.old)) (W.contents (outlet_writer outlet.new))) }
+    ensures fault { IfErr result (IsSoundFault
+        (R.remaining (inlet_reader reader.old.inlet.now)) reader.old.ahead.now.items sound.now) }
+    ensures stopped { IfErr result (λ f. StopsReading f
+        → PlaysGivenSound (R.remaining (inlet_reader reader.old.inlet.now)) (inlet_given reader.old.inlet.now)
+        (inlet_given reader.new.inlet.now) taps.now sound.now reader.old.ahead.now.items
+        (W.contents (outlet_writer outlet.old)) (W.contents (outlet_writer outlet.new))) }
     ensures counts { Counts reader.old reader.new result }
     ensures write_failed { outlet_failures outlet.new ≡ outlet_failures outlet.old + failed_writes result }
 {
@@ -68,9 +76,12 @@ fn put_due<W: Write>(
     requires few { fed_of player.old + length piece.now ≤ (sound_of player.old).size }
     requires ready { outlet_failures outlet.old < 2 ^ 64 - 1 }
     ensures player { OnOk result (IsPlayer player.new) }
-    ensures same { OnOk result ((filter_of player.new ≡ filter_of player.old) × (sound_of player.new ≡ sound_of player.old) × (fed_of player.new ≡ fed_of player.old + length piece.now)) }
-    ensures ok { OnOk result (PutsDue player.old player.new piece.now (W.contents (outlet_writer outlet.old)) (W.contents (outlet_writer outlet.new))) }
-    ensures front { OnErr result (PutsFrontOf player.old piece.now (W.contents (outlet_writer outlet.old)) (W.contents (outlet_writer outlet.new))) }
+    ensures same { OnOk result ((filter_of player.new ≡ filter_of player.old)
+        × (sound_of player.new ≡ sound_of player.old) × (fed_of player.new ≡ fed_of player.old + length piece.now)) }
+    ensures ok { OnOk result (PutsDue player.old player.new piece.now (W.contents (outlet_writer outlet.old))
+        (W.contents (outlet_writer outlet.new))) }
+    ensures front { OnErr result (PutsFrontOf player.old piece.now (W.contents (outlet_writer outlet.old))
+        (W.contents (outlet_writer outlet.new))) }
     ensures fault { IfErr result IsWritingFault }
     ensures failures { outlet_failures outlet.new ≡ outlet_failures outlet.old + failed_writes result }
 {
@@ -88,8 +99,10 @@ fn put_rest<W: Write>(
     requires player { IsPlayer player.old }
     requires all { fed_of player.old ≡ (sound_of player.old).size }
     requires ready { outlet_failures outlet.old < 2 ^ 64 - 1 }
-    ensures ok { OnOk result (PutsRest player.old (W.contents (outlet_writer outlet.old)) (W.contents (outlet_writer outlet.new))) }
-    ensures front { OnErr result (PutsFrontOf player.old [] (W.contents (outlet_writer outlet.old)) (W.contents (outlet_writer outlet.new))) }
+    ensures ok { OnOk result (PutsRest player.old (W.contents (outlet_writer outlet.old))
+        (W.contents (outlet_writer outlet.new))) }
+    ensures front { OnErr result (PutsFrontOf player.old [] (W.contents (outlet_writer outlet.old))
+        (W.contents (outlet_writer outlet.new))) }
     ensures fault { IfErr result IsWritingFault }
     ensures failures { outlet_failures outlet.new ≡ outlet_failures outlet.old + failed_writes result }
 {
@@ -114,11 +127,18 @@ fn play_rest<R: Read, W: Write>(
     ensures same_reader { IsSame reader.old reader.new }
     ensures reading { OnOk result (IsReading reader.new) }
     ensures player { OnOk result (IsPlayer player.new) }
-    ensures same { OnOk result ((filter_of player.new ≡ filter_of player.old) × (sound_of player.new ≡ sound_of player.old) × (fed_of player.new ≡ fed_of player.old + wanted)) }
-    ensures ok { OnOk result (PlaysPart R.remaining reader.old.inlet.now reader.new.inlet.now player.old player.new wanted wanted reader.old.ahead.now.items reader.new.ahead.now.items (W.contents (outlet_writer outlet.old)) (W.contents (outlet_writer outlet.new))) }
-    ensures front { OnErr result (PutsFrontLeft (R.remaining (inlet_reader reader.old.inlet.now)) player.old wanted (W.contents (outlet_writer outlet.old)) (W.contents (outlet_writer outlet.new))) }
+    ensures same { OnOk result ((filter_of player.new ≡ filter_of player.old)
+        × (sound_of player.new ≡ sound_of player.old) × (fed_of player.new ≡ fed_of player.old + wanted)) }
+    ensures ok { OnOk result (PlaysPart R.remaining reader.old.inlet.now reader.new.inlet.now player.old player.new
+        wanted wanted reader.old.ahead.now.items reader.new.ahead.now.items (W.contents (outlet_writer outlet.old))
+        (W.contents (outlet_writer outlet.new))) }
+    ensures front { OnErr result (PutsFrontLeft (R.remaining (inlet_reader reader.old.inlet.now)) player.old wanted
+        (W.contents (outlet_writer outlet.old)) (W.contents (outlet_writer outlet.new))) }
     ensures fault { IfErr result (IsPieceFault (R.remaining (inlet_reader reader.old.inlet.now)) wanted) }
-    ensures stopped { IfErr result (λ f. StopsReading f → PlaysGivenPart (R.remaining (inlet_reader reader.old.inlet.now)) (inlet_given reader.old.inlet.now) (inlet_given reader.new.inlet.now) player.old wanted (W.contents (outlet_writer outlet.old)) (W.contents (outlet_writer outlet.new))) }
+    ensures stopped { IfErr result (λ f. StopsReading f
+        → PlaysGivenPart (R.remaining (inlet_reader reader.old.inlet.now)) (inlet_given reader.old.inlet.now)
+        (inlet_given reader.new.inlet.now) player.old wanted (W.contents (outlet_writer outlet.old))
+        (W.contents (outlet_writer outlet.new))) }
     ensures counts { Counts reader.old reader.new result }
     ensures write_failed { outlet_failures outlet.new ≡ outlet_failures outlet.old + failed_writes result }
 {
@@ -146,11 +166,17 @@ fn play_read<R: Read, W: Write>(
     ensures reading { OnOk result (IsReading reader.new) }
     ensures some { IfOk result (λ n. (1 ≤ n) × (n ≤ wanted)) }
     ensures player { OnOk result (IsPlayer player.new) }
-    ensures same { IfOk result (λ n. (filter_of player.new ≡ filter_of player.old) × (sound_of player.new ≡ sound_of player.old) × (fed_of player.new ≡ fed_of player.old + n)) }
-    ensures ok { IfOk result (λ n. PlaysPart R.remaining reader.old.inlet.now reader.new.inlet.now player.old player.new wanted n reader.old.ahead.now.items reader.new.ahead.now.items (W.contents (outlet_writer outlet.old)) (W.contents (outlet_writer outlet.new))) }
-    ensures front { OnErr result (PutsFrontLeft (R.remaining (inlet_reader reader.old.inlet.now)) player.old wanted (W.contents (outlet_writer outlet.old)) (W.contents (outlet_writer outlet.new))) }
+    ensures same { IfOk result (λ n. (filter_of player.new ≡ filter_of player.old)
+        × (sound_of player.new ≡ sound_of player.old) × (fed_of player.new ≡ fed_of player.old + n)) }
+    ensures ok { IfOk result (λ n. PlaysPart R.remaining reader.old.inlet.now reader.new.inlet.now player.old player.new
+        wanted n reader.old.ahead.now.items reader.new.ahead.now.items (W.contents (outlet_writer outlet.old))
+        (W.contents (outlet_writer outlet.new))) }
+    ensures front { OnErr result (PutsFrontLeft (R.remaining (inlet_reader reader.old.inlet.now)) player.old wanted
+        (W.contents (outlet_writer outlet.old)) (W.contents (outlet_writer outlet.new))) }
     ensures fault { IfErr result (IsPieceFault (R.remaining (inlet_reader reader.old.inlet.now)) wanted) }
-    ensures stopped { IfErr result (λ f. StopsReading f → (outlet_writer outlet.new ≡ outlet_writer outlet.old) × (inlet_given reader.new.inlet.now ≡ inlet_given reader.old.inlet.now)) }
+    ensures stopped { IfErr result (λ f. StopsReading f
+        → (outlet_writer outlet.new ≡ outlet_writer outlet.old)
+        × (inlet_given reader.new.inlet.now ≡ inlet_given reader.old.inlet.now)) }
     ensures counts { Counts reader.old reader.new result }
     ensures write_failed { outlet_failures outlet.new ≡ outlet_failures outlet.old + failed_writes result }
 {
@@ -175,11 +201,14 @@ fn play_bytes<W: Write>(
     requires few { fed_of player.old + wanted ≤ (sound_of player.old).size }
     requires ready { outlet_failures outlet.old < 2 ^ 64 - 1 }
     ensures player { OnOk result (IsPlayer player.new) }
-    ensures same { IfOk result (λ n. (filter_of player.new ≡ filter_of player.old) × (sound_of player.new ≡ sound_of player.old) × (fed_of player.new ≡ fed_of player.old + n)) }
+    ensures same { IfOk result (λ n. (filter_of player.new ≡ filter_of player.old)
+        × (sound_of player.new ≡ sound_of player.old) × (fed_of player.new ≡ fed_of player.old + n)) }
     ensures number { IfOk result (λ n. n ≡ length (take wanted bytes.now)) }
-    ensures ok { OnOk result (PutsDue player.old player.new (take wanted bytes.now) (W.contents (outlet_writer outlet.old)) (W.contents (outlet_writer outlet.new))) }
+    ensures ok { OnOk result (PutsDue player.old player.new (take wanted bytes.now)
+        (W.contents (outlet_writer outlet.old)) (W.contents (outlet_writer outlet.new))) }
     ensures kept { OnOk result (back.new.items ≡ back.old.items ++ drop wanted bytes.now) }
-    ensures front { OnErr result (PutsFrontOf player.old (take wanted bytes.now) (W.contents (outlet_writer outlet.old)) (W.contents (outlet_writer outlet.new))) }
+    ensures front { OnErr result (PutsFrontOf player.old (take wanted bytes.now) (W.contents (outlet_writer outlet.old))
+        (W.contents (outlet_writer outlet.new))) }
     ensures fault { IfErr result IsWritingFault }
     ensures failures { outlet_failures outlet.new ≡ outlet_failures outlet.old + failed_writes result }
 {

@@ -34,18 +34,23 @@ pub fn play<R: Read, W: Write>(
     requires reads_low { inlet_reads inlet.old < 2 ^ 63 }
     requires given_low { inlet_given inlet.old < 2 ^ 63 }
     // What the reader's file plays was written, however its reads are cut.
-    ensures ok { IfOk result (PlaysFile (R.remaining (inlet_reader inlet.old)) (PlaysBy taps.now) (W.contents (outlet_writer outlet.old)) (W.contents (outlet_writer outlet.new))) }
+    ensures ok { IfOk result (PlaysFile (R.remaining (inlet_reader inlet.old)) (PlaysBy taps.now)
+        (W.contents (outlet_writer outlet.old)) (W.contents (outlet_writer outlet.new))) }
     // The same of what was read, where the reader doesn't tell its bytes.
-    ensures any_reader { IfOk result (PlaysGiven R.remaining inlet.old inlet.new (PlaysBy taps.now) (W.contents (outlet_writer outlet.old)) (W.contents (outlet_writer outlet.new))) }
+    ensures any_reader { IfOk result (PlaysGiven R.remaining inlet.old inlet.new (PlaysBy taps.now)
+        (W.contents (outlet_writer outlet.old)) (W.contents (outlet_writer outlet.new))) }
     // A fault of the file stands; what is played is refused from outside alone, and a front of it was written.
     ensures fault { IfErr result (λ f. IfSome (R.remaining (inlet_reader inlet.old)) (λ file. Stands taps.now file f)) }
     ensures cause { IfErr result (OnlyFromOutside (R.remaining (inlet_reader inlet.old)) taps.now) }
     // Of a sound that isn't played nothing is written.
     ensures unwritten { IfErr result (λ f. IsBeforeWriting f → outlet_writer outlet.new ≡ outlet_writer outlet.old) }
-    ensures front { OnErr result (WritesFront (R.remaining (inlet_reader inlet.old)) (PlaysBy taps.now) (W.contents (outlet_writer outlet.old)) (W.contents (outlet_writer outlet.new))) }
+    ensures front { OnErr result (WritesFront (R.remaining (inlet_reader inlet.old)) (PlaysBy taps.now)
+        (W.contents (outlet_writer outlet.old)) (W.contents (outlet_writer outlet.new))) }
     // Where the reading stops, what was written lags behind by at most 131,072 bytes of the one sound that the
     // file tells of.
-    ensures keeps_up { IfErr result (λ f. StopsReading f → KeepsUp (R.remaining (inlet_reader inlet.old)) taps.now [] (inlet_given inlet.new - inlet_given inlet.old) (W.contents (outlet_writer outlet.old)) (W.contents (outlet_writer outlet.new))) }
+    ensures keeps_up { IfErr result (λ f. StopsReading f
+        → KeepsUp (R.remaining (inlet_reader inlet.old)) taps.now [] (inlet_given inlet.new - inlet_given inlet.old)
+        (W.contents (outlet_writer outlet.old)) (W.contents (outlet_writer outlet.new))) }
     ensures read_failed { inlet_failures inlet.new ≡ inlet_failures inlet.old + failed_reads result }
     ensures write_failed { outlet_failures outlet.new ≡ outlet_failures outlet.old + failed_writes result }
     // Whatever is answered, there were at most 2^40 reads.
@@ -69,13 +74,20 @@ fn play_file<R: Read, W: Write>(
     requires start { IsAtStart reader.old }
     requires outlet_ready { outlet_failures outlet.old < 2 ^ 64 - 1 }
     ensures same { IsSame reader.old reader.new }
-    ensures ok { IfOk result (PlaysFile (R.remaining (inlet_reader reader.old.inlet.now)) (PlaysBy taps.now) (W.contents (outlet_writer outlet.old)) (W.contents (outlet_writer outlet.new))) }
-    ensures any_reader { IfOk result (PlaysGiven R.remaining reader.old.inlet.now reader.new.inlet.now (PlaysBy taps.now) (W.contents (outlet_writer outlet.old)) (W.contents (outlet_writer outlet.new))) }
-    ensures fault { IfErr result (λ f. IfSome (R.remaining (inlet_reader reader.old.inlet.now)) (λ file. Stands taps.now file f)) }
+    ensures ok { IfOk result (PlaysFile (R.remaining (inlet_reader reader.old.inlet.now)) (PlaysBy taps.now)
+        (W.contents (outlet_writer outlet.old)) (W.contents (outlet_writer outlet.new))) }
+    ensures any_reader { IfOk result (PlaysGiven R.remaining reader.old.inlet.now reader.new.inlet.now
+        (PlaysBy taps.now) (W.contents (outlet_writer outlet.old)) (W.contents (outlet_writer outlet.new))) }
+    ensures fault { IfErr result (λ f. IfSome (R.remaining (inlet_reader reader.old.inlet.now))
+        (λ file. Stands taps.now file f)) }
     ensures cause { IfErr result (OnlyFromOutside (R.remaining (inlet_reader reader.old.inlet.now)) taps.now) }
     ensures unwritten { IfErr result (λ f. IsBeforeWriting f → outlet_writer outlet.new ≡ outlet_writer outlet.old) }
-    ensures front { OnErr result (WritesFront (R.remaining (inlet_reader reader.old.inlet.now)) (PlaysBy taps.now) (W.contents (outlet_writer outlet.old)) (W.contents (outlet_writer outlet.new))) }
-    ensures keeps_up { IfErr result (λ f. StopsReading f → KeepsUp (R.remaining (inlet_reader reader.old.inlet.now)) taps.now [] (inlet_given reader.new.inlet.now - inlet_given reader.old.inlet.now) (W.contents (outlet_writer outlet.old)) (W.contents (outlet_writer outlet.new))) }
+    ensures front { OnErr result (WritesFront (R.remaining (inlet_reader reader.old.inlet.now)) (PlaysBy taps.now)
+        (W.contents (outlet_writer outlet.old)) (W.contents (outlet_writer outlet.new))) }
+    ensures keeps_up { IfErr result (λ f. StopsReading f
+        → KeepsUp (R.remaining (inlet_reader reader.old.inlet.now)) taps.now []
+        (inlet_given reader.new.inlet.now - inlet_given reader.old.inlet.now) (W.contents (outlet_writer outlet.old))
+        (W.contents (outlet_writer outlet.new))) }
     ensures counts { Counts reader.old reader.new result }
     ensures write_failed { outlet_failures outlet.new ≡ outlet_failures outlet.old + failed_writes result }
 {
@@ -98,11 +110,18 @@ fn play_found<R: Read, W: Write>(
     requires reading { IsReading reader.old }
     requires outlet_ready { outlet_failures outlet.old < 2 ^ 64 - 1 }
     ensures same { IsSame reader.old reader.new }
-    ensures ok { IfOk result (PlaysRead R.remaining reader.old.inlet.now reader.new.inlet.now taps.now reader.old.ahead.now.items (W.contents (outlet_writer outlet.old)) (W.contents (outlet_writer outlet.new))) }
-    ensures fault { IfErr result (λ f. IfSome (R.remaining (inlet_reader reader.old.inlet.now)) (λ left. Stands taps.now (reader.old.ahead.now.items ++ left) f)) }
+    ensures ok { IfOk result (PlaysRead R.remaining reader.old.inlet.now reader.new.inlet.now taps.now
+        reader.old.ahead.now.items (W.contents (outlet_writer outlet.old)) (W.contents (outlet_writer outlet.new))) }
+    ensures fault { IfErr result (λ f. IfSome (R.remaining (inlet_reader reader.old.inlet.now)) (λ left. Stands taps.now
+        (reader.old.ahead.now.items ++ left) f)) }
     ensures unwritten { IfErr result (λ f. IsBeforeWriting f → outlet_writer outlet.new ≡ outlet_writer outlet.old) }
-    ensures front { OnErr result (WritesFront (R.remaining (inlet_reader reader.old.inlet.now)) (PlaysBehind taps.now reader.old.ahead.now.items) (W.contents (outlet_writer outlet.old)) (W.contents (outlet_writer outlet.new))) }
-    ensures keeps_up { IfErr result (λ f. StopsReading f → KeepsUp (R.remaining (inlet_reader reader.old.inlet.now)) taps.now reader.old.ahead.now.items (inlet_given reader.new.inlet.now - reader.old.given) (W.contents (outlet_writer outlet.old)) (W.contents (outlet_writer outlet.new))) }
+    ensures front { OnErr result (WritesFront (R.remaining (inlet_reader reader.old.inlet.now))
+        (PlaysBehind taps.now reader.old.ahead.now.items) (W.contents (outlet_writer outlet.old))
+        (W.contents (outlet_writer outlet.new))) }
+    ensures keeps_up { IfErr result (λ f. StopsReading f
+        → KeepsUp (R.remaining (inlet_reader reader.old.inlet.now)) taps.now reader.old.ahead.now.items
+        (inlet_given reader.new.inlet.now - reader.old.given) (W.contents (outlet_writer outlet.old))
+        (W.contents (outlet_writer outlet.new))) }
     ensures counts { Counts reader.old reader.new result }
     ensures write_failed { outlet_failures outlet.new ≡ outlet_failures outlet.old + failed_writes result }
 {

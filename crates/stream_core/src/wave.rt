@@ -22,8 +22,10 @@ use wave_core::{WaveFault, WaveSpec};
 /// Refusal: `WriteFailed`; a front of them went out.
 pub(crate) fn put<W: Write>(outlet: &mut Outlet<W>, bytes: &[u8]) -> Result<(), StreamFault>
     requires ready { outlet_failures outlet.old < 2 ^ 64 - 1 }
-    ensures ok { OnOk result (Appends (W.contents (outlet_writer outlet.old)) (W.contents (outlet_writer outlet.new)) bytes.now) }
-    ensures err { OnErr result (AppendsFront (W.contents (outlet_writer outlet.old)) (W.contents (outlet_writer outlet.new)) bytes.now) }
+    ensures ok { OnOk result (Appends (W.contents (outlet_writer outlet.old))
+        (W.contents (outlet_writer outlet.new)) bytes.now) }
+    ensures err { OnErr result (AppendsFront (W.contents (outlet_writer outlet.old))
+        (W.contents (outlet_writer outlet.new)) bytes.now) }
     ensures failures { outlet_failures outlet.new ≡ outlet_failures outlet.old + failed_writes result }
     ensures fault { IfErr result IsWritingFault }
 {
@@ -68,8 +70,10 @@ pub(crate) fn put_header<W: Write>(
 ) -> Result<(), StreamFault>
     requires sound { IsSound sound.now }
     requires ready { outlet_failures outlet.old < 2 ^ 64 - 1 }
-    ensures ok { OnOk result (OpensWave taps.now sound.now (W.contents (outlet_writer outlet.old)) (W.contents (outlet_writer outlet.new))) }
-    ensures err { OnErr result (AppendsFront (W.contents (outlet_writer outlet.old)) (W.contents (outlet_writer outlet.new)) (header_of taps.now sound.now)) }
+    ensures ok { OnOk result (OpensWave taps.now sound.now (W.contents (outlet_writer outlet.old))
+        (W.contents (outlet_writer outlet.new))) }
+    ensures err { OnErr result (AppendsFront (W.contents (outlet_writer outlet.old))
+        (W.contents (outlet_writer outlet.new)) (header_of taps.now sound.now)) }
     ensures least { OnOk result (8 ≤ taps.now.factor) }
     ensures fault { IfErr result (IsOpeningFault taps.now sound.now) }
     ensures unwritten { IfErr result (λ f. IsBeforeWriting f → outlet_writer outlet.new ≡ outlet_writer outlet.old) }
@@ -97,8 +101,10 @@ pub(crate) fn put_pad<W: Write>(
 ) -> Result<(), StreamFault>
     requires sound { IsSound sound.now }
     requires ready { outlet_failures outlet.old < 2 ^ 64 - 1 }
-    ensures ok { OnOk result (Appends (W.contents (outlet_writer outlet.old)) (W.contents (outlet_writer outlet.new)) (pad_of taps.now sound.now)) }
-    ensures err { OnErr result (AppendsFront (W.contents (outlet_writer outlet.old)) (W.contents (outlet_writer outlet.new)) (pad_of taps.now sound.now)) }
+    ensures ok { OnOk result (Appends (W.contents (outlet_writer outlet.old)) (W.contents (outlet_writer outlet.new))
+        (pad_of taps.now sound.now)) }
+    ensures err { OnErr result (AppendsFront (W.contents (outlet_writer outlet.old))
+        (W.contents (outlet_writer outlet.new)) (pad_of taps.now sound.now)) }
     ensures fault { IfErr result IsWritingFault }
     ensures failures { outlet_failures outlet.new ≡ outlet_failures outlet.old + failed_writes result }
 {

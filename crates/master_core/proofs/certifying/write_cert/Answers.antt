@@ -8,46 +8,39 @@ use Rattle.device_core.specs.Outlets.{AppendsPart, outlet_writer}
 use Rattle.master_core.specs.Choosing.{chosen_claims}
 use Rattle.master_core.proofs.CertLaws.{cert_cut, cert_whole, failed_write, head_cut, on_err, on_ok, part_is_front}
 use Rattle.master_core.proofs.ChoiceLaws.{claim_number, showable}
+use Rattle.master_core.proofs.certifying.write_cert.Given.{Over}
 use Rattle.master_core.proofs.certifying.write_cert.Goals as goal
+use Rattle.master_core.proofs.certifying.write_cert.Goals.{After-len, In-Ok}
+
+-- the head announces as many entries as there are claims
+announced : (g : Over) (c : After-len g) → c.len.result ≡ length (chosen_claims c.args.cut.now c.args.bridges.now.places.items c.args.bridges.now.chosen.items)
+announced g c = omega (arith, c.len.ensures, c.args.bridges.now.places.ok.0, claim_number c.args.cut.now c.args.bridges.now c.requires.bridges)
+
+-- and it was written
+begun : (g : Over) (c : In-Ok g) → Appends (g.W.Write.contents (outlet_writer (cert_outlet c.args.writer.now))) (g.W.Write.contents (outlet_writer (cert_outlet c.begin.new.self))) (cert_head Two (length c.args.cut.now.splice.weights) c.len.result)
+begun g c =
+    let a = g.W.Write.contents (outlet_writer (cert_outlet c.args.writer.now)) in
+    let b = g.W.Write.contents (outlet_writer (cert_outlet c.begin.new.self)) in
+    let told = subst (λ (v : Version). Appends a b (cert_head v (cert_weights c.args.writer.now) c.len.result)) c.requires.fresh.version_is c.in-Ok.ensures.ok in
+    subst (λ n. Appends a b (cert_head Two n c.len.result)) c.requires.fresh.weights_are told
 
 pub returns-in_default-clause-err : goal.returns-in_default-clause-err
 returns-in_default-clause-err g c =
     let cut = c.args.cut.now in
     let made = c.args.bridges.now in
-    let weights = length cut.splice.weights in
-    let claims = chosen_claims cut made.places.items made.chosen.items in
     let a = g.W.Write.contents (outlet_writer (cert_outlet c.args.writer.now)) in
     let b = g.W.Write.contents (outlet_writer (cert_outlet c.begin.new.self)) in
-    let long : c.len.result ≡ length claims = omega (arith, c.len.ensures, made.places.ok.0, claim_number cut made c.requires.bridges) in
     failed_write c.in_default.field-0 (has_failed c.args.writer.now) c.requires.fresh.fine c.in_default.ensures.failed (λ e.
     let told = subst (λ (v : Version). AppendsPart a b (cert_head v (cert_weights c.args.writer.now) c.len.result)) c.requires.fresh.version_is (c.in_default.ensures.device e) in
     let part = subst (λ n. AppendsPart a b (cert_head Two n c.len.result)) c.requires.fresh.weights_are told in
-    head_cut c.read_is_cert.ensures.read weights c.len.result claims long c.cut_rows_are_valid.ensures (showable cut made c.requires.bridges) a b (part_is_front a b _ part))
+    head_cut c.read_is_cert.ensures.read (length cut.splice.weights) c.len.result _ (announced g (goal.at.returns-in_default-clause-err g c).After-len) c.cut_rows_are_valid.ensures (showable cut made c.requires.bridges) a b (part_is_front a b _ part))
 
 pub returns-clause-ok : goal.returns-clause-ok
 returns-clause-ok g c =
-    let cut = c.args.cut.now in
-    let made = c.args.bridges.now in
-    let weights = length cut.splice.weights in
-    let claims = chosen_claims cut made.places.items made.chosen.items in
-    let a = g.W.Write.contents (outlet_writer (cert_outlet c.args.writer.now)) in
-    let b = g.W.Write.contents (outlet_writer (cert_outlet c.begin.new.self)) in
-    let e = g.W.Write.contents (outlet_writer (cert_outlet c.write_entries.new.writer)) in
-    let long : c.len.result ≡ length claims = omega (arith, c.len.ensures, made.places.ok.0, claim_number cut made c.requires.bridges) in
-    let told = subst (λ (v : Version). Appends a b (cert_head v (cert_weights c.args.writer.now) c.len.result)) c.requires.fresh.version_is c.in-Ok.ensures.ok in
-    let first = subst (λ n. Appends a b (cert_head Two n c.len.result)) c.requires.fresh.weights_are told in
-    on_ok c.write_entries.result c.write_entries.ensures.ok (λ rest. cert_whole c.read_is_cert.ensures.read weights c.len.result claims long a b e first rest)
+    let at = goal.at.returns-clause-ok g c in
+    on_ok c.write_entries.result c.write_entries.ensures.ok (λ rest. cert_whole c.read_is_cert.ensures.read _ c.len.result _ (announced g at.After-len) _ _ _ (begun g at.In-Ok) rest)
 
 pub returns-clause-err : goal.returns-clause-err
 returns-clause-err g c =
-    let cut = c.args.cut.now in
-    let made = c.args.bridges.now in
-    let weights = length cut.splice.weights in
-    let claims = chosen_claims cut made.places.items made.chosen.items in
-    let a = g.W.Write.contents (outlet_writer (cert_outlet c.args.writer.now)) in
-    let b = g.W.Write.contents (outlet_writer (cert_outlet c.begin.new.self)) in
-    let e = g.W.Write.contents (outlet_writer (cert_outlet c.write_entries.new.writer)) in
-    let long : c.len.result ≡ length claims = omega (arith, c.len.ensures, made.places.ok.0, claim_number cut made c.requires.bridges) in
-    let told = subst (λ (v : Version). Appends a b (cert_head v (cert_weights c.args.writer.now) c.len.result)) c.requires.fresh.version_is c.in-Ok.ensures.ok in
-    let first = subst (λ n. Appends a b (cert_head Two n c.len.result)) c.requires.fresh.weights_are told in
-    on_err c.write_entries.result c.write_entries.ensures.err (λ rest. cert_cut c.read_is_cert.ensures.read weights c.len.result claims long a b e first rest)
+    let at = goal.at.returns-clause-err g c in
+    on_err c.write_entries.result c.write_entries.ensures.err (λ rest. cert_cut c.read_is_cert.ensures.read _ c.len.result _ (announced g at.After-len) _ _ _ (begun g at.In-Ok) rest)

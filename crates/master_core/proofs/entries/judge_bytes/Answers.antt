@@ -1,10 +1,29 @@
-use Rattle.std.proofs.Common.{None, Some}
+use Rattle.std.proofs.Common.{Bool, List, None, Some, length}
 use Rattle.device_core.specs.Inlets.{inlet_reader}
 use Rattle.cert_core.specs.Readers.{cert_inlet}
+use Rattle.master_core.specs.Claims.{claims}
+use Rattle.master_core.specs.Judging.{JudgesHead, ShowsClaims}
 use Rattle.master_core.specs.declared.verdict.Verdict.TheVariants.{Accepted, Rejected}
 use Rattle.master_core.proofs.EntryLaws.{all_accepted, claims_at, entries_rejected, head_at, head_rejected, more_rejected, same_claims}
-use Rattle.master_core.specs.Standing.{claim_from}
+use Rattle.master_core.specs.Standing.{AreBitsOf, claim_from}
+use Rattle.master_core.proofs.entries.judge_bytes.Given.{Over}
 use Rattle.master_core.proofs.entries.judge_bytes.Goals as goal
+use Rattle.master_core.proofs.entries.judge_bytes.Goals.{In-Accepted, In_default}
+
+-- the head was read, and then entries that show all claims, whichever channels have these bits
+head_read : (g : Over) (c : In_default g) (zs : List (List Bool)) → AreBitsOf c.args.cut.now c.args.source zs
+    → JudgesHead c.judge_head.new.reader.version (length c.args.cut.now.splice.weights) (length (claims c.args.cut.now zs)) (g.R.Read.remaining (inlet_reader (cert_inlet c.args.reader.now))) (g.R.Read.remaining (inlet_reader (cert_inlet c.judge_head.new.reader))) None
+head_read g c zs bits =
+    let cut = c.args.cut.now in
+    let are = same_claims cut c.args.source zs c.args.places.now c.requires.places c.requires.each bits in
+    head_at cut zs (claim_from cut c.args.source) c.args.places.now are c.judge_head.new.reader.version _ _ c.in_ok-reason.field-0 None c.in_default.is c.in_ok-reason.ensures.judged
+
+all_shown : (g : Over) (c : In-Accepted g) (zs : List (List Bool)) → AreBitsOf c.args.cut.now c.args.source zs
+    → ShowsClaims c.judge_head.new.reader.version (claims c.args.cut.now zs) (g.R.Read.remaining (inlet_reader (cert_inlet c.judge_head.new.reader))) (g.R.Read.remaining (inlet_reader (cert_inlet c.judge_entries.new.reader))) c.in-Accepted.total
+all_shown g c zs bits =
+    let cut = c.args.cut.now in
+    let are = same_claims cut c.args.source zs c.args.places.now c.requires.places c.requires.each bits in
+    claims_at cut zs (claim_from cut c.args.source) c.args.places.now are c.judge_head.new.reader.version _ _ c.in_ok-verdict.verdict (Accepted c.in-Accepted.total) c.in-Accepted.is c.in_ok-verdict.ensures.judged
 
 pub returns-in-Some-clause-judged : goal.returns-in-Some-clause-judged
 returns-in-Some-clause-judged g c = λ zs bits.
@@ -19,36 +38,19 @@ returns-in-Some-clause-judged g c = λ zs bits.
 pub returns-in-Rejected-clause-judged : goal.returns-in-Rejected-clause-judged
 returns-in-Rejected-clause-judged g c = λ zs bits.
     let cut = c.args.cut.now in
-    let f = claim_from cut c.args.source in
     let are = same_claims cut c.args.source zs c.args.places.now c.requires.places c.requires.each bits in
-    let from = g.R.Read.remaining (inlet_reader (cert_inlet c.args.reader.now)) in
     let here = g.R.Read.remaining (inlet_reader (cert_inlet c.judge_head.new.reader)) in
     let to = g.R.Read.remaining (inlet_reader (cert_inlet c.judge_entries.new.reader)) in
-    let read = head_at cut zs f c.args.places.now are c.judge_head.new.reader.version from here c.in_ok-reason.field-0 None c.in_default.is c.in_ok-reason.ensures.judged in
     let reason = c.in-Rejected.reason in
-    let wrong = claims_at cut zs f c.args.places.now are c.judge_head.new.reader.version here to c.in_ok-verdict.verdict (Rejected reason) c.in-Rejected.is c.in_ok-verdict.ensures.judged in
-    entries_rejected cut zs c.judge_head.new.reader.version from here read c.read_is_cert.ensures.only to reason wrong
+    let wrong = claims_at cut zs (claim_from cut c.args.source) c.args.places.now are c.judge_head.new.reader.version here to c.in_ok-verdict.verdict (Rejected reason) c.in-Rejected.is c.in_ok-verdict.ensures.judged in
+    entries_rejected cut zs c.judge_head.new.reader.version _ here (head_read g (goal.at.returns-in-Rejected-clause-judged g c).In_default zs bits) c.read_is_cert.ensures.only to reason wrong
 
 pub returns-then-branch-clause-judged : goal.returns-then-branch-clause-judged
 returns-then-branch-clause-judged g c = λ zs bits.
-    let cut = c.args.cut.now in
-    let f = claim_from cut c.args.source in
-    let are = same_claims cut c.args.source zs c.args.places.now c.requires.places c.requires.each bits in
-    let from = g.R.Read.remaining (inlet_reader (cert_inlet c.args.reader.now)) in
-    let here = g.R.Read.remaining (inlet_reader (cert_inlet c.judge_head.new.reader)) in
-    let to = g.R.Read.remaining (inlet_reader (cert_inlet c.judge_entries.new.reader)) in
-    let read = head_at cut zs f c.args.places.now are c.judge_head.new.reader.version from here c.in_ok-reason.field-0 None c.in_default.is c.in_ok-reason.ensures.judged in
-    let shows = claims_at cut zs f c.args.places.now are c.judge_head.new.reader.version here to c.in_ok-verdict.verdict (Accepted c.in-Accepted.total) c.in-Accepted.is c.in_ok-verdict.ensures.judged in
-    more_rejected cut zs c.judge_head.new.reader.version from here read to c.in-Accepted.total shows c.read_is_cert.ensures.only c.cert_goes_on.ensures.end (c.in_ok-has_more-in-Accepted.ensures.more c.if-branch.true)
+    let at = goal.at.returns-then-branch-clause-judged g c in
+    more_rejected c.args.cut.now zs c.judge_head.new.reader.version _ _ (head_read g at.In_default zs bits) _ c.in-Accepted.total (all_shown g at.In-Accepted zs bits) c.read_is_cert.ensures.only c.cert_goes_on.ensures.end (c.in_ok-has_more-in-Accepted.ensures.more c.if-branch.true)
 
 pub returns-else-branch-clause-judged : goal.returns-else-branch-clause-judged
 returns-else-branch-clause-judged g c = λ zs bits.
-    let cut = c.args.cut.now in
-    let f = claim_from cut c.args.source in
-    let are = same_claims cut c.args.source zs c.args.places.now c.requires.places c.requires.each bits in
-    let from = g.R.Read.remaining (inlet_reader (cert_inlet c.args.reader.now)) in
-    let here = g.R.Read.remaining (inlet_reader (cert_inlet c.judge_head.new.reader)) in
-    let to = g.R.Read.remaining (inlet_reader (cert_inlet c.judge_entries.new.reader)) in
-    let read = head_at cut zs f c.args.places.now are c.judge_head.new.reader.version from here c.in_ok-reason.field-0 None c.in_default.is c.in_ok-reason.ensures.judged in
-    let shows = claims_at cut zs f c.args.places.now are c.judge_head.new.reader.version here to c.in_ok-verdict.verdict (Accepted c.in-Accepted.total) c.in-Accepted.is c.in_ok-verdict.ensures.judged in
-    all_accepted cut zs c.judge_head.new.reader.version from here read to c.in-Accepted.total shows c.read_is_cert.ensures.read (c.in_ok-has_more-in-Accepted.ensures.end c.if-branch.false)
+    let at = goal.at.returns-else-branch-clause-judged g c in
+    all_accepted c.args.cut.now zs c.judge_head.new.reader.version _ _ (head_read g at.In_default zs bits) _ c.in-Accepted.total (all_shown g at.In-Accepted zs bits) c.read_is_cert.ensures.read (c.in_ok-has_more-in-Accepted.ensures.end c.if-branch.false)

@@ -1,6 +1,7 @@
 use Rattle.std.proofs.Common.{subst}
 use Rattle.std.specs.Io.KnownBytes.{Appends}
 use Rattle.device_core.specs.Outlets.{AppendsPart, outlet_writer}
+use Rattle.form_core.specs.Parts.{interleaving_in}
 use Rattle.cut_core.proofs.CutLaws.{first_shape}
 use Rattle.master_core.specs.Writing.{WritesBest, WritesBestFront}
 use Rattle.master_core.proofs.FilingLaws.{file_whole, head_front, sound_front, tail_front}
@@ -33,24 +34,25 @@ returns-in_err-write_sound-clause-front g c =
     any_err c.from_residual-in_err-write_sound.result (sound_front cut c.args.form c.written_in_parts.ensures c.args.ends.now c.requires.ends c.has_one_best.ensures (first_shape cut c.can_cut.ensures).some_channel a0 a1
     (head_out g (goal.at.returns-in_err-write_sound-clause-front g c).In_ok-put_all) a2 (subst (λ to. WritesBestFront cut to a1 a2) c.interleaving_in.ensures c.in_err-write_sound.ensures.front))
 
-pub returns-clause-ok : goal.returns-clause-ok
-returns-clause-ok g c =
-    let cut = c.args.cut.now in
-    let a0 = g.W.Write.contents (outlet_writer c.args.outlet.now) in
+-- and the sound behind it
+sound_out : (g : Over) (c : In_ok-write_sound g) → WritesBest c.args.cut.now (interleaving_in c.args.form) (g.W.Write.contents (outlet_writer c.put_all.new.self)) (g.W.Write.contents (outlet_writer c.write_sound.new.outlet))
+sound_out g c =
     let a1 = g.W.Write.contents (outlet_writer c.put_all.new.self) in
     let a2 = g.W.Write.contents (outlet_writer c.write_sound.new.outlet) in
+    subst (λ to. WritesBest c.args.cut.now to a1 a2) c.interleaving_in.ensures c.in_ok-write_sound.ensures.ok
+
+pub returns-clause-ok : goal.returns-clause-ok
+returns-clause-ok g c =
+    let a2 = g.W.Write.contents (outlet_writer c.write_sound.new.outlet) in
     let a3 = g.W.Write.contents (outlet_writer c.put_all-2.new.self) in
-    let written = subst (λ to. WritesBest cut to a1 a2) c.interleaving_in.ensures c.in_ok-write_sound.ensures.ok in
-    on_ok c.put_all-2.result (λ out. file_whole cut c.args.form c.written_in_parts.ensures c.args.ends.now c.requires.ends c.has_one_best.ensures (first_shape cut c.can_cut.ensures).some_channel a0 a1
-    (head_out g (goal.at.returns-clause-ok g c).In_ok-put_all) a2 written a3 (subst (Appends a2 a3) c.deref-4.ensures.value out)) c.put_all-2.ensures.ok
+    let at = goal.at.returns-clause-ok g c in
+    on_ok c.put_all-2.result (λ out. file_whole c.args.cut.now c.args.form c.written_in_parts.ensures c.args.ends.now c.requires.ends c.has_one_best.ensures (first_shape c.args.cut.now c.can_cut.ensures).some_channel _ _
+    (head_out g at.In_ok-put_all) a2 (sound_out g at.In_ok-write_sound) a3 (subst (Appends a2 a3) c.deref-4.ensures.value out)) c.put_all-2.ensures.ok
 
 pub returns-clause-front : goal.returns-clause-front
 returns-clause-front g c =
-    let cut = c.args.cut.now in
-    let a0 = g.W.Write.contents (outlet_writer c.args.outlet.now) in
-    let a1 = g.W.Write.contents (outlet_writer c.put_all.new.self) in
     let a2 = g.W.Write.contents (outlet_writer c.write_sound.new.outlet) in
     let a3 = g.W.Write.contents (outlet_writer c.put_all-2.new.self) in
-    let written = subst (λ to. WritesBest cut to a1 a2) c.interleaving_in.ensures c.in_ok-write_sound.ensures.ok in
-    on_err c.put_all-2.result (λ out. tail_front cut c.args.form c.written_in_parts.ensures c.args.ends.now c.requires.ends c.has_one_best.ensures (first_shape cut c.can_cut.ensures).some_channel a0 a1
-    (head_out g (goal.at.returns-clause-front g c).In_ok-put_all) a2 written a3 (subst (AppendsPart a2 a3) c.deref-4.ensures.value out)) c.put_all-2.ensures.err
+    let at = goal.at.returns-clause-front g c in
+    on_err c.put_all-2.result (λ out. tail_front c.args.cut.now c.args.form c.written_in_parts.ensures c.args.ends.now c.requires.ends c.has_one_best.ensures (first_shape c.args.cut.now c.can_cut.ensures).some_channel _ _
+    (head_out g at.In_ok-put_all) a2 (sound_out g at.In_ok-write_sound) a3 (subst (AppendsPart a2 a3) c.deref-4.ensures.value out)) c.put_all-2.ensures.err

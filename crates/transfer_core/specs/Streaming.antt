@@ -1,15 +1,11 @@
 -- What is played from a reader to a writer, and which faults stand.
-use Rattle.std.specs.Prelude.{◌≡◌, ℕ, ◌-◌, ◌<◌, List, length, Option, IfSome, Result, Err, ⊤}
-use Rattle.std.specs.Io.KnownBytes.{Appends}
-use Rattle.device_core.specs.Outlets.{AppendsFront}
-use Rattle.device_core.specs.declared.inlet.Inlet.{Inlet}
+use Rattle.std.specs.Prelude.{◌≡◌, ℕ, ◌-◌, ◌<◌, List, Option, IfSome, Result, Err, ⊤}
 use Rattle.dsd_bits.specs.declared.sound.Sound.{Sound}
 use Rattle.dsd_bits.specs.Contents.{Content}
 use Rattle.fir_core.specs.Decimator.{Decimator}
 use Rattle.sound_core.specs.Files.{TellsSound}
 use Rattle.stream_core.specs.Pace.{WritesFrames, sound_given}
 use Rattle.stream_core.specs.Playing as streams
-use Rattle.sound_core.specs.Reads.{Reads}
 use Rattle.form_core.specs.declared.form.Form.{Form}
 use Rattle.form_core.specs.Forms.{HoldsAs}
 use Rattle.transfer_core.specs.declared.fault.Fault.{Fault}

@@ -1,6 +1,6 @@
 -- Sums from rows: a byte at a time, in each window that it stands in.
 use Rattle.std.proofs.Common.{◌≡◌, ℕ, zero, suc, ◌+◌, ◌-◌, ◌*◌, ◌/◌, ◌%◌, ◌^◌, ◌<◌, ◌≤◌, ℤ, pos, negsuc, ◌+ℤ◌, inl, inr, map, unsigned_abs, List, length, get_or, take, drop, sum_by, sym, ap, ap₂, ◌∙◌, arith, subst, length-drop, FitsSigned, to_z, of_z, w32}
-use Rattle.std.proofs.Math.Nat.{mul-le-mul_left, mul-le-mul_right}
+use Rattle.std.proofs.Math.Nat.{mul-le-mul_right}
 use Rattle.std.proofs.lemmas.Bool.{cases_lt}
 use Rattle.std.specs.Int.{int_wrap}
 use Rattle.std.specs.Simd.Lanes.{zip2}
@@ -244,9 +244,9 @@ pub all_before : (hs : List ℤ) (bytes : List ℕ) (step p q j : ℕ) → lengt
 all_before hs bytes step p q j whole past then = whole_window hs bytes step p j whole past ∙ sym (whole_window hs bytes step q j whole then)
 
 -- taps with their rows
-pub is_laid : (h taps entries : List ℤ) (n step span : ℕ) → taps ≡ aligned h n → 1 ≤ length h → length h ≤ 4096 → sum_by unsigned_abs h ≤ 2 ^ 30 → 1 ≤ step → step ≤ 128 → length taps / 8 ≤ span * step → (0 < step % 8 → length taps / 8 + 7 ≤ span * step) → span ≤ 1024 → entries ≡ rows taps step span
+pub is_laid : (h taps entries : List ℤ) (n step span : ℕ) → taps ≡ aligned h n → 1 ≤ length h → length h ≤ 4096 → sum_by unsigned_abs h ≤ 2 ^ 30 → 1 ≤ step → step ≤ 128 → length taps / 8 ≤ span * step → (0 < step % 8 → length taps / 8 + 7 ≤ span * step) → span ≤ 1024 → span % 8 ≡ 0 → entries ≡ rows taps step span
     → IsLaid taps entries step span
-is_laid h taps entries n step span e some few small least most wide loose narrow made =
+is_laid h taps entries n step span e some few small least most wide loose narrow eights made =
     let size = ap length e ∙ length-aligned h n in
     record {
       whole = omega (arith, size);
@@ -258,5 +258,6 @@ is_laid h taps entries n step span e some few small least most wide loose narrow
       wide = wide;
       loose = loose;
       narrow = narrow;
+      eights = eights;
       laid = made;
     }

@@ -69,4 +69,5 @@ pub record IsLaid (taps entries : List ℤ) (step span : ℕ) : Type 0 where
   pub wide : length taps / 8 ≤ span * step
   pub loose : 0 < step % 8 → length taps / 8 + 7 ≤ span * step
   pub narrow : span ≤ 1024
+  pub eights : span % 8 ≡ 0
   pub laid : entries ≡ rows taps step span

@@ -27,6 +27,7 @@ mod stream;
 mod tables;
 mod taps;
 mod tiles;
+mod turns;
 
 pub use convolution::sum_at;
 pub use decimator::{decimate, sample};

@@ -33,6 +33,7 @@ pub(crate) fn span_of(size: usize, step: usize) -> usize
     ensures wide { size ≤ result * step }
     ensures loose { 0 < step % 8 → size + 7 ≤ result * step }
     ensures narrow { result ≤ 1024 }
+    ensures eights { result % 8 ≡ 0 }
 {
     let more = if step % 8 == 0 { 0 } else { 7 };
     (size + more).div_ceil(step).div_ceil(8) * 8

@@ -12,9 +12,10 @@ ghost use Rattle.fir_core.specs.Windows.{aligned, window_size, window_sums};
 use crate::convolution::sum_over;
 use crate::lanes::dot_by_lanes;
 use crate::rounding::{clip, round};
-use crate::rows::{Laid, sum_rows};
+use crate::rows::Laid;
 use crate::tables::Tables;
 use crate::taps::Taps;
+use crate::turns::sum_all;
 use dsd_bits::Bits;
 use std::alloc::AllocError;
 
@@ -35,7 +36,7 @@ fn sum_tile(tables: &Tables, bytes: &[u8], step: usize, sums: &mut [i32])
             step,
             span: tables.span,
         };
-        sum_rows(taps, rows, bytes, sums);
+        sum_all(taps, rows, bytes, sums);
     } else {
         sum_windows(taps, bytes, step, sums);
     }

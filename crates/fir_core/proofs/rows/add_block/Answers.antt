@@ -1,4 +1,4 @@
-use Rattle.std.proofs.Common.{◌≡◌, ℕ, ℤ, pos, ◌+◌, ◌*◌, ◌<◌, ◌≤◌, ◌∙◌, inl, inr, List, arith, get_or, length, refl}
+use Rattle.std.proofs.Common.{◌≡◌, ℕ, ℤ, pos, ◌+◌, ◌*◌, ◌<◌, ◌≤◌, ◌∙◌, inl, inr, List, arith, get_or, length}
 use Rattle.std.proofs.lemmas.Bool.{cases_lt}
 use Rattle.fir_core.specs.Rows.{sum_before}
 use Rattle.fir_core.proofs.RowLaws.{all_before, not_begun}

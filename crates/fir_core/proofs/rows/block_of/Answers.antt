@@ -1,4 +1,4 @@
-use Rattle.std.proofs.Common.{◌≡◌, ℕ, ◌+◌, ◌-◌, ◌*◌, ◌/◌, ◌%◌, ◌<◌, ◌≤◌, arith, length, subst}
+use Rattle.std.proofs.Common.{◌≡◌, ℕ, ◌+◌, ◌-◌, ◌*◌, ◌/◌, ◌<◌, ◌≤◌, arith, length, subst}
 use Rattle.fir_core.specs.Rows.{IsBlock, IsSpot}
 use Rattle.fir_core.proofs.RowLaws.{begins_behind, ends_before, window_reaches}
 use Rattle.fir_core.proofs.rows.block_of.Goals as goal

@@ -17,5 +17,5 @@ invariant_of-result c =
     let wide : length c.in_ok-aligned.aligned.items / 8 ≤ c.span_of-span.result * step = rw same c.span_of-span.ensures.wide in
     let loose : 0 < step % 8 → length c.in_ok-aligned.aligned.items / 8 + 7 ≤ c.span_of-span.result * step = rw same c.span_of-span.ensures.loose in
     is_laid d.taps c.in_ok-aligned.aligned.items c.in_ok-rows.rows.items d.delay step c.span_of-span.result c.in_ok-aligned.ensures limits.some_taps limits.few_taps limits.small_sum
-    (omega (arith, c.factor.ensures.value, limits.least_factor)) (omega (arith, c.factor.ensures.value, limits.greatest_factor)) wide loose c.span_of-span.ensures.narrow
+    (omega (arith, c.factor.ensures.value, limits.least_factor)) (omega (arith, c.factor.ensures.value, limits.greatest_factor)) wide loose c.span_of-span.ensures.narrow c.span_of-span.ensures.eights
     (c.in_ok-rows.ensures ∙ ap (λ hs. rows hs step c.span_of-span.result) c.as_slice.ensures.value)

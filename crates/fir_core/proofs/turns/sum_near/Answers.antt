@@ -1,0 +1,44 @@
+use Rattle.std.proofs.Common.{◌≡◌, ◌+◌, ◌-◌, ◌*◌, ◌/◌, ◌∙◌, ap, arith, drop, get_or, length, length-drop, pos, refl, take}
+use Rattle.std.proofs.lemmas.List.{take_rest}
+use Rattle.std.proofs.lemmas.List.FromFn.{get_or-map-range_with_len}
+use Rattle.fir_core.specs.Windows.{window_sum, window_sums}
+use Rattle.fir_core.proofs.TileLaws.{length-sums}
+use Rattle.fir_core.proofs.TurnLaws.{eights_cover, eights_fit, some_eights, steps_within, sums_joined}
+use Rattle.fir_core.proofs.turns.sum_near.Goals as goal
+
+pub sum_front-requires-clause-enough : goal.sum_front-requires-clause-enough
+sum_front-requires-clause-enough g c =
+    steps_within (length c.split_at_mut-front.result.0.now) g.row.N (length c.args.bytes.now / c.args.rows.step) c.args.rows.step (length c.args.bytes.now) refl
+    (omega (arith, c.split_at_mut-front.ensures.front_len, c.saturating_sub.ensures, c.min.ensures, c.min-many.ensures, c.if-many-eq0.false))
+
+pub sum_front-requires-clause-some : goal.sum_front-requires-clause-some
+sum_front-requires-clause-some g c = some_eights (length c.args.taps.now / 8) c.args.rows.step g.row.N c.requires.laid.least (omega (arith, c.requires.laid.some)) c.requires.number
+
+pub sum_front-requires-clause-span : goal.sum_front-requires-clause-span
+sum_front-requires-clause-span g c = eights_fit (length c.args.taps.now / 8) c.args.rows.step c.args.rows.span g.row.N c.requires.laid.least c.requires.laid.wide c.requires.laid.eights c.requires.number
+
+pub sum_front-requires-clause-wide : goal.sum_front-requires-clause-wide
+sum_front-requires-clause-wide g c = eights_cover (length c.args.taps.now / 8) c.args.rows.step g.row.N c.requires.laid.least c.requires.number
+
+pub sum_rows-requires-then-back-gt0-clause-within : goal.sum_rows-requires-then-back-gt0-clause-within
+sum_rows-requires-then-back-gt0-clause-within g c = λ i h.
+    let at = c.min-many.result * c.args.rows.step in
+    let last = c.requires.within (i + c.min-many.result) (omega (arith, h, c.split_at_mut-front.ensures.back_len)) in
+    rw (take_rest c.args.bytes.now at) (omega (arith, length-drop at c.args.bytes.now, last))
+
+pub returns-then-back-gt0 : goal.returns-then-back-gt0
+returns-then-back-gt0 g c =
+    let hs = c.args.taps.now in
+    let bytes = c.args.bytes.now in
+    let step = c.args.rows.step in
+    let many = c.min-many.result in
+    let number = length c.args.sums.now in
+    let rest = length c.split_at_mut-front.result.1.now in
+    let left = take (length bytes - many * step) (drop (many * step) bytes) in
+    let is_back = c.sum_rows-then-back-gt0.ensures in
+    let whole : many + rest ≡ number = omega (arith, c.split_at_mut-front.ensures.back_len, c.min.ensures, c.min-many.ensures) in
+    sums_joined hs bytes step many rest c.sum_front.new.sums c.sum_rows-then-back-gt0.new.sums
+    (c.sum_front.ensures ∙ ap (window_sums hs bytes step) c.split_at_mut-front.ensures.front_len)
+    (ap length is_back ∙ length-sums hs left step rest)
+    (λ i h. ap (λ xs. get_or xs i (pos 0)) is_back ∙ get_or-map-range_with_len (λ j. window_sum hs left (j * step)) 0 rest i i (pos 0) h (omega arith) ∙ ap (λ bs. window_sum hs bs (i * step)) (take_rest bytes (many * step)))
+    ∙ ap (window_sums hs bytes step) whole

@@ -84,7 +84,7 @@ fn push_split(
 
 // Writes the bytes of each of two channels in frames from one on: of 16 frames at a time, and then of
 // what is left.
-fn split_two(left: &mut [u8], right: &mut [u8], bytes: &[u8], from: usize)
+pub(crate) fn split_two(left: &mut [u8], right: &mut [u8], bytes: &[u8], from: usize)
     requires inside { 2 * (from + length left.old) ≤ length bytes.now }
     requires right { length right.old ≡ length left.old }
     ensures left { left.new ≡ picked bytes.now 2 0 from (length left.old) }

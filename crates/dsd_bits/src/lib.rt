@@ -9,7 +9,9 @@
 //! [`unlace_bytes`] takes the sound bytes of DSDIFF apart into channels, and [`lace_bytes`] puts them
 //! together: what was laced is read again. [`unlace_blocks`] and [`lace_blocks`] do so with the blocks of
 //! DSF 1.01, in which each byte has the earliest bit at the one end or the other ([`BitOrder`]).
-//! [`push_laced`] and [`push_blocks`] put the sound bytes behind what a list of bytes already holds. A [`BitRoom`] is
+//! [`push_laced`] and [`push_blocks`] put the sound bytes behind what a list of bytes already holds. Where no channel is
+//! wanted, [`frames_to_planes`] and [`planes_to_frames`] move a group of DSDIFF's frames to DSF's blocks and back, and
+//! [`put_in_order`] changes the order of the bits of bytes. A [`BitRoom`] is
 //! bits for which room is held: bits are added to it, and [`push_laced_rooms`] and [`push_blocked_rooms`] put its sound
 //! bytes where room is held, without memory and without a way to fail.
 //!
@@ -72,7 +74,8 @@ mod turning;
 
 pub use bits::Bits;
 pub use blocks::{
-    BitOrder, blocks_size, lace_blocks, laced_blocks_are_read_again, push_blocks, put_in_order, unlace_blocks,
+    BitOrder, blocks_size, lace_blocks, laced_blocks_are_read_again, push_blocks, put_in_order,
+    unlace_blocks,
 };
 pub use fault::{BitsFault, LaceFault};
 pub use interleaving::Interleaving;

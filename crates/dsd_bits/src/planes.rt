@@ -3,6 +3,9 @@
 ghost use Rattle.std.specs.Prelude.{◌≡◌, ℕ, ◌+◌, ◌*◌, ◌/◌, ◌%◌, ◌<◌, ◌≤◌, ◌⊎◌, length, slice_index};
 ghost use Rattle.dsd_bits.specs.Limits.{block_bytes};
 
+use crate::lacing::split_two;
+use crate::limits::BLOCK_BYTES;
+
 /// Writes `count` frames of one to six channels into planes: the byte of channel `c` in frame `k` to place
 /// `4096 * c + k`. At most 4096 frames; the rest of each plane stays as it was.
 pub fn frames_to_planes(planes: &mut [u8], frames: &[u8], channels: usize, count: usize)
@@ -17,7 +20,7 @@ pub fn frames_to_planes(planes: &mut [u8], frames: &[u8], channels: usize, count
 {
     match channels {
         1 => take_apart::<1>(planes, frames, count),
-        2 => take_apart::<2>(planes, frames, count),
+        2 => take_two_apart(planes, frames, count),
         3 => take_apart::<3>(planes, frames, count),
         4 => take_apart::<4>(planes, frames, count),
         5 => take_apart::<5>(planes, frames, count),
@@ -41,6 +44,22 @@ fn take_apart<const N: usize>(planes: &mut [u8], frames: &[u8], count: usize)
             planes[4096 * c + k] = frames[k * N + c];
         }
     }
+}
+
+// The same of two channels, 16 frames at a time whichever processor it is compiled for.
+fn take_two_apart(planes: &mut [u8], frames: &[u8], count: usize)
+    requires few { count ≤ block_bytes }
+    requires frames { count * 2 ≤ length frames.now }
+    requires planes { block_bytes * 2 ≤ length planes.old }
+    ensures written { (c k : ℕ) → c < 2 → k < count →
+        slice_index planes.new (block_bytes * c + k) ≡ slice_index frames.now (k * 2 + c) }
+    ensures others { (place : ℕ) → (2 ≤ place / block_bytes) ⊎ (count ≤ place % block_bytes) →
+        slice_index planes.new place ≡ slice_index planes.old place }
+{
+    let (first, second) = planes.split_at_mut(BLOCK_BYTES);
+    let (left, _) = first.split_at_mut(count);
+    let (right, _) = second.split_at_mut(count);
+    split_two(left, right, frames, 0);
 }
 
 /// Writes `count` frames of one to six channels from planes: the byte of channel `c` in frame `k` from place

@@ -1,0 +1,37 @@
+use Rattle.std.proofs.Common.{◌≡◌, ℕ, ◌+◌, ◌-◌, ◌*◌, ◌<◌, List, ◌++◌, length, slice_index, length-append, inl, inr, ap, ◌∙◌, arith}
+use Rattle.std.proofs.lemmas.Bool.{cases_lt}
+use Rattle.std.proofs.lemmas.List.{get_or_append_left, get_or-append_right}
+use Rattle.std.proofs.lemmas.List.FromFn.{get_or-map-range_with_len, length-map-range_with_len}
+use Rattle.dsd_bits.specs.Lacing.{picked}
+use Rattle.dsd_bits.proofs.planes.take_two_apart.Goals as goal
+
+-- a byte of one of two channels
+own : (part rest frames : List ℕ) (count c k : ℕ) → part ≡ picked frames 2 c 0 count → k < count → slice_index (part ++ rest) k ≡ slice_index frames (k * 2 + c)
+own part rest frames count c k is below =
+    let f : ℕ → ℕ = λ frame. slice_index frames (frame * 2 + c) in
+    let long = ap length is ∙ length-map-range_with_len f 0 count in
+    get_or_append_left part rest 0 k (omega (arith, long)) ∙ ap (λ xs. slice_index xs k) is ∙ get_or-map-range_with_len f 0 count k k 0 below (omega arith)
+
+both : (left behind_left right behind_right frames : List ℕ) (count c k : ℕ) → left ≡ picked frames 2 0 0 count → right ≡ picked frames 2 1 0 count → length (left ++ behind_left) ≡ 4096 → c < 2 → k < count → count < 4097
+    → slice_index ((left ++ behind_left) ++ (right ++ behind_right)) (4096 * c + k) ≡ slice_index frames (k * 2 + c)
+both left behind_left right behind_right frames count c k left_is right_is long in_list below few = elim (cases_lt c 1) [
+  | inl low ↦
+      let e : c ≡ 0 = omega arith in
+      let place : 4096 * c + k ≡ k = omega (arith, e) in
+      let back : k * 2 + 0 ≡ k * 2 + c = omega (arith, e) in
+      ap (slice_index ((left ++ behind_left) ++ (right ++ behind_right))) place ∙ get_or_append_left (left ++ behind_left) (right ++ behind_right) 0 k (omega (arith, long)) ∙ own left behind_left frames count 0 k left_is below ∙ ap (slice_index frames) back
+  | inr high ↦
+      let e : c ≡ 1 = omega arith in
+      let behind : 4096 * c + k - 4096 ≡ k = omega (arith, e) in
+      let back : k * 2 + 1 ≡ k * 2 + c = omega (arith, e) in
+      get_or-append_right (left ++ behind_left) (right ++ behind_right) 4096 (4096 * c + k) 0 long (omega (arith, e)) ∙ ap (slice_index (right ++ behind_right)) behind ∙ own right behind_right frames count 1 k right_is below ∙ ap (slice_index frames) back
+]
+
+pub returns-clause-written : goal.returns-clause-written
+returns-clause-written c = λ d k in_list below.
+    let first = c.split_at_mut-first in
+    let left = c.split_at_mut-left in
+    let right = c.split_at_mut-right in
+    both c.split_two.new.left left.result.1.now c.split_two.new.right right.result.1.now c.args.frames.now c.args.count d k
+    (c.split_two.ensures.left ∙ ap (picked c.args.frames.now 2 0 0) left.ensures.front_len) (c.split_two.ensures.right ∙ ap (picked c.args.frames.now 2 1 0) left.ensures.front_len)
+    (omega (arith, length-append c.split_two.new.left left.result.1.now, c.split_two.auto.left, left.ensures.front_len, left.ensures.back_len, first.ensures.front_len)) in_list below (omega (arith, c.requires.few))

@@ -1,5 +1,5 @@
 -- Frames and blocks that are moved a group at a time.
-use Rattle.std.proofs.Common.{◌≡◌, ◌⊎◌, ℕ, ◌+◌, ◌-◌, ◌*◌, ◌/◌, ◌%◌, ◌<◌, ◌≤◌, ◌^◌, min, List, [], ◌++◌, map, take, drop, length, get_or, slice_index, get_or-take, get_or-drop, sym, ap, ap₂, ◌∙◌, refl, arith, inl, inr}
+use Rattle.std.proofs.Common.{◌≡◌, ◌⊎◌, ℕ, ◌+◌, ◌-◌, ◌*◌, ◌/◌, ◌%◌, ◌<◌, ◌≤◌, ◌^◌, min, List, [], ◌++◌, map, take, drop, length, get_or, slice_index, get_or-take, get_or-drop, sym, ap, ap₂, ◌∙◌, arith, inl, inr}
 use Rattle.std.proofs.lemmas.Bool.{cases_lt}
 use Rattle.std.proofs.lemmas.List.{get_or_past, get_or-map, get_or_append_left, get_or-append_right, length-map}
 use Rattle.std.proofs.lemmas.Grind.{same_number_lists}
@@ -7,13 +7,12 @@ use Rattle.std.proofs.lemmas.List.FromFn.{length-map-range_with_len, get_or-map-
 use Rattle.std.proofs.lemmas.Nat.{div-add-mod', div_below, mod_below, mul-add-lt, mul-le}
 use Rattle.std.proofs.lemmas.Nat.Bits.{bit_at-lt}
 use Rattle.std.specs.Int.{div_ceil}
-use Rattle.std.specs.List.{range_with_len}
 use Rattle.dsd_bits.specs.declared.blocks.BitOrder.{BitOrder}
 use Rattle.dsd_bits.specs.declared.blocks.BitOrder.TheVariants.{LeastFirst, MostFirst}
 use Rattle.dsd_bits.specs.Blocks.{block_byte, blocked, blocks_size, ordered, unblocked, unblocked_all}
 use Rattle.dsd_bits.specs.Channels.{count_of}
 use Rattle.dsd_bits.specs.Lacing.{frames_of, laced, laced_byte, unlaced, unlaced_all}
-use Rattle.dsd_bits.specs.Packing.{IsTight, packed, packed_byte, unpacked}
+use Rattle.dsd_bits.specs.Packing.{IsTight, packed_byte, unpacked}
 use Rattle.dsd_bits.proofs.BlockLemmas.{block_source, own_blocks, packed_at, place_below, unblocked_count, unblocked_is}
 use Rattle.dsd_bits.proofs.PackingLemmas.{packed-unpacked, past_end}
 use Rattle.relace_core.proofs.FrameLaws.{frame_byte}
@@ -109,9 +108,9 @@ module _ (order : BitOrder) (bytes to : List ℕ) (n count : ℕ) (some : 1 ≤ 
       let j : 4096 * (k / n) + p % 4096 ≡ k / n * 4096 + p % 4096 = omega arith in
       get_or-map (ordered order) to p 0 0 (omega (arith, long))
       ∙ ap (ordered order) (ap (slice_index to) (sym place) ∙ at (k / n) (k % n) (p % 4096) g c (omega arith) ∙ ap (λ m. slice_index bytes (m * n + k % n)) j
-        ∙ sym (frame_byte bytes n count some whole size short small (k % n) (k / n * 4096 + p % 4096))
-        ∙ sym (ap (λ x. packed_byte x (k / n * 4096 + p % 4096)) (get_or-map-range_with_len (unlaced bytes n) 0 n (k % n) (k % n) [] c (omega arith)))
-        ∙ sym (ap (λ m. packed_byte (get_or all (k % m) []) (k / m * 4096 + p % 4096)) number))
+      ∙ sym (frame_byte bytes n count some whole size short small (k % n) (k / n * 4096 + p % 4096))
+      ∙ sym (ap (λ x. packed_byte x (k / n * 4096 + p % 4096)) (get_or-map-range_with_len (unlaced bytes n) 0 n (k % n) (k % n) [] c (omega arith)))
+      ∙ sym (ap (λ m. packed_byte (get_or all (k % m) []) (k / m * 4096 + p % 4096)) number))
       ∙ sym (get_or-map-range_with_len (block_byte order all) 0 (blocks_size (length all) (count_of all)) p p 0 (omega (arith, places)) (omega arith)))
 
   -- a byte of a channel in blocks

@@ -8,9 +8,7 @@ ghost use Rattle.dsd_bits.specs.Sounds.{sound_channels, sound_size};
 ghost use Rattle.relace_core.specs.Relacing.{relaced};
 
 use crate::moving::{push_as_blocks, push_as_frames};
-use dsd_bits::{
-    BitOrder, Bits, Interleaving, LaceFault, push_blocks, unlace_blocks, unlace_bytes,
-};
+use dsd_bits::{BitOrder, Bits, Interleaving, LaceFault, push_blocks, unlace_blocks, unlace_bytes};
 use std::alloc::{AllocError, Global};
 
 /// How many channels a stretch of sound has, and how many bits each of them.

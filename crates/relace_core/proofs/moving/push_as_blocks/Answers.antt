@@ -1,5 +1,4 @@
-use Rattle.std.proofs.Common.{◌≡◌, ◌+◌, ◌++◌, ◌∙◌, take, ap, arith, length, length-append}
-use Rattle.dsd_bits.specs.Blocks.{blocks_size}
+use Rattle.std.proofs.Common.{◌+◌, ◌++◌, ◌∙◌, take, ap, arith, length-append}
 use Rattle.dsd_bits.proofs.ShiftingLemmas.{written_behind}
 use Rattle.relace_core.proofs.MovingLaws.{blocks_are}
 use Rattle.relace_core.proofs.moving.push_as_blocks.Goals as goal

@@ -1,4 +1,4 @@
-use Rattle.std.proofs.Common.{◌≡◌, ◌+◌, ◌*◌, ◌/◌, ◌++◌, ◌∙◌, take, ap, arith, length, length-append}
+use Rattle.std.proofs.Common.{◌+◌, ◌*◌, ◌/◌, ◌++◌, ◌∙◌, take, ap, arith, length-append}
 use Rattle.dsd_bits.proofs.ShiftingLemmas.{written_behind}
 use Rattle.relace_core.proofs.MovingLaws.{frames_are}
 use Rattle.relace_core.proofs.moving.push_as_frames.Goals as goal

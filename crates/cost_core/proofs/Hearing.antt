@@ -1,12 +1,11 @@
 -- A bridge is the same where only parts of its takes are there, as far as its target and its weights read.
-use Rattle.std.proofs.Common.{◌≡◌, ℕ, zero, suc, ◌+◌, ◌-◌, ◌<◌, ◌≤◌, Bool, true, false, cond, leb, List, ◌∷◌, map, length, take, drop, get_or, slice_range, refl, ap, ◌∙◌, arith, ℤ, pos, ◌+ℤ◌, ◌*ℤ◌}
+use Rattle.std.proofs.Common.{◌≡◌, ℕ, zero, suc, ◌+◌, ◌-◌, ◌<◌, ◌≤◌, Bool, true, false, cond, leb, List, map, length, take, drop, get_or, slice_range, refl, ap, ◌∙◌, arith, ℤ, pos, ◌+ℤ◌, ◌*ℤ◌}
 use Rattle.std.specs.List.{range_with_len}
 use Rattle.std.proofs.lemmas.Bool.{leb-true, leb-false}
 use Rattle.std.proofs.lemmas.List.{drop-drop, drop-take, get_or-drop, get_or-take, take-take}
 use Rattle.splice_core.specs.Splices.{SpliceContent}
 use Rattle.splice_core.specs.declared.cue.Target.{Target}
 use Rattle.splice_core.specs.declared.cue.Target.TheVariants.{Fade, Line}
-use Rattle.cost_core.specs.Bridges.{Bridging}
 use Rattle.cost_core.specs.Fade.{fade}
 use Rattle.cost_core.specs.Targets.{reach_of, targets_of}
 use Rattle.cost_core.specs.Weighted.{weighted}

@@ -8,3 +8,4 @@ pub mod BehindLaws
 pub mod KeeperLaws
 pub mod TakingLaws
 pub mod KeepingLaws
+pub mod FaultLaws

@@ -1,6 +1,10 @@
--- A reader that goes on: it stays the same.
-use Rattle.std.proofs.Common.{refl, ◌∙◌}
-use Rattle.sound_core.specs.Readers.{IsSame}
+-- A reader that goes on: it stays the same, and what was counted adds up.
+use Rattle.std.proofs.Common.{◌≡◌, ◌+◌, ◌≤◌, Result, Err, refl, ap, subst, ◌∙◌}
+use Rattle.device_core.specs.Inlets.{inlet_failures, inlet_reads}
+use Rattle.sound_core.specs.Faults.{failed_reads}
+use Rattle.sound_core.specs.Readers.{Counts, IsSame}
+use Rattle.sound_core.specs.declared.fault.StreamFault.{StreamFault}
+use Rattle.sound_core.specs.declared.fault.StreamFault.TheVariants.{FileRefused, RateNotDivided, TooLarge, ReadFailed, WriteFailed, TurnLimit, Memory}
 use Rattle.sound_core.specs.declared.reader.SoundReader.{SoundReader}
 
 pub same_self : {R : Type 0} (a : SoundReader R) → IsSame a a
@@ -8,3 +12,23 @@ same_self a = record { reference = refl; given = refl; limit = refl }
 
 pub same_on : {R : Type 0} (a b c : SoundReader R) → IsSame a b → IsSame b c → IsSame a c
 same_on a b c p q = record { reference = q.reference ∙ p.reference; given = q.given ∙ p.given; limit = q.limit ∙ p.limit }
+
+-- a fault counts the same, whatever else could have been answered
+same_reads : (X Y : Type 0) (f : StreamFault) → failed_reads {X = X} (Err f) ≡ failed_reads {X = Y} (Err f)
+same_reads X Y FileRefused = refl
+same_reads X Y RateNotDivided = refl
+same_reads X Y TooLarge = refl
+same_reads X Y ReadFailed = refl
+same_reads X Y WriteFailed = refl
+same_reads X Y TurnLimit = refl
+same_reads X Y Memory = refl
+
+pub counts_later : {R X Y : Type 0} (a m b : SoundReader R) (f : StreamFault) → m.limit ≡ a.limit → inlet_failures m.inlet.now ≡ inlet_failures a.inlet.now → Counts {X = X} m b (Err f) → Counts {X = Y} a b (Err f)
+counts_later {R} {X} {Y} a m b f limit same p = record {
+  failures = p.failures ∙ ap (λ n. n + failed_reads {X = X} (Err f)) same ∙ ap (λ n. inlet_failures a.inlet.now + n) (same_reads X Y f);
+  turns = λ turn. p.turns (let is : f ≡ TurnLimit = cc in ap (λ (g : StreamFault). (let r : Result X StreamFault = Err g in r)) is) ∙ limit;
+  most = subst (λ n. inlet_reads b.inlet.now ≤ n) limit p.most;
+}
+
+pub same_counts : {R X Y : Type 0} (a b : SoundReader R) (f : StreamFault) → Counts {X = X} a b (Err f) → Counts {X = Y} a b (Err f)
+same_counts {R} {X} {Y} a b f p = counts_later {X = X} {Y = Y} a a b f refl refl p

@@ -1,12 +1,15 @@
 -- Which faults stand, stop the reading or come before the first write, by where they rose.
-use Rattle.std.proofs.Common.{ℕ, List, ◌++◌, Option, None, Some, IfSome, refl}
+use Rattle.std.proofs.Common.{◌≡◌, ℕ, ◌≤◌, List, ◌++◌, Option, None, Some, IfErr, IfSome, Result, Ok, Err, refl, arith, subst}
+use Rattle.device_core.specs.Inlets.{inlet_failures, inlet_reads}
 use Rattle.dsd_bits.specs.declared.sound.Sound.{Sound}
 use Rattle.fir_core.specs.Decimator.{Decimator}
-use Rattle.sound_core.specs.Faults.{IsBeforeWriting, IsReadingFault, IsWritingFault, StopsReading}
-use Rattle.sound_core.specs.Files.{TellsSound}
+use Rattle.sound_core.specs.Faults.{IsBeforeWriting, IsReadingFault, IsWritingFault, StopsReading, failed_reads, failed_writes}
+use Rattle.sound_core.specs.Files.{IsFrontFault, TellsSound}
+use Rattle.sound_core.specs.Readers.{Counts}
 use Rattle.sound_core.specs.declared.fault.StreamFault.{StreamFault}
 use Rattle.sound_core.specs.declared.fault.StreamFault.TheVariants.{FileRefused, RateNotDivided, TooLarge, ReadFailed, WriteFailed, TurnLimit, Memory}
-use Rattle.stream_core.specs.Pieces.{IsSoundFault}
+use Rattle.sound_core.specs.declared.reader.SoundReader.{SoundReader}
+use Rattle.stream_core.specs.Pieces.{IsPieceFault, IsSoundFault}
 use Rattle.stream_core.specs.Playing.{Stands}
 use Rattle.stream_core.specs.Wave.{IsOpeningFault}
 
@@ -87,3 +90,86 @@ writing_goes_on ReadFailed h stops = h
 writing_goes_on WriteFailed h stops = stops
 writing_goes_on TurnLimit h stops = h
 writing_goes_on Memory h stops = stops
+
+-- ---- before the sound
+pub front_stands : (left : Option (List ℕ)) (d : Decimator) (f : StreamFault) → IsFrontFault left f → IfSome left (λ file. Stands d file f)
+front_stands None d f h = tt
+front_stands (Some xs) d FileRefused h = h
+front_stands (Some xs) d RateNotDivided h = absurd h
+front_stands (Some xs) d TooLarge h = absurd h
+front_stands (Some xs) d ReadFailed h = tt
+front_stands (Some xs) d WriteFailed h = absurd h
+front_stands (Some xs) d TurnLimit h = tt
+front_stands (Some xs) d Memory h = tt
+
+-- ---- a piece of the sound
+pub reading_in_piece : (left : Option (List ℕ)) (wanted : ℕ) (f : StreamFault) → IsReadingFault f → IsPieceFault left wanted f
+reading_in_piece left wanted FileRefused h = absurd h
+reading_in_piece left wanted RateNotDivided h = absurd h
+reading_in_piece left wanted TooLarge h = absurd h
+reading_in_piece left wanted ReadFailed h = tt
+reading_in_piece left wanted WriteFailed h = absurd h
+reading_in_piece left wanted TurnLimit h = tt
+reading_in_piece left wanted Memory h = tt
+
+pub writing_in_piece : (left : Option (List ℕ)) (wanted : ℕ) (f : StreamFault) → IsWritingFault f → IsPieceFault left wanted f
+writing_in_piece left wanted FileRefused h = absurd h
+writing_in_piece left wanted RateNotDivided h = absurd h
+writing_in_piece left wanted TooLarge h = absurd h
+writing_in_piece left wanted ReadFailed h = absurd h
+writing_in_piece left wanted WriteFailed h = tt
+writing_in_piece left wanted TurnLimit h = absurd h
+writing_in_piece left wanted Memory h = tt
+
+pub writing_in_sound : (left : Option (List ℕ)) (ahead : List ℕ) (s : Sound) (f : StreamFault) → IsWritingFault f → IsSoundFault left ahead s f
+writing_in_sound left ahead s FileRefused h = absurd h
+writing_in_sound left ahead s RateNotDivided h = absurd h
+writing_in_sound left ahead s TooLarge h = absurd h
+writing_in_sound left ahead s ReadFailed h = absurd h
+writing_in_sound left ahead s WriteFailed h = tt
+writing_in_sound left ahead s TurnLimit h = absurd h
+writing_in_sound left ahead s Memory h = tt
+
+-- ---- what was counted
+pub same_writes : (X Y : Type 0) (f : StreamFault) → failed_writes {X = X} (Err f) ≡ failed_writes {X = Y} (Err f)
+same_writes X Y FileRefused = refl
+same_writes X Y RateNotDivided = refl
+same_writes X Y TooLarge = refl
+same_writes X Y ReadFailed = refl
+same_writes X Y WriteFailed = refl
+same_writes X Y TurnLimit = refl
+same_writes X Y Memory = refl
+
+unread : {X : Type 0} (r : Result X StreamFault) → IfErr r IsWritingFault → failed_reads r ≡ 0
+unread (Ok x) h = refl
+unread (Err FileRefused) h = absurd h
+unread (Err RateNotDivided) h = absurd h
+unread (Err TooLarge) h = absurd h
+unread (Err ReadFailed) h = absurd h
+unread (Err WriteFailed) h = refl
+unread (Err TurnLimit) h = absurd h
+unread (Err Memory) h = refl
+
+-- nothing was read where the writing failed
+pub counts_writing : {R X : Type 0} (a b : SoundReader R) (r : Result X StreamFault) → IfErr r IsWritingFault → inlet_failures b.inlet.now ≡ inlet_failures a.inlet.now → inlet_reads b.inlet.now ≤ a.limit → Counts a b r
+counts_writing a b r h same few = record { failures = omega (arith, same, unread r h); turns = λ turn. absurd (subst (λ x. IfErr x IsWritingFault) turn h); most = few }
+
+pub unwritten : {X : Type 0} (r : Result X StreamFault) → IfErr r IsReadingFault → failed_writes r ≡ 0
+unwritten (Ok x) h = refl
+unwritten (Err FileRefused) h = absurd h
+unwritten (Err RateNotDivided) h = absurd h
+unwritten (Err TooLarge) h = absurd h
+unwritten (Err ReadFailed) h = refl
+unwritten (Err WriteFailed) h = absurd h
+unwritten (Err TurnLimit) h = refl
+unwritten (Err Memory) h = refl
+
+pub front_unwritten : {X : Type 0} (left : Option (List ℕ)) (r : Result X StreamFault) → IfErr r (IsFrontFault left) → failed_writes r ≡ 0
+front_unwritten left (Ok x) h = refl
+front_unwritten left (Err FileRefused) h = refl
+front_unwritten left (Err RateNotDivided) h = absurd h
+front_unwritten left (Err TooLarge) h = absurd h
+front_unwritten left (Err ReadFailed) h = refl
+front_unwritten left (Err WriteFailed) h = absurd h
+front_unwritten left (Err TurnLimit) h = refl
+front_unwritten left (Err Memory) h = refl

@@ -22,7 +22,6 @@ use std::alloc::Global;
 use std::io::{Read, Write};
 
 /// Plays a reader's file to a writer: the number of bytes of the WAVE file that was written.
-#[tactic(auto, using(crate::proofs::PlayLaws::none_front, crate::proofs::PlayLaws::none_written))]
 pub fn play<R: Read, W: Write>(
     alloc: Global,
     taps: &Taps,
@@ -64,7 +63,6 @@ pub fn play<R: Read, W: Write>(
 }
 
 // Plays a file.
-#[tactic(auto, using(crate::proofs::PlayLaws::none_front, crate::proofs::PlayLaws::none_written))]
 fn play_file<R: Read, W: Write>(
     alloc: Global,
     taps: &Taps,

@@ -1,11 +1,12 @@
 use Rattle.std.proofs.Common.{◌∙◌, arith, subst, sym}
 use Rattle.std.proofs.lemmas.Result.{err_from_is_err_and}
-use Rattle.device_core.specs.Inlets.{inlet_given}
+use Rattle.device_core.specs.Inlets.{inlet_given, inlet_reader}
 use Rattle.sound_core.specs.Files.{IsBeforeSound, IsRefused}
 use Rattle.sound_core.specs.Reads.{Reads}
 use Rattle.sound_core.proofs.ToldLaws.{gives_none}
 use Rattle.sound_core.proofs.ReadLaws.{after, at_end, reads_on}
-use Rattle.sound_core.proofs.ReaderLaws.{same_on}
+use Rattle.sound_core.proofs.ReaderLaws.{counts_later, same_on}
+use Rattle.sound_core.proofs.FaultLaws.{reading_in_front}
 use Rattle.sound_core.proofs.front.read_front.Goals as goal
 
 pub returns-in_err-count-clause-stopped : goal.returns-in_err-count-clause-stopped
@@ -44,3 +45,13 @@ loop-count-preserved g c =
       omega (arith, so_far.4, c.in_ok-count.ensures.counts.failures),
       subst IsBeforeSound c.as_slice.ensures.value before,
     )
+
+pub returns-in_err-count-clause-fault : goal.returns-in_err-count-clause-fault
+returns-in_err-count-clause-fault g c =
+    let e = err_from_is_err_and c.from_residual.result c.from_residual.ensures.1 in
+    rw (e.1, e.2) (reading_in_front (g.R.Read.remaining (inlet_reader c.args.reader.now.inlet.now)) c.in_err-count.field-0.0 c.in_err-count.ensures.fault)
+
+pub returns-in_err-count-clause-counts : goal.returns-in_err-count-clause-counts
+returns-in_err-count-clause-counts g c =
+    let e = err_from_is_err_and c.from_residual.result c.from_residual.ensures.1 in
+    rw (e.1, e.2) (counts_later c.args.reader.now c.loop-count.reader c.read_more.new.self c.in_err-count.field-0.0 c.loop-count.invariant.3.limit c.loop-count.invariant.4 c.in_err-count.ensures.counts)

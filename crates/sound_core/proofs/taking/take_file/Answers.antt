@@ -1,5 +1,6 @@
 use Rattle.std.proofs.Common.{◌∙◌, ◌++◌, ap, arith, subst, sym}
 use Rattle.std.proofs.lemmas.Result.{IfErr-weaker, IfOk-weaker, err_from_is_err_and}
+use Rattle.device_core.specs.Inlets.{inlet_failures, inlet_reader}
 use Rattle.dsd_bits.specs.declared.sound.Sound.{Sound}
 use Rattle.sound_core.specs.Outlines.{around_of}
 use Rattle.sound_core.specs.Readers.{Passes}
@@ -7,6 +8,8 @@ use Rattle.sound_core.specs.Reads.{Reads}
 use Rattle.sound_core.proofs.BehindLaws.{at_sound, file_stands, given_is, given_stands, pass_stands, rest_stands}
 use Rattle.sound_core.proofs.TakingLaws.{fed_none, file_taken}
 use Rattle.sound_core.proofs.taking.take_file.Given.{Over}
+use Rattle.sound_core.proofs.FaultLaws.{front_in_outline}
+use Rattle.sound_core.proofs.ReaderLaws.{counts_later, same_counts}
 use Rattle.sound_core.proofs.taking.take_file.Goals as goal
 use Rattle.sound_core.proofs.taking.take_file.Goals.{In_ok-head, In_ok-take_sound}
 
@@ -87,3 +90,18 @@ pub returns-clause-source : goal.returns-clause-source
 returns-clause-source g c =
     let taken = c.in_ok-take_sound.ensures.ok in
     IfOk-weaker c.read_rest.result _ _ (λ o told. (taken.source_is ∙ sym told.0, taken.done_is ∙ ap (λ (s : Sound). s.count) (sym told.0))) c.read_rest.ensures.ok
+
+pub returns-in_err-sound-clause-fault : goal.returns-in_err-sound-clause-fault
+returns-in_err-sound-clause-fault g c =
+    let e = err_from_is_err_and c.from_residual.result c.from_residual.ensures.1 in
+    rw (e.1, e.2) (front_in_outline (g.R.Read.remaining (inlet_reader c.args.reader.now.inlet.now)) c.in_err-sound.field-0.0 c.in_err-sound.ensures.fault)
+
+pub returns-in_err-sound-clause-counts : goal.returns-in_err-sound-clause-counts
+returns-in_err-sound-clause-counts g c =
+    let e = err_from_is_err_and c.from_residual.result c.from_residual.ensures.1 in
+    rw (e.1, e.2) (same_counts c.args.reader.now c.read_front.new.reader c.in_err-sound.field-0.0 c.in_err-sound.ensures.counts)
+
+pub returns-in_err-take_sound-clause-counts : goal.returns-in_err-take_sound-clause-counts
+returns-in_err-take_sound-clause-counts g c =
+    let e = err_from_is_err_and c.from_residual-in_err-take_sound.result c.from_residual-in_err-take_sound.ensures.1 in
+    rw (e.1, e.2) (counts_later c.args.reader.now c.take_head.new.self c.take_sound.new.reader c.in_err-take_sound.field-0.0 (c.take_head.ensures.same.limit ∙ c.read_front.ensures.same.limit) (ap inlet_failures c.take_head.ensures.untouched ∙ omega (arith, c.in_ok-sound.ensures.counts.failures)) c.in_err-take_sound.ensures.counts)

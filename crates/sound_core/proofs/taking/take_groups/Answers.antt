@@ -1,8 +1,11 @@
 use Rattle.std.proofs.Common.{◌≡◌, ◌++◌, ◌∙◌, ap, ap₂, arith, length, length-take, subst, sym, take, take-append-drop}
+use Rattle.std.proofs.lemmas.Result.{err_from_is_err_and}
+use Rattle.device_core.specs.Inlets.{inlet_reader}
 use Rattle.dsd_bits.specs.declared.sound.Sound.{Sound}
 use Rattle.dsd_bits.specs.Sounds.{sound_size}
 use Rattle.sound_core.specs.Reads.{Reads}
 use Rattle.sound_core.proofs.taking.take_groups.Given.{Over}
+use Rattle.sound_core.proofs.FaultLaws.{reading_in_pass}
 use Rattle.sound_core.proofs.taking.take_groups.Goals as goal
 use Rattle.sound_core.proofs.taking.take_groups.Goals.{After-split_at}
 
@@ -44,3 +47,8 @@ returns-clause-ok g c =
       more = c.in_ok-take.ensures.done;
       taken = c.in_ok-take.ensures.has;
     }
+
+pub returns-in_err-read_until-clause-fault : goal.returns-in_err-read_until-clause-fault
+returns-in_err-read_until-clause-fault g c =
+    let e = err_from_is_err_and c.from_residual.result c.from_residual.ensures.1 in
+    rw (e.1, e.2) (reading_in_pass (g.R.Read.remaining (inlet_reader c.args.reader.now.inlet.now)) _ c.args.reader.now.ahead.now.items c.in_err-read_until.field-0.0 c.in_err-read_until.ensures.fault)

@@ -1,7 +1,9 @@
-use Rattle.std.proofs.Common.{◌++◌, ◌∙◌, ap, subst}
-use Rattle.device_core.specs.Outlets.{outlet_writer}
+use Rattle.std.proofs.Common.{ℕ, ◌++◌, ◌+◌, ◌∙◌, ap, subst}
+use Rattle.std.proofs.lemmas.Result.{err_from_is_err_and}
+use Rattle.device_core.specs.Outlets.{outlet_failures, outlet_writer}
 use Rattle.stream_core.specs.Pieces.{PutsDue, PutsFrontOf}
 use Rattle.stream_core.proofs.PieceLaws.{any_err, as_dropped, as_taken, due_front}
+use Rattle.stream_core.proofs.FaultLaws.{same_writes}
 use Rattle.stream_core.proofs.pieces.play_bytes.Goals as goal
 
 pub returns-in_err-put_due-clause-front : goal.returns-in_err-put_due-clause-front
@@ -23,3 +25,8 @@ returns-clause-ok g c =
 
 pub returns-clause-kept : goal.returns-clause-kept
 returns-clause-kept g c = c.in_ok-extend_from_slice.ensures.items ∙ ap (λ xs. c.args.back.now.items ++ xs) (as_dropped c.args.wanted _ c.args.bytes.now _ c.min-number.ensures c.split_at.ensures.back)
+
+pub returns-in_err-put_due-clause-failures : goal.returns-in_err-put_due-clause-failures
+returns-in_err-put_due-clause-failures g c =
+    let e = err_from_is_err_and c.from_residual.result c.from_residual.ensures.1 in
+    rw (e.1, e.2) (c.in_err-put_due.ensures.failures ∙ ap (λ n. outlet_failures c.args.outlet.now + n) (same_writes (Unit {0}) ℕ c.in_err-put_due.field-0.0))

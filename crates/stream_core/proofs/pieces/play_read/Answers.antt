@@ -1,7 +1,10 @@
-use Rattle.std.proofs.Common.{take, ap, ◌∙◌, subst}
+use Rattle.std.proofs.Common.{take, ap, ◌∙◌, arith, subst}
+use Rattle.std.proofs.lemmas.Result.{IfErr-weaker, err_from_is_err_and}
+use Rattle.device_core.specs.Inlets.{inlet_reader}
 use Rattle.device_core.specs.Outlets.{outlet_writer}
 use Rattle.stream_core.specs.Pieces.{PutsFrontOf}
 use Rattle.stream_core.proofs.PieceLaws.{any_err, none_left, on_err, part_left}
+use Rattle.stream_core.proofs.FaultLaws.{counts_writing, reading_in_piece, unwritten, writing_goes_on, writing_in_piece}
 use Rattle.stream_core.proofs.pieces.play_read.Goals as goal
 
 pub returns-in_err-count-clause-front : goal.returns-in_err-count-clause-front
@@ -14,3 +17,25 @@ returns-clause-front g c =
     let a = g.W.Write.contents (outlet_writer c.args.outlet.now) in
     let b = g.W.Write.contents (outlet_writer c.play_bytes.new.outlet) in
     on_err c.play_bytes.result (λ front. part_left c.args.player.now _ _ read c.args.wanted a b c.in_ok-count.ensures.read.consumed (subst (λ xs. PutsFrontOf c.args.player.now (take c.args.wanted xs) a b) piece front)) c.play_bytes.ensures.front
+
+pub returns-in_err-count-clause-fault : goal.returns-in_err-count-clause-fault
+returns-in_err-count-clause-fault g c =
+    let e = err_from_is_err_and c.from_residual.result c.from_residual.ensures.1 in
+    rw (e.1, e.2) (reading_in_piece (g.R.Read.remaining (inlet_reader c.args.reader.now.inlet.now)) c.args.wanted c.in_err-count.field-0.0 c.in_err-count.ensures.fault)
+
+pub returns-in_err-count-clause-write_failed : goal.returns-in_err-count-clause-write_failed
+returns-in_err-count-clause-write_failed g c =
+    let e = err_from_is_err_and c.from_residual.result c.from_residual.ensures.1 in
+    omega (arith, unwritten c.from_residual.result (rw (e.1, e.2) c.in_err-count.ensures.fault))
+
+pub returns-clause-fault : goal.returns-clause-fault
+returns-clause-fault g c =
+    IfErr-weaker c.play_bytes.result _ _ (λ f h. writing_in_piece (g.R.Read.remaining (inlet_reader c.args.reader.now.inlet.now)) c.args.wanted f h) c.play_bytes.ensures.fault
+
+pub returns-clause-stopped : goal.returns-clause-stopped
+returns-clause-stopped g c =
+    IfErr-weaker c.play_bytes.result _ _ (λ f h stops. absurd (writing_goes_on f h stops)) c.play_bytes.ensures.fault
+
+pub returns-clause-counts : goal.returns-clause-counts
+returns-clause-counts g c =
+    counts_writing _ _ c.play_bytes.result c.play_bytes.ensures.fault (omega (arith, c.in_ok-count.ensures.counts.failures)) c.in_ok-count.ensures.counts.most

@@ -1,7 +1,7 @@
-use Rattle.std.proofs.Common.{◌≡◌, ℕ, List, ◌++◌, ◌-◌, ◌∙◌, drop, take, length, length-take, ap, arith, sym, subst}
-use Rattle.std.proofs.lemmas.Result.{err_from_is_err_and}
+use Rattle.std.proofs.Common.{◌≡◌, ℕ, List, ◌++◌, ◌+◌, ◌-◌, ◌∙◌, drop, take, length, length-take, ap, arith, sym, subst}
+use Rattle.std.proofs.lemmas.Result.{IfErr-weaker, err_from_is_err_and}
 use Rattle.device_core.specs.Inlets.{inlet_given, inlet_reader}
-use Rattle.device_core.specs.Outlets.{outlet_writer}
+use Rattle.device_core.specs.Outlets.{outlet_failures, outlet_writer}
 use Rattle.dsd_bits.specs.declared.sound.Sound.{Sound}
 use Rattle.stream_core.specs.Pace.{PlaysGivenSound}
 use Rattle.stream_core.specs.Pieces.{IsPieceFault, IsSoundFault, PlaysFront, PlaysPart, PlaysSound, PutsDue, PutsFrontLeft, PutsFrontOf}
@@ -9,6 +9,7 @@ use Rattle.stream_core.proofs.PaceLaws.{sound_so_far}
 use Rattle.stream_core.proofs.PieceLaws.{any_err, on_err, on_ok}
 use Rattle.stream_core.proofs.SoundLaws.{ahead_front, end_front, front_of_none, rest_fault, rest_front, said, sound_played}
 use Rattle.stream_core.proofs.pieces.play_sound.Given.{Over}
+use Rattle.stream_core.proofs.FaultLaws.{same_writes, writing_goes_on, writing_in_sound}
 use Rattle.stream_core.proofs.pieces.play_sound.Goals as goal
 use Rattle.stream_core.proofs.pieces.play_sound.Goals.{After-deref, After-put_rest}
 
@@ -116,3 +117,27 @@ returns-clause-front g c =
     let all : c.play_rest.new.player.fed ≡ c.play_rest.new.player.sound.size = omega (arith, made.2, same.2, later.2, c.in_ok-first.ensures.number, ap (λ (s : Sound). s.size) made.1, ap (λ (s : Sound). s.size) same.1, ap (λ (s : Sound). s.size) later.1, length-take c.args.sound.now.size c.deref.result.now) in
     on_err c.put_rest.result (λ front. subst (λ xs. PlaysFront (g.R.Read.remaining (inlet_reader c.args.reader.now.inlet.now)) c.args.taps.now c.args.sound.now xs a e) (ahead_is g (goal.at.returns-clause-front g c).After-deref) (said (λ d s. PlaysFront (g.R.Read.remaining (inlet_reader c.args.reader.now.inlet.now)) d s c.deref.result.now a e) made.0 made.1
     (end_front g.R.Read.remaining _ _ p _ _ c.in_ok-player.ensures.fed c.deref.result.now _ a _ _ _ (number_is g k) (first_is g k) same.0 same.1 (rest_is g k) later.0 later.1 e all front))) c.put_rest.ensures.front
+
+-- ---- which fault it is, and what came before it
+pub returns-in_err-first-clause-fault : goal.returns-in_err-first-clause-fault
+returns-in_err-first-clause-fault g c =
+    let e = err_from_is_err_and c.from_residual-in_err-first.result c.from_residual-in_err-first.ensures.1 in
+    rw (e.1, e.2) (writing_in_sound (g.R.Read.remaining (inlet_reader c.args.reader.now.inlet.now)) c.args.reader.now.ahead.now.items c.args.sound.now c.in_err-first.field-0.0 c.in_err-first.ensures.fault)
+
+pub returns-in_err-first-clause-stopped : goal.returns-in_err-first-clause-stopped
+returns-in_err-first-clause-stopped g c =
+    let e = err_from_is_err_and c.from_residual-in_err-first.result c.from_residual-in_err-first.ensures.1 in
+    rw (e.1, e.2) (λ stops. absurd (writing_goes_on c.in_err-first.field-0.0 c.in_err-first.ensures.fault stops))
+
+pub returns-in_err-first-clause-write_failed : goal.returns-in_err-first-clause-write_failed
+returns-in_err-first-clause-write_failed g c =
+    let e = err_from_is_err_and c.from_residual-in_err-first.result c.from_residual-in_err-first.ensures.1 in
+    rw (e.1, e.2) (c.in_err-first.ensures.failures ∙ ap (λ n. outlet_failures c.args.outlet.now + n) (same_writes ℕ (Unit {0}) c.in_err-first.field-0.0))
+
+pub returns-clause-fault : goal.returns-clause-fault
+returns-clause-fault g c =
+    IfErr-weaker c.put_rest.result _ _ (λ f h. writing_in_sound (g.R.Read.remaining (inlet_reader c.args.reader.now.inlet.now)) c.args.reader.now.ahead.now.items c.args.sound.now f h) c.put_rest.ensures.fault
+
+pub returns-clause-stopped : goal.returns-clause-stopped
+returns-clause-stopped g c =
+    IfErr-weaker c.put_rest.result _ _ (λ f h stops. absurd (writing_goes_on f h stops)) c.put_rest.ensures.fault

@@ -1,10 +1,12 @@
-use Rattle.std.proofs.Common.{◌-◌, ◌∙◌, refl, subst, sym}
+use Rattle.std.proofs.Common.{◌-◌, ◌∙◌, [], arith, refl, subst, sym}
 use Rattle.std.proofs.lemmas.Result.{IfErr-weaker, IfOk-weaker, err_from_is_err_and}
 use Rattle.device_core.specs.Inlets.{inlet_given, inlet_reader}
 use Rattle.device_core.specs.Outlets.{outlet_writer}
 use Rattle.stream_core.specs.Pace.{KeepsUp}
 use Rattle.stream_core.proofs.PaceLaws.{keeps_file, keeps_front}
-use Rattle.stream_core.proofs.PlayLaws.{found_outside, front_outside, plays_file, plays_given}
+use Rattle.stream_core.proofs.PlayLaws.{found_outside, front_outside, none_written, plays_file, plays_given}
+use Rattle.sound_core.proofs.ReaderLaws.{same_counts}
+use Rattle.stream_core.proofs.FaultLaws.{front_stands, front_unwritten}
 use Rattle.stream_core.proofs.playing.play_file.Goals as goal
 
 pub returns-clause-ok : goal.returns-clause-ok
@@ -36,3 +38,22 @@ returns-clause-keeps_up g c =
     let front = c.read_front.new.reader.ahead.now.items in
     IfErr-weaker c.play_found.result _ _ (λ f keeps stops. keeps_file (g.R.Read.remaining (inlet_reader c.args.reader.now.inlet.now)) new a b c.args.taps.now front _ _ c.in_ok-sound.ensures.read.consumed refl
     (subst (λ n. KeepsUp new c.args.taps.now front (inlet_given c.play_found.new.reader.inlet.now - n) a b) (c.read_front.ensures.same.given ∙ sym c.requires.start.given) (keeps stops))) c.play_found.ensures.keeps_up
+
+pub returns-in_err-sound-clause-fault : goal.returns-in_err-sound-clause-fault
+returns-in_err-sound-clause-fault g c =
+    let e = err_from_is_err_and c.from_residual.result c.from_residual.ensures.1 in
+    rw (e.1, e.2) (front_stands (g.R.Read.remaining (inlet_reader c.args.reader.now.inlet.now)) c.args.taps.now c.in_err-sound.field-0.0 c.in_err-sound.ensures.fault)
+
+pub returns-in_err-sound-clause-counts : goal.returns-in_err-sound-clause-counts
+returns-in_err-sound-clause-counts g c =
+    let e = err_from_is_err_and c.from_residual.result c.from_residual.ensures.1 in
+    rw (e.1, e.2) (same_counts c.args.reader.now c.read_front.new.reader c.in_err-sound.field-0.0 c.in_err-sound.ensures.counts)
+
+pub returns-in_err-sound-clause-write_failed : goal.returns-in_err-sound-clause-write_failed
+returns-in_err-sound-clause-write_failed g c =
+    let e = err_from_is_err_and c.from_residual.result c.from_residual.ensures.1 in
+    omega (arith, front_unwritten (g.R.Read.remaining (inlet_reader c.args.reader.now.inlet.now)) c.from_residual.result (rw (e.1, e.2) c.in_err-sound.ensures.fault))
+
+pub returns-in_err-sound-clause-front : goal.returns-in_err-sound-clause-front
+returns-in_err-sound-clause-front g c =
+    none_written c.from_residual.result (g.R.Read.remaining (inlet_reader c.args.reader.now.inlet.now)) c.args.taps.now [] (g.W.Write.contents (outlet_writer c.args.outlet.now))

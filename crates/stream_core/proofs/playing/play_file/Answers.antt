@@ -4,6 +4,7 @@ use Rattle.device_core.specs.Inlets.{inlet_given, inlet_reader}
 use Rattle.device_core.specs.Outlets.{outlet_writer}
 use Rattle.stream_core.specs.Pace.{KeepsUp}
 use Rattle.stream_core.proofs.PaceLaws.{keeps_file, keeps_front}
+use Rattle.stream_core.specs.Playing.{PlaysBy}
 use Rattle.stream_core.proofs.PlayLaws.{found_outside, front_outside, none_written, plays_file, plays_given}
 use Rattle.sound_core.proofs.ReaderLaws.{same_counts}
 use Rattle.stream_core.proofs.FaultLaws.{front_stands, front_unwritten}
@@ -56,4 +57,4 @@ returns-in_err-sound-clause-write_failed g c =
 
 pub returns-in_err-sound-clause-front : goal.returns-in_err-sound-clause-front
 returns-in_err-sound-clause-front g c =
-    none_written c.from_residual.result (g.R.Read.remaining (inlet_reader c.args.reader.now.inlet.now)) c.args.taps.now [] (g.W.Write.contents (outlet_writer c.args.outlet.now))
+    none_written c.from_residual.result (g.R.Read.remaining (inlet_reader c.args.reader.now.inlet.now)) (PlaysBy c.args.taps.now) (g.W.Write.contents (outlet_writer c.args.outlet.now))

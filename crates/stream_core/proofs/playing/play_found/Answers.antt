@@ -100,7 +100,7 @@ returns-clause-ok g c =
 
 -- ---- which fault it is, and what came before it
 pub returns-in_err-head-clause-front : goal.returns-in_err-head-clause-front
-returns-in_err-head-clause-front g c = none_written c.from_residual.result (g.R.Read.remaining (inlet_reader c.args.reader.now.inlet.now)) c.args.taps.now c.args.reader.now.ahead.now.items (g.W.Write.contents (outlet_writer c.args.outlet.now))
+returns-in_err-head-clause-front g c = none_written c.from_residual.result (g.R.Read.remaining (inlet_reader c.args.reader.now.inlet.now)) (PlaysBehind c.args.taps.now c.args.reader.now.ahead.now.items) (g.W.Write.contents (outlet_writer c.args.outlet.now))
 
 pub returns-in_err-put_header-clause-fault : goal.returns-in_err-put_header-clause-fault
 returns-in_err-put_header-clause-fault g c =

@@ -16,7 +16,7 @@ use std::alloc::{AllocError, Global};
 pub enum Kernel {
     /// Bit by bit.
     Plain,
-    /// Four bytes at a time over tiles of samples: for each place in the bytes of a step and each of
+    /// By turns of every eighth step over tiles of samples: for each place in the bytes of a step and each of
     /// the 256 bytes a row of what the byte adds to the windows that it stands in.
     Table,
     /// Eight taps at a time, in lanes, with a byte's bits as the mask that selects a tap or its

@@ -17,6 +17,22 @@ pub(crate) struct Laid<'a> {
     pub(crate) span: usize,
 }
 
+/// Taps, and bytes over which they are summed in windows that begin so many bytes apart.
+#[derive(Clone, Copy)]
+struct Source<'a> {
+    taps: &'a [i32],
+    bytes: &'a [u8],
+    step: usize,
+}
+
+/// Some bytes from `p` on, and so many windows from window `start` on.
+#[derive(Clone, Copy)]
+struct Run {
+    p: usize,
+    start: usize,
+    number: usize,
+}
+
 /// A byte by the last window that begins with it or before it, and its place from there on.
 #[derive(Clone, Copy)]
 struct Spot {
@@ -244,95 +260,67 @@ fn block_of<'a>(taps: &[i32], rows: Laid<'a>, bytes: &[u8], spot: Spot, limit: u
 }
 
 /// Byte `p` in the sum of window `j`, to which it adds its entry.
-fn add_byte(
-    taps: &[i32],
-    bytes: &[u8],
-    step: usize,
-    p: usize,
-    j: usize,
-    entry: i32,
-    sum: i32,
-) -> i32
-    requires small { sum_by unsigned_abs taps.now ≤ 2 ^ 30 }
-    requires within { p < length bytes.now }
-    requires entry { entry ≡ entry_of taps.now bytes.now step p j }
-    requires so_far { sum ≡ sum_before taps.now bytes.now step p j }
-    ensures { result ≡ sum_before taps.now bytes.now step (p + 1) j }
+fn add_byte(source: Source<'_>, p: usize, j: usize, entry: i32, sum: i32) -> i32
+    requires small { sum_by unsigned_abs source.taps.now ≤ 2 ^ 30 }
+    requires within { p < length source.bytes.now }
+    requires entry { entry ≡ entry_of source.taps.now source.bytes.now source.step p j }
+    requires so_far { sum ≡ sum_before source.taps.now source.bytes.now source.step p j }
+    ensures { result ≡ sum_before source.entry.taps.now source.entry.bytes.now source.entry.step (p + 1) j }
 {
     sum + entry
 }
 
-/// Four bytes from `p` on in the sum of window `j`, one of so many from window `start` on to which they add.
-fn add_bytes(
-    taps: &[i32],
-    bytes: &[u8],
-    step: usize,
-    p: usize,
-    start: usize,
-    number: usize,
-    four: Four<'_>,
-    j: usize,
-    sum: i32,
-) -> i32
-    requires rows { IsBlock taps.now bytes.now step p start number four.one.now four.two.now four.three.now four.four.now }
-    requires from { start ≤ j }
-    requires to { j < start + number }
-    requires so_far { sum ≡ sum_before taps.now bytes.now step p j }
-    ensures { result ≡ sum_before taps.now bytes.now step (p + 4) j }
+/// The first four bytes of a run in the sum of window `j`, one of its windows.
+fn add_bytes(source: Source<'_>, run: Run, four: Four<'_>, j: usize, sum: i32) -> i32
+    requires rows { IsBlock source.taps.now source.bytes.now source.step run.p run.start run.number four.one.now four.two.now four.three.now four.four.now }
+    requires from { run.start ≤ j }
+    requires to { j < run.start + run.number }
+    requires so_far { sum ≡ sum_before source.taps.now source.bytes.now source.step run.p j }
+    ensures { result ≡ sum_before source.entry.taps.now source.entry.bytes.now source.entry.step (run.p + 4) j }
 {
-    let k = j - start;
-    let one = add_byte(taps, bytes, step, p, j, four.one[k], sum);
-    let two = add_byte(taps, bytes, step, p + 1, j, four.two[k], one);
-    let three = add_byte(taps, bytes, step, p + 2, j, four.three[k], two);
-    add_byte(taps, bytes, step, p + 3, j, four.four[k], three)
+    let p = run.p;
+    let k = j - run.start;
+    let one = add_byte(source, p, j, four.one[k], sum);
+    let two = add_byte(source, p + 1, j, four.two[k], one);
+    let three = add_byte(source, p + 2, j, four.three[k], two);
+    add_byte(source, p + 3, j, four.four[k], three)
 }
 
 /// Byte `p` in the sums of eight windows from window `j` on, to which it adds its entries from `k` on.
 #[inline(always)]
 fn add_row(
-    taps: &[i32],
-    bytes: &[u8],
-    step: usize,
+    source: Source<'_>,
     p: usize,
     j: usize,
     entries: &[i32],
     k: usize,
     sums: i32x8,
 ) -> i32x8
-    requires small { sum_by unsigned_abs taps.now ≤ 2 ^ 30 }
-    requires within { p < length bytes.now }
+    requires small { sum_by unsigned_abs source.taps.now ≤ 2 ^ 30 }
+    requires within { p < length source.bytes.now }
     requires inside { k + 8 ≤ length entries.now }
-    requires entries { (l : ℕ) → l < 8 → slice_index_or entries.now (k + l) (pos 0) ≡ entry_of taps.now bytes.now step p (j + l) }
-    requires so_far { AreSums taps.now bytes.now step p j sums }
-    ensures { AreSums taps.now bytes.now step (p + 1) j result }
+    requires entries { (l : ℕ) → l < 8 → slice_index_or entries.now (k + l) (pos 0) ≡ entry_of source.taps.now source.bytes.now source.step p (j + l) }
+    requires so_far { AreSums source.taps.now source.bytes.now source.step p j sums }
+    ensures { AreSums source.entry.taps.now source.entry.bytes.now source.entry.step (p + 1) j result }
 {
     sums + i32x8::from_slice(&entries[k..])
 }
 
-/// Four bytes from `p` on in the sums of eight windows from window `j` on, of so many from window `start` on.
+/// The first four bytes of a run in the sums of eight of its windows from window `j` on.
 #[inline(always)]
-fn add_rows(
-    taps: &[i32],
-    bytes: &[u8],
-    step: usize,
-    p: usize,
-    start: usize,
-    number: usize,
-    four: Four<'_>,
-    j: usize,
-    sums: i32x8,
-) -> i32x8
-    requires rows { IsBlock taps.now bytes.now step p start number four.one.now four.two.now four.three.now four.four.now }
-    requires from { start ≤ j }
-    requires to { j + 8 ≤ start + number }
-    requires so_far { AreSums taps.now bytes.now step p j sums }
-    ensures { AreSums taps.now bytes.now step (p + 4) j result }
+fn add_rows(source: Source<'_>, run: Run, four: Four<'_>, j: usize, sums: i32x8) -> i32x8
+    requires rows { IsBlock source.taps.now source.bytes.now source.step run.p run.start run.number four.one.now four.two.now four.three.now four.four.now }
+    requires from { run.start ≤ j }
+    requires to { j + 8 ≤ run.start + run.number }
+    requires so_far { AreSums source.taps.now source.bytes.now source.step run.p j sums }
+    ensures { AreSums source.entry.taps.now source.entry.bytes.now source.entry.step (run.p + 4) j result }
 {
-    let k = j - start;
-    let one = add_row(taps, bytes, step, p, j, four.one, k, sums);
-    let two = add_row(taps, bytes, step, p + 1, j, four.two, k, one);
-    let three = add_row(taps, bytes, step, p + 2, j, four.three, k, two);
-    add_row(taps, bytes, step, p + 3, j, four.four, k, three)
+    let p = run.p;
+    let k = j - run.start;
+    let one = add_row(source, p, j, four.one, k, sums);
+    let two = add_row(source, p + 1, j, four.two, k, one);
+    let three = add_row(source, p + 2, j, four.three, k, two);
+    add_row(source, p + 3, j, four.four, k, three)
 }
 
 /// Eight bytes in the sum of window `j`.
@@ -344,12 +332,23 @@ fn add_one(taps: &[i32], bytes: &[u8], block: Block<'_>, j: usize, sum: i32) -> 
     requires so_far { sum ≡ sum_before taps.now bytes.now block.step block.p j }
     ensures { result ≡ sum_before taps.now bytes.now block.entry.step (block.entry.p + 8) j }
 {
-    let step = block.step;
-    let p = block.p;
-    let start = block.start;
-    let number = block.number;
-    let half = add_bytes(taps, bytes, step, p, start, number, block.front, j, sum);
-    add_bytes(taps, bytes, step, p + 4, start, number, block.back, j, half)
+    let source = Source {
+        taps,
+        bytes,
+        step: block.step,
+    };
+    let run = Run {
+        p: block.p,
+        start: block.start,
+        number: block.number,
+    };
+    let behind = Run {
+        p: block.p + 4,
+        start: block.start,
+        number: block.number,
+    };
+    let half = add_bytes(source, run, block.front, j, sum);
+    add_bytes(source, behind, block.back, j, half)
 }
 
 /// Eight bytes in the sums of eight windows from window `j` on, as one vector.
@@ -366,13 +365,24 @@ fn add_eight(taps: &[i32], bytes: &[u8], block: Block<'_>, j: usize, sums: &mut 
     ensures done { (k : ℕ) → k < j + 8 → slice_index_or sums.new k (pos 0) ≡ sum_before taps.now bytes.now block.entry.step (block.entry.p + 8) k }
     ensures rest { EachIndex sums.new (λ k. j + 8 ≤ k → slice_index_or sums.new k (pos 0) ≡ sum_before taps.now bytes.now block.entry.step block.entry.p k) }
 {
-    let step = block.step;
-    let p = block.p;
-    let start = block.start;
-    let number = block.number;
+    let source = Source {
+        taps,
+        bytes,
+        step: block.step,
+    };
+    let run = Run {
+        p: block.p,
+        start: block.start,
+        number: block.number,
+    };
+    let behind = Run {
+        p: block.p + 4,
+        start: block.start,
+        number: block.number,
+    };
     let before = i32x8::from_slice(&sums[j..]);
-    let half = add_rows(taps, bytes, step, p, start, number, block.front, j, before);
-    let after = add_rows(taps, bytes, step, p + 4, start, number, block.back, j, half);
+    let half = add_rows(source, run, block.front, j, before);
+    let after = add_rows(source, behind, block.back, j, half);
     after.copy_to_slice(&mut sums[j..]);
 }
 
@@ -451,9 +461,14 @@ fn add_last(taps: &[i32], rows: Laid<'_>, bytes: &[u8], spot: Spot, sums: &mut [
     let start = (spot.window + 1).saturating_sub(rows.span);
     let number = (spot.window + 1).min(sums.len()) - start;
     let row = row_part(taps, rows, bytes, spot, start, number);
+    let source = Source {
+        taps,
+        bytes,
+        step: rows.step,
+    };
     for k in 0..number {
         let j = start + k;
-        sums[j] = add_byte(taps, bytes, rows.step, spot.p, j, row[k], sums[j]);
+        sums[j] = add_byte(source, spot.p, j, row[k], sums[j]);
     }
     next(spot, rows.step)
 }

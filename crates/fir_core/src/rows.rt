@@ -288,14 +288,7 @@ fn add_bytes(source: Source<'_>, run: Run, four: Four<'_>, j: usize, sum: i32) -
 
 /// Byte `p` in the sums of eight windows from window `j` on, to which it adds its entries from `k` on.
 #[inline(always)]
-fn add_row(
-    source: Source<'_>,
-    p: usize,
-    j: usize,
-    entries: &[i32],
-    k: usize,
-    sums: i32x8,
-) -> i32x8
+fn add_row(source: Source<'_>, p: usize, j: usize, entries: &[i32], k: usize, sums: i32x8) -> i32x8
     requires small { sum_by unsigned_abs source.taps.now ≤ 2 ^ 30 }
     requires within { p < length source.bytes.now }
     requires inside { k + 8 ≤ length entries.now }

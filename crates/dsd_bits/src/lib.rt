@@ -83,6 +83,7 @@ pub use lacing::{lace_bytes, laced_channels_are_read_again, push_laced, unlace_b
 pub use layouts::{layout_channels, usual_layout};
 pub use limits::{BLOCK_BITS, BLOCK_BYTES, GREATEST_RATE, LEAST_RATE, MOST_BITS};
 pub use marks::{Mark, Other, Place};
+pub use packing::byte_from;
 pub use planes::{frames_to_planes, planes_to_frames};
 pub use recording::Recording;
 pub use room::BitRoom;

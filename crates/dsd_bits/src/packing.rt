@@ -100,8 +100,9 @@ fn shift_into(to: &mut [u8], kept: usize, source: &[u8], at: usize)
     );
 }
 
-// The 8 bits from bit `at` on, zeros past the end.
-fn byte_from(bytes: &[u8], at: usize) -> u8
+/// The 8 bits from bit `at` on, zeros past the end.
+#[inline]
+pub fn byte_from(bytes: &[u8], at: usize) -> u8
     ensures { result ≡ byte_from bytes.now at }
 {
     byte_across(

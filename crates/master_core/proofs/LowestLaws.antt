@@ -32,7 +32,7 @@ module _ (cut : CutContent) (can : CanCut cut) (some : 1 ≤ length cut.splice.c
   }
 
 -- of channels of which a list tells it
-module _ (cut : CutContent) (can : CanCut cut) (some : 1 ≤ length cut.splice.cues) (r : Content) (shape : HaveShape cut r.channels) (firsts : List (Option ℕ)) (tells : TellAll cut r firsts) where
+module _ (cut : CutContent) (can : CanCut cut) (some : 1 ≤ length cut.splice.cues) (r : Content) (shape : HaveShape cut r.channels) (firsts : List (Option ℕ)) (tells : TellAll cut r.channels firsts) where
   told : (c : ℕ) (x : Option ℕ) → c < channel_number cut → get_or firsts c None ≡ x → TellsOff cut c (get_or r.channels c []) x
   told c x there is = subst (TellsOff cut c (get_or r.channels c [])) is (tells c there)
 

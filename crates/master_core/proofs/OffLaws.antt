@@ -1,5 +1,5 @@
 -- The first bit that is off its cue, of a channel that comes part by part.
-use Rattle.std.proofs.Common.{◌≡◌, ℕ, zero, suc, ◌+◌, ◌-◌, ◌<◌, ◌≤◌, Bool, false, List, ◌++◌, length, get_or, Option, None, Some, inl, inr, refl, sym, ap, subst, ◌∙◌, arith}
+use Rattle.std.proofs.Common.{◌≡◌, ℕ, zero, suc, ◌+◌, ◌-◌, ◌<◌, ◌≤◌, max, Bool, false, List, ◌++◌, length, get_or, slice_range, Option, None, Some, inl, inr, refl, sym, ap, subst, ◌∙◌, arith}
 use Rattle.std.proofs.lemmas.Bool.{cases_lt}
 use Rattle.std.proofs.lemmas.List.{get_or-append_right, get_or_append_left, length-append}
 use Rattle.std.proofs.lemmas.List.Sums.{sum_by_more}
@@ -7,6 +7,7 @@ use Rattle.cut_core.specs.Cuts.{CutContent, channel_number, cue_at, cue_bits, sp
 use Rattle.cut_core.specs.Keeping.{CanCut}
 use Rattle.master_core.specs.Comparing.{FindsFirst, IsFirst, IsOffAt, IsOffCue, IsOffPart, TellsOff, cue_start}
 use Rattle.master_core.proofs.ChannelLaws.{cue_long}
+use Rattle.master_core.proofs.SliceLaws.{slice_at}
 
 -- ---- cues follow each other
 rises : (cut : CutContent) (k j : ℕ) → j + k < length cut.splice.cues → cue_start cut j + span (cue_at cut j) ≤ cue_start cut (j + 1 + k)
@@ -37,6 +38,18 @@ first_of_all cut can c done part k place there lt none first = record {
     ]
   ];
 }
+
+-- where a part of a channel has the bits of a cue from a place on, there is none before the place behind them
+pub none_alike : (cut : CutContent) (c i done : ℕ) (part bits : List Bool) (start stop from alike : ℕ) → slice_range bits start stop ≡ cue_bits cut c i → from ≡ max (cue_start cut i) done → from - cue_start cut i + alike ≤ stop - start
+    → ((k : ℕ) → k < alike → get_or part (from - done + k) false ≡ get_or bits (start + (from - cue_start cut i) + k) false) → (p : ℕ) → p < from + alike → IsOffAt cut c i done part p → ⊥
+none_alike cut c i done part bits start stop from alike is first few same p lt off =
+    let own = cue_start cut i in
+    let reached : from ≤ p = omega (arith, first, off.from, off.reached) in
+    let k = p - from in
+    let here : from - done + k ≡ p - done = omega (arith, reached, first) in
+    let there : start + (from - own) + k ≡ start + (p - own) = omega (arith, reached, first) in
+    let low : p - own < stop - start = omega (arith, lt, reached, first, few) in
+    off.differs (ap (λ n. get_or part n false) (sym here) ∙ same k (omega (arith, lt, reached)) ∙ ap (λ n. get_or bits n false) there ∙ sym (slice_at bits start stop (p - own) low) ∙ ap (λ l. get_or l (p - own) false) is)
 
 -- ---- a part more
 module _ (cut : CutContent) (c : ℕ) (before part : List Bool) where

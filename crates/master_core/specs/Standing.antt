@@ -63,8 +63,8 @@ abbrev pub FindsCued : CutContent → Content → Option CuedPlace → Type 0
 FindsCued cut r place = MatchOption place (HoldCues cut (channel_numbers cut) r.channels) (λ p. IsFirstCuedBit cut r p.channel p.place)
 
 -- of each channel the first bit that isn't that of the cue there, if there is one
-abbrev pub TellAll : CutContent → Content → List (Option ℕ) → Type 0
-TellAll cut r firsts = (c : ℕ) → c < channel_number cut → TellsOff cut c (slice_index_or r.channels c []) (slice_index_or firsts c None)
+abbrev pub TellAll : CutContent → List (List Bool) → List (Option ℕ) → Type 0
+TellAll cut zs firsts = (c : ℕ) → c < channel_number cut → TellsOff cut c (slice_index_or zs c []) (slice_index_or firsts c None)
 
 -- this was found of a recording, and kept of its bridges, where it has the shape and the length of a master
 pub record IsFoundOf (cut : CutContent) (found : Found) (r : Content) : Type 0 where

@@ -52,7 +52,7 @@ pub struct Found {
 /// The first bit of a master that isn't that of the cue there, by the first such place of each of its channels.
 pub fn lowest_off(cut: &Cut, firsts: &[Option<usize>]) -> Option<CuedPlace>
     requires { length firsts.now ≡ channel_number cut.now }
-    ensures { (r : Content) → HaveShape cut.now r.channels → TellAll cut.now r firsts.now → FindsCued cut.now r result }
+    ensures { (r : Content) → HaveShape cut.now r.channels → TellAll cut.now r.channels firsts.now → FindsCued cut.now r result }
 {
     cut.can_cut();
     for channel in 0..firsts.len() {

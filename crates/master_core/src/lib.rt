@@ -59,5 +59,6 @@ pub use finding::{CuedPlace, Found, judge_found, lowest_off};
 pub use judging::{judge, judge_read};
 pub use parting::MasterSource;
 pub use planning::{Planned, plan};
+pub use standing::bridge_starts;
 pub use verdict::{Reason, Verdict};
 pub use writing::{MasterRoom, has_one_best, master_room, write_sound};

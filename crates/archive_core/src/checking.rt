@@ -158,7 +158,7 @@ pub fn check_found<R: Read>(
     ensures failures { inlet_failures (cert_inlet cert.new) ≡ inlet_failures (cert_inlet cert.old) + failed_reads result }
 {
     match judge_found(alloc, cut, found, cert) {
-        Ok(verdict) => Ok(verdict),
+        Ok(judged) => Ok(judged),
         Err(fault) => Err(fault_of(fault)),
     }
 }

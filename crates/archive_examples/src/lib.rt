@@ -44,6 +44,8 @@ mod rejecting;
 #[cfg(test)]
 mod slow_folder;
 #[cfg(test)]
+mod streamed_masters;
+#[cfg(test)]
 mod take_names;
 #[cfg(test)]
 mod watched_folder;

@@ -6,7 +6,7 @@ use crate::in_blocks::ChangingFolder;
 use crate::master_commands::{CHECK, CUT};
 use crate::watched_folder::{Failure, WatchedFolder};
 use archive_core::{Fault, Form};
-use command_core::{Folder, MemoryFolder, Outcome, outcome_line};
+use command_core::{Folder, MemoryFolder, Outcome, outcome_line, perform, status};
 use fixtures::files::{dsf_of, mono, stereo};
 use std::alloc::{AllocError, Global};
 use std::test::Fail;
@@ -31,13 +31,21 @@ fn noise(alloc: Global, size: usize) -> Result<Vec<u8>, AllocError> {
     Ok(bytes)
 }
 
-// A project of `LONG_CUES`, and its takes of two channels: a DSDIFF file of 8,388,616 bits a channel, and a DSF file
-// of 8,400,001.
-fn long_sources(alloc: Global) -> Result<Sources, AllocError> {
+// Cues of which the master is longer than 2 MiB: 8,488,600 bits a channel.
+const LONG_MASTER: [CueNumbers; 2] = [(0, 3, 8_388_600, 3), (1, 1_005, 101_005, 0)];
+
+// A project of these cues, and its takes of two channels: a DSDIFF file of 8,388,616 bits a channel, and a DSF file of
+// 8,400,001.
+fn sources_by(alloc: Global, cues: &[CueNumbers]) -> Result<Sources, AllocError> {
     let sound = noise(alloc, 2_097_154)?;
     let first = stereo(alloc, &sound);
     let second = dsf_of(alloc, (2, 1, 8_400_001), &sound, 2_105_344, b"a tag");
-    sources_of(splice(alloc, "1, 2", &LONG_CUES), first, second)
+    sources_of(splice(alloc, "1, 2", cues), first, second)
+}
+
+// The same of `LONG_CUES`.
+fn long_sources(alloc: Global) -> Result<Sources, AllocError> {
+    sources_by(alloc, &LONG_CUES)
 }
 
 // A folder of a project and its takes.
@@ -72,6 +80,33 @@ fn cuts_alike(alloc: Global, sources: &Sources) -> Result<bool, Fault> {
 fn cuts_long_takes_as_in_memory(rt: HostRuntime) -> Result<(), Fail> {
     let alloc = rt.alloc();
     assert!(rt; cuts_alike(alloc, &long_sources(alloc)?)?);
+    Ok(())
+}
+
+// Whether a long master is rejected whose last bit is another, that of the last cue in the last channel.
+fn rejects_the_last_bit(alloc: Global) -> Result<bool, AllocError> {
+    let mut folder = folder_of(alloc, &sources_by(alloc, &LONG_MASTER)?)?;
+    let cut = status(&perform(alloc, CUT, &mut folder)) == 0;
+    let changed = turned_last(alloc, folder.get("m.dff"))?;
+    folder.put("m.dff", &changed)?;
+    let line = "rejected CuedBit 1 8488599";
+    Ok(cut && comes_to(alloc, &mut folder, CHECK, 1, line)?)
+}
+
+// The bytes with the last bit turned.
+fn turned_last(alloc: Global, bytes: Option<&[u8]>) -> Result<Vec<u8>, AllocError> {
+    let mut made = Vec::from_slice(alloc, bytes.unwrap_or(&[]))?;
+    if let Some(last) = made.last_mut() {
+        *last ^= 1;
+    }
+    Ok(made)
+}
+
+#[test]
+fn checks_a_long_master(rt: HostRuntime) -> Result<(), Fail> {
+    let alloc = rt.alloc();
+    assert!(rt; cuts_alike(alloc, &sources_by(alloc, &LONG_MASTER)?)?);
+    assert!(rt; rejects_the_last_bit(alloc)?);
     Ok(())
 }
 

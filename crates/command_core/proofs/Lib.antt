@@ -1,4 +1,5 @@
 pub mod CommandLaws
 pub mod JudgingLaws
+pub mod MasterLaws
 pub mod SourceLaws
 pub mod WritingLaws

@@ -1,13 +1,15 @@
 -- What was heard of a project's takes, as a cut takes it.
-use Rattle.std.proofs.Common.{◌≡◌, List, Ok, Err, Option, Result, Global, Vec, length, subst, ℕ}
+use Rattle.std.proofs.Common.{◌≡◌, IfErr, List, Ok, Err, Option, Result, Global, Vec, length, subst, ℕ}
 use Rattle.splice_core.specs.Splices.{splice_content}
-use Rattle.form_core.specs.Steps.{Fails}
+use Rattle.form_core.specs.Steps.{Fails, Gives}
 use Rattle.form_core.specs.declared.form.Form.{Form}
+use Rattle.cut_core.specs.Cuts.{CutContent}
 use Rattle.cut_core.specs.declared.fault.CutFault.{CutFault}
 use Rattle.cut_core.specs.declared.heard.Heard.{Heard}
 use Rattle.cut_core.specs.Hearing.{AreOfTakes}
 use Rattle.cut_core.specs.Opening.{HearsTakes, IsOfTakes, takes_of}
 use Rattle.cut_core.proofs.OpeningLaws.{files_are}
+use Rattle.transfer_core.specs.declared.fault.Fault.{Fault}
 use Rattle.transfer_core.specs.declared.fault.Fault.TheVariants.{Memory}
 use Rattle.transfer_core.specs.Faults.{fault_of_cut}
 use Rattle.transfer_commands.specs.declared.sources.Sources.{Sources}
@@ -29,3 +31,8 @@ module _ (s : Sources) where
 
     pub not_heard : (form : Option Form) (e : CutFault) → s.takes ≡ Err e → Fails Memory (fault_of_cut e) (said_cut project files form)
     not_heard form e is = unheard project files (splice_content s.splice) form e are.project_says (subst (λ (h : Result (Vec Heard Global) CutFault). HearsTakes (splice_content s.splice) h (takes_of (splice_content s.splice) files)) is are.hears)
+
+-- a cut that isn't given is refused as its reading is
+pub gives_refused : (answer : Result CutContent Fault) (steps : Result CutContent Fault) → Gives Memory (λ cut. cut) answer steps → IfErr answer (λ fault. Fails Memory fault steps)
+gives_refused (Ok cut) steps h = tt
+gives_refused (Err fault) steps h = h

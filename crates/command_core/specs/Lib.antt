@@ -1,4 +1,5 @@
 pub mod Commands
+pub mod Masters
 pub mod Outcomes
 pub mod Sources
 pub mod Writing

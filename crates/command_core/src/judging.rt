@@ -1,47 +1,44 @@
 //! A master judged by a certificate that is opened, and read to its end.
 
-ghost use Rattle.std.specs.Prelude.{◌≡◌, List, ℕ, Some, length, true};
-ghost use Rattle.std.specs.Io.KnownBytes.{IsAtEnd};
-ghost use Rattle.device_core.specs.Inlets.{inlet_reader};
-ghost use Rattle.splice_core.specs.Splices.{splice_content};
-ghost use Rattle.cut_core.specs.Opening.{IsOfTakes};
+ghost use Rattle.std.specs.Prelude.{◌≡◌, ◌-◌, ◌<◌, ◌^◌, ◌⊎◌, IfErr, IfSome, List, None, Some, ℕ};
+ghost use Rattle.device_core.specs.Inlets.{inlet_failures, inlet_reader};
+ghost use Rattle.cert_core.specs.Readers.{cert_inlet};
+ghost use Rattle.archive_core.specs.Checking.{Accepts, IfAccepted, IfRejected, RejectsFirst};
+ghost use Rattle.archive_core.specs.Cutting.{SaysCut};
 ghost use Rattle.command_core.specs.Commands.{JudgedComesTo};
-ghost use Rattle.command_core.specs.Sources.{AreHeardOf};
+ghost use Rattle.command_core.specs.Masters.{IsFoundHeld, IsOfSome};
 
-use crate::sources::judge_sources;
-use archive_core::{Fault, Verdict};
+use crate::ending::{MOST_READS, reads_to_end};
+use archive_core::{Fault, Found, Reason, Verdict, check_found};
 use cert_core::CertReader;
+use cut_core::Cut;
 use device_core::{FusedInlet, Inlet};
 use std::alloc::Global;
 use std::io::{BufReader, Read};
-use transfer_commands::{CommandFault, Sources};
-
-/// How many reads a certificate may take to come to its end.
-const MOST_READS: u64 = 1 << 40;
+use transfer_commands::CommandFault;
 
 /// How many bytes one read asks for.
 const BLOCK: usize = 65_536;
 
-/// Judges a master by what was heard of a project's takes and by a certificate that was opened, of which two rows and a
-/// block are held at a time. Whatever it comes to, the certificate is read to its end before that is answered.
+/// Judges a master by what was found of it and by a certificate that was opened, of which two rows and a block are
+/// held at a time. Whatever it comes to, the certificate is read to its end before that is answered.
 ///
-/// Refusals: `ReadFailed` where a read fails, or the certificate isn't at its end after `2^40` reads; the first fault of
-/// what the takes' files hold, and of their cut; `Memory`.
+/// Refusals: `ReadFailed` where a read fails, or the certificate isn't at its end after `2^40` reads; `Memory`.
 pub(crate) fn judge_opened<R: Read + Drop>(
     alloc: Global,
-    sources: Sources,
-    master: &[u8],
+    cut: &Cut,
+    found: &Option<Found>,
     cert: R,
 ) -> Result<Verdict, CommandFault>
-    requires { IsOfTakes (splice_content sources.splice) (length (splice_content sources.splice).takes) sources.takes }
-    ensures { (project : List ℕ) (files : List (List ℕ)) (bytes : List ℕ) → AreHeardOf project files sources → R.remaining cert ≡ Some bytes → JudgedComesTo project files master.now bytes result }
+    requires { IsOfSome cut.now found.now }
+    ensures { (project : List ℕ) (files : List (List ℕ)) (file bytes : List ℕ) → SaysCut project files None cut.now → IsFoundHeld cut.now file found.now → R.remaining cert ≡ Some bytes → JudgedComesTo project files file bytes result }
 {
     let fused = FusedInlet::new(cert, MOST_READS);
     let Ok(buffered) = BufReader::with_capacity(alloc, BLOCK, fused) else {
         return Err(CommandFault::Call(Fault::Memory));
     };
     let mut reader = CertReader::new(Inlet::new(buffered));
-    let came = judge_sources(alloc, sources, master, &mut reader);
+    let came = judge_by(alloc, cut, found, &mut reader);
     if !reads_to_end(&mut reader.into_inlet()) {
         return Err(CommandFault::ReadFailed);
     }
@@ -52,20 +49,21 @@ pub(crate) fn judge_opened<R: Read + Drop>(
     }
 }
 
-// Reads what is left and keeps none of it: whether that came to the end. After a read that failed nothing is read.
-fn reads_to_end<R: Read>(inlet: &mut Inlet<R>) -> bool
-    ensures { result ≡ true → IsAtEnd (R.remaining (inlet_reader inlet.new)) }
+// Judges a master by what was found of it and by its certificate.
+fn judge_by<R: Read>(
+    alloc: Global,
+    cut: &Cut,
+    found: &Option<Found>,
+    cert: &mut CertReader<R>,
+) -> Result<Verdict, Fault>
+    requires of { IsOfSome cut.now found.now }
+    requires ready { inlet_failures (cert_inlet cert.old) < 2 ^ 64 - 1 }
+    ensures found { (project : List ℕ) (files : List (List ℕ)) (file : List ℕ) → SaysCut project files None cut.now → IsFoundHeld cut.now file found.now → IfAccepted result (λ cost. IfSome (R.remaining (inlet_reader (cert_inlet cert.old))) (λ bytes. Accepts project files file bytes cost)) }
+    ensures rejected { (project : List ℕ) (files : List (List ℕ)) (file : List ℕ) → SaysCut project files None cut.now → IsFoundHeld cut.now file found.now → IfRejected result (λ reason. IfSome (R.remaining (inlet_reader (cert_inlet cert.old))) (λ bytes. RejectsFirst project files file bytes reason)) }
+    ensures refused { IfErr result (λ fault. (fault ≡ Fault.ReadFailed) ⊎ (fault ≡ Fault.Memory)) }
 {
-    let mut block = [0u8; 4096];
-    if inlet.failures() > 0 {
-        return false;
+    match found {
+        Some(found) => check_found(alloc, cut, found, cert),
+        None => Ok(Verdict::Rejected(Reason::MasterUnread)),
     }
-    for _turn in 0..MOST_READS {
-        match inlet.pull(&mut block) {
-            Ok(0) => return true,
-            Ok(_) => {}
-            Err(_) => return false,
-        }
-    }
-    false
 }

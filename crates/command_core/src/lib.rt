@@ -11,7 +11,9 @@
 //!   (`specs/Outcomes.antt`).
 #![tactic(auto)]
 
+mod ending;
 mod judging;
+mod masters;
 mod outcome;
 mod performing;
 mod program;

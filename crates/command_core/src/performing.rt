@@ -5,12 +5,14 @@ ghost use Rattle.command_core.specs.Commands.{CheckComesTo, EditComesTo, TaskCom
 ghost use Rattle.command_core.specs.Outcomes.{outcome_of, verdict_of};
 ghost use Rattle.command_core.specs.declared.outcome.Outcome.TheVariants as outcomes;
 
+use crate::ending::fault_behind;
 use crate::judging::judge_opened;
+use crate::masters::find_master;
 use crate::outcome::Outcome;
-use crate::sources::cut_sources;
+use crate::sources::{cut_of, cut_sources};
 use crate::writing::{write_certificate, write_master};
 use archive_core::{Form, Verdict};
-use folder_core::{Folder, read_file};
+use folder_core::Folder;
 use info_core::Told;
 use std::alloc::Global;
 use transfer_commands::{
@@ -23,8 +25,8 @@ use words_core::Task;
 /// answers is a file created. What is cut is made while it is written: all memory that this needs is held before the
 /// master is created, and its certificate is created once the master stands.
 ///
-/// A certificate that is judged is read while it is judged, whatever it comes to to its end, and no more than two rows and
-/// a block of it are held.
+/// A master that is judged is read once, and its certificate while it is judged, whatever it comes to to its end: of
+/// the one no more is held than a few blocks and the bits of its bridges, of the other than two rows and a block.
 ///
 /// And the recording that is played is opened, the WAVE file created, and the one then read and the other written piece
 /// by piece. A recording that is converted or told of, and a take, is read whole only where it has fewer than 2 MiB. Else
@@ -83,7 +85,8 @@ fn edit_files<F: Folder>(
     Ok(total)
 }
 
-// Reads the project and its takes, then a master, and judges it by its certificate while that is read.
+// Reads the project and its takes, then a master, and judges it by its certificate while that is read. Each is read to
+// its end before a fault of what the takes hold, or a reason against the master, is told.
 fn check_files<F: Folder>(
     alloc: Global,
     folder: &mut F,
@@ -94,11 +97,15 @@ fn check_files<F: Folder>(
     ensures { IsTrue (F.is_told folder.old) → CheckComesTo project.now master.now cert.now (F.file folder.old) (F.file folder.new) result }
 {
     let sources = hear_sources(alloc, folder, project, MOST_KEPT)?;
-    let master = read_file(alloc, folder, master)?;
+    let cut = match cut_of(sources) {
+        Ok(cut) => cut,
+        Err(fault) => return Err(fault_behind(folder, master, cert, fault)),
+    };
+    let found = find_master(alloc, folder, &cut, master)?;
     let Ok(file) = folder.open(cert) else {
         return Err(CommandFault::ReadFailed);
     };
-    judge_opened(alloc, sources, &master, file)
+    judge_opened(alloc, &cut, &found, file)
 }
 
 // What a command that played came to.

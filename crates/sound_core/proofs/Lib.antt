@@ -9,3 +9,4 @@ pub mod KeeperLaws
 pub mod TakingLaws
 pub mod KeepingLaws
 pub mod FaultLaws
+pub mod HeldLaws

@@ -11,15 +11,15 @@ use std::alloc::{AllocError, Global};
 
 /// What is kept of a sound: the bits of each channel in some ranges.
 #[derive(Drop)]
-pub(crate) struct Keeper<'a> {
+pub struct Keeper<'a> {
     /// The sound that comes.
-    pub(crate) sound: Sound,
+    pub sound: Sound,
     /// What is kept of it.
-    pub(crate) ranges: &'a [BitRange],
+    pub ranges: &'a [BitRange],
     /// How many bits of each channel came.
-    pub(crate) done: usize,
+    pub done: usize,
     /// For each range what came of it.
-    pub(crate) stretches: Vec<Vec<Bits>>,
+    pub stretches: Vec<Vec<Bits>>,
 }
 
 // The sound of a keeper that has not begun.
@@ -38,7 +38,7 @@ impl<'a> Keeper<'a> {
     ghost use Rattle.sound_core.specs.Keepers.{IsKeeping};
 
     /// A keeper of these ranges, before any sound.
-    pub(crate) fn new(alloc: Global, ranges: &'a [BitRange]) -> Keeper<'a>
+    pub fn new(alloc: Global, ranges: &'a [BitRange]) -> Keeper<'a>
         ensures { result.ranges.now ≡ ranges.now }
     {
         Keeper {
@@ -50,7 +50,7 @@ impl<'a> Keeper<'a> {
     }
 
     /// Begins with a sound, before its first byte.
-    pub(crate) fn begin(&mut self, alloc: Global, sound: Sound) -> Result<(), AllocError>
+    pub fn begin(&mut self, alloc: Global, sound: Sound) -> Result<(), AllocError>
         requires sound { IsSound sound }
         requires whole { sound.interleaving ≡ Interleaving.Bytes → sound.count % 8 ≡ 0 }
         ensures same { self.new.ranges.now ≡ self.old.ranges.now }
@@ -66,12 +66,7 @@ impl<'a> Keeper<'a> {
 
     /// Takes the next bytes of the sound, those of so many bits of each channel: whole groups of blocks, or all that
     /// comes.
-    pub(crate) fn take(
-        &mut self,
-        alloc: Global,
-        bytes: &[u8],
-        bits: usize,
-    ) -> Result<(), AllocError>
+    pub fn take(&mut self, alloc: Global, bytes: &[u8], bits: usize) -> Result<(), AllocError>
         requires keeping { (before : List ℕ) × IsKeeping self.old before }
         requires some { 1 ≤ bits }
         requires within { self.old.done + bits ≤ self.old.sound.count }

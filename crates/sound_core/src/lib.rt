@@ -49,6 +49,7 @@ mod taking;
 pub use closing::closes;
 pub use fault::StreamFault;
 pub use front::read_front;
+pub use keeper::Keeper;
 pub use keeping::{Kept, read_stretches};
 pub use laws::accepted_files_tell_one_sound;
 pub use outline::{Outline, read_outline};

@@ -21,7 +21,8 @@ use Rattle.transfer_core.specs.declared.fault.Fault.TheVariants.{Memory, NotWhol
 use Rattle.transfer_commands.specs.Converting.{ConvertComesTo, ConvertsFile, ConvertsFront}
 use Rattle.transfer_commands.specs.Faults.{of_file}
 use Rattle.transfer_commands.specs.Outlining.{IsOutlined, OutlinesFile, form_in}
-use Rattle.transfer_commands.proofs.TellLaws.{channels_count, holds_as, told_number}
+use Rattle.sound_core.proofs.HeldLaws.{channels_count}
+use Rattle.transfer_commands.proofs.TellLaws.{holds_as, told_number}
 
 -- ---- a file that was read whole
 

@@ -26,58 +26,8 @@ use Rattle.sound_core.specs.declared.outline.Outline.{Outline}
 use Rattle.folder_core.specs.Files.{Files}
 use Rattle.transfer_commands.specs.Hearing.{HearsFile, HearsHeld, StreamsFile}
 use Rattle.transfer_commands.specs.Outlining.{form_in}
-use Rattle.transfer_commands.proofs.TellLaws.{channels_count, channels_number, holds_as}
-
--- ---- the recording that a file holds
-
--- lists of one length are level
-level_of : (f : ℕ → List Bool) (long n : ℕ) → 1 ≤ n → ((c : ℕ) → length (f c) ≡ long) → IsLevel (map f (range_with_len 0 n))
-level_of f long n some each =
-    let first : count_of (map f (range_with_len 0 n)) ≡ long = ap length (get_or-map-range_with_len f 0 n 0 0 [] (omega arith) refl) ∙ each 0 in
-    record {
-      same = All-map (λ (channel : List Bool). length channel ≡ count_of (map f (range_with_len 0 n))) f (range_with_len 0 n) (λ k d lt. each (get_or (range_with_len 0 n) k d) ∙ sym first);
-    }
-
--- so are the channels of a sound
-channels_level : (interleaving : Interleaving) (channels count : ℕ) (bytes : List ℕ) → 1 ≤ channels → IsLevel (sound_channels interleaving channels count bytes)
-channels_level Bytes channels count bytes some = level_of (unlaced bytes channels) (8 * (length bytes / channels)) channels some (λ c. length-map-range_with_len (laced_bit bytes channels c) 0 (8 * (length bytes / channels)))
-channels_level (Blocks order) channels count bytes some = level_of (unblocked order bytes channels count) count channels some (λ c. length-map-range_with_len (block_bit order bytes channels c) 0 count)
-
-module _ (outline : Outline) (shape : HasShape outline.recording) (told : AreTold (around_of outline)) (file sound : List ℕ) (stands : StandsIn (around_of outline) file sound) where
-  abbrev held : Content
-  held = with_sound outline.recording outline.sound sound
-
-  long : length sound ≡ sound_size outline.sound.interleaving outline.sound.channels outline.sound.count
-  long = stands.sound_long ∙ told.is_sound.size
-
-  told_number : length held.channels ≡ outline.sound.channels
-  told_number = channels_number outline.sound.interleaving outline.sound.channels outline.sound.count sound
-
-  told_count : count_of held.channels ≡ outline.sound.count
-  told_count = channels_count outline.sound.interleaving outline.sound.channels outline.sound.count sound told.is_sound.some_channel told.whole long
-
-  as_many : length outline.recording.channels ≡ length held.channels
-  as_many = ap length told.silent ∙ length-replicate outline.sound.channels [] ∙ sym told_number
-
-  -- it keeps the rules of recordings
-  held_shape : HasShape held
-  held_shape = record {
-    rate_low = shape.rate_low;
-    rate_high = shape.rate_high;
-    some_channel = omega (arith, as_many, shape.some_channel);
-    six_channels = omega (arith, as_many, shape.six_channels);
-    level = channels_level outline.sound.interleaving outline.sound.channels outline.sound.count sound told.is_sound.some_channel;
-    in_limit = omega (arith, told_count, told.is_sound.in_limit);
-    id_for_each = shape.id_for_each ∙ as_many;
-    layout_fits = shape.layout_fits ∙ as_many;
-    short_texts = shape.short_texts;
-    in_order = shape.in_order;
-    no_parts = shape.no_parts;
-  }
-
-  -- without its bits it is what is told
-  held_silent : outline.recording ≡ silent held
-  held_silent = ap (λ (channels : List (List Bool)). record outline.recording { channels = channels }) (told.silent ∙ ap (λ (n : ℕ). replicate n []) (sym told_number))
+use Rattle.sound_core.proofs.HeldLaws.{held, held_count, held_shape, held_silent}
+use Rattle.transfer_commands.proofs.TellLaws.{holds_as}
 
 -- what is heard by what was kept of a file is what is heard of its recording
 pub kept_heard : (kept : Kept) → HasShape kept.outline.recording → (splice : SpliceContent) (number : ℕ) (file : List ℕ) → AreTold (around_of kept.outline) → IsKeptOf (around_of kept.outline) (ranges_of splice number) (stretches_in kept) file
@@ -85,7 +35,7 @@ pub kept_heard : (kept : Kept) → HasShape kept.outline.recording → (splice :
 kept_heard kept shape splice number file told is =
     let outline = kept.outline in
     let silence = held_silent outline shape told file is.0 is.1 in
-    let many = sym (told_count outline shape told file is.0 is.1) in
+    let many = sym (held_count outline shape told file is.0 is.1) in
     record {
       recording = held outline shape told file is.0 is.1;
       holds = record {

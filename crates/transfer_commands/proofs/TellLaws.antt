@@ -14,29 +14,11 @@ use Rattle.dsd_bits.specs.Sounds.{sound_channels, sound_size}
 use Rattle.form_core.specs.Forms.{HoldsAs}
 use Rattle.sound_core.specs.Outlines.{HoldsIn, around_of, with_sound}
 use Rattle.sound_core.specs.declared.outline.Outline.{Outline}
+use Rattle.sound_core.proofs.HeldLaws.{channels_count, channels_number}
 use Rattle.folder_core.specs.Files.{Files}
 use Rattle.info_core.specs.declared.told.Told.{Told}
 use Rattle.transfer_commands.specs.Outlining.{IsOutlined, OutlinesFile, form_in}
 use Rattle.transfer_commands.specs.Telling.{IsToldOf, TellsFile}
-
-times_over : (frames channels : ℕ) → 1 ≤ channels → frames * channels / channels ≡ frames
-times_over frames channels some = ap (λ m. m / channels) (sym (add-zero (frames * channels))) ∙ div-mul-add frames channels 0 some
-
--- the channels of a sound are as many as it tells
-pub channels_number : (interleaving : Interleaving) (channels count : ℕ) (bytes : List ℕ) → length (sound_channels interleaving channels count bytes) ≡ channels
-channels_number Bytes channels count bytes = length-map-range_with_len (unlaced bytes channels) 0 channels
-channels_number (Blocks order) channels count bytes = length-map-range_with_len (unblocked order bytes channels count) 0 channels
-
--- and each has as many bits
-pub channels_count : (interleaving : Interleaving) (channels count : ℕ) (bytes : List ℕ) → 1 ≤ channels → (interleaving ≡ Bytes → count % 8 ≡ 0) → length bytes ≡ sound_size interleaving channels count → count_of (sound_channels interleaving channels count bytes) ≡ count
-channels_count Bytes channels count bytes some whole long =
-    let frames : length bytes / channels ≡ count / 8 = ap (λ k. k / channels) long ∙ times_over (count / 8) channels some in
-    ap length (get_or-map-range_with_len (unlaced bytes channels) 0 channels 0 0 [] (omega arith) refl)
-    ∙ length-map-range_with_len (laced_bit bytes channels 0) 0 (8 * (length bytes / channels))
-    ∙ omega (arith, frames, whole refl)
-channels_count (Blocks order) channels count bytes some whole long =
-    ap length (get_or-map-range_with_len (unblocked order bytes channels count) 0 channels 0 0 [] (omega arith) refl)
-    ∙ length-map-range_with_len (block_bit order bytes channels 0) 0 count
 
 -- a file in a form
 pub holds_as : (interleaving : Interleaving) (file : List ℕ) (r : Content) → HoldsIn interleaving file r → HoldsAs file (form_in interleaving) r

@@ -12,9 +12,9 @@ use crate::outlining::outline_file;
 use device_core::{Inlet, Outlet};
 use folder_core::{Folder, read_file, read_short, write_file};
 use form_core::{Form, held_is_opened, written_in_parts};
+use sound_core::Outline;
 use std::alloc::Global;
 use std::io::{Read, Write};
-use sound_core::Outline;
 use transfer_core::{Fault, convert, convert_stream};
 
 /// Converts a file to the other form: how many parts of its recording have no place in it.

@@ -14,10 +14,10 @@ use cut_core::{CutFault, Heard, hear_file, push_heard, ranges_of};
 use device_core::Inlet;
 use folder_core::{Folder, read_file, read_short};
 use form_core::{has_shape, held_is_opened};
+use sound_core::{Kept, StreamFault, read_stretches};
 use splice_core::Splice;
 use std::alloc::Global;
 use std::io::Read;
-use sound_core::{Kept, StreamFault, read_stretches};
 use transfer_core::Fault;
 
 /// What a splice hears of the files of its takes, each read before the next is opened: of each no more is kept than is

@@ -7,8 +7,8 @@ ghost use Rattle.transfer_commands.specs.Outlining.{IsUnread, OutlinesFile};
 use crate::fault::CommandFault;
 use device_core::Inlet;
 use folder_core::Folder;
-use std::alloc::Global;
 use sound_core::{Outline, StreamFault, read_outline};
+use std::alloc::Global;
 use transfer_core::Fault;
 
 /// Files of fewer bytes are held whole, 2 MiB.

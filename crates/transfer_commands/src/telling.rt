@@ -12,8 +12,8 @@ use dsd_bits::{BitOrder, Interleaving};
 use folder_core::{Folder, read_file, read_short};
 use form_core::{Form, read_any};
 use info_core::Told;
-use std::alloc::Global;
 use sound_core::Outline;
+use std::alloc::Global;
 use transfer_core::Fault;
 
 /// What a file holds, told without its bits. A file of fewer than `most` bytes is read whole. Any other is opened again
@@ -61,8 +61,8 @@ fn told_by(outline: Outline) -> Told
     }
 }
 
-// The form of a file whose sound is interleaved so.
-fn form_in(interleaving: Interleaving) -> Form
+/// The form of a file whose sound is interleaved so.
+pub fn form_in(interleaving: Interleaving) -> Form
     ensures { result ≡ outlining.form_in interleaving }
 {
     match interleaving {

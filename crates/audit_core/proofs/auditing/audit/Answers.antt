@@ -1,0 +1,28 @@
+use Rattle.std.proofs.Common.{◌≡◌, ◌∙◌, List, Option, ap, subst, sym, ℕ}
+use Rattle.device_core.specs.Inlets.{inlet_reader}
+use Rattle.cut_core.specs.Cuts.{CutContent}
+use Rattle.dsd_bits.specs.declared.stretches.BitRange.{BitRange}
+use Rattle.master_core.specs.Standing.{TellAll}
+use Rattle.audit_core.specs.Auditing.{bridge_ranges}
+use Rattle.audit_core.proofs.AuditLaws.{file_audited, given_audited}
+use Rattle.audit_core.proofs.auditing.audit.Given.{Over}
+use Rattle.audit_core.proofs.auditing.audit.Goals as goal
+use Rattle.audit_core.proofs.auditing.audit.Goals.{After-lowest_off-differs}
+
+cut_is : (g : Over) (c : After-lowest_off-differs g) → c.read_into.new.sink.cut.now ≡ c.args.cut.now
+cut_is g c = ap (λ (p : CutContent × List BitRange). p.0) c.read_into.ensures.kept ∙ c.new-auditor.ensures.cut
+
+ranges_are : (g : Over) (c : After-lowest_off-differs g) → c.read_into.new.sink.keeper.ranges.now ≡ bridge_ranges c.args.cut.now
+ranges_are g c = ap (λ (p : CutContent × List BitRange). p.1) c.read_into.ensures.kept ∙ c.new-auditor.ensures.ranges ∙ c.deref.ensures.value ∙ c.in_ok-ranges.ensures
+
+pub returns-in-Ok-clause-ok : goal.returns-in-Ok-clause-ok
+returns-in-Ok-clause-ok g c =
+    let w = (goal.at.returns-in-Ok-clause-ok g c).After-lowest_off-differs in
+    file_audited c.read_into.new.sink c.in-Ok.outline c.args.cut.now (cut_is g w) c.in-Ok.ensures.source.0 c.in-Ok.ensures.source.1 (ranges_are g w) c.has_shape.ensures c.lowest_off-differs.result
+    (λ r shape tells. c.lowest_off-differs.ensures r shape (subst (TellAll c.args.cut.now r.channels) (sym c.deref-in-Ok.ensures.value) tells)) (g.R.Read.remaining (inlet_reader c.args.inlet.now)) c.in-Ok.ensures.ok
+
+pub returns-in-Ok-clause-any_reader : goal.returns-in-Ok-clause-any_reader
+returns-in-Ok-clause-any_reader g c =
+    let w = (goal.at.returns-in-Ok-clause-any_reader g c).After-lowest_off-differs in
+    given_audited c.read_into.new.sink c.in-Ok.outline c.args.cut.now (cut_is g w) c.in-Ok.ensures.source.0 c.in-Ok.ensures.source.1 (ranges_are g w) c.has_shape.ensures c.lowest_off-differs.result
+    (λ r shape tells. c.lowest_off-differs.ensures r shape (subst (TellAll c.args.cut.now r.channels) (sym c.deref-in-Ok.ensures.value) tells)) g.R.Read.remaining c.args.inlet.now c.read_into.new.inlet c.in-Ok.ensures.ok.0 c.in-Ok.ensures.any_reader

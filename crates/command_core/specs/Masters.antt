@@ -1,0 +1,31 @@
+-- What is found of a master's file that is read to be judged.
+use Rattle.std.specs.Prelude.{◌≡◌, ℕ, List, Option, Some, None}
+use Rattle.dsd_bits.specs.Contents.{Content}
+use Rattle.form_core.specs.Forms.{HoldsAs}
+use Rattle.cut_core.specs.Cuts.{CutContent}
+use Rattle.master_core.specs.declared.finding.Found.{Found}
+use Rattle.master_core.specs.Standing.{IsFoundOf}
+use Rattle.archive_core.specs.Checking.{HoldsNothing}
+use Rattle.folder_core.specs.Files.{Files}
+
+-- this was found of the recording that the file holds
+pub record FindsHeld (cut : CutContent) (file : List ℕ) (found : Found) : Type 0 where
+  pub recording : Content
+  pub master_holds : HoldsAs file found.form recording
+  pub found_of : IsFoundOf cut found recording
+
+-- or nothing was, and it holds none
+abbrev pub IsFoundHeld : CutContent → List ℕ → Option Found → Type 0
+IsFoundHeld cut file (Some found) = FindsHeld cut file found
+IsFoundHeld cut file None = HoldsNothing file
+
+-- the same of the file of a name
+pub record FindsMaster (old : Files) (cut : CutContent) (name : List ℕ) (found : Option Found) : Type 0 where
+  pub file : List ℕ
+  pub file_stands : old name ≡ Some file
+  pub is_found : IsFoundHeld cut file found
+
+-- what was found was found of some recording
+abbrev pub IsOfSome : CutContent → Option Found → Type 0
+IsOfSome cut (Some found) = (r : Content) × IsFoundOf cut found r
+IsOfSome cut None = Unit {0}

@@ -1,0 +1,62 @@
+//! Files read to their ends, of which nothing is kept.
+
+ghost use Rattle.std.specs.Prelude.{◌≡◌, ◌⊎◌, IsTrue, true};
+ghost use Rattle.std.specs.Io.KnownBytes.{IsAtEnd};
+ghost use Rattle.device_core.specs.Inlets.{inlet_reader};
+ghost use Rattle.transfer_commands.specs.declared.fault.CommandFault.TheVariants as faults;
+
+use archive_core::Fault;
+use device_core::Inlet;
+use folder_core::Folder;
+use std::io::Read;
+use transfer_commands::CommandFault;
+
+/// How many reads a file may take to come to its end.
+pub(crate) const MOST_READS: u64 = 1 << 40;
+
+/// Reads what is left and keeps none of it: whether that came to the end. After a read that failed nothing is read.
+pub(crate) fn reads_to_end<R: Read>(inlet: &mut Inlet<R>) -> bool
+    ensures { result ≡ true → IsAtEnd (R.remaining (inlet_reader inlet.new)) }
+{
+    let mut block = [0u8; 4096];
+    if inlet.failures() > 0 {
+        return false;
+    }
+    for _turn in 0..MOST_READS {
+        match inlet.pull(&mut block) {
+            Ok(0) => return true,
+            Ok(_) => {}
+            Err(_) => return false,
+        }
+    }
+    false
+}
+
+/// A fault of the call, which is told only where a master and its certificate can be read: both are read to their ends.
+pub(crate) fn fault_behind<F: Folder>(
+    folder: &mut F,
+    master: &str,
+    cert: &str,
+    fault: Fault,
+) -> CommandFault
+    ensures same { F.file folder.new ≡ F.file folder.old }
+    ensures told { F.is_told folder.new ≡ F.is_told folder.old }
+    ensures fault { (result ≡ faults.ReadFailed) ⊎ (result ≡ faults.Call fault) }
+{
+    if reads_through(folder, master) && reads_through(folder, cert) {
+        CommandFault::Call(fault)
+    } else {
+        CommandFault::ReadFailed
+    }
+}
+
+// Opens a file and reads it: whether that came to its end.
+fn reads_through<F: Folder>(folder: &mut F, name: &str) -> bool
+    ensures same { F.file folder.new ≡ F.file folder.old }
+    ensures told { F.is_told folder.new ≡ F.is_told folder.old }
+{
+    match folder.open(name) {
+        Ok(file) => reads_to_end(&mut Inlet::new(file)),
+        Err(_) => false,
+    }
+}

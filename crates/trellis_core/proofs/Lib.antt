@@ -9,3 +9,4 @@ pub mod LeastSums
 pub mod Levels
 pub mod RowLaws
 pub mod TableLaws
+pub mod FaultLaws

@@ -1,5 +1,4 @@
 use Rattle.std.proofs.Common.{◌≤◌, ◌^◌, length, pow_mono, arith}
-use Rattle.cost_core.specs.StateCosts.{trellis_of}
 use Rattle.trellis_core.proofs.rows.make_room.Goals as goal
 
 -- a weight more than a state has bits, and twelve at most

@@ -1,4 +1,5 @@
-use Rattle.std.proofs.Common.{◌≡◌, ◌+◌, ◌*◌, ◌++◌, length, ap, sym, subst, ◌∙◌, arith}
+use Rattle.std.proofs.Common.{◌≡◌, ◌+◌, ◌*◌, ◌++◌, Err, length, ap, sym, subst, ◌∙◌, arith}
+use Rattle.std.proofs.lemmas.Result.{err_from_is_err_and}
 use Rattle.cost_core.specs.Trellis.{states}
 use Rattle.cost_core.specs.StateCosts.{trellis_of}
 use Rattle.trellis_core.specs.Best.{best_row}
@@ -7,6 +8,7 @@ use Rattle.trellis_core.proofs.Decisions.{one_more}
 use Rattle.trellis_core.proofs.TableLaws.{totals_length, written, written_length}
 use Rattle.trellis_core.proofs.HandedOver.{hands_more, hands_front, hands_some, hands_up_to, hands_all}
 use Rattle.trellis_core.proofs.RowLaws.{row_length}
+use Rattle.trellis_core.proofs.FaultLaws.{not_memory, not_sink, true_or_false}
 use Rattle.trellis_core.proofs.rows.search.Goals as goal
 
 pub level-requires-clause-row : goal.level-requires-clause-row
@@ -82,3 +84,46 @@ returns-clause-buffers g c =
       totals = written_length c.loop-level.room.totals.len (states t) c.write_totals.new.totals c.loop-level.room.totals.items c.loop-level.room.totals.ok.0 (ap length c.write_totals.ensures ∙ totals_length t) inv.totals;
       decided = inv.decided;
     }
+
+-- ---- which fault it is
+pub returns-in_err-level-clause-memory : goal.returns-in_err-level-clause-memory
+returns-in_err-level-clause-memory g c =
+    let e = err_from_is_err_and c.from_residual.result c.from_residual.ensures.1 in
+    not_memory c.from_residual.result e.0 e.1 e.2
+
+pub returns-in_err-level-clause-refused : goal.returns-in_err-level-clause-refused
+returns-in_err-level-clause-refused g c =
+    let e = err_from_is_err_and c.from_residual.result c.from_residual.ensures.1 in
+    (λ _. c.in_err-level.ensures.refused c.loop-level.invariant.ready, λ _. e.1 ∙ ap Err e.2)
+
+pub returns-in_err-extend_from_slice-clause-sink : goal.returns-in_err-extend_from_slice-clause-sink
+returns-in_err-extend_from_slice-clause-sink g c =
+    let e = err_from_is_err_and c.from_residual-in_err-extend_from_slice.result c.from_residual-in_err-extend_from_slice.ensures.1 in
+    λ sink. absurd (not_sink c.from_residual-in_err-extend_from_slice.result e.0 e.1 e.2 sink)
+
+pub returns-in_err-extend_from_slice-clause-refused : goal.returns-in_err-extend_from_slice-clause-refused
+returns-in_err-extend_from_slice-clause-refused g c =
+    let e = err_from_is_err_and c.from_residual-in_err-extend_from_slice.result c.from_residual-in_err-extend_from_slice.ensures.1 in
+    (λ sink. absurd (not_sink c.from_residual-in_err-extend_from_slice.result e.0 e.1 e.2 sink), λ yes. absurd (true_or_false _ yes (c.in_ok-level.ensures.refused c.loop-level.invariant.ready)))
+
+pub returns-in_err-level-2-clause-memory : goal.returns-in_err-level-2-clause-memory
+returns-in_err-level-2-clause-memory g c =
+    let e = err_from_is_err_and c.from_residual-in_err-level-2.result c.from_residual-in_err-level-2.ensures.1 in
+    not_memory c.from_residual-in_err-level-2.result e.0 e.1 e.2
+
+pub returns-in_err-level-2-clause-refused : goal.returns-in_err-level-2-clause-refused
+returns-in_err-level-2-clause-refused g c =
+    let e = err_from_is_err_and c.from_residual-in_err-level-2.result c.from_residual-in_err-level-2.ensures.1 in
+    (λ _. c.in_err-level-2.ensures.refused c.loop-level.invariant.ready, λ _. e.1 ∙ ap Err e.2)
+
+-- ---- what is left in the room
+pub returns-clause-totals : goal.returns-clause-totals
+returns-clause-totals g c =
+    let t = trellis_of c.args.window.now in
+    written c.loop-level.room.totals.len c.write_totals.new.totals c.loop-level.room.totals.items c.loop-level.room.totals.ok.0 (ap length c.write_totals.ensures ∙ totals_length t ∙ sym c.loop-level.invariant.totals) ∙ c.write_totals.ensures
+
+pub returns-clause-decisions : goal.returns-clause-decisions
+returns-clause-decisions g c =
+    let t = trellis_of c.args.window.now in
+    let all : c.loop-level.level ≡ t.levels = omega (arith, c.loop-level-test.false, c.length-level-end.ensures.value, c.loop-level.auto.level-end) in
+    subst (λ n. AreAllDecisions t n c.loop-level.decisions.items) all c.loop-level.invariant.decisions

@@ -76,7 +76,8 @@ impl<R: Read> Inlet<R> {
     pub fn fill(&mut self, buffer: &mut [u8]) -> Result<usize, Device>
         requires { inlet_failures self.old < 2 ^ 64 - 1 }
         ensures bytes { IfOk result (λ n. (n ≤ length buffer.new)
-            × Consumes (R.remaining (inlet_reader self.old)) (R.remaining (inlet_reader self.new)) (take n buffer.new)) }
+            × Consumes (R.remaining (inlet_reader self.old))
+            (R.remaining (inlet_reader self.new)) (take n buffer.new)) }
         ensures end { IfOk result (λ n. n < length buffer.new → IsAtEnd (R.remaining (inlet_reader self.new))) }
         ensures failures { MatchResult result
             (λ _. inlet_failures self.new ≡ inlet_failures self.old)

@@ -10,8 +10,8 @@
 //! and its fault, [`FusedFault`], tells the write that failed from those that came behind it. So whoever writes
 //! part by part may make each call and look at the answers last.
 //!
-//! None of them takes memory of its own, and none knows a file by name. [`MOST_READS`] is how many reads whoever reads a
-//! file to its end gives it.
+//! None of them takes memory of its own, and none knows a file by name. [`MOST_READS`] is how many reads a file may
+//! take to come to its end.
 //!
 //! The words of its contracts:
 //! - `inlet_reader`, `inlet_failures`, `inlet_reads`, `inlet_given` (`specs/Inlets.antt`), `outlet_writer`

@@ -7,8 +7,8 @@
 //! recording whose bits are gone, by what was [`Found`] of it. All walk one list, the bridges of the
 //! cut by rising cue and then by rising channel: `choosing.rt` searches them, `certifying.rt` makes their rows again and
 //! writes their entries, `entries.rt` judges entries, and what they cost together is the sum over that list.
-//! `comparing.rt` tells whether a recording is a master, whatever its bridges, and [`first_off_so_far`] the first bit that
-//! isn't that of a cue, also of a channel that comes part by part; `standing.rt` reads a master's bridges.
+//! `comparing.rt` tells whether a recording is a master, whatever its bridges, and [`first_off_so_far`] the first bit
+//! that isn't that of a cue, also of a channel that comes part by part; `standing.rt` reads a master's bridges.
 //!
 //! [`write_sound`] and [`write_master`] write the best master without its channels ever standing in memory: group by
 //! group, each channel's part of it made of cues and chosen bridges (`parting.rt`, `writing.rt`, `filing.rt`). They write

@@ -102,8 +102,8 @@ fn push_cue_part(room: &mut BitRoom, cut: &Cut, channel: usize, cue: usize, rang
     push_within(room, here.bits, piece, range);
 }
 
-// Adds the part of the bridge at a place that lies in a range of it. Its bits are looked for only where there is some, and
-// a plain cut has none.
+// Adds the part of the bridge at a place that lies in a range of it. Its bits are looked for only where there is some,
+// and a plain cut has none.
 fn push_bridge_part(
     room: &mut BitRoom,
     source: &MasterSource<'_>,

@@ -14,9 +14,9 @@ use crate::fault::Fault;
 use device_core::{Inlet, Outlet};
 use form_core::{Form, dropped_in, ends_in, interleaving_in, read_any, write_in, written_in_parts};
 use relay_core::{Target, relay};
+use sound_core::Outline;
 use std::alloc::Global;
 use std::io::{Read, Write};
-use sound_core::Outline;
 
 /// A recording's file in another form.
 #[derive(Drop)]

@@ -7,8 +7,8 @@ ghost use Rattle.transfer_core.specs.declared.fault.Fault.TheVariants as faults;
 use cut_core::CutFault;
 use form_core::{ReadFault, WriteFault};
 use project_core::ProjectFault;
-use std::alloc::AllocError;
 use sound_core::StreamFault;
+use std::alloc::AllocError;
 use thiserror::Error;
 use wave_core::WaveFault;
 

@@ -13,9 +13,9 @@ use crate::projects::decimator_of;
 use device_core::{Inlet, Outlet};
 use form_core::{Opened, read_any};
 use player_core::wave_of;
+use sound_core::accepted_files_tell_one_sound;
 use std::alloc::Global;
 use std::io::{Read, Write};
-use sound_core::accepted_files_tell_one_sound;
 
 /// The WAVE file of a recording: in each frame, for each channel in order, the whole-number convolution
 /// of the channel's stored bits with the project's taps, rounded and clipped by the project's shift and

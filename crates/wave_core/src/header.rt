@@ -104,7 +104,8 @@ pub(crate) fn push_fields(
     sizes: &Sizes,
 ) -> Result<(), AllocError>
     ensures { OnOk result (out.new.items ≡ out.old.items
-        ++ (riff_head sizes.now.riff_size ++ (format_chunk spec.now.channels spec.now.rate spec.now.width ++ data_head sizes.now.data_size))) }
+        ++ (riff_head sizes.now.riff_size
+        ++ (format_chunk spec.now.channels spec.now.rate spec.now.width ++ data_head sizes.now.data_size))) }
 {
     push_riff_head(out, sizes.riff_size)?;
     push_format(out, spec)?;

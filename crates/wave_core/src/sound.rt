@@ -90,9 +90,11 @@ fn fill_pairs(to: &mut [u8], width: u32, left: &[i32], right: &[i32])
     requires enough { length left.now * 2 * (width / 8) ≤ length to.old }
     ensures size { length to.new ≡ length to.old }
     ensures left { (i k : ℕ) → i < length left.now → k < width / 8 →
-        slice_index to.new (i * 2 * (width / 8) + k) ≡ slice_index (sample_bytes width (slice_index_or left.now i (pos 0))) k }
+        slice_index to.new (i * 2 * (width / 8) + k)
+        ≡ slice_index (sample_bytes width (slice_index_or left.now i (pos 0))) k }
     ensures right { (i k : ℕ) → i < length left.now → k < width / 8 →
-        slice_index to.new ((i * 2 + 1) * (width / 8) + k) ≡ slice_index (sample_bytes width (slice_index_or right.now i (pos 0))) k }
+        slice_index to.new ((i * 2 + 1) * (width / 8) + k)
+        ≡ slice_index (sample_bytes width (slice_index_or right.now i (pos 0))) k }
 {
     for i in 0..left.len() {
         put_sample(to, width, i * 2, left[i]);
@@ -108,9 +110,11 @@ fn spread(to: &mut [u8], width: u32, samples: &[i32], channels: usize, c: usize)
     requires channel { c < channels }
     requires enough { length samples.now * channels * (width / 8) ≤ length to.old }
     ensures own { (i k : ℕ) → i < length samples.now → k < width / 8 →
-        slice_index to.new ((i * channels + c) * (width / 8) + k) ≡ slice_index (sample_bytes width (slice_index_or samples.now i (pos 0))) k }
+        slice_index to.new ((i * channels + c) * (width / 8) + k)
+        ≡ slice_index (sample_bytes width (slice_index_or samples.now i (pos 0))) k }
     ensures others { (i d k : ℕ) → d < channels → d ≢ c → k < width / 8 →
-        slice_index to.new ((i * channels + d) * (width / 8) + k) ≡ slice_index to.old ((i * channels + d) * (width / 8) + k) }
+        slice_index to.new ((i * channels + d) * (width / 8) + k)
+        ≡ slice_index to.old ((i * channels + d) * (width / 8) + k) }
 {
     for i in 0..samples.len() {
         put_sample(to, width, i * channels + c, samples[i]);

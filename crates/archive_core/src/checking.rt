@@ -61,11 +61,13 @@ pub fn check(
     // What it is accepted at is the sum over all bridges of what their bits cost over their windows.
     ensures windows { IfAccepted result (CostsWindows project.now (file_bytes takes.now) master.now) }
     // Such a master and certificate are accepted, want of memory aside.
-    ensures only { (cost : ℕ) → Accepts project.now (file_bytes takes.now) master.now cert.now cost → AnswersAccepted result cost }
+    ensures only { (cost : ℕ) → Accepts project.now (file_bytes takes.now) master.now cert.now cost
+        → AnswersAccepted result cost }
     // Which reason it is: the first that stands.
     ensures rejected { IfRejected result (RejectsFirst project.now (file_bytes takes.now) master.now cert.now) }
     // Which fault it is: the first of the project, its splice and its cut.
-    ensures refused { IfErr result (λ fault. Fails Fault.Memory fault (said_cut project.now (file_bytes takes.now) None)) }
+    ensures refused { IfErr result (λ fault. Fails Fault.Memory fault
+        (said_cut project.now (file_bytes takes.now) None)) }
 {
     let splice = splice_of(alloc, project)?;
     let takes = hear_takes(alloc, &splice, takes)?;
@@ -84,14 +86,30 @@ pub fn check_heard(
 ) -> Result<Verdict, Fault>
     requires { AreOfTakes (splice_content splice) takes.items }
     // Of whichever project and files it was heard, the clauses of `check` hold of them.
-    ensures found { (project : List ℕ) (files : List (List ℕ)) → AreTakes project files (splice_content splice) takes.items → IfAccepted result (Accepts project files master.now cert.now) }
-    ensures master { (project : List ℕ) (files : List (List ℕ)) → AreTakes project files (splice_content splice) takes.items → IfAccepted result (λ _. IsMaster project files master.now) }
-    ensures least { (project : List ℕ) (files : List (List ℕ)) → AreTakes project files (splice_content splice) takes.items → IfAccepted result (λ _. IsLeastMaster project files master.now) }
-    ensures joint { (project : List ℕ) (files : List (List ℕ)) → AreTakes project files (splice_content splice) takes.items → IfAccepted result (CostsLeast project files master.now) }
-    ensures windows { (project : List ℕ) (files : List (List ℕ)) → AreTakes project files (splice_content splice) takes.items → IfAccepted result (CostsWindows project files master.now) }
-    ensures only { (project : List ℕ) (files : List (List ℕ)) → AreTakes project files (splice_content splice) takes.items → (cost : ℕ) → Accepts project files master.now cert.now cost → AnswersAccepted result cost }
-    ensures rejected { (project : List ℕ) (files : List (List ℕ)) → AreTakes project files (splice_content splice) takes.items → IfRejected result (RejectsFirst project files master.now cert.now) }
-    ensures refused { (project : List ℕ) (files : List (List ℕ)) → AreTakes project files (splice_content splice) takes.items → IfErr result (λ fault. Fails Fault.Memory fault (said_cut project files None)) }
+    ensures found { (project : List ℕ) (files : List (List ℕ))
+        → AreTakes project files (splice_content splice) takes.items
+        → IfAccepted result (Accepts project files master.now cert.now) }
+    ensures master { (project : List ℕ) (files : List (List ℕ))
+        → AreTakes project files (splice_content splice) takes.items
+        → IfAccepted result (λ _. IsMaster project files master.now) }
+    ensures least { (project : List ℕ) (files : List (List ℕ))
+        → AreTakes project files (splice_content splice) takes.items
+        → IfAccepted result (λ _. IsLeastMaster project files master.now) }
+    ensures joint { (project : List ℕ) (files : List (List ℕ))
+        → AreTakes project files (splice_content splice) takes.items
+        → IfAccepted result (CostsLeast project files master.now) }
+    ensures windows { (project : List ℕ) (files : List (List ℕ))
+        → AreTakes project files (splice_content splice) takes.items
+        → IfAccepted result (CostsWindows project files master.now) }
+    ensures only { (project : List ℕ) (files : List (List ℕ))
+        → AreTakes project files (splice_content splice) takes.items → (cost : ℕ)
+        → Accepts project files master.now cert.now cost → AnswersAccepted result cost }
+    ensures rejected { (project : List ℕ) (files : List (List ℕ))
+        → AreTakes project files (splice_content splice) takes.items
+        → IfRejected result (RejectsFirst project files master.now cert.now) }
+    ensures refused { (project : List ℕ) (files : List (List ℕ))
+        → AreTakes project files (splice_content splice) takes.items
+        → IfErr result (λ fault. Fails Fault.Memory fault (said_cut project files None)) }
 {
     let cut = cut_heard(splice, takes, None)?;
     let mut reader = CertReader::new(Inlet::new(cert));
@@ -116,16 +134,37 @@ pub fn check_read<R: Read>(
     requires ready { inlet_failures (cert_inlet cert.old) < 2 ^ 64 - 1 }
     // Of whichever project and files it was heard, the clauses of `check` hold of them and of the bytes that the reader has left, where it
     // tells them. What is accepted is a least master whichever reader it was.
-    ensures found { (project : List ℕ) (files : List (List ℕ)) → AreTakes project files (splice_content splice) takes.items → IfAccepted result (λ cost. IfSome (R.remaining (inlet_reader (cert_inlet cert.old))) (λ bytes. Accepts project files master.now bytes cost)) }
-    ensures master { (project : List ℕ) (files : List (List ℕ)) → AreTakes project files (splice_content splice) takes.items → IfAccepted result (λ _. IsMaster project files master.now) }
-    ensures least { (project : List ℕ) (files : List (List ℕ)) → AreTakes project files (splice_content splice) takes.items → IfAccepted result (λ _. IsLeastMaster project files master.now) }
-    ensures joint { (project : List ℕ) (files : List (List ℕ)) → AreTakes project files (splice_content splice) takes.items → IfAccepted result (CostsLeast project files master.now) }
-    ensures windows { (project : List ℕ) (files : List (List ℕ)) → AreTakes project files (splice_content splice) takes.items → IfAccepted result (λ cost. IfSome (R.remaining (inlet_reader (cert_inlet cert.old))) (λ _. CostsWindows project files master.now cost)) }
-    ensures only { (project : List ℕ) (files : List (List ℕ)) → AreTakes project files (splice_content splice) takes.items → (cost : ℕ) → IfSome (R.remaining (inlet_reader (cert_inlet cert.old))) (λ bytes. Accepts project files master.now bytes cost → ReadsAccepted result cost) }
-    ensures rejected { (project : List ℕ) (files : List (List ℕ)) → AreTakes project files (splice_content splice) takes.items → IfRejected result (λ reason. IfSome (R.remaining (inlet_reader (cert_inlet cert.old))) (λ bytes. RejectsFirst project files master.now bytes reason)) }
-    ensures refused { (project : List ℕ) (files : List (List ℕ)) → AreTakes project files (splice_content splice) takes.items → IfErr result (λ fault. (fault ≡ Fault.ReadFailed) ⊎ Fails Fault.Memory fault (said_cut project files None)) }
+    ensures found { (project : List ℕ) (files : List (List ℕ))
+        → AreTakes project files (splice_content splice) takes.items
+        → IfAccepted result (λ cost. IfSome (R.remaining (inlet_reader (cert_inlet cert.old)))
+        (λ bytes. Accepts project files master.now bytes cost)) }
+    ensures master { (project : List ℕ) (files : List (List ℕ))
+        → AreTakes project files (splice_content splice) takes.items
+        → IfAccepted result (λ _. IsMaster project files master.now) }
+    ensures least { (project : List ℕ) (files : List (List ℕ))
+        → AreTakes project files (splice_content splice) takes.items
+        → IfAccepted result (λ _. IsLeastMaster project files master.now) }
+    ensures joint { (project : List ℕ) (files : List (List ℕ))
+        → AreTakes project files (splice_content splice) takes.items
+        → IfAccepted result (CostsLeast project files master.now) }
+    ensures windows { (project : List ℕ) (files : List (List ℕ))
+        → AreTakes project files (splice_content splice) takes.items
+        → IfAccepted result (λ cost. IfSome (R.remaining (inlet_reader (cert_inlet cert.old)))
+        (λ _. CostsWindows project files master.now cost)) }
+    ensures only { (project : List ℕ) (files : List (List ℕ))
+        → AreTakes project files (splice_content splice) takes.items → (cost : ℕ)
+        → IfSome (R.remaining (inlet_reader (cert_inlet cert.old)))
+        (λ bytes. Accepts project files master.now bytes cost → ReadsAccepted result cost) }
+    ensures rejected { (project : List ℕ) (files : List (List ℕ))
+        → AreTakes project files (splice_content splice) takes.items
+        → IfRejected result (λ reason. IfSome (R.remaining (inlet_reader (cert_inlet cert.old)))
+        (λ bytes. RejectsFirst project files master.now bytes reason)) }
+    ensures refused { (project : List ℕ) (files : List (List ℕ))
+        → AreTakes project files (splice_content splice) takes.items
+        → IfErr result (λ fault. (fault ≡ Fault.ReadFailed) ⊎ Fails Fault.Memory fault (said_cut project files None)) }
     // The answer is `ReadFailed` exactly where a read failed.
-    ensures failures { inlet_failures (cert_inlet cert.new) ≡ inlet_failures (cert_inlet cert.old) + failed_reads result }
+    ensures failures { inlet_failures (cert_inlet cert.new)
+        ≡ inlet_failures (cert_inlet cert.old) + failed_reads result }
 {
     let cut = cut_heard(splice, takes, None)?;
     match judge_file(alloc, &cut, master, cert) {
@@ -146,16 +185,33 @@ pub fn check_found<R: Read>(
     requires ready { inlet_failures (cert_inlet cert.old) < 2 ^ 64 - 1 }
     requires some { (r : Content) × IsFoundOf cut.now found.now r }
     // Of whichever project and files it is the cut, and of whichever file it was found, the clauses of `check_read` hold.
-    ensures found { (project : List ℕ) (files : List (List ℕ)) (master : List ℕ) → IsFoundIn project files cut.now found.now master → IfAccepted result (λ cost. IfSome (R.remaining (inlet_reader (cert_inlet cert.old))) (λ bytes. Accepts project files master bytes cost)) }
-    ensures master { (project : List ℕ) (files : List (List ℕ)) (master : List ℕ) → IsFoundIn project files cut.now found.now master → IfAccepted result (λ _. IsMaster project files master) }
-    ensures least { (project : List ℕ) (files : List (List ℕ)) (master : List ℕ) → IsFoundIn project files cut.now found.now master → IfAccepted result (λ _. IsLeastMaster project files master) }
-    ensures joint { (project : List ℕ) (files : List (List ℕ)) (master : List ℕ) → IsFoundIn project files cut.now found.now master → IfAccepted result (CostsLeast project files master) }
-    ensures windows { (project : List ℕ) (files : List (List ℕ)) (master : List ℕ) → IsFoundIn project files cut.now found.now master → IfAccepted result (λ cost. IfSome (R.remaining (inlet_reader (cert_inlet cert.old))) (λ _. CostsWindows project files master cost)) }
-    ensures only { (project : List ℕ) (files : List (List ℕ)) (master : List ℕ) → IsFoundIn project files cut.now found.now master → (cost : ℕ) → IfSome (R.remaining (inlet_reader (cert_inlet cert.old))) (λ bytes. Accepts project files master bytes cost → ReadsAccepted result cost) }
-    ensures rejected { (project : List ℕ) (files : List (List ℕ)) (master : List ℕ) → IsFoundIn project files cut.now found.now master → IfRejected result (λ reason. IfSome (R.remaining (inlet_reader (cert_inlet cert.old))) (λ bytes. RejectsFirst project files master bytes reason)) }
+    ensures found { (project : List ℕ) (files : List (List ℕ)) (master : List ℕ)
+        → IsFoundIn project files cut.now found.now master
+        → IfAccepted result (λ cost. IfSome (R.remaining (inlet_reader (cert_inlet cert.old)))
+        (λ bytes. Accepts project files master bytes cost)) }
+    ensures master { (project : List ℕ) (files : List (List ℕ)) (master : List ℕ)
+        → IsFoundIn project files cut.now found.now master → IfAccepted result (λ _. IsMaster project files master) }
+    ensures least { (project : List ℕ) (files : List (List ℕ)) (master : List ℕ)
+        → IsFoundIn project files cut.now found.now master
+        → IfAccepted result (λ _. IsLeastMaster project files master) }
+    ensures joint { (project : List ℕ) (files : List (List ℕ)) (master : List ℕ)
+        → IsFoundIn project files cut.now found.now master → IfAccepted result (CostsLeast project files master) }
+    ensures windows { (project : List ℕ) (files : List (List ℕ)) (master : List ℕ)
+        → IsFoundIn project files cut.now found.now master
+        → IfAccepted result (λ cost. IfSome (R.remaining (inlet_reader (cert_inlet cert.old)))
+        (λ _. CostsWindows project files master cost)) }
+    ensures only { (project : List ℕ) (files : List (List ℕ)) (master : List ℕ)
+        → IsFoundIn project files cut.now found.now master → (cost : ℕ)
+        → IfSome (R.remaining (inlet_reader (cert_inlet cert.old))) (λ bytes. Accepts project files master bytes cost
+        → ReadsAccepted result cost) }
+    ensures rejected { (project : List ℕ) (files : List (List ℕ)) (master : List ℕ)
+        → IsFoundIn project files cut.now found.now master
+        → IfRejected result (λ reason. IfSome (R.remaining (inlet_reader (cert_inlet cert.old)))
+        (λ bytes. RejectsFirst project files master bytes reason)) }
     ensures refused { IfErr result (λ fault. (fault ≡ Fault.ReadFailed) ⊎ (fault ≡ Fault.Memory)) }
     // The answer is `ReadFailed` exactly where a read failed.
-    ensures failures { inlet_failures (cert_inlet cert.new) ≡ inlet_failures (cert_inlet cert.old) + failed_reads result }
+    ensures failures { inlet_failures (cert_inlet cert.new)
+        ≡ inlet_failures (cert_inlet cert.old) + failed_reads result }
 {
     match judge_found(alloc, cut, found, cert) {
         Ok(judged) => Ok(judged),
@@ -181,10 +237,14 @@ fn judge_file<R: Read>(
     cert: &mut CertReader<R>,
 ) -> Result<Verdict, CheckFault>
     requires { inlet_failures (cert_inlet cert.old) < 2 ^ 64 - 1 }
-    ensures judged { IfOk result (λ verdict. IfSome (R.remaining (inlet_reader (cert_inlet cert.old))) (λ bytes. JudgesFile cut.now master.now bytes verdict)) }
+    ensures judged { IfOk result (λ verdict. IfSome (R.remaining (inlet_reader (cert_inlet cert.old)))
+        (λ bytes. JudgesFile cut.now master.now bytes verdict)) }
     ensures least { IfOk result (λ verdict. AtCost verdict (IsLeastFile cut.now master.now)) }
-    ensures only { (form : Form) (r : Content) → HoldsAs master.now form r → IsMasterOf cut.now form r → IfSome (R.remaining (inlet_reader (cert_inlet cert.old))) (λ bytes. IsCertOf cut.now r.channels bytes → IfOk result (IsAcceptedAt (total_cost cut.now r.channels))) }
-    ensures failures { inlet_failures (cert_inlet cert.new) ≡ inlet_failures (cert_inlet cert.old) + failed_checks result }
+    ensures only { (form : Form) (r : Content) → HoldsAs master.now form r → IsMasterOf cut.now form r
+        → IfSome (R.remaining (inlet_reader (cert_inlet cert.old))) (λ bytes. IsCertOf cut.now r.channels bytes
+        → IfOk result (IsAcceptedAt (total_cost cut.now r.channels))) }
+    ensures failures { inlet_failures (cert_inlet cert.new)
+        ≡ inlet_failures (cert_inlet cert.old) + failed_checks result }
 {
     let Some(opened) = open_master(alloc, master)? else {
         return Ok(Verdict::Rejected(Reason::MasterUnread));
@@ -195,7 +255,8 @@ fn judge_file<R: Read>(
 // The form and the recording of a file, if it is a DSDIFF or DSF file that can be read.
 fn open_master(alloc: Global, file: &[u8]) -> Result<Option<Opened>, AllocError>
     ensures opened { IfOk result (λ found. MatchOption found (HoldsNothing file.now) (IsOpened file.now)) }
-    ensures only { (form : Form) (r : Content) → HoldsAs file.now form r → IfOk result (λ found. found ≡ Some (record { form = form; recording = r })) }
+    ensures only { (form : Form) (r : Content) → HoldsAs file.now form r
+        → IfOk result (λ found. found ≡ Some (record { form = form; recording = r })) }
 {
     match read_any(alloc, file) {
         Ok(opened) => Ok(Some(opened)),

@@ -18,8 +18,11 @@ use transfer_core::Fault;
 pub fn cut_heard(splice: Splice, takes: Vec<Heard>, form: Option<Form>) -> Result<Cut, Fault>
     requires { AreOfTakes (splice_content splice) takes.items }
     // Of whichever project and files it was heard, it is their cut, or refused as they are.
-    ensures found { (project : List ℕ) (files : List (List ℕ)) → AreTakes project files (splice_content splice) takes.items → IfOk result (SaysCut project files form) }
-    ensures exact { (project : List ℕ) (files : List (List ℕ)) → AreTakes project files (splice_content splice) takes.items → Gives Fault.Memory (λ cut. cut) result (said_cut project files form) }
+    ensures found { (project : List ℕ) (files : List (List ℕ))
+        → AreTakes project files (splice_content splice) takes.items → IfOk result (SaysCut project files form) }
+    ensures exact { (project : List ℕ) (files : List (List ℕ))
+        → AreTakes project files (splice_content splice) takes.items
+        → Gives Fault.Memory (λ cut. cut) result (said_cut project files form) }
     ensures fault { IfErr result IsCutFault }
 {
     Ok(Cut::of(splice, takes, form)?)

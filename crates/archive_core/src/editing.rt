@@ -48,15 +48,19 @@ pub fn edit(alloc: Global, project: &[u8], takes: &[Vec<u8>], form: Form) -> Res
     // The file is a master of the project and the takes.
     ensures master { IfOk result (λ made. IsMaster project.now (file_bytes takes.now) made.master.items) }
     // The certificate shows each bridge of the master to be least, and so much do they cost.
-    ensures accepted { IfOk result (λ made. Accepts project.now (file_bytes takes.now) made.master.items made.cert.items made.total) }
+    ensures accepted { IfOk result (λ made. Accepts project.now
+        (file_bytes takes.now) made.master.items made.cert.items made.total) }
     // Of all masters of the project and the takes none costs less.
     ensures joint { IfOk result (λ made. CostsLeast project.now (file_bytes takes.now) made.master.items made.total) }
     // It is the sum over all bridges of what their bits cost over their windows.
-    ensures windows { IfOk result (λ made. CostsWindows project.now (file_bytes takes.now) made.master.items made.total) }
+    ensures windows { IfOk result (λ made. CostsWindows project.now
+        (file_bytes takes.now) made.master.items made.total) }
     // What a project and takes come to is answered, want of memory aside.
-    ensures only { (master : List ℕ) (cost : ℕ) → Edits project.now (file_bytes takes.now) form master cost → AnswersEdited result master cost }
+    ensures only { (master : List ℕ) (cost : ℕ) → Edits project.now (file_bytes takes.now) form master cost
+        → AnswersEdited result master cost }
     // Which fault it is: the first of the project, its splice and its cut.
-    ensures refused { IfErr result (λ fault. Fails Fault.Memory fault (said_cut project.now (file_bytes takes.now) (Some form))) }
+    ensures refused { IfErr result (λ fault. Fails Fault.Memory fault
+        (said_cut project.now (file_bytes takes.now) (Some form))) }
 {
     let splice = splice_of(alloc, project)?;
     let takes = hear_takes(alloc, &splice, takes)?;
@@ -74,13 +78,26 @@ pub fn edit_heard(
 ) -> Result<Edited, Fault>
     requires { AreOfTakes (splice_content splice) takes.items }
     // Of whichever project and files it was heard, the clauses of `edit` hold of them.
-    ensures found { (project : List ℕ) (files : List (List ℕ)) → AreTakes project files (splice_content splice) takes.items → IfOk result (IsEdited project files form) }
-    ensures master { (project : List ℕ) (files : List (List ℕ)) → AreTakes project files (splice_content splice) takes.items → IfOk result (λ made. IsMaster project files made.master.items) }
-    ensures accepted { (project : List ℕ) (files : List (List ℕ)) → AreTakes project files (splice_content splice) takes.items → IfOk result (λ made. Accepts project files made.master.items made.cert.items made.total) }
-    ensures joint { (project : List ℕ) (files : List (List ℕ)) → AreTakes project files (splice_content splice) takes.items → IfOk result (λ made. CostsLeast project files made.master.items made.total) }
-    ensures windows { (project : List ℕ) (files : List (List ℕ)) → AreTakes project files (splice_content splice) takes.items → IfOk result (λ made. CostsWindows project files made.master.items made.total) }
-    ensures only { (project : List ℕ) (files : List (List ℕ)) → AreTakes project files (splice_content splice) takes.items → (master : List ℕ) (cost : ℕ) → Edits project files form master cost → AnswersEdited result master cost }
-    ensures refused { (project : List ℕ) (files : List (List ℕ)) → AreTakes project files (splice_content splice) takes.items → IfErr result (λ fault. Fails Fault.Memory fault (said_cut project files (Some form))) }
+    ensures found { (project : List ℕ) (files : List (List ℕ))
+        → AreTakes project files (splice_content splice) takes.items → IfOk result (IsEdited project files form) }
+    ensures master { (project : List ℕ) (files : List (List ℕ))
+        → AreTakes project files (splice_content splice) takes.items
+        → IfOk result (λ made. IsMaster project files made.master.items) }
+    ensures accepted { (project : List ℕ) (files : List (List ℕ))
+        → AreTakes project files (splice_content splice) takes.items
+        → IfOk result (λ made. Accepts project files made.master.items made.cert.items made.total) }
+    ensures joint { (project : List ℕ) (files : List (List ℕ))
+        → AreTakes project files (splice_content splice) takes.items
+        → IfOk result (λ made. CostsLeast project files made.master.items made.total) }
+    ensures windows { (project : List ℕ) (files : List (List ℕ))
+        → AreTakes project files (splice_content splice) takes.items
+        → IfOk result (λ made. CostsWindows project files made.master.items made.total) }
+    ensures only { (project : List ℕ) (files : List (List ℕ))
+        → AreTakes project files (splice_content splice) takes.items → (master : List ℕ) (cost : ℕ)
+        → Edits project files form master cost → AnswersEdited result master cost }
+    ensures refused { (project : List ℕ) (files : List (List ℕ))
+        → AreTakes project files (splice_content splice) takes.items
+        → IfErr result (λ fault. Fails Fault.Memory fault (said_cut project files (Some form))) }
 {
     let mut planned = plan_master(alloc, splice, takes, form)?;
     let total = planned.total();

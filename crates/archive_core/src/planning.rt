@@ -49,9 +49,14 @@ pub fn plan_master(
     requires { AreOfTakes (splice_content splice) takes.items }
     ensures planned { IfOk result IsPlanned }
     // Of whichever project and files it was heard, it is their master, whose certificate shows it to be least.
-    ensures found { (project : List ℕ) (files : List (List ℕ)) → AreTakes project files (splice_content splice) takes.items → IfOk result (Plans project files form) }
-    ensures only { (project : List ℕ) (files : List (List ℕ)) → AreTakes project files (splice_content splice) takes.items → (master : List ℕ) (cost : ℕ) → Edits project files form master cost → AnswersPlanned result master cost }
-    ensures refused { (project : List ℕ) (files : List (List ℕ)) → AreTakes project files (splice_content splice) takes.items → IfErr result (λ fault. Fails Fault.Memory fault (said_cut project files (Some form))) }
+    ensures found { (project : List ℕ) (files : List (List ℕ))
+        → AreTakes project files (splice_content splice) takes.items → IfOk result (Plans project files form) }
+    ensures only { (project : List ℕ) (files : List (List ℕ))
+        → AreTakes project files (splice_content splice) takes.items → (master : List ℕ) (cost : ℕ)
+        → Edits project files form master cost → AnswersPlanned result master cost }
+    ensures refused { (project : List ℕ) (files : List (List ℕ))
+        → AreTakes project files (splice_content splice) takes.items
+        → IfErr result (λ fault. Fails Fault.Memory fault (said_cut project files (Some form))) }
 {
     let cut = cut_heard(splice, takes, Some(form))?;
     let Planned {
@@ -88,8 +93,12 @@ impl PlannedMaster {
         requires ready { outlet_failures outlet.old < 2 ^ 64 - 1 }
         ensures planned { IsPlanned self.new }
         ensures same { IsSamePlan self.old self.new }
-        ensures ok { (file : List ℕ) → IsFileOf self.old file → OnOk result (Appends (W.contents (outlet_writer outlet.old)) (W.contents (outlet_writer outlet.new)) file) }
-        ensures err { (file : List ℕ) → IsFileOf self.old file → OnErr result (AppendsPart (W.contents (outlet_writer outlet.old)) (W.contents (outlet_writer outlet.new)) file) }
+        ensures ok { (file : List ℕ) → IsFileOf self.old file
+            → OnOk result (Appends (W.contents (outlet_writer outlet.old))
+            (W.contents (outlet_writer outlet.new)) file) }
+        ensures err { (file : List ℕ) → IsFileOf self.old file
+            → OnErr result (AppendsPart (W.contents (outlet_writer outlet.old))
+            (W.contents (outlet_writer outlet.new)) file) }
         ensures failures { MatchResult result
             (λ _. outlet_failures outlet.new ≡ outlet_failures outlet.old)
             (λ _. outlet_failures outlet.new ≡ outlet_failures outlet.old + 1) }
@@ -120,8 +129,10 @@ impl PlannedMaster {
     pub fn write_certificate<W: Write>(self, outlet: Outlet<W>) -> (Result<(), Device>, Outlet<W>)
         requires planned { IsPlanned self }
         requires ready { outlet_failures outlet < 2 ^ 64 - 1 }
-        ensures ok { OnOk result.0 (AppendsCert self.cut self.bridges (W.contents (outlet_writer outlet)) (W.contents (outlet_writer result.1))) }
-        ensures err { OnErr result.0 (AppendsCertFront self.cut self.bridges (W.contents (outlet_writer outlet)) (W.contents (outlet_writer result.1))) }
+        ensures ok { OnOk result.0 (AppendsCert self.cut self.bridges (W.contents (outlet_writer outlet))
+            (W.contents (outlet_writer result.1))) }
+        ensures err { OnErr result.0 (AppendsCertFront self.cut self.bridges (W.contents (outlet_writer outlet))
+            (W.contents (outlet_writer result.1))) }
         ensures failures { MatchResult result.0
             (λ _. outlet_failures result.1 ≡ outlet_failures outlet)
             (λ _. outlet_failures result.1 ≡ outlet_failures outlet + 1) }

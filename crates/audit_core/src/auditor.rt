@@ -44,7 +44,8 @@ impl<'a> Auditor<'a> {
     pub(crate) fn begin(&mut self, alloc: Global, sound: Sound) -> Result<(), AllocError>
         requires sound { IsSound sound }
         requires whole { sound.interleaving ≡ Interleaving.Bytes → sound.count % 8 ≡ 0 }
-        ensures same { (self.new.cut.now ≡ self.old.cut.now) × (self.new.keeper.ranges.now ≡ self.old.keeper.ranges.now) }
+        ensures same { (self.new.cut.now ≡ self.old.cut.now)
+            × (self.new.keeper.ranges.now ≡ self.old.keeper.ranges.now) }
         ensures new { OnOk result (IsAuditing self.new []) }
         ensures made { OnOk result ((self.new.keeper.sound ≡ sound) × (self.new.keeper.done ≡ 0)) }
     {
@@ -65,12 +66,15 @@ impl<'a> Auditor<'a> {
         requires auditing { (before : List ℕ) × IsAuditing self.old before }
         requires some { 1 ≤ bits }
         requires within { self.old.keeper.done + bits ≤ self.old.keeper.sound.count }
-        requires size { length bytes.now ≡ sound_size self.old.keeper.sound.interleaving self.old.keeper.sound.channels bits }
+        requires size { length bytes.now ≡ sound_size self.old.keeper.sound.interleaving self.old.keeper.sound.channels
+            bits }
         requires groups { (bits % 32768 ≡ 0) ⊎ (self.old.keeper.done + bits ≡ self.old.keeper.sound.count) }
-        ensures same { (self.new.cut.now ≡ self.old.cut.now) × (self.new.keeper.ranges.now ≡ self.old.keeper.ranges.now) }
+        ensures same { (self.new.cut.now ≡ self.old.cut.now)
+            × (self.new.keeper.ranges.now ≡ self.old.keeper.ranges.now) }
         ensures sound { self.new.keeper.sound ≡ self.old.keeper.sound }
         ensures done { OnOk result (self.new.keeper.done ≡ self.old.keeper.done + bits) }
-        ensures ok { OnOk result ((before : List ℕ) → IsAuditing self.old before → IsAuditing self.new (before ++ bytes.now)) }
+        ensures ok { OnOk result ((before : List ℕ) → IsAuditing self.old before
+            → IsAuditing self.new (before ++ bytes.now)) }
     {
         let sound = self.keeper.sound;
         let done = self.keeper.done;

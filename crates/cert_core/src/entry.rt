@@ -28,7 +28,8 @@ use std::io::Read;
 // A number of eight bytes.
 fn read_number<R: Read>(inlet: &mut Inlet<R>) -> Result<u64, Stop>
     requires { inlet_failures inlet.old < 2 ^ 64 - 1 }
-    ensures ok { IfOk result (λ value. Consumes (R.remaining (inlet_reader inlet.old)) (R.remaining (inlet_reader inlet.new)) (to_be_bytes w64 value)) }
+    ensures ok { IfOk result (λ value. Consumes (R.remaining (inlet_reader inlet.old))
+        (R.remaining (inlet_reader inlet.new)) (to_be_bytes w64 value)) }
     ensures cut { OnReason result (CutBelow (R.remaining (inlet_reader inlet.old)) 8) }
     ensures failures { inlet_failures inlet.new ≡ inlet_failures inlet.old + failed_stops result }
 {
@@ -45,7 +46,8 @@ fn read_start<R: Read>(
     length: usize,
 ) -> Result<(), Stop>
     requires ready { inlet_failures inlet.old < 2 ^ 64 - 1 }
-    ensures ok { OnOk result (Consumes (R.remaining (inlet_reader inlet.old)) (R.remaining (inlet_reader inlet.new)) (entry_start cue channel length)) }
+    ensures ok { OnOk result (Consumes (R.remaining (inlet_reader inlet.old)) (R.remaining (inlet_reader inlet.new))
+        (entry_start cue channel length)) }
     ensures reason { OnReason result (InStart (R.remaining (inlet_reader inlet.old)) cue channel length) }
     ensures failures { inlet_failures inlet.new ≡ inlet_failures inlet.old + failed_stops result }
 {
@@ -79,7 +81,8 @@ fn read_rows<R: Read>(
     requires ready { inlet_failures inlet.old < 2 ^ 64 - 1 }
     requires steps { length steps.old ≡ 2 * states (trellis_of window.now) }
     ensures steps { length steps.new ≡ length steps.old }
-    ensures ok { IfOk result (λ last. ReadsRows version (trellis_of window.now) (R.remaining (inlet_reader inlet.old)) (R.remaining (inlet_reader inlet.new)) last.items) }
+    ensures ok { IfOk result (λ last. ReadsRows version (trellis_of window.now) (R.remaining (inlet_reader inlet.old))
+        (R.remaining (inlet_reader inlet.new)) last.items) }
     ensures reason { OnReason result (InRows version (trellis_of window.now) (R.remaining (inlet_reader inlet.old))) }
     ensures failures { inlet_failures inlet.new ≡ inlet_failures inlet.old + failed_stops result }
 {
@@ -111,10 +114,13 @@ fn read_end<R: Read>(
     requires last { length last.now ≡ states (trellis_of window.now) }
     requires limit { RowBounded (trellis_of window.now) last.now }
     requires tails { length tails.old ≡ states (trellis_of window.now) }
-    ensures ok { IfOk result (λ cost. Consumes (R.remaining (inlet_reader inlet.old)) (R.remaining (inlet_reader inlet.new)) (to_be_bytes w64 cost)) }
+    ensures ok { IfOk result (λ cost. Consumes (R.remaining (inlet_reader inlet.old))
+        (R.remaining (inlet_reader inlet.new)) (to_be_bytes w64 cost)) }
     ensures cost { IfOk result (λ cost. cost ≡ found) }
-    ensures ends { IfOk result (λ cost. (q : ℕ) → q < states (trellis_of window.now) → cost ≤ slice_index_or last.now q 0 + (trellis_of window.now).tail q) }
-    ensures reason { OnReason result (InEnd (trellis_of window.now) last.now found (R.remaining (inlet_reader inlet.old))) }
+    ensures ends { IfOk result (λ cost. (q : ℕ) → q < states (trellis_of window.now)
+        → cost ≤ slice_index_or last.now q 0 + (trellis_of window.now).tail q) }
+    ensures reason { OnReason result (InEnd (trellis_of window.now) last.now found
+        (R.remaining (inlet_reader inlet.old))) }
     ensures failures { inlet_failures inlet.new ≡ inlet_failures inlet.old + failed_stops result }
 {
     let stated = read_number(inlet)?;
@@ -146,9 +152,11 @@ pub fn read_entry<R: Read>(
     requires ready { inlet_failures inlet.old < 2 ^ 64 - 1 }
     requires bits { length bits.now ≡ window.now.levels }
     ensures limits { IsBridging window.now }
-    ensures entry { IfOk result (λ cost. ReadsEntry version (trellis_of window.now) place.cue place.channel bits.now (R.remaining (inlet_reader inlet.old)) (R.remaining (inlet_reader inlet.new))) }
+    ensures entry { IfOk result (λ cost. ReadsEntry version (trellis_of window.now) place.cue place.channel bits.now
+        (R.remaining (inlet_reader inlet.old)) (R.remaining (inlet_reader inlet.new))) }
     ensures cost { IfOk result (λ found. found ≡ cost (trellis_of window.now) bits.now) }
-    ensures reason { OnReason result (InEntry version (trellis_of window.now) place.cue place.channel (cost (trellis_of window.now) bits.now) (R.remaining (inlet_reader inlet.old))) }
+    ensures reason { OnReason result (InEntry version (trellis_of window.now) place.cue place.channel
+        (cost (trellis_of window.now) bits.now) (R.remaining (inlet_reader inlet.old))) }
     ensures failures { inlet_failures inlet.new ≡ inlet_failures inlet.old + failed_stops result }
 {
     read_start(inlet, place.cue, place.channel, window.length())?;

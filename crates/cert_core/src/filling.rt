@@ -13,7 +13,8 @@ use std::io::Read;
 /// Fills a buffer with the next bytes. Reason: `Cut` where there are fewer.
 pub fn fill<R: Read>(inlet: &mut Inlet<R>, buffer: &mut [u8]) -> Result<(), Stop>
     requires { inlet_failures inlet.old < 2 ^ 64 - 1 }
-    ensures ok { OnOk result (Consumes (R.remaining (inlet_reader inlet.old)) (R.remaining (inlet_reader inlet.new)) buffer.new) }
+    ensures ok { OnOk result (Consumes (R.remaining (inlet_reader inlet.old))
+        (R.remaining (inlet_reader inlet.new)) buffer.new) }
     ensures cut { OnReason result (CutBelow (R.remaining (inlet_reader inlet.old)) (length buffer.new)) }
     ensures failures { inlet_failures inlet.new ≡ inlet_failures inlet.old + failed_stops result }
 {

@@ -68,15 +68,18 @@ impl<R: Read> CertReader<R> {
     ) -> Result<Option<CertReason>, CheckFault>
         requires ready { inlet_failures (cert_inlet self.old) < 2 ^ 64 - 1 }
         requires weights { weights ≤ 12 }
-        ensures none { IsWell result → Consumes (R.remaining (inlet_reader (cert_inlet self.old))) (R.remaining (inlet_reader (cert_inlet self.new))) (cert_head (read_version self.new) weights entries) }
+        ensures none { IsWell result → Consumes (R.remaining (inlet_reader (cert_inlet self.old)))
+            (R.remaining (inlet_reader (cert_inlet self.new))) (cert_head (read_version self.new) weights entries) }
         ensures read { IsWell result → has_read_head self.new ≡ true }
 
         // Known bytes have this reason first, and don't begin with the head.
         ensures reason { IfReason result (InHead weights entries (R.remaining (inlet_reader (cert_inlet self.old)))) }
-        ensures only { IfReason result (λ _. IfSome (R.remaining (inlet_reader (cert_inlet self.old))) (λ bytes. (v : Version) → (rest : List ℕ) → bytes ≡ cert_head v weights entries ++ rest → ⊥)) }
+        ensures only { IfReason result (λ _. IfSome (R.remaining (inlet_reader (cert_inlet self.old)))
+            (λ bytes. (v : Version) → (rest : List ℕ) → bytes ≡ cert_head v weights entries ++ rest → ⊥)) }
 
         // The answer is `Device` exactly where a read failed, and never `Memory`.
-        ensures failures { inlet_failures (cert_inlet self.new) ≡ inlet_failures (cert_inlet self.old) + failed_checks result }
+        ensures failures { inlet_failures (cert_inlet self.new)
+            ≡ inlet_failures (cert_inlet self.old) + failed_checks result }
         ensures memory { IsErrOf result CheckFault.Memory → ⊥ }
     {
         let mut bytes = [0u8; 12];
@@ -117,16 +120,21 @@ impl<R: Read> CertReader<R> {
         requires bits { length bits.now ≡ window.now.levels }
 
         // Just one entry was read, whose table is valid for the bits.
-        ensures entry { IfAccepted result (λ _. ReadsEntry (read_version self.old) (trellis_of window.now) cue channel bits.now (R.remaining (inlet_reader (cert_inlet self.old))) (R.remaining (inlet_reader (cert_inlet self.new)))) }
+        ensures entry { IfAccepted result (λ _. ReadsEntry (read_version self.old)
+            (trellis_of window.now) cue channel bits.now (R.remaining (inlet_reader (cert_inlet self.old)))
+            (R.remaining (inlet_reader (cert_inlet self.new)))) }
         ensures cost { IfAccepted result (λ cost. cost ≡ bridge_cost window.now bits.now) }
         ensures least { IfAccepted result (λ _. IsLeastBridge window.now bits.now) }
 
         // Known bytes have this reason first, and begin with no such entry.
-        ensures reason { IfRejected result (InEntry (read_version self.old) (trellis_of window.now) cue channel (bridge_cost window.now bits.now) (R.remaining (inlet_reader (cert_inlet self.old)))) }
-        ensures only { IfRejected result (λ _. IfSome (R.remaining (inlet_reader (cert_inlet self.old))) (λ bytes. BeginsValid (read_version self.old) (trellis_of window.now) cue channel bits.now bytes → ⊥)) }
+        ensures reason { IfRejected result (InEntry (read_version self.old) (trellis_of window.now) cue channel
+            (bridge_cost window.now bits.now) (R.remaining (inlet_reader (cert_inlet self.old)))) }
+        ensures only { IfRejected result (λ _. IfSome (R.remaining (inlet_reader (cert_inlet self.old)))
+            (λ bytes. BeginsValid (read_version self.old) (trellis_of window.now) cue channel bits.now bytes → ⊥)) }
 
         // The answer is `Device` exactly where a read failed.
-        ensures failures { inlet_failures (cert_inlet self.new) ≡ inlet_failures (cert_inlet self.old) + failed_checks result }
+        ensures failures { inlet_failures (cert_inlet self.new)
+            ≡ inlet_failures (cert_inlet self.old) + failed_checks result }
 
         // What was read of the head stays.
         ensures read { has_read_head self.new ≡ has_read_head self.old }
@@ -156,7 +164,8 @@ impl<R: Read> CertReader<R> {
         ensures reason { IfReason result (InRest (R.remaining (inlet_reader (cert_inlet self.old)))) }
 
         // The answer is `Device` exactly where a read failed, and never `Memory`.
-        ensures failures { inlet_failures (cert_inlet self.new) ≡ inlet_failures (cert_inlet self.old) + failed_checks result }
+        ensures failures { inlet_failures (cert_inlet self.new)
+            ≡ inlet_failures (cert_inlet self.old) + failed_checks result }
         ensures memory { IsErrOf result CheckFault.Memory → ⊥ }
     {
         let mut bytes = [0u8; 1];

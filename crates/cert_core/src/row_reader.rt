@@ -100,8 +100,10 @@ fn read_values<R: Read>(
     ensures len { length row.new ≡ length row.old }
     ensures buffer { length buffer.new ≡ length buffer.old }
     ensures bounded { OnOk result (Bounded (length row.new) row.new) }
-    ensures ok { OnOk result (Consumes (R.remaining (inlet_reader inlet.old)) (R.remaining (inlet_reader inlet.new)) (row_text Version.One row.new)) }
-    ensures reason { OnReason result (InSpelling Version.One (length row.old) level (R.remaining (inlet_reader inlet.old))) }
+    ensures ok { OnOk result (Consumes (R.remaining (inlet_reader inlet.old)) (R.remaining (inlet_reader inlet.new))
+        (row_text Version.One row.new)) }
+    ensures reason { OnReason result (InSpelling Version.One (length row.old) level
+        (R.remaining (inlet_reader inlet.old))) }
     ensures failures { inlet_failures inlet.new ≡ inlet_failures inlet.old + failed_stops result }
 {
     let size = 8 * row.len();
@@ -116,7 +118,8 @@ fn read_values<R: Read>(
 // What a row of the second version begins with: its least value, and how many bytes each excess has.
 fn read_form<R: Read>(inlet: &mut Inlet<R>, level: usize) -> Result<(u64, usize), Stop>
     requires ready { inlet_failures inlet.old < 2 ^ 64 - 1 }
-    ensures ok { IfOk result (λ form. Consumes (R.remaining (inlet_reader inlet.old)) (R.remaining (inlet_reader inlet.new)) (raised_text form.0 form.1 [])) }
+    ensures ok { IfOk result (λ form. Consumes (R.remaining (inlet_reader inlet.old))
+        (R.remaining (inlet_reader inlet.new)) (raised_text form.0 form.1 [])) }
     ensures few { IfOk result (λ form. form.1 ≤ 8) }
     ensures reason { OnReason result (InForm level (R.remaining (inlet_reader inlet.old))) }
     ensures failures { inlet_failures inlet.new ≡ inlet_failures inlet.old + failed_stops result }
@@ -143,8 +146,10 @@ fn read_raised<R: Read>(
     ensures len { length row.new ≡ length row.old }
     ensures buffer { length buffer.new ≡ length buffer.old }
     ensures bounded { OnOk result (Bounded (length row.new) row.new) }
-    ensures ok { OnOk result (Consumes (R.remaining (inlet_reader inlet.old)) (R.remaining (inlet_reader inlet.new)) (row_text Version.Two row.new)) }
-    ensures reason { OnReason result (InSpelling Version.Two (length row.old) level (R.remaining (inlet_reader inlet.old))) }
+    ensures ok { OnOk result (Consumes (R.remaining (inlet_reader inlet.old)) (R.remaining (inlet_reader inlet.new))
+        (row_text Version.Two row.new)) }
+    ensures reason { OnReason result (InSpelling Version.Two (length row.old) level
+        (R.remaining (inlet_reader inlet.old))) }
     ensures failures { inlet_failures inlet.new ≡ inlet_failures inlet.old + failed_stops result }
 {
     let (least, width) = read_form(inlet, level)?;
@@ -172,8 +177,10 @@ pub fn read_row<R: Read>(
     ensures len { length row.new ≡ length row.old }
     ensures buffer { length buffer.new ≡ length buffer.old }
     ensures bounded { OnOk result (Bounded (length row.new) row.new) }
-    ensures ok { OnOk result (Consumes (R.remaining (inlet_reader inlet.old)) (R.remaining (inlet_reader inlet.new)) (row_text version row.new)) }
-    ensures reason { OnReason result (InSpelling version (length row.old) level (R.remaining (inlet_reader inlet.old))) }
+    ensures ok { OnOk result (Consumes (R.remaining (inlet_reader inlet.old)) (R.remaining (inlet_reader inlet.new))
+        (row_text version row.new)) }
+    ensures reason { OnReason result (InSpelling version (length row.old) level
+        (R.remaining (inlet_reader inlet.old))) }
     ensures failures { inlet_failures inlet.new ≡ inlet_failures inlet.old + failed_stops result }
 {
     match version {

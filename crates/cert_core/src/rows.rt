@@ -85,8 +85,10 @@ fn are_within(
     requires low_steps { Each1 (λ x. x < 2 ^ 63) low_steps.now }
     requires high { Each1 (λ x. x ≤ 2 ^ 63) high.now }
     requires high_steps { Each1 (λ x. x < 2 ^ 63) high_steps.now }
-    ensures low { IsTrue result → (k : ℕ) → k < 8 → slice_index row.now k ≤ slice_index low.now k + slice_index low_steps.now k }
-    ensures high { IsTrue result → (k : ℕ) → k < 8 → slice_index row.now k ≤ slice_index high.now k + slice_index high_steps.now k }
+    ensures low { IsTrue result → (k : ℕ) → k < 8
+        → slice_index row.now k ≤ slice_index low.now k + slice_index low_steps.now k }
+    ensures high { IsTrue result → (k : ℕ) → k < 8
+        → slice_index row.now k ≤ slice_index high.now k + slice_index high_steps.now k }
 {
     let row = u64x8::from_array(*row);
     let by_0 = u64x8::from_array(*low).strict_add(u64x8::from_array(*low_steps));
@@ -222,7 +224,8 @@ fn all_reach(last: &[u64], tails: &[u64], stated: u64) -> bool
     requires as_many { length tails.now ≡ length last.now }
     requires last { Each1 (λ x. x ≤ 2 ^ 63) last.now }
     requires tails { Each1 (λ x. x < 2 ^ 63) tails.now }
-    ensures { IsTrue result → (q : ℕ) → q < length last.now → stated ≤ slice_index last.now q + slice_index tails.now q }
+    ensures { IsTrue result → (q : ℕ) → q < length last.now
+        → stated ≤ slice_index last.now q + slice_index tails.now q }
 {
     let (eights, rest) = last.as_chunks::<8>();
     let (eight_tails, rest_tails) = tails.as_chunks::<8>();

@@ -67,7 +67,8 @@ fn put_some(row: &[u64], least: u64, width: usize, buffer: &mut [u8])
     requires fits { (q : ℕ) → q < length row.now → slice_index row.now q - least < 256 ^ width }
     requires room { width * length row.now + 8 ≤ length buffer.old }
     ensures room { length buffer.new ≡ length buffer.old }
-    ensures text { take (width * length row.now) buffer.new ≡ flat_map (bytes_high_first width) (map (λ v. v - least) row.now) }
+    ensures text { take (width * length row.now) buffer.new
+        ≡ flat_map (bytes_high_first width) (map (λ v. v - least) row.now) }
 {
     let spare = 64 - 8 * width as u32;
     for place in 0..row.len() {
@@ -83,7 +84,8 @@ fn put_excesses(row: &[u64], least: u64, width: usize, buffer: &mut [u8])
     requires fits { (q : ℕ) → q < length row.now → slice_index row.now q - least < 256 ^ width }
     requires room { width * length row.now + 8 ≤ length buffer.old }
     ensures room { length buffer.new ≡ length buffer.old }
-    ensures text { take (width * length row.now) buffer.new ≡ flat_map (bytes_high_first width) (map (λ v. v - least) row.now) }
+    ensures text { take (width * length row.now) buffer.new
+        ≡ flat_map (bytes_high_first width) (map (λ v. v - least) row.now) }
 {
     if width > 0 {
         put_some(row, least, width, buffer);

@@ -74,7 +74,15 @@ impl<W: Write> CertWriter<W> {
         requires ready { outlet_failures outlet < 2 ^ 64 - 1 }
         ensures outlet { cert_outlet result ≡ outlet }
         ensures failed { has_failed result ≡ false }
-        ensures stage { stage result ≡ record { version = version; weights = room_weights room; has_head = false; entries_left = 0; is_open = false; failures = outlet_failures outlet } }
+        ensures stage { stage result ≡ record {
+          version = version;
+          weights = room_weights
+              room;
+          has_head = false;
+          entries_left = 0;
+          is_open = false;
+          failures = outlet_failures outlet;
+        } }
         ensures rows { rows_left result ≡ 0 }
     {
         let failures = outlet.failures();
@@ -99,13 +107,20 @@ impl<W: Write> CertWriter<W> {
     /// in the order is asked only of a writer that hasn't failed.
     pub fn begin(&mut self, entries: u32) -> Result<(), CertFault>
         requires head { has_failed self.old ≡ false → has_head self.old ≡ false }
-        ensures ok { OnOk result (Appends (W.contents (outlet_writer (cert_outlet self.old))) (W.contents (outlet_writer (cert_outlet self.new))) (cert_head (cert_version self.old) (cert_weights self.old) entries)) }
-        ensures device { IsErrOf result CertFault.Device → AppendsPart (W.contents (outlet_writer (cert_outlet self.old))) (W.contents (outlet_writer (cert_outlet self.new))) (cert_head (cert_version self.old) (cert_weights self.old) entries) }
+        ensures ok { OnOk result (Appends (W.contents (outlet_writer (cert_outlet self.old)))
+            (W.contents (outlet_writer (cert_outlet self.new)))
+            (cert_head (cert_version self.old) (cert_weights self.old) entries)) }
+        ensures device { IsErrOf result CertFault.Device
+            → AppendsPart (W.contents (outlet_writer (cert_outlet self.old)))
+            (W.contents (outlet_writer (cert_outlet self.new)))
+            (cert_head (cert_version self.old) (cert_weights self.old) entries) }
         ensures failed { IsErrOf result CertFault.Failed ↔ (has_failed self.old ≡ true) }
         ensures unchanged { IsErrOf result CertFault.Failed → self.new ≡ self.old }
-        ensures failures { outlet_failures (cert_outlet self.new) ≡ outlet_failures (cert_outlet self.old) + failed_parts result }
+        ensures failures { outlet_failures (cert_outlet self.new)
+            ≡ outlet_failures (cert_outlet self.old) + failed_parts result }
         ensures refused { has_failed self.new ≡ not (is_ok result) }
-        ensures begun { OnOk result (stage self.new ≡ record (stage self.old) { has_head = true; entries_left = entries }) }
+        ensures begun { OnOk result (stage self.new
+            ≡ record (stage self.old) { has_head = true; entries_left = entries }) }
         ensures kept { OnErr result (stage self.new ≡ stage self.old) }
         ensures rows { rows_left self.new ≡ rows_left self.old }
     {
@@ -122,13 +137,18 @@ impl<W: Write> CertWriter<W> {
         requires head { has_failed self.old ≡ false → has_head self.old ≡ true }
         requires entries { has_failed self.old ≡ false → 0 < entries_left self.old }
         requires open { has_failed self.old ≡ false → is_open self.old ≡ false }
-        ensures ok { OnOk result (Appends (W.contents (outlet_writer (cert_outlet self.old))) (W.contents (outlet_writer (cert_outlet self.new))) (entry_start cue channel length)) }
-        ensures device { IsErrOf result CertFault.Device → AppendsPart (W.contents (outlet_writer (cert_outlet self.old))) (W.contents (outlet_writer (cert_outlet self.new))) (entry_start cue channel length) }
+        ensures ok { OnOk result (Appends (W.contents (outlet_writer (cert_outlet self.old)))
+            (W.contents (outlet_writer (cert_outlet self.new))) (entry_start cue channel length)) }
+        ensures device { IsErrOf result CertFault.Device
+            → AppendsPart (W.contents (outlet_writer (cert_outlet self.old)))
+            (W.contents (outlet_writer (cert_outlet self.new))) (entry_start cue channel length) }
         ensures failed { IsErrOf result CertFault.Failed ↔ (has_failed self.old ≡ true) }
         ensures unchanged { IsErrOf result CertFault.Failed → self.new ≡ self.old }
-        ensures failures { outlet_failures (cert_outlet self.new) ≡ outlet_failures (cert_outlet self.old) + failed_parts result }
+        ensures failures { outlet_failures (cert_outlet self.new)
+            ≡ outlet_failures (cert_outlet self.old) + failed_parts result }
         ensures refused { has_failed self.new ≡ not (is_ok result) }
-        ensures begun { OnOk result (stage self.new ≡ record (stage self.old) { entries_left = entries_left self.old - 1; is_open = true }) }
+        ensures begun { OnOk result (stage self.new
+            ≡ record (stage self.old) { entries_left = entries_left self.old - 1; is_open = true }) }
         ensures kept { OnErr result (stage self.new ≡ stage self.old) }
         ensures rows { OnOk result (rows_left self.new ≡ length + 1) }
         ensures rows_kept { OnErr result (rows_left self.new ≡ rows_left self.old) }
@@ -144,11 +164,15 @@ impl<W: Write> CertWriter<W> {
     pub fn level(&mut self, row: &[u64]) -> Result<(), CertFault>
         requires rows { has_failed self.old ≡ false → 0 < rows_left self.old }
         requires row { length row.now ≡ row_length self.old }
-        ensures ok { OnOk result (Appends (W.contents (outlet_writer (cert_outlet self.old))) (W.contents (outlet_writer (cert_outlet self.new))) (row_text (cert_version self.old) row.now)) }
-        ensures device { IsErrOf result CertFault.Device → AppendsPart (W.contents (outlet_writer (cert_outlet self.old))) (W.contents (outlet_writer (cert_outlet self.new))) (row_text (cert_version self.old) row.now) }
+        ensures ok { OnOk result (Appends (W.contents (outlet_writer (cert_outlet self.old)))
+            (W.contents (outlet_writer (cert_outlet self.new))) (row_text (cert_version self.old) row.now)) }
+        ensures device { IsErrOf result CertFault.Device
+            → AppendsPart (W.contents (outlet_writer (cert_outlet self.old)))
+            (W.contents (outlet_writer (cert_outlet self.new))) (row_text (cert_version self.old) row.now) }
         ensures failed { IsErrOf result CertFault.Failed ↔ (has_failed self.old ≡ true) }
         ensures unchanged { IsErrOf result CertFault.Failed → self.new ≡ self.old }
-        ensures failures { outlet_failures (cert_outlet self.new) ≡ outlet_failures (cert_outlet self.old) + failed_parts result }
+        ensures failures { outlet_failures (cert_outlet self.new)
+            ≡ outlet_failures (cert_outlet self.old) + failed_parts result }
         ensures refused { has_failed self.new ≡ not (is_ok result) }
         ensures kept { stage self.new ≡ stage self.old }
         ensures rows { OnOk result (rows_left self.new + 1 ≡ rows_left self.old) }
@@ -167,11 +191,15 @@ impl<W: Write> CertWriter<W> {
     pub fn end_bridge(&mut self, cost: u64) -> Result<(), CertFault>
         requires open { has_failed self.old ≡ false → is_open self.old ≡ true }
         requires rows { has_failed self.old ≡ false → rows_left self.old ≡ 0 }
-        ensures ok { OnOk result (Appends (W.contents (outlet_writer (cert_outlet self.old))) (W.contents (outlet_writer (cert_outlet self.new))) (to_be_bytes w64 cost)) }
-        ensures device { IsErrOf result CertFault.Device → AppendsPart (W.contents (outlet_writer (cert_outlet self.old))) (W.contents (outlet_writer (cert_outlet self.new))) (to_be_bytes w64 cost) }
+        ensures ok { OnOk result (Appends (W.contents (outlet_writer (cert_outlet self.old)))
+            (W.contents (outlet_writer (cert_outlet self.new))) (to_be_bytes w64 cost)) }
+        ensures device { IsErrOf result CertFault.Device
+            → AppendsPart (W.contents (outlet_writer (cert_outlet self.old)))
+            (W.contents (outlet_writer (cert_outlet self.new))) (to_be_bytes w64 cost) }
         ensures failed { IsErrOf result CertFault.Failed ↔ (has_failed self.old ≡ true) }
         ensures unchanged { IsErrOf result CertFault.Failed → self.new ≡ self.old }
-        ensures failures { outlet_failures (cert_outlet self.new) ≡ outlet_failures (cert_outlet self.old) + failed_parts result }
+        ensures failures { outlet_failures (cert_outlet self.new)
+            ≡ outlet_failures (cert_outlet self.old) + failed_parts result }
         ensures refused { has_failed self.new ≡ not (is_ok result) }
         ensures ended { OnOk result (stage self.new ≡ record (stage self.old) { is_open = false }) }
         ensures kept { OnErr result (stage self.new ≡ stage self.old) }

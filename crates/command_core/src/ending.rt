@@ -6,13 +6,10 @@ ghost use Rattle.device_core.specs.Inlets.{inlet_reader};
 ghost use Rattle.transfer_commands.specs.declared.fault.CommandFault.TheVariants as faults;
 
 use archive_core::Fault;
-use device_core::Inlet;
+use device_core::{Inlet, MOST_READS};
 use folder_core::Folder;
 use std::io::Read;
 use transfer_commands::CommandFault;
-
-/// How many reads a file may take to come to its end.
-pub(crate) const MOST_READS: u64 = 1 << 40;
 
 /// Reads what is left and keeps none of it: whether that came to the end. After a read that failed nothing is read.
 pub(crate) fn reads_to_end<R: Read>(inlet: &mut Inlet<R>) -> bool

@@ -8,11 +8,11 @@ ghost use Rattle.archive_core.specs.Cutting.{SaysCut};
 ghost use Rattle.command_core.specs.Commands.{JudgedComesTo};
 ghost use Rattle.command_core.specs.Masters.{IsFoundHeld, IsOfSome};
 
-use crate::ending::{MOST_READS, reads_to_end};
+use crate::ending::reads_to_end;
 use archive_core::{Fault, Found, Reason, Verdict, check_found};
 use cert_core::CertReader;
 use cut_core::Cut;
-use device_core::{FusedInlet, Inlet};
+use device_core::{FusedInlet, Inlet, MOST_READS};
 use std::alloc::Global;
 use std::io::{BufReader, Read};
 use transfer_commands::CommandFault;
@@ -31,7 +31,9 @@ pub(crate) fn judge_opened<R: Read + Drop>(
     cert: R,
 ) -> Result<Verdict, CommandFault>
     requires { IsOfSome cut.now found.now }
-    ensures { (project : List ℕ) (files : List (List ℕ)) (file bytes : List ℕ) → SaysCut project files None cut.now → IsFoundHeld cut.now file found.now → R.remaining cert ≡ Some bytes → JudgedComesTo project files file bytes result }
+    ensures { (project : List ℕ) (files : List (List ℕ)) (file bytes : List ℕ) → SaysCut project files None cut.now
+        → IsFoundHeld cut.now file found.now → R.remaining cert ≡ Some bytes
+        → JudgedComesTo project files file bytes result }
 {
     let fused = FusedInlet::new(cert, MOST_READS);
     let Ok(buffered) = BufReader::with_capacity(alloc, BLOCK, fused) else {
@@ -58,8 +60,14 @@ fn judge_by<R: Read>(
 ) -> Result<Verdict, Fault>
     requires of { IsOfSome cut.now found.now }
     requires ready { inlet_failures (cert_inlet cert.old) < 2 ^ 64 - 1 }
-    ensures found { (project : List ℕ) (files : List (List ℕ)) (file : List ℕ) → SaysCut project files None cut.now → IsFoundHeld cut.now file found.now → IfAccepted result (λ cost. IfSome (R.remaining (inlet_reader (cert_inlet cert.old))) (λ bytes. Accepts project files file bytes cost)) }
-    ensures rejected { (project : List ℕ) (files : List (List ℕ)) (file : List ℕ) → SaysCut project files None cut.now → IsFoundHeld cut.now file found.now → IfRejected result (λ reason. IfSome (R.remaining (inlet_reader (cert_inlet cert.old))) (λ bytes. RejectsFirst project files file bytes reason)) }
+    ensures found { (project : List ℕ) (files : List (List ℕ)) (file : List ℕ) → SaysCut project files None cut.now
+        → IsFoundHeld cut.now file found.now
+        → IfAccepted result (λ cost. IfSome (R.remaining (inlet_reader (cert_inlet cert.old)))
+        (λ bytes. Accepts project files file bytes cost)) }
+    ensures rejected { (project : List ℕ) (files : List (List ℕ)) (file : List ℕ) → SaysCut project files None cut.now
+        → IsFoundHeld cut.now file found.now
+        → IfRejected result (λ reason. IfSome (R.remaining (inlet_reader (cert_inlet cert.old)))
+        (λ bytes. RejectsFirst project files file bytes reason)) }
     ensures refused { IfErr result (λ fault. (fault ≡ Fault.ReadFailed) ⊎ (fault ≡ Fault.Memory)) }
 {
     match found {

@@ -30,7 +30,8 @@ pub(crate) fn find_master<F: Folder>(
 ) -> Result<Option<Found>, CommandFault>
     ensures same { F.file folder.new ≡ F.file folder.old }
     ensures told { F.is_told folder.new ≡ F.is_told folder.old }
-    ensures found { IfOk result (λ found. IsTrue (F.is_told folder.old) → FindsMaster (F.file folder.old) cut.now name.now found) }
+    ensures found { IfOk result (λ found. IsTrue (F.is_told folder.old)
+        → FindsMaster (F.file folder.old) cut.now name.now found) }
     ensures of { IfOk result (IsOfSome cut.now) }
     ensures fault { IfErr result IsUnread }
 {
@@ -63,7 +64,8 @@ fn find_by<R: Read>(
     requires inlet_ready { inlet_failures inlet.old < 2 ^ 64 - 1 }
     requires reads_low { inlet_reads inlet.old < 2 ^ 63 }
     requires given_low { inlet_given inlet.old < 2 ^ 63 }
-    ensures found { IfOk result (λ found. IfSome (R.remaining (inlet_reader inlet.old)) (λ left. IsFoundHeld cut.now left found)) }
+    ensures found { IfOk result (λ found. IfSome (R.remaining (inlet_reader inlet.old))
+        (λ left. IsFoundHeld cut.now left found)) }
     ensures of { IfOk result (IsOfSome cut.now) }
     ensures fault { IfErr result IsUnread }
 {

@@ -94,7 +94,8 @@ fn check_files<F: Folder>(
     master: &str,
     cert: &str,
 ) -> Result<Verdict, CommandFault>
-    ensures { IsTrue (F.is_told folder.old) → CheckComesTo project.now master.now cert.now (F.file folder.old) (F.file folder.new) result }
+    ensures { IsTrue (F.is_told folder.old)
+        → CheckComesTo project.now master.now cert.now (F.file folder.old) (F.file folder.new) result }
 {
     let sources = hear_sources(alloc, folder, project, MOST_KEPT)?;
     let cut = match cut_of(sources) {

@@ -23,9 +23,11 @@ pub(crate) fn cut_sources(
 ) -> Result<PlannedMaster, Fault>
     requires { IsOfTakes (splice_content sources.splice) (length (splice_content sources.splice).takes) sources.takes }
     // Of whichever project and files it was heard, it is cut of them, or refused as they are.
-    ensures found { (project : List ℕ) (files : List (List ℕ)) → AreHeardOf project files sources → IfOk result (Plans project files form) }
+    ensures found { (project : List ℕ) (files : List (List ℕ)) → AreHeardOf project files sources
+        → IfOk result (Plans project files form) }
     ensures planned { IfOk result IsPlanned }
-    ensures refused { (project : List ℕ) (files : List (List ℕ)) → AreHeardOf project files sources → IfErr result (λ fault. Fails Fault.Memory fault (said_cut project files (Some form))) }
+    ensures refused { (project : List ℕ) (files : List (List ℕ)) → AreHeardOf project files sources
+        → IfErr result (λ fault. Fails Fault.Memory fault (said_cut project files (Some form))) }
 {
     let Sources { splice, takes } = sources;
     plan_master(alloc, splice, takes?, form)
@@ -37,8 +39,10 @@ pub(crate) fn cut_sources(
 pub(crate) fn cut_of(sources: Sources) -> Result<Cut, Fault>
     requires { IsOfTakes (splice_content sources.splice) (length (splice_content sources.splice).takes) sources.takes }
     // Of whichever project and files it was heard, it is their cut, or refused as they are.
-    ensures found { (project : List ℕ) (files : List (List ℕ)) → AreHeardOf project files sources → IfOk result (SaysCut project files None) }
-    ensures refused { (project : List ℕ) (files : List (List ℕ)) → AreHeardOf project files sources → IfErr result (λ fault. Fails Fault.Memory fault (said_cut project files None)) }
+    ensures found { (project : List ℕ) (files : List (List ℕ)) → AreHeardOf project files sources
+        → IfOk result (SaysCut project files None) }
+    ensures refused { (project : List ℕ) (files : List (List ℕ)) → AreHeardOf project files sources
+        → IfErr result (λ fault. Fails Fault.Memory fault (said_cut project files None)) }
 {
     let Sources { splice, takes } = sources;
     cut_heard(splice, takes?, None)

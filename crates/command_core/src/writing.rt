@@ -26,8 +26,11 @@ pub(crate) fn write_master<F: Folder>(
     ensures same { IsSamePlan planned.old planned.new }
     ensures others { KeepsOthers name.now (F.file folder.old) (F.file folder.new) }
     ensures told { F.is_told folder.new ≡ F.is_told folder.old }
-    ensures bytes { (file : List ℕ) → IsFileOf planned.old file → OnOk result (IsTrue (F.is_told folder.old) → F.file folder.new name.now ≡ Some file) }
-    ensures refused { (file : List ℕ) → IsFileOf planned.old file → OnErr result (IsTrue (F.is_told folder.old) → IsFront (F.file folder.old name.now) (F.file folder.new name.now) file) }
+    ensures bytes { (file : List ℕ) → IsFileOf planned.old file
+        → OnOk result (IsTrue (F.is_told folder.old) → F.file folder.new name.now ≡ Some file) }
+    ensures refused { (file : List ℕ) → IsFileOf planned.old file
+        → OnErr result (IsTrue (F.is_told folder.old)
+        → IsFront (F.file folder.old name.now) (F.file folder.new name.now) file) }
     ensures fault { IfErr result (λ fault. fault ≡ faults.WriteFailed) }
 {
     let Ok(made) = create_before(folder, name, cert) else {
@@ -51,7 +54,8 @@ pub(crate) fn write_certificate<F: Folder>(
     ensures others { KeepsOthers name.now (F.file folder.old) (F.file folder.new) }
     ensures told { F.is_told folder.new ≡ F.is_told folder.old }
     ensures bytes { OnOk result (IsTrue (F.is_told folder.old) → CertifiesWhole planned (F.file folder.new name.now)) }
-    ensures refused { OnErr result (IsTrue (F.is_told folder.old) → CertifiesFront planned (F.file folder.old name.now) (F.file folder.new name.now)) }
+    ensures refused { OnErr result (IsTrue (F.is_told folder.old)
+        → CertifiesFront planned (F.file folder.old name.now) (F.file folder.new name.now)) }
     ensures fault { IfErr result (λ fault. fault ≡ faults.WriteFailed) }
 {
     planned.is_certifiable();
@@ -83,7 +87,9 @@ fn hand_back<F: Folder>(
     ensures told { F.is_told folder.new ≡ F.is_told folder.old }
     ensures whole { OnOk result (IsOk came) }
     ensures bytes { OnOk result (IsTrue (F.is_told folder.old) → F.file folder.new name.now ≡ F.Out.contents made) }
-    ensures refused { OnErr result (IsTrue (F.is_told folder.old) → (F.file folder.new name.now ≡ F.file folder.old name.now) ⊎ (IsErr came × (F.file folder.new name.now ≡ F.Out.contents made))) }
+    ensures refused { OnErr result (IsTrue (F.is_told folder.old)
+        → (F.file folder.new name.now ≡ F.file folder.old name.now)
+        ⊎ (IsErr came × (F.file folder.new name.now ≡ F.Out.contents made))) }
     ensures fault { IfErr result (λ fault. fault ≡ faults.WriteFailed) }
 {
     match came {

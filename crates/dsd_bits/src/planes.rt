@@ -71,7 +71,8 @@ pub fn planes_to_frames(frames: &mut [u8], planes: &[u8], channels: usize, count
     requires planes { block_bytes * channels ≤ length planes.now }
     ensures written { (c k : ℕ) → c < channels → k < count →
         slice_index frames.new (k * channels + c) ≡ slice_index planes.now (block_bytes * c + k) }
-    ensures others { (place : ℕ) → count * channels ≤ place → slice_index frames.new place ≡ slice_index frames.old place }
+    ensures others { (place : ℕ) → count * channels ≤ place
+        → slice_index frames.new place ≡ slice_index frames.old place }
 {
     match channels {
         1 => put_together::<1>(frames, planes, count),

@@ -22,7 +22,8 @@ pub(crate) fn append_range(
     requires in_source { stop ≤ length source.now }
     requires in_limit { before + (stop - start) ≤ most_bits }
     ensures tight { OnOk result (IsTight bytes.new.items (before + (stop - start))) }
-    ensures appended { OnOk result (unpacked bytes.new.items (before + (stop - start)) ≡ unpacked bytes.old.items before ++ slice_range source.now start stop) }
+    ensures appended { OnOk result (unpacked bytes.new.items (before + (stop - start))
+        ≡ unpacked bytes.old.items before ++ slice_range source.now start stop) }
     ensures err { OnErr result (bytes.new.items ≡ bytes.old.items) }
     ensures capacity { vec_capacity bytes.old ≤ vec_capacity bytes.new }
     ensures succeeds { before + (stop - start) ≤ 8 * vec_capacity bytes.old → IsOk result }
@@ -51,7 +52,8 @@ pub(crate) fn append_held(
     requires in_limit { before + (stop - start) ≤ most_bits }
     requires held { before + (stop - start) ≤ 8 * vec_capacity bytes.old }
     ensures tight { IsTight bytes.new.items (before + (stop - start)) }
-    ensures appended { unpacked bytes.new.items (before + (stop - start)) ≡ unpacked bytes.old.items before ++ slice_range source.now start stop }
+    ensures appended { unpacked bytes.new.items (before + (stop - start))
+        ≡ unpacked bytes.old.items before ++ slice_range source.now start stop }
     ensures capacity { vec_capacity bytes.old ≤ vec_capacity bytes.new }
 {
     match append_range(bytes, before, source, start, stop) {

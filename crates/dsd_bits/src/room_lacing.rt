@@ -56,7 +56,8 @@ fn lace_rooms(to: &mut [u8], rooms: &[BitRoom])
 pub fn push_blocked_rooms(out: &mut Vec<u8>, rooms: &[BitRoom], order: BitOrder)
     requires channel_number { (1 ≤ length rooms.now) × (length rooms.now ≤ 6) }
     requires level { IsLevel (rooms_bits rooms.now) }
-    requires held { vec_len out.old + blocks_size (length rooms.now) (count_of (rooms_bits rooms.now)) ≤ vec_capacity out.old }
+    requires held { vec_len out.old + blocks_size (length rooms.now) (count_of (rooms_bits rooms.now))
+        ≤ vec_capacity out.old }
     ensures text { out.new.items ≡ out.old.items ++ blocked order (rooms_bits rooms.now) }
     ensures capacity { vec_capacity out.old ≤ vec_capacity out.new }
 {

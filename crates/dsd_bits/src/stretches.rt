@@ -21,7 +21,8 @@ pub fn stretches_of(
     channels: &[Bits],
     ranges: &[BitRange],
 ) -> Result<Vec<Vec<Bits>>, AllocError>
-    ensures { IfOk result (λ made. map (λ stretch. stretch.items) made.items ≡ specs.stretches_of channels.now ranges.now) }
+    ensures { IfOk result (λ made. map (λ stretch. stretch.items) made.items
+        ≡ specs.stretches_of channels.now ranges.now) }
 {
     let mut made = Vec::new(alloc);
     for k in 0..ranges.len() {

@@ -60,7 +60,8 @@ pub(crate) fn chunks_around(
 fn later_chunks(alloc: Global, front: &[u8], back: &[u8]) -> Result<Vec<Span>, DsdiffFault>
     requires long { 28 ≤ length front.now }
     requires fits { length front.now + size_at front.now (length front.now - 12) ≤ 12 + form_size front.now }
-    ensures exact { Gives (λ v. v.items) result (later_of front.now (size_at front.now (length front.now - 12)) back.now) }
+    ensures exact { Gives (λ v. v.items) result
+        (later_of front.now (size_at front.now (length front.now - 12)) back.now) }
     ensures inside { IfOk result (λ v. All (StandsIn back.now) v.items) }
 {
     let left = left_behind(front);

@@ -31,7 +31,8 @@ pub fn bytes_behind(front: &[u8]) -> u64
 /// It fails for want of memory alone.
 pub fn closes(alloc: Global, front: &[u8], back: &[u8]) -> Result<bool, AllocError>
     requires { EndsAtSound front.now }
-    ensures { (s : Sound) → EndsAt front.now s → IfOk result (λ b. (b ≡ true) ↔ IsAccepted (front.now ++ (replicate s.size 0 ++ back.now))) }
+    ensures { (s : Sound) → EndsAt front.now s → IfOk result (λ b. (b ≡ true)
+        ↔ IsAccepted (front.now ++ (replicate s.size 0 ++ back.now))) }
 {
     answer(alloc, front, back)
 }
@@ -69,7 +70,8 @@ fn outline_in_order(
 ) -> Result<Option<Recording>, AllocError>
     requires long { 28 ≤ length front.now }
     requires fits { length front.now + size_at front.now (length front.now - 12) ≤ 12 + form_size front.now }
-    ensures { IfOk result (λ o. o ≡ result_ok (outline_of front.now (size_at front.now (length front.now - 12)) back.now)) }
+    ensures { IfOk result (λ o. o ≡ result_ok
+        (outline_of front.now (size_at front.now (length front.now - 12)) back.now)) }
 {
     match read_outline(alloc, front, back) {
         Ok(recording) => Ok(Some(recording)),

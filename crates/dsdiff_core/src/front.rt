@@ -25,8 +25,10 @@ use std::alloc::{AllocError, Global};
 ///
 /// It fails for want of memory alone.
 pub fn sound_at(alloc: Global, front: &[u8]) -> Result<SoundAt, AllocError>
-    ensures found { IfOk result (λ x. IfFound x (λ s. (rest : List ℕ) (r : Content) → IsDsdiff (front.now ++ rest) r → HasSound (front.now ++ rest) r s)) }
-    ensures limits { IfOk result (λ x. IfFound x (λ s. IsSound s × (s.interleaving ≡ Interleaving.Bytes) × (s.count % 8 ≡ 0))) }
+    ensures found { IfOk result (λ x. IfFound x (λ s. (rest : List ℕ) (r : Content) → IsDsdiff (front.now ++ rest) r
+        → HasSound (front.now ++ rest) r s)) }
+    ensures limits { IfOk result (λ x. IfFound x (λ s. IsSound s × (s.interleaving ≡ Interleaving.Bytes)
+        × (s.count % 8 ≡ 0))) }
     ensures within { IfOk result (λ x. IfFound x (λ s. s.start ≤ length front.now)) }
     ensures refused { IfOk result (λ x. IfRefused x ((rest : List ℕ) → IsAccepted (front.now ++ rest) → ⊥)) }
     ensures more { IfOk result (λ x. IfMore x (HoldsHead front.now → ⊥)) }

@@ -42,7 +42,8 @@ pub(crate) fn push_kept(
     spans: &[Span],
 ) -> Result<(), AllocError>
     requires { All (StandsIn file.now) spans.now }
-    ensures { OnOk result (map other_content others.new.items ≡ map other_content others.old.items ++ kept place (map (span_chunk file.now) spans.now)) }
+    ensures { OnOk result (map other_content others.new.items
+        ≡ map other_content others.old.items ++ kept place (map (span_chunk file.now) spans.now)) }
 {
     for span in spans {
         if !is_read(place, file, *span) {

@@ -55,7 +55,8 @@ fn read_marks_around(
     around: &ChunksAround,
 ) -> Result<Vec<Mark>, AllocError>
     requires { StandAround front.now back.now (around_of around.now) }
-    ensures marks { IfOk result (λ v. map mark_content v.items ≡ marks_around front.now back.now (around_of around.now)) }
+    ensures marks { IfOk result (λ v. map mark_content v.items
+        ≡ marks_around front.now back.now (around_of around.now)) }
     ensures short { IfOk result (λ v. All (λ mark. length mark.text.items < 2 ^ 32) v.items) }
 {
     let mut marks = read_marks(alloc, front, &around.early)?;
@@ -74,7 +75,8 @@ fn keep_around(
 ) -> Result<Vec<Other>, AllocError>
     requires parts { All (StandsIn front.now) parts.now }
     requires around { StandAround front.now back.now (around_of around.now) }
-    ensures { IfOk result (λ v. map other_content v.items ≡ others_around front.now back.now parts.now (around_of around.now)) }
+    ensures { IfOk result (λ v. map other_content v.items
+        ≡ others_around front.now back.now parts.now (around_of around.now)) }
 {
     let mut others = Vec::new(alloc);
     push_kept(alloc, &mut others, Place::Property, front, parts)?;

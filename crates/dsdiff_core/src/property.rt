@@ -65,7 +65,9 @@ fn read_fields(
     names: Option<&[u8]>,
     kinds: Option<&[u8]>,
 ) -> Result<(u32, Vec<[u8; 4]>), DsdiffFault>
-    ensures exact { Gives (λ x. (x.0, x.1.items)) result (fields_of (option_map (λ x. x.now) rates.entry) (option_map (λ x. x.now) names.entry) (option_map (λ x. x.now) kinds.entry)) }
+    ensures exact { Gives (λ x. (x.0, x.1.items)) result
+        (fields_of (option_map (λ x. x.now) rates.entry) (option_map (λ x. x.now) names.entry)
+        (option_map (λ x. x.now) kinds.entry)) }
     ensures rate { IfOk result (λ x. IsRate x.0) }
     ensures number { IfOk result (λ x. (1 ≤ length x.1.items) × (length x.1.items ≤ 6)) }
 {

@@ -23,7 +23,8 @@ pub(crate) fn find_sound<'a>(
 ) -> Result<&'a [u8], DsdiffFault>
     requires inside { All (StandsIn file.now) top.now }
     requires some { 1 ≤ number }
-    ensures exact { Gives (λ x. x.now) result (sound_of (sound_leads (map (span_chunk file.now) top.now)) (data_with file.now DSD top.now) number) }
+    ensures exact { Gives (λ x. x.now) result
+        (sound_of (sound_leads (map (span_chunk file.now) top.now)) (data_with file.now DSD top.now) number) }
     ensures in_limit { IfOk result (λ x. 8 * (length x.now / number) ≤ most_bits) }
     ensures whole { IfOk result (λ x. length x.now % number ≡ 0) }
 {

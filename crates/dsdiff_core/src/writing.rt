@@ -150,7 +150,8 @@ fn channels_data(alloc: Global, ids: &[[u8; 4]]) -> Result<Vec<u8>, AllocError>
 // Appends the edited master, which is left out where it would hold nothing.
 fn push_master(alloc: Global, out: &mut Vec<u8>, recording: &Recording) -> Result<(), AllocError>
     requires { HasShape recording.now }
-    ensures { OnOk result (out.new.items ≡ out.old.items ++ flat_map spell (edited_master (master_chunks recording.now))) }
+    ensures { OnOk result (out.new.items
+        ≡ out.old.items ++ flat_map spell (edited_master (master_chunks recording.now))) }
 {
     let master = master_data(alloc, recording)?;
     if !master.is_empty() {
@@ -203,7 +204,8 @@ fn mark_data(alloc: Global, mark: &Mark) -> Result<Vec<u8>, AllocError>
 
 // Appends the chunks of a place that are kept as their bytes.
 fn push_others(out: &mut Vec<u8>, others: &[Other], place: Place) -> Result<(), AllocError>
-    ensures { OnOk result (out.new.items ≡ out.old.items ++ flat_map spell (others_of place (map other_content others.now))) }
+    ensures { OnOk result (out.new.items
+        ≡ out.old.items ++ flat_map spell (others_of place (map other_content others.now))) }
 {
     for other in others {
         if stands_at(other, place) {

@@ -100,7 +100,8 @@ fn spots_from(spot: Spot, step: usize) -> Spots
     ensures three { IsSpot step (spot.p + 2) result.three.window result.three.place }
     ensures four { IsSpot step (spot.p + 3) result.four.window result.four.place }
     ensures places { (result.two.p ≡ spot.p + 1) × (result.three.p ≡ spot.p + 2) × (result.four.p ≡ spot.p + 3) }
-    ensures order { (spot.window ≤ result.two.window) × (result.two.window ≤ result.three.window) × (result.three.window ≤ result.four.window) }
+    ensures order { (spot.window ≤ result.two.window) × (result.two.window ≤ result.three.window)
+        × (result.three.window ≤ result.four.window) }
     ensures to { result.four.window ≤ spot.window + 3 }
 {
     let p = spot.p;
@@ -196,13 +197,16 @@ fn four_of<'a>(
     requires two { IsSpot rows.step (spots.one.p + 1) spots.two.window spots.two.place }
     requires three { IsSpot rows.step (spots.one.p + 2) spots.three.window spots.three.place }
     requires four { IsSpot rows.step (spots.one.p + 3) spots.four.window spots.four.place }
-    requires places { (spots.two.p ≡ spots.one.p + 1) × (spots.three.p ≡ spots.one.p + 2) × (spots.four.p ≡ spots.one.p + 3) }
-    requires order { (spots.one.window ≤ spots.two.window) × (spots.two.window ≤ spots.three.window) × (spots.three.window ≤ spots.four.window) }
+    requires places { (spots.two.p ≡ spots.one.p + 1) × (spots.three.p ≡ spots.one.p + 2)
+        × (spots.four.p ≡ spots.one.p + 3) }
+    requires order { (spots.one.window ≤ spots.two.window) × (spots.two.window ≤ spots.three.window)
+        × (spots.three.window ≤ spots.four.window) }
     requires within { spots.one.p + 4 ≤ length bytes.now }
     requires reached { spots.four.window < start + rows.span }
     requires near { start ≤ spots.one.window + 8 }
     requires last { start + number ≤ spots.one.window + 9 }
-    ensures { IsBlock taps.now bytes.now rows.entry.step spots.one.p start number result.one.now result.two.now result.three.now result.four.now }
+    ensures { IsBlock taps.now bytes.now rows.entry.step spots.one.p start number result.one.now result.two.now
+        result.three.now result.four.now }
 {
     Four {
         one: row_part(taps, rows, bytes, spots.one, start, number),
@@ -238,8 +242,11 @@ fn block_of<'a>(taps: &[i32], rows: Laid<'a>, bytes: &[u8], spot: Spot, limit: u
     ensures limit { result.start + result.number ≤ limit }
     ensures done { (j : ℕ) → j < result.start → length taps.now / 8 + j * rows.entry.step ≤ spot.p }
     ensures rest { (j : ℕ) → result.start + result.number ≤ j → j < limit → spot.p + 8 ≤ j * rows.entry.step }
-    ensures front { IsBlock taps.now bytes.now result.step result.p result.start result.number result.front.one.now result.front.two.now result.front.three.now result.front.four.now }
-    ensures back { IsBlock taps.now bytes.now result.step (result.p + 4) result.start result.number result.back.one.now result.back.two.now result.back.three.now result.back.four.now }
+    ensures front { IsBlock taps.now bytes.now result.step result.p result.start result.number result.front.one.now
+        result.front.two.now result.front.three.now result.front.four.now }
+    ensures back { IsBlock taps.now bytes.now result.step
+        (result.p + 4) result.start result.number result.back.one.now result.back.two.now result.back.three.now
+        result.back.four.now }
     ensures next { result.next.p ≡ spot.p + 8 }
     ensures spot { IsSpot rows.entry.step result.next.p result.next.window result.next.place }
 {
@@ -272,7 +279,8 @@ fn add_byte(source: Source<'_>, p: usize, j: usize, entry: i32, sum: i32) -> i32
 
 /// The first four bytes of a run in the sum of window `j`, one of its windows.
 fn add_bytes(source: Source<'_>, run: Run, four: Four<'_>, j: usize, sum: i32) -> i32
-    requires rows { IsBlock source.taps.now source.bytes.now source.step run.p run.start run.number four.one.now four.two.now four.three.now four.four.now }
+    requires rows { IsBlock source.taps.now source.bytes.now source.step run.p run.start run.number four.one.now
+        four.two.now four.three.now four.four.now }
     requires from { run.start ≤ j }
     requires to { j < run.start + run.number }
     requires so_far { sum ≡ sum_before source.taps.now source.bytes.now source.step run.p j }
@@ -292,7 +300,8 @@ fn add_row(source: Source<'_>, p: usize, j: usize, entries: &[i32], k: usize, su
     requires small { sum_by unsigned_abs source.taps.now ≤ 2 ^ 30 }
     requires within { p < length source.bytes.now }
     requires inside { k + 8 ≤ length entries.now }
-    requires entries { (l : ℕ) → l < 8 → slice_index_or entries.now (k + l) (pos 0) ≡ entry_of source.taps.now source.bytes.now source.step p (j + l) }
+    requires entries { (l : ℕ) → l < 8 → slice_index_or entries.now (k + l) (pos 0)
+        ≡ entry_of source.taps.now source.bytes.now source.step p (j + l) }
     requires so_far { AreSums source.taps.now source.bytes.now source.step p j sums }
     ensures { AreSums source.entry.taps.now source.entry.bytes.now source.entry.step (p + 1) j result }
 {
@@ -302,7 +311,8 @@ fn add_row(source: Source<'_>, p: usize, j: usize, entries: &[i32], k: usize, su
 /// The first four bytes of a run in the sums of eight of its windows from window `j` on.
 #[inline(always)]
 fn add_rows(source: Source<'_>, run: Run, four: Four<'_>, j: usize, sums: i32x8) -> i32x8
-    requires rows { IsBlock source.taps.now source.bytes.now source.step run.p run.start run.number four.one.now four.two.now four.three.now four.four.now }
+    requires rows { IsBlock source.taps.now source.bytes.now source.step run.p run.start run.number four.one.now
+        four.two.now four.three.now four.four.now }
     requires from { run.start ≤ j }
     requires to { j + 8 ≤ run.start + run.number }
     requires so_far { AreSums source.taps.now source.bytes.now source.step run.p j sums }
@@ -318,8 +328,11 @@ fn add_rows(source: Source<'_>, run: Run, four: Four<'_>, j: usize, sums: i32x8)
 
 /// Eight bytes in the sum of window `j`.
 fn add_one(taps: &[i32], bytes: &[u8], block: Block<'_>, j: usize, sum: i32) -> i32
-    requires front { IsBlock taps.now bytes.now block.step block.p block.start block.number block.front.one.now block.front.two.now block.front.three.now block.front.four.now }
-    requires back { IsBlock taps.now bytes.now block.step (block.p + 4) block.start block.number block.back.one.now block.back.two.now block.back.three.now block.back.four.now }
+    requires front { IsBlock taps.now bytes.now block.step block.p block.start block.number block.front.one.now
+        block.front.two.now block.front.three.now block.front.four.now }
+    requires back { IsBlock taps.now bytes.now block.step
+        (block.p + 4) block.start block.number block.back.one.now block.back.two.now block.back.three.now
+        block.back.four.now }
     requires from { block.start ≤ j }
     requires to { j < block.start + block.number }
     requires so_far { sum ≡ sum_before taps.now bytes.now block.step block.p j }
@@ -347,16 +360,23 @@ fn add_one(taps: &[i32], bytes: &[u8], block: Block<'_>, j: usize, sum: i32) -> 
 /// Eight bytes in the sums of eight windows from window `j` on, as one vector.
 #[inline(always)]
 fn add_eight(taps: &[i32], bytes: &[u8], block: Block<'_>, j: usize, sums: &mut [i32])
-    requires front { IsBlock taps.now bytes.now block.step block.p block.start block.number block.front.one.now block.front.two.now block.front.three.now block.front.four.now }
-    requires back { IsBlock taps.now bytes.now block.step (block.p + 4) block.start block.number block.back.one.now block.back.two.now block.back.three.now block.back.four.now }
+    requires front { IsBlock taps.now bytes.now block.step block.p block.start block.number block.front.one.now
+        block.front.two.now block.front.three.now block.front.four.now }
+    requires back { IsBlock taps.now bytes.now block.step
+        (block.p + 4) block.start block.number block.back.one.now block.back.two.now block.back.three.now
+        block.back.four.now }
     requires from { block.start ≤ j }
     requires to { j + 8 ≤ block.start + block.number }
     requires inside { j + 8 ≤ length sums.old }
-    requires done { (k : ℕ) → k < j → slice_index_or sums.old k (pos 0) ≡ sum_before taps.now bytes.now block.step (block.p + 8) k }
-    requires rest { EachIndex sums.old (λ k. j ≤ k → slice_index_or sums.old k (pos 0) ≡ sum_before taps.now bytes.now block.step block.p k) }
+    requires done { (k : ℕ) → k < j → slice_index_or sums.old k (pos 0)
+        ≡ sum_before taps.now bytes.now block.step (block.p + 8) k }
+    requires rest { EachIndex sums.old (λ k. j ≤ k
+        → slice_index_or sums.old k (pos 0) ≡ sum_before taps.now bytes.now block.step block.p k) }
     ensures len { length sums.new ≡ length sums.old }
-    ensures done { (k : ℕ) → k < j + 8 → slice_index_or sums.new k (pos 0) ≡ sum_before taps.now bytes.now block.entry.step (block.entry.p + 8) k }
-    ensures rest { EachIndex sums.new (λ k. j + 8 ≤ k → slice_index_or sums.new k (pos 0) ≡ sum_before taps.now bytes.now block.entry.step block.entry.p k) }
+    ensures done { (k : ℕ) → k < j + 8 → slice_index_or sums.new k (pos 0)
+        ≡ sum_before taps.now bytes.now block.entry.step (block.entry.p + 8) k }
+    ensures rest { EachIndex sums.new (λ k. j + 8 ≤ k
+        → slice_index_or sums.new k (pos 0) ≡ sum_before taps.now bytes.now block.entry.step block.entry.p k) }
 {
     let source = Source {
         taps,
@@ -383,14 +403,21 @@ fn add_eight(taps: &[i32], bytes: &[u8], block: Block<'_>, j: usize, sums: &mut 
 /// that its loop knows no more of the rows than where they begin.
 #[inline(never)]
 fn add_eights(taps: &[i32], bytes: &[u8], block: Block<'_>, sums: &mut [i32])
-    requires front { IsBlock taps.now bytes.now block.step block.p block.start block.number block.front.one.now block.front.two.now block.front.three.now block.front.four.now }
-    requires back { IsBlock taps.now bytes.now block.step (block.p + 4) block.start block.number block.back.one.now block.back.two.now block.back.three.now block.back.four.now }
+    requires front { IsBlock taps.now bytes.now block.step block.p block.start block.number block.front.one.now
+        block.front.two.now block.front.three.now block.front.four.now }
+    requires back { IsBlock taps.now bytes.now block.step
+        (block.p + 4) block.start block.number block.back.one.now block.back.two.now block.back.three.now
+        block.back.four.now }
     requires inside { block.start + block.number ≤ length sums.old }
-    requires done { (k : ℕ) → k < block.start → slice_index_or sums.old k (pos 0) ≡ sum_before taps.now bytes.now block.step (block.p + 8) k }
-    requires rest { EachIndex sums.old (λ k. block.start ≤ k → slice_index_or sums.old k (pos 0) ≡ sum_before taps.now bytes.now block.step block.p k) }
+    requires done { (k : ℕ) → k < block.start
+        → slice_index_or sums.old k (pos 0) ≡ sum_before taps.now bytes.now block.step (block.p + 8) k }
+    requires rest { EachIndex sums.old (λ k. block.start ≤ k
+        → slice_index_or sums.old k (pos 0) ≡ sum_before taps.now bytes.now block.step block.p k) }
     ensures len { length sums.new ≡ length sums.old }
-    ensures done { (k : ℕ) → k < block.entry.start + 8 * (block.entry.number / 8) → slice_index_or sums.new k (pos 0) ≡ sum_before taps.now bytes.now block.entry.step (block.entry.p + 8) k }
-    ensures rest { EachIndex sums.new (λ k. block.entry.start + 8 * (block.entry.number / 8) ≤ k → slice_index_or sums.new k (pos 0) ≡ sum_before taps.now bytes.now block.entry.step block.entry.p k) }
+    ensures done { (k : ℕ) → k < block.entry.start + 8 * (block.entry.number / 8)
+        → slice_index_or sums.new k (pos 0) ≡ sum_before taps.now bytes.now block.entry.step (block.entry.p + 8) k }
+    ensures rest { EachIndex sums.new (λ k. block.entry.start + 8 * (block.entry.number / 8) ≤ k
+        → slice_index_or sums.new k (pos 0) ≡ sum_before taps.now bytes.now block.entry.step block.entry.p k) }
 {
     for turn in 0..block.number / 8 {
         add_eight(taps, bytes, block, block.start + 8 * turn, sums);
@@ -401,14 +428,21 @@ fn add_eights(taps: &[i32], bytes: &[u8], block: Block<'_>, sums: &mut [i32])
 /// any.
 #[inline(never)]
 fn add_rest(taps: &[i32], bytes: &[u8], block: Block<'_>, sums: &mut [i32])
-    requires front { IsBlock taps.now bytes.now block.step block.p block.start block.number block.front.one.now block.front.two.now block.front.three.now block.front.four.now }
-    requires back { IsBlock taps.now bytes.now block.step (block.p + 4) block.start block.number block.back.one.now block.back.two.now block.back.three.now block.back.four.now }
+    requires front { IsBlock taps.now bytes.now block.step block.p block.start block.number block.front.one.now
+        block.front.two.now block.front.three.now block.front.four.now }
+    requires back { IsBlock taps.now bytes.now block.step
+        (block.p + 4) block.start block.number block.back.one.now block.back.two.now block.back.three.now
+        block.back.four.now }
     requires inside { block.start + block.number ≤ length sums.old }
-    requires done { (k : ℕ) → k < block.start + 8 * (block.number / 8) → slice_index_or sums.old k (pos 0) ≡ sum_before taps.now bytes.now block.step (block.p + 8) k }
-    requires rest { EachIndex sums.old (λ k. block.start + 8 * (block.number / 8) ≤ k → slice_index_or sums.old k (pos 0) ≡ sum_before taps.now bytes.now block.step block.p k) }
+    requires done { (k : ℕ) → k < block.start + 8 * (block.number / 8)
+        → slice_index_or sums.old k (pos 0) ≡ sum_before taps.now bytes.now block.step (block.p + 8) k }
+    requires rest { EachIndex sums.old (λ k. block.start + 8 * (block.number / 8) ≤ k
+        → slice_index_or sums.old k (pos 0) ≡ sum_before taps.now bytes.now block.step block.p k) }
     ensures len { length sums.new ≡ length sums.old }
-    ensures done { (k : ℕ) → k < block.entry.start + block.entry.number → slice_index_or sums.new k (pos 0) ≡ sum_before taps.now bytes.now block.entry.step (block.entry.p + 8) k }
-    ensures rest { EachIndex sums.new (λ k. block.entry.start + block.entry.number ≤ k → slice_index_or sums.new k (pos 0) ≡ sum_before taps.now bytes.now block.entry.step block.entry.p k) }
+    ensures done { (k : ℕ) → k < block.entry.start + block.entry.number
+        → slice_index_or sums.new k (pos 0) ≡ sum_before taps.now bytes.now block.entry.step (block.entry.p + 8) k }
+    ensures rest { EachIndex sums.new (λ k. block.entry.start + block.entry.number ≤ k
+        → slice_index_or sums.new k (pos 0) ≡ sum_before taps.now bytes.now block.entry.step block.entry.p k) }
 {
     for j in block.start + 8 * (block.number / 8)..block.start + block.number {
         sums[j] = add_one(taps, bytes, block, j, sums[j]);
@@ -423,9 +457,11 @@ fn add_block(taps: &[i32], rows: Laid<'_>, bytes: &[u8], spot: Spot, sums: &mut 
     requires eights { spot.p % 8 ≡ 0 }
     requires within { spot.p + 8 ≤ length bytes.now }
     requires reached { spot.p + 8 + rows.step ≤ length sums.old * rows.step + length taps.now / 8 }
-    requires so_far { EachIndex sums.old (λ j. slice_index_or sums.old j (pos 0) ≡ sum_before taps.now bytes.now rows.step spot.p j) }
+    requires so_far { EachIndex sums.old (λ j. slice_index_or sums.old j (pos 0)
+        ≡ sum_before taps.now bytes.now rows.step spot.p j) }
     ensures len { length sums.new ≡ length sums.old }
-    ensures sums { EachIndex sums.new (λ j. slice_index_or sums.new j (pos 0) ≡ sum_before taps.now bytes.now rows.entry.step (spot.p + 8) j) }
+    ensures sums { EachIndex sums.new (λ j. slice_index_or sums.new j (pos 0)
+        ≡ sum_before taps.now bytes.now rows.entry.step (spot.p + 8) j) }
     ensures next { result.p ≡ spot.p + 8 }
     ensures spot { IsSpot rows.entry.step result.p result.window result.place }
 {
@@ -445,9 +481,11 @@ fn add_last(taps: &[i32], rows: Laid<'_>, bytes: &[u8], spot: Spot, sums: &mut [
     requires spot { IsSpot rows.step spot.p spot.window spot.place }
     requires within { spot.p < length bytes.now }
     requires reached { spot.p + 1 + rows.step ≤ length sums.old * rows.step + length taps.now / 8 }
-    requires so_far { EachIndex sums.old (λ j. slice_index_or sums.old j (pos 0) ≡ sum_before taps.now bytes.now rows.step spot.p j) }
+    requires so_far { EachIndex sums.old (λ j. slice_index_or sums.old j (pos 0)
+        ≡ sum_before taps.now bytes.now rows.step spot.p j) }
     ensures len { length sums.new ≡ length sums.old }
-    ensures sums { EachIndex sums.new (λ j. slice_index_or sums.new j (pos 0) ≡ sum_before taps.now bytes.now rows.entry.step (spot.p + 1) j) }
+    ensures sums { EachIndex sums.new (λ j. slice_index_or sums.new j (pos 0)
+        ≡ sum_before taps.now bytes.now rows.entry.step (spot.p + 1) j) }
     ensures next { result.p ≡ spot.p + 1 }
     ensures spot { IsSpot rows.entry.step result.p result.window result.place }
 {

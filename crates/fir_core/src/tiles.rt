@@ -194,7 +194,8 @@ pub(crate) fn push_samples(
     requires reach { number * taps.now.factor + first ≤ 2 ^ 37 }
     requires tables { tables.now ≡ aligned taps.now.taps taps.now.delay }
     requires phase { first % 8 ≡ taps.now.delay % 8 }
-    ensures ok { OnOk result (out.new.items ≡ out.old.items ++ samples_from taps.now (unpacked bytes.now count) first number) }
+    ensures ok { OnOk result (out.new.items
+        ≡ out.old.items ++ samples_from taps.now (unpacked bytes.now count) first number) }
     ensures err { OnErr result (out.new.items ≡ out.old.items) }
 {
     let before = out.len();

@@ -18,7 +18,8 @@ fn add_row<const N: usize>(near: &mut [[i32; 8]; N], row: &[i32])
     requires long { 8 * N ≤ length row.now }
     requires small { (c : ℕ) → c < 8 * N → unsigned_abs (slice_index_or row.now c (pos 0)) ≤ 2 ^ 30 }
     ensures len { length near.new ≡ N }
-    ensures sums { (f : ℕ → ℤ) → AreNear N f near.old → AreNear N (λ c. f c +ℤ slice_index_or row.now c (pos 0)) near.new }
+    ensures sums { (f : ℕ → ℤ) → AreNear N f near.old
+        → AreNear N (λ c. f c +ℤ slice_index_or row.now c (pos 0)) near.new }
 {
     for k in 0..N {
         near[k] = (i32x8::from_array(near[k]) + i32x8::from_slice(&row[8 * k..])).to_array();
@@ -38,7 +39,8 @@ fn last_columns<'a>(
     requires place { place < rows.step }
     requires few { number ≤ rows.span }
     ensures len { length result.now ≡ number }
-    ensures each { (c : ℕ) → c < number → slice_index_or result.now c (pos 0) ≡ last_group taps.now (groups_at rows.entry.step rows.entry.span place (rows.entry.span - number + c)) byte }
+    ensures each { (c : ℕ) → c < number → slice_index_or result.now c (pos 0)
+        ≡ last_group taps.now (groups_at rows.entry.step rows.entry.span place (rows.entry.span - number + c)) byte }
     ensures small { (c : ℕ) → c < number → unsigned_abs (slice_index_or result.now c (pos 0)) ≤ 2 ^ 30 }
 {
     let row = 4 + (256 * place + byte as usize) * (rows.span + 8);
@@ -60,7 +62,9 @@ fn add_step<const N: usize>(
     requires span { 8 * N ≤ rows.span }
     requires within { u * rows.step + rows.step ≤ length bytes.now }
     ensures len { length near.new ≡ N }
-    ensures sums { (f : ℕ → ℤ) → AreNear N f near.old → AreNear N (λ c. f c +ℤ step_at taps.now bytes.now rows.entry.step rows.entry.span u (rows.entry.span - 8 * N + c)) near.new }
+    ensures sums { (f : ℕ → ℤ) → AreNear N f near.old
+        → AreNear N (λ c. f c +ℤ step_at taps.now bytes.now rows.entry.step rows.entry.span u
+        (rows.entry.span - 8 * N + c)) near.new }
 {
     let first = u * rows.step;
     for place in 0..rows.step {
@@ -76,7 +80,8 @@ fn add_step<const N: usize>(
 fn moved<const N: usize>(near: [[i32; 8]; N]) -> [[i32; 8]; N]
     requires some { 1 ≤ N }
     requires few { N ≤ 128 }
-    ensures { (f : ℕ → ℤ) → AreNear N f near.entry → ((c : ℕ) → 8 * N ≤ c → f c ≡ pos 0) → AreNear N (λ c. f (c + 8)) result }
+    ensures { (f : ℕ → ℤ) → AreNear N f near.entry → ((c : ℕ) → 8 * N ≤ c → f c ≡ pos 0)
+        → AreNear N (λ c. f (c + 8)) result }
 {
     let mut moved = [[0; 8]; N];
     for k in 0..N - 1 {
@@ -91,7 +96,9 @@ fn add_eight(near: [i32; 8], sums: &mut [i32], at: usize)
     requires eight { length near ≡ 8 }
     requires inside { at + 8 ≤ length sums.old }
     ensures len { length sums.new ≡ length sums.old }
-    ensures added { (l : ℕ) → l < 8 → (x y : ℤ) → slice_index_or near l (pos 0) ≡ int_wrap w32 y → slice_index_or sums.old (at + l) (pos 0) ≡ int_wrap w32 x → slice_index_or sums.new (at + l) (pos 0) ≡ int_wrap w32 (x +ℤ y) }
+    ensures added { (l : ℕ) → l < 8 → (x y : ℤ) → slice_index_or near l (pos 0) ≡ int_wrap w32 y
+        → slice_index_or sums.old (at + l) (pos 0) ≡ int_wrap w32 x
+        → slice_index_or sums.new (at + l) (pos 0) ≡ int_wrap w32 (x +ℤ y) }
     ensures before { (i : ℕ) → i < at → slice_index_or sums.new i (pos 0) ≡ slice_index_or sums.old i (pos 0) }
     ensures behind { (i : ℕ) → at + 8 ≤ i → slice_index_or sums.new i (pos 0) ≡ slice_index_or sums.old i (pos 0) }
 {
@@ -111,7 +118,10 @@ fn add_turn<const N: usize>(taps: &[i32], rows: Laid<'_>, bytes: &[u8], s: usize
     requires room { 8 ≤ length sums.old }
     requires enough { (8 * (length sums.old / 8 + N) - 16) * rows.step ≤ length bytes.now }
     ensures len { length sums.new ≡ length sums.old }
-    ensures added { (i : ℕ) → s ≤ i → i + 8 < s + 8 * (length sums.old / 8) → (x : ℤ) → slice_index_or sums.old i (pos 0) ≡ int_wrap w32 x → slice_index_or sums.new i (pos 0) ≡ int_wrap w32 (x +ℤ turn_sum taps.now bytes.now rows.entry.step rows.entry.span N s i) }
+    ensures added { (i : ℕ) → s ≤ i → i + 8 < s + 8 * (length sums.old / 8) → (x : ℤ)
+        → slice_index_or sums.old i (pos 0) ≡ int_wrap w32 x
+        → slice_index_or sums.new i (pos 0)
+        ≡ int_wrap w32 (x +ℤ turn_sum taps.now bytes.now rows.entry.step rows.entry.span N s i) }
 {
     let mut near = [[0; 8]; N];
     for early in 0..N - 1 {
@@ -137,7 +147,8 @@ fn add_turns<const N: usize>(taps: &[i32], rows: Laid<'_>, bytes: &[u8], sums: &
     requires enough { (8 * (length sums.old / 8 + N) - 16) * rows.step ≤ length bytes.now }
     requires zeros { EachIndex sums.old (λ i. slice_index_or sums.old i (pos 0) ≡ pos 0) }
     ensures len { length sums.new ≡ length sums.old }
-    ensures sums { (j : ℕ) → j + 15 < 8 * (length sums.old / 8) → slice_index_or sums.new (j + 7) (pos 0) ≡ window_sum taps.now bytes.now (j * rows.entry.step) }
+    ensures sums { (j : ℕ) → j + 15 < 8 * (length sums.old / 8)
+        → slice_index_or sums.new (j + 7) (pos 0) ≡ window_sum taps.now bytes.now (j * rows.entry.step) }
 {
     for s in 0..8 {
         add_turn::<N>(taps, rows, bytes, s, sums);

@@ -19,7 +19,8 @@ pub fn first_off_so_far(
 ) -> Option<usize>
     requires channel { channel < channel_number cut.now }
     requires inside { done + length part.now ≤ master_length cut.now.splice.cues }
-    ensures { (before : List Bool) → length before ≡ done → TellsOff cut.now channel before first → TellsOff cut.now channel (before ++ part.now) result }
+    ensures { (before : List Bool) → length before ≡ done → TellsOff cut.now channel before first
+        → TellsOff cut.now channel (before ++ part.now) result }
 {
     match first {
         Some(place) => Some(place),
@@ -84,7 +85,8 @@ fn alike_bits(part: &Bits, at: usize, cue: &Bits, own: usize, most: usize) -> us
     requires part { at + most ≤ length part.now }
     requires cue { own + most ≤ length cue.now }
     ensures few { result ≤ most }
-    ensures alike { (k : ℕ) → k < result → slice_index_or part.now (at + k) false ≡ slice_index_or cue.now (own + k) false }
+    ensures alike { (k : ℕ) → k < result → slice_index_or part.now (at + k) false
+        ≡ slice_index_or cue.now (own + k) false }
 {
     8 * alike_eights(part.as_bytes(), at, cue.as_bytes(), own, most / 8)
 }

@@ -35,8 +35,10 @@ pub fn judge_certificate<R: Read>(
 ) -> Result<Verdict, CheckFault>
     requires ready { inlet_failures (cert_inlet reader.old) < 2 ^ 64 - 1 }
     requires source { IsStanding cut.now source }
-    ensures judged { (zs : List (List Bool)) → AreBitsOf cut.now source.entry zs → IfOk result (JudgesCert cut.now zs (R.remaining (inlet_reader (cert_inlet reader.old)))) }
-    ensures failures { inlet_failures (cert_inlet reader.new) ≡ inlet_failures (cert_inlet reader.old) + failed_checks result }
+    ensures judged { (zs : List (List Bool)) → AreBitsOf cut.now source.entry zs
+        → IfOk result (JudgesCert cut.now zs (R.remaining (inlet_reader (cert_inlet reader.old)))) }
+    ensures failures { inlet_failures (cert_inlet reader.new)
+        ≡ inlet_failures (cert_inlet reader.old) + failed_checks result }
 {
     let places = cut.bridges(alloc)?;
     let starts = bridge_starts(alloc, cut)?;
@@ -58,8 +60,10 @@ fn judge_bytes<R: Read>(
     requires starts { starts.now ≡ claims.bridge_starts cut.now }
     requires each { All (IsPlace cut.now) places.now }
     requires few { length places.now ≤ 1536 }
-    ensures judged { (zs : List (List Bool)) → AreBitsOf cut.now source.entry zs → IfOk result (JudgesCert cut.now zs (R.remaining (inlet_reader (cert_inlet reader.old)))) }
-    ensures failures { inlet_failures (cert_inlet reader.new) ≡ inlet_failures (cert_inlet reader.old) + failed_checks result }
+    ensures judged { (zs : List (List Bool)) → AreBitsOf cut.now source.entry zs
+        → IfOk result (JudgesCert cut.now zs (R.remaining (inlet_reader (cert_inlet reader.old)))) }
+    ensures failures { inlet_failures (cert_inlet reader.new)
+        ≡ inlet_failures (cert_inlet reader.old) + failed_checks result }
 {
     read_is_cert();
     cert_goes_on();
@@ -86,9 +90,11 @@ fn judge_head<R: Read>(
 ) -> Result<Option<CertReason>, CheckFault>
     requires ready { inlet_failures (cert_inlet reader.old) < 2 ^ 64 - 1 }
     requires few { entries ≤ 1536 }
-    ensures judged { IfOk result (JudgesHead (read_version reader.new) (length cut.now.splice.weights) entries (R.remaining (inlet_reader (cert_inlet reader.old))) (R.remaining (inlet_reader (cert_inlet reader.new)))) }
+    ensures judged { IfOk result (JudgesHead (read_version reader.new) (length cut.now.splice.weights) entries
+        (R.remaining (inlet_reader (cert_inlet reader.old))) (R.remaining (inlet_reader (cert_inlet reader.new)))) }
     ensures read { IfOk result (λ reason. reason ≡ None → has_read_head reader.new ≡ true) }
-    ensures failures { inlet_failures (cert_inlet reader.new) ≡ inlet_failures (cert_inlet reader.old) + failed_checks result }
+    ensures failures { inlet_failures (cert_inlet reader.new)
+        ≡ inlet_failures (cert_inlet reader.old) + failed_checks result }
 {
     let reason = reader.read_head(cut.weight_number(), entries as u32)?;
     Ok(reason)
@@ -98,8 +104,10 @@ fn judge_head<R: Read>(
 fn has_more<R: Read>(reader: &mut CertReader<R>) -> Result<bool, CheckFault>
     requires ready { inlet_failures (cert_inlet reader.old) < 2 ^ 64 - 1 }
     ensures end { IfOk result (λ more. more ≡ false → IsAtEnd (R.remaining (inlet_reader (cert_inlet reader.old)))) }
-    ensures more { IfOk result (λ more. more ≡ true → IfSome (R.remaining (inlet_reader (cert_inlet reader.old))) (λ bytes. 0 < length bytes)) }
-    ensures failures { inlet_failures (cert_inlet reader.new) ≡ inlet_failures (cert_inlet reader.old) + failed_checks result }
+    ensures more { IfOk result (λ more. more ≡ true
+        → IfSome (R.remaining (inlet_reader (cert_inlet reader.old))) (λ bytes. 0 < length bytes)) }
+    ensures failures { inlet_failures (cert_inlet reader.new)
+        ≡ inlet_failures (cert_inlet reader.old) + failed_checks result }
 {
     match reader.at_end() {
         Ok(None) => Ok(false),
@@ -123,8 +131,11 @@ fn judge_entries<R: Read>(
     requires each { All (IsPlace cut.now) places.now }
     requires few { length places.now ≤ 1536 }
     requires starts { starts.now ≡ claims.bridge_starts cut.now }
-    ensures judged { IfOk result (JudgesClaims (read_version reader.old) (map (claim_from cut.now source.entry) places.now) (R.remaining (inlet_reader (cert_inlet reader.old))) (R.remaining (inlet_reader (cert_inlet reader.new)))) }
-    ensures failures { inlet_failures (cert_inlet reader.new) ≡ inlet_failures (cert_inlet reader.old) + failed_checks result }
+    ensures judged { IfOk result (JudgesClaims (read_version reader.old)
+        (map (claim_from cut.now source.entry) places.now) (R.remaining (inlet_reader (cert_inlet reader.old)))
+        (R.remaining (inlet_reader (cert_inlet reader.new)))) }
+    ensures failures { inlet_failures (cert_inlet reader.new)
+        ≡ inlet_failures (cert_inlet reader.old) + failed_checks result }
 {
     read_is_cert();
     cert_goes_on();
@@ -154,8 +165,10 @@ fn judge_entry<R: Read>(
     requires source { IsStanding cut.now source }
     requires place { IsPlace cut.now place }
     requires starts { starts.now ≡ claims.bridge_starts cut.now }
-    ensures judged { IfOk result (JudgesClaim (read_version reader.old) (claim_from cut.now source.entry place) (R.remaining (inlet_reader (cert_inlet reader.old))) (R.remaining (inlet_reader (cert_inlet reader.new)))) }
-    ensures failures { inlet_failures (cert_inlet reader.new) ≡ inlet_failures (cert_inlet reader.old) + failed_checks result }
+    ensures judged { IfOk result (JudgesClaim (read_version reader.old) (claim_from cut.now source.entry place)
+        (R.remaining (inlet_reader (cert_inlet reader.old))) (R.remaining (inlet_reader (cert_inlet reader.new)))) }
+    ensures failures { inlet_failures (cert_inlet reader.new)
+        ≡ inlet_failures (cert_inlet reader.old) + failed_checks result }
     ensures read { OnOk result (has_read_head reader.new ≡ true) }
     ensures version { OnOk result (read_version reader.new ≡ read_version reader.old) }
 {
@@ -178,8 +191,11 @@ fn check_bits<R: Read>(
     requires cue { place.cue < 2 ^ 16 }
     requires channel { place.channel < 2 ^ 16 }
     requires bits { length bits.now ≡ window.now.levels }
-    ensures judged { IfOk result (JudgesClaim (read_version reader.old) (record { cue = place.cue; channel = place.channel; bridging = window.now; bits = bits.now }) (R.remaining (inlet_reader (cert_inlet reader.old))) (R.remaining (inlet_reader (cert_inlet reader.new)))) }
-    ensures failures { inlet_failures (cert_inlet reader.new) ≡ inlet_failures (cert_inlet reader.old) + failed_checks result }
+    ensures judged { IfOk result (JudgesClaim (read_version reader.old)
+        (record { cue = place.cue; channel = place.channel; bridging = window.now; bits = bits.now })
+        (R.remaining (inlet_reader (cert_inlet reader.old))) (R.remaining (inlet_reader (cert_inlet reader.new)))) }
+    ensures failures { inlet_failures (cert_inlet reader.new)
+        ≡ inlet_failures (cert_inlet reader.old) + failed_checks result }
     ensures read { OnOk result (has_read_head reader.new ≡ true) }
     ensures version { OnOk result (read_version reader.new ≡ read_version reader.old) }
 {
@@ -219,7 +235,8 @@ fn standing_at(
     requires shape { HaveShape cut.now channels.now }
     requires place { IsPlace cut.now place }
     requires starts { starts.now ≡ claims.bridge_starts cut.now }
-    ensures bits { IfOk result (λ bits. bits ≡ bridge_bits cut.now (slice_index_or channels.now place.channel []) place.cue) }
+    ensures bits { IfOk result (λ bits. bits
+        ≡ bridge_bits cut.now (slice_index_or channels.now place.channel []) place.cue) }
     ensures long { IfOk result (λ bits. length bits ≡ (cue_at cut.now place.cue).bridge) }
 {
     cut.can_cut();

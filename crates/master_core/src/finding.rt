@@ -52,7 +52,8 @@ pub struct Found {
 /// The first bit of a master that isn't that of the cue there, by the first such place of each of its channels.
 pub fn lowest_off(cut: &Cut, firsts: &[Option<usize>]) -> Option<CuedPlace>
     requires { length firsts.now ≡ channel_number cut.now }
-    ensures { (r : Content) → HaveShape cut.now r.channels → TellAll cut.now r.channels firsts.now → FindsCued cut.now r result }
+    ensures { (r : Content) → HaveShape cut.now r.channels → TellAll cut.now r.channels firsts.now
+        → FindsCued cut.now r result }
 {
     cut.can_cut();
     for channel in 0..firsts.len() {
@@ -75,14 +76,23 @@ pub fn judge_found<R: Read>(
     requires ready { inlet_failures (cert_inlet reader.old) < 2 ^ 64 - 1 }
     requires found { (r : Content) × IsFoundOf cut.now found.now r }
     // Of whichever recording it was found, the clauses of `judge_read` hold of that.
-    ensures judged { (r : Content) → IsFoundOf cut.now found.now r → IfOk result (λ verdict. IfSome (R.remaining (inlet_reader (cert_inlet reader.old))) (λ cert. JudgesMaster cut.now found.now.form r cert verdict)) }
-    ensures master { (r : Content) → IsFoundOf cut.now found.now r → IfOk result (λ verdict. WhereAccepted verdict (IsMasterOf cut.now found.now.form r)) }
-    ensures channels { (r : Content) → IsFoundOf cut.now found.now r → IfOk result (λ verdict. WhereAccepted verdict (AreMasterChannels cut.now r.channels)) }
-    ensures least { (r : Content) → IsFoundOf cut.now found.now r → IfOk result (λ verdict. WhereAccepted verdict (AreLeastChannels cut.now r.channels)) }
-    ensures joint { (r : Content) → IsFoundOf cut.now found.now r → IfOk result (λ verdict. AtCost verdict (CostLeast cut.now r.channels)) }
-    ensures only { (r : Content) → IsFoundOf cut.now found.now r → IsMasterOf cut.now found.now.form r → IfSome (R.remaining (inlet_reader (cert_inlet reader.old))) (λ cert. IsCertOf cut.now r.channels cert → IfOk result IsNoRejection) }
+    ensures judged { (r : Content) → IsFoundOf cut.now found.now r
+        → IfOk result (λ verdict. IfSome (R.remaining (inlet_reader (cert_inlet reader.old)))
+        (λ cert. JudgesMaster cut.now found.now.form r cert verdict)) }
+    ensures master { (r : Content) → IsFoundOf cut.now found.now r
+        → IfOk result (λ verdict. WhereAccepted verdict (IsMasterOf cut.now found.now.form r)) }
+    ensures channels { (r : Content) → IsFoundOf cut.now found.now r
+        → IfOk result (λ verdict. WhereAccepted verdict (AreMasterChannels cut.now r.channels)) }
+    ensures least { (r : Content) → IsFoundOf cut.now found.now r
+        → IfOk result (λ verdict. WhereAccepted verdict (AreLeastChannels cut.now r.channels)) }
+    ensures joint { (r : Content) → IsFoundOf cut.now found.now r
+        → IfOk result (λ verdict. AtCost verdict (CostLeast cut.now r.channels)) }
+    ensures only { (r : Content) → IsFoundOf cut.now found.now r → IsMasterOf cut.now found.now.form r
+        → IfSome (R.remaining (inlet_reader (cert_inlet reader.old))) (λ cert. IsCertOf cut.now r.channels cert
+        → IfOk result IsNoRejection) }
     // The answer is `Device` exactly where a read failed.
-    ensures failures { inlet_failures (cert_inlet reader.new) ≡ inlet_failures (cert_inlet reader.old) + failed_checks result }
+    ensures failures { inlet_failures (cert_inlet reader.new)
+        ≡ inlet_failures (cert_inlet reader.old) + failed_checks result }
 {
     cut.can_cut();
     least_together();
@@ -96,7 +106,9 @@ pub fn judge_found<R: Read>(
 // The first reason why a recording isn't the master of the cut, by what was found of it.
 fn found_reason(alloc: Global, cut: &Cut, found: &Found) -> Result<Option<Reason>, AllocError>
     requires { (r : Content) × IsFoundOf cut.now found.now r }
-    ensures reason { (r : Content) → IsFoundOf cut.now found.now r → IfOk result (λ reason. MatchOption reason (IsMasterOf cut.now found.now.form r) (MasterReason cut.now found.now.form r)) }
+    ensures reason { (r : Content) → IsFoundOf cut.now found.now r
+        → IfOk result (λ reason. MatchOption reason (IsMasterOf cut.now found.now.form r)
+        (MasterReason cut.now found.now.form r)) }
     ensures kept { IfOk result (λ reason. reason ≡ None → AreKept cut.now (rows_of found.now.kept.items)) }
 {
     if let Some(reason) = outer_reason(alloc, cut, found.form, &found.recording, found.count)? {

@@ -28,10 +28,13 @@ use std::io::Read;
 /// `CertHead`, `Cert`, `CertExtra`. Err is want of memory.
 pub fn judge(alloc: Global, cut: &Cut, opened: &Opened, cert: &[u8]) -> Result<Verdict, AllocError>
     ensures judged { IfOk result (JudgesMaster cut.now opened.now.form opened.now.recording cert.now) }
-    ensures channels { IfOk result (λ verdict. WhereAccepted verdict (AreMasterChannels cut.now opened.now.recording.channels)) }
-    ensures least { IfOk result (λ verdict. WhereAccepted verdict (AreLeastChannels cut.now opened.now.recording.channels)) }
+    ensures channels { IfOk result (λ verdict. WhereAccepted verdict
+        (AreMasterChannels cut.now opened.now.recording.channels)) }
+    ensures least { IfOk result (λ verdict. WhereAccepted verdict
+        (AreLeastChannels cut.now opened.now.recording.channels)) }
     ensures joint { IfOk result (λ verdict. AtCost verdict (CostLeast cut.now opened.now.recording.channels)) }
-    ensures only { IsMasterOf cut.now opened.now.form opened.now.recording → IsCertOf cut.now opened.now.recording.channels cert.now → IfOk result IsNoRejection }
+    ensures only { IsMasterOf cut.now opened.now.form opened.now.recording
+        → IsCertOf cut.now opened.now.recording.channels cert.now → IfOk result IsNoRejection }
 {
     let mut reader = CertReader::new(Inlet::new(cert));
     match judge_read(alloc, cut, opened, &mut reader) {
@@ -52,15 +55,22 @@ pub fn judge_read<R: Read>(
 ) -> Result<Verdict, CheckFault>
     requires { inlet_failures (cert_inlet reader.old) < 2 ^ 64 - 1 }
     // What it says of the bytes that the reader has left, where it tells them.
-    ensures judged { IfOk result (λ verdict. IfSome (R.remaining (inlet_reader (cert_inlet reader.old))) (λ cert. JudgesMaster cut.now opened.now.form opened.now.recording cert verdict)) }
+    ensures judged { IfOk result (λ verdict. IfSome (R.remaining (inlet_reader (cert_inlet reader.old)))
+        (λ cert. JudgesMaster cut.now opened.now.form opened.now.recording cert verdict)) }
     // What is accepted is a master, and each of its bridges is least, whichever reader it was.
-    ensures master { IfOk result (λ verdict. WhereAccepted verdict (IsMasterOf cut.now opened.now.form opened.now.recording)) }
-    ensures channels { IfOk result (λ verdict. WhereAccepted verdict (AreMasterChannels cut.now opened.now.recording.channels)) }
-    ensures least { IfOk result (λ verdict. WhereAccepted verdict (AreLeastChannels cut.now opened.now.recording.channels)) }
+    ensures master { IfOk result (λ verdict. WhereAccepted verdict
+        (IsMasterOf cut.now opened.now.form opened.now.recording)) }
+    ensures channels { IfOk result (λ verdict. WhereAccepted verdict
+        (AreMasterChannels cut.now opened.now.recording.channels)) }
+    ensures least { IfOk result (λ verdict. WhereAccepted verdict
+        (AreLeastChannels cut.now opened.now.recording.channels)) }
     ensures joint { IfOk result (λ verdict. AtCost verdict (CostLeast cut.now opened.now.recording.channels)) }
-    ensures only { IsMasterOf cut.now opened.now.form opened.now.recording → IfSome (R.remaining (inlet_reader (cert_inlet reader.old))) (λ cert. IsCertOf cut.now opened.now.recording.channels cert → IfOk result IsNoRejection) }
+    ensures only { IsMasterOf cut.now opened.now.form opened.now.recording
+        → IfSome (R.remaining (inlet_reader (cert_inlet reader.old)))
+        (λ cert. IsCertOf cut.now opened.now.recording.channels cert → IfOk result IsNoRejection) }
     // The answer is `Device` exactly where a read failed.
-    ensures failures { inlet_failures (cert_inlet reader.new) ≡ inlet_failures (cert_inlet reader.old) + failed_checks result }
+    ensures failures { inlet_failures (cert_inlet reader.new)
+        ≡ inlet_failures (cert_inlet reader.old) + failed_checks result }
 {
     has_shape(&opened.recording);
     cut.can_cut();

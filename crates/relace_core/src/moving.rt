@@ -66,7 +66,8 @@ pub(crate) fn push_as_frames(
     requires in_limit { stretch.count ≤ most_bits }
     requires size { length bytes.now ≡ blocks_size stretch.channels stretch.count }
     requires whole { stretch.count % 8 ≡ 0 }
-    ensures ok { OnOk result (out.new.items ≡ out.old.items ++ laced (unblocked_all order bytes.now stretch.channels stretch.count)) }
+    ensures ok { OnOk result (out.new.items
+        ≡ out.old.items ++ laced (unblocked_all order bytes.now stretch.channels stretch.count)) }
     ensures err { OnErr result (out.new.items ≡ out.old.items) }
 {
     let kept = out.len();

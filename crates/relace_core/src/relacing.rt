@@ -36,7 +36,8 @@ pub fn push_relaced(
     requires size { length bytes.now ≡ sound_size from stretch.channels stretch.count }
     requires from_whole { from ≡ Interleaving.Bytes → stretch.count % 8 ≡ 0 }
     requires to_whole { to ≡ Interleaving.Bytes → stretch.count % 8 ≡ 0 }
-    ensures ok { OnOk result (out.new.items ≡ out.old.items ++ relaced from to stretch.channels stretch.count bytes.now) }
+    ensures ok { OnOk result (out.new.items
+        ≡ out.old.items ++ relaced from to stretch.channels stretch.count bytes.now) }
     ensures err { OnErr result (out.new.items ≡ out.old.items) }
 {
     match (from, to) {
@@ -82,7 +83,8 @@ fn unlace_frames(alloc: Global, bytes: &[u8], stretch: Stretch) -> Result<Vec<Bi
     requires in_limit { stretch.count ≤ most_bits }
     requires size { length bytes.now ≡ stretch.count / 8 * stretch.channels }
     requires whole { stretch.count % 8 ≡ 0 }
-    ensures bits { IfOk result (λ made. made.items ≡ sound_channels Interleaving.Bytes stretch.channels stretch.count bytes.now) }
+    ensures bits { IfOk result (λ made. made.items
+        ≡ sound_channels Interleaving.Bytes stretch.channels stretch.count bytes.now) }
     ensures number { IfOk result (λ made. length made.items ≡ stretch.channels) }
     ensures level { IfOk result (λ made. IsLevel made.items) }
     ensures count { IfOk result (λ made. count_of made.items ≡ stretch.count) }
@@ -104,7 +106,8 @@ fn unlace_groups(
     requires channel_number { (1 ≤ stretch.channels) × (stretch.channels ≤ 6) }
     requires in_limit { stretch.count ≤ most_bits }
     requires size { length bytes.now ≡ blocks_size stretch.channels stretch.count }
-    ensures bits { IfOk result (λ made. made.items ≡ sound_channels (Interleaving.Blocks order) stretch.channels stretch.count bytes.now) }
+    ensures bits { IfOk result (λ made. made.items
+        ≡ sound_channels (Interleaving.Blocks order) stretch.channels stretch.count bytes.now) }
     ensures number { IfOk result (λ made. length made.items ≡ stretch.channels) }
     ensures level { IfOk result (λ made. IsLevel made.items) }
     ensures count { IfOk result (λ made. count_of made.items ≡ stretch.count) }

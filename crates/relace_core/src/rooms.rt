@@ -14,7 +14,8 @@ pub fn push_rooms(out: &mut Vec<u8>, rooms: &[BitRoom], to: Interleaving)
     requires channel_number { (1 ≤ length rooms.now) × (length rooms.now ≤ 6) }
     requires level { IsLevel (rooms_bits rooms.now) }
     requires whole { to ≡ Interleaving.Bytes → count_of (rooms_bits rooms.now) % 8 ≡ 0 }
-    requires held { vec_len out.old + sound_size to (length rooms.now) (count_of (rooms_bits rooms.now)) ≤ vec_capacity out.old }
+    requires held { vec_len out.old + sound_size to (length rooms.now) (count_of (rooms_bits rooms.now))
+        ≤ vec_capacity out.old }
     ensures text { out.new.items ≡ out.old.items ++ laced_in to (rooms_bits rooms.now) }
     ensures capacity { vec_capacity out.old ≤ vec_capacity out.new }
 {

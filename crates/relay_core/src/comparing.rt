@@ -7,8 +7,8 @@ ghost use Rattle.sound_core.specs.Faults.{failed_reads};
 ghost use Rattle.relay_core.specs.Comparing.{ConsumesMany, IsExpectFault, IsFillFault, IsMoreFault};
 
 use device_core::Inlet;
-use std::io::Read;
 use sound_core::StreamFault;
+use std::io::Read;
 
 /// How many bytes are read at a time, at most.
 pub(crate) const BLOCK: usize = 65_536;
@@ -24,7 +24,8 @@ pub(crate) fn fill<R: Read>(
     requires ready { inlet_failures inlet.old < 2 ^ 64 - 1 }
     requires within { size ≤ length block.old.items }
     ensures size { length block.new.items ≡ length block.old.items }
-    ensures read { OnOk result (Consumes (R.remaining (inlet_reader inlet.old)) (R.remaining (inlet_reader inlet.new)) (take size block.new.items)) }
+    ensures read { OnOk result (Consumes (R.remaining (inlet_reader inlet.old)) (R.remaining (inlet_reader inlet.new))
+        (take size block.new.items)) }
     ensures failures { inlet_failures inlet.new ≡ inlet_failures inlet.old + failed_reads result }
     ensures fault { IfErr result (IsFillFault (R.remaining (inlet_reader inlet.old)) size) }
 {
@@ -47,7 +48,8 @@ pub(crate) fn expect<R: Read>(
     requires ready { inlet_failures inlet.old < 2 ^ 64 - 1 }
     requires size { length block.old.items ≡ 65536 }
     ensures size { length block.new.items ≡ 65536 }
-    ensures read { OnOk result (Consumes (R.remaining (inlet_reader inlet.old)) (R.remaining (inlet_reader inlet.new)) bytes.now) }
+    ensures read { OnOk result (Consumes (R.remaining (inlet_reader inlet.old))
+        (R.remaining (inlet_reader inlet.new)) bytes.now) }
     ensures failures { inlet_failures inlet.new ≡ inlet_failures inlet.old + failed_reads result }
     ensures fault { IfErr result (IsExpectFault (R.remaining (inlet_reader inlet.old)) bytes.now) }
 {
@@ -70,7 +72,8 @@ fn expect_part<R: Read>(
     requires size { length block.old.items ≡ 65536 }
     requires fits { length part.now ≤ 65536 }
     ensures size { length block.new.items ≡ 65536 }
-    ensures read { OnOk result (Consumes (R.remaining (inlet_reader inlet.old)) (R.remaining (inlet_reader inlet.new)) part.now) }
+    ensures read { OnOk result (Consumes (R.remaining (inlet_reader inlet.old))
+        (R.remaining (inlet_reader inlet.new)) part.now) }
     ensures failures { inlet_failures inlet.new ≡ inlet_failures inlet.old + failed_reads result }
     ensures fault { IfErr result (IsExpectFault (R.remaining (inlet_reader inlet.old)) part.now) }
 {
@@ -93,7 +96,8 @@ pub(crate) fn pass<R: Read>(
     requires ready { inlet_failures inlet.old < 2 ^ 64 - 1 }
     requires size { length block.old.items ≡ 65536 }
     ensures size { length block.new.items ≡ 65536 }
-    ensures read { OnOk result (ConsumesMany (R.remaining (inlet_reader inlet.old)) (R.remaining (inlet_reader inlet.new)) wanted) }
+    ensures read { OnOk result (ConsumesMany (R.remaining (inlet_reader inlet.old))
+        (R.remaining (inlet_reader inlet.new)) wanted) }
     ensures failures { inlet_failures inlet.new ≡ inlet_failures inlet.old + failed_reads result }
     ensures fault { IfErr result (IsFillFault (R.remaining (inlet_reader inlet.old)) wanted) }
 {
@@ -115,7 +119,8 @@ pub(crate) fn expect_end<R: Read>(
 ) -> Result<(), StreamFault>
     requires ready { inlet_failures inlet.old < 2 ^ 64 - 1 }
     requires size { length block.old.items ≡ 65536 }
-    ensures read { OnOk result (Consumes (R.remaining (inlet_reader inlet.old)) (R.remaining (inlet_reader inlet.new)) [] × IsAtEnd (R.remaining (inlet_reader inlet.new))) }
+    ensures read { OnOk result (Consumes (R.remaining (inlet_reader inlet.old))
+        (R.remaining (inlet_reader inlet.new)) [] × IsAtEnd (R.remaining (inlet_reader inlet.new))) }
     ensures failures { inlet_failures inlet.new ≡ inlet_failures inlet.old + failed_reads result }
     ensures fault { IfErr result (IsMoreFault (R.remaining (inlet_reader inlet.old))) }
 {

@@ -12,9 +12,9 @@ use crate::comparing::{BLOCK, expect, expect_end, fill, pass};
 use device_core::{Inlet, Outlet};
 use dsd_bits::{Interleaving, Sound};
 use relace_core::{Stretch, groups_join, push_relaced, stretch_bits, stretch_size};
+use sound_core::{Outline, StreamFault};
 use std::alloc::Global;
 use std::io::{Read, Write};
-use sound_core::{Outline, StreamFault};
 
 /// What is written around a sound, and how it is interleaved between.
 #[derive(Clone, Copy)]
@@ -51,10 +51,14 @@ pub fn relay<R: Read, W: Write>(
     requires inlet_ready { inlet_failures inlet.old < 2 ^ 64 - 1 }
     requires outlet_ready { outlet_failures outlet.old < 2 ^ 64 - 1 }
     // The reader's file is some sound in the outline, and what is made of it was written.
-    ensures ok { OnOk result (Relays (R.remaining (inlet_reader inlet.old)) target.now (around_of outline.now) (W.contents (outlet_writer outlet.old)) (W.contents (outlet_writer outlet.new))) }
+    ensures ok { OnOk result (Relays (R.remaining (inlet_reader inlet.old)) target.now (around_of outline.now)
+        (W.contents (outlet_writer outlet.old)) (W.contents (outlet_writer outlet.new))) }
     // The same of what was read, where the reader doesn't tell its bytes.
-    ensures any_reader { OnOk result (RelaysGiven (R.remaining (inlet_reader inlet.old)) (R.remaining (inlet_reader inlet.new)) target.now (around_of outline.now) (W.contents (outlet_writer outlet.old)) (W.contents (outlet_writer outlet.new))) }
-    ensures front { OnErr result (RelaysFront (R.remaining (inlet_reader inlet.old)) target.now (around_of outline.now) (W.contents (outlet_writer outlet.old)) (W.contents (outlet_writer outlet.new))) }
+    ensures any_reader { OnOk result (RelaysGiven (R.remaining (inlet_reader inlet.old))
+        (R.remaining (inlet_reader inlet.new)) target.now (around_of outline.now)
+        (W.contents (outlet_writer outlet.old)) (W.contents (outlet_writer outlet.new))) }
+    ensures front { OnErr result (RelaysFront (R.remaining (inlet_reader inlet.old)) target.now (around_of outline.now)
+        (W.contents (outlet_writer outlet.old)) (W.contents (outlet_writer outlet.new))) }
     ensures fault { IfErr result (IsRelayFault (R.remaining (inlet_reader inlet.old)) (around_of outline.now)) }
     ensures read_failed { inlet_failures inlet.new ≡ inlet_failures inlet.old + failed_reads result }
     ensures write_failed { outlet_failures outlet.new ≡ outlet_failures outlet.old + failed_writes result }
@@ -96,7 +100,8 @@ fn expect_rest<R: Read>(
 ) -> Result<(), StreamFault>
     requires ready { inlet_failures inlet.old < 2 ^ 64 - 1 }
     requires size { length block.old.items ≡ 65536 }
-    ensures ok { OnOk result (PassesRest (R.remaining (inlet_reader inlet.old)) (R.remaining (inlet_reader inlet.new)) (around_of outline.now)) }
+    ensures ok { OnOk result (PassesRest (R.remaining (inlet_reader inlet.old)) (R.remaining (inlet_reader inlet.new))
+        (around_of outline.now)) }
     ensures fault { IfErr result (IsRestFault (R.remaining (inlet_reader inlet.old)) (around_of outline.now)) }
     ensures failures { inlet_failures inlet.new ≡ inlet_failures inlet.old + failed_reads result }
 {
@@ -121,9 +126,13 @@ fn relay_sound<R: Read, W: Write>(
     requires outlet_ready { outlet_failures outlet.old < 2 ^ 64 - 1 }
     requires size { length buffers.old.block.items ≡ 65536 }
     ensures size { length buffers.new.block.items ≡ 65536 }
-    ensures ok { OnOk result (RelaysPart (R.remaining (inlet_reader inlet.old)) (R.remaining (inlet_reader inlet.new)) relacing.now.sound relacing.now.to relacing.now.sound.count (W.contents (outlet_writer outlet.old)) (W.contents (outlet_writer outlet.new))) }
-    ensures front { OnErr result (PartFront (R.remaining (inlet_reader inlet.old)) relacing.now.sound relacing.now.to relacing.now.sound.count (W.contents (outlet_writer outlet.old)) (W.contents (outlet_writer outlet.new))) }
-    ensures fault { IfErr result (IsPartFault (R.remaining (inlet_reader inlet.old)) relacing.now.sound relacing.now.sound.count) }
+    ensures ok { OnOk result (RelaysPart (R.remaining (inlet_reader inlet.old))
+        (R.remaining (inlet_reader inlet.new)) relacing.now.sound relacing.now.to relacing.now.sound.count
+        (W.contents (outlet_writer outlet.old)) (W.contents (outlet_writer outlet.new))) }
+    ensures front { OnErr result (PartFront (R.remaining (inlet_reader inlet.old)) relacing.now.sound relacing.now.to
+        relacing.now.sound.count (W.contents (outlet_writer outlet.old)) (W.contents (outlet_writer outlet.new))) }
+    ensures fault { IfErr result (IsPartFault
+        (R.remaining (inlet_reader inlet.old)) relacing.now.sound relacing.now.sound.count) }
     ensures read_failed { inlet_failures inlet.new ≡ inlet_failures inlet.old + failed_reads result }
     ensures write_failed { outlet_failures outlet.new ≡ outlet_failures outlet.old + failed_writes result }
 {
@@ -155,8 +164,11 @@ fn relay_part<R: Read, W: Write>(
     requires outlet_ready { outlet_failures outlet.old < 2 ^ 64 - 1 }
     requires size { length buffers.old.block.items ≡ 65536 }
     ensures size { length buffers.new.block.items ≡ 65536 }
-    ensures ok { OnOk result (RelaysPart (R.remaining (inlet_reader inlet.old)) (R.remaining (inlet_reader inlet.new)) part.relacing.sound part.relacing.to part.bits (W.contents (outlet_writer outlet.old)) (W.contents (outlet_writer outlet.new))) }
-    ensures front { OnErr result (PartFront (R.remaining (inlet_reader inlet.old)) part.relacing.sound part.relacing.to part.bits (W.contents (outlet_writer outlet.old)) (W.contents (outlet_writer outlet.new))) }
+    ensures ok { OnOk result (RelaysPart (R.remaining (inlet_reader inlet.old))
+        (R.remaining (inlet_reader inlet.new)) part.relacing.sound part.relacing.to part.bits
+        (W.contents (outlet_writer outlet.old)) (W.contents (outlet_writer outlet.new))) }
+    ensures front { OnErr result (PartFront (R.remaining (inlet_reader inlet.old)) part.relacing.sound part.relacing.to
+        part.bits (W.contents (outlet_writer outlet.old)) (W.contents (outlet_writer outlet.new))) }
     ensures fault { IfErr result (IsPartFault (R.remaining (inlet_reader inlet.old)) part.relacing.sound part.bits) }
     ensures read_failed { inlet_failures inlet.new ≡ inlet_failures inlet.old + failed_reads result }
     ensures write_failed { outlet_failures outlet.new ≡ outlet_failures outlet.old + failed_writes result }
@@ -184,8 +196,10 @@ fn relay_part<R: Read, W: Write>(
 // Writes these bytes.
 fn put<W: Write>(outlet: &mut Outlet<W>, bytes: &[u8]) -> Result<(), StreamFault>
     requires ready { outlet_failures outlet.old < 2 ^ 64 - 1 }
-    ensures ok { OnOk result (Appends (W.contents (outlet_writer outlet.old)) (W.contents (outlet_writer outlet.new)) bytes.now) }
-    ensures err { OnErr result (AppendsFront (W.contents (outlet_writer outlet.old)) (W.contents (outlet_writer outlet.new)) bytes.now) }
+    ensures ok { OnOk result (Appends (W.contents (outlet_writer outlet.old))
+        (W.contents (outlet_writer outlet.new)) bytes.now) }
+    ensures err { OnErr result (AppendsFront (W.contents (outlet_writer outlet.old))
+        (W.contents (outlet_writer outlet.new)) bytes.now) }
     ensures failures { outlet_failures outlet.new ≡ outlet_failures outlet.old + failed_writes result }
     ensures fault { IfErr result IsWritingFault }
 {

@@ -24,9 +24,11 @@ pub fn closes<R: Read>(
 ) -> Result<bool, StreamFault>
     requires at_sound { EndsAt head.now sound.now }
     requires reading { IsReading reader.old }
-    requires given { inlet_given reader.old.inlet.now ≡ reader.old.given + (length head.now + sound.now.size + length reader.old.ahead.now.items) }
+    requires given { inlet_given reader.old.inlet.now
+        ≡ reader.old.given + (length head.now + sound.now.size + length reader.old.ahead.now.items) }
     ensures same { IsSame reader.old reader.new }
-    ensures ok { IfOk result (Closes R.remaining reader.old.inlet.now reader.new.inlet.now head.now sound.now reader.old.ahead.now.items) }
+    ensures ok { IfOk result (Closes R.remaining reader.old.inlet.now reader.new.inlet.now head.now sound.now
+        reader.old.ahead.now.items) }
     ensures counts { Counts reader.old reader.new result }
     ensures fault { IfErr result IsReadingFault }
 {

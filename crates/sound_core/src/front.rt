@@ -27,12 +27,16 @@ pub fn read_front<R: Read>(
     requires { IsAtStart reader.old }
     ensures same { IsSame reader.old reader.new }
     ensures reading { OnOk result (IsReading reader.new) }
-    ensures given { OnOk result (inlet_given reader.new.inlet.now ≡ reader.new.given + length reader.new.ahead.now.items) }
-    ensures read { OnOk result (Reads R.remaining reader.old.inlet.now reader.new.inlet.now reader.new.ahead.now.items) }
+    ensures given { OnOk result (inlet_given reader.new.inlet.now
+        ≡ reader.new.given + length reader.new.ahead.now.items) }
+    ensures read { OnOk result (Reads R.remaining reader.old.inlet.now reader.new.inlet.now
+        reader.new.ahead.now.items) }
     ensures tells { IfOk result (TellsSound reader.new.ahead.now.items) }
     ensures counts { Counts reader.old reader.new result }
     ensures fault { IfErr result (IsFrontFault (R.remaining (inlet_reader reader.old.inlet.now))) }
-    ensures stopped { IfErr result (λ f. StopsReading f → GivesNone (R.remaining (inlet_reader reader.old.inlet.now)) (inlet_given reader.old.inlet.now) (inlet_given reader.new.inlet.now)) }
+    ensures stopped { IfErr result (λ f. StopsReading f
+        → GivesNone (R.remaining (inlet_reader reader.old.inlet.now)) (inlet_given reader.old.inlet.now)
+        (inlet_given reader.new.inlet.now)) }
 {
     loop {
         let count = reader.read_more()?;

@@ -74,7 +74,8 @@ impl<'a> Keeper<'a> {
         requires groups { (bits % 32768 ≡ 0) ⊎ (self.old.done + bits ≡ self.old.sound.count) }
         ensures same { (self.new.sound ≡ self.old.sound) × (self.new.ranges.now ≡ self.old.ranges.now) }
         ensures done { OnOk result (self.new.done ≡ self.old.done + bits) }
-        ensures ok { OnOk result ((before : List ℕ) → IsKeeping self.old before → IsKeeping self.new (before ++ bytes.now)) }
+        ensures ok { OnOk result ((before : List ℕ) → IsKeeping self.old before
+            → IsKeeping self.new (before ++ bytes.now)) }
     {
         let done = self.done;
         if !are_apart(self.ranges, done, done + bits) {

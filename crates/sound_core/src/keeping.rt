@@ -41,9 +41,11 @@ pub fn read_stretches<R: Read>(
     requires reads_low { inlet_reads inlet.old < 2 ^ 63 }
     requires given_low { inlet_given inlet.old < 2 ^ 63 }
     // The reader's file is some sound in the outline, and these are the stretches of its channels.
-    ensures ok { IfOk result (λ k. KeepsFile (R.remaining (inlet_reader inlet.old)) (around_of k.outline) ranges.now (stretches_in k)) }
+    ensures ok { IfOk result (λ k. KeepsFile (R.remaining (inlet_reader inlet.old)) (around_of k.outline) ranges.now
+        (stretches_in k)) }
     // The same of what was read, where the reader doesn't tell its bytes.
-    ensures any_reader { IfOk result (λ k. KeepsGiven R.remaining inlet.old inlet.new (around_of k.outline) ranges.now (stretches_in k)) }
+    ensures any_reader { IfOk result (λ k. KeepsGiven R.remaining inlet.old inlet.new (around_of k.outline) ranges.now
+        (stretches_in k)) }
     ensures fault { IfErr result (IsOutlineFault (R.remaining (inlet_reader inlet.old))) }
     ensures read_failed { inlet_failures inlet.new ≡ inlet_failures inlet.old + failed_reads result }
     // Whatever is answered, there were at most 2^40 reads.

@@ -91,11 +91,14 @@ pub(crate) fn read_rest<R: Read>(
     requires sound { IsSound sound }
     requires whole { sound.interleaving ≡ Interleaving.Bytes → sound.count % 8 ≡ 0 }
     requires reading { IsReading reader.old }
-    requires given { inlet_given reader.old.inlet.now ≡ reader.old.given + (length head.items + sound.size + length reader.old.ahead.now.items) }
+    requires given { inlet_given reader.old.inlet.now
+        ≡ reader.old.given + (length head.items + sound.size + length reader.old.ahead.now.items) }
     ensures same { IsSame reader.old reader.new }
-    ensures ok { IfOk result (λ o. (o.sound ≡ sound) × (o.head.items ≡ head.items) × Surrounds R.remaining reader.old.inlet.now reader.new.inlet.now reader.old.ahead.now.items (around_of o)) }
+    ensures ok { IfOk result (λ o. (o.sound ≡ sound) × (o.head.items ≡ head.items)
+        × Surrounds R.remaining reader.old.inlet.now reader.new.inlet.now reader.old.ahead.now.items (around_of o)) }
     ensures counts { Counts reader.old reader.new result }
-    ensures fault { IfErr result (IsRestFault (R.remaining (inlet_reader reader.old.inlet.now)) sound head.items reader.old.ahead.now.items) }
+    ensures fault { IfErr result (IsRestFault
+        (R.remaining (inlet_reader reader.old.inlet.now)) sound head.items reader.old.ahead.now.items) }
 {
     let behind = read_behind(alloc, &sound, &head, reader)?;
     let back = reader.take_ahead(alloc);
@@ -131,11 +134,14 @@ fn read_behind<R: Read>(
     requires sound { IsSound sound.now }
     requires whole { sound.now.interleaving ≡ Interleaving.Bytes → sound.now.count % 8 ≡ 0 }
     requires reading { IsReading reader.old }
-    requires given { inlet_given reader.old.inlet.now ≡ reader.old.given + (length head.now + sound.now.size + length reader.old.ahead.now.items) }
+    requires given { inlet_given reader.old.inlet.now
+        ≡ reader.old.given + (length head.now + sound.now.size + length reader.old.ahead.now.items) }
     ensures same { IsSame reader.old reader.new }
-    ensures ok { IfOk result (λ b. Surrounds R.remaining reader.old.inlet.now reader.new.inlet.now reader.old.ahead.now.items (with_ends sound.now head.now reader.new.ahead.now.items b)) }
+    ensures ok { IfOk result (λ b. Surrounds R.remaining reader.old.inlet.now reader.new.inlet.now
+        reader.old.ahead.now.items (with_ends sound.now head.now reader.new.ahead.now.items b)) }
     ensures counts { Counts reader.old reader.new result }
-    ensures fault { IfErr result (IsRestFault (R.remaining (inlet_reader reader.old.inlet.now)) sound.now head.now reader.old.ahead.now.items) }
+    ensures fault { IfErr result (IsRestFault
+        (R.remaining (inlet_reader reader.old.inlet.now)) sound.now head.now reader.old.ahead.now.items) }
 {
     if sound.interleaving.has_blocks() {
         behind_blocks(alloc, sound, head, reader)
@@ -155,11 +161,14 @@ fn behind_blocks<R: Read>(
     requires interleaving { has_blocks sound.now.interleaving ≡ true }
     requires sound { IsSound sound.now }
     requires reading { IsReading reader.old }
-    requires given { inlet_given reader.old.inlet.now ≡ reader.old.given + (length head.now + sound.now.size + length reader.old.ahead.now.items) }
+    requires given { inlet_given reader.old.inlet.now
+        ≡ reader.old.given + (length head.now + sound.now.size + length reader.old.ahead.now.items) }
     ensures same { IsSame reader.old reader.new }
-    ensures ok { IfOk result (λ b. Surrounds R.remaining reader.old.inlet.now reader.new.inlet.now reader.old.ahead.now.items (with_ends sound.now head.now reader.new.ahead.now.items b)) }
+    ensures ok { IfOk result (λ b. Surrounds R.remaining reader.old.inlet.now reader.new.inlet.now
+        reader.old.ahead.now.items (with_ends sound.now head.now reader.new.ahead.now.items b)) }
     ensures counts { Counts reader.old reader.new result }
-    ensures fault { IfErr result (IsRestFault (R.remaining (inlet_reader reader.old.inlet.now)) sound.now head.now reader.old.ahead.now.items) }
+    ensures fault { IfErr result (IsRestFault
+        (R.remaining (inlet_reader reader.old.inlet.now)) sound.now head.now reader.old.ahead.now.items) }
 {
     let stop = (head.len() + sound.size) as u64;
     let gap = read_tag(dsf_core::tag_at(head), stop, reader)?;
@@ -188,9 +197,11 @@ fn behind_frames<R: Read>(
     requires whole { sound.now.count % 8 ≡ 0 }
     requires reading { IsReading reader.old }
     ensures same { IsSame reader.old reader.new }
-    ensures ok { IfOk result (λ b. Surrounds R.remaining reader.old.inlet.now reader.new.inlet.now reader.old.ahead.now.items (with_ends sound.now head.now reader.new.ahead.now.items b)) }
+    ensures ok { IfOk result (λ b. Surrounds R.remaining reader.old.inlet.now reader.new.inlet.now
+        reader.old.ahead.now.items (with_ends sound.now head.now reader.new.ahead.now.items b)) }
     ensures counts { Counts reader.old reader.new result }
-    ensures fault { IfErr result (IsRestFault (R.remaining (inlet_reader reader.old.inlet.now)) sound.now head.now reader.old.ahead.now.items) }
+    ensures fault { IfErr result (IsRestFault
+        (R.remaining (inlet_reader reader.old.inlet.now)) sound.now head.now reader.old.ahead.now.items) }
 {
     let wanted = dsdiff_core::bytes_behind(head);
     reader.read_until(wanted)?;
@@ -217,9 +228,11 @@ fn read_tag<R: Read>(
     requires reading { IsReading reader.old }
     requires given { inlet_given reader.old.inlet.now ≡ reader.old.given + (stop + length reader.old.ahead.now.items) }
     ensures same { IsSame reader.old reader.new }
-    ensures ok { IfOk result (ReadsTag R.remaining reader.old.inlet.now reader.new.inlet.now place stop reader.old.ahead.now.items reader.new.ahead.now.items) }
+    ensures ok { IfOk result (ReadsTag R.remaining reader.old.inlet.now reader.new.inlet.now place stop
+        reader.old.ahead.now.items reader.new.ahead.now.items) }
     ensures counts { Counts reader.old reader.new result }
-    ensures fault { IfErr result (IsTagFault (R.remaining (inlet_reader reader.old.inlet.now)) place stop reader.old.ahead.now.items) }
+    ensures fault { IfErr result (IsTagFault
+        (R.remaining (inlet_reader reader.old.inlet.now)) place stop reader.old.ahead.now.items) }
 {
     if place == 0 {
         reader.read_to_end()?;

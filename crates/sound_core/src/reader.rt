@@ -79,7 +79,8 @@ impl<'a, R: Read> SoundReader<'a, R> {
         ensures reading { OnOk result (IsReading self.new) }
         ensures kept { self.new.ahead.now.items ≡ self.old.ahead.now.items }
         ensures few { IfOk result (λ n. n ≤ 65536) }
-        ensures read { IfOk result (λ n. Reads R.remaining self.old.inlet.now self.new.inlet.now (take n self.new.block.now.items)) }
+        ensures read { IfOk result (λ n. Reads R.remaining self.old.inlet.now self.new.inlet.now
+            (take n self.new.block.now.items)) }
         ensures end { IfOk result (λ n. n ≡ 0 → IsAtEnd (R.remaining (inlet_reader self.new.inlet.now))) }
         ensures turn { IfOk result (λ n. inlet_reads self.new.inlet.now ≡ inlet_reads self.old.inlet.now + 1) }
         ensures none { IfErr result (λ f. inlet_given self.new.inlet.now ≡ inlet_given self.old.inlet.now) }
@@ -102,10 +103,12 @@ impl<'a, R: Read> SoundReader<'a, R> {
         requires reading { IsReading self.old }
         ensures same { IsSame self.old self.new }
         ensures reading { OnOk result (IsReading self.new) }
-        ensures read { IfOk result (λ n. (read : List ℕ) × Reads R.remaining self.old.inlet.now self.new.inlet.now read × (n ≡ length read) × (self.new.ahead.now.items ≡ self.old.ahead.now.items ++ read)) }
+        ensures read { IfOk result (λ n. (read : List ℕ) × Reads R.remaining self.old.inlet.now self.new.inlet.now read
+            × (n ≡ length read) × (self.new.ahead.now.items ≡ self.old.ahead.now.items ++ read)) }
         ensures end { IfOk result (λ n. n ≡ 0 → IsAtEnd (R.remaining (inlet_reader self.new.inlet.now))) }
         ensures turn { IfOk result (λ n. inlet_reads self.new.inlet.now ≡ inlet_reads self.old.inlet.now + 1) }
-        ensures none { IfErr result (λ f. StopsReading f → inlet_given self.new.inlet.now ≡ inlet_given self.old.inlet.now) }
+        ensures none { IfErr result (λ f. StopsReading f
+            → inlet_given self.new.inlet.now ≡ inlet_given self.old.inlet.now) }
         ensures counts { Counts self.old self.new result }
         ensures fault { IfErr result IsReadingFault }
     {
@@ -122,7 +125,8 @@ impl<'a, R: Read> SoundReader<'a, R> {
         requires reading { IsReading self.old }
         ensures same { IsSame self.old self.new }
         ensures reading { OnOk result (IsReading self.new) }
-        ensures read { OnOk result (ReadsUntil R.remaining self.old.inlet.now self.new.inlet.now self.old.ahead.now.items self.new.ahead.now.items wanted) }
+        ensures read { OnOk result (ReadsUntil R.remaining self.old.inlet.now self.new.inlet.now
+            self.old.ahead.now.items self.new.ahead.now.items wanted) }
         ensures counts { Counts self.old self.new result }
         ensures fault { IfErr result IsReadingFault }
     {
@@ -160,7 +164,8 @@ impl<'a, R: Read> SoundReader<'a, R> {
     pub(crate) fn read_all(&mut self) -> Result<(), StreamFault>
         requires reading { IsReading self.old }
         ensures same { IsSame self.old self.new }
-        ensures read { OnOk result (ReadsAll R.remaining self.old.inlet.now self.new.inlet.now self.old.ahead.now.items self.new.ahead.now.items) }
+        ensures read { OnOk result (ReadsAll R.remaining self.old.inlet.now self.new.inlet.now self.old.ahead.now.items
+            self.new.ahead.now.items) }
         ensures counts { Counts self.old self.new result }
         ensures fault { IfErr result IsReadingFault }
     {
@@ -221,9 +226,11 @@ impl<'a, R: Read> SoundReader<'a, R> {
         requires reading { IsReading self.old }
         ensures same { IsSame self.old self.new }
         ensures reading { OnOk result (IsReading self.new) }
-        ensures ok { OnOk result (Passes R.remaining self.old.inlet.now self.new.inlet.now wanted self.old.ahead.now.items self.new.ahead.now.items) }
+        ensures ok { OnOk result (Passes R.remaining self.old.inlet.now self.new.inlet.now wanted
+            self.old.ahead.now.items self.new.ahead.now.items) }
         ensures counts { Counts self.old self.new result }
-        ensures fault { IfErr result (IsPassFault (R.remaining (inlet_reader self.old.inlet.now)) wanted self.old.ahead.now.items) }
+        ensures fault { IfErr result (IsPassFault
+            (R.remaining (inlet_reader self.old.inlet.now)) wanted self.old.ahead.now.items) }
     {
         let mut left = wanted;
         while (self.ahead.len() as u64) < left {

@@ -43,5 +43,6 @@ pub trait SoundSink {
         ensures kept { kept self.new ≡ kept self.old }
         ensures source { source self.new ≡ source self.old }
         ensures done { OnOk result (done self.new ≡ done self.old + bits) }
-        ensures has { OnOk result ((before : List ℕ) → IsFed (source self.old) (done self.old) before → has self.old before → has self.new (before ++ bytes.now)) };
+        ensures has { OnOk result ((before : List ℕ) → IsFed (source self.old) (done self.old) before
+            → has self.old before → has self.new (before ++ bytes.now)) };
 }

@@ -64,8 +64,10 @@ fn take_file<R: Read, S: SoundSink>(
 ) -> Result<Outline, StreamFault>
     requires { IsAtStart reader.old }
     ensures same { IsSame reader.old reader.new }
-    ensures ok { IfOk result (λ o. TakesFile (S.has sink.new) (R.remaining (inlet_reader reader.old.inlet.now)) (around_of o)) }
-    ensures any_reader { IfOk result (λ o. TakesGiven (S.has sink.new) R.remaining reader.old.inlet.now reader.new.inlet.now (around_of o)) }
+    ensures ok { IfOk result (λ o. TakesFile (S.has sink.new) (R.remaining (inlet_reader reader.old.inlet.now))
+        (around_of o)) }
+    ensures any_reader { IfOk result (λ o. TakesGiven
+        (S.has sink.new) R.remaining reader.old.inlet.now reader.new.inlet.now (around_of o)) }
     ensures source { IfOk result (λ o. (S.source sink.new ≡ o.sound) × (S.done sink.new ≡ o.sound.count)) }
     ensures kept { S.kept sink.new ≡ S.kept sink.old }
     ensures counts { Counts reader.old reader.new result }
@@ -92,10 +94,12 @@ fn take_sound<R: Read, S: SoundSink>(
     requires reading { IsReading reader.old }
     ensures same { IsSame reader.old reader.new }
     ensures reading { OnOk result (IsReading reader.new) }
-    ensures ok { OnOk result (TakesSome R.remaining S.source S.done S.has S.kept sound reader.old.inlet.now reader.new.inlet.now sink.old sink.new sound.count reader.old.ahead.now.items reader.new.ahead.now.items) }
+    ensures ok { OnOk result (TakesSome R.remaining S.source S.done S.has S.kept sound reader.old.inlet.now
+        reader.new.inlet.now sink.old sink.new sound.count reader.old.ahead.now.items reader.new.ahead.now.items) }
     ensures kept { S.kept sink.new ≡ S.kept sink.old }
     ensures counts { Counts reader.old reader.new result }
-    ensures fault { IfErr result (IsPassFault (R.remaining (inlet_reader reader.old.inlet.now)) sound.size reader.old.ahead.now.items) }
+    ensures fault { IfErr result (IsPassFault
+        (R.remaining (inlet_reader reader.old.inlet.now)) sound.size reader.old.ahead.now.items) }
 {
     let most = stretch_bits(sound.channels);
     let mut done = 0;
@@ -124,10 +128,12 @@ fn take_groups<R: Read, S: SoundSink>(
     requires reading { IsReading reader.old }
     ensures same { IsSame reader.old reader.new }
     ensures reading { OnOk result (IsReading reader.new) }
-    ensures ok { OnOk result (TakesPart R.remaining S.source S.done S.has S.kept reader.old.inlet.now reader.new.inlet.now sink.old sink.new bits reader.old.ahead.now.items reader.new.ahead.now.items) }
+    ensures ok { OnOk result (TakesPart R.remaining S.source S.done S.has S.kept reader.old.inlet.now
+        reader.new.inlet.now sink.old sink.new bits reader.old.ahead.now.items reader.new.ahead.now.items) }
     ensures kept { S.kept sink.new ≡ S.kept sink.old }
     ensures counts { Counts reader.old reader.new result }
-    ensures fault { IfErr result (IsPassFault (R.remaining (inlet_reader reader.old.inlet.now)) (sound_size sound.interleaving sound.channels bits) reader.old.ahead.now.items) }
+    ensures fault { IfErr result (IsPassFault (R.remaining (inlet_reader reader.old.inlet.now))
+        (sound_size sound.interleaving sound.channels bits) reader.old.ahead.now.items) }
 {
     let size = stretch_size(sound.interleaving, sound.channels, bits);
     reader.read_until(size as u64)?;

@@ -43,7 +43,3 @@ refused_holds file refused Dsf8 r h = refused r (inr (MostFirst, h))
 pub left_refused : (left : Option (List ℕ)) → IfSome left IsRefused → IfSome left HoldsNothing
 left_refused None h = tt
 left_refused (Some file) h = refused_holds file h
-
--- of which it is said first
-pub unread_first : (project : List ℕ) (files : List (List ℕ)) (cut : CutContent) (file : List ℕ) (known : Option (List ℕ)) → SaysCut project files None cut → HoldsNothing file → IfSome known (λ bytes. RejectsFirst project files file bytes MasterUnread)
-unread_first project files cut file known says nothing = for_known known (λ bytes. RejectsFirst project files file bytes MasterUnread) (λ bytes. record { cut = cut; says = says; stands = inl (refl, nothing) })

@@ -1,5 +1,5 @@
 -- What was heard of takes gives the same cut as the takes.
-use Rattle.std.proofs.Common.{◌≡◌, ℕ, zero, suc, ◌+◌, ◌-◌, ◌<◌, ◌≤◌, Bool, true, eqb, inl, inr, Ok, List, [], ◌∷◌, ◌++◌, cond, length, map, get_or, slice_range, take, drop, replicate, refl, sym, ap, subst, ◌∙◌, add-one, arith}
+use Rattle.std.proofs.Common.{◌≡◌, ℕ, ◌+◌, ◌-◌, ◌<◌, ◌≤◌, Bool, inl, inr, Ok, List, [], ◌∷◌, ◌++◌, length, map, get_or, slice_range, drop, replicate, refl, sym, ap, subst, ◌∙◌, add-one, arith}
 use Rattle.std.specs.List.{All, range_with_len}
 use Rattle.std.proofs.Math.Seq.{get_or-append_seam}
 use Rattle.std.proofs.lemmas.Bool.{eq-eqb}
@@ -9,11 +9,10 @@ use Rattle.std.proofs.lemmas.List.Elements.{All-append, All-cons, All-get_or, Al
 use Rattle.std.proofs.lemmas.List.FromFn.{get_or-map-range_with_len, length-map-range_with_len, map-range_with_len_more}
 use Rattle.dsd_bits.proofs.LacingLemmas.{map_range_same}
 use Rattle.dsd_bits.proofs.PackingLemmas.{length-slice_range}
-use Rattle.dsd_bits.specs.declared.stretches.BitRange.{BitRange}
 use Rattle.dsd_bits.specs.Channels.{count_of}
 use Rattle.dsd_bits.specs.Contents.{Content}
 use Rattle.dsd_bits.specs.Shape.{HasShape}
-use Rattle.dsd_bits.specs.Stretches.{silent, stretch_of, stretches_of}
+use Rattle.dsd_bits.specs.Stretches.{silent, stretch_of}
 use Rattle.splice_core.specs.Cues.{IsCueWithin, IsSplicing}
 use Rattle.splice_core.specs.Splices.{SpliceContent}
 use Rattle.cost_core.specs.Bridges.{Bridging}
@@ -22,7 +21,7 @@ use Rattle.cost_core.specs.Faults.{CanBridge, reach_at}
 use Rattle.cost_core.specs.Windows as fades
 use Rattle.cost_core.specs.Windows.{bridging_at}
 use Rattle.cost_core.proofs.Hearing.{bridging_heard, part_of_part}
-use Rattle.cut_core.specs.Cuts.{CutContent, FitTakes, IsAlike, IsInside, channel_number, cue_at, cue_bits, cut_with, each_below, no_bridging, source, take_at, window}
+use Rattle.cut_core.specs.Cuts.{CutContent, FitTakes, IsAlike, IsInside, channel_number, cue_bits, cut_with, each_below, no_bridging, source, take_at, window}
 use Rattle.cut_core.specs.Hearing.{AreHeard, HasStretch, HeardContent, heard_at, heard_content, heard_cut, heard_from, heard_of, heard_shape, heard_shapes, heard_takes, heard_to, range_of, shape_of, ranges_of, start_in, stop_in, stretch_at, stretches_at}
 use Rattle.cut_core.specs.declared.heard.Heard.{Heard}
 use Rattle.form_core.specs.Steps.{Fails}

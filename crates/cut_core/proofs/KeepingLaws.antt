@@ -16,8 +16,8 @@ use Rattle.cut_core.specs.declared.fault.CutFault.{CutFault}
 use Rattle.cut_core.specs.declared.fault.CutFault.TheVariants.{Memory}
 use Rattle.cut_core.specs.declared.cut.Cut.TheInside.{Inside}
 use Rattle.cut_core.specs.declared.heard.Heard.{Heard}
-use Rattle.cut_core.specs.Cuts.{CutContent, channel_number, cue_bits, cut_with, each_below, no_bridging, window}
-use Rattle.cut_core.specs.Hearing.{AreHeard, HasStretch, HeardContent, heard_at, heard_content, heard_cut, heard_of, heard_takes, shape_of, start_in, stop_in, stretch_at}
+use Rattle.cut_core.specs.Cuts.{channel_number, cue_bits, cut_with, each_below, no_bridging, window}
+use Rattle.cut_core.specs.Hearing.{AreHeard, HasStretch, HeardContent, heard_content, heard_cut, shape_of, start_in, stop_in, stretch_at}
 use Rattle.cut_core.specs.Keeping.{CanCut}
 use Rattle.cut_core.specs.Opening.{cut_from, fitting}
 use Rattle.cut_core.specs.View.{KeepsCut, cut_content}

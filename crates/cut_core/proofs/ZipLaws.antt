@@ -44,12 +44,6 @@ zip_of_map R f [] (y ∷ ys) h = absurd h
 zip_of_map R f (x ∷ xs) [] h = absurd h
 zip_of_map R f (x ∷ xs) (y ∷ ys) h = (h.0, zip_of_map R f xs ys h.1)
 
-pub zip_is_map : {A B : Type 0} (f : A → B) (xs : List A) (ys : List B) → AllZip (λ x y. y ≡ f x) xs ys → ys ≡ map f xs
-zip_is_map f [] [] h = refl
-zip_is_map f [] (y ∷ ys) h = absurd h
-zip_is_map f (x ∷ xs) [] h = absurd h
-zip_is_map f (x ∷ xs) (y ∷ ys) h = rw (h.0, zip_is_map f xs ys h.1) refl
-
 -- what follows for each pair of a number and an item
 pub zip_range : {B : Type 0} (R S : ℕ → B → Type 0) (n a : ℕ) (ys : List B) → ((k : ℕ) (y : B) → a ≤ k → k < a + n → R k y → S k y) → AllZip R (range_with_len a n) ys → AllZip S (range_with_len a n) ys
 zip_range R S zero a [] f h = tt

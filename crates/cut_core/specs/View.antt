@@ -1,5 +1,5 @@
 -- What a `Cut` stands for.
-use Rattle.std.specs.Prelude.{List, All, map}
+use Rattle.std.specs.Prelude.{List, map}
 use Rattle.dsd_bits.specs.Contents.{Content}
 use Rattle.splice_core.specs.Splices.{splice_content}
 use Rattle.cut_core.specs.declared.cut.Cut.TheInside.{Inside}

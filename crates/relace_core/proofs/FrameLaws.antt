@@ -1,5 +1,5 @@
 -- Frames that are taken apart and put together again.
-use Rattle.std.proofs.Common.{◌≡◌, ℕ, ◌+◌, ◌*◌, ◌/◌, ◌%◌, ◌<◌, ◌≤◌, ◌^◌, false, List, [], map, length, get_or, slice_index, sym, ap, ap₂, ◌∙◌, refl, arith, inl, inr}
+use Rattle.std.proofs.Common.{◌≡◌, ℕ, ◌+◌, ◌*◌, ◌/◌, ◌%◌, ◌<◌, ◌≤◌, ◌^◌, List, [], map, length, get_or, slice_index, sym, ap, ap₂, ◌∙◌, arith, inl, inr}
 use Rattle.std.proofs.lemmas.Bool.{cases_lt}
 use Rattle.std.proofs.lemmas.List.{get_or_past}
 use Rattle.std.proofs.lemmas.Grind.{same_number_lists}
@@ -8,11 +8,10 @@ use Rattle.std.proofs.lemmas.Nat.{div-add-mod', div_below, mod_below, mul-le}
 use Rattle.std.specs.List.{range_with_len}
 use Rattle.std.specs.Int.{div_ceil}
 use Rattle.dsd_bits.specs.declared.interleaving.Interleaving.{Interleaving}
-use Rattle.dsd_bits.specs.declared.interleaving.Interleaving.TheVariants.{Bytes, Blocks}
+use Rattle.dsd_bits.specs.declared.interleaving.Interleaving.TheVariants.{Bytes}
 use Rattle.dsd_bits.specs.Lacing.{frames_of, laced, laced_bit, laced_byte, unlaced, unlaced_all}
 use Rattle.dsd_bits.specs.Packing.{IsTight, packed, packed_byte, unpacked}
 use Rattle.dsd_bits.proofs.BlockLemmas.{packed_at}
-use Rattle.dsd_bits.specs.Sounds.{has_blocks}
 use Rattle.dsd_bits.proofs.LacingLemmas.{own_bytes, unpacked-own_bytes}
 use Rattle.dsd_bits.proofs.PackingLemmas.{length-unpacked, packed-unpacked, past_end}
 use Rattle.relace_core.specs.Relacing.{relaced}
@@ -88,8 +87,3 @@ module _ (bytes : List ℕ) (n count : ℕ) (some : 1 ≤ n) (whole : count % 8 
 
   pub same_frames : (from to : Interleaving) → from ≡ Bytes → to ≡ Bytes → relaced from to n count bytes ≡ bytes
   same_frames from to from_none to_none = ap₂ (λ (f t : Interleaving). relaced f t n count bytes) from_none to_none ∙ frames_again
-
--- what has no blocks has bytes
-pub no_blocks : (interleaving : Interleaving) → has_blocks interleaving ≡ false → interleaving ≡ Bytes
-no_blocks Bytes e = refl
-no_blocks (Blocks order) e = absurd cc

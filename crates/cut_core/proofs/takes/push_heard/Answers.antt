@@ -1,4 +1,4 @@
-use Rattle.std.proofs.Common.{◌≡◌, length, subst}
+use Rattle.std.proofs.Common.{length, subst}
 use Rattle.std.proofs.lemmas.Result.{err_from_is_err_and}
 use Rattle.cut_core.specs.Opening.{HearsTake, HearsTakes, IsOfTake, IsOfTakes, take_in, takes_before}
 use Rattle.cut_core.proofs.HearingLaws.{none_more, not_more, of_more, one_more}

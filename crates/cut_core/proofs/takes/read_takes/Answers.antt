@@ -1,4 +1,4 @@
-use Rattle.std.proofs.Common.{◌∷◌, ◌++◌, [], arith, length, refl}
+use Rattle.std.proofs.Common.{◌∷◌, ◌++◌, [], arith, refl}
 use Rattle.std.proofs.lemmas.List.{length-append}
 use Rattle.splice_core.specs.Splices.{splice_content}
 use Rattle.cut_core.specs.Opening.{file_bytes}

@@ -1,4 +1,4 @@
-use Rattle.std.proofs.Common.{◌-◌, ◌∙◌, [], arith, refl, subst, sym}
+use Rattle.std.proofs.Common.{◌-◌, ◌∙◌, arith, refl, subst, sym}
 use Rattle.std.proofs.lemmas.Result.{IfErr-weaker, IfOk-weaker, err_from_is_err_and}
 use Rattle.device_core.specs.Inlets.{inlet_given, inlet_reader}
 use Rattle.device_core.specs.Outlets.{outlet_writer}

@@ -1,11 +1,10 @@
-use Rattle.std.proofs.Common.{◌≡◌, ◌∙◌, Err, List, Ok, Result, ap, length, map, subst, sym}
-use Rattle.std.specs.Prelude.{⊤}
+use Rattle.std.proofs.Common.{◌≡◌, ◌∙◌, List, Ok, ap, length, map, sym}
 use Rattle.std.proofs.lemmas.Result.{err_from_is_err_and}
 use Rattle.dsd_bits.specs.Contents.{Content}
 use Rattle.splice_core.specs.Splices.{splice_content}
 use Rattle.cost_core.proofs.Windows.{splicing}
-use Rattle.cut_core.specs.Cuts.{FitTakes, cut_with}
-use Rattle.cut_core.specs.Hearing.{AreHeard, TakeShape, heard_cut, heard_shapes, shape_of}
+use Rattle.cut_core.specs.Cuts.{FitTakes}
+use Rattle.cut_core.specs.Hearing.{AreHeard, heard_cut, heard_shapes, shape_of}
 use Rattle.cut_core.specs.Opening.{IsWhole, fitting}
 use Rattle.cut_core.specs.Rooms.{HaveRoom}
 use Rattle.cut_core.proofs.HearingLaws.{heard_is, shapes_are}

@@ -1,4 +1,4 @@
-use Rattle.std.proofs.Common.{◌≡◌, ◌∙◌, arith, length, subst, sym}
+use Rattle.std.proofs.Common.{arith, subst, sym}
 use Rattle.splice_core.specs.Splices.{splice_content}
 use Rattle.form_core.specs.Forms.{HoldsSome}
 use Rattle.form_core.specs.Steps.{Gives}

@@ -1,9 +1,8 @@
-use Rattle.std.proofs.Common.{◌≡◌, ◌+◌, ◌-◌, ◌<◌, ◌≤◌, ◌∙◌, Bool, List, ap, arith, length, map, subst, sym}
+use Rattle.std.proofs.Common.{◌≡◌, ◌+◌, ◌-◌, ◌<◌, ◌≤◌, ◌∙◌, ap, arith, length, map, subst, sym}
 use Rattle.std.specs.Prelude.{IfOk}
 use Rattle.splice_core.specs.Cues.{CueContent}
 use Rattle.splice_core.specs.Splices.{splice_content}
 use Rattle.cost_core.specs.Bridges.{Bridging}
-use Rattle.cost_core.specs.Faults.{CanBridge}
 use Rattle.cost_core.specs.Windows.{bridging_at, cue_at}
 use Rattle.cut_core.specs.Cuts as cuts
 use Rattle.cut_core.specs.Cuts.{CutContent, channel_number}

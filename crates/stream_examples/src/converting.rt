@@ -9,9 +9,9 @@ use device_core::{Inlet, Outlet};
 use fixtures::devices::{Dripping, Sipping, drip, sip};
 use fixtures::files::{FILE, STEREO, changed, followed, mono, noted, one_bit, three, with_sound};
 use form_core::Form;
+use sound_core::read_outline;
 use std::alloc::{AllocError, Global};
 use std::test::Fail;
-use sound_core::read_outline;
 use transfer_core::{Converted, Fault, convert, convert_stream};
 
 const FORMS: [Form; 3] = [Form::Dsdiff, Form::Dsf, Form::Dsf8];

@@ -10,10 +10,10 @@ use fixtures::devices::{Sipping, drip, sip};
 use fixtures::files::{WAVE, dsf_of, mono, noted};
 use fixtures::projects::{DECIMATE, with_ones};
 use form_core::Form;
+use sound_core::read_stretches;
 use std::alloc::{AllocError, Global};
 use std::process::Abort;
 use std::test::Fail;
-use sound_core::read_stretches;
 use transfer_core::convert;
 
 // A writer that takes so many bytes without a growth: of one that is refused it would say that the write failed.

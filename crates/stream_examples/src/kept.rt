@@ -9,9 +9,9 @@ use dsd_bits::{BitRange, Bits, Recording};
 use fixtures::devices::drip;
 use fixtures::files::{FILE, STEREO, mono, noted, one_bit, stereo};
 use form_core::read_any;
+use sound_core::{Kept, StreamFault, read_stretches};
 use std::alloc::{AllocError, Global};
 use std::test::Fail;
-use sound_core::{Kept, StreamFault, read_stretches};
 use transfer_core::Fault;
 
 // The bits from one place to another.

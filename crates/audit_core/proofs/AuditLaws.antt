@@ -1,5 +1,5 @@
 -- What is found of a sound that comes, and of all of it.
-use Rattle.std.proofs.Common.{◌≡◌, ℕ, ◌+◌, ◌-◌, ◌%◌, ◌<◌, ◌≤◌, ◌⊎◌, inl, inr, Bool, List, [], ◌++◌, length, get_or, set, map, replicate, Option, None, Some, refl, sym, ap, subst, ◌∙◌, arith}
+use Rattle.std.proofs.Common.{◌≡◌, ℕ, ◌+◌, ◌-◌, ◌%◌, ◌<◌, ◌≤◌, inl, inr, Bool, List, [], ◌++◌, length, get_or, set, replicate, Option, None, Some, refl, sym, ap, subst, ◌∙◌, arith}
 use Rattle.std.specs.List.{range_with_len}
 use Rattle.std.proofs.lemmas.Bool.{cases_lt}
 use Rattle.std.proofs.lemmas.List.{get_or-replicate, get_or-set_other, get_or-set_same, length-replicate, length-set}
@@ -18,12 +18,10 @@ use Rattle.relace_core.proofs.JoinLaws.{Appended, taken}
 use Rattle.cut_core.specs.Cuts.{AreAlike, CutContent, channel_number, master_length}
 use Rattle.master_core.specs.declared.finding.CuedPlace.{CuedPlace}
 use Rattle.master_core.specs.Checking.{HaveShape}
-use Rattle.master_core.specs.Claims.{bridge_bits}
 use Rattle.master_core.specs.Comparing.{TellsOff}
 use Rattle.master_core.specs.Standing.{FindsCued, IsFoundOf, TellAll, bridges_kept}
 use Rattle.sound_core.specs.Keepers.{Keeps}
 use Rattle.sound_core.specs.Outlines.{AreTold, StandsIn, around_of, with_sound}
-use Rattle.sound_core.specs.Reads.{Reads}
 use Rattle.sound_core.specs.Sinks.{IsTakenOf, TakesFile, TakesGiven}
 use Rattle.sound_core.specs.Stretches.{items_of}
 use Rattle.sound_core.specs.declared.outline.Outline.{Outline}

@@ -1,22 +1,18 @@
 -- What was found of a master, and the verdict on it.
-use Rattle.std.proofs.Common.{◌≡◌, ℕ, inl, inr, List, IfSome, Option, None, Some, Ok, Err, Result, refl}
+use Rattle.std.proofs.Common.{ℕ, inl, inr, List, IfSome, Option, None, Some}
 use Rattle.device_core.specs.declared.inlet.Inlet.{Inlet}
 use Rattle.dsd_bits.specs.Contents.{Content}
 use Rattle.dsd_bits.specs.declared.blocks.BitOrder.TheVariants.{LeastFirst, MostFirst}
-use Rattle.form_core.specs.declared.form.Form.{Form}
 use Rattle.form_core.specs.declared.form.Form.TheVariants.{Dsdiff, Dsf, Dsf8}
 use Rattle.cut_core.specs.Cuts.{CutContent}
 use Rattle.master_core.specs.Standing.{IsFoundOf}
-use Rattle.master_core.specs.declared.verdict.Reason.TheVariants.{MasterUnread}
 use Rattle.sound_core.specs.Files.{IsRefused}
 use Rattle.sound_core.specs.Outlines.{with_sound}
 use Rattle.audit_core.specs.Auditing.{AuditsFile, AuditsGiven, found_in}
 use Rattle.audit_core.specs.declared.auditing.Audited.{Audited}
 use Rattle.transfer_commands.specs.Outlining.{form_in}
 use Rattle.transfer_commands.proofs.TellLaws.{holds_as}
-use Rattle.archive_core.specs.Checking.{HoldsNothing, RejectsFirst}
-use Rattle.archive_core.specs.Cutting.{SaysCut}
-use Rattle.archive_core.proofs.CheckLaws.{for_known}
+use Rattle.archive_core.specs.Checking.{HoldsNothing}
 use Rattle.command_core.specs.Masters.{FindsHeld}
 
 -- what was found of a file in one pass was found of the recording that it holds

@@ -1,28 +1,15 @@
 -- What is heard of a file that was read in one pass.
-use Rattle.std.proofs.Common.{◌≡◌, ℕ, ◌*◌, ◌/◌, ◌≤◌, Bool, List, [], Ok, Some, length, get_or, map, replicate, refl, sym, ap, subst, ◌∙◌, arith}
-use Rattle.std.specs.List.{range_with_len}
-use Rattle.std.proofs.lemmas.List.{length-replicate}
-use Rattle.std.proofs.lemmas.List.Elements.{All-map}
-use Rattle.std.proofs.lemmas.List.FromFn.{length-map-range_with_len, get_or-map-range_with_len}
-use Rattle.dsd_bits.specs.declared.interleaving.Interleaving.{Interleaving}
-use Rattle.dsd_bits.specs.declared.interleaving.Interleaving.TheVariants.{Bytes, Blocks}
+use Rattle.std.proofs.Common.{◌≡◌, ℕ, List, Ok, Some, refl, sym, subst}
 use Rattle.dsd_bits.specs.declared.stretches.BitRange.{BitRange}
-use Rattle.dsd_bits.specs.Blocks.{block_bit, unblocked}
-use Rattle.dsd_bits.specs.Channels.{IsLevel, count_of}
-use Rattle.dsd_bits.specs.Contents.{Content}
-use Rattle.dsd_bits.specs.Lacing.{laced_bit, unlaced}
 use Rattle.dsd_bits.specs.Shape.{HasShape}
-use Rattle.dsd_bits.specs.Sounds.{sound_channels, sound_size}
-use Rattle.dsd_bits.specs.Stretches.{silent}
 use Rattle.splice_core.specs.Splices.{SpliceContent}
 use Rattle.form_core.specs.Laws.{HeldIsOpened}
 use Rattle.cut_core.specs.declared.heard.Heard.{Heard}
 use Rattle.cut_core.specs.Hearing.{ranges_of}
 use Rattle.cut_core.specs.Opening.{HearsTake, IsOfTake, take_in}
 use Rattle.sound_core.specs.Keeping.{IsKeptOf, stretches_in}
-use Rattle.sound_core.specs.Outlines.{AreTold, StandsIn, around_of, with_sound}
+use Rattle.sound_core.specs.Outlines.{AreTold, around_of}
 use Rattle.sound_core.specs.declared.keeping.Kept.{Kept}
-use Rattle.sound_core.specs.declared.outline.Outline.{Outline}
 use Rattle.folder_core.specs.Files.{Files}
 use Rattle.transfer_commands.specs.Hearing.{HearsFile, HearsHeld, StreamsFile}
 use Rattle.transfer_commands.specs.Outlining.{form_in}

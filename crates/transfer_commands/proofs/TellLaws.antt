@@ -1,16 +1,11 @@
 -- What is told of a file by its outline.
-use Rattle.std.proofs.Common.{◌≡◌, ℕ, ◌*◌, ◌/◌, ◌%◌, ◌≤◌, List, [], Some, length, sym, ap, ◌∙◌, refl, arith, add-zero, subst}
+use Rattle.std.proofs.Common.{◌≡◌, ℕ, List, [], Some, length, sym, ap, ◌∙◌, refl, subst}
 use Rattle.std.proofs.lemmas.List.{length-replicate}
-use Rattle.std.proofs.lemmas.List.FromFn.{length-map-range_with_len, get_or-map-range_with_len}
-use Rattle.std.proofs.lemmas.Nat.{div-mul-add}
 use Rattle.dsd_bits.specs.declared.blocks.BitOrder.TheVariants.{LeastFirst, MostFirst}
 use Rattle.dsd_bits.specs.declared.interleaving.Interleaving.{Interleaving}
 use Rattle.dsd_bits.specs.declared.interleaving.Interleaving.TheVariants.{Bytes, Blocks}
-use Rattle.dsd_bits.specs.Blocks.{block_bit, unblocked}
-use Rattle.dsd_bits.specs.Channels.{count_of}
 use Rattle.dsd_bits.specs.Contents.{Content}
-use Rattle.dsd_bits.specs.Lacing.{laced_bit, unlaced}
-use Rattle.dsd_bits.specs.Sounds.{sound_channels, sound_size}
+use Rattle.dsd_bits.specs.Sounds.{sound_channels}
 use Rattle.form_core.specs.Forms.{HoldsAs}
 use Rattle.sound_core.specs.Outlines.{HoldsIn, around_of, with_sound}
 use Rattle.sound_core.specs.declared.outline.Outline.{Outline}

@@ -1,4 +1,4 @@
-use Rattle.std.proofs.Common.{◌≡◌, ◌∙◌, List, Option, ap, subst, sym, ℕ}
+use Rattle.std.proofs.Common.{◌≡◌, ◌∙◌, List, ap, subst, sym}
 use Rattle.device_core.specs.Inlets.{inlet_reader}
 use Rattle.cut_core.specs.Cuts.{CutContent}
 use Rattle.dsd_bits.specs.declared.stretches.BitRange.{BitRange}

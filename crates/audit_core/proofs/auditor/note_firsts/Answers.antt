@@ -1,4 +1,4 @@
-use Rattle.std.proofs.Common.{◌≡◌, ◌<◌, ◌∙◌, ◌++◌, List, [], arith, get_or, length, subst}
+use Rattle.std.proofs.Common.{◌<◌, ◌∙◌, ◌++◌, [], arith, length, subst}
 use Rattle.std.proofs.lemmas.List.{get_or_default}
 use Rattle.master_core.specs.Comparing.{TellsOff}
 use Rattle.audit_core.proofs.AuditLaws.{told_all, told_next}

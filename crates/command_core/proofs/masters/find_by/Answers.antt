@@ -1,4 +1,4 @@
-use Rattle.std.proofs.Common.{IfSome, List, subst, sym, ℕ}
+use Rattle.std.proofs.Common.{IfSome, subst, sym}
 use Rattle.device_core.specs.Inlets.{inlet_reader}
 use Rattle.dsd_bits.specs.Contents.{Content}
 use Rattle.master_core.specs.Standing.{IsFoundOf}

@@ -1,6 +1,6 @@
 use Rattle.std.proofs.Common.{IsTrue, subst, sym}
 use Rattle.command_core.specs.Sources.{AreHeardOf}
-use Rattle.command_core.proofs.CommandLaws.{checked, unchecked}
+use Rattle.command_core.proofs.CommandLaws.{checked}
 use Rattle.command_core.proofs.performing.check_files.Goals as goal
 
 pub returns : goal.returns

@@ -1,4 +1,4 @@
-use Rattle.std.proofs.Common.{◌*◌, ◌/◌, ◌+◌, ◌≤◌, arith}
+use Rattle.std.proofs.Common.{arith}
 use Rattle.master_core.proofs.CompareLaws.{packed_small, same_eights}
 use Rattle.master_core.proofs.cueing.alike_bits.Goals as goal
 

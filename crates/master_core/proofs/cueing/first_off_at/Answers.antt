@@ -1,4 +1,4 @@
-use Rattle.std.proofs.Common.{◌≡◌, ◌+◌, ◌-◌, ℕ, false, get_or, ap, sym, ◌∙◌, arith}
+use Rattle.std.proofs.Common.{◌≡◌, ◌+◌, ◌-◌, ℕ, false, get_or, ap, ◌∙◌, arith}
 use Rattle.master_core.specs.Comparing.{cue_start}
 use Rattle.master_core.proofs.OffLaws.{none_alike}
 use Rattle.master_core.proofs.cueing.first_off_at.Goals as goal

@@ -1,4 +1,4 @@
-use Rattle.std.proofs.Common.{List, None, Option, [], ap, replicate, subst, sym, ℕ, ◌∙◌}
+use Rattle.std.proofs.Common.{None, Option, [], ap, replicate, subst, sym, ℕ, ◌∙◌}
 use Rattle.sound_core.specs.Keepers.{Keeps}
 use Rattle.sound_core.specs.Stretches.{items_of}
 use Rattle.audit_core.specs.Auditing.{Audits}

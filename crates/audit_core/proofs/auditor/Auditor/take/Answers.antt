@@ -1,4 +1,4 @@
-use Rattle.std.proofs.Common.{ℕ, ◌<◌, ◌≤◌, List, arith}
+use Rattle.std.proofs.Common.{ℕ, ◌<◌, List, arith}
 use Rattle.std.proofs.lemmas.List.{with_items_is}
 use Rattle.sound_core.proofs.KeeperLaws.{from_whole}
 use Rattle.sound_core.specs.Stretches.{items_of}

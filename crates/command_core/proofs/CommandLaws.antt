@@ -1,10 +1,6 @@
 -- What becomes of the files of a master and its certificate that could not be written, and of those that are judged.
-use Rattle.std.proofs.Common.{◌≡◌, ◌≢◌, ℕ, ◌⊎◌, inl, inr, List, Bool, IsTrue, None, Some, Ok, Err, Result, subst, sym, ◌∙◌}
-use Rattle.form_core.specs.Steps.{Fails}
-use Rattle.transfer_core.specs.declared.fault.Fault.{Fault}
-use Rattle.transfer_core.specs.declared.fault.Fault.TheVariants.{Memory}
+use Rattle.std.proofs.Common.{◌≡◌, ◌≢◌, ℕ, inl, inr, List, Bool, IsTrue, Some, Ok, Err, Result, subst, sym, ◌∙◌}
 use Rattle.archive_core.specs.Checking.{Accepts}
-use Rattle.archive_core.specs.Cutting.{said_cut}
 use Rattle.archive_core.specs.Editing.{Edits}
 use Rattle.folder_core.specs.Files.{Files, IsFront, KeepsOthers}
 use Rattle.folder_core.specs.declared.fault.FileFault.{FileFault}
@@ -119,9 +115,3 @@ module _ (project_name master_name cert_name : List ℕ) (old read held new : Fi
   checked same_read same_held same_new sources master_stands cert_stands (Err (faults.Call fault)) fails = (same_new ∙ (same_held ∙ same_read), inr (inr (record { project = project; takes = takes; sources = sources; first = fails })))
   checked same_read same_held same_new sources master_stands cert_stands (Err faults.ReadFailed) h = same_new ∙ (same_held ∙ same_read)
   checked same_read same_held same_new sources master_stands cert_stands (Err faults.WriteFailed) h = absurd h
-
--- the fault of a cut is told, or a read that failed
-pub unchecked : (project_name master_name cert_name : List ℕ) (old read new : Files) (project : List ℕ) (takes : List (List ℕ)) (fault : Fault) → read ≡ old → new ≡ read → AreSources project_name old project takes → Fails Memory fault (said_cut project takes None)
-    → (told : CommandFault) → (told ≡ faults.ReadFailed) ⊎ (told ≡ faults.Call fault) → CheckComesTo project_name master_name cert_name old new (Err told)
-unchecked project_name master_name cert_name old read new project takes fault same_read same_new sources fails told (inl failed) = rw failed (same_new ∙ same_read)
-unchecked project_name master_name cert_name old read new project takes fault same_read same_new sources fails told (inr is) = rw is (same_new ∙ same_read, inr (inr (record { project = project; takes = takes; sources = sources; first = fails })))

@@ -3,6 +3,7 @@ pub mod LacingLemmas
 pub mod LayoutLaws
 pub mod PackingLemmas
 pub mod PartLemmas
+pub mod PlaneLemmas
 pub mod RangeLemmas
 pub mod RoomLemmas
 pub mod RoundTrip

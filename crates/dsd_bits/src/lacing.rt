@@ -116,35 +116,35 @@ fn split_frames(bytes: &[u8], frame: usize) -> (u8x16, u8x16)
     first.deinterleave(second)
 }
 
-// Channel `c` of laced sound bytes.
+// One channel of laced sound bytes.
 fn unlace_channel(
     alloc: Global,
     bytes: &[u8],
     channels: usize,
-    c: usize,
+    channel: usize,
 ) -> Result<Bits, AllocError>
-    requires channel { c < channels }
+    requires channel { channel < channels }
     requires in_limit { 8 * (length bytes.now / channels) ≤ most_bits }
-    ensures { IfOk result (λ bits. bits ≡ unlaced bytes.now channels c) }
+    ensures { IfOk result (λ bits. bits ≡ unlaced bytes.now channels channel) }
 {
     if channels == 1 {
         return Ok(Bits::from_whole_bytes(Vec::from_slice(alloc, bytes)?));
     }
     let mut own = Vec::new(alloc);
     own.resize(bytes.len() / channels, 0)?;
-    pick(own.as_mut_slice(), bytes, channels, c);
+    pick(own.as_mut_slice(), bytes, channels, channel);
     Ok(Bits::from_whole_bytes(own))
 }
 
-// Writes byte `c` of each frame of so many channels.
-fn pick(to: &mut [u8], bytes: &[u8], channels: usize, c: usize)
-    requires channel { c < channels }
+// Writes one channel's byte of each frame of so many channels.
+fn pick(to: &mut [u8], bytes: &[u8], channels: usize, channel: usize)
+    requires channel { channel < channels }
     requires enough { channels * length to.old ≤ length bytes.now }
     ensures { (frame : ℕ) → frame < length to.old →
-        slice_index to.new frame ≡ slice_index bytes.now (frame * channels + c) }
+        slice_index to.new frame ≡ slice_index bytes.now (frame * channels + channel) }
 {
     for frame in 0..to.len() {
-        to[frame] = bytes[frame * channels + c];
+        to[frame] = bytes[frame * channels + channel];
     }
 }
 
@@ -255,17 +255,17 @@ pub(crate) fn lace_two(to: &mut [u8], left: &[u8], right: &[u8])
     }
 }
 
-// Writes the bytes of a channel over byte `c` of each frame of so many channels.
-pub(crate) fn spread(to: &mut [u8], bytes: &[u8], channels: usize, c: usize)
-    requires channel { c < channels }
+// Writes the bytes of a channel over its bytes of the frames of so many channels.
+pub(crate) fn spread(to: &mut [u8], bytes: &[u8], channels: usize, channel: usize)
+    requires channel { channel < channels }
     requires enough { channels * length bytes.now ≤ length to.old }
     ensures own { (frame : ℕ) → frame < length bytes.now →
-        slice_index to.new (frame * channels + c) ≡ slice_index bytes.now frame }
-    ensures others { (frame d : ℕ) → d < channels → d ≢ c →
+        slice_index to.new (frame * channels + channel) ≡ slice_index bytes.now frame }
+    ensures others { (frame d : ℕ) → d < channels → d ≢ channel →
         slice_index to.new (frame * channels + d) ≡ slice_index to.old (frame * channels + d) }
 {
     for frame in 0..bytes.len() {
-        to[frame * channels + c] = bytes[frame];
+        to[frame * channels + channel] = bytes[frame];
     }
 }
 

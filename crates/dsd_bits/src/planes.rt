@@ -5,6 +5,7 @@ ghost use Rattle.dsd_bits.specs.Limits.{block_bytes};
 
 use crate::lacing::split_two;
 use crate::limits::BLOCK_BYTES;
+use std::simd::prelude::*;
 
 /// Writes `count` frames of one to six channels into planes: the byte of channel `c` in frame `k` to place
 /// `4096 * c + k`. At most 4096 frames; the rest of each plane stays as it was.
@@ -23,7 +24,7 @@ pub fn frames_to_planes(planes: &mut [u8], frames: &[u8], channels: usize, count
         2 => take_two_apart(planes, frames, count),
         3 => take_apart::<3>(planes, frames, count),
         4 => take_apart::<4>(planes, frames, count),
-        5 => take_apart::<5>(planes, frames, count),
+        5 => take_five_apart(planes, frames, count),
         _ => take_apart::<6>(planes, frames, count),
     }
 }
@@ -60,6 +61,66 @@ fn take_two_apart(planes: &mut [u8], frames: &[u8], count: usize)
     let (left, _) = first.split_at_mut(count);
     let (right, _) = second.split_at_mut(count);
     split_two(left, right, frames, 0);
+}
+
+// The same of five channels, of which no compiler makes vectors by itself.
+fn take_five_apart(planes: &mut [u8], frames: &[u8], count: usize)
+    requires few { count ≤ block_bytes }
+    requires frames { count * 5 ≤ length frames.now }
+    requires planes { block_bytes * 5 ≤ length planes.old }
+    ensures written { (c k : ℕ) → c < 5 → k < count →
+        slice_index planes.new (block_bytes * c + k) ≡ slice_index frames.now (k * 5 + c) }
+    ensures others { (place : ℕ) → (5 ≤ place / block_bytes) ⊎ (count ≤ place % block_bytes) →
+        slice_index planes.new place ≡ slice_index planes.old place }
+{
+    for channel in 0..5 {
+        take_fifth_out(planes, frames, channel, count);
+    }
+}
+
+// One of five channels: 16 frames at a time, and then what is left.
+fn take_fifth_out(planes: &mut [u8], frames: &[u8], channel: usize, count: usize)
+    requires channel { channel < 5 }
+    requires few { count ≤ block_bytes }
+    requires frames { count * 5 ≤ length frames.now }
+    requires planes { block_bytes * 5 ≤ length planes.old }
+    ensures written { (k : ℕ) → k < count →
+        slice_index planes.new (block_bytes * channel + k) ≡ slice_index frames.now (k * 5 + channel) }
+    ensures others { (place : ℕ) → (place < block_bytes * channel) ⊎ (block_bytes * channel + count ≤ place) →
+        slice_index planes.new place ≡ slice_index planes.old place }
+{
+    let whole = count / 16;
+    let plane = BLOCK_BYTES * channel;
+    for k in 0..whole {
+        every_fifth(frames, 80 * k + channel).copy_to_slice(&mut planes[plane + 16 * k..]);
+    }
+    for k in 16 * whole..count {
+        planes[plane + k] = frames[5 * k + channel];
+    }
+}
+
+// Every fifth byte from a place on, 16 in all.
+#[inline(always)]
+fn every_fifth(bytes: &[u8], from: usize) -> u8x16
+    requires { from + 76 ≤ length bytes.now }
+    ensures { (length result ≡ 16) × ((k : ℕ) → k < 16 →
+        slice_index result k ≡ slice_index bytes.now (from + 5 * k)) }
+{
+    let first = eight_of_fifths(bytes, from);
+    let second = eight_of_fifths(bytes, from + 40);
+    first.shuffle(second, [0, 1, 2, 3, 4, 5, 6, 7, 8, 9, 10, 11, 12, 13, 14, 15])
+}
+
+// The same, 8 in all: four from each of two vectors.
+#[inline(always)]
+fn eight_of_fifths(bytes: &[u8], from: usize) -> u8x8
+    requires { from + 36 ≤ length bytes.now }
+    ensures { (length result ≡ 8) × ((k : ℕ) → k < 8 →
+        slice_index result k ≡ slice_index bytes.now (from + 5 * k)) }
+{
+    let first = u8x16::from_slice(&bytes[from..]);
+    let second = u8x16::from_slice(&bytes[from + 20..]);
+    first.shuffle(second, [0, 5, 10, 15, 16, 21, 26, 31])
 }
 
 /// Writes `count` frames of one to six channels from planes: the byte of channel `c` in frame `k` from place

@@ -12,14 +12,14 @@ loop-frame-preserved c =
     let k = c.loop-frame.frame in
     let to = c.loop-frame.to in
     let byte = get_or c.args.bytes.now k 0 in
-    let inside : k * n + c.args.c < length to = omega (arith, mul-add-lt k n c.args.c (length c.args.bytes.now) c.loop-frame-test.true c.requires.channel, c.requires.enough, c.loop-frame.invariant.size) in
+    let inside : k * n + c.args.channel < length to = omega (arith, mul-add-lt k n c.args.channel (length c.args.bytes.now) c.loop-frame-test.true c.requires.channel, c.requires.enough, c.loop-frame.invariant.size) in
     record {
-      size = length-set to (k * n + c.args.c) byte ∙ c.loop-frame.invariant.size;
+      size = length-set to (k * n + c.args.channel) byte ∙ c.loop-frame.invariant.size;
       own = λ j h. elim (cases_lt j k) [
-        | inl low ↦ get_or-set_other to (k * n + c.args.c) (j * n + c.args.c) byte 0 (frames_apart j k n c.args.c c.requires.channel (omega arith)) ∙ c.loop-frame.invariant.own j low
+        | inl low ↦ get_or-set_other to (k * n + c.args.channel) (j * n + c.args.channel) byte 0 (frames_apart j k n c.args.channel c.requires.channel (omega arith)) ∙ c.loop-frame.invariant.own j low
         | inr high ↦
             let e : j ≡ k = omega arith in
-            get_or-set_at to (k * n + c.args.c) (j * n + c.args.c) byte 0 (ap (λ m. m * n + c.args.c) e) inside ∙ ap (slice_index c.args.bytes.now) (sym e)
+            get_or-set_at to (k * n + c.args.channel) (j * n + c.args.channel) byte 0 (ap (λ m. m * n + c.args.channel) e) inside ∙ ap (slice_index c.args.bytes.now) (sym e)
       ];
-      others = λ j d h apart. get_or-set_other to (k * n + c.args.c) (j * n + d) byte 0 (channels_apart j k n c.args.c d c.requires.channel h apart) ∙ c.loop-frame.invariant.others j d h apart;
+      others = λ j d h apart. get_or-set_other to (k * n + c.args.channel) (j * n + d) byte 0 (channels_apart j k n c.args.channel d c.requires.channel h apart) ∙ c.loop-frame.invariant.others j d h apart;
     }

@@ -4,6 +4,6 @@ use Rattle.dsd_bits.proofs.lacing.spread.Given as goal
 abbrev pub invariant-loop-frame : goal.invariant-loop-frame
 invariant-loop-frame l = record {
   size : length l.to ≡ length l.fn.to;
-  own : (j : ℕ) → j < l.frame → slice_index l.to (j * l.channels + l.c) ≡ slice_index l.bytes j;
-  others : (j d : ℕ) → d < l.channels → d ≢ l.c → slice_index l.to (j * l.channels + d) ≡ slice_index l.fn.to (j * l.channels + d);
+  own : (j : ℕ) → j < l.frame → slice_index l.to (j * l.channels + l.channel) ≡ slice_index l.bytes j;
+  others : (j d : ℕ) → d < l.channels → d ≢ l.channel → slice_index l.to (j * l.channels + d) ≡ slice_index l.fn.to (j * l.channels + d);
 }

@@ -66,14 +66,14 @@ fn finish(sums: &mut [i32], shift: u32, width: u32)
     }
 }
 
-/// The sample at place `n` (in bits) of the first `count` bits of the bytes.
-pub(crate) fn sample_over(taps: &Taps, bytes: &[u8], count: usize, n: usize) -> i32
-    requires place { n < 2 ^ 37 }
+/// The sample at a place (in bits) of the first `count` bits of the bytes.
+pub(crate) fn sample_over(taps: &Taps, bytes: &[u8], count: usize, place: usize) -> i32
+    requires place { place < 2 ^ 37 }
     requires enough { count ≤ 8 * length bytes.now }
-    ensures { result ≡ sample_of taps.now (unpacked bytes.now count) n }
+    ensures { result ≡ sample_of taps.now (unpacked bytes.now count) place }
 {
     clip(
-        round(sum_over(taps, bytes, count, n), taps.shift),
+        round(sum_over(taps, bytes, count, place), taps.shift),
         taps.width,
     )
 }
@@ -206,7 +206,7 @@ pub(crate) fn push_samples(
     Ok(())
 }
 
-/// Appends samples of a channel: sample `j` and those that follow it, `number` in all and each as
+/// Appends samples of a channel: sample `start` and those that follow it, `number` in all and each as
 /// [`crate::sample`] answers it, by the tables of the same decimator. For want of memory it appends
 /// nothing.
 pub fn push_part(
@@ -215,15 +215,15 @@ pub fn push_part(
     taps: &Taps,
     tables: &Tables,
     bits: &Bits,
-    j: usize,
+    start: usize,
 ) -> Result<(), AllocError>
     requires tables { tables.now ≡ aligned taps.now.taps taps.now.delay }
-    requires within { j + number ≤ div_ceil (length bits.now) taps.now.factor }
-    ensures ok { OnOk result (out.new.items ≡ out.old.items ++ samples_of taps.now bits.now j number) }
+    requires within { start + number ≤ div_ceil (length bits.now) taps.now.factor }
+    ensures ok { OnOk result (out.new.items ≡ out.old.items ++ samples_of taps.now bits.now start number) }
     ensures err { OnErr result (out.new.items ≡ out.old.items) }
 {
     let count = bits.len();
-    let first = j * taps.factor() as usize + taps.delay as usize;
+    let first = start * taps.factor() as usize + taps.delay as usize;
     push_samples(out, number, taps, tables, bits.as_bytes(), count, first)?;
     Ok(())
 }

@@ -40,89 +40,89 @@ pub(crate) fn bytes_heard(sound: &Sound, size: usize) -> usize
     sound.count.div_ceil(8).min(whole)
 }
 
-/// The first bytes of channel `c` in whole groups of sound bytes, each with its earliest bit the most
+/// The first bytes of a channel in whole groups of sound bytes, each with its earliest bit the most
 /// significant. They take the place of what `own` held.
 pub(crate) fn fill_channel(
     own: &mut Vec<u8>,
     groups: &[u8],
     channels: usize,
-    c: usize,
+    channel: usize,
     interleaving: Interleaving,
     number: usize,
 ) -> Result<(), AllocError>
-    requires channel { (c < channels) × (channels ≤ 6) }
+    requires channel { (channel < channels) × (channels ≤ 6) }
     requires enough { number ≤ length groups.now / Groups.group_size interleaving channels * Groups.part_size
         interleaving }
-    ensures { OnOk result (own.new.items ≡ channel_part interleaving channels groups.now c 0 number) }
+    ensures { OnOk result (own.new.items ≡ channel_part interleaving channels groups.now channel 0 number) }
 {
     own.clear();
     match interleaving {
-        Interleaving::Bytes => fill_strided(own, groups, channels, c, number),
-        Interleaving::Blocks(order) => push_blocks(own, groups, channels, c, order, number),
+        Interleaving::Bytes => fill_strided(own, groups, channels, channel, number),
+        Interleaving::Blocks(order) => push_blocks(own, groups, channels, channel, order, number),
     }
 }
 
-// Byte `c` of each of the first frames of so many bytes, in the place of what `own` held.
+// The byte of a channel in each of the first frames of so many bytes, in the place of what `own` held.
 fn fill_strided(
     own: &mut Vec<u8>,
     groups: &[u8],
     channels: usize,
-    c: usize,
+    channel: usize,
     number: usize,
 ) -> Result<(), AllocError>
-    requires channel { c < channels }
+    requires channel { channel < channels }
     requires enough { number * channels ≤ length groups.now }
-    ensures { OnOk result (own.new.items ≡ channel_part Interleaving.Bytes channels groups.now c 0 number) }
+    ensures { OnOk result (own.new.items ≡ channel_part Interleaving.Bytes channels groups.now channel 0 number) }
 {
     own.resize(number, 0)?;
-    pick(own.as_mut_slice(), groups, channels, c);
+    pick(own.as_mut_slice(), groups, channels, channel);
     Ok(())
 }
 
-// Writes byte `c` of each frame of so many bytes. Two are told as a number, so that the compiler takes many
-// frames at once.
-fn pick(to: &mut [u8], groups: &[u8], channels: usize, c: usize)
-    requires channel { c < channels }
+// Writes the byte of a channel in each frame of so many bytes. Two are told as a number, so that the compiler
+// takes many frames at once.
+fn pick(to: &mut [u8], groups: &[u8], channels: usize, channel: usize)
+    requires channel { channel < channels }
     requires enough { length to.old * channels ≤ length groups.now }
     ensures { (frame : ℕ) → frame < length to.old
-        → slice_index to.new frame ≡ slice_index groups.now (frame * channels + c) }
+        → slice_index to.new frame ≡ slice_index groups.now (frame * channels + channel) }
 {
     if channels == 2 {
-        pick_each(to, groups, 2, c);
+        pick_each(to, groups, 2, channel);
         return;
     }
-    pick_each(to, groups, channels, c);
+    pick_each(to, groups, channels, channel);
 }
 
 // The same, frame by frame.
 #[inline(always)]
-fn pick_each(to: &mut [u8], groups: &[u8], channels: usize, c: usize)
-    requires channel { c < channels }
+fn pick_each(to: &mut [u8], groups: &[u8], channels: usize, channel: usize)
+    requires channel { channel < channels }
     requires enough { length to.old * channels ≤ length groups.now }
     ensures { (frame : ℕ) → frame < length to.old
-        → slice_index to.new frame ≡ slice_index groups.now (frame * channels + c) }
+        → slice_index to.new frame ≡ slice_index groups.now (frame * channels + channel) }
 {
     for frame in 0..to.len() {
-        to[frame] = groups[frame * channels + c];
+        to[frame] = groups[frame * channels + channel];
     }
 }
 
-// Appends the first bytes of block `c` of each group of so many blocks.
+// Appends the first bytes of a channel's block in each group of so many blocks.
 fn push_blocks(
     own: &mut Vec<u8>,
     groups: &[u8],
     channels: usize,
-    c: usize,
+    channel: usize,
     order: BitOrder,
     number: usize,
 ) -> Result<(), AllocError>
-    requires channel { (c < channels) × (channels ≤ 6) }
+    requires channel { (channel < channels) × (channels ≤ 6) }
     requires enough { number ≤ length groups.now / (channels * 4096) * 4096 }
     ensures { OnOk result (own.new.items
-        ≡ own.old.items ++ channel_part (Interleaving.Blocks order) channels groups.now c 0 number) }
+        ≡ own.old.items ++ channel_part (Interleaving.Blocks order) channels groups.now channel 0 number) }
 {
     for group in 0..number.div_ceil(BLOCK) {
-        let (_, block) = groups.split_at((group * channels + c) * BLOCK);
+        let (_, block) = groups.split_at((group * channels + channel) * BLOCK);
         let (used, _) = block.split_at((number - BLOCK * group).min(BLOCK));
         push_in_order(own, used, order)?;
     }

@@ -166,10 +166,10 @@ fn feed_all(
         → FeedAll d sound.now fed number streams.old streams.new groups.now tile.new.items) }
 {
     tile.clear();
-    for (c, stream) in streams.iter_mut().enumerate() {
+    for (channel, stream) in streams.iter_mut().enumerate() {
         let part = Part {
             channels: sound.channels,
-            c,
+            channel,
             interleaving: sound.interleaving,
             number,
         };
@@ -178,11 +178,11 @@ fn feed_all(
     Ok(())
 }
 
-// The first bytes of channel `c` of so many, in whole groups of sound bytes.
+// The first bytes of a channel of so many, in whole groups of sound bytes.
 #[derive(Clone, Copy)]
 struct Part {
     channels: usize,
-    c: usize,
+    channel: usize,
     interleaving: Interleaving,
     number: usize,
 }
@@ -197,12 +197,13 @@ fn feed_one(
 ) -> Result<(), AllocError>
     requires ready { IsStream stream.old }
     requires few { stream.old.fed + part.number ≤ div_ceil stream.old.count 8 }
-    requires channel { (part.c < part.channels) × (part.channels ≤ 6) }
+    requires channel { (part.channel < part.channels) × (part.channels ≤ 6) }
     requires enough { part.number ≤ length groups.now / Groups.group_size part.interleaving
         part.channels * Groups.part_size part.interleaving }
     ensures ready { IsStream stream.new }
     ensures ok { OnOk result (Feeds (state_of stream.old) (state_of stream.new)
-        (channel_part part.interleaving part.channels groups.now part.c 0 part.number) tile.old.items tile.new.items) }
+        (channel_part part.interleaving part.channels groups.now part.channel 0 part.number)
+        tile.old.items tile.new.items) }
     ensures fed { OnOk result (stream.new.fed ≡ stream.old.fed + part.number) }
     ensures same { (stream.new.taps ≡ stream.old.taps) × (stream.new.count ≡ stream.old.count) }
 {
@@ -210,7 +211,7 @@ fn feed_one(
         own,
         groups,
         part.channels,
-        part.c,
+        part.channel,
         part.interleaving,
         part.number,
     )?;

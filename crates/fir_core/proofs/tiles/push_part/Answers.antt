@@ -9,17 +9,17 @@ push_samples-requires-clause-reach c =
     let d = c.args.taps.now in
     let limits = c.factor.ensures.limits in
     rw (c.factor.ensures.value, ap (λ f. f.delay) c.taps.view_is)
-    (numbers_reach c.args.j c.args.number (length c.args.bits.now) d.factor d.delay (omega (arith, limits.least_factor)) limits.greatest_factor (omega (arith, limits.delay_in_taps, limits.few_taps)) c.len-count.ensures.in_limit c.requires.within)
+    (numbers_reach c.args.start c.args.number (length c.args.bits.now) d.factor d.delay (omega (arith, limits.least_factor)) limits.greatest_factor (omega (arith, limits.delay_in_taps, limits.few_taps)) c.len-count.ensures.in_limit c.requires.within)
 
 pub push_samples-requires-clause-phase : goal.push_samples-requires-clause-phase
 push_samples-requires-clause-phase c =
     let d = c.args.taps.now in
-    rw (c.factor.ensures.value, ap (λ f. f.delay) c.taps.view_is) (omega (arith, whole_step c.args.j d.factor c.factor.ensures.limits.whole_bytes))
+    rw (c.factor.ensures.value, ap (λ f. f.delay) c.taps.view_is) (omega (arith, whole_step c.args.start d.factor c.factor.ensures.limits.whole_bytes))
 
 pub returns-clause-ok : goal.returns-clause-ok
 returns-clause-ok c =
     let d = c.args.taps.now in
     let bits : unpacked c.as_bytes.result.now c.len-count.result ≡ c.args.bits.now = ap (unpacked c.as_bytes.result.now) c.len-count.ensures.value ∙ sym c.as_bytes.ensures.bits in
-    let place : c.args.j * c.factor.result + c.taps.inside.delay ≡ c.args.j * d.factor + d.delay = ap₂ (λ (x y : ℕ). c.args.j * x + y) c.factor.ensures.value (ap (λ f. f.delay) c.taps.view_is) in
+    let place : c.args.start * c.factor.result + c.taps.inside.delay ≡ c.args.start * d.factor + d.delay = ap₂ (λ (x y : ℕ). c.args.start * x + y) c.factor.ensures.value (ap (λ f. f.delay) c.taps.view_is) in
     c.in_ok-push_samples.ensures.ok
-    ∙ ap (λ xs. c.args.out.now.items ++ xs) (ap₂ (λ (bs : List Bool) (n : ℕ). samples_from d bs n c.args.number) bits place ∙ numbered d c.args.bits.now c.args.j c.args.number)
+    ∙ ap (λ xs. c.args.out.now.items ++ xs) (ap₂ (λ (bs : List Bool) (n : ℕ). samples_from d bs n c.args.number) bits place ∙ numbered d c.args.bits.now c.args.start c.args.number)

@@ -10,5 +10,5 @@ returns c =
     let size : length c.pick.new.to ≡ c.resize.new.self.len = omega (arith, c.pick.auto.to, c.as_mut_slice.ensures.len, c.in_ok-resize.ensures.len) in
     let number : length c.pick.new.to ≡ c.args.number = omega (arith, size, c.in_ok-resize.ensures.len) in
     written_back c.pick.new.to _ c.resize.new.self.len size
-    ∙ strided_is c.pick.new.to c.args.groups.now c.args.channels c.args.c (λ frame h. c.pick.ensures frame (omega (arith, c.pick.auto.to)))
-    ∙ ap (channel_part Bytes c.args.channels c.args.groups.now c.args.c 0) number
+    ∙ strided_is c.pick.new.to c.args.groups.now c.args.channels c.args.channel (λ frame h. c.pick.ensures frame (omega (arith, c.pick.auto.to)))
+    ∙ ap (channel_part Bytes c.args.channels c.args.groups.now c.args.channel 0) number

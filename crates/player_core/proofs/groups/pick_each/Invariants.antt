@@ -4,5 +4,5 @@ use Rattle.player_core.proofs.groups.pick_each.Given as goal
 abbrev pub invariant-loop-frame : goal.invariant-loop-frame
 invariant-loop-frame l = record {
   size : length l.to ≡ length l.fn.to;
-  done : (j : ℕ) → j < l.frame → slice_index l.to j ≡ slice_index l.groups (j * l.channels + l.c);
+  done : (j : ℕ) → j < l.frame → slice_index l.to j ≡ slice_index l.groups (j * l.channels + l.channel);
 }

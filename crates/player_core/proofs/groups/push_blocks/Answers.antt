@@ -12,11 +12,11 @@ loop-group-preserved c =
     let bytes = c.args.groups.now in
     let group = c.loop-group.group in
     let order = c.args.order in
-    let at = (group * c.args.channels + c.args.c) * 4096 in
-    let own = own_blocks bytes c.args.channels c.args.c in
+    let at = (group * c.args.channels + c.args.channel) * 4096 in
+    let own = own_blocks bytes c.args.channels c.args.channel in
     let before : min (4096 * group) c.args.number ≡ 4096 * group = omega (arith, c.div_ceil-group-end.ensures, c.loop-group-test.true) in
     let after : 4096 * group + c.min.result ≡ min (4096 * (group + 1)) c.args.number = omega (arith, c.min.ensures, before) in
-    let more = own_blocks_more bytes c.args.channels c.args.c group c.min.result (omega (arith, c.min.ensures)) (block_within c.args.channels c.args.c c.args.number group c.min.result (length bytes) c.requires.channel.0 (omega (arith, c.min.ensures)) (omega (arith, c.div_ceil-group-end.ensures, c.loop-group-test.true)) c.requires.enough) in
+    let more = own_blocks_more bytes c.args.channels c.args.channel group c.min.result (omega (arith, c.min.ensures)) (block_within c.args.channels c.args.channel c.args.number group c.min.result (length bytes) c.requires.channel.0 (omega (arith, c.min.ensures)) (omega (arith, c.div_ceil-group-end.ensures, c.loop-group-test.true)) c.requires.enough) in
     let used = c.split_at-in-loop-group.ensures.front ∙ ap (take c.min.result) c.split_at.ensures.back in
     let joined = map-append (ordered order) (own (4096 * group)) (take c.min.result (drop at bytes)) in
     c.in_ok-push_in_order.ensures ∙ ap (λ xs. xs ++ map (ordered order) c.split_at-in-loop-group.result.0.now) (c.loop-group.invariant ∙ ap (λ n. c.args.own.now.items ++ map (ordered order) (own n)) before)
@@ -26,13 +26,13 @@ loop-group-preserved c =
 pub returns : goal.returns
 returns c =
     let all : min (4096 * c.loop-group.group) c.args.number ≡ c.args.number = omega (arith, c.div_ceil-group-end.ensures, c.loop-group-test.false) in
-    c.loop-group.invariant ∙ ap (λ n. c.args.own.now.items ++ map (ordered c.args.order) (own_blocks c.args.groups.now c.args.channels c.args.c n)) all
-    ∙ ap (λ xs. c.args.own.now.items ++ xs) (blocks_are c.args.order c.args.channels c.args.groups.now c.args.c c.args.number)
+    c.loop-group.invariant ∙ ap (λ n. c.args.own.now.items ++ map (ordered c.args.order) (own_blocks c.args.groups.now c.args.channels c.args.channel n)) all
+    ∙ ap (λ xs. c.args.own.now.items ++ xs) (blocks_are c.args.order c.args.channels c.args.groups.now c.args.channel c.args.number)
 
 -- ---- what the calls in the loop need
-place : (c : In-loop-group) → (c.loop-group.group * c.args.channels + c.args.c) * 4096 + 0 ≤ length c.args.groups.now
+place : (c : In-loop-group) → (c.loop-group.group * c.args.channels + c.args.channel) * 4096 + 0 ≤ length c.args.groups.now
 place c =
-    block_within c.args.channels c.args.c c.args.number c.loop-group.group 0 (length c.args.groups.now) c.requires.channel.0 (omega arith)
+    block_within c.args.channels c.args.channel c.args.number c.loop-group.group 0 (length c.args.groups.now) c.requires.channel.0 (omega arith)
     (omega (arith, c.div_ceil-group-end.ensures, c.loop-group-test.true)) c.requires.enough
 
 pub div_ceil-group-end-requires : goal.div_ceil-group-end-requires
@@ -41,7 +41,7 @@ div_ceil-group-end-requires c = omega arith
 pub loop-group-init : goal.loop-group-init
 loop-group-init c =
     let none : min 0 c.args.number ≡ 0 = omega arith in
-    sym (ap (λ n. c.args.own.now.items ++ map (ordered c.args.order) (own_blocks c.args.groups.now c.args.channels c.args.c n)) none ∙ append-nil c.args.own.now.items)
+    sym (ap (λ n. c.args.own.now.items ++ map (ordered c.args.order) (own_blocks c.args.groups.now c.args.channels c.args.channel n)) none ∙ append-nil c.args.own.now.items)
 
 pub overflow_mul-group : goal.overflow_mul-group
 overflow_mul-group c = omega (arith, place c)
@@ -63,7 +63,7 @@ overflow_sub-number c = omega (arith, c.div_ceil-group-end.ensures, c.loop-group
 
 pub split_at-requires-in-loop-group : goal.split_at-requires-in-loop-group
 split_at-requires-in-loop-group c =
-    let within = block_within c.args.channels c.args.c c.args.number c.loop-group.group c.min.result (length c.args.groups.now) c.requires.channel.0 (omega (arith, c.min.ensures))
+    let within = block_within c.args.channels c.args.channel c.args.number c.loop-group.group c.min.result (length c.args.groups.now) c.requires.channel.0 (omega (arith, c.min.ensures))
     (omega (arith, c.div_ceil-group-end.ensures, c.loop-group-test.true)) c.requires.enough in
     omega (arith, within, c.split_at.ensures.back_len)
 

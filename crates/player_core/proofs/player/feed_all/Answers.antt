@@ -9,52 +9,52 @@ use Rattle.player_core.specs.Frames.{tile_of}
 use Rattle.player_core.proofs.LoopLaws.{fed_next}
 use Rattle.player_core.proofs.player.feed_all.Goals as goal
 
-pub loop-c-preserved : goal.loop-c-preserved
-loop-c-preserved c =
-    fed_next c.args.sound.now c.args.number c.args.groups.now c.args.streams.now c.loop-c.streams c.loop-c.tile.items c.feed_one.new.tile.items c.loop-c.c c.feed_one.new.stream c.index-streams-c.result
-    c.loop-c.invariant c.loop-c-test.true (omega (arith, c.requires.channels.0)) c.in_ok-feed_one.ensures.ready
+pub loop-channel-preserved : goal.loop-channel-preserved
+loop-channel-preserved c =
+    fed_next c.args.sound.now c.args.number c.args.groups.now c.args.streams.now c.loop-channel.streams c.loop-channel.tile.items c.feed_one.new.tile.items c.loop-channel.channel c.feed_one.new.stream c.index-streams-channel.result
+    c.loop-channel.invariant c.loop-channel-test.true (omega (arith, c.requires.channels.0)) c.in_ok-feed_one.ensures.ready
     c.in_ok-feed_one.ensures.ok
     c.in_ok-feed_one.ensures.fed c.in_ok-feed_one.ensures.same.0 c.in_ok-feed_one.ensures.same.1
 
 pub returns-clause-channels : goal.returns-clause-channels
-returns-clause-channels c = λ d fed are k t h. c.loop-c.invariant.done d fed are k t (omega (arith, c.loop-c.invariant.long, c.loop-c-test.false))
+returns-clause-channels c = λ d fed are k t h. c.loop-channel.invariant.done d fed are k t (omega (arith, c.loop-channel.invariant.long, c.loop-channel-test.false))
 
 pub returns-clause-fed : goal.returns-clause-fed
 returns-clause-fed c = λ d fed are front k long was is all.
     let s = c.args.sound.now in
-    let so = c.loop-c.invariant.fits d fed are front k long was is all in
-    let every : c.loop-c.c ≡ s.channels = omega (arith, c.loop-c.invariant.long, c.loop-c-test.false, c.loop-c.auto.c-end, c.requires.channels.0) in (
-      λ i t h. so.0 i t (omega (arith, c.loop-c.invariant.long, c.loop-c-test.false)),
+    let so = c.loop-channel.invariant.fits d fed are front k long was is all in
+    let every : c.loop-channel.channel ≡ s.channels = omega (arith, c.loop-channel.invariant.long, c.loop-channel-test.false, c.loop-channel.auto.channel-end, c.requires.channels.0) in (
+      λ i t h. so.0 i t (omega (arith, c.loop-channel.invariant.long, c.loop-channel-test.false)),
       so.1 ∙ ap (λ n. tile_of d (map (channel_bits s (front ++ c.args.groups.now)) (range_with_len 0 n)) (frames_due d s (length front)) (frames_due d s (length (front ++ c.args.groups.now)) - frames_due d s (length front))) every,
     )
 
-pub loop-c-init : goal.loop-c-init
-loop-c-init c = record {
+pub loop-channel-init : goal.loop-channel-init
+loop-channel-init c = record {
   long = refl;
   later = λ k t h. refl;
   done = λ d fed are k t h. absurd (omega arith);
   fits = λ d fed are front k long was is all. (λ i t h. absurd (omega arith), c.clear.ensures.items);
 }
 
-pub offset_bounds-streams-c : goal.offset_bounds-streams-c
-offset_bounds-streams-c c = omega (arith, c.loop-c-test.true, c.requires.channels.0, c.requires.channels.1)
+pub offset_bounds-streams-channel : goal.offset_bounds-streams-channel
+offset_bounds-streams-channel c = omega (arith, c.loop-channel-test.true, c.requires.channels.0, c.requires.channels.1)
 
-pub bounds-streams-c : goal.bounds-streams-c
-bounds-streams-c c = omega (arith, c.loop-c-test.true, c.loop-c.invariant.long)
+pub bounds-streams-channel : goal.bounds-streams-channel
+bounds-streams-channel c = omega (arith, c.loop-channel-test.true, c.loop-channel.invariant.long)
 
 -- the next stream is as it was
 pub feed_one-requires-clause-ready : goal.feed_one-requires-clause-ready
 feed_one-requires-clause-ready c =
-    subst IsStream (sym (c.loop-c.invariant.later c.loop-c.c c.index-streams-c.result (omega arith)))
-    (c.requires.ready c.loop-c.c c.index-streams-c.result c.loop-c-test.true).0
+    subst IsStream (sym (c.loop-channel.invariant.later c.loop-channel.channel c.index-streams-channel.result (omega arith)))
+    (c.requires.ready c.loop-channel.channel c.index-streams-channel.result c.loop-channel-test.true).0
 
 pub feed_one-requires-clause-few : goal.feed_one-requires-clause-few
 feed_one-requires-clause-few c =
-    subst (λ (t : Stream). t.fed + c.args.number ≤ div_ceil t.count 8) (sym (c.loop-c.invariant.later c.loop-c.c c.index-streams-c.result (omega arith)))
-    (c.requires.ready c.loop-c.c c.index-streams-c.result c.loop-c-test.true).1
+    subst (λ (t : Stream). t.fed + c.args.number ≤ div_ceil t.count 8) (sym (c.loop-channel.invariant.later c.loop-channel.channel c.index-streams-channel.result (omega arith)))
+    (c.requires.ready c.loop-channel.channel c.index-streams-channel.result c.loop-channel-test.true).1
 
 pub feed_one-requires-clause-channel : goal.feed_one-requires-clause-channel
-feed_one-requires-clause-channel c = (omega (arith, c.loop-c-test.true, c.requires.channels.0), c.requires.channels.1)
+feed_one-requires-clause-channel c = (omega (arith, c.loop-channel-test.true, c.requires.channels.0), c.requires.channels.1)
 
 pub feed_one-requires-clause-enough : goal.feed_one-requires-clause-enough
 feed_one-requires-clause-enough c = c.requires.enough

@@ -1,5 +1,5 @@
 use Rattle.player_core.proofs.LoopLaws.{FedUpTo}
 use Rattle.player_core.proofs.player.feed_all.Given as goal
 
-abbrev pub invariant-loop-c : goal.invariant-loop-c
-invariant-loop-c l = FedUpTo l.sound l.number l.groups l.initial.streams l.streams l.tile.items l.c
+abbrev pub invariant-loop-channel : goal.invariant-loop-channel
+invariant-loop-channel l = FedUpTo l.sound l.number l.groups l.initial.streams l.streams l.tile.items l.channel

@@ -20,9 +20,10 @@ use Rattle.master_core.specs.Checking.{IsMasterOf}
 use Rattle.master_core.specs.Claims.{IsCertOf}
 use Rattle.master_core.specs.Judging.{AtCost, IsNoRejection, JudgesMaster, WhereAccepted}
 use Rattle.master_core.specs.Masters.{AreLeastChannels, AreMasterChannels, CostLeast, total_cost}
-use Rattle.transfer_core.specs.Faults.{fault_of_cut}
-use Rattle.transfer_core.specs.Streaming.{failed_reads}
-use Rattle.transfer_core.specs.declared.fault.Fault.TheVariants.{Memory, ReadFailed}
+use Rattle.sound_core.specs.Faults.{failed_reads}
+use Rattle.sound_core.specs.declared.fault.StreamFault.TheVariants.{ReadFailed}
+use Rattle.transfer_core.specs.Faults.{as_stream, fault_of_cut}
+use Rattle.transfer_core.specs.declared.fault.Fault.TheVariants.{Memory, Stream}
 use Rattle.archive_core.specs.Checking.{Accepts, AnswersAccepted, IfAccepted, IfRejected, IsAcceptedAt, IsFoundIn, IsLeastFile, IsLeastMaster, JudgesFile, ReadsAccepted, RejectsFirst, fault_of_check}
 use Rattle.archive_core.specs.Editing.{CostsLeast, CostsWindows, IsMaster}
 use Rattle.archive_core.specs.Cutting.{SaysCut}
@@ -41,23 +42,17 @@ for_known None P p = tt
 for_known (Some bytes) P p = p bytes
 
 -- no cut is refused for a read that failed
-pub cut_reads : (fault : CutFault) → failed_reads {X = Verdict} (Err (fault_of_cut fault)) ≡ 0
-cut_reads cuts.TakeNumber = refl
-cut_reads (cuts.TakeUnread i fault) = refl
-cut_reads (cuts.TakeMismatch i) = refl
-cut_reads (cuts.CueOutside i) = refl
-cut_reads cuts.MasterTooLong = refl
+pub cut_reads : (fault : CutFault) → failed_reads (as_stream {X = Verdict} (Err (fault_of_cut fault))) ≡ 0
 cut_reads cuts.NotWholeBytes = refl
-cut_reads (cuts.NoRoomBefore i) = refl
-cut_reads (cuts.NoRoomAfter i) = refl
 cut_reads cuts.Memory = refl
+cut_reads fault = refl
 
 -- a certificate that wasn't judged
-pub not_judged : (fault : CheckFault) → (fault_of_check fault ≡ ReadFailed) ⊎ (fault_of_check fault ≡ Memory)
+pub not_judged : (fault : CheckFault) → (fault_of_check fault ≡ Stream ReadFailed) ⊎ (fault_of_check fault ≡ Memory)
 not_judged certs.Device = inl refl
 not_judged certs.Memory = inr refl
 
-pub same_count : (fault : CheckFault) → failed_reads {X = Verdict} (Err (fault_of_check fault)) ≡ failed_checks {T = Verdict} (Err fault)
+pub same_count : (fault : CheckFault) → failed_reads (as_stream {X = Verdict} (Err (fault_of_check fault))) ≡ failed_checks {T = Verdict} (Err fault)
 same_count certs.Device = refl
 same_count certs.Memory = refl
 

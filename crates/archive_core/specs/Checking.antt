@@ -18,8 +18,9 @@ use Rattle.master_core.specs.Claims.{IsCertOf}
 use Rattle.master_core.specs.Judging.{JudgesMaster}
 use Rattle.master_core.specs.Masters.{AreLeastChannels, AreMasterChannels, CostLeast, total_cost}
 use Rattle.master_core.specs.Standing.{IsFoundOf}
+use Rattle.sound_core.specs.declared.fault.StreamFault.TheVariants.{ReadFailed}
 use Rattle.transfer_core.specs.declared.fault.Fault.{Fault}
-use Rattle.transfer_core.specs.declared.fault.Fault.TheVariants.{ReadFailed, Memory}
+use Rattle.transfer_core.specs.declared.fault.Fault.TheVariants.{Stream, Memory}
 use Rattle.archive_core.specs.Cutting.{SaysCut}
 
 -- a refusal of reading is want of memory
@@ -80,11 +81,11 @@ AnswersAccepted (Err fault) cost = fault ≡ Memory
 abbrev pub ReadsAccepted : Result Verdict Fault → ℕ → Type 0
 ReadsAccepted (Ok (Accepted total)) cost = total ≡ cost
 ReadsAccepted (Ok (Rejected reason)) cost = ⊥
-ReadsAccepted (Err fault) cost = (fault ≡ ReadFailed) ⊎ (fault ≡ Memory)
+ReadsAccepted (Err fault) cost = (fault ≡ Stream ReadFailed) ⊎ (fault ≡ Memory)
 
 -- what a certificate that wasn't judged is refused for
 abbrev pub fault_of_check : CheckFault → Fault
-fault_of_check certs.Device = ReadFailed
+fault_of_check certs.Device = Stream ReadFailed
 fault_of_check certs.Memory = Memory
 
 -- ---- by a cut

@@ -12,7 +12,8 @@ ghost use Rattle.master_core.specs.Claims.{IsCertOf};
 ghost use Rattle.master_core.specs.Judging.{AtCost};
 ghost use Rattle.master_core.specs.Masters.{total_cost};
 ghost use Rattle.master_core.specs.Standing.{IsFoundOf};
-ghost use Rattle.transfer_core.specs.Streaming.{failed_reads};
+ghost use Rattle.sound_core.specs.Faults.{failed_reads};
+ghost use Rattle.transfer_core.specs.Faults.{as_stream};
 ghost use Rattle.archive_core.specs.Editing.{CostsLeast, CostsWindows, IsMaster};
 ghost use Rattle.cut_core.specs.Opening.{file_bytes};
 ghost use Rattle.dsd_bits.specs.Contents.{Content};
@@ -28,6 +29,7 @@ use cut_core::{Cut, Heard, hear_takes};
 use device_core::Inlet;
 use form_core::{Opened, ReadFault, read_any};
 use master_core::{Found, Reason, Verdict, judge_found, judge_read};
+use sound_core::StreamFault;
 use splice_core::Splice;
 use std::alloc::{AllocError, Global};
 use std::io::Read;
@@ -161,10 +163,11 @@ pub fn check_read<R: Read>(
         (λ bytes. RejectsFirst project files master.now bytes reason)) }
     ensures refused { (project : List ℕ) (files : List (List ℕ))
         → AreTakes project files (splice_content splice) takes.items
-        → IfErr result (λ fault. (fault ≡ Fault.ReadFailed) ⊎ Fails Fault.Memory fault (said_cut project files None)) }
+        → IfErr result (λ fault. (fault ≡ Fault.Stream StreamFault.ReadFailed)
+        ⊎ Fails Fault.Memory fault (said_cut project files None)) }
     // The answer is `ReadFailed` exactly where a read failed.
     ensures failures { inlet_failures (cert_inlet cert.new)
-        ≡ inlet_failures (cert_inlet cert.old) + failed_reads result }
+        ≡ inlet_failures (cert_inlet cert.old) + failed_reads (as_stream result) }
 {
     let cut = cut_heard(splice, takes, None)?;
     match judge_file(alloc, &cut, master, cert) {
@@ -208,10 +211,10 @@ pub fn check_found<R: Read>(
         → IsFoundIn project files cut.now found.now master
         → IfRejected result (λ reason. IfSome (R.remaining (inlet_reader (cert_inlet cert.old)))
         (λ bytes. RejectsFirst project files master bytes reason)) }
-    ensures refused { IfErr result (λ fault. (fault ≡ Fault.ReadFailed) ⊎ (fault ≡ Fault.Memory)) }
+    ensures refused { IfErr result (λ fault. (fault ≡ Fault.Stream StreamFault.ReadFailed) ⊎ (fault ≡ Fault.Memory)) }
     // The answer is `ReadFailed` exactly where a read failed.
     ensures failures { inlet_failures (cert_inlet cert.new)
-        ≡ inlet_failures (cert_inlet cert.old) + failed_reads result }
+        ≡ inlet_failures (cert_inlet cert.old) + failed_reads (as_stream result) }
 {
     match judge_found(alloc, cut, found, cert) {
         Ok(judged) => Ok(judged),
@@ -224,7 +227,7 @@ fn fault_of(fault: CheckFault) -> Fault
     ensures { result ≡ fault_of_check fault }
 {
     match fault {
-        CheckFault::Device => Fault::ReadFailed,
+        CheckFault::Device => Fault::Stream(StreamFault::ReadFailed),
         CheckFault::Memory => Fault::Memory,
     }
 }

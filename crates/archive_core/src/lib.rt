@@ -39,10 +39,12 @@ mod laws;
 mod planning;
 
 pub use checking::{check, check_found, check_heard, check_read};
+pub use cut_core::CutFault;
 pub use cutting::cut_heard;
 pub use editing::{Edited, edit, edit_heard};
 pub use form_core::{Form, Opened, ReadFault, read_any};
 pub use laws::read_in_order;
 pub use master_core::{CuedPlace, Found, Reason, Verdict};
 pub use planning::{PlannedMaster, plan_master};
+pub use sound_core::StreamFault;
 pub use transfer_core::{Converted, Fault, convert, play, play_stream, take_names};

@@ -14,7 +14,7 @@ use crate::cutting::cuts;
 use crate::master_commands::{CHECK, CUT};
 use crate::outcomes::{MARKED, prints};
 use crate::playing::plays_built;
-use archive_core::{Fault, Form, Reason, play_stream, read_any, take_names};
+use archive_core::{Fault, Form, Reason, StreamFault, play_stream, read_any, take_names};
 use command_core::{
     Folder, FolderFault, MemoryFolder, Outcome, Task, outcome_line, perform, read_files,
     read_whole, status,
@@ -116,8 +116,8 @@ fn shelf_of<'a>(files: &'a [(&'a str, &'a [u8])]) -> Shelf<'a> {
 fn fault_of(outcome: Outcome) -> Fault {
     match outcome {
         Outcome::Fault(fault) => fault,
-        Outcome::WriteFailed => Fault::WriteFailed,
-        _ => Fault::ReadFailed,
+        Outcome::WriteFailed => Fault::Stream(StreamFault::WriteFailed),
+        _ => Fault::Stream(StreamFault::ReadFailed),
     }
 }
 

@@ -1,7 +1,7 @@
 //! The lines and the statuses of all that a command can come to.
 
 use crate::builders::file_in;
-use archive_core::{Fault, Form, ReadFault, Reason, read_any};
+use archive_core::{CutFault, Fault, Form, ReadFault, Reason, StreamFault, read_any};
 use cert_core::CertReason;
 use command_core::{Outcome, Told, form_named, name_of, outcome_line, status};
 use fixtures::files::noted;
@@ -64,11 +64,14 @@ const FAULTS: [(Fault, &str); 8] = [
         "fault: FileUnread UnknownForm",
     ),
     (Fault::NoDecimation, "fault: NoDecimation"),
-    (Fault::RateNotDivided, "fault: RateNotDivided"),
-    (Fault::TooLarge, "fault: TooLarge"),
+    (
+        Fault::Stream(StreamFault::RateNotDivided),
+        "fault: RateNotDivided",
+    ),
+    (Fault::Stream(StreamFault::TooLarge), "fault: TooLarge"),
     (Fault::NotWholeBytes, "fault: NotWholeBytes"),
-    (Fault::TakeNumber, "fault: TakeNumber"),
-    (Fault::MasterTooLong, "fault: MasterTooLong"),
+    (Fault::Cut(CutFault::TakeNumber), "fault: TakeNumber"),
+    (Fault::Cut(CutFault::MasterTooLong), "fault: MasterTooLong"),
     (Fault::Memory, "fault: Memory"),
 ];
 

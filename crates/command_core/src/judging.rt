@@ -13,6 +13,7 @@ use archive_core::{Fault, Found, Reason, Verdict, check_found};
 use cert_core::CertReader;
 use cut_core::Cut;
 use device_core::{FusedInlet, Inlet, MOST_READS};
+use sound_core::StreamFault;
 use std::alloc::Global;
 use std::io::{BufReader, Read};
 use transfer_commands::CommandFault;
@@ -46,7 +47,7 @@ pub(crate) fn judge_opened<R: Read + Drop>(
     }
     match came {
         Ok(verdict) => Ok(verdict),
-        Err(Fault::ReadFailed) => Err(CommandFault::ReadFailed),
+        Err(Fault::Stream(StreamFault::ReadFailed)) => Err(CommandFault::ReadFailed),
         Err(fault) => Err(CommandFault::Call(fault)),
     }
 }
@@ -68,7 +69,7 @@ fn judge_by<R: Read>(
         → IsFoundHeld cut.now file found.now
         → IfRejected result (λ reason. IfSome (R.remaining (inlet_reader (cert_inlet cert.old)))
         (λ bytes. RejectsFirst project files file bytes reason)) }
-    ensures refused { IfErr result (λ fault. (fault ≡ Fault.ReadFailed) ⊎ (fault ≡ Fault.Memory)) }
+    ensures refused { IfErr result (λ fault. (fault ≡ Fault.Stream StreamFault.ReadFailed) ⊎ (fault ≡ Fault.Memory)) }
 {
     match found {
         Some(found) => check_found(alloc, cut, found, cert),

@@ -9,7 +9,7 @@ use device_core::{Inlet, Outlet};
 use fixtures::devices::{Dripping, Sipping, drip, sip};
 use fixtures::files::{FILE, STEREO, changed, followed, mono, noted, one_bit, three, with_sound};
 use form_core::Form;
-use sound_core::read_outline;
+use sound_core::{StreamFault, read_outline};
 use std::alloc::{AllocError, Global};
 use std::test::Fail;
 use transfer_core::{Converted, Fault, convert, convert_stream};
@@ -40,21 +40,21 @@ impl Streamed {
 
     // Whether the file was refused, and what was written is a front of these bytes.
     fn is_no_file(&self, bytes: &[u8]) -> bool {
-        matches!(self.answer, Err(Fault::FileRefused))
+        matches!(self.answer, Err(Fault::Stream(StreamFault::FileRefused)))
             && self.failures == (0, 0)
             && bytes.starts_with(&self.bytes)
     }
 
     // Whether a read failed, and what was written is a front of these bytes.
     fn stops_reading(&self, bytes: &[u8]) -> bool {
-        matches!(self.answer, Err(Fault::ReadFailed))
+        matches!(self.answer, Err(Fault::Stream(StreamFault::ReadFailed)))
             && self.failures == (1, 0)
             && bytes.starts_with(&self.bytes)
     }
 
     // Whether a write failed, and just these bytes were written.
     fn stops_writing(&self, bytes: &[u8]) -> bool {
-        matches!(self.answer, Err(Fault::WriteFailed))
+        matches!(self.answer, Err(Fault::Stream(StreamFault::WriteFailed)))
             && self.failures == (0, 1)
             && self.bytes.as_slice() == bytes
     }

@@ -1,7 +1,7 @@
 //! Readers and writers that fail: the fault is named, and what was written is a front of the WAVE file.
 
 use crate::played::{NEVER, ONES, Played, play_from};
-use archive_core::{Fault, play};
+use archive_core::{Fault, StreamFault, play};
 use fixtures::devices::{drip, sip};
 use fixtures::files::{dsf_of, mono};
 use fixtures::projects::{DECIMATE, with_ones};
@@ -150,16 +150,16 @@ fn a_failed_read_of_blocks_leaves_a_front(rt: HostRuntime) -> Result<(), Fail> {
 }
 
 // The faults of playing from a reader, and their names.
-const NAMES: [(Fault, &str); 4] = [
-    (Fault::FileRefused, "FileRefused"),
-    (Fault::ReadFailed, "ReadFailed"),
-    (Fault::WriteFailed, "WriteFailed"),
-    (Fault::TurnLimit, "TurnLimit"),
+const NAMES: [(StreamFault, &str); 4] = [
+    (StreamFault::FileRefused, "FileRefused"),
+    (StreamFault::ReadFailed, "ReadFailed"),
+    (StreamFault::WriteFailed, "WriteFailed"),
+    (StreamFault::TurnLimit, "TurnLimit"),
 ];
 
-// Whether a fault has this name.
-fn is_named(alloc: Global, fault: Fault, name: &str) -> Result<bool, AllocError> {
-    Ok(fault.to_string(alloc)?.as_str() == name)
+// Whether a fault of playing has this name.
+fn is_named(alloc: Global, fault: StreamFault, name: &str) -> Result<bool, AllocError> {
+    Ok(Fault::from(fault).to_string(alloc)?.as_str() == name)
 }
 
 #[test]

@@ -2,7 +2,7 @@
 
 ghost use Rattle.std.specs.Prelude.{◌<◌};
 
-use archive_core::{Fault, play_stream};
+use archive_core::{Fault, StreamFault, play_stream};
 use device_core::{Inlet, Outlet};
 use fixtures::devices::{Dripping, Sipping, drip, sip};
 use std::alloc::{AllocError, Global};
@@ -42,14 +42,14 @@ impl Played {
 
     /// Whether a read failed, and what was written is a front of these bytes.
     pub(crate) fn stops_reading(&self, wave: &[u8]) -> bool {
-        matches!(self.answer, Err(Fault::ReadFailed))
+        matches!(self.answer, Err(Fault::Stream(StreamFault::ReadFailed)))
             && self.failures == (1, 0)
             && wave.starts_with(&self.bytes)
     }
 
     /// Whether a write failed, and just these bytes were written.
     pub(crate) fn stops_writing(&self, bytes: &[u8]) -> bool {
-        matches!(self.answer, Err(Fault::WriteFailed))
+        matches!(self.answer, Err(Fault::Stream(StreamFault::WriteFailed)))
             && self.failures == (0, 1)
             && self.bytes.as_slice() == bytes
     }

@@ -12,7 +12,7 @@ use crate::outlining::outline_file;
 use device_core::{Inlet, Outlet};
 use folder_core::{Folder, read_file, read_short, write_file};
 use form_core::{Form, held_is_opened, written_in_parts};
-use sound_core::Outline;
+use sound_core::{Outline, StreamFault};
 use std::alloc::Global;
 use std::io::{Read, Write};
 use transfer_core::{Fault, convert, convert_stream};
@@ -95,7 +95,7 @@ fn convert_outlined<F: Folder>(
         Err(fault) => {
             folder.give_up(output, made);
             match fault {
-                Fault::WriteFailed => Err(CommandFault::WriteFailed),
+                Fault::Stream(StreamFault::WriteFailed) => Err(CommandFault::WriteFailed),
                 Fault::Memory => Err(CommandFault::Call(Fault::Memory)),
                 _ => Err(CommandFault::ReadFailed),
             }

@@ -11,12 +11,16 @@ use Rattle.dsd_bits.specs.Contents.{Content}
 use Rattle.dsd_bits.specs.Lacing.{unlaced}
 use Rattle.dsd_bits.specs.Sounds.{sound_channels, sound_size}
 use Rattle.dsd_bits.proofs.BlockLemmas.{unblocked_count}
+use Rattle.dsdiff_core.specs.declared.write_fault.WriteFault.{WriteFault}
+use Rattle.dsdiff_core.specs.declared.write_fault.WriteFault.TheVariants as writes
 use Rattle.relace_core.specs.Relacing.{laced_in}
 use Rattle.relace_core.proofs.TakenLaws.{unlaced_count}
+use Rattle.sound_core.specs.declared.fault.StreamFault.{StreamFault}
+use Rattle.sound_core.specs.declared.fault.StreamFault.TheVariants as faults
 use Rattle.sound_core.specs.Outlines.{AreTold, HoldsIn, StandsIn, Surroundings, with_sound}
 use Rattle.stream_core.proofs.PieceLaws.{front_nil}
 use Rattle.relay_core.specs.declared.relaying.Target.{Target}
-use Rattle.relay_core.specs.Relays.{Relays, RelaysFront, RelaysGiven, relayed}
+use Rattle.relay_core.specs.Relays.{IsRelayFault, Relays, RelaysFront, RelaysGiven, relayed}
 use Rattle.form_core.specs.declared.fault.ReadFault.{ReadFault}
 use Rattle.form_core.specs.declared.form.Form.{Form}
 use Rattle.form_core.specs.declared.form.Form.TheVariants as forms
@@ -25,8 +29,9 @@ use Rattle.form_core.specs.Forms.{HoldsAs, dropped_in, form_of, text_in}
 use Rattle.form_core.specs.Opening.{opened_of}
 use Rattle.form_core.specs.Parts.{FitsIn, WrittenInParts, head_in, interleaving_in, tail_in}
 use Rattle.form_core.proofs.OpeningLaws.{held_is_opened, holds_dsf}
-use Rattle.transfer_core.specs.Conversions.{ConvertsFile, ConvertsFront, ConvertsGiven}
+use Rattle.transfer_core.specs.Conversions.{ConversionStands, ConvertsFile, ConvertsFront, ConvertsGiven}
 use Rattle.transfer_core.specs.Converting.{Converts}
+use Rattle.transfer_core.specs.Faults.{fault_of_stream, fault_of_writing}
 
 -- ---- channels in sound bytes
 channel_number : (interleaving : Interleaving) (channels count : ℕ) (bytes : List ℕ) → length (sound_channels interleaving channels count bytes) ≡ channels
@@ -100,3 +105,12 @@ module _ (laws : WrittenInParts) (o : Surroundings) (told : AreTold o) (form : F
 pub nothing_converted : (left : Option (List ℕ)) (o : Surroundings) (form : Form) (a : Option (List ℕ)) → ConvertsFront left o form a a
 nothing_converted None o form a = tt
 nothing_converted (Some file) o form a = λ around bytes dropped is. front_nil a bytes
+
+-- ---- a fault stands
+pub ends_stand : (left : Option (List ℕ)) (o : Surroundings) (form : Form) (w : WriteFault) → (w ≡ writes.NotWholeBytes → FitsIn form o.sound.count → ⊥) → ConversionStands left o form (fault_of_writing w)
+ends_stand left o form writes.NotWholeBytes h = h refl
+ends_stand left o form writes.Memory h = (faults.Memory, refl, tt)
+
+pub relay_stands : (left : Option (List ℕ)) (o : Surroundings) (form : Form) (f : StreamFault) → IsRelayFault left o f → ConversionStands left o form (fault_of_stream f)
+relay_stands left o form faults.Memory h = (faults.Memory, refl, h)
+relay_stands left o form f h = (f, refl, h)

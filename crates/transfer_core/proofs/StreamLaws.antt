@@ -1,10 +1,9 @@
 -- What is played from a reader by a project's decimator is what project and file play.
-use Rattle.std.proofs.Common.{◌≡◌, ◌⊎◌, ◌-◌, ℕ, inl, inr, List, [], Option, None, Some, IfSome, Ok, Err, subst}
+use Rattle.std.proofs.Common.{◌≡◌, ◌⊎◌, ◌-◌, ℕ, inl, inr, List, [], Option, None, Some, IfSome, Ok, Err, refl, subst}
 use Rattle.device_core.specs.declared.inlet.Inlet.{Inlet}
 use Rattle.dsd_bits.specs.declared.blocks.BitOrder.TheVariants.{LeastFirst, MostFirst}
 use Rattle.dsd_bits.specs.Contents.{Content}
 use Rattle.fir_core.specs.Decimator.{Decimator}
-use Rattle.sound_core.specs.Faults.{IsFromOutside as IsOutside}
 use Rattle.sound_core.specs.Faults as reading
 use Rattle.sound_core.specs.Files.{HoldsRecording}
 use Rattle.stream_core.specs.Pace as pace
@@ -19,11 +18,11 @@ use Rattle.form_core.specs.Forms.{HoldsAs, form_of}
 use Rattle.form_core.proofs.OpeningLaws.{holds_dsf}
 use Rattle.transfer_core.specs.declared.fault.Fault.{Fault}
 use Rattle.transfer_core.specs.declared.fault.Fault.TheVariants as fault
-use Rattle.transfer_core.specs.Faults.{fault_of_stream}
+use Rattle.transfer_core.specs.Faults.{OfStream, as_stream, fault_of_stream}
 use Rattle.transfer_core.specs.Playing.{Plays}
 use Rattle.transfer_core.specs.Projects.{SaysDecimator, decimator_of}
 use Rattle.transfer_core.proofs.ReadingLaws.{says_decimator}
-use Rattle.transfer_core.specs.Streaming.{IsFromOutside, KeepsUp, OnlyFromOutside, StopsReading, StreamStands}
+use Rattle.transfer_core.specs.Streaming.{IsBeforeWriting, KeepsUp, OnlyFromOutside, StreamStands}
 
 -- ---- the form of a file
 form_held : (file : List ℕ) (r : Content) → HoldsRecording file r → (form : Form) × HoldsAs file form r
@@ -58,20 +57,8 @@ module _ (project : List ℕ) (d : Decimator) (says : SaysDecimator project d) w
   plays_given left old new a b n h = (h.0, h.1, h.2, plays h.0 h.1 h.3, h.4, h.5)
 
   pub stands : (left : Option (List ℕ)) (f : StreamFault) → IfSome left (λ file. streams.Stands d file f) → StreamStands left project (fault_of_stream f)
-  stands None faults.FileRefused h = tt
-  stands None faults.RateNotDivided h = tt
-  stands None faults.TooLarge h = tt
-  stands None faults.ReadFailed h = tt
-  stands None faults.WriteFailed h = tt
-  stands None faults.TurnLimit h = tt
-  stands None faults.Memory h = tt
-  stands (Some file) faults.FileRefused h = λ form r holds. h r (recording_held file form r holds)
-  stands (Some file) faults.RateNotDivided h = (d, says, h)
-  stands (Some file) faults.TooLarge h = (d, says, h)
-  stands (Some file) faults.ReadFailed h = tt
-  stands (Some file) faults.WriteFailed h = tt
-  stands (Some file) faults.TurnLimit h = tt
-  stands (Some file) faults.Memory h = tt
+  stands None f h = inr (f, refl, tt)
+  stands (Some file) f h = inr (f, refl, (d, says, h))
 
 -- ---- of the one decimator that a project says
 module _ (project : List ℕ) (d : Decimator) (is_said : decimator_of project ≡ Ok d) where
@@ -88,16 +75,7 @@ module _ (project : List ℕ) (d : Decimator) (is_said : decimator_of project �
 
   pub only_outside : (left : Option (List ℕ)) (f : StreamFault) → streams.OnlyFromOutside left d f → OnlyFromOutside left project (fault_of_stream f)
   only_outside None f h = tt
-  only_outside (Some file) f h = λ bytes is. told f (h bytes (played file bytes is))
-    where
-      told : (f : StreamFault) → IsOutside f → IsFromOutside (fault_of_stream f)
-      told faults.FileRefused h = h
-      told faults.RateNotDivided h = h
-      told faults.TooLarge h = h
-      told faults.ReadFailed h = tt
-      told faults.WriteFailed h = tt
-      told faults.TurnLimit h = tt
-      told faults.Memory h = tt
+  only_outside (Some file) f h = λ bytes is. (f, refl, h bytes (played file bytes is))
 
   pub writes_front : (left a b : Option (List ℕ)) → WritesFront left (PlaysBy d) a b → WritesFront left (Plays project) a b
   writes_front None a b h = tt
@@ -111,18 +89,23 @@ module _ (project : List ℕ) (d : Decimator) (is_said : decimator_of project �
   keeps_up None a b n h = tt
   keeps_up (Some file) a b n h = λ bytes s is told much. subst (λ e. WritesFrames e s (sound_given s n - 131072) bytes a b) (same_decimator file bytes is) (h bytes s (played file bytes is) told much)
 
--- ---- the reading that stops
-pub stops : (f : StreamFault) → StopsReading (fault_of_stream f) → reading.StopsReading f
-stops faults.FileRefused h = absurd h
-stops faults.RateNotDivided h = absurd h
-stops faults.TooLarge h = absurd h
-stops faults.ReadFailed h = tt
-stops faults.WriteFailed h = absurd h
-stops faults.TurnLimit h = tt
-stops faults.Memory h = absurd h
+-- ---- a fault of a stream, under its name here
+pub same_stream : {X : Type 0} (f : StreamFault) → as_stream {X = X} (Err (fault_of_stream f)) ≡ Err f
+same_stream faults.Memory = refl
+same_stream f = refl
+
+one_fault : (f g : StreamFault) → fault_of_stream f ≡ fault_of_stream g → g ≡ f
+one_fault f g is = let a = same_stream {X = ℕ} f in let b = same_stream {X = ℕ} g in cc
+
+pub of_stream : (P : StreamFault → Type 0) (f : StreamFault) → OfStream P (fault_of_stream f) → P f
+of_stream P f h = subst P (one_fault f h.0 h.1) h.2
+
+pub before_writing : (f : StreamFault) → IsBeforeWriting (fault_of_stream f) → reading.IsBeforeWriting f
+before_writing faults.Memory h = of_stream reading.IsBeforeWriting faults.Memory h
+before_writing f h = of_stream reading.IsBeforeWriting f h
 
 -- ---- a project that is refused
 pub project_outside : (left : Option (List ℕ)) (project : List ℕ) (e : Fault) → (e ≡ fault.Memory) ⊎ (decimator_of project ≡ Err e) → OnlyFromOutside left project e
 project_outside None project e h = tt
-project_outside (Some file) project e (inl is) = λ bytes plays. rw is tt
+project_outside (Some file) project e (inl is) = λ bytes plays. (faults.Memory, is, tt)
 project_outside (Some file) project e (inr is) = λ bytes plays. let says = says_decimator project plays.decimator plays.project_says in absurd cc

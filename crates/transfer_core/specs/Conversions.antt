@@ -1,13 +1,15 @@
 -- What is converted from a reader to a writer, and which faults stand.
-use Rattle.std.specs.Prelude.{ℕ, List, Option, IfSome, ⊤}
+use Rattle.std.specs.Prelude.{ℕ, List, Option, IfSome}
 use Rattle.std.specs.Io.KnownBytes.{Appends, Consumes}
 use Rattle.device_core.specs.Outlets.{AppendsFront}
 use Rattle.sound_core.specs.Outlines.{AreAround, Surroundings}
 use Rattle.form_core.specs.declared.form.Form.{Form}
 use Rattle.form_core.specs.Parts.{FitsIn}
+use Rattle.relay_core.specs.Relays.{IsRelayFault}
 use Rattle.transfer_core.specs.declared.fault.Fault.{Fault}
-use Rattle.transfer_core.specs.declared.fault.Fault.TheVariants.{NotWholeBytes, FileRefused, ReadFailed, WriteFailed, Memory}
+use Rattle.transfer_core.specs.declared.fault.Fault.TheVariants.{NotWholeBytes}
 use Rattle.transfer_core.specs.Converting.{Converts}
+use Rattle.transfer_core.specs.Faults.{OfStream}
 
 -- whatever file stands there, what it is converted to was written, and so many parts of its recording are not in that
 abbrev pub ConvertsFile : Option (List ℕ) → Form → Option (List ℕ) → Option (List ℕ) → ℕ → Type 0
@@ -21,11 +23,7 @@ ConvertsGiven left_old left_new form held_old held_new dropped = (read : List �
 abbrev pub ConvertsFront : Option (List ℕ) → Surroundings → Form → Option (List ℕ) → Option (List ℕ) → Type 0
 ConvertsFront left o form held_old held_new = IfSome left (λ file. AreAround o file → (bytes : List ℕ) (dropped : ℕ) → Converts file form bytes dropped → AppendsFront held_old held_new bytes)
 
--- this fault stands: the channels end inside a byte, the file is no sound in the surroundings, or it is one of a device or memory
+-- this fault stands: the channels end inside a byte, or it is one of what is relayed
 abbrev pub ConversionStands : Option (List ℕ) → Surroundings → Form → Fault → Type 0
 ConversionStands left o form NotWholeBytes = FitsIn form o.sound.count → ⊥
-ConversionStands left o form FileRefused = IfSome left (λ file. AreAround o file → ⊥)
-ConversionStands left o form ReadFailed = ⊤
-ConversionStands left o form WriteFailed = ⊤
-ConversionStands left o form Memory = ⊤
-ConversionStands left o form _ = ⊥
+ConversionStands left o form fault = OfStream (IsRelayFault left o) fault

@@ -1,4 +1,5 @@
 -- Which fault of a call a fault of a lower call becomes.
+use Rattle.std.specs.Prelude.{◌≡◌, Result, Ok, Err}
 use Rattle.dsdiff_core.specs.declared.write_fault.WriteFault.{WriteFault}
 use Rattle.dsdiff_core.specs.declared.write_fault.WriteFault.TheVariants as writes
 use Rattle.project_core.specs.declared.fault.ProjectFault.{ProjectFault}
@@ -12,7 +13,7 @@ use Rattle.form_core.specs.declared.fault.ReadFault.TheVariants as reads
 use Rattle.cut_core.specs.declared.fault.CutFault.{CutFault}
 use Rattle.cut_core.specs.declared.fault.CutFault.TheVariants as cuts
 use Rattle.transfer_core.specs.declared.fault.Fault.{Fault}
-use Rattle.transfer_core.specs.declared.fault.Fault.TheVariants.{Project, FileUnread, TakeNumber, TakeUnread, TakeMismatch, CueOutside, MasterTooLong, NoRoomBefore, NoRoomAfter, RateNotDivided, TooLarge, NotWholeBytes, FileRefused, ReadFailed, WriteFailed, TurnLimit, Memory}
+use Rattle.transfer_core.specs.declared.fault.Fault.TheVariants.{Project, FileUnread, Cut, Stream, NotWholeBytes, Memory}
 
 -- of a project
 abbrev pub fault_of_project : ProjectFault → Fault
@@ -26,19 +27,13 @@ fault_of_file fault = FileUnread fault
 
 -- of a cut
 abbrev pub fault_of_cut : CutFault → Fault
-fault_of_cut cuts.TakeNumber = TakeNumber
-fault_of_cut (cuts.TakeUnread i fault) = TakeUnread i fault
-fault_of_cut (cuts.TakeMismatch i) = TakeMismatch i
-fault_of_cut (cuts.CueOutside i) = CueOutside i
-fault_of_cut cuts.MasterTooLong = MasterTooLong
 fault_of_cut cuts.NotWholeBytes = NotWholeBytes
-fault_of_cut (cuts.NoRoomBefore i) = NoRoomBefore i
-fault_of_cut (cuts.NoRoomAfter i) = NoRoomAfter i
 fault_of_cut cuts.Memory = Memory
+fault_of_cut fault = Cut fault
 
 -- of the WAVE text
 abbrev pub fault_of_wave : WaveFault → Fault
-fault_of_wave waves.TooLarge = TooLarge
+fault_of_wave waves.TooLarge = Stream streams.TooLarge
 fault_of_wave waves.Memory = Memory
 
 -- of a DSDIFF file that is written
@@ -46,12 +41,17 @@ abbrev pub fault_of_writing : WriteFault → Fault
 fault_of_writing writes.NotWholeBytes = NotWholeBytes
 fault_of_writing writes.Memory = Memory
 
--- of a file that is played from a reader
+-- of a file that is read or played piece by piece
 abbrev pub fault_of_stream : StreamFault → Fault
-fault_of_stream streams.FileRefused = FileRefused
-fault_of_stream streams.RateNotDivided = RateNotDivided
-fault_of_stream streams.TooLarge = TooLarge
-fault_of_stream streams.ReadFailed = ReadFailed
-fault_of_stream streams.WriteFailed = WriteFailed
-fault_of_stream streams.TurnLimit = TurnLimit
 fault_of_stream streams.Memory = Memory
+fault_of_stream fault = Stream fault
+
+-- a fault of such a file that P holds of, under its name here
+abbrev pub OfStream : (StreamFault → Type 0) → Fault → Type 0
+OfStream P fault = (f : StreamFault) × (fault ≡ fault_of_stream f) × P f
+
+-- an answer as one of such a file: a fault of anything else counts no device, as want of memory doesn't
+abbrev pub as_stream : {X : Type 0} → Result X Fault → Result X StreamFault
+as_stream (Ok x) = Ok x
+as_stream (Err (Stream fault)) = Err fault
+as_stream (Err fault) = Err streams.Memory

@@ -9,8 +9,9 @@ use Rattle.player_core.specs.Samples.{pcm}
 use Rattle.form_core.specs.declared.form.Form.{Form}
 use Rattle.form_core.specs.Forms.{HoldsAs}
 use Rattle.form_core.specs.Opening.{opened_of}
+use Rattle.sound_core.specs.declared.fault.StreamFault.TheVariants.{RateNotDivided, TooLarge}
 use Rattle.transfer_core.specs.declared.fault.Fault.{Fault}
-use Rattle.transfer_core.specs.declared.fault.Fault.TheVariants.{RateNotDivided, TooLarge}
+use Rattle.transfer_core.specs.declared.fault.Fault.TheVariants.{Stream}
 use Rattle.transfer_core.specs.Faults.{fault_of_file}
 use Rattle.transfer_core.specs.Projects.{SaysDecimator, decimator_of}
 use Rattle.form_core.specs.Steps.{map_err}
@@ -30,4 +31,4 @@ unfoldable pub played_of : List ℕ → List ℕ → Result (List ℕ) Fault
 played_of project file = do
   d ← decimator_of project
   opened ← map_err fault_of_file (opened_of file)
-  if nat_eq (opened.recording.rate % d.factor) 0 then ok_or (wave_text (pcm opened.recording d)) TooLarge else Err RateNotDivided
+  if nat_eq (opened.recording.rate % d.factor) 0 then ok_or (wave_text (pcm opened.recording d)) (Stream TooLarge) else Err (Stream RateNotDivided)

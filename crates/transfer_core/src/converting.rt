@@ -3,12 +3,13 @@
 ghost use Rattle.std.specs.Prelude.{◌≡◌, ◌+◌, ◌-◌, ◌<◌, ◌^◌, Err, IfErr, IfOk, IsErrOf, OnErr};
 ghost use Rattle.device_core.specs.Inlets.{inlet_failures, inlet_reader, inlet_reads};
 ghost use Rattle.device_core.specs.Outlets.{outlet_failures, outlet_writer};
+ghost use Rattle.sound_core.specs.Faults.{failed_reads, failed_writes};
 ghost use Rattle.sound_core.specs.Outlines.{AreTold, around_of};
 ghost use Rattle.form_core.specs.Parts.{FitsIn};
 ghost use Rattle.form_core.specs.Steps.{Gives};
 ghost use Rattle.transfer_core.specs.Conversions.{ConversionStands, ConvertsFile, ConvertsFront, ConvertsGiven};
 ghost use Rattle.transfer_core.specs.Converting.{IsConverted, IsKept, contents, converted_of};
-ghost use Rattle.transfer_core.specs.Streaming.{failed_reads, failed_writes};
+ghost use Rattle.transfer_core.specs.Faults.{as_stream};
 
 use crate::fault::Fault;
 use device_core::{Inlet, Outlet};
@@ -79,8 +80,9 @@ pub fn convert_stream<R: Read, W: Write>(
     ensures refused { IfErr result (ConversionStands (R.remaining (inlet_reader inlet.old))
         (around_of outline.now) form) }
     ensures not_whole_bytes { (FitsIn form outline.now.sound.count → ⊥) → result ≡ Err Fault.NotWholeBytes }
-    ensures read_failed { inlet_failures inlet.new ≡ inlet_failures inlet.old + failed_reads result }
-    ensures write_failed { outlet_failures outlet.new ≡ outlet_failures outlet.old + failed_writes result }
+    ensures read_failed { inlet_failures inlet.new ≡ inlet_failures inlet.old + failed_reads (as_stream result) }
+    ensures write_failed { outlet_failures outlet.new
+        ≡ outlet_failures outlet.old + failed_writes (as_stream result) }
     // What comes before the first read and the first write.
     ensures unread { IsErrOf result Fault.NotWholeBytes → inlet_reads inlet.new ≡ inlet_reads inlet.old }
     ensures unwritten { IsErrOf result Fault.NotWholeBytes → outlet_writer outlet.new ≡ outlet_writer outlet.old }

@@ -12,8 +12,12 @@ use std::alloc::AllocError;
 use thiserror::Error;
 use wave_core::WaveFault;
 
-/// Why a call is refused: the first fault that stands, in the order that the call states. Every want of
-/// memory is `Memory`.
+/// Why a call is refused: the first fault that stands, in the order that the call states.
+///
+/// No fault has two spellings. Every want of memory is `Memory`, and a DSDIFF file whose channels would end inside a byte
+/// is `NotWholeBytes`, whether it is cut or converted: neither stands in another variant. A rate that isn't divided, a
+/// WAVE file that would be too large, and whatever a device is refused for are `Stream`, also where a file is played in
+/// memory or a certificate read.
 #[derive(Clone, Copy, Debug, PartialEq, Eq, Error)]
 pub enum Fault {
     /// The project text is not read.
@@ -28,48 +32,15 @@ pub enum Fault {
     /// The file is not read as a recording.
     #[error("FileUnread {0}")]
     FileUnread(ReadFault),
-    /// There are not as many files as the project has takes.
-    #[error("TakeNumber")]
-    TakeNumber,
-    /// The file of the take of this number is not read as a recording.
-    #[error("TakeUnread {0} {1}")]
-    TakeUnread(usize, ReadFault),
-    /// The take of this number has another sample rate or another number of channels than take 0.
-    #[error("TakeMismatch {0}")]
-    TakeMismatch(usize),
-    /// The cue of this number stops behind the end of its take.
-    #[error("CueOutside {0}")]
-    CueOutside(usize),
-    /// The master would have more than `2^36` bits a channel.
-    #[error("MasterTooLong")]
-    MasterTooLong,
-    /// The cue behind the cue of this number starts too early in its take for the fade between them.
-    #[error("NoRoomBefore {0}")]
-    NoRoomBefore(usize),
-    /// The cue of this number stops too late in its take for the fade behind it.
-    #[error("NoRoomAfter {0}")]
-    NoRoomAfter(usize),
-    /// The decimation factor doesn't divide the recording's sample rate.
-    #[error("RateNotDivided")]
-    RateNotDivided,
-    /// The WAVE file would be larger than its 32-bit sizes can say.
-    #[error("TooLarge")]
-    TooLarge,
+    /// The splice can't be cut from the files of its takes. It has this fault's text.
+    #[error("{0}")]
+    Cut(CutFault),
+    /// A file is not read, played or written to its end. It has this fault's text.
+    #[error("{0}")]
+    Stream(StreamFault),
     /// A DSDIFF file holds whole bytes of each channel, and the channels end inside one.
     #[error("NotWholeBytes")]
     NotWholeBytes,
-    /// A reader's bytes are neither a DSDIFF file nor a DSF file that holds a recording.
-    #[error("FileRefused")]
-    FileRefused,
-    /// A read failed.
-    #[error("ReadFailed")]
-    ReadFailed,
-    /// A write failed, or took nothing.
-    #[error("WriteFailed")]
-    WriteFailed,
-    /// There were `2^40` reads, and the file wasn't at its end.
-    #[error("TurnLimit")]
-    TurnLimit,
     /// Want of memory.
     #[error("Memory")]
     Memory,
@@ -110,15 +81,9 @@ impl From<CutFault> for Fault {
 
     fn from(fault: CutFault) -> Fault {
         match fault {
-            CutFault::TakeNumber => Fault::TakeNumber,
-            CutFault::TakeUnread(take, fault) => Fault::TakeUnread(take, fault),
-            CutFault::TakeMismatch(take) => Fault::TakeMismatch(take),
-            CutFault::CueOutside(cue) => Fault::CueOutside(cue),
-            CutFault::MasterTooLong => Fault::MasterTooLong,
             CutFault::NotWholeBytes => Fault::NotWholeBytes,
-            CutFault::NoRoomBefore(cue) => Fault::NoRoomBefore(cue),
-            CutFault::NoRoomAfter(cue) => Fault::NoRoomAfter(cue),
             CutFault::Memory => Fault::Memory,
+            fault => Fault::Cut(fault),
         }
     }
 }
@@ -129,7 +94,7 @@ impl From<WaveFault> for Fault {
     fn from(fault: WaveFault) -> Fault {
         match fault {
             WaveFault::Memory => Fault::Memory,
-            WaveFault::TooLarge => Fault::TooLarge,
+            WaveFault::TooLarge => Fault::Stream(StreamFault::TooLarge),
         }
     }
 }
@@ -150,13 +115,8 @@ impl From<StreamFault> for Fault {
 
     fn from(fault: StreamFault) -> Fault {
         match fault {
-            StreamFault::FileRefused => Fault::FileRefused,
-            StreamFault::RateNotDivided => Fault::RateNotDivided,
-            StreamFault::TooLarge => Fault::TooLarge,
-            StreamFault::ReadFailed => Fault::ReadFailed,
-            StreamFault::WriteFailed => Fault::WriteFailed,
-            StreamFault::TurnLimit => Fault::TurnLimit,
             StreamFault::Memory => Fault::Memory,
+            fault => Fault::Stream(fault),
         }
     }
 }

@@ -3,9 +3,11 @@
 ghost use Rattle.std.specs.Prelude.{◌≡◌, ℕ, ◌+◌, ◌-◌, ◌<◌, ◌≤◌, ◌^◌, List, IfErr, IfOk, IsErrOf, OnErr};
 ghost use Rattle.device_core.specs.Inlets.{inlet_failures, inlet_given, inlet_reader, inlet_reads};
 ghost use Rattle.device_core.specs.Outlets.{outlet_failures, outlet_writer};
+ghost use Rattle.sound_core.specs.Faults.{StopsReading, failed_reads, failed_writes};
+ghost use Rattle.transfer_core.specs.Faults.{OfStream, as_stream};
 ghost use Rattle.transfer_core.specs.Playing.{Plays, played_of};
 ghost use Rattle.form_core.specs.Steps.{Gives};
-ghost use Rattle.transfer_core.specs.Streaming.{IsBeforeWriting, KeepsUp, OnlyFromOutside, SaysNone, StopsReading, StreamStands, failed_reads, failed_writes};
+ghost use Rattle.transfer_core.specs.Streaming.{IsBeforeWriting, KeepsUp, OnlyFromOutside, SaysNone, StreamStands};
 ghost use Rattle.stream_core.specs.Playing.{PlaysFile, PlaysGiven, WritesFront};
 
 use crate::fault::Fault;
@@ -13,7 +15,7 @@ use crate::projects::decimator_of;
 use device_core::{Inlet, Outlet};
 use form_core::{Opened, read_any};
 use player_core::wave_of;
-use sound_core::accepted_files_tell_one_sound;
+use sound_core::{StreamFault, accepted_files_tell_one_sound};
 use std::alloc::Global;
 use std::io::{Read, Write};
 
@@ -33,7 +35,7 @@ pub fn play(alloc: Global, project: &[u8], file: &[u8]) -> Result<Vec<u8>, Fault
     let taps = decimator_of(alloc, project)?;
     let Opened { recording, .. } = read_any(alloc, file)?;
     if !taps.rate_fits(recording.rate()) {
-        return Err(Fault::RateNotDivided);
+        return Err(Fault::Stream(StreamFault::RateNotDivided));
     }
     Ok(wave_of(alloc, &taps, &recording)?)
 }
@@ -75,16 +77,17 @@ pub fn play_stream<R: Read, W: Write>(
         (W.contents (outlet_writer outlet.old)) (W.contents (outlet_writer outlet.new))) }
     // Where the reading stops, what was written lags behind by at most 131,072 bytes of the one sound that the
     // file tells of.
-    ensures keeps_up { IfErr result (λ fault. StopsReading fault
+    ensures keeps_up { IfErr result (λ fault. OfStream StopsReading fault
         → KeepsUp (R.remaining (inlet_reader inlet.old)) project.now (inlet_given inlet.new - inlet_given inlet.old)
         (W.contents (outlet_writer outlet.old)) (W.contents (outlet_writer outlet.new))) }
     // A fault stands that is named.
     ensures refused { IfErr result (StreamStands (R.remaining (inlet_reader inlet.old)) project.now) }
-    ensures read_failed { inlet_failures inlet.new ≡ inlet_failures inlet.old + failed_reads result }
-    ensures write_failed { outlet_failures outlet.new ≡ outlet_failures outlet.old + failed_writes result }
+    ensures read_failed { inlet_failures inlet.new ≡ inlet_failures inlet.old + failed_reads (as_stream result) }
+    ensures write_failed { outlet_failures outlet.new ≡ outlet_failures outlet.old + failed_writes (as_stream result) }
     // Whatever is answered, there were at most 2^40 reads.
     ensures reads { inlet_reads inlet.new ≤ inlet_reads inlet.old + 2 ^ 40 }
-    ensures turn_limit { IsErrOf result Fault.TurnLimit → inlet_reads inlet.new ≡ inlet_reads inlet.old + 2 ^ 40 }
+    ensures turn_limit { IsErrOf result (Fault.Stream StreamFault.TurnLimit)
+        → inlet_reads inlet.new ≡ inlet_reads inlet.old + 2 ^ 40 }
     // What comes before the first read, and before the first write.
     ensures unread { SaysNone project.now → inlet_reads inlet.new ≡ inlet_reads inlet.old }
     ensures unwritten { IfErr result (λ fault. IsBeforeWriting fault

@@ -1,17 +1,28 @@
-use Rattle.std.proofs.Common.{◌∙◌}
+use Rattle.std.proofs.Common.{◌∙◌, Err, ap}
+use Rattle.std.proofs.lemmas.Result.{err_from_is_err_and}
 use Rattle.device_core.specs.Inlets.{inlet_reader}
 use Rattle.device_core.specs.Outlets.{outlet_writer}
 use Rattle.stream_core.proofs.PieceLaws.{any_err}
 use Rattle.sound_core.specs.Outlines.{around_of}
-use Rattle.transfer_core.proofs.ConversionLaws.{converts_file, converts_front, converts_given, nothing_converted}
+use Rattle.transfer_core.proofs.ConversionLaws.{converts_file, converts_front, converts_given, ends_stand, nothing_converted, relay_stands}
 use Rattle.transfer_core.proofs.converting.convert_stream.Goals as goal
 
 pub returns-in_err-ends-clause-front : goal.returns-in_err-ends-clause-front
 returns-in_err-ends-clause-front g c = any_err c.from_residual.result (nothing_converted (g.R.Read.remaining (inlet_reader c.args.inlet.now)) (around_of c.args.outline.now) c.args.form (g.W.Write.contents (outlet_writer c.args.outlet.now)))
 
+pub returns-in_err-ends-clause-refused : goal.returns-in_err-ends-clause-refused
+returns-in_err-ends-clause-refused g c =
+    let e = err_from_is_err_and c.from_residual.result c.from_residual.ensures.1 in
+    rw (e.1, e.2) (ends_stand (g.R.Read.remaining (inlet_reader c.args.inlet.now)) (around_of c.args.outline.now) c.args.form c.in_err-ends.field-0.0 (λ is. c.in_err-ends.ensures.not_whole_bytes.0 (ap Err is)))
+
 pub returns-in_err-relay-clause-front : goal.returns-in_err-relay-clause-front
 returns-in_err-relay-clause-front g c =
     any_err c.from_residual-in_err-relay.result (converts_front c.written_in_parts.ensures (around_of c.args.outline.now) c.requires.told c.args.form c.in_ok-ends.ensures.fits (record { interleaving = c.interleaving_in.result; head = c.deref.result; tail = c.deref-2.result }) c.interleaving_in.ensures (c.deref.ensures.value ∙ c.in_ok-ends.ensures.head) (c.deref-2.ensures.value ∙ c.in_ok-ends.ensures.tail) (g.R.Read.remaining (inlet_reader c.args.inlet.now)) (g.W.Write.contents (outlet_writer c.args.outlet.now)) (g.W.Write.contents (outlet_writer c.relay.new.outlet)) c.in_err-relay.ensures.front)
+
+pub returns-in_err-relay-clause-refused : goal.returns-in_err-relay-clause-refused
+returns-in_err-relay-clause-refused g c =
+    let e = err_from_is_err_and c.from_residual-in_err-relay.result c.from_residual-in_err-relay.ensures.1 in
+    rw (e.1, e.2) (relay_stands (g.R.Read.remaining (inlet_reader c.args.inlet.now)) (around_of c.args.outline.now) c.args.form c.in_err-relay.field-0.0 c.in_err-relay.ensures.fault)
 
 pub returns-clause-ok : goal.returns-clause-ok
 returns-clause-ok g c =

@@ -1,10 +1,11 @@
 use Rattle.std.proofs.lemmas.Result.{err_from_is_err_and}
 use Rattle.device_core.specs.Inlets.{inlet_reader}
 use Rattle.device_core.specs.Outlets.{outlet_writer}
+use Rattle.sound_core.specs.Faults.{StopsReading}
 use Rattle.stream_core.proofs.PieceLaws.{any_err}
 use Rattle.stream_core.proofs.PlayLaws.{none_written}
 use Rattle.transfer_core.specs.Playing.{Plays}
-use Rattle.transfer_core.proofs.StreamLaws.{keeps_up, only_outside, plays_file, plays_given, project_outside, stands, stops, writes_front}
+use Rattle.transfer_core.proofs.StreamLaws.{before_writing, keeps_up, of_stream, only_outside, plays_file, plays_given, project_outside, same_stream, stands, writes_front}
 use Rattle.transfer_core.proofs.playing.play_stream.Goals as goal
 
 pub returns-in_err-taps-clause-cause : goal.returns-in_err-taps-clause-cause
@@ -27,7 +28,7 @@ returns-in_err-play-clause-front g c =
 pub returns-in_err-play-clause-keeps_up : goal.returns-in_err-play-clause-keeps_up
 returns-in_err-play-clause-keeps_up g c =
     let e = err_from_is_err_and c.from_residual-in_err-play.result c.from_residual-in_err-play.ensures.1 in
-    rw (e.1, e.2) (λ stop. keeps_up c.args.project.now c.in_ok-taps.taps c.in_ok-taps.ensures.exact (g.R.Read.remaining (inlet_reader c.args.inlet.now)) (g.W.Write.contents (outlet_writer c.args.outlet.now)) (g.W.Write.contents (outlet_writer c.play.new.outlet)) _ (c.in_err-play.ensures.keeps_up (stops c.in_err-play.field-0.0 stop)))
+    rw (e.1, e.2) (λ stop. keeps_up c.args.project.now c.in_ok-taps.taps c.in_ok-taps.ensures.exact (g.R.Read.remaining (inlet_reader c.args.inlet.now)) (g.W.Write.contents (outlet_writer c.args.outlet.now)) (g.W.Write.contents (outlet_writer c.play.new.outlet)) _ (c.in_err-play.ensures.keeps_up (of_stream StopsReading c.in_err-play.field-0.0 stop)))
 
 pub returns-in_err-play-clause-refused : goal.returns-in_err-play-clause-refused
 returns-in_err-play-clause-refused g c =

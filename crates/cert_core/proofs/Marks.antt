@@ -1,5 +1,5 @@
 -- Eight values held against eight others, and rows eight values at a time.
-use Rattle.std.proofs.Common.{◌≡◌, ◌≢◌, ℕ, zero, suc, ◌+◌, ◌*◌, ◌-◌, ◌/◌, ◌%◌, ◌^◌, ◌<◌, ◌≤◌, Bool, true, false, not, replicate, refl, cond, ltb, eqb, List, [], ◌∷◌, map, length, get_or, sym, ap, subst, ◌∙◌, inl, inr, IsTrue, arith, rules, tests}
+use Rattle.std.proofs.Common.{◌≡◌, ◌≢◌, ℕ, zero, suc, ◌+◌, ◌*◌, ◌-◌, ◌/◌, ◌%◌, ◌^◌, ◌<◌, ◌≤◌, Bool, true, false, not, replicate, refl, cond, ltb, eqb, List, [], ◌∷◌, map, take, drop, length, get_or, sym, ap, subst, ◌∙◌, inl, inr, IsTrue, arith, rules, tests}
 use Rattle.std.specs.Simd.Lanes.{zip2, mask_l, top}
 use Rattle.std.proofs.lemmas.Bool.{ltb-false, ltb-true, cases_lt}
 use Rattle.std.proofs.Math.Nat.{zero-div}
@@ -60,9 +60,12 @@ one_over_value row v lr ne =
     let w = one_over row (replicate 8 v) lr refl ne in
     (w.0, w.1, omega (arith, w.2, get_or-replicate 8 w.0 v 0 w.1))
 
--- one of eight values, and of those after all whole eights, where they stand in their row
+-- one of eight values where it stands in its row
+pub lane : (i k : ℕ) (ys xs : List ℕ) → ys ≡ take 8 (drop (8 * i) xs) → k < 8 → get_or ys k 0 ≡ get_or xs (8 * i + k) 0
+lane i k ys xs e h = ap (λ y. get_or y k 0) e ∙ get_or-chunk (8 * i) 8 xs k 0 h
+
 pub in_eight : (ws : List (List ℕ)) (xs : List ℕ) (i k : ℕ) → ws ≡ first_chunks 8 (length xs / 8) xs → i < length xs / 8 → k < 8 → get_or (get_or ws i []) k 0 ≡ get_or xs (8 * i + k) 0
-in_eight ws xs i k e l h = ap (λ y. get_or y k 0) (at_chunk ws xs i e l) ∙ get_or-chunk (8 * i) 8 xs k 0 h
+in_eight ws xs i k e l h = lane i k (get_or ws i []) xs (at_chunk ws xs i e l) h
 
 -- eight places more
 pub eight_places : (P : ℕ → Type 0) (i : ℕ) → ((k : ℕ) → k < 8 * i → P k) → ((m : ℕ) → m < 8 → P (8 * i + m)) → (k : ℕ) → k < 8 * (i + 1) → P k

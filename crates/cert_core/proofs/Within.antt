@@ -1,19 +1,19 @@
 -- Rows that exceed nothing, eight states at a time.
-use Rattle.std.proofs.Common.{◌≡◌, ℕ, ◌+◌, ◌*◌, ◌-◌, ◌/◌, ◌^◌, ◌<◌, ◌≤◌, List, take, drop, length, get_or, sym, ap, ◌∙◌, inl, inr, arith}
+use Rattle.std.proofs.Common.{◌≡◌, ℕ, ◌+◌, ◌*◌, ◌/◌, ◌^◌, ◌<◌, ◌≤◌, List, take, drop, length, get_or, sym, ap, ◌∙◌, inl, inr, arith}
 use Rattle.std.specs.Simd.Lanes.{Each1}
 use Rattle.std.proofs.lemmas.List.{get_or-take, get_or-drop, length-take-le, length-drop}
-use Rattle.std.proofs.lemmas.Simd.{get_or-chunk, Each1-from_get_or}
+use Rattle.std.proofs.lemmas.Simd.{Each1-from_get_or}
 use Rattle.cost_core.specs.Trellis.{Trellis, states, newest, before_by_1, IsBounded}
 use Rattle.cost_core.specs.Bridges.{Bridging}
 use Rattle.cost_core.specs.StateCosts.{step_of, step_row, trellis_of}
-use Rattle.cost_core.specs.Rows.{sums, twice}
+use Rattle.cost_core.specs.Rows.{sums, twice, lower, upper}
 use Rattle.cost_core.proofs.Lanes.{length-sums}
 use Rattle.cost_core.proofs.Chunks.{at_sums}
-use Rattle.cost_core.proofs.Twice.{at_twice}
+use Rattle.cost_core.proofs.Twice.{at_twice, length-twice}
 use Rattle.cost_core.proofs.StepRows.{high_is, states_even, step_0, step_1, steps_length}
 use Rattle.cert_core.specs.Reasons.{RowBounded, Exceeds}
 use Rattle.cert_core.specs.Within.{WithinBoth}
-use Rattle.cert_core.proofs.Marks.{marked, none_over}
+use Rattle.cert_core.proofs.Marks.{marked, none_over, lane}
 use Rattle.cert_core.proofs.Steps.{one_exceeds}
 
 -- where no lane is marked, no value is above the sum of its way
@@ -23,17 +23,13 @@ none_above row xs ys lr lx ly e k h =
     omega (arith, none_over row (sums xs ys) lr lb e k h, at_sums xs ys k (omega arith) (omega arith))
 
 -- from eight lanes to the rows that they are of
-module _ (at : ℕ) (a u b v r a8 u8 b8 v8 r8 : List ℕ) (ea : a8 ≡ take 8 (drop at a)) (eu : u8 ≡ take 8 (drop at u)) (eb : b8 ≡ take 8 (drop at b)) (ev : v8 ≡ take 8 (drop at v)) (er : r8 ≡ take 8 (drop at r)) where
-  lane : (ys xs : List ℕ) → ys ≡ take 8 (drop at xs) → (m : ℕ) → m < 8 → get_or ys m 0 ≡ get_or xs (at + m) 0
-  lane ys xs e m h = ap (λ l. get_or l m 0) e ∙ get_or-chunk at 8 xs m 0 h
-
-  pub eight_more : ((k : ℕ) → k < 8 → get_or r8 k 0 ≤ get_or a8 k 0 + get_or u8 k 0) → ((k : ℕ) → k < 8 → get_or r8 k 0 ≤ get_or b8 k 0 + get_or v8 k 0)
-      → (k : ℕ) → at ≤ k → k < at + 8 → (get_or r k 0 ≤ get_or a k 0 + get_or u k 0) × (get_or r k 0 ≤ get_or b k 0 + get_or v k 0)
-  eight_more low high k from to =
-      let m : ℕ = k - at in
-      let h : m < 8 = omega arith in
-      let e : at + m ≡ k = omega arith in
-      rw (← e) (omega (arith, low m h, lane a8 a ea m h, lane u8 u eu m h, lane r8 r er m h), omega (arith, high m h, lane b8 b eb m h, lane v8 v ev m h, lane r8 r er m h))
+pub eight_within : (j : ℕ) (x y r x8 y8 r8 : List ℕ) → x8 ≡ take 8 (drop (8 * j) x) → y8 ≡ take 8 (drop (8 * j) y) → r8 ≡ take 8 (drop (8 * j) r)
+    → ((k : ℕ) → k < 8 → get_or r8 k 0 ≤ get_or x8 k 0) → ((k : ℕ) → k < 8 → get_or r8 k 0 ≤ get_or y8 k 0)
+    → (m : ℕ) → m < 8 → (get_or r (8 * j + m) 0 ≤ get_or x (8 * j + m) 0) × (get_or r (8 * j + m) 0 ≤ get_or y (8 * j + m) 0)
+eight_within j x y r x8 y8 r8 ex ey er low high m h = (
+  omega (arith, low m h, lane j m x8 x ex h, lane j m r8 r er h),
+  omega (arith, high m h, lane j m y8 y ey h, lane j m r8 r er h),
+)
 
 module _ (d : Bridging) (i n : ℕ) (previous row steps : List ℕ) (fine : IsBounded (trellis_of d)) (hi : i < d.levels) (en : n ≡ states (trellis_of d)) (el : length previous ≡ n) (es : steps ≡ step_row d i) where
   abbrev t : Trellis
@@ -61,13 +57,20 @@ module _ (d : Bridging) (i n : ℕ) (previous row steps : List ℕ) (fine : IsBo
     high_step : get_or (drop n steps) q 0 ≡ step_of d i (q / 2 + n / 2) (newest q)
     high_step = get_or-drop n steps q 0 ∙ step_1 d i q n steps es en inside fine.some_state
 
-    low_value : get_or (twice (take (length previous / 2) previous)) q 0 ≡ get_or previous (q / 2) 0
-    low_value = at_twice (take (length previous / 2) previous) q ∙ get_or-take (length previous / 2) previous (q / 2) 0 (omega (arith, el, halves))
+    low_sum : get_or (lower previous (take n steps)) q 0 ≡ get_or previous (q / 2) 0 + step_of d i (q / 2) (newest q)
+    low_sum =
+        let half = take (length previous / 2) previous in
+        let value : get_or (twice half) q 0 ≡ get_or previous (q / 2) 0 = at_twice half q ∙ get_or-take (length previous / 2) previous (q / 2) 0 (omega (arith, el, halves)) in
+        let long = length-twice half ∙ ap (λ k. 2 * k) (length-take-le (length previous / 2) previous (omega arith)) in
+        at_sums (twice half) (take n steps) q (omega (arith, long, el, halves)) (omega (arith, lens.0, el)) ∙ (λ z. value z + low_step z)
 
-    high_value : get_or (twice (drop (length previous / 2) previous)) q 0 ≡ get_or previous (q / 2 + n / 2) 0
-    high_value =
+    high_sum : get_or (upper previous (drop n steps)) q 0 ≡ get_or previous (q / 2 + n / 2) 0 + step_of d i (q / 2 + n / 2) (newest q)
+    high_sum =
+        let half = drop (length previous / 2) previous in
         let e : length previous / 2 + q / 2 ≡ q / 2 + n / 2 = omega (arith, el) in
-        at_twice (drop (length previous / 2) previous) q ∙ get_or-drop (length previous / 2) previous (q / 2) 0 ∙ ap (λ k. get_or previous k 0) e
+        let value : get_or (twice half) q 0 ≡ get_or previous (q / 2 + n / 2) 0 = at_twice half q ∙ get_or-drop (length previous / 2) previous (q / 2) 0 ∙ ap (λ k. get_or previous k 0) e in
+        let long = length-twice half ∙ ap (λ k. 2 * k) (length-drop (length previous / 2) previous) in
+        at_sums (twice half) (drop n steps) q (omega (arith, long, el, halves)) (omega (arith, lens.1, el)) ∙ (λ z. value z + high_step z)
 
     high : q / 2 + n / 2 ≡ before_by_1 t.width q
     high = high_is t fine.some_state q n en
@@ -92,9 +95,9 @@ module _ (d : Bridging) (i n : ℕ) (previous row steps : List ℕ) (fine : IsBo
       let hq : q < n = omega arith in
       let w = within q (omega (arith, el)) in
       elim (one_exceeds t fine.some_state i previous row q h x) [
-        | inl lt ↦ absurd (omega (arith, w.0, lt, low_value q hq, low_step q hq))
+        | inl lt ↦ absurd (omega (arith, w.0, lt, low_sum q hq))
         | inr lt ↦
             let e : get_or previous (before_by_1 t.width q) 0 + step_of d i (before_by_1 t.width q) (newest q) ≡ get_or previous (q / 2 + n / 2) 0 + step_of d i (q / 2 + n / 2) (newest q) =
             ap (λ p. get_or previous p 0 + step_of d i p (newest q)) (sym (high q hq)) in
-            absurd (omega (arith, w.1, lt, e, high_value q hq, high_step q hq))
+            absurd (omega (arith, w.1, lt, e, high_sum q hq))
       ]

@@ -8,7 +8,7 @@ ghost use Rattle.cert_core.specs.Within.{WithinBoth};
 ghost use Rattle.cert_core.specs.Reasons.{RowBounded, Exceeds, RowClean, RowReason};
 
 use crate::verdict::CertReason;
-use cost_core::{Window, doubled};
+use cost_core::{Window, sums_into};
 use std::simd::prelude::*;
 
 /// The greatest bound.
@@ -74,25 +74,13 @@ fn exceeds(window: &Window, level: usize, previous: &[u64], row: &[u64], state: 
 }
 
 // Whether no value of eight states exceeds what either state before it sets.
-fn are_within(
-    row: &[u64; 8],
-    low: &[u64; 8],
-    low_steps: &[u64; 8],
-    high: &[u64; 8],
-    high_steps: &[u64; 8],
-) -> bool
-    requires low { Each1 (λ x. x ≤ 2 ^ 63) low.now }
-    requires low_steps { Each1 (λ x. x < 2 ^ 63) low_steps.now }
-    requires high { Each1 (λ x. x ≤ 2 ^ 63) high.now }
-    requires high_steps { Each1 (λ x. x < 2 ^ 63) high_steps.now }
-    ensures low { IsTrue result → (k : ℕ) → k < 8
-        → slice_index row.now k ≤ slice_index low.now k + slice_index low_steps.now k }
-    ensures high { IsTrue result → (k : ℕ) → k < 8
-        → slice_index row.now k ≤ slice_index high.now k + slice_index high_steps.now k }
+fn are_within(row: &[u64; 8], by_0: &[u64; 8], by_1: &[u64; 8]) -> bool
+    ensures by_0 { IsTrue result → (k : ℕ) → k < 8 → slice_index row.now k ≤ slice_index by_0.now k }
+    ensures by_1 { IsTrue result → (k : ℕ) → k < 8 → slice_index row.now k ≤ slice_index by_1.now k }
 {
     let row = u64x8::from_array(*row);
-    let by_0 = u64x8::from_array(*low).strict_add(u64x8::from_array(*low_steps));
-    let by_1 = u64x8::from_array(*high).strict_add(u64x8::from_array(*high_steps));
+    let by_0 = u64x8::from_array(*by_0);
+    let by_1 = u64x8::from_array(*by_1);
     row.simd_gt(by_0).to_bitmask() == 0 && row.simd_gt(by_1).to_bitmask() == 0
 }
 
@@ -109,29 +97,12 @@ fn is_within(previous: &[u64], lows: &[u64], highs: &[u64], row: &[u64]) -> bool
     ensures { IsTrue result → WithinBoth (length previous.now) previous.now lows.now highs.now row.now }
 {
     let (low, high) = previous.split_at(previous.len() / 2);
-    let (low_chunks, _) = low.as_chunks::<8>();
-    let (high_chunks, _) = high.as_chunks::<8>();
-    let (low_steps, _) = lows.as_chunks::<8>();
-    let (high_steps, _) = highs.as_chunks::<8>();
     let (rows, _) = row.as_chunks::<8>();
-    for i in 0..low_chunks.len() {
-        let j = 2 * i;
-        let (low_front, low_back) = doubled(&low_chunks[i]);
-        let (high_front, high_back) = doubled(&high_chunks[i]);
-        let front = are_within(
-            &rows[j],
-            &low_front,
-            &low_steps[j],
-            &high_front,
-            &high_steps[j],
-        );
-        let back = are_within(
-            &rows[j + 1],
-            &low_back,
-            &low_steps[j + 1],
-            &high_back,
-            &high_steps[j + 1],
-        );
+    for i in 0..low.len() / 8 {
+        let (low_front, low_back) = sums_into(low, lows, i);
+        let (high_front, high_back) = sums_into(high, highs, i);
+        let front = are_within(&rows[2 * i], &low_front, &high_front);
+        let back = are_within(&rows[2 * i + 1], &low_back, &high_back);
         if !front || !back {
             return false;
         }

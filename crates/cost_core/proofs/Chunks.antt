@@ -64,11 +64,11 @@ module _ {A B C : Type 0} (f : A → B → C) where
   chunk-zip2 i n xs ys = sym (take-zip2 n (drop i xs) (drop i ys)) ∙ ap (take n) (sym (drop-zip2 i xs ys))
 
 -- a chunk of both candidates
-pub chunk_of_least : (i n : ℕ) (a u b v : List ℕ) → least (sums (take n (drop i a)) (take n (drop i u))) (sums (take n (drop i b)) (take n (drop i v))) ≡ take n (drop i (least (sums a u) (sums b v)))
-chunk_of_least i n a u b v = (λ z. least (chunk-zip2 (λ x y. x + y) i n a u z) (chunk-zip2 (λ x y. x + y) i n b v z)) ∙ chunk-zip2 (λ x y. min (cond (ltb y x) y x) (2 ^ 63)) i n (sums a u) (sums b v)
+pub chunk_of_least : (i n : ℕ) (xs ys : List ℕ) → least (take n (drop i xs)) (take n (drop i ys)) ≡ take n (drop i (least xs ys))
+chunk_of_least i n xs ys = chunk-zip2 (λ x y. min (cond (ltb y x) y x) (2 ^ 63)) i n xs ys
 
-pub chunk_of_seconds : (i n : ℕ) (a u b v : List ℕ) → seconds (sums (take n (drop i a)) (take n (drop i u))) (sums (take n (drop i b)) (take n (drop i v))) ≡ take n (drop i (seconds (sums a u) (sums b v)))
-chunk_of_seconds i n a u b v = (λ z. seconds (chunk-zip2 (λ x y. x + y) i n a u z) (chunk-zip2 (λ x y. x + y) i n b v z)) ∙ chunk-zip2 (λ x y. ltb y x) i n (sums a u) (sums b v)
+pub chunk_of_seconds : (i n : ℕ) (xs ys : List ℕ) → seconds (take n (drop i xs)) (take n (drop i ys)) ≡ take n (drop i (seconds xs ys))
+chunk_of_seconds i n xs ys = chunk-zip2 (λ x y. ltb y x) i n xs ys
 
 -- taken in two parts
 pub take_two : {X : Type 0} (m n : ℕ) (xs : List X) → take (m + n) xs ≡ take m xs ++ take n (drop m xs)

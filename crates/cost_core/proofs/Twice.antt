@@ -1,12 +1,13 @@
 -- Rows that are doubled, by chunks.
-use Rattle.std.proofs.Common.{[], ◌∷◌, ◌≡◌, ◌++◌, ℕ, ◌+◌, ◌*◌, ◌/◌, ◌<◌, ◌≤◌, List, Bool, length, take, drop, get_or, set, refl, ap, sym, subst, ◌∙◌, arith, zero, suc, cond, false, ◌%◌}
+use Rattle.std.proofs.Common.{[], ◌∷◌, ◌≡◌, ◌++◌, ℕ, ◌+◌, ◌*◌, ◌/◌, ◌<◌, ◌≤◌, List, Bool, length, take, drop, get_or, set, refl, ap, sym, subst, ◌∙◌, arith, zero, suc, cond, false, ◌%◌, ◌^◌, w64, Fits}
 use Rattle.std.specs.Int.{bit_at}
 use Rattle.std.specs.Simd.{first_chunks}
-use Rattle.std.specs.Simd.Lanes.{Each1, pick_l, mask_l, put_chunk}
+use Rattle.std.specs.Simd.Lanes.{Each1, Each2, pick_l, mask_l, put_chunk}
 use Rattle.std.proofs.lemmas.List.{take-take, drop-take, drop-drop, length-set}
 use Rattle.std.proofs.lemmas.Simd.{Each1-chunk, length-put_chunk}
-use Rattle.cost_core.specs.Rows.{twice}
-use Rattle.cost_core.proofs.Chunks.{at_chunk, row_more, choices_more}
+use Rattle.cost_core.specs.Rows.{sums, twice}
+use Rattle.cost_core.proofs.Chunks.{at_chunk, each_chunk, chunk-zip2, row_more, choices_more}
+use Rattle.cost_core.proofs.Lanes.{sums_fit}
 
 -- `interleave` of eight lanes with themselves
 pub woven_front : (xs : List ℕ) → length xs ≡ 8 → pick_l 0 (xs ++ xs) (0 ∷ 8 ∷ 1 ∷ 9 ∷ 2 ∷ 10 ∷ 3 ∷ 11 ∷ []) ≡ twice (take 4 xs)
@@ -56,29 +57,30 @@ Each1-drop P zero xs e = e
 Each1-drop P (suc n) [] e = tt
 Each1-drop P (suc n) (x ∷ xs) e = Each1-drop P n xs e.1
 
-pub each_lower : (P : ℕ → Type 0) (n : ℕ) (xs : List ℕ) → Each1 P xs → Each1 P (twice (take n xs))
-each_lower P n xs e = Each1-twice P (take n xs) (Each1-chunk P 0 n xs e)
+-- P of each value of a part
+pub each_first : (P : ℕ → Type 0) (n : ℕ) (part xs : List ℕ) → part ≡ take n xs → Each1 P xs → Each1 P part
+each_first P n part xs e all = subst (Each1 P) (sym e) (Each1-chunk P 0 n xs all)
 
-pub each_upper : (P : ℕ → Type 0) (n : ℕ) (xs : List ℕ) → Each1 P xs → Each1 P (twice (drop n xs))
-each_upper P n xs e = Each1-twice P (drop n xs) (Each1-drop P n xs e)
+pub each_last : (P : ℕ → Type 0) (n : ℕ) (part xs : List ℕ) → part ≡ drop n xs → Each1 P xs → Each1 P part
+each_last P n part xs e all = subst (Each1 P) (sym e) (Each1-drop P n xs all)
 
 -- the doubled halves of a chunk
-pub front_of : (ws : List (List ℕ)) (part xs ys : List ℕ) (i : ℕ) → ws ≡ first_chunks 8 (length part / 8) part → part ≡ xs → i < length part / 8 → ys ≡ twice (take 4 (get_or ws i [])) → ys ≡ take 8 (drop (8 * (2 * i)) (twice xs))
-front_of ws part xs ys i e p l is = is ∙ ap (λ w. twice (take 4 w)) (at_chunk ws part i e l) ∙ front_is part i ∙ ap (λ w. take 8 (drop (8 * (2 * i)) (twice w))) p
+module _ (ws : List (List ℕ)) (xs ys : List ℕ) (i : ℕ) (e : ws ≡ first_chunks 8 (length xs / 8) xs) (l : i < length xs / 8) where
+  pub front_of : ys ≡ twice (take 4 (get_or ws i [])) → ys ≡ take 8 (drop (8 * (2 * i)) (twice xs))
+  front_of is = is ∙ ap (λ w. twice (take 4 w)) (at_chunk ws xs i e l) ∙ front_is xs i
 
-pub back_of : (ws : List (List ℕ)) (part xs ys : List ℕ) (i : ℕ) → ws ≡ first_chunks 8 (length part / 8) part → part ≡ xs → i < length part / 8 → ys ≡ twice (drop 4 (get_or ws i [])) → ys ≡ take 8 (drop (8 * (2 * i + 1)) (twice xs))
-back_of ws part xs ys i e p l is = is ∙ ap (λ w. twice (drop 4 w)) (at_chunk ws part i e l) ∙ back_is part i ∙ ap (λ w. take 8 (drop (8 * (2 * i + 1)) (twice w))) p
+  pub back_of : ys ≡ twice (drop 4 (get_or ws i [])) → ys ≡ take 8 (drop (8 * (2 * i + 1)) (twice xs))
+  back_of is = is ∙ ap (λ w. twice (drop 4 w)) (at_chunk ws xs i e l) ∙ back_is xs i
 
-each_of : (P : ℕ → Type 0) (ys zs : List ℕ) (n : ℕ) → ys ≡ take 8 (drop n zs) → Each1 P zs → Each1 P ys
-each_of P ys zs n e all = subst (Each1 P) (sym e) (Each1-chunk P n 8 zs all)
+-- eight sums, of eight values of a doubled row and the steps beside them
+module _ (ws : List (List ℕ)) (xs steps ys : List ℕ) (j : ℕ) (e : ws ≡ first_chunks 8 (length steps / 8) steps) (l : j < length steps / 8) (is : ys ≡ take 8 (drop (8 * j) (twice xs))) where
+  pub eight_sums : sums ys (get_or ws j []) ≡ take 8 (drop (8 * j) (sums (twice xs) steps))
+  eight_sums = (λ z. sums (is z) (at_chunk ws steps j e l z)) ∙ chunk-zip2 (λ x y. x + y) (8 * j) 8 (twice xs) steps
 
--- P of each value of them
-module _ (P : ℕ → Type 0) (ws : List (List ℕ)) (part xs ys : List ℕ) (i : ℕ) (e : ws ≡ first_chunks 8 (length part / 8) part) (p : part ≡ xs) (l : i < length part / 8) (all : Each1 P (twice xs)) where
-  pub each_front : ys ≡ twice (take 4 (get_or ws i [])) → Each1 P ys
-  each_front is = each_of P ys (twice xs) (8 * (2 * i)) (front_of ws part xs ys i e p l is) all
-
-  pub each_back : ys ≡ twice (drop 4 (get_or ws i [])) → Each1 P ys
-  each_back is = each_of P ys (twice xs) (8 * (2 * i + 1)) (back_of ws part xs ys i e p l is) all
+  pub eight_fit : Each1 (λ x. x ≤ 2 ^ 63) xs → Each1 (λ x. x < 2 ^ 63) steps → Each2 (λ a b. Fits w64 (a + b)) ys (get_or ws j [])
+  eight_fit small small_steps =
+      sums_fit ys (get_or ws j []) (subst (Each1 (λ x. x ≤ 2 ^ 63)) (sym is) (Each1-chunk (λ x. x ≤ 2 ^ 63) (8 * j) 8 (twice xs) (Each1-twice (λ x. x ≤ 2 ^ 63) xs small)))
+      (each_chunk (λ x. x < 2 ^ 63) ws steps j e l small_steps)
 
 -- two chunks of a row
 pub two_rows : (row ls v w : List ℕ) (j : ℕ) → take (8 * j) row ≡ take (8 * j) ls → v ≡ take 8 (drop (8 * j) ls) → w ≡ take 8 (drop (8 * (j + 1)) ls) → 8 * (j + 2) ≤ length row → length ls ≡ length row

@@ -11,8 +11,8 @@
 //! A [`Window`] holds what decides the cost of one bridge in one channel. It tells the cost of any bits
 //! ([`Window::cost_of`]), and the same step by step for a trellis search as of Viterbi, over the states
 //! that are made of the last bits ([`Window::step_cost`], [`Window::tail_cost`]; for all states at once
-//! [`Window::step_costs`], [`Window::tail_costs`]). What takes the rows of such a search, a level at a time,
-//! is a [`LevelSink`].
+//! [`Window::step_costs`], [`Window::tail_costs`]). [`sums_into`] adds a level's steps to the row before it, for
+//! sixteen states at a time. What takes the rows of such a search, a level at a time, is a [`LevelSink`].
 //!
 //! The words of the contracts, all over lists and numbers without bounds:
 //!
@@ -64,6 +64,6 @@ pub use laws::{
     places_are_windows, steps_are_cost,
 };
 pub use room::{has_room, reach_at};
-pub use rows::doubled;
+pub use rows::sums_into;
 pub use sink::{LevelSink, SinkFault};
 pub use window::Window;

@@ -3,30 +3,21 @@
 ghost use Rattle.std.specs.Prelude.{◌≡◌, ℕ, ◌+◌, ◌*◌, ◌/◌, ◌%◌, ◌<◌, ◌≤◌, ◌^◌, length, slice_index, slice_index_or, false, if◌then◌else◌};
 ghost use Rattle.std.specs.Simd.Lanes.{Each1, mask_l};
 ghost use Rattle.std.specs.Int.{bit_at};
-ghost use Rattle.cost_core.specs.Rows.{sums, seconds, least, lower, upper};
+ghost use Rattle.cost_core.specs.Rows.{seconds, least, lower, upper};
 
-use cost_core::doubled;
+use cost_core::sums_into;
 use std::simd::prelude::*;
 
 /// The sum of a state that no bits lead to, and the greatest sum that is kept.
 pub const NO_WAY: u64 = 1 << 63;
 
-// The lesser of two ways into each of eight states, and a bit for each where the second is less.
-fn choose_eight(
-    low: &[u64; 8],
-    low_steps: &[u64; 8],
-    high: &[u64; 8],
-    high_steps: &[u64; 8],
-) -> ([u64; 8], u8)
-    requires low { Each1 (λ x. x ≤ 2 ^ 63) low.now }
-    requires low_steps { Each1 (λ x. x < 2 ^ 63) low_steps.now }
-    requires high { Each1 (λ x. x ≤ 2 ^ 63) high.now }
-    requires high_steps { Each1 (λ x. x < 2 ^ 63) high_steps.now }
-    ensures row { result.0 ≡ least (sums low.now low_steps.now) (sums high.now high_steps.now) }
-    ensures choices { result.1 ≡ mask_l (seconds (sums low.now low_steps.now) (sums high.now high_steps.now)) }
+// The lesser of the sums by two ways into each of eight states, and a bit for each where the second is less.
+fn choose_eight(first: &[u64; 8], second: &[u64; 8]) -> ([u64; 8], u8)
+    ensures row { result.0 ≡ least first.now second.now }
+    ensures choices { result.1 ≡ mask_l (seconds first.now second.now) }
 {
-    let first = u64x8::from_array(*low).strict_add(u64x8::from_array(*low_steps));
-    let second = u64x8::from_array(*high).strict_add(u64x8::from_array(*high_steps));
+    let first = u64x8::from_array(*first);
+    let second = u64x8::from_array(*second);
     let is_second = second.simd_lt(first);
     let least = is_second
         .select(second, first)
@@ -50,26 +41,12 @@ fn choose_by_eights(old: &[u64], lows: &[u64], highs: &[u64], row: &mut [u64], c
         ≡ (if slice_index_or (seconds (lower old.now lows.now) (upper old.now highs.now)) k false then 1 else 0) }
 {
     let (low, high) = old.split_at(old.len() / 2);
-    let (low_chunks, _) = low.as_chunks::<8>();
-    let (high_chunks, _) = high.as_chunks::<8>();
-    let (low_steps, _) = lows.as_chunks::<8>();
-    let (high_steps, _) = highs.as_chunks::<8>();
-    for i in 0..low_chunks.len() {
+    for i in 0..low.len() / 8 {
         let j = 2 * i;
-        let (low_front, low_back) = doubled(&low_chunks[i]);
-        let (high_front, high_back) = doubled(&high_chunks[i]);
-        let (front, front_choice) = choose_eight(
-            &low_front,
-            &low_steps[j],
-            &high_front,
-            &high_steps[j],
-        );
-        let (back, back_choice) = choose_eight(
-            &low_back,
-            &low_steps[j + 1],
-            &high_back,
-            &high_steps[j + 1],
-        );
+        let (low_front, low_back) = sums_into(low, lows, i);
+        let (high_front, high_back) = sums_into(high, highs, i);
+        let (front, front_choice) = choose_eight(&low_front, &high_front);
+        let (back, back_choice) = choose_eight(&low_back, &high_back);
         u64x8::from_array(front).copy_to_slice(&mut row[8 * j..]);
         u64x8::from_array(back).copy_to_slice(&mut row[8 * (j + 1)..]);
         choices[j] = front_choice;

@@ -58,8 +58,8 @@ returns-in-Err-keep g c = λ told found.
     converts_none c.args.form c.args.input.now c.args.output.now (g.F.Folder.file c.args.folder.now) (g.F.Folder.file c.create.new.self) (g.F.Folder.file c.keep.new.self) (same g k told) c.keep.ensures.others
     c.args.outline.now found c.written_in_parts.ensures (c.if-not-fits_in.ensures.0 refl) c.in-Err-keep.ensures.refused
 
-pub returns-in-WriteFailed : goal.returns-in-WriteFailed
-returns-in-WriteFailed g c = λ told found. front g (goal.at.returns-in-WriteFailed g c).After-give_up told found
+pub returns-in-Stream-WriteFailed : goal.returns-in-Stream-WriteFailed
+returns-in-Stream-WriteFailed g c = λ told found. front g (goal.at.returns-in-Stream-WriteFailed g c).After-give_up told found
 
 pub returns-in-Memory : goal.returns-in-Memory
 returns-in-Memory g c = λ told found. inr (front g (goal.at.returns-in-Memory g c).After-give_up told found)

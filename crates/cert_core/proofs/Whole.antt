@@ -18,10 +18,10 @@ use Rattle.cert_core.specs.declared.verdict.CertReason.{CertReason}
 use Rattle.cert_core.specs.declared.verdict.CertReason.TheVariants.{Cut, Head, Length, Bound, Row, Start, Step, End, Cost, Extra}
 use Rattle.cert_core.specs.declared.stop.Stop.{Stop}
 use Rattle.cert_core.specs.Text.{entry_start, cert_entry}
-use Rattle.cert_core.specs.Reasons.{AreClean, EndReason, ReasonAfter, ReasonInRow, FirstReason}
-use Rattle.cert_core.specs.Stops.{InEnd, InEntry, InRows, ReadsRows}
+use Rattle.cert_core.specs.Reasons.{AreClean, EndReason, ReasonAfter, ReasonInRow, FirstReason, StartReason}
+use Rattle.cert_core.specs.Stops.{InEnd, InEntry, InRows, InStart, ReadsRows}
 use Rattle.cert_core.specs.Entries.{ReadsEntry}
-use Rattle.cert_core.proofs.Consuming.{before}
+use Rattle.cert_core.proofs.Consuming.{before, if_some}
 
 pub last_long : (v : Version) (t : Trellis) (a b : Option (List ℕ)) (last : List ℕ) → ReadsRows v t a b last → length last ≡ states t
 last_long v t a b last (rows, consumed, clean, n, e) = ap length e ∙ clean.states t.levels (omega arith)
@@ -62,6 +62,10 @@ rows_after v t found bytes Cost (rows, rest, goes, few, inl k) = absurd k
 rows_after v t found bytes Cost (rows, rest, goes, few, inr (row, after, spells, k)) = absurd k
 rows_after v t found bytes Extra (rows, rest, goes, few, inl k) = absurd k
 rows_after v t found bytes Extra (rows, rest, goes, few, inr (row, after, spells, k)) = absurd k
+
+-- a reason in the start of an entry is its first
+pub start_first : (v : Version) (t : Trellis) (cue channel levels found : ℕ) (a : Option (List ℕ)) → levels ≡ t.levels → (reason : CertReason) → InStart a cue channel levels reason → InEntry v t cue channel found a reason
+start_first v t cue channel levels found a e reason is = if_some a _ _ (λ bytes s. inl (subst (λ n. StartReason cue channel n bytes reason) e s)) is
 
 pub rows_first : (v : Version) (t : Trellis) (cue channel found : ℕ) (a b : Option (List ℕ)) → Consumes a b (entry_start cue channel t.levels) → (reason : CertReason) → InRows v t b reason → InEntry v t cue channel found a reason
 rows_first v t cue channel found a b consumed reason w =

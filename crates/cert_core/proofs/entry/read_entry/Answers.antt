@@ -7,7 +7,7 @@ use Rattle.cert_core.specs.Text.{entry_start}
 use Rattle.std.specs.Io.KnownBytes.{Consumes}
 use Rattle.device_core.specs.Inlets.{inlet_reader}
 use Rattle.cert_core.proofs.Consuming.{maps, passes}
-use Rattle.cert_core.proofs.Whole.{last_long, last_bounded, entry_read, end_first, rows_first}
+use Rattle.cert_core.proofs.Whole.{last_long, last_bounded, entry_read, end_first, rows_first, start_first}
 use Rattle.cert_core.proofs.entry.read_entry.Goals as goal
 
 pub read_end-requires-clause-last : goal.read_end-requires-clause-last
@@ -50,3 +50,8 @@ returns-in_err-last-clause-reason g c =
     let start : Consumes from mid (entry_start c.args.place.cue c.args.place.channel t.levels) = subst (λ n. Consumes from mid (entry_start c.args.place.cue c.args.place.channel n)) c.length.ensures.value c.in_ok-read_start.ensures.ok in
     passes (Unit {0}) c.from_residual-in_err-last.result c.in_err-last.field-0.0 _ _ c.from_residual-in_err-last.ensures.1
     (λ reason. rows_first c.args.version t c.args.place.cue c.args.place.channel (cost t c.args.bits.now) from mid start reason) c.in_err-last.ensures.reason
+
+pub returns-in_err-read_start-clause-reason : goal.returns-in_err-read_start-clause-reason
+returns-in_err-read_start-clause-reason g c =
+    passes (Unit {0}) c.from_residual.result c.in_err-read_start.field-0.0 _ _ c.from_residual.ensures.1
+    (start_first c.args.version (trellis_of c.args.window.now) c.args.place.cue c.args.place.channel c.length.result (cost (trellis_of c.args.window.now) c.args.bits.now) (g.R.Read.remaining (inlet_reader c.args.inlet.now)) c.length.ensures.value) c.in_err-read_start.ensures.reason

@@ -1,8 +1,10 @@
-use Rattle.std.proofs.Common.{◌≡◌, ◌*◌, ◌-◌, ◌^◌, ◌<◌, ◌∙◌, length, take, sym, subst, arith, rules}
+use Rattle.std.proofs.Common.{◌≡◌, ◌*◌, ◌-◌, ◌^◌, ◌<◌, ◌≤◌, ◌∙◌, length, take, sym, subst, arith, rules}
+use Rattle.std.proofs.lemmas.Nat.{mul-le}
 use Rattle.cert_core.specs.Spelling.{byte_width}
 use Rattle.cert_core.proofs.Narrow.{narrow_is, narrow_text}
 use Rattle.cert_core.proofs.Raised.{peak_high, width_fits}
 use Rattle.cert_core.proofs.spelling.put_narrow.Goals as goal
+use Rattle.cert_core.proofs.spelling.put_narrow.Goals.{After-width_of-width}
 
 pub put_excesses-requires-clause-fits : goal.put_excesses-requires-clause-fits
 put_excesses-requires-clause-fits c = λ q h.
@@ -20,3 +22,16 @@ returns-clause-text c =
     let eight : length front ≡ 8 = search (arith, rules) in
     narrow_is front _ c.put_excesses.new.buffer c.width_of-width.result _ count eight (search (arith, rules)) (search (arith, rules))
     ∙ narrow_text c.args.row.now front ys c.bounds_of-least.result.0 c.bounds_of-least.result.1 c.width_of-width.result c.bounds_of-least.ensures.least c.bounds_of-least.ensures.greatest (c.copy_from_slice.ensures.after ∙ c.to_be_bytes.ensures) c.width_of-width.ensures.width c.put_excesses.ensures.text
+
+-- a row has at most eight bytes for each excess
+few_bytes : (c : After-width_of-width) → c.width_of-width.result * length c.args.row.now ≤ 8 * length c.args.row.now
+few_bytes c = mul-le c.width_of-width.result (length c.args.row.now) 8 (length c.args.row.now) c.width_of-width.ensures.few (omega arith)
+
+pub overflow_mul-count : goal.overflow_mul-count
+overflow_mul-count c = record { fits = omega (arith, few_bytes (goal.at.overflow_mul-count c).After-width_of-width, c.requires.room) }
+
+pub overflow_add-count : goal.overflow_add-count
+overflow_add-count c = record { fits = omega (arith, few_bytes (goal.at.overflow_add-count c).After-width_of-width, c.requires.room) }
+
+pub overflow_add-result : goal.overflow_add-result
+overflow_add-result c = record { fits = omega (arith, few_bytes (goal.at.overflow_add-result c).After-width_of-width, c.requires.room) }

@@ -1,7 +1,7 @@
 use Rattle.std.proofs.Common.{◌≡◌, ◌-ℤ◌, unsigned_abs, ap, ◌∙◌, arith}
 use Rattle.std.proofs.lemmas.Int.{ints}
 use Rattle.cost_core.proofs.SumLaws.{abs_sub}
-use Rattle.cost_core.proofs.Squares.{squared_bound, squared_is}
+use Rattle.cost_core.proofs.Squares.{squared_bound, squared_fits, squared_is}
 use Rattle.cost_core.proofs.sums.squared_difference.Goals as goal
 use Rattle.cost_core.proofs.sums.squared_difference.Goals.{After-from-difference}
 
@@ -24,3 +24,6 @@ returns-clause-bound c =
     let is = difference_is (goal.at.returns-clause-bound c).After-from-difference in
     let bound = squared_bound c.args.sum c.args.other c.from-difference.result c.requires.sum c.requires.other is in
     omega (arith, ap unsigned_abs (squared_is c.args.sum c.args.other c.from-difference.result c.requires.sum c.requires.other is), bound)
+
+pub overflow_mul-result : goal.overflow_mul-result
+overflow_mul-result c = squared_fits c.args.sum c.args.other c.from-difference.result c.requires.sum c.requires.other (difference_is (goal.at.overflow_mul-result c).After-from-difference)

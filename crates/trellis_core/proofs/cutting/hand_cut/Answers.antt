@@ -1,5 +1,6 @@
-use Rattle.std.proofs.Common.{◌≡◌, ◌+◌, ◌*◌, length, ap, sym, ◌∙◌, arith}
+use Rattle.std.proofs.Common.{◌≡◌, ◌+◌, ◌*◌, length, ap, sym, ◌∙◌, refl, arith}
 use Rattle.std.proofs.lemmas.Result.{err_from_is_err_and}
+use Rattle.std.proofs.KnownBytes.{Appends-nil}
 use Rattle.cost_core.specs.Trellis.{states}
 use Rattle.cost_core.specs.StateCosts.{trellis_of}
 use Rattle.trellis_core.specs.Best.{best_row}
@@ -113,4 +114,22 @@ returns-clause-buffers g c =
       row = ap length inv.row ∙ row_length t c.loop-level.level;
       totals = written_length c.loop-level.room.totals.len (states t) c.cut_row-2.new.cut c.loop-level.room.totals.items c.loop-level.room.totals.ok.0 (last_long g here) inv.totals;
       decided = inv.decided;
+    }
+
+pub loop-level-init : goal.loop-level-init
+loop-level-init g c =
+    let room = c.args.room.now in
+    let t = trellis_of c.args.window.now in
+    let long : length c.write_first_row.new.row ≡ length room.row.items = ap length c.write_first_row.ensures ∙ row_length t 0 ∙ sym c.requires.buffers.row in
+    record {
+      steps = c.requires.buffers.steps;
+      row = written room.row.len c.write_first_row.new.row room.row.items room.row.ok.0 long ∙ c.write_first_row.ensures;
+      totals = c.requires.buffers.totals;
+      decided = c.requires.buffers.decided;
+      handed = Appends-nil (g.S.LevelSink.text c.args.sink.now);
+      left = omega arith;
+      row_length = refl;
+      kind = refl;
+      kept = refl;
+      ready = c.requires.ready;
     }

@@ -1,5 +1,6 @@
-use Rattle.std.proofs.Common.{◌≡◌, ◌+◌, ◌*◌, ◌++◌, Err, length, ap, sym, subst, ◌∙◌, arith}
+use Rattle.std.proofs.Common.{◌≡◌, ◌+◌, ◌*◌, ◌++◌, Err, length, ap, sym, subst, ◌∙◌, refl, arith}
 use Rattle.std.proofs.lemmas.Result.{err_from_is_err_and}
+use Rattle.std.proofs.KnownBytes.{Appends-nil}
 use Rattle.cost_core.specs.Trellis.{states}
 use Rattle.cost_core.specs.StateCosts.{trellis_of}
 use Rattle.trellis_core.specs.Best.{best_row}
@@ -127,3 +128,22 @@ returns-clause-decisions g c =
     let t = trellis_of c.args.window.now in
     let all : c.loop-level.level ≡ t.levels = omega (arith, c.loop-level-test.false, c.length-level-end.ensures.value, c.loop-level.auto.level-end) in
     subst (λ n. AreAllDecisions t n c.loop-level.decisions.items) all c.loop-level.invariant.decisions
+
+pub loop-level-init : goal.loop-level-init
+loop-level-init g c =
+    let room = c.args.room.now in
+    let t = trellis_of c.args.window.now in
+    let long : length c.write_first_row.new.row ≡ length room.row.items = ap length c.write_first_row.ensures ∙ row_length t 0 ∙ sym c.requires.buffers.row in
+    record {
+      steps = c.requires.buffers.steps;
+      row = written room.row.len c.write_first_row.new.row room.row.items room.row.ok.0 long ∙ c.write_first_row.ensures;
+      totals = c.requires.buffers.totals;
+      decided = c.requires.buffers.decided;
+      decisions = rw c.requires.none (record { long = omega arith; each = λ level q below h. absurd (omega arith) });
+      handed = Appends-nil (g.S.LevelSink.text c.args.sink.now);
+      left = omega arith;
+      row_length = refl;
+      kind = refl;
+      kept = refl;
+      ready = c.requires.ready;
+    }

@@ -1,8 +1,11 @@
-use Rattle.std.proofs.Common.{◌<◌, ◌+◌, ap, arith, length}
+use Rattle.std.proofs.Common.{◌<◌, ◌+◌, ◌∙◌, ap, arith, length, refl, sym}
 use Rattle.splice_core.specs.Cues.{CueContent}
 use Rattle.splice_core.specs.Splices.{splice_content}
+use Rattle.cost_core.specs.Faults.{first_fault}
+use Rattle.cost_core.specs.Windows.{bridging_at}
 use Rattle.cost_core.proofs.Windows.{cue_fits, cue_read, splicing}
 use Rattle.cost_core.proofs.window.Window.new.Goals as goal
+use Rattle.std.proofs.lemmas.Result.{IfOk-from_err, err_from_is_err_and}
 
 -- what the target and the weights read stands there: in both cues, and beyond them where there is room
 pub between-requires-clause-room : goal.between-requires-clause-room
@@ -24,3 +27,51 @@ between-requires-clause-room c =
       before = omega (arith, start, room.before);
       after = omega (arith, stop, room.after);
     }
+
+-- ---- the exits
+pub returns-in_err-has_room-clause-ok : goal.returns-in_err-has_room-clause-ok
+returns-in_err-has_room-clause-ok c = IfOk-from_err c.from_residual.result _ c.from_residual.ensures.0
+
+pub returns-in_err-has_room-clause-found : goal.returns-in_err-has_room-clause-found
+returns-in_err-has_room-clause-found c = IfOk-from_err c.from_residual.result _ c.from_residual.ensures.0
+
+pub returns-in_err-has_room-clause-only : goal.returns-in_err-has_room-clause-only
+returns-in_err-has_room-clause-only c = λ room. let h = c.in_err-has_room.ensures.only (rw c.len.ensures.value room) in cc
+
+pub returns-in_err-has_room-clause-order : goal.returns-in_err-has_room-clause-order
+returns-in_err-has_room-clause-order c =
+    let p = err_from_is_err_and c.from_residual.result c.from_residual.ensures.1 in
+    rw p.1 (ap (first_fault (splice_content c.args.splice.now) c.args.cue) (sym c.len.ensures.value) ∙ c.in_err-has_room.ensures.order ∙ sym p.2)
+
+pub returns-in_err-between-clause-ok : goal.returns-in_err-between-clause-ok
+returns-in_err-between-clause-ok c = IfOk-from_err c.from_residual-in_err-between.result _ c.from_residual-in_err-between.ensures.0
+
+pub returns-in_err-between-clause-found : goal.returns-in_err-between-clause-found
+returns-in_err-between-clause-found c = IfOk-from_err c.from_residual-in_err-between.result _ c.from_residual-in_err-between.ensures.0
+
+pub returns-in_err-between-clause-only : goal.returns-in_err-between-clause-only
+returns-in_err-between-clause-only c = λ _.
+    let p = err_from_is_err_and c.from_residual-in_err-between.result c.from_residual-in_err-between.ensures.1 in
+    rw (p.1, p.2) refl
+
+pub returns-in_err-between-clause-order : goal.returns-in_err-between-clause-order
+returns-in_err-between-clause-order c =
+    let p = err_from_is_err_and c.from_residual-in_err-between.result c.from_residual-in_err-between.ensures.1 in
+    rw (p.1, p.2) (ap (first_fault (splice_content c.args.splice.now) c.args.cue) (sym c.len.ensures.value) ∙ c.in_ok-has_room.ensures.order)
+
+pub returns-clause-ok : goal.returns-clause-ok
+returns-clause-ok c =
+    let splice = c.args.splice.now in
+    let i = c.args.cue in
+    let stop = ap (λ (q : CueContent). q.stop) (cue_read splice i c.index.result.now (omega (arith, c.requires.cues)) c.index.ensures) in
+    let start = ap (λ (q : CueContent). q.start) (cue_read splice (i + 1) c.index-2.result.now c.requires.cues c.index-2.ensures) in
+    c.in_ok-between.ensures ∙ (λ z. bridging_at (splice_content splice) i c.args.own.now (stop z) c.args.next.now (start z))
+
+pub returns-clause-found : goal.returns-clause-found
+returns-clause-found c = rw (← c.len.ensures.value) c.in_ok-has_room.ensures.found
+
+pub returns-clause-only : goal.returns-clause-only
+returns-clause-only c = λ _. tt
+
+pub returns-clause-order : goal.returns-clause-order
+returns-clause-order c = ap (first_fault (splice_content c.args.splice.now) c.args.cue) (sym c.len.ensures.value) ∙ c.in_ok-has_room.ensures.order

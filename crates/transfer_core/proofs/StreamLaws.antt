@@ -90,7 +90,7 @@ module _ (project : List ℕ) (d : Decimator) (is_said : decimator_of project �
   keeps_up (Some file) a b n h = λ bytes s is told much. subst (λ e. WritesFrames e s (sound_given s n - 131072) bytes a b) (same_decimator file bytes is) (h bytes s (played file bytes is) told much)
 
 -- ---- a fault of a stream, under its name here
-pub same_stream : {X : Type 0} (f : StreamFault) → as_stream {X = X} (Err (fault_of_stream f)) ≡ Err f
+same_stream : {X : Type 0} (f : StreamFault) → as_stream {X = X} (Err (fault_of_stream f)) ≡ Err f
 same_stream faults.Memory = refl
 same_stream f = refl
 

@@ -5,7 +5,7 @@ use Rattle.sound_core.specs.Faults.{StopsReading}
 use Rattle.stream_core.proofs.PieceLaws.{any_err}
 use Rattle.stream_core.proofs.PlayLaws.{none_written}
 use Rattle.transfer_core.specs.Playing.{Plays}
-use Rattle.transfer_core.proofs.StreamLaws.{before_writing, keeps_up, of_stream, only_outside, plays_file, plays_given, project_outside, same_stream, stands, writes_front}
+use Rattle.transfer_core.proofs.StreamLaws.{before_writing, keeps_up, of_stream, only_outside, plays_file, plays_given, project_outside, stands, writes_front}
 use Rattle.transfer_core.proofs.playing.play_stream.Goals as goal
 
 pub returns-in_err-taps-clause-cause : goal.returns-in_err-taps-clause-cause
@@ -29,6 +29,11 @@ pub returns-in_err-play-clause-keeps_up : goal.returns-in_err-play-clause-keeps_
 returns-in_err-play-clause-keeps_up g c =
     let e = err_from_is_err_and c.from_residual-in_err-play.result c.from_residual-in_err-play.ensures.1 in
     rw (e.1, e.2) (λ stop. keeps_up c.args.project.now c.in_ok-taps.taps c.in_ok-taps.ensures.exact (g.R.Read.remaining (inlet_reader c.args.inlet.now)) (g.W.Write.contents (outlet_writer c.args.outlet.now)) (g.W.Write.contents (outlet_writer c.play.new.outlet)) _ (c.in_err-play.ensures.keeps_up (of_stream StopsReading c.in_err-play.field-0.0 stop)))
+
+pub returns-in_err-play-clause-unwritten : goal.returns-in_err-play-clause-unwritten
+returns-in_err-play-clause-unwritten g c =
+    let e = err_from_is_err_and c.from_residual-in_err-play.result c.from_residual-in_err-play.ensures.1 in
+    rw (e.1, e.2) (λ before. c.in_err-play.ensures.unwritten (before_writing c.in_err-play.field-0.0 before))
 
 pub returns-in_err-play-clause-refused : goal.returns-in_err-play-clause-refused
 returns-in_err-play-clause-refused g c =

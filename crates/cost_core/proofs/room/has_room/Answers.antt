@@ -1,4 +1,5 @@
 use Rattle.std.proofs.Common.{◌≡◌, ◌<◌, length, ap, arith}
+use Rattle.std.proofs.lemmas.Grind.{common_steps}
 use Rattle.splice_core.specs.Cues.{CueContent, IsCueWithin, cue_content}
 use Rattle.splice_core.specs.Splices.{splice_content}
 use Rattle.cost_core.specs.Windows.{cue_at}
@@ -19,3 +20,9 @@ pub overflow_add-here : goal.overflow_add-here
 overflow_add-here c =
     let e = (goal.at.overflow_add-here c).After-index-here in
     omega (arith, ap (λ (q : CueContent). q.stop) (here e), (fits e).stop_fits, c.reach_at-before.ensures.few)
+
+pub returns-then-count-here-clause-only : goal.returns-then-count-here-clause-only
+returns-then-count-here-clause-only c = grind (arith, common_steps)
+
+pub returns-then-index-before-clause-only : goal.returns-then-index-before-clause-only
+returns-then-index-before-clause-only c = grind (arith, common_steps)

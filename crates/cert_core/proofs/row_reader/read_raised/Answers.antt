@@ -1,5 +1,4 @@
 use Rattle.std.proofs.Common.{◌≡◌, ◌*◌, ◌∙◌, length, ap, sym, subst, arith}
-use Rattle.std.proofs.lemmas.Nat.{mul-le}
 use Rattle.dsd_bits.proofs.ShiftingLemmas.{written_back}
 use Rattle.std.specs.Io.KnownBytes.{Consumes}
 use Rattle.device_core.specs.Inlets.{inlet_reader}
@@ -8,9 +7,6 @@ use Rattle.cert_core.specs.declared.version.Version.TheVariants.{Two}
 use Rattle.cert_core.proofs.Consuming.{passes}
 use Rattle.cert_core.proofs.Reading.{cut_in_excesses, raised_consumed, raised_first}
 use Rattle.cert_core.proofs.row_reader.read_raised.Goals as goal
-
-pub overflow_mul-size : goal.overflow_mul-size
-overflow_mul-size g c = record { fits = omega (arith, mul-le c.in_ok-least.width (length c.args.row.now) 8 (length c.args.row.now) c.in_ok-least.ensures.few (omega arith), c.requires.room) }
 
 pub returns-in_err-fill-clause-reason : goal.returns-in_err-fill-clause-reason
 returns-in_err-fill-clause-reason g c =

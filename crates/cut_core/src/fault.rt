@@ -9,8 +9,8 @@ use thiserror::Error;
 
 /// Why a splice can't be cut from the files of its takes: the first fault that stands.
 ///
-/// A fault's text is its name, and after one space the number of the take or cue, counted from 0, and behind that of a take
-/// that isn't read why.
+/// A fault's text is its name, and after one space the number of the take or cue, counted from 0, and behind that of a
+/// take that isn't read why.
 #[derive(Clone, Copy, Debug, PartialEq, Eq, Error)]
 pub enum CutFault {
     /// There are not as many files as takes.

@@ -14,10 +14,10 @@ use wave_core::WaveFault;
 
 /// Why a call is refused: the first fault that stands, in the order that the call states.
 ///
-/// No fault has two spellings. Every want of memory is `Memory`, and a DSDIFF file whose channels would end inside a byte
-/// is `NotWholeBytes`, whether it is cut or converted: neither stands in another variant. A rate that isn't divided, a
-/// WAVE file that would be too large, and whatever a device is refused for are `Stream`, also where a file is played in
-/// memory or a certificate read.
+/// No fault has two spellings. Every want of memory is `Memory`, and a DSDIFF file whose channels would end inside a
+/// byte is `NotWholeBytes`, whether it is cut or converted: neither stands in another variant. A rate that isn't
+/// divided, a WAVE file that would be too large, and a read or write that failed are `Stream`, also where a file is
+/// played in memory or a certificate read.
 #[derive(Clone, Copy, Debug, PartialEq, Eq, Error)]
 pub enum Fault {
     /// The project text is not read.

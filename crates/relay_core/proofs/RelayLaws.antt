@@ -1,5 +1,5 @@
 -- A file of a known outline, part by part.
-use Rattle.std.proofs.Common.{◌≡◌, ℕ, ◌+◌, ◌%◌, ◌<◌, ◌≤◌, ◌⊎◌, inl, inr, true, false, List, [], ◌++◌, length, take, drop, Option, None, Some, Result, Ok, Err, OnErr, OnOk, refl, sym, subst, ap, ap₂, ◌∙◌, arith, append_assoc, append-nil, length-append, length-take, length-drop, take-append-drop}
+use Rattle.std.proofs.Common.{◌≡◌, ℕ, ◌+◌, ◌%◌, ◌<◌, ◌≤◌, ◌⊎◌, inl, inr, true, false, List, [], ◌++◌, length, take, drop, Option, None, Some, Result, Ok, Err, IfErr, IsErr, OnErr, OnOk, refl, sym, subst, ap, ap₂, ◌∙◌, arith, append_assoc, append-nil, length-append, length-take, length-drop, take-append-drop}
 use Rattle.std.proofs.lemmas.List.{append_cancel_left, nil_from_length}
 use Rattle.std.specs.Io.KnownBytes.{Appends, Consumes, IsAtEnd}
 use Rattle.std.proofs.KnownBytes.{Appends-nil, Appends-trans, Consumes-nil, Consumes-trans}
@@ -31,6 +31,10 @@ on_err (Err e) f p = f p
 pub on_ok : {X E : Type 0} {P Q : Type 0} (r : Result X E) → (P → Q) → OnOk r P → OnOk r Q
 on_ok (Ok x) f p = f p
 on_ok (Err e) f p = tt
+
+pub not_ok : {X E : Type 0} (P : Type 0) (r : Result X E) → IsErr r → OnOk r P
+not_ok P (Ok x) e = cc
+not_ok P (Err y) e = tt
 
 pub front_nil : (a : Option (List ℕ)) (all : List ℕ) → AppendsFront a a all
 front_nil a all = ([], all, refl, Appends-nil a)
@@ -383,14 +387,15 @@ writing_stands l o WriteFailed h = tt
 writing_stands l o TurnLimit h = absurd h
 writing_stands l o Memory h = tt
 
-pub unread : (f : StreamFault) → IsWritingFault f → failed_reads {X = Unit {0}} (Err f) ≡ 0
-unread FileRefused h = refl
-unread RateNotDivided h = refl
-unread TooLarge h = refl
-unread ReadFailed h = absurd h
-unread WriteFailed h = refl
-unread TurnLimit h = refl
-unread Memory h = refl
+pub unread : (r : Result (Unit {0}) StreamFault) → IfErr r IsWritingFault → failed_reads r ≡ 0
+unread (Ok x) h = refl
+unread (Err FileRefused) h = refl
+unread (Err RateNotDivided) h = refl
+unread (Err TooLarge) h = refl
+unread (Err ReadFailed) h = absurd h
+unread (Err WriteFailed) h = refl
+unread (Err TurnLimit) h = refl
+unread (Err Memory) h = refl
 
 pub unwritten_expect : (l : Option (List ℕ)) (bytes : List ℕ) (f : StreamFault) → IsExpectFault l bytes f → failed_writes {X = Unit {0}} (Err f) ≡ 0
 unwritten_expect l bytes FileRefused h = refl
@@ -409,3 +414,40 @@ unwritten_rest l o ReadFailed h = refl
 unwritten_rest l o WriteFailed h = absurd h
 unwritten_rest l o TurnLimit h = refl
 unwritten_rest l o Memory h = refl
+
+pub unwritten_fill : (l : Option (List ℕ)) (n : ℕ) (f : StreamFault) → IsFillFault l n f → failed_writes {X = Unit {0}} (Err f) ≡ 0
+unwritten_fill l n FileRefused h = refl
+unwritten_fill l n RateNotDivided h = refl
+unwritten_fill l n TooLarge h = refl
+unwritten_fill l n ReadFailed h = refl
+unwritten_fill l n WriteFailed h = absurd h
+unwritten_fill l n TurnLimit h = refl
+unwritten_fill l n Memory h = refl
+
+-- what a step counts is all that was counted
+pub none_before : (a m b n : ℕ) → m ≡ a + 0 → b ≡ m + n → b ≡ a + n
+none_before a m b n none p = omega arith
+
+-- ---- faults of a part
+pub filling_in_part : (l : Option (List ℕ)) (s : Sound) (bits size : ℕ) (f : StreamFault) → size ≡ sound_size s.interleaving s.channels bits → IsFillFault l size f → IsPartFault l s bits f
+filling_in_part None s bits size FileRefused e h = tt
+filling_in_part (Some xs) s bits size FileRefused e h = subst (λ n. length xs < n) e h
+filling_in_part l s bits size RateNotDivided e h = absurd h
+filling_in_part l s bits size TooLarge e h = absurd h
+filling_in_part l s bits size ReadFailed e h = tt
+filling_in_part l s bits size WriteFailed e h = absurd h
+filling_in_part l s bits size TurnLimit e h = absurd h
+filling_in_part l s bits size Memory e h = absurd h
+
+pub writing_in_part : (l : Option (List ℕ)) (s : Sound) (bits : ℕ) (f : StreamFault) → IsWritingFault f → IsPartFault l s bits f
+writing_in_part l s bits FileRefused h = absurd h
+writing_in_part l s bits RateNotDivided h = absurd h
+writing_in_part l s bits TooLarge h = absurd h
+writing_in_part l s bits ReadFailed h = absurd h
+writing_in_part l s bits WriteFailed h = tt
+writing_in_part l s bits TurnLimit h = absurd h
+writing_in_part l s bits Memory h = tt
+
+pub none_of_part : (l : Option (List ℕ)) (s : Sound) (to : Interleaving) (bits : ℕ) (a : Option (List ℕ)) → PartFront l s to bits a a
+none_of_part None s to bits a = tt
+none_of_part (Some xs) s to bits a = λ part rest e long. front_nil a (relaced s.interleaving to s.channels bits part)

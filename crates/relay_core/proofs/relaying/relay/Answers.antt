@@ -1,14 +1,14 @@
-use Rattle.std.proofs.Common.{arith, subst}
+use Rattle.std.proofs.Common.{◌≡◌, ◌+◌, ◌∙◌, Err, ap, arith, subst, sym}
 use Rattle.std.specs.Io.KnownBytes.{Consumes}
 use Rattle.std.proofs.lemmas.Result.{err_from_is_err_and}
-use Rattle.device_core.specs.Inlets.{inlet_reader}
+use Rattle.device_core.specs.Inlets.{inlet_failures, inlet_reader}
 use Rattle.device_core.specs.Outlets.{outlet_writer}
 use Rattle.sound_core.specs.Outlines.{around_of}
 use Rattle.relay_core.specs.Comparing.{IsExpectFault}
-use Rattle.relay_core.proofs.RelayLaws.{any_err, head_fault, head_part, head_whole, on_err, on_ok, relays, relays_given, rest_fault, sound_fault, sound_part, sound_whole, tail_part, unread, unwritten_expect, unwritten_rest, writing_stands}
+use Rattle.relay_core.proofs.RelayLaws.{any_err, front_nil, head_fault, head_part, head_whole, none_before, not_ok, on_err, on_ok, relays, relays_given, rest_fault, sound_fault, sound_part, sound_whole, tail_part, unread, unwritten_expect, unwritten_rest, writing_stands}
 use Rattle.relay_core.proofs.relaying.relay.Given.{Over}
 use Rattle.relay_core.proofs.relaying.relay.Goals as goal
-use Rattle.relay_core.proofs.relaying.relay.Goals.{In_ok-expect}
+use Rattle.relay_core.proofs.relaying.relay.Goals.{In_ok-expect, In_ok-relay_sound}
 
 pub returns-in_err-put-clause-front : goal.returns-in_err-put-clause-front
 returns-in_err-put-clause-front g c =
@@ -22,7 +22,7 @@ returns-in_err-put-clause-fault g c =
 pub returns-in_err-put-clause-read_failed : goal.returns-in_err-put-clause-read_failed
 returns-in_err-put-clause-read_failed g c =
     let e = err_from_is_err_and c.from_residual-in_err-put.result c.from_residual-in_err-put.ensures.1 in
-    rw (e.1, e.2) (omega (arith, unread c.in_err-put.field-0.0 c.in_err-put.ensures.fault))
+    rw (e.1, e.2) (omega (arith, unread (Err c.in_err-put.field-0.0) c.in_err-put.ensures.fault))
 
 pub returns-in_err-expect-clause-front : goal.returns-in_err-expect-clause-front
 returns-in_err-expect-clause-front g c =
@@ -92,3 +92,52 @@ returns-clause-front g c =
     let k = (goal.at.returns-clause-front g c).In_ok-expect in
     on_err c.put-2.result (λ out. tail_part c.args.target.now (around_of c.args.outline.now) c.requires.told.is_sound (g.R.Read.remaining (inlet_reader c.args.inlet.now)) (g.W.Write.contents (outlet_writer c.args.outlet.now)) (g.W.Write.contents (outlet_writer c.put.new.outlet)) c.in_ok-put.ensures.ok
     (g.R.Read.remaining (inlet_reader c.expect.new.inlet)) (head_in g k) (g.R.Read.remaining (inlet_reader c.relay_sound.new.inlet)) (g.W.Write.contents (outlet_writer c.relay_sound.new.outlet)) c.in_ok-relay_sound.ensures.ok (g.W.Write.contents (outlet_writer c.put-2.new.outlet)) out) c.put-2.ensures.err
+
+pub returns-in_err-vec-clause-front : goal.returns-in_err-vec-clause-front
+returns-in_err-vec-clause-front g c =
+    let a = g.W.Write.contents (outlet_writer c.args.outlet.now) in
+    any_err c.from_residual.result (head_part c.args.target.now (around_of c.args.outline.now) c.requires.told.is_sound (g.R.Read.remaining (inlet_reader c.args.inlet.now)) a a (front_nil a c.args.target.now.head.now))
+
+-- ---- what was counted
+no_failure : (g : Over) (c : In_ok-relay_sound g) → inlet_failures c.relay_sound.new.inlet ≡ inlet_failures c.args.inlet.now + 0
+no_failure g c = none_before _ _ _ _ c.in_ok-expect.ensures.failures c.in_ok-relay_sound.ensures.read_failed
+
+pub returns-in_err-put-clause-write_failed : goal.returns-in_err-put-clause-write_failed
+returns-in_err-put-clause-write_failed g c =
+    let e = err_from_is_err_and c.from_residual-in_err-put.result c.from_residual-in_err-put.ensures.1 in
+    rw (e.1, e.2) c.in_err-put.ensures.failures
+
+pub returns-in_err-expect-clause-read_failed : goal.returns-in_err-expect-clause-read_failed
+returns-in_err-expect-clause-read_failed g c =
+    let e = err_from_is_err_and c.from_residual-in_err-expect.result c.from_residual-in_err-expect.ensures.1 in
+    rw (e.1, e.2) c.in_err-expect.ensures.failures
+
+pub returns-in_err-relay_sound-clause-read_failed : goal.returns-in_err-relay_sound-clause-read_failed
+returns-in_err-relay_sound-clause-read_failed g c =
+    let e = err_from_is_err_and c.from_residual-in_err-relay_sound.result c.from_residual-in_err-relay_sound.ensures.1 in
+    rw (e.1, e.2) (none_before _ _ _ _ c.in_ok-expect.ensures.failures c.in_err-relay_sound.ensures.read_failed)
+
+pub returns-in_err-relay_sound-clause-write_failed : goal.returns-in_err-relay_sound-clause-write_failed
+returns-in_err-relay_sound-clause-write_failed g c =
+    let e = err_from_is_err_and c.from_residual-in_err-relay_sound.result c.from_residual-in_err-relay_sound.ensures.1 in
+    rw (e.1, e.2) (none_before _ _ _ _ c.in_ok-put.ensures.failures c.in_err-relay_sound.ensures.write_failed)
+
+pub returns-in_err-expect_rest-clause-read_failed : goal.returns-in_err-expect_rest-clause-read_failed
+returns-in_err-expect_rest-clause-read_failed g c =
+    let k = (goal.at.returns-in_err-expect_rest-clause-read_failed g c).In_ok-relay_sound in
+    let e = err_from_is_err_and c.from_residual-in_err-expect_rest.result c.from_residual-in_err-expect_rest.ensures.1 in
+    rw (e.1, e.2) (none_before _ _ _ _ (no_failure g k) c.in_err-expect_rest.ensures.failures)
+
+pub returns-clause-read_failed : goal.returns-clause-read_failed
+returns-clause-read_failed g c =
+    let k = (goal.at.returns-clause-read_failed g c).In_ok-relay_sound in
+    none_before _ _ _ _ (no_failure g k) c.in_ok-expect_rest.ensures.failures ∙ ap (λ n. inlet_failures c.args.inlet.now + n) (sym (unread c.put-2.result c.put-2.ensures.fault))
+
+pub relay_sound-requires-clause-sound : goal.relay_sound-requires-clause-sound
+relay_sound-requires-clause-sound g c = record { is_sound = c.requires.told.is_sound; from_whole = c.requires.told.whole; to_whole = c.requires.whole }
+
+pub returns-in_err-put-clause-ok : goal.returns-in_err-put-clause-ok
+returns-in_err-put-clause-ok g c = not_ok _ c.from_residual-in_err-put.result c.from_residual-in_err-put.ensures.0
+
+pub returns-in_err-put-clause-any_reader : goal.returns-in_err-put-clause-any_reader
+returns-in_err-put-clause-any_reader g c = not_ok _ c.from_residual-in_err-put.result c.from_residual-in_err-put.ensures.0

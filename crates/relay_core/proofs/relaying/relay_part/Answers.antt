@@ -1,8 +1,11 @@
-use Rattle.std.proofs.Common.{◌≡◌, ◌∙◌, ◌++◌, ap, arith, length-take, subst, take}
-use Rattle.device_core.specs.Inlets.{inlet_reader}
+use Rattle.std.proofs.Common.{◌≡◌, ◌+◌, ◌∙◌, ◌++◌, ap, arith, length, length-take, subst, sym, take}
+use Rattle.std.proofs.lemmas.Result.{IfErr-weaker, err_from_is_err_and}
+use Rattle.std.specs.Io.KnownBytes.{Appends}
+use Rattle.device_core.specs.Inlets.{inlet_failures, inlet_reader}
 use Rattle.device_core.specs.Outlets.{AppendsFront, outlet_writer}
+use Rattle.dsd_bits.specs.Sounds.{sound_size}
 use Rattle.relace_core.specs.Relacing.{relaced}
-use Rattle.relay_core.proofs.RelayLaws.{on_err, stretch_front}
+use Rattle.relay_core.proofs.RelayLaws.{any_err, filling_in_part, none_of_part, on_err, on_ok, stretch_front, unread, unwritten_fill, writing_in_part}
 use Rattle.relay_core.proofs.relaying.relay_part.Goals as goal
 
 pub returns-clause-front : goal.returns-clause-front
@@ -16,3 +19,43 @@ returns-clause-front g c =
     let a = g.W.Write.contents (outlet_writer c.args.outlet.now) in
     let b = g.W.Write.contents (outlet_writer c.put.new.outlet) in
     on_err c.put.result (λ front. stretch_front s to c.args.part.bits (g.R.Read.remaining (inlet_reader c.args.inlet.now)) (g.R.Read.remaining (inlet_reader c.fill.new.inlet)) a b read c.in_ok-fill.ensures.read (omega (arith, length-take n c.fill.new.block.items, c.stretch_size-size.ensures, c.requires.part.fits, c.requires.size, c.fill.ensures.size)) (subst (AppendsFront a b) made front)) c.put.ensures.err
+
+pub returns-clause-ok : goal.returns-clause-ok
+returns-clause-ok g c =
+    let s = c.args.part.relacing.sound in
+    let to = c.args.part.relacing.to in
+    let n = c.stretch_size-size.result in
+    let read = take n c.fill.new.block.items in
+    let bytes : c.split_at.result.0.now ≡ read = c.split_at.ensures.front ∙ ap (take n) c.deref.ensures.value in
+    let made : c.deref-2.result.now ≡ relaced s.interleaving to s.channels c.args.part.bits read = c.deref-2.ensures.value ∙ c.in_ok-push_relaced.ensures.ok ∙ ap (λ xs. xs ++ relaced s.interleaving to s.channels c.args.part.bits c.split_at.result.0.now) c.clear.ensures.items ∙ ap (relaced s.interleaving to s.channels c.args.part.bits) bytes in
+    let long : length read ≡ sound_size s.interleaving s.channels c.args.part.bits = omega (arith, length-take n c.fill.new.block.items, c.stretch_size-size.ensures, c.requires.part.fits, c.requires.size, c.fill.ensures.size) in
+    on_ok c.put.result (λ out. record { part = read; consumed = c.in_ok-fill.ensures.read; long = long; written = subst (Appends (g.W.Write.contents (outlet_writer c.args.outlet.now)) (g.W.Write.contents (outlet_writer c.put.new.outlet))) made out }) c.put.ensures.ok
+
+pub returns-clause-fault : goal.returns-clause-fault
+returns-clause-fault g c = IfErr-weaker c.put.result _ _ (λ f h. writing_in_part (g.R.Read.remaining (inlet_reader c.args.inlet.now)) c.args.part.relacing.sound c.args.part.bits f h) c.put.ensures.fault
+
+pub returns-clause-read_failed : goal.returns-clause-read_failed
+returns-clause-read_failed g c = c.in_ok-fill.ensures.failures ∙ ap (λ n. inlet_failures c.args.inlet.now + n) (sym (unread c.put.result c.put.ensures.fault))
+
+pub returns-in_err-fill-clause-front : goal.returns-in_err-fill-clause-front
+returns-in_err-fill-clause-front g c =
+    any_err c.from_residual.result (none_of_part (g.R.Read.remaining (inlet_reader c.args.inlet.now)) c.args.part.relacing.sound c.args.part.relacing.to c.args.part.bits (g.W.Write.contents (outlet_writer c.args.outlet.now)))
+
+pub returns-in_err-fill-clause-fault : goal.returns-in_err-fill-clause-fault
+returns-in_err-fill-clause-fault g c =
+    let e = err_from_is_err_and c.from_residual.result c.from_residual.ensures.1 in
+    rw (e.1, e.2) (filling_in_part (g.R.Read.remaining (inlet_reader c.args.inlet.now)) c.args.part.relacing.sound c.args.part.bits _ c.in_err-fill.field-0.0 c.stretch_size-size.ensures c.in_err-fill.ensures.fault)
+
+pub returns-in_err-fill-clause-read_failed : goal.returns-in_err-fill-clause-read_failed
+returns-in_err-fill-clause-read_failed g c =
+    let e = err_from_is_err_and c.from_residual.result c.from_residual.ensures.1 in
+    rw (e.1, e.2) c.in_err-fill.ensures.failures
+
+pub returns-in_err-fill-clause-write_failed : goal.returns-in_err-fill-clause-write_failed
+returns-in_err-fill-clause-write_failed g c =
+    let e = err_from_is_err_and c.from_residual.result c.from_residual.ensures.1 in
+    rw (e.1, e.2) (omega (arith, unwritten_fill (g.R.Read.remaining (inlet_reader c.args.inlet.now)) c.stretch_size-size.result c.in_err-fill.field-0.0 c.in_err-fill.ensures.fault))
+
+pub returns-in_err-push_relaced-clause-front : goal.returns-in_err-push_relaced-clause-front
+returns-in_err-push_relaced-clause-front g c =
+    any_err c.from_residual-in_err-push_relaced.result (none_of_part (g.R.Read.remaining (inlet_reader c.args.inlet.now)) c.args.part.relacing.sound c.args.part.relacing.to c.args.part.bits (g.W.Write.contents (outlet_writer c.args.outlet.now)))

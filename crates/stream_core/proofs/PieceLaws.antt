@@ -1,15 +1,18 @@
 -- Pieces of a sound that are played one after the other.
-use Rattle.std.proofs.Common.{◌≡◌, ℕ, ◌+◌, ◌-◌, ◌≤◌, min, List, [], ◌++◌, length, take, drop, Option, None, Some, Result, Ok, Err, OnOk, OnErr, refl, sym, subst, ap, ap₂, ◌∙◌, arith, append_assoc, append-nil, length-append, length-take-le, take-append-drop, take-take}
+use Rattle.std.proofs.Common.{◌≡◌, ℕ, ◌+◌, ◌-◌, ◌≤◌, min, List, [], ◌++◌, length, take, drop, Option, None, Some, Result, Ok, Err, IfOk, OnOk, OnErr, refl, sym, subst, ap, ap₂, ◌∙◌, arith, append_assoc, append-nil, length-append, length-drop, length-take, length-take-le, take-append-drop, take-take}
 use Rattle.std.specs.Io.KnownBytes.{Appends, Consumes}
 use Rattle.std.proofs.KnownBytes.{Appends-nil}
 use Rattle.std.proofs.lemmas.List.{drop-take, drop_min, nil_from_length, take-append-le, take_min}
 use Rattle.device_core.specs.Outlets.{AppendsFront}
+use Rattle.device_core.specs.declared.inlet.Inlet.{Inlet}
+use Rattle.sound_core.specs.Reads.{Reads}
+use Rattle.sound_core.specs.declared.fault.StreamFault.{StreamFault}
 use Rattle.player_core.specs.Due.{all_bytes, bytes_heard, due_bytes}
 use Rattle.player_core.specs.PlayerView.{FeedsPlayer, FinishesPlayer, IsFed, IsPlayer, filter_of, sound_of}
 use Rattle.player_core.specs.declared.player.Player.{Player}
 use Rattle.player_core.proofs.FrontLaws.{front_of_all}
 use Rattle.player_core.proofs.StepLaws.{filter_known}
-use Rattle.stream_core.specs.Pieces.{PutsDue, PutsFront, PutsFrontLeft, PutsFrontOf, PutsRest}
+use Rattle.stream_core.specs.Pieces.{PlaysPart, PutsDue, PutsFront, PutsFrontLeft, PutsFrontOf, PutsRest}
 
 -- ---- answers
 pub on_ok : {X E : Type 0} {P Q : Type 0} (r : Result X E) → (P → Q) → OnOk r P → OnOk r Q
@@ -95,6 +98,23 @@ as_taken n m xs front e is = is ∙ ap (λ k. take k xs) e ∙ take_min n xs
 
 pub as_dropped : (n m : ℕ) (xs rest : List ℕ) → m ≡ min n (length xs) → rest ≡ drop m xs → rest ≡ drop n xs
 as_dropped n m xs rest e is = is ∙ ap (λ k. drop k xs) e ∙ drop_min n xs
+
+pub some_taken : (wanted n : ℕ) (xs : List ℕ) → 1 ≤ wanted → 1 ≤ length xs → n ≡ length (take wanted xs) → (1 ≤ n) × (n ≤ wanted)
+some_taken wanted n xs some long e = (omega (arith, length-take wanted xs), omega (arith, length-take wanted xs))
+
+-- a read gave a part of the sound, and what stands behind it
+pub read_played : {R : Type 0} (left : R → Option (List ℕ)) (old new : Inlet R) (p q : Player) (wanted : ℕ) (bytes read back_old back_mid back_new : List ℕ) (a b : Option (List ℕ)) (r : Result ℕ StreamFault) → Reads left old new read → bytes ≡ read → back_mid ≡ back_old
+    → IfOk r (λ n. n ≡ length (take wanted bytes)) → OnOk r (PutsDue p q (take wanted bytes) a b) → OnOk r (back_new ≡ back_mid ++ drop wanted bytes) → IfOk r (λ n. PlaysPart left old new p q wanted n back_old back_new a b)
+read_played left old new p q wanted bytes read back_old back_mid back_new a b (Err f) reads e same number puts kept = tt
+read_played left old new p q wanted bytes read back_old back_mid back_new a b (Ok n) reads e same number puts kept = record {
+  part = take wanted bytes;
+  behind = drop wanted bytes;
+  reads = subst (Reads left old new) (sym e ∙ sym (take-append-drop wanted bytes)) reads;
+  length_is = sym number;
+  none_yet = λ few. nil_from_length (drop wanted bytes) (omega (arith, few, number, length-take wanted bytes, length-drop wanted bytes));
+  kept = kept ∙ ap (λ xs. xs ++ drop wanted bytes) same;
+  puts = puts;
+}
 
 -- ---- a whole piece that was played
 pub due_front : (p q : Player) → IsPlayer p → (piece : List ℕ) (a b : Option (List ℕ)) → PutsDue p q piece a b → PutsFrontOf p piece a b

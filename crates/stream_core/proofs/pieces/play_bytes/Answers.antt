@@ -1,4 +1,4 @@
-use Rattle.std.proofs.Common.{ℕ, ◌++◌, ◌+◌, ◌∙◌, ap, subst}
+use Rattle.std.proofs.Common.{ℕ, ◌++◌, ◌+◌, ◌∙◌, ap, length-take, subst, sym}
 use Rattle.std.proofs.lemmas.Result.{err_from_is_err_and}
 use Rattle.device_core.specs.Outlets.{outlet_failures, outlet_writer}
 use Rattle.stream_core.specs.Pieces.{PutsDue, PutsFrontOf}
@@ -30,3 +30,6 @@ pub returns-in_err-put_due-clause-failures : goal.returns-in_err-put_due-clause-
 returns-in_err-put_due-clause-failures g c =
     let e = err_from_is_err_and c.from_residual.result c.from_residual.ensures.1 in
     rw (e.1, e.2) (c.in_err-put_due.ensures.failures ∙ ap (λ n. outlet_failures c.args.outlet.now + n) (same_writes (Unit {0}) ℕ c.in_err-put_due.field-0.0))
+
+pub returns-clause-number : goal.returns-clause-number
+returns-clause-number g c = c.min-number.ensures ∙ sym (length-take c.args.wanted c.args.bytes.now)

@@ -1,9 +1,9 @@
-use Rattle.std.proofs.Common.{take, ap, ◌∙◌, arith, subst}
-use Rattle.std.proofs.lemmas.Result.{IfErr-weaker, err_from_is_err_and}
+use Rattle.std.proofs.Common.{take, length, length-take, ap, ◌≤◌, ◌∙◌, arith, refl, subst}
+use Rattle.std.proofs.lemmas.Result.{IfErr-weaker, IfOk-weaker, err_from_is_err_and}
 use Rattle.device_core.specs.Inlets.{inlet_reader}
 use Rattle.device_core.specs.Outlets.{outlet_writer}
 use Rattle.stream_core.specs.Pieces.{PutsFrontOf}
-use Rattle.stream_core.proofs.PieceLaws.{any_err, none_left, on_err, part_left}
+use Rattle.stream_core.proofs.PieceLaws.{any_err, none_left, on_err, part_left, read_played, some_taken}
 use Rattle.stream_core.proofs.FaultLaws.{counts_writing, reading_in_piece, unwritten, writing_goes_on, writing_in_piece}
 use Rattle.stream_core.proofs.pieces.play_read.Goals as goal
 
@@ -39,3 +39,24 @@ returns-clause-stopped g c =
 pub returns-clause-counts : goal.returns-clause-counts
 returns-clause-counts g c =
     counts_writing _ _ c.play_bytes.result c.play_bytes.ensures.fault (omega (arith, c.in_ok-count.ensures.counts.failures)) c.in_ok-count.ensures.counts.most
+
+pub returns-in_err-count-clause-stopped : goal.returns-in_err-count-clause-stopped
+returns-in_err-count-clause-stopped g c =
+    let e = err_from_is_err_and c.from_residual.result c.from_residual.ensures.1 in
+    rw (e.1, e.2) (λ stops. (refl, c.in_err-count.ensures.none))
+
+pub returns-in_err-count-clause-counts : goal.returns-in_err-count-clause-counts
+returns-in_err-count-clause-counts g c =
+    let e = err_from_is_err_and c.from_residual.result c.from_residual.ensures.1 in
+    rw (e.1, e.2) c.in_err-count.ensures.counts
+
+pub returns-clause-ok : goal.returns-clause-ok
+returns-clause-ok g c =
+    let bytes = c.split_at.ensures.front ∙ ap (take c.in_ok-count.count) c.deref.ensures.value in
+    read_played g.R.Read.remaining _ _ c.args.player.now c.play_bytes.new.player c.args.wanted _ _ _ _ _ _ _ c.play_bytes.result c.in_ok-count.ensures.read bytes c.pull.ensures.kept c.play_bytes.ensures.number c.play_bytes.ensures.ok c.play_bytes.ensures.kept
+
+pub returns-clause-some : goal.returns-clause-some
+returns-clause-some g c =
+    let bytes = c.split_at.ensures.front ∙ ap (take c.in_ok-count.count) c.deref.ensures.value in
+    let long : 1 ≤ length c.split_at.result.0.now = omega (arith, ap length bytes, length-take c.in_ok-count.count c.pull.new.self.block.now.items) in
+    IfOk-weaker c.play_bytes.result _ _ (λ n e. some_taken c.args.wanted n _ c.requires.some long e) c.play_bytes.ensures.number

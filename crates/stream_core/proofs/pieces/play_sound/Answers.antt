@@ -1,15 +1,17 @@
 use Rattle.std.proofs.Common.{◌≡◌, ℕ, List, ◌++◌, ◌+◌, ◌-◌, ◌∙◌, drop, take, length, length-take, ap, arith, sym, subst}
 use Rattle.std.proofs.lemmas.Result.{IfErr-weaker, err_from_is_err_and}
-use Rattle.device_core.specs.Inlets.{inlet_given, inlet_reader}
+use Rattle.device_core.specs.Inlets.{inlet_failures, inlet_given, inlet_reader}
 use Rattle.device_core.specs.Outlets.{outlet_failures, outlet_writer}
 use Rattle.dsd_bits.specs.declared.sound.Sound.{Sound}
+use Rattle.sound_core.specs.Faults.{failed_writes}
+use Rattle.sound_core.proofs.ReaderLaws.{counts_later}
 use Rattle.stream_core.specs.Pace.{PlaysGivenSound}
 use Rattle.stream_core.specs.Pieces.{IsPieceFault, IsSoundFault, PlaysFront, PlaysPart, PlaysSound, PutsDue, PutsFrontLeft, PutsFrontOf}
 use Rattle.stream_core.proofs.PaceLaws.{sound_so_far}
 use Rattle.stream_core.proofs.PieceLaws.{any_err, on_err, on_ok}
 use Rattle.stream_core.proofs.SoundLaws.{ahead_front, end_front, front_of_none, rest_fault, rest_front, said, sound_played}
 use Rattle.stream_core.proofs.pieces.play_sound.Given.{Over}
-use Rattle.stream_core.proofs.FaultLaws.{same_writes, writing_goes_on, writing_in_sound}
+use Rattle.stream_core.proofs.FaultLaws.{counts_writing, counts_written, same_writes, writes_later, writing_goes_on, writing_in_sound}
 use Rattle.stream_core.proofs.pieces.play_sound.Goals as goal
 use Rattle.stream_core.proofs.pieces.play_sound.Goals.{After-deref, After-put_rest}
 
@@ -141,3 +143,27 @@ returns-clause-fault g c =
 pub returns-clause-stopped : goal.returns-clause-stopped
 returns-clause-stopped g c =
     IfErr-weaker c.put_rest.result _ _ (λ f h stops. absurd (writing_goes_on f h stops)) c.put_rest.ensures.fault
+
+-- ---- what was counted
+pub returns-in_err-first-clause-counts : goal.returns-in_err-first-clause-counts
+returns-in_err-first-clause-counts g c =
+    let e = err_from_is_err_and c.from_residual-in_err-first.result c.from_residual-in_err-first.ensures.1 in
+    counts_writing _ _ c.from_residual-in_err-first.result (rw (e.1, e.2) c.in_err-first.ensures.fault) (ap inlet_failures c.take_ahead-ahead.ensures.untouched) (rw c.take_ahead-ahead.ensures.untouched c.requires.reading.budget.reads)
+
+pub returns-in_err-play_rest-clause-counts : goal.returns-in_err-play_rest-clause-counts
+returns-in_err-play_rest-clause-counts g c =
+    let e = err_from_is_err_and c.from_residual-in_err-play_rest.result c.from_residual-in_err-play_rest.ensures.1 in
+    rw (e.1, e.2) (counts_later _ _ _ c.in_err-play_rest.field-0.0 c.take_ahead-ahead.ensures.same.limit (ap inlet_failures c.take_ahead-ahead.ensures.untouched) c.in_err-play_rest.ensures.counts)
+
+pub returns-in_err-play_rest-clause-write_failed : goal.returns-in_err-play_rest-clause-write_failed
+returns-in_err-play_rest-clause-write_failed g c =
+    let e = err_from_is_err_and c.from_residual-in_err-play_rest.result c.from_residual-in_err-play_rest.ensures.1 in
+    rw (e.1, e.2) (writes_later (Unit {0}) (Unit {0}) c.in_err-play_rest.field-0.0 _ _ _ (omega (arith, c.in_ok-first.ensures.failures)) c.in_err-play_rest.ensures.write_failed)
+
+pub returns-clause-counts : goal.returns-clause-counts
+returns-clause-counts g c =
+    counts_written _ _ _ _ c.put_rest.result c.put_rest.ensures.fault c.take_ahead-ahead.ensures.same.limit (ap inlet_failures c.take_ahead-ahead.ensures.untouched) c.in_ok-play_rest.ensures.counts
+
+pub returns-clause-write_failed : goal.returns-clause-write_failed
+returns-clause-write_failed g c =
+    c.put_rest.ensures.failures ∙ ap (λ n. n + failed_writes c.put_rest.result) (omega (arith, c.in_ok-first.ensures.failures, c.in_ok-play_rest.ensures.write_failed))

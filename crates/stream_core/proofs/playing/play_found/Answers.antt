@@ -1,14 +1,16 @@
-use Rattle.std.proofs.Common.{◌∙◌, ◌+◌, take, drop, sym, subst, ap, length}
+use Rattle.std.proofs.Common.{◌≡◌, ◌∙◌, ◌+◌, ℕ, arith, refl, take, drop, sym, subst, ap, length}
 use Rattle.std.proofs.lemmas.Result.{err_from_is_err_and}
-use Rattle.device_core.specs.Inlets.{inlet_given, inlet_reader}
+use Rattle.device_core.specs.Inlets.{inlet_failures, inlet_given, inlet_reader}
 use Rattle.device_core.specs.Outlets.{outlet_writer}
 use Rattle.sound_core.specs.Closing.{Closes, EndsAt}
+use Rattle.sound_core.specs.declared.fault.StreamFault.TheVariants.{Memory}
 use Rattle.stream_core.specs.Pace.{PlaysGivenSound}
 use Rattle.stream_core.specs.Pieces.{IsSoundFault, PlaysFront, PlaysSound}
 use Rattle.stream_core.specs.Playing.{PlaysBehind, WritesFront}
 use Rattle.stream_core.specs.Wave.{pad_of}
 use Rattle.sound_core.proofs.ClosingLaws.{ends_at}
-use Rattle.stream_core.proofs.FaultLaws.{opening_goes_on, opening_stands, reading_later, reading_stands, sound_later, writing_goes_on, writing_later, writing_stands}
+use Rattle.sound_core.proofs.ReaderLaws.{counts_later}
+use Rattle.stream_core.proofs.FaultLaws.{counts_ok, counts_opening, counts_refused, counts_writing, counts_written, opening_goes_on, opening_stands, reading_later, reading_stands, sound_later, unwritten, writes_later, writing_goes_on, writing_later, writing_stands}
 use Rattle.stream_core.proofs.PaceLaws.{keeps_all, keeps_part}
 use Rattle.stream_core.proofs.PieceLaws.{any_err, front_nil}
 use Rattle.stream_core.proofs.PlayLaws.{given_is, header_part, none_written, not_closed, pad_part, plays_read, sound_part, sound_stands}
@@ -141,3 +143,67 @@ pub returns-in_err-put_pad-clause-keeps_up : goal.returns-in_err-put_pad-clause-
 returns-in_err-put_pad-clause-keeps_up g c =
     let e = err_from_is_err_and c.from_residual-in_err-put_pad.result c.from_residual-in_err-put_pad.ensures.1 in
     rw (e.1, e.2) (λ stops. absurd (writing_goes_on c.in_err-put_pad.field-0.0 c.in_err-put_pad.ensures.fault stops))
+
+-- ---- what was counted
+no_failure : (g : Over) (c : In_ok-play_sound g) → inlet_failures c.play_sound.new.reader.inlet.now ≡ inlet_failures c.args.reader.now.inlet.now
+no_failure g c = omega (arith, c.in_ok-play_sound.ensures.counts.failures, ap inlet_failures c.take_head.ensures.untouched)
+
+same_limit : (g : Over) (c : In_ok-play_sound g) → c.play_sound.new.reader.limit ≡ c.args.reader.now.limit
+same_limit g c = c.play_sound.ensures.same_reader.limit ∙ c.take_head.ensures.same.limit
+
+pub returns-in_err-put_header-clause-counts : goal.returns-in_err-put_header-clause-counts
+returns-in_err-put_header-clause-counts g c =
+    let e = err_from_is_err_and c.from_residual-in_err-put_header.result c.from_residual-in_err-put_header.ensures.1 in
+    counts_opening _ _ c.args.taps.now c.args.sound.now c.from_residual-in_err-put_header.result (rw (e.1, e.2) c.in_err-put_header.ensures.fault) (ap inlet_failures c.take_head.ensures.untouched) (rw c.take_head.ensures.untouched c.requires.reading.budget.reads)
+
+pub returns-in_err-put_header-clause-write_failed : goal.returns-in_err-put_header-clause-write_failed
+returns-in_err-put_header-clause-write_failed g c =
+    let e = err_from_is_err_and c.from_residual-in_err-put_header.result c.from_residual-in_err-put_header.ensures.1 in
+    rw (e.1, e.2) (writes_later (Unit {0}) ℕ c.in_err-put_header.field-0.0 _ _ _ refl c.in_err-put_header.ensures.failures)
+
+pub returns-in_err-play_sound-clause-counts : goal.returns-in_err-play_sound-clause-counts
+returns-in_err-play_sound-clause-counts g c =
+    let e = err_from_is_err_and c.from_residual-in_err-play_sound.result c.from_residual-in_err-play_sound.ensures.1 in
+    rw (e.1, e.2) (counts_later c.args.reader.now c.take_head.new.self c.play_sound.new.reader c.in_err-play_sound.field-0.0 c.take_head.ensures.same.limit (ap inlet_failures c.take_head.ensures.untouched) c.in_err-play_sound.ensures.counts)
+
+pub returns-in_err-play_sound-clause-write_failed : goal.returns-in_err-play_sound-clause-write_failed
+returns-in_err-play_sound-clause-write_failed g c =
+    let e = err_from_is_err_and c.from_residual-in_err-play_sound.result c.from_residual-in_err-play_sound.ensures.1 in
+    rw (e.1, e.2) (writes_later (Unit {0}) ℕ c.in_err-play_sound.field-0.0 _ _ _ (omega (arith, c.in_ok-put_header.ensures.failures)) c.in_err-play_sound.ensures.write_failed)
+
+pub returns-in_err-closes-clause-counts : goal.returns-in_err-closes-clause-counts
+returns-in_err-closes-clause-counts g c =
+    let k = (goal.at.returns-in_err-closes-clause-counts g c).In_ok-play_sound in
+    let e = err_from_is_err_and c.from_residual-in_err-closes.result c.from_residual-in_err-closes.ensures.1 in
+    rw (e.1, e.2) (counts_later c.args.reader.now c.play_sound.new.reader c.closes.new.reader c.in_err-closes.field-0.0 (same_limit g k) (no_failure g k) c.in_err-closes.ensures.counts)
+
+pub returns-in_err-closes-clause-write_failed : goal.returns-in_err-closes-clause-write_failed
+returns-in_err-closes-clause-write_failed g c =
+    let e = err_from_is_err_and c.from_residual-in_err-closes.result c.from_residual-in_err-closes.ensures.1 in
+    omega (arith, c.in_ok-play_sound.ensures.write_failed, c.in_ok-put_header.ensures.failures, unwritten c.from_residual-in_err-closes.result (rw (e.1, e.2) c.in_err-closes.ensures.fault))
+
+pub returns-in_err-put_pad-clause-write_failed : goal.returns-in_err-put_pad-clause-write_failed
+returns-in_err-put_pad-clause-write_failed g c =
+    let e = err_from_is_err_and c.from_residual-in_err-put_pad.result c.from_residual-in_err-put_pad.ensures.1 in
+    rw (e.1, e.2) (writes_later (Unit {0}) ℕ c.in_err-put_pad.field-0.0 _ _ _ (omega (arith, c.in_ok-play_sound.ensures.write_failed, c.in_ok-put_header.ensures.failures)) c.in_err-put_pad.ensures.failures)
+
+pub returns-in_err-head-clause-counts : goal.returns-in_err-head-clause-counts
+returns-in_err-head-clause-counts g c =
+    let e = err_from_is_err_and c.from_residual.result c.from_residual.ensures.1 in
+    counts_writing _ _ c.from_residual.result (rw (e.1, e.2, c.in_err-head.ensures.fault) tt) (ap inlet_failures c.take_head.ensures.untouched) (rw c.take_head.ensures.untouched c.requires.reading.budget.reads)
+
+pub returns-in_err-put_pad-clause-counts : goal.returns-in_err-put_pad-clause-counts
+returns-in_err-put_pad-clause-counts g c =
+    let k = (goal.at.returns-in_err-put_pad-clause-counts g c).In_ok-play_sound in
+    let e = err_from_is_err_and c.from_residual-in_err-put_pad.result c.from_residual-in_err-put_pad.ensures.1 in
+    counts_written _ _ _ _ c.from_residual-in_err-put_pad.result (rw (e.1, e.2) c.in_err-put_pad.ensures.fault) (same_limit g k) (no_failure g k) c.in_ok-closes.ensures.counts
+
+pub returns-then-not-branch-clause-counts : goal.returns-then-not-branch-clause-counts
+returns-then-not-branch-clause-counts g c =
+    let k = (goal.at.returns-then-not-branch-clause-counts g c).In_ok-play_sound in
+    counts_refused _ _ _ _ (same_limit g k) (no_failure g k) c.in_ok-closes.ensures.counts
+
+pub returns-clause-counts : goal.returns-clause-counts
+returns-clause-counts g c =
+    let k = (goal.at.returns-clause-counts g c).In_ok-play_sound in
+    counts_ok _ _ _ _ _ (same_limit g k) (no_failure g k) c.in_ok-closes.ensures.counts

@@ -1,5 +1,5 @@
 -- A reader that goes on: it stays the same, and what was counted adds up.
-use Rattle.std.proofs.Common.{◌≡◌, ◌+◌, ◌≤◌, Result, Err, refl, ap, subst, ◌∙◌}
+use Rattle.std.proofs.Common.{◌≡◌, ◌+◌, ◌≤◌, Result, Ok, Err, IsErrOf, arith, refl, ap, subst, ◌∙◌}
 use Rattle.device_core.specs.Inlets.{inlet_failures, inlet_reads}
 use Rattle.sound_core.specs.Faults.{failed_reads}
 use Rattle.sound_core.specs.Readers.{Counts, IsSame}
@@ -32,3 +32,16 @@ counts_later {R} {X} {Y} a m b f limit same p = record {
 
 pub same_counts : {R X Y : Type 0} (a b : SoundReader R) (f : StreamFault) → Counts {X = X} a b (Err f) → Counts {X = Y} a b (Err f)
 same_counts {R} {X} {Y} a b f p = counts_later {X = X} {Y = Y} a a b f refl refl p
+
+-- what was counted before is all that was
+pub counts_before : {R X Y : Type 0} (a m b : SoundReader R) (x : X) (r : Result Y StreamFault) → failed_reads r ≡ 0 → (IsErrOf r TurnLimit → ⊥) → m.limit ≡ a.limit → inlet_failures m.inlet.now ≡ inlet_failures a.inlet.now → Counts m b (Ok x) → Counts a b r
+counts_before {R} {X} a m b x r none not_turn limit same p = record { failures = omega (arith, p.failures, same, none); turns = λ turn. absurd (not_turn turn); most = rw (← limit) p.most }
+
+pub counts_ok : {R X Y : Type 0} (a m b : SoundReader R) (x : X) (y : Y) → m.limit ≡ a.limit → inlet_failures m.inlet.now ≡ inlet_failures a.inlet.now → Counts m b (Ok x) → Counts a b (Ok y)
+counts_ok a m b x y limit same p = counts_before a m b x (Ok y) refl (λ turn. cc) limit same p
+
+pub counts_refused : {R X Y : Type 0} (a m b : SoundReader R) (x : X) → m.limit ≡ a.limit → inlet_failures m.inlet.now ≡ inlet_failures a.inlet.now → Counts m b (Ok x) → Counts {X = Y} a b (Err FileRefused)
+counts_refused a m b x limit same p = counts_before a m b x (Err FileRefused) refl (λ turn. cc) limit same p
+
+pub counts_from : {R X : Type 0} (a m b : SoundReader R) (r : Result X StreamFault) → m.limit ≡ a.limit → inlet_failures m.inlet.now ≡ inlet_failures a.inlet.now → Counts m b r → Counts a b r
+counts_from a m b r limit same p = record { failures = p.failures ∙ ap (λ n. n + failed_reads r) same; turns = λ turn. p.turns turn ∙ limit; most = rw (← limit) p.most }

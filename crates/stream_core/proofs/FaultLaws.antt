@@ -1,5 +1,5 @@
 -- Which faults stand, stop the reading or come before the first write, by where they rose.
-use Rattle.std.proofs.Common.{◌≡◌, ℕ, ◌≤◌, List, ◌++◌, Option, None, Some, IfErr, IfSome, IsErrOf, Result, Ok, Err, refl, arith, subst, ap₂, ◌∙◌, ◌+◌}
+use Rattle.std.proofs.Common.{◌≡◌, ℕ, ◌≤◌, List, ◌++◌, Option, None, Some, IfErr, IfSome, Result, Ok, Err, refl, arith, subst, ap₂, ◌∙◌, ◌+◌}
 use Rattle.device_core.specs.Inlets.{inlet_failures, inlet_reads}
 use Rattle.dsd_bits.specs.declared.sound.Sound.{Sound}
 use Rattle.fir_core.specs.Decimator.{Decimator}
@@ -9,6 +9,7 @@ use Rattle.sound_core.specs.Readers.{Counts}
 use Rattle.sound_core.specs.declared.fault.StreamFault.{StreamFault}
 use Rattle.sound_core.specs.declared.fault.StreamFault.TheVariants.{FileRefused, RateNotDivided, TooLarge, ReadFailed, WriteFailed, TurnLimit, Memory}
 use Rattle.sound_core.specs.declared.reader.SoundReader.{SoundReader}
+use Rattle.sound_core.proofs.ReaderLaws.{counts_before}
 use Rattle.stream_core.specs.Pieces.{IsPieceFault, IsSoundFault}
 use Rattle.stream_core.specs.Playing.{Stands}
 use Rattle.stream_core.specs.Wave.{IsOpeningFault}
@@ -190,16 +191,6 @@ counts_opening a b d s r h same few = record { failures = omega (arith, same, op
 
 pub writes_later : (X Y : Type 0) (f : StreamFault) (a m b : ℕ) → m ≡ a → b ≡ m + failed_writes {X = X} (Err f) → b ≡ a + failed_writes {X = Y} (Err f)
 writes_later X Y f a m b same p = p ∙ ap₂ (λ n k. n + k) same (same_writes X Y f)
-
--- what was counted before is all that was
-pub counts_before : {R X Y : Type 0} (a m b : SoundReader R) (x : X) (r : Result Y StreamFault) → failed_reads r ≡ 0 → (IsErrOf r TurnLimit → ⊥) → m.limit ≡ a.limit → inlet_failures m.inlet.now ≡ inlet_failures a.inlet.now → Counts m b (Ok x) → Counts a b r
-counts_before {R} {X} a m b x r none not_turn limit same p = record { failures = omega (arith, p.failures, same, none); turns = λ turn. absurd (not_turn turn); most = rw (← limit) p.most }
-
-pub counts_ok : {R X Y : Type 0} (a m b : SoundReader R) (x : X) (y : Y) → m.limit ≡ a.limit → inlet_failures m.inlet.now ≡ inlet_failures a.inlet.now → Counts m b (Ok x) → Counts a b (Ok y)
-counts_ok a m b x y limit same p = counts_before a m b x (Ok y) refl (λ turn. cc) limit same p
-
-pub counts_refused : {R X Y : Type 0} (a m b : SoundReader R) (x : X) → m.limit ≡ a.limit → inlet_failures m.inlet.now ≡ inlet_failures a.inlet.now → Counts m b (Ok x) → Counts {X = Y} a b (Err FileRefused)
-counts_refused a m b x limit same p = counts_before a m b x (Err FileRefused) refl (λ turn. cc) limit same p
 
 pub counts_written : {R X Y : Type 0} (a m b : SoundReader R) (x : X) (r : Result Y StreamFault) → IfErr r IsWritingFault → m.limit ≡ a.limit → inlet_failures m.inlet.now ≡ inlet_failures a.inlet.now → Counts m b (Ok x) → Counts a b r
 counts_written a m b x r h limit same p = counts_before a m b x r (unread r h) (λ turn. subst (λ x. IfErr x IsWritingFault) turn h) limit same p

@@ -5,7 +5,7 @@ use Rattle.sound_core.specs.Files.{IsBeforeSound, IsRefused}
 use Rattle.sound_core.specs.Reads.{Reads}
 use Rattle.sound_core.proofs.ToldLaws.{gives_none}
 use Rattle.sound_core.proofs.ReadLaws.{after, at_end, reads_on}
-use Rattle.sound_core.proofs.ReaderLaws.{counts_later, same_on}
+use Rattle.sound_core.proofs.ReaderLaws.{counts_later, counts_ok, counts_refused, same_on}
 use Rattle.sound_core.proofs.FaultLaws.{reading_in_front}
 use Rattle.sound_core.proofs.front.read_front.Goals as goal
 
@@ -55,3 +55,12 @@ pub returns-in_err-count-clause-counts : goal.returns-in_err-count-clause-counts
 returns-in_err-count-clause-counts g c =
     let e = err_from_is_err_and c.from_residual.result c.from_residual.ensures.1 in
     rw (e.1, e.2) (counts_later c.args.reader.now c.loop-count.reader c.read_more.new.self c.in_err-count.field-0.0 c.loop-count.invariant.3.limit c.loop-count.invariant.4 c.in_err-count.ensures.counts)
+
+pub returns-then-count-eq0-clause-counts : goal.returns-then-count-eq0-clause-counts
+returns-then-count-eq0-clause-counts g c = counts_refused _ _ _ _ c.loop-count.invariant.3.limit c.loop-count.invariant.4 c.in_ok-count.ensures.counts
+
+pub returns-in-Refused-clause-counts : goal.returns-in-Refused-clause-counts
+returns-in-Refused-clause-counts g c = counts_refused _ _ _ _ c.loop-count.invariant.3.limit c.loop-count.invariant.4 c.in_ok-count.ensures.counts
+
+pub returns-in-Found-clause-counts : goal.returns-in-Found-clause-counts
+returns-in-Found-clause-counts g c = counts_ok _ _ _ _ _ c.loop-count.invariant.3.limit c.loop-count.invariant.4 c.in_ok-count.ensures.counts

@@ -9,7 +9,7 @@ use Rattle.sound_core.proofs.BehindLaws.{at_sound, file_stands, given_is, given_
 use Rattle.sound_core.proofs.TakingLaws.{fed_none, file_taken}
 use Rattle.sound_core.proofs.taking.take_file.Given.{Over}
 use Rattle.sound_core.proofs.FaultLaws.{front_in_outline}
-use Rattle.sound_core.proofs.ReaderLaws.{counts_later, same_counts}
+use Rattle.sound_core.proofs.ReaderLaws.{counts_from, counts_later, same_counts}
 use Rattle.sound_core.proofs.taking.take_file.Goals as goal
 use Rattle.sound_core.proofs.taking.take_file.Goals.{In_ok-head, In_ok-take_sound}
 
@@ -105,3 +105,7 @@ pub returns-in_err-take_sound-clause-counts : goal.returns-in_err-take_sound-cla
 returns-in_err-take_sound-clause-counts g c =
     let e = err_from_is_err_and c.from_residual-in_err-take_sound.result c.from_residual-in_err-take_sound.ensures.1 in
     rw (e.1, e.2) (counts_later c.args.reader.now c.take_head.new.self c.take_sound.new.reader c.in_err-take_sound.field-0.0 (c.take_head.ensures.same.limit ∙ c.read_front.ensures.same.limit) (ap inlet_failures c.take_head.ensures.untouched ∙ omega (arith, c.in_ok-sound.ensures.counts.failures)) c.in_err-take_sound.ensures.counts)
+
+pub returns-clause-counts : goal.returns-clause-counts
+returns-clause-counts g c =
+    counts_from _ _ _ c.read_rest.result (c.take_sound.ensures.same.limit ∙ c.take_head.ensures.same.limit ∙ c.read_front.ensures.same.limit) (omega (arith, c.in_ok-take_sound.ensures.counts.failures, ap inlet_failures c.take_head.ensures.untouched, c.in_ok-sound.ensures.counts.failures)) c.read_rest.ensures.counts

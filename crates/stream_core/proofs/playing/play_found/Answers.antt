@@ -9,8 +9,8 @@ use Rattle.stream_core.specs.Pieces.{IsSoundFault, PlaysFront, PlaysSound}
 use Rattle.stream_core.specs.Playing.{PlaysBehind, WritesFront}
 use Rattle.stream_core.specs.Wave.{pad_of}
 use Rattle.sound_core.proofs.ClosingLaws.{ends_at}
-use Rattle.sound_core.proofs.ReaderLaws.{counts_later}
-use Rattle.stream_core.proofs.FaultLaws.{counts_ok, counts_opening, counts_refused, counts_writing, counts_written, opening_goes_on, opening_stands, reading_later, reading_stands, sound_later, unwritten, writes_later, writing_goes_on, writing_later, writing_stands}
+use Rattle.sound_core.proofs.ReaderLaws.{counts_later, counts_ok, counts_refused}
+use Rattle.stream_core.proofs.FaultLaws.{counts_opening, counts_writing, counts_written, opening_goes_on, opening_stands, reading_later, reading_stands, sound_later, unwritten, writes_later, writing_goes_on, writing_later, writing_stands}
 use Rattle.stream_core.proofs.PaceLaws.{keeps_all, keeps_part}
 use Rattle.stream_core.proofs.PieceLaws.{any_err, front_nil}
 use Rattle.stream_core.proofs.PlayLaws.{given_is, header_part, none_written, not_closed, pad_part, plays_read, sound_part, sound_stands}

@@ -31,6 +31,56 @@ spots_from-back-requires-clause-small c = omega (arith, c.requires.within, c.nex
 pub overflow_sub-number : goal.overflow_sub-number
 overflow_sub-number c = starts_below c
 
+-- the back begins where the front ends
+from_front : (c : After-min) → c.spots_from-front.result.four.window ≤ c.spots_from-back.result.four.window
+from_front c = omega (arith, c.next.ensures.from, c.spots_from-back.ensures.order)
+
+pub next-requires-clause-spot : goal.next-requires-clause-spot
+next-requires-clause-spot c = rw c.spots_from-front.ensures.places.2 c.spots_from-front.ensures.four
+
+pub next-requires-clause-small : goal.next-requires-clause-small
+next-requires-clause-small c = omega (arith, c.requires.within, c.spots_from-front.ensures.places)
+
+pub four_of-requires : goal.four_of-requires
+four_of-requires c =
+    let front = c.spots_from-front.ensures in
+    record {
+      laid = c.requires.laid;
+      one = rw front.one c.requires.spot;
+      two = rw front.one front.two;
+      three = rw front.one front.three;
+      four = rw front.one front.four;
+      places = rw front.one front.places;
+      order = rw front.one front.order;
+      within = rw front.one (omega (arith, c.requires.within));
+      reached = omega (arith, c.saturating_sub-start.ensures, from_front (goal.at.four_of-requires c).After-min);
+      near = rw front.one (omega (arith, c.saturating_sub-start.ensures, c.spots_from-back.ensures.to, c.next.ensures.to, front.to));
+      last = rw front.one (omega (arith, starts_below (goal.at.four_of-requires c).After-min, c.min.ensures, c.spots_from-back.ensures.to, c.next.ensures.to, front.to));
+    }
+
+pub four_of-requires-2 : goal.four_of-requires-2
+four_of-requires-2 c =
+    let back = c.spots_from-back.ensures in
+    record {
+      laid = c.requires.laid;
+      one = rw back.one c.next.ensures.spot;
+      two = rw back.one back.two;
+      three = rw back.one back.three;
+      four = rw back.one back.four;
+      places = rw back.one back.places;
+      order = rw back.one back.order;
+      within = rw back.one (omega (arith, c.requires.within, fifth (goal.at.four_of-requires-2 c).After-min));
+      reached = omega (arith, c.saturating_sub-start.ensures);
+      near = rw back.one (omega (arith, c.saturating_sub-start.ensures, back.to));
+      last = rw back.one (omega (arith, starts_below (goal.at.four_of-requires-2 c).After-min, c.min.ensures, back.to));
+    }
+
+pub next-requires-2-clause-spot : goal.next-requires-2-clause-spot
+next-requires-2-clause-spot c = rw c.spots_from-back.ensures.places.2 c.spots_from-back.ensures.four
+
+pub next-requires-2-clause-small : goal.next-requires-2-clause-small
+next-requires-2-clause-small c = omega (arith, c.requires.within, c.spots_from-back.ensures.places, fifth (goal.at.next-requires-2-clause-small c).After-min)
+
 pub returns-clause-limit : goal.returns-clause-limit
 returns-clause-limit c = omega (arith, starts_below (goal.at.returns-clause-limit c).After-min, c.min.ensures)
 

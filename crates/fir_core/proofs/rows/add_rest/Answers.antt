@@ -13,3 +13,6 @@ loop-j-preserved c =
       done = one_more done rest c.loop-j.sums c.loop-j.j c.add_one.result (omega arith) fits c.add_one.ensures c.loop-j.invariant.done c.loop-j.invariant.rest;
       rest = one_less done rest c.loop-j.sums c.loop-j.j c.add_one.result (omega arith) fits c.add_one.ensures c.loop-j.invariant.done c.loop-j.invariant.rest;
     }
+
+pub returns-clause-done : goal.returns-clause-done
+returns-clause-done c = λ k below. c.loop-j.invariant.done k (omega (arith, below, c.loop-j-test.false))

@@ -1,0 +1,12 @@
+use Rattle.std.proofs.Common.{◌∙◌, ap, sym, w32}
+use Rattle.std.proofs.lemmas.Int.{to_z-of_z}
+use Rattle.dsd_bits.specs.Packing.{unpacked}
+use Rattle.fir_core.specs.Convolution.{conv}
+use Rattle.fir_core.proofs.convolution.sum_at.Goals as goal
+
+pub returns-clause-value : goal.returns-clause-value
+returns-clause-value c =
+    let bits = ap (unpacked c.as_bytes.result.now) c.len.ensures.value ∙ sym c.as_bytes.ensures.bits in
+    to_z-of_z w32 c.sum_over.result (record { sfits = c.sum_over.type_inv })
+    ∙ c.sum_over.ensures.value
+    ∙ ap (λ bs. conv c.args.taps.now.taps bs c.args.place) bits

@@ -1,0 +1,5 @@
+use Rattle.std.proofs.Common.{append_assoc}
+use Rattle.dsf_core.proofs.writing.push_data_head.Goals as goal
+
+pub returns : goal.returns
+returns c = rw (c.in_ok-push_u64.ensures.ok, c.in_ok-extend_from_slice.ensures.items) (simp append_assoc)

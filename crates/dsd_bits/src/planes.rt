@@ -108,7 +108,10 @@ fn every_fifth(bytes: &[u8], from: usize) -> u8x16
 {
     let first = eight_of_fifths(bytes, from);
     let second = eight_of_fifths(bytes, from + 40);
-    first.shuffle(second, [0, 1, 2, 3, 4, 5, 6, 7, 8, 9, 10, 11, 12, 13, 14, 15])
+    first.shuffle(
+        second,
+        [0, 1, 2, 3, 4, 5, 6, 7, 8, 9, 10, 11, 12, 13, 14, 15],
+    )
 }
 
 // The same, 8 in all: four from each of two vectors.

@@ -397,32 +397,23 @@ unread (Err WriteFailed) h = refl
 unread (Err TurnLimit) h = refl
 unread (Err Memory) h = refl
 
+unwritten : (f : StreamFault) → (f ≡ WriteFailed → ⊥) → failed_writes {X = Unit {0}} (Err f) ≡ 0
+unwritten FileRefused h = refl
+unwritten RateNotDivided h = refl
+unwritten TooLarge h = refl
+unwritten ReadFailed h = refl
+unwritten WriteFailed h = absurd (h refl)
+unwritten TurnLimit h = refl
+unwritten Memory h = refl
+
 pub unwritten_expect : (l : Option (List ℕ)) (bytes : List ℕ) (f : StreamFault) → IsExpectFault l bytes f → failed_writes {X = Unit {0}} (Err f) ≡ 0
-unwritten_expect l bytes FileRefused h = refl
-unwritten_expect l bytes RateNotDivided h = refl
-unwritten_expect l bytes TooLarge h = refl
-unwritten_expect l bytes ReadFailed h = refl
-unwritten_expect l bytes WriteFailed h = absurd h
-unwritten_expect l bytes TurnLimit h = refl
-unwritten_expect l bytes Memory h = refl
+unwritten_expect l bytes f h = unwritten f (λ e. subst (IsExpectFault l bytes) e h)
 
 pub unwritten_rest : (l : Option (List ℕ)) (o : Surroundings) (f : StreamFault) → IsRestFault l o f → failed_writes {X = Unit {0}} (Err f) ≡ 0
-unwritten_rest l o FileRefused h = refl
-unwritten_rest l o RateNotDivided h = refl
-unwritten_rest l o TooLarge h = refl
-unwritten_rest l o ReadFailed h = refl
-unwritten_rest l o WriteFailed h = absurd h
-unwritten_rest l o TurnLimit h = refl
-unwritten_rest l o Memory h = refl
+unwritten_rest l o f h = unwritten f (λ e. subst (IsRestFault l o) e h)
 
 pub unwritten_fill : (l : Option (List ℕ)) (n : ℕ) (f : StreamFault) → IsFillFault l n f → failed_writes {X = Unit {0}} (Err f) ≡ 0
-unwritten_fill l n FileRefused h = refl
-unwritten_fill l n RateNotDivided h = refl
-unwritten_fill l n TooLarge h = refl
-unwritten_fill l n ReadFailed h = refl
-unwritten_fill l n WriteFailed h = absurd h
-unwritten_fill l n TurnLimit h = refl
-unwritten_fill l n Memory h = refl
+unwritten_fill l n f h = unwritten f (λ e. subst (IsFillFault l n) e h)
 
 -- what a step counts is all that was counted
 pub none_before : (a m b n : ℕ) → m ≡ a + 0 → b ≡ m + n → b ≡ a + n

@@ -7,6 +7,16 @@ use Rattle.dsd_bits.specs.Sounds.{sound_size}
 use Rattle.relace_core.specs.Relacing.{relaced}
 use Rattle.relay_core.proofs.RelayLaws.{any_err, filling_in_part, none_of_part, on_err, on_ok, stretch_front, unread, unwritten_fill, writing_in_part}
 use Rattle.relay_core.proofs.relaying.relay_part.Goals as goal
+use Rattle.relay_core.proofs.relaying.relay_part.Goals.{After-deref-2}
+use Rattle.relay_core.proofs.relaying.relay_part.Given.{Over}
+
+-- the bytes that are put are those of what was read
+made : (g : Over) (c : After-deref-2 g) → c.deref-2.result.now ≡ relaced c.args.part.relacing.sound.interleaving c.args.part.relacing.to c.args.part.relacing.sound.channels c.args.part.bits (take c.stretch_size-size.result c.fill.new.block.items)
+made g c =
+    let n = c.stretch_size-size.result in
+    let again = relaced c.args.part.relacing.sound.interleaving c.args.part.relacing.to c.args.part.relacing.sound.channels c.args.part.bits in
+    let bytes : c.split_at.result.0.now ≡ take n c.fill.new.block.items = c.split_at.ensures.front ∙ ap (take n) c.deref.ensures.value in
+    c.deref-2.ensures.value ∙ c.in_ok-push_relaced.ensures.ok ∙ ap (λ xs. xs ++ again c.split_at.result.0.now) c.clear.ensures.items ∙ ap again bytes
 
 pub returns-clause-front : goal.returns-clause-front
 returns-clause-front g c =
@@ -14,11 +24,10 @@ returns-clause-front g c =
     let to = c.args.part.relacing.to in
     let n = c.stretch_size-size.result in
     let read = take n c.fill.new.block.items in
-    let bytes : c.split_at.result.0.now ≡ read = c.split_at.ensures.front ∙ ap (take n) c.deref.ensures.value in
-    let made : c.deref-2.result.now ≡ relaced s.interleaving to s.channels c.args.part.bits read = c.deref-2.ensures.value ∙ c.in_ok-push_relaced.ensures.ok ∙ ap (λ xs. xs ++ relaced s.interleaving to s.channels c.args.part.bits c.split_at.result.0.now) c.clear.ensures.items ∙ ap (relaced s.interleaving to s.channels c.args.part.bits) bytes in
+    let here = (goal.at.returns-clause-front g c).After-deref-2 in
     let a = g.W.Write.contents (outlet_writer c.args.outlet.now) in
     let b = g.W.Write.contents (outlet_writer c.put.new.outlet) in
-    on_err c.put.result (λ front. stretch_front s to c.args.part.bits (g.R.Read.remaining (inlet_reader c.args.inlet.now)) (g.R.Read.remaining (inlet_reader c.fill.new.inlet)) a b read c.in_ok-fill.ensures.read (omega (arith, length-take n c.fill.new.block.items, c.stretch_size-size.ensures, c.requires.part.fits, c.requires.size, c.fill.ensures.size)) (subst (AppendsFront a b) made front)) c.put.ensures.err
+    on_err c.put.result (λ front. stretch_front s to c.args.part.bits (g.R.Read.remaining (inlet_reader c.args.inlet.now)) (g.R.Read.remaining (inlet_reader c.fill.new.inlet)) a b read c.in_ok-fill.ensures.read (omega (arith, length-take n c.fill.new.block.items, c.stretch_size-size.ensures, c.requires.part.fits, c.requires.size, c.fill.ensures.size)) (subst (AppendsFront a b) (made g here) front)) c.put.ensures.err
 
 pub returns-clause-ok : goal.returns-clause-ok
 returns-clause-ok g c =
@@ -26,10 +35,9 @@ returns-clause-ok g c =
     let to = c.args.part.relacing.to in
     let n = c.stretch_size-size.result in
     let read = take n c.fill.new.block.items in
-    let bytes : c.split_at.result.0.now ≡ read = c.split_at.ensures.front ∙ ap (take n) c.deref.ensures.value in
-    let made : c.deref-2.result.now ≡ relaced s.interleaving to s.channels c.args.part.bits read = c.deref-2.ensures.value ∙ c.in_ok-push_relaced.ensures.ok ∙ ap (λ xs. xs ++ relaced s.interleaving to s.channels c.args.part.bits c.split_at.result.0.now) c.clear.ensures.items ∙ ap (relaced s.interleaving to s.channels c.args.part.bits) bytes in
+    let here = (goal.at.returns-clause-ok g c).After-deref-2 in
     let long : length read ≡ sound_size s.interleaving s.channels c.args.part.bits = omega (arith, length-take n c.fill.new.block.items, c.stretch_size-size.ensures, c.requires.part.fits, c.requires.size, c.fill.ensures.size) in
-    on_ok c.put.result (λ out. record { part = read; consumed = c.in_ok-fill.ensures.read; long = long; written = subst (Appends (g.W.Write.contents (outlet_writer c.args.outlet.now)) (g.W.Write.contents (outlet_writer c.put.new.outlet))) made out }) c.put.ensures.ok
+    on_ok c.put.result (λ out. record { part = read; consumed = c.in_ok-fill.ensures.read; long = long; written = subst (Appends (g.W.Write.contents (outlet_writer c.args.outlet.now)) (g.W.Write.contents (outlet_writer c.put.new.outlet))) (made g here) out }) c.put.ensures.ok
 
 pub returns-clause-fault : goal.returns-clause-fault
 returns-clause-fault g c = IfErr-weaker c.put.result _ _ (λ f h. writing_in_part (g.R.Read.remaining (inlet_reader c.args.inlet.now)) c.args.part.relacing.sound c.args.part.bits f h) c.put.ensures.fault

@@ -9,7 +9,7 @@ use Rattle.std.specs.Str.{bytes_eq}
 use Rattle.std.proofs.lemmas.Slice.Eq.{bytes_eq-Decides}
 use Rattle.sound_core.specs.declared.fault.StreamFault.{StreamFault}
 use Rattle.sound_core.specs.declared.fault.StreamFault.TheVariants.{FileRefused, RateNotDivided, TooLarge, ReadFailed, WriteFailed, TurnLimit, Memory}
-use Rattle.relay_core.specs.Comparing.{ConsumesMany, IsExpectFault}
+use Rattle.relay_core.specs.Comparing.{ConsumesMany, IsExpectFault, IsRefusal}
 
 -- as many bytes are left as there are behind those that were read
 pub left_is : (a b : Option (List ℕ)) (read xs : List ℕ) → Consumes a b read → a ≡ Some xs → (ys : List ℕ) × (b ≡ Some ys) × (xs ≡ read ++ ys)
@@ -25,6 +25,16 @@ same_front xs ys us vs e long = sym (take-append_seam xs us) ∙ ap₂ (λ n zs.
 
 pub same_rest : (xs ys us vs : List ℕ) → xs ++ us ≡ ys ++ vs → length xs ≡ length ys → us ≡ vs
 same_rest xs ys us vs e long = append_cancel_left ys us vs (ap (λ zs. zs ++ us) (sym (same_front xs ys us vs e long)) ∙ e)
+
+-- a refusal is one of two faults
+pub by_refusal : (P : Type 0) (F : StreamFault → Type 0) → (P → F FileRefused) → F ReadFailed → (f : StreamFault) → IsRefusal P f → F f
+by_refusal P F refused failed FileRefused h = refused h
+by_refusal P F refused failed RateNotDivided h = absurd h
+by_refusal P F refused failed TooLarge h = absurd h
+by_refusal P F refused failed ReadFailed h = failed
+by_refusal P F refused failed WriteFailed h = absurd h
+by_refusal P F refused failed TurnLimit h = absurd h
+by_refusal P F refused failed Memory h = absurd h
 
 -- ---- bytes that have to be these
 -- the same bytes are not told apart
@@ -48,20 +58,14 @@ module _ (a b : Option (List ℕ)) (bytes done left : List ℕ) (is : bytes ≡ 
   expect_on c part rest split consumed = (is ∙ ap (λ zs. done ++ zs) split ∙ sym (append_assoc done part rest), Consumes-trans a b c done part so_far consumed)
 
   pub expect_fault : (part rest : List ℕ) (f : StreamFault) → left ≡ part ++ rest → IsExpectFault b part f → IsExpectFault a bytes f
-  expect_fault part rest FileRefused split h = by a refl
+  expect_fault part rest f split h = by_refusal (IsExpectFault b part FileRefused) (IsExpectFault a bytes) (by a refl) tt f h
     where
-      by : (o : Option (List ℕ)) → a ≡ o → IsExpectFault o bytes FileRefused
-      by None known = tt
-      by (Some xs) known = λ more all.
+      by : (o : Option (List ℕ)) → a ≡ o → IsExpectFault b part FileRefused → IsExpectFault o bytes FileRefused
+      by None known differs = tt
+      by (Some xs) known differs = λ more all.
           let ys = left_is a b done xs so_far known in
           let whole : done ++ ys.0 ≡ done ++ (part ++ (rest ++ more)) = sym ys.2 ∙ all ∙ ap (λ zs. zs ++ more) (is ∙ ap (λ zs. done ++ zs) split) ∙ append_assoc done (part ++ rest) more ∙ ap (λ zs. done ++ zs) (append_assoc part rest more) in
-          subst (λ o. IsExpectFault o part FileRefused) ys.1 h (rest ++ more) (append_cancel_left done ys.0 (part ++ (rest ++ more)) whole)
-  expect_fault part rest RateNotDivided split h = absurd h
-  expect_fault part rest TooLarge split h = absurd h
-  expect_fault part rest ReadFailed split h = tt
-  expect_fault part rest WriteFailed split h = absurd h
-  expect_fault part rest TurnLimit split h = absurd h
-  expect_fault part rest Memory split h = absurd h
+          subst (λ o. IsExpectFault o part FileRefused) ys.1 differs (rest ++ more) (append_cancel_left done ys.0 (part ++ (rest ++ more)) whole)
 
 -- ---- so many bytes
 pub many_on : (a b c : Option (List ℕ)) (m n : ℕ) (read : List ℕ) → ConsumesMany a b m → Consumes b c read → length read ≡ n → ConsumesMany a c (m + n)

@@ -10,14 +10,15 @@ use Rattle.dsd_bits.specs.declared.sound.Sound.{Sound}
 use Rattle.dsd_bits.specs.Sounds.{IsSound, sound_size}
 use Rattle.relace_core.proofs.GroupLaws.{size_on}
 use Rattle.relace_core.specs.Relacing.{GroupsJoin, relaced}
-use Rattle.sound_core.specs.Faults.{IsWritingFault, failed_reads, failed_writes}
+use Rattle.sound_core.specs.Faults.{IsWritingFault, failed_writes}
 use Rattle.sound_core.specs.Outlines.{StandsIn, Surroundings}
 use Rattle.sound_core.specs.declared.fault.StreamFault.{StreamFault}
 use Rattle.sound_core.specs.declared.fault.StreamFault.TheVariants.{FileRefused, RateNotDivided, TooLarge, ReadFailed, WriteFailed, TurnLimit, Memory}
-use Rattle.relay_core.specs.Comparing.{ConsumesMany, IsExpectFault, IsFillFault, IsMoreFault}
+use Rattle.sound_core.proofs.FaultLaws.{by_writing}
+use Rattle.relay_core.specs.Comparing.{ConsumesMany, IsExpectFault, IsFillFault, IsMoreFault, IsRefusal}
 use Rattle.relay_core.specs.Relays.{IsPartFault, IsRelayFault, IsRestFault, PartFront, PassesRest, Relays, RelaysFront, RelaysGiven, RelaysPart, relaced_sound, relayed}
 use Rattle.relay_core.specs.declared.relaying.Target.{Target}
-use Rattle.relay_core.proofs.ComparingLaws.{left_is, same_front, same_rest}
+use Rattle.relay_core.proofs.ComparingLaws.{by_refusal, left_is, same_front, same_rest}
 
 -- ---- fronts of what is written
 pub any_err : {X E : Type 0} {P : Type 0} (r : Result X E) → P → OnErr r P
@@ -156,17 +157,11 @@ module _ (law : GroupsJoin) (s : Sound) (to : Interleaving) (left now a b : Opti
 -- ---- behind the sound
 module _ (o : Surroundings) (left : Option (List ℕ)) where
   pub gap_fault : (f : StreamFault) → IsFillFault left o.gap f → IsRestFault left o f
-  gap_fault FileRefused h = by left h
+  gap_fault f h = by_refusal (IsFillFault left o.gap FileRefused) (IsRestFault left o) (by left) tt f h
     where
       by : (l : Option (List ℕ)) → IsFillFault l o.gap FileRefused → IsRestFault l o FileRefused
-      by None h = tt
-      by (Some xs) h = λ gap rest is long ended. omega (arith, h, long, ap length is, length-append gap (o.back ++ rest))
-  gap_fault RateNotDivided h = absurd h
-  gap_fault TooLarge h = absurd h
-  gap_fault ReadFailed h = tt
-  gap_fault WriteFailed h = absurd h
-  gap_fault TurnLimit h = absurd h
-  gap_fault Memory h = absurd h
+      by None few = tt
+      by (Some xs) few = λ gap rest is long ended. omega (arith, few, long, ap length is, length-append gap (o.back ++ rest))
 
   module _ (now : Option (List ℕ)) (many : ConsumesMany left now o.gap) where
     -- what comes behind the gap
@@ -176,35 +171,23 @@ module _ (o : Surroundings) (left : Option (List ℕ)) where
         ys.1 ∙ ap (λ zs. Some zs) (sym (same_rest gap many.bytes (o.back ++ rest) ys.0 (sym is ∙ ys.2) (long ∙ sym many.long)))
 
     pub back_fault : (f : StreamFault) → IsExpectFault now o.back f → IsRestFault left o f
-    back_fault FileRefused h = by left refl
+    back_fault f h = by_refusal (IsExpectFault now o.back FileRefused) (IsRestFault left o) (by left refl) tt f h
       where
-        by : (l : Option (List ℕ)) → left ≡ l → IsRestFault l o FileRefused
-        by None known = tt
-        by (Some xs) known = λ gap rest is long ended. subst (λ l. IsExpectFault l o.back FileRefused) (kept xs gap rest known is long) h rest refl
-    back_fault RateNotDivided h = absurd h
-    back_fault TooLarge h = absurd h
-    back_fault ReadFailed h = tt
-    back_fault WriteFailed h = absurd h
-    back_fault TurnLimit h = absurd h
-    back_fault Memory h = absurd h
+        by : (l : Option (List ℕ)) → left ≡ l → IsExpectFault now o.back FileRefused → IsRestFault l o FileRefused
+        by None known differs = tt
+        by (Some xs) known differs = λ gap rest is long ended. subst (λ l. IsExpectFault l o.back FileRefused) (kept xs gap rest known is long) differs rest refl
 
     module _ (new : Option (List ℕ)) (read : Consumes now new o.back) where
       pub end_fault : (f : StreamFault) → o.ends ≡ true → IsMoreFault new f → IsRestFault left o f
-      end_fault FileRefused sure h = by left refl
+      end_fault f sure h = by_refusal (IsMoreFault new FileRefused) (IsRestFault left o) (by left refl) tt f h
         where
-          by : (l : Option (List ℕ)) → left ≡ l → IsRestFault l o FileRefused
-          by None known = tt
-          by (Some xs) known = λ gap rest is long ended.
+          by : (l : Option (List ℕ)) → left ≡ l → IsMoreFault new FileRefused → IsRestFault l o FileRefused
+          by None known more = tt
+          by (Some xs) known more = λ gap rest is long ended.
               let ys = left_is now new o.back (o.back ++ rest) read (kept xs gap rest known is long) in
               let none : length rest ≡ 0 = ap length (ended sure) in
-              let some : 0 < length ys.0 = subst (λ l. IsMoreFault l FileRefused) ys.1 h in
+              let some : 0 < length ys.0 = subst (λ l. IsMoreFault l FileRefused) ys.1 more in
               omega (arith, some, none, ap length ys.2, length-append o.back rest, length-append o.back ys.0)
-      end_fault RateNotDivided sure h = absurd h
-      end_fault TooLarge sure h = absurd h
-      end_fault ReadFailed sure h = tt
-      end_fault WriteFailed sure h = absurd h
-      end_fault TurnLimit sure h = absurd h
-      end_fault Memory sure h = absurd h
 
       pub passes_open : o.ends ≡ false → PassesRest left new o
       passes_open more = record {
@@ -229,17 +212,11 @@ module _ (t : Target) (o : Surroundings) (sized : IsSound o.sound) (l0 a0 : Opti
 
   -- every file in the surroundings begins with the head
   pub head_fault : (f : StreamFault) → IsExpectFault l0 o.head f → IsRelayFault l0 o f
-  head_fault FileRefused h = by l0 h
+  head_fault f h = by_refusal (IsExpectFault l0 o.head FileRefused) (IsRelayFault l0 o) (by l0) tt f h
     where
       by : (l : Option (List ℕ)) → IsExpectFault l o.head FileRefused → IsRelayFault l o FileRefused
-      by None h = tt
-      by (Some xs) h = λ around. h (around.0 ++ (around.1.gap ++ (o.back ++ around.1.rest))) around.1.file_is
-  head_fault RateNotDivided h = absurd h
-  head_fault TooLarge h = absurd h
-  head_fault ReadFailed h = tt
-  head_fault WriteFailed h = absurd h
-  head_fault TurnLimit h = absurd h
-  head_fault Memory h = absurd h
+      by None differs = tt
+      by (Some xs) differs = λ around. differs (around.0 ++ (around.1.gap ++ (o.back ++ around.1.rest))) around.1.file_is
 
   pub nothing_out : RelaysFront l0 t o a0 a0
   nothing_out = by l0
@@ -305,17 +282,11 @@ module _ (t : Target) (o : Surroundings) (sized : IsSound o.sound) (l0 a0 : Opti
             )
 
         pub rest_fault : (f : StreamFault) → IsRestFault l2 o f → IsRelayFault l0 o f
-        rest_fault FileRefused h = by l0 refl
+        rest_fault f h = by_refusal (IsRestFault l2 o FileRefused) (IsRelayFault l0 o) (by l0 refl) tt f h
           where
-            by : (l : Option (List ℕ)) → l0 ≡ l → IsRelayFault l o FileRefused
-            by None known = tt
-            by (Some xs) known = λ around. (let same = same_sound xs around.0 around.1 known in subst (λ l. IsRestFault l o FileRefused) same.1 h around.1.gap around.1.rest refl around.1.gap_long around.1.ended)
-        rest_fault RateNotDivided h = absurd h
-        rest_fault TooLarge h = absurd h
-        rest_fault ReadFailed h = tt
-        rest_fault WriteFailed h = absurd h
-        rest_fault TurnLimit h = absurd h
-        rest_fault Memory h = absurd h
+            by : (l : Option (List ℕ)) → l0 ≡ l → IsRestFault l2 o FileRefused → IsRelayFault l o FileRefused
+            by None known differs = tt
+            by (Some xs) known differs = λ around. (let same = same_sound xs around.0 around.1 known in subst (λ l. IsRestFault l o FileRefused) same.1 differs around.1.gap around.1.rest refl around.1.gap_long around.1.ended)
 
         -- what was written so far, and then a front of the tail
         pub tail_part : (a3 : Option (List ℕ)) → AppendsFront a2 a3 t.tail.now → RelaysFront l0 t o a0 a3
@@ -379,41 +350,10 @@ module _ (t : Target) (o : Surroundings) (sized : IsSound o.sound) (l0 a0 : Opti
 
 -- ---- faults that count no failure
 pub writing_stands : (l : Option (List ℕ)) (o : Surroundings) (f : StreamFault) → IsWritingFault f → IsRelayFault l o f
-writing_stands l o FileRefused h = absurd h
-writing_stands l o RateNotDivided h = absurd h
-writing_stands l o TooLarge h = absurd h
-writing_stands l o ReadFailed h = absurd h
-writing_stands l o WriteFailed h = tt
-writing_stands l o TurnLimit h = absurd h
-writing_stands l o Memory h = tt
+writing_stands l o f h = by_writing (IsRelayFault l o) tt tt f h
 
-pub unread : (r : Result (Unit {0}) StreamFault) → IfErr r IsWritingFault → failed_reads r ≡ 0
-unread (Ok x) h = refl
-unread (Err FileRefused) h = refl
-unread (Err RateNotDivided) h = refl
-unread (Err TooLarge) h = refl
-unread (Err ReadFailed) h = absurd h
-unread (Err WriteFailed) h = refl
-unread (Err TurnLimit) h = refl
-unread (Err Memory) h = refl
-
-unwritten : (f : StreamFault) → (f ≡ WriteFailed → ⊥) → failed_writes {X = Unit {0}} (Err f) ≡ 0
-unwritten FileRefused h = refl
-unwritten RateNotDivided h = refl
-unwritten TooLarge h = refl
-unwritten ReadFailed h = refl
-unwritten WriteFailed h = absurd (h refl)
-unwritten TurnLimit h = refl
-unwritten Memory h = refl
-
-pub unwritten_expect : (l : Option (List ℕ)) (bytes : List ℕ) (f : StreamFault) → IsExpectFault l bytes f → failed_writes {X = Unit {0}} (Err f) ≡ 0
-unwritten_expect l bytes f h = unwritten f (λ e. subst (IsExpectFault l bytes) e h)
-
-pub unwritten_rest : (l : Option (List ℕ)) (o : Surroundings) (f : StreamFault) → IsRestFault l o f → failed_writes {X = Unit {0}} (Err f) ≡ 0
-unwritten_rest l o f h = unwritten f (λ e. subst (IsRestFault l o) e h)
-
-pub unwritten_fill : (l : Option (List ℕ)) (n : ℕ) (f : StreamFault) → IsFillFault l n f → failed_writes {X = Unit {0}} (Err f) ≡ 0
-unwritten_fill l n f h = unwritten f (λ e. subst (IsFillFault l n) e h)
+pub unwritten : (P : Type 0) (f : StreamFault) → IsRefusal P f → failed_writes {X = Unit {0}} (Err f) ≡ 0
+unwritten P f h = by_refusal P (λ g. failed_writes {X = Unit {0}} (Err g) ≡ 0) (λ refused. refl) refl f h
 
 -- what a step counts is all that was counted
 pub none_before : (a m b n : ℕ) → m ≡ a + 0 → b ≡ m + n → b ≡ a + n
@@ -421,23 +361,14 @@ none_before a m b n none p = omega arith
 
 -- ---- faults of a part
 pub filling_in_part : (l : Option (List ℕ)) (s : Sound) (bits size : ℕ) (f : StreamFault) → size ≡ sound_size s.interleaving s.channels bits → IsFillFault l size f → IsPartFault l s bits f
-filling_in_part None s bits size FileRefused e h = tt
-filling_in_part (Some xs) s bits size FileRefused e h = subst (λ n. length xs < n) e h
-filling_in_part l s bits size RateNotDivided e h = absurd h
-filling_in_part l s bits size TooLarge e h = absurd h
-filling_in_part l s bits size ReadFailed e h = tt
-filling_in_part l s bits size WriteFailed e h = absurd h
-filling_in_part l s bits size TurnLimit e h = absurd h
-filling_in_part l s bits size Memory e h = absurd h
+filling_in_part l s bits size f e h = by_refusal (IsFillFault l size FileRefused) (IsPartFault l s bits) (by l) tt f h
+  where
+    by : (l : Option (List ℕ)) → IsFillFault l size FileRefused → IsPartFault l s bits FileRefused
+    by None few = tt
+    by (Some xs) few = subst (λ n. length xs < n) e few
 
 pub writing_in_part : (l : Option (List ℕ)) (s : Sound) (bits : ℕ) (f : StreamFault) → IsWritingFault f → IsPartFault l s bits f
-writing_in_part l s bits FileRefused h = absurd h
-writing_in_part l s bits RateNotDivided h = absurd h
-writing_in_part l s bits TooLarge h = absurd h
-writing_in_part l s bits ReadFailed h = absurd h
-writing_in_part l s bits WriteFailed h = tt
-writing_in_part l s bits TurnLimit h = absurd h
-writing_in_part l s bits Memory h = tt
+writing_in_part l s bits f h = by_writing (IsPartFault l s bits) tt tt f h
 
 pub none_of_part : (l : Option (List ℕ)) (s : Sound) (to : Interleaving) (bits : ℕ) (a : Option (List ℕ)) → PartFront l s to bits a a
 none_of_part None s to bits a = tt

@@ -10,6 +10,7 @@ use Rattle.relace_core.specs.Relacing.{relaced}
 use Rattle.sound_core.specs.Outlines.{AreAround, StandsIn, Surroundings}
 use Rattle.sound_core.specs.declared.fault.StreamFault.{StreamFault}
 use Rattle.sound_core.specs.declared.fault.StreamFault.TheVariants.{FileRefused, ReadFailed, WriteFailed, Memory}
+use Rattle.relay_core.specs.Comparing.{IsRefusal}
 use Rattle.relay_core.specs.declared.relaying.Part.{Part}
 use Rattle.relay_core.specs.declared.relaying.Relacing.{Relacing}
 use Rattle.relay_core.specs.declared.relaying.Target.{Target}
@@ -66,9 +67,7 @@ pub record PassesRest (left_old left_new : Option (List ℕ)) (o : Surroundings)
 
 -- a fault of this: what is left is not that, or a read failed
 abbrev pub IsRestFault : Option (List ℕ) → Surroundings → StreamFault → Type 0
-IsRestFault left o FileRefused = IfSome left (λ left. (gap rest : List ℕ) → left ≡ gap ++ (o.back ++ rest) → length gap ≡ o.gap → (o.ends ≡ true → rest ≡ []) → ⊥)
-IsRestFault left o ReadFailed = ⊤
-IsRestFault left o _ = ⊥
+IsRestFault left o f = IsRefusal (IfSome left (λ left. (gap rest : List ℕ) → left ≡ gap ++ (o.back ++ rest) → length gap ≡ o.gap → (o.ends ≡ true → rest ≡ []) → ⊥)) f
 
 -- the next bytes were read, which are those of so many bits of each channel, and written interleaved otherwise
 pub record RelaysPart (left_old left_new : Option (List ℕ)) (s : Sound) (to : Interleaving) (bits : ℕ) (held_old held_new : Option (List ℕ)) : Type 0 where

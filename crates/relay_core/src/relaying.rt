@@ -1,10 +1,9 @@
 //! A file of a known outline, its sound handed on in another interleaving.
 
 ghost use Rattle.std.specs.Prelude.{◌≡◌, ◌+◌, ◌*◌, ◌/◌, ◌%◌, ◌-◌, ◌<◌, ◌≤◌, ◌^◌, ◌++◌, IfErr, IfOk, OnErr, OnOk, length};
-ghost use Rattle.std.specs.Io.KnownBytes.{Appends};
 ghost use Rattle.device_core.specs.Inlets.{inlet_failures, inlet_reader};
-ghost use Rattle.device_core.specs.Outlets.{AppendsFront, outlet_failures, outlet_writer};
-ghost use Rattle.sound_core.specs.Faults.{IsWritingFault, failed_reads, failed_writes};
+ghost use Rattle.device_core.specs.Outlets.{outlet_failures, outlet_writer};
+ghost use Rattle.sound_core.specs.Faults.{failed_reads, failed_writes};
 ghost use Rattle.sound_core.specs.Outlines.{AreTold, around_of};
 ghost use Rattle.relay_core.specs.Relays.{IsPart, IsPartFault, IsRelacing, IsRelayFault, IsRestFault, PartFront, PassesRest, Relays, RelaysFront, RelaysGiven, RelaysPart};
 
@@ -12,7 +11,7 @@ use crate::comparing::{BLOCK, expect, expect_end, fill, pass};
 use device_core::{Inlet, Outlet};
 use dsd_bits::{Interleaving, Sound};
 use relace_core::{Stretch, groups_join, push_relaced, stretch_bits, stretch_size};
-use sound_core::{Outline, StreamFault};
+use sound_core::{Outline, StreamFault, put};
 use std::alloc::Global;
 use std::io::{Read, Write};
 
@@ -191,20 +190,4 @@ fn relay_part<R: Read, W: Write>(
         to,
     )?;
     put(outlet, &buffers.out)
-}
-
-// Writes these bytes.
-fn put<W: Write>(outlet: &mut Outlet<W>, bytes: &[u8]) -> Result<(), StreamFault>
-    requires ready { outlet_failures outlet.old < 2 ^ 64 - 1 }
-    ensures ok { OnOk result (Appends (W.contents (outlet_writer outlet.old))
-        (W.contents (outlet_writer outlet.new)) bytes.now) }
-    ensures err { OnErr result (AppendsFront (W.contents (outlet_writer outlet.old))
-        (W.contents (outlet_writer outlet.new)) bytes.now) }
-    ensures failures { outlet_failures outlet.new ≡ outlet_failures outlet.old + failed_writes result }
-    ensures fault { IfErr result IsWritingFault }
-{
-    match outlet.put_all(bytes) {
-        Ok(()) => Ok(()),
-        Err(_) => Err(StreamFault::WriteFailed),
-    }
 }

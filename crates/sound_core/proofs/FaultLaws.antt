@@ -1,29 +1,42 @@
--- Faults of a stage are faults of the whole.
-use Rattle.std.proofs.Common.{ℕ, List, Option}
-use Rattle.sound_core.specs.Faults.{IsReadingFault}
+-- What holds of each fault of a kind; faults of a stage are faults of the whole.
+use Rattle.std.proofs.Common.{◌≡◌, ℕ, List, Option, Result, Ok, Err, IfErr, refl}
+use Rattle.sound_core.specs.Faults.{IsReadingFault, IsWritingFault, failed_reads}
 use Rattle.sound_core.specs.Files.{IsFrontFault}
 use Rattle.sound_core.specs.Outlines.{IsOutlineFault}
 use Rattle.sound_core.specs.Readers.{IsPassFault}
 use Rattle.sound_core.specs.declared.fault.StreamFault.{StreamFault}
 use Rattle.sound_core.specs.declared.fault.StreamFault.TheVariants.{FileRefused, RateNotDivided, TooLarge, ReadFailed, WriteFailed, TurnLimit, Memory}
 
+-- ---- a fault of reading, or of writing, is one of a few
+pub by_reading : (P : StreamFault → Type 0) → P ReadFailed → P TurnLimit → P Memory → (f : StreamFault) → IsReadingFault f → P f
+by_reading P failed turns memory FileRefused h = absurd h
+by_reading P failed turns memory RateNotDivided h = absurd h
+by_reading P failed turns memory TooLarge h = absurd h
+by_reading P failed turns memory ReadFailed h = failed
+by_reading P failed turns memory WriteFailed h = absurd h
+by_reading P failed turns memory TurnLimit h = turns
+by_reading P failed turns memory Memory h = memory
+
+pub by_writing : (P : StreamFault → Type 0) → P WriteFailed → P Memory → (f : StreamFault) → IsWritingFault f → P f
+by_writing P failed memory FileRefused h = absurd h
+by_writing P failed memory RateNotDivided h = absurd h
+by_writing P failed memory TooLarge h = absurd h
+by_writing P failed memory ReadFailed h = absurd h
+by_writing P failed memory WriteFailed h = failed
+by_writing P failed memory TurnLimit h = absurd h
+by_writing P failed memory Memory h = memory
+
+-- nothing was read where the writing failed
+pub unread : {X : Type 0} (r : Result X StreamFault) → IfErr r IsWritingFault → failed_reads r ≡ 0
+unread (Ok x) h = refl
+unread {X} (Err f) h = by_writing (λ g. failed_reads {X = X} (Err g) ≡ 0) refl refl f h
+
+-- ---- stages
 pub reading_in_front : (left : Option (List ℕ)) (f : StreamFault) → IsReadingFault f → IsFrontFault left f
-reading_in_front left FileRefused h = absurd h
-reading_in_front left RateNotDivided h = absurd h
-reading_in_front left TooLarge h = absurd h
-reading_in_front left ReadFailed h = tt
-reading_in_front left WriteFailed h = absurd h
-reading_in_front left TurnLimit h = tt
-reading_in_front left Memory h = tt
+reading_in_front left f h = by_reading (IsFrontFault left) tt tt tt f h
 
 pub reading_in_pass : (left : Option (List ℕ)) (n : ℕ) (ahead : List ℕ) (f : StreamFault) → IsReadingFault f → IsPassFault left n ahead f
-reading_in_pass left n ahead FileRefused h = absurd h
-reading_in_pass left n ahead RateNotDivided h = absurd h
-reading_in_pass left n ahead TooLarge h = absurd h
-reading_in_pass left n ahead ReadFailed h = tt
-reading_in_pass left n ahead WriteFailed h = absurd h
-reading_in_pass left n ahead TurnLimit h = tt
-reading_in_pass left n ahead Memory h = tt
+reading_in_pass left n ahead f h = by_reading (IsPassFault left n ahead) tt tt tt f h
 
 pub front_in_outline : (left : Option (List ℕ)) (f : StreamFault) → IsFrontFault left f → IsOutlineFault left f
 front_in_outline left FileRefused h = h

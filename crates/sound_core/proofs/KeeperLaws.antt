@@ -135,6 +135,21 @@ pub record AllGrownUpTo (ranges : List BitRange) (channels : List (List Bool)) (
   pub later : (k : ℕ) → i ≤ k → get_or now k [] ≡ get_or old k []
   pub grown : (k : ℕ) (r : BitRange) → k < i → IsGrown (get_or ranges k r) channels done (get_or old k []) (get_or now k [])
 
+pub grown_next : (range : BitRange) (channels : List (List Bool)) (done : ℕ) (old now : List (List Bool)) (c : ℕ) (new : List Bool) → GrownUpTo range channels done old now c → c < length now
+    → new ≡ get_or now c [] ++ slice_range (get_or channels c []) (range.start - done) (range.stop - done) → GrownUpTo range channels done old (set now c new) (c + 1)
+grown_next range channels done old now c new so_far low is = record {
+  number = length-set now c new ∙ so_far.number;
+  later = λ k h. get_or-set_other now c k new [] (λ same. omega (arith, h, same)) ∙ so_far.later k (omega (arith, h));
+  grown = λ k h. elim (cases_lt k c) [
+    | inl before ↦ get_or-set_other now c k new [] (λ same. omega (arith, before, same)) ∙ so_far.grown k before
+    | inr at ↦ (
+        let same : k ≡ c = omega (arith, h, at) in
+        let part : ℕ → List Bool = λ j. slice_range (get_or channels j []) (range.start - done) (range.stop - done) in
+        subst (λ (j : ℕ). get_or (set now c new) j [] ≡ get_or old j [] ++ part j) (sym same)
+        (get_or-set_same now c new [] low ∙ is ∙ ap (λ xs. xs ++ part c) (so_far.later c (omega arith))))
+  ];
+}
+
 pub all_next : (ranges : List BitRange) (channels : List (List Bool)) (done : ℕ) (old now : List (List (List Bool))) (i : ℕ) (new : List (List Bool)) → AllGrownUpTo ranges channels done old now i → i < length now
     → ((r : BitRange) → IsGrown (get_or ranges i r) channels done (get_or now i []) new) → AllGrownUpTo ranges channels done old (set now i new) (i + 1)
 all_next ranges channels done old now i new so_far low is = record {

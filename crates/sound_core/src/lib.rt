@@ -9,7 +9,7 @@
 //!
 //! The stages, each a module, serve whoever plays a file as well: a [`SoundReader`] has the inlet, a block to read into,
 //! the limit of its reads and what was read ahead (`reader.rt`); [`read_front`] leads up to the sound (`front.rt`), and
-//! [`closes`] asks whether what stands behind it closes the file (`closing.rt`).
+//! [`closes`] asks whether what stands behind it closes the file (`closing.rt`). Whoever writes meanwhile does so by [`put`].
 //!
 //! The words of the contracts:
 //!
@@ -45,6 +45,7 @@ mod outline;
 mod reader;
 mod sink;
 mod taking;
+mod writing;
 
 pub use closing::closes;
 pub use fault::StreamFault;
@@ -56,3 +57,4 @@ pub use outline::{Outline, read_outline};
 pub use reader::{SoundReader, new_block};
 pub use sink::SoundSink;
 pub use taking::read_into;
+pub use writing::put;

@@ -9,6 +9,7 @@ use Rattle.sound_core.specs.Readers.{Counts}
 use Rattle.sound_core.specs.declared.fault.StreamFault.{StreamFault}
 use Rattle.sound_core.specs.declared.fault.StreamFault.TheVariants.{FileRefused, RateNotDivided, TooLarge, ReadFailed, WriteFailed, TurnLimit, Memory}
 use Rattle.sound_core.specs.declared.reader.SoundReader.{SoundReader}
+use Rattle.sound_core.proofs.FaultLaws.{by_reading, by_writing, unread}
 use Rattle.sound_core.proofs.ReaderLaws.{counts_before}
 use Rattle.stream_core.specs.Pieces.{IsPieceFault, IsSoundFault}
 use Rattle.stream_core.specs.Playing.{Stands}
@@ -47,50 +48,20 @@ sound_later left ahead s Memory h early = early
 -- ---- behind it
 pub reading_stands : (left : Option (List ℕ)) (d : Decimator) (front : List ℕ) (f : StreamFault) → IsReadingFault f → IfSome left (λ xs. Stands d (front ++ xs) f)
 reading_stands None d front f h = tt
-reading_stands (Some xs) d front FileRefused h = absurd h
-reading_stands (Some xs) d front RateNotDivided h = absurd h
-reading_stands (Some xs) d front TooLarge h = absurd h
-reading_stands (Some xs) d front ReadFailed h = tt
-reading_stands (Some xs) d front WriteFailed h = absurd h
-reading_stands (Some xs) d front TurnLimit h = tt
-reading_stands (Some xs) d front Memory h = tt
+reading_stands (Some xs) d front f h = by_reading (Stands d (front ++ xs)) tt tt tt f h
 
 pub reading_later : (f : StreamFault) → IsReadingFault f → IsBeforeWriting f → ⊥
-reading_later FileRefused h early = h
-reading_later RateNotDivided h early = h
-reading_later TooLarge h early = h
-reading_later ReadFailed h early = early
-reading_later WriteFailed h early = h
-reading_later TurnLimit h early = early
-reading_later Memory h early = early
+reading_later f h = by_reading (λ g. IsBeforeWriting g → ⊥) (λ early. early) (λ early. early) (λ early. early) f h
 
 pub writing_stands : (left : Option (List ℕ)) (d : Decimator) (front : List ℕ) (f : StreamFault) → IsWritingFault f → IfSome left (λ xs. Stands d (front ++ xs) f)
 writing_stands None d front f h = tt
-writing_stands (Some xs) d front FileRefused h = absurd h
-writing_stands (Some xs) d front RateNotDivided h = absurd h
-writing_stands (Some xs) d front TooLarge h = absurd h
-writing_stands (Some xs) d front ReadFailed h = absurd h
-writing_stands (Some xs) d front WriteFailed h = tt
-writing_stands (Some xs) d front TurnLimit h = absurd h
-writing_stands (Some xs) d front Memory h = tt
+writing_stands (Some xs) d front f h = by_writing (Stands d (front ++ xs)) tt tt f h
 
 pub writing_later : (f : StreamFault) → IsWritingFault f → IsBeforeWriting f → ⊥
-writing_later FileRefused h early = h
-writing_later RateNotDivided h early = h
-writing_later TooLarge h early = h
-writing_later ReadFailed h early = h
-writing_later WriteFailed h early = early
-writing_later TurnLimit h early = h
-writing_later Memory h early = early
+writing_later f h = by_writing (λ g. IsBeforeWriting g → ⊥) (λ early. early) (λ early. early) f h
 
 pub writing_goes_on : (f : StreamFault) → IsWritingFault f → StopsReading f → ⊥
-writing_goes_on FileRefused h stops = stops
-writing_goes_on RateNotDivided h stops = stops
-writing_goes_on TooLarge h stops = stops
-writing_goes_on ReadFailed h stops = h
-writing_goes_on WriteFailed h stops = stops
-writing_goes_on TurnLimit h stops = h
-writing_goes_on Memory h stops = stops
+writing_goes_on f h = by_writing (λ g. StopsReading g → ⊥) (λ stops. stops) (λ stops. stops) f h
 
 -- ---- before the sound
 pub front_stands : (left : Option (List ℕ)) (d : Decimator) (f : StreamFault) → IsFrontFault left f → IfSome left (λ file. Stands d file f)
@@ -105,31 +76,13 @@ front_stands (Some xs) d Memory h = tt
 
 -- ---- a piece of the sound
 pub reading_in_piece : (left : Option (List ℕ)) (wanted : ℕ) (f : StreamFault) → IsReadingFault f → IsPieceFault left wanted f
-reading_in_piece left wanted FileRefused h = absurd h
-reading_in_piece left wanted RateNotDivided h = absurd h
-reading_in_piece left wanted TooLarge h = absurd h
-reading_in_piece left wanted ReadFailed h = tt
-reading_in_piece left wanted WriteFailed h = absurd h
-reading_in_piece left wanted TurnLimit h = tt
-reading_in_piece left wanted Memory h = tt
+reading_in_piece left wanted f h = by_reading (IsPieceFault left wanted) tt tt tt f h
 
 pub writing_in_piece : (left : Option (List ℕ)) (wanted : ℕ) (f : StreamFault) → IsWritingFault f → IsPieceFault left wanted f
-writing_in_piece left wanted FileRefused h = absurd h
-writing_in_piece left wanted RateNotDivided h = absurd h
-writing_in_piece left wanted TooLarge h = absurd h
-writing_in_piece left wanted ReadFailed h = absurd h
-writing_in_piece left wanted WriteFailed h = tt
-writing_in_piece left wanted TurnLimit h = absurd h
-writing_in_piece left wanted Memory h = tt
+writing_in_piece left wanted f h = by_writing (IsPieceFault left wanted) tt tt f h
 
 pub writing_in_sound : (left : Option (List ℕ)) (ahead : List ℕ) (s : Sound) (f : StreamFault) → IsWritingFault f → IsSoundFault left ahead s f
-writing_in_sound left ahead s FileRefused h = absurd h
-writing_in_sound left ahead s RateNotDivided h = absurd h
-writing_in_sound left ahead s TooLarge h = absurd h
-writing_in_sound left ahead s ReadFailed h = absurd h
-writing_in_sound left ahead s WriteFailed h = tt
-writing_in_sound left ahead s TurnLimit h = absurd h
-writing_in_sound left ahead s Memory h = tt
+writing_in_sound left ahead s f h = by_writing (IsSoundFault left ahead s) tt tt f h
 
 -- ---- what was counted
 pub same_writes : (X Y : Type 0) (f : StreamFault) → failed_writes {X = X} (Err f) ≡ failed_writes {X = Y} (Err f)
@@ -141,29 +94,13 @@ same_writes X Y WriteFailed = refl
 same_writes X Y TurnLimit = refl
 same_writes X Y Memory = refl
 
-unread : {X : Type 0} (r : Result X StreamFault) → IfErr r IsWritingFault → failed_reads r ≡ 0
-unread (Ok x) h = refl
-unread (Err FileRefused) h = absurd h
-unread (Err RateNotDivided) h = absurd h
-unread (Err TooLarge) h = absurd h
-unread (Err ReadFailed) h = absurd h
-unread (Err WriteFailed) h = refl
-unread (Err TurnLimit) h = absurd h
-unread (Err Memory) h = refl
-
 -- nothing was read where the writing failed
 pub counts_writing : {R X : Type 0} (a b : SoundReader R) (r : Result X StreamFault) → IfErr r IsWritingFault → inlet_failures b.inlet.now ≡ inlet_failures a.inlet.now → inlet_reads b.inlet.now ≤ a.limit → Counts a b r
 counts_writing a b r h same few = record { failures = omega (arith, same, unread r h); turns = λ turn. absurd (subst (λ x. IfErr x IsWritingFault) turn h); most = few }
 
 pub unwritten : {X : Type 0} (r : Result X StreamFault) → IfErr r IsReadingFault → failed_writes r ≡ 0
 unwritten (Ok x) h = refl
-unwritten (Err FileRefused) h = absurd h
-unwritten (Err RateNotDivided) h = absurd h
-unwritten (Err TooLarge) h = absurd h
-unwritten (Err ReadFailed) h = refl
-unwritten (Err WriteFailed) h = absurd h
-unwritten (Err TurnLimit) h = refl
-unwritten (Err Memory) h = refl
+unwritten {X} (Err f) h = by_reading (λ g. failed_writes {X = X} (Err g) ≡ 0) refl refl refl f h
 
 pub front_unwritten : {X : Type 0} (left : Option (List ℕ)) (r : Result X StreamFault) → IfErr r (IsFrontFault left) → failed_writes r ≡ 0
 front_unwritten left (Ok x) h = refl

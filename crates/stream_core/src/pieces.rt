@@ -10,12 +10,11 @@ ghost use Rattle.stream_core.specs.Pace.{PlaysGivenPart, PlaysGivenSound};
 ghost use Rattle.stream_core.specs.Pieces.{IsPieceFault, IsSoundFault, PlaysFront, PlaysPart, PlaysSound, PutsDue, PutsFrontLeft, PutsFrontOf, PutsRest};
 ghost use Rattle.sound_core.specs.Readers.{Counts, IsReading, IsSame};
 
-use crate::wave::put;
 use device_core::Outlet;
 use dsd_bits::{Interleaving, Sound};
 use fir_core::Taps;
 use player_core::Player;
-use sound_core::{SoundReader, StreamFault};
+use sound_core::{SoundReader, StreamFault, put};
 use std::alloc::Global;
 use std::io::{Read, Write};
 

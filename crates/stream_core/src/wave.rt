@@ -1,4 +1,4 @@
-//! What is written around the frames, and how bytes go out.
+//! What is written around the frames.
 
 ghost use Rattle.std.specs.Prelude.{◌≡◌, ◌+◌, ◌-◌, ◌/◌, ◌<◌, ◌≤◌, ◌^◌, IfErr, IfOk, OnErr, OnOk};
 ghost use Rattle.std.specs.Io.KnownBytes.{Appends};
@@ -13,27 +13,9 @@ use device_core::Outlet;
 use dsd_bits::Sound;
 use fir_core::Taps;
 use player_core::wave_spec;
-use sound_core::StreamFault;
+use sound_core::{StreamFault, put};
 use std::io::Write;
 use wave_core::{WaveFault, WaveSpec};
-
-/// Writes these bytes.
-///
-/// Refusal: `WriteFailed`; a front of them went out.
-pub(crate) fn put<W: Write>(outlet: &mut Outlet<W>, bytes: &[u8]) -> Result<(), StreamFault>
-    requires ready { outlet_failures outlet.old < 2 ^ 64 - 1 }
-    ensures ok { OnOk result (Appends (W.contents (outlet_writer outlet.old))
-        (W.contents (outlet_writer outlet.new)) bytes.now) }
-    ensures err { OnErr result (AppendsFront (W.contents (outlet_writer outlet.old))
-        (W.contents (outlet_writer outlet.new)) bytes.now) }
-    ensures failures { outlet_failures outlet.new ≡ outlet_failures outlet.old + failed_writes result }
-    ensures fault { IfErr result IsWritingFault }
-{
-    match outlet.put_all(bytes) {
-        Ok(()) => Ok(()),
-        Err(_) => Err(StreamFault::WriteFailed),
-    }
-}
 
 // How many frames are played of a sound.
 fn total_frames(taps: &Taps, sound: &Sound) -> u64

@@ -5,7 +5,8 @@ use Rattle.device_core.specs.Inlets.{inlet_failures, inlet_reader}
 use Rattle.device_core.specs.Outlets.{outlet_writer}
 use Rattle.sound_core.specs.Outlines.{around_of}
 use Rattle.relay_core.specs.Comparing.{IsExpectFault}
-use Rattle.relay_core.proofs.RelayLaws.{any_err, front_nil, head_fault, head_part, head_whole, none_before, not_ok, on_err, on_ok, relays, relays_given, rest_fault, sound_fault, sound_part, sound_whole, tail_part, unread, unwritten_expect, unwritten_rest, writing_stands}
+use Rattle.sound_core.proofs.FaultLaws.{unread}
+use Rattle.relay_core.proofs.RelayLaws.{any_err, front_nil, head_fault, head_part, head_whole, none_before, not_ok, on_err, on_ok, relays, relays_given, rest_fault, sound_fault, sound_part, sound_whole, tail_part, unwritten, writing_stands}
 use Rattle.relay_core.proofs.relaying.relay.Given.{Over}
 use Rattle.relay_core.proofs.relaying.relay.Goals as goal
 use Rattle.relay_core.proofs.relaying.relay.Goals.{In_ok-expect, In_ok-relay_sound}
@@ -22,7 +23,7 @@ returns-in_err-put-clause-fault g c =
 pub returns-in_err-put-clause-read_failed : goal.returns-in_err-put-clause-read_failed
 returns-in_err-put-clause-read_failed g c =
     let e = err_from_is_err_and c.from_residual-in_err-put.result c.from_residual-in_err-put.ensures.1 in
-    rw (e.1, e.2) (omega (arith, unread (Err c.in_err-put.field-0.0) c.in_err-put.ensures.fault))
+    rw (e.1, e.2) (omega (arith, unread {X = Unit {0}} (Err c.in_err-put.field-0.0) c.in_err-put.ensures.fault))
 
 pub returns-in_err-expect-clause-front : goal.returns-in_err-expect-clause-front
 returns-in_err-expect-clause-front g c =
@@ -38,7 +39,7 @@ returns-in_err-expect-clause-fault g c =
 pub returns-in_err-expect-clause-write_failed : goal.returns-in_err-expect-clause-write_failed
 returns-in_err-expect-clause-write_failed g c =
     let e = err_from_is_err_and c.from_residual-in_err-expect.result c.from_residual-in_err-expect.ensures.1 in
-    rw (e.1, e.2) (omega (arith, c.in_ok-put.ensures.failures, unwritten_expect (g.R.Read.remaining (inlet_reader c.args.inlet.now)) c.deref.result.now c.in_err-expect.field-0.0 c.in_err-expect.ensures.fault))
+    rw (e.1, e.2) (omega (arith, c.in_ok-put.ensures.failures, unwritten _ c.in_err-expect.field-0.0 c.in_err-expect.ensures.fault))
 
 -- the head was read
 head_in : (g : Over) (c : In_ok-expect g) → Consumes (g.R.Read.remaining (inlet_reader c.args.inlet.now)) (g.R.Read.remaining (inlet_reader c.expect.new.inlet)) c.args.outline.now.head.items
@@ -73,7 +74,7 @@ returns-in_err-expect_rest-clause-fault g c =
 pub returns-in_err-expect_rest-clause-write_failed : goal.returns-in_err-expect_rest-clause-write_failed
 returns-in_err-expect_rest-clause-write_failed g c =
     let e = err_from_is_err_and c.from_residual-in_err-expect_rest.result c.from_residual-in_err-expect_rest.ensures.1 in
-    rw (e.1, e.2) (omega (arith, c.in_ok-put.ensures.failures, c.in_ok-relay_sound.ensures.write_failed, unwritten_rest (g.R.Read.remaining (inlet_reader c.relay_sound.new.inlet)) (around_of c.args.outline.now) c.in_err-expect_rest.field-0.0 c.in_err-expect_rest.ensures.fault))
+    rw (e.1, e.2) (omega (arith, c.in_ok-put.ensures.failures, c.in_ok-relay_sound.ensures.write_failed, unwritten _ c.in_err-expect_rest.field-0.0 c.in_err-expect_rest.ensures.fault))
 
 pub returns-clause-ok : goal.returns-clause-ok
 returns-clause-ok g c =

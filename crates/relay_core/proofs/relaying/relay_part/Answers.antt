@@ -5,7 +5,8 @@ use Rattle.device_core.specs.Inlets.{inlet_failures, inlet_reader}
 use Rattle.device_core.specs.Outlets.{AppendsFront, outlet_writer}
 use Rattle.dsd_bits.specs.Sounds.{sound_size}
 use Rattle.relace_core.specs.Relacing.{relaced}
-use Rattle.relay_core.proofs.RelayLaws.{any_err, filling_in_part, none_of_part, on_err, on_ok, stretch_front, unread, unwritten_fill, writing_in_part}
+use Rattle.sound_core.proofs.FaultLaws.{unread}
+use Rattle.relay_core.proofs.RelayLaws.{any_err, filling_in_part, none_of_part, on_err, on_ok, stretch_front, unwritten, writing_in_part}
 use Rattle.relay_core.proofs.relaying.relay_part.Goals as goal
 use Rattle.relay_core.proofs.relaying.relay_part.Goals.{After-deref-2}
 use Rattle.relay_core.proofs.relaying.relay_part.Given.{Over}
@@ -62,7 +63,7 @@ returns-in_err-fill-clause-read_failed g c =
 pub returns-in_err-fill-clause-write_failed : goal.returns-in_err-fill-clause-write_failed
 returns-in_err-fill-clause-write_failed g c =
     let e = err_from_is_err_and c.from_residual.result c.from_residual.ensures.1 in
-    rw (e.1, e.2) (omega (arith, unwritten_fill (g.R.Read.remaining (inlet_reader c.args.inlet.now)) c.stretch_size-size.result c.in_err-fill.field-0.0 c.in_err-fill.ensures.fault))
+    rw (e.1, e.2) (omega (arith, unwritten _ c.in_err-fill.field-0.0 c.in_err-fill.ensures.fault))
 
 pub returns-in_err-push_relaced-clause-front : goal.returns-in_err-push_relaced-clause-front
 returns-in_err-push_relaced-clause-front g c =

@@ -1,7 +1,7 @@
 use Rattle.std.proofs.Common.{◌∙◌, arith, subst, sym}
 use Rattle.std.proofs.lemmas.Result.{err_from_is_err_and}
 use Rattle.device_core.specs.Inlets.{inlet_given, inlet_reader}
-use Rattle.sound_core.specs.Files.{IsBeforeSound, IsRefused}
+use Rattle.sound_core.specs.Files.{IsBeforeSound, IsRefused, TellsSound}
 use Rattle.sound_core.specs.Reads.{Reads}
 use Rattle.sound_core.proofs.ToldLaws.{gives_none}
 use Rattle.sound_core.proofs.ReadLaws.{after, at_end, reads_on}
@@ -19,6 +19,10 @@ pub returns-then-count-eq0-clause-fault : goal.returns-then-count-eq0-clause-fau
 returns-then-count-eq0-clause-fault g c =
     let read = c.in_ok-count.ensures.read in
     at_end g.R.Read.remaining c.args.reader.now.inlet.now c.loop-count.reader.inlet.now c.read_more.new.self.inlet.now c.loop-count.reader.ahead.now.items read.0 IsRefused c.loop-count.invariant.0 read.1 (omega (arith, read.2, c.if-count-eq0.true)) (c.in_ok-count.ensures.end c.if-count-eq0.true) c.loop-count.invariant.1
+
+pub returns-in-Found-clause-tells : goal.returns-in-Found-clause-tells
+returns-in-Found-clause-tells g c =
+    subst (λ front. TellsSound front c.in-Found.sound) c.as_slice.ensures.value (rw c.in-Found.is at c.in_ok-sound.ensures.found)
 
 pub returns-in-Found-clause-read : goal.returns-in-Found-clause-read
 returns-in-Found-clause-read g c =

@@ -1,0 +1,4 @@
+use Rattle.sound_core.proofs.writing.put.Goals as goal
+
+pub returns-in-Ok-clause-ok : goal.returns-in-Ok-clause-ok
+returns-in-Ok-clause-ok g c = c.in-Ok.ensures.ok

@@ -40,7 +40,6 @@ pub fn fits(splice: &Splice, takes: &[Heard], form: Option<Form>) -> Result<(), 
 }
 
 // Whether each take is like the first.
-#[tactic(auto, using(crate::proofs::Steps::each_stops))]
 fn are_alike(takes: &[Heard]) -> Result<(), CutFault>
     ensures { result ≡ each_before (length (heard_shapes takes.now)) (specs.alike_at (heard_shapes takes.now)) }
 {
@@ -70,7 +69,6 @@ pub fn differ(first: &Recording, take: &Recording) -> bool
 }
 
 // Whether each cue ends within its take.
-#[tactic(auto, using(crate::proofs::Steps::each_stops))]
 fn are_inside(splice: &Splice, takes: &[Heard]) -> Result<(), CutFault>
     requires { length takes.now ≡ length (splice_content splice.now).takes }
     ensures { result ≡ each_before (length (splice_content splice.now).cues)
@@ -116,7 +114,6 @@ fn is_whole(splice: &Splice, form: Option<Form>) -> bool
 }
 
 // Whether each bridge has room in the takes.
-#[tactic(auto, using(crate::proofs::Steps::each_stops))]
 fn have_room(splice: &Splice, takes: &[Heard]) -> Result<(), CutFault>
     requires { length takes.now ≡ length (splice_content splice.now).takes }
     ensures { result ≡ each_before (length (splice_content splice.now).cues - 1)

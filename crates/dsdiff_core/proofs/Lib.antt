@@ -8,6 +8,7 @@ pub mod ClosingLaws
 pub mod OutlineLaws
 pub mod SeekLoop
 pub mod Steps
+pub mod JoinedSteps
 pub mod KindLaws
 pub mod SpanLaws
 pub mod OnceLoop

@@ -3,6 +3,7 @@
 ghost use Rattle.std.specs.Prelude.{◌≡◌, ◌+◌, ◌<◌, ◌≤◌, ◌%◌, ◌^◌, ◌++◌, ◌↔◌, All, None, Some, IfOk, OnOk, flat_map, length, map};
 ghost use Rattle.byteorder.specs.Endian.{big_bytes};
 ghost use Rattle.chunk_core.specs.Chunks.{spell};
+ghost use Rattle.dsd_bits.specs.Channels.{count_of};
 ghost use Rattle.dsd_bits.specs.Contents.{mark_content, other_content};
 ghost use Rattle.dsd_bits.specs.Ids.{SND};
 ghost use Rattle.dsd_bits.specs.Shape.{HasShape, same_place};
@@ -44,6 +45,15 @@ pub fn write(alloc: Global, recording: &Recording) -> Result<Vec<u8>, WriteFault
     if recording.count() % 8 != 0 {
         return Err(WriteFault::NotWholeBytes);
     }
+    Ok(file_of(alloc, recording)?)
+}
+
+// The file of a recording whose channels end with a whole byte.
+fn file_of(alloc: Global, recording: &Recording) -> Result<Vec<u8>, AllocError>
+    requires { count_of recording.now.channels % 8 ≡ 0 }
+    ensures text { IfOk result (λ file. dsdiff_text recording.now ≡ Some file.items) }
+    ensures read_again { IfOk result (λ file. IsDsdiff file.items (as_told recording.now)) }
+{
     let channels = recording.channels();
     let size = recording.count() / 8 * channels.len();
     let tail = write_tail(alloc, recording, size)?;

@@ -47,3 +47,7 @@ mapped f xs ys long each =
 -- a small number that was stored is read back
 pub stored_back : (z : ℤ) → unsigned_abs z ≤ 2 ^ 30 → to_z w32 (of_z w32 z) ≡ z
 stored_back z small = to_z-of_z w32 z (fits_signed_from_abs w32 z (omega arith))
+
+-- so is one that is known to be equal to another
+pub read_back : (z y : ℤ) → z ≡ y → unsigned_abs y ≤ 2 ^ 30 → to_z w32 (of_z w32 z) ≡ y
+read_back z y is small = ap (λ x. to_z w32 (of_z w32 x)) is ∙ stored_back y small

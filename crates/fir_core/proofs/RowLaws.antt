@@ -8,7 +8,7 @@ use Rattle.std.proofs.lemmas.Int.{to_z-of_z, fits_signed_from_abs, int_wrap_fits
 use Rattle.std.proofs.lemmas.Simd.{get_or-zip2, length-zip2}
 use Rattle.std.proofs.lemmas.List.{get_or-drop, get_or-map, get_or-take, length-map, length-take-le, take_all}
 use Rattle.std.proofs.lemmas.List.FromFn.{get_or-map-range_with_len, length-map-range_with_len}
-use Rattle.std.proofs.lemmas.Nat.{div-mul-add, mod-mul-add}
+use Rattle.std.proofs.lemmas.Nat.{div-mul-add, mod-mul-add, mul-le}
 use Rattle.fir_core.specs.Rows.{AreEntries, AreSums, IsLaid, IsSpot, entry_of, groups_at, last_group, row_entry, row_place, rows, sum_before}
 use Rattle.fir_core.specs.Signed.{dot, bits_of, bits_of_byte}
 use Rattle.fir_core.specs.Windows.{aligned, window_sum}
@@ -121,6 +121,10 @@ ends_before step span size p window place j eights spot wide loose early =
       | inl odd ↦ let more = loose odd in omega (arith, spot.at, more)
       | inr whole ↦ omega (arith, seven_before step p window place eights (omega arith) spot.at)
     ]
+
+-- a window is no further on than its bytes
+pub window_before : (step p window place : ℕ) → IsSpot step p window place → window ≤ p
+window_before step p window place spot = omega (arith, spot.at, mul-le window 1 window step (omega arith) (omega (arith, spot.inside)))
 
 -- a window that begins behind them
 pub begins_behind : (step p window place j : ℕ) → IsSpot step p window place → window < j → p < j * step

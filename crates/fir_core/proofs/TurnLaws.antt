@@ -88,7 +88,7 @@ near_same f g number near same before = record {
   each = λ k l h b. before.each k l h b ∙ ap (int_wrap w32) (same (8 * k + l) (omega (arith, h, b)));
 }
 
-wrapped_zero : int_wrap w32 (pos 0) ≡ pos 0
+pub wrapped_zero : int_wrap w32 (pos 0) ≡ pos 0
 wrapped_zero = int_wrap_fits w32 (pos 0) (fits_signed_from_abs w32 (pos 0) (omega arith))
 
 -- all of them zeros

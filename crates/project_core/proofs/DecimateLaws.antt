@@ -7,8 +7,9 @@ use Rattle.fir_core.specs.Faults.{first_fault}
 use Rattle.fir_core.proofs.LimitLaws.{IsWithinLimits-from_no_fault, no_fault-from_IsWithinLimits}
 use Rattle.project_core.specs.declared.key.Key.TheVariants as keys
 use Rattle.project_core.specs.declared.fault.ProjectFault.{ProjectFault}
+use Rattle.project_core.specs.declared.fault.ProjectFault.TheVariants as faults
 use Rattle.project_core.specs.Keys.{decimate_keys}
-use Rattle.project_core.specs.Steps.{◌>>=◌}
+use Rattle.project_core.specs.Steps.{◌>>=◌, Fails}
 use Rattle.project_core.specs.Reading.{integers_at, table_of, unsigned_at}
 use Rattle.project_core.specs.ReadingDecimate.{decimate_of, unless_broken}
 use Rattle.project_core.specs.Meaning.{IsDecimate}
@@ -73,3 +74,9 @@ decimate_again t y h =
       unsigned_again keys.Width t y.width h.width (small_width y h.limits),
       no_fault-from_IsWithinLimits y h.limits,
     )
+
+-- what is refused where the factor is read
+pub factor_fails : (value : Data) (t : Members) (taps : List ℤ) (e : ProjectFault) → table_of keys.Decimate decimate_keys value ≡ Ok t → integers_at keys.Taps t ≡ Ok taps → Fails e (unsigned_at keys.Factor t) → Fails e (decimate_of value)
+unfolding decimate_of
+factor_fails value t taps faults.Memory is_table are_taps is = tt
+factor_fails value t taps e is_table are_taps is = rw (is_table, are_taps, is) refl

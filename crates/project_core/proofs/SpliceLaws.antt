@@ -1,5 +1,5 @@
 -- A splice that was read is what its table says.
-use Rattle.std.proofs.Common.{◌≡◌, ℕ, ◌≤◌, ℤ, true, ◌&&◌, cond, eqb, List, [], ◌∷◌, length, map, Some, Ok, Err, refl, sym, ap, subst, ◌∙◌, arith, sum_by, unsigned_abs}
+use Rattle.std.proofs.Common.{◌≡◌, ℕ, ◌≤◌, ℤ, Bool, true, false, ◌&&◌, cond, eqb, List, [], ◌∷◌, length, map, Some, Ok, Err, refl, sym, ap, subst, ◌∙◌, arith, sum_by, unsigned_abs}
 use Rattle.std.specs.Prelude.{nat_le, All}
 use Rattle.std.specs.List.{AllZip}
 use Rattle.std.proofs.lemmas.Bool.{eqb-true, eq-eqb, leb-true, le-leb, and_parts}
@@ -98,6 +98,18 @@ number_again limit n h = rw (le-leb 1 n h.0, le-leb n limit h.1)
 
 weights_kept : (ws : List ℤ) → AreWeights ws → are_weights ws ≡ true
 weights_kept ws h = rw (le-leb 2 (length ws) h.two_weights, le-leb (length ws) 12 h.few_weights, le-leb (sum_by unsigned_abs ws) 4096 h.small_sum)
+
+pub weights_taken : (t : Members) (ws : List ℤ) → integers_at keys.Weights t ≡ Ok ws → AreWeights ws → weights_at t ≡ Ok ws
+unfolding weights_at
+weights_taken t ws is fit = rw (is, weights_kept ws fit) refl
+
+untrue : (b : Bool) → (b ≡ true → ⊥) → b ≡ false
+untrue true h = absurd (h refl)
+untrue false h = refl
+
+pub weights_refused : (t : Members) (ws : List ℤ) → integers_at keys.Weights t ≡ Ok ws → (AreWeights ws → ⊥) → weights_at t ≡ Err (OutOfLimit keys.Weights)
+unfolding weights_at
+weights_refused t ws is unfit = rw (is, untrue (are_weights ws) (λ fit. unfit (weights_parts ws fit))) refl
 
 pub weights_again : (t : Members) (ws : List ℤ) → Has t keys.Weights (numbers ws) → AreWeights ws → weights_at t ≡ Ok ws
 unfolding weights_at

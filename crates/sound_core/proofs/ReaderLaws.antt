@@ -45,3 +45,12 @@ counts_refused a m b x limit same p = counts_before a m b x (Err FileRefused) re
 
 pub counts_from : {R X : Type 0} (a m b : SoundReader R) (r : Result X StreamFault) → m.limit ≡ a.limit → inlet_failures m.inlet.now ≡ inlet_failures a.inlet.now → Counts m b r → Counts a b r
 counts_from a m b r limit same p = record { failures = p.failures ∙ ap (λ n. n + failed_reads r) same; turns = λ turn. p.turns turn ∙ limit; most = rw (← limit) p.most }
+
+-- nothing more was read
+pub counts_still : {R X Y : Type 0} (a b c : SoundReader R) (x : X) (r : Result Y StreamFault) → failed_reads r ≡ 0 → (IsErrOf r TurnLimit → ⊥) → c.inlet.now ≡ b.inlet.now → Counts a b (Ok x) → Counts a c r
+counts_still a b c x r none not_turn same p =
+    let k = counts_before a a b x r none not_turn refl refl p in
+    record { failures = ap inlet_failures same ∙ k.failures; turns = λ turn. ap inlet_reads same ∙ k.turns turn; most = omega (arith, ap inlet_reads same, k.most) }
+
+pub counts_memory : {R X Y : Type 0} (a b c : SoundReader R) (x : X) → c.inlet.now ≡ b.inlet.now → Counts a b (Ok x) → Counts {X = Y} a c (Err Memory)
+counts_memory a b c x same p = counts_still a b c x (Err Memory) refl (λ turn. cc) same p

@@ -19,7 +19,6 @@ use std::io::Read;
 ///
 /// Refusals: `FileRefused` where no file that begins so holds a recording, or the file is at its end; `ReadFailed`,
 /// `TurnLimit` and `Memory`.
-#[tactic(auto, using(crate::proofs::ToldLaws::before_first))]
 pub fn read_front<R: Read>(
     alloc: Global,
     reader: &mut SoundReader<'_, R>,

@@ -18,9 +18,11 @@ use Rattle.sound_core.specs.declared.outline.Outline.{Outline}
 use Rattle.transfer_core.specs.Converting.{Converts, converted_of}
 use Rattle.transfer_core.specs.Conversions as streams
 use Rattle.transfer_core.specs.declared.fault.Fault.TheVariants.{Memory, NotWholeBytes}
+use Rattle.transfer_commands.specs.declared.fault.CommandFault.{CommandFault}
+use Rattle.transfer_commands.specs.declared.fault.CommandFault.TheVariants as faults
 use Rattle.transfer_commands.specs.Converting.{ConvertComesTo, ConvertsFile, ConvertsFront}
 use Rattle.transfer_commands.specs.Faults.{of_file}
-use Rattle.transfer_commands.specs.Outlining.{IsOutlined, OutlinesFile, form_in}
+use Rattle.transfer_commands.specs.Outlining.{IsOutlined, IsUnread, OutlinesFile, form_in}
 use Rattle.sound_core.proofs.HeldLaws.{channels_count}
 use Rattle.transfer_commands.proofs.TellLaws.{holds_as, told_number}
 
@@ -141,3 +143,9 @@ module _ (form : Form) (input output : List ℕ) (old mid new : Files) (same : m
         by : {bytes : List ℕ} (w : Option (List ℕ)) → new output ≡ w → AppendsFront (Some []) w bytes → (front : List ℕ) × (back : List ℕ) × (bytes ≡ front ++ back) × (new output ≡ Some front)
         by None is h = absurd h.3
         by (Some w) is h = (h.0, h.1, h.2, is ∙ ap Some h.3)
+
+-- ---- a file that was not read
+pub unconverted : (form : Form) (input output : List ℕ) (old new : Files) (fault : CommandFault) → new ≡ old → IsUnread fault → ConvertComesTo form input output old new (Err fault)
+unconverted form input output old new (faults.Call Memory) same is = inl same
+unconverted form input output old new faults.ReadFailed same is = inl same
+unconverted form input output old new fault same is = absurd is

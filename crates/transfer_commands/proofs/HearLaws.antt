@@ -10,9 +10,12 @@ use Rattle.cut_core.specs.Opening.{HearsTake, HearsTakes, take_in, takes_before,
 use Rattle.transfer_core.specs.declared.fault.Fault.{Fault}
 use Rattle.transfer_core.specs.declared.fault.Fault.TheVariants.{Memory}
 use Rattle.transfer_core.specs.Projects.{SaysSplice, splice_of, take_names_of}
-use Rattle.folder_core.specs.Files.{AreFiles, Files}
+use Rattle.folder_core.specs.Files.{AreFiles, Files, IsReadFault}
+use Rattle.folder_core.specs.declared.fault.FileFault.{FileFault}
+use Rattle.folder_core.specs.declared.fault.FileFault.TheVariants as files
 use Rattle.transfer_commands.specs.declared.fault.CommandFault.{CommandFault}
 use Rattle.transfer_commands.specs.declared.fault.CommandFault.TheVariants as faults
+use Rattle.transfer_commands.specs.Faults.{of_file}
 use Rattle.transfer_commands.specs.Hearing.{HearsFile, HearsFiles, HearsSources}
 use Rattle.transfer_commands.specs.Outlining.{IsUnread}
 use Rattle.transfer_commands.specs.Sources.{IsUnnamed, SourcesUnread}
@@ -68,3 +71,9 @@ pub unread : (name : List ℕ) (old new : Files) (fault : CommandFault) → new 
 unread name old new (faults.Call Memory) same is = (same, inl refl)
 unread name old new faults.ReadFailed same is = same
 unread name old new fault same is = absurd is
+
+-- of a file that could not be read
+pub unread_of : (fault : FileFault) → IsReadFault fault → IsUnread (of_file fault)
+unread_of files.ReadFailed is = tt
+unread_of files.Memory is = tt
+unread_of files.WriteFailed is = absurd is

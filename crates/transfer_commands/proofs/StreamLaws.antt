@@ -1,5 +1,6 @@
 -- What is heard of a file that was read in one pass.
-use Rattle.std.proofs.Common.{◌≡◌, ℕ, List, Ok, Some, refl, sym, subst}
+use Rattle.std.proofs.Common.{◌≡◌, ℕ, List, None, Ok, Option, Some, refl, sym, subst}
+use Rattle.std.specs.Prelude.{IfSome}
 use Rattle.dsd_bits.specs.declared.stretches.BitRange.{BitRange}
 use Rattle.dsd_bits.specs.Shape.{HasShape}
 use Rattle.splice_core.specs.Splices.{SpliceContent}
@@ -7,7 +8,7 @@ use Rattle.form_core.specs.Laws.{HeldIsOpened}
 use Rattle.cut_core.specs.declared.heard.Heard.{Heard}
 use Rattle.cut_core.specs.Hearing.{ranges_of}
 use Rattle.cut_core.specs.Opening.{HearsTake, IsOfTake, take_in}
-use Rattle.sound_core.specs.Keeping.{IsKeptOf, stretches_in}
+use Rattle.sound_core.specs.Keeping.{IsKeptOf, KeepsFile, stretches_in}
 use Rattle.sound_core.specs.Outlines.{AreTold, around_of}
 use Rattle.sound_core.specs.declared.keeping.Kept.{Kept}
 use Rattle.folder_core.specs.Files.{Files}
@@ -40,6 +41,14 @@ pub held_hears : HeldIsOpened → (splice : SpliceContent) (number : ℕ) (file 
 held_hears law splice number file heard h =
     let opens = (law file h.holds.form h.recording).0 h.holds.holds in
     (h.recording, rw opens refl, h.shape, h.is_heard)
+
+-- what is heard of the bytes that a reader has left, where it tells them
+pub left_heard : (kept : Kept) (splice : SpliceContent) (number : ℕ) (heard : Heard) (ranges : List BitRange) → ranges ≡ ranges_of splice number
+    → ((s : SpliceContent) (n : ℕ) (file : List ℕ) → AreTold (around_of kept.outline) → IsKeptOf (around_of kept.outline) (ranges_of s n) (stretches_in kept) file → HearsHeld s n file heard)
+    → (left : Option (List ℕ)) → KeepsFile left (around_of kept.outline) ranges (stretches_in kept) → IfSome left (λ file. HearsHeld splice number file heard)
+left_heard kept splice number heard ranges own hears None is = tt
+left_heard kept splice number heard ranges own hears (Some file) is =
+    hears splice number file is.0 (subst (λ (r : List BitRange). IsKeptOf (around_of kept.outline) r (stretches_in kept) file) own is.1)
 
 -- of whichever bytes were read
 pub given_heard : (kept : Kept) (splice : SpliceContent) (number : ℕ) (heard : Heard) (ranges : List BitRange) → ranges ≡ ranges_of splice number

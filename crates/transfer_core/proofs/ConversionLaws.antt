@@ -1,5 +1,5 @@
 -- What is relayed of a file of an outline is the file of the form that is written for its recording.
-use Rattle.std.proofs.Common.{◌≡◌, ℕ, ◌%◌, ◌≤◌, List, [], ◌++◌, length, Option, None, Some, Result, Ok, refl, sym, ap, ◌∙◌, subst}
+use Rattle.std.proofs.Common.{◌≡◌, ℕ, ◌%◌, ◌≤◌, List, [], ◌++◌, length, Option, None, Some, IsErrOf, Result, Ok, Err, refl, sym, ap, ◌∙◌, subst}
 use Rattle.std.proofs.lemmas.List.{length-replicate}
 use Rattle.std.proofs.lemmas.List.FromFn.{length-map-range_with_len}
 use Rattle.device_core.specs.Outlets.{AppendsFront}
@@ -31,7 +31,8 @@ use Rattle.form_core.specs.Parts.{FitsIn, WrittenInParts, head_in, interleaving_
 use Rattle.form_core.proofs.OpeningLaws.{held_is_opened, holds_dsf}
 use Rattle.transfer_core.specs.Conversions.{ConversionStands, ConvertsFile, ConvertsFront, ConvertsGiven}
 use Rattle.transfer_core.specs.Converting.{Converts}
-use Rattle.transfer_core.specs.Faults.{fault_of_stream, fault_of_writing}
+use Rattle.transfer_core.specs.declared.fault.Fault.TheVariants.{NotWholeBytes}
+use Rattle.transfer_core.specs.Faults.{as_stream, fault_of_stream, fault_of_writing}
 
 -- ---- channels in sound bytes
 channel_number : (interleaving : Interleaving) (channels count : ℕ) (bytes : List ℕ) → length (sound_channels interleaving channels count bytes) ≡ channels
@@ -114,3 +115,16 @@ ends_stand left o form writes.Memory h = (faults.Memory, refl, tt)
 pub relay_stands : (left : Option (List ℕ)) (o : Surroundings) (form : Form) (f : StreamFault) → IsRelayFault left o f → ConversionStands left o form (fault_of_stream f)
 relay_stands left o form faults.Memory h = (faults.Memory, refl, h)
 relay_stands left o form f h = (f, refl, h)
+
+-- ---- a fault under its name here
+pub writing_stream : {X : Type 0} (w : WriteFault) → as_stream {X = X} (Err (fault_of_writing w)) ≡ Err faults.Memory
+writing_stream writes.NotWholeBytes = refl
+writing_stream writes.Memory = refl
+
+pub writing_not_whole : {X Y : Type 0} (w : WriteFault) → IsErrOf {T = X} (Err w) writes.NotWholeBytes → IsErrOf {T = Y} (Err (fault_of_writing w)) NotWholeBytes
+writing_not_whole writes.NotWholeBytes is = refl
+writing_not_whole writes.Memory is = absurd cc
+
+pub stream_whole : {X : Type 0} (f : StreamFault) → IsErrOf {T = X} (Err (fault_of_stream f)) NotWholeBytes → ⊥
+stream_whole faults.Memory is = absurd cc
+stream_whole f is = absurd cc

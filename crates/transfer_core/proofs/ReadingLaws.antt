@@ -1,10 +1,24 @@
 -- Whatever the relations of the calls say is what their readings in order come to.
-use Rattle.std.proofs.Common.{◌≡◌, ℕ, List, Ok, refl}
+use Rattle.std.proofs.Common.{◌≡◌, ℕ, ◌%◌, List, None, Some, IsErrOf, Ok, Err, inl, inr, Vec, Global, refl}
+use Rattle.std.proofs.lemmas.Bool.{ne_eqb}
 use Rattle.fir_core.specs.Decimator.{Decimator}
 use Rattle.project_core.proofs.ProjectLaws.{project_again}
 use Rattle.splice_core.specs.Splices.{SpliceContent}
+use Rattle.sound_core.specs.declared.fault.StreamFault.TheVariants.{RateNotDivided}
+use Rattle.wave_core.specs.declared.fault.WaveFault.{WaveFault}
+use Rattle.wave_core.specs.declared.fault.WaveFault.TheVariants as waves
+use Rattle.wave_core.specs.Texts.{wave_text}
+use Rattle.player_core.specs.Samples.{pcm}
+use Rattle.form_core.specs.declared.fault.ReadFault.{ReadFault}
+use Rattle.form_core.specs.declared.fault.ReadFault.TheVariants as reads
+use Rattle.form_core.specs.declared.opening.Opened.{Opened}
+use Rattle.form_core.specs.Opening.{Opens, opened_of}
+use Rattle.form_core.specs.Steps.{Fails}
 use Rattle.form_core.proofs.OpeningLaws.{held_is_opened}
+use Rattle.transfer_core.specs.declared.fault.Fault.{Fault}
+use Rattle.transfer_core.specs.declared.fault.Fault.TheVariants.{Memory, Stream}
 use Rattle.transfer_core.specs.Converting.{converted_of}
+use Rattle.transfer_core.specs.Faults.{fault_of_file, fault_of_wave}
 use Rattle.transfer_core.specs.Laws.{ConvertsInOrder, PlaysInOrder, SaysTakesInOrder}
 use Rattle.transfer_core.specs.Playing.{played_of}
 use Rattle.transfer_core.specs.Projects.{SaysDecimator, SaysSplice, decimator_of, splice_of, take_names_of}
@@ -28,3 +42,33 @@ says_takes = λ text names is. rw (project_again text is.says.project is.says.sa
 pub says_splice : (text : List ℕ) (s : SpliceContent) → SaysSplice text s → splice_of text ≡ Ok s
 unfolding splice_of
 says_splice text s is = rw (project_again text is.project is.says, is.has) refl
+
+-- ---- what is played, or the first fault
+module _ (project file : List ℕ) where
+  pub project_refused : (e : Fault) → Fails Memory e (decimator_of project) → Fails Memory e (played_of project file)
+  unfolding played_of
+  project_refused e (inl is) = inl is
+  project_refused e (inr is) = inr (rw is refl)
+
+  module _ (d : Decimator) (said : decimator_of project ≡ Ok d) where
+    pub file_refused : (e : ReadFault) → Opens (Err e) (opened_of file) → Fails Memory (fault_of_file e) (played_of project file)
+    unfolding played_of
+    file_refused reads.Memory is = inl refl
+    file_refused reads.UnknownForm is = inr (rw (said, is) refl)
+    file_refused (reads.Dsdiff e) is = inr (rw (said, is) refl)
+    file_refused (reads.Dsf e) is = inr (rw (said, is) refl)
+
+    module _ (o : Opened) (holds : opened_of file ≡ Ok o) where
+      pub rate_not_divided : (o.recording.rate % d.factor ≡ 0 → ⊥) → played_of project file ≡ Err (Stream RateNotDivided)
+      unfolding played_of
+      rate_not_divided h = rw (said, holds, ne_eqb (o.recording.rate % d.factor) 0 h) refl
+
+      module _ (divided : o.recording.rate % d.factor ≡ 0) where
+        pub samples_refused : (e : WaveFault) → (IsErrOf {T = Vec ℕ Global} (Err e) waves.TooLarge → wave_text (pcm o.recording d) ≡ None) → Fails Memory (fault_of_wave e) (played_of project file)
+        unfolding played_of
+        samples_refused waves.TooLarge h = inr (rw (said, holds, divided, h refl) refl)
+        samples_refused waves.Memory h = inl refl
+
+        pub text_played : (bytes : List ℕ) → wave_text (pcm o.recording d) ≡ Some bytes → played_of project file ≡ Ok bytes
+        unfolding played_of
+        text_played bytes is = rw (said, holds, divided, is) refl

@@ -1,5 +1,5 @@
 -- What is played from a reader by a project's decimator is what project and file play.
-use Rattle.std.proofs.Common.{◌≡◌, ◌⊎◌, ◌-◌, ℕ, inl, inr, List, [], Option, None, Some, IfSome, Ok, Err, refl, subst}
+use Rattle.std.proofs.Common.{◌≡◌, ◌⊎◌, ◌-◌, ℕ, inl, inr, List, [], Option, None, Some, IfSome, IsErrOf, Ok, Err, refl, sym, ap, ◌∙◌, subst}
 use Rattle.device_core.specs.declared.inlet.Inlet.{Inlet}
 use Rattle.dsd_bits.specs.declared.blocks.BitOrder.TheVariants.{LeastFirst, MostFirst}
 use Rattle.dsd_bits.specs.Contents.{Content}
@@ -20,7 +20,7 @@ use Rattle.transfer_core.specs.declared.fault.Fault.{Fault}
 use Rattle.transfer_core.specs.declared.fault.Fault.TheVariants as fault
 use Rattle.transfer_core.specs.Faults.{OfStream, as_stream, fault_of_stream}
 use Rattle.transfer_core.specs.Playing.{Plays}
-use Rattle.transfer_core.specs.Projects.{SaysDecimator, decimator_of}
+use Rattle.transfer_core.specs.Projects.{IsOfDecimator, SaysDecimator, decimator_of}
 use Rattle.transfer_core.proofs.ReadingLaws.{says_decimator}
 use Rattle.transfer_core.specs.Streaming.{IsBeforeWriting, KeepsUp, OnlyFromOutside, StreamStands}
 
@@ -90,12 +90,15 @@ module _ (project : List ℕ) (d : Decimator) (is_said : decimator_of project �
   keeps_up (Some file) a b n h = λ bytes s is told much. subst (λ e. WritesFrames e s (sound_given s n - 131072) bytes a b) (same_decimator file bytes is) (h bytes s (played file bytes is) told much)
 
 -- ---- a fault of a stream, under its name here
-same_stream : {X : Type 0} (f : StreamFault) → as_stream {X = X} (Err (fault_of_stream f)) ≡ Err f
+pub same_stream : {X : Type 0} (f : StreamFault) → as_stream {X = X} (Err (fault_of_stream f)) ≡ Err f
 same_stream faults.Memory = refl
 same_stream f = refl
 
 one_fault : (f g : StreamFault) → fault_of_stream f ≡ fault_of_stream g → g ≡ f
 one_fault f g is = let a = same_stream {X = ℕ} f in let b = same_stream {X = ℕ} g in cc
+
+pub stream_turns : {X : Type 0} (f : StreamFault) → IsErrOf {T = X} (Err (fault_of_stream f)) (fault.Stream faults.TurnLimit) → IsErrOf {T = X} (Err f) faults.TurnLimit
+stream_turns f is = sym (same_stream f) ∙ ap as_stream is
 
 pub of_stream : (P : StreamFault → Type 0) (f : StreamFault) → OfStream P (fault_of_stream f) → P f
 of_stream P f h = subst P (one_fault f h.0 h.1) h.2
@@ -109,3 +112,21 @@ pub project_outside : (left : Option (List ℕ)) (project : List ℕ) (e : Fault
 project_outside None project e h = tt
 project_outside (Some file) project e (inl is) = λ bytes plays. (faults.Memory, is, tt)
 project_outside (Some file) project e (inr is) = λ bytes plays. let says = says_decimator project plays.decimator plays.project_says in absurd cc
+
+stops_elsewhere : (f : StreamFault) → reading.StopsReading f → IsOfDecimator (fault_of_stream f) → ⊥
+stops_elsewhere faults.ReadFailed stop is = is
+stops_elsewhere faults.TurnLimit stop is = is
+stops_elsewhere f stop is = stop
+
+-- it stops no reading, and counts no device
+pub project_keeps_up : (left a b : Option (List ℕ)) (project : List ℕ) (n : ℕ) (e : Fault) → IsOfDecimator e → OfStream reading.StopsReading e → KeepsUp left project n a b
+project_keeps_up left a b project n e is stop = absurd (stops_elsewhere stop.0 stop.2 (subst IsOfDecimator stop.1 is))
+
+pub project_stream : {X : Type 0} (e : Fault) → IsOfDecimator e → as_stream {X = X} (Err e) ≡ Err faults.Memory
+project_stream (fault.Project f) is = refl
+project_stream fault.NoDecimation is = refl
+project_stream fault.Memory is = refl
+project_stream e is = absurd is
+
+pub project_turns : {X : Type 0} (e : Fault) → IsOfDecimator e → IsErrOf {T = X} (Err e) (fault.Stream faults.TurnLimit) → ⊥
+project_turns e of is = let same = sym (project_stream e of) ∙ ap as_stream is in absurd cc

@@ -1,12 +1,59 @@
-use Rattle.std.proofs.Common.{◌≡◌, ◌*◌, ◌∙◌, length, ap, sym, subst, arith}
+use Rattle.std.proofs.Common.{◌≡◌, ℕ, ◌*◌, ◌<◌, ◌≤◌, ◌⊎◌, ◌∙◌, List, Option, length, refl, ap, sym, subst, inl, inr, arith}
+use borrow.Rule.Slice.PartMut.{same_len_mid}
+use Rattle.std.proofs.lemmas.Nat.{mul-le}
+use Rattle.std.proofs.lemmas.Result.{err_from_is_err_and}
 use Rattle.dsd_bits.proofs.ShiftingLemmas.{written_back}
 use Rattle.std.specs.Io.KnownBytes.{Consumes}
 use Rattle.device_core.specs.Inlets.{inlet_reader}
-use Rattle.cert_core.specs.Stops.{CutBelow, InSpelling}
+use Rattle.cert_core.specs.declared.verdict.CertReason.{CertReason}
+use Rattle.cert_core.specs.declared.verdict.CertReason.TheVariants.{Cut, Row}
+use Rattle.cert_core.specs.Reasons.{SpellingReason}
+use Rattle.cert_core.specs.Spelling.{IsTooWide}
+use Rattle.cert_core.specs.Stops.{CutBelow, InForm, InSpelling}
 use Rattle.cert_core.specs.declared.version.Version.TheVariants.{Two}
-use Rattle.cert_core.proofs.Consuming.{passes}
+use Rattle.cert_core.proofs.Consuming.{if_some, passes}
 use Rattle.cert_core.proofs.Reading.{cut_in_excesses, raised_consumed, raised_first}
 use Rattle.cert_core.proofs.row_reader.read_raised.Goals as goal
+
+few_bytes : (width m : ℕ) → width ≤ 8 → width * m ≤ 8 * m
+few_bytes width m few = mul-le width m 8 m few (omega arith)
+
+-- what is wrong with the number and the width that a row begins with
+form_first : (a : Option (List ℕ)) (m level : ℕ) (reason : CertReason) → InForm level a reason → InSpelling Two m level a reason
+form_first a m level reason = if_some a _ (λ bytes. SpellingReason Two m level bytes reason) told
+  where
+    told : (bytes : List ℕ) → ((reason ≡ Cut) × (length bytes < 9)) ⊎ ((reason ≡ Row level) × IsTooWide Two bytes) → SpellingReason Two m level bytes reason
+    told bytes (inl (is, short)) = subst (SpellingReason Two m level bytes) (sym is) (inl short)
+    told bytes (inr (is, wide)) = subst (SpellingReason Two m level bytes) (sym is) (refl, inl wide)
+
+pub returns-in_err-least-clause-bounded : goal.returns-in_err-least-clause-bounded
+returns-in_err-least-clause-bounded g c = let e = err_from_is_err_and c.from_residual.result c.from_residual.ensures.1 in rw e.1 tt
+
+pub returns-in_err-least-clause-ok : goal.returns-in_err-least-clause-ok
+returns-in_err-least-clause-ok g c = let e = err_from_is_err_and c.from_residual.result c.from_residual.ensures.1 in rw e.1 tt
+
+pub returns-in_err-least-clause-reason : goal.returns-in_err-least-clause-reason
+returns-in_err-least-clause-reason g c =
+    passes (Unit {0}) c.from_residual.result c.in_err-least.field-0.0 _ _ c.from_residual.ensures.1
+    (form_first (g.R.Read.remaining (inlet_reader c.args.inlet.now)) (length c.args.row.now) c.args.level) c.in_err-least.ensures.reason
+
+pub returns-in_err-least-clause-failures : goal.returns-in_err-least-clause-failures
+returns-in_err-least-clause-failures g c = let e = err_from_is_err_and c.from_residual.result c.from_residual.ensures.1 in rw (e.1, e.2) c.in_err-least.ensures.failures
+
+pub overflow_mul-size : goal.overflow_mul-size
+overflow_mul-size g c = omega (arith, few_bytes c.in_ok-least.width (length c.args.row.now) c.in_ok-least.ensures.few, c.requires.room)
+
+pub slice_bounds-fill-end : goal.slice_bounds-fill-end
+slice_bounds-fill-end g c = omega (arith, few_bytes c.in_ok-least.width (length c.args.row.now) c.in_ok-least.ensures.few, c.requires.room)
+
+pub returns-in_err-fill-clause-buffer : goal.returns-in_err-fill-clause-buffer
+returns-in_err-fill-clause-buffer g c = same_len_mid 0 _ c.args.buffer.now c.fill.new.buffer c.fill.auto.buffer
+
+pub returns-in_err-fill-clause-bounded : goal.returns-in_err-fill-clause-bounded
+returns-in_err-fill-clause-bounded g c = let e = err_from_is_err_and c.from_residual-in_err-fill.result c.from_residual-in_err-fill.ensures.1 in rw e.1 tt
+
+pub returns-in_err-fill-clause-ok : goal.returns-in_err-fill-clause-ok
+returns-in_err-fill-clause-ok g c = let e = err_from_is_err_and c.from_residual-in_err-fill.result c.from_residual-in_err-fill.ensures.1 in rw e.1 tt
 
 pub returns-in_err-fill-clause-reason : goal.returns-in_err-fill-clause-reason
 returns-in_err-fill-clause-reason g c =
@@ -15,6 +62,22 @@ returns-in_err-fill-clause-reason g c =
     let size : length c.fill.new.buffer ≡ c.in_ok-least.width * length c.args.row.now = omega (arith, c.fill.auto.buffer) in
     passes (Unit {0}) c.from_residual-in_err-fill.result c.in_err-fill.field-0.0 (CutBelow mid (length c.fill.new.buffer)) (InSpelling Two (length c.args.row.now) c.args.level from) c.from_residual-in_err-fill.ensures.1
     (λ reason w. cut_in_excesses from mid (length c.args.row.now) c.args.level c.in_ok-least.least c.in_ok-least.width reason c.in_ok-least.ensures.ok c.in_ok-least.ensures.few (subst (λ n. CutBelow mid n reason) size w)) c.in_err-fill.ensures.cut
+
+pub returns-in_err-fill-clause-failures : goal.returns-in_err-fill-clause-failures
+returns-in_err-fill-clause-failures g c =
+    let e = err_from_is_err_and c.from_residual-in_err-fill.result c.from_residual-in_err-fill.ensures.1 in
+    rw (e.1, e.2) (omega (arith, c.in_err-fill.ensures.failures, c.in_ok-least.ensures.failures))
+
+pub take_excesses-requires : goal.take_excesses-requires
+take_excesses-requires g c =
+    let size = same_len_mid 0 _ c.args.buffer.now c.fill.new.buffer c.fill.auto.buffer in
+    record { few = c.in_ok-least.ensures.few; room = omega (arith, few_bytes c.in_ok-least.width (length c.args.row.now) c.in_ok-least.ensures.few, c.requires.room, size) }
+
+pub returns-in-Ok-clause-len : goal.returns-in-Ok-clause-len
+returns-in-Ok-clause-len g c = c.in-Ok.ensures.len ∙ c.take_excesses.ensures.len
+
+pub returns-in-Ok-clause-buffer : goal.returns-in-Ok-clause-buffer
+returns-in-Ok-clause-buffer g c = same_len_mid 0 _ c.args.buffer.now c.fill.new.buffer c.fill.auto.buffer
 
 pub returns-in-Ok-clause-ok : goal.returns-in-Ok-clause-ok
 returns-in-Ok-clause-ok g c =
@@ -27,6 +90,15 @@ returns-in-Ok-clause-ok g c =
     let to = g.R.Read.remaining (inlet_reader c.fill.new.inlet) in
     subst (Consumes from to) c.in-Ok.ensures.own (raised_consumed from (g.R.Read.remaining (inlet_reader c.read_form.new.inlet)) to c.in_ok-least.least w over filled c.in_ok-least.ensures.ok c.in_ok-fill.ensures.ok text)
 
+pub returns-in-Ok-clause-failures : goal.returns-in-Ok-clause-failures
+returns-in-Ok-clause-failures g c = omega (arith, c.in_ok-fill.ensures.failures, c.in_ok-least.ensures.failures)
+
+pub returns-in-Err-clause-len : goal.returns-in-Err-clause-len
+returns-in-Err-clause-len g c = c.in-Err.ensures.len ∙ c.take_excesses.ensures.len
+
+pub returns-in-Err-clause-buffer : goal.returns-in-Err-clause-buffer
+returns-in-Err-clause-buffer g c = same_len_mid 0 _ c.args.buffer.now c.fill.new.buffer c.fill.auto.buffer
+
 pub returns-in-Err-clause-reason : goal.returns-in-Err-clause-reason
 returns-in-Err-clause-reason g c =
     let over = c.take_excesses.new.row in
@@ -36,3 +108,6 @@ returns-in-Err-clause-reason g c =
     let text = sym (written_back filled _ (w * length over) (omega (arith, c.fill.auto.buffer, size))) ∙ c.take_excesses.ensures.text in
     raised_first (g.R.Read.remaining (inlet_reader c.args.inlet.now)) (g.R.Read.remaining (inlet_reader c.fill.new.inlet)) (length c.args.row.now) c.args.level c.in_ok-least.least w over c.in-Err.reason
     (raised_consumed (g.R.Read.remaining (inlet_reader c.args.inlet.now)) (g.R.Read.remaining (inlet_reader c.read_form.new.inlet)) (g.R.Read.remaining (inlet_reader c.fill.new.inlet)) c.in_ok-least.least w over filled c.in_ok-least.ensures.ok c.in_ok-fill.ensures.ok text) c.take_excesses.ensures.len c.requires.some (omega arith) c.in_ok-least.ensures.few c.take_excesses.ensures.below c.in-Err.ensures.reason
+
+pub returns-in-Err-clause-failures : goal.returns-in-Err-clause-failures
+returns-in-Err-clause-failures g c = omega (arith, c.in_ok-fill.ensures.failures, c.in_ok-least.ensures.failures)

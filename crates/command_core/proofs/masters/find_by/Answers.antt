@@ -23,3 +23,6 @@ pub returns-in-Err-FileRefused-clause-found : goal.returns-in-Err-FileRefused-cl
 returns-in-Err-FileRefused-clause-found g c =
     let left = g.R.Read.remaining (inlet_reader c.args.inlet.now) in
     left_refused left (subst (IsOutlineFault left) c.in-Err-FileRefused.field-0-is c.in-Err-FileRefused.ensures.fault)
+
+pub returns-in-Err-Memory-clause-found : goal.returns-in-Err-Memory-clause-found
+returns-in-Err-Memory-clause-found g c = tt

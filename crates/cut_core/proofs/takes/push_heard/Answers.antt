@@ -1,4 +1,4 @@
-use Rattle.std.proofs.Common.{length, subst}
+use Rattle.std.proofs.Common.{inl, length, refl, subst}
 use Rattle.std.proofs.lemmas.Result.{err_from_is_err_and}
 use Rattle.cut_core.specs.Opening.{HearsTake, HearsTakes, IsOfTake, IsOfTakes, take_in, takes_before}
 use Rattle.cut_core.proofs.HearingLaws.{none_more, not_more, of_more, one_more}
@@ -21,3 +21,6 @@ returns-in-Ok-clause-heard c = λ splice files file before next.
 pub returns-in-Ok-clause-of : goal.returns-in-Ok-clause-of
 returns-in-Ok-clause-of c = λ splice n before next.
     of_more splice n c.in_ok-takes.takes.items c.push.new.self.items c.in_ok-next.field-0 c.in-Ok.ensures.items (subst (λ t. IsOfTakes splice n t) c.in_ok-takes.was before) (subst (λ t. IsOfTake splice n t) c.in_ok-next.was next)
+
+pub returns-in-Err-clause-heard : goal.returns-in-Err-clause-heard
+returns-in-Err-clause-heard c = λ splice files file before next. inl refl

@@ -1,10 +1,15 @@
-use Rattle.std.proofs.Common.{◌≡◌, ◌<◌, ◌^◌, ◌∙◌, [], length, map, ap, refl, sym, rules, arith}
+use Rattle.std.proofs.Common.{◌≡◌, ◌<◌, ◌^◌, ◌∙◌, [], Ok, length, map, ap, refl, replicate, sym, subst, rules, arith}
+use Rattle.std.proofs.lemmas.Result.{err_from_is_err_and}
 use Rattle.std.proofs.lemmas.List.Elements.{All-map}
 use Rattle.chunk_core.specs.Places.{span_chunk}
 use Rattle.dsd_bits.specs.Contents.{MarkContent, mark_content, other_content}
 use Rattle.dsd_bits.specs.Lacing.{unlaced_all}
 use Rattle.dsd_bits.specs.Layouts.{usual_layout}
-use Rattle.dsdiff_core.specs.Outlines.{around_of, inner_around, others_around, top_around}
+use Rattle.dsdiff_core.specs.Outlines.{around_of, inner_around, others_around, outline_of, top_around}
+use Rattle.dsdiff_core.specs.Properties.{property_of, told_of}
+use Rattle.dsdiff_core.specs.Steps.{Fails}
+use Rattle.dsdiff_core.proofs.JoinedSteps.{step_then, fails_then}
+use Rattle.dsdiff_core.proofs.Steps.{step_fails}
 use Rattle.dsdiff_core.proofs.ShapeLaws.{shape_is, silent}
 use Rattle.dsdiff_core.proofs.outlining.read_outline.Goals as goal
 
@@ -25,3 +30,41 @@ new-requires-2 c =
           c.in_ok-told.ensures.rate.0 c.in_ok-told.ensures.rate.1 c.in_ok-told.ensures.number.0 c.in_ok-told.ensures.number.1 refl made (omega arith) usual
           (All-map (λ (m : MarkContent). length m.text < 2 ^ 32) mark_content c.in_ok-marks.marks.items c.in_ok-marks.ensures.short) others;
     }
+
+pub returns-in_err-around : goal.returns-in_err-around
+unfolding outline_of
+returns-in_err-around c =
+    let e = err_from_is_err_and c.from_residual.result c.from_residual.ensures.1 in
+    rw (e.1, e.2) (step_fails c.in_err-around.field-0.0 _ _ c.in_err-around.ensures.exact)
+
+pub returns-in_err-told : goal.returns-in_err-told
+unfolding outline_of
+returns-in_err-told c =
+    let e = err_from_is_err_and c.from_residual-in_err-told.result c.from_residual-in_err-told.ensures.1 in
+    rw (e.1, e.2) (fails_then _ _ _ _ c.in_ok-around.ensures.exact (step_fails c.in_err-told.field-0.0 _ _ (subst (λ top. Fails c.in_err-told.field-0.0 (property_of c.args.front.now top)) c.deref.ensures.value c.in_err-told.ensures.exact)))
+
+pub returns-in_err-channels : goal.returns-in_err-channels
+returns-in_err-channels c =
+    let e = err_from_is_err_and c.from_residual-in_err-channels.result c.from_residual-in_err-channels.ensures.1 in
+    rw (e.1, e.2) tt
+
+pub returns-in_err-marks : goal.returns-in_err-marks
+returns-in_err-marks c =
+    let e = err_from_is_err_and c.from_residual-in_err-marks.result c.from_residual-in_err-marks.ensures.1 in
+    rw (e.1, e.2) tt
+
+pub returns-in_err-others : goal.returns-in_err-others
+returns-in_err-others c =
+    let e = err_from_is_err_and c.from_residual-in_err-others.result c.from_residual-in_err-others.ensures.1 in
+    rw (e.1, e.2) tt
+
+pub returns : goal.returns
+unfolding outline_of
+returns c =
+    let long : c.len-number.result ≡ length c.in_ok-told.told.ids.items = search rules in
+    let told = subst (λ top. property_of c.args.front.now top ≡ Ok (told_of c.in_ok-told.told)) c.deref.ensures.value c.in_ok-told.ensures.exact in
+    let channels = c.in_ok-channels.ensures ∙ ap (λ n. replicate n []) long in
+    let layout : c.usual_layout.result ≡ usual_layout (length c.in_ok-told.told.ids.items) = search rules in
+    let others = subst (λ parts. map other_content c.in_ok-others.others.items ≡ others_around c.args.front.now c.args.back.now parts (around_of c.in_ok-around.around)) c.deref-2.ensures.value c.in_ok-others.ensures in
+    let tag : c.new.result.items ≡ [] = search rules in
+    step_then _ _ _ _ c.in_ok-around.ensures.exact (step_then _ _ _ _ told (ap Ok (sym (c.new-2.ensures ∙ rw (channels, layout, c.in_ok-marks.ensures.marks, others, tag) refl))))

@@ -1,6 +1,6 @@
-use Rattle.std.proofs.Common.{◌≡◌, ℕ, ◌+◌, ◌-◌, ◌*◌, ◌/◌, ◌<◌, ◌≤◌, arith, length, subst}
+use Rattle.std.proofs.Common.{◌≡◌, ℕ, ◌+◌, ◌-◌, ◌*◌, ◌/◌, ◌<◌, ◌≤◌, arith, length, refl, subst}
 use Rattle.fir_core.specs.Rows.{IsBlock, IsSpot}
-use Rattle.fir_core.proofs.RowLaws.{begins_behind, ends_before, window_reaches}
+use Rattle.fir_core.proofs.RowLaws.{begins_behind, ends_before, window_before, window_reaches}
 use Rattle.fir_core.proofs.rows.block_of.Goals as goal
 use Rattle.fir_core.proofs.rows.block_of.Goals.{After-min}
 
@@ -98,3 +98,27 @@ pub returns-clause-back : goal.returns-clause-back
 returns-clause-back c =
     subst (λ (p : ℕ). IsBlock c.args.taps.now c.args.bytes.now c.args.rows.step p c.saturating_sub-start.result (c.min.result - c.saturating_sub-start.result) c.four_of-2.result.one.now c.four_of-2.result.two.now c.four_of-2.result.three.now c.four_of-2.result.four.now)
     (fifth (goal.at.returns-clause-back c).After-min) (rw (← c.spots_from-back.ensures.one) c.four_of-2.ensures)
+
+pub spots_from-front-requires-clause-spot : goal.spots_from-front-requires-clause-spot
+spots_from-front-requires-clause-spot c = c.requires.spot
+
+pub spots_from-back-requires-clause-spot : goal.spots_from-back-requires-clause-spot
+spots_from-back-requires-clause-spot c = c.next.ensures.spot
+
+pub overflow_add-behind : goal.overflow_add-behind
+overflow_add-behind c = omega (arith, window_before _ _ _ _ c.spots_from-back.ensures.four, c.next.ensures.p, c.spots_from-front.ensures.places, c.requires.within)
+
+pub returns-clause-p : goal.returns-clause-p
+returns-clause-p c = refl
+
+pub returns-clause-step : goal.returns-clause-step
+returns-clause-step c = refl
+
+pub returns-clause-front : goal.returns-clause-front
+returns-clause-front c = rw (← c.spots_from-front.ensures.one) c.four_of.ensures
+
+pub returns-clause-next : goal.returns-clause-next
+returns-clause-next c = omega (arith, c.next-2.ensures.p, c.spots_from-back.ensures.places, fifth (goal.at.returns-clause-next c).After-min)
+
+pub returns-clause-spot : goal.returns-clause-spot
+returns-clause-spot c = c.next-2.ensures.spot

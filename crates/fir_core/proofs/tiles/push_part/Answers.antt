@@ -1,15 +1,21 @@
-use Rattle.std.proofs.Common.{◌≡◌, ℕ, ◌+◌, ◌*◌, Bool, List, ◌++◌, ◌∙◌, ap, ap₂, arith, length, sym}
+use Rattle.std.proofs.Common.{◌≡◌, ℕ, ◌+◌, ◌*◌, ◌^◌, ◌≤◌, Bool, List, ◌++◌, ◌∙◌, ap, ap₂, arith, length, sym}
+use Rattle.std.proofs.lemmas.Result.{err_from_is_err_and}
 use Rattle.dsd_bits.specs.Packing.{unpacked}
 use Rattle.fir_core.specs.Places.{samples_from}
 use Rattle.fir_core.proofs.TileLaws.{numbered, numbers_reach, whole_step}
 use Rattle.fir_core.proofs.tiles.push_part.Goals as goal
+use Rattle.fir_core.proofs.tiles.push_part.Goals.{After-factor}
+
+-- where its samples end
+reaches : (c : After-factor) → c.args.number * c.args.taps.now.factor + (c.args.start * c.args.taps.now.factor + c.args.taps.now.delay) ≤ 2 ^ 37
+reaches c =
+    let d = c.args.taps.now in
+    let limits = c.factor.ensures.limits in
+    numbers_reach c.args.start c.args.number (length c.args.bits.now) d.factor d.delay (omega (arith, limits.least_factor)) limits.greatest_factor (omega (arith, limits.delay_in_taps, limits.few_taps)) c.len-count.ensures.in_limit c.requires.within
 
 pub push_samples-requires-clause-reach : goal.push_samples-requires-clause-reach
 push_samples-requires-clause-reach c =
-    let d = c.args.taps.now in
-    let limits = c.factor.ensures.limits in
-    rw (c.factor.ensures.value, ap (λ f. f.delay) c.taps.view_is)
-    (numbers_reach c.args.start c.args.number (length c.args.bits.now) d.factor d.delay (omega (arith, limits.least_factor)) limits.greatest_factor (omega (arith, limits.delay_in_taps, limits.few_taps)) c.len-count.ensures.in_limit c.requires.within)
+    rw (c.factor.ensures.value, ap (λ f. f.delay) c.taps.view_is) (reaches (goal.at.push_samples-requires-clause-reach c).After-factor)
 
 pub push_samples-requires-clause-phase : goal.push_samples-requires-clause-phase
 push_samples-requires-clause-phase c =
@@ -23,3 +29,24 @@ returns-clause-ok c =
     let place : c.args.start * c.factor.result + c.taps.inside.delay ≡ c.args.start * d.factor + d.delay = ap₂ (λ (x y : ℕ). c.args.start * x + y) c.factor.ensures.value (ap (λ f. f.delay) c.taps.view_is) in
     c.in_ok-push_samples.ensures.ok
     ∙ ap (λ xs. c.args.out.now.items ++ xs) (ap₂ (λ (bs : List Bool) (n : ℕ). samples_from d bs n c.args.number) bits place ∙ numbered d c.args.bits.now c.args.start c.args.number)
+
+pub overflow_mul-first : goal.overflow_mul-first
+overflow_mul-first c = rw c.factor.ensures.value (omega (arith, reaches (goal.at.overflow_mul-first c).After-factor))
+
+pub overflow_add-first : goal.overflow_add-first
+overflow_add-first c = rw (c.factor.ensures.value, ap (λ f. f.delay) c.taps.view_is) (omega (arith, reaches (goal.at.overflow_add-first c).After-factor))
+
+pub push_samples-requires-clause-enough : goal.push_samples-requires-clause-enough
+push_samples-requires-clause-enough c = omega (arith, c.len-count.ensures.value)
+
+pub push_samples-requires-clause-tables : goal.push_samples-requires-clause-tables
+push_samples-requires-clause-tables c = c.requires.tables
+
+pub returns-in_err-push_samples-clause-ok : goal.returns-in_err-push_samples-clause-ok
+returns-in_err-push_samples-clause-ok c = let e = err_from_is_err_and c.from_residual.result c.from_residual.ensures.1 in rw e.1 tt
+
+pub returns-in_err-push_samples-clause-err : goal.returns-in_err-push_samples-clause-err
+returns-in_err-push_samples-clause-err c = let e = err_from_is_err_and c.from_residual.result c.from_residual.ensures.1 in rw e.1 c.in_err-push_samples.ensures.err
+
+pub returns-clause-err : goal.returns-clause-err
+returns-clause-err c = tt

@@ -1,7 +1,39 @@
-use Rattle.std.proofs.Common.{◌*◌, arith, length, pos}
+use Rattle.std.proofs.Common.{ℕ, ◌*◌, ◌∙◌, ap, arith, get_or, length, length-drop, pos, refl}
+use Rattle.std.proofs.lemmas.List.{take_rest}
 use Rattle.std.proofs.lemmas.List.FromFn.{fill_by_all}
+use Rattle.fir_core.specs.Signed.{bits_of, dot}
 use Rattle.fir_core.specs.Windows.{window_sum}
+use Rattle.fir_core.proofs.InPlace.{one_more}
 use Rattle.fir_core.proofs.tiles.sum_windows.Goals as goal
+
+pub overflow_mul-i : goal.overflow_mul-i
+overflow_mul-i c = omega (arith, c.requires.within c.loop-i.i (omega (arith, c.loop-i.auto.sums)))
+
+pub slice_bounds-dot_by_lanes-count : goal.slice_bounds-dot_by_lanes-count
+slice_bounds-dot_by_lanes-count c = omega (arith, c.requires.within c.loop-i.i (omega (arith, c.loop-i.auto.sums)))
+
+pub slice_bounds-dot_by_lanes-start : goal.slice_bounds-dot_by_lanes-start
+slice_bounds-dot_by_lanes-start c = omega (arith, c.requires.within c.loop-i.i (omega (arith, c.loop-i.auto.sums)))
+
+pub dot_by_lanes-requires-clause-enough : goal.dot_by_lanes-requires-clause-enough
+dot_by_lanes-requires-clause-enough c =
+    let at = c.loop-i.i * c.args.step in
+    rw (take_rest c.args.bytes.now at) (omega (arith, length-drop at c.args.bytes.now, c.requires.within c.loop-i.i (omega (arith, c.loop-i.auto.sums)), c.requires.whole))
+
+pub dot_by_lanes-requires-clause-small : goal.dot_by_lanes-requires-clause-small
+dot_by_lanes-requires-clause-small c = c.requires.small
+
+pub bounds-sums-i : goal.bounds-sums-i
+bounds-sums-i c = omega arith
+
+pub loop-i-init : goal.loop-i-init
+loop-i-init c = λ k h. absurd (omega (arith, h))
+
+pub loop-i-preserved : goal.loop-i-preserved
+loop-i-preserved c =
+    let done = λ (k : ℕ). window_sum c.args.taps.now c.args.bytes.now (k * c.args.step) in
+    let is = c.dot_by_lanes.ensures ∙ ap (λ bs. dot c.args.taps.now (bits_of bs)) (take_rest c.args.bytes.now (c.loop-i.i * c.args.step)) in
+    one_more done (λ k. get_or c.loop-i.sums k (pos 0)) c.loop-i.sums c.loop-i.i c.dot_by_lanes.result (omega arith) (record { sfits = c.dot_by_lanes.type_inv }) is c.loop-i.invariant (λ k h l. refl)
 
 pub returns : goal.returns
 returns c =

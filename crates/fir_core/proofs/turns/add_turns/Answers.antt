@@ -1,9 +1,46 @@
-use Rattle.std.proofs.Common.{◌≡◌, ◌+◌, ◌/◌, ◌∙◌, ap, arith, length, w32}
+use Rattle.std.proofs.Common.{◌≡◌, ℕ, ◌+◌, ◌/◌, ◌∙◌, ap, arith, length, refl, sym, w32}
 use Rattle.std.specs.Int.{int_wrap}
 use Rattle.dsd_bits.specs.Sums.{sum_below}
 use Rattle.fir_core.specs.Turns.{turn_sum}
-use Rattle.fir_core.proofs.TurnLaws.{all_turns_fit, reach_within}
+use Rattle.fir_core.proofs.TurnLaws.{all_turns_fit, reach_within, sum_next, wrapped_zero}
 use Rattle.fir_core.proofs.turns.add_turns.Goals as goal
+
+pub loop-s-init : goal.loop-s-init
+loop-s-init g c = record { long = refl; sums = λ j h. c.requires.zeros (j + 7) (omega (arith, h)) ∙ sym wrapped_zero }
+
+pub add_turn-requires-clause-laid : goal.add_turn-requires-clause-laid
+add_turn-requires-clause-laid g c = c.requires.laid
+
+pub add_turn-requires-clause-some : goal.add_turn-requires-clause-some
+add_turn-requires-clause-some g c = c.requires.some
+
+pub add_turn-requires-clause-few : goal.add_turn-requires-clause-few
+add_turn-requires-clause-few g c = c.requires.few
+
+pub add_turn-requires-clause-span : goal.add_turn-requires-clause-span
+add_turn-requires-clause-span g c = c.requires.span
+
+pub add_turn-requires-clause-turn : goal.add_turn-requires-clause-turn
+add_turn-requires-clause-turn g c = omega arith
+
+pub add_turn-requires-clause-room : goal.add_turn-requires-clause-room
+add_turn-requires-clause-room g c = omega (arith, c.loop-s.invariant.long, c.requires.room)
+
+pub add_turn-requires-clause-enough : goal.add_turn-requires-clause-enough
+add_turn-requires-clause-enough g c = rw c.loop-s.invariant.long c.requires.enough
+
+pub loop-s-preserved : goal.loop-s-preserved
+loop-s-preserved g c =
+    let turn = λ (i s : ℕ). turn_sum c.args.taps.now c.args.bytes.now c.args.rows.step c.args.rows.span g.row.N s i in
+    record {
+      long = c.add_turn.ensures.len ∙ c.loop-s.invariant.long;
+      sums = λ j h.
+          c.add_turn.ensures.added (j + 7) (omega arith) (omega (arith, h, c.loop-s.invariant.long)) (sum_below c.loop-s.s (turn (j + 7))) (c.loop-s.invariant.sums j h)
+          ∙ ap (int_wrap w32) (sym (sum_next c.loop-s.s (turn (j + 7))));
+    }
+
+pub returns-clause-len : goal.returns-clause-len
+returns-clause-len g c = c.loop-s.invariant.long
 
 pub returns-clause-sums : goal.returns-clause-sums
 returns-clause-sums g c = λ j below.

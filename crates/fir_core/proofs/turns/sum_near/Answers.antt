@@ -26,6 +26,63 @@ sum_rows-requires-then-back-gt0-clause-within g c = λ i h.
     let last = c.requires.within (i + c.min-many.result) (omega (arith, h, c.split_at_mut-front.ensures.back_len)) in
     rw (take_rest c.args.bytes.now at) (omega (arith, length-drop at c.args.bytes.now, last))
 
+pub nonzero_div-steps : goal.nonzero_div-steps
+nonzero_div-steps g c = omega (arith, c.requires.laid.least)
+
+pub overflow_mul-saturating_sub : goal.overflow_mul-saturating_sub
+overflow_mul-saturating_sub g c = omega (arith, c.requires.few)
+
+pub overflow_add-saturating_sub : goal.overflow_add-saturating_sub
+overflow_add-saturating_sub g c = omega (arith, c.requires.few)
+
+pub sum_rows-requires : goal.sum_rows-requires
+sum_rows-requires g c = record { laid = c.requires.laid; some = c.requires.some_sums; within = c.requires.within }
+
+pub returns-then-many-eq0 : goal.returns-then-many-eq0
+returns-then-many-eq0 g c = c.sum_rows.ensures
+
+pub split_at_mut-front-requires : goal.split_at_mut-front-requires
+split_at_mut-front-requires g c = omega (arith, c.min.ensures, c.min-many.ensures)
+
+pub sum_front-requires-clause-laid : goal.sum_front-requires-clause-laid
+sum_front-requires-clause-laid g c = c.requires.laid
+
+pub sum_front-requires-clause-few : goal.sum_front-requires-clause-few
+sum_front-requires-clause-few g c = c.requires.few
+
+pub sum_front-requires-clause-tile : goal.sum_front-requires-clause-tile
+sum_front-requires-clause-tile g c = omega (arith, c.split_at_mut-front.ensures.front_len, c.min-many.ensures)
+
+pub overflow_mul-many : goal.overflow_mul-many
+overflow_mul-many g c = omega (arith, c.requires.within c.min-many.result (omega (arith, c.split_at_mut-front.ensures.back_len)))
+
+pub slice_bounds-sum_rows-count : goal.slice_bounds-sum_rows-count
+slice_bounds-sum_rows-count g c = omega (arith, c.requires.within c.min-many.result (omega (arith, c.split_at_mut-front.ensures.back_len)))
+
+pub slice_bounds-sum_rows-start : goal.slice_bounds-sum_rows-start
+slice_bounds-sum_rows-start g c = omega (arith, c.requires.within c.min-many.result (omega (arith, c.split_at_mut-front.ensures.back_len)))
+
+pub sum_rows-requires-then-back-gt0-clause-laid : goal.sum_rows-requires-then-back-gt0-clause-laid
+sum_rows-requires-then-back-gt0-clause-laid g c = c.requires.laid
+
+pub sum_rows-requires-then-back-gt0-clause-some : goal.sum_rows-requires-then-back-gt0-clause-some
+sum_rows-requires-then-back-gt0-clause-some g c = omega arith
+
+pub returns-else-back-gt0 : goal.returns-else-back-gt0
+returns-else-back-gt0 g c =
+    let hs = c.args.taps.now in
+    let bytes = c.args.bytes.now in
+    let step = c.args.rows.step in
+    let many = c.min-many.result in
+    let back = c.split_at_mut-front.result.1.now in
+    let none : length back ≡ 0 = omega arith in
+    let whole : many + length back ≡ length c.args.sums.now = omega (arith, c.split_at_mut-front.ensures.back_len, c.min.ensures, c.min-many.ensures) in
+    sums_joined hs bytes step many (length back) c.sum_front.new.sums back
+    (c.sum_front.ensures ∙ ap (window_sums hs bytes step) c.split_at_mut-front.ensures.front_len)
+    refl
+    (λ i h. absurd (omega (arith, h, none)))
+    ∙ ap (window_sums hs bytes step) whole
+
 pub returns-then-back-gt0 : goal.returns-then-back-gt0
 returns-then-back-gt0 g c =
     let hs = c.args.taps.now in

@@ -81,3 +81,24 @@ returns-clause-ok g c =
     let claims = chosen_claims c.args.cut.now made.places.items made.chosen.items in
     let all : take c.loop-k.k claims ≡ claims = take_all c.loop-k.k claims (omega (arith, c.loop-k-test.false, c.len-k-end.ensures, made.places.ok.0, claim_number c.args.cut.now made c.requires.bridges)) in
     subst (λ (l : List Claim). AppendsEntries l (g.W.Write.contents (outlet_writer (cert_outlet c.args.writer.now))) (g.W.Write.contents (outlet_writer (cert_outlet c.loop-k.writer)))) all c.loop-k.invariant.written
+
+pub returns-in_err-write_entry-clause-ok : goal.returns-in_err-write_entry-clause-ok
+returns-in_err-write_entry-clause-ok g c = let e = err_from_is_err_and c.from_residual.result c.from_residual.ensures.1 in rw e.1 tt
+
+pub returns-in_err-write_entry-clause-failed : goal.returns-in_err-write_entry-clause-failed
+returns-in_err-write_entry-clause-failed g c = let e = err_from_is_err_and c.from_residual.result c.from_residual.ensures.1 in rw e.1 c.in_err-write_entry.ensures.failed
+
+pub returns-in_err-write_entry-clause-before : goal.returns-in_err-write_entry-clause-before
+returns-in_err-write_entry-clause-before g c = c.write_entry.ensures.before ∙ c.loop-k.invariant.before
+
+pub write_entry-requires-clause-entries : goal.write_entry-requires-clause-entries
+write_entry-requires-clause-entries g c = omega (arith, c.loop-k.invariant.left, there g (goal.at.write_entry-requires-clause-entries g c).After-index-in-loop-k)
+
+pub returns-clause-err : goal.returns-clause-err
+returns-clause-err g c = tt
+
+pub returns-clause-failed : goal.returns-clause-failed
+returns-clause-failed g c = c.loop-k.invariant.ready.fine
+
+pub returns-clause-before : goal.returns-clause-before
+returns-clause-before g c = c.loop-k.invariant.before

@@ -1,5 +1,7 @@
-use Rattle.std.proofs.Common.{◌≡◌, ◌∙◌, ap, subst}
+use Rattle.std.proofs.Common.{false, ◌≡◌, ◌-◌, ◌^◌, ◌∙◌, ap, arith, length, subst, sym}
 use Rattle.std.specs.Io.KnownBytes.{Appends}
+use Rattle.cost_core.specs.Bridges.{Bridging}
+use Rattle.cost_core.specs.Limits.{IsBridging}
 use Rattle.cost_core.specs.StateCosts.{trellis_of}
 use Rattle.cert_core.specs.Spelling.{row_text, version_number, version_of}
 use Rattle.cert_core.specs.Text.{entry_start}
@@ -8,10 +10,14 @@ use Rattle.cert_core.specs.declared.version.Version.{Version}
 use Rattle.cert_core.specs.declared.version.Version.TheVariants.{Two}
 use Rattle.device_core.specs.Outlets.{AppendsPart, outlet_writer}
 use Rattle.trellis_core.specs.Handing.{HandsOverAll, HandsOverUpTo, cut_spelling}
+use Rattle.trellis_core.specs.Passes.{HasBuffers}
 use Rattle.master_core.proofs.CertLaws.{cut_in_cost, cut_in_rows, cut_in_start, entry_whole, failed_write, part_is_front}
 use Rattle.master_core.proofs.certifying.write_entry.Given.{Over}
 use Rattle.master_core.proofs.certifying.write_entry.Goals as goal
 use Rattle.master_core.proofs.certifying.write_entry.Goals.{In-Ok, In-Ok-hand_cut}
+
+width_is : (d : Bridging) → IsBridging d → length d.weights - 1 ≡ length d.preceding
+width_is d limits = omega (arith, limits.before)
 
 -- the start of the entry was written
 started : (g : Over) (c : In-Ok g) → Appends (g.W.Write.contents (outlet_writer (cert_outlet c.args.writer.now))) (g.W.Write.contents (outlet_writer (cert_outlet c.begin_bridge.new.self))) (entry_start c.args.place.cue c.args.place.channel c.args.window.now.levels)
@@ -65,3 +71,105 @@ returns-clause-ok g c =
     let at = goal.at.returns-clause-ok g c in
     entry_whole c.cut_rows_are_valid.ensures c.args.window.now c.length-length.ensures.limits c.args.place.cue c.args.place.channel x.bits c.requires.chosen.first_least.is_least x.cost c.requires.chosen.cost_is _ _ _ _
     (started g at.In-Ok) (rows_written g at.In-Ok-hand_cut (version_is g at.In-Ok)) c.in-Ok-end_bridge.ensures.ok
+
+pub returns-in_default-clause-ok : goal.returns-in_default-clause-ok
+returns-in_default-clause-ok g c = tt
+
+pub returns-in_default-clause-ready : goal.returns-in_default-clause-ready
+returns-in_default-clause-ready g c = tt
+
+pub returns-in_default-clause-left : goal.returns-in_default-clause-left
+returns-in_default-clause-left g c = tt
+
+pub returns-in_default-clause-room : goal.returns-in_default-clause-room
+returns-in_default-clause-room g c = tt
+
+pub returns-in_default-clause-failed : goal.returns-in_default-clause-failed
+returns-in_default-clause-failed g c = c.in_default.ensures.refused
+
+pub returns-in_default-clause-before : goal.returns-in_default-clause-before
+returns-in_default-clause-before g c = ap (λ (s : Stage). s.failures) c.in_default.ensures.kept
+
+pub returns-in_default-hand_cut-clause-ok : goal.returns-in_default-hand_cut-clause-ok
+returns-in_default-hand_cut-clause-ok g c = tt
+
+pub returns-in_default-hand_cut-clause-ready : goal.returns-in_default-hand_cut-clause-ready
+returns-in_default-hand_cut-clause-ready g c = tt
+
+pub returns-in_default-hand_cut-clause-left : goal.returns-in_default-hand_cut-clause-left
+returns-in_default-hand_cut-clause-left g c = tt
+
+pub returns-in_default-hand_cut-clause-room : goal.returns-in_default-hand_cut-clause-room
+returns-in_default-hand_cut-clause-room g c = tt
+
+pub returns-in_default-hand_cut-clause-failed : goal.returns-in_default-hand_cut-clause-failed
+returns-in_default-hand_cut-clause-failed g c = c.in_default-hand_cut.ensures.refused
+
+pub returns-in_default-hand_cut-clause-before : goal.returns-in_default-hand_cut-clause-before
+returns-in_default-hand_cut-clause-before g c = ap (λ (s : Stage). s.failures) (c.hand_cut.ensures.kept ∙ c.in-Ok.ensures.begun)
+
+pub returns-in_default-end_bridge-clause-ok : goal.returns-in_default-end_bridge-clause-ok
+returns-in_default-end_bridge-clause-ok g c = tt
+
+pub returns-in_default-end_bridge-clause-ready : goal.returns-in_default-end_bridge-clause-ready
+returns-in_default-end_bridge-clause-ready g c = tt
+
+pub returns-in_default-end_bridge-clause-left : goal.returns-in_default-end_bridge-clause-left
+returns-in_default-end_bridge-clause-left g c = tt
+
+pub returns-in_default-end_bridge-clause-room : goal.returns-in_default-end_bridge-clause-room
+returns-in_default-end_bridge-clause-room g c = tt
+
+pub returns-in_default-end_bridge-clause-failed : goal.returns-in_default-end_bridge-clause-failed
+returns-in_default-end_bridge-clause-failed g c = c.in_default-end_bridge.ensures.refused
+
+pub returns-in_default-end_bridge-clause-before : goal.returns-in_default-end_bridge-clause-before
+returns-in_default-end_bridge-clause-before g c = ap (λ (s : Stage). s.failures) (c.in_default-end_bridge.ensures.kept ∙ c.hand_cut.ensures.kept ∙ c.in-Ok.ensures.begun)
+
+pub returns-clause-err : goal.returns-clause-err
+returns-clause-err g c = tt
+
+pub returns-clause-ready : goal.returns-clause-ready
+returns-clause-ready g c =
+    let s = c.in-Ok-end_bridge.ensures.ended ∙ ap (λ (s : Stage). record s { is_open = false }) (c.hand_cut.ensures.kept ∙ c.in-Ok.ensures.begun) in
+    record {
+      version_is = ap (λ (s : Stage). s.version) s ∙ c.requires.ready.version_is;
+      weights_are = ap (λ (s : Stage). s.weights) s ∙ c.requires.ready.weights_are;
+      begun = ap (λ (s : Stage). s.has_head) s ∙ c.requires.ready.begun;
+      closed = ap (λ (s : Stage). s.is_open) s;
+      fine = c.in-Ok-end_bridge.ensures.refused;
+    }
+
+pub returns-clause-left : goal.returns-clause-left
+returns-clause-left g c =
+    let s = c.in-Ok-end_bridge.ensures.ended ∙ ap (λ (s : Stage). record s { is_open = false }) (c.hand_cut.ensures.kept ∙ c.in-Ok.ensures.begun) in
+    omega (arith, ap (λ (s : Stage). s.entries_left) s, c.requires.entries)
+
+pub returns-clause-room : goal.returns-clause-room
+returns-clause-room g c = subst (λ n. HasBuffers (2 ^ n) c.hand_cut.new.room) (sym (width_is c.args.window.now c.length-length.ensures.limits)) c.in-Ok-hand_cut.ensures.buffers
+
+pub returns-clause-failed : goal.returns-clause-failed
+returns-clause-failed g c = c.in-Ok-end_bridge.ensures.refused
+
+pub returns-clause-before : goal.returns-clause-before
+returns-clause-before g c = ap (λ (s : Stage). s.failures) (c.in-Ok-end_bridge.ensures.ended ∙ ap (λ (s : Stage). record s { is_open = false }) (c.hand_cut.ensures.kept ∙ c.in-Ok.ensures.begun))
+
+pub hand_cut-requires-clause-buffers : goal.hand_cut-requires-clause-buffers
+hand_cut-requires-clause-buffers g c = subst (λ n. HasBuffers (2 ^ n) c.args.pass.now) (width_is c.args.window.now c.length-length.ensures.limits) c.requires.room
+
+pub hand_cut-requires-clause-rows : goal.hand_cut-requires-clause-rows
+hand_cut-requires-clause-rows g c = rw c.in-Ok.ensures.refused (omega (arith, c.in-Ok.ensures.rows, c.length-length.ensures.value))
+
+pub hand_cut-requires-clause-row_length : goal.hand_cut-requires-clause-row_length
+hand_cut-requires-clause-row_length g c =
+    let weights = ap (λ (s : Stage). s.weights) c.in-Ok.ensures.begun ∙ c.requires.ready.weights_are in
+    ap (λ n. 2 ^ n) (ap (λ n. n - 1) weights ∙ width_is c.args.window.now c.length-length.ensures.limits)
+
+pub hand_cut-requires-clause-ready : goal.hand_cut-requires-clause-ready
+hand_cut-requires-clause-ready g c = c.in-Ok.ensures.refused
+
+pub end_bridge-requires-clause-open : goal.end_bridge-requires-clause-open
+end_bridge-requires-clause-open g c = λ fine. ap (λ (s : Stage). s.is_open) (c.hand_cut.ensures.kept ∙ c.in-Ok.ensures.begun)
+
+pub end_bridge-requires-clause-rows : goal.end_bridge-requires-clause-rows
+end_bridge-requires-clause-rows g c = λ fine. omega (arith, rw (c.in-Ok-hand_cut.ensures.refused, c.in-Ok.ensures.refused) at c.in-Ok-hand_cut.ensures.rows_left, c.in-Ok.ensures.rows, c.length-length.ensures.value)

@@ -1,8 +1,13 @@
-use Rattle.std.proofs.Common.{◌≡◌, ◌<◌, ◌∙◌, arith, get_or, length, refl, subst, sym}
+use Rattle.std.proofs.Common.{◌≡◌, ◌<◌, ◌∙◌, List, ap, arith, get_or, length, map, refl, subst, sym, take}
+use Rattle.std.specs.List.{AllZip}
+use Rattle.std.proofs.lemmas.List.{take_all}
 use Rattle.std.proofs.lemmas.List.Elements.{All-nil, All-push}
+use Rattle.std.proofs.lemmas.Result.{err_from_is_err_and}
 use Rattle.cost_core.specs.Bridges.{Bridging}
 use Rattle.cost_core.specs.Limits.{IsBridging}
-use Rattle.master_core.specs.Choosing.{IsChosen, IsChosenAt}
+use Rattle.cut_core.specs.Bridges.{IsPlace}
+use Rattle.cut_core.specs.declared.bridges.BridgePlace.{BridgePlace}
+use Rattle.master_core.specs.Choosing.{IsChosen, IsChosenAt, window_at}
 use Rattle.master_core.proofs.ChoiceLaws.{chosen_more, cost_more, window_more}
 use Rattle.master_core.proofs.choosing.choose_bridges.Goals as goal
 use Rattle.master_core.proofs.choosing.choose_bridges.Goals.{After-index}
@@ -50,3 +55,48 @@ loop-k-preserved c =
       windows_len = omega (arith, c.push_reserved.ensures.len, so_far.windows_len);
       windows_room = omega (arith, c.push_reserved.ensures.capacity, so_far.windows_room);
     }
+
+pub returns-clause-total : goal.returns-clause-total
+returns-clause-total c = c.loop-k.invariant.total
+
+pub returns-in_err-places : goal.returns-in_err-places
+returns-in_err-places c = let e = err_from_is_err_and c.from_residual.result c.from_residual.ensures.1 in rw e.1 (record { bridges = tt; total = tt })
+
+pub returns-in_err-windows : goal.returns-in_err-windows
+returns-in_err-windows c = let e = err_from_is_err_and c.from_residual-in_err-windows.result c.from_residual-in_err-windows.ensures.1 in rw e.1 (record { bridges = tt; total = tt })
+
+pub returns-in_err-chosen : goal.returns-in_err-chosen
+returns-in_err-chosen c = let e = err_from_is_err_and c.from_residual-in_err-chosen.result c.from_residual-in_err-chosen.ensures.1 in rw e.1 (record { bridges = tt; total = tt })
+
+pub returns-in_err-window : goal.returns-in_err-window
+returns-in_err-window c = let e = err_from_is_err_and c.from_residual-in_err-window.result c.from_residual-in_err-window.ensures.1 in rw e.1 (record { bridges = tt; total = tt })
+
+pub returns-clause-bridges : goal.returns-clause-bridges
+returns-clause-bridges c =
+    let cut = c.args.cut.now in
+    let ps = c.in_ok-places.places.items in
+    let known = c.in_ok-places.ensures in
+    let so_far = c.loop-k.invariant in
+    let all : take c.loop-k.k ps ≡ ps = take_all c.loop-k.k ps (omega (arith, c.loop-k-test.false, c.len-k-end.ensures)) in
+    record {
+      places_are = known.places;
+      each_there = known.each;
+      few = known.few;
+      windows_are = so_far.windows ∙ ap (map (window_at cut)) all;
+      within = so_far.within;
+      chosen = subst (λ (l : List BridgePlace). AllZip (IsChosenAt cut) l c.loop-k.chosen.items) (all ∙ known.places) so_far.chosen;
+    }
+
+pub overflow_add-total : goal.overflow_add-total
+overflow_add-total c = omega (arith, c.loop-k.invariant.bound, c.from-total.ensures, c.len-k-end.ensures)
+
+pub choose_bridge-requires : goal.choose_bridge-requires
+choose_bridge-requires c =
+    let here = (goal.at.choose_bridge-requires c).After-index in
+    subst (IsPlace c.args.cut.now) (is here) (c.in_ok-places.ensures.each c.loop-k.k c.index.result.now (there here))
+
+pub push_reserved-requires : goal.push_reserved-requires
+push_reserved-requires c = omega (arith, c.loop-k.invariant.windows_len, c.loop-k.invariant.windows_room, c.loop-k-test.true, c.len-k-end.ensures)
+
+pub push_reserved-requires-in-loop-k : goal.push_reserved-requires-in-loop-k
+push_reserved-requires-in-loop-k c = omega (arith, c.loop-k.invariant.len, c.loop-k.invariant.room, c.loop-k-test.true, c.len-k-end.ensures)

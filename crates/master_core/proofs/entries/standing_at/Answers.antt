@@ -1,7 +1,8 @@
-use Rattle.std.proofs.Common.{◌-◌, ◌<◌, ◌∙◌, ap, arith, get_or, length}
+use Rattle.std.proofs.Common.{◌-◌, ◌<◌, ◌++◌, ◌∙◌, [], ap, ap₂, arith, get_or, length}
+use Rattle.std.proofs.lemmas.List.{get_or_default}
 use Rattle.std.proofs.lemmas.List.FromFn.{get_or-map-range_with_len, length-map-range_with_len}
 use Rattle.cut_core.proofs.CutLaws.{fits_at}
-use Rattle.master_core.specs.Claims.{bridge_start}
+use Rattle.master_core.specs.Claims.{bridge_bits, bridge_start}
 use Rattle.master_core.proofs.entries.standing_at.Goals as goal
 
 pub bounds-starts-cue : goal.bounds-starts-cue
@@ -22,3 +23,10 @@ push_standing-requires-clause-in_limit c =
     let cut = c.args.cut.now in
     let fits = fits_at cut c.can_cut.ensures c.args.place.cue (omega (arith, c.requires.place.cue_there)) in
     omega (arith, fits.bridge_fits, ap length c.new-bits.ensures)
+
+pub returns-clause-bits : goal.returns-clause-bits
+returns-clause-bits c =
+    let channels = c.args.channels.now in
+    let there : c.args.place.channel < length channels = omega (arith, c.requires.shape.as_many, c.requires.place.channel_there) in
+    let channel = c.index-channels-channel.is ∙ get_or_default channels c.args.place.channel c.index-channels-channel.result [] there in
+    c.in_ok-push_standing.ensures.appended ∙ ap₂ (λ bits xs. bits ++ bridge_bits c.args.cut.now xs c.args.place.cue) c.new-bits.ensures channel

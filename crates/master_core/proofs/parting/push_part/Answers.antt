@@ -5,6 +5,7 @@ use Rattle.splice_core.specs.Cues.{CueContent}
 use Rattle.cut_core.specs.Cuts.{cue_at, cue_bits, span}
 use Rattle.master_core.specs.Parting.{within}
 use Rattle.master_core.proofs.PartLaws.{front_best, front_long, front_nothing, part_more}
+use Rattle.master_core.proofs.SliceLaws.{length-slice}
 use Rattle.master_core.proofs.parting.push_part.Goals as goal
 
 pub loop-cue-init : goal.loop-cue-init
@@ -48,3 +49,29 @@ returns-clause-part c =
       long = front_long cut c.can_cut.ensures c.args.channel c.requires.channel so_far.whole n all so_far.front;
       part_is = so_far.part_is;
     }
+
+pub push_cue_part-requires : goal.push_cue_part-requires
+push_cue_part-requires c = record {
+  channel = c.requires.channel;
+  cue = omega (arith, c.can_cut.ensures.splicing.some_cues);
+  in_room = omega (arith, ap length c.requires.empty, c.requires.in_room);
+}
+
+pub push_step-requires : goal.push_step-requires
+push_step-requires c =
+    let so_far = c.loop-cue.invariant in
+    let whole = so_far.so_far.whole in
+    let range = c.args.range in
+    record {
+      ready = c.requires.ready;
+      channel = c.requires.channel;
+      cue = omega (arith, c.cue_number-cue-end.ensures.value, c.loop-cue-test.true);
+      start = so_far.place;
+      in_room = omega (arith, c.requires.in_room, so_far.most, ap length so_far.so_far.part_is, length-slice whole range.start range.stop, so_far.so_far.front.long, so_far.place);
+    }
+
+pub returns-clause-most : goal.returns-clause-most
+returns-clause-most c = c.loop-cue.invariant.most
+
+pub overflow_add-cue : goal.overflow_add-cue
+overflow_add-cue c = omega (arith, c.loop-cue-test.true, c.cue_number-cue-end.ensures.value, c.can_cut.ensures.splicing.few_cues)

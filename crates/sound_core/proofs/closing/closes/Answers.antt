@@ -1,5 +1,7 @@
-use Rattle.std.proofs.Common.{◌-◌, ◌∙◌, arith, sym}
+use Rattle.std.proofs.Common.{◌-◌, ◌∙◌, arith, refl, sym}
+use Rattle.std.proofs.lemmas.Result.{err_from_is_err_and}
 use Rattle.sound_core.proofs.ClosingLaws.{dsf_closes, ends, form_closes, form_ends_at, form_behind, has_order, no_order}
+use Rattle.sound_core.proofs.ReaderLaws.{counts_before, counts_ok, same_counts}
 use Rattle.sound_core.proofs.closing.closes.Goals as goal
 
 pub returns-then-has_blocks-clause-ok : goal.returns-then-has_blocks-clause-ok
@@ -26,3 +28,63 @@ bytes_behind-requires g c = (c.args.sound.now, form_ends_at c.args.head.now c.ar
 
 pub closes-requires-2 : goal.closes-requires-2
 closes-requires-2 g c = (c.args.sound.now, form_ends_at c.args.head.now c.args.sound.now c.requires.at_sound (no_order c.args.sound.now.interleaving (sym c.has_blocks.ensures ∙ c.if-has_blocks.false)))
+
+pub returns-in_err-read_to_end-clause-ok : goal.returns-in_err-read_to_end-clause-ok
+returns-in_err-read_to_end-clause-ok g c = let e = err_from_is_err_and c.from_residual.result c.from_residual.ensures.1 in rw e.1 tt
+
+pub returns-in_err-read_until-clause-ok : goal.returns-in_err-read_until-clause-ok
+returns-in_err-read_until-clause-ok g c = let e = err_from_is_err_and c.from_residual-in_err-read_until.result c.from_residual-in_err-read_until.ensures.1 in rw e.1 tt
+
+pub returns-in_err-closes-clause-ok : goal.returns-in_err-closes-clause-ok
+returns-in_err-closes-clause-ok g c = let e = err_from_is_err_and c.from_residual-in_err-closes.result c.from_residual-in_err-closes.ensures.1 in rw e.1 tt
+
+pub returns-in_err-read_to_end-clause-same : goal.returns-in_err-read_to_end-clause-same
+returns-in_err-read_to_end-clause-same g c = c.read_to_end.ensures.same
+
+pub returns-in_err-read_to_end-clause-counts : goal.returns-in_err-read_to_end-clause-counts
+returns-in_err-read_to_end-clause-counts g c =
+    let e = err_from_is_err_and c.from_residual.result c.from_residual.ensures.1 in
+    rw (e.1, e.2) (same_counts c.args.reader.now c.read_to_end.new.self c.in_err-read_to_end.field-0.0 c.in_err-read_to_end.ensures.counts)
+
+pub returns-in_err-read_to_end-clause-fault : goal.returns-in_err-read_to_end-clause-fault
+returns-in_err-read_to_end-clause-fault g c = let e = err_from_is_err_and c.from_residual.result c.from_residual.ensures.1 in rw (e.1, e.2) c.in_err-read_to_end.ensures.fault
+
+pub read_to_end-requires : goal.read_to_end-requires
+read_to_end-requires g c = record { reading = c.requires.reading }
+
+pub returns-in_err-read_until-clause-same : goal.returns-in_err-read_until-clause-same
+returns-in_err-read_until-clause-same g c = c.read_until.ensures.same
+
+pub returns-in_err-read_until-clause-counts : goal.returns-in_err-read_until-clause-counts
+returns-in_err-read_until-clause-counts g c =
+    let e = err_from_is_err_and c.from_residual-in_err-read_until.result c.from_residual-in_err-read_until.ensures.1 in
+    rw (e.1, e.2) (same_counts c.args.reader.now c.read_until.new.self c.in_err-read_until.field-0.0 c.in_err-read_until.ensures.counts)
+
+pub returns-in_err-read_until-clause-fault : goal.returns-in_err-read_until-clause-fault
+returns-in_err-read_until-clause-fault g c = let e = err_from_is_err_and c.from_residual-in_err-read_until.result c.from_residual-in_err-read_until.ensures.1 in rw (e.1, e.2) c.in_err-read_until.ensures.fault
+
+pub read_until-requires : goal.read_until-requires
+read_until-requires g c = record { reading = c.requires.reading }
+
+pub returns-then-has_blocks-clause-same : goal.returns-then-has_blocks-clause-same
+returns-then-has_blocks-clause-same g c = c.read_to_end.ensures.same
+
+pub returns-in_err-closes-clause-same : goal.returns-in_err-closes-clause-same
+returns-in_err-closes-clause-same g c = c.read_until.ensures.same
+
+pub returns-clause-same : goal.returns-clause-same
+returns-clause-same g c = c.read_until.ensures.same
+
+pub returns-then-has_blocks-clause-counts : goal.returns-then-has_blocks-clause-counts
+returns-then-has_blocks-clause-counts g c = counts_ok c.args.reader.now c.args.reader.now c.read_to_end.new.self _ _ refl refl c.in_ok-read_to_end.ensures.counts
+
+pub returns-clause-counts : goal.returns-clause-counts
+returns-clause-counts g c = counts_ok c.args.reader.now c.args.reader.now c.read_until.new.self _ _ refl refl c.in_ok-read_until.ensures.counts
+
+pub returns-in_err-closes-clause-fault : goal.returns-in_err-closes-clause-fault
+returns-in_err-closes-clause-fault g c = let e = err_from_is_err_and c.from_residual-in_err-closes.result c.from_residual-in_err-closes.ensures.1 in rw (e.1, e.2) tt
+
+pub returns-in_err-closes-clause-counts : goal.returns-in_err-closes-clause-counts
+returns-in_err-closes-clause-counts g c =
+    let e = err_from_is_err_and c.from_residual-in_err-closes.result c.from_residual-in_err-closes.ensures.1 in
+    rw (e.1, e.2) (counts_before c.args.reader.now c.args.reader.now c.read_until.new.self _ _ refl (λ turn. cc) refl refl c.in_ok-read_until.ensures.counts)

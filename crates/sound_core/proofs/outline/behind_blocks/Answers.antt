@@ -1,8 +1,9 @@
-use Rattle.std.proofs.Common.{◌≡◌, ◌+◌, ◌-◌, ◌∙◌, Some, arith, length, subst}
+use Rattle.std.proofs.Common.{◌≡◌, ◌+◌, ◌-◌, ◌∙◌, Some, arith, length, refl, subst}
 use Rattle.std.proofs.lemmas.Result.{err_from_is_err_and}
 use Rattle.dsf_core.specs.Fronts.{TellsOutline}
 use Rattle.sound_core.proofs.BehindLaws.{blocks_around, blocks_refused, tag_fault}
 use Rattle.sound_core.proofs.ClosingLaws.{ends, has_order}
+use Rattle.sound_core.proofs.ReaderLaws.{counts_before, counts_ok, counts_refused, same_counts}
 use Rattle.sound_core.proofs.outline.behind_blocks.Goals as goal
 
 pub tag_at-requires : goal.tag_at-requires
@@ -37,3 +38,60 @@ returns-clause-ok g c =
     let outline = subst (λ xs. TellsOutline c.args.head.now (c.given.result - c.read_tag.new.reader.given) xs (Some c.in-Some.recording)) tag (subst (TellsOutline c.args.head.now (c.given.result - c.read_tag.new.reader.given) c.in_ok-tag.tag.items) c.in-Some.is c.in_ok-recording.ensures.told) in
     let total : c.given.result - c.read_tag.new.reader.given ≡ length c.args.head.now + c.args.sound.now.size + length c.args.reader.now.ahead.now.items + length read.read = omega (arith, c.given.ensures, c.read_tag.ensures.same.given, read.reads.given, c.requires.given) in
     blocks_around c.args.head.now c.args.sound.now c.requires.at_sound told.0 told.1 c.requires.sound g.R.Read.remaining c.args.reader.now.inlet.now c.read_tag.new.reader.inlet.now _ c.in_ok-gap.gap _ _ c.args.reader.now.ahead.now.items _ c.in-Some.recording c.tag_at.ensures.place (omega arith) read total outline
+
+pub returns-in_err-gap-clause-same : goal.returns-in_err-gap-clause-same
+returns-in_err-gap-clause-same g c = c.read_tag.ensures.same
+
+pub returns-in_err-tag-clause-same : goal.returns-in_err-tag-clause-same
+returns-in_err-tag-clause-same g c = c.read_tag.ensures.same
+
+pub returns-in_err-recording-clause-same : goal.returns-in_err-recording-clause-same
+returns-in_err-recording-clause-same g c = c.read_tag.ensures.same
+
+pub returns-in_default-clause-same : goal.returns-in_default-clause-same
+returns-in_default-clause-same g c = c.read_tag.ensures.same
+
+pub returns-clause-same : goal.returns-clause-same
+returns-clause-same g c = c.read_tag.ensures.same
+
+pub returns-in_err-gap-clause-ok : goal.returns-in_err-gap-clause-ok
+returns-in_err-gap-clause-ok g c = let e = err_from_is_err_and c.from_residual.result c.from_residual.ensures.1 in rw e.1 tt
+
+pub returns-in_err-tag-clause-ok : goal.returns-in_err-tag-clause-ok
+returns-in_err-tag-clause-ok g c = let e = err_from_is_err_and c.from_residual-in_err-tag.result c.from_residual-in_err-tag.ensures.1 in rw e.1 tt
+
+pub returns-in_err-recording-clause-ok : goal.returns-in_err-recording-clause-ok
+returns-in_err-recording-clause-ok g c = let e = err_from_is_err_and c.from_residual-in_err-recording.result c.from_residual-in_err-recording.ensures.1 in rw e.1 tt
+
+pub returns-in_err-gap-clause-counts : goal.returns-in_err-gap-clause-counts
+returns-in_err-gap-clause-counts g c =
+    let e = err_from_is_err_and c.from_residual.result c.from_residual.ensures.1 in
+    rw (e.1, e.2) (same_counts c.args.reader.now c.read_tag.new.reader c.in_err-gap.field-0.0 c.in_err-gap.ensures.counts)
+
+pub returns-in_err-tag-clause-fault : goal.returns-in_err-tag-clause-fault
+returns-in_err-tag-clause-fault g c = let e = err_from_is_err_and c.from_residual-in_err-tag.result c.from_residual-in_err-tag.ensures.1 in rw (e.1, e.2) tt
+
+pub returns-in_err-tag-clause-counts : goal.returns-in_err-tag-clause-counts
+returns-in_err-tag-clause-counts g c =
+    let e = err_from_is_err_and c.from_residual-in_err-tag.result c.from_residual-in_err-tag.ensures.1 in
+    rw (e.1, e.2) (counts_before c.args.reader.now c.args.reader.now c.read_tag.new.reader c.in_ok-gap.gap _ refl (λ turn. cc) refl refl c.in_ok-gap.ensures.counts)
+
+pub returns-in_err-recording-clause-fault : goal.returns-in_err-recording-clause-fault
+returns-in_err-recording-clause-fault g c = let e = err_from_is_err_and c.from_residual-in_err-recording.result c.from_residual-in_err-recording.ensures.1 in rw (e.1, e.2) tt
+
+pub returns-in_err-recording-clause-counts : goal.returns-in_err-recording-clause-counts
+returns-in_err-recording-clause-counts g c =
+    let e = err_from_is_err_and c.from_residual-in_err-recording.result c.from_residual-in_err-recording.ensures.1 in
+    rw (e.1, e.2) (counts_before c.args.reader.now c.args.reader.now c.read_tag.new.reader c.in_ok-gap.gap _ refl (λ turn. cc) refl refl c.in_ok-gap.ensures.counts)
+
+pub returns-in_default-clause-counts : goal.returns-in_default-clause-counts
+returns-in_default-clause-counts g c = counts_refused c.args.reader.now c.args.reader.now c.read_tag.new.reader c.in_ok-gap.gap refl refl c.in_ok-gap.ensures.counts
+
+pub returns-clause-counts : goal.returns-clause-counts
+returns-clause-counts g c = counts_ok c.args.reader.now c.args.reader.now c.read_tag.new.reader c.in_ok-gap.gap _ refl refl c.in_ok-gap.ensures.counts
+
+pub read_tag-requires : goal.read_tag-requires
+read_tag-requires g c = record { reading = c.requires.reading; given = omega (arith, c.requires.given) }
+
+pub outline-requires-clause-not_cut : goal.outline-requires-clause-not_cut
+outline-requires-clause-not_cut g c = omega (arith, c.given.ensures, c.read_tag.ensures.same.given, c.in_ok-gap.ensures.ok.reads.given, c.requires.given)

@@ -1,9 +1,13 @@
 use Rattle.std.specs.Prelude.{nat_lt}
-use Rattle.std.proofs.Common.{◌≡◌, ◌∙◌, ap, arith, length, min, subst, take}
+use Rattle.std.proofs.Common.{◌≡◌, ◌∙◌, ap, arith, length, min, refl, subst, take}
+use Rattle.std.proofs.lemmas.Result.{err_from_is_err_and}
 use Rattle.device_core.specs.Inlets.{inlet_reader}
 use Rattle.dsdiff_core.specs.Outlines.{TellsOutline}
+use Rattle.sound_core.specs.Outlines.{IsRestFault}
 use Rattle.sound_core.proofs.BehindLaws.{IsBehind, frames_around, frames_refused, is_behind}
 use Rattle.sound_core.proofs.ClosingLaws.{form_ends_at}
+use Rattle.sound_core.proofs.FaultLaws.{by_reading}
+use Rattle.sound_core.proofs.ReaderLaws.{counts_still, same_counts}
 use Rattle.sound_core.proofs.outline.behind_frames.Given.{Over}
 use Rattle.sound_core.proofs.outline.behind_frames.Goals as goal
 use Rattle.sound_core.proofs.outline.behind_frames.Goals.{After-truncate}
@@ -39,3 +43,48 @@ returns-clause-ok g c =
     let told = subst (λ xs. TellsOutline c.args.head.now c.args.sound.now xs c.in_ok-recording.field-0) c.as_slice.ensures.value (c.in_ok-recording.ensures c.args.sound.now at) in
     frames_around c.args.head.now c.args.sound.now c.requires.at_sound c.requires.interleaving c.requires.sound c.requires.whole g.R.Read.remaining c.args.reader.now.inlet.now c.read_until.new.self.inlet.now c.args.reader.now.ahead.now.items _ _ read.bytes _ c.in-Some.recording read.reads read.appended (kept_is g (goal.at.returns-clause-ok g c).After-truncate)
     (subst (TellsOutline c.args.head.now c.args.sound.now c.truncate.new.self.items) c.in-Some.is told)
+
+pub returns-in_err-read_until-clause-ok : goal.returns-in_err-read_until-clause-ok
+returns-in_err-read_until-clause-ok g c = let e = err_from_is_err_and c.from_residual.result c.from_residual.ensures.1 in rw e.1 tt
+
+pub returns-in_err-recording-clause-ok : goal.returns-in_err-recording-clause-ok
+returns-in_err-recording-clause-ok g c = let e = err_from_is_err_and c.from_residual-in_err-recording.result c.from_residual-in_err-recording.ensures.1 in rw e.1 tt
+
+pub returns-in_err-read_until-clause-same : goal.returns-in_err-read_until-clause-same
+returns-in_err-read_until-clause-same g c = c.read_until.ensures.same
+
+pub returns-in_err-recording-clause-same : goal.returns-in_err-recording-clause-same
+returns-in_err-recording-clause-same g c = let same = c.read_until.ensures.same in record { reference = same.reference; given = same.given; limit = same.limit }
+
+pub returns-in_default-clause-same : goal.returns-in_default-clause-same
+returns-in_default-clause-same g c = let same = c.read_until.ensures.same in record { reference = same.reference; given = same.given; limit = same.limit }
+
+pub returns-clause-same : goal.returns-clause-same
+returns-clause-same g c = let same = c.read_until.ensures.same in record { reference = same.reference; given = same.given; limit = same.limit }
+
+pub returns-in_err-read_until-clause-counts : goal.returns-in_err-read_until-clause-counts
+returns-in_err-read_until-clause-counts g c =
+    let e = err_from_is_err_and c.from_residual.result c.from_residual.ensures.1 in
+    rw (e.1, e.2) (same_counts c.args.reader.now c.read_until.new.self c.in_err-read_until.field-0.0 c.in_err-read_until.ensures.counts)
+
+pub returns-in_err-read_until-clause-fault : goal.returns-in_err-read_until-clause-fault
+returns-in_err-read_until-clause-fault g c =
+    let e = err_from_is_err_and c.from_residual.result c.from_residual.ensures.1 in
+    rw (e.1, e.2) (by_reading (IsRestFault (g.R.Read.remaining (inlet_reader c.args.reader.now.inlet.now)) c.args.sound.now c.args.head.now c.args.reader.now.ahead.now.items) tt tt tt c.in_err-read_until.field-0.0 c.in_err-read_until.ensures.fault)
+
+pub returns-in_err-recording-clause-fault : goal.returns-in_err-recording-clause-fault
+returns-in_err-recording-clause-fault g c = let e = err_from_is_err_and c.from_residual-in_err-recording.result c.from_residual-in_err-recording.ensures.1 in rw (e.1, e.2) tt
+
+pub returns-in_err-recording-clause-counts : goal.returns-in_err-recording-clause-counts
+returns-in_err-recording-clause-counts g c =
+    let e = err_from_is_err_and c.from_residual-in_err-recording.result c.from_residual-in_err-recording.ensures.1 in
+    rw (e.1, e.2) (counts_still c.args.reader.now c.read_until.new.self _ _ _ refl (λ turn. cc) refl c.in_ok-read_until.ensures.counts)
+
+pub returns-in_default-clause-counts : goal.returns-in_default-clause-counts
+returns-in_default-clause-counts g c = counts_still c.args.reader.now c.read_until.new.self _ _ _ refl (λ turn. cc) refl c.in_ok-read_until.ensures.counts
+
+pub returns-clause-counts : goal.returns-clause-counts
+returns-clause-counts g c = counts_still c.args.reader.now c.read_until.new.self _ _ _ refl (λ turn. cc) refl c.in_ok-read_until.ensures.counts
+
+pub read_until-requires : goal.read_until-requires
+read_until-requires g c = record { reading = c.requires.reading }

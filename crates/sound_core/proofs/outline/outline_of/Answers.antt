@@ -1,8 +1,11 @@
-use Rattle.std.proofs.Common.{arith, subst, sym}
+use Rattle.std.proofs.Common.{◌∙◌, ap, arith, subst, sym}
 use Rattle.std.proofs.lemmas.Result.{IfErr-weaker, IfOk-weaker, err_from_is_err_and}
+use Rattle.device_core.specs.Inlets.{inlet_failures, inlet_reader}
 use Rattle.sound_core.specs.Outlines.{around_of}
 use Rattle.sound_core.specs.Reads.{Reads}
 use Rattle.sound_core.proofs.BehindLaws.{at_sound, given_is, pass_stands, rest_stands, surrounds_file}
+use Rattle.sound_core.proofs.FaultLaws.{front_in_outline}
+use Rattle.sound_core.proofs.ReaderLaws.{counts_from, counts_later, counts_memory, same_counts, same_on}
 use Rattle.sound_core.proofs.outline.outline_of.Given.{Over}
 use Rattle.sound_core.proofs.outline.outline_of.Goals as goal
 use Rattle.sound_core.proofs.outline.outline_of.Goals.{In_ok-head}
@@ -42,3 +45,70 @@ pub returns-clause-fault : goal.returns-clause-fault
 returns-clause-fault g c =
     let k = (goal.at.returns-clause-fault g c).In_ok-head in
     IfErr-weaker c.read_rest.result _ _ (λ f stands. rest_stands g.R.Read.remaining _ _ _ _ _ c.in_ok-sound.sound (reads_is g k) c.in_ok-sound.ensures.tells c.in_ok-head.ensures.head c.in_ok-head.ensures.rest _ _ c.in_ok-pass.ensures.ok f stands) c.read_rest.ensures.fault
+
+pub returns-in_err-sound-clause-ok : goal.returns-in_err-sound-clause-ok
+returns-in_err-sound-clause-ok g c = let e = err_from_is_err_and c.from_residual.result c.from_residual.ensures.1 in rw e.1 tt
+
+pub returns-in_err-head-clause-ok : goal.returns-in_err-head-clause-ok
+returns-in_err-head-clause-ok g c = let e = err_from_is_err_and c.from_residual-in_err-head.result c.from_residual-in_err-head.ensures.1 in rw e.1 tt
+
+pub returns-in_err-pass-clause-ok : goal.returns-in_err-pass-clause-ok
+returns-in_err-pass-clause-ok g c = let e = err_from_is_err_and c.from_residual-in_err-pass.result c.from_residual-in_err-pass.ensures.1 in rw e.1 tt
+
+pub returns-in_err-sound-clause-same : goal.returns-in_err-sound-clause-same
+returns-in_err-sound-clause-same g c = c.read_front.ensures.same
+
+pub returns-in_err-head-clause-same : goal.returns-in_err-head-clause-same
+returns-in_err-head-clause-same g c = same_on c.args.reader.now c.read_front.new.reader c.take_head.new.self c.read_front.ensures.same c.take_head.ensures.same
+
+pub returns-in_err-pass-clause-same : goal.returns-in_err-pass-clause-same
+returns-in_err-pass-clause-same g c =
+    same_on c.args.reader.now c.take_head.new.self c.pass.new.self (same_on c.args.reader.now c.read_front.new.reader c.take_head.new.self c.read_front.ensures.same c.take_head.ensures.same) c.pass.ensures.same
+
+pub returns-clause-same : goal.returns-clause-same
+returns-clause-same g c =
+    same_on c.args.reader.now c.pass.new.self c.read_rest.new.reader (same_on c.args.reader.now c.take_head.new.self c.pass.new.self (same_on c.args.reader.now c.read_front.new.reader c.take_head.new.self c.read_front.ensures.same c.take_head.ensures.same) c.pass.ensures.same) c.read_rest.ensures.same
+
+pub returns-in_err-sound-clause-fault : goal.returns-in_err-sound-clause-fault
+returns-in_err-sound-clause-fault g c =
+    let e = err_from_is_err_and c.from_residual.result c.from_residual.ensures.1 in
+    rw (e.1, e.2) (front_in_outline (g.R.Read.remaining (inlet_reader c.args.reader.now.inlet.now)) c.in_err-sound.field-0.0 c.in_err-sound.ensures.fault)
+
+pub returns-in_err-sound-clause-counts : goal.returns-in_err-sound-clause-counts
+returns-in_err-sound-clause-counts g c =
+    let e = err_from_is_err_and c.from_residual.result c.from_residual.ensures.1 in
+    rw (e.1, e.2) (same_counts c.args.reader.now c.read_front.new.reader c.in_err-sound.field-0.0 c.in_err-sound.ensures.counts)
+
+pub returns-in_err-head-clause-fault : goal.returns-in_err-head-clause-fault
+returns-in_err-head-clause-fault g c =
+    let e = err_from_is_err_and c.from_residual-in_err-head.result c.from_residual-in_err-head.ensures.1 in
+    rw (e.1, e.2, c.in_err-head.ensures.fault) tt
+
+pub returns-in_err-head-clause-counts : goal.returns-in_err-head-clause-counts
+returns-in_err-head-clause-counts g c =
+    let e = err_from_is_err_and c.from_residual-in_err-head.result c.from_residual-in_err-head.ensures.1 in
+    rw (e.1, e.2, c.in_err-head.ensures.fault) (counts_memory c.args.reader.now c.read_front.new.reader c.take_head.new.self c.in_ok-sound.sound c.take_head.ensures.untouched c.in_ok-sound.ensures.counts)
+
+pub returns-in_err-pass-clause-counts : goal.returns-in_err-pass-clause-counts
+returns-in_err-pass-clause-counts g c =
+    let e = err_from_is_err_and c.from_residual-in_err-pass.result c.from_residual-in_err-pass.ensures.1 in
+    rw (e.1, e.2) (counts_later c.args.reader.now c.take_head.new.self c.pass.new.self c.in_err-pass.field-0.0 (c.take_head.ensures.same.limit ∙ c.read_front.ensures.same.limit) (ap inlet_failures c.take_head.ensures.untouched ∙ omega (arith, c.in_ok-sound.ensures.counts.failures)) c.in_err-pass.ensures.counts)
+
+pub returns-clause-counts : goal.returns-clause-counts
+returns-clause-counts g c =
+    counts_from _ _ _ c.read_rest.result (c.pass.ensures.same.limit ∙ c.take_head.ensures.same.limit ∙ c.read_front.ensures.same.limit) (omega (arith, c.in_ok-pass.ensures.counts.failures, ap inlet_failures c.take_head.ensures.untouched, c.in_ok-sound.ensures.counts.failures)) c.read_rest.ensures.counts
+
+pub take_head-requires : goal.take_head-requires
+take_head-requires g c = record { within = c.in_ok-sound.ensures.tells.within }
+
+pub pass-requires : goal.pass-requires
+pass-requires g c = record { reading = c.take_head.ensures.reading c.in_ok-sound.ensures.reading }
+
+pub read_rest-requires-clause-sound : goal.read_rest-requires-clause-sound
+read_rest-requires-clause-sound g c = c.in_ok-sound.ensures.tells.is_sound
+
+pub read_rest-requires-clause-whole : goal.read_rest-requires-clause-whole
+read_rest-requires-clause-whole g c = c.in_ok-sound.ensures.tells.whole
+
+pub read_rest-requires-clause-reading : goal.read_rest-requires-clause-reading
+read_rest-requires-clause-reading g c = c.in_ok-pass.ensures.reading

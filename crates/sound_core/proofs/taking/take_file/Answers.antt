@@ -1,4 +1,4 @@
-use Rattle.std.proofs.Common.{◌∙◌, ◌++◌, ap, arith, subst, sym}
+use Rattle.std.proofs.Common.{◌∙◌, ◌++◌, ap, arith, refl, subst, sym}
 use Rattle.std.proofs.lemmas.Result.{IfErr-weaker, IfOk-weaker, err_from_is_err_and}
 use Rattle.device_core.specs.Inlets.{inlet_failures, inlet_reader}
 use Rattle.dsd_bits.specs.declared.sound.Sound.{Sound}
@@ -9,7 +9,7 @@ use Rattle.sound_core.proofs.BehindLaws.{at_sound, file_stands, given_is, given_
 use Rattle.sound_core.proofs.TakingLaws.{fed_none, file_taken}
 use Rattle.sound_core.proofs.taking.take_file.Given.{Over}
 use Rattle.sound_core.proofs.FaultLaws.{front_in_outline}
-use Rattle.sound_core.proofs.ReaderLaws.{counts_from, counts_later, same_counts}
+use Rattle.sound_core.proofs.ReaderLaws.{counts_from, counts_later, counts_memory, same_counts, same_on}
 use Rattle.sound_core.proofs.taking.take_file.Goals as goal
 use Rattle.sound_core.proofs.taking.take_file.Goals.{In_ok-head, In_ok-take_sound}
 
@@ -109,3 +109,115 @@ returns-in_err-take_sound-clause-counts g c =
 pub returns-clause-counts : goal.returns-clause-counts
 returns-clause-counts g c =
     counts_from _ _ _ c.read_rest.result (c.take_sound.ensures.same.limit ∙ c.take_head.ensures.same.limit ∙ c.read_front.ensures.same.limit) (omega (arith, c.in_ok-take_sound.ensures.counts.failures, ap inlet_failures c.take_head.ensures.untouched, c.in_ok-sound.ensures.counts.failures)) c.read_rest.ensures.counts
+
+pub returns-in_err-sound-clause-same : goal.returns-in_err-sound-clause-same
+returns-in_err-sound-clause-same g c = c.read_front.ensures.same
+
+pub returns-in_err-sound-clause-ok : goal.returns-in_err-sound-clause-ok
+returns-in_err-sound-clause-ok g c = let e = err_from_is_err_and c.from_residual.result c.from_residual.ensures.1 in rw e.1 tt
+
+pub returns-in_err-sound-clause-any_reader : goal.returns-in_err-sound-clause-any_reader
+returns-in_err-sound-clause-any_reader g c = let e = err_from_is_err_and c.from_residual.result c.from_residual.ensures.1 in rw e.1 tt
+
+pub returns-in_err-sound-clause-source : goal.returns-in_err-sound-clause-source
+returns-in_err-sound-clause-source g c = let e = err_from_is_err_and c.from_residual.result c.from_residual.ensures.1 in rw e.1 tt
+
+pub returns-in_err-head-clause-ok : goal.returns-in_err-head-clause-ok
+returns-in_err-head-clause-ok g c = let e = err_from_is_err_and c.from_residual-in_err-head.result c.from_residual-in_err-head.ensures.1 in rw e.1 tt
+
+pub returns-in_err-head-clause-any_reader : goal.returns-in_err-head-clause-any_reader
+returns-in_err-head-clause-any_reader g c = let e = err_from_is_err_and c.from_residual-in_err-head.result c.from_residual-in_err-head.ensures.1 in rw e.1 tt
+
+pub returns-in_err-head-clause-source : goal.returns-in_err-head-clause-source
+returns-in_err-head-clause-source g c = let e = err_from_is_err_and c.from_residual-in_err-head.result c.from_residual-in_err-head.ensures.1 in rw e.1 tt
+
+pub returns-in_err-begin-clause-ok : goal.returns-in_err-begin-clause-ok
+returns-in_err-begin-clause-ok g c = let e = err_from_is_err_and c.from_residual-in_err-begin.result c.from_residual-in_err-begin.ensures.1 in rw e.1 tt
+
+pub returns-in_err-begin-clause-any_reader : goal.returns-in_err-begin-clause-any_reader
+returns-in_err-begin-clause-any_reader g c = let e = err_from_is_err_and c.from_residual-in_err-begin.result c.from_residual-in_err-begin.ensures.1 in rw e.1 tt
+
+pub returns-in_err-begin-clause-source : goal.returns-in_err-begin-clause-source
+returns-in_err-begin-clause-source g c = let e = err_from_is_err_and c.from_residual-in_err-begin.result c.from_residual-in_err-begin.ensures.1 in rw e.1 tt
+
+pub returns-in_err-take_sound-clause-ok : goal.returns-in_err-take_sound-clause-ok
+returns-in_err-take_sound-clause-ok g c = let e = err_from_is_err_and c.from_residual-in_err-take_sound.result c.from_residual-in_err-take_sound.ensures.1 in rw e.1 tt
+
+pub returns-in_err-take_sound-clause-any_reader : goal.returns-in_err-take_sound-clause-any_reader
+returns-in_err-take_sound-clause-any_reader g c = let e = err_from_is_err_and c.from_residual-in_err-take_sound.result c.from_residual-in_err-take_sound.ensures.1 in rw e.1 tt
+
+pub returns-in_err-take_sound-clause-source : goal.returns-in_err-take_sound-clause-source
+returns-in_err-take_sound-clause-source g c = let e = err_from_is_err_and c.from_residual-in_err-take_sound.result c.from_residual-in_err-take_sound.ensures.1 in rw e.1 tt
+
+pub returns-in_err-sound-clause-kept : goal.returns-in_err-sound-clause-kept
+returns-in_err-sound-clause-kept g c = refl
+
+pub returns-in_err-head-clause-kept : goal.returns-in_err-head-clause-kept
+returns-in_err-head-clause-kept g c = refl
+
+pub returns-in_err-begin-clause-kept : goal.returns-in_err-begin-clause-kept
+returns-in_err-begin-clause-kept g c = c.begin.ensures.kept
+
+pub returns-in_err-take_sound-clause-kept : goal.returns-in_err-take_sound-clause-kept
+returns-in_err-take_sound-clause-kept g c = c.take_sound.ensures.kept ∙ c.begin.ensures.kept
+
+pub returns-clause-kept : goal.returns-clause-kept
+returns-clause-kept g c = c.take_sound.ensures.kept ∙ c.begin.ensures.kept
+
+pub returns-in_err-head-clause-same : goal.returns-in_err-head-clause-same
+returns-in_err-head-clause-same g c = same_on c.args.reader.now c.read_front.new.reader c.take_head.new.self c.read_front.ensures.same c.take_head.ensures.same
+
+pub returns-in_err-begin-clause-same : goal.returns-in_err-begin-clause-same
+returns-in_err-begin-clause-same g c = same_on c.args.reader.now c.read_front.new.reader c.take_head.new.self c.read_front.ensures.same c.take_head.ensures.same
+
+pub returns-in_err-take_sound-clause-same : goal.returns-in_err-take_sound-clause-same
+returns-in_err-take_sound-clause-same g c =
+    same_on c.args.reader.now c.take_head.new.self c.take_sound.new.reader (same_on c.args.reader.now c.read_front.new.reader c.take_head.new.self c.read_front.ensures.same c.take_head.ensures.same) c.take_sound.ensures.same
+
+pub returns-clause-same : goal.returns-clause-same
+returns-clause-same g c =
+    same_on c.args.reader.now c.take_sound.new.reader c.read_rest.new.reader (same_on c.args.reader.now c.take_head.new.self c.take_sound.new.reader (same_on c.args.reader.now c.read_front.new.reader c.take_head.new.self c.read_front.ensures.same c.take_head.ensures.same) c.take_sound.ensures.same) c.read_rest.ensures.same
+
+pub returns-in_err-head-clause-counts : goal.returns-in_err-head-clause-counts
+returns-in_err-head-clause-counts g c =
+    let e = err_from_is_err_and c.from_residual-in_err-head.result c.from_residual-in_err-head.ensures.1 in
+    rw (e.1, e.2, c.in_err-head.ensures.fault) (counts_memory c.args.reader.now c.read_front.new.reader c.take_head.new.self c.in_ok-sound.sound c.take_head.ensures.untouched c.in_ok-sound.ensures.counts)
+
+pub returns-in_err-head-clause-fault : goal.returns-in_err-head-clause-fault
+returns-in_err-head-clause-fault g c =
+    let e = err_from_is_err_and c.from_residual-in_err-head.result c.from_residual-in_err-head.ensures.1 in
+    rw (e.1, e.2, c.in_err-head.ensures.fault) tt
+
+pub returns-in_err-begin-clause-counts : goal.returns-in_err-begin-clause-counts
+returns-in_err-begin-clause-counts g c =
+    let e = err_from_is_err_and c.from_residual-in_err-begin.result c.from_residual-in_err-begin.ensures.1 in
+    rw (e.1, e.2) (counts_memory c.args.reader.now c.read_front.new.reader c.take_head.new.self c.in_ok-sound.sound c.take_head.ensures.untouched c.in_ok-sound.ensures.counts)
+
+pub returns-in_err-begin-clause-fault : goal.returns-in_err-begin-clause-fault
+returns-in_err-begin-clause-fault g c =
+    let e = err_from_is_err_and c.from_residual-in_err-begin.result c.from_residual-in_err-begin.ensures.1 in
+    rw (e.1, e.2) tt
+
+pub take_sound-requires-clause-source : goal.take_sound-requires-clause-source
+take_sound-requires-clause-source g c = c.in_ok-begin.ensures.source
+
+pub take_sound-requires-clause-done : goal.take_sound-requires-clause-done
+take_sound-requires-clause-done g c = c.in_ok-begin.ensures.done
+
+pub take_sound-requires-clause-has : goal.take_sound-requires-clause-has
+take_sound-requires-clause-has g c = c.in_ok-begin.ensures.has
+
+pub take_sound-requires-clause-reading : goal.take_sound-requires-clause-reading
+take_sound-requires-clause-reading g c = c.take_head.ensures.reading c.in_ok-sound.ensures.reading
+
+pub read_rest-requires-clause-sound : goal.read_rest-requires-clause-sound
+read_rest-requires-clause-sound g c = c.in_ok-sound.ensures.tells.is_sound
+
+pub read_rest-requires-clause-whole : goal.read_rest-requires-clause-whole
+read_rest-requires-clause-whole g c = c.in_ok-sound.ensures.tells.whole
+
+pub read_rest-requires-clause-reading : goal.read_rest-requires-clause-reading
+read_rest-requires-clause-reading g c = c.in_ok-take_sound.ensures.reading
+
+pub take_head-requires : goal.take_head-requires
+take_head-requires g c = record { within = c.in_ok-sound.ensures.tells.within }

@@ -1,11 +1,13 @@
-use Rattle.std.proofs.Common.{◌≡◌, ◌++◌, ◌∙◌, ap, ap₂, arith, length, length-take, subst, sym, take, take-append-drop}
+use Rattle.std.proofs.Common.{◌≡◌, ◌<◌, ◌++◌, ◌∙◌, ap, ap₂, arith, inl, inr, length, length-take, refl, subst, sym, take, take-append-drop}
 use Rattle.std.proofs.lemmas.Result.{err_from_is_err_and}
+use Rattle.std.proofs.KnownBytes.{Consumes-whole}
 use Rattle.device_core.specs.Inlets.{inlet_reader}
 use Rattle.dsd_bits.specs.declared.sound.Sound.{Sound}
 use Rattle.dsd_bits.specs.Sounds.{sound_size}
 use Rattle.sound_core.specs.Reads.{Reads}
 use Rattle.sound_core.proofs.taking.take_groups.Given.{Over}
 use Rattle.sound_core.proofs.FaultLaws.{reading_in_pass}
+use Rattle.sound_core.proofs.ReaderLaws.{counts_before, counts_refused, counts_still, same_counts, same_on}
 use Rattle.sound_core.proofs.taking.take_groups.Goals as goal
 use Rattle.sound_core.proofs.taking.take_groups.Goals.{After-split_at}
 
@@ -52,3 +54,80 @@ pub returns-in_err-read_until-clause-fault : goal.returns-in_err-read_until-clau
 returns-in_err-read_until-clause-fault g c =
     let e = err_from_is_err_and c.from_residual.result c.from_residual.ensures.1 in
     rw (e.1, e.2) (reading_in_pass (g.R.Read.remaining (inlet_reader c.args.reader.now.inlet.now)) _ c.args.reader.now.ahead.now.items c.in_err-read_until.field-0.0 c.in_err-read_until.ensures.fault)
+
+pub returns-in_err-read_until-clause-reading : goal.returns-in_err-read_until-clause-reading
+returns-in_err-read_until-clause-reading g c = let e = err_from_is_err_and c.from_residual.result c.from_residual.ensures.1 in rw e.1 tt
+
+pub returns-in_err-read_until-clause-ok : goal.returns-in_err-read_until-clause-ok
+returns-in_err-read_until-clause-ok g c = let e = err_from_is_err_and c.from_residual.result c.from_residual.ensures.1 in rw e.1 tt
+
+pub returns-in_err-take-clause-reading : goal.returns-in_err-take-clause-reading
+returns-in_err-take-clause-reading g c = let e = err_from_is_err_and c.from_residual-in_err-take.result c.from_residual-in_err-take.ensures.1 in rw e.1 tt
+
+pub returns-in_err-take-clause-ok : goal.returns-in_err-take-clause-ok
+returns-in_err-take-clause-ok g c = let e = err_from_is_err_and c.from_residual-in_err-take.result c.from_residual-in_err-take.ensures.1 in rw e.1 tt
+
+pub returns-in_err-read_until-clause-same : goal.returns-in_err-read_until-clause-same
+returns-in_err-read_until-clause-same g c = c.read_until.ensures.same
+
+pub returns-then-len-size-clause-same : goal.returns-then-len-size-clause-same
+returns-then-len-size-clause-same g c = c.read_until.ensures.same
+
+pub returns-in_err-take-clause-same : goal.returns-in_err-take-clause-same
+returns-in_err-take-clause-same g c = c.read_until.ensures.same
+
+pub returns-clause-same : goal.returns-clause-same
+returns-clause-same g c = same_on c.args.reader.now c.read_until.new.self c.drop_ahead.new.self c.read_until.ensures.same c.drop_ahead.ensures.same
+
+pub returns-clause-reading : goal.returns-clause-reading
+returns-clause-reading g c = c.drop_ahead.ensures.reading c.in_ok-read_until.ensures.reading
+
+pub returns-in_err-take-clause-kept : goal.returns-in_err-take-clause-kept
+returns-in_err-take-clause-kept g c = c.take.ensures.kept
+
+pub returns-clause-kept : goal.returns-clause-kept
+returns-clause-kept g c = c.take.ensures.kept
+
+pub returns-in_err-read_until-clause-counts : goal.returns-in_err-read_until-clause-counts
+returns-in_err-read_until-clause-counts g c =
+    let e = err_from_is_err_and c.from_residual.result c.from_residual.ensures.1 in
+    rw (e.1, e.2) (same_counts c.args.reader.now c.read_until.new.self c.in_err-read_until.field-0.0 c.in_err-read_until.ensures.counts)
+
+pub returns-then-len-size-clause-counts : goal.returns-then-len-size-clause-counts
+returns-then-len-size-clause-counts g c = counts_refused c.args.reader.now c.args.reader.now c.read_until.new.self _ refl refl c.in_ok-read_until.ensures.counts
+
+pub returns-then-len-size-clause-fault : goal.returns-then-len-size-clause-fault
+returns-then-len-size-clause-fault g c =
+    let read = c.in_ok-read_until.ensures.read in
+    let ahead = c.args.reader.now.ahead.now.items in
+    let size = sound_size c.args.sound.interleaving c.args.sound.channels c.args.bits in
+    elim read.enough [
+      | inl enough ↦ absurd (omega (arith, enough, c.len.ensures, c.if-len-size.true))
+      | inr end ↦ Consumes-whole (g.R.Read.remaining (inlet_reader c.args.reader.now.inlet.now)) (g.R.Read.remaining (inlet_reader c.read_until.new.self.inlet.now)) read.bytes (λ left. length (ahead ++ left) < size) read.reads.consumed end (omega (arith, c.if-len-size.true, c.len.ensures, ap length read.appended, c.stretch_size-size.ensures))
+    ]
+
+pub returns-in_err-take-clause-counts : goal.returns-in_err-take-clause-counts
+returns-in_err-take-clause-counts g c =
+    let e = err_from_is_err_and c.from_residual-in_err-take.result c.from_residual-in_err-take.ensures.1 in
+    rw (e.1, e.2) (counts_before c.args.reader.now c.args.reader.now c.read_until.new.self _ _ refl (λ turn. cc) refl refl c.in_ok-read_until.ensures.counts)
+
+pub returns-in_err-take-clause-fault : goal.returns-in_err-take-clause-fault
+returns-in_err-take-clause-fault g c = let e = err_from_is_err_and c.from_residual-in_err-take.result c.from_residual-in_err-take.ensures.1 in rw (e.1, e.2) tt
+
+pub returns-clause-counts : goal.returns-clause-counts
+returns-clause-counts g c = counts_still c.args.reader.now c.read_until.new.self c.drop_ahead.new.self _ _ refl (λ turn. cc) c.drop_ahead.ensures.untouched c.in_ok-read_until.ensures.counts
+
+pub read_until-requires : goal.read_until-requires
+read_until-requires g c = record { reading = c.requires.reading }
+
+pub take-requires-clause-fed : goal.take-requires-clause-fed
+take-requires-clause-fed g c = c.requires.fed
+
+pub take-requires-clause-some : goal.take-requires-clause-some
+take-requires-clause-some g c = c.requires.some
+
+pub split_at-requires : goal.split_at-requires
+split_at-requires g c = omega (arith, c.if-len-size.false, c.len.ensures, ap length c.deref.ensures.value)
+
+pub drop_ahead-requires : goal.drop_ahead-requires
+drop_ahead-requires g c = record { within = omega (arith, c.if-len-size.false, c.len.ensures) }

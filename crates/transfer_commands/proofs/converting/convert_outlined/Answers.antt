@@ -1,4 +1,4 @@
-use Rattle.std.proofs.Common.{false, true, ◌≡◌, ◌∙◌, IsTrue, Some, refl, subst, sym, inr}
+use Rattle.std.proofs.Common.{false, true, ◌≡◌, ◌∙◌, IsTrue, Some, refl, subst, sym, inl, inr}
 use Rattle.folder_core.specs.Files.{IsGiven}
 use Rattle.transfer_commands.specs.Converting.{ConvertsFront}
 use Rattle.transfer_commands.specs.Outlining.{OutlinesFile}
@@ -16,6 +16,9 @@ returns-then-not-fits_in g c = λ told found. (
     first = outlined_unconverted c.args.outline.now found.file c.args.form found.is_outline c.held_is_opened.ensures (λ fits. let e : false ≡ true = c.if-not-fits_in.ensures.1 fits in absurd cc);
   },
 )
+
+pub returns-in_default : goal.returns-in_default
+returns-in_default g c = λ told found. inl c.open.ensures.same
 
 pub returns-in_default-create : goal.returns-in_default-create
 returns-in_default-create g c = λ told found.
@@ -66,3 +69,6 @@ returns-in-Memory g c = λ told found. inr (front g (goal.at.returns-in-Memory g
 
 pub returns-in_default-fault : goal.returns-in_default-fault
 returns-in_default-fault g c = λ told found. inr (front g (goal.at.returns-in_default-fault g c).After-give_up told found)
+
+pub returns-in_default-fault-2 : goal.returns-in_default-fault-2
+returns-in_default-fault-2 g c = λ told found. inr (front g (goal.at.returns-in_default-fault-2 g c).After-give_up told found)

@@ -1,9 +1,12 @@
-use Rattle.std.proofs.Common.{◌<◌, ◌∙◌, [], IsTrue, get_or, length, subst, sym, arith}
+use Rattle.std.proofs.Common.{◌≡◌, ◌<◌, ◌∙◌, [], IsTrue, ap, get_or, length, map, refl, subst, sym, arith}
 use Rattle.std.specs.Prelude.{string_bytes}
-use Rattle.std.proofs.lemmas.List.{length-map}
+use Rattle.std.proofs.lemmas.List.{length-map, take_all}
+use Rattle.std.proofs.lemmas.Result.{err_from_is_err_and}
 use Rattle.splice_core.specs.Splices.{splice_content}
+use Rattle.cut_core.specs.Hearing.{AreHeard, heard_content}
+use Rattle.cut_core.specs.Opening.{IsOfTakes}
 use Rattle.folder_core.specs.Files.{Files}
-use Rattle.transfer_commands.specs.Hearing.{HearsFile}
+use Rattle.transfer_commands.specs.Hearing.{HearsFile, HearsFiles}
 use Rattle.transfer_commands.proofs.HearLaws.{files_more}
 use Rattle.transfer_commands.proofs.hearing.hear_files.Goals as goal
 
@@ -22,4 +25,40 @@ loop-number-preserved g c =
           let one = read.heard (subst IsTrue (sym so_far.told) told) in
           files_more old splice splice.takes n there c.loop-number.heard c.push_heard-heard.result c.in_ok-next.next (so_far.heard told) (subst (λ (f : Files). HearsFile f splice n (get_or splice.takes n []) c.in_ok-next.next) so_far.same one) (c.push_heard-heard.ensures.heard splice);
       of = c.push_heard-heard.ensures.of splice n so_far.of read.of;
+    }
+
+pub loop-number-init : goal.loop-number-init
+loop-number-init g c =
+    let none : AreHeard (splice_content c.args.splice.now) [] c.new.result.items = record { shaped = λ i d there. absurd (omega (arith, there)); heard = ap (map heard_content) c.new.ensures.items } in
+    record {
+      same = refl;
+      told = refl;
+      heard = λ told. record { files = []; stand = refl {a = []}; hears = ([], refl, none) };
+      of = ([], none, refl);
+    }
+
+pub returns-in_err-next : goal.returns-in_err-next
+returns-in_err-next g c =
+    let so_far = c.loop-number.invariant in
+    let e = err_from_is_err_and c.from_residual.result c.from_residual.ensures.1 in
+    rw (e.1, e.2) (record {
+      same = c.hear_named.ensures.same ∙ so_far.same;
+      told = c.hear_named.ensures.told ∙ so_far.told;
+      heard = tt;
+      of = tt;
+      fault = c.in_err-next.ensures.fault;
+    })
+
+pub returns : goal.returns
+returns g c =
+    let splice = splice_content c.args.splice.now in
+    let n = c.loop-number.number in
+    let so_far = c.loop-number.invariant in
+    let many : n ≡ length splice.takes = omega (arith, c.loop-number-test.false, c.loop-number.auto.number-end, c.len-number-end.ensures, length-map c.args.splice.now.takes.items string_bytes) in
+    record {
+      same = so_far.same;
+      told = so_far.told;
+      heard = λ told. subst (λ names. HearsFiles (g.F.Folder.file c.args.folder.now) splice names c.loop-number.heard) (take_all n splice.takes (omega (arith, many))) (so_far.heard told);
+      of = subst (λ k. IsOfTakes splice k c.loop-number.heard) many so_far.of;
+      fault = tt;
     }

@@ -1,21 +1,105 @@
-use Rattle.std.proofs.Common.{◌≡◌, ◌<◌, ◌∙◌, [], IsTrue, Option, Some, ap, get_or, length, subst, sym, List, ℕ, arith}
-use Rattle.std.specs.Prelude.{string_bytes}
+use Rattle.std.proofs.Common.{◌≡◌, ◌<◌, ◌∙◌, [], Global, IsTrue, List, Ok, Option, Some, String, ℕ, ap, arith, get_or, length, map, subst, sym}
+use Rattle.std.specs.Prelude.{IfSome, string_bytes}
 use Rattle.std.proofs.lemmas.List.{get_or-map, length-map}
+use Rattle.std.proofs.lemmas.Result.{err_from_is_err_and}
 use Rattle.splice_core.specs.Splices.{splice_content}
+use Rattle.cut_core.specs.Opening.{HearsTake, IsOfTake, take_in}
 use Rattle.cut_core.specs.declared.heard.Heard.{Heard}
+use Rattle.folder_core.specs.Files.{Files}
+use Rattle.folder_core.specs.ShortFiles.{IsShort}
 use Rattle.transfer_commands.specs.Hearing.{StreamsFile}
+use Rattle.transfer_commands.proofs.HearLaws.{unread_of}
 use Rattle.transfer_commands.proofs.StreamLaws.{streamed_hears}
 use Rattle.transfer_commands.proofs.hearing.hear_named.Goals as goal
 
-pub returns-in-Some-2-clause-heard : goal.returns-in-Some-2-clause-heard
-returns-in-Some-2-clause-heard g c = λ told.
+-- the name of a number, as bytes
+named : (names : List (String Global)) (n : ℕ) (name : String Global) (bytes : List ℕ) → n < length (map string_bytes names) → name ≡ get_or names n name → bytes ≡ string_bytes name → bytes ≡ get_or (map string_bytes names) n []
+named names n name bytes there is own = own ∙ ap string_bytes is ∙ sym (get_or-map string_bytes names n name [] (omega (arith, there, length-map names string_bytes)))
+
+pub returns-in-Some : goal.returns-in-Some
+returns-in-Some g c =
+    let old = g.F.Folder.file c.args.folder.now in
+    let short = c.in_ok-file.ensures in
+    record {
+      same = short.same;
+      told = short.told;
+      heard = λ told.
+          let name = named c.args.splice.now.takes.items c.args.number c.index-name.result.now c.deref.result.now c.requires c.index-name.ensures c.deref.ensures in
+          let file = subst (λ o. IsShort c.args.most (old c.deref.result.now) o) c.in-Some.is (short.bytes told) in
+          record {
+            file = c.in-Some.file.items;
+            file_stands = ap old (sym name) ∙ file.0;
+            hears = subst (λ (bytes : List ℕ). HearsTake (splice_content c.args.splice.now) c.args.number c.hear_file.result (take_in c.args.number bytes)) c.deref-in-Some.ensures.value c.hear_file.ensures.heard;
+          };
+      of = c.hear_file.ensures.of;
+      fault = tt;
+    }
+
+pub returns-in-Some-2 : goal.returns-in-Some-2
+returns-in-Some-2 g c =
     let old = g.F.Folder.file c.args.folder.now in
     let mid = g.F.Folder.file c.read_short.new.folder in
     let splice = splice_content c.args.splice.now in
-    let names = c.args.splice.now.takes.items in
     let n = c.args.number in
-    let there : n < length names = omega (arith, c.requires, length-map names string_bytes) in
-    let named : c.deref-2.result.now ≡ get_or splice.takes n [] = c.deref-2.ensures ∙ ap string_bytes {y = get_or names n c.index-name.result.now} c.index-name.ensures ∙ sym (get_or-map string_bytes names n c.index-name.result.now [] there) in
-    let found = c.in_ok-heard.ensures.heard (subst IsTrue (sym c.read_short.ensures.told) told) in
-    let heard = subst (λ (h : Option Heard). StreamsFile mid splice n c.deref-2.result.now h) c.in-Some-2.is found in
-    streamed_hears c.held_is_opened.ensures old mid splice n (get_or splice.takes n []) c.in-Some-2.heard c.read_short.ensures.same (subst (λ (name : List ℕ). StreamsFile mid splice n name (Some c.in-Some-2.heard)) named heard)
+    record {
+      same = c.hear_streamed.ensures.same ∙ c.read_short.ensures.same;
+      told = c.hear_streamed.ensures.told ∙ c.read_short.ensures.told;
+      heard = λ told.
+          let name = named c.args.splice.now.takes.items n c.index-name.result.now c.deref-2.result.now c.requires c.index-name.ensures c.deref-2.ensures in
+          let found = subst (λ (h : Option Heard). StreamsFile mid splice n c.deref-2.result.now h) c.in-Some-2.is (c.in_ok-heard.ensures.heard (subst IsTrue (sym c.read_short.ensures.told) told)) in
+          streamed_hears c.held_is_opened.ensures old mid splice n (get_or splice.takes n []) c.in-Some-2.heard c.read_short.ensures.same (subst (λ (name : List ℕ). StreamsFile mid splice n name (Some c.in-Some-2.heard)) name found);
+      of = subst (λ o. IfSome o (λ heard. IsOfTake splice n (Ok heard))) c.in-Some-2.is c.in_ok-heard.ensures.of;
+      fault = tt;
+    }
+
+pub returns : goal.returns
+returns g c =
+    let old = g.F.Folder.file c.args.folder.now in
+    let same = c.hear_streamed.ensures.same ∙ c.read_short.ensures.same in
+    record {
+      same = c.read_file.ensures.same ∙ same;
+      told = c.read_file.ensures.told ∙ c.hear_streamed.ensures.told ∙ c.read_short.ensures.told;
+      heard = λ told.
+          let name = named c.args.splice.now.takes.items c.args.number c.index-name.result.now c.deref-3.result.now c.requires c.index-name.ensures c.deref-3.ensures in
+          let stands = c.in_ok-file-2.ensures.bytes (subst IsTrue (sym (c.hear_streamed.ensures.told ∙ c.read_short.ensures.told)) told) in
+          record {
+            file = c.in_ok-file-2.file.items;
+            file_stands = ap old (sym name) ∙ subst (λ (f : Files). f c.deref-3.result.now ≡ Some c.in_ok-file-2.file.items) same stands;
+            hears = subst (λ (bytes : List ℕ). HearsTake (splice_content c.args.splice.now) c.args.number c.hear_file-2.result (take_in c.args.number bytes)) c.deref-4.ensures.value c.hear_file-2.ensures.heard;
+          };
+      of = c.hear_file-2.ensures.of;
+      fault = tt;
+    }
+
+pub returns-in_err-heard : goal.returns-in_err-heard
+returns-in_err-heard g c =
+    let e = err_from_is_err_and c.from_residual-in_err-heard.result c.from_residual-in_err-heard.ensures.1 in
+    rw (e.1, e.2) (record {
+      same = c.hear_streamed.ensures.same ∙ c.read_short.ensures.same;
+      told = c.hear_streamed.ensures.told ∙ c.read_short.ensures.told;
+      heard = tt;
+      of = tt;
+      fault = c.in_err-heard.ensures.fault;
+    })
+
+pub returns-in_err-file : goal.returns-in_err-file
+returns-in_err-file g c =
+    let e = err_from_is_err_and c.from_residual.result c.from_residual.ensures.1 in
+    rw (e.1, e.2) (record {
+      same = c.read_short.ensures.same;
+      told = c.read_short.ensures.told;
+      heard = tt;
+      of = tt;
+      fault = unread_of c.in_err-file.field-0.0 c.in_err-file.ensures.fault;
+    })
+
+pub returns-in_err-file-2 : goal.returns-in_err-file-2
+returns-in_err-file-2 g c =
+    let e = err_from_is_err_and c.from_residual-in_err-file-2.result c.from_residual-in_err-file-2.ensures.1 in
+    rw (e.1, e.2) (record {
+      same = c.read_file.ensures.same ∙ c.hear_streamed.ensures.same ∙ c.read_short.ensures.same;
+      told = c.read_file.ensures.told ∙ c.hear_streamed.ensures.told ∙ c.read_short.ensures.told;
+      heard = tt;
+      of = tt;
+      fault = unread_of c.in_err-file-2.field-0.0 c.in_err-file-2.ensures.fault;
+    })

@@ -1,10 +1,11 @@
-use Rattle.std.proofs.Common.{◌∙◌, Err, ap}
+use Rattle.std.proofs.Common.{◌∙◌, Err, ap, arith}
 use Rattle.std.proofs.lemmas.Result.{err_from_is_err_and}
 use Rattle.device_core.specs.Inlets.{inlet_reader}
 use Rattle.device_core.specs.Outlets.{outlet_writer}
 use Rattle.stream_core.proofs.PieceLaws.{any_err}
 use Rattle.sound_core.specs.Outlines.{around_of}
-use Rattle.transfer_core.proofs.ConversionLaws.{converts_file, converts_front, converts_given, ends_stand, nothing_converted, relay_stands}
+use Rattle.transfer_core.proofs.ConversionLaws.{converts_file, converts_front, converts_given, ends_stand, nothing_converted, relay_stands, stream_whole, writing_not_whole, writing_stream}
+use Rattle.transfer_core.proofs.StreamLaws.{same_stream}
 use Rattle.transfer_core.proofs.converting.convert_stream.Goals as goal
 
 pub returns-in_err-ends-clause-front : goal.returns-in_err-ends-clause-front
@@ -15,6 +16,21 @@ returns-in_err-ends-clause-refused g c =
     let e = err_from_is_err_and c.from_residual.result c.from_residual.ensures.1 in
     rw (e.1, e.2) (ends_stand (g.R.Read.remaining (inlet_reader c.args.inlet.now)) (around_of c.args.outline.now) c.args.form c.in_err-ends.field-0.0 (λ is. c.in_err-ends.ensures.not_whole_bytes.0 (ap Err is)))
 
+pub returns-in_err-ends-clause-not_whole_bytes : goal.returns-in_err-ends-clause-not_whole_bytes
+returns-in_err-ends-clause-not_whole_bytes g c =
+    let e = err_from_is_err_and c.from_residual.result c.from_residual.ensures.1 in
+    rw (e.1, e.2) (λ is. writing_not_whole c.in_err-ends.field-0.0 (c.in_err-ends.ensures.not_whole_bytes.1 is))
+
+pub returns-in_err-ends-clause-read_failed : goal.returns-in_err-ends-clause-read_failed
+returns-in_err-ends-clause-read_failed g c =
+    let e = err_from_is_err_and c.from_residual.result c.from_residual.ensures.1 in
+    rw (e.1, e.2, writing_stream c.in_err-ends.field-0.0) (omega arith)
+
+pub returns-in_err-ends-clause-write_failed : goal.returns-in_err-ends-clause-write_failed
+returns-in_err-ends-clause-write_failed g c =
+    let e = err_from_is_err_and c.from_residual.result c.from_residual.ensures.1 in
+    rw (e.1, e.2, writing_stream c.in_err-ends.field-0.0) (omega arith)
+
 pub returns-in_err-relay-clause-front : goal.returns-in_err-relay-clause-front
 returns-in_err-relay-clause-front g c =
     any_err c.from_residual-in_err-relay.result (converts_front c.written_in_parts.ensures (around_of c.args.outline.now) c.requires.told c.args.form c.in_ok-ends.ensures.fits (record { interleaving = c.interleaving_in.result; head = c.deref.result; tail = c.deref-2.result }) c.interleaving_in.ensures (c.deref.ensures.value ∙ c.in_ok-ends.ensures.head) (c.deref-2.ensures.value ∙ c.in_ok-ends.ensures.tail) (g.R.Read.remaining (inlet_reader c.args.inlet.now)) (g.W.Write.contents (outlet_writer c.args.outlet.now)) (g.W.Write.contents (outlet_writer c.relay.new.outlet)) c.in_err-relay.ensures.front)
@@ -23,6 +39,29 @@ pub returns-in_err-relay-clause-refused : goal.returns-in_err-relay-clause-refus
 returns-in_err-relay-clause-refused g c =
     let e = err_from_is_err_and c.from_residual-in_err-relay.result c.from_residual-in_err-relay.ensures.1 in
     rw (e.1, e.2) (relay_stands (g.R.Read.remaining (inlet_reader c.args.inlet.now)) (around_of c.args.outline.now) c.args.form c.in_err-relay.field-0.0 c.in_err-relay.ensures.fault)
+
+pub returns-in_err-relay-clause-not_whole_bytes : goal.returns-in_err-relay-clause-not_whole_bytes
+returns-in_err-relay-clause-not_whole_bytes g c = λ is. absurd (is c.in_ok-ends.ensures.fits)
+
+pub returns-in_err-relay-clause-read_failed : goal.returns-in_err-relay-clause-read_failed
+returns-in_err-relay-clause-read_failed g c =
+    let e = err_from_is_err_and c.from_residual-in_err-relay.result c.from_residual-in_err-relay.ensures.1 in
+    rw (e.1, e.2, same_stream c.in_err-relay.field-0.0) c.in_err-relay.ensures.read_failed
+
+pub returns-in_err-relay-clause-write_failed : goal.returns-in_err-relay-clause-write_failed
+returns-in_err-relay-clause-write_failed g c =
+    let e = err_from_is_err_and c.from_residual-in_err-relay.result c.from_residual-in_err-relay.ensures.1 in
+    rw (e.1, e.2, same_stream c.in_err-relay.field-0.0) c.in_err-relay.ensures.write_failed
+
+pub returns-in_err-relay-clause-unread : goal.returns-in_err-relay-clause-unread
+returns-in_err-relay-clause-unread g c =
+    let e = err_from_is_err_and c.from_residual-in_err-relay.result c.from_residual-in_err-relay.ensures.1 in
+    rw (e.1, e.2) (λ is. absurd (stream_whole c.in_err-relay.field-0.0 is))
+
+pub returns-in_err-relay-clause-unwritten : goal.returns-in_err-relay-clause-unwritten
+returns-in_err-relay-clause-unwritten g c =
+    let e = err_from_is_err_and c.from_residual-in_err-relay.result c.from_residual-in_err-relay.ensures.1 in
+    rw (e.1, e.2) (λ is. absurd (stream_whole c.in_err-relay.field-0.0 is))
 
 pub returns-clause-ok : goal.returns-clause-ok
 returns-clause-ok g c =

@@ -1,3 +1,4 @@
+use Rattle.std.proofs.Common.{inl, refl, arith}
 use Rattle.std.proofs.lemmas.Result.{err_from_is_err_and}
 use Rattle.device_core.specs.Inlets.{inlet_reader}
 use Rattle.device_core.specs.Outlets.{outlet_writer}
@@ -5,7 +6,7 @@ use Rattle.sound_core.specs.Faults.{StopsReading}
 use Rattle.stream_core.proofs.PieceLaws.{any_err}
 use Rattle.stream_core.proofs.PlayLaws.{none_written}
 use Rattle.transfer_core.specs.Playing.{Plays}
-use Rattle.transfer_core.proofs.StreamLaws.{before_writing, keeps_up, of_stream, only_outside, plays_file, plays_given, project_outside, stands, writes_front}
+use Rattle.transfer_core.proofs.StreamLaws.{before_writing, keeps_up, of_stream, only_outside, plays_file, plays_given, project_keeps_up, project_outside, project_stream, project_turns, same_stream, stands, stream_turns, writes_front}
 use Rattle.transfer_core.proofs.playing.play_stream.Goals as goal
 
 pub returns-in_err-taps-clause-cause : goal.returns-in_err-taps-clause-cause
@@ -15,6 +16,34 @@ returns-in_err-taps-clause-cause g c =
 
 pub returns-in_err-taps-clause-front : goal.returns-in_err-taps-clause-front
 returns-in_err-taps-clause-front g c = none_written c.from_residual.result (g.R.Read.remaining (inlet_reader c.args.inlet.now)) (Plays c.args.project.now) (g.W.Write.contents (outlet_writer c.args.outlet.now))
+
+pub returns-in_err-taps-clause-keeps_up : goal.returns-in_err-taps-clause-keeps_up
+returns-in_err-taps-clause-keeps_up g c =
+    let e = err_from_is_err_and c.from_residual.result c.from_residual.ensures.1 in
+    rw (e.1, e.2) (project_keeps_up (g.R.Read.remaining (inlet_reader c.args.inlet.now)) (g.W.Write.contents (outlet_writer c.args.outlet.now)) (g.W.Write.contents (outlet_writer c.args.outlet.now)) c.args.project.now _ c.in_err-taps.field-0.0 c.in_err-taps.ensures.cause)
+
+pub returns-in_err-taps-clause-refused : goal.returns-in_err-taps-clause-refused
+returns-in_err-taps-clause-refused g c =
+    let e = err_from_is_err_and c.from_residual.result c.from_residual.ensures.1 in
+    rw (e.1, e.2) (inl c.in_err-taps.ensures.exact)
+
+pub returns-in_err-taps-clause-read_failed : goal.returns-in_err-taps-clause-read_failed
+returns-in_err-taps-clause-read_failed g c =
+    let e = err_from_is_err_and c.from_residual.result c.from_residual.ensures.1 in
+    rw (e.1, e.2, project_stream c.in_err-taps.field-0.0 c.in_err-taps.ensures.cause) (omega arith)
+
+pub returns-in_err-taps-clause-write_failed : goal.returns-in_err-taps-clause-write_failed
+returns-in_err-taps-clause-write_failed g c =
+    let e = err_from_is_err_and c.from_residual.result c.from_residual.ensures.1 in
+    rw (e.1, e.2, project_stream c.in_err-taps.field-0.0 c.in_err-taps.ensures.cause) (omega arith)
+
+pub returns-in_err-taps-clause-turn_limit : goal.returns-in_err-taps-clause-turn_limit
+returns-in_err-taps-clause-turn_limit g c =
+    let e = err_from_is_err_and c.from_residual.result c.from_residual.ensures.1 in
+    rw (e.1, e.2) (λ is. absurd (project_turns c.in_err-taps.field-0.0 c.in_err-taps.ensures.cause is))
+
+pub returns-in_err-taps-clause-unread : goal.returns-in_err-taps-clause-unread
+returns-in_err-taps-clause-unread g c = λ none. refl
 
 pub returns-in_err-play-clause-cause : goal.returns-in_err-play-clause-cause
 returns-in_err-play-clause-cause g c =
@@ -39,6 +68,27 @@ pub returns-in_err-play-clause-refused : goal.returns-in_err-play-clause-refused
 returns-in_err-play-clause-refused g c =
     let e = err_from_is_err_and c.from_residual-in_err-play.result c.from_residual-in_err-play.ensures.1 in
     rw (e.1, e.2) (stands c.args.project.now c.in_ok-taps.taps c.in_ok-taps.ensures.found (g.R.Read.remaining (inlet_reader c.args.inlet.now)) c.in_err-play.field-0.0 c.in_err-play.ensures.fault)
+
+pub returns-in_err-play-clause-read_failed : goal.returns-in_err-play-clause-read_failed
+returns-in_err-play-clause-read_failed g c =
+    let e = err_from_is_err_and c.from_residual-in_err-play.result c.from_residual-in_err-play.ensures.1 in
+    rw (e.1, e.2, same_stream c.in_err-play.field-0.0) c.in_err-play.ensures.read_failed
+
+pub returns-in_err-play-clause-write_failed : goal.returns-in_err-play-clause-write_failed
+returns-in_err-play-clause-write_failed g c =
+    let e = err_from_is_err_and c.from_residual-in_err-play.result c.from_residual-in_err-play.ensures.1 in
+    rw (e.1, e.2, same_stream c.in_err-play.field-0.0) c.in_err-play.ensures.write_failed
+
+pub returns-in_err-play-clause-turn_limit : goal.returns-in_err-play-clause-turn_limit
+returns-in_err-play-clause-turn_limit g c =
+    let e = err_from_is_err_and c.from_residual-in_err-play.result c.from_residual-in_err-play.ensures.1 in
+    rw (e.1, e.2) (λ is. c.in_err-play.ensures.turn_limit (stream_turns c.in_err-play.field-0.0 is))
+
+pub returns-in_err-play-clause-unread : goal.returns-in_err-play-clause-unread
+returns-in_err-play-clause-unread g c = λ none. absurd (none c.in_ok-taps.taps c.in_ok-taps.ensures.found)
+
+pub returns-clause-unread : goal.returns-clause-unread
+returns-clause-unread g c = λ none. absurd (none c.in_ok-taps.taps c.in_ok-taps.ensures.found)
 
 pub returns-clause-ok : goal.returns-clause-ok
 returns-clause-ok g c =

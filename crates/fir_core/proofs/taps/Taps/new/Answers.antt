@@ -1,0 +1,52 @@
+use Rattle.std.proofs.Common.{arith, inl, inr, refl}
+use Rattle.std.proofs.lemmas.Result.{err_from_is_err_and}
+use Rattle.fir_core.specs.Decimator.{Decimator, IsWithinLimits}
+use Rattle.fir_core.proofs.LimitLaws.{no_fault-from_IsWithinLimits}
+use Rattle.fir_core.proofs.taps.Taps.new.Goals as goal
+use Rattle.fir_core.proofs.taps.Taps.new.Goals.{After-from_slice}
+
+-- the numbers that were let through
+within : (c : After-from_slice) → let d : Decimator = record { taps = c.args.taps.now; factor = c.args.factor; delay = c.args.delay; shift = c.args.shift; width = c.args.width } in IsWithinLimits d
+within c = record {
+  some_taps = omega arith;
+  few_taps = omega arith;
+  small_sum = omega (arith, c.abs_sum.ensures);
+  whole_bytes = omega arith;
+  least_factor = omega arith;
+  greatest_factor = omega arith;
+  delay_in_taps = omega arith;
+  small_shift = omega arith;
+  known_width = elim c.else-width-ne16.either [ inl other ↦ inr other.1 | inr sixteen ↦ inl sixteen ];
+}
+
+pub returns-then-abs_sum-clause-only : goal.returns-then-abs_sum-clause-only
+returns-then-abs_sum-clause-only c = λ limits. absurd (omega (arith, limits.small_sum, c.abs_sum.ensures))
+
+pub returns-then-delay-taps-clause-only : goal.returns-then-delay-taps-clause-only
+returns-then-delay-taps-clause-only c = λ limits. absurd (omega (arith, limits.delay_in_taps))
+
+pub returns-in_err-taps-clause-ok : goal.returns-in_err-taps-clause-ok
+returns-in_err-taps-clause-ok c = let e = err_from_is_err_and c.from_residual.result c.from_residual.ensures.1 in rw e.1 tt
+
+pub returns-in_err-taps-clause-found : goal.returns-in_err-taps-clause-found
+returns-in_err-taps-clause-found c = let e = err_from_is_err_and c.from_residual.result c.from_residual.ensures.1 in rw e.1 tt
+
+pub returns-in_err-taps-clause-only : goal.returns-in_err-taps-clause-only
+returns-in_err-taps-clause-only c = let e = err_from_is_err_and c.from_residual.result c.from_residual.ensures.1 in λ limits. rw (e.1, e.2) refl
+
+pub returns-in_err-taps-clause-order : goal.returns-in_err-taps-clause-order
+returns-in_err-taps-clause-order c =
+    let e = err_from_is_err_and c.from_residual.result c.from_residual.ensures.1 in
+    rw (e.1, e.2) (no_fault-from_IsWithinLimits _ (within (goal.at.returns-in_err-taps-clause-order c).After-from_slice))
+
+pub returns-clause-ok : goal.returns-clause-ok
+returns-clause-ok c = rw c.in_ok-taps.ensures.items refl
+
+pub returns-clause-only : goal.returns-clause-only
+returns-clause-only c = λ limits. tt
+
+pub returns-clause-found : goal.returns-clause-found
+returns-clause-found c = within (goal.at.returns-clause-found c).After-from_slice
+
+pub returns-clause-order : goal.returns-clause-order
+returns-clause-order c = no_fault-from_IsWithinLimits _ (within (goal.at.returns-clause-order c).After-from_slice)

@@ -1,0 +1,35 @@
+use Rattle.std.proofs.Common.{IfErr, IfOk, arith, subst}
+use Rattle.std.proofs.lemmas.Result.{err_from_is_err_and}
+use Rattle.device_core.specs.Inlets.{inlet_reader}
+use Rattle.sound_core.specs.Outlines.{IsOutlineFault, SurroundsFile, around_of}
+use Rattle.sound_core.proofs.outline.read_outline.Goals as goal
+
+pub returns-in_err-block-clause-ok : goal.returns-in_err-block-clause-ok
+returns-in_err-block-clause-ok g c = let e = err_from_is_err_and c.from_residual.result c.from_residual.ensures.1 in rw e.1 tt
+
+pub returns-in_err-block-clause-fault : goal.returns-in_err-block-clause-fault
+returns-in_err-block-clause-fault g c = let e = err_from_is_err_and c.from_residual.result c.from_residual.ensures.1 in rw (e.1, e.2) tt
+
+pub returns-in_err-block-clause-read_failed : goal.returns-in_err-block-clause-read_failed
+returns-in_err-block-clause-read_failed g c = let e = err_from_is_err_and c.from_residual.result c.from_residual.ensures.1 in rw (e.1, e.2) (omega arith)
+
+pub returns-in_err-block-clause-turn_limit : goal.returns-in_err-block-clause-turn_limit
+returns-in_err-block-clause-turn_limit g c = let e = err_from_is_err_and c.from_residual.result c.from_residual.ensures.1 in rw (e.1, e.2) (λ turn. cc)
+
+pub new-requires : goal.new-requires
+new-requires g c = record {
+  ready = c.requires.inlet_ready;
+  reads_low = c.requires.reads_low;
+  given_low = c.requires.given_low;
+  size = c.in_ok-block.ensures;
+  empty = c.new-ahead.ensures.items;
+}
+
+pub outline_of-requires : goal.outline_of-requires
+outline_of-requires g c = c.new.ensures.start
+
+pub returns-clause-ok : goal.returns-clause-ok
+returns-clause-ok g c = subst (λ i. IfOk c.outline_of.result (λ o. SurroundsFile (g.R.Read.remaining (inlet_reader i)) (around_of o))) c.new.ensures.inlet c.outline_of.ensures.ok
+
+pub returns-clause-fault : goal.returns-clause-fault
+returns-clause-fault g c = subst (λ i. IfErr c.outline_of.result (IsOutlineFault (g.R.Read.remaining (inlet_reader i)))) c.new.ensures.inlet c.outline_of.ensures.fault

@@ -1,4 +1,4 @@
-use Rattle.std.proofs.Common.{◌≡◌, ℕ, ◌+◌, ◌*◌, ◌≤◌, ◌∙◌, length, slice_index, inl, inr, ap, arith}
+use Rattle.std.proofs.Common.{◌≡◌, ◌+◌, ◌*◌, ◌≤◌, ◌∙◌, length, slice_index, inl, inr, ap, arith}
 use Rattle.std.proofs.lemmas.Simd.{length-put_chunk}
 use Rattle.dsd_bits.proofs.PlaneLemmas.{plane_more, plane_others}
 use Rattle.dsd_bits.proofs.planes.take_fifth_out.Goals as goal

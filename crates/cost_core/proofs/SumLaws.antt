@@ -48,6 +48,15 @@ part_kept n z h k =
     let e : to_z w32 n ≡ pos n = omega (arith, ints) in
     rw (e, kept z (omega arith)) (kept (pos n *ℤ z) (omega (arith, part_in n z k)))
 
+-- a small number fits in 32 bits, and so many parts of a weighted sum do
+pub small_fits : (n : ℕ) → n ≤ 4097 → FitsSigned w32 (pos n)
+small_fits n h = fits_signed_from_abs w32 (pos n) (omega arith)
+
+pub part_fits : (n : ℕ) (z : ℤ) → n ≤ 4097 → unsigned_abs z ≤ 4096 → FitsSigned w32 (to_z w32 n *ℤ to_z w32 (of_z w32 z))
+part_fits n z h k =
+    let e : to_z w32 n ≡ pos n = omega (arith, ints) in
+    rw (e, kept z (omega arith)) (fits_signed_from_abs w32 (pos n *ℤ z) (omega (arith, part_in n z k)))
+
 -- one step of the loop that weighs bits: the sum fits, and it is the sum so far
 module _ (weights : List ℤ) (bit : ℕ → Bool) (small : sum_by unsigned_abs weights ≤ 4096) (k : ℕ) (below : k < length weights) where
   weight_in : unsigned_abs (get_or weights k (pos 0)) ≤ 4096

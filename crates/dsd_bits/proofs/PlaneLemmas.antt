@@ -2,6 +2,7 @@
 use Rattle.std.proofs.Common.{◌≡◌, ◌⊎◌, ℕ, ◌+◌, ◌-◌, ◌*◌, ◌<◌, ◌≤◌, List, [], ◌∷◌, ◌++◌, length, get_or, slice_index, zero, suc, inl, inr, sym, ap, ◌∙◌, arith}
 use Rattle.std.proofs.lemmas.Bool.{cases_lt}
 use Rattle.std.proofs.lemmas.List.{get_or_append_left, get_or-append_right}
+use Rattle.std.proofs.lemmas.Nat.{mul-le}
 use Rattle.std.proofs.lemmas.Simd.{length-chunk, get_or-chunk, get_or-put_chunk_below, get_or-put_chunk_at, get_or-put_chunk_above}
 use Rattle.std.specs.Simd.Lanes.{chunk, put_chunk, pick_l}
 
@@ -55,3 +56,7 @@ module _ (planes lanes : List ℕ) (base n : ℕ) (size : length lanes ≡ 16) (
   pub plane_others : (place : ℕ) → (place < base) ⊎ (base + (n + 16) ≤ place) → slice_index (put_chunk (base + n) planes lanes) place ≡ slice_index planes place
   plane_others place (inl low) = get_or-put_chunk_below (base + n) planes lanes place 0 (omega (arith, low))
   plane_others place (inr high) = get_or-put_chunk_above (base + n) planes lanes place 0 (omega (arith, high, size))
+
+-- the place of a frame in a block is small
+pub frame_fits : (k n : ℕ) → k < 4096 → n ≤ 6 → k * n < 24577
+frame_fits k n few number = omega (arith, mul-le k n 4095 6 (omega (arith, few)) number)

@@ -18,6 +18,10 @@ length-rooms_bits rooms = length-map rooms (λ (room : RoomContent). room.bits)
 pub room_at : (rooms : List RoomContent) (c : ℕ) (room : RoomContent) (d : List Bool) → c < length rooms → room ≡ get_or rooms c room → get_or (rooms_bits rooms) c d ≡ room.bits
 room_at rooms c room d lt is = get_or-map (λ (r : RoomContent). r.bits) rooms c room d lt ∙ ap (λ (r : RoomContent). r.bits) (sym is)
 
+-- a room has as many bits as the first
+pub room_long : (rooms : List RoomContent) → IsLevel (rooms_bits rooms) → (c : ℕ) (room : RoomContent) → c < length rooms → room ≡ get_or rooms c room → length room.bits ≡ count_of (rooms_bits rooms)
+room_long rooms level c room lt is = ap length (sym (room_at rooms c room [] lt is)) ∙ level.same c [] (omega (arith, lt, length-rooms_bits rooms))
+
 -- the bytes of a room
 module _ (rooms : List RoomContent) (level : IsLevel (rooms_bits rooms)) (c : ℕ) (room : RoomContent) (lt : c < length rooms) (is : room ≡ get_or rooms c room) (bytes : List ℕ) (bytes_are : bytes ≡ packed room.bits) where
   pub room_bytes : bytes ≡ packed (get_or (rooms_bits rooms) c [])
@@ -25,8 +29,7 @@ module _ (rooms : List RoomContent) (level : IsLevel (rooms_bits rooms)) (c : �
 
   pub room_frames : count_of (rooms_bits rooms) % 8 ≡ 0 → length bytes ≡ frames_of (rooms_bits rooms)
   room_frames whole =
-      let long : length room.bits ≡ count_of (rooms_bits rooms) = ap length (sym (room_at rooms c room [] lt is)) ∙ level.same c [] (omega (arith, length-rooms_bits rooms)) in
-      ap length bytes_are ∙ length-map-range_with_len (packed_byte room.bits) 0 (div_ceil (length room.bits) 8) ∙ omega (arith, long, whole)
+      ap length bytes_are ∙ length-map-range_with_len (packed_byte room.bits) 0 (div_ceil (length room.bits) 8) ∙ omega (arith, room_long rooms level c room lt is, whole)
 
 -- all frames are the sound bytes
 pub laced_part_all : (channels : List (List Bool)) → laced_part channels 0 (frames_of channels) ≡ laced channels

@@ -184,6 +184,25 @@ tag_ok file tag e = elim (chosen (eqb (pointer file) 0) (Ok []) (cond (ltb (poin
       (inr (ltb-false _ _ a.0, ltb-false _ _ b.0), rw some.0 (sym same))
 ]
 
+-- which tag it is, or why there is none, by the pointer and by where the sound ends
+module _ (file : List ℕ) (place end : ℕ) (place_is : place ≡ pointer file) (ends : end ≡ sound_end file) where
+  pub no_tag : place ≡ 0 → tag_of file ≡ Ok []
+  unfolding tag_of
+  no_tag none = rw (eq-eqb (pointer file) 0 (sym place_is ∙ none)) refl
+
+  module _ (some : place ≡ 0 → ⊥) where
+    pub tag_refused : (place < end) ⊎ ((end ≤ place) × (length file < place)) → tag_of file ≡ Err BadPointer
+    unfolding tag_of
+    tag_refused (inl before) =
+        rw (ne_eqb (pointer file) 0 (λ e. some (place_is ∙ e)), lt-ltb (pointer file) (sound_end file) (subst (λ n. n < sound_end file) place_is (subst (λ n. place < n) ends before))) refl
+    tag_refused (inr past) =
+        rw (ne_eqb (pointer file) 0 (λ e. some (place_is ∙ e)), le-ltb (pointer file) (sound_end file) (subst (λ n. sound_end file ≤ n) place_is (subst (λ n. n ≤ place) ends past.0)), lt-ltb (length file) (pointer file) (subst (λ n. length file < n) place_is past.1)) refl
+
+    pub tag_found : end ≤ place → place ≤ length file → tag_of file ≡ Ok (drop place file)
+    unfolding tag_of
+    tag_found behind within =
+        rw (ne_eqb (pointer file) 0 (λ e. some (place_is ∙ e)), le-ltb (pointer file) (sound_end file) (subst (λ n. sound_end file ≤ n) place_is (subst (λ n. n ≤ place) ends behind)), le-ltb (length file) (pointer file) (subst (λ n. n ≤ length file) place_is within)) (ap (λ n. Ok (drop n file)) (sym place_is))
+
 tag_again : (file : List ℕ) → Behind file → tag_of file ≡ Ok (tag_told file)
 unfolding tag_of
 tag_again file behind = elim (cases_eq (pointer file) 0) [
@@ -196,7 +215,7 @@ tag_again file behind = elim (cases_eq (pointer file) 0) [
 
 -- ---- a whole file
 
-abbrev done : Content × BitOrder → Result (Content × BitOrder) DsfFault
+abbrev pub done : Content × BitOrder → Result (Content × BitOrder) DsfFault
 done x = Ok x
 
 ok_is : (x y : Content × BitOrder) → done x ≡ done y → y ≡ x

@@ -4,3 +4,5 @@ pub mod OutlineLaws
 pub mod ToldLaws
 pub mod ShapeLaws
 pub mod WrittenAgain
+pub mod Steps
+pub mod ChunkLaws

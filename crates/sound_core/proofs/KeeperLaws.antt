@@ -1,8 +1,8 @@
 -- What is kept of a sound that comes group by group.
-use Rattle.std.proofs.Common.{◌≡◌, ℕ, ◌+◌, ◌-◌, ◌%◌, ◌<◌, ◌≤◌, ◌^◌, ◌⊎◌, inl, inr, min, Bool, List, [], ◌++◌, map, length, get_or, set, take, drop, replicate, refl, sym, subst, ap, ap₂, ◌∙◌, arith, append-nil, length-append, length-take, length-drop}
+use Rattle.std.proofs.Common.{◌≡◌, ℕ, ◌+◌, ◌-◌, ◌%◌, ◌<◌, ◌≤◌, ◌^◌, ◌⊎◌, inl, inr, min, Bool, List, [], ◌∷◌, ◌++◌, map, length, get_or, set, take, drop, replicate, refl, sym, subst, ap, ap₂, ◌∙◌, arith, append-nil, length-append, length-take, length-drop}
 use Rattle.std.specs.Prelude.{slice_range}
 use Rattle.std.proofs.lemmas.Bool.{cases_lt}
-use Rattle.std.proofs.lemmas.List.{drop-append-le, drop-drop, drop_at, ext_get_or, get_or-map, get_or-replicate, get_or-set_other, get_or-set_same, length-map, length-replicate, length-set, nil_from_length}
+use Rattle.std.proofs.lemmas.List.{drop-append-le, drop-drop, drop_at, ext_get_or, get_or-map, get_or-replicate, get_or-set_other, get_or-set_same, length-map, length-replicate, length-set, nil_from_length, replicate_more}
 use Rattle.std.proofs.lemmas.List.FromFn.{get_or-map-range_with_len, length-map-range_with_len}
 use Rattle.dsd_bits.specs.declared.interleaving.Interleaving.{Interleaving}
 use Rattle.dsd_bits.specs.declared.interleaving.Interleaving.TheVariants.{Bytes, Blocks}
@@ -242,3 +242,7 @@ same_stretches channels ranges kept are =
     let d : BitRange = record { start = 0; stop = 0 } in
     let long : length kept ≡ length (map (stretch_of channels) ranges) = are.number ∙ sym (length-map ranges (stretch_of channels)) in
     ext_get_or [] kept (map (stretch_of channels) ranges) long (λ i h. (let within : i < length ranges = omega (arith, h, are.number) in are.each i d within ∙ sym (get_or-map (stretch_of channels) ranges i d [] within)))
+
+-- one more of the same
+pub one_more : {X : Type 0} (n : ℕ) (x : X) (xs : List X) (y : X) (ys : List X) → xs ≡ replicate n x → y ≡ x → ys ≡ xs ++ (y ∷ []) → ys ≡ replicate (n + 1) x
+one_more n x xs y ys are same on = on ∙ ap₂ (λ us z. us ++ (z ∷ [])) are same ∙ replicate_more n x

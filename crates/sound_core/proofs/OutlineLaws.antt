@@ -1,12 +1,12 @@
 -- What was read of a file, part by part, and what its outline tells.
-use Rattle.std.proofs.Common.{◌≡◌, ◌≢◌, ℕ, ◌+◌, ◌≤◌, List, [], ◌++◌, length, take, drop, Option, None, Some, refl, sym, subst, ap, ◌∙◌, arith, append_assoc, append-nil, length-append, length-take, take-append-drop}
-use Rattle.std.specs.Io.KnownBytes.{Consumes}
+use Rattle.std.proofs.Common.{◌≡◌, ◌≢◌, ℕ, ◌+◌, ◌<◌, ◌≤◌, List, [], ◌++◌, length, take, drop, Option, None, Some, IfSome, refl, sym, subst, ap, ◌∙◌, arith, append_assoc, append-nil, length-append, length-take, take-append-drop}
+use Rattle.std.specs.Io.KnownBytes.{Consumes, IsAtEnd}
 use Rattle.device_core.specs.Inlets.{inlet_reader}
 use Rattle.device_core.specs.declared.inlet.Inlet.{Inlet}
 use Rattle.sound_core.specs.Outlines.{ReadsTag}
 use Rattle.sound_core.specs.Readers.{Passes}
 use Rattle.sound_core.specs.Reads.{Reads, ReadsAll, ReadsToEnd}
-use Rattle.sound_core.proofs.ReadLaws.{reads_none, reads_on}
+use Rattle.sound_core.proofs.ReadLaws.{at_end, reads_none, reads_on}
 
 -- as many bytes are left as there are behind those that were read
 pub left_is : {R : Type 0} (left : R → Option (List ℕ)) (i j : Inlet R) (read : List ℕ) → Reads left i j read → (xs : List ℕ) → left (inlet_reader i) ≡ Some xs → (ys : List ℕ) × (left (inlet_reader j) ≡ Some ys) × (xs ≡ read ++ ys)
@@ -40,6 +40,10 @@ module _ {R : Type 0} (left : R → Option (List ℕ)) (i j : Inlet R) (n : ℕ)
     parts = passes.parts ∙ ap (λ xs. passes.passed ++ xs) (sym (take-append-drop m ahead) ∙ ap (λ xs. take m ahead ++ xs) (sym is)) ∙ sym (append_assoc passes.passed (take m ahead) rest);
     long = omega (arith, length-append passes.passed (take m ahead), length-take m ahead, passes.long, within);
   }
+
+  -- the bytes end before
+  pub pass_short : (k : Inlet R) (read : List ℕ) (wanted : ℕ) → Reads left j k read → length read ≡ 0 → IsAtEnd (left (inlet_reader k)) → n + length ahead < wanted → IfSome (left (inlet_reader i)) (λ xs. length (old ++ xs) < wanted)
+  pass_short k read wanted reads none end less = at_end left i j k passes.read read (λ xs. length (old ++ xs) < wanted) passes.reads reads none end (omega (arith, ap length passes.parts, length-append passes.passed ahead, passes.long, less))
 
 -- ---- what stands between a sound and a tag
 pub tag_none : {R : Type 0} (left : R → Option (List ℕ)) (i j : Inlet R) (place stop gap : ℕ) (back none : List ℕ) → place ≡ 0 → (all : ReadsToEnd left i j) → none ≡ [] → gap ≡ length back + length all.bytes → ReadsTag left i j place stop back none gap

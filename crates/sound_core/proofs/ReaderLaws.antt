@@ -1,8 +1,11 @@
 -- A reader that goes on: it stays the same, and what was counted adds up.
-use Rattle.std.proofs.Common.{◌≡◌, ◌+◌, ◌≤◌, Result, Ok, Err, IsErrOf, arith, refl, ap, subst, ◌∙◌}
-use Rattle.device_core.specs.Inlets.{inlet_failures, inlet_reads}
+use Rattle.std.proofs.Common.{◌≡◌, ◌≢◌, ℕ, ◌+◌, ◌≤◌, Result, Ok, Err, IsErrOf, arith, refl, ap, subst, ◌∙◌}
+use Rattle.std.specs.Io.Iter.{u64_saturate}
+use Rattle.device_core.specs.Inlets.{inlet_failures, inlet_given, inlet_reads}
+use Rattle.device_core.specs.declared.inlet.Inlet.{Inlet}
 use Rattle.sound_core.specs.Faults.{failed_reads}
-use Rattle.sound_core.specs.Readers.{Counts, IsSame}
+use Rattle.sound_core.specs.Readers.{Counts, IsReading, IsSame}
+use Rattle.sound_core.specs.Reads.{HasBudget}
 use Rattle.sound_core.specs.declared.fault.StreamFault.{StreamFault}
 use Rattle.sound_core.specs.declared.fault.StreamFault.TheVariants.{FileRefused, RateNotDivided, TooLarge, ReadFailed, WriteFailed, TurnLimit, Memory}
 use Rattle.sound_core.specs.declared.reader.SoundReader.{SoundReader}
@@ -54,3 +57,18 @@ counts_still a b c x r none not_turn same p =
 
 pub counts_memory : {R X Y : Type 0} (a b c : SoundReader R) (x : X) → c.inlet.now ≡ b.inlet.now → Counts a b (Ok x) → Counts {X = Y} a c (Err Memory)
 counts_memory a b c x same p = counts_still a b c x (Err Memory) refl (λ turn. cc) same p
+
+-- one read more, and what it gave
+pub read_one : {R : Type 0} (limit : ℕ) (i j : Inlet R) (n : ℕ) → HasBudget limit i → inlet_reads i ≢ limit → n ≤ 65536 → inlet_reads j ≡ u64_saturate (inlet_reads i + 1) → inlet_given j ≡ u64_saturate (inlet_given i + n)
+    → HasBudget limit j × (inlet_reads j ≡ inlet_reads i + 1) × (inlet_given j ≡ inlet_given i + n)
+read_one limit i j n budget some few read given =
+    let turn : inlet_reads j ≡ inlet_reads i + 1 = omega (arith, budget.reads, budget.low, some, read) in
+    let more : inlet_given j ≡ inlet_given i + n = omega (arith, budget.reads, budget.given, some, few, given) in (
+      record { reads = omega (arith, budget.reads, some, turn); given = omega (arith, budget.reads, budget.given, some, few, turn, more); low = budget.low },
+      turn,
+      more,
+    )
+
+-- no read failed so far
+pub counts_so_far : {R X : Type 0} (a b : SoundReader R) (x : X) → IsReading b → IsSame a b → inlet_failures b.inlet.now ≡ inlet_failures a.inlet.now → Counts a b (Ok x)
+counts_so_far a b x reading same none = record { failures = omega (arith, none); turns = λ turn. absurd cc; most = omega (arith, reading.budget.reads, same.limit) }

@@ -1,8 +1,9 @@
 -- Frames of samples that are given channel by channel.
-use Rattle.std.proofs.Common.{◌≡◌, ◌≢◌, ℕ, zero, suc, ◌+◌, ◌*◌, ◌/◌, ◌%◌, ◌<◌, ◌≤◌, ◌⊎◌, ◌^◌, inl, inr, ℤ, pos, negsuc, unsigned_abs, to_z, of_z, w32, List, [], ◌∷◌, ◌++◌, map, sym, ap, subst, ◌∙◌, refl, arith, length, get_or, slice_index, take, drop, length-drop, length-take-le, get_or-take, get_or-drop, add-one, zero-add, append_assoc}
+use Rattle.std.proofs.Common.{◌≡◌, ◌≢◌, ℕ, zero, suc, ◌+◌, ◌*◌, ◌/◌, ◌%◌, ◌<◌, ◌≤◌, ◌⊎◌, ◌^◌, inl, inr, ℤ, pos, negsuc, unsigned_abs, to_z, of_z, w32, List, [], ◌∷◌, ◌++◌, map, sym, ap, subst, ◌∙◌, refl, arith, All, length, get_or, slice_index, take, drop, length-drop, length-take-le, get_or-take, get_or-drop, add-one, zero-add, append_assoc}
 use Rattle.std.specs.List.{flat_map, range_with_len}
 use Rattle.std.proofs.Math.Nat.{mul-le-mul_right}
 use Rattle.std.proofs.lemmas.Grind.{flat_map-append, same_number_lists}
+use Rattle.std.proofs.lemmas.List.Elements.{All-get_or}
 use Rattle.std.proofs.lemmas.Int.{to_z-of_z, fits_signed_from_abs}
 use Rattle.std.proofs.lemmas.List.{append-nil, take_all, take_more}
 use Rattle.std.proofs.Math.Seq.{take-add}
@@ -17,6 +18,25 @@ pub place_within : (c i frames long : ℕ) → c < long / frames → i < frames 
 place_within c i frames long below h =
     let e : (c + 1) * frames ≤ long / frames * frames = mul-le-mul_right frames (omega arith) in
     omega arith
+
+-- so do all samples of the channel
+pub row_within : (c frames long : ℕ) → c < long / frames → c * frames + frames ≤ long
+row_within c frames long below =
+    let e : (c + 1) * frames ≤ long / frames * frames = mul-le-mul_right frames (omega arith) in
+    omega arith
+
+-- the bytes of a sample of a frame stand among those of the frames
+pub bytes_within : (i c n samples size long : ℕ) → i < samples → c < n → samples * n * size ≤ long → (i * n + c) * size + size ≤ long
+bytes_within i c n samples size long below in_frame enough =
+    let row : (i * n + c + 1) * size ≤ n * samples * size = mul-le-mul_right size (omega (arith, mul-add-lt i n c samples below in_frame)) in
+    let next : (i * n + c) * size + size ≡ (i * n + c + 1) * size = grind arith in
+    let turned : n * samples * size ≡ samples * n * size = grind arith in
+    omega (arith, row, next, turned, enough)
+
+-- a place is below that of its bytes
+pub place_below : (width place long : ℕ) → (width ≡ 16) ⊎ (width ≡ 24) → place * (width / 8) + width / 8 ≤ long → place < long
+place_below width place long (inl e) within = let at = rw e at within in omega arith
+place_below width place long (inr e) within = let at = rw e at within in omega arith
 
 -- ---- one after the other
 range_more : (a n : ℕ) → range_with_len a (n + 1) ≡ range_with_len a n ++ (a + n) ∷ []
@@ -57,6 +77,12 @@ sample_back width z known small = to_z-of_z w32 z (fits_signed_from_abs w32 z (o
     least width (pos n) (inr e) h = let small = rw e at h in omega arith
     least width (negsuc n) (inl e) h = let small = rw e at h in omega arith
     least width (negsuc n) (inr e) h = let small = rw e at h in omega arith
+
+-- a stored sample has its width
+pub is_sample : (width : ℕ) (samples : List ℤ) (i : ℕ) → (width ≡ 16) ⊎ (width ≡ 24) → All (IsSample width) samples → i < length samples → IsSample width (to_z w32 (of_z w32 (get_or samples i (pos 0))))
+is_sample width samples i known all below =
+    let small = All-get_or (IsSample width) samples i (pos 0) below all in
+    subst (IsSample width) (sym (sample_back width (get_or samples i (pos 0)) known small)) small
 
 -- ---- samples written at their places
 pub frames_apart : (a b n c : ℕ) → c < n → a ≢ b → a * n + c ≢ b * n + c

@@ -1,11 +1,11 @@
 -- The parts of a WAVE file make the whole.
-use Rattle.std.proofs.Common.{◌≡◌, ℕ, ◌+◌, ◌*◌, ◌/◌, ◌^◌, ◌≤◌, length, ap, ◌∙◌, arith}
+use Rattle.std.proofs.Common.{◌≡◌, ℕ, ◌+◌, ◌*◌, ◌/◌, ◌^◌, ◌≤◌, ◌<◌, List, Option, Some, None, length, ap, subst, ◌∙◌, arith}
 use Rattle.std.proofs.lemmas.Bool.{le-ltb, lt-ltb}
 use Rattle.std.proofs.lemmas.Nat.{div-mul-add}
 use Rattle.wave_core.specs.Contents.{Pcm}
 use Rattle.wave_core.specs.Laws.{PartsJoin}
 use Rattle.wave_core.specs.Sizes.{riff_size}
-use Rattle.wave_core.specs.Texts.{frame_count}
+use Rattle.wave_core.specs.Texts.{frame_count, wave_text}
 
 -- whole frames are counted
 pub frames_counted : (p : Pcm) (frames : ℕ) → 1 ≤ p.channels → length p.samples ≡ frames * p.channels → frame_count p ≡ frames
@@ -19,3 +19,16 @@ parts_join p frames some whole = let counted = frames_counted p frames some whol
       whole = λ fits. rw (counted, lt-ltb (riff_size p.channels p.width frames) (2 ^ 32) fits);
       too_large = λ large. rw (counted, le-ltb (riff_size p.channels p.width frames) (2 ^ 32) large);
     }
+
+-- where the size fits there is a text
+pub text_stands : (p : Pcm) → riff_size p.channels p.width (frame_count p) < 2 ^ 32 → wave_text p ≡ None → ⊥
+text_stands p fits = rw (lt-ltb (riff_size p.channels p.width (frame_count p)) (2 ^ 32) fits) (λ is. subst Stands is tt)
+  where
+    Stands : Option (List ℕ) → Type 0
+    Stands (Some file) = Unit
+    Stands None = ⊥
+
+-- so where there is a size in 32 bits
+pub sized_text_stands : (p q : Pcm) (size samples channels spec_channels : ℕ) → q ≡ p → samples ≡ length q.samples → channels ≡ spec_channels → spec_channels ≡ q.channels → size ≡ riff_size q.channels q.width (samples / channels) → size < 2 ^ 32 → wave_text p ≡ None → ⊥
+sized_text_stands p q size samples channels spec_channels same all of_spec spec_of_all is fits =
+    rw (← same) (text_stands q (rw (← (ap (λ (n : ℕ). n / channels) all ∙ ap (λ (m : ℕ). length q.samples / m) (of_spec ∙ spec_of_all)), ← is) fits))

@@ -1,4 +1,4 @@
-use Rattle.std.proofs.Common.{IsTrue, subst, sym}
+use Rattle.std.proofs.Common.{◌∙◌, IsTrue, subst, sym}
 use Rattle.command_core.specs.Sources.{AreHeardOf}
 use Rattle.command_core.proofs.CommandLaws.{checked}
 use Rattle.command_core.proofs.performing.check_files.Goals as goal
@@ -16,3 +16,12 @@ returns g c = λ told.
     c.hear_sources.ensures.same c.find_master.ensures.same c.in-Ok-open.ensures.same
     h.sources master.file_stands given.1
     c.judge_opened.result (c.judge_opened.ensures h.project h.takes master.file given.0 (c.in-Ok.ensures.found h.project h.takes are) master.is_found given.2)
+
+pub returns-in_default : goal.returns-in_default
+returns-in_default g c = λ told. c.open.ensures.same ∙ c.find_master.ensures.same ∙ c.hear_sources.ensures.same
+
+pub judge_opened-requires : goal.judge_opened-requires
+judge_opened-requires g c = c.in_ok-found.ensures.of
+
+pub cut_of-requires : goal.cut_of-requires
+cut_of-requires g c = c.in_ok-sources.ensures.of

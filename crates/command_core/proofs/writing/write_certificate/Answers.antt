@@ -1,4 +1,4 @@
-use Rattle.std.proofs.Common.{◌≡◌, ◌∙◌, [], IsTrue, Some, ap, subst}
+use Rattle.std.proofs.Common.{◌≡◌, ◌∙◌, [], IsTrue, Some, ap, arith, inl, refl, subst}
 use Rattle.std.specs.Prelude.{OnErr, ◌⊎◌, IsErr}
 use Rattle.device_core.specs.Outlets.{outlet_writer}
 use Rattle.folder_core.specs.Files.{Files}
@@ -30,3 +30,26 @@ returns-clause-refused g c =
     cert_front c.args.planned (contents (outlet_writer c.new.result)) (contents (outlet_writer outlet)) (contents c.into_inner.result) (g.F.Folder.file c.args.folder.now name) new
     (g.F.Folder.is_told c.args.folder.now) (g.F.Folder.is_told c.create.new.self) c.create.ensures.told (ap contents c.into_inner.ensures) (empty g (goal.at.returns-clause-refused g c).After-hand_back)
     c.hand_back.result c.write_certificate-came.result.0 c.is_certifiable.ensures c.write_certificate-came.ensures.err left
+
+pub write_certificate-came-requires : goal.write_certificate-came-requires
+write_certificate-came-requires g c = record { planned = c.requires; ready = omega arith }
+
+pub returns-clause-others : goal.returns-clause-others
+returns-clause-others g c = λ other differs. c.hand_back.ensures.others other differs ∙ ap (λ (f : Files). f other) c.create.ensures.same
+
+pub returns-clause-told : goal.returns-clause-told
+returns-clause-told g c = c.hand_back.ensures.told ∙ c.create.ensures.told
+
+pub returns-clause-fault : goal.returns-clause-fault
+returns-clause-fault g c = c.hand_back.ensures.fault
+
+pub returns-in_default : goal.returns-in_default
+returns-in_default g c =
+    let cert = c.is_certifiable.ensures in
+    record {
+      others = λ other differs. ap (λ (f : Files). f other) c.create.ensures.same;
+      told = c.create.ensures.told;
+      bytes = tt;
+      refused = λ told. (cert.0, cert.1, inl (ap (λ (f : Files). f c.args.name.now) c.create.ensures.same));
+      fault = refl;
+    }

@@ -1,4 +1,4 @@
-use Rattle.std.proofs.Common.{◌≡◌, ◌∙◌, [], IsTrue, Some, ap, subst}
+use Rattle.std.proofs.Common.{◌≡◌, ◌∙◌, [], IsTrue, Some, ap, arith, inl, refl, subst}
 use Rattle.std.specs.Prelude.{OnErr, ◌⊎◌, IsErr}
 use Rattle.device_core.specs.Outlets.{outlet_writer}
 use Rattle.folder_core.specs.Files.{Files}
@@ -30,3 +30,32 @@ returns-clause-refused g c = λ file is.
     file_front file (contents (outlet_writer c.new-outlet.result)) (contents (outlet_writer outlet)) (contents c.into_inner.result) (g.F.Folder.file c.args.folder.now name) new
     (g.F.Folder.is_told c.args.folder.now) (g.F.Folder.is_told c.create_before.new.folder) c.create_before.ensures.told (ap contents c.into_inner.ensures) (empty g (goal.at.returns-clause-refused g c).After-hand_back)
     c.hand_back.result c.write_master-came.result (c.write_master-came.ensures.err file is) left
+
+pub write_master-came-requires : goal.write_master-came-requires
+write_master-came-requires g c = record { planned = c.requires; ready = omega arith }
+
+pub returns-clause-others : goal.returns-clause-others
+returns-clause-others g c = λ other differs. c.hand_back.ensures.others other differs ∙ ap (λ (f : Files). f other) c.create_before.ensures.same
+
+pub returns-clause-told : goal.returns-clause-told
+returns-clause-told g c = c.hand_back.ensures.told ∙ c.create_before.ensures.told
+
+pub returns-clause-fault : goal.returns-clause-fault
+returns-clause-fault g c = c.hand_back.ensures.fault
+
+pub returns-clause-planned : goal.returns-clause-planned
+returns-clause-planned g c = c.write_master-came.ensures.planned
+
+pub returns-clause-same : goal.returns-clause-same
+returns-clause-same g c = c.write_master-came.ensures.same
+
+pub returns-in_default : goal.returns-in_default
+returns-in_default g c = record {
+  planned = c.requires;
+  same = refl;
+  others = λ other differs. ap (λ (f : Files). f other) c.create_before.ensures.same;
+  told = c.create_before.ensures.told;
+  bytes = λ file is. tt;
+  refused = λ file is told. inl (ap (λ (f : Files). f c.args.name.now) c.create_before.ensures.same);
+  fault = refl;
+}

@@ -1,7 +1,7 @@
 use Rattle.std.proofs.Common.{◌≡◌, ◌≤◌, ◌+◌, ◌*◌, ◌+ℤ◌, ◌*ℤ◌, pos, unsigned_abs, arith, to_z, of_z, w32}
 use Rattle.std.proofs.lemmas.Int.{ints, unsigned_abs-mul}
 use Rattle.std.proofs.lemmas.Nat.{mul-le}
-use Rattle.cost_core.proofs.SumLaws.{kept}
+use Rattle.cost_core.proofs.SumLaws.{kept, part_fits, small_fits}
 use Rattle.cost_core.proofs.sums.scale.Goals as goal
 use Rattle.cost_core.proofs.sums.scale.Goals.{Start}
 
@@ -18,3 +18,16 @@ returns-clause-value c = value_is (goal.at.returns-clause-value c).Start
 
 pub returns-clause-bound : goal.returns-clause-bound
 returns-clause-bound c = let s = (goal.at.returns-clause-bound c).Start in rw (value_is s) (product_in s)
+
+pub overflow_cast-result : goal.overflow_cast-result
+overflow_cast-result c = small_fits c.args.levels (omega (arith, c.requires.levels))
+
+pub overflow_add-result : goal.overflow_add-result
+overflow_add-result c =
+    let e : to_z w32 c.args.levels +ℤ pos 1 ≡ pos (c.args.levels + 1) = omega (arith, ints, c.requires.levels) in
+    rw e (small_fits (c.args.levels + 1) (omega (arith, c.requires.levels)))
+
+pub overflow_mul-result : goal.overflow_mul-result
+overflow_mul-result c =
+    let e : to_z w32 (of_z w32 (to_z w32 c.args.levels +ℤ pos 1)) ≡ to_z w32 (c.args.levels + 1) = omega (arith, ints, c.requires.levels) in
+    rw e (part_fits (c.args.levels + 1) c.args.sum (omega (arith, c.requires.levels)) c.requires.sum)

@@ -1,7 +1,7 @@
 use Rattle.std.proofs.Common.{◌≡◌, ◌+◌, ◌*◌, ◌/◌, ◌++◌, ◌<◌, IsOk, List, ℕ, length, map, slice_index, append_assoc, ap, ◌∙◌, arith, mul-le-mul_left, ◌≤◌}
 use Rattle.std.specs.List.{range_with_len}
 use Rattle.std.specs.Int.{div_ceil}
-use Rattle.dsd_bits.specs.Blocks.{block_byte, ordered}
+use Rattle.dsd_bits.specs.Blocks.{block_byte, blocks_size, ordered}
 use Rattle.dsd_bits.specs.Channels.{count_of}
 use Rattle.dsd_bits.proofs.BlockLemmas.{group_in_bounds, groups_are, one_block, room_for_more}
 use Rattle.dsd_bits.proofs.blocks.push_blocks.Goals as goal
@@ -45,3 +45,10 @@ overflow_mul-blocks-2 c = omega (arith, few (goal.at.overflow_mul-blocks-2 c).Af
 pub push_block-requires : goal.push_block-requires
 push_block-requires c =
     group_in_bounds c.args.channels.now c.requires.level c.requires.channel_number.0 c.loop-block.block (within (goal.at.push_block-requires c).After-as_bytes-bytes) c.index-channels-block.result c.as_bytes-bytes.result.now c.index-channels-block.is c.as_bytes-bytes.ensures.packed
+
+pub returns : goal.returns
+returns c =
+    let channels = c.args.channels.now in
+    let groups = groups_are channels c.index-channels-0.result c.len.result c.div_ceil.result c.requires.channel_number.0 c.index-channels-0.is c.len.ensures.value c.div_ceil.ensures in
+    let all : 4096 * c.loop-block.block ≡ blocks_size (length channels) (count_of channels) = omega (arith, ap (λ g. g * length channels) groups, c.loop-block.auto.block-end, c.loop-block-test.false) in
+    record { text = c.loop-block.invariant.items ∙ ap (λ n. c.args.out.now.items ++ map (block_byte c.args.order channels) (range_with_len 0 n)) all }

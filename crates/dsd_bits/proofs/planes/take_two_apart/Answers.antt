@@ -1,4 +1,4 @@
-use Rattle.std.proofs.Common.{◌≡◌, ℕ, ◌+◌, ◌-◌, ◌*◌, ◌<◌, List, ◌++◌, length, slice_index, length-append, inl, inr, ap, ◌∙◌, arith}
+use Rattle.std.proofs.Common.{◌≡◌, ◌⊎◌, ℕ, ◌+◌, ◌-◌, ◌*◌, ◌/◌, ◌%◌, ◌<◌, ◌≤◌, List, ◌++◌, length, slice_index, length-append, inl, inr, sym, ap, ◌∙◌, arith}
 use Rattle.std.proofs.lemmas.Bool.{cases_lt}
 use Rattle.std.proofs.lemmas.List.{get_or_append_left, get_or-append_right}
 use Rattle.std.proofs.lemmas.List.FromFn.{get_or-map-range_with_len, length-map-range_with_len}
@@ -35,3 +35,36 @@ returns-clause-written c = λ d k in_list below.
     both c.split_two.new.left left.result.1.now c.split_two.new.right right.result.1.now c.args.frames.now c.args.count d k
     (c.split_two.ensures.left ∙ ap (picked c.args.frames.now 2 0 0) left.ensures.front_len) (c.split_two.ensures.right ∙ ap (picked c.args.frames.now 2 1 0) left.ensures.front_len)
     (omega (arith, length-append c.split_two.new.left left.result.1.now, c.split_two.auto.left, left.ensures.front_len, left.ensures.back_len, first.ensures.front_len)) in_list below (omega (arith, c.requires.few))
+
+-- a byte that stands behind the part of its plane that is written
+kept : (new old rest : List ℕ) (count place : ℕ) → length new ≡ count → length old ≡ count → count ≤ place → slice_index (new ++ rest) place ≡ slice_index (old ++ rest) place
+kept new old rest count place new_long old_long behind = get_or-append_right new rest count place 0 new_long behind ∙ sym (get_or-append_right old rest count place 0 old_long behind)
+
+module _ (planes first second left behind_left right behind_right new_left new_right : List ℕ) (count : ℕ) (few : count ≤ 4096) (both_are : planes ≡ first ++ second) (first_is : first ≡ left ++ behind_left) (second_is : second ≡ right ++ behind_right)
+    (long : length first ≡ 4096) (left_long : length left ≡ count) (right_long : length right ≡ count) (new_left_long : length new_left ≡ count) (new_right_long : length new_right ≡ count) where
+  new_long : length (new_left ++ behind_left) ≡ 4096
+  new_long = omega (arith, length-append new_left behind_left, length-append left behind_left, ap length first_is, long, left_long, new_left_long)
+
+  others : (place : ℕ) → (2 ≤ place / 4096) ⊎ (count ≤ place % 4096) → slice_index ((new_left ++ behind_left) ++ (new_right ++ behind_right)) place ≡ slice_index planes place
+  others place away = elim (cases_lt place 4096) [
+    | inl low ↦
+        get_or_append_left (new_left ++ behind_left) (new_right ++ behind_right) 0 place (omega (arith, new_long, low)) ∙ kept new_left left behind_left count place new_left_long left_long (omega (arith, away, low)) ∙ ap (λ xs. slice_index xs place) (sym first_is)
+        ∙ sym (get_or_append_left first second 0 place (omega (arith, long, low))) ∙ ap (λ xs. slice_index xs place) (sym both_are)
+    | inr high ↦
+        get_or-append_right (new_left ++ behind_left) (new_right ++ behind_right) 4096 place 0 new_long high ∙ kept new_right right behind_right count (place - 4096) new_right_long right_long (omega (arith, away, high, few)) ∙ ap (λ xs. slice_index xs (place - 4096)) (sym second_is)
+        ∙ sym (get_or-append_right first second 4096 place 0 long high) ∙ ap (λ xs. slice_index xs place) (sym both_are)
+  ]
+
+pub returns-clause-others : goal.returns-clause-others
+returns-clause-others c =
+    let first = c.split_at_mut-first in
+    let left = c.split_at_mut-left in
+    let right = c.split_at_mut-right in
+    others c.args.planes.now first.result.0.now first.result.1.now left.result.0.now left.result.1.now right.result.0.now right.result.1.now c.split_two.new.left c.split_two.new.right c.args.count c.requires.few first.ensures.value left.ensures.value right.ensures.value
+    first.ensures.front_len left.ensures.front_len right.ensures.front_len (c.split_two.auto.left ∙ left.ensures.front_len) (c.split_two.auto.right ∙ right.ensures.front_len)
+
+pub split_two-requires : goal.split_two-requires
+split_two-requires c = record {
+  inside = omega (arith, c.split_at_mut-left.ensures.front_len, c.requires.frames);
+  right = c.split_at_mut-right.ensures.front_len ∙ sym c.split_at_mut-left.ensures.front_len;
+}

@@ -1,9 +1,11 @@
-use Rattle.std.proofs.Common.{◌≡◌, ℕ, ◌<◌, ◌+◌, ◌-◌, ◌*◌, ◌++◌, IsOk, List, length, slice_index, vec_capacity, vec_len, ◌≤◌, ◌∙◌, ap, refl, arith, rules}
+use Rattle.std.proofs.Common.{◌≡◌, ℕ, ◌<◌, ◌+◌, ◌-◌, ◌*◌, ◌++◌, IsOk, List, length, slice_index, vec_capacity, vec_len, ◌≤◌, ◌∙◌, ap, refl, subst, arith, rules}
+use Rattle.std.proofs.lemmas.Result.{err_from_is_err_and}
 use Rattle.std.specs.Int.{div_ceil}
 use Rattle.dsd_bits.specs.Packing.{packed_bit, unpacked}
 use Rattle.dsd_bits.specs.Shifting.{bytes_from}
 use Rattle.dsd_bits.proofs.PackingLemmas.{unpacked_is, IsTight-from_holds, length-unpacked}
 use Rattle.dsd_bits.proofs.RangeLemmas.{range_appended}
+use Rattle.dsd_bits.proofs.ShiftingLemmas.{packed_bit-append_before}
 use Rattle.dsd_bits.proofs.ranges.append_range.Goals as goal
 use Rattle.dsd_bits.proofs.ranges.append_range.Goals.{After-append_bytes, In_ok-append_bytes}
 
@@ -45,3 +47,28 @@ returns-clause-appended c =
 -- where room for the bits is held, there is room for their bytes
 fits : (c : After-append_bytes) → c.args.before + (c.args.stop - c.args.start) ≤ 8 * vec_capacity c.args.bytes.now → IsOk c.append_bytes.result
 fits c room = c.append_bytes.ensures.succeeds (omega (arith, room, c.len-kept.ensures, c.div_ceil.ensures, c.args.bytes.now.ok.0, c.requires.tight.no_more, c.requires.tight.enough))
+
+pub returns-in_err-append_bytes-clause-err : goal.returns-in_err-append_bytes-clause-err
+returns-in_err-append_bytes-clause-err c = let e = err_from_is_err_and c.from_residual.result c.from_residual.ensures.1 in rw e.1 c.in_err-append_bytes.ensures.items
+
+pub returns-in_err-append_bytes-clause-tight : goal.returns-in_err-append_bytes-clause-tight
+returns-in_err-append_bytes-clause-tight c = let e = err_from_is_err_and c.from_residual.result c.from_residual.ensures.1 in rw e.1 tt
+
+pub returns-in_err-append_bytes-clause-appended : goal.returns-in_err-append_bytes-clause-appended
+returns-in_err-append_bytes-clause-appended c = let e = err_from_is_err_and c.from_residual.result c.from_residual.ensures.1 in rw e.1 tt
+
+pub returns-in_err-append_bytes-clause-succeeds : goal.returns-in_err-append_bytes-clause-succeeds
+returns-in_err-append_bytes-clause-succeeds c = λ room.
+    let e = err_from_is_err_and c.from_residual.result c.from_residual.ensures.1 in
+    rw e.1 (subst IsOk c.in_err-append_bytes.was (fits (goal.at.returns-in_err-append_bytes-clause-succeeds c).After-append_bytes room))
+
+pub append_bytes-requires : goal.append_bytes-requires
+append_bytes-requires c = omega (arith, c.as_bytes-from.ensures.tight.enough, c.requires.in_source, c.requires.in_order, c.div_ceil.ensures, c.len-kept.ensures, c.args.bytes.now.ok.0, c.requires.tight.enough, c.requires.tight.no_more)
+
+pub fill_byte-requires : goal.fill_byte-requires
+fill_byte-requires c =
+    let bytes = c.args.bytes.now.items in
+    record {
+      in_bytes = omega (arith, c.in_ok-append_bytes.ensures.len, c.requires.tight.enough, c.args.bytes.now.ok.0, c.len-kept.ensures);
+      spare = λ i h below. ap (λ (b : List ℕ). packed_bit b i) c.in_ok-append_bytes.ensures.items ∙ packed_bit-append_before bytes _ i (omega (arith, below, c.requires.tight.enough)) ∙ c.requires.tight.spare i h;
+    }

@@ -1,4 +1,5 @@
-use Rattle.std.proofs.Common.{Bool, List, None, Some, length}
+use Rattle.std.proofs.Common.{Bool, List, None, Some, length, arith}
+use Rattle.std.proofs.lemmas.Result.{err_from_is_err_and}
 use Rattle.device_core.specs.Inlets.{inlet_reader}
 use Rattle.cert_core.specs.Readers.{cert_inlet}
 use Rattle.master_core.specs.Claims.{claims}
@@ -54,3 +55,46 @@ pub returns-else-branch-clause-judged : goal.returns-else-branch-clause-judged
 returns-else-branch-clause-judged g c = λ zs bits.
     let at = goal.at.returns-else-branch-clause-judged g c in
     all_accepted c.args.cut.now zs c.judge_head.new.reader.version _ _ (head_read g at.In_default zs bits) _ c.in-Accepted.total (all_shown g at.In-Accepted zs bits) c.read_is_cert.ensures.read (c.in_ok-has_more-in-Accepted.ensures.end c.if-branch.false)
+
+pub judge_head-requires : goal.judge_head-requires
+judge_head-requires g c = record { ready = c.requires.ready; few = c.requires.few }
+
+pub judge_entries-requires : goal.judge_entries-requires
+judge_entries-requires g c = record {
+  ready = omega (arith, c.in_ok-reason.ensures.failures, c.requires.ready);
+  head = c.in_ok-reason.ensures.read c.in_default.is;
+  source = c.requires.source;
+  each = c.requires.each;
+  few = c.requires.few;
+  starts = c.requires.starts;
+}
+
+pub returns-in_err-reason-clause-judged : goal.returns-in_err-reason-clause-judged
+returns-in_err-reason-clause-judged g c = λ zs bits. let e = err_from_is_err_and c.from_residual.result c.from_residual.ensures.1 in rw e.1 tt
+
+pub returns-in_err-reason-clause-failures : goal.returns-in_err-reason-clause-failures
+returns-in_err-reason-clause-failures g c = let e = err_from_is_err_and c.from_residual.result c.from_residual.ensures.1 in rw (e.1, e.2) (omega (arith, c.in_err-reason.ensures.failures))
+
+pub returns-in_err-verdict-clause-judged : goal.returns-in_err-verdict-clause-judged
+returns-in_err-verdict-clause-judged g c = λ zs bits. let e = err_from_is_err_and c.from_residual-in_err-verdict.result c.from_residual-in_err-verdict.ensures.1 in rw e.1 tt
+
+pub returns-in_err-verdict-clause-failures : goal.returns-in_err-verdict-clause-failures
+returns-in_err-verdict-clause-failures g c = let e = err_from_is_err_and c.from_residual-in_err-verdict.result c.from_residual-in_err-verdict.ensures.1 in rw (e.1, e.2) (omega (arith, c.in_err-verdict.ensures.failures, c.in_ok-reason.ensures.failures))
+
+pub returns-in_err-has_more-in-Accepted-clause-judged : goal.returns-in_err-has_more-in-Accepted-clause-judged
+returns-in_err-has_more-in-Accepted-clause-judged g c = λ zs bits. let e = err_from_is_err_and c.from_residual-in_err-has_more-in-Accepted.result c.from_residual-in_err-has_more-in-Accepted.ensures.1 in rw e.1 tt
+
+pub returns-in_err-has_more-in-Accepted-clause-failures : goal.returns-in_err-has_more-in-Accepted-clause-failures
+returns-in_err-has_more-in-Accepted-clause-failures g c = let e = err_from_is_err_and c.from_residual-in_err-has_more-in-Accepted.result c.from_residual-in_err-has_more-in-Accepted.ensures.1 in rw (e.1, e.2) (omega (arith, c.in_err-has_more-in-Accepted.ensures.failures, c.in_ok-verdict.ensures.failures, c.in_ok-reason.ensures.failures))
+
+pub returns-in-Some-clause-failures : goal.returns-in-Some-clause-failures
+returns-in-Some-clause-failures g c = omega (arith, c.in_ok-reason.ensures.failures)
+
+pub returns-in-Rejected-clause-failures : goal.returns-in-Rejected-clause-failures
+returns-in-Rejected-clause-failures g c = omega (arith, c.in_ok-verdict.ensures.failures, c.in_ok-reason.ensures.failures)
+
+pub returns-then-branch-clause-failures : goal.returns-then-branch-clause-failures
+returns-then-branch-clause-failures g c = omega (arith, c.in_ok-has_more-in-Accepted.ensures.failures, c.in_ok-verdict.ensures.failures, c.in_ok-reason.ensures.failures)
+
+pub returns-else-branch-clause-failures : goal.returns-else-branch-clause-failures
+returns-else-branch-clause-failures g c = omega (arith, c.in_ok-has_more-in-Accepted.ensures.failures, c.in_ok-verdict.ensures.failures, c.in_ok-reason.ensures.failures)

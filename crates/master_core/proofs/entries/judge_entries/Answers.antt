@@ -1,5 +1,5 @@
 use Rattle.std.proofs.Common.{◌≡◌, ◌<◌, ◌∙◌, ap, arith, get_or, length, map, subst, sum_by, sym, take}
-use Rattle.std.proofs.lemmas.Result.{IfOk-from_err}
+use Rattle.std.proofs.lemmas.Result.{IfOk-from_err, err_from_is_err_and}
 use Rattle.std.specs.List.{All}
 use Rattle.std.proofs.lemmas.List.{get_or-map, length-map, take_all}
 use Rattle.std.proofs.lemmas.List.Elements.{All-more}
@@ -67,3 +67,30 @@ returns-clause-judged g c =
 
 pub returns-in_err-cost-clause-judged : goal.returns-in_err-cost-clause-judged
 returns-in_err-cost-clause-judged g c = IfOk-from_err c.from_residual.result _ c.from_residual.ensures.0
+
+pub offset_bounds-places-k : goal.offset_bounds-places-k
+offset_bounds-places-k g c = omega (arith, c.loop-k-test.true, c.requires.few)
+
+pub bounds-places-k : goal.bounds-places-k
+bounds-places-k g c = c.loop-k-test.true
+
+pub judge_entry-requires : goal.judge_entry-requires
+judge_entry-requires g c = record {
+  ready = omega (arith, c.loop-k.invariant.failures, c.requires.ready);
+  head = c.loop-k.invariant.read;
+  source = c.requires.source;
+  place = c.requires.each c.loop-k.k (record { cue = 0; channel = 0 }) c.loop-k-test.true;
+  starts = c.requires.starts;
+}
+
+pub overflow_add-total : goal.overflow_add-total
+overflow_add-total g c = omega (arith, c.loop-k.invariant.bound, c.from-total.ensures, c.loop-k-test.true, c.requires.few)
+
+pub returns-in_err-cost-clause-failures : goal.returns-in_err-cost-clause-failures
+returns-in_err-cost-clause-failures g c = let e = err_from_is_err_and c.from_residual.result c.from_residual.ensures.1 in rw (e.1, e.2) (omega (arith, c.in_err-cost.ensures.failures, c.loop-k.invariant.failures))
+
+pub returns-in-Rejected-clause-failures : goal.returns-in-Rejected-clause-failures
+returns-in-Rejected-clause-failures g c = omega (arith, c.in_ok-cost.ensures.failures, c.loop-k.invariant.failures)
+
+pub returns-clause-failures : goal.returns-clause-failures
+returns-clause-failures g c = omega (arith, c.loop-k.invariant.failures)

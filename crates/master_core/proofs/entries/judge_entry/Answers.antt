@@ -1,19 +1,28 @@
-use Rattle.std.proofs.Common.{arith}
+use Rattle.std.proofs.Common.{◌∙◌, ap, arith, subst, sym}
+use Rattle.std.proofs.lemmas.Result.{err_from_is_err_and}
 use Rattle.std.specs.Result.{IfOk}
 use Rattle.device_core.specs.Inlets.{inlet_reader}
 use Rattle.cert_core.specs.Readers.{cert_inlet}
+use Rattle.cost_core.specs.Bridges.{Bridging}
 use Rattle.cut_core.specs.Cuts as cuts
 use Rattle.cut_core.proofs.CutLaws.{first_shape}
 use Rattle.master_core.specs.Standing.{standing_bits}
 use Rattle.master_core.specs.Judging.{JudgesClaim}
 use Rattle.master_core.proofs.EntryLaws.{claim_is}
-use Rattle.std.proofs.Common.{subst}
 use Rattle.master_core.proofs.entries.judge_entry.Goals as goal
 
-pub check_bits-requires-clause-channel : goal.check_bits-requires-clause-channel
-check_bits-requires-clause-channel g c =
-    let shape = first_shape c.args.cut.now c.can_cut.ensures in
-    omega (arith, shape.six_channels, c.requires.place.channel_there)
+pub check_bits-requires : goal.check_bits-requires
+check_bits-requires g c =
+    let place = c.requires.place in
+    let can = c.can_cut.ensures in
+    let levels = ap (λ (d : Bridging). d.levels) c.in_ok-window.ensures ∙ (can.windowed c.args.place.channel c.args.place.cue place.channel_there place.cue_there).levels in
+    record {
+      ready = c.requires.ready;
+      head = c.requires.head;
+      cue = omega (arith, place.cue_there, can.splicing.few_cues);
+      channel = omega (arith, (first_shape c.args.cut.now can).six_channels, place.channel_there);
+      bits = c.in_ok-bits.ensures.long ∙ sym levels;
+    }
 
 pub returns-clause-judged : goal.returns-clause-judged
 returns-clause-judged g c =
@@ -25,3 +34,42 @@ returns-clause-judged g c =
     let bits = c.in_ok-bits.bits in
     let same = claim_is place.cue place.channel window (cuts.window cut place.channel place.cue) bits (standing_bits cut c.args.source place.channel place.cue) c.in_ok-window.ensures c.in_ok-bits.ensures.bits in
     subst (λ claim. IfOk c.check_bits.result (JudgesClaim c.args.reader.now.version claim from to)) same c.check_bits.ensures.judged
+
+pub returns-in_err-window-clause-judged : goal.returns-in_err-window-clause-judged
+returns-in_err-window-clause-judged g c = let e = err_from_is_err_and c.from_residual.result c.from_residual.ensures.1 in rw e.1 tt
+
+pub returns-in_err-window-clause-read : goal.returns-in_err-window-clause-read
+returns-in_err-window-clause-read g c = let e = err_from_is_err_and c.from_residual.result c.from_residual.ensures.1 in rw e.1 tt
+
+pub returns-in_err-window-clause-version : goal.returns-in_err-window-clause-version
+returns-in_err-window-clause-version g c = let e = err_from_is_err_and c.from_residual.result c.from_residual.ensures.1 in rw e.1 tt
+
+pub returns-in_err-window-clause-failures : goal.returns-in_err-window-clause-failures
+returns-in_err-window-clause-failures g c = let e = err_from_is_err_and c.from_residual.result c.from_residual.ensures.1 in rw (e.1, e.2) (omega arith)
+
+pub returns-in_err-bits-clause-judged : goal.returns-in_err-bits-clause-judged
+returns-in_err-bits-clause-judged g c = let e = err_from_is_err_and c.from_residual-in_err-bits.result c.from_residual-in_err-bits.ensures.1 in rw e.1 tt
+
+pub returns-in_err-bits-clause-read : goal.returns-in_err-bits-clause-read
+returns-in_err-bits-clause-read g c = let e = err_from_is_err_and c.from_residual-in_err-bits.result c.from_residual-in_err-bits.ensures.1 in rw e.1 tt
+
+pub returns-in_err-bits-clause-version : goal.returns-in_err-bits-clause-version
+returns-in_err-bits-clause-version g c = let e = err_from_is_err_and c.from_residual-in_err-bits.result c.from_residual-in_err-bits.ensures.1 in rw e.1 tt
+
+pub returns-in_err-bits-clause-failures : goal.returns-in_err-bits-clause-failures
+returns-in_err-bits-clause-failures g c = let e = err_from_is_err_and c.from_residual-in_err-bits.result c.from_residual-in_err-bits.ensures.1 in rw (e.1, e.2) (omega arith)
+
+pub window-requires : goal.window-requires
+window-requires g c = c.requires.place
+
+pub bits_at-requires : goal.bits_at-requires
+bits_at-requires g c = record { source = c.requires.source; place = c.requires.place; starts = c.requires.starts }
+
+pub returns-clause-failures : goal.returns-clause-failures
+returns-clause-failures g c = c.check_bits.ensures.failures
+
+pub returns-clause-read : goal.returns-clause-read
+returns-clause-read g c = c.check_bits.ensures.read
+
+pub returns-clause-version : goal.returns-clause-version
+returns-clause-version g c = c.check_bits.ensures.version

@@ -1,14 +1,17 @@
-use Rattle.std.proofs.Common.{subst}
+use Rattle.std.proofs.Common.{◌≡◌, ◌+◌, ◌∙◌, ap, subst, sym}
+use Rattle.std.proofs.lemmas.Result.{err_from_is_err_and}
+use Rattle.std.specs.Prelude.{MatchResult}
 use Rattle.std.specs.Io.KnownBytes.{Appends}
-use Rattle.device_core.specs.Outlets.{AppendsPart, outlet_writer}
+use Rattle.device_core.specs.Outlets.{AppendsPart, outlet_failures, outlet_writer}
 use Rattle.form_core.specs.Parts.{interleaving_in}
 use Rattle.cut_core.proofs.CutLaws.{first_shape}
+use Rattle.master_core.specs.Parting.{HasChosen}
 use Rattle.master_core.specs.Writing.{WritesBest, WritesBestFront}
 use Rattle.master_core.proofs.FilingLaws.{file_whole, head_front, sound_front, tail_front}
 use Rattle.master_core.proofs.WritingLaws.{any_err, on_err, on_ok}
 use Rattle.master_core.proofs.filing.write_master.Given.{Over}
 use Rattle.master_core.proofs.filing.write_master.Goals as goal
-use Rattle.master_core.proofs.filing.write_master.Goals.{In_ok-put_all, In_ok-write_sound}
+use Rattle.master_core.proofs.filing.write_master.Goals.{After-deref-2, In_ok-put_all, In_ok-write_sound}
 
 pub returns-in_err-put_all-clause-front : goal.returns-in_err-put_all-clause-front
 returns-in_err-put_all-clause-front g c =
@@ -56,3 +59,53 @@ returns-clause-front g c =
     let at = goal.at.returns-clause-front g c in
     on_err c.put_all-2.result (λ out. tail_front c.args.cut.now c.args.form c.written_in_parts.ensures c.args.ends.now c.requires.ends c.has_one_best.ensures (first_shape c.args.cut.now c.can_cut.ensures).some_channel _ _
     (head_out g at.In_ok-put_all) a2 (sound_out g at.In_ok-write_sound) a3 (subst (AppendsPart a2 a3) c.deref-4.ensures.value out)) c.put_all-2.ensures.err
+
+-- ---- the other clauses
+pub returns-in_err-put_all-clause-ok : goal.returns-in_err-put_all-clause-ok
+returns-in_err-put_all-clause-ok g c = let e = err_from_is_err_and c.from_residual.result c.from_residual.ensures.1 in rw e.1 tt
+
+pub returns-in_err-put_all-clause-failures : goal.returns-in_err-put_all-clause-failures
+returns-in_err-put_all-clause-failures g c = let e = err_from_is_err_and c.from_residual.result c.from_residual.ensures.1 in rw e.1 c.in_err-put_all.ensures.failures
+
+pub returns-in_err-put_all-clause-room : goal.returns-in_err-put_all-clause-room
+returns-in_err-put_all-clause-room g c = c.requires.room
+
+pub returns-in_err-write_sound-clause-ok : goal.returns-in_err-write_sound-clause-ok
+returns-in_err-write_sound-clause-ok g c = let e = err_from_is_err_and c.from_residual-in_err-write_sound.result c.from_residual-in_err-write_sound.ensures.1 in rw e.1 tt
+
+pub returns-in_err-write_sound-clause-failures : goal.returns-in_err-write_sound-clause-failures
+returns-in_err-write_sound-clause-failures g c =
+    let e = err_from_is_err_and c.from_residual-in_err-write_sound.result c.from_residual-in_err-write_sound.ensures.1 in
+    rw e.1 (c.in_err-write_sound.ensures.failures ∙ ap (λ n. n + 1) c.in_ok-put_all.ensures.failures)
+
+pub returns-in_err-write_sound-clause-room : goal.returns-in_err-write_sound-clause-room
+returns-in_err-write_sound-clause-room g c = c.in_err-write_sound.ensures.room
+
+pub returns-clause-room : goal.returns-clause-room
+returns-clause-room g c = c.in_ok-write_sound.ensures.room
+
+pub returns-clause-failures : goal.returns-clause-failures
+returns-clause-failures g c =
+    let now = outlet_failures c.put_all-2.new.self in
+    subst (λ n. MatchResult c.put_all-2.result (λ _. now ≡ n) (λ _. now ≡ n + 1)) (c.in_ok-write_sound.ensures.failures ∙ c.in_ok-put_all.ensures.failures) c.put_all-2.ensures.failures
+
+pub put_all-requires : goal.put_all-requires
+put_all-requires g c = c.requires.outlet_ready
+
+pub put_all-requires-2 : goal.put_all-requires-2
+put_all-requires-2 g c = rw (c.in_ok-write_sound.ensures.failures, c.in_ok-put_all.ensures.failures) c.requires.outlet_ready
+
+-- the bridges' bits are those that were chosen
+chosen : (g : Over) (c : After-deref-2 g) → HasChosen (record { cut = c.args.cut; places = c.deref.result; chosen = c.deref-2.result })
+chosen g c = record { places = c.deref.ensures.value ∙ c.requires.bridges.places_are; chosen = rw c.deref-2.ensures.value c.requires.bridges.chosen }
+
+pub write_sound-requires : goal.write_sound-requires
+write_sound-requires g c = record {
+  ready = chosen g (goal.at.write_sound-requires g c).After-deref-2;
+  whole = λ bytes. c.requires.ends.fits (sym c.interleaving_in.ensures ∙ bytes);
+  room = c.requires.room;
+  outlet_ready = rw c.in_ok-put_all.ensures.failures c.requires.outlet_ready;
+}
+
+pub has_one_best-requires : goal.has_one_best-requires
+has_one_best-requires g c = chosen g (goal.at.has_one_best-requires g c).After-deref-2

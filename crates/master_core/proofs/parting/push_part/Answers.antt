@@ -1,12 +1,23 @@
-use Rattle.std.proofs.Common.{◌≡◌, ◌<◌, ◌+◌, ◌++◌, ◌∙◌, Bool, List, ap, arith, length, sum_by, take}
-use Rattle.std.proofs.lemmas.List.Sums.{sum_by_more}
+use Rattle.std.proofs.Common.{◌≡◌, ◌<◌, ◌≤◌, ◌^◌, ◌+◌, ◌++◌, ◌∙◌, Bool, List, ap, arith, length, sum_by, take}
+use Rattle.std.proofs.lemmas.List.Sums.{sum_by_more, sum_by_more_le}
 use Rattle.dsd_bits.specs.Rooms.{RoomContent}
 use Rattle.splice_core.specs.Cues.{CueContent}
+use Rattle.cut_core.proofs.CutLaws.{fits_at}
 use Rattle.cut_core.specs.Cuts.{cue_at, cue_bits, span}
+use Rattle.master_core.specs.Claims.{bridge_start}
 use Rattle.master_core.specs.Parting.{within}
 use Rattle.master_core.proofs.PartLaws.{front_best, front_long, front_nothing, part_more}
 use Rattle.master_core.proofs.SliceLaws.{length-slice}
 use Rattle.master_core.proofs.parting.push_part.Goals as goal
+use Rattle.master_core.proofs.parting.push_part.Goals.{In-loop-cue}
+
+-- a bridge ends inside the master
+behind_bridge : (c : In-loop-cue) → bridge_start c.args.source.now.cut.now c.loop-cue.cue + (cue_at c.args.source.now.cut.now c.loop-cue.cue).bridge ≤ 2 ^ 36
+behind_bridge c =
+    let cues = c.args.source.now.cut.now.splice.cues in
+    let i = c.loop-cue.cue in
+    let most : sum_by span (take i cues) + span (cue_at c.args.source.now.cut.now i) ≤ sum_by span cues = sum_by_more_le span cues i _ (omega (arith, c.loop-cue-test.true, c.cue_number-cue-end.ensures.value)) in
+    omega (arith, most, c.can_cut.ensures.in_limit)
 
 pub loop-cue-init : goal.loop-cue-init
 loop-cue-init c =
@@ -75,3 +86,23 @@ returns-clause-most c = c.loop-cue.invariant.most
 
 pub overflow_add-cue : goal.overflow_add-cue
 overflow_add-cue c = omega (arith, c.loop-cue-test.true, c.cue_number-cue-end.ensures.value, c.can_cut.ensures.splicing.few_cues)
+
+pub cue_length-at-requires : goal.cue_length-at-requires
+cue_length-at-requires c = omega (arith, c.can_cut.ensures.splicing.some_cues)
+
+pub overflow_sub-cue-end : goal.overflow_sub-cue-end
+overflow_sub-cue-end c = c.cue_number-cue-end.ensures.some
+
+pub cue-requires : goal.cue-requires
+cue-requires c = omega (arith, c.loop-cue-test.true, c.cue_number-cue-end.ensures.value)
+
+pub cue_length-at-requires-in-loop-cue : goal.cue_length-at-requires-in-loop-cue
+cue_length-at-requires-in-loop-cue c = omega (arith, c.loop-cue-test.true, c.cue_number-cue-end.ensures.value)
+
+pub overflow_add-at : goal.overflow_add-at
+overflow_add-at c = omega (arith, c.loop-cue.invariant.place, ap (λ (q : CueContent). q.bridge) c.cue.ensures.value, behind_bridge (goal.at.overflow_add-at c).In-loop-cue)
+
+pub overflow_add-at-in-loop-cue : goal.overflow_add-at-in-loop-cue
+overflow_add-at-in-loop-cue c =
+    let next = fits_at c.args.source.now.cut.now c.can_cut.ensures (c.loop-cue.cue + 1) (omega (arith, c.loop-cue-test.true, c.cue_number-cue-end.ensures.value)) in
+    omega (arith, c.loop-cue.invariant.place, ap (λ (q : CueContent). q.bridge) c.cue.ensures.value, c.cue_length-at-in-loop-cue.ensures, next.stop_fits, behind_bridge (goal.at.overflow_add-at-in-loop-cue c).In-loop-cue)

@@ -1,4 +1,5 @@
 use Rattle.std.proofs.Common.{◌≡◌, ◌+◌, ◌%◌, ◌≤◌, ◌⊎◌, inl, inr, refl, subst, arith}
+use Rattle.std.proofs.lemmas.Result.{err_from_is_err_and}
 use Rattle.device_core.specs.Outlets.{outlet_writer}
 use Rattle.cut_core.specs.Cuts.{master_length}
 use Rattle.cut_core.proofs.CutLaws.{first_shape}
@@ -53,3 +54,45 @@ returns-clause-ok g c =
     let old = g.W.Write.contents (outlet_writer c.args.outlet.now) in
     let new = g.W.Write.contents (outlet_writer c.loop-from.outlet) in
     written_whole cut c.args.to c.has_one_best.ensures (first_shape cut c.can_cut.ensures).some_channel old new (subst (λ n. HasWritten cut c.args.to n old new) all so_far.written)
+
+pub has_one_best-requires : goal.has_one_best-requires
+has_one_best-requires g c = c.requires.ready
+
+pub overflow_sub-length : goal.overflow_sub-length
+overflow_sub-length g c = omega (arith, c.loop-from-test.true)
+
+pub overflow_add-stop : goal.overflow_add-stop
+overflow_add-stop g c = omega (arith, c.min.ensures, c.loop-from.invariant.inside)
+
+pub write_stretch-requires : goal.write_stretch-requires
+write_stretch-requires g c =
+    let so_far = c.loop-from.invariant in
+    record {
+      ready = c.requires.ready;
+      whole = λ bytes. omega (arith, c.min.ensures, so_far.groups c.loop-from-test.true, so_far.room.groups, c.requires.whole bytes, c.length-length.ensures.value);
+      inside = omega (arith, c.min.ensures, c.length-length.ensures.value, so_far.inside);
+      room = so_far.room;
+      fits = omega (arith, c.min.ensures);
+      outlet_ready = omega (arith, so_far.failures, c.requires.outlet_ready);
+    }
+
+pub loop-from-smaller : goal.loop-from-smaller
+loop-from-smaller g c = omega (arith, c.min.ensures, c.loop-from-test.true, c.loop-from.invariant.room.some)
+
+pub returns-in_err-write_stretch-clause-room : goal.returns-in_err-write_stretch-clause-room
+returns-in_err-write_stretch-clause-room g c = c.in_err-write_stretch.ensures.room
+
+pub returns-in_err-write_stretch-clause-ok : goal.returns-in_err-write_stretch-clause-ok
+returns-in_err-write_stretch-clause-ok g c = let e = err_from_is_err_and c.from_residual.result c.from_residual.ensures.1 in rw e.1 tt
+
+pub returns-in_err-write_stretch-clause-failures : goal.returns-in_err-write_stretch-clause-failures
+returns-in_err-write_stretch-clause-failures g c = let e = err_from_is_err_and c.from_residual.result c.from_residual.ensures.1 in rw e.1 (omega (arith, c.in_err-write_stretch.ensures.failures, c.loop-from.invariant.failures))
+
+pub returns-clause-room : goal.returns-clause-room
+returns-clause-room g c = c.loop-from.invariant.room
+
+pub returns-clause-front : goal.returns-clause-front
+returns-clause-front g c = tt
+
+pub returns-clause-failures : goal.returns-clause-failures
+returns-clause-failures g c = c.loop-from.invariant.failures

@@ -1,21 +1,32 @@
-use Rattle.std.proofs.Common.{◌≡◌, ◌-◌, ◌%◌, ℕ, List, length, sym, ap, ap₂, subst, ◌∙◌, arith}
+use Rattle.std.proofs.Common.{◌≡◌, ◌-◌, ◌++◌, ◌%◌, ℕ, List, length, map, refl, sym, ap, ap₂, subst, ◌∙◌, arith}
+use Rattle.std.specs.Io.KnownBytes.{Appends}
+use Rattle.device_core.specs.Outlets.{AppendsPart, outlet_writer}
 use Rattle.dsd_bits.specs.Channels.{IsLevel, count_of}
 use Rattle.dsd_bits.specs.Rooms.{RoomContent, rooms_bits}
 use Rattle.dsd_bits.specs.Sounds.{sound_size}
 use Rattle.dsd_bits.proofs.RoomLemmas.{length-rooms_bits}
+use Rattle.relace_core.specs.Relacing.{laced_in}
 use Rattle.relace_core.proofs.GroupLaws.{size_fits}
 use Rattle.cut_core.specs.Cuts.{channel_number}
 use Rattle.cut_core.proofs.CutLaws.{first_shape}
-use Rattle.master_core.proofs.WritingLaws.{parts_count, parts_level, parts_number, rooms_kept}
+use Rattle.master_core.specs.Parting.{within}
+use Rattle.master_core.proofs.WritingLaws.{on_err, on_ok, parts_count, parts_level, parts_number, rooms_kept}
 use Rattle.master_core.proofs.writing.write_stretch.Given.{Over}
 use Rattle.master_core.proofs.writing.write_stretch.Goals as goal
-use Rattle.master_core.proofs.writing.write_stretch.Goals.{After-deref}
+use Rattle.master_core.proofs.writing.write_stretch.Goals.{After-deref, After-deref-2}
 
 -- how many bits each channel has
 count : (g : Over) (c : After-deref g) → count_of (rooms_bits c.deref.result.now) ≡ c.args.range.stop - c.args.range.start
 count g c =
     let cut = c.args.source.now.cut.now in
     ap (λ (rs : List RoomContent). count_of (rooms_bits rs)) c.deref.ensures.value ∙ parts_count cut (first_shape cut c.can_cut.ensures).some_channel c.args.range (rooms_bits c.fill_rooms.new.rooms.items) c.fill_rooms.ensures.parts c.requires.inside
+
+-- how many channels there are
+number : (g : Over) (c : After-deref g) → length c.deref.result.now ≡ channel_number c.args.source.now.cut.now
+number g c =
+    let cut = c.args.source.now.cut.now in
+    let rooms = c.fill_rooms.new.rooms.items in
+    ap length c.deref.ensures.value ∙ sym (length-rooms_bits rooms) ∙ parts_number cut (first_shape cut c.can_cut.ensures).some_channel c.args.range (rooms_bits rooms) c.fill_rooms.ensures.parts
 
 pub push_rooms-requires-clause-level : goal.push_rooms-requires-clause-level
 push_rooms-requires-clause-level g c =
@@ -29,10 +40,9 @@ pub push_rooms-requires-clause-held : goal.push_rooms-requires-clause-held
 push_rooms-requires-clause-held g c =
     let cut = c.args.source.now.cut.now in
     let n = channel_number cut in
+    let here = (goal.at.push_rooms-requires-clause-held g c).After-deref in
     let bits = c.args.range.stop - c.args.range.start in
-    let parts = rooms_bits c.fill_rooms.new.rooms.items in
-    let number : length c.deref.result.now ≡ n = ap length c.deref.ensures.value ∙ sym (length-rooms_bits c.fill_rooms.new.rooms.items) ∙ parts_number cut (first_shape cut c.can_cut.ensures).some_channel c.args.range parts c.fill_rooms.ensures.parts in
-    let size : sound_size c.args.to (length c.deref.result.now) (count_of (rooms_bits c.deref.result.now)) ≡ sound_size c.args.to n bits = ap₂ (λ (m k : ℕ). sound_size c.args.to m k) number (count g (goal.at.push_rooms-requires-clause-held g c).After-deref) in
+    let size : sound_size c.args.to (length c.deref.result.now) (count_of (rooms_bits c.deref.result.now)) ≡ sound_size c.args.to n bits = ap₂ (λ (m k : ℕ). sound_size c.args.to m k) (number g here) (count g here) in
     let room = c.requires.room in
     omega (arith, size, size_fits c.args.to n bits c.args.room.now.stretch c.requires.fits room.groups room.fits, room.held, c.clear.ensures.len, c.clear.ensures.capacity)
 
@@ -46,3 +56,40 @@ returns-clause-room g c =
       fits = room.fits;
       held = omega (arith, room.held, c.clear.ensures.capacity, c.push_rooms.ensures.capacity);
     }
+
+pub fill_rooms-requires : goal.fill_rooms-requires
+fill_rooms-requires g c = record {
+  ready = c.requires.ready;
+  number = c.requires.room.rooms.as_many;
+  fits = λ k d lt. omega (arith, c.requires.fits, c.requires.room.rooms.large k d lt);
+}
+
+pub push_rooms-requires-clause-channel_number : goal.push_rooms-requires-clause-channel_number
+push_rooms-requires-clause-channel_number g c =
+    let shape = first_shape c.args.source.now.cut.now c.can_cut.ensures in
+    (omega (arith, number g c, shape.some_channel), omega (arith, number g c, shape.six_channels))
+
+-- the bytes that go out
+bytes : (g : Over) (c : After-deref-2 g) → c.deref-2.result.now ≡ laced_in c.args.to (map (within c.args.range) c.fill_rooms.ensures.parts.wholes)
+bytes g c =
+    c.deref-2.ensures.value ∙ c.push_rooms.ensures.text ∙ ap (λ l. l ++ laced_in c.args.to (rooms_bits c.deref.result.now)) c.clear.ensures.items
+    ∙ ap (λ (rs : List RoomContent). laced_in c.args.to (rooms_bits rs)) c.deref.ensures.value ∙ ap (laced_in c.args.to) c.fill_rooms.ensures.parts.parts_are
+
+pub returns-clause-stretch : goal.returns-clause-stretch
+returns-clause-stretch g c = refl
+
+pub returns-clause-ok : goal.returns-clause-ok
+returns-clause-ok g c =
+    let parts = c.fill_rooms.ensures.parts in
+    on_ok c.put_all.result (λ out. record { channels = parts.wholes; best = parts.best; written = subst (Appends (g.W.Write.contents (outlet_writer c.args.outlet.now)) (g.W.Write.contents (outlet_writer c.put_all.new.self))) (bytes g (goal.at.returns-clause-ok g c).After-deref-2) out }) c.put_all.ensures.ok
+
+pub returns-clause-front : goal.returns-clause-front
+returns-clause-front g c =
+    let parts = c.fill_rooms.ensures.parts in
+    on_err c.put_all.result (λ out. record { channels = parts.wholes; best = parts.best; written = subst (AppendsPart (g.W.Write.contents (outlet_writer c.args.outlet.now)) (g.W.Write.contents (outlet_writer c.put_all.new.self))) (bytes g (goal.at.returns-clause-front g c).After-deref-2) out }) c.put_all.ensures.err
+
+pub returns-clause-failures : goal.returns-clause-failures
+returns-clause-failures g c = c.put_all.ensures.failures
+
+pub put_all-requires : goal.put_all-requires
+put_all-requires g c = c.requires.outlet_ready

@@ -60,3 +60,44 @@ returns-clause-some g c =
     let bytes = c.split_at.ensures.front ∙ ap (take c.in_ok-count.count) c.deref.ensures.value in
     let long : 1 ≤ length c.split_at.result.0.now = omega (arith, ap length bytes, length-take c.in_ok-count.count c.pull.new.self.block.now.items) in
     IfOk-weaker c.play_bytes.result _ _ (λ n e. some_taken c.args.wanted n _ c.requires.some long e) c.play_bytes.ensures.number
+
+-- ---- what holds at once
+pub returns-in_err-count-clause-same_reader : goal.returns-in_err-count-clause-same_reader
+returns-in_err-count-clause-same_reader g c = c.pull.ensures.same
+
+pub returns-in_err-count-clause-reading : goal.returns-in_err-count-clause-reading
+returns-in_err-count-clause-reading g c =
+    let e = err_from_is_err_and c.from_residual.result c.from_residual.ensures.1 in
+    rw e.1 tt
+
+pub returns-in_err-count-clause-some : goal.returns-in_err-count-clause-some
+returns-in_err-count-clause-some g c =
+    let e = err_from_is_err_and c.from_residual.result c.from_residual.ensures.1 in
+    rw e.1 tt
+
+pub returns-in_err-count-clause-player : goal.returns-in_err-count-clause-player
+returns-in_err-count-clause-player g c =
+    let e = err_from_is_err_and c.from_residual.result c.from_residual.ensures.1 in
+    rw e.1 tt
+
+pub returns-in_err-count-clause-same : goal.returns-in_err-count-clause-same
+returns-in_err-count-clause-same g c =
+    let e = err_from_is_err_and c.from_residual.result c.from_residual.ensures.1 in
+    rw e.1 tt
+
+pub returns-in_err-count-clause-ok : goal.returns-in_err-count-clause-ok
+returns-in_err-count-clause-ok g c =
+    let e = err_from_is_err_and c.from_residual.result c.from_residual.ensures.1 in
+    rw e.1 tt
+
+pub returns-clause-same_reader : goal.returns-clause-same_reader
+returns-clause-same_reader g c = record { reference = c.pull.ensures.same.reference; given = c.pull.ensures.same.given; limit = c.pull.ensures.same.limit }
+
+pub returns-clause-player : goal.returns-clause-player
+returns-clause-player g c = c.play_bytes.ensures.player
+
+pub returns-clause-same : goal.returns-clause-same
+returns-clause-same g c = c.play_bytes.ensures.same
+
+pub returns-clause-write_failed : goal.returns-clause-write_failed
+returns-clause-write_failed g c = c.play_bytes.ensures.failures

@@ -167,3 +167,66 @@ returns-clause-counts g c =
 pub returns-clause-write_failed : goal.returns-clause-write_failed
 returns-clause-write_failed g c =
     c.put_rest.ensures.failures ∙ ap (λ n. n + failed_writes c.put_rest.result) (omega (arith, c.in_ok-first.ensures.failures, c.in_ok-play_rest.ensures.write_failed))
+
+-- ---- what holds at once
+pub returns-in_err-player-clause-same_reader : goal.returns-in_err-player-clause-same_reader
+returns-in_err-player-clause-same_reader g c = c.take_ahead-ahead.ensures.same
+
+pub returns-in_err-player-clause-reading : goal.returns-in_err-player-clause-reading
+returns-in_err-player-clause-reading g c =
+    let e = err_from_is_err_and c.from_residual.result c.from_residual.ensures.1 in
+    rw e.1 tt
+
+pub returns-in_err-player-clause-ok : goal.returns-in_err-player-clause-ok
+returns-in_err-player-clause-ok g c =
+    let e = err_from_is_err_and c.from_residual.result c.from_residual.ensures.1 in
+    rw e.1 tt
+
+pub returns-in_err-first-clause-same_reader : goal.returns-in_err-first-clause-same_reader
+returns-in_err-first-clause-same_reader g c = record { reference = c.take_ahead-ahead.ensures.same.reference; given = c.take_ahead-ahead.ensures.same.given; limit = c.take_ahead-ahead.ensures.same.limit }
+
+pub returns-in_err-first-clause-reading : goal.returns-in_err-first-clause-reading
+returns-in_err-first-clause-reading g c =
+    let e = err_from_is_err_and c.from_residual-in_err-first.result c.from_residual-in_err-first.ensures.1 in
+    rw e.1 tt
+
+pub returns-in_err-first-clause-ok : goal.returns-in_err-first-clause-ok
+returns-in_err-first-clause-ok g c =
+    let e = err_from_is_err_and c.from_residual-in_err-first.result c.from_residual-in_err-first.ensures.1 in
+    rw e.1 tt
+
+pub returns-in_err-play_rest-clause-same_reader : goal.returns-in_err-play_rest-clause-same_reader
+returns-in_err-play_rest-clause-same_reader g c = record { reference = c.play_rest.ensures.same_reader.reference ∙ c.take_ahead-ahead.ensures.same.reference; given = c.play_rest.ensures.same_reader.given ∙ c.take_ahead-ahead.ensures.same.given; limit = c.play_rest.ensures.same_reader.limit ∙ c.take_ahead-ahead.ensures.same.limit }
+
+pub returns-in_err-play_rest-clause-reading : goal.returns-in_err-play_rest-clause-reading
+returns-in_err-play_rest-clause-reading g c =
+    let e = err_from_is_err_and c.from_residual-in_err-play_rest.result c.from_residual-in_err-play_rest.ensures.1 in
+    rw e.1 tt
+
+pub returns-in_err-play_rest-clause-ok : goal.returns-in_err-play_rest-clause-ok
+returns-in_err-play_rest-clause-ok g c =
+    let e = err_from_is_err_and c.from_residual-in_err-play_rest.result c.from_residual-in_err-play_rest.ensures.1 in
+    rw e.1 tt
+
+pub returns-in_err-player-clause-fault : goal.returns-in_err-player-clause-fault
+returns-in_err-player-clause-fault g c =
+    let e = err_from_is_err_and c.from_residual.result c.from_residual.ensures.1 in
+    rw (e.1, e.2) tt
+
+pub returns-in_err-player-clause-stopped : goal.returns-in_err-player-clause-stopped
+returns-in_err-player-clause-stopped g c =
+    let e = err_from_is_err_and c.from_residual.result c.from_residual.ensures.1 in
+    rw (e.1, e.2) (λ stops. absurd stops)
+
+pub returns-in_err-player-clause-write_failed : goal.returns-in_err-player-clause-write_failed
+returns-in_err-player-clause-write_failed g c =
+    let e = err_from_is_err_and c.from_residual.result c.from_residual.ensures.1 in
+    rw (e.1, e.2) (omega (arith))
+
+pub returns-in_err-player-clause-counts : goal.returns-in_err-player-clause-counts
+returns-in_err-player-clause-counts g c =
+    let e = err_from_is_err_and c.from_residual.result c.from_residual.ensures.1 in
+    counts_writing _ _ c.from_residual.result (rw (e.1, e.2) tt) (ap inlet_failures c.take_ahead-ahead.ensures.untouched) (rw c.take_ahead-ahead.ensures.untouched c.requires.reading.budget.reads)
+
+pub returns-clause-same_reader : goal.returns-clause-same_reader
+returns-clause-same_reader g c = record { reference = c.play_rest.ensures.same_reader.reference ∙ c.take_ahead-ahead.ensures.same.reference; given = c.play_rest.ensures.same_reader.given ∙ c.take_ahead-ahead.ensures.same.given; limit = c.play_rest.ensures.same_reader.limit ∙ c.take_ahead-ahead.ensures.same.limit }

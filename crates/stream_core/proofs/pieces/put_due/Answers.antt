@@ -1,3 +1,5 @@
+use Rattle.std.proofs.Common.{arith}
+use Rattle.std.proofs.lemmas.Result.{err_from_is_err_and}
 use Rattle.stream_core.proofs.PieceLaws.{any_err, due_put, nothing_put, on_err, on_ok, part_put}
 use Rattle.stream_core.proofs.pieces.put_due.Goals as goal
 
@@ -9,3 +11,35 @@ returns-clause-ok g c = on_ok c.put.result (due_put c.args.player.now c.feed.new
 
 pub returns-clause-front : goal.returns-clause-front
 returns-clause-front g c = on_err c.put.result (part_put c.args.player.now c.feed.new.self c.requires.player c.args.piece.now c.feed.new.out.items _ _ (rw c.clear.ensures.items at c.in_ok-feed.ensures.ok)) (rw c.as_slice.ensures.value at c.put.ensures.err)
+
+-- ---- what holds at once
+pub returns-in_err-feed-clause-player : goal.returns-in_err-feed-clause-player
+returns-in_err-feed-clause-player g c =
+    let e = err_from_is_err_and c.from_residual.result c.from_residual.ensures.1 in
+    rw e.1 tt
+
+pub returns-in_err-feed-clause-same : goal.returns-in_err-feed-clause-same
+returns-in_err-feed-clause-same g c =
+    let e = err_from_is_err_and c.from_residual.result c.from_residual.ensures.1 in
+    rw e.1 tt
+
+pub returns-in_err-feed-clause-ok : goal.returns-in_err-feed-clause-ok
+returns-in_err-feed-clause-ok g c =
+    let e = err_from_is_err_and c.from_residual.result c.from_residual.ensures.1 in
+    rw e.1 tt
+
+pub returns-in_err-feed-clause-fault : goal.returns-in_err-feed-clause-fault
+returns-in_err-feed-clause-fault g c =
+    let e = err_from_is_err_and c.from_residual.result c.from_residual.ensures.1 in
+    rw (e.1, e.2) tt
+
+pub returns-in_err-feed-clause-failures : goal.returns-in_err-feed-clause-failures
+returns-in_err-feed-clause-failures g c =
+    let e = err_from_is_err_and c.from_residual.result c.from_residual.ensures.1 in
+    rw (e.1, e.2) (omega (arith))
+
+pub returns-clause-fault : goal.returns-clause-fault
+returns-clause-fault g c = c.put.ensures.fault
+
+pub returns-clause-failures : goal.returns-clause-failures
+returns-clause-failures g c = c.put.ensures.failures

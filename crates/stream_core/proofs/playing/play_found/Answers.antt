@@ -8,7 +8,7 @@ use Rattle.stream_core.specs.Pieces.{IsSoundFault, PlaysFront, PlaysSound}
 use Rattle.stream_core.specs.Playing.{PlaysBehind, WritesFront}
 use Rattle.stream_core.specs.Wave.{pad_of}
 use Rattle.sound_core.proofs.ClosingLaws.{ends_at}
-use Rattle.sound_core.proofs.ReaderLaws.{counts_later, counts_ok, counts_refused}
+use Rattle.sound_core.proofs.ReaderLaws.{counts_later, counts_ok, counts_refused, same_on}
 use Rattle.stream_core.proofs.FaultLaws.{counts_opening, counts_writing, counts_written, opening_goes_on, opening_stands, reading_later, reading_stands, sound_later, unwritten, writes_later, writing_goes_on, writing_later, writing_stands}
 use Rattle.stream_core.proofs.PaceLaws.{keeps_all, keeps_part}
 use Rattle.stream_core.proofs.PieceLaws.{any_err, front_nil}
@@ -206,3 +206,135 @@ pub returns-clause-counts : goal.returns-clause-counts
 returns-clause-counts g c =
     let k = (goal.at.returns-clause-counts g c).In_ok-play_sound in
     counts_ok _ _ _ _ _ (same_limit g k) (no_failure g k) c.in_ok-closes.ensures.counts
+
+-- ---- what holds at once
+pub take_head-requires : goal.take_head-requires
+take_head-requires g c = record { within = c.requires.tells.within }
+
+pub put_header-requires-clause-sound : goal.put_header-requires-clause-sound
+put_header-requires-clause-sound g c = c.requires.tells.is_sound
+
+pub put_header-requires-clause-ready : goal.put_header-requires-clause-ready
+put_header-requires-clause-ready g c = c.requires.outlet_ready
+
+pub play_sound-requires-clause-sound : goal.play_sound-requires-clause-sound
+play_sound-requires-clause-sound g c = c.requires.tells.is_sound
+
+pub play_sound-requires-clause-whole : goal.play_sound-requires-clause-whole
+play_sound-requires-clause-whole g c = c.requires.tells.whole
+
+pub play_sound-requires-clause-reading : goal.play_sound-requires-clause-reading
+play_sound-requires-clause-reading g c = c.take_head.ensures.reading c.requires.reading
+
+pub play_sound-requires-clause-outlet_ready : goal.play_sound-requires-clause-outlet_ready
+play_sound-requires-clause-outlet_ready g c = omega (arith, c.requires.outlet_ready, c.in_ok-put_header.ensures.failures)
+
+pub closes-requires-clause-reading : goal.closes-requires-clause-reading
+closes-requires-clause-reading g c = c.in_ok-play_sound.ensures.reading
+
+pub put_pad-requires-clause-sound : goal.put_pad-requires-clause-sound
+put_pad-requires-clause-sound g c = c.requires.tells.is_sound
+
+pub put_pad-requires-clause-ready : goal.put_pad-requires-clause-ready
+put_pad-requires-clause-ready g c = omega (arith, c.requires.outlet_ready, c.in_ok-put_header.ensures.failures, c.in_ok-play_sound.ensures.write_failed)
+
+pub file_size-requires : goal.file_size-requires
+file_size-requires g c = c.requires.tells.is_sound
+
+pub returns-in_err-head-clause-same : goal.returns-in_err-head-clause-same
+returns-in_err-head-clause-same g c = c.take_head.ensures.same
+
+pub returns-in_err-head-clause-ok : goal.returns-in_err-head-clause-ok
+returns-in_err-head-clause-ok g c =
+    let e = err_from_is_err_and c.from_residual.result c.from_residual.ensures.1 in
+    rw e.1 tt
+
+pub returns-in_err-put_header-clause-same : goal.returns-in_err-put_header-clause-same
+returns-in_err-put_header-clause-same g c = c.take_head.ensures.same
+
+pub returns-in_err-put_header-clause-ok : goal.returns-in_err-put_header-clause-ok
+returns-in_err-put_header-clause-ok g c =
+    let e = err_from_is_err_and c.from_residual-in_err-put_header.result c.from_residual-in_err-put_header.ensures.1 in
+    rw e.1 tt
+
+pub returns-in_err-play_sound-clause-same : goal.returns-in_err-play_sound-clause-same
+returns-in_err-play_sound-clause-same g c = same_on _ _ _ c.take_head.ensures.same c.play_sound.ensures.same_reader
+
+pub returns-in_err-play_sound-clause-ok : goal.returns-in_err-play_sound-clause-ok
+returns-in_err-play_sound-clause-ok g c =
+    let e = err_from_is_err_and c.from_residual-in_err-play_sound.result c.from_residual-in_err-play_sound.ensures.1 in
+    rw e.1 tt
+
+pub returns-in_err-closes-clause-same : goal.returns-in_err-closes-clause-same
+returns-in_err-closes-clause-same g c = same_on _ _ _ (same_on _ _ _ c.take_head.ensures.same c.play_sound.ensures.same_reader) c.closes.ensures.same
+
+pub returns-in_err-closes-clause-ok : goal.returns-in_err-closes-clause-ok
+returns-in_err-closes-clause-ok g c =
+    let e = err_from_is_err_and c.from_residual-in_err-closes.result c.from_residual-in_err-closes.ensures.1 in
+    rw e.1 tt
+
+pub returns-in_err-put_pad-clause-same : goal.returns-in_err-put_pad-clause-same
+returns-in_err-put_pad-clause-same g c = same_on _ _ _ (same_on _ _ _ c.take_head.ensures.same c.play_sound.ensures.same_reader) c.closes.ensures.same
+
+pub returns-in_err-put_pad-clause-ok : goal.returns-in_err-put_pad-clause-ok
+returns-in_err-put_pad-clause-ok g c =
+    let e = err_from_is_err_and c.from_residual-in_err-put_pad.result c.from_residual-in_err-put_pad.ensures.1 in
+    rw e.1 tt
+
+pub returns-in_err-head-clause-fault : goal.returns-in_err-head-clause-fault
+returns-in_err-head-clause-fault g c =
+    let e = err_from_is_err_and c.from_residual.result c.from_residual.ensures.1 in
+    rw (e.1, e.2) (reading_stands (g.R.Read.remaining (inlet_reader c.args.reader.now.inlet.now)) c.args.taps.now c.args.reader.now.ahead.now.items c.in_err-head.field-0.0 (rw c.in_err-head.ensures.fault tt))
+
+pub returns-in_err-head-clause-unwritten : goal.returns-in_err-head-clause-unwritten
+returns-in_err-head-clause-unwritten g c =
+    let e = err_from_is_err_and c.from_residual.result c.from_residual.ensures.1 in
+    rw (e.1, e.2) (λ early. refl)
+
+pub returns-in_err-head-clause-keeps_up : goal.returns-in_err-head-clause-keeps_up
+returns-in_err-head-clause-keeps_up g c =
+    let e = err_from_is_err_and c.from_residual.result c.from_residual.ensures.1 in
+    rw (e.1, e.2, c.in_err-head.ensures.fault) (λ stops. absurd stops)
+
+pub returns-in_err-head-clause-write_failed : goal.returns-in_err-head-clause-write_failed
+returns-in_err-head-clause-write_failed g c =
+    let e = err_from_is_err_and c.from_residual.result c.from_residual.ensures.1 in
+    rw (e.1, e.2, c.in_err-head.ensures.fault) (omega (arith))
+
+pub returns-in_err-put_header-clause-unwritten : goal.returns-in_err-put_header-clause-unwritten
+returns-in_err-put_header-clause-unwritten g c =
+    let e = err_from_is_err_and c.from_residual-in_err-put_header.result c.from_residual-in_err-put_header.ensures.1 in
+    rw (e.1, e.2) c.in_err-put_header.ensures.unwritten
+
+pub returns-then-not-branch-clause-same : goal.returns-then-not-branch-clause-same
+returns-then-not-branch-clause-same g c = same_on _ _ _ (same_on _ _ _ c.take_head.ensures.same c.play_sound.ensures.same_reader) c.closes.ensures.same
+
+pub returns-then-not-branch-clause-ok : goal.returns-then-not-branch-clause-ok
+returns-then-not-branch-clause-ok g c = tt
+
+pub returns-then-not-branch-clause-unwritten : goal.returns-then-not-branch-clause-unwritten
+returns-then-not-branch-clause-unwritten g c = λ early. absurd early
+
+pub returns-then-not-branch-clause-keeps_up : goal.returns-then-not-branch-clause-keeps_up
+returns-then-not-branch-clause-keeps_up g c = λ stops. absurd stops
+
+pub returns-then-not-branch-clause-write_failed : goal.returns-then-not-branch-clause-write_failed
+returns-then-not-branch-clause-write_failed g c = omega (arith, c.in_ok-put_header.ensures.failures, c.in_ok-play_sound.ensures.write_failed)
+
+pub returns-clause-same : goal.returns-clause-same
+returns-clause-same g c = same_on _ _ _ (same_on _ _ _ c.take_head.ensures.same c.play_sound.ensures.same_reader) c.closes.ensures.same
+
+pub returns-clause-fault : goal.returns-clause-fault
+returns-clause-fault g c = tt
+
+pub returns-clause-unwritten : goal.returns-clause-unwritten
+returns-clause-unwritten g c = tt
+
+pub returns-clause-front : goal.returns-clause-front
+returns-clause-front g c = tt
+
+pub returns-clause-keeps_up : goal.returns-clause-keeps_up
+returns-clause-keeps_up g c = tt
+
+pub returns-clause-write_failed : goal.returns-clause-write_failed
+returns-clause-write_failed g c = omega (arith, c.in_ok-put_header.ensures.failures, c.in_ok-play_sound.ensures.write_failed, c.in_ok-put_pad.ensures.failures)

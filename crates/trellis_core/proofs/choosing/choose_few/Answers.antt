@@ -1,6 +1,7 @@
-use Rattle.std.proofs.Common.{◌+◌, ◌∙◌, ap, sym, arith, take, set}
+use Rattle.std.proofs.Common.{◌+◌, ◌/◌, ◌^◌, ◌<◌, ◌≤◌, ◌∙◌, ap, sym, arith, length, take, set}
 use Rattle.std.specs.Simd.Lanes.{mask_l}
 use Rattle.std.proofs.lemmas.List.{take_all}
+use Rattle.std.proofs.lemmas.Simd.{Each1-get_or}
 use Rattle.cost_core.specs.Rows.{seconds, least, lower, upper}
 use Rattle.trellis_core.proofs.Few.{few_second, few_first, few_long}
 use Rattle.trellis_core.proofs.choosing.choose_few.Goals as goal
@@ -35,3 +36,22 @@ returns-clause-choices c =
     let k = c.loop-k.k in
     let long = few_long a.old.now a.lows.now a.highs.now c.requires.even (omega arith) (omega arith) in
     c.loop-k.invariant.choices ∙ ap mask_l (take_all k (seconds (lower a.old.now a.lows.now) (upper a.old.now a.highs.now)) (omega (arith, long.1)))
+
+-- ---- in range
+pub overflow_add-first : goal.overflow_add-first
+overflow_add-first c = record { fits = omega (arith, Each1-get_or (λ x. x ≤ 2 ^ 63) c.args.old.now (c.loop-k.k / 2) 0 (omega (arith, c.loop-k-test.true, c.requires.row_len)) c.requires.old, Each1-get_or (λ x. x < 2 ^ 63) c.args.lows.now c.loop-k.k 0 (omega (arith, c.loop-k-test.true, c.requires.lows_len, c.requires.row_len)) c.requires.lows) }
+
+pub overflow_add-second-in-loop-k : goal.overflow_add-second-in-loop-k
+overflow_add-second-in-loop-k c = record { fits = omega (arith, Each1-get_or (λ x. x ≤ 2 ^ 63) c.args.old.now (length c.args.old.now / 2 + c.loop-k.k / 2) 0 (omega (arith, c.loop-k-test.true, c.requires.even, c.requires.row_len)) c.requires.old, Each1-get_or (λ x. x < 2 ^ 63) c.args.highs.now c.loop-k.k 0 (omega (arith, c.loop-k-test.true, c.requires.highs_len, c.requires.row_len)) c.requires.highs) }
+
+pub bounds-highs-k : goal.bounds-highs-k
+bounds-highs-k c = omega (arith, c.loop-k-test.true, c.requires.highs_len, c.requires.row_len)
+
+pub bounds-lows-k : goal.bounds-lows-k
+bounds-lows-k c = omega (arith, c.loop-k-test.true, c.requires.lows_len, c.requires.row_len)
+
+pub bounds-old-half : goal.bounds-old-half
+bounds-old-half c = omega (arith, c.loop-k-test.true, c.requires.even, c.requires.row_len)
+
+pub bounds-old-k : goal.bounds-old-k
+bounds-old-k c = omega (arith, c.loop-k-test.true, c.requires.row_len)

@@ -6,6 +6,7 @@ use Rattle.cost_core.specs.StateCosts.{trellis_of}
 use Rattle.trellis_core.specs.Best.{best_row}
 use Rattle.trellis_core.specs.Decisions.{decision_bytes}
 use Rattle.trellis_core.specs.Handing.{cut_at, cut_spelling}
+use Rattle.trellis_core.proofs.FaultLaws.{no_ok}
 use Rattle.trellis_core.proofs.TableLaws.{written, written_length}
 use Rattle.trellis_core.proofs.HandedOver.{cut_front, cut_is, cut_more, hands_all, hands_up_to}
 use Rattle.trellis_core.proofs.RowLaws.{row_length}
@@ -133,3 +134,94 @@ loop-level-init g c =
       kept = refl;
       ready = c.requires.ready;
     }
+
+-- ---- what an exit says nothing of, and what is left of the sink
+pub returns-in_err-level-clause-buffers : goal.returns-in_err-level-clause-buffers
+returns-in_err-level-clause-buffers g c = let e = err_from_is_err_and c.from_residual.result c.from_residual.ensures.1 in no_ok _ c.from_residual.result e.0 e.1
+
+pub returns-in_err-level-clause-ok : goal.returns-in_err-level-clause-ok
+returns-in_err-level-clause-ok g c = let e = err_from_is_err_and c.from_residual.result c.from_residual.ensures.1 in no_ok _ c.from_residual.result e.0 e.1
+
+pub returns-in_err-level-clause-rows_left : goal.returns-in_err-level-clause-rows_left
+returns-in_err-level-clause-rows_left g c = let e = err_from_is_err_and c.from_residual.result c.from_residual.ensures.1 in no_ok _ c.from_residual.result e.0 e.1
+
+pub returns-in_err-level-clause-refused : goal.returns-in_err-level-clause-refused
+returns-in_err-level-clause-refused g c = let e = err_from_is_err_and c.from_residual.result c.from_residual.ensures.1 in rw e.1 (c.in_err-level.ensures.refused c.loop-level.invariant.ready)
+
+pub returns-in_err-level-clause-row_length : goal.returns-in_err-level-clause-row_length
+returns-in_err-level-clause-row_length g c = c.level.ensures.row_length ∙ c.loop-level.invariant.row_length
+
+pub returns-in_err-level-clause-kind : goal.returns-in_err-level-clause-kind
+returns-in_err-level-clause-kind g c = c.level.ensures.kind ∙ c.loop-level.invariant.kind
+
+pub returns-in_err-level-clause-kept : goal.returns-in_err-level-clause-kept
+returns-in_err-level-clause-kept g c = c.level.ensures.kept ∙ c.loop-level.invariant.kept
+
+pub returns-in_err-level-2-clause-buffers : goal.returns-in_err-level-2-clause-buffers
+returns-in_err-level-2-clause-buffers g c = let e = err_from_is_err_and c.from_residual-in_err-level-2.result c.from_residual-in_err-level-2.ensures.1 in no_ok _ c.from_residual-in_err-level-2.result e.0 e.1
+
+pub returns-in_err-level-2-clause-ok : goal.returns-in_err-level-2-clause-ok
+returns-in_err-level-2-clause-ok g c = let e = err_from_is_err_and c.from_residual-in_err-level-2.result c.from_residual-in_err-level-2.ensures.1 in no_ok _ c.from_residual-in_err-level-2.result e.0 e.1
+
+pub returns-in_err-level-2-clause-rows_left : goal.returns-in_err-level-2-clause-rows_left
+returns-in_err-level-2-clause-rows_left g c = let e = err_from_is_err_and c.from_residual-in_err-level-2.result c.from_residual-in_err-level-2.ensures.1 in no_ok _ c.from_residual-in_err-level-2.result e.0 e.1
+
+pub returns-in_err-level-2-clause-refused : goal.returns-in_err-level-2-clause-refused
+returns-in_err-level-2-clause-refused g c = let e = err_from_is_err_and c.from_residual-in_err-level-2.result c.from_residual-in_err-level-2.ensures.1 in rw e.1 (c.in_err-level-2.ensures.refused c.loop-level.invariant.ready)
+
+pub returns-in_err-level-2-clause-row_length : goal.returns-in_err-level-2-clause-row_length
+returns-in_err-level-2-clause-row_length g c = c.level-2.ensures.row_length ∙ c.loop-level.invariant.row_length
+
+pub returns-in_err-level-2-clause-kind : goal.returns-in_err-level-2-clause-kind
+returns-in_err-level-2-clause-kind g c = c.level-2.ensures.kind ∙ c.loop-level.invariant.kind
+
+pub returns-in_err-level-2-clause-kept : goal.returns-in_err-level-2-clause-kept
+returns-in_err-level-2-clause-kept g c = c.level-2.ensures.kept ∙ c.loop-level.invariant.kept
+
+pub returns-clause-row_length : goal.returns-clause-row_length
+returns-clause-row_length g c = c.level-2.ensures.row_length ∙ c.loop-level.invariant.row_length
+
+pub returns-clause-kind : goal.returns-clause-kind
+returns-clause-kind g c = c.level-2.ensures.kind ∙ c.loop-level.invariant.kind
+
+pub returns-clause-kept : goal.returns-clause-kept
+returns-clause-kept g c = c.level-2.ensures.kept ∙ c.loop-level.invariant.kept
+
+pub returns-clause-err : goal.returns-clause-err
+returns-clause-err g c = tt
+
+pub returns-clause-refused : goal.returns-clause-refused
+returns-clause-refused g c = c.in_ok-level-2.ensures.refused c.loop-level.invariant.ready
+
+pub returns-clause-rows_left : goal.returns-clause-rows_left
+returns-clause-rows_left g c = omega (arith, c.in_ok-level-2.ensures.rows, c.loop-level.invariant.left, c.loop-level-test.false, c.loop-level.auto.level-end, c.length-level-end.ensures.value)
+
+pub level-requires-clause-rows : goal.level-requires-clause-rows
+level-requires-clause-rows g c = omega (arith, c.loop-level.invariant.left, c.loop-level-test.true, c.length-level-end.ensures.value, c.requires.rows)
+
+pub level-requires-2-clause-rows : goal.level-requires-2-clause-rows
+level-requires-2-clause-rows g c = omega (arith, c.loop-level.invariant.left, c.loop-level.auto.level-end, c.length-level-end.ensures.value, c.requires.rows)
+
+pub level-requires-clause-row : goal.level-requires-clause-row
+level-requires-clause-row g c = omega (arith, c.deref-in-loop-level.ensures.len, c.loop-level.room.totals.ok.0, c.loop-level.invariant.totals, c.loop-level.invariant.row_length, c.requires.row_length)
+
+pub level-requires-2-clause-row : goal.level-requires-2-clause-row
+level-requires-2-clause-row g c = omega (arith, c.deref-3.ensures.len, c.loop-level.room.totals.ok.0, c.loop-level.invariant.totals, c.loop-level.invariant.row_length, c.requires.row_length)
+
+pub next_row-requires-clause-level : goal.next_row-requires-clause-level
+next_row-requires-clause-level g c = omega (arith, c.loop-level-test.true, c.length-level-end.ensures.value)
+
+pub next_row-requires-clause-row : goal.next_row-requires-clause-row
+next_row-requires-clause-row g c = c.deref-in-loop-level-2.ensures.value ∙ c.loop-level.invariant.row
+
+pub next_row-requires-clause-steps : goal.next_row-requires-clause-steps
+next_row-requires-clause-steps g c = ap length c.deref_mut-in-loop-level-2.ensures.value ∙ c.loop-level.invariant.steps
+
+pub next_row-requires-clause-following : goal.next_row-requires-clause-following
+next_row-requires-clause-following g c = omega (arith, c.deref_mut-in-loop-level-3.ensures.len, c.loop-level.room.totals.ok.0, c.loop-level.invariant.totals)
+
+pub next_row-requires-clause-decisions : goal.next_row-requires-clause-decisions
+next_row-requires-clause-decisions g c = ap length c.deref_mut-in-loop-level-4.ensures.value ∙ c.loop-level.invariant.decided
+
+pub write_first_row-requires : goal.write_first_row-requires
+write_first_row-requires g c = ap length c.deref_mut.ensures.value ∙ c.requires.buffers.row

@@ -4,12 +4,13 @@ use Rattle.std.proofs.KnownBytes.{Appends-nil}
 use Rattle.cost_core.specs.Trellis.{states}
 use Rattle.cost_core.specs.StateCosts.{trellis_of}
 use Rattle.trellis_core.specs.Best.{best_row}
+use Rattle.trellis_core.specs.declared.fault.BridgeFault.TheVariants.{Memory, Sink}
 use Rattle.trellis_core.specs.Decisions.{AreAllDecisions}
 use Rattle.trellis_core.proofs.Decisions.{one_more}
 use Rattle.trellis_core.proofs.TableLaws.{totals_length, written, written_length}
 use Rattle.trellis_core.proofs.HandedOver.{hands_more, hands_front, hands_some, hands_up_to, hands_all}
 use Rattle.trellis_core.proofs.RowLaws.{row_length}
-use Rattle.trellis_core.proofs.FaultLaws.{not_memory, not_sink, true_or_false}
+use Rattle.trellis_core.proofs.FaultLaws.{no_ok, not_memory, not_refused, not_sink, true_or_false}
 use Rattle.trellis_core.proofs.rows.search.Goals as goal
 
 pub level-requires-clause-row : goal.level-requires-clause-row
@@ -147,3 +148,130 @@ loop-level-init g c =
       kept = refl;
       ready = c.requires.ready;
     }
+
+-- ---- what an exit says nothing of, and what is left of the sink
+pub returns-in_err-level-clause-totals : goal.returns-in_err-level-clause-totals
+returns-in_err-level-clause-totals g c = let e = err_from_is_err_and c.from_residual.result c.from_residual.ensures.1 in no_ok _ c.from_residual.result e.0 e.1
+
+pub returns-in_err-level-clause-decisions : goal.returns-in_err-level-clause-decisions
+returns-in_err-level-clause-decisions g c = let e = err_from_is_err_and c.from_residual.result c.from_residual.ensures.1 in no_ok _ c.from_residual.result e.0 e.1
+
+pub returns-in_err-level-clause-buffers : goal.returns-in_err-level-clause-buffers
+returns-in_err-level-clause-buffers g c = let e = err_from_is_err_and c.from_residual.result c.from_residual.ensures.1 in no_ok _ c.from_residual.result e.0 e.1
+
+pub returns-in_err-level-clause-rows : goal.returns-in_err-level-clause-rows
+returns-in_err-level-clause-rows g c = let e = err_from_is_err_and c.from_residual.result c.from_residual.ensures.1 in no_ok _ c.from_residual.result e.0 e.1
+
+pub returns-in_err-level-clause-rows_left : goal.returns-in_err-level-clause-rows_left
+returns-in_err-level-clause-rows_left g c = let e = err_from_is_err_and c.from_residual.result c.from_residual.ensures.1 in no_ok _ c.from_residual.result e.0 e.1
+
+pub returns-in_err-level-clause-row_length : goal.returns-in_err-level-clause-row_length
+returns-in_err-level-clause-row_length g c = c.level.ensures.row_length ∙ c.loop-level.invariant.row_length
+
+pub returns-in_err-level-clause-kind : goal.returns-in_err-level-clause-kind
+returns-in_err-level-clause-kind g c = c.level.ensures.kind ∙ c.loop-level.invariant.kind
+
+pub returns-in_err-level-clause-kept : goal.returns-in_err-level-clause-kept
+returns-in_err-level-clause-kept g c = c.level.ensures.kept ∙ c.loop-level.invariant.kept
+
+pub returns-in_err-extend_from_slice-clause-totals : goal.returns-in_err-extend_from_slice-clause-totals
+returns-in_err-extend_from_slice-clause-totals g c = let e = err_from_is_err_and c.from_residual-in_err-extend_from_slice.result c.from_residual-in_err-extend_from_slice.ensures.1 in no_ok _ c.from_residual-in_err-extend_from_slice.result e.0 e.1
+
+pub returns-in_err-extend_from_slice-clause-decisions : goal.returns-in_err-extend_from_slice-clause-decisions
+returns-in_err-extend_from_slice-clause-decisions g c = let e = err_from_is_err_and c.from_residual-in_err-extend_from_slice.result c.from_residual-in_err-extend_from_slice.ensures.1 in no_ok _ c.from_residual-in_err-extend_from_slice.result e.0 e.1
+
+pub returns-in_err-extend_from_slice-clause-buffers : goal.returns-in_err-extend_from_slice-clause-buffers
+returns-in_err-extend_from_slice-clause-buffers g c = let e = err_from_is_err_and c.from_residual-in_err-extend_from_slice.result c.from_residual-in_err-extend_from_slice.ensures.1 in no_ok _ c.from_residual-in_err-extend_from_slice.result e.0 e.1
+
+pub returns-in_err-extend_from_slice-clause-rows : goal.returns-in_err-extend_from_slice-clause-rows
+returns-in_err-extend_from_slice-clause-rows g c = let e = err_from_is_err_and c.from_residual-in_err-extend_from_slice.result c.from_residual-in_err-extend_from_slice.ensures.1 in no_ok _ c.from_residual-in_err-extend_from_slice.result e.0 e.1
+
+pub returns-in_err-extend_from_slice-clause-rows_left : goal.returns-in_err-extend_from_slice-clause-rows_left
+returns-in_err-extend_from_slice-clause-rows_left g c = let e = err_from_is_err_and c.from_residual-in_err-extend_from_slice.result c.from_residual-in_err-extend_from_slice.ensures.1 in no_ok _ c.from_residual-in_err-extend_from_slice.result e.0 e.1
+
+pub returns-in_err-extend_from_slice-clause-row_length : goal.returns-in_err-extend_from_slice-clause-row_length
+returns-in_err-extend_from_slice-clause-row_length g c = c.level.ensures.row_length ∙ c.loop-level.invariant.row_length
+
+pub returns-in_err-extend_from_slice-clause-kind : goal.returns-in_err-extend_from_slice-clause-kind
+returns-in_err-extend_from_slice-clause-kind g c = c.level.ensures.kind ∙ c.loop-level.invariant.kind
+
+pub returns-in_err-extend_from_slice-clause-kept : goal.returns-in_err-extend_from_slice-clause-kept
+returns-in_err-extend_from_slice-clause-kept g c = c.level.ensures.kept ∙ c.loop-level.invariant.kept
+
+pub returns-in_err-level-2-clause-totals : goal.returns-in_err-level-2-clause-totals
+returns-in_err-level-2-clause-totals g c = let e = err_from_is_err_and c.from_residual-in_err-level-2.result c.from_residual-in_err-level-2.ensures.1 in no_ok _ c.from_residual-in_err-level-2.result e.0 e.1
+
+pub returns-in_err-level-2-clause-decisions : goal.returns-in_err-level-2-clause-decisions
+returns-in_err-level-2-clause-decisions g c = let e = err_from_is_err_and c.from_residual-in_err-level-2.result c.from_residual-in_err-level-2.ensures.1 in no_ok _ c.from_residual-in_err-level-2.result e.0 e.1
+
+pub returns-in_err-level-2-clause-buffers : goal.returns-in_err-level-2-clause-buffers
+returns-in_err-level-2-clause-buffers g c = let e = err_from_is_err_and c.from_residual-in_err-level-2.result c.from_residual-in_err-level-2.ensures.1 in no_ok _ c.from_residual-in_err-level-2.result e.0 e.1
+
+pub returns-in_err-level-2-clause-rows : goal.returns-in_err-level-2-clause-rows
+returns-in_err-level-2-clause-rows g c = let e = err_from_is_err_and c.from_residual-in_err-level-2.result c.from_residual-in_err-level-2.ensures.1 in no_ok _ c.from_residual-in_err-level-2.result e.0 e.1
+
+pub returns-in_err-level-2-clause-rows_left : goal.returns-in_err-level-2-clause-rows_left
+returns-in_err-level-2-clause-rows_left g c = let e = err_from_is_err_and c.from_residual-in_err-level-2.result c.from_residual-in_err-level-2.ensures.1 in no_ok _ c.from_residual-in_err-level-2.result e.0 e.1
+
+pub returns-in_err-level-2-clause-row_length : goal.returns-in_err-level-2-clause-row_length
+returns-in_err-level-2-clause-row_length g c = c.level-2.ensures.row_length ∙ c.loop-level.invariant.row_length
+
+pub returns-in_err-level-2-clause-kind : goal.returns-in_err-level-2-clause-kind
+returns-in_err-level-2-clause-kind g c = c.level-2.ensures.kind ∙ c.loop-level.invariant.kind
+
+pub returns-in_err-level-2-clause-kept : goal.returns-in_err-level-2-clause-kept
+returns-in_err-level-2-clause-kept g c = c.level-2.ensures.kept ∙ c.loop-level.invariant.kept
+
+pub returns-clause-row_length : goal.returns-clause-row_length
+returns-clause-row_length g c = c.level-2.ensures.row_length ∙ c.loop-level.invariant.row_length
+
+pub returns-clause-kind : goal.returns-clause-kind
+returns-clause-kind g c = c.level-2.ensures.kind ∙ c.loop-level.invariant.kind
+
+pub returns-clause-kept : goal.returns-clause-kept
+returns-clause-kept g c = c.level-2.ensures.kept ∙ c.loop-level.invariant.kept
+
+pub returns-clause-rows_left : goal.returns-clause-rows_left
+returns-clause-rows_left g c = omega (arith, c.in_ok-level-2.ensures.rows, c.loop-level.invariant.left, c.loop-level-test.false, c.loop-level.auto.level-end, c.length-level-end.ensures.value)
+
+pub returns-clause-memory : goal.returns-clause-memory
+returns-clause-memory g c = not_refused tt Memory
+
+pub returns-clause-sink : goal.returns-clause-sink
+returns-clause-sink g c = not_refused tt Sink
+
+pub returns-clause-refused : goal.returns-clause-refused
+returns-clause-refused g c = (not_refused tt Sink, λ yes. absurd (true_or_false _ yes (c.in_ok-level-2.ensures.refused c.loop-level.invariant.ready)))
+
+pub level-requires-clause-rows : goal.level-requires-clause-rows
+level-requires-clause-rows g c = omega (arith, c.loop-level.invariant.left, c.loop-level-test.true, c.length-level-end.ensures.value, c.requires.rows)
+
+pub level-requires-2-clause-rows : goal.level-requires-2-clause-rows
+level-requires-2-clause-rows g c = omega (arith, c.loop-level.invariant.left, c.loop-level.auto.level-end, c.length-level-end.ensures.value, c.requires.rows)
+
+pub next_row-requires-clause-level : goal.next_row-requires-clause-level
+next_row-requires-clause-level g c = omega (arith, c.loop-level-test.true, c.length-level-end.ensures.value)
+
+pub next_row-requires-clause-row : goal.next_row-requires-clause-row
+next_row-requires-clause-row g c = c.deref-in-loop-level.ensures.value ∙ c.loop-level.invariant.row
+
+pub next_row-requires-clause-steps : goal.next_row-requires-clause-steps
+next_row-requires-clause-steps g c = ap length c.deref_mut-in-loop-level.ensures.value ∙ c.loop-level.invariant.steps
+
+pub next_row-requires-clause-following : goal.next_row-requires-clause-following
+next_row-requires-clause-following g c = ap length c.deref_mut-in-loop-level-2.ensures.value ∙ c.loop-level.invariant.totals
+
+pub next_row-requires-clause-decisions : goal.next_row-requires-clause-decisions
+next_row-requires-clause-decisions g c = ap length c.deref_mut-in-loop-level-3.ensures.value ∙ c.loop-level.invariant.decided
+
+pub write_totals-requires-clause-bounded : goal.write_totals-requires-clause-bounded
+write_totals-requires-clause-bounded g c = c.length-level-end.ensures.bounded
+
+pub write_totals-requires-clause-last : goal.write_totals-requires-clause-last
+write_totals-requires-clause-last g c = c.deref-3.ensures.value ∙ c.loop-level.invariant.row ∙ ap (best_row (trellis_of c.args.window.now)) (omega (arith, c.loop-level-test.false, c.length-level-end.ensures.value, c.loop-level.auto.level-end))
+
+pub write_totals-requires-clause-totals : goal.write_totals-requires-clause-totals
+write_totals-requires-clause-totals g c = ap length c.deref_mut-2.ensures.value ∙ c.loop-level.invariant.totals
+
+pub write_first_row-requires : goal.write_first_row-requires
+write_first_row-requires g c = ap length c.deref_mut.ensures.value ∙ c.requires.buffers.row

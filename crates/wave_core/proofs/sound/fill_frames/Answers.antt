@@ -1,8 +1,10 @@
-use Rattle.std.proofs.Common.{◌≡◌, ◌+◌, ◌-◌, ◌*◌, ◌/◌, ◌≤◌, ◌<◌, ◌∙◌, ap, arith, drop, get_or, get_or-drop, get_or-take, inl, inr, length, length-drop, length-take-le, pos, slice_index}
+use Rattle.std.proofs.Common.{◌≡◌, All, ◌+◌, ◌-◌, ◌*◌, ◌/◌, ◌≤◌, ◌<◌, ◌∙◌, ap, arith, drop, get_or, get_or-drop, get_or-take, inl, inr, length, length-drop, length-take-le, pos, slice_index, subst, sym, take}
 use Rattle.std.proofs.Math.Nat.{div-mul-le_self}
 use Rattle.std.proofs.lemmas.Bool.{cases_lt}
+use Rattle.std.proofs.lemmas.List.Elements.{All-drop, All-take}
+use Rattle.wave_core.specs.Contents.{IsSample}
 use Rattle.wave_core.specs.Texts.{sample_bytes}
-use Rattle.wave_core.proofs.FrameLaws.{frames_joined, place_within}
+use Rattle.wave_core.proofs.FrameLaws.{frames_joined, place_within, row_within}
 use Rattle.wave_core.proofs.sound.fill_frames.Goals as goal
 
 pub loop-c-preserved : goal.loop-c-preserved
@@ -47,3 +49,43 @@ returns-then-channels-eq2 c =
           let read : get_or c.split_at.result.1.now i (pos 0) ≡ get_or samples (d * frames + i) (pos 0) = ap (λ xs. get_or xs i (pos 0)) c.split_at.ensures.back ∙ get_or-drop frames samples i (pos 0) ∙ ap (λ m. get_or samples m (pos 0)) (omega (arith, ap (λ m. m * frames) one)) in
           ap (λ m. slice_index to m) place ∙ c.fill_pairs.ensures.right i k (omega (arith, below, long)) in_bytes ∙ ap (λ z. slice_index (sample_bytes width z) k) read
     ])
+
+pub overflow_mul-c : goal.overflow_mul-c
+overflow_mul-c c = omega (arith, row_within c.loop-c.c c.args.frames (length c.args.samples.now) c.loop-c-test.true)
+
+pub overflow_add-c : goal.overflow_add-c
+overflow_add-c c = omega (arith, row_within c.loop-c.c c.args.frames (length c.args.samples.now) c.loop-c-test.true)
+
+pub spread-requires : goal.spread-requires
+spread-requires c =
+    let frames = c.args.frames in
+    let at = c.loop-c.c * frames in
+    let samples = c.args.samples.now in
+    let row = row_within c.loop-c.c frames (length samples) c.loop-c-test.true in
+    let long : length (take (at + frames - at) (drop at samples)) ≡ frames = omega (arith, length-take-le (at + frames - at) (drop at samples) (omega (arith, row, length-drop at samples))) in
+    record {
+      width = c.requires.width;
+      values = All-take (IsSample c.args.width) (at + frames - at) (drop at samples) (All-drop (IsSample c.args.width) at samples c.requires.values);
+      channel = c.loop-c-test.true;
+      enough = omega (arith, ap (λ m. m * (length samples / frames) * (c.args.width / 8)) long, c.loop-c.auto.to, c.requires.size);
+    }
+
+pub split_at-requires : goal.split_at-requires
+split_at-requires c = omega (arith, div-mul-le_self (length c.args.samples.now) c.args.frames, ap (λ m. m * c.args.frames) c.if-channels-eq2.true)
+
+pub fill_pairs-requires : goal.fill_pairs-requires
+fill_pairs-requires c =
+    let frames = c.args.frames in
+    let samples = c.args.samples.now in
+    let P = IsSample c.args.width in
+    let two = c.if-channels-eq2.true in
+    let whole : frames + frames ≤ length samples = omega (arith, div-mul-le_self (length samples) frames, ap (λ m. m * frames) two) in
+    let front = ap length c.split_at.ensures.front ∙ length-take-le frames samples (omega (arith, whole)) in
+    let back = ap length c.split_at.ensures.back ∙ length-drop frames samples in
+    record {
+      width = c.requires.width;
+      left = subst (All P) (sym c.split_at.ensures.front) (All-take P frames samples c.requires.values);
+      right = subst (All P) (sym c.split_at.ensures.back) (All-drop P frames samples c.requires.values);
+      as_many = omega (arith, whole, front, back);
+      enough = omega (arith, ap (λ m. m * 2 * (c.args.width / 8)) front, ap (λ m. frames * m * (c.args.width / 8)) two, c.requires.size);
+    }

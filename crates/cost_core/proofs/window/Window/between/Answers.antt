@@ -3,7 +3,8 @@ use Rattle.splice_core.specs.Cues.{CueContent}
 use Rattle.splice_core.specs.Splices.{splice_content}
 use Rattle.cost_core.specs.Bridges.{Bridging}
 use Rattle.cost_core.specs.Limits.{IsBridging}
-use Rattle.cost_core.proofs.Windows.{bridging_limits, cue_read, splicing, targets_many}
+use Rattle.std.proofs.lemmas.Result.{IfOk-from_err}
+use Rattle.cost_core.proofs.Windows.{bridging_limits, cue_fits, cue_read, preceding_many, splicing, targets_many}
 use Rattle.cost_core.proofs.window.Window.between.Goals as goal
 
 pub returns : goal.returns
@@ -32,3 +33,66 @@ invariant_of-result c =
       start_is = c.read_state-state.ensures;
       table_is = rw c.in_ok-weights.ensures.items c.in_ok-scaled.ensures;
     }
+
+-- ---- what the calls ask for
+pub overflow_sub-width : goal.overflow_sub-width
+overflow_sub-width c = omega (arith, (splicing c.args.splice.now).weights_fit.two_weights)
+
+pub overflow_add-start : goal.overflow_add-start
+overflow_add-start c = omega (arith, c.requires.room.start_in, (splicing c.args.splice.now).weights_fit.few_weights)
+
+pub push_range-requires-clause-in_order : goal.push_range-requires-clause-in_order
+push_range-requires-clause-in_order c = omega arith
+
+pub push_range-requires-clause-in_source : goal.push_range-requires-clause-in_source
+push_range-requires-clause-in_source c = omega (arith, c.requires.room.after)
+
+pub push_range-requires-clause-in_limit : goal.push_range-requires-clause-in_limit
+push_range-requires-clause-in_limit c = rw c.new-preceding.ensures (omega (arith, c.requires.room.stop_in))
+
+pub push_range-requires-2-clause-in_order : goal.push_range-requires-2-clause-in_order
+push_range-requires-2-clause-in_order c = omega arith
+
+pub push_range-requires-2-clause-in_source : goal.push_range-requires-2-clause-in_source
+push_range-requires-2-clause-in_source c = omega (arith, c.requires.room.goes_on, (splicing c.args.splice.now).weights_fit.two_weights)
+
+pub push_range-requires-2-clause-in_limit : goal.push_range-requires-2-clause-in_limit
+push_range-requires-2-clause-in_limit c = rw c.new-following.ensures (omega (arith, (splicing c.args.splice.now).weights_fit.few_weights))
+
+pub targets_after-requires-clause-cues : goal.targets_after-requires-clause-cues
+targets_after-requires-clause-cues c = c.requires.cues
+
+pub targets_after-requires-clause-room : goal.targets_after-requires-clause-room
+targets_after-requires-clause-room c = c.requires.room
+
+pub scaled_sums-requires-clause-weights : goal.scaled_sums-requires-clause-weights
+scaled_sums-requires-clause-weights c = rw c.as_slice-weights.ensures.value (splicing c.args.splice.now).weights_fit
+
+pub scaled_sums-requires-clause-levels : goal.scaled_sums-requires-clause-levels
+scaled_sums-requires-clause-levels c =
+    let splice = c.args.splice.now in
+    let there : c.args.cue < length (splice_content splice).cues = omega (arith, c.requires.cues) in
+    omega (arith, ap (λ (q : CueContent). q.bridge) (cue_read splice c.args.cue c.index.result.now there c.index.ensures), (cue_fits (splice_content splice) (splicing splice) c.args.cue there).bridge_fits)
+
+pub read_state-state-requires : goal.read_state-state-requires
+read_state-state-requires c =
+    let room = c.requires.room in
+    let before = c.in_ok-push_range.ensures.ok ∙ (λ j. c.new-preceding.ensures j ++ slice_range c.args.own.now (c.args.stop - (length (c.as_slice-weights.ensures.value j) - 1)) c.args.stop) in
+    let many = preceding_many (splice_content c.args.splice.now) (splicing c.args.splice.now) c.args.cue c.args.own.now c.args.stop c.args.next.now c.args.start (omega (arith, c.requires.cues)) room.ends (omega (arith, room.after)) room.goes_on in
+    omega (arith, ap length before ∙ many, (splicing c.args.splice.now).weights_fit.few_weights)
+
+-- ---- the exits
+pub returns-in_err-push_range : goal.returns-in_err-push_range
+returns-in_err-push_range c = IfOk-from_err c.from_residual.result _ c.from_residual.ensures.0
+
+pub returns-in_err-push_range-2 : goal.returns-in_err-push_range-2
+returns-in_err-push_range-2 c = IfOk-from_err c.from_residual-in_err-push_range-2.result _ c.from_residual-in_err-push_range-2.ensures.0
+
+pub returns-in_err-targets : goal.returns-in_err-targets
+returns-in_err-targets c = IfOk-from_err c.from_residual-in_err-targets.result _ c.from_residual-in_err-targets.ensures.0
+
+pub returns-in_err-scaled : goal.returns-in_err-scaled
+returns-in_err-scaled c = IfOk-from_err c.from_residual-in_err-scaled.result _ c.from_residual-in_err-scaled.ensures.0
+
+pub returns-in_err-weights : goal.returns-in_err-weights
+returns-in_err-weights c = IfOk-from_err c.from_residual-in_err-weights.result _ c.from_residual-in_err-weights.ensures.0

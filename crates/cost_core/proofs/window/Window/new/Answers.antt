@@ -1,5 +1,6 @@
 use Rattle.std.proofs.Common.{◌<◌, ◌+◌, ◌∙◌, ap, arith, length, refl, sym}
-use Rattle.splice_core.specs.Cues.{CueContent}
+use Rattle.std.proofs.lemmas.List.{length-map}
+use Rattle.splice_core.specs.Cues.{CueContent, cue_content}
 use Rattle.splice_core.specs.Splices.{splice_content}
 use Rattle.cost_core.specs.Faults.{first_fault}
 use Rattle.cost_core.specs.Windows.{bridging_at}
@@ -27,6 +28,18 @@ between-requires-clause-room c =
       before = omega (arith, start, room.before);
       after = omega (arith, stop, room.after);
     }
+
+pub between-requires-clause-cues : goal.between-requires-clause-cues
+between-requires-clause-cues c = c.requires.cues
+
+pub has_room-requires : goal.has_room-requires
+has_room-requires c = c.requires.cues
+
+pub index-requires : goal.index-requires
+index-requires c = omega (arith, length-map c.args.splice.now.cues.items cue_content, c.requires.cues)
+
+pub index-requires-2 : goal.index-requires-2
+index-requires-2 c = omega (arith, length-map c.args.splice.now.cues.items cue_content, c.requires.cues)
 
 -- ---- the exits
 pub returns-in_err-has_room-clause-ok : goal.returns-in_err-has_room-clause-ok

@@ -1,8 +1,11 @@
-use Rattle.std.proofs.Common.{ℕ, ◌<◌, List, arith}
-use Rattle.std.proofs.lemmas.List.{with_items_is}
+use Rattle.std.proofs.Common.{ℕ, ◌<◌, Bool, List, arith, refl}
+use Rattle.std.specs.Prelude.{Vec}
+use Rattle.std.specs.declared.alloc.Global.{Global}
+use Rattle.std.proofs.lemmas.List.{length-map, with_items_is}
+use Rattle.std.proofs.lemmas.Result.{err_from_is_err_and}
 use Rattle.sound_core.specs.Keepers.{IsKeeping}
 use Rattle.sound_core.specs.Stretches.{items_of}
-use Rattle.sound_core.proofs.KeeperLaws.{keeps_apart, keeps_grown, keeps_roomy}
+use Rattle.sound_core.proofs.KeeperLaws.{from_whole, keeps_apart, keeps_grown, keeps_roomy}
 use Rattle.sound_core.proofs.keeper.Keeper.take.Goals as goal
 use Rattle.sound_core.proofs.keeper.Keeper.take.Goals.{then-not-are_apart+in_ok-channels+in_ok-grow_all, else-not-are_apart}
 
@@ -23,3 +26,45 @@ returns-clause-ok c = λ (before : List ℕ) (keeps : IsKeeping c.args.self.now 
           rw (w.self-is, made) (keeps_grown k.sound k.ranges.now k.done (items_of k.stretches.items) before c.args.bytes.now c.args.bits keeps c.requires.within some c.requires.size c.requires.groups (items_of w.grow_all.new.stretches) grown))
       | else-not-are_apart w ↦ rw w.self-is (keeps_apart k.sound k.ranges.now k.done (items_of k.stretches.items) before c.args.bytes.now c.args.bits keeps c.requires.within some c.requires.size c.requires.groups (c.are_apart.ensures w.if-not-are_apart.false))
     ]
+
+pub unlace-requires : goal.unlace-requires
+unlace-requires c = 
+    let k = c.args.self.now in
+    let sound = c.requires.keeping.1.is_sound in
+    record {
+      channel_number = (sound.some_channel, sound.six_channels);
+      in_limit = omega (arith, c.requires.within, sound.in_limit);
+      size = c.requires.size;
+      from_whole = from_whole k.sound k.ranges.now k.done (items_of k.stretches.items) c.requires.keeping.0 c.args.bytes.now c.args.bits c.requires.keeping.1 c.requires.within (omega (arith, c.requires.some)) c.requires.size c.requires.groups;
+    }
+
+pub grow_all-requires-clause-number : goal.grow_all-requires-clause-number
+grow_all-requires-clause-number c = omega (arith, c.deref_mut.ensures.len, c.requires.keeping.1.kept.number, length-map c.args.self.now.stretches.items (λ (stretch : Vec (List Bool) Global). stretch.items))
+
+pub returns-in_err-channels-clause-same : goal.returns-in_err-channels-clause-same
+returns-in_err-channels-clause-same c = (refl, refl)
+
+pub returns-in_err-channels-clause-done : goal.returns-in_err-channels-clause-done
+returns-in_err-channels-clause-done c = let e = err_from_is_err_and c.from_residual.result c.from_residual.ensures.1 in rw e.1 tt
+
+pub returns-in_err-channels-clause-ok : goal.returns-in_err-channels-clause-ok
+returns-in_err-channels-clause-ok c = let e = err_from_is_err_and c.from_residual.result c.from_residual.ensures.1 in rw e.1 tt
+
+pub returns-in_err-grow_all-clause-same : goal.returns-in_err-grow_all-clause-same
+returns-in_err-grow_all-clause-same c = (refl, refl)
+
+pub returns-in_err-grow_all-clause-done : goal.returns-in_err-grow_all-clause-done
+returns-in_err-grow_all-clause-done c = let e = err_from_is_err_and c.from_residual-in_err-grow_all.result c.from_residual-in_err-grow_all.ensures.1 in rw e.1 tt
+
+pub returns-in_err-grow_all-clause-ok : goal.returns-in_err-grow_all-clause-ok
+returns-in_err-grow_all-clause-ok c = let e = err_from_is_err_and c.from_residual-in_err-grow_all.result c.from_residual-in_err-grow_all.ensures.1 in rw e.1 tt
+
+pub returns-clause-same : goal.returns-clause-same
+returns-clause-same c = 
+    elim c.if-not-are_apart.branch [
+      | then-not-are_apart+in_ok-channels+in_ok-grow_all w ↦ rw w.self-is (refl, refl)
+      | else-not-are_apart w ↦ rw w.self-is (refl, refl)
+    ]
+
+pub returns-clause-done : goal.returns-clause-done
+returns-clause-done c = refl

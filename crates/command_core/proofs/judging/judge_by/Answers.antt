@@ -1,0 +1,23 @@
+use Rattle.std.proofs.Common.{subst}
+use Rattle.device_core.specs.Inlets.{inlet_reader}
+use Rattle.cert_core.specs.Readers.{cert_inlet}
+use Rattle.command_core.specs.Masters.{IsOfSome}
+use Rattle.command_core.proofs.JudgingLaws.{found_in, unread}
+use Rattle.command_core.proofs.judging.judge_by.Goals as goal
+
+pub check_found-requires : goal.check_found-requires
+check_found-requires g c = record { ready = c.requires.ready; some = subst (IsOfSome c.args.cut.now) c.in-Some.is c.requires.of }
+
+pub returns-in-Some : goal.returns-in-Some
+returns-in-Some g c = record {
+  found = λ project files file says held. c.check_found.ensures.found project files file (found_in project files c.args.cut.now file c.args.found.now c.in-Some.found c.in-Some.is says held);
+  rejected = λ project files file says held. c.check_found.ensures.rejected project files file (found_in project files c.args.cut.now file c.args.found.now c.in-Some.found c.in-Some.is says held);
+  refused = c.check_found.ensures.refused;
+}
+
+pub returns-in-None : goal.returns-in-None
+returns-in-None g c = record {
+  found = λ project files file says held. tt;
+  rejected = λ project files file says held. unread project files c.args.cut.now file c.args.found.now (g.R.Read.remaining (inlet_reader (cert_inlet c.args.cert.now))) c.in-None.is says held;
+  refused = tt;
+}

@@ -1,0 +1,20 @@
+use Rattle.std.proofs.Common.{◌≡◌, arith}
+use Rattle.dsd_bits.proofs.planes.frames_to_planes.Goals as goal
+
+pub returns-in-1 : goal.returns-in-1
+returns-in-1 c = rw c.in-1.is c.take_apart.ensures
+
+pub returns-in-2 : goal.returns-in-2
+returns-in-2 c = rw c.in-2.is c.take_two_apart.ensures
+
+pub returns-in-3 : goal.returns-in-3
+returns-in-3 c = rw c.in-3.is c.take_apart-in-3.ensures
+
+pub returns-in-4 : goal.returns-in-4
+returns-in-4 c = rw c.in-4.is c.take_apart-in-4.ensures
+
+pub returns-in-5 : goal.returns-in-5
+returns-in-5 c = rw c.in-5.is c.take_five_apart.ensures
+
+pub returns-in_default : goal.returns-in_default
+returns-in_default c = let six : c.args.channels ≡ 6 = omega arith in rw six c.take_apart-in_default.ensures

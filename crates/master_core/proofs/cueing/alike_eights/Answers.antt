@@ -1,0 +1,20 @@
+use Rattle.std.proofs.Common.{arith}
+use Rattle.master_core.proofs.cueing.alike_eights.Goals as goal
+
+pub returns-then-byte_from-clause-alike : goal.returns-then-byte_from-clause-alike
+returns-then-byte_from-clause-alike c = c.loop-k.invariant.alike
+
+pub returns-clause-alike : goal.returns-clause-alike
+returns-clause-alike c = λ k lt. c.loop-k.invariant.alike k (omega (arith, lt, c.loop-k-test.false))
+
+pub overflow_mul-k : goal.overflow_mul-k
+overflow_mul-k c = omega (arith, c.requires.part, c.loop-k-test.true)
+
+pub overflow_add-at : goal.overflow_add-at
+overflow_add-at c = omega (arith, c.requires.part, c.loop-k-test.true)
+
+pub overflow_mul-k-in-loop-k : goal.overflow_mul-k-in-loop-k
+overflow_mul-k-in-loop-k c = omega (arith, c.requires.cue, c.loop-k-test.true)
+
+pub overflow_add-own : goal.overflow_add-own
+overflow_add-own c = omega (arith, c.requires.cue, c.loop-k-test.true)

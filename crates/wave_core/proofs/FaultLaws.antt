@@ -1,0 +1,14 @@
+-- Want of memory is told as that alone.
+use Rattle.std.proofs.Common.{◌≡◌, Result, Ok, Err, IsErrAnd, subst, sym}
+use Rattle.wave_core.specs.declared.fault.WaveFault.{WaveFault}
+use Rattle.wave_core.specs.declared.fault.WaveFault.TheVariants.{TooLarge, Memory}
+
+-- what holds of no fault but this
+abbrev IsMemory : WaveFault → Type 0
+IsMemory TooLarge = ⊥
+IsMemory Memory = Unit
+
+-- want of memory isn't told as a file too large
+pub memory_told : {T : Type 0} (r : Result T WaveFault) (Large : Type 0) → IsErrAnd r (λ e. e ≡ Memory) → (Large → ⊥) → (r ≡ Err TooLarge → Large) × (Large → r ≡ Err TooLarge)
+memory_told (Ok x) Large h fits = absurd h
+memory_told (Err e) Large h fits = (λ is. absurd (subst (λ r. IsErrAnd r IsMemory) is (subst IsMemory (sym h) tt)), λ large. absurd (fits large))

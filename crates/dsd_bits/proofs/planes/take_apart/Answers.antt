@@ -48,7 +48,7 @@ loop-c-init over c = record {
   size = c.loop-k.invariant.size;
   written = c.loop-k.invariant.written;
   frame = λ d h. absurd (omega (arith, h));
-  others = λ place away. c.loop-k.invariant.others place (elim away [ | inl high ↦ inl high | inr late ↦ inr (omega (arith, late)) ]);
+  others = λ place away. c.loop-k.invariant.others place (elim away [ inl high ↦ inl high | inr late ↦ inr (omega (arith, late)) ]);
 }
 
 pub overflow_mul-planes : goal.overflow_mul-planes
@@ -69,5 +69,5 @@ bounds-frames-k over c = omega (arith, mul-add-lt c.loop-k.k over.row.N c.loop-c
 pub returns : goal.returns
 returns over c = record {
   written = λ d k in_frame below. c.loop-k.invariant.written d k in_frame (omega (arith, below, c.loop-k-test.false));
-  others = λ place away. c.loop-k.invariant.others place (elim away [ | inl high ↦ inl high | inr late ↦ inr (omega (arith, late, c.loop-k.auto.k-end)) ]);
+  others = λ place away. c.loop-k.invariant.others place (elim away [ inl high ↦ inl high | inr late ↦ inr (omega (arith, late, c.loop-k.auto.k-end)) ]);
 }

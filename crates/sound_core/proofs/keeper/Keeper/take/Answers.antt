@@ -28,7 +28,7 @@ returns-clause-ok c = λ (before : List ℕ) (keeps : IsKeeping c.args.self.now 
     ]
 
 pub unlace-requires : goal.unlace-requires
-unlace-requires c = 
+unlace-requires c =
     let k = c.args.self.now in
     let sound = c.requires.keeping.1.is_sound in
     record {
@@ -60,7 +60,7 @@ pub returns-in_err-grow_all-clause-ok : goal.returns-in_err-grow_all-clause-ok
 returns-in_err-grow_all-clause-ok c = let e = err_from_is_err_and c.from_residual-in_err-grow_all.result c.from_residual-in_err-grow_all.ensures.1 in rw e.1 tt
 
 pub returns-clause-same : goal.returns-clause-same
-returns-clause-same c = 
+returns-clause-same c =
     elim c.if-not-are_apart.branch [
       | then-not-are_apart+in_ok-channels+in_ok-grow_all w ↦ rw w.self-is (refl, refl)
       | else-not-are_apart w ↦ rw w.self-is (refl, refl)

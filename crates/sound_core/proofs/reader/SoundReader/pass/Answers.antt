@@ -65,13 +65,13 @@ pub returns-in_err-read_more-clause-ok : goal.returns-in_err-read_more-clause-ok
 returns-in_err-read_more-clause-ok g c = let e = err_from_is_err_and c.from_residual.result c.from_residual.ensures.1 in rw e.1 tt
 
 pub returns-in_err-read_more-clause-counts : goal.returns-in_err-read_more-clause-counts
-returns-in_err-read_more-clause-counts g c = 
+returns-in_err-read_more-clause-counts g c =
     let so_far = c.loop-left.invariant in
     let e = err_from_is_err_and c.from_residual.result c.from_residual.ensures.1 in
     rw (e.1, e.2) (counts_later c.args.self.now _ c.read_more.new.self c.in_err-read_more.field-0.0 so_far.3.limit so_far.4 c.in_err-read_more.ensures.counts)
 
 pub returns-in_err-read_more-clause-fault : goal.returns-in_err-read_more-clause-fault
-returns-in_err-read_more-clause-fault g c = 
+returns-in_err-read_more-clause-fault g c =
     let e = err_from_is_err_and c.from_residual.result c.from_residual.ensures.1 in
     rw (e.1, e.2) (reading_in_pass (g.R.Read.remaining (inlet_reader c.args.self.now.inlet.now)) c.args.wanted c.args.self.now.ahead.now.items c.in_err-read_more.field-0.0 c.in_err-read_more.ensures.fault)
 
@@ -93,7 +93,7 @@ pub returns-then-branch-eq0-clause-counts : goal.returns-then-branch-eq0-clause-
 returns-then-branch-eq0-clause-counts g c = let so_far = c.loop-left.invariant in counts_refused c.args.self.now _ c.read_more.new.self c.in_ok-read_more.field-0 so_far.3.limit so_far.4 c.in_ok-read_more.ensures.counts
 
 pub returns-then-branch-eq0-clause-fault : goal.returns-then-branch-eq0-clause-fault
-returns-then-branch-eq0-clause-fault g c = 
+returns-then-branch-eq0-clause-fault g c =
     let so_far = c.loop-left.invariant in
     let read = c.in_ok-read_more.ensures.read in
     pass_short g.R.Read.remaining c.args.self.now.inlet.now c.loop-left.self.inlet.now (c.args.wanted - c.loop-left.left) c.args.self.now.ahead.now.items c.loop-left.self.ahead.now.items so_far.0 c.read_more.new.self.inlet.now read.0 c.args.wanted read.1

@@ -45,7 +45,7 @@ pub returns-in_err-count-clause-read : goal.returns-in_err-count-clause-read
 returns-in_err-count-clause-read g c = let e = err_from_is_err_and c.from_residual.result c.from_residual.ensures.1 in rw e.1 tt
 
 pub returns-in_err-count-clause-counts : goal.returns-in_err-count-clause-counts
-returns-in_err-count-clause-counts g c = 
+returns-in_err-count-clause-counts g c =
     let so_far = c.loop-count.invariant in
     let e = err_from_is_err_and c.from_residual.result c.from_residual.ensures.1 in
     rw (e.1, e.2) (counts_later c.args.self.now c.loop-count.self c.pull.new.self c.in_err-count.field-0.0 so_far.4.limit so_far.5 c.in_err-count.ensures.counts)
@@ -60,7 +60,7 @@ pub returns-then-count-eq0-clause-counts : goal.returns-then-count-eq0-clause-co
 returns-then-count-eq0-clause-counts g c = let so_far = c.loop-count.invariant in counts_ok c.args.self.now c.loop-count.self c.pull.new.self c.in_ok-count.count _ so_far.4.limit so_far.5 c.in_ok-count.ensures.counts
 
 pub returns-then-count-eq0-clause-read : goal.returns-then-count-eq0-clause-read
-returns-then-count-eq0-clause-read g c = 
+returns-then-count-eq0-clause-read g c =
     let so_far = c.loop-count.invariant in
     let read = take c.in_ok-count.count c.pull.new.self.block.now.items in
     record {

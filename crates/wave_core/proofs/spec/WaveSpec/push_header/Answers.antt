@@ -4,7 +4,7 @@ use Rattle.wave_core.proofs.FaultLaws.{memory_told}
 use Rattle.wave_core.proofs.spec.WaveSpec.push_header.Goals as goal
 
 pub returns-in_default : goal.returns-in_default
-returns-in_default c = record { ok = tt; fits = tt; too_large = (λ e. c.in_default.ensures.none, λ large. refl); unchanged = refl; }
+returns-in_default c = record { ok = tt; fits = tt; too_large = (λ e. c.in_default.ensures.none, λ large. refl); unchanged = refl }
 
 pub returns-in_err-header : goal.returns-in_err-header
 returns-in_err-header c =

@@ -3,7 +3,7 @@ use Rattle.std.proofs.lemmas.Result.{IfErr-weaker, IfOk-weaker, err_from_is_err_
 use Rattle.device_core.specs.Inlets.{inlet_reader}
 use Rattle.device_core.specs.Outlets.{outlet_writer}
 use Rattle.stream_core.specs.Pieces.{PutsFrontOf}
-use Rattle.stream_core.proofs.PieceLaws.{any_err, none_left, on_err, part_left, read_played, some_taken}
+use Rattle.stream_core.proofs.PieceLaws.{any_err, no_ok, no_value, none_left, on_err, part_left, read_played, some_taken}
 use Rattle.stream_core.proofs.FaultLaws.{counts_writing, reading_in_piece, unwritten, writing_goes_on, writing_in_piece}
 use Rattle.stream_core.proofs.pieces.play_read.Goals as goal
 
@@ -66,29 +66,19 @@ pub returns-in_err-count-clause-same_reader : goal.returns-in_err-count-clause-s
 returns-in_err-count-clause-same_reader g c = c.pull.ensures.same
 
 pub returns-in_err-count-clause-reading : goal.returns-in_err-count-clause-reading
-returns-in_err-count-clause-reading g c =
-    let e = err_from_is_err_and c.from_residual.result c.from_residual.ensures.1 in
-    rw e.1 tt
+returns-in_err-count-clause-reading g c = no_ok _ _ c.from_residual.result c.from_residual.ensures.1
 
 pub returns-in_err-count-clause-some : goal.returns-in_err-count-clause-some
-returns-in_err-count-clause-some g c =
-    let e = err_from_is_err_and c.from_residual.result c.from_residual.ensures.1 in
-    rw e.1 tt
+returns-in_err-count-clause-some g c = no_value _ _ c.from_residual.result c.from_residual.ensures.1
 
 pub returns-in_err-count-clause-player : goal.returns-in_err-count-clause-player
-returns-in_err-count-clause-player g c =
-    let e = err_from_is_err_and c.from_residual.result c.from_residual.ensures.1 in
-    rw e.1 tt
+returns-in_err-count-clause-player g c = no_ok _ _ c.from_residual.result c.from_residual.ensures.1
 
 pub returns-in_err-count-clause-same : goal.returns-in_err-count-clause-same
-returns-in_err-count-clause-same g c =
-    let e = err_from_is_err_and c.from_residual.result c.from_residual.ensures.1 in
-    rw e.1 tt
+returns-in_err-count-clause-same g c = no_value _ _ c.from_residual.result c.from_residual.ensures.1
 
 pub returns-in_err-count-clause-ok : goal.returns-in_err-count-clause-ok
-returns-in_err-count-clause-ok g c =
-    let e = err_from_is_err_and c.from_residual.result c.from_residual.ensures.1 in
-    rw e.1 tt
+returns-in_err-count-clause-ok g c = no_value _ _ c.from_residual.result c.from_residual.ensures.1
 
 pub returns-clause-same_reader : goal.returns-clause-same_reader
 returns-clause-same_reader g c = record { reference = c.pull.ensures.same.reference; given = c.pull.ensures.same.given; limit = c.pull.ensures.same.limit }

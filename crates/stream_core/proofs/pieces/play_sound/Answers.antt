@@ -8,7 +8,7 @@ use Rattle.sound_core.proofs.ReaderLaws.{counts_later}
 use Rattle.stream_core.specs.Pace.{PlaysGivenSound}
 use Rattle.stream_core.specs.Pieces.{IsPieceFault, IsSoundFault, PlaysFront, PlaysPart, PlaysSound, PutsDue, PutsFrontLeft, PutsFrontOf}
 use Rattle.stream_core.proofs.PaceLaws.{sound_so_far}
-use Rattle.stream_core.proofs.PieceLaws.{any_err, on_err, on_ok}
+use Rattle.stream_core.proofs.PieceLaws.{any_err, no_ok, on_err, on_ok}
 use Rattle.stream_core.proofs.SoundLaws.{ahead_front, end_front, front_of_none, rest_fault, rest_front, said, sound_played}
 use Rattle.stream_core.proofs.pieces.play_sound.Given.{Over}
 use Rattle.stream_core.proofs.FaultLaws.{counts_writing, counts_written, same_writes, writes_later, writing_goes_on, writing_in_sound}
@@ -173,40 +173,28 @@ pub returns-in_err-player-clause-same_reader : goal.returns-in_err-player-clause
 returns-in_err-player-clause-same_reader g c = c.take_ahead-ahead.ensures.same
 
 pub returns-in_err-player-clause-reading : goal.returns-in_err-player-clause-reading
-returns-in_err-player-clause-reading g c =
-    let e = err_from_is_err_and c.from_residual.result c.from_residual.ensures.1 in
-    rw e.1 tt
+returns-in_err-player-clause-reading g c = no_ok _ _ c.from_residual.result c.from_residual.ensures.1
 
 pub returns-in_err-player-clause-ok : goal.returns-in_err-player-clause-ok
-returns-in_err-player-clause-ok g c =
-    let e = err_from_is_err_and c.from_residual.result c.from_residual.ensures.1 in
-    rw e.1 tt
+returns-in_err-player-clause-ok g c = no_ok _ _ c.from_residual.result c.from_residual.ensures.1
 
 pub returns-in_err-first-clause-same_reader : goal.returns-in_err-first-clause-same_reader
 returns-in_err-first-clause-same_reader g c = record { reference = c.take_ahead-ahead.ensures.same.reference; given = c.take_ahead-ahead.ensures.same.given; limit = c.take_ahead-ahead.ensures.same.limit }
 
 pub returns-in_err-first-clause-reading : goal.returns-in_err-first-clause-reading
-returns-in_err-first-clause-reading g c =
-    let e = err_from_is_err_and c.from_residual-in_err-first.result c.from_residual-in_err-first.ensures.1 in
-    rw e.1 tt
+returns-in_err-first-clause-reading g c = no_ok _ _ c.from_residual-in_err-first.result c.from_residual-in_err-first.ensures.1
 
 pub returns-in_err-first-clause-ok : goal.returns-in_err-first-clause-ok
-returns-in_err-first-clause-ok g c =
-    let e = err_from_is_err_and c.from_residual-in_err-first.result c.from_residual-in_err-first.ensures.1 in
-    rw e.1 tt
+returns-in_err-first-clause-ok g c = no_ok _ _ c.from_residual-in_err-first.result c.from_residual-in_err-first.ensures.1
 
 pub returns-in_err-play_rest-clause-same_reader : goal.returns-in_err-play_rest-clause-same_reader
 returns-in_err-play_rest-clause-same_reader g c = record { reference = c.play_rest.ensures.same_reader.reference ∙ c.take_ahead-ahead.ensures.same.reference; given = c.play_rest.ensures.same_reader.given ∙ c.take_ahead-ahead.ensures.same.given; limit = c.play_rest.ensures.same_reader.limit ∙ c.take_ahead-ahead.ensures.same.limit }
 
 pub returns-in_err-play_rest-clause-reading : goal.returns-in_err-play_rest-clause-reading
-returns-in_err-play_rest-clause-reading g c =
-    let e = err_from_is_err_and c.from_residual-in_err-play_rest.result c.from_residual-in_err-play_rest.ensures.1 in
-    rw e.1 tt
+returns-in_err-play_rest-clause-reading g c = no_ok _ _ c.from_residual-in_err-play_rest.result c.from_residual-in_err-play_rest.ensures.1
 
 pub returns-in_err-play_rest-clause-ok : goal.returns-in_err-play_rest-clause-ok
-returns-in_err-play_rest-clause-ok g c =
-    let e = err_from_is_err_and c.from_residual-in_err-play_rest.result c.from_residual-in_err-play_rest.ensures.1 in
-    rw e.1 tt
+returns-in_err-play_rest-clause-ok g c = no_ok _ _ c.from_residual-in_err-play_rest.result c.from_residual-in_err-play_rest.ensures.1
 
 pub returns-in_err-player-clause-fault : goal.returns-in_err-player-clause-fault
 returns-in_err-player-clause-fault g c =

@@ -1,6 +1,6 @@
 use Rattle.std.proofs.Common.{arith}
 use Rattle.std.proofs.lemmas.Result.{err_from_is_err_and}
-use Rattle.stream_core.proofs.PieceLaws.{any_err, due_put, nothing_put, on_err, on_ok, part_put}
+use Rattle.stream_core.proofs.PieceLaws.{any_err, due_put, no_ok, nothing_put, on_err, on_ok, part_put}
 use Rattle.stream_core.proofs.pieces.put_due.Goals as goal
 
 pub returns-in_err-feed-clause-front : goal.returns-in_err-feed-clause-front
@@ -14,19 +14,13 @@ returns-clause-front g c = on_err c.put.result (part_put c.args.player.now c.fee
 
 -- ---- what holds at once
 pub returns-in_err-feed-clause-player : goal.returns-in_err-feed-clause-player
-returns-in_err-feed-clause-player g c =
-    let e = err_from_is_err_and c.from_residual.result c.from_residual.ensures.1 in
-    rw e.1 tt
+returns-in_err-feed-clause-player g c = no_ok _ _ c.from_residual.result c.from_residual.ensures.1
 
 pub returns-in_err-feed-clause-same : goal.returns-in_err-feed-clause-same
-returns-in_err-feed-clause-same g c =
-    let e = err_from_is_err_and c.from_residual.result c.from_residual.ensures.1 in
-    rw e.1 tt
+returns-in_err-feed-clause-same g c = no_ok _ _ c.from_residual.result c.from_residual.ensures.1
 
 pub returns-in_err-feed-clause-ok : goal.returns-in_err-feed-clause-ok
-returns-in_err-feed-clause-ok g c =
-    let e = err_from_is_err_and c.from_residual.result c.from_residual.ensures.1 in
-    rw e.1 tt
+returns-in_err-feed-clause-ok g c = no_ok _ _ c.from_residual.result c.from_residual.ensures.1
 
 pub returns-in_err-feed-clause-fault : goal.returns-in_err-feed-clause-fault
 returns-in_err-feed-clause-fault g c =

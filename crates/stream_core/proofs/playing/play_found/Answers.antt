@@ -11,7 +11,7 @@ use Rattle.sound_core.proofs.ClosingLaws.{ends_at}
 use Rattle.sound_core.proofs.ReaderLaws.{counts_later, counts_ok, counts_refused, same_on}
 use Rattle.stream_core.proofs.FaultLaws.{counts_opening, counts_writing, counts_written, opening_goes_on, opening_stands, reading_later, reading_stands, sound_later, unwritten, writes_later, writing_goes_on, writing_later, writing_stands}
 use Rattle.stream_core.proofs.PaceLaws.{keeps_all, keeps_part}
-use Rattle.stream_core.proofs.PieceLaws.{any_err, front_nil}
+use Rattle.stream_core.proofs.PieceLaws.{any_err, front_nil, no_value}
 use Rattle.stream_core.proofs.PlayLaws.{given_is, header_part, none_written, not_closed, pad_part, plays_read, sound_part, sound_stands}
 use Rattle.stream_core.proofs.playing.play_found.Given.{Over}
 use Rattle.stream_core.proofs.playing.play_found.Goals as goal
@@ -245,41 +245,31 @@ pub returns-in_err-head-clause-same : goal.returns-in_err-head-clause-same
 returns-in_err-head-clause-same g c = c.take_head.ensures.same
 
 pub returns-in_err-head-clause-ok : goal.returns-in_err-head-clause-ok
-returns-in_err-head-clause-ok g c =
-    let e = err_from_is_err_and c.from_residual.result c.from_residual.ensures.1 in
-    rw e.1 tt
+returns-in_err-head-clause-ok g c = no_value _ _ c.from_residual.result c.from_residual.ensures.1
 
 pub returns-in_err-put_header-clause-same : goal.returns-in_err-put_header-clause-same
 returns-in_err-put_header-clause-same g c = c.take_head.ensures.same
 
 pub returns-in_err-put_header-clause-ok : goal.returns-in_err-put_header-clause-ok
-returns-in_err-put_header-clause-ok g c =
-    let e = err_from_is_err_and c.from_residual-in_err-put_header.result c.from_residual-in_err-put_header.ensures.1 in
-    rw e.1 tt
+returns-in_err-put_header-clause-ok g c = no_value _ _ c.from_residual-in_err-put_header.result c.from_residual-in_err-put_header.ensures.1
 
 pub returns-in_err-play_sound-clause-same : goal.returns-in_err-play_sound-clause-same
 returns-in_err-play_sound-clause-same g c = same_on _ _ _ c.take_head.ensures.same c.play_sound.ensures.same_reader
 
 pub returns-in_err-play_sound-clause-ok : goal.returns-in_err-play_sound-clause-ok
-returns-in_err-play_sound-clause-ok g c =
-    let e = err_from_is_err_and c.from_residual-in_err-play_sound.result c.from_residual-in_err-play_sound.ensures.1 in
-    rw e.1 tt
+returns-in_err-play_sound-clause-ok g c = no_value _ _ c.from_residual-in_err-play_sound.result c.from_residual-in_err-play_sound.ensures.1
 
 pub returns-in_err-closes-clause-same : goal.returns-in_err-closes-clause-same
 returns-in_err-closes-clause-same g c = same_on _ _ _ (same_on _ _ _ c.take_head.ensures.same c.play_sound.ensures.same_reader) c.closes.ensures.same
 
 pub returns-in_err-closes-clause-ok : goal.returns-in_err-closes-clause-ok
-returns-in_err-closes-clause-ok g c =
-    let e = err_from_is_err_and c.from_residual-in_err-closes.result c.from_residual-in_err-closes.ensures.1 in
-    rw e.1 tt
+returns-in_err-closes-clause-ok g c = no_value _ _ c.from_residual-in_err-closes.result c.from_residual-in_err-closes.ensures.1
 
 pub returns-in_err-put_pad-clause-same : goal.returns-in_err-put_pad-clause-same
 returns-in_err-put_pad-clause-same g c = same_on _ _ _ (same_on _ _ _ c.take_head.ensures.same c.play_sound.ensures.same_reader) c.closes.ensures.same
 
 pub returns-in_err-put_pad-clause-ok : goal.returns-in_err-put_pad-clause-ok
-returns-in_err-put_pad-clause-ok g c =
-    let e = err_from_is_err_and c.from_residual-in_err-put_pad.result c.from_residual-in_err-put_pad.ensures.1 in
-    rw e.1 tt
+returns-in_err-put_pad-clause-ok g c = no_value _ _ c.from_residual-in_err-put_pad.result c.from_residual-in_err-put_pad.ensures.1
 
 pub returns-in_err-head-clause-fault : goal.returns-in_err-head-clause-fault
 returns-in_err-head-clause-fault g c =

@@ -63,16 +63,16 @@ pub returns-in_default-clause-kept : goal.returns-in_default-clause-kept
 returns-in_default-clause-kept g c = refl
 
 pub returns-in_err-chosen-clause-cost : goal.returns-in_err-chosen-clause-cost
-returns-in_err-chosen-clause-cost g c = let e = err_from_is_err_and c.from_residual.result c.from_residual.ensures.1 in no_value _ c.from_residual.result e.0 e.1
+returns-in_err-chosen-clause-cost g c = no_value _ _ c.from_residual.result c.from_residual.ensures.1
 
 pub returns-in_err-chosen-clause-first_least : goal.returns-in_err-chosen-clause-first_least
-returns-in_err-chosen-clause-first_least g c = let e = err_from_is_err_and c.from_residual.result c.from_residual.ensures.1 in no_value _ c.from_residual.result e.0 e.1
+returns-in_err-chosen-clause-first_least g c = no_value _ _ c.from_residual.result c.from_residual.ensures.1
 
 pub returns-in_err-chosen-clause-rows : goal.returns-in_err-chosen-clause-rows
-returns-in_err-chosen-clause-rows g c = let e = err_from_is_err_and c.from_residual.result c.from_residual.ensures.1 in no_value _ c.from_residual.result e.0 e.1
+returns-in_err-chosen-clause-rows g c = no_value _ _ c.from_residual.result c.from_residual.ensures.1
 
 pub returns-in_err-chosen-clause-rows_left : goal.returns-in_err-chosen-clause-rows_left
-returns-in_err-chosen-clause-rows_left g c = let e = err_from_is_err_and c.from_residual.result c.from_residual.ensures.1 in no_ok _ c.from_residual.result e.0 e.1
+returns-in_err-chosen-clause-rows_left g c = no_ok _ _ c.from_residual.result c.from_residual.ensures.1
 
 pub returns-in_err-chosen-clause-memory : goal.returns-in_err-chosen-clause-memory
 returns-in_err-chosen-clause-memory g c = λ _. refl
@@ -93,16 +93,16 @@ pub returns-in_err-chosen-clause-kept : goal.returns-in_err-chosen-clause-kept
 returns-in_err-chosen-clause-kept g c = refl
 
 pub returns-in_err-hand_cut-clause-cost : goal.returns-in_err-hand_cut-clause-cost
-returns-in_err-hand_cut-clause-cost g c = let e = err_from_is_err_and c.from_residual-in_err-hand_cut.result c.from_residual-in_err-hand_cut.ensures.1 in no_value _ c.from_residual-in_err-hand_cut.result e.0 e.1
+returns-in_err-hand_cut-clause-cost g c = no_value _ _ c.from_residual-in_err-hand_cut.result c.from_residual-in_err-hand_cut.ensures.1
 
 pub returns-in_err-hand_cut-clause-first_least : goal.returns-in_err-hand_cut-clause-first_least
-returns-in_err-hand_cut-clause-first_least g c = let e = err_from_is_err_and c.from_residual-in_err-hand_cut.result c.from_residual-in_err-hand_cut.ensures.1 in no_value _ c.from_residual-in_err-hand_cut.result e.0 e.1
+returns-in_err-hand_cut-clause-first_least g c = no_value _ _ c.from_residual-in_err-hand_cut.result c.from_residual-in_err-hand_cut.ensures.1
 
 pub returns-in_err-hand_cut-clause-rows : goal.returns-in_err-hand_cut-clause-rows
-returns-in_err-hand_cut-clause-rows g c = let e = err_from_is_err_and c.from_residual-in_err-hand_cut.result c.from_residual-in_err-hand_cut.ensures.1 in no_value _ c.from_residual-in_err-hand_cut.result e.0 e.1
+returns-in_err-hand_cut-clause-rows g c = no_value _ _ c.from_residual-in_err-hand_cut.result c.from_residual-in_err-hand_cut.ensures.1
 
 pub returns-in_err-hand_cut-clause-rows_left : goal.returns-in_err-hand_cut-clause-rows_left
-returns-in_err-hand_cut-clause-rows_left g c = let e = err_from_is_err_and c.from_residual-in_err-hand_cut.result c.from_residual-in_err-hand_cut.ensures.1 in no_ok _ c.from_residual-in_err-hand_cut.result e.0 e.1
+returns-in_err-hand_cut-clause-rows_left g c = no_ok _ _ c.from_residual-in_err-hand_cut.result c.from_residual-in_err-hand_cut.ensures.1
 
 pub returns-in_err-hand_cut-clause-row_length : goal.returns-in_err-hand_cut-clause-row_length
 returns-in_err-hand_cut-clause-row_length g c = c.hand_cut.ensures.row_length

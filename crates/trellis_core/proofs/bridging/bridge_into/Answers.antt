@@ -17,16 +17,16 @@ returns-clause-rows_left g c = c.in_ok-searched.ensures.rows_left
 
 -- ---- which fault it is, and what is left of the sink
 pub returns-in_err-searched-clause-cost : goal.returns-in_err-searched-clause-cost
-returns-in_err-searched-clause-cost g c = let e = err_from_is_err_and c.from_residual.result c.from_residual.ensures.1 in no_value _ c.from_residual.result e.0 e.1
+returns-in_err-searched-clause-cost g c = no_value _ _ c.from_residual.result c.from_residual.ensures.1
 
 pub returns-in_err-searched-clause-first_least : goal.returns-in_err-searched-clause-first_least
-returns-in_err-searched-clause-first_least g c = let e = err_from_is_err_and c.from_residual.result c.from_residual.ensures.1 in no_value _ c.from_residual.result e.0 e.1
+returns-in_err-searched-clause-first_least g c = no_value _ _ c.from_residual.result c.from_residual.ensures.1
 
 pub returns-in_err-searched-clause-rows : goal.returns-in_err-searched-clause-rows
-returns-in_err-searched-clause-rows g c = let e = err_from_is_err_and c.from_residual.result c.from_residual.ensures.1 in no_ok _ c.from_residual.result e.0 e.1
+returns-in_err-searched-clause-rows g c = no_ok _ _ c.from_residual.result c.from_residual.ensures.1
 
 pub returns-in_err-searched-clause-rows_left : goal.returns-in_err-searched-clause-rows_left
-returns-in_err-searched-clause-rows_left g c = let e = err_from_is_err_and c.from_residual.result c.from_residual.ensures.1 in no_ok _ c.from_residual.result e.0 e.1
+returns-in_err-searched-clause-rows_left g c = no_ok _ _ c.from_residual.result c.from_residual.ensures.1
 
 pub returns-in_err-searched-clause-memory : goal.returns-in_err-searched-clause-memory
 returns-in_err-searched-clause-memory g c = let e = err_from_is_err_and c.from_residual.result c.from_residual.ensures.1 in λ is. c.in_err-searched.ensures.memory (fault_before c.from_residual.result e.0 _ Memory e.1 e.2 is)
@@ -47,16 +47,16 @@ pub returns-in_err-searched-clause-kept : goal.returns-in_err-searched-clause-ke
 returns-in_err-searched-clause-kept g c = c.forward.ensures.kept
 
 pub returns-in_err-choose-clause-cost : goal.returns-in_err-choose-clause-cost
-returns-in_err-choose-clause-cost g c = let e = err_from_is_err_and c.from_residual-in_err-choose.result c.from_residual-in_err-choose.ensures.1 in no_value _ c.from_residual-in_err-choose.result e.0 e.1
+returns-in_err-choose-clause-cost g c = no_value _ _ c.from_residual-in_err-choose.result c.from_residual-in_err-choose.ensures.1
 
 pub returns-in_err-choose-clause-first_least : goal.returns-in_err-choose-clause-first_least
-returns-in_err-choose-clause-first_least g c = let e = err_from_is_err_and c.from_residual-in_err-choose.result c.from_residual-in_err-choose.ensures.1 in no_value _ c.from_residual-in_err-choose.result e.0 e.1
+returns-in_err-choose-clause-first_least g c = no_value _ _ c.from_residual-in_err-choose.result c.from_residual-in_err-choose.ensures.1
 
 pub returns-in_err-choose-clause-rows : goal.returns-in_err-choose-clause-rows
-returns-in_err-choose-clause-rows g c = let e = err_from_is_err_and c.from_residual-in_err-choose.result c.from_residual-in_err-choose.ensures.1 in no_ok _ c.from_residual-in_err-choose.result e.0 e.1
+returns-in_err-choose-clause-rows g c = no_ok _ _ c.from_residual-in_err-choose.result c.from_residual-in_err-choose.ensures.1
 
 pub returns-in_err-choose-clause-rows_left : goal.returns-in_err-choose-clause-rows_left
-returns-in_err-choose-clause-rows_left g c = let e = err_from_is_err_and c.from_residual-in_err-choose.result c.from_residual-in_err-choose.ensures.1 in no_ok _ c.from_residual-in_err-choose.result e.0 e.1
+returns-in_err-choose-clause-rows_left g c = no_ok _ _ c.from_residual-in_err-choose.result c.from_residual-in_err-choose.ensures.1
 
 pub returns-in_err-choose-clause-sink : goal.returns-in_err-choose-clause-sink
 returns-in_err-choose-clause-sink g c = let e = err_from_is_err_and c.from_residual-in_err-choose.result c.from_residual-in_err-choose.ensures.1 in λ is. absurd (not_sink c.from_residual-in_err-choose.result e.0 e.1 e.2 is)

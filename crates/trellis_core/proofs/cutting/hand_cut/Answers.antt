@@ -137,13 +137,13 @@ loop-level-init g c =
 
 -- ---- what an exit says nothing of, and what is left of the sink
 pub returns-in_err-level-clause-buffers : goal.returns-in_err-level-clause-buffers
-returns-in_err-level-clause-buffers g c = let e = err_from_is_err_and c.from_residual.result c.from_residual.ensures.1 in no_ok _ c.from_residual.result e.0 e.1
+returns-in_err-level-clause-buffers g c = no_ok _ _ c.from_residual.result c.from_residual.ensures.1
 
 pub returns-in_err-level-clause-ok : goal.returns-in_err-level-clause-ok
-returns-in_err-level-clause-ok g c = let e = err_from_is_err_and c.from_residual.result c.from_residual.ensures.1 in no_ok _ c.from_residual.result e.0 e.1
+returns-in_err-level-clause-ok g c = no_ok _ _ c.from_residual.result c.from_residual.ensures.1
 
 pub returns-in_err-level-clause-rows_left : goal.returns-in_err-level-clause-rows_left
-returns-in_err-level-clause-rows_left g c = let e = err_from_is_err_and c.from_residual.result c.from_residual.ensures.1 in no_ok _ c.from_residual.result e.0 e.1
+returns-in_err-level-clause-rows_left g c = no_ok _ _ c.from_residual.result c.from_residual.ensures.1
 
 pub returns-in_err-level-clause-refused : goal.returns-in_err-level-clause-refused
 returns-in_err-level-clause-refused g c = let e = err_from_is_err_and c.from_residual.result c.from_residual.ensures.1 in rw e.1 (c.in_err-level.ensures.refused c.loop-level.invariant.ready)
@@ -158,13 +158,13 @@ pub returns-in_err-level-clause-kept : goal.returns-in_err-level-clause-kept
 returns-in_err-level-clause-kept g c = c.level.ensures.kept ∙ c.loop-level.invariant.kept
 
 pub returns-in_err-level-2-clause-buffers : goal.returns-in_err-level-2-clause-buffers
-returns-in_err-level-2-clause-buffers g c = let e = err_from_is_err_and c.from_residual-in_err-level-2.result c.from_residual-in_err-level-2.ensures.1 in no_ok _ c.from_residual-in_err-level-2.result e.0 e.1
+returns-in_err-level-2-clause-buffers g c = no_ok _ _ c.from_residual-in_err-level-2.result c.from_residual-in_err-level-2.ensures.1
 
 pub returns-in_err-level-2-clause-ok : goal.returns-in_err-level-2-clause-ok
-returns-in_err-level-2-clause-ok g c = let e = err_from_is_err_and c.from_residual-in_err-level-2.result c.from_residual-in_err-level-2.ensures.1 in no_ok _ c.from_residual-in_err-level-2.result e.0 e.1
+returns-in_err-level-2-clause-ok g c = no_ok _ _ c.from_residual-in_err-level-2.result c.from_residual-in_err-level-2.ensures.1
 
 pub returns-in_err-level-2-clause-rows_left : goal.returns-in_err-level-2-clause-rows_left
-returns-in_err-level-2-clause-rows_left g c = let e = err_from_is_err_and c.from_residual-in_err-level-2.result c.from_residual-in_err-level-2.ensures.1 in no_ok _ c.from_residual-in_err-level-2.result e.0 e.1
+returns-in_err-level-2-clause-rows_left g c = no_ok _ _ c.from_residual-in_err-level-2.result c.from_residual-in_err-level-2.ensures.1
 
 pub returns-in_err-level-2-clause-refused : goal.returns-in_err-level-2-clause-refused
 returns-in_err-level-2-clause-refused g c = let e = err_from_is_err_and c.from_residual-in_err-level-2.result c.from_residual-in_err-level-2.ensures.1 in rw e.1 (c.in_err-level-2.ensures.refused c.loop-level.invariant.ready)

@@ -11,34 +11,34 @@ returns-in_err-searched-clause-memory g c = λ _. hands_none (trellis_of c.args.
 
 -- ---- which fault it is, and what is left of the sink
 pub returns-in_err-search-clause-totals : goal.returns-in_err-search-clause-totals
-returns-in_err-search-clause-totals g c = let e = err_from_is_err_and c.from_residual-in_err-search.result c.from_residual-in_err-search.ensures.1 in no_value _ c.from_residual-in_err-search.result e.0 e.1
+returns-in_err-search-clause-totals g c = no_value _ _ c.from_residual-in_err-search.result c.from_residual-in_err-search.ensures.1
 
 pub returns-in_err-search-clause-buffers : goal.returns-in_err-search-clause-buffers
-returns-in_err-search-clause-buffers g c = let e = err_from_is_err_and c.from_residual-in_err-search.result c.from_residual-in_err-search.ensures.1 in no_value _ c.from_residual-in_err-search.result e.0 e.1
+returns-in_err-search-clause-buffers g c = no_value _ _ c.from_residual-in_err-search.result c.from_residual-in_err-search.ensures.1
 
 pub returns-in_err-search-clause-decisions : goal.returns-in_err-search-clause-decisions
-returns-in_err-search-clause-decisions g c = let e = err_from_is_err_and c.from_residual-in_err-search.result c.from_residual-in_err-search.ensures.1 in no_value _ c.from_residual-in_err-search.result e.0 e.1
+returns-in_err-search-clause-decisions g c = no_value _ _ c.from_residual-in_err-search.result c.from_residual-in_err-search.ensures.1
 
 pub returns-in_err-search-clause-rows : goal.returns-in_err-search-clause-rows
-returns-in_err-search-clause-rows g c = let e = err_from_is_err_and c.from_residual-in_err-search.result c.from_residual-in_err-search.ensures.1 in no_ok _ c.from_residual-in_err-search.result e.0 e.1
+returns-in_err-search-clause-rows g c = no_ok _ _ c.from_residual-in_err-search.result c.from_residual-in_err-search.ensures.1
 
 pub returns-in_err-search-clause-rows_left : goal.returns-in_err-search-clause-rows_left
-returns-in_err-search-clause-rows_left g c = let e = err_from_is_err_and c.from_residual-in_err-search.result c.from_residual-in_err-search.ensures.1 in no_ok _ c.from_residual-in_err-search.result e.0 e.1
+returns-in_err-search-clause-rows_left g c = no_ok _ _ c.from_residual-in_err-search.result c.from_residual-in_err-search.ensures.1
 
 pub returns-in_err-searched-clause-totals : goal.returns-in_err-searched-clause-totals
-returns-in_err-searched-clause-totals g c = let e = err_from_is_err_and c.from_residual.result c.from_residual.ensures.1 in no_value _ c.from_residual.result e.0 e.1
+returns-in_err-searched-clause-totals g c = no_value _ _ c.from_residual.result c.from_residual.ensures.1
 
 pub returns-in_err-searched-clause-buffers : goal.returns-in_err-searched-clause-buffers
-returns-in_err-searched-clause-buffers g c = let e = err_from_is_err_and c.from_residual.result c.from_residual.ensures.1 in no_value _ c.from_residual.result e.0 e.1
+returns-in_err-searched-clause-buffers g c = no_value _ _ c.from_residual.result c.from_residual.ensures.1
 
 pub returns-in_err-searched-clause-decisions : goal.returns-in_err-searched-clause-decisions
-returns-in_err-searched-clause-decisions g c = let e = err_from_is_err_and c.from_residual.result c.from_residual.ensures.1 in no_value _ c.from_residual.result e.0 e.1
+returns-in_err-searched-clause-decisions g c = no_value _ _ c.from_residual.result c.from_residual.ensures.1
 
 pub returns-in_err-searched-clause-rows : goal.returns-in_err-searched-clause-rows
-returns-in_err-searched-clause-rows g c = let e = err_from_is_err_and c.from_residual.result c.from_residual.ensures.1 in no_ok _ c.from_residual.result e.0 e.1
+returns-in_err-searched-clause-rows g c = no_ok _ _ c.from_residual.result c.from_residual.ensures.1
 
 pub returns-in_err-searched-clause-rows_left : goal.returns-in_err-searched-clause-rows_left
-returns-in_err-searched-clause-rows_left g c = let e = err_from_is_err_and c.from_residual.result c.from_residual.ensures.1 in no_ok _ c.from_residual.result e.0 e.1
+returns-in_err-searched-clause-rows_left g c = no_ok _ _ c.from_residual.result c.from_residual.ensures.1
 
 pub returns-in_err-search-clause-memory : goal.returns-in_err-search-clause-memory
 returns-in_err-search-clause-memory g c = let e = err_from_is_err_and c.from_residual-in_err-search.result c.from_residual-in_err-search.ensures.1 in λ is. c.in_err-search.ensures.memory (fault_before c.from_residual-in_err-search.result e.0 _ Memory e.1 e.2 is)

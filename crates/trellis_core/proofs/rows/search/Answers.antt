@@ -151,19 +151,19 @@ loop-level-init g c =
 
 -- ---- what an exit says nothing of, and what is left of the sink
 pub returns-in_err-level-clause-totals : goal.returns-in_err-level-clause-totals
-returns-in_err-level-clause-totals g c = let e = err_from_is_err_and c.from_residual.result c.from_residual.ensures.1 in no_ok _ c.from_residual.result e.0 e.1
+returns-in_err-level-clause-totals g c = no_ok _ _ c.from_residual.result c.from_residual.ensures.1
 
 pub returns-in_err-level-clause-decisions : goal.returns-in_err-level-clause-decisions
-returns-in_err-level-clause-decisions g c = let e = err_from_is_err_and c.from_residual.result c.from_residual.ensures.1 in no_ok _ c.from_residual.result e.0 e.1
+returns-in_err-level-clause-decisions g c = no_ok _ _ c.from_residual.result c.from_residual.ensures.1
 
 pub returns-in_err-level-clause-buffers : goal.returns-in_err-level-clause-buffers
-returns-in_err-level-clause-buffers g c = let e = err_from_is_err_and c.from_residual.result c.from_residual.ensures.1 in no_ok _ c.from_residual.result e.0 e.1
+returns-in_err-level-clause-buffers g c = no_ok _ _ c.from_residual.result c.from_residual.ensures.1
 
 pub returns-in_err-level-clause-rows : goal.returns-in_err-level-clause-rows
-returns-in_err-level-clause-rows g c = let e = err_from_is_err_and c.from_residual.result c.from_residual.ensures.1 in no_ok _ c.from_residual.result e.0 e.1
+returns-in_err-level-clause-rows g c = no_ok _ _ c.from_residual.result c.from_residual.ensures.1
 
 pub returns-in_err-level-clause-rows_left : goal.returns-in_err-level-clause-rows_left
-returns-in_err-level-clause-rows_left g c = let e = err_from_is_err_and c.from_residual.result c.from_residual.ensures.1 in no_ok _ c.from_residual.result e.0 e.1
+returns-in_err-level-clause-rows_left g c = no_ok _ _ c.from_residual.result c.from_residual.ensures.1
 
 pub returns-in_err-level-clause-row_length : goal.returns-in_err-level-clause-row_length
 returns-in_err-level-clause-row_length g c = c.level.ensures.row_length ∙ c.loop-level.invariant.row_length
@@ -175,19 +175,19 @@ pub returns-in_err-level-clause-kept : goal.returns-in_err-level-clause-kept
 returns-in_err-level-clause-kept g c = c.level.ensures.kept ∙ c.loop-level.invariant.kept
 
 pub returns-in_err-extend_from_slice-clause-totals : goal.returns-in_err-extend_from_slice-clause-totals
-returns-in_err-extend_from_slice-clause-totals g c = let e = err_from_is_err_and c.from_residual-in_err-extend_from_slice.result c.from_residual-in_err-extend_from_slice.ensures.1 in no_ok _ c.from_residual-in_err-extend_from_slice.result e.0 e.1
+returns-in_err-extend_from_slice-clause-totals g c = no_ok _ _ c.from_residual-in_err-extend_from_slice.result c.from_residual-in_err-extend_from_slice.ensures.1
 
 pub returns-in_err-extend_from_slice-clause-decisions : goal.returns-in_err-extend_from_slice-clause-decisions
-returns-in_err-extend_from_slice-clause-decisions g c = let e = err_from_is_err_and c.from_residual-in_err-extend_from_slice.result c.from_residual-in_err-extend_from_slice.ensures.1 in no_ok _ c.from_residual-in_err-extend_from_slice.result e.0 e.1
+returns-in_err-extend_from_slice-clause-decisions g c = no_ok _ _ c.from_residual-in_err-extend_from_slice.result c.from_residual-in_err-extend_from_slice.ensures.1
 
 pub returns-in_err-extend_from_slice-clause-buffers : goal.returns-in_err-extend_from_slice-clause-buffers
-returns-in_err-extend_from_slice-clause-buffers g c = let e = err_from_is_err_and c.from_residual-in_err-extend_from_slice.result c.from_residual-in_err-extend_from_slice.ensures.1 in no_ok _ c.from_residual-in_err-extend_from_slice.result e.0 e.1
+returns-in_err-extend_from_slice-clause-buffers g c = no_ok _ _ c.from_residual-in_err-extend_from_slice.result c.from_residual-in_err-extend_from_slice.ensures.1
 
 pub returns-in_err-extend_from_slice-clause-rows : goal.returns-in_err-extend_from_slice-clause-rows
-returns-in_err-extend_from_slice-clause-rows g c = let e = err_from_is_err_and c.from_residual-in_err-extend_from_slice.result c.from_residual-in_err-extend_from_slice.ensures.1 in no_ok _ c.from_residual-in_err-extend_from_slice.result e.0 e.1
+returns-in_err-extend_from_slice-clause-rows g c = no_ok _ _ c.from_residual-in_err-extend_from_slice.result c.from_residual-in_err-extend_from_slice.ensures.1
 
 pub returns-in_err-extend_from_slice-clause-rows_left : goal.returns-in_err-extend_from_slice-clause-rows_left
-returns-in_err-extend_from_slice-clause-rows_left g c = let e = err_from_is_err_and c.from_residual-in_err-extend_from_slice.result c.from_residual-in_err-extend_from_slice.ensures.1 in no_ok _ c.from_residual-in_err-extend_from_slice.result e.0 e.1
+returns-in_err-extend_from_slice-clause-rows_left g c = no_ok _ _ c.from_residual-in_err-extend_from_slice.result c.from_residual-in_err-extend_from_slice.ensures.1
 
 pub returns-in_err-extend_from_slice-clause-row_length : goal.returns-in_err-extend_from_slice-clause-row_length
 returns-in_err-extend_from_slice-clause-row_length g c = c.level.ensures.row_length ∙ c.loop-level.invariant.row_length
@@ -199,19 +199,19 @@ pub returns-in_err-extend_from_slice-clause-kept : goal.returns-in_err-extend_fr
 returns-in_err-extend_from_slice-clause-kept g c = c.level.ensures.kept ∙ c.loop-level.invariant.kept
 
 pub returns-in_err-level-2-clause-totals : goal.returns-in_err-level-2-clause-totals
-returns-in_err-level-2-clause-totals g c = let e = err_from_is_err_and c.from_residual-in_err-level-2.result c.from_residual-in_err-level-2.ensures.1 in no_ok _ c.from_residual-in_err-level-2.result e.0 e.1
+returns-in_err-level-2-clause-totals g c = no_ok _ _ c.from_residual-in_err-level-2.result c.from_residual-in_err-level-2.ensures.1
 
 pub returns-in_err-level-2-clause-decisions : goal.returns-in_err-level-2-clause-decisions
-returns-in_err-level-2-clause-decisions g c = let e = err_from_is_err_and c.from_residual-in_err-level-2.result c.from_residual-in_err-level-2.ensures.1 in no_ok _ c.from_residual-in_err-level-2.result e.0 e.1
+returns-in_err-level-2-clause-decisions g c = no_ok _ _ c.from_residual-in_err-level-2.result c.from_residual-in_err-level-2.ensures.1
 
 pub returns-in_err-level-2-clause-buffers : goal.returns-in_err-level-2-clause-buffers
-returns-in_err-level-2-clause-buffers g c = let e = err_from_is_err_and c.from_residual-in_err-level-2.result c.from_residual-in_err-level-2.ensures.1 in no_ok _ c.from_residual-in_err-level-2.result e.0 e.1
+returns-in_err-level-2-clause-buffers g c = no_ok _ _ c.from_residual-in_err-level-2.result c.from_residual-in_err-level-2.ensures.1
 
 pub returns-in_err-level-2-clause-rows : goal.returns-in_err-level-2-clause-rows
-returns-in_err-level-2-clause-rows g c = let e = err_from_is_err_and c.from_residual-in_err-level-2.result c.from_residual-in_err-level-2.ensures.1 in no_ok _ c.from_residual-in_err-level-2.result e.0 e.1
+returns-in_err-level-2-clause-rows g c = no_ok _ _ c.from_residual-in_err-level-2.result c.from_residual-in_err-level-2.ensures.1
 
 pub returns-in_err-level-2-clause-rows_left : goal.returns-in_err-level-2-clause-rows_left
-returns-in_err-level-2-clause-rows_left g c = let e = err_from_is_err_and c.from_residual-in_err-level-2.result c.from_residual-in_err-level-2.ensures.1 in no_ok _ c.from_residual-in_err-level-2.result e.0 e.1
+returns-in_err-level-2-clause-rows_left g c = no_ok _ _ c.from_residual-in_err-level-2.result c.from_residual-in_err-level-2.ensures.1
 
 pub returns-in_err-level-2-clause-row_length : goal.returns-in_err-level-2-clause-row_length
 returns-in_err-level-2-clause-row_length g c = c.level-2.ensures.row_length ∙ c.loop-level.invariant.row_length

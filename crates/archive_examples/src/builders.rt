@@ -1,7 +1,7 @@
 //! The files, cuts and certificates that several examples are built of.
 
 use archive_core::{Edited, Fault, Form, edit};
-use fixtures::files::{FILE, MONO, RATE, RAW, dsf_of, file_of, marked_with, mono, stereo};
+use fixtures::files::{FILE, MONO, RATE, RAW, dsf_of, file_of, marked_with, stereo, with_sounds};
 use fixtures::projects::SPLICE;
 use std::alloc::{AllocError, Global};
 use std::fmt::Write;
@@ -26,21 +26,40 @@ pub(crate) fn file_in(alloc: Global, form: Form) -> Result<Vec<u8>, AllocError> 
     }
 }
 
-/// A DSDIFF file of one channel with this sound, at 5,644,800 Hz, twice the usual rate.
-pub(crate) fn fast(alloc: Global, sound: &[u8]) -> Result<Vec<u8>, AllocError> {
-    let rate = *b"FS  \0\0\0\0\0\0\0\x04\x00\x56\x22\x00";
-    file_of(alloc, &[&rate, &MONO, &RAW], sound, &[])
+/// A DSDIFF file of one channel with these two sound bytes, at 5,644,800 Hz, twice the usual rate.
+pub(crate) fn fast(sound: [u8; 2]) -> [u8; 128] {
+    let mut file = with_sounds(sound);
+    [file[61], file[62]] = [0x56, 0x22];
+    file
 }
+
+/// A take of 16 ones.
+pub(crate) const ONES: [u8; 128] = *b"FRM8\0\0\0\0\0\0\0\x74DSD \
+    FVER\0\0\0\0\0\0\0\x04\x01\x05\0\0\
+    PROP\0\0\0\0\0\0\0\x46SND \
+    FS  \0\0\0\0\0\0\0\x04\0\x2b\x11\0\
+    CHNL\0\0\0\0\0\0\0\x06\0\x01C000\
+    CMPR\0\0\0\0\0\0\0\x13DSD \x0enot compressed\0\
+    DSD \0\0\0\0\0\0\0\x02\xff\xff";
+
+/// A take of 16 zeros.
+pub(crate) const ZEROS: [u8; 128] = *b"FRM8\0\0\0\0\0\0\0\x74DSD \
+    FVER\0\0\0\0\0\0\0\x04\x01\x05\0\0\
+    PROP\0\0\0\0\0\0\0\x46SND \
+    FS  \0\0\0\0\0\0\0\x04\0\x2b\x11\0\
+    CHNL\0\0\0\0\0\0\0\x06\0\x01C000\
+    CMPR\0\0\0\0\0\0\0\x13DSD \x0enot compressed\0\
+    DSD \0\0\0\0\0\0\0\x02\0\0";
 
 /// A DSDIFF file of zeros whose sound has fewer bytes than its chunk tells: the size of the chunk `DSD ` at
 /// 114 ends at 125.
-pub(crate) fn cut_off(alloc: Global) -> Result<Vec<u8>, AllocError> {
-    let mut file = mono(alloc, &[0; 2])?;
-    if let Some(size) = file.get_mut(125) {
-        *size = 100;
-    }
-    Ok(file)
-}
+pub(crate) const CUT_OFF: [u8; 128] = *b"FRM8\0\0\0\0\0\0\0\x74DSD \
+    FVER\0\0\0\0\0\0\0\x04\x01\x05\0\0\
+    PROP\0\0\0\0\0\0\0\x46SND \
+    FS  \0\0\0\0\0\0\0\x04\0\x2b\x11\0\
+    CHNL\0\0\0\0\0\0\0\x06\0\x01C000\
+    CMPR\0\0\0\0\0\0\0\x13DSD \x0enot compressed\0\
+    DSD \0\0\0\0\0\0\0\x64\0\0";
 
 /// The DSDIFF file of the bits that `SPLICE` cuts of ones and zeros, with its mark at sample 9 with the text
 /// `one`.
@@ -138,6 +157,18 @@ impl Sources {
 }
 
 /// A project with these two files as its takes.
+pub(crate) fn sources_with(
+    alloc: Global,
+    text: Result<String, AllocError>,
+    first: &[u8],
+    second: &[u8],
+) -> Result<Sources, AllocError> {
+    let first: Result<_, _> = Vec::from_slice(alloc, first);
+    let second: Result<_, _> = Vec::from_slice(alloc, second);
+    sources_of(text, first, second)
+}
+
+/// The same of files that were built.
 pub(crate) fn sources_of(
     text: Result<String, AllocError>,
     first: Result<Vec<u8>, AllocError>,
@@ -156,13 +187,13 @@ pub(crate) fn mono_sources(
     cues: &[CueNumbers],
 ) -> Result<Sources, AllocError> {
     let text = splice(alloc, weights, cues);
-    sources_of(text, mono(alloc, &[0xff; 2]), mono(alloc, &[0; 2]))
+    sources_with(alloc, text, &ONES, &ZEROS)
 }
 
 /// The project `SPLICE` with the same takes.
 pub(crate) fn titled_sources(alloc: Global) -> Result<Sources, AllocError> {
     let text: Result<_, _> = String::from_str(alloc, SPLICE);
-    sources_of(text, mono(alloc, &[0xff; 2]), mono(alloc, &[0; 2]))
+    sources_with(alloc, text, &ONES, &ZEROS)
 }
 
 /// The project of `CUES` by the weights 1 and 0, with takes of two channels of 16 ones and of 16 zeros.

@@ -34,7 +34,7 @@ pub(crate) const CERT: [u8; 46] = *b"DSPC\0\x02\0\x02\0\0\0\x01\0\0\0\0\0\x01\
 #[test]
 fn certifies_a_bridge(rt: HostRuntime) {
     let alloc = rt.alloc();
-    assert!(rt; certifies(alloc, mono_sources(alloc, "1, 0", &CUES), &CERT) == Ok(true));
+    assert!(rt; certifies(alloc, mono_sources(alloc, "1, 0", &CUES), &CERT).unwrap_or(false));
 }
 
 // The certificate of a bridge of two bits by the same weights, with the cost 8: its rows are 8 and 0; 8 and 4; 8 and 8.
@@ -48,7 +48,7 @@ const TWO_BITS: [u8; 57] = *b"DSPC\0\x02\0\x02\0\0\0\x01\0\0\0\0\0\x02\
 fn certifies_a_bridge_of_two_bits(rt: HostRuntime) {
     let alloc = rt.alloc();
     let cues = [(0, 0, 8, 2), (1, 3, 9, 0)];
-    assert!(rt; certifies(alloc, mono_sources(alloc, "1, 0", &cues), &TWO_BITS) == Ok(true));
+    assert!(rt; certifies(alloc, mono_sources(alloc, "1, 0", &cues), &TWO_BITS).unwrap_or(false));
 }
 
 /// The entry of a bridge of one bit: its cue, its channel, the bytes of its two rows and of its cost.
@@ -107,7 +107,7 @@ fn certifies_each_bridge(rt: HostRuntime) {
         let number = entries.len();
         let sources = mono_sources(alloc, "1, 1", cues);
         assert!(rt;
-            certifies_entries(alloc, sources, entries) == Ok(true),
+            certifies_entries(alloc, sources, entries).unwrap_or(false),
             "{number} entries"
         );
     }
@@ -119,5 +119,5 @@ fn certifies_each_channel(rt: HostRuntime) {
     let alloc = rt.alloc();
     let entries = [(0, 0, LEVEL), (0, 1, LEVEL)];
     assert!(rt; size_of(cert_of(alloc, &entries)) == Ok(80));
-    assert!(rt; certifies_entries(alloc, stereo_sources(alloc), &entries) == Ok(true));
+    assert!(rt; certifies_entries(alloc, stereo_sources(alloc), &entries).unwrap_or(false));
 }

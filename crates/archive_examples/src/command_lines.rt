@@ -1,11 +1,11 @@
 //! Whole command lines over a folder in memory: the line, the status, and the files behind it.
 
-use crate::builders::{CUES, splice};
+use crate::builders::{CUES, ONES, ZEROS, splice};
 use crate::certifying::{LEVEL, cert_of};
-use crate::folders::holds;
+use crate::folders::{folder_of, holds};
 use crate::outcomes::TOLD;
 use command_core::{MemoryFolder, outcome_line, run, status};
-use fixtures::files::{FILE, WAVE, mono};
+use fixtures::files::{FILE, WAVE, with_sounds};
 use fixtures::projects::DECIMATE;
 use std::alloc::{AllocError, Global};
 use std::test::Fail;
@@ -19,19 +19,16 @@ pub(crate) fn words_of(alloc: Global, texts: &[&str]) -> Result<Vec<String>, All
     Ok(words)
 }
 
-// A folder with the file, both projects and the take of ones.
+// A folder with the file, both projects, that of `CUES` by the weights 1 and 0, and its first take, the one of ones.
 fn folder(alloc: Global) -> Result<MemoryFolder, AllocError> {
-    let mut folder = MemoryFolder::new(alloc);
-    folder.put("in.dff", &FILE)?;
-    folder.put("p.toml", DECIMATE.as_bytes())?;
-    put_sources(alloc, &mut folder)?;
-    Ok(folder)
-}
-
-// Puts the project of `CUES` by the weights 1 and 0, and its first take.
-fn put_sources(alloc: Global, folder: &mut MemoryFolder) -> Result<(), AllocError> {
-    folder.put("e.toml", splice(alloc, "1, 0", &CUES)?.as_bytes())?;
-    folder.put("a.dff", &mono(alloc, &[0xff; 2])?)
+    let text = splice(alloc, "1, 0", &CUES)?;
+    let files: [(&str, &[u8]); 4] = [
+        ("in.dff", &FILE),
+        ("p.toml", DECIMATE.as_bytes()),
+        ("e.toml", text.as_bytes()),
+        ("a.dff", &ONES),
+    ];
+    folder_of(alloc, &files)
 }
 
 // A command line, and the status, the line and the number of files that it comes to.
@@ -66,11 +63,10 @@ const REFUSED: [Line; 7] = [
 fn refuses_and_creates_nothing(rt: HostRuntime) -> Result<(), Fail> {
     let alloc = rt.alloc();
     let mut folder = folder(alloc)?;
-    for line in &REFUSED {
+    for (number, line) in REFUSED.iter().enumerate() {
         assert!(rt;
-            comes_to(alloc, &mut folder, line) == Ok(true),
-            "{:?}",
-            line.0
+            comes_to(alloc, &mut folder, line).unwrap_or(false),
+            "line {number}"
         );
     }
     Ok(())
@@ -115,7 +111,7 @@ const DONE: [Line; 8] = [
 fn made(alloc: Global, folder: &MemoryFolder) -> Result<bool, AllocError> {
     let played = holds(folder, "out.wav", &WAVE);
     let converted = holds(folder, "again.dff", &FILE);
-    let cut = holds(folder, "m.dff", &mono(alloc, &[0xff, 0])?);
+    let cut = holds(folder, "m.dff", &with_sounds([0xff, 0]));
     let certified = holds(folder, "c.cert", &cert_of(alloc, &[(0, 0, LEVEL)])?);
     Ok(played && converted && cut && certified)
 }
@@ -123,7 +119,7 @@ fn made(alloc: Global, folder: &MemoryFolder) -> Result<bool, AllocError> {
 // The folder with the second take.
 fn whole_folder(alloc: Global) -> Result<MemoryFolder, AllocError> {
     let mut folder = folder(alloc)?;
-    folder.put("b.dff", &mono(alloc, &[0; 2])?)?;
+    folder.put("b.dff", &ZEROS)?;
     Ok(folder)
 }
 
@@ -131,13 +127,12 @@ fn whole_folder(alloc: Global) -> Result<MemoryFolder, AllocError> {
 fn does_commands_whole(rt: HostRuntime) -> Result<(), Fail> {
     let alloc = rt.alloc();
     let mut folder = whole_folder(alloc)?;
-    for line in &DONE {
+    for (number, line) in DONE.iter().enumerate() {
         assert!(rt;
-            comes_to(alloc, &mut folder, line) == Ok(true),
-            "{:?}",
-            line.0
+            comes_to(alloc, &mut folder, line).unwrap_or(false),
+            "line {number}"
         );
     }
-    assert!(rt; made(alloc, &folder) == Ok(true));
+    assert!(rt; made(alloc, &folder).unwrap_or(false));
     Ok(())
 }

@@ -49,7 +49,7 @@ fn converts_one_byte_of_sound(rt: HostRuntime) {
     for (from, to) in &PAIRS {
         let file = file_in(alloc, *from);
         assert!(rt;
-            converts(alloc, file, *to, file_in(alloc, *to), 0) == Ok(true),
+            converts(alloc, file, *to, file_in(alloc, *to), 0).unwrap_or(false),
             "{from:?} {to:?}"
         );
     }
@@ -77,9 +77,9 @@ fn is_refused(
 fn converts_channels_that_end_inside_a_byte(rt: HostRuntime) {
     let alloc = rt.alloc();
     assert!(rt; size_of(long(alloc, 1, 0x80)) == Ok(16476));
-    assert!(rt; is_refused(alloc, long(alloc, 1, 0x80), "NotWholeBytes") == Ok(true));
+    assert!(rt; is_refused(alloc, long(alloc, 1, 0x80), "NotWholeBytes").unwrap_or(false));
     let turned = long(alloc, 8, 0x01);
-    assert!(rt; converts(alloc, long(alloc, 1, 0x80), Form::Dsf8, turned, 0) == Ok(true));
+    assert!(rt; converts(alloc, long(alloc, 1, 0x80), Form::Dsf8, turned, 0).unwrap_or(false));
 }
 
 /// The file of one byte of sound with a mark, and a comment chunk of no comments, behind it.
@@ -94,8 +94,10 @@ fn counts_what_has_no_place_in_dsf(rt: HostRuntime) {
     let alloc = rt.alloc();
     assert!(rt; size_of(commented(alloc)) == Ok(188));
     let bare = file_in(alloc, Form::Dsf);
-    assert!(rt; converts(alloc, commented(alloc), Form::Dsf, bare, 2) == Ok(true));
-    assert!(rt; converts(alloc, commented(alloc), Form::Dsdiff, commented(alloc), 0) == Ok(true));
+    assert!(rt; converts(alloc, commented(alloc), Form::Dsf, bare, 2).unwrap_or(false));
+    assert!(rt;
+        converts(alloc, commented(alloc), Form::Dsdiff, commented(alloc), 0).unwrap_or(false)
+    );
 }
 
 /// The DSF file of one byte of sound with a tag.
@@ -108,7 +110,7 @@ fn keeps_a_tag_in_dsf_alone(rt: HostRuntime) {
     let alloc = rt.alloc();
     assert!(rt; size_of(tagged(alloc, 1, 0x0f)) == Ok(4191));
     let turned = tagged(alloc, 8, 0xf0);
-    assert!(rt; converts(alloc, tagged(alloc, 1, 0x0f), Form::Dsf8, turned, 0) == Ok(true));
+    assert!(rt; converts(alloc, tagged(alloc, 1, 0x0f), Form::Dsf8, turned, 0).unwrap_or(false));
     let bare = file_in(alloc, Form::Dsdiff);
-    assert!(rt; converts(alloc, tagged(alloc, 1, 0x0f), Form::Dsdiff, bare, 1) == Ok(true));
+    assert!(rt; converts(alloc, tagged(alloc, 1, 0x0f), Form::Dsdiff, bare, 1).unwrap_or(false));
 }

@@ -41,7 +41,7 @@ fn is_unread(alloc: Global, file: &[u8], expected: &str) -> Result<bool, AllocEr
 fn a_form_may_lack_its_last_pad_alone(rt: HostRuntime) {
     let alloc = rt.alloc();
     for cut in &FORM_CUTS {
-        assert!(rt; is_cut_so(alloc, &FILE, *cut) == Ok(true), "{cut:?}");
+        assert!(rt; is_cut_so(alloc, &FILE, *cut).unwrap_or(false), "{cut:?}");
     }
     assert!(rt; read_any(alloc, &FILE[..127]).is_ok());
 }
@@ -62,7 +62,7 @@ fn is_dsf_read(alloc: Global) -> Result<bool, AllocError> {
 fn blocks_are_read_whole_or_not_at_all(rt: HostRuntime) {
     let alloc = rt.alloc();
     for cut in &BLOCK_CUTS {
-        assert!(rt; is_dsf_cut_so(alloc, *cut) == Ok(true), "{cut:?}");
+        assert!(rt; is_dsf_cut_so(alloc, *cut).unwrap_or(false), "{cut:?}");
     }
-    assert!(rt; is_dsf_read(alloc) == Ok(true));
+    assert!(rt; is_dsf_read(alloc).unwrap_or(false));
 }

@@ -1,12 +1,12 @@
 //! Small masters cut from two takes, what their bridges cost, and the fault that comes first.
 
 use crate::builders::{
-    CUES, CUTS, CueNumbers, Sources, cut_off, fast, is_named, mono_sources, size_of, sources_of,
-    splice, stereo_sources, titled, titled_sources,
+    CUES, CUT_OFF, CUTS, CueNumbers, ONES, Sources, ZEROS, fast, is_named, mono_sources, size_of,
+    sources_with, splice, stereo_sources, titled, titled_sources,
 };
 use archive_core::{Fault, Form, edit};
 use fixtures::compared::equal;
-use fixtures::files::{dsf_of, mono, stereo};
+use fixtures::files::{dsf_of, stereo, with_sounds};
 use fixtures::projects::SPLICE;
 use std::alloc::{AllocError, Global};
 
@@ -15,22 +15,22 @@ pub(crate) fn cuts(
     alloc: Global,
     sources: Result<Sources, AllocError>,
     form: Form,
-    master: Result<Vec<u8>, AllocError>,
-    total: u128,
-) -> Result<bool, Fault> {
-    cuts_file(alloc, &sources?, form, &master?, total)
-}
-
-// The same of sources and a file that were built.
-fn cuts_file(
-    alloc: Global,
-    sources: &Sources,
-    form: Form,
     master: &[u8],
     total: u128,
 ) -> Result<bool, Fault> {
-    let made = sources.edit(alloc, form)?;
+    let made = sources?.edit(alloc, form)?;
     Ok(equal(&made.master, master) && made.total == total)
+}
+
+/// The same of a file that was built.
+pub(crate) fn cuts_built(
+    alloc: Global,
+    sources: Result<Sources, AllocError>,
+    form: Form,
+    master: Result<Vec<u8>, AllocError>,
+    total: u128,
+) -> Result<bool, Fault> {
+    cuts(alloc, sources, form, &master?, total)
 }
 
 #[test]
@@ -38,11 +38,8 @@ fn cuts_masters(rt: HostRuntime) {
     let alloc = rt.alloc();
     for (case, weights, cues, sound, total) in &CUTS {
         let sources = mono_sources(alloc, weights, cues);
-        let master = mono(alloc, sound);
-        assert!(rt;
-            cuts(alloc, sources, Form::Dsdiff, master, *total) == Ok(true),
-            "{case}"
-        );
+        let cut = cuts(alloc, sources, Form::Dsdiff, &with_sounds(*sound), *total);
+        assert!(rt; cut.unwrap_or(false), "{case}");
     }
 }
 
@@ -52,9 +49,9 @@ fn cuts_masters(rt: HostRuntime) {
 fn cuts_by_what_a_bit_costs_behind_it(rt: HostRuntime) {
     let alloc = rt.alloc();
     let text = splice(alloc, "0, 1", &CUES);
-    let sources = sources_of(text, mono(alloc, &[0; 2]), mono(alloc, &[0xff; 2]));
-    let master = mono(alloc, &[0x00, 0xff]);
-    assert!(rt; cuts(alloc, sources, Form::Dsdiff, master, 4) == Ok(true));
+    let sources = sources_with(alloc, text, &ZEROS, &ONES);
+    let master = with_sounds([0x00, 0xff]);
+    assert!(rt; cuts(alloc, sources, Form::Dsdiff, &master, 4).unwrap_or(false));
 }
 
 // A DSDIFF master has a mark for each title, a DSF master has none.
@@ -62,11 +59,13 @@ fn cuts_by_what_a_bit_costs_behind_it(rt: HostRuntime) {
 fn marks_titles_in_dsdiff_alone(rt: HostRuntime) {
     let alloc = rt.alloc();
     assert!(rt; size_of(titled(alloc)) == Ok(178));
-    assert!(rt; cuts(alloc, titled_sources(alloc), Form::Dsdiff, titled(alloc), 0) == Ok(true));
+    assert!(rt;
+        cuts_built(alloc, titled_sources(alloc), Form::Dsdiff, titled(alloc), 0).unwrap_or(false)
+    );
     let least = dsf_of(alloc, (1, 1, 16), &[0xff, 0], 4096, &[]);
-    assert!(rt; cuts(alloc, titled_sources(alloc), Form::Dsf, least, 0) == Ok(true));
+    assert!(rt; cuts_built(alloc, titled_sources(alloc), Form::Dsf, least, 0).unwrap_or(false));
     let most = dsf_of(alloc, (1, 8, 16), &[0xff, 0], 4096, &[]);
-    assert!(rt; cuts(alloc, titled_sources(alloc), Form::Dsf8, most, 0) == Ok(true));
+    assert!(rt; cuts_built(alloc, titled_sources(alloc), Form::Dsf8, most, 0).unwrap_or(false));
 }
 
 // Each channel has a bridge that costs 4.
@@ -74,7 +73,7 @@ fn marks_titles_in_dsdiff_alone(rt: HostRuntime) {
 fn cuts_each_channel(rt: HostRuntime) {
     let alloc = rt.alloc();
     let master = stereo(alloc, &[0xff, 0xff, 0, 0]);
-    assert!(rt; cuts(alloc, stereo_sources(alloc), Form::Dsdiff, master, 8) == Ok(true));
+    assert!(rt; cuts_built(alloc, stereo_sources(alloc), Form::Dsdiff, master, 8).unwrap_or(false));
 }
 
 // Whether a cut is refused for this fault.
@@ -111,29 +110,22 @@ fn names_the_first_fault_of_cues(rt: HostRuntime) {
     let alloc = rt.alloc();
     for (weights, cues, expected) in &REFUSED {
         assert!(rt;
-            is_refused(alloc, mono_sources(alloc, weights, cues), expected) == Ok(true),
+            is_refused(alloc, mono_sources(alloc, weights, cues), expected).unwrap_or(false),
             "{expected}"
         );
     }
 }
 
 // Whether a cut of the take of ones and this other take is refused for this fault.
-fn is_take_refused(
-    alloc: Global,
-    other: Result<Vec<u8>, AllocError>,
-    expected: &str,
-) -> Result<bool, AllocError> {
+fn is_take_refused(alloc: Global, other: &[u8], expected: &str) -> Result<bool, AllocError> {
     let text: Result<_, _> = String::from_str(alloc, SPLICE);
-    is_refused(
-        alloc,
-        sources_of(text, mono(alloc, &[0xff; 2]), other),
-        expected,
-    )
+    let sources = sources_with(alloc, text, &ONES, other);
+    is_refused(alloc, sources, expected)
 }
 
 // Whether a cut of the take of ones alone is refused for this fault.
 fn is_alone_refused(alloc: Global, text: &str, expected: &str) -> Result<bool, AllocError> {
-    let takes = [mono(alloc, &[0xff; 2])?];
+    let takes = [ONES.to_vec(alloc)?];
     match edit(alloc, text.as_bytes(), &takes, Form::Dsdiff) {
         Ok(_) => Ok(false),
         Err(fault) => is_named(alloc, fault, expected),
@@ -145,8 +137,8 @@ fn is_alone_refused(alloc: Global, text: &str, expected: &str) -> Result<bool, A
 fn names_the_first_fault_of_takes(rt: HostRuntime) {
     let alloc = rt.alloc();
     let cut = "TakeUnread 1 Dsdiff Chunk DataCut 114";
-    assert!(rt; is_alone_refused(alloc, SPLICE, "TakeNumber") == Ok(true));
-    assert!(rt; is_alone_refused(alloc, "", "NoSplice") == Ok(true));
-    assert!(rt; is_take_refused(alloc, fast(alloc, &[0; 2]), "TakeMismatch 1") == Ok(true));
-    assert!(rt; is_take_refused(alloc, cut_off(alloc), cut) == Ok(true));
+    assert!(rt; is_alone_refused(alloc, SPLICE, "TakeNumber").unwrap_or(false));
+    assert!(rt; is_alone_refused(alloc, "", "NoSplice").unwrap_or(false));
+    assert!(rt; is_take_refused(alloc, &fast([0; 2]), "TakeMismatch 1").unwrap_or(false));
+    assert!(rt; is_take_refused(alloc, &CUT_OFF, cut).unwrap_or(false));
 }

@@ -1,9 +1,9 @@
 //! `play`, `convert` and `info` over folders in memory: what they print and which files they create.
 
 use crate::builders::file_in;
-use crate::folders::{asks, comes_to, holds, is_refused};
+use crate::folders::{asks, comes_to, folder_of, holds, is_refused};
 use crate::outcomes::TOLD;
-use crate::watched_folder::{Failure, WatchedFolder};
+use crate::watched_folder::{Failure, NOTHING, WatchedFolder};
 use archive_core::Form;
 use command_core::{MemoryFolder, Task};
 use fixtures::files::{FILE, WAVE};
@@ -12,10 +12,8 @@ use std::alloc::{AllocError, Global};
 
 // A folder with a file and a project.
 fn folder(alloc: Global) -> Result<MemoryFolder, AllocError> {
-    let mut folder = MemoryFolder::new(alloc);
-    folder.put("in.dff", &FILE)?;
-    folder.put("p.toml", DECIMATE.as_bytes())?;
-    Ok(folder)
+    let files: [(&str, &[u8]); 2] = [("in.dff", &FILE), ("p.toml", DECIMATE.as_bytes())];
+    folder_of(alloc, &files)
 }
 
 // Playing this input by this project.
@@ -54,7 +52,7 @@ fn makes(
 fn plays_to_a_file(rt: HostRuntime) {
     let alloc = rt.alloc();
     let task = playing("p.toml", "in.dff");
-    assert!(rt; makes(alloc, task, "played 46 bytes", ("out", &WAVE), 3) == Ok(true));
+    assert!(rt; makes(alloc, task, "played 46 bytes", ("out", &WAVE), 3).unwrap_or(false));
 }
 
 // Whether the file is converted to the one that its recording has in this form, beside itself.
@@ -68,18 +66,18 @@ fn converts(alloc: Global, form: Form) -> Result<bool, AllocError> {
 #[test]
 fn converts_to_files(rt: HostRuntime) {
     let alloc = rt.alloc();
-    assert!(rt; converts(alloc, Form::Dsf) == Ok(true));
-    assert!(rt; converts(alloc, Form::Dsf8) == Ok(true));
-    assert!(rt; converts(alloc, Form::Dsdiff) == Ok(true));
+    assert!(rt; converts(alloc, Form::Dsf).unwrap_or(false));
+    assert!(rt; converts(alloc, Form::Dsf8).unwrap_or(false));
+    assert!(rt; converts(alloc, Form::Dsdiff).unwrap_or(false));
     let task = converting(Form::Dsdiff, "in.dff", "in.dff");
-    assert!(rt; makes(alloc, task, "converted dropped 0", ("in.dff", &FILE), 2) == Ok(true));
+    assert!(rt; makes(alloc, task, "converted dropped 0", ("in.dff", &FILE), 2).unwrap_or(false));
 }
 
 #[test]
 fn tells_of_a_file(rt: HostRuntime) {
     let alloc = rt.alloc();
     let task = Task::Info { file: "in.dff" };
-    assert!(rt; makes(alloc, task, TOLD, ("in.dff", &FILE), 2) == Ok(true));
+    assert!(rt; makes(alloc, task, TOLD, ("in.dff", &FILE), 2).unwrap_or(false));
 }
 
 // A project and an input of which one is not there.
@@ -91,7 +89,7 @@ fn plays_no_missing_file_and_creates_nothing(rt: HostRuntime) {
     for (project, input) in &NOT_THERE {
         let task = playing(project, input);
         assert!(rt;
-            is_refused(alloc, folder(alloc), task, "fault: ReadFailed") == Ok(true),
+            is_refused(alloc, folder(alloc), task, "fault: ReadFailed").unwrap_or(false),
             "{project} {input}"
         );
     }
@@ -116,7 +114,7 @@ fn leaves_an_empty_file_where_nothing_is_played(rt: HostRuntime) {
     for (project, input, line) in &NOT_PLAYED {
         let task = playing(project, input);
         assert!(rt;
-            leaves_none(alloc, task, line) == Ok(true),
+            leaves_none(alloc, task, line).unwrap_or(false),
             "{project} {input}"
         );
     }
@@ -132,58 +130,58 @@ fn is_unread(alloc: Global, input: &str, line: &str) -> Result<bool, AllocError>
 #[test]
 fn reads_nothing_else_and_creates_nothing(rt: HostRuntime) {
     let alloc = rt.alloc();
-    assert!(rt; is_unread(alloc, "none", "fault: ReadFailed") == Ok(true));
-    assert!(rt; is_unread(alloc, "p.toml", "fault: FileUnread UnknownForm") == Ok(true));
+    assert!(rt; is_unread(alloc, "none", "fault: ReadFailed").unwrap_or(false));
+    assert!(rt; is_unread(alloc, "p.toml", "fault: FileUnread UnknownForm").unwrap_or(false));
 }
 
 // What fails, what is printed, and what the folder is asked for, and no more. A file that was created is kept, or
 // given up after a fault.
-const PLAYS: [(&str, Option<Failure>, &str, &str); 8] = [
+const PLAYS: [(&str, Failure, &str, &str); 8] = [
     (
         "nothing",
-        None,
+        NOTHING,
         "played 46 bytes",
         "open p.toml\nopen in.dff\ncreate out\nkeep out\n",
     ),
     (
         "opening the project",
-        Some(Failure::At("open", "p.toml")),
+        ("open", "p.toml", 0),
         "fault: ReadFailed",
         "open p.toml\n",
     ),
     (
         "reading the project",
-        Some(Failure::At("read", "p.toml")),
+        ("read", "p.toml", 0),
         "fault: ReadFailed",
         "open p.toml\n",
     ),
     (
         "opening the input",
-        Some(Failure::At("open", "in.dff")),
+        ("open", "in.dff", 0),
         "fault: ReadFailed",
         "open p.toml\nopen in.dff\n",
     ),
     (
         "reading the input",
-        Some(Failure::At("read", "in.dff")),
+        ("read", "in.dff", 0),
         "fault: ReadFailed",
         "open p.toml\nopen in.dff\ncreate out\ngive up out\n",
     ),
     (
         "creating the output",
-        Some(Failure::At("create", "out")),
+        ("create", "out", 0),
         "fault: WriteFailed",
         "open p.toml\nopen in.dff\ncreate out\n",
     ),
     (
         "writing the output",
-        Some(Failure::Write(0)),
+        ("write", "out", 0),
         "fault: WriteFailed",
         "open p.toml\nopen in.dff\ncreate out\ngive up out\n",
     ),
     (
         "keeping the output",
-        Some(Failure::At("keep", "out")),
+        ("keep", "out", 0),
         "fault: WriteFailed",
         "open p.toml\nopen in.dff\ncreate out\nkeep out\n",
     ),
@@ -195,7 +193,7 @@ fn asks_for_files_in_order(rt: HostRuntime) {
     for (case, failure, line, calls) in &PLAYS {
         let task = playing("p.toml", "in.dff");
         assert!(rt;
-            asks(alloc, folder(alloc), *failure, task, (line, calls)) == Ok(true),
+            asks(alloc, folder(alloc), *failure, task, (line, calls)).unwrap_or(false),
             "{case} fails"
         );
     }
@@ -204,7 +202,7 @@ fn asks_for_files_in_order(rt: HostRuntime) {
 // Whether the file is kept as the front of so many bytes where there is no room for more.
 fn keeps_front(alloc: Global, room: usize) -> Result<bool, AllocError> {
     let task = playing("p.toml", "in.dff");
-    let mut folder = WatchedFolder::over(alloc, folder(alloc)?, Some(Failure::Write(room)));
+    let mut folder = WatchedFolder::over(alloc, folder(alloc)?, ("write", "out", room));
     let failed = comes_to(alloc, &mut folder, task, 2, "fault: WriteFailed")?;
     let (front, _) = WAVE.split_at(room.min(46));
     Ok(failed && holds(&folder.files, "out", front))
@@ -214,6 +212,6 @@ fn keeps_front(alloc: Global, room: usize) -> Result<bool, AllocError> {
 fn keeps_a_front_after_a_failed_write(rt: HostRuntime) {
     let alloc = rt.alloc();
     for room in 0..46 {
-        assert!(rt; keeps_front(alloc, room) == Ok(true), "{room}");
+        assert!(rt; keeps_front(alloc, room).unwrap_or(false), "{room}");
     }
 }

@@ -4,6 +4,18 @@ use crate::watched_folder::{Failure, WatchedFolder};
 use command_core::{Folder, MemoryFolder, Task, outcome_line, perform, status};
 use std::alloc::{AllocError, Global};
 
+/// A folder with these files.
+pub(crate) fn folder_of(
+    alloc: Global,
+    files: &[(&str, &[u8])],
+) -> Result<MemoryFolder, AllocError> {
+    let mut folder = MemoryFolder::new(alloc);
+    for (name, bytes) in files {
+        folder.put(name, bytes)?;
+    }
+    Ok(folder)
+}
+
 /// Whether a task comes to this status and this line in the folder.
 pub(crate) fn comes_to<F: Folder>(
     alloc: Global,
@@ -42,12 +54,12 @@ pub(crate) fn is_refused(
 pub(crate) fn asks(
     alloc: Global,
     folder: Result<MemoryFolder, AllocError>,
-    failure: Option<Failure>,
+    failure: Failure,
     task: Task,
     (line, calls): (&str, &str),
 ) -> Result<bool, AllocError> {
     let mut watched = WatchedFolder::over(alloc, folder?, failure);
-    let number = if failure.is_some() { 2 } else { 0 };
+    let number = if failure.0.is_empty() { 0 } else { 2 };
     let said = comes_to(alloc, &mut watched, task, number, line)?;
     Ok(said && watched.calls.as_str() == calls)
 }

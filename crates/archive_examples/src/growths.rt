@@ -10,7 +10,7 @@ use crate::builders::{
 use crate::certifying::{LEVEL, cert_of};
 use crate::checking::accepts;
 use crate::conversion::{commented, converts, tagged};
-use crate::cutting::cuts;
+use crate::cutting::cuts_built;
 use crate::master_commands::{CHECK, CUT};
 use crate::outcomes::{MARKED, prints};
 use crate::playing::plays_built;
@@ -20,7 +20,7 @@ use command_core::{
     read_whole, status,
 };
 use device_core::{Inlet, Outlet};
-use fixtures::files::{FILE, WAVE, dsf_of, mono, noted, stereo};
+use fixtures::files::{FILE, WAVE, dsf_of, noted, stereo, with_sounds};
 use fixtures::projects::{DECIMATE, SPLICE};
 use fixtures::waves::TWO_CHANNELS;
 use folder_core::FileFault;
@@ -205,14 +205,14 @@ fn a_reader_is_played(rt: HostRuntime) -> Result<(), Fail> {
 fn a_master_is_cut(rt: HostRuntime) -> Result<(), Fail> {
     let alloc = rt.alloc();
     let master = stereo(alloc, &[0xff, 0xff, 0, 0]);
-    assert!(rt; cuts(alloc, stereo_sources(alloc), Form::Dsdiff, master, 8)?);
+    assert!(rt; cuts_built(alloc, stereo_sources(alloc), Form::Dsdiff, master, 8)?);
     Ok(())
 }
 
 #[test]
 fn a_master_is_marked(rt: HostRuntime) -> Result<(), Fail> {
     let alloc = rt.alloc();
-    assert!(rt; cuts(alloc, titled_sources(alloc), Form::Dsdiff, titled(alloc), 0)?);
+    assert!(rt; cuts_built(alloc, titled_sources(alloc), Form::Dsdiff, titled(alloc), 0)?);
     Ok(())
 }
 
@@ -271,7 +271,7 @@ fn comes_to_over_master(
     written: usize,
 ) -> Result<bool, Fail> {
     let sources = mono_sources(alloc, "1, 0", &CUES)?;
-    let master = mono(alloc, &[0xff, 0])?;
+    let master = with_sounds([0xff, 0]);
     let cert = cert_of(alloc, &[(0, 0, LEVEL)])?;
     let [first, second] = &sources.takes;
     let files: [(&str, &[u8]); 5] = [

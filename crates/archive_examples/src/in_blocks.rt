@@ -2,9 +2,10 @@
 
 ghost use Rattle.std.specs.Prelude.{None, false};
 
-use crate::builders::{cut_off, file_in};
+use crate::builders::{CUT_OFF, file_in};
 use crate::conversion::{commented, tagged};
-use crate::watched_folder::{Failure, WatchedFolder};
+use crate::folders::folder_of;
+use crate::watched_folder::{Failure, NOTHING, WatchedFolder};
 use archive_core::Form;
 use command_core::{Folder, FolderFault, MemoryFolder, Outcome, outcome_line};
 use fixtures::files::{FILE, dsf_of, stereo};
@@ -43,9 +44,8 @@ fn told<F: Folder>(alloc: Global, folder: &mut F, most: usize) -> Result<String,
 
 // A folder with this file.
 fn folder_with(alloc: Global, file: &[u8]) -> Result<MemoryFolder, AllocError> {
-    let mut folder = MemoryFolder::new(alloc);
-    folder.put("in", file)?;
-    Ok(folder)
+    let files: [(&str, &[u8]); 1] = [("in", file)];
+    folder_of(alloc, &files)
 }
 
 // Whether the same stands in both folders.
@@ -96,7 +96,7 @@ fn converts_and_tells_alike(rt: HostRuntime) -> Result<(), Fail> {
 fn refuses_alike(rt: HostRuntime) -> Result<(), Fail> {
     let alloc = rt.alloc();
     assert!(rt; is_alike(alloc, &dsf_of(alloc, (2, 1, 32769), &[1], 16384, &[])?)?);
-    assert!(rt; is_alike(alloc, &cut_off(alloc)?)?);
+    assert!(rt; is_alike(alloc, &CUT_OFF)?);
     assert!(rt; is_alike(alloc, &[])?);
     assert!(rt; is_alike(alloc, b"[decimate]\nfactor = 8\n")?);
     Ok(())
@@ -104,41 +104,32 @@ fn refuses_alike(rt: HostRuntime) -> Result<(), Fail> {
 
 // What fails, what is printed, and what the folder is asked for, and no more. What was created is kept, or given
 // up after a fault.
-const CALLS: [(Option<Failure>, &str, &str); 5] = [
+const CALLS: [(Failure, &str, &str); 5] = [
     (
-        None,
+        NOTHING,
         "converted dropped 0",
         "open in\nopen in\nopen in\ncreate out\nkeep out\n",
     ),
+    (("read", "in", 0), "fault: ReadFailed", "open in\nopen in\n"),
     (
-        Some(Failure::At("read", "in")),
-        "fault: ReadFailed",
-        "open in\nopen in\n",
-    ),
-    (
-        Some(Failure::At("create", "out")),
+        ("create", "out", 0),
         "fault: WriteFailed",
         "open in\nopen in\nopen in\ncreate out\n",
     ),
     (
-        Some(Failure::Write(9)),
+        ("write", "out", 9),
         "fault: WriteFailed",
         "open in\nopen in\nopen in\ncreate out\ngive up out\n",
     ),
     (
-        Some(Failure::At("keep", "out")),
+        ("keep", "out", 0),
         "fault: WriteFailed",
         "open in\nopen in\nopen in\ncreate out\nkeep out\n",
     ),
 ];
 
 // Whether converting `FILE` where this fails comes to this line and these calls.
-fn asks(
-    alloc: Global,
-    failure: Option<Failure>,
-    line: &str,
-    calls: &str,
-) -> Result<bool, AllocError> {
+fn asks(alloc: Global, failure: Failure, line: &str, calls: &str) -> Result<bool, AllocError> {
     let mut folder = WatchedFolder::over(alloc, folder_with(alloc, &FILE)?, failure);
     let said = converted(alloc, &mut folder, Form::Dsf, NONE)?;
     Ok(said.as_str() == line && folder.calls.as_str() == calls)
@@ -194,8 +185,7 @@ impl Folder for ChangingFolder {
 
 // What converting `FILE` comes to where it is this file once it was opened so often.
 fn converts_changed(alloc: Global, left: usize, changed: &[u8]) -> Result<String, AllocError> {
-    let mut files = folder_with(alloc, &FILE)?;
-    files.put("changed", changed)?;
+    let files = folder_of(alloc, &[("in", &FILE), ("changed", changed)])?;
     converted(alloc, &mut ChangingFolder { files, left }, Form::Dsf, NONE)
 }
 

@@ -1,8 +1,8 @@
 //! Bridges that are held against a straight line, and what whole masters cost.
 
-use crate::builders::{Sources, is_named, mono_sources, sources_of};
+use crate::builders::{ONES, Sources, ZEROS, is_named, mono_sources, sources_with};
 use crate::checking::accepts;
-use crate::cutting::cuts;
+use crate::cutting::cuts_built;
 use archive_core::{Fault, Form};
 use fixtures::files::mono;
 use std::alloc::{AllocError, Global};
@@ -15,7 +15,7 @@ fn bridged(alloc: Global, stop: usize, target: &str) -> Result<Sources, AllocErr
         [[splice.cue]]\ntake = 0\nstart = 0\nstop = {stop}\nbridge = 1\n{target}\n\
         [[splice.cue]]\ntake = 1\nstart = 0\nstop = 7\n"
     );
-    sources_of(text, mono(alloc, &[0xff; 2]), mono(alloc, &[0; 2]))
+    sources_with(alloc, text, &ONES, &ZEROS)
 }
 
 // Cue, target, the sound that is cut and its cost; all numbers are times 2. A line from 2 to -2 is 0 at the bridge's
@@ -32,14 +32,11 @@ fn cuts_lines_and_accepts_them(rt: HostRuntime) {
     let alloc = rt.alloc();
     for (stop, target, sound, total) in &LINES {
         let sources = bridged(alloc, *stop, target);
-        let master = mono(alloc, sound);
-        assert!(rt;
-            cuts(alloc, sources, Form::Dsdiff, master, *total) == Ok(true),
-            "{stop} {target}"
-        );
+        let cut = cuts_built(alloc, sources, Form::Dsdiff, mono(alloc, sound), *total);
+        assert!(rt; cut.unwrap_or(false), "{stop} {target}");
         let sources = bridged(alloc, *stop, target);
         assert!(rt;
-            accepts(alloc, sources, Form::Dsdiff, *total) == Ok(true),
+            accepts(alloc, sources, Form::Dsdiff, *total).unwrap_or(false),
             "{stop} {target}"
         );
     }
@@ -71,7 +68,10 @@ const REFUSED: [(&str, &str); 4] = [
 fn names_the_fault_of_a_target(rt: HostRuntime) {
     let alloc = rt.alloc();
     for (target, expected) in &REFUSED {
-        assert!(rt; is_refused(alloc, target, expected) == Ok(true), "{target}");
+        assert!(rt;
+            is_refused(alloc, target, expected).unwrap_or(false),
+            "{target}"
+        );
     }
 }
 

@@ -1,13 +1,15 @@
 //! `edit` and `check` where they don't hold their takes: takes of more than 2 MiB, and short ones that are taken for such.
 
-use crate::builders::{CueNumbers, Sources, cut_off, sources_of, splice, titled_sources};
+use crate::builders::{CUT_OFF, CueNumbers, ONES, Sources, ZEROS, sources_of, splice};
+use crate::folders;
 use crate::folders::{comes_to, holds, is_refused};
 use crate::in_blocks::ChangingFolder;
 use crate::master_commands::{CHECK, CUT};
-use crate::watched_folder::{Failure, WatchedFolder};
-use archive_core::{Fault, Form};
-use command_core::{Folder, MemoryFolder, Outcome, outcome_line, perform, status};
-use fixtures::files::{dsf_of, mono, stereo};
+use crate::watched_folder::{Failure, NOTHING, WatchedFolder};
+use archive_core::{Edited, Fault, Form};
+use command_core::{Folder, MemoryFolder, Outcome, Task, outcome_line, perform, status};
+use fixtures::files::{dsf_of, stereo};
+use fixtures::projects::SPLICE;
 use std::alloc::{AllocError, Global};
 use std::test::Fail;
 use transfer_commands::{CommandFault, Sources as Heard, hear_sources};
@@ -50,30 +52,37 @@ fn long_sources(alloc: Global) -> Result<Sources, AllocError> {
 
 // A folder of a project and its takes.
 fn folder_of(alloc: Global, sources: &Sources) -> Result<MemoryFolder, AllocError> {
-    let mut folder = MemoryFolder::new(alloc);
-    put_sources(&mut folder, sources)?;
-    Ok(folder)
-}
-
-// Puts a project and its takes.
-fn put_sources(folder: &mut MemoryFolder, sources: &Sources) -> Result<(), AllocError> {
     let [first, second] = &sources.takes;
-    folder.put("e.toml", sources.text.as_bytes())?;
-    folder.put("a.dff", first)?;
-    folder.put("b.dff", second)
+    let text = sources.text.as_bytes();
+    let files: [(&str, &[u8]); 3] = [("e.toml", text), ("a.dff", first), ("b.dff", second)];
+    folders::folder_of(alloc, &files)
 }
 
-// Whether the master and the certificate that are cut in a folder are those that are cut in memory, and are accepted.
+// Whether a task comes to a line that tells this cost behind a word.
+fn costs(
+    alloc: Global,
+    folder: &mut MemoryFolder,
+    task: Task,
+    word: &str,
+    total: u128,
+) -> Result<bool, AllocError> {
+    let line = format!(in alloc; "{word} total {total}")?;
+    comes_to(alloc, folder, task, 0, &line)
+}
+
+// Whether a master and a certificate are cut in a folder, at their cost, and are accepted.
+fn cuts_to(alloc: Global, folder: &mut MemoryFolder, edited: &Edited) -> Result<bool, AllocError> {
+    let cut = costs(alloc, folder, CUT, "edited", edited.total)?;
+    let accepted = costs(alloc, folder, CHECK, "accepted", edited.total)?;
+    let alike = holds(folder, "m.dff", &edited.master) && holds(folder, "c.cert", &edited.cert);
+    Ok(cut && accepted && alike)
+}
+
+// Whether those that are cut in a folder are those that are cut in memory.
 fn cuts_alike(alloc: Global, sources: &Sources) -> Result<bool, Fault> {
     let edited = sources.edit(alloc, Form::Dsdiff)?;
-    let total = edited.total;
     let mut folder = folder_of(alloc, sources)?;
-    let line = format!(in alloc; "edited total {total}")?;
-    let cut = comes_to(alloc, &mut folder, CUT, 0, &line)?;
-    let line = format!(in alloc; "accepted total {total}")?;
-    let accepted = comes_to(alloc, &mut folder, CHECK, 0, &line)?;
-    let alike = holds(&folder, "m.dff", &edited.master) && holds(&folder, "c.cert", &edited.cert);
-    Ok(cut && accepted && alike)
+    Ok(cuts_to(alloc, &mut folder, &edited)?)
 }
 
 #[test]
@@ -83,12 +92,26 @@ fn cuts_long_takes_as_in_memory(rt: HostRuntime) -> Result<(), Fail> {
     Ok(())
 }
 
+// The folder of a long master.
+fn long_folder(alloc: Global) -> Result<MemoryFolder, AllocError> {
+    folder_of(alloc, &sources_by(alloc, &LONG_MASTER)?)
+}
+
+// Turns the last bit of the file of a name.
+fn turns_last(
+    alloc: Global,
+    folder: &mut MemoryFolder,
+    name: &'static str,
+) -> Result<(), AllocError> {
+    let changed = turned_last(alloc, folder.get(name))?;
+    folder.put(name, &changed)
+}
+
 // Whether a long master is rejected whose last bit is another, that of the last cue in the last channel.
 fn rejects_the_last_bit(alloc: Global) -> Result<bool, AllocError> {
-    let mut folder = folder_of(alloc, &sources_by(alloc, &LONG_MASTER)?)?;
+    let mut folder = long_folder(alloc)?;
     let cut = status(&perform(alloc, CUT, &mut folder)) == 0;
-    let changed = turned_last(alloc, folder.get("m.dff"))?;
-    folder.put("m.dff", &changed)?;
+    turns_last(alloc, &mut folder, "m.dff")?;
     let line = "rejected CuedBit 1 8488599";
     Ok(cut && comes_to(alloc, &mut folder, CHECK, 1, line)?)
 }
@@ -164,76 +187,82 @@ fn heard<F: Folder>(alloc: Global, folder: &mut F) -> Result<String, AllocError>
     }
 }
 
-// The folder of `SPLICE` with a take of ones and this second take.
-fn folder_with(
+// The folder of `SPLICE` with a take of ones, this second take, and another file.
+fn folder_with<'a>(
     alloc: Global,
-    second: Result<Vec<u8>, AllocError>,
+    second: &'a [u8],
+    changed: &'a [u8],
 ) -> Result<MemoryFolder, AllocError> {
-    let mut folder = folder_of(alloc, &titled_sources(alloc)?)?;
-    folder.put("b.dff", &second?)?;
-    Ok(folder)
+    let text = SPLICE.as_bytes();
+    let files: [(&str, &[u8]); 4] = [
+        ("e.toml", text),
+        ("a.dff", &ONES),
+        ("b.dff", second),
+        ("changed", changed),
+    ];
+    folders::folder_of(alloc, &files)
 }
+
+const UNREAD: &str = "fault: TakeUnread 1 Dsdiff Chunk DataCut 114";
 
 // What fails, what is said, and what the folder is asked for behind the project and its first take, and no more: a take
 // is opened twice.
-const CALLS: [(Option<Failure>, &str, &str); 4] = [
-    (None, "takes 2", "open b.dff\nopen b.dff\n"),
+const CALLS: [(Failure, &str, &str); 4] = [
+    (NOTHING, "takes 2", "open b.dff\nopen b.dff\n"),
+    (("open", "b.dff", 0), "fault: ReadFailed", "open b.dff\n"),
     (
-        Some(Failure::At("open", "b.dff")),
-        "fault: ReadFailed",
-        "open b.dff\n",
-    ),
-    (
-        Some(Failure::At("read", "b.dff")),
+        ("read", "b.dff", 0),
         "fault: ReadFailed",
         "open b.dff\nopen b.dff\n",
     ),
-    (Some(Failure::At("read", "a.dff")), "fault: ReadFailed", ""),
+    (("read", "a.dff", 0), "fault: ReadFailed", ""),
 ];
 
 // Whether hearing takes of which this is the second, where this fails, comes to this line and these calls.
 fn asks(
     alloc: Global,
-    second: Result<Vec<u8>, AllocError>,
-    failure: Option<Failure>,
+    second: &[u8],
+    failure: Failure,
     line: &str,
     calls: &str,
 ) -> Result<bool, AllocError> {
-    let mut folder = WatchedFolder::over(alloc, folder_with(alloc, second)?, failure);
-    let said = heard(alloc, &mut folder)?;
-    let calls = format!(in alloc; "open e.toml\nopen a.dff\nopen a.dff\n{calls}")?;
-    Ok(said.as_str() == line && folder.calls.as_str() == calls.as_str())
+    let mut folder = WatchedFolder::over(alloc, folder_with(alloc, second, b"")?, failure);
+    let said = is_heard(alloc, &mut folder, line)?;
+    Ok(said && is_behind(folder.calls.as_str(), calls))
+}
+
+// Whether these calls stand behind those of the project and the first take.
+fn is_behind(said: &str, calls: &str) -> bool {
+    said.strip_prefix("open e.toml\nopen a.dff\nopen a.dff\n") == Some(calls)
+}
+
+// Whether what is heard, or the fault, is this line.
+fn is_heard<F: Folder>(alloc: Global, folder: &mut F, line: &str) -> Result<bool, AllocError> {
+    Ok(heard(alloc, folder)?.as_str() == line)
 }
 
 // A take that holds no recording is opened a third time.
 #[test]
-fn opens_takes_again(rt: HostRuntime) -> Result<(), Fail> {
+fn opens_takes_again(rt: HostRuntime) {
     let alloc = rt.alloc();
     for (failure, line, calls) in &CALLS {
-        assert!(rt;
-            asks(alloc, mono(alloc, &[0; 2]), *failure, line, calls)?,
-            "{line}"
-        );
+        let asked = asks(alloc, &ZEROS, *failure, line, calls);
+        assert!(rt; asked.unwrap_or(false), "{line}");
     }
-    let unread = "fault: TakeUnread 1 Dsdiff Chunk DataCut 114";
     let calls = "open b.dff\nopen b.dff\nopen b.dff\n";
-    assert!(rt; asks(alloc, cut_off(alloc), None, unread, calls)?);
-    Ok(())
+    let asked = asks(alloc, &CUT_OFF, NOTHING, UNREAD, calls);
+    assert!(rt; asked.unwrap_or(false));
 }
 
-// What is heard where the second take is a whole one once files were opened so often, and cut off before.
-fn heard_changed(alloc: Global, left: usize) -> Result<String, AllocError> {
-    let mut files = folder_with(alloc, cut_off(alloc))?;
-    files.put("changed", &mono(alloc, &[0; 2])?)?;
-    heard(alloc, &mut ChangingFolder { files, left })
+// Whether this is heard where the second take is a whole one once files were opened so often, and cut off before.
+fn is_heard_changed(alloc: Global, left: usize, line: &str) -> Result<bool, AllocError> {
+    let files = folder_with(alloc, &CUT_OFF, &ZEROS)?;
+    is_heard(alloc, &mut ChangingFolder { files, left }, line)
 }
 
 // It may be whole at its third opening, for which it is still heard, or at none.
 #[test]
-fn hears_a_take_that_is_whole_in_the_end(rt: HostRuntime) -> Result<(), Fail> {
-    let alloc = rt.alloc();
-    assert!(rt; heard_changed(alloc, 5)?.as_str() == "takes 2");
-    let unread = "fault: TakeUnread 1 Dsdiff Chunk DataCut 114";
-    assert!(rt; heard_changed(alloc, 6)?.as_str() == unread);
-    Ok(())
+fn hears_a_take_that_is_whole_in_the_end(rt: HostRuntime) {
+    assert!(rt; is_heard_changed(rt.alloc(), 5, "takes 2").unwrap_or(false));
+    assert!(rt; is_heard_changed(rt.alloc(), 6, UNREAD).unwrap_or(false));
 }

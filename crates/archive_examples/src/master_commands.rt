@@ -1,12 +1,13 @@
 //! `edit` and `check` over folders in memory: what they print and which files they create.
 
-use crate::builders::{CUES, CueNumbers, cut_off, fast, splice, titled};
+use crate::builders::{CUES, CUT_OFF, CueNumbers, ONES, ZEROS, fast, splice, titled};
 use crate::certifying::{CERT, FALLING, LEVEL, cert_of};
+use crate::folders;
 use crate::folders::{asks, comes_to, holds, is_refused};
-use crate::watched_folder::{Failure, WatchedFolder};
+use crate::watched_folder::{Failure, NOTHING, WatchedFolder};
 use archive_core::Form;
 use command_core::{MemoryFolder, Task};
-use fixtures::files::{FILE, dsf_of, mono};
+use fixtures::files::{FILE, dsf_of, with_sounds};
 use fixtures::projects::SPLICE;
 use std::alloc::{AllocError, Global};
 
@@ -26,40 +27,19 @@ pub(crate) const CHECK: Task = Task::Check {
 };
 
 // A folder with this project, a take of ones and this second take.
-fn folder_with(
+fn folder_with<'a>(
     alloc: Global,
-    project: &str,
-    second: Result<Vec<u8>, AllocError>,
+    project: &'a str,
+    second: &'a [u8],
 ) -> Result<MemoryFolder, AllocError> {
-    let mut folder = MemoryFolder::new(alloc);
-    put_sources(alloc, &mut folder, project, &second?)?;
-    Ok(folder)
-}
-
-// Puts this project, a take of ones and this second take.
-fn put_sources(
-    alloc: Global,
-    folder: &mut MemoryFolder,
-    project: &str,
-    second: &[u8],
-) -> Result<(), AllocError> {
-    folder.put("e.toml", project.as_bytes())?;
-    folder.put("b.dff", second)?;
-    put_built(folder, "a.dff", mono(alloc, &[0xff; 2]))
-}
-
-// Puts a file that was built under a name.
-fn put_built(
-    folder: &mut MemoryFolder,
-    name: &str,
-    bytes: Result<Vec<u8>, AllocError>,
-) -> Result<(), AllocError> {
-    folder.put(name, &bytes?)
+    let project = project.as_bytes();
+    let files: [(&str, &[u8]); 3] = [("e.toml", project), ("a.dff", &ONES), ("b.dff", second)];
+    folders::folder_of(alloc, &files)
 }
 
 // A folder with this project, a take of ones and a take of zeros.
 fn folder_of(alloc: Global, project: &str) -> Result<MemoryFolder, AllocError> {
-    folder_with(alloc, project, mono(alloc, &[0; 2]))
+    folder_with(alloc, project, &ZEROS)
 }
 
 // The same with a project of these weights and cues.
@@ -71,13 +51,14 @@ fn folder_by(
     folder_of(alloc, &splice(alloc, weights, cues)?)
 }
 
-// Whether a file that was built stands in the folder.
-fn holds_built(
+// Whether the certificate of one entry of these rows stands in the folder.
+fn holds_cert(
+    alloc: Global,
     folder: &MemoryFolder,
     name: &str,
-    bytes: Result<Vec<u8>, AllocError>,
+    rows: &'static [u8],
 ) -> Result<bool, AllocError> {
-    Ok(holds(folder, name, &bytes?))
+    Ok(holds(folder, name, &cert_of(alloc, &[(0, 0, rows)])?))
 }
 
 // Whether the cut of `CUES` by these weights comes to this line, its certificate has one entry of these
@@ -89,8 +70,18 @@ fn cuts_and_accepts(
     (line, accepted): (&str, &str),
 ) -> Result<bool, AllocError> {
     let mut folder = folder_by(alloc, weights, &CUES)?;
-    let cut = cuts_here(alloc, &mut folder, rows, line)?;
-    let checked = comes_to(alloc, &mut folder, CHECK, 0, accepted)?;
+    is_cut_and_accepted(alloc, &mut folder, rows, (line, accepted))
+}
+
+// The same in a folder.
+fn is_cut_and_accepted(
+    alloc: Global,
+    folder: &mut MemoryFolder,
+    rows: &'static [u8],
+    (line, accepted): (&str, &str),
+) -> Result<bool, AllocError> {
+    let cut = cuts_here(alloc, folder, rows, line)?;
+    let checked = comes_to(alloc, folder, CHECK, 0, accepted)?;
     Ok(cut && checked && folder.count() == 5)
 }
 
@@ -103,18 +94,17 @@ fn cuts_here(
     line: &str,
 ) -> Result<bool, AllocError> {
     let cut = comes_to(alloc, folder, CUT, 0, line)?;
-    let master = holds_built(folder, "m.dff", mono(alloc, &[0xff, 0]))?;
-    let cert = holds_built(folder, "c.cert", cert_of(alloc, &[(0, 0, rows)]))?;
-    Ok(cut && master && cert)
+    let master = holds(folder, "m.dff", &with_sounds([0xff, 0]));
+    Ok(cut && master && holds_cert(alloc, folder, "c.cert", rows)?)
 }
 
 #[test]
 fn cuts_a_master_and_accepts_it(rt: HostRuntime) {
     let alloc = rt.alloc();
     let free = ("edited total 0", "accepted total 0");
-    assert!(rt; cuts_and_accepts(alloc, "1, 1", FALLING, free) == Ok(true));
+    assert!(rt; cuts_and_accepts(alloc, "1, 1", FALLING, free).unwrap_or(false));
     let four = ("edited total 4", "accepted total 4");
-    assert!(rt; cuts_and_accepts(alloc, "1, 0", LEVEL, four) == Ok(true));
+    assert!(rt; cuts_and_accepts(alloc, "1, 0", LEVEL, four).unwrap_or(false));
 }
 
 // Cutting the master to the file that its certificate is written to behind it.
@@ -129,13 +119,12 @@ const CUT_TO_ONE: Task = Task::Edit {
 fn keeps_the_certificate(alloc: Global) -> Result<bool, AllocError> {
     let mut folder = folder_by(alloc, "1, 0", &CUES)?;
     let cut = comes_to(alloc, &mut folder, CUT_TO_ONE, 0, "edited total 4")?;
-    let cert = holds_built(&folder, "m", cert_of(alloc, &[(0, 0, LEVEL)]))?;
-    Ok(cut && cert && folder.count() == 4)
+    Ok(cut && folder.count() == 4 && holds_cert(alloc, &folder, "m", LEVEL)?)
 }
 
 #[test]
 fn keeps_the_certificate_under_one_name_for_both(rt: HostRuntime) {
-    assert!(rt; keeps_the_certificate(rt.alloc()) == Ok(true));
+    assert!(rt; keeps_the_certificate(rt.alloc()).unwrap_or(false));
 }
 
 // Whether the cut of `SPLICE` in this form is this file, of which this is told.
@@ -178,9 +167,9 @@ const BARE: &str =
 #[test]
 fn tells_of_a_master_with_a_title(rt: HostRuntime) {
     let alloc = rt.alloc();
-    assert!(rt; cuts_in(alloc, Form::Dsdiff, titled(alloc), MARKED) == Ok(true));
+    assert!(rt; cuts_in(alloc, Form::Dsdiff, titled(alloc), MARKED).unwrap_or(false));
     let least = dsf_of(alloc, (1, 1, 16), &[0xff, 0], 4096, &[]);
-    assert!(rt; cuts_in(alloc, Form::Dsf, least, BARE) == Ok(true));
+    assert!(rt; cuts_in(alloc, Form::Dsf, least, BARE).unwrap_or(false));
 }
 
 // Cues that are refused where masters are cut, and what is printed.
@@ -198,7 +187,10 @@ fn refuses_cues_and_creates_nothing(rt: HostRuntime) {
     let alloc = rt.alloc();
     for (cues, line) in &REFUSED {
         let folder = folder_by(alloc, "1, 1", cues);
-        assert!(rt; is_refused(alloc, folder, CUT, line) == Ok(true), "{line}");
+        assert!(rt;
+            is_refused(alloc, folder, CUT, line).unwrap_or(false),
+            "{line}"
+        );
     }
 }
 
@@ -218,74 +210,77 @@ fn cutting(project: &str) -> Task<'_> {
 fn refuses_takes_and_projects_and_creates_nothing(rt: HostRuntime) {
     let alloc = rt.alloc();
     let unread = "fault: TakeUnread 1 Dsdiff Chunk DataCut 114";
-    let other = folder_with(alloc, SPLICE, fast(alloc, &[0; 2]));
-    assert!(rt; is_refused(alloc, other, CUT, "fault: TakeMismatch 1") == Ok(true));
-    let cut = folder_with(alloc, SPLICE, cut_off(alloc));
-    assert!(rt; is_refused(alloc, cut, CUT, unread) == Ok(true));
+    let other = folder_with(alloc, SPLICE, &fast([0; 2]));
+    assert!(rt; is_refused(alloc, other, CUT, "fault: TakeMismatch 1").unwrap_or(false));
+    let cut = folder_with(alloc, SPLICE, &CUT_OFF);
+    assert!(rt; is_refused(alloc, cut, CUT, unread).unwrap_or(false));
     let folder = folder_of(alloc, "");
-    assert!(rt; is_refused(alloc, folder, cutting("none"), "fault: ReadFailed") == Ok(true));
+    assert!(rt; is_refused(alloc, folder, cutting("none"), "fault: ReadFailed").unwrap_or(false));
     let folder = folder_of(alloc, "");
-    assert!(rt; is_refused(alloc, folder, cutting("a.dff"), "fault: Project NotToml") == Ok(true));
+    assert!(rt;
+        is_refused(alloc, folder, cutting("a.dff"), "fault: Project NotToml").unwrap_or(false)
+    );
     let folder = folder_of(alloc, "");
-    assert!(rt; is_refused(alloc, folder, CUT, "fault: NoSplice") == Ok(true));
+    assert!(rt; is_refused(alloc, folder, CUT, "fault: NoSplice").unwrap_or(false));
 }
 
 // A folder with the project of `CUES` by the weights 1 and 0, which has no title, and with its first take alone.
 fn folder_of_one_take(alloc: Global) -> Result<MemoryFolder, AllocError> {
-    let mut folder = MemoryFolder::new(alloc);
-    folder.put("e.toml", splice(alloc, "1, 0", &CUES)?.as_bytes())?;
-    put_built(&mut folder, "a.dff", mono(alloc, &[0xff; 2]))?;
-    Ok(folder)
+    let text = splice(alloc, "1, 0", &CUES)?;
+    let files: [(&str, &[u8]); 2] = [("e.toml", text.as_bytes()), ("a.dff", &ONES)];
+    folders::folder_of(alloc, &files)
 }
 
 #[test]
 fn cuts_nothing_where_a_take_is_missing(rt: HostRuntime) {
     let alloc = rt.alloc();
-    assert!(rt; is_refused(alloc, folder_of_one_take(alloc), CUT, "fault: ReadFailed") == Ok(true));
+    assert!(rt;
+        is_refused(alloc, folder_of_one_take(alloc), CUT, "fault: ReadFailed").unwrap_or(false)
+    );
 }
 
 // What fails, what is printed, and what the folder is asked for, and no more: takes by their numbers, and the
 // certificate is created once the master is written and kept.
-const CUTS: [(&str, Option<Failure>, &str, &str); 7] = [
+const CUTS: [(&str, Failure, &str, &str); 7] = [
     (
         "nothing",
-        None,
+        NOTHING,
         "edited total 0",
         "open e.toml\nopen a.dff\nopen b.dff\ncreate m.dff\nkeep m.dff\ncreate c.cert\nkeep c.cert\n",
     ),
     (
         "opening the first take",
-        Some(Failure::At("open", "a.dff")),
+        ("open", "a.dff", 0),
         "fault: ReadFailed",
         "open e.toml\nopen a.dff\n",
     ),
     (
         "opening the second take",
-        Some(Failure::At("open", "b.dff")),
+        ("open", "b.dff", 0),
         "fault: ReadFailed",
         "open e.toml\nopen a.dff\nopen b.dff\n",
     ),
     (
         "reading the second take",
-        Some(Failure::At("read", "b.dff")),
+        ("read", "b.dff", 0),
         "fault: ReadFailed",
         "open e.toml\nopen a.dff\nopen b.dff\n",
     ),
     (
         "writing the master",
-        Some(Failure::Write(100)),
+        ("write", "m.dff", 100),
         "fault: WriteFailed",
         "open e.toml\nopen a.dff\nopen b.dff\ncreate m.dff\ngive up m.dff\n",
     ),
     (
         "creating the certificate",
-        Some(Failure::At("create", "c.cert")),
+        ("create", "c.cert", 0),
         "fault: WriteFailed",
         "open e.toml\nopen a.dff\nopen b.dff\ncreate m.dff\nkeep m.dff\ncreate c.cert\n",
     ),
     (
         "writing the certificate",
-        Some(Failure::WriteTo("c.cert", 10)),
+        ("write", "c.cert", 10),
         "fault: WriteFailed",
         "open e.toml\nopen a.dff\nopen b.dff\ncreate m.dff\nkeep m.dff\ncreate c.cert\ngive up c.cert\n",
     ),
@@ -297,7 +292,7 @@ fn asks_for_takes_by_number(rt: HostRuntime) {
     for (case, failure, line, calls) in &CUTS {
         let folder = folder_of(alloc, SPLICE);
         assert!(rt;
-            asks(alloc, folder, *failure, CUT, (line, calls)) == Ok(true),
+            asks(alloc, folder, *failure, CUT, (line, calls)).unwrap_or(false),
             "{case} fails"
         );
     }
@@ -306,11 +301,10 @@ fn asks_for_takes_by_number(rt: HostRuntime) {
 // Whether the cut of `CUES` fails where the certificate has room for so many of its bytes, with a whole master and these.
 fn leaves_a_front(alloc: Global, cert: &[u8], room: usize) -> Result<bool, AllocError> {
     let folder = folder_by(alloc, "1, 0", &CUES)?;
-    let failure = Some(Failure::WriteTo("c.cert", room));
-    let mut watched = WatchedFolder::over(alloc, folder, failure);
+    let mut watched = WatchedFolder::over(alloc, folder, ("write", "c.cert", room));
     let failed = comes_to(alloc, &mut watched, CUT, 2, "fault: WriteFailed")?;
-    let master = holds_built(&watched.files, "m.dff", mono(alloc, &[0xff, 0]))?;
     let (front, _) = cert.split_at(room.min(cert.len()));
+    let master = holds(&watched.files, "m.dff", &with_sounds([0xff, 0]));
     Ok(failed && master && holds(&watched.files, "c.cert", front))
 }
 
@@ -319,25 +313,27 @@ fn leaves_a_front(alloc: Global, cert: &[u8], room: usize) -> Result<bool, Alloc
 fn leaves_the_master_where_the_certificate_is_not_written(rt: HostRuntime) {
     let alloc = rt.alloc();
     for room in 0..46 {
-        assert!(rt; leaves_a_front(alloc, &CERT, room) == Ok(true), "{room}");
+        assert!(rt;
+            leaves_a_front(alloc, &CERT, room).unwrap_or(false),
+            "{room}"
+        );
     }
 }
 
-// A folder with a master and a certificate of no bytes beside the project and its takes.
-fn folder_with_master(
+// A folder with this master and a certificate of no bytes beside a project and its takes.
+fn folder_with_master<'a>(
     alloc: Global,
-    folder: Result<MemoryFolder, AllocError>,
-    master: Result<Vec<u8>, AllocError>,
+    project: &'a str,
+    master: &'a [u8],
 ) -> Result<MemoryFolder, AllocError> {
-    let mut folder = folder?;
-    put_master(&mut folder, &master?)?;
-    Ok(folder)
-}
-
-// Puts this master and a certificate of no bytes.
-fn put_master(folder: &mut MemoryFolder, master: &[u8]) -> Result<(), AllocError> {
-    folder.put("m.dff", master)?;
-    folder.put("c.cert", b"")
+    let files: [(&str, &[u8]); 5] = [
+        ("e.toml", project.as_bytes()),
+        ("a.dff", &ONES),
+        ("b.dff", &ZEROS),
+        ("m.dff", master),
+        ("c.cert", b""),
+    ];
+    folders::folder_of(alloc, &files)
 }
 
 // Which file can't be opened, and what the folder is asked for: the master and its certificate behind the
@@ -355,35 +351,41 @@ const CHECKS: [(&str, &str); 3] = [
 fn reads_a_master_and_its_certificate_behind_the_takes(rt: HostRuntime) {
     let alloc = rt.alloc();
     for (name, calls) in &CHECKS {
-        let folder = folder_with_master(alloc, folder_of(alloc, SPLICE), Ok(Vec::new(alloc)));
-        let failure = Some(Failure::At("open", *name));
+        let folder = folder_with_master(alloc, SPLICE, b"");
+        let failure = ("open", *name, 0);
         assert!(rt;
-            asks(alloc, folder, failure, CHECK, ("fault: ReadFailed", calls)) == Ok(true),
+            asks(alloc, folder, failure, CHECK, ("fault: ReadFailed", calls)).unwrap_or(false),
             "{name}"
         );
     }
 }
 
 // Whether a check of this master comes to the status 1 and this line, and creates nothing.
-fn is_rejected(
+fn is_rejected(alloc: Global, master: &[u8], line: &str) -> Result<bool, AllocError> {
+    let text = splice(alloc, "1, 1", &CUES)?;
+    let mut folder = folder_with_master(alloc, &text, master)?;
+    let rejected = comes_to(alloc, &mut folder, CHECK, 1, line)?;
+    Ok(rejected && folder.count() == 5)
+}
+
+// The same of a file that was built.
+fn is_built_rejected(
     alloc: Global,
     master: Result<Vec<u8>, AllocError>,
     line: &str,
 ) -> Result<bool, AllocError> {
-    let folder = folder_by(alloc, "1, 1", &CUES);
-    let mut folder = folder_with_master(alloc, folder, master)?;
-    let rejected = comes_to(alloc, &mut folder, CHECK, 1, line)?;
-    Ok(rejected && folder.count() == 5)
+    is_rejected(alloc, &master?, line)
 }
 
 // The reasons are worked out where masters are rejected.
 #[test]
 fn rejects_masters_and_creates_nothing(rt: HostRuntime) {
     let alloc = rt.alloc();
-    assert!(rt; is_rejected(alloc, Ok(Vec::new(alloc)), "rejected MasterUnread") == Ok(true));
-    assert!(rt; is_rejected(alloc, fast(alloc, &[0; 2]), "rejected MasterShape") == Ok(true));
-    let short: Result<_, _> = Vec::from_slice(alloc, &FILE);
-    assert!(rt; is_rejected(alloc, short, "rejected MasterLength") == Ok(true));
-    assert!(rt; is_rejected(alloc, titled(alloc), "rejected MasterMarks") == Ok(true));
-    assert!(rt; is_rejected(alloc, mono(alloc, &[0x7f, 0]), "rejected CuedBit 0 0") == Ok(true));
+    assert!(rt; is_rejected(alloc, b"", "rejected MasterUnread").unwrap_or(false));
+    assert!(rt; is_rejected(alloc, &fast([0; 2]), "rejected MasterShape").unwrap_or(false));
+    assert!(rt; is_rejected(alloc, &FILE, "rejected MasterLength").unwrap_or(false));
+    let titled = titled(alloc);
+    assert!(rt; is_built_rejected(alloc, titled, "rejected MasterMarks").unwrap_or(false));
+    let other = with_sounds([0x7f, 0]);
+    assert!(rt; is_rejected(alloc, &other, "rejected CuedBit 0 0").unwrap_or(false));
 }

@@ -28,11 +28,11 @@ fn is_told(
 #[test]
 fn tells_each_form(rt: HostRuntime) {
     let alloc = rt.alloc();
-    assert!(rt; is_told(alloc, file_in(alloc, Form::Dsdiff), Form::Dsdiff, 8) == Ok(true));
+    assert!(rt; is_told(alloc, file_in(alloc, Form::Dsdiff), Form::Dsdiff, 8).unwrap_or(false));
     let least = dsf_of(alloc, (2, 1, 9), &[0x0f], 8192, &[]);
-    assert!(rt; is_told(alloc, least, Form::Dsf, 9) == Ok(true));
+    assert!(rt; is_told(alloc, least, Form::Dsf, 9).unwrap_or(false));
     let most = dsf_of(alloc, (2, 8, 9), &[0x0f], 8192, &[]);
-    assert!(rt; is_told(alloc, most, Form::Dsf8, 9) == Ok(true));
+    assert!(rt; is_told(alloc, most, Form::Dsf8, 9).unwrap_or(false));
 }
 
 // Whether a file is refused for this fault, which is printed where it is played and where it is told of.
@@ -95,7 +95,10 @@ fn names_the_first_fault_of_a_changed_file(rt: HostRuntime) {
     let alloc = rt.alloc();
     for (length, place, byte, expected) in &CHANGED {
         let file = front_with(alloc, *length, *place, *byte);
-        assert!(rt; is_refused(alloc, file, expected) == Ok(true), "{expected}");
+        assert!(rt;
+            is_refused(alloc, file, expected).unwrap_or(false),
+            "{expected}"
+        );
     }
 }
 
@@ -105,12 +108,12 @@ fn names_the_first_fault_of_a_changed_file(rt: HostRuntime) {
 fn names_the_first_fault_of_a_built_file(rt: HostRuntime) {
     let alloc = rt.alloc();
     let twice = file_of(alloc, &[&RATE, &RATE, &MONO, &RAW], &[0xf0], &[]);
-    assert!(rt; is_refused(alloc, twice, "Dsdiff Twice 46532020") == Ok(true));
-    assert!(rt; is_refused(alloc, noted(alloc, 21), "Dsdiff BadMark") == Ok(true));
+    assert!(rt; is_refused(alloc, twice, "Dsdiff Twice 46532020").unwrap_or(false));
+    assert!(rt; is_refused(alloc, noted(alloc, 21), "Dsdiff BadMark").unwrap_or(false));
     let few_bits = dsf_of(alloc, (1, 2, 1), &[0x0f], 4096, &[]);
-    assert!(rt; is_refused(alloc, few_bits, "Dsf BadBits") == Ok(true));
+    assert!(rt; is_refused(alloc, few_bits, "Dsf BadBits").unwrap_or(false));
     let few_blocks = dsf_of(alloc, (1, 1, 1), &[0x0f], 4095, &[]);
-    assert!(rt; is_refused(alloc, few_blocks, "Dsf DataCut") == Ok(true));
+    assert!(rt; is_refused(alloc, few_blocks, "Dsf DataCut").unwrap_or(false));
     let head: Result<_, _> = Vec::from_slice(alloc, b"DSD ");
-    assert!(rt; is_refused(alloc, head, "Dsf HeadCut") == Ok(true));
+    assert!(rt; is_refused(alloc, head, "Dsf HeadCut").unwrap_or(false));
 }

@@ -3,12 +3,13 @@
 
 ghost use Rattle.std.specs.Prelude.{None, false};
 
-use crate::builders::{CUES, fast, splice, with_byte};
+use crate::builders::{CUES, ONES, ZEROS, fast, splice};
 use crate::certifying::CERT;
+use crate::folders;
 use crate::folders::{comes_to, is_refused};
 use crate::master_commands::CHECK;
 use command_core::{Folder, FolderFault, MemoryFolder};
-use fixtures::files::mono;
+use fixtures::files::with_sounds;
 use std::alloc::{AllocError, Global};
 use std::io;
 use std::io::{Cursor, ErrorKind, Read};
@@ -70,30 +71,47 @@ impl Folder for BreakingFolder {
 }
 
 // A folder with the project of `CUES` by the weights 1 and 0, a take of ones, this second take and this master.
-fn folder_of(
-    alloc: Global,
-    second: Result<Vec<u8>, AllocError>,
-    master: Result<Vec<u8>, AllocError>,
-) -> Result<MemoryFolder, AllocError> {
-    let mut folder = MemoryFolder::new(alloc);
-    folder.put("e.toml", splice(alloc, "1, 0", &CUES)?.as_bytes())?;
-    folder.put("a.dff", &mono(alloc, &[0xff; 2])?)?;
-    folder.put("b.dff", &second?)?;
-    folder.put("m.dff", &master?)?;
-    Ok(folder)
+fn folder_of(alloc: Global, second: &[u8], master: &[u8]) -> Result<MemoryFolder, AllocError> {
+    let text = splice(alloc, "1, 0", &CUES)?;
+    folder_with(alloc, &text, second, master)
 }
 
-// Whether a check in this folder comes to this status and line by the certificate with another byte at a place, which
-// gives so many bytes before a read fails.
+// The same with this project.
+fn folder_with<'a>(
+    alloc: Global,
+    text: &'a str,
+    second: &'a [u8],
+    master: &'a [u8],
+) -> Result<MemoryFolder, AllocError> {
+    let files: [(&str, &[u8]); 4] = [
+        ("e.toml", text.as_bytes()),
+        ("a.dff", &ONES),
+        ("b.dff", second),
+        ("m.dff", master),
+    ];
+    folders::folder_of(alloc, &files)
+}
+
+// The certificate with another byte at a place.
+fn cert_with((place, byte): (usize, u8)) -> [u8; 46] {
+    let mut cert = CERT;
+    if let Some(old) = cert.get_mut(place) {
+        *old = byte;
+    }
+    cert
+}
+
+// Whether a check in this folder comes to this status and line by this certificate, which gives so many bytes before a
+// read fails.
 fn checks(
     alloc: Global,
     folder: Result<MemoryFolder, AllocError>,
-    (place, byte): (usize, u8),
+    cert: &[u8],
     left: usize,
     (number, line): (u8, &str),
 ) -> Result<bool, AllocError> {
     let mut files = folder?;
-    files.put("c.cert", &with_byte(alloc, &CERT, place, byte)?)?;
+    files.put("c.cert", cert)?;
     let mut folder = BreakingFolder { files, left };
     comes_to(alloc, &mut folder, CHECK, number, line)
 }
@@ -152,11 +170,9 @@ const CASES: [(&str, [u8; 2], (usize, u8), usize, (u8, &str)); 9] = [
 fn reads_a_certificate_to_its_end(rt: HostRuntime) {
     let alloc = rt.alloc();
     for (case, sound, change, left, came) in &CASES {
-        let folder = folder_of(alloc, mono(alloc, &[0; 2]), mono(alloc, sound));
-        assert!(rt;
-            checks(alloc, folder, *change, *left, *came) == Ok(true),
-            "{case}"
-        );
+        let folder = folder_of(alloc, &ZEROS, &with_sounds(*sound));
+        let checked = checks(alloc, folder, &cert_with(*change), *left, *came);
+        assert!(rt; checked.unwrap_or(false), "{case}");
     }
 }
 
@@ -164,18 +180,18 @@ fn reads_a_certificate_to_its_end(rt: HostRuntime) {
 #[test]
 fn reads_a_certificate_before_a_fault_of_the_takes(rt: HostRuntime) {
     let alloc = rt.alloc();
-    let folder = folder_of(alloc, fast(alloc, &[0; 2]), mono(alloc, &[0xff, 0]));
+    let folder = folder_of(alloc, &fast([0; 2]), &with_sounds([0xff, 0]));
     let told = (2, "fault: TakeMismatch 1");
-    assert!(rt; checks(alloc, folder, (5, 2), 47, told) == Ok(true));
-    let folder = folder_of(alloc, fast(alloc, &[0; 2]), mono(alloc, &[0xff, 0]));
+    assert!(rt; checks(alloc, folder, &CERT, 47, told).unwrap_or(false));
+    let folder = folder_of(alloc, &fast([0; 2]), &with_sounds([0xff, 0]));
     let unread = (2, "fault: ReadFailed");
-    assert!(rt; checks(alloc, folder, (5, 2), 46, unread) == Ok(true));
+    assert!(rt; checks(alloc, folder, &CERT, 46, unread).unwrap_or(false));
 }
 
 // A master that is no file, and no certificate beside it.
 #[test]
 fn a_missing_certificate_is_told_before_a_wrong_master(rt: HostRuntime) {
     let alloc = rt.alloc();
-    let folder = folder_of(alloc, mono(alloc, &[0; 2]), Ok(Vec::new(alloc)));
-    assert!(rt; is_refused(alloc, folder, CHECK, "fault: ReadFailed") == Ok(true));
+    let folder = folder_of(alloc, &ZEROS, b"");
+    assert!(rt; is_refused(alloc, folder, CHECK, "fault: ReadFailed").unwrap_or(false));
 }

@@ -3,30 +3,19 @@
 use crate::builders::{CUES, Sources, fast, mono_sources, titled_sources, with_byte};
 use crate::certifying::{CERT, FALLING, WIDE, cert_of};
 use archive_core::{Fault, Form, Verdict, check};
-use fixtures::files::{mono, stereo};
+use fixtures::files::{mono, stereo, with_sounds};
 use std::alloc::{AllocError, Global};
 
 // Whether a master is rejected with this certificate for this reason.
 fn rejects(
     alloc: Global,
     sources: Result<Sources, AllocError>,
-    master: Result<Vec<u8>, AllocError>,
-    cert: &[u8],
-    expected: &str,
-) -> Result<bool, Fault> {
-    rejects_file(alloc, &sources?, &master?, cert, expected)
-}
-
-// The same of sources and a file that were built.
-fn rejects_file(
-    alloc: Global,
-    sources: &Sources,
     master: &[u8],
     cert: &[u8],
     expected: &str,
 ) -> Result<bool, Fault> {
-    let text = sources.text.as_bytes();
-    match check(alloc, text, &sources.takes, master, cert)? {
+    let Sources { text, takes } = &sources?;
+    match check(alloc, text.as_bytes(), takes, master, cert)? {
         Verdict::Accepted { .. } => Ok(false),
         Verdict::Rejected(reason) => Ok(reason.to_string(alloc)?.as_str() == expected),
     }
@@ -35,7 +24,7 @@ fn rejects_file(
 // Whether the master is rejected for this reason with this certificate.
 fn rejects_cert(alloc: Global, cert: &[u8], expected: &str) -> Result<bool, Fault> {
     let sources = mono_sources(alloc, "1, 0", &CUES);
-    rejects(alloc, sources, mono(alloc, &[0xff, 0]), cert, expected)
+    rejects(alloc, sources, &with_sounds([0xff, 0]), cert, expected)
 }
 
 // The same with a certificate of its with another byte at a place.
@@ -84,13 +73,13 @@ fn names_the_first_reason_in_a_certificate(rt: HostRuntime) {
     let alloc = rt.alloc();
     for (place, byte, expected) in &CHANGED {
         assert!(rt;
-            rejects_byte(alloc, &WIDE, *place, *byte, expected) == Ok(true),
+            rejects_byte(alloc, &WIDE, *place, *byte, expected).unwrap_or(false),
             "{expected}"
         );
     }
     for (place, byte, expected) in &CHANGED_NARROW {
         assert!(rt;
-            rejects_byte(alloc, &CERT, *place, *byte, expected) == Ok(true),
+            rejects_byte(alloc, &CERT, *place, *byte, expected).unwrap_or(false),
             "{expected}"
         );
     }
@@ -122,17 +111,17 @@ fn names_cut_and_long_certificates(rt: HostRuntime) {
     for cert in &certs {
         for length in 0..12 {
             assert!(rt;
-                rejects_front(alloc, cert, length, "CertHead Cut") == Ok(true),
+                rejects_front(alloc, cert, length, "CertHead Cut").unwrap_or(false),
                 "{length}"
             );
         }
         for length in 12..cert.len() {
             assert!(rt;
-                rejects_front(alloc, cert, length, "Cert 0 Cut") == Ok(true),
+                rejects_front(alloc, cert, length, "Cert 0 Cut").unwrap_or(false),
                 "{length}"
             );
         }
-        assert!(rt; rejects_longer(alloc, cert, "CertExtra") == Ok(true));
+        assert!(rt; rejects_longer(alloc, cert, "CertExtra").unwrap_or(false));
     }
 }
 
@@ -140,7 +129,7 @@ fn names_cut_and_long_certificates(rt: HostRuntime) {
 fn rejects_master(
     alloc: Global,
     sources: Result<Sources, AllocError>,
-    master: Result<Vec<u8>, AllocError>,
+    master: &[u8],
     expected: &str,
 ) -> Result<bool, Fault> {
     let cert = cert_of(alloc, &[(0, 0, FALLING)])?;
@@ -148,12 +137,17 @@ fn rejects_master(
 }
 
 // The same by the project of that certificate.
-fn rejects_made(
+fn rejects_made(alloc: Global, master: &[u8], expected: &str) -> Result<bool, Fault> {
+    rejects_master(alloc, mono_sources(alloc, "1, 1", &CUES), master, expected)
+}
+
+// The same of a file that was built.
+fn rejects_built(
     alloc: Global,
     master: Result<Vec<u8>, AllocError>,
     expected: &str,
 ) -> Result<bool, Fault> {
-    rejects_master(alloc, mono_sources(alloc, "1, 1", &CUES), master, expected)
+    rejects_made(alloc, &master?, expected)
 }
 
 // The master is ff, 00. Its bridge is the bit at place 8, which costs more as a 1; a bit of a cue differs at
@@ -169,10 +163,8 @@ const SOUNDS: [(&[u8], &str); 4] = [
 fn names_the_first_reason_in_a_sound(rt: HostRuntime) {
     let alloc = rt.alloc();
     for (sound, expected) in &SOUNDS {
-        assert!(rt;
-            rejects_made(alloc, mono(alloc, sound), expected) == Ok(true),
-            "{expected}"
-        );
+        let rejected = rejects_built(alloc, mono(alloc, sound), expected);
+        assert!(rt; rejected.unwrap_or(false), "{expected}");
     }
 }
 
@@ -180,11 +172,12 @@ fn names_the_first_reason_in_a_sound(rt: HostRuntime) {
 #[test]
 fn names_the_first_reason_in_a_master(rt: HostRuntime) {
     let alloc = rt.alloc();
-    let unread: Result<_, _> = Vec::from_slice(alloc, &[1, 2, 3]);
-    assert!(rt; rejects_made(alloc, unread, "MasterUnread") == Ok(true));
-    assert!(rt; rejects_made(alloc, fast(alloc, &[0xff, 0]), "MasterShape") == Ok(true));
+    assert!(rt; rejects_made(alloc, &[1, 2, 3], "MasterUnread").unwrap_or(false));
+    assert!(rt; rejects_made(alloc, &fast([0xff, 0]), "MasterShape").unwrap_or(false));
     let two = stereo(alloc, &[0xff, 0xff, 0, 0]);
-    assert!(rt; rejects_made(alloc, two, "MasterShape") == Ok(true));
-    let bare = mono(alloc, &[0xff, 0]);
-    assert!(rt; rejects_master(alloc, titled_sources(alloc), bare, "MasterMarks") == Ok(true));
+    assert!(rt; rejects_built(alloc, two, "MasterShape").unwrap_or(false));
+    let bare = with_sounds([0xff, 0]);
+    assert!(rt;
+        rejects_master(alloc, titled_sources(alloc), &bare, "MasterMarks").unwrap_or(false)
+    );
 }

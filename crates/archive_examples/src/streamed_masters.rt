@@ -1,20 +1,22 @@
 //! `check` of masters that it reads once, and doesn't hold.
 
 use crate::builders::{
-    CUES, CueNumbers, Sources, cut_off, fast, mono_sources, sources_of, splice, titled_sources,
+    CUES, CUT_OFF, CueNumbers, ONES, Sources, fast, mono_sources, sources_of, sources_with, splice,
+    titled_sources,
 };
+use crate::folders;
 use crate::master_commands::CHECK;
-use crate::watched_folder::{Failure, WatchedFolder};
+use crate::watched_folder::{Failure, NOTHING, WatchedFolder};
 use archive_core::{Fault, Form};
 use command_core::{Folder, MemoryFolder, outcome_line, perform};
-use fixtures::files::{mono, stereo};
+use fixtures::files::{stereo, with_sounds};
 use std::alloc::{AllocError, Global};
 use std::test::Fail;
 
-// What a check comes to, as it is printed.
-fn judged<F: Folder>(alloc: Global, folder: &mut F) -> Result<String, AllocError> {
+// Whether a check comes to this line.
+fn is_judged<F: Folder>(alloc: Global, folder: &mut F, line: &str) -> Result<bool, AllocError> {
     let outcome = perform(alloc, CHECK, folder);
-    outcome_line(alloc, &outcome)
+    Ok(outcome_line(alloc, &outcome)?.as_str() == line)
 }
 
 // A folder of a project, its takes, a master and a certificate.
@@ -25,13 +27,14 @@ fn folder_of(
     cert: &[u8],
 ) -> Result<MemoryFolder, AllocError> {
     let [first, second] = &sources.takes;
-    let mut folder = MemoryFolder::new(alloc);
-    folder.put("e.toml", sources.text.as_bytes())?;
-    folder.put("a.dff", first)?;
-    folder.put("b.dff", second)?;
-    folder.put("m.dff", master)?;
-    folder.put("c.cert", cert)?;
-    Ok(folder)
+    let files: [(&str, &[u8]); 5] = [
+        ("e.toml", sources.text.as_bytes()),
+        ("a.dff", first),
+        ("b.dff", second),
+        ("m.dff", master),
+        ("c.cert", cert),
+    ];
+    folders::folder_of(alloc, &files)
 }
 
 // Whether a check comes to this line, and creates nothing.
@@ -43,19 +46,24 @@ fn says(
     line: &str,
 ) -> Result<bool, AllocError> {
     let mut folder = folder_of(alloc, sources, master, cert)?;
-    let said = judged(alloc, &mut folder)?;
-    Ok(said.as_str() == line && folder.count() == 5)
+    Ok(is_judged(alloc, &mut folder, line)? && folder.count() == 5)
 }
 
 // Whether what is cut is accepted at this cost in each form.
 fn accepts(alloc: Global, sources: Result<Sources, AllocError>, line: &str) -> Result<bool, Fault> {
     let sources = sources?;
-    let mut accepted = true;
     for form in &[Form::Dsdiff, Form::Dsf, Form::Dsf8] {
-        let made = sources.edit(alloc, *form)?;
-        accepted = says(alloc, &sources, &made.master, &made.cert, line)? && accepted;
+        if !is_accepted(alloc, &sources, *form, line)? {
+            return Ok(false);
+        }
     }
-    Ok(accepted)
+    Ok(true)
+}
+
+// The same in one form.
+fn is_accepted(alloc: Global, sources: &Sources, form: Form, line: &str) -> Result<bool, Fault> {
+    let made = sources.edit(alloc, form)?;
+    Ok(says(alloc, sources, &made.master, &made.cert, line)?)
 }
 
 // Two channels of ones and zeros: the bridge of each is the bit at place 8, which costs nothing as a 0.
@@ -81,12 +89,22 @@ fn accepts_masters(rt: HostRuntime) -> Result<(), Fail> {
 fn rejects(
     alloc: Global,
     sources: Result<Sources, AllocError>,
-    master: Result<Vec<u8>, AllocError>,
+    master: &[u8],
     line: &str,
 ) -> Result<bool, Fault> {
     let sources = sources?;
     let made = sources.edit(alloc, Form::Dsdiff)?;
-    Ok(says(alloc, &sources, &master?, &made.cert, line)?)
+    Ok(says(alloc, &sources, master, &made.cert, line)?)
+}
+
+// The same of a file that was built.
+fn rejects_built(
+    alloc: Global,
+    sources: Result<Sources, AllocError>,
+    master: Result<Vec<u8>, AllocError>,
+    line: &str,
+) -> Result<bool, Fault> {
+    rejects(alloc, sources, &master?, line)
 }
 
 // A byte of each channel in turn: what is cut is ff ff, 00 00. A bit of a cue differs in one channel or in both; the
@@ -102,81 +120,60 @@ const SOUNDS: [(&[u8], &str); 7] = [
 ];
 
 #[test]
-fn tells_the_first_reason_in_a_sound(rt: HostRuntime) -> Result<(), Fail> {
+fn tells_the_first_reason_in_a_sound(rt: HostRuntime) {
     let alloc = rt.alloc();
     for (sound, line) in &SOUNDS {
-        assert!(rt;
-            rejects(alloc, pair(alloc), stereo(alloc, sound), line)?,
-            "{line}"
-        );
+        let rejected = rejects_built(alloc, pair(alloc), stereo(alloc, sound), line);
+        assert!(rt; rejected.unwrap_or(false), "{line}");
     }
-    Ok(())
 }
 
 // The same of three cues: what is cut is ff, 3f.
-const LATER: [(&[u8], &str); 3] = [
-    (&[0xff, 0xbf], "rejected Cert 0 Cost"),
-    (&[0xff, 0x1f], "rejected Cert 1 Cost"),
-    (&[0xff, 0x7f], "rejected CuedBit 0 9"),
+const LATER: [([u8; 2], &str); 3] = [
+    ([0xff, 0xbf], "rejected Cert 0 Cost"),
+    ([0xff, 0x1f], "rejected Cert 1 Cost"),
+    ([0xff, 0x7f], "rejected CuedBit 0 9"),
 ];
 
 #[test]
-fn tells_which_bridge_costs_more(rt: HostRuntime) -> Result<(), Fail> {
+fn tells_which_bridge_costs_more(rt: HostRuntime) {
     let alloc = rt.alloc();
     for (sound, line) in &LATER {
         let sources = mono_sources(alloc, "1, 1", &THERE_AND_BACK);
-        assert!(rt;
-            rejects(alloc, sources, mono(alloc, sound), line)?,
-            "{line}"
-        );
+        let rejected = rejects(alloc, sources, &with_sounds(*sound), line);
+        assert!(rt; rejected.unwrap_or(false), "{line}");
     }
-    Ok(())
 }
 
 // One channel in place of two, another rate, no mark for a title, a sound that is cut off, and what is no file.
 #[test]
-fn tells_the_first_reason_in_a_master(rt: HostRuntime) -> Result<(), Fail> {
+fn tells_the_first_reason_in_a_master(rt: HostRuntime) {
     let alloc = rt.alloc();
-    let one = mono(alloc, &[0xff, 0]);
-    assert!(rt; rejects(alloc, pair(alloc), one, "rejected MasterShape")?);
+    let bare = with_sounds([0xff, 0]);
+    let shape = "rejected MasterShape";
+    assert!(rt; rejects(alloc, pair(alloc), &bare, shape).unwrap_or(false));
     let sources = mono_sources(alloc, "1, 1", &CUES);
-    assert!(rt;
-        rejects(
-            alloc,
-            sources,
-            fast(alloc, &[0xff, 0]),
-            "rejected MasterShape"
-        )?
-    );
-    let bare = mono(alloc, &[0xff, 0]);
-    assert!(rt; rejects(alloc, titled_sources(alloc), bare, "rejected MasterMarks")?);
+    assert!(rt; rejects(alloc, sources, &fast([0xff, 0]), shape).unwrap_or(false));
+    let titled = titled_sources(alloc);
+    assert!(rt; rejects(alloc, titled, &bare, "rejected MasterMarks").unwrap_or(false));
+    let unread = "rejected MasterUnread";
     let sources = mono_sources(alloc, "1, 1", &CUES);
-    assert!(rt; rejects(alloc, sources, cut_off(alloc), "rejected MasterUnread")?);
-    let unread = Vec::from_slice(alloc, &[1, 2, 3]);
-    assert!(rt; rejects(alloc, pair(alloc), unread, "rejected MasterUnread")?);
-    Ok(())
+    assert!(rt; rejects(alloc, sources, &CUT_OFF, unread).unwrap_or(false));
+    assert!(rt; rejects(alloc, pair(alloc), &[1, 2, 3], unread).unwrap_or(false));
 }
 
 // What fails, what is printed, and what the folder is asked for behind the takes, and no more.
-const CALLS: [(Option<Failure>, &str, &str); 5] = [
-    (None, "accepted total 0", "open m.dff\nopen c.cert\n"),
+const CALLS: [(Failure, &str, &str); 5] = [
+    (NOTHING, "accepted total 0", "open m.dff\nopen c.cert\n"),
+    (("open", "m.dff", 0), "fault: ReadFailed", "open m.dff\n"),
+    (("read", "m.dff", 0), "fault: ReadFailed", "open m.dff\n"),
     (
-        Some(Failure::At("open", "m.dff")),
-        "fault: ReadFailed",
-        "open m.dff\n",
-    ),
-    (
-        Some(Failure::At("read", "m.dff")),
-        "fault: ReadFailed",
-        "open m.dff\n",
-    ),
-    (
-        Some(Failure::At("open", "c.cert")),
+        ("open", "c.cert", 0),
         "fault: ReadFailed",
         "open m.dff\nopen c.cert\n",
     ),
     (
-        Some(Failure::At("read", "c.cert")),
+        ("read", "c.cert", 0),
         "fault: ReadFailed",
         "open m.dff\nopen c.cert\n",
     ),
@@ -185,14 +182,17 @@ const CALLS: [(Option<Failure>, &str, &str); 5] = [
 // Whether a check in a folder where this fails comes to this line and to these calls behind the takes.
 fn asks(
     alloc: Global,
-    files: MemoryFolder,
-    (failure, line, calls): (Option<Failure>, &str, &str),
-) -> Result<bool, AllocError> {
-    let mut folder = WatchedFolder::over(alloc, files, failure);
-    let said = judged(alloc, &mut folder)?;
-    let takes = "open e.toml\nopen a.dff\nopen b.dff\n";
-    let calls = format!(in alloc; "{takes}{calls}")?;
-    Ok(said.as_str() == line && folder.calls.as_str() == calls.as_str())
+    files: Result<MemoryFolder, Fault>,
+    (failure, line, calls): (Failure, &str, &str),
+) -> Result<bool, Fault> {
+    let mut folder = WatchedFolder::over(alloc, files?, failure);
+    let said = is_judged(alloc, &mut folder, line)?;
+    Ok(said && is_behind(folder.calls.as_str(), calls))
+}
+
+// Whether these calls stand behind those of the project and the takes.
+fn is_behind(said: &str, calls: &str) -> bool {
+    said.strip_prefix("open e.toml\nopen a.dff\nopen b.dff\n") == Some(calls)
 }
 
 // The folder of what is cut.
@@ -203,51 +203,42 @@ fn cut(alloc: Global) -> Result<MemoryFolder, Fault> {
 }
 
 #[test]
-fn asks_for_files_in_order(rt: HostRuntime) -> Result<(), Fail> {
+fn asks_for_files_in_order(rt: HostRuntime) {
     let alloc = rt.alloc();
     for case in &CALLS {
-        assert!(rt; asks(alloc, cut(alloc)?, *case)?, "{}", case.1);
+        let asked = asks(alloc, cut(alloc), *case);
+        assert!(rt; asked.unwrap_or(false), "{}", case.1);
     }
-    Ok(())
 }
 
 // Takes of two rates: master and certificate are read through before that is told, and nothing is where one can't be.
-const UNCUT: [(Option<Failure>, &str, &str); 4] = [
-    (None, "fault: TakeMismatch 1", "open m.dff\nopen c.cert\n"),
+const UNCUT: [(Failure, &str, &str); 4] = [
     (
-        Some(Failure::At("open", "m.dff")),
-        "fault: ReadFailed",
-        "open m.dff\n",
+        NOTHING,
+        "fault: TakeMismatch 1",
+        "open m.dff\nopen c.cert\n",
     ),
+    (("open", "m.dff", 0), "fault: ReadFailed", "open m.dff\n"),
+    (("read", "m.dff", 0), "fault: ReadFailed", "open m.dff\n"),
     (
-        Some(Failure::At("read", "m.dff")),
-        "fault: ReadFailed",
-        "open m.dff\n",
-    ),
-    (
-        Some(Failure::At("read", "c.cert")),
+        ("read", "c.cert", 0),
         "fault: ReadFailed",
         "open m.dff\nopen c.cert\n",
     ),
 ];
 
 // A folder of two takes of different rates, and a master that is no file.
-fn unlike(alloc: Global) -> Result<MemoryFolder, AllocError> {
-    let mut folder = MemoryFolder::new(alloc);
-    let text = splice(alloc, "1, 1", &CUES)?;
-    folder.put("e.toml", text.as_bytes())?;
-    folder.put("a.dff", &mono(alloc, &[0xff; 2])?)?;
-    folder.put("b.dff", &fast(alloc, &[0; 2])?)?;
-    folder.put("m.dff", b"no master")?;
-    folder.put("c.cert", b"")?;
-    Ok(folder)
+fn unlike(alloc: Global) -> Result<MemoryFolder, Fault> {
+    let text = splice(alloc, "1, 1", &CUES);
+    let sources = sources_with(alloc, text, &ONES, &fast([0; 2]))?;
+    Ok(folder_of(alloc, &sources, b"no master", b"")?)
 }
 
 #[test]
-fn reads_master_and_certificate_before_it_tells_of_takes(rt: HostRuntime) -> Result<(), Fail> {
+fn reads_master_and_certificate_before_it_tells_of_takes(rt: HostRuntime) {
     let alloc = rt.alloc();
     for case in &UNCUT {
-        assert!(rt; asks(alloc, unlike(alloc)?, *case)?, "{}", case.1);
+        let asked = asks(alloc, unlike(alloc), *case);
+        assert!(rt; asked.unwrap_or(false), "{}", case.1);
     }
-    Ok(())
 }

@@ -44,9 +44,12 @@ fn names_the_first_fault_of_takes(rt: HostRuntime) {
     let alloc = rt.alloc();
     for (old, new, expected) in &CHANGED {
         let text: Result<_, _> = SPLICE.replace(alloc, old, new);
-        assert!(rt; is_refused(alloc, text, expected) == Ok(true), "{expected}");
+        assert!(rt;
+            is_refused(alloc, text, expected).unwrap_or(false),
+            "{expected}"
+        );
     }
     let decimate: Result<_, _> = String::from_str(alloc, DECIMATE);
-    assert!(rt; is_refused(alloc, decimate, "NoSplice") == Ok(true));
-    assert!(rt; is_refused(alloc, Ok(String::new(alloc)), "NoSplice") == Ok(true));
+    assert!(rt; is_refused(alloc, decimate, "NoSplice").unwrap_or(false));
+    assert!(rt; is_refused(alloc, Ok(String::new(alloc)), "NoSplice").unwrap_or(false));
 }

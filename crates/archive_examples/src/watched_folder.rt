@@ -8,16 +8,11 @@ use std::fmt::Write as _;
 use std::io;
 use std::io::{Cursor, ErrorKind, Read, Write};
 
-/// What fails.
-#[derive(Clone, Copy)]
-pub(crate) enum Failure {
-    /// To `open`, `read`, `create` or `keep` the file of this name.
-    At(&'static str, &'static str),
-    /// Writing, after so many bytes.
-    Write(usize),
-    /// Writing the file of this name, after so many bytes.
-    WriteTo(&'static str, usize),
-}
+/// What fails: to `open`, `read`, `create` or `keep` the file of a name, or to `write` it after so many bytes.
+pub(crate) type Failure = (&'static str, &'static str, usize);
+
+/// Nothing fails.
+pub(crate) const NOTHING: Failure = ("", "", 0);
 
 /// Files in memory, of which it tells nothing.
 #[derive(Drop)]
@@ -26,12 +21,12 @@ pub(crate) struct WatchedFolder {
     pub(crate) files: MemoryFolder,
     /// The calls, a line each.
     pub(crate) calls: String,
-    failure: Option<Failure>,
+    failure: Failure,
 }
 
 impl WatchedFolder {
     /// A folder with these files, in which this fails.
-    pub(crate) fn over(alloc: Global, files: MemoryFolder, failure: Option<Failure>) -> Self {
+    pub(crate) fn over(alloc: Global, files: MemoryFolder, failure: Failure) -> Self {
         WatchedFolder {
             files,
             calls: String::new(alloc),
@@ -49,18 +44,17 @@ impl WatchedFolder {
 
     // Whether a call fails.
     fn fails(&self, call: &str, name: &str) -> bool {
-        match self.failure {
-            Some(Failure::At(failing, at)) => failing == call && at == name,
-            _ => false,
-        }
+        let (failing, at, _) = self.failure;
+        failing == call && at == name
     }
 
     // How many bytes the file of a name has room for.
     fn room(&self, name: &str) -> usize {
-        match self.failure {
-            Some(Failure::Write(room)) => room,
-            Some(Failure::WriteTo(at, room)) if at == name => room,
-            _ => usize::MAX,
+        let (_, _, room) = self.failure;
+        if self.fails("write", name) {
+            room
+        } else {
+            usize::MAX
         }
     }
 }

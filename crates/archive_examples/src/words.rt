@@ -31,14 +31,14 @@ fn refuses_words(rt: HostRuntime) {
     let alloc = rt.alloc();
     for texts in WRONG {
         assert!(rt;
-            is_refused(alloc, texts, WordsFault::WrongWords) == Ok(true),
+            is_refused(alloc, texts, WordsFault::WrongWords).unwrap_or(false),
             "{texts:?}"
         );
     }
     for form in ["wav", "DSF", ""] {
         let texts = ["dsdarc", "convert", form, "a", "b"];
         assert!(rt;
-            is_refused(alloc, &texts, WordsFault::UnknownFormName) == Ok(true),
+            is_refused(alloc, &texts, WordsFault::UnknownFormName).unwrap_or(false),
             "{form}"
         );
     }
@@ -90,6 +90,6 @@ const ASKED: [(&[&str], Task); 5] = [
 fn reads_commands(rt: HostRuntime) {
     let alloc = rt.alloc();
     for (texts, task) in &ASKED {
-        assert!(rt; asks_for(alloc, texts, *task) == Ok(true), "{texts:?}");
+        assert!(rt; asks_for(alloc, texts, *task).unwrap_or(false), "{texts:?}");
     }
 }

@@ -39,7 +39,7 @@ fn has_each_number(alloc: Global, fields: &[u8]) -> Result<bool, DsdiffFault> {
 #[test]
 fn reads_marks(rt: HostRuntime) {
     let fields = b"\0\x01\x02\x03\0\0\0\x04\xff\xff\xff\xfb\0\x06\0\x07\0\x08\0\0\0\x01x";
-    assert!(rt; has_each_number(rt.alloc(), fields) == Ok(true));
+    assert!(rt; has_each_number(rt.alloc(), fields).unwrap_or(false));
 }
 
 // How many marks a file with a mark of these bytes has.

@@ -32,7 +32,7 @@ const CHANGES: [(usize, &[u8], DsdiffFault); 7] = [
 fn refuses(rt: HostRuntime) {
     for (at, bytes, fault) in &CHANGES {
         let is_so = is_refused(rt.alloc(), *at, bytes, *fault);
-        assert!(rt; is_so == Ok(true), "at {at}");
+        assert!(rt; is_so.unwrap_or(false), "at {at}");
     }
 }
 

@@ -40,7 +40,7 @@ fn holds_one_bit(alloc: Global) -> Result<bool, DsfFault> {
 
 #[test]
 fn reads_one_bit(rt: HostRuntime) {
-    assert!(rt; holds_one_bit(rt.alloc()) == Ok(true));
+    assert!(rt; holds_one_bit(rt.alloc()).unwrap_or(false));
 }
 
 // Whether a file of this front and so many bytes has one channel of so many bits, of the layout 1, and this
@@ -103,7 +103,7 @@ const LENIENT: [Lenient; 4] = [
 fn is_lenient(rt: HostRuntime) {
     for lenient in &LENIENT {
         let is_so = is_read_changed(rt.alloc(), lenient);
-        assert!(rt; is_so == Ok(true), "{}", lenient.0);
+        assert!(rt; is_so.unwrap_or(false), "{}", lenient.0);
     }
 }
 
@@ -115,5 +115,5 @@ const LONG_FORMAT: &[u8; 97] = b"DSD \x1c\0\0\0\0\0\0\0\x5c\x10\0\0\0\0\0\0\0\0\
 
 #[test]
 fn reads_a_longer_format_chunk(rt: HostRuntime) {
-    assert!(rt; is_read(rt.alloc(), LONG_FORMAT, 4192, (1, &[])) == Ok(true));
+    assert!(rt; is_read(rt.alloc(), LONG_FORMAT, 4192, (1, &[])).unwrap_or(false));
 }

@@ -69,9 +69,9 @@ fn byte(file: &[u8], place: usize) -> u8 {
 #[test]
 fn writes_two_groups_of_blocks(rt: HostRuntime) {
     let least = is_written(rt.alloc(), BitOrder::LeastFirst, (1, 0xac, 0x01));
-    assert!(rt; least == Ok(true), "1 bit per sample");
+    assert!(rt; least.unwrap_or(false), "1 bit per sample");
     let most = is_written(rt.alloc(), BitOrder::MostFirst, (8, 0x35, 0x80));
-    assert!(rt; most == Ok(true), "8 bits per sample");
+    assert!(rt; most.unwrap_or(false), "8 bits per sample");
 }
 
 // Whether a recording is read as this one that was written, but for the IDs, which DSF has for two channels.
@@ -115,9 +115,9 @@ fn is_read_again(alloc: Global, order: BitOrder) -> Result<bool, DsfFault> {
 #[test]
 fn reads_what_was_written(rt: HostRuntime) {
     let least = is_read_again(rt.alloc(), BitOrder::LeastFirst);
-    assert!(rt; least == Ok(true), "least first");
+    assert!(rt; least.unwrap_or(false), "least first");
     let most = is_read_again(rt.alloc(), BitOrder::MostFirst);
-    assert!(rt; most == Ok(true), "most first");
+    assert!(rt; most.unwrap_or(false), "most first");
 }
 
 // The file of a recording of the file that is read.
@@ -142,5 +142,5 @@ fn is_written_as(alloc: Global, expected: Result<Vec<u8>, AllocError>) -> Result
 #[test]
 fn writes_the_one_bit_that_it_read(rt: HostRuntime) {
     let expected = dsf_of(rt.alloc(), (1, 1, 1), &[0x01], 4096, &[]);
-    assert!(rt; is_written_as(rt.alloc(), expected) == Ok(true));
+    assert!(rt; is_written_as(rt.alloc(), expected).unwrap_or(false));
 }

@@ -22,7 +22,7 @@ fn laces_again(alloc: Global) -> Result<bool, LaceFault> {
 
 #[test]
 fn laces_what_it_took_apart(rt: HostRuntime) {
-    assert!(rt; laces_again(rt.alloc()) == Ok(true));
+    assert!(rt; laces_again(rt.alloc()).unwrap_or(false));
 }
 
 // One, two and three channels behind a byte.

@@ -100,7 +100,7 @@ fn reads_example(alloc: Global) -> Result<bool, ProjectFault> {
 
 #[test]
 fn reads_the_splice(rt: HostRuntime) {
-    assert!(rt; reads_example(rt.alloc()) == Ok(true));
+    assert!(rt; reads_example(rt.alloc()).unwrap_or(false));
 }
 
 #[test]

@@ -93,5 +93,5 @@ fn has_parts(alloc: Global) -> Result<bool, AllocError> {
 
 #[test]
 fn hands_out_its_parts(rt: HostRuntime) {
-    assert!(rt; has_parts(rt.alloc()) == Ok(true));
+    assert!(rt; has_parts(rt.alloc()).unwrap_or(false));
 }

@@ -27,8 +27,14 @@ fn wide(alloc: Global) -> Result<Pcm, AllocError> {
 #[test]
 fn writes_one_sample(rt: HostRuntime) {
     let alloc = rt.alloc();
-    assert!(rt; writes(alloc, narrow(alloc), &WAVE) == Ok(true), "16 bits");
-    assert!(rt; writes(alloc, wide(alloc), &WIDE) == Ok(true), "24 bits");
+    assert!(rt;
+        writes(alloc, narrow(alloc), &WAVE).unwrap_or(false),
+        "16 bits"
+    );
+    assert!(rt;
+        writes(alloc, wide(alloc), &WIDE).unwrap_or(false),
+        "24 bits"
+    );
 }
 
 // A frame of two channels, and one of three.
@@ -43,9 +49,12 @@ fn three(alloc: Global) -> Result<Pcm, AllocError> {
 #[test]
 fn writes_several_channels(rt: HostRuntime) {
     let alloc = rt.alloc();
-    assert!(rt; writes(alloc, two(alloc), &TWO_CHANNELS) == Ok(true), "two");
     assert!(rt;
-        writes(alloc, three(alloc), &THREE_CHANNELS) == Ok(true),
+        writes(alloc, two(alloc), &TWO_CHANNELS).unwrap_or(false),
+        "two"
+    );
+    assert!(rt;
+        writes(alloc, three(alloc), &THREE_CHANNELS).unwrap_or(false),
         "three"
     );
 }
@@ -58,7 +67,7 @@ fn writes_no_frames(rt: HostRuntime) {
         fmt \x28\0\0\0\xfe\xff\x06\0\x01\0\0\0\x12\0\0\0\x12\0\x18\0\
         \x16\0\x18\0\0\0\0\0\x01\0\0\0\0\0\x10\0\x80\0\0\xaa\0\x38\x9b\x71\
         data\0\0\0\0";
-    assert!(rt; writes(rt.alloc(), Ok(none), expected) == Ok(true));
+    assert!(rt; writes(rt.alloc(), Ok(none), expected).unwrap_or(false));
 }
 
 // What a header of one channel comes to, and how many bytes there are then.
@@ -175,7 +184,7 @@ const PADS: [(u16, u32, u64, &[u8]); 5] = [
 fn pads_odd_samples(rt: HostRuntime) {
     for (channels, width, frames, pad) in &PADS {
         let padded = pads(rt.alloc(), *channels, *width, *frames, pad);
-        assert!(rt; padded == Ok(true), "{frames} frames of {channels}");
+        assert!(rt; padded.unwrap_or(false), "{frames} frames of {channels}");
     }
 }
 

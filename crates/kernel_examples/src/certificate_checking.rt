@@ -200,7 +200,7 @@ const CHANGED: [(usize, u8, CertReason); 16] = [
 fn changed_bytes_are_found(rt: HostRuntime) {
     for (place, value, reason) in &CHANGED {
         let is_found = rejects_changed(rt.alloc(), &WORKED, &[(*place, *value)], *reason);
-        assert!(rt; is_found == Ok(true), "{value} at {place}");
+        assert!(rt; is_found.unwrap_or(false), "{value} at {place}");
     }
 }
 
@@ -208,7 +208,7 @@ fn changed_bytes_are_found(rt: HostRuntime) {
 fn the_greatest_bound_has_to_be_reached_too(rt: HostRuntime) {
     let greatest = [(34, 0x80), (41, 0)];
     let is_found = rejects_changed(rt.alloc(), &WORKED, &greatest, CertReason::Step(1, 0));
-    assert!(rt; is_found == Ok(true));
+    assert!(rt; is_found.unwrap_or(false));
 }
 
 // The same of the second version's. The row of level 0 has its least value at 18 to 25, its width at 26, and the excesses 4
@@ -240,7 +240,7 @@ const CHANGED_NARROW: [(usize, u8, CertReason); 19] = [
 fn changed_bytes_of_narrow_rows_are_found(rt: HostRuntime) {
     for (place, value, reason) in &CHANGED_NARROW {
         let is_found = rejects_changed(rt.alloc(), &NARROW, &[(*place, *value)], *reason);
-        assert!(rt; is_found == Ok(true), "{value} at {place}");
+        assert!(rt; is_found.unwrap_or(false), "{value} at {place}");
     }
 }
 
@@ -315,7 +315,7 @@ fn finds_a_byte_more(alloc: Global, cert: &[u8]) -> Result<bool, AllocError> {
 fn a_byte_more_is_found(rt: HostRuntime) {
     for cert in &CERTIFICATES {
         let is_found = finds_a_byte_more(rt.alloc(), cert);
-        assert!(rt; is_found == Ok(true), "{} bytes", cert.len());
+        assert!(rt; is_found.unwrap_or(false), "{} bytes", cert.len());
     }
 }
 

@@ -120,7 +120,7 @@ fn is_written(alloc: Global, worked: &Worked) -> Result<bool, AllocError> {
 fn the_worked_certificates_are_written(rt: HostRuntime) {
     for worked in &CERTIFICATES {
         let is_written = is_written(rt.alloc(), worked);
-        assert!(rt; is_written == Ok(true), "{} bytes", worked.bytes.len());
+        assert!(rt; is_written.unwrap_or(false), "{} bytes", worked.bytes.len());
     }
 }
 
@@ -158,7 +158,7 @@ fn a_failed_write_leaves_a_front(rt: HostRuntime) {
     for worked in &CERTIFICATES {
         for write in 1..worked.bytes.len() + 1 {
             let is_left = leaves_a_front(rt.alloc(), worked, write);
-            assert!(rt; is_left == Ok(true), "write {write}");
+            assert!(rt; is_left.unwrap_or(false), "write {write}");
         }
     }
 }

@@ -38,7 +38,7 @@ fn plays(
 // The same of a decimator that there is.
 fn plays_bytes(alloc: Global, taps: &Taps, (bytes, count): (&[u8], u16), samples: &[i32]) -> bool {
     match Bits::from_packed(alloc, bytes, usize::from(count)) {
-        Ok(bits) => each_gives(alloc, taps, &bits, samples) == Ok(true),
+        Ok(bits) => each_gives(alloc, taps, &bits, samples).unwrap_or(false),
         Err(_) => false,
     }
 }

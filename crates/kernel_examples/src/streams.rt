@@ -112,6 +112,6 @@ fn feed_byte_to(alloc: Global, taps: &Taps, made: &mut Vec<i32>) -> Result<usize
 // behind them are read, which sum to 0, once it is known that none comes.
 #[test]
 fn streams_one_byte(rt: HostRuntime) {
-    assert!(rt; streams_byte(rt.alloc(), &[1, 2, 3, 4], 3, (1, &[10])) == Ok(true));
-    assert!(rt; streams_byte(rt.alloc(), &[1; 9], 8, (0, &[0])) == Ok(true));
+    assert!(rt; streams_byte(rt.alloc(), &[1, 2, 3, 4], 3, (1, &[10])).unwrap_or(false));
+    assert!(rt; streams_byte(rt.alloc(), &[1; 9], 8, (0, &[0])).unwrap_or(false));
 }

@@ -1,13 +1,13 @@
 //! Converting from a reader to a writer: what is written is what is made in memory, and a front of it where a device
 //! fails; and files that are no sound in the outline that was read before.
 
-ghost use Rattle.std.specs.Prelude.{◌<◌};
-
 use crate::long_sounds::{blocks, laced};
 use crate::played::NEVER;
 use device_core::{Inlet, Outlet};
 use fixtures::devices::{Dripping, Sipping, drip, sip};
-use fixtures::files::{FILE, STEREO, changed, followed, mono, noted, one_bit, three, with_sound};
+use fixtures::files::{
+    FILE, ONES_FILE, STEREO, changed, followed, mono, noted, one_bit, three, with_sound,
+};
 use form_core::Form;
 use sound_core::{StreamFault, read_outline};
 use std::alloc::{AllocError, Global};
@@ -81,9 +81,7 @@ pub(crate) fn stream(
 }
 
 // Whether a file that is read so many bytes at a time is converted as in memory.
-fn is_same(alloc: Global, file: &[u8], form: Form, most: usize) -> Result<bool, Fault>
-    requires { 0 < most }
-{
+fn is_same(alloc: Global, file: &[u8], form: Form, most: usize) -> Result<bool, Fault> {
     let reader = drip(file, most, NEVER);
     let streamed = stream(alloc, (file, form), reader, sip(alloc, NEVER, NEVER))?;
     match convert(alloc, file, form) {
@@ -92,13 +90,21 @@ fn is_same(alloc: Global, file: &[u8], form: Form, most: usize) -> Result<bool, 
     }
 }
 
-// Whether a file is converted to each form as in memory, read by 1, by 7, by 4096 and by 65,536 bytes.
+// Whether it is, read by 1, by 7, by 4096 and by 65,536 bytes.
+fn is_same_by_any(alloc: Global, file: &[u8], form: Form) -> Result<bool, Fault> {
+    for most in [1, 7, 4096, 65_536] {
+        if !is_same(alloc, file, form, most)? {
+            return Ok(false);
+        }
+    }
+    Ok(true)
+}
+
+// Whether a file is converted to each form as in memory.
 fn are_same(alloc: Global, file: Result<Vec<u8>, AllocError>) -> Result<bool, Fault> {
     let file = file?;
     for form in &FORMS {
-        let little = is_same(alloc, &file, *form, 1)? && is_same(alloc, &file, *form, 7)?;
-        let much = is_same(alloc, &file, *form, 4096)? && is_same(alloc, &file, *form, 65_536)?;
-        if !little || !much {
+        if !is_same_by_any(alloc, &file, *form)? {
             return Ok(false);
         }
     }
@@ -146,53 +152,43 @@ fn converts_laced_bytes_as_in_memory(rt: HostRuntime) -> Result<(), Fail> {
     Ok(())
 }
 
-// A file of 132 bytes, one a read, in the same form.
+// What comes of 40 ones in their own form, which is the same file.
+fn stream_ones(alloc: Global, reader: Dripping<'_>, writer: Sipping) -> Result<Streamed, Fault> {
+    stream(alloc, (&ONES_FILE, Form::Dsdiff), reader, writer)
+}
+
+// Whether a reader of one byte at a time that fails at a read leaves a front of the file.
+fn stops_reading(alloc: Global, read: u64) -> Result<bool, Fault> {
+    let reader = drip(&ONES_FILE, 1, read);
+    Ok(stream_ones(alloc, reader, sip(alloc, NEVER, NEVER))?.stops_reading(&ONES_FILE))
+}
+
 #[test]
-fn a_failed_read_leaves_a_front(rt: HostRuntime) -> Result<(), Fail> {
-    let alloc = rt.alloc();
-    let file = mono(alloc, &[0xff; 5])?;
-    let made = convert(alloc, &file, Form::Dsdiff)?;
+fn a_failed_read_leaves_a_front(rt: HostRuntime) {
     for read in 1..=132 {
-        let reader = drip(&file, 1, read);
-        let writer = sip(alloc, NEVER, NEVER);
-        let streamed = stream(alloc, (&file, Form::Dsdiff), reader, writer)?;
-        assert!(rt; streamed.stops_reading(&made.bytes), "read {read} fails");
+        let stops = stops_reading(rt.alloc(), read);
+        assert!(rt; stops.unwrap_or(false), "read {read} fails");
     }
-    Ok(())
+}
+
+// Whether a writer leaves just so many bytes of the file.
+fn stops_writing(alloc: Global, writer: Sipping, count: usize) -> Result<bool, Fault> {
+    let (front, _) = ONES_FILE.split_at(count.min(132));
+    let reader = drip(&ONES_FILE, 4096, NEVER);
+    Ok(stream_ones(alloc, reader, writer)?.stops_writing(front))
 }
 
 // A byte is taken by each write; a writer that is full from the first write on takes nothing.
 #[test]
-fn a_failed_write_leaves_a_front(rt: HostRuntime) -> Result<(), Fail> {
+fn a_failed_write_leaves_a_front(rt: HostRuntime) {
     let alloc = rt.alloc();
-    let file = mono(alloc, &[0xff; 5])?;
-    let made = convert(alloc, &file, Form::Dsdiff)?;
-    for count in 0..made.bytes.len() {
+    for count in 0..132 {
         let write = count as u64 + 1;
-        let reader = drip(&file, 4096, NEVER);
-        let failing = stream(
-            alloc,
-            (&file, Form::Dsdiff),
-            reader,
-            sip(alloc, write, NEVER),
-        )?;
-        assert!(rt;
-            failing.stops_writing(&made.bytes[..count]),
-            "write {write} fails"
-        );
-        let reader = drip(&file, 4096, NEVER);
-        let full = stream(
-            alloc,
-            (&file, Form::Dsdiff),
-            reader,
-            sip(alloc, NEVER, write),
-        )?;
-        assert!(rt;
-            full.stops_writing(&made.bytes[..count]),
-            "full from write {write}"
-        );
+        let fails = stops_writing(alloc, sip(alloc, write, NEVER), count);
+        assert!(rt; fails.unwrap_or(false), "write {write} fails");
+        let is_full = stops_writing(alloc, sip(alloc, NEVER, write), count);
+        assert!(rt; is_full.unwrap_or(false), "full from write {write}");
     }
-    Ok(())
 }
 
 // What comes of another file by the outline of one.
@@ -201,14 +197,29 @@ fn stream_other(alloc: Global, file: &[u8], form: Form, other: &[u8]) -> Result<
     stream(alloc, (file, form), reader, sip(alloc, NEVER, NEVER))
 }
 
+// Whether what comes of it is what is made of it in memory.
+fn is_other_converted(alloc: Global, form: Form, other: &[u8]) -> Result<bool, Fault> {
+    let made = convert(alloc, other, form)?;
+    Ok(stream_other(alloc, &FILE, form, other)?.is(&made))
+}
+
 // The bits of a sound are no part of an outline.
 #[test]
-fn another_sound_is_converted(rt: HostRuntime) -> Result<(), Fail> {
-    let alloc = rt.alloc();
-    let other = with_sound(0x35);
-    let made = convert(alloc, &other, Form::Dsf8)?;
-    assert!(rt; stream_other(alloc, &FILE, Form::Dsf8, &other)?.is(&made));
-    Ok(())
+fn another_sound_is_converted(rt: HostRuntime) {
+    let same = is_other_converted(rt.alloc(), Form::Dsf8, &with_sound(0x35));
+    assert!(rt; same.unwrap_or(false));
+}
+
+// Whether nothing comes of another file by the outline of one, but for a front of these bytes.
+fn is_refused(
+    alloc: Global,
+    file: &[u8],
+    form: Form,
+    other: Result<Vec<u8>, AllocError>,
+    made: &[u8],
+) -> Result<bool, Fault> {
+    let other = other?;
+    Ok(stream_other(alloc, file, form, &other)?.is_no_file(made))
 }
 
 // A byte of the head is another, or the last bytes are missing.
@@ -216,14 +227,15 @@ fn another_sound_is_converted(rt: HostRuntime) -> Result<(), Fail> {
 fn a_changed_form_is_refused(rt: HostRuntime) -> Result<(), Fail> {
     let alloc = rt.alloc();
     let made = convert(alloc, &FILE, Form::Dsf)?;
-    for place in 0..115 {
-        let other = changed(alloc, &FILE, place, &[FILE[place] ^ 1])?;
-        let streamed = stream_other(alloc, &FILE, Form::Dsf, &other)?;
-        assert!(rt; streamed.is_no_file(&made.bytes), "at {place}");
+    for (place, byte) in FILE.iter().enumerate().take(115) {
+        let other = changed(alloc, &FILE, place, &[*byte ^ 1]);
+        let refused = is_refused(alloc, &FILE, Form::Dsf, other, &made.bytes);
+        assert!(rt; refused.unwrap_or(false), "at {place}");
     }
     for length in 0..127 {
-        let streamed = stream_other(alloc, &FILE, Form::Dsf, &FILE[..length])?;
-        assert!(rt; streamed.is_no_file(&made.bytes), "of {length} bytes");
+        let other = Vec::from_slice(alloc, &FILE[..length]);
+        let refused = is_refused(alloc, &FILE, Form::Dsf, other, &made.bytes);
+        assert!(rt; refused.unwrap_or(false), "of {length} bytes");
     }
     Ok(())
 }
@@ -243,9 +255,9 @@ fn a_changed_tag_is_refused(rt: HostRuntime) -> Result<(), Fail> {
     let file = one_bit(alloc, b"a tag")?;
     let made = convert(alloc, &file, Form::Dsf8)?;
     for (cut, end) in [(1, b"".as_slice()), (1, b"b"), (0, b"b")] {
-        let other = ended(alloc, &file, cut, end)?;
-        let streamed = stream_other(alloc, &file, Form::Dsf8, &other)?;
-        assert!(rt; streamed.is_no_file(&made.bytes), "without {cut}");
+        let other = ended(alloc, &file, cut, end);
+        let refused = is_refused(alloc, &file, Form::Dsf8, other, &made.bytes);
+        assert!(rt; refused.unwrap_or(false), "without {cut}");
     }
     Ok(())
 }

@@ -2,115 +2,80 @@
 
 use crate::played::{NEVER, ONES, Played, play_from};
 use archive_core::{Fault, StreamFault, play};
-use fixtures::devices::{drip, sip};
-use fixtures::files::{dsf_of, mono};
-use fixtures::projects::{DECIMATE, with_ones};
+use fixtures::devices::{Sipping, drip, sip};
+use fixtures::files::{ONES_FILE, dsf_of};
+use fixtures::projects;
+use fixtures::projects::DECIMATE;
 use std::alloc::{AllocError, Global};
 use std::test::Fail;
 
-// A project, and a file that it plays.
-#[derive(Drop)]
-struct Sources {
-    text: String,
-    file: Vec<u8>,
+// What comes of 40 ones and 33 taps from a reader that gives one byte at a time, and fails at a read.
+fn read_failing(alloc: Global, read: u64) -> Played {
+    let reader = drip(&ONES_FILE, 1, read);
+    play_from(
+        alloc,
+        projects::ONES.as_bytes(),
+        reader,
+        sip(alloc, NEVER, NEVER),
+    )
 }
 
-// 33 taps of 1, and a file of 132 bytes with 40 ones.
-fn ones(alloc: Global) -> Result<Sources, AllocError> {
-    let text = with_ones(alloc, 33);
-    let file = mono(alloc, &[0xff; 5]);
-    Ok(Sources {
-        text: text?,
-        file: file?,
-    })
+// The same to a writer that takes one byte at a time.
+fn write_failing(alloc: Global, writer: Sipping) -> Played {
+    let reader = drip(&ONES_FILE, 1, NEVER);
+    play_from(alloc, projects::ONES.as_bytes(), reader, writer)
 }
 
-impl Sources {
-    // What comes of a reader that gives one byte at a time, and fails at a read.
-    fn read_failing(&self, alloc: Global, read: u64) -> Played {
-        let reader = drip(&self.file, 1, read);
-        play_from(
-            alloc,
-            self.text.as_bytes(),
-            reader,
-            sip(alloc, NEVER, NEVER),
-        )
-    }
-
-    // What comes of a writer that takes one byte at a time, fails at a write, and is full from one on.
-    fn write_failing(&self, alloc: Global, fails_at: u64, full_from: u64) -> Played {
-        let reader = drip(&self.file, 1, NEVER);
-        play_from(
-            alloc,
-            self.text.as_bytes(),
-            reader,
-            sip(alloc, fails_at, full_from),
-        )
-    }
+// Whether a failed read stops playing behind a front.
+fn stops_reading(alloc: Global, read: u64) -> bool {
+    read_failing(alloc, read).stops_reading(&ONES)
 }
 
-impl Sources {
-    // Whether a failed read stops playing behind a front, how many reads there were, and how many bytes were written.
-    fn stops_reading(&self, alloc: Global, read: u64) -> (bool, u64, usize) {
-        let played = self.read_failing(alloc, read);
-        (
-            played.stops_reading(&ONES),
-            played.reads,
-            played.bytes.len(),
-        )
-    }
-
-    // Whether all is played where no read fails, and in how many reads.
-    fn plays(&self, alloc: Global) -> (bool, u64) {
-        let played = self.read_failing(alloc, NEVER);
-        (played.gives(&ONES), played.reads)
-    }
-
-    // Whether a writer that fails at a write, and one that is full from it on, are left with so many bytes. A byte is
-    // taken by each write.
-    fn stops_writing(&self, alloc: Global, count: usize) -> bool {
-        let write = (count as u64).saturating_add(1);
-        let (front, _) = ONES.split_at(count.min(54));
-        self.write_failing(alloc, write, NEVER).stops_writing(front)
-            && self.write_failing(alloc, NEVER, write).stops_writing(front)
-    }
-
-    // Whether all is played where writes fail behind it.
-    fn plays_to_the_end(&self, alloc: Global) -> bool {
-        self.write_failing(alloc, 55, 55).gives(&ONES)
-    }
+// Whether a writer is left with so many bytes.
+fn stops_writing(alloc: Global, writer: Sipping, count: usize) -> bool {
+    let (front, _) = ONES.split_at(count.min(54));
+    write_failing(alloc, writer).stops_writing(front)
 }
 
 // Behind 128 bytes, two of the sound's, no sample is due: the first needs the bit 32.
 #[test]
-fn a_failed_read_leaves_the_header(rt: HostRuntime) -> Result<(), Fail> {
-    let sources = ones(rt.alloc())?;
-    assert!(rt; sources.stops_reading(rt.alloc(), 129) == (true, 129, 44));
-    Ok(())
+fn a_failed_read_leaves_the_header(rt: HostRuntime) {
+    let played = read_failing(rt.alloc(), 129);
+    let is_so = played.stops_reading(&ONES) && played.reads == 129;
+    assert!(rt; is_so && played.bytes.len() == 44);
 }
 
 // The form has 132 bytes, one a read, and none is asked for behind it.
 #[test]
-fn a_failed_read_leaves_a_front(rt: HostRuntime) -> Result<(), Fail> {
-    let sources = ones(rt.alloc())?;
-    assert!(rt; sources.plays(rt.alloc()) == (true, 132));
+fn a_failed_read_leaves_a_front(rt: HostRuntime) {
     for read in 1..=132 {
-        let (stops, _, _) = sources.stops_reading(rt.alloc(), read);
-        assert!(rt; stops, "read {read} fails");
+        assert!(rt; stops_reading(rt.alloc(), read), "read {read} fails");
     }
-    Ok(())
 }
 
-// A writer that is full from the first write on takes nothing.
 #[test]
-fn a_failed_write_leaves_a_front(rt: HostRuntime) -> Result<(), Fail> {
-    let sources = ones(rt.alloc())?;
+fn no_read_behind_the_form_fails(rt: HostRuntime) {
+    let played = read_failing(rt.alloc(), 133);
+    assert!(rt; played.gives(&ONES) && played.reads == 132);
+}
+
+// A byte is taken by each write; a writer that is full from the first write on takes nothing.
+#[test]
+fn a_failed_write_leaves_a_front(rt: HostRuntime) {
+    let alloc = rt.alloc();
     for count in 0..54 {
-        let stops = sources.stops_writing(rt.alloc(), count);
-        assert!(rt; stops, "{count} bytes");
+        let write = count as u64 + 1;
+        let fails = stops_writing(alloc, sip(alloc, write, NEVER), count);
+        assert!(rt; fails, "write {write} fails");
+        let is_full = stops_writing(alloc, sip(alloc, NEVER, write), count);
+        assert!(rt; is_full, "full from write {write}");
     }
-    assert!(rt; sources.plays_to_the_end(rt.alloc()));
-    Ok(())
+}
+
+#[test]
+fn no_write_behind_the_end_fails(rt: HostRuntime) {
+    let alloc = rt.alloc();
+    assert!(rt; write_failing(alloc, sip(alloc, 55, 55)).gives(&ONES));
 }
 
 // What `DECIMATE` makes of a reader that gives 7 bytes at a time, and fails at a read.
@@ -165,6 +130,9 @@ fn is_named(alloc: Global, fault: StreamFault, name: &str) -> Result<bool, Alloc
 #[test]
 fn the_faults_have_their_names(rt: HostRuntime) {
     for (fault, name) in &NAMES {
-        assert!(rt; is_named(rt.alloc(), *fault, name) == Ok(true), "{name}");
+        assert!(rt;
+            is_named(rt.alloc(), *fault, name).unwrap_or(false),
+            "{name}"
+        );
     }
 }

@@ -7,8 +7,9 @@ use archive_core::play;
 use device_core::Inlet;
 use dsd_bits::BitRange;
 use fixtures::devices::{Sipping, drip, sip};
-use fixtures::files::{WAVE, dsf_of, mono, noted};
-use fixtures::projects::{DECIMATE, with_ones};
+use fixtures::files::{ONES_FILE, WAVE, dsf_of, noted};
+use fixtures::projects;
+use fixtures::projects::DECIMATE;
 use form_core::Form;
 use sound_core::read_stretches;
 use std::alloc::{AllocError, Global};
@@ -40,9 +41,7 @@ fn check_played(
 #[test]
 fn laced_bytes_are_played(rt: HostRuntime) -> Result<(), Fail> {
     let alloc = rt.alloc();
-    let text = with_ones(alloc, 33)?;
-    let file = mono(alloc, &[0xff; 5])?;
-    check_played(&rt, alloc, (text.as_str(), &file), &ONES)
+    check_played(&rt, alloc, (projects::ONES, &ONES_FILE), &ONES)
 }
 
 #[test]

@@ -1,7 +1,5 @@
 //! Stretches of a sound that are kept while its file is read: the bits that stand there, however the file is read.
 
-ghost use Rattle.std.specs.Prelude.{◌<◌};
-
 use crate::long_sounds::{blocks, laced};
 use crate::played::NEVER;
 use device_core::Inlet;
@@ -19,20 +17,27 @@ fn range(start: usize, stop: usize) -> BitRange {
     BitRange { start, stop }
 }
 
-// Two channels, f0 aa and 0f 55.
-#[test]
-fn keeps_bits_of_each_channel(rt: HostRuntime) -> Result<(), Fail> {
-    let alloc = rt.alloc();
-    let file = stereo(alloc, &[0xf0, 0x0f, 0xaa, 0x55])?;
+// Whether the bits 4 to 11, those from 12 on, and none are kept of two channels, f0 aa and 0f 55.
+fn are_stereo(kept: &Kept) -> bool {
+    is_stereo(kept, 0, &[&[0x0a], &[0xf5]], 8)
+        && is_stereo(kept, 1, &[&[0xa0], &[0x50]], 4)
+        && is_stereo(kept, 2, &[&[], &[]], 0)
+        && kept.stretches.len() == 3
+        && kept.outline.sound.count == 16
+}
+
+// The same of a file.
+fn keeps_stereo(alloc: Global, file: Result<Vec<u8>, AllocError>) -> Result<bool, Fault> {
+    let file = file?;
     let mut inlet = Inlet::new(drip(&file, 7, NEVER));
     let ranges = [range(4, 12), range(12, 100), range(3, 3)];
-    let kept = read_stretches(alloc, &mut inlet, &ranges)?;
-    assert!(rt; is_stereo(&kept, 0, &[&[0x0a], &[0xf5]], 8));
-    assert!(rt; is_stereo(&kept, 1, &[&[0xa0], &[0x50]], 4));
-    assert!(rt; is_stereo(&kept, 2, &[&[], &[]], 0));
-    assert!(rt; kept.stretches.len() == 3);
-    assert!(rt; kept.outline.sound.count == 16);
-    Ok(())
+    Ok(are_stereo(&read_stretches(alloc, &mut inlet, &ranges)?))
+}
+
+#[test]
+fn keeps_bits_of_each_channel(rt: HostRuntime) {
+    let file = stereo(rt.alloc(), &[0xf0, 0x0f, 0xaa, 0x55]);
+    assert!(rt; keeps_stereo(rt.alloc(), file).unwrap_or(false));
 }
 
 // Whether a stretch has two channels of so many bits, packed as these.
@@ -83,19 +88,31 @@ fn is_stretch(
     Ok(stretch.len() == channels.len())
 }
 
-// Whether just the bits in these ranges are kept of a file that is read so many bytes at a time.
-fn are_kept(alloc: Global, file: &[u8], ranges: &[BitRange], most: usize) -> Result<bool, Fault>
-    requires { 0 < most }
-{
-    let mut inlet = Inlet::new(drip(file, most, NEVER));
-    let kept = read_stretches(alloc, &mut inlet, ranges)?;
-    let opened = read_any(alloc, file)?;
-    for (stretch, range) in kept.stretches.iter().zip(ranges) {
-        if !is_stretch(alloc, stretch, &opened.recording, *range)? {
+// Whether stretches have just the bits in these ranges.
+fn are_stretches(
+    alloc: Global,
+    stretches: &[Vec<Bits>],
+    recording: &Recording,
+    ranges: &[BitRange],
+) -> Result<bool, AllocError> {
+    for (stretch, range) in stretches.iter().zip(ranges) {
+        if !is_stretch(alloc, stretch, recording, *range)? {
             return Ok(false);
         }
     }
-    Ok(kept.stretches.len() == ranges.len())
+    Ok(stretches.len() == ranges.len())
+}
+
+// Whether just the bits in these ranges are kept of the file of a recording that is read so many bytes at a time.
+fn are_kept(
+    alloc: Global,
+    (file, recording): (&[u8], &Recording),
+    ranges: &[BitRange],
+    most: usize,
+) -> Result<bool, Fault> {
+    let mut inlet = Inlet::new(drip(file, most, NEVER));
+    let kept = read_stretches(alloc, &mut inlet, ranges)?;
+    Ok(are_stretches(alloc, &kept.stretches, recording, ranges)?)
 }
 
 // The same of a file that is read by 1, by 4096 and by 65,536 bytes.
@@ -105,8 +122,13 @@ fn is_same(
     ranges: &[BitRange],
 ) -> Result<bool, Fault> {
     let file = file?;
-    let little = are_kept(alloc, &file, ranges, 1)?;
-    Ok(little && are_kept(alloc, &file, ranges, 4096)? && are_kept(alloc, &file, ranges, 65_536)?)
+    let opened = read_any(alloc, &file)?;
+    for most in [1, 4096, 65_536] {
+        if !are_kept(alloc, (&file, &opened.recording), ranges, most)? {
+            return Ok(false);
+        }
+    }
+    Ok(true)
 }
 
 // Ranges in any order that overlap, that begin and end inside a byte, and that reach behind the end.
@@ -143,23 +165,34 @@ fn keeps_what_stands_across_groups(rt: HostRuntime) -> Result<(), Fail> {
     Ok(())
 }
 
-// What is answered of a reader that gives one byte at a time and fails at a read, how many reads there were, and how
-// many failed.
-fn fails(alloc: Global, file: &[u8], read: u64) -> (Option<StreamFault>, u64, u64) {
+// Whether a reader that gives one byte at a time and fails at a read is answered by this fault, after so many reads, of
+// which so many failed.
+fn fails(
+    alloc: Global,
+    file: &[u8],
+    read: u64,
+    fault: StreamFault,
+    (reads, failures): (u64, u64),
+) -> bool {
     let mut inlet = Inlet::new(drip(file, 1, read));
     let kept = read_stretches(alloc, &mut inlet, &[range(0, 8)]);
-    (kept.err(), inlet.reads(), inlet.failures())
+    let is_so = matches!(kept, Err(found) if found == fault);
+    is_so && inlet.reads() == reads && inlet.failures() == failures
 }
 
 #[test]
-fn names_what_fails(rt: HostRuntime) -> Result<(), Fail> {
+fn names_what_fails(rt: HostRuntime) {
     let alloc = rt.alloc();
-    let failed = Some(StreamFault::ReadFailed);
-    assert!(rt; fails(alloc, &FILE, 1) == (failed, 1, 1));
-    assert!(rt; fails(alloc, &FILE, 127) == (failed, 127, 1));
-    let cut = [0u8; 0];
-    assert!(rt; fails(alloc, &cut, NEVER) == (Some(StreamFault::FileRefused), 1, 0));
-    let (front, _) = FILE.split_at(126);
-    assert!(rt; fails(alloc, front, NEVER) == (Some(StreamFault::FileRefused), 127, 0));
-    Ok(())
+    assert!(rt; fails(alloc, &FILE, 1, StreamFault::ReadFailed, (1, 1)));
+    assert!(rt; fails(alloc, &FILE, 127, StreamFault::ReadFailed, (127, 1)));
+    assert!(rt; fails(alloc, b"", NEVER, StreamFault::FileRefused, (1, 0)));
+    assert!(rt;
+        fails(
+            alloc,
+            &FILE[..126],
+            NEVER,
+            StreamFault::FileRefused,
+            (127, 0)
+        )
+    );
 }

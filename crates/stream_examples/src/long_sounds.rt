@@ -67,10 +67,10 @@ fn plays_laced_bytes_as_in_memory(rt: HostRuntime) {
     for (taps, numbers) in &PROJECTS {
         let mono = laced(alloc, &MONO, 4099);
         let mono = is_same(alloc, project(alloc, taps, *numbers), mono);
-        assert!(rt; mono == Ok(true), "mono by {taps}");
+        assert!(rt; mono.unwrap_or(false), "mono by {taps}");
         let stereo = laced(alloc, &STEREO, 8198);
         let stereo = is_same(alloc, project(alloc, taps, *numbers), stereo);
-        assert!(rt; stereo == Ok(true), "stereo by {taps}");
+        assert!(rt; stereo.unwrap_or(false), "stereo by {taps}");
     }
 }
 
@@ -79,7 +79,7 @@ fn plays_laced_bytes_as_in_memory(rt: HostRuntime) {
 fn plays_two_blocks_as_in_memory(rt: HostRuntime) {
     let alloc = rt.alloc();
     let text = project(alloc, "[1, 2, 3, 4]", (64, 3, 0, 16));
-    assert!(rt; is_same(alloc, text, laced(alloc, &MONO, 65_411)) == Ok(true));
+    assert!(rt; is_same(alloc, text, laced(alloc, &MONO, 65_411)).unwrap_or(false));
 }
 
 // Two groups of blocks, of which the second has one bit, or all but one; two groups of 8 bits per sample, and
@@ -98,7 +98,7 @@ fn plays_blocks_as_in_memory(rt: HostRuntime) {
         for (taps, decimator) in &PROJECTS {
             let text = project(alloc, taps, *decimator);
             let same = is_same(alloc, text, blocks(alloc, *numbers, *size));
-            assert!(rt; same == Ok(true), "{numbers:?} by {taps}");
+            assert!(rt; same.unwrap_or(false), "{size} bytes by {taps}");
         }
     }
 }
@@ -106,8 +106,10 @@ fn plays_blocks_as_in_memory(rt: HostRuntime) {
 #[test]
 fn plays_4096_taps_as_in_memory(rt: HostRuntime) {
     let alloc = rt.alloc();
-    assert!(rt; is_same(alloc, with_ones(alloc, 4096), mono(alloc, &[0xff; 512])) == Ok(true));
-    assert!(rt; is_same(alloc, with_ones(alloc, 4096), laced(alloc, &STEREO, 600)) == Ok(true));
+    assert!(rt; is_same(alloc, with_ones(alloc, 4096), mono(alloc, &[0xff; 512])).unwrap_or(false));
+    assert!(rt;
+        is_same(alloc, with_ones(alloc, 4096), laced(alloc, &STEREO, 600)).unwrap_or(false)
+    );
 }
 
 // A reader of 32,789 bytes at a time fails behind 196,734 of 262,270 bytes: 196,608 of them are of the sound. What was
@@ -142,7 +144,7 @@ fn written_before_the_end(
     (most, fails_at): (usize, u64),
 ) -> Result<(usize, bool, usize), Fault> {
     let wave = play(alloc, DECIMATE.as_bytes(), file)?;
-    let reader = drip(file, most.max(1), fails_at);
+    let reader = drip(file, most, fails_at);
     let played = play_from(alloc, DECIMATE.as_bytes(), reader, sip(alloc, NEVER, NEVER));
     Ok((wave.len(), played.stops_reading(&wave), played.bytes.len()))
 }

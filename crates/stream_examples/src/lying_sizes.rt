@@ -6,11 +6,10 @@ use fixtures::files::{FILE, MONO, RATE, RAW, WAVE, changed, file_of, marked_with
 use fixtures::projects::DECIMATE;
 use fixtures::waves::sample;
 use std::alloc::{AllocError, Global};
-use std::test::Fail;
 
-// Whether a file is refused, and cut at each length too up to so many bytes, all at one read. Shorter than `bare`
-// nothing is written, and else a front of these bytes.
-fn are_no_files(
+// Whether a file that is cut at each length up to so many bytes is refused, all at one read. Shorter than `bare` nothing
+// is written, and else a front of these bytes.
+fn are_cut(
     alloc: Global,
     file: &[u8],
     (bare, end): (usize, usize),
@@ -23,7 +22,18 @@ fn are_no_files(
             return Ok(false);
         }
     }
-    is_no_file(alloc, Vec::from_slice(alloc, file), wave)
+    Ok(true)
+}
+
+// The same, and whole.
+fn are_no_files(
+    alloc: Global,
+    file: &[u8],
+    ends: (usize, usize),
+    wave: &[u8],
+) -> Result<bool, AllocError> {
+    let whole = is_no_file(alloc, Vec::from_slice(alloc, file), wave)?;
+    Ok(whole && are_cut(alloc, file, ends, wave)?)
 }
 
 // A place of `FILE` and other bytes there: the form's size, that of the version, and the channel number.
@@ -46,7 +56,7 @@ fn is_lie_refused(alloc: Global, (place, bytes): (usize, &[u8])) -> Result<bool,
 fn forms_that_lie_are_refused(rt: HostRuntime) {
     for lie in &LIES {
         assert!(rt;
-            is_lie_refused(rt.alloc(), *lie) == Ok(true),
+            is_lie_refused(rt.alloc(), *lie).unwrap_or(false),
             "at {}",
             lie.0
         );
@@ -62,12 +72,15 @@ fn long_text(alloc: Global) -> Result<Vec<u8>, AllocError> {
     file_of(alloc, &[&RATE, &MONO, &RAW], &[0xf0], &mark)
 }
 
+// Whether its 174 bytes are refused.
+fn is_mark_refused(alloc: Global) -> Result<bool, AllocError> {
+    let file = long_text(alloc)?;
+    Ok(file.len() == 174 && are_no_files(alloc, &file, (126, 174), &WAVE)?)
+}
+
 #[test]
-fn a_mark_that_lies_is_refused(rt: HostRuntime) -> Result<(), Fail> {
-    let file = long_text(rt.alloc())?;
-    assert!(rt; file.len() == 174);
-    assert!(rt; are_no_files(rt.alloc(), &file, (126, 174), &WAVE) == Ok(true));
-    Ok(())
+fn a_mark_that_lies_is_refused(rt: HostRuntime) {
+    assert!(rt; is_mark_refused(rt.alloc()).unwrap_or(false));
 }
 
 // A place of a DSF file of one bit and eight other bytes there: the size of the second chunk, that of the third, which
@@ -98,32 +111,23 @@ fn is_block_lie_refused(alloc: Global, lie: (usize, [u8; 8])) -> Result<bool, Al
 fn blocks_that_lie_are_refused(rt: HostRuntime) {
     for lie in &BLOCK_LIES {
         assert!(rt;
-            is_block_lie_refused(rt.alloc(), *lie) == Ok(true),
+            is_block_lie_refused(rt.alloc(), *lie).unwrap_or(false),
             "at {}",
             lie.0
         );
     }
 }
 
-// The file that tells no lie, cut at each length.
-#[test]
-fn blocks_that_are_cut_are_refused(rt: HostRuntime) -> Result<(), Fail> {
-    let alloc = rt.alloc();
+// The file that tells no lie is played to these bytes, and refused at each lesser length.
+fn is_played_whole(alloc: Global, wave: &[u8]) -> Result<bool, AllocError> {
     let file = one_bit(alloc, b"")?;
-    assert!(rt; are_cut(alloc, &file, &sample([4, 0])) == Ok(true));
-    Ok(())
+    let whole = play_by(alloc, DECIMATE.as_bytes(), &file, 4096).gives(wave);
+    Ok(whole && are_cut(alloc, &file, (92, 4188), wave)?)
 }
 
-// Whether a file that is played to these bytes is refused at each lesser length.
-fn are_cut(alloc: Global, file: &[u8], wave: &[u8]) -> Result<bool, AllocError> {
-    for length in 0..file.len() {
-        let front = if length < 92 { b"" } else { wave };
-        let played = play_by(alloc, DECIMATE.as_bytes(), &file[..length], 4096);
-        if !is_played(alloc, played, "FileRefused", front)? {
-            return Ok(false);
-        }
-    }
-    Ok(play_by(alloc, DECIMATE.as_bytes(), file, 4096).gives(wave))
+#[test]
+fn blocks_that_are_cut_are_refused(rt: HostRuntime) {
+    assert!(rt; is_played_whole(rt.alloc(), &sample([4, 0])).unwrap_or(false));
 }
 
 // How a file begins, of which as many bytes follow as make 100,000, and by how many reads of one byte, of 7 and of
@@ -153,11 +157,12 @@ fn is_read(
     [by_1, by_7, by_4096]: [u64; 3],
     plays: bool,
 ) -> Result<bool, AllocError> {
-    Ok(
-        ends_in(alloc, file, 1, by_1, plays)?
-            && ends_in(alloc, file, 7, by_7, plays)?
-            && ends_in(alloc, file, 4096, by_4096, plays)?,
-    )
+    for (most, reads) in [(1, by_1), (7, by_7), (4096, by_4096)] {
+        if !ends_in(alloc, file, most, reads, plays)? {
+            return Ok(false);
+        }
+    }
+    Ok(true)
 }
 
 // The same by reads of so many bytes.
@@ -168,7 +173,7 @@ fn ends_in(
     reads: u64,
     plays: bool,
 ) -> Result<bool, AllocError> {
-    let played = play_by(alloc, DECIMATE.as_bytes(), file, most.max(1));
+    let played = play_by(alloc, DECIMATE.as_bytes(), file, most);
     let ends = if plays {
         played.gives(&WAVE)
     } else {
@@ -199,6 +204,6 @@ fn is_long_read(
 fn no_more_is_read_than_tells(rt: HostRuntime) {
     for (front, reads, plays) in &READS {
         let is_so = is_long_read(rt.alloc(), front, *reads, *plays);
-        assert!(rt; is_so == Ok(true), "{reads:?}");
+        assert!(rt; is_so.unwrap_or(false), "{reads:?}");
     }
 }

@@ -1,7 +1,5 @@
 //! What came of playing a reader's file to a writer, and a file that several examples play.
 
-ghost use Rattle.std.specs.Prelude.{◌<◌};
-
 use archive_core::{Fault, StreamFault, play_stream};
 use device_core::{Inlet, Outlet};
 use fixtures::devices::{Dripping, Sipping, drip, sip};
@@ -74,9 +72,7 @@ pub(crate) fn play_from(
 }
 
 /// What a project makes of a file that is read so many bytes at a time.
-pub(crate) fn play_by(alloc: Global, text: &[u8], file: &[u8], most: usize) -> Played
-    requires { 0 < most }
-{
+pub(crate) fn play_by(alloc: Global, text: &[u8], file: &[u8], most: usize) -> Played {
     play_from(
         alloc,
         text,
@@ -87,7 +83,10 @@ pub(crate) fn play_by(alloc: Global, text: &[u8], file: &[u8], most: usize) -> P
 
 /// Whether a file is played to these bytes, read by 1, by 7 and by 4096 bytes.
 pub(crate) fn plays(alloc: Global, text: &str, file: &[u8], wave: &[u8]) -> bool {
-    play_by(alloc, text.as_bytes(), file, 1).gives(wave)
-        && play_by(alloc, text.as_bytes(), file, 7).gives(wave)
-        && play_by(alloc, text.as_bytes(), file, 4096).gives(wave)
+    for most in [1, 7, 4096] {
+        if !play_by(alloc, text.as_bytes(), file, most).gives(wave) {
+            return false;
+        }
+    }
+    true
 }

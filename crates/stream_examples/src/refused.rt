@@ -25,10 +25,13 @@ const UNREAD: [(&[u8], &str); 4] = [
 fn a_project_is_refused_before_the_first_read(rt: HostRuntime) {
     let alloc = rt.alloc();
     for (text, expected) in &UNREAD {
-        assert!(rt; is_unread(alloc, text, expected) == Ok(true), "{expected}");
+        assert!(rt;
+            is_unread(alloc, text, expected).unwrap_or(false),
+            "{expected}"
+        );
     }
     assert!(rt;
-        is_unread(alloc, SPLICE.as_bytes(), "NoDecimation") == Ok(true),
+        is_unread(alloc, SPLICE.as_bytes(), "NoDecimation").unwrap_or(false),
         "a splice"
     );
 }
@@ -42,25 +45,13 @@ fn is_refused(
     expected: &str,
     wave: &[u8],
 ) -> Result<bool, AllocError> {
-    let by_1 = is_played(
-        alloc,
-        play_by(alloc, text.as_bytes(), file, 1),
-        expected,
-        wave,
-    );
-    let by_7 = is_played(
-        alloc,
-        play_by(alloc, text.as_bytes(), file, 7),
-        expected,
-        wave,
-    );
-    let by_4096 = is_played(
-        alloc,
-        play_by(alloc, text.as_bytes(), file, 4096),
-        expected,
-        wave,
-    );
-    Ok(by_1? && by_7? && by_4096?)
+    for most in [1, 7, 4096] {
+        let played = play_by(alloc, text.as_bytes(), file, most);
+        if !is_played(alloc, played, expected, wave)? {
+            return Ok(false);
+        }
+    }
+    Ok(true)
 }
 
 /// Whether playing was refused for this fault, no read or write failed, and what was written is a front of these bytes.
@@ -89,9 +80,9 @@ fn is_built_refused(
 #[test]
 fn a_rate_is_refused_before_the_first_write(rt: HostRuntime) {
     let alloc = rt.alloc();
-    assert!(rt; is_rate_refused(alloc, &FILE) == Ok(true));
+    assert!(rt; is_rate_refused(alloc, &FILE).unwrap_or(false));
     assert!(rt;
-        is_rate_refused(alloc, &FILE[..126]) == Ok(true),
+        is_rate_refused(alloc, &FILE[..126]).unwrap_or(false),
         "no sound"
     );
 }
@@ -152,7 +143,7 @@ fn a_size_is_refused_before_the_first_write(rt: HostRuntime) {
         let text = project(alloc, "[1, 2, 3, 4]", *numbers);
         let head = head_of(alloc, *claim);
         assert!(rt;
-            is_built_refused(alloc, text, head, expected, wave) == Ok(true),
+            is_built_refused(alloc, text, head, expected, wave).unwrap_or(false),
             "{expected} {claim:?}"
         );
     }
@@ -175,7 +166,10 @@ fn a_cut_file_is_refused(rt: HostRuntime) {
         // The header may stand where the sound's head does.
         let wave = if end < 126 { &[] } else { &WAVE[..44] };
         let file = Vec::from_slice(alloc, &FILE[..end]);
-        assert!(rt; is_no_file(alloc, file, wave) == Ok(true), "{end} bytes");
+        assert!(rt;
+            is_no_file(alloc, file, wave).unwrap_or(false),
+            "{end} bytes"
+        );
     }
 }
 
@@ -201,7 +195,7 @@ fn a_changed_file_is_refused(rt: HostRuntime) {
     for (place, bytes, wave) in &CHANGES {
         let file = with_bytes(alloc, *place, bytes);
         assert!(rt;
-            is_no_file(alloc, file, wave) == Ok(true),
+            is_no_file(alloc, file, wave).unwrap_or(false),
             "{place} {bytes:?}"
         );
     }
@@ -236,9 +230,9 @@ fn is_rest_refused(alloc: Global, rest: &[u8]) -> Result<bool, AllocError> {
 fn a_file_of_another_property_is_refused(rt: HostRuntime) {
     let alloc = rt.alloc();
     let two_rates = is_property_refused(alloc, &[&RATE, &RATE, &MONO, &RAW]);
-    assert!(rt; two_rates == Ok(true), "two rates");
+    assert!(rt; two_rates.unwrap_or(false), "two rates");
     let no_channels = is_property_refused(alloc, &[&RATE, &RAW]);
-    assert!(rt; no_channels == Ok(true), "no channels");
+    assert!(rt; no_channels.unwrap_or(false), "no channels");
 }
 
 // A mark of 21 bytes, one of a text that goes past its end, another sound, and a chunk's head cut.
@@ -252,7 +246,10 @@ const RESTS: [(&[u8], &str); 4] = [
 #[test]
 fn a_file_of_other_chunks_is_refused(rt: HostRuntime) {
     for (rest, case) in &RESTS {
-        assert!(rt; is_rest_refused(rt.alloc(), rest) == Ok(true), "{case}");
+        assert!(rt;
+            is_rest_refused(rt.alloc(), rest).unwrap_or(false),
+            "{case}"
+        );
     }
 }
 
@@ -291,9 +288,9 @@ fn is_pointed_refused(alloc: Global, pointer: u64) -> Result<bool, AllocError> {
 fn a_dsf_file_without_its_whole_is_refused(rt: HostRuntime) {
     for pointer in [1, 4187, 4189, u64::MAX] {
         assert!(rt;
-            is_pointed_refused(rt.alloc(), pointer) == Ok(true),
+            is_pointed_refused(rt.alloc(), pointer).unwrap_or(false),
             "to {pointer}"
         );
     }
-    assert!(rt; is_pointed_played(rt.alloc(), 4188) == Ok(true));
+    assert!(rt; is_pointed_played(rt.alloc(), 4188).unwrap_or(false));
 }

@@ -6,8 +6,11 @@ use archive_core::{Fault, play, play_stream};
 use device_core::{Inlet, Outlet};
 use fixtures::compared::equal;
 use fixtures::devices::{drip, sip};
-use fixtures::files::{FILE, WAVE, followed, mono, noted, one_bit, stereo, three, with_sound};
-use fixtures::projects::{DECIMATE, project, with_ones};
+use fixtures::files::{
+    FILE, ONES_FILE, WAVE, followed, mono, noted, one_bit, stereo, three, with_sound,
+};
+use fixtures::projects;
+use fixtures::projects::{DECIMATE, project};
 use fixtures::waves::{SAMPLES, THREE_CHANNELS, TWO_CHANNELS, WIDE, sample};
 use std::alloc::{AllocError, Global};
 
@@ -27,7 +30,7 @@ fn plays_one_sample(rt: HostRuntime) {
     for (taps, numbers, sound, bytes) in &SAMPLES {
         let text = project(alloc, taps, *numbers);
         let equal = plays_byte(alloc, text, *sound, *bytes);
-        assert!(rt; equal == Ok(true), "{taps} {numbers:?} {sound}");
+        assert!(rt; equal.unwrap_or(false), "{taps} {sound}");
     }
 }
 
@@ -56,10 +59,12 @@ fn plays_built(
 #[test]
 fn plays_several_channels_and_dsf(rt: HostRuntime) {
     let alloc = rt.alloc();
-    assert!(rt; plays_built(alloc, stereo(alloc, &[0xf0, 0x0f]), &TWO_CHANNELS) == Ok(true));
-    assert!(rt; plays_built(alloc, three(alloc, &[0xf0, 0x0f, 0xf0]), &THREE_CHANNELS) == Ok(true));
-    assert!(rt; plays_built(alloc, one_bit(alloc, b""), &sample([4, 0])) == Ok(true));
-    assert!(rt; plays_built(alloc, one_bit(alloc, b"a tag"), &sample([4, 0])) == Ok(true));
+    assert!(rt; plays_built(alloc, stereo(alloc, &[0xf0, 0x0f]), &TWO_CHANNELS).unwrap_or(false));
+    assert!(rt;
+        plays_built(alloc, three(alloc, &[0xf0, 0x0f, 0xf0]), &THREE_CHANNELS).unwrap_or(false)
+    );
+    assert!(rt; plays_built(alloc, one_bit(alloc, b""), &sample([4, 0])).unwrap_or(false));
+    assert!(rt; plays_built(alloc, one_bit(alloc, b"a tag"), &sample([4, 0])).unwrap_or(false));
 }
 
 // Whether `FILE` is played to these bytes by a project that was built.
@@ -74,7 +79,7 @@ fn plays_by(
 #[test]
 fn plays_24_bits(rt: HostRuntime) {
     let text = project(rt.alloc(), "[1, 2, 3, 4]", (8, 3, 0, 24));
-    assert!(rt; plays_by(rt.alloc(), text, &WIDE) == Ok(true));
+    assert!(rt; plays_by(rt.alloc(), text, &WIDE).unwrap_or(false));
 }
 
 // The pad counted in the size of the chunk `CMPR`, no pad behind the last chunk, bytes behind the form, and a mark
@@ -86,8 +91,8 @@ fn plays_files_of_usual_writers(rt: HostRuntime) {
     long_name[93] = 20;
     assert!(rt; plays(alloc, DECIMATE, &long_name, &WAVE));
     assert!(rt; plays(alloc, DECIMATE, &FILE[..127], &WAVE));
-    assert!(rt; plays_built(alloc, followed(alloc), &WAVE) == Ok(true));
-    assert!(rt; plays_built(alloc, noted(alloc, 22), &WAVE) == Ok(true));
+    assert!(rt; plays_built(alloc, followed(alloc), &WAVE).unwrap_or(false));
+    assert!(rt; plays_built(alloc, noted(alloc, 22), &WAVE).unwrap_or(false));
 }
 
 // Whether a file is played to `ONES`, to a writer and in memory.
@@ -96,16 +101,9 @@ fn plays_ones(alloc: Global, text: &str, file: &[u8]) -> Result<bool, Fault> {
     Ok(plays(alloc, text, file, &ONES) && equal(&wave, &ONES))
 }
 
-// The same of 40 ones by 33 taps, and how many bytes their file has.
-fn plays_forty_ones(alloc: Global) -> Result<(usize, bool), Fault> {
-    let text = with_ones(alloc, 33)?;
-    let file = mono(alloc, &[0xff; 5])?;
-    Ok((file.len(), plays_ones(alloc, &text, &file)?))
-}
-
 #[test]
 fn plays_the_edges_of_33_taps(rt: HostRuntime) {
-    assert!(rt; plays_forty_ones(rt.alloc()) == Ok((132, true)));
+    assert!(rt; plays_ones(rt.alloc(), projects::ONES, &ONES_FILE).unwrap_or(false));
 }
 
 // Whether a file is played to these bytes from an inlet that gave three bytes before.
@@ -131,6 +129,6 @@ fn plays_behind(
 #[test]
 fn plays_files_behind_other_bytes(rt: HostRuntime) {
     let alloc = rt.alloc();
-    assert!(rt; plays_behind(alloc, mono(alloc, &[0xf0]), &WAVE) == Ok(true));
-    assert!(rt; plays_behind(alloc, one_bit(alloc, b"a tag"), &sample([4, 0])) == Ok(true));
+    assert!(rt; plays_behind(alloc, mono(alloc, &[0xf0]), &WAVE).unwrap_or(false));
+    assert!(rt; plays_behind(alloc, one_bit(alloc, b"a tag"), &sample([4, 0])).unwrap_or(false));
 }

@@ -3,6 +3,7 @@ pub mod Composition
 pub mod Consuming
 pub mod Entries
 pub mod Exact
+pub mod ExitLaws
 pub mod Heads
 pub mod Held
 pub mod Marks

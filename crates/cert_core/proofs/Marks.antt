@@ -3,7 +3,7 @@ use Rattle.std.proofs.Common.{◌≡◌, ◌≢◌, ℕ, zero, suc, ◌+◌, ◌
 use Rattle.std.specs.Simd.Lanes.{zip2, mask_l, top}
 use Rattle.std.proofs.lemmas.Bool.{ltb-false, ltb-true, cases_lt}
 use Rattle.std.proofs.Math.Nat.{zero-div}
-use Rattle.std.proofs.lemmas.List.{get_or-replicate}
+use Rattle.std.proofs.lemmas.List.{get_or-drop, get_or-replicate}
 use Rattle.std.proofs.lemmas.Simd.{bit_mask_l, get_or-chunk, length-zip2}
 use Rattle.std.specs.Simd.{first_chunks}
 use Rattle.cost_core.specs.Rows.{seconds}
@@ -63,6 +63,12 @@ one_over_value row v lr ne =
 -- one of eight values where it stands in its row
 pub lane : (i k : ℕ) (ys xs : List ℕ) → ys ≡ take 8 (drop (8 * i) xs) → k < 8 → get_or ys k 0 ≡ get_or xs (8 * i + k) 0
 lane i k ys xs e h = ap (λ y. get_or y k 0) e ∙ get_or-chunk (8 * i) 8 xs k 0 h
+
+-- the same of a value behind the eights
+pub in_rest : (rest xs : List ℕ) (i : ℕ) → rest ≡ drop (length xs / 8 * 8) xs → get_or rest i 0 ≡ get_or xs (8 * (length xs / 8) + i) 0
+in_rest rest xs i is =
+    let place : length xs / 8 * 8 + i ≡ 8 * (length xs / 8) + i = omega arith in
+    ap (λ ys. get_or ys i 0) is ∙ get_or-drop (length xs / 8 * 8) xs i 0 ∙ ap (λ n. get_or xs n 0) place
 
 pub in_eight : (ws : List (List ℕ)) (xs : List ℕ) (i k : ℕ) → ws ≡ first_chunks 8 (length xs / 8) xs → i < length xs / 8 → k < 8 → get_or (get_or ws i []) k 0 ≡ get_or xs (8 * i + k) 0
 in_eight ws xs i k e l h = lane i k (get_or ws i []) xs (at_chunk ws xs i e l) h

@@ -1,16 +1,19 @@
 -- What becomes of the files of a master and its certificate that could not be written, and of those that are judged.
-use Rattle.std.proofs.Common.{◌≡◌, ◌≢◌, ℕ, inl, inr, List, Bool, IsTrue, Some, Ok, Err, Result, subst, sym, ◌∙◌}
+use Rattle.std.proofs.Common.{◌≡◌, ◌≢◌, ◌⊎◌, ℕ, inl, inr, List, Bool, IsTrue, None, Some, Ok, Err, Result, refl, subst, sym, ◌∙◌}
 use Rattle.archive_core.specs.Checking.{Accepts}
 use Rattle.archive_core.specs.Editing.{Edits}
 use Rattle.folder_core.specs.Files.{Files, IsFront, KeepsOthers}
 use Rattle.folder_core.specs.declared.fault.FileFault.{FileFault}
 use Rattle.folder_core.specs.declared.fault.FileFault.TheVariants as files
 use Rattle.transfer_commands.specs.Faults.{of_file}
-use Rattle.transfer_commands.specs.Sources.{AreSources}
+use Rattle.transfer_commands.specs.Outlining.{IsUnread}
+use Rattle.transfer_commands.specs.Sources.{AreSources, SourcesUnread}
 use Rattle.transfer_commands.specs.declared.fault.CommandFault.{CommandFault}
 use Rattle.transfer_commands.specs.declared.fault.CommandFault.TheVariants as faults
+use Rattle.transfer_core.specs.declared.fault.Fault.{Fault}
+use Rattle.transfer_core.specs.declared.fault.Fault.TheVariants.{Memory}
 use Rattle.master_core.specs.declared.verdict.Verdict.{Verdict}
-use Rattle.command_core.specs.Commands.{CheckComesTo, Cut, CutsFile, EditComesTo, EditsFiles, JudgedComesTo}
+use Rattle.command_core.specs.Commands.{CheckComesTo, Cut, CutRefused, CutsFile, EditComesTo, EditsFiles, JudgedComesTo}
 
 -- a master is cut, and could not be written
 pub cut_unwritten : (cut : Cut) (old read new : Files) (told told_read : Bool) (project master : List ℕ) (takes : List (List ℕ)) (total : ℕ) (fault : FileFault)
@@ -115,3 +118,28 @@ module _ (project_name master_name cert_name : List ℕ) (old read held new : Fi
   checked same_read same_held same_new sources master_stands cert_stands (Err (faults.Call fault)) fails = (same_new ∙ (same_held ∙ same_read), inr (inr (record { project = project; takes = takes; sources = sources; first = fails })))
   checked same_read same_held same_new sources master_stands cert_stands (Err faults.ReadFailed) h = same_new ∙ (same_held ∙ same_read)
   checked same_read same_held same_new sources master_stands cert_stands (Err faults.WriteFailed) h = absurd h
+
+-- ---- what was refused before a file was written
+-- the project or a take was not read
+pub edit_unread : (cut : Cut) (old new : Files) (f : CommandFault) → SourcesUnread cut.project_name old new f → EditComesTo cut old new (Err f)
+edit_unread cut old new (faults.Call fault) h = (h.0, elim h.1 [ | inl memory ↦ inl memory | inr unnamed ↦ inr (inl unnamed) ])
+edit_unread cut old new faults.ReadFailed h = h
+edit_unread cut old new faults.WriteFailed h = absurd h
+
+module _ (project master cert : List ℕ) (old new : Files) where
+  pub sources_unread : (f : CommandFault) → SourcesUnread project old new f → CheckComesTo project master cert old new (Err f)
+  sources_unread (faults.Call fault) h = (h.0, elim h.1 [ | inl memory ↦ inl memory | inr unnamed ↦ inr (inl unnamed) ])
+  sources_unread faults.ReadFailed h = h
+  sources_unread faults.WriteFailed h = absurd h
+
+  -- the master was not read
+  pub master_unread : new ≡ old → (f : CommandFault) → IsUnread f → CheckComesTo project master cert old new (Err f)
+  master_unread same (faults.Call Memory) h = (same, inl refl)
+  master_unread same (faults.Call fault) h = absurd h
+  master_unread same faults.ReadFailed h = same
+  master_unread same faults.WriteFailed h = absurd h
+
+  -- there is no cut
+  pub uncut : (f : CommandFault) (fault : Fault) → CutRefused None project old new fault → (f ≡ faults.ReadFailed) ⊎ (f ≡ faults.Call fault) → CheckComesTo project master cert old new (Err f)
+  uncut f fault refused (inl is) = subst (λ (f : CommandFault). CheckComesTo project master cert old new (Err f)) (sym is) refused.0
+  uncut f fault refused (inr is) = subst (λ (f : CommandFault). CheckComesTo project master cert old new (Err f)) (sym is) refused

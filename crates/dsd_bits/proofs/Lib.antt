@@ -1,4 +1,5 @@
 pub mod BlockLemmas
+pub mod ExitLaws
 pub mod LacingLemmas
 pub mod LayoutLaws
 pub mod PackingLemmas

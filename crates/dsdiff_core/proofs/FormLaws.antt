@@ -1,7 +1,7 @@
 -- The form and its chunks, in both directions.
-use Rattle.std.proofs.Common.{◌≡◌, ℕ, ◌+◌, ◌≤◌, true, false, not, List, [], ◌∷◌, length, map, take, drop, Ok, refl}
+use Rattle.std.proofs.Common.{◌≡◌, ℕ, ◌+◌, ◌-◌, ◌≤◌, ◌<◌, ◌⊎◌, inl, inr, true, false, ltb, not, List, [], ◌∷◌, length, map, take, drop, Ok, Err, refl, arith}
 use Rattle.std.specs.Prelude.{slice_index}
-use Rattle.std.proofs.lemmas.Bool.{ltb-false, le-ltb, eqb-true}
+use Rattle.std.proofs.lemmas.Bool.{ltb-false, le-ltb, lt-ltb, eqb-true}
 use Rattle.chunk_core.specs.declared.layout.Span.{Span}
 use Rattle.chunk_core.specs.Chunks.{Chunk}
 use Rattle.chunk_core.specs.Places.{span_chunk}
@@ -14,7 +14,7 @@ use Rattle.dsdiff_core.specs.Forms.{end_of, top_of, version_of}
 use Rattle.dsdiff_core.specs.Kinds.{FRM8, has_id}
 use Rattle.dsdiff_core.specs.Spans.{once_each, top_kinds}
 use Rattle.dsdiff_core.specs.Steps.{walked}
-use Rattle.dsdiff_core.proofs.KindLaws.{id_is}
+use Rattle.dsdiff_core.proofs.KindLaws.{bool_cases, id_is}
 use Rattle.dsdiff_core.proofs.OnceLaws.{Once, none_yet, once_again, once_ok}
 use Rattle.dsdiff_core.proofs.Steps.{not_false, under_ok, walked_ok}
 
@@ -100,3 +100,18 @@ pub top_again : (file : List ℕ) (top : List Span) → IsTop file top → top_o
 unfolding top_of
 top_again file top t =
     rw (end_again file t.form, t.spans, version_again (map (span_chunk file) top) t.version, once_again (top_kinds file) [] top t.once) refl
+
+-- a form whose size is too small, or goes past the file's end
+pub form_cut : (file : List ℕ) → 16 ≤ length file → not (same_id (take 4 file) FRM8) ≡ false → not (same_id (take 4 (drop 12 file)) DSD) ≡ false
+    → (form_size file < 4) ⊎ (length file + 1 < 12 + form_size file) → end_of file ≡ Err faults.FormCut
+unfolding end_of
+form_cut file long id kind (inl small) = rw (le-ltb (length file) 16 long, id, kind, lt-ltb (form_size file) 4 small) refl
+form_cut file long id kind (inr cut) =
+    elim (bool_cases (ltb (form_size file) 4)) [
+      | inl small ↦ rw (le-ltb (length file) 16 long, id, kind, small) refl
+      | inr enough ↦ rw (le-ltb (length file) 16 long, id, kind, enough, lt-ltb (length file + 1) (12 + form_size file) cut) refl
+    ]
+
+-- the bytes behind the form's size are fewer than it names
+pub cut_by : (file : List ℕ) (size : ℕ) → 16 ≤ length file → length file - 11 < size → size ≡ form_size file → length file + 1 < 12 + form_size file
+cut_by file size long few e = omega (arith, e)

@@ -7,8 +7,11 @@ pub mod OtherSound
 pub mod ClosingLaws
 pub mod OutlineLaws
 pub mod SeekLoop
+pub mod FrontSteps
+pub mod RefuseLoop
 pub mod Steps
 pub mod JoinedSteps
+pub mod ExitLaws
 pub mod KindLaws
 pub mod SpanLaws
 pub mod OnceLoop

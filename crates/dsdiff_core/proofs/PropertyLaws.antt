@@ -160,3 +160,9 @@ pub property_again : (file : List ℕ) (top : List Span) (told : Told) → IsPro
 unfolding property_of
 property_again file top told p =
     rw (p.found, p.spans, once_again property_kinds [] told.parts p.once, p.at_rates, p.at_names, p.at_kinds, fields_again p.rates p.names p.kinds told.rate told.ids p.is_told) refl
+
+-- the fields of the chunks, which were looked for in the same chunks three times
+pub fields_with : (file : List ℕ) (parts ss-0 ss-1 ss-2 : List Span) (rates names kinds : Option (List ℕ)) → ss-0 ≡ parts → ss-1 ≡ parts → ss-2 ≡ parts
+    → rates ≡ data_with file FS ss-0 → names ≡ data_with file CHNL ss-1 → kinds ≡ data_with file CMPR ss-2
+    → fields_of rates names kinds ≡ fields_of (data_with file FS parts) (data_with file CHNL parts) (data_with file CMPR parts)
+fields_with file parts ss-0 ss-1 ss-2 rates names kinds e-0 e-1 e-2 r n k = rw (r, n, k, e-0, e-1, e-2) refl

@@ -1,5 +1,5 @@
 -- The loop that looks for the head of the sound.
-use Rattle.std.proofs.Common.{◌≡◌, ℕ, zero, suc, ◌+◌, ◌%◌, ◌≤◌, ◌<◌, true, false, cond, ltb, List, length, take, drop, Option, Some, None, Result, Ok, Err, refl, sym, ◌∙◌, arith}
+use Rattle.std.proofs.Common.{◌≡◌, ℕ, zero, suc, ◌+◌, ◌-◌, ◌%◌, ◌≤◌, ◌<◌, true, false, cond, ltb, List, length, take, drop, Option, Some, None, Result, Ok, Err, refl, sym, ◌∙◌, arith}
 use Rattle.std.proofs.lemmas.Bool.{lt-ltb, le-ltb}
 use Rattle.chunk_core.specs.declared.fault.ChunkFault.TheVariants.{DataCut}
 use Rattle.dsd_bits.specs.Ids.{same_id, DSD}
@@ -49,6 +49,10 @@ steps_of : (front : List ℕ) (at size steps : ℕ) → at ≤ length front + 1 
 unfolding seek_for
 steps_of front at size zero within enough e = absurd (omega arith)
 steps_of front at size (suc steps) within enough e = record { steps = steps; enough = omega arith; is = sym e }
+
+-- data of which no more is named than is left
+pub data_fit : (front : List ℕ) (at size named : ℕ) → at ≤ size → named ≤ size - at → named ≡ size_at front at → at + size_at front at ≤ size
+data_fit front at size named h k e = omega (arith, e)
 
 module _ (front : List ℕ) (at size : ℕ) (w : IsSought front at size) where
   on : Steps front at size

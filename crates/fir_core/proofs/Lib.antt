@@ -12,3 +12,4 @@ pub mod WindowLaws
 pub mod LaneLaws
 pub mod LaneSigns
 pub mod LaneSums
+mod ExitLaws

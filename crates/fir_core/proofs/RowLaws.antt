@@ -1,12 +1,12 @@
 -- Sums from rows: a byte at a time, in each window that it stands in.
-use Rattle.std.proofs.Common.{◌≡◌, ℕ, zero, suc, ◌+◌, ◌-◌, ◌*◌, ◌/◌, ◌%◌, ◌^◌, ◌<◌, ◌≤◌, ℤ, pos, negsuc, ◌+ℤ◌, inl, inr, map, unsigned_abs, List, length, get_or, take, drop, sum_by, sym, ap, ap₂, ◌∙◌, arith, subst, length-drop, FitsSigned, to_z, of_z, w32}
+use Rattle.std.proofs.Common.{◌≡◌, ℕ, zero, suc, ◌+◌, ◌-◌, ◌*◌, ◌/◌, ◌%◌, ◌^◌, ◌<◌, ◌≤◌, ◌⊎◌, ℤ, pos, negsuc, ◌+ℤ◌, inl, inr, map, unsigned_abs, List, length, get_or, take, drop, sum_by, refl, sym, ap, ap₂, ◌∙◌, arith, subst, length-drop, FitsSigned, to_z, of_z, w32}
 use Rattle.std.proofs.Math.Nat.{mul-le-mul_right}
 use Rattle.std.proofs.lemmas.Bool.{cases_lt}
 use Rattle.std.specs.Int.{int_wrap}
 use Rattle.std.specs.Simd.Lanes.{zip2}
 use Rattle.std.proofs.lemmas.Int.{to_z-of_z, fits_signed_from_abs, int_wrap_fits, wrapping_add_onto}
 use Rattle.std.proofs.lemmas.Simd.{get_or-zip2, length-zip2}
-use Rattle.std.proofs.lemmas.List.{get_or-drop, get_or-map, get_or-take, length-map, length-take-le, take_all}
+use Rattle.std.proofs.lemmas.List.{drop_all, get_or-drop, get_or-map, get_or-take, length-map, length-take-le, take_all}
 use Rattle.std.proofs.lemmas.List.FromFn.{get_or-map-range_with_len, length-map-range_with_len}
 use Rattle.std.proofs.lemmas.Nat.{div-mul-add, mod-mul-add, mul-le}
 use Rattle.fir_core.specs.Rows.{AreEntries, AreSums, IsLaid, IsSpot, entry_of, groups_at, last_group, row_entry, row_place, rows, sum_before}
@@ -16,6 +16,12 @@ use Rattle.fir_core.proofs.Dot.{abs_sum_split, dot_bound, part_small, dot_group,
 use Rattle.fir_core.proofs.LaneSums.{wrap_add}
 use Rattle.fir_core.proofs.TileLaws.{whole_step}
 use Rattle.fir_core.proofs.WindowLaws.{abs_sum_aligned, length-aligned}
+
+-- no group adds nothing, nor does one behind the taps
+pub no_last : (hs : List ℤ) (number byte : ℕ) → length hs % 8 ≡ 0 → (number ≡ 0) ⊎ (length hs / 8 < number) → pos 0 ≡ last_group hs number byte
+no_last hs zero byte whole none = refl
+no_last hs (suc group) byte whole (inl none) = absurd (omega (arith, none))
+no_last hs (suc group) byte whole (inr past) = sym (ap (λ gs. dot (take 8 gs) (bits_of_byte byte)) (drop_all (8 * group) hs (omega (arith, past))))
 
 pub last_small : (hs : List ℤ) (number byte : ℕ) → sum_by unsigned_abs hs ≤ 2 ^ 30 → unsigned_abs (last_group hs number byte) ≤ 2 ^ 30
 last_small hs zero byte small = omega arith

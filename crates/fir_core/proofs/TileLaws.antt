@@ -1,6 +1,6 @@
 -- Runs of samples: in parts, and by the sums of windows.
 use Rattle.std.proofs.Common.{◌≡◌, ℕ, ◌+◌, ◌-◌, ◌*◌, ◌/◌, ◌%◌, ◌^◌, ◌<◌, ◌≤◌, ℤ, pos, inl, inr, unsigned_abs, Bool, List, ◌++◌, map, length, get_or, take, drop, replicate, reverse, sum_by, sym, ap, ap₂, ◌∙◌, arith, length-append, length-drop}
-use Rattle.std.specs.Int.{div_ceil}
+use Rattle.std.specs.Int.{div_ceil, saturate_to_bits}
 use Rattle.std.proofs.Math.Nat.{mul-le-mul_right, mul_assoc}
 use Rattle.std.proofs.Math.Seq.{get_or-append_right}
 use Rattle.std.proofs.lemmas.Bool.{cases_lt}
@@ -13,7 +13,7 @@ use Rattle.dsd_bits.specs.Packing.{unpacked}
 use Rattle.fir_core.specs.Convolution.{conv}
 use Rattle.fir_core.specs.Decimator.{Decimator, sample_at, samples_of}
 use Rattle.fir_core.specs.Places.{sample_of, samples_from}
-use Rattle.fir_core.specs.Rounding.{round_clip}
+use Rattle.fir_core.specs.Rounding.{round_clip, rounded}
 use Rattle.fir_core.specs.Signed.{bits_of, dot}
 use Rattle.fir_core.specs.Windows.{aligned, window_size, window_sum, window_sums}
 use Rattle.fir_core.proofs.Dot.{dot_bound}
@@ -168,3 +168,7 @@ numbers_reach j number count factor delay some few near limit within =
     let e : (j + number) * factor ≤ div_ceil count factor * factor = mul-le-mul_right factor within in
     let up = (div_ceil_times count factor some).1 in
     omega arith
+
+-- a sample by its sum, and the sum that was rounded
+pub sample_told : (d e : Decimator) (bits : List Bool) (index : ℕ) (sum most : ℤ) → d ≡ e → sum ≡ conv d.taps bits (index * d.factor + d.delay) → most ≡ rounded sum d.shift → saturate_to_bits (d.width - 1) most ≡ sample_at e bits index
+sample_told d e bits index sum most same s m = ap (saturate_to_bits (d.width - 1)) (m ∙ ap (λ z. rounded z d.shift) s) ∙ ap (λ (f : Decimator). sample_at f bits index) same

@@ -1,5 +1,6 @@
 -- The first bit that is off its cue, of a channel that comes part by part.
-use Rattle.std.proofs.Common.{◌≡◌, ℕ, zero, suc, ◌+◌, ◌-◌, ◌<◌, ◌≤◌, max, Bool, false, List, ◌++◌, length, get_or, slice_range, Option, None, Some, inl, inr, refl, sym, ap, subst, ◌∙◌, arith}
+use Rattle.std.proofs.Common.{◌≡◌, ℕ, zero, suc, ◌+◌, ◌-◌, ◌<◌, ◌≤◌, max, Bool, true, false, not, List, ◌++◌, length, get_or, slice_range, Option, None, Some, inl, inr, refl, sym, ap, subst, ◌∙◌, arith}
+use Rattle.std.proofs.Math.Bool.{beq}
 use Rattle.std.proofs.lemmas.Bool.{cases_lt}
 use Rattle.std.proofs.lemmas.List.{get_or-append_right, get_or_append_left, length-append}
 use Rattle.std.proofs.lemmas.List.Sums.{sum_by_more}
@@ -50,6 +51,32 @@ none_alike cut c i done part bits start stop from alike is first few same p lt o
     let there : start + (from - own) + k ≡ start + (p - own) = omega (arith, reached, first) in
     let low : p - own < stop - start = omega (arith, lt, reached, first, few) in
     off.differs (ap (λ n. get_or part n false) (sym here) ∙ same k (omega (arith, lt, reached)) ∙ ap (λ n. get_or bits n false) there ∙ sym (slice_at bits start stop (p - own) low) ∙ ap (λ l. get_or l (p - own) false) is)
+
+-- where the bit at a place was compared to the cue's
+unlike : (x y : Bool) → not (beq x y) ≡ true → x ≡ y → ⊥
+unlike true true h e = cc
+unlike true false h e = cc
+unlike false true h e = cc
+unlike false false h e = cc
+
+alike : (x y : Bool) → not (beq x y) ≡ false → x ≡ y
+alike true true h = refl
+alike true false h = cc
+alike false true h = cc
+alike false false h = refl
+
+module _ (cut : CutContent) (c i done : ℕ) (part bits : List Bool) (start stop place : ℕ) (is : slice_range bits start stop ≡ cue_bits cut c i) (x y : Bool) (got : x ≡ get_or part (place - done) false) (cued : y ≡ get_or (slice_range bits start stop) (place - cue_start cut i) false) where
+  pub differs_there : not (beq x y) ≡ true → get_or part (place - done) false ≡ get_or (cue_bits cut c i) (place - cue_start cut i) false → ⊥
+  differs_there h e = unlike x y h (got ∙ e ∙ ap (λ l. get_or l (place - cue_start cut i) false) (sym is) ∙ sym cued)
+
+  pub none_more : not (beq x y) ≡ false → ((p : ℕ) → p < place → IsOffAt cut c i done part p → ⊥) → (p : ℕ) → p < place + 1 → IsOffAt cut c i done part p → ⊥
+  none_more h none p lt off = elim (cases_lt p place) [
+    | inl below ↦ none p below off
+    | inr past ↦ (
+        let here : p ≡ place = omega (arith, lt, past) in
+        (subst (IsOffAt cut c i done part) here off).differs (sym got ∙ alike x y h ∙ cued ∙ ap (λ l. get_or l (place - cue_start cut i) false) is)
+        )
+  ]
 
 -- ---- a part more
 module _ (cut : CutContent) (c : ℕ) (before part : List Bool) where

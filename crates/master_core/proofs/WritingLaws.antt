@@ -28,10 +28,6 @@ use Rattle.master_core.specs.Writing.{AreRooms, HasOneBest, WritesBest, WritesBe
 use Rattle.master_core.proofs.SliceLaws.{length-slice, slice_all, slice_join}
 
 -- ---- fronts of what is written
-pub any_err : {X E : Type 0} {P : Type 0} (r : Result X E) → P → OnErr r P
-any_err (Ok x) p = tt
-any_err (Err e) p = p
-
 pub on_ok : {X E : Type 0} {P Q : Type 0} (r : Result X E) → (P → Q) → OnOk r P → OnOk r Q
 on_ok (Ok x) f p = f p
 on_ok (Err e) f p = tt

@@ -1,5 +1,5 @@
 -- A file of a known outline, part by part.
-use Rattle.std.proofs.Common.{◌≡◌, ℕ, ◌+◌, ◌%◌, ◌<◌, ◌≤◌, ◌⊎◌, inl, inr, true, false, List, [], ◌++◌, length, take, drop, Option, None, Some, Result, Ok, Err, IfErr, IsErr, OnErr, OnOk, refl, sym, subst, ap, ap₂, ◌∙◌, arith, append_assoc, append-nil, length-append, length-take, length-drop, take-append-drop}
+use Rattle.std.proofs.Common.{◌≡◌, ℕ, ◌+◌, ◌%◌, ◌<◌, ◌≤◌, ◌⊎◌, inl, inr, true, false, List, [], ◌++◌, length, take, drop, Option, None, Some, Result, Ok, Err, IsErr, OnErr, OnOk, refl, sym, subst, ap, ap₂, ◌∙◌, arith, append_assoc, append-nil, length-append, length-take, length-drop, take-append-drop}
 use Rattle.std.proofs.lemmas.List.{append_cancel_left, nil_from_length}
 use Rattle.std.specs.Io.KnownBytes.{Appends, Consumes, IsAtEnd}
 use Rattle.std.proofs.KnownBytes.{Appends-nil, Appends-trans, Consumes-nil, Consumes-trans}
@@ -21,10 +21,6 @@ use Rattle.relay_core.specs.declared.relaying.Target.{Target}
 use Rattle.relay_core.proofs.ComparingLaws.{by_refusal, left_is, same_front, same_rest}
 
 -- ---- fronts of what is written
-pub any_err : {X E : Type 0} {P : Type 0} (r : Result X E) → P → OnErr r P
-any_err (Ok x) p = tt
-any_err (Err e) p = p
-
 pub on_err : {X E : Type 0} {P Q : Type 0} (r : Result X E) → (P → Q) → OnErr r P → OnErr r Q
 on_err (Ok x) f p = tt
 on_err (Err e) f p = f p

@@ -1,8 +1,8 @@
 -- What holds of each fault of a kind; faults of a stage are faults of the whole.
-use Rattle.std.proofs.Common.{◌≡◌, ℕ, List, Option, Result, Ok, Err, IfErr, refl}
+use Rattle.std.proofs.Common.{ap, ◌≡◌, ◌≢◌, ◌-◌, ◌<◌, ℕ, inl, inr, arith, List, Option, None, Some, Result, Ok, Err, IfErr, IsErrOf, refl, subst}
 use Rattle.sound_core.specs.Faults.{IsReadingFault, IsWritingFault, failed_reads}
 use Rattle.sound_core.specs.Files.{IsFrontFault}
-use Rattle.sound_core.specs.Outlines.{IsOutlineFault}
+use Rattle.sound_core.specs.Outlines.{IsOutlineFault, IsTagFault}
 use Rattle.sound_core.specs.Readers.{IsPassFault}
 use Rattle.sound_core.specs.declared.fault.StreamFault.{StreamFault}
 use Rattle.sound_core.specs.declared.fault.StreamFault.TheVariants.{FileRefused, RateNotDivided, TooLarge, ReadFailed, WriteFailed, TurnLimit, Memory}
@@ -31,12 +31,39 @@ pub unread : {X : Type 0} (r : Result X StreamFault) → IfErr r IsWritingFault 
 unread (Ok x) h = refl
 unread {X} (Err f) h = by_writing (λ g. failed_reads {X = X} (Err g) ≡ 0) refl refl f h
 
+-- ---- a read that failed is not one too many
+pub failed_no_turn : {X Q : Type 0} → IsErrOf {T = X} (Err ReadFailed) TurnLimit → Q
+failed_no_turn {X} turn = absurd (let none : 1 ≡ 0 = ap (failed_reads {X = X}) turn in omega (arith, none))
+
+-- nor is want of memory
+pub memory_no_turn : {X Q : Type 0} → IsErrOf {T = X} (Err Memory) TurnLimit → Q
+memory_no_turn turn = absurd (subst (λ r. IfErr r IsWritingFault) turn tt)
+
 -- ---- stages
 pub reading_in_front : (left : Option (List ℕ)) (f : StreamFault) → IsReadingFault f → IsFrontFault left f
 reading_in_front left f h = by_reading (IsFrontFault left) tt tt tt f h
 
 pub reading_in_pass : (left : Option (List ℕ)) (n : ℕ) (ahead : List ℕ) (f : StreamFault) → IsReadingFault f → IsPassFault left n ahead f
 reading_in_pass left n ahead f h = by_reading (IsPassFault left n ahead) tt tt tt f h
+
+pub reading_in_tag : (left : Option (List ℕ)) (place stop : ℕ) (back : List ℕ) (f : StreamFault) → IsReadingFault f → IsTagFault left place stop back f
+reading_in_tag left place stop back f h = by_reading (IsTagFault left place stop back) tt tt tt f h
+
+-- the tag would stand behind the file's end
+pub pass_in_tag : (left : Option (List ℕ)) (place stop : ℕ) (back : List ℕ) (f : StreamFault) → place ≢ 0 → IsPassFault left (place - stop) back f → IsTagFault left place stop back f
+pass_in_tag None place stop back FileRefused some h = tt
+pass_in_tag (Some xs) place stop back FileRefused some h = (some, inr (omega (arith, h)))
+pass_in_tag left place stop back RateNotDivided some h = absurd h
+pass_in_tag left place stop back TooLarge some h = absurd h
+pass_in_tag left place stop back ReadFailed some h = tt
+pass_in_tag left place stop back WriteFailed some h = absurd h
+pass_in_tag left place stop back TurnLimit some h = tt
+pass_in_tag left place stop back Memory some h = tt
+
+-- it would stand in the sound
+pub early_tag : (left : Option (List ℕ)) (place stop : ℕ) (back : List ℕ) → place ≢ 0 → place < stop → IsTagFault left place stop back FileRefused
+early_tag None place stop back some early = tt
+early_tag (Some xs) place stop back some early = (some, inl early)
 
 pub front_in_outline : (left : Option (List ℕ)) (f : StreamFault) → IsFrontFault left f → IsOutlineFault left f
 front_in_outline left FileRefused h = h

@@ -4,6 +4,7 @@ use Rattle.std.specs.Io.Iter.{u64_saturate}
 use Rattle.device_core.specs.Inlets.{inlet_failures, inlet_given, inlet_reads}
 use Rattle.device_core.specs.declared.inlet.Inlet.{Inlet}
 use Rattle.sound_core.specs.Faults.{failed_reads}
+use Rattle.sound_core.proofs.FaultLaws.{memory_no_turn}
 use Rattle.sound_core.specs.Readers.{Counts, IsReading, IsSame}
 use Rattle.sound_core.specs.Reads.{HasBudget}
 use Rattle.sound_core.specs.declared.fault.StreamFault.{StreamFault}
@@ -56,7 +57,16 @@ counts_still a b c x r none not_turn same p =
     record { failures = ap inlet_failures same ∙ k.failures; turns = λ turn. ap inlet_reads same ∙ k.turns turn; most = omega (arith, ap inlet_reads same, k.most) }
 
 pub counts_memory : {R X Y : Type 0} (a b c : SoundReader R) (x : X) → c.inlet.now ≡ b.inlet.now → Counts a b (Ok x) → Counts {X = Y} a c (Err Memory)
-counts_memory a b c x same p = counts_still a b c x (Err Memory) refl (λ turn. cc) same p
+counts_memory a b c x same p = counts_still a b c x (Err Memory) refl (λ turn. memory_no_turn turn) same p
+
+pub counts_want : {R X Y : Type 0} (a m b : SoundReader R) (x : X) → m.limit ≡ a.limit → inlet_failures m.inlet.now ≡ inlet_failures a.inlet.now → Counts m b (Ok x) → Counts {X = Y} a b (Err Memory)
+counts_want a m b x limit same p = counts_before a m b x (Err Memory) refl (λ turn. memory_no_turn turn) limit same p
+
+pub counts_kept : {R X Y : Type 0} (a b c : SoundReader R) (x : X) (y : Y) → c.inlet.now ≡ b.inlet.now → Counts a b (Ok x) → Counts a c (Ok y)
+counts_kept a b c x y same p = counts_still a b c x (Ok y) refl (λ turn. cc) same p
+
+pub counts_kept_refused : {R X Y : Type 0} (a b c : SoundReader R) (x : X) → c.inlet.now ≡ b.inlet.now → Counts a b (Ok x) → Counts {X = Y} a c (Err FileRefused)
+counts_kept_refused a b c x same p = counts_still a b c x (Err FileRefused) refl (λ turn. cc) same p
 
 -- one read more, and what it gave
 pub read_one : {R : Type 0} (limit : ℕ) (i j : Inlet R) (n : ℕ) → HasBudget limit i → inlet_reads i ≢ limit → n ≤ 65536 → inlet_reads j ≡ u64_saturate (inlet_reads i + 1) → inlet_given j ≡ u64_saturate (inlet_given i + n)
@@ -72,3 +82,7 @@ read_one limit i j n budget some few read given =
 -- no read failed so far
 pub counts_so_far : {R X : Type 0} (a b : SoundReader R) (x : X) → IsReading b → IsSame a b → inlet_failures b.inlet.now ≡ inlet_failures a.inlet.now → Counts a b (Ok x)
 counts_so_far a b x reading same none = record { failures = omega (arith, none); turns = λ turn. absurd cc; most = omega (arith, reading.budget.reads, same.limit) }
+
+-- no read was asked for
+pub counts_none_refused : {R X : Type 0} (a b : SoundReader R) → inlet_failures b.inlet.now ≡ inlet_failures a.inlet.now → inlet_reads b.inlet.now ≤ a.limit → Counts {X = X} a b (Err FileRefused)
+counts_none_refused a b none most = record { failures = omega (arith, none); turns = λ turn. absurd cc; most = most }

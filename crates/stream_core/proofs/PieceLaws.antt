@@ -1,5 +1,5 @@
 -- Pieces of a sound that are played one after the other.
-use Rattle.std.proofs.Common.{◌≡◌, ℕ, ◌+◌, ◌-◌, ◌≤◌, min, List, [], ◌++◌, length, take, drop, Option, None, Some, Result, Ok, Err, IfOk, OnOk, OnErr, IsErrAnd, refl, sym, subst, ap, ap₂, ◌∙◌, arith, append_assoc, append-nil, length-append, length-drop, length-take, length-take-le, take-append-drop, take-take}
+use Rattle.std.proofs.Common.{◌≡◌, ℕ, ◌+◌, ◌-◌, ◌≤◌, min, List, [], ◌++◌, length, take, drop, Option, None, Some, Result, Ok, Err, IfOk, OnOk, OnErr, refl, sym, subst, ap, ap₂, ◌∙◌, arith, append_assoc, append-nil, length-append, length-drop, length-take, length-take-le, take-append-drop, take-take}
 use Rattle.std.specs.Io.KnownBytes.{Appends, Consumes}
 use Rattle.std.proofs.KnownBytes.{Appends-nil}
 use Rattle.std.proofs.lemmas.List.{drop-take, drop_min, nil_from_length, take-append-le, take_min}
@@ -22,19 +22,6 @@ on_ok (Err e) f p = tt
 pub on_err : {X E : Type 0} {P Q : Type 0} (r : Result X E) → (P → Q) → OnErr r P → OnErr r Q
 on_err (Ok x) f p = tt
 on_err (Err e) f p = f p
-
-pub any_err : {X E : Type 0} {P : Type 0} (r : Result X E) → P → OnErr r P
-any_err (Ok x) p = tt
-any_err (Err e) p = p
-
--- a result that is a fault says nothing of what holds on Ok
-pub no_ok : {X E : Type 0} (P : E → Type 0) (Q : Type 0) (r : Result X E) → IsErrAnd r P → OnOk r Q
-no_ok P Q (Ok x) h = absurd h
-no_ok P Q (Err e) h = tt
-
-pub no_value : {X E : Type 0} (P : E → Type 0) (Q : X → Type 0) (r : Result X E) → IsErrAnd r P → IfOk r Q
-no_value P Q (Ok x) h = absurd h
-no_value P Q (Err e) h = tt
 
 -- ---- fronts of what is written
 pub front_nil : (a : Option (List ℕ)) (all : List ℕ) → AppendsFront a a all

@@ -5,6 +5,7 @@ use Rattle.std.proofs.lemmas.List.{drop-append-le}
 use Rattle.std.proofs.Math.Seq.{take-append_seam}
 use Rattle.std.specs.Io.KnownBytes.{Appends, Consumes}
 use Rattle.std.proofs.KnownBytes.{Appends-trans}
+use Rattle.dsd_bits.proofs.ExitLaws.{any_err}
 use Rattle.device_core.specs.Inlets.{inlet_given, inlet_reader}
 use Rattle.device_core.specs.Outlets.{AppendsFront}
 use Rattle.device_core.specs.declared.inlet.Inlet.{Inlet}
@@ -24,7 +25,7 @@ use Rattle.sound_core.specs.Reads.{Reads}
 use Rattle.stream_core.specs.Wave.{OpensWave, file_size, header_of, pad_of}
 use Rattle.sound_core.specs.declared.fault.StreamFault.{StreamFault}
 use Rattle.sound_core.specs.declared.fault.StreamFault.TheVariants.{FileRefused, RateNotDivided, TooLarge, ReadFailed, WriteFailed, TurnLimit, Memory}
-use Rattle.stream_core.proofs.PieceLaws.{any_err, front_more, front_nil}
+use Rattle.stream_core.proofs.PieceLaws.{front_more, front_nil}
 use Rattle.sound_core.proofs.ReadLaws.{reads_on}
 use Rattle.stream_core.proofs.RestLaws.{front_on}
 
@@ -231,3 +232,14 @@ pub found_outside : SoundIsPlayed → (left new : Option (List ℕ)) (d : Decima
 found_outside law None new d front bytes f consumed is h = tt
 found_outside law (Some xs) None d front bytes f consumed is h = absurd consumed
 found_outside law (Some xs) (Some rest) d front bytes f consumed is h = λ made plays. outside law d xs made f (subst (λ file. Stands d file f) (ap (λ zs. zs ++ rest) is ∙ sym consumed) h) plays
+
+-- ---- what is said behind the front
+pub found_stands : (left new : Option (List ℕ)) (d : Decimator) (front bytes : List ℕ) (f : StreamFault) → Consumes left new front → bytes ≡ front → IfSome new (λ rest. Stands d (bytes ++ rest) f) → IfSome left (λ file. Stands d file f)
+found_stands None new d front bytes f consumed is h = tt
+found_stands (Some xs) None d front bytes f consumed is h = absurd consumed
+found_stands (Some xs) (Some rest) d front bytes f consumed is h = subst (λ file. Stands d file f) (ap (λ zs. zs ++ rest) is ∙ sym consumed) h
+
+pub found_front : (left new a b : Option (List ℕ)) (d : Decimator) (front bytes : List ℕ) → Consumes left new front → bytes ≡ front → WritesFront new (PlaysBehind d bytes) a b → WritesFront left (PlaysBy d) a b
+found_front None new a b d front bytes consumed is h = tt
+found_front (Some xs) None a b d front bytes consumed is h = absurd consumed
+found_front (Some xs) (Some rest) a b d front bytes consumed is h = λ made plays. h made (subst (λ file. PlaysBy d file made) (consumed ∙ ap (λ zs. zs ++ rest) (sym is)) plays)

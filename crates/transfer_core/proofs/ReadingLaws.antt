@@ -9,6 +9,11 @@ use Rattle.wave_core.specs.declared.fault.WaveFault.{WaveFault}
 use Rattle.wave_core.specs.declared.fault.WaveFault.TheVariants as waves
 use Rattle.wave_core.specs.Texts.{wave_text}
 use Rattle.player_core.specs.Samples.{pcm}
+use Rattle.dsdiff_core.specs.declared.write_fault.WriteFault.{WriteFault}
+use Rattle.dsdiff_core.specs.declared.write_fault.WriteFault.TheVariants as writes
+use Rattle.form_core.specs.declared.form.Form.{Form}
+use Rattle.form_core.specs.Forms.{dropped_in, text_in}
+use Rattle.form_core.specs.Writing.{IsWriteFault}
 use Rattle.form_core.specs.declared.fault.ReadFault.{ReadFault}
 use Rattle.form_core.specs.declared.fault.ReadFault.TheVariants as reads
 use Rattle.form_core.specs.declared.opening.Opened.{Opened}
@@ -18,7 +23,7 @@ use Rattle.form_core.proofs.OpeningLaws.{held_is_opened}
 use Rattle.transfer_core.specs.declared.fault.Fault.{Fault}
 use Rattle.transfer_core.specs.declared.fault.Fault.TheVariants.{Memory, Stream}
 use Rattle.transfer_core.specs.Converting.{converted_of}
-use Rattle.transfer_core.specs.Faults.{fault_of_file, fault_of_wave}
+use Rattle.transfer_core.specs.Faults.{fault_of_file, fault_of_wave, fault_of_writing}
 use Rattle.transfer_core.specs.Laws.{ConvertsInOrder, PlaysInOrder, SaysTakesInOrder}
 use Rattle.transfer_core.specs.Playing.{played_of}
 use Rattle.transfer_core.specs.Projects.{SaysDecimator, SaysSplice, decimator_of, splice_of, take_names_of}
@@ -42,6 +47,25 @@ says_takes = λ text names is. rw (project_again text is.says.project is.says.sa
 pub says_splice : (text : List ℕ) (s : SpliceContent) → SaysSplice text s → splice_of text ≡ Ok s
 unfolding splice_of
 says_splice text s is = rw (project_again text is.project is.says, is.has) refl
+
+-- ---- what is converted, or the first fault
+module _ (file : List ℕ) (form : Form) where
+  pub file_unread : (e : ReadFault) → Opens (Err e) (opened_of file) → Fails Memory (fault_of_file e) (converted_of file form)
+  unfolding converted_of
+  file_unread reads.Memory is = inl refl
+  file_unread reads.UnknownForm is = inr (rw is refl)
+  file_unread (reads.Dsdiff e) is = inr (rw is refl)
+  file_unread (reads.Dsf e) is = inr (rw is refl)
+
+  module _ (o : Opened) (holds : opened_of file ≡ Ok o) where
+    pub file_unwritten : (e : WriteFault) → IsWriteFault form o.recording e → Fails Memory (fault_of_writing e) (converted_of file form)
+    unfolding converted_of
+    file_unwritten writes.NotWholeBytes is = inr (rw (holds, is) refl)
+    file_unwritten writes.Memory is = inl refl
+
+    pub text_converted : (bytes : List ℕ) (dropped : ℕ) → text_in form o.recording ≡ Some bytes → dropped ≡ dropped_in form o.recording → converted_of file form ≡ Ok (bytes, dropped)
+    unfolding converted_of
+    text_converted bytes dropped is dropped_is = rw (holds, is, dropped_is) refl
 
 -- ---- what is played, or the first fault
 module _ (project file : List ℕ) where

@@ -89,6 +89,10 @@ module _ (project : List ℕ) (d : Decimator) (is_said : decimator_of project �
   keeps_up None a b n h = tt
   keeps_up (Some file) a b n h = λ bytes s is told much. subst (λ e. WritesFrames e s (sound_given s n - 131072) bytes a b) (same_decimator file bytes is) (h bytes s (played file bytes is) told much)
 
+-- an answer is no fault
+pub answered : {X : Type 0} (x : X) (f : Fault) → IsErrOf {T = X} (Ok x) f → ⊥
+answered x f is = cc
+
 -- ---- a fault of a stream, under its name here
 pub same_stream : {X : Type 0} (f : StreamFault) → as_stream {X = X} (Err (fault_of_stream f)) ≡ Err f
 same_stream faults.Memory = refl

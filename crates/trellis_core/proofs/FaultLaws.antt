@@ -1,5 +1,5 @@
 -- A fault of a search is want of memory or one of the sink, and never both.
-use Rattle.std.proofs.Common.{◌≡◌, Bool, true, false, Result, Ok, Err, IfOk, OnOk, IsErrAnd, IsErrOf, ap, ◌∙◌}
+use Rattle.std.proofs.Common.{◌≡◌, Bool, true, false, Result, Ok, Err, IsErrOf, ap, ◌∙◌}
 use Rattle.trellis_core.specs.declared.fault.BridgeFault.{BridgeFault}
 use Rattle.trellis_core.specs.declared.fault.BridgeFault.TheVariants.{Memory, Sink}
 
@@ -14,15 +14,6 @@ true_or_false b is is_not = absurd cc
 
 pub not_refused : {X : Type 0} {Q : Type 0} (x : X) (b : BridgeFault) → Ok x ≡ Err b → Q
 not_refused x b is = absurd cc
-
--- a result that is a fault says nothing of what holds on Ok
-pub no_ok : {X E : Type 0} (P : E → Type 0) (Q : Type 0) (r : Result X E) → IsErrAnd r P → OnOk r Q
-no_ok P Q (Ok x) h = absurd h
-no_ok P Q (Err e) h = tt
-
-pub no_value : {X E : Type 0} (P : E → Type 0) (Q : X → Type 0) (r : Result X E) → IsErrAnd r P → IfOk r Q
-no_value P Q (Ok x) h = absurd h
-no_value P Q (Err e) h = tt
 
 -- `?` hands a fault on as it is
 pub fault_before : {X Y : Type 0} (r : Result X BridgeFault) (b f d : BridgeFault) → r ≡ Err b → b ≡ f → IsErrOf r d → IsErrOf {T = Y} (Err f) d

@@ -104,3 +104,18 @@ returns-clause-reason g c =
 
 pub returns-clause-failures : goal.returns-clause-failures
 returns-clause-failures g c = omega (arith, c.read_end.ensures.failures, c.in_ok-last.ensures.failures, c.in_ok-read_start.ensures.failures)
+
+pub returns-in_err-read_start-clause-limits : goal.returns-in_err-read_start-clause-limits
+returns-in_err-read_start-clause-limits g c = c.length.ensures.limits
+
+pub returns-in_err-steps-clause-limits : goal.returns-in_err-steps-clause-limits
+returns-in_err-steps-clause-limits g c = c.length.ensures.limits
+
+pub returns-in_err-last-clause-limits : goal.returns-in_err-last-clause-limits
+returns-in_err-last-clause-limits g c = c.length.ensures.limits
+
+pub returns-clause-limits : goal.returns-clause-limits
+returns-clause-limits g c = c.length.ensures.limits
+
+pub read_end-requires-clause-bounded : goal.read_end-requires-clause-bounded
+read_end-requires-clause-bounded g c = c.length.ensures.bounded

@@ -1,6 +1,6 @@
-use Rattle.std.proofs.Common.{◌+◌, ◌/◌, ◌<◌, ◌≤◌, refl, length, get_or, arith}
+use Rattle.std.proofs.Common.{◌+◌, ◌*◌, ◌/◌, ◌<◌, ◌≤◌, ◌≡◌, ◌∙◌, ap, below_more, refl, length, get_or, arith}
 use Rattle.cost_core.proofs.Chunks.{each_chunk}
-use Rattle.cert_core.proofs.Marks.{in_eight, eight_places}
+use Rattle.cert_core.proofs.Marks.{in_eight, in_rest, eight_places}
 use Rattle.cert_core.proofs.rows.all_reach.Goals as goal
 
 pub reach_stated-requires-clause-last : goal.reach_stated-requires-clause-last
@@ -19,3 +19,19 @@ loop-i-preserved c =
     let few_tails : i < length tails / 8 = omega (arith, few, c.requires.as_many) in
     eight_places (λ k. c.args.stated ≤ get_or last k 0 + get_or tails k 0) i c.loop-i.invariant
     (λ m h. omega (arith, c.if-not-reach_stated.ensures refl m h, in_eight c.as_chunks.result.0.now last i m c.as_chunks.ensures.front few h, in_eight c.as_chunks-2.result.0.now tails i m c.as_chunks-2.ensures.front few_tails h))
+
+pub loop-i-2-init : goal.loop-i-2-init
+loop-i-2-init c = λ k h. c.loop-i.invariant k (omega (arith, h, c.loop-i-test.false, c.as_chunks.ensures.front_len))
+
+pub loop-i-2-preserved : goal.loop-i-2-preserved
+loop-i-2-preserved c =
+    let i = c.loop-i-2.i in
+    let last = c.args.last.now in
+    let tails = c.args.tails.now in
+    let n = 8 * (length last / 8) in
+    let tail : get_or c.as_chunks-2.result.1.now i 0 ≡ get_or tails (n + i) 0 = in_rest c.as_chunks-2.result.1.now tails i c.as_chunks-2.ensures.back ∙ ap (λ m. get_or tails (8 * (m / 8) + i) 0) c.requires.as_many in
+    let here : c.args.stated ≤ get_or last (n + i) 0 + get_or tails (n + i) 0 = omega (arith, c.if-rest-i.false, in_rest c.as_chunks.result.1.now last i c.as_chunks.ensures.back, tail) in
+    λ k h. below_more (λ k. c.args.stated ≤ get_or last k 0 + get_or tails k 0) (n + i) c.loop-i-2.invariant here k (omega (arith, h))
+
+pub returns : goal.returns
+returns c = λ _ q h. c.loop-i-2.invariant q (omega (arith, h, c.loop-i-2-test.false, c.as_chunks.ensures.back_len))

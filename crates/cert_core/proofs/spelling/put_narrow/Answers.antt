@@ -1,4 +1,4 @@
-use Rattle.std.proofs.Common.{◌≡◌, ◌*◌, ◌-◌, ◌^◌, ◌<◌, ◌≤◌, ◌∙◌, length, take, sym, subst, arith, rules}
+use Rattle.std.proofs.Common.{ap, length-take, ◌≡◌, ◌*◌, ◌-◌, ◌^◌, ◌<◌, ◌≤◌, ◌∙◌, length, take, sym, subst, arith, rules}
 use Rattle.std.proofs.lemmas.Nat.{mul-le}
 use Rattle.cert_core.specs.Spelling.{byte_width}
 use Rattle.cert_core.proofs.Narrow.{narrow_is, narrow_text}
@@ -35,3 +35,15 @@ overflow_add-count c = record { fits = omega (arith, few_bytes (goal.at.overflow
 
 pub overflow_add-result : goal.overflow_add-result
 overflow_add-result c = record { fits = omega (arith, few_bytes (goal.at.overflow_add-result c).After-width_of-width, c.requires.room) }
+
+pub copy_from_slice-requires : goal.copy_from_slice-requires
+copy_from_slice-requires c = omega (arith, length-take 8 c.args.buffer.now, c.requires.room, ap length c.to_be_bytes.ensures)
+
+pub put_excesses-requires-clause-few : goal.put_excesses-requires-clause-few
+put_excesses-requires-clause-few c = c.width_of-width.ensures.few
+
+pub put_excesses-requires-clause-below : goal.put_excesses-requires-clause-below
+put_excesses-requires-clause-below c = c.bounds_of-least.ensures.below
+
+pub overflow_cast-buffer : goal.overflow_cast-buffer
+overflow_cast-buffer c = omega (arith, c.width_of-width.ensures.few)

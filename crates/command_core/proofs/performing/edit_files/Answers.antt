@@ -1,7 +1,7 @@
 use Rattle.std.proofs.Common.{IsTrue, inr, subst, sym}
 use Rattle.std.proofs.lemmas.Result.{err_from_is_err_and}
 use Rattle.archive_core.specs.Planning.{planned_total}
-use Rattle.command_core.proofs.CommandLaws.{both_written, cert_unwritten, cut_unwritten}
+use Rattle.command_core.proofs.CommandLaws.{both_written, cert_unwritten, cut_unwritten, edit_unread}
 use Rattle.command_core.proofs.WritingLaws.{still_certifies}
 use Rattle.command_core.proofs.performing.edit_files.Goals as goal
 
@@ -65,3 +65,8 @@ returns g c = λ told.
     c.in_ok-write_certificate.ensures.others
     (λ _. whole.2)
     (rw c.total-total.ensures (plans.accepted whole.0 (still_certifies c.in_ok-planned.planned c.write_master.new.planned whole.0 c.write_master.ensures.same whole.1))) told
+
+pub returns-in_err-sources : goal.returns-in_err-sources
+returns-in_err-sources g c = λ told.
+    let e = err_from_is_err_and c.from_residual.result c.from_residual.ensures.1 in
+    rw (e.1, e.2) (edit_unread (record { form = c.args.form; project_name = c.args.project.now; master_name = c.args.master.now; cert_name = c.args.cert.now }) (g.F.Folder.file c.args.folder.now) (g.F.Folder.file c.hear_sources.new.folder) c.in_err-sources.field-0.0 (c.in_err-sources.ensures.fault told))

@@ -1,6 +1,6 @@
 use Rattle.std.proofs.Common.{◌≡◌, true, false, take, drop, sym, ap, ◌∙◌, arith}
 use Rattle.dsd_bits.specs.Ids.{same_id, DSD}
-use Rattle.dsdiff_core.proofs.SeekLoop.{data_cut, data_wanted, here, no_head, past_end, sought_first, sought_on}
+use Rattle.dsdiff_core.proofs.SeekLoop.{data_cut, data_fit, data_wanted, here, no_head, past_end, sought_first, sought_on}
 use Rattle.dsdiff_core.proofs.front.find_head.Goals as goal
 
 pub loop-at-init : goal.loop-at-init
@@ -18,19 +18,19 @@ pub returns-then-eq-clause-exact : goal.returns-then-eq-clause-exact
 returns-then-eq-clause-exact c =
     let found = c.in-Some.ensures in
     let id : same_id (take 4 (drop c.loop-at.at c.args.front.now)) DSD ≡ true = ap (λ x. same_id x DSD) (sym found.id) ∙ sym c.eq.ensures ∙ c.if-eq.true in
-    here c.args.front.now c.loop-at.at c.args.size c.loop-at.invariant found.whole (omega (arith, found.size)) id
+    here c.args.front.now c.loop-at.at c.args.size c.loop-at.invariant found.whole (data_fit c.args.front.now c.loop-at.at c.args.size c.in-Some.chunk.size c.loop-at-test.true c.if-size-at.false found.size) id
 
 pub returns-then-front-at-clause-exact : goal.returns-then-front-at-clause-exact
 returns-then-front-at-clause-exact c =
     let found = c.in-Some.ensures in
     let id : same_id (take 4 (drop c.loop-at.at c.args.front.now)) DSD ≡ false = ap (λ x. same_id x DSD) (sym found.id) ∙ sym c.eq.ensures ∙ c.if-eq.false in
-    data_wanted c.args.front.now c.loop-at.at c.args.size c.loop-at.invariant found.whole (omega (arith, found.size)) id (omega (arith, found.size))
+    data_wanted c.args.front.now c.loop-at.at c.args.size c.loop-at.invariant found.whole (data_fit c.args.front.now c.loop-at.at c.args.size c.in-Some.chunk.size c.loop-at-test.true c.if-size-at.false found.size) id (omega (arith, found.size))
 
 pub loop-at-preserved : goal.loop-at-preserved
 loop-at-preserved c =
     let found = c.in-Some.ensures in
     let id : same_id (take 4 (drop c.loop-at.at c.args.front.now)) DSD ≡ false = ap (λ x. same_id x DSD) (sym found.id) ∙ sym c.eq.ensures ∙ c.if-eq.false in
-    rw found.size (sought_on c.args.front.now c.loop-at.at c.args.size c.loop-at.invariant (omega (arith, found.size)) id (omega (arith, found.size)))
+    rw found.size (sought_on c.args.front.now c.loop-at.at c.args.size c.loop-at.invariant (data_fit c.args.front.now c.loop-at.at c.args.size c.in-Some.chunk.size c.loop-at-test.true c.if-size-at.false found.size) id (omega (arith, found.size)))
 
 pub returns-clause-exact : goal.returns-clause-exact
 returns-clause-exact c = past_end c.args.front.now c.loop-at.at c.args.size c.loop-at.invariant (omega arith)

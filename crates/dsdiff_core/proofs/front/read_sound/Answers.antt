@@ -1,10 +1,11 @@
-use Rattle.std.proofs.Common.{subst}
+use Rattle.std.proofs.Common.{◌≡◌, Ok, length, subst, arith}
 use Rattle.std.proofs.lemmas.Result.{err_from_is_err_and}
-use Rattle.dsdiff_core.specs.Fronts.{sound_behind}
-use Rattle.dsdiff_core.specs.Properties.{property_of}
+use Rattle.dsdiff_core.specs.Fronts.{frames_of, size_at, sound_behind}
+use Rattle.dsdiff_core.specs.Properties.{property_of, told_of}
 use Rattle.dsdiff_core.specs.Steps.{Fails}
 use Rattle.dsdiff_core.proofs.JoinedSteps.{fails_then}
 use Rattle.dsdiff_core.proofs.Steps.{step_fails}
+use Rattle.dsdiff_core.proofs.ExitLaws.{fault_at}
 use Rattle.dsdiff_core.proofs.front.read_sound.Goals as goal
 
 pub returns-in_err-top : goal.returns-in_err-top
@@ -18,3 +19,18 @@ unfolding sound_behind
 returns-in_err-told c =
     let e = err_from_is_err_and c.from_residual-in_err-told.result c.from_residual-in_err-told.ensures.1 in
     rw (e.1, e.2) (fails_then _ _ _ _ c.in_ok-top.ensures.exact (step_fails c.in_err-told.field-0.0 _ _ (subst (λ top. Fails c.in_err-told.field-0.0 (property_of c.args.front.now top)) c.deref.ensures.value c.in_err-told.ensures.exact)))
+
+pub leading_chunks-requires : goal.leading_chunks-requires
+leading_chunks-requires c = (c.requires.from, omega (arith, c.requires.whole))
+
+pub read_property-requires : goal.read_property-requires
+read_property-requires c = rw c.deref.ensures.value c.in_ok-top.ensures.inside
+
+pub returns-in_default : goal.returns-in_default
+returns-in_default c = absurd (omega (arith, c.in_default.ensures, c.requires.whole))
+
+pub returns-in_err-check_frames : goal.returns-in_err-check_frames
+unfolding sound_behind
+returns-in_err-check_frames c =
+    let long : c.len-number.result ≡ length c.in_ok-told.told.ids.items = omega arith in
+    fault_at _ _ c.from_residual-in_err-check_frames.result _ c.from_residual-in_err-check_frames.ensures.1 (fails_then _ _ _ _ c.in_ok-top.ensures.exact (fails_then _ _ _ _ (subst (λ top. property_of c.args.front.now top ≡ Ok (told_of c.in_ok-told.told)) c.deref.ensures.value c.in_ok-told.ensures.exact) (step_fails c.in_err-check_frames.field-0.0 _ _ (subst (λ n. Fails c.in_err-check_frames.field-0.0 (frames_of (size_at c.args.front.now c.args.at) n)) long (subst (λ n. Fails c.in_err-check_frames.field-0.0 (frames_of n c.len-number.result)) c.in-Some.ensures.size c.in_err-check_frames.ensures)))))

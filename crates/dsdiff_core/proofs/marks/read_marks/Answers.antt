@@ -1,6 +1,7 @@
 use Rattle.std.proofs.Common.{◌<◌, ◌^◌, ◌∙◌, ap, length, refl, sym, arith}
 use Rattle.std.proofs.lemmas.List.{map_push, take_all}
 use Rattle.std.proofs.lemmas.List.Elements.{All-push}
+use Rattle.dsd_bits.proofs.ExitLaws.{no_value}
 use Rattle.dsd_bits.specs.declared.marks.Mark.{Mark}
 use Rattle.dsd_bits.specs.Ids.{MARK}
 use Rattle.dsdiff_core.specs.Kinds.{has_id}
@@ -41,3 +42,18 @@ loop-span-preserved c =
 pub returns-clause-marks : goal.returns-clause-marks
 returns-clause-marks c =
     c.loop-span.invariant.marks ∙ ap (marks_of c.args.file.now) (take_all c.loop-span.span-index c.args.inner.now c.loop-span-test.false)
+
+pub returns-in_err-read_mark-clause-marks : goal.returns-in_err-read_mark-clause-marks
+returns-in_err-read_mark-clause-marks c = no_value _ _ c.from_residual.result c.from_residual.ensures.1
+
+pub returns-in_err-read_mark-clause-short : goal.returns-in_err-read_mark-clause-short
+returns-in_err-read_mark-clause-short c = no_value _ _ c.from_residual.result c.from_residual.ensures.1
+
+pub returns-in_err-push-clause-marks : goal.returns-in_err-push-clause-marks
+returns-in_err-push-clause-marks c = no_value _ _ c.from_residual-in_err-push.result c.from_residual-in_err-push.ensures.1
+
+pub returns-in_err-push-clause-short : goal.returns-in_err-push-clause-short
+returns-in_err-push-clause-short c = no_value _ _ c.from_residual-in_err-push.result c.from_residual-in_err-push.ensures.1
+
+pub returns-clause-short : goal.returns-clause-short
+returns-clause-short c = c.loop-span.invariant.short

@@ -1,6 +1,7 @@
 use Rattle.std.proofs.Common.{◌∙◌, sym, arith}
 use Rattle.std.proofs.lemmas.Result.{err_from_is_err_and}
 use Rattle.std.proofs.lemmas.List.Elements.{All-append}
+use Rattle.dsd_bits.proofs.ExitLaws.{no_value}
 use Rattle.dsdiff_core.specs.Spans.{StandsIn}
 use Rattle.dsdiff_core.proofs.OnceLoop.{no_span}
 use Rattle.dsdiff_core.proofs.MasterLoop.{masters_end, goes_on, passes_on, master_fails, none_cut}
@@ -31,3 +32,15 @@ loop-span-preserved c =
 
 pub returns-clause-exact : goal.returns-clause-exact
 returns-clause-exact c = sym c.loop-span.invariant.so_far ∙ masters_end c.args.file.now c.args.top.now c.loop-span.span-index c.loop-span.found.items (omega arith)
+
+pub returns-in_err-inner-clause-inside : goal.returns-in_err-inner-clause-inside
+returns-in_err-inner-clause-inside c = no_value _ _ c.from_residual.result c.from_residual.ensures.1
+
+pub returns-in_err-inner-clause-whole : goal.returns-in_err-inner-clause-whole
+returns-in_err-inner-clause-whole c = no_value _ _ c.from_residual.result c.from_residual.ensures.1
+
+pub returns-in_err-append-clause-inside : goal.returns-in_err-append-clause-inside
+returns-in_err-append-clause-inside c = no_value _ _ c.from_residual-in_err-append.result c.from_residual-in_err-append.ensures.1
+
+pub returns-in_err-append-clause-whole : goal.returns-in_err-append-clause-whole
+returns-in_err-append-clause-whole c = no_value _ _ c.from_residual-in_err-append.result c.from_residual-in_err-append.ensures.1

@@ -68,3 +68,21 @@ returns c =
     let others = subst (λ parts. map other_content c.in_ok-others.others.items ≡ others_around c.args.front.now c.args.back.now parts (around_of c.in_ok-around.around)) c.deref-2.ensures.value c.in_ok-others.ensures in
     let tag : c.new.result.items ≡ [] = search rules in
     step_then _ _ _ _ c.in_ok-around.ensures.exact (step_then _ _ _ _ told (ap Ok (sym (c.new-2.ensures ∙ rw (channels, layout, c.in_ok-marks.ensures.marks, others, tag) refl))))
+
+pub chunks_around-requires-clause-long : goal.chunks_around-requires-clause-long
+chunks_around-requires-clause-long c = c.requires.long
+
+pub chunks_around-requires-clause-fits : goal.chunks_around-requires-clause-fits
+chunks_around-requires-clause-fits c = c.requires.fits
+
+pub read_property-requires : goal.read_property-requires
+read_property-requires c = rw c.deref.ensures.value c.in_ok-around.ensures.inside.before
+
+pub read_marks_around-requires : goal.read_marks_around-requires
+read_marks_around-requires c = c.in_ok-around.ensures.inside
+
+pub keep_around-requires-clause-parts : goal.keep_around-requires-clause-parts
+keep_around-requires-clause-parts c = rw c.deref-2.ensures.value c.in_ok-told.ensures.inside
+
+pub keep_around-requires-clause-around : goal.keep_around-requires-clause-around
+keep_around-requires-clause-around c = c.in_ok-around.ensures.inside

@@ -1,4 +1,4 @@
-use Rattle.std.proofs.Common.{◌≡◌, ℕ, ◌<◌, ◌^◌, List, [], Result, Ok, ap, ◌∙◌, length, map, refl, sym, subst, rules}
+use Rattle.std.proofs.Common.{◌≡◌, ℕ, ◌<◌, ◌^◌, List, [], Result, Ok, ap, ◌∙◌, length, map, refl, sym, subst, rules, arith}
 use Rattle.std.proofs.lemmas.Result.{err_from_is_err_and}
 use Rattle.std.proofs.lemmas.List.Elements.{All-map}
 use Rattle.chunk_core.specs.declared.layout.Span.{Span}
@@ -96,3 +96,45 @@ returns c =
     let others : map other_content c.in_ok-others.others.items ≡ others_told c.args.file.now c.in_ok-told.told.parts.items c.in_ok-inner.inner.items c.in_ok-top.top.items = rw (sym c.deref-5.ensures.value, sym c.deref-6.ensures.value, sym c.deref-7.ensures.value) c.in_ok-others.ensures in
     let tag : c.new.result.items ≡ [] = search rules in
     step_then _ _ _ _ c.in_ok-top.ensures.exact (step_then _ _ _ _ told (step_then _ _ _ _ sound (step_then _ _ _ _ inner (ap Ok (sym (c.new-2.ensures ∙ rw (channels, layout, marks, others, tag) refl))))))
+
+pub read_property-requires : goal.read_property-requires
+read_property-requires c = rw c.deref.ensures.value c.in_ok-top.ensures.inside
+
+pub find_sound-requires-clause-inside : goal.find_sound-requires-clause-inside
+find_sound-requires-clause-inside c = rw c.deref-2.ensures.value c.in_ok-top.ensures.inside
+
+pub find_sound-requires-clause-some : goal.find_sound-requires-clause-some
+find_sound-requires-clause-some c = omega (arith, c.in_ok-told.ensures.number.0)
+
+pub master_chunks-requires : goal.master_chunks-requires
+master_chunks-requires c = rw c.deref-3.ensures.value c.in_ok-top.ensures.inside
+
+pub read_marks-requires-clause-inside : goal.read_marks-requires-clause-inside
+read_marks-requires-clause-inside c = rw c.deref-4.ensures.value c.in_ok-inner.ensures.inside
+
+pub read_marks-requires-clause-whole : goal.read_marks-requires-clause-whole
+read_marks-requires-clause-whole c = rw c.deref-4.ensures.value c.in_ok-inner.ensures.whole
+
+pub kept_chunks-requires-clause-parts : goal.kept_chunks-requires-clause-parts
+kept_chunks-requires-clause-parts c = rw c.deref-5.ensures.value c.in_ok-told.ensures.inside
+
+pub kept_chunks-requires-clause-inner : goal.kept_chunks-requires-clause-inner
+kept_chunks-requires-clause-inner c = rw c.deref-6.ensures.value c.in_ok-inner.ensures.inside
+
+pub kept_chunks-requires-clause-top : goal.kept_chunks-requires-clause-top
+kept_chunks-requires-clause-top c = rw c.deref-7.ensures.value c.in_ok-top.ensures.inside
+
+pub channels_of-requires-clause-channel_number : goal.channels_of-requires-clause-channel_number
+channels_of-requires-clause-channel_number c = (omega (arith, c.in_ok-told.ensures.number.0), omega (arith, c.in_ok-told.ensures.number.1))
+
+pub channels_of-requires-clause-in_limit : goal.channels_of-requires-clause-in_limit
+channels_of-requires-clause-in_limit c = c.in_ok-sound.ensures.in_limit
+
+pub channels_of-requires-clause-whole : goal.channels_of-requires-clause-whole
+channels_of-requires-clause-whole c = c.in_ok-sound.ensures.whole
+
+pub overflow_cast-number : goal.overflow_cast-number
+overflow_cast-number c = omega (arith, c.in_ok-told.ensures.number.1)
+
+pub usual_layout-requires : goal.usual_layout-requires
+usual_layout-requires c = omega (arith, c.in_ok-told.ensures.number.1)

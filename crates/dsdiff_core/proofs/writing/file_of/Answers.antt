@@ -1,4 +1,5 @@
 use Rattle.std.proofs.Common.{◌≡◌, ◌*◌, ◌/◌, ◌^◌, ◌<◌, ap, length, arith}
+use Rattle.dsd_bits.proofs.ExitLaws.{no_value}
 use Rattle.dsd_bits.specs.Lacing.{laced}
 use Rattle.dsdiff_core.proofs.WritingLemmas.{few_bytes}
 use Rattle.dsdiff_core.proofs.WrittenParts.{sound_size, text_is}
@@ -22,3 +23,49 @@ returns-clause-text c =
 pub returns-clause-read_again : goal.returns-clause-read_again
 returns-clause-read_again c =
     c.written_is_read_again.ensures c.args.recording.now _ c.channels-channels.ensures.shape c.fields_fit.ensures (returns-clause-text c) (omega arith)
+
+pub returns-in_err-tail-clause-text : goal.returns-in_err-tail-clause-text
+returns-in_err-tail-clause-text c = no_value _ _ c.from_residual.result c.from_residual.ensures.1
+
+pub returns-in_err-tail-clause-read_again : goal.returns-in_err-tail-clause-read_again
+returns-in_err-tail-clause-read_again c = no_value _ _ c.from_residual.result c.from_residual.ensures.1
+
+pub returns-in_err-out-clause-text : goal.returns-in_err-out-clause-text
+returns-in_err-out-clause-text c = no_value _ _ c.from_residual-in_err-out.result c.from_residual-in_err-out.ensures.1
+
+pub returns-in_err-out-clause-read_again : goal.returns-in_err-out-clause-read_again
+returns-in_err-out-clause-read_again c = no_value _ _ c.from_residual-in_err-out.result c.from_residual-in_err-out.ensures.1
+
+pub returns-in_err-reserve_exact-clause-text : goal.returns-in_err-reserve_exact-clause-text
+returns-in_err-reserve_exact-clause-text c = no_value _ _ c.from_residual-in_err-reserve_exact.result c.from_residual-in_err-reserve_exact.ensures.1
+
+pub returns-in_err-reserve_exact-clause-read_again : goal.returns-in_err-reserve_exact-clause-read_again
+returns-in_err-reserve_exact-clause-read_again c = no_value _ _ c.from_residual-in_err-reserve_exact.result c.from_residual-in_err-reserve_exact.ensures.1
+
+pub returns-in_err-push_laced-clause-text : goal.returns-in_err-push_laced-clause-text
+returns-in_err-push_laced-clause-text c = no_value _ _ c.from_residual-in_err-push_laced.result c.from_residual-in_err-push_laced.ensures.1
+
+pub returns-in_err-push_laced-clause-read_again : goal.returns-in_err-push_laced-clause-read_again
+returns-in_err-push_laced-clause-read_again c = no_value _ _ c.from_residual-in_err-push_laced.result c.from_residual-in_err-push_laced.ensures.1
+
+pub returns-in_err-extend_from_slice-clause-text : goal.returns-in_err-extend_from_slice-clause-text
+returns-in_err-extend_from_slice-clause-text c = no_value _ _ c.from_residual-in_err-extend_from_slice.result c.from_residual-in_err-extend_from_slice.ensures.1
+
+pub returns-in_err-extend_from_slice-clause-read_again : goal.returns-in_err-extend_from_slice-clause-read_again
+returns-in_err-extend_from_slice-clause-read_again c = no_value _ _ c.from_residual-in_err-extend_from_slice.result c.from_residual-in_err-extend_from_slice.ensures.1
+
+pub write_head-requires : goal.write_head-requires
+write_head-requires c = omega (arith, ap length c.in_ok-tail.ensures)
+
+pub push_laced-requires-clause-channel_number : goal.push_laced-requires-clause-channel_number
+push_laced-requires-clause-channel_number c =
+    let shape = c.channels-channels.ensures.shape in rw c.channels-channels.ensures.value (shape.some_channel, shape.six_channels)
+
+pub push_laced-requires-clause-level : goal.push_laced-requires-clause-level
+push_laced-requires-clause-level c = rw c.channels-channels.ensures.value c.channels-channels.ensures.shape.level
+
+pub push_laced-requires-clause-whole_bytes : goal.push_laced-requires-clause-whole_bytes
+push_laced-requires-clause-whole_bytes c = rw c.channels-channels.ensures.value c.requires
+
+pub overflow_add-size : goal.overflow_add-size
+overflow_add-size c = omega (arith, few (goal.at.overflow_add-size c).After-count)

@@ -10,3 +10,6 @@ returns-clause-value c =
     to_z-of_z w32 c.sum_over.result (record { sfits = c.sum_over.type_inv })
     ∙ c.sum_over.ensures.value
     ∙ ap (λ bs. conv c.args.taps.now.taps bs c.args.place) bits
+
+pub returns-clause-bound : goal.returns-clause-bound
+returns-clause-bound c = rw (to_z-of_z w32 c.sum_over.result (record { sfits = c.sum_over.type_inv })) c.sum_over.ensures.bound

@@ -1,8 +1,10 @@
-use Rattle.std.proofs.Common.{◌<◌, ◌∙◌, ap, arith, length}
+use Rattle.std.proofs.Common.{◌≡◌, ◌<◌, ◌∙◌, ap, ap₂, arith, length, map}
 use Rattle.std.specs.Int.{div_ceil}
 use Rattle.fir_core.specs.Decimator.{sample_at}
 use Rattle.fir_core.proofs.LaneLaws.{pushed}
 use Rattle.fir_core.proofs.TileLaws.{below_ceil}
+use Rattle.std.specs.List.{range_with_len}
+use Rattle.dsd_bits.proofs.ExitLaws.{no_value}
 use Rattle.fir_core.proofs.lanes.decimate_by_lanes.Goals as goal
 
 pub sample_by_lanes-requires-clause-sample : goal.sample_by_lanes-requires-clause-sample
@@ -15,3 +17,20 @@ sample_by_lanes-requires-clause-sample c =
 pub loop-j-preserved : goal.loop-j-preserved
 loop-j-preserved c =
     pushed (sample_at c.args.taps.now c.args.bits.now) _ _ c.loop-j.j c.sample_by_lanes.result (record { sfits = c.sample_by_lanes.type_inv }) c.loop-j.invariant c.sample_by_lanes.ensures c.in_ok-push.ensures.items
+
+pub returns-in_err-turned : goal.returns-in_err-turned
+returns-in_err-turned c = no_value _ _ c.from_residual.result c.from_residual.ensures.1
+
+pub returns-in_err-made : goal.returns-in_err-made
+returns-in_err-made c = no_value _ _ c.from_residual-in_err-made.result c.from_residual-in_err-made.ensures.1
+
+pub returns-in_err-push : goal.returns-in_err-push
+returns-in_err-push c = no_value _ _ c.from_residual-in_err-push.result c.from_residual-in_err-push.ensures.1
+
+pub sample_by_lanes-requires-clause-turned : goal.sample_by_lanes-requires-clause-turned
+sample_by_lanes-requires-clause-turned c = c.as_slice.ensures.value ∙ c.in_ok-turned.ensures
+
+pub returns : goal.returns
+returns c =
+    let ended : c.loop-j.j ≡ c.div_ceil-number.result = omega arith in
+    c.loop-j.invariant ∙ ap (λ n. map (sample_at c.args.taps.now c.args.bits.now) (range_with_len 0 n)) (ended ∙ c.div_ceil-number.ensures ∙ ap₂ div_ceil c.len.ensures.value c.factor.ensures.value)

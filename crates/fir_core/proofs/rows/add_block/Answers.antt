@@ -34,3 +34,9 @@ returns-then-block-eq0-clause-sums c =
 pub returns-clause-sums : goal.returns-clause-sums
 returns-clause-sums c =
     all_done (goal.at.returns-clause-sums c).After-block_of-block c.add_rest.new.sums (omega (arith, c.add_rest.ensures.len, c.add_eights.ensures.len)) c.add_rest.ensures.done (λ k h l. c.add_rest.ensures.rest k l h)
+
+pub block_of-block-requires-clause-laid : goal.block_of-block-requires-clause-laid
+block_of-block-requires-clause-laid c = c.requires.laid
+
+pub block_of-block-requires-clause-spot : goal.block_of-block-requires-clause-spot
+block_of-block-requires-clause-spot c = c.requires.spot

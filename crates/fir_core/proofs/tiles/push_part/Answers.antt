@@ -1,5 +1,5 @@
 use Rattle.std.proofs.Common.{◌≡◌, ℕ, ◌+◌, ◌*◌, ◌^◌, ◌≤◌, Bool, List, ◌++◌, ◌∙◌, ap, ap₂, arith, length, sym}
-use Rattle.std.proofs.lemmas.Result.{err_from_is_err_and}
+use Rattle.dsd_bits.proofs.ExitLaws.{any_err, no_ok}
 use Rattle.dsd_bits.specs.Packing.{unpacked}
 use Rattle.fir_core.specs.Places.{samples_from}
 use Rattle.fir_core.proofs.TileLaws.{numbered, numbers_reach, whole_step}
@@ -43,10 +43,10 @@ pub push_samples-requires-clause-tables : goal.push_samples-requires-clause-tabl
 push_samples-requires-clause-tables c = c.requires.tables
 
 pub returns-in_err-push_samples-clause-ok : goal.returns-in_err-push_samples-clause-ok
-returns-in_err-push_samples-clause-ok c = let e = err_from_is_err_and c.from_residual.result c.from_residual.ensures.1 in rw e.1 tt
+returns-in_err-push_samples-clause-ok c = no_ok _ _ c.from_residual.result c.from_residual.ensures.1
 
 pub returns-in_err-push_samples-clause-err : goal.returns-in_err-push_samples-clause-err
-returns-in_err-push_samples-clause-err c = let e = err_from_is_err_and c.from_residual.result c.from_residual.ensures.1 in rw e.1 c.in_err-push_samples.ensures.err
+returns-in_err-push_samples-clause-err c = any_err c.from_residual.result c.in_err-push_samples.ensures.err
 
 pub returns-clause-err : goal.returns-clause-err
 returns-clause-err c = tt

@@ -1,9 +1,10 @@
-use Rattle.std.proofs.Common.{◌≡◌, ◌+◌, ◌-◌, ◌*◌, ◌/◌, ◌<◌, ◌∙◌, ap, arith, drop, get_or, length, pos}
+use Rattle.std.proofs.Common.{◌≡◌, ◌+◌, ◌-◌, ◌*◌, ◌/◌, ◌<◌, ◌≤◌, ◌∙◌, ap, arith, drop, get_or, length, pos}
 use Rattle.std.specs.Prelude.{replicate}
 use Rattle.std.proofs.lemmas.List.{get_or-drop, get_or-take}
 use Rattle.std.proofs.lemmas.List.FromFn.{fill_by_all}
 use Rattle.std.proofs.lemmas.Simd.{get_or-replicate}
 use Rattle.fir_core.specs.Windows.{window_sum}
+use Rattle.std.proofs.Math.Nat.{mul-le-mul_right}
 use Rattle.fir_core.proofs.turns.sum_tile.Goals as goal
 
 pub add_turns-requires-clause-zeros : goal.add_turns-requires-clause-zeros
@@ -26,3 +27,28 @@ returns g c =
     ∙ get_or-take (7 + number - 7) (drop 7 used) j (pos 0) inside ∙ get_or-drop 7 used j (pos 0)
     ∙ ap (λ m. get_or used m (pos 0)) place
     ∙ c.add_turns.ensures.sums j (omega (arith, h, c.split_at_mut-used.ensures.front_len)))
+
+pub add_turns-requires-clause-laid : goal.add_turns-requires-clause-laid
+add_turns-requires-clause-laid g c = c.requires.laid
+
+pub add_turns-requires-clause-some : goal.add_turns-requires-clause-some
+add_turns-requires-clause-some g c = c.requires.some
+
+pub add_turns-requires-clause-few : goal.add_turns-requires-clause-few
+add_turns-requires-clause-few g c = c.requires.few
+
+pub add_turns-requires-clause-span : goal.add_turns-requires-clause-span
+add_turns-requires-clause-span g c = c.requires.span
+
+pub add_turns-requires-clause-wide : goal.add_turns-requires-clause-wide
+add_turns-requires-clause-wide g c = c.requires.wide
+
+pub add_turns-requires-clause-room : goal.add_turns-requires-clause-room
+add_turns-requires-clause-room g c = omega (arith, c.split_at_mut-used.ensures.front_len)
+
+pub add_turns-requires-clause-enough : goal.add_turns-requires-clause-enough
+add_turns-requires-clause-enough g c =
+    let number = length c.args.sums.now in
+    let step = c.args.rows.step in
+    let fits : (8 * (((number + 14) / 8 * 8 + 8) / 8 + g.row.N) - 16) * step ≤ (number + 8 * g.row.N + 7) * step = mul-le-mul_right step (omega arith) in
+    rw c.split_at_mut-used.ensures.front_len (omega (arith, fits, c.requires.enough))

@@ -1,8 +1,11 @@
-use Rattle.std.proofs.Common.{◌≡◌, ◌-◌, ◌<◌, ◌^◌, List, length, get_or, take, subst, sym, arith, ◌∙◌}
+use Rattle.std.proofs.Common.{◌≡◌, ◌-◌, ◌<◌, ◌^◌, List, [], length, get_or, take, refl, subst, sym, arith, ◌∙◌}
 use Rattle.std.proofs.lemmas.List.{take_all}
+use Rattle.std.proofs.KnownBytes.{Appends-nil}
 use Rattle.std.proofs.lemmas.Result.{err_from_is_err_and}
 use Rattle.cert_core.specs.Certificates.{Claim}
 use Rattle.cert_core.specs.Writers.{cert_outlet}
+use Rattle.cut_core.specs.Bridges.{IsPlace}
+use Rattle.cut_core.proofs.CutLaws.{first_shape}
 use Rattle.device_core.specs.Outlets.{outlet_writer}
 use Rattle.trellis_core.specs.Passes.{HasBuffers}
 use Rattle.master_core.specs.Certifying.{AppendsEntries, IsReady}
@@ -37,6 +40,15 @@ module _ (g : Over) (c : After-index-in-loop-k g) where
 
   weights : length c.index-window.result.now.weights ≡ length c.args.cut.now.splice.weights
   weights = weights_are c.args.cut.now c.args.bridges.now c.requires.bridges c.loop-k.k c.index.result.now c.index-window.result.now c.index-in-loop-k.result.now there (sym c.index.ensures) (sym c.index-window.ensures) (sym c.index-in-loop-k.ensures) c.can_cut.ensures
+
+  place : IsPlace c.args.cut.now c.index.result.now
+  place = subst (IsPlace c.args.cut.now) (sym c.index.ensures) (c.requires.bridges.each_there c.loop-k.k c.index.result.now there)
+
+pub write_entry-requires-clause-cue : goal.write_entry-requires-clause-cue
+write_entry-requires-clause-cue g c = omega (arith, (place g (goal.at.write_entry-requires-clause-cue g c).After-index-in-loop-k).cue_there, c.can_cut.ensures.splicing.few_cues)
+
+pub write_entry-requires-clause-channel : goal.write_entry-requires-clause-channel
+write_entry-requires-clause-channel g c = omega (arith, (place g (goal.at.write_entry-requires-clause-channel g c).After-index-in-loop-k).channel_there, (first_shape c.args.cut.now c.can_cut.ensures).six_channels)
 
 pub write_entry-requires-clause-chosen : goal.write_entry-requires-clause-chosen
 write_entry-requires-clause-chosen g c =
@@ -102,3 +114,6 @@ returns-clause-failed g c = c.loop-k.invariant.ready.fine
 
 pub returns-clause-before : goal.returns-clause-before
 returns-clause-before g c = c.loop-k.invariant.before
+
+pub loop-k-init : goal.loop-k-init
+loop-k-init g c = record { written = ([], refl, Appends-nil (g.W.Write.contents (outlet_writer (cert_outlet c.args.writer.now)))); ready = c.requires.ready; left = omega (arith, c.requires.entries); before = refl; room = c.requires.room }

@@ -1,7 +1,8 @@
-use Rattle.std.proofs.Common.{◌≡◌, ◌+◌, ◌-◌, ℕ, false, get_or, ap, ◌∙◌, arith, length}
+use Rattle.std.proofs.Common.{◌≡◌, ◌+◌, ◌-◌, ℕ, false, get_or, ap, ◌∙◌, arith, length, slice_range}
 use Rattle.master_core.specs.Comparing.{cue_start}
-use Rattle.master_core.proofs.OffLaws.{none_alike}
+use Rattle.master_core.proofs.OffLaws.{differs_there, none_alike, none_more}
 use Rattle.master_core.proofs.cueing.first_off_at.Goals as goal
+use Rattle.master_core.proofs.cueing.first_off_at.Goals.{After-cued_bit}
 
 pub loop-place-init : goal.loop-place-init
 loop-place-init c =
@@ -25,3 +26,26 @@ returns c = λ p off. c.loop-place.invariant.none p (omega (arith, off.inside, o
 
 pub get-requires : goal.get-requires
 get-requires c = omega (arith, c.min-to.ensures, c.len.ensures.value, c.loop-place-test.true, c.max-from.ensures)
+
+-- the cue's bit at the place
+cued : (c : After-cued_bit) → c.cued_bit.result ≡ get_or (slice_range c.cued-here.result.bits.now c.cued-here.result.start c.cued-here.result.stop) (c.loop-place.place - cue_start c.args.cut.now c.args.at.cue) false
+cued c = c.cued_bit.ensures ∙ ap (λ (n : ℕ). get_or (slice_range c.cued-here.result.bits.now c.cued-here.result.start c.cued-here.result.stop) (c.loop-place.place - n) false) c.requires.start
+
+pub returns-then-get-cued_bit : goal.returns-then-get-cued_bit
+returns-then-get-cued_bit c =
+    let here = c.cued-here.result in
+    record {
+      here = record {
+        reached = omega (arith, c.max-from.ensures, c.loop-place.auto.place);
+        inside = omega (arith, c.min-to.ensures, c.len.ensures.value, c.loop-place-test.true);
+        from = omega (arith, c.max-from.ensures, c.loop-place.auto.place, c.requires.start);
+        to = omega (arith, c.min-to.ensures, c.loop-place-test.true, c.requires.start, c.cued-here.ensures.long, ap length c.cued-here.ensures.bits);
+        differs = differs_there c.args.cut.now c.args.at.channel c.args.at.cue c.args.done c.args.part.now here.bits.now here.start here.stop c.loop-place.place c.cued-here.ensures.bits c.get.result c.cued_bit.result c.get.ensures (cued (goal.at.returns-then-get-cued_bit c).After-cued_bit) c.if-get-cued_bit.true;
+      };
+      before = c.loop-place.invariant.none;
+    }
+
+pub loop-place-preserved : goal.loop-place-preserved
+loop-place-preserved c =
+    let here = c.cued-here.result in
+    record { none = none_more c.args.cut.now c.args.at.channel c.args.at.cue c.args.done c.args.part.now here.bits.now here.start here.stop c.loop-place.place c.cued-here.ensures.bits c.get.result c.cued_bit.result c.get.ensures (cued (goal.at.loop-place-preserved c).After-cued_bit) c.if-get-cued_bit.false c.loop-place.invariant.none }

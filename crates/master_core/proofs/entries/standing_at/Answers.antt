@@ -1,5 +1,6 @@
 use Rattle.std.proofs.Common.{◌-◌, ◌<◌, ◌++◌, ◌∙◌, [], ap, ap₂, arith, get_or, length}
 use Rattle.std.proofs.lemmas.List.{get_or_default}
+use Rattle.std.proofs.lemmas.Result.{err_from_is_err_and}
 use Rattle.std.proofs.lemmas.List.FromFn.{get_or-map-range_with_len, length-map-range_with_len}
 use Rattle.cut_core.proofs.CutLaws.{fits_at}
 use Rattle.master_core.specs.Claims.{bridge_bits, bridge_start}
@@ -30,3 +31,18 @@ returns-clause-bits c =
     let there : c.args.place.channel < length channels = omega (arith, c.requires.shape.as_many, c.requires.place.channel_there) in
     let channel = c.index-channels-channel.is ∙ get_or_default channels c.args.place.channel c.index-channels-channel.result [] there in
     c.in_ok-push_standing.ensures.appended ∙ ap₂ (λ bits xs. bits ++ bridge_bits c.args.cut.now xs c.args.place.cue) c.new-bits.ensures channel
+
+pub returns-clause-long : goal.returns-clause-long
+returns-clause-long c = omega (arith, c.in_ok-push_standing.ensures.long, ap length c.new-bits.ensures)
+
+pub returns-in_err-push_standing : goal.returns-in_err-push_standing
+returns-in_err-push_standing c = let e = err_from_is_err_and c.from_residual.result c.from_residual.ensures.1 in rw e.1 (record { bits = tt; long = tt })
+
+pub bounds-channels-channel : goal.bounds-channels-channel
+bounds-channels-channel c = omega (arith, c.requires.shape.as_many, c.requires.place.channel_there)
+
+pub push_standing-requires-clause-cue : goal.push_standing-requires-clause-cue
+push_standing-requires-clause-cue c = omega (arith, c.requires.place.cue_there)
+
+pub push_standing-requires-clause-long : goal.push_standing-requires-clause-long
+push_standing-requires-clause-long c = ap length c.index-channels-channel.is ∙ c.requires.shape.long c.args.place.channel c.index-channels-channel.result (omega (arith, c.requires.shape.as_many, c.requires.place.channel_there))

@@ -2,13 +2,14 @@ use Rattle.std.proofs.Common.{◌≡◌, ◌+◌, ◌∙◌, ap, subst, sym}
 use Rattle.std.proofs.lemmas.Result.{err_from_is_err_and}
 use Rattle.std.specs.Prelude.{MatchResult}
 use Rattle.std.specs.Io.KnownBytes.{Appends}
+use Rattle.dsd_bits.proofs.ExitLaws.{any_err}
 use Rattle.device_core.specs.Outlets.{AppendsPart, outlet_failures, outlet_writer}
 use Rattle.form_core.specs.Parts.{interleaving_in}
 use Rattle.cut_core.proofs.CutLaws.{first_shape}
 use Rattle.master_core.specs.Parting.{HasChosen}
 use Rattle.master_core.specs.Writing.{WritesBest, WritesBestFront}
 use Rattle.master_core.proofs.FilingLaws.{file_whole, head_front, sound_front, tail_front}
-use Rattle.master_core.proofs.WritingLaws.{any_err, on_err, on_ok}
+use Rattle.master_core.proofs.WritingLaws.{on_err, on_ok}
 use Rattle.master_core.proofs.filing.write_master.Given.{Over}
 use Rattle.master_core.proofs.filing.write_master.Goals as goal
 use Rattle.master_core.proofs.filing.write_master.Goals.{After-deref-2, In_ok-put_all, In_ok-write_sound}

@@ -1,7 +1,9 @@
-use Rattle.std.proofs.Common.{◌≡◌, arith, refl, subst}
+use Rattle.std.proofs.Common.{◌≡◌, ◌≤◌, ◌∷◌, [], ap, arith, refl, subst}
 use Rattle.std.proofs.lemmas.Result.{err_from_is_err_and}
-use Rattle.std.proofs.lemmas.List.Elements.{All-nil}
+use Rattle.std.proofs.lemmas.List.{length-append}
+use Rattle.std.proofs.lemmas.List.Elements.{All-nil, All-push}
 use Rattle.master_core.specs.Writing.{AreRooms}
+use Rattle.dsd_bits.specs.Rooms.{RoomContent}
 use Rattle.master_core.proofs.writing.bit_rooms.Goals as goal
 
 pub returns-in_err-made : goal.returns-in_err-made
@@ -23,3 +25,16 @@ pub returns : goal.returns
 returns c =
     let all : c.loop-k.k ≡ c.args.number = omega (arith, c.loop-k-test.false, c.loop-k.auto.k-end) in
     subst (λ n. AreRooms n c.args.most c.loop-k.made.items) all c.loop-k.invariant.rooms
+
+pub loop-k-preserved : goal.loop-k-preserved
+loop-k-preserved c =
+    let so_far = c.loop-k.invariant in
+    let added = c.push_reserved.ensures in
+    record {
+      rooms = rw added.items (record {
+        as_many = omega (arith, length-append c.loop-k.made.items (c.in_ok-new.field-0 ∷ []), so_far.rooms.as_many);
+        large = All-push (λ (room : RoomContent). c.args.most ≤ room.most) c.loop-k.made.items c.in_ok-new.field-0 so_far.rooms.large (omega (arith, ap (λ (room : RoomContent). room.most) c.in_ok-new.ensures));
+      });
+      len = omega (arith, added.len, so_far.len);
+      room = omega (arith, added.capacity, so_far.room);
+    }

@@ -1,9 +1,10 @@
 use Rattle.std.proofs.Common.{◌≡◌, ◌+◌, ◌%◌, ◌≤◌, ◌⊎◌, inl, inr, refl, subst, arith}
 use Rattle.std.proofs.lemmas.Result.{err_from_is_err_and}
+use Rattle.dsd_bits.proofs.ExitLaws.{any_err}
 use Rattle.device_core.specs.Outlets.{outlet_writer}
 use Rattle.cut_core.specs.Cuts.{master_length}
 use Rattle.cut_core.proofs.CutLaws.{first_shape}
-use Rattle.master_core.proofs.WritingLaws.{HasWritten, any_err, next_place, written_front, written_more, written_nothing, written_whole}
+use Rattle.master_core.proofs.WritingLaws.{HasWritten, next_place, written_front, written_more, written_nothing, written_whole}
 use Rattle.master_core.proofs.writing.write_sound.Goals as goal
 
 pub loop-from-init : goal.loop-from-init

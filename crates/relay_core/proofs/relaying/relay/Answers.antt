@@ -1,12 +1,13 @@
 use Rattle.std.proofs.Common.{◌≡◌, ◌+◌, ◌∙◌, Err, ap, arith, subst, sym}
 use Rattle.std.specs.Io.KnownBytes.{Consumes}
 use Rattle.std.proofs.lemmas.Result.{err_from_is_err_and}
+use Rattle.dsd_bits.proofs.ExitLaws.{any_err}
 use Rattle.device_core.specs.Inlets.{inlet_failures, inlet_reader}
 use Rattle.device_core.specs.Outlets.{outlet_writer}
 use Rattle.sound_core.specs.Outlines.{around_of}
 use Rattle.relay_core.specs.Comparing.{IsExpectFault}
 use Rattle.sound_core.proofs.FaultLaws.{unread}
-use Rattle.relay_core.proofs.RelayLaws.{any_err, front_nil, head_fault, head_part, head_whole, none_before, not_ok, on_err, on_ok, relays, relays_given, rest_fault, sound_fault, sound_part, sound_whole, tail_part, unwritten, writing_stands}
+use Rattle.relay_core.proofs.RelayLaws.{front_nil, head_fault, head_part, head_whole, none_before, not_ok, on_err, on_ok, relays, relays_given, rest_fault, sound_fault, sound_part, sound_whole, tail_part, unwritten, writing_stands}
 use Rattle.relay_core.proofs.relaying.relay.Given.{Over}
 use Rattle.relay_core.proofs.relaying.relay.Goals as goal
 use Rattle.relay_core.proofs.relaying.relay.Goals.{In_ok-expect, In_ok-relay_sound}

@@ -1,12 +1,13 @@
 use Rattle.std.proofs.Common.{◌≡◌, ◌+◌, ◌∙◌, ◌++◌, ap, arith, length, length-take, subst, sym, take}
 use Rattle.std.proofs.lemmas.Result.{IfErr-weaker, err_from_is_err_and}
 use Rattle.std.specs.Io.KnownBytes.{Appends}
+use Rattle.dsd_bits.proofs.ExitLaws.{any_err}
 use Rattle.device_core.specs.Inlets.{inlet_failures, inlet_reader}
 use Rattle.device_core.specs.Outlets.{AppendsFront, outlet_writer}
 use Rattle.dsd_bits.specs.Sounds.{sound_size}
 use Rattle.relace_core.specs.Relacing.{relaced}
 use Rattle.sound_core.proofs.FaultLaws.{unread}
-use Rattle.relay_core.proofs.RelayLaws.{any_err, filling_in_part, none_of_part, on_err, on_ok, stretch_front, unwritten, writing_in_part}
+use Rattle.relay_core.proofs.RelayLaws.{filling_in_part, none_of_part, on_err, on_ok, stretch_front, unwritten, writing_in_part}
 use Rattle.relay_core.proofs.relaying.relay_part.Goals as goal
 use Rattle.relay_core.proofs.relaying.relay_part.Goals.{After-deref-2}
 use Rattle.relay_core.proofs.relaying.relay_part.Given.{Over}

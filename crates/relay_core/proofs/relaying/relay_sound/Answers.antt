@@ -1,10 +1,11 @@
 use Rattle.std.proofs.Common.{◌≡◌, ◌+◌, ◌-◌, ◌≤◌, inl, inr, arith, subst}
 use Rattle.std.proofs.lemmas.Result.{err_from_is_err_and}
+use Rattle.dsd_bits.proofs.ExitLaws.{any_err}
 use Rattle.device_core.specs.Inlets.{inlet_reader}
 use Rattle.device_core.specs.Outlets.{outlet_writer}
 use Rattle.relay_core.specs.Relays.{IsPartFault, PartFront, RelaysPart}
 use Rattle.relace_core.proofs.GroupLaws.{size_fits, whole_on, last_groups}
-use Rattle.relay_core.proofs.RelayLaws.{any_err, part_fault, part_front, part_none, part_on}
+use Rattle.relay_core.proofs.RelayLaws.{part_fault, part_front, part_none, part_on}
 use Rattle.relay_core.proofs.relaying.relay_sound.Goals as goal
 
 pub loop-left-init : goal.loop-left-init

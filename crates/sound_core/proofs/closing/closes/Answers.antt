@@ -1,7 +1,7 @@
 use Rattle.std.proofs.Common.{◌-◌, ◌∙◌, arith, refl, sym}
 use Rattle.std.proofs.lemmas.Result.{err_from_is_err_and}
 use Rattle.sound_core.proofs.ClosingLaws.{dsf_closes, ends, form_closes, form_ends_at, form_behind, has_order, no_order}
-use Rattle.sound_core.proofs.ReaderLaws.{counts_before, counts_ok, same_counts}
+use Rattle.sound_core.proofs.ReaderLaws.{counts_ok, counts_want, same_counts}
 use Rattle.sound_core.proofs.closing.closes.Goals as goal
 
 pub returns-then-has_blocks-clause-ok : goal.returns-then-has_blocks-clause-ok
@@ -87,4 +87,7 @@ returns-in_err-closes-clause-fault g c = let e = err_from_is_err_and c.from_resi
 pub returns-in_err-closes-clause-counts : goal.returns-in_err-closes-clause-counts
 returns-in_err-closes-clause-counts g c =
     let e = err_from_is_err_and c.from_residual-in_err-closes.result c.from_residual-in_err-closes.ensures.1 in
-    rw (e.1, e.2) (counts_before c.args.reader.now c.args.reader.now c.read_until.new.self _ _ refl (λ turn. cc) refl refl c.in_ok-read_until.ensures.counts)
+    rw (e.1, e.2) (counts_want c.args.reader.now c.args.reader.now c.read_until.new.self _ refl refl c.in_ok-read_until.ensures.counts)
+
+pub closes-requires-clause-not_cut : goal.closes-requires-clause-not_cut
+closes-requires-clause-not_cut g c = omega (arith, c.given.ensures, c.in_ok-read_to_end.ensures.read.reads.given, c.requires.given, c.read_to_end.ensures.same.given)

@@ -5,7 +5,7 @@ use Rattle.sound_core.specs.Files.{IsBeforeSound, IsRefused, TellsSound}
 use Rattle.sound_core.specs.Reads.{Reads}
 use Rattle.sound_core.proofs.ToldLaws.{before_first, gives_none}
 use Rattle.sound_core.proofs.ReadLaws.{after, at_end, reads_none, reads_on}
-use Rattle.sound_core.proofs.ReaderLaws.{counts_before, counts_later, counts_ok, counts_refused, same_on, same_self}
+use Rattle.sound_core.proofs.ReaderLaws.{counts_later, counts_ok, counts_refused, counts_want, same_on, same_self}
 use Rattle.sound_core.proofs.FaultLaws.{reading_in_front}
 use Rattle.sound_core.proofs.front.read_front.Goals as goal
 
@@ -125,7 +125,7 @@ returns-in_err-sound-clause-stopped g c = let e = err_from_is_err_and c.from_res
 pub returns-in_err-sound-clause-counts : goal.returns-in_err-sound-clause-counts
 returns-in_err-sound-clause-counts g c =
     let e = err_from_is_err_and c.from_residual-in_err-sound.result c.from_residual-in_err-sound.ensures.1 in
-    rw (e.1, e.2) (counts_before c.args.reader.now c.loop-count.reader c.read_more.new.self c.in_ok-count.count _ refl (λ turn. cc) c.loop-count.invariant.3.limit c.loop-count.invariant.4 c.in_ok-count.ensures.counts)
+    rw (e.1, e.2) (counts_want c.args.reader.now c.loop-count.reader c.read_more.new.self c.in_ok-count.count c.loop-count.invariant.3.limit c.loop-count.invariant.4 c.in_ok-count.ensures.counts)
 
 pub returns-then-count-eq0-clause-stopped : goal.returns-then-count-eq0-clause-stopped
 returns-then-count-eq0-clause-stopped g c = λ stops. absurd stops

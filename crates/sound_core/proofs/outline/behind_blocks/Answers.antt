@@ -3,7 +3,7 @@ use Rattle.std.proofs.lemmas.Result.{err_from_is_err_and}
 use Rattle.dsf_core.specs.Fronts.{TellsOutline}
 use Rattle.sound_core.proofs.BehindLaws.{blocks_around, blocks_refused, tag_fault}
 use Rattle.sound_core.proofs.ClosingLaws.{ends, has_order}
-use Rattle.sound_core.proofs.ReaderLaws.{counts_before, counts_ok, counts_refused, same_counts}
+use Rattle.sound_core.proofs.ReaderLaws.{counts_ok, counts_refused, counts_want, same_counts}
 use Rattle.sound_core.proofs.outline.behind_blocks.Goals as goal
 
 pub tag_at-requires : goal.tag_at-requires
@@ -74,7 +74,7 @@ returns-in_err-tag-clause-fault g c = let e = err_from_is_err_and c.from_residua
 pub returns-in_err-tag-clause-counts : goal.returns-in_err-tag-clause-counts
 returns-in_err-tag-clause-counts g c =
     let e = err_from_is_err_and c.from_residual-in_err-tag.result c.from_residual-in_err-tag.ensures.1 in
-    rw (e.1, e.2) (counts_before c.args.reader.now c.args.reader.now c.read_tag.new.reader c.in_ok-gap.gap _ refl (λ turn. cc) refl refl c.in_ok-gap.ensures.counts)
+    rw (e.1, e.2) (counts_want c.args.reader.now c.args.reader.now c.read_tag.new.reader c.in_ok-gap.gap refl refl c.in_ok-gap.ensures.counts)
 
 pub returns-in_err-recording-clause-fault : goal.returns-in_err-recording-clause-fault
 returns-in_err-recording-clause-fault g c = let e = err_from_is_err_and c.from_residual-in_err-recording.result c.from_residual-in_err-recording.ensures.1 in rw (e.1, e.2) tt
@@ -82,7 +82,7 @@ returns-in_err-recording-clause-fault g c = let e = err_from_is_err_and c.from_r
 pub returns-in_err-recording-clause-counts : goal.returns-in_err-recording-clause-counts
 returns-in_err-recording-clause-counts g c =
     let e = err_from_is_err_and c.from_residual-in_err-recording.result c.from_residual-in_err-recording.ensures.1 in
-    rw (e.1, e.2) (counts_before c.args.reader.now c.args.reader.now c.read_tag.new.reader c.in_ok-gap.gap _ refl (λ turn. cc) refl refl c.in_ok-gap.ensures.counts)
+    rw (e.1, e.2) (counts_want c.args.reader.now c.args.reader.now c.read_tag.new.reader c.in_ok-gap.gap refl refl c.in_ok-gap.ensures.counts)
 
 pub returns-in_default-clause-counts : goal.returns-in_default-clause-counts
 returns-in_default-clause-counts g c = counts_refused c.args.reader.now c.args.reader.now c.read_tag.new.reader c.in_ok-gap.gap refl refl c.in_ok-gap.ensures.counts

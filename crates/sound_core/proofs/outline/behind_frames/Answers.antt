@@ -7,7 +7,7 @@ use Rattle.sound_core.specs.Outlines.{IsRestFault}
 use Rattle.sound_core.proofs.BehindLaws.{IsBehind, frames_around, frames_refused, is_behind}
 use Rattle.sound_core.proofs.ClosingLaws.{form_ends_at}
 use Rattle.sound_core.proofs.FaultLaws.{by_reading}
-use Rattle.sound_core.proofs.ReaderLaws.{counts_still, same_counts}
+use Rattle.sound_core.proofs.ReaderLaws.{counts_kept, counts_kept_refused, counts_memory, same_counts}
 use Rattle.sound_core.proofs.outline.behind_frames.Given.{Over}
 use Rattle.sound_core.proofs.outline.behind_frames.Goals as goal
 use Rattle.sound_core.proofs.outline.behind_frames.Goals.{After-truncate}
@@ -78,13 +78,13 @@ returns-in_err-recording-clause-fault g c = let e = err_from_is_err_and c.from_r
 pub returns-in_err-recording-clause-counts : goal.returns-in_err-recording-clause-counts
 returns-in_err-recording-clause-counts g c =
     let e = err_from_is_err_and c.from_residual-in_err-recording.result c.from_residual-in_err-recording.ensures.1 in
-    rw (e.1, e.2) (counts_still c.args.reader.now c.read_until.new.self _ _ _ refl (λ turn. cc) refl c.in_ok-read_until.ensures.counts)
+    rw (e.1, e.2) (counts_memory c.args.reader.now c.read_until.new.self _ _ refl c.in_ok-read_until.ensures.counts)
 
 pub returns-in_default-clause-counts : goal.returns-in_default-clause-counts
-returns-in_default-clause-counts g c = counts_still c.args.reader.now c.read_until.new.self _ _ _ refl (λ turn. cc) refl c.in_ok-read_until.ensures.counts
+returns-in_default-clause-counts g c = counts_kept_refused c.args.reader.now c.read_until.new.self _ _ refl c.in_ok-read_until.ensures.counts
 
 pub returns-clause-counts : goal.returns-clause-counts
-returns-clause-counts g c = counts_still c.args.reader.now c.read_until.new.self _ _ _ refl (λ turn. cc) refl c.in_ok-read_until.ensures.counts
+returns-clause-counts g c = counts_kept c.args.reader.now c.read_until.new.self _ _ _ refl c.in_ok-read_until.ensures.counts
 
 pub read_until-requires : goal.read_until-requires
 read_until-requires g c = record { reading = c.requires.reading }

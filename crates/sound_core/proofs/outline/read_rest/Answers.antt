@@ -1,6 +1,6 @@
 use Rattle.std.proofs.Common.{refl}
 use Rattle.std.proofs.lemmas.Result.{err_from_is_err_and}
-use Rattle.sound_core.proofs.ReaderLaws.{counts_still, same_counts, same_on}
+use Rattle.sound_core.proofs.ReaderLaws.{counts_kept, same_counts, same_on}
 use Rattle.sound_core.proofs.outline.read_rest.Goals as goal
 
 pub read_behind-requires : goal.read_behind-requires
@@ -35,7 +35,7 @@ pub returns-clause-ok : goal.returns-clause-ok
 returns-clause-ok g c = (refl, refl, rw (c.take_ahead-back.ensures.untouched, c.take_ahead-back.ensures.taken, ← c.deref.ensures.value) c.in_ok-behind.ensures.ok)
 
 pub returns-clause-counts : goal.returns-clause-counts
-returns-clause-counts g c = counts_still c.args.reader.now c.read_behind.new.reader c.take_ahead-back.new.self _ _ refl (λ turn. cc) c.take_ahead-back.ensures.untouched c.in_ok-behind.ensures.counts
+returns-clause-counts g c = counts_kept c.args.reader.now c.read_behind.new.reader c.take_ahead-back.new.self _ _ c.take_ahead-back.ensures.untouched c.in_ok-behind.ensures.counts
 
 pub returns-clause-fault : goal.returns-clause-fault
 returns-clause-fault g c = tt

@@ -7,7 +7,7 @@ use Rattle.dsd_bits.specs.Sounds.{sound_size}
 use Rattle.sound_core.specs.Reads.{Reads}
 use Rattle.sound_core.proofs.taking.take_groups.Given.{Over}
 use Rattle.sound_core.proofs.FaultLaws.{reading_in_pass}
-use Rattle.sound_core.proofs.ReaderLaws.{counts_before, counts_refused, counts_still, same_counts, same_on}
+use Rattle.sound_core.proofs.ReaderLaws.{counts_kept, counts_refused, counts_want, same_counts, same_on}
 use Rattle.sound_core.proofs.taking.take_groups.Goals as goal
 use Rattle.sound_core.proofs.taking.take_groups.Goals.{After-split_at}
 
@@ -109,13 +109,13 @@ returns-then-len-size-clause-fault g c =
 pub returns-in_err-take-clause-counts : goal.returns-in_err-take-clause-counts
 returns-in_err-take-clause-counts g c =
     let e = err_from_is_err_and c.from_residual-in_err-take.result c.from_residual-in_err-take.ensures.1 in
-    rw (e.1, e.2) (counts_before c.args.reader.now c.args.reader.now c.read_until.new.self _ _ refl (λ turn. cc) refl refl c.in_ok-read_until.ensures.counts)
+    rw (e.1, e.2) (counts_want c.args.reader.now c.args.reader.now c.read_until.new.self _ refl refl c.in_ok-read_until.ensures.counts)
 
 pub returns-in_err-take-clause-fault : goal.returns-in_err-take-clause-fault
 returns-in_err-take-clause-fault g c = let e = err_from_is_err_and c.from_residual-in_err-take.result c.from_residual-in_err-take.ensures.1 in rw (e.1, e.2) tt
 
 pub returns-clause-counts : goal.returns-clause-counts
-returns-clause-counts g c = counts_still c.args.reader.now c.read_until.new.self c.drop_ahead.new.self _ _ refl (λ turn. cc) c.drop_ahead.ensures.untouched c.in_ok-read_until.ensures.counts
+returns-clause-counts g c = counts_kept c.args.reader.now c.read_until.new.self c.drop_ahead.new.self _ _ c.drop_ahead.ensures.untouched c.in_ok-read_until.ensures.counts
 
 pub read_until-requires : goal.read_until-requires
 read_until-requires g c = record { reading = c.requires.reading }
@@ -131,3 +131,9 @@ split_at-requires g c = omega (arith, c.if-len-size.false, c.len.ensures, ap len
 
 pub drop_ahead-requires : goal.drop_ahead-requires
 drop_ahead-requires g c = record { within = omega (arith, c.if-len-size.false, c.len.ensures) }
+
+pub stretch_size-size-requires-clause-channels : goal.stretch_size-size-requires-clause-channels
+stretch_size-size-requires-clause-channels g c = (c.requires.sound.some_channel, c.requires.sound.six_channels)
+
+pub stretch_size-size-requires-clause-in_limit : goal.stretch_size-size-requires-clause-in_limit
+stretch_size-size-requires-clause-in_limit g c = omega (arith, c.requires.within, c.requires.sound.in_limit)

@@ -1,8 +1,9 @@
 use Rattle.std.proofs.Common.{ℕ, ◌++◌, ◌+◌, ◌∙◌, ap, length-take, subst, sym}
 use Rattle.std.proofs.lemmas.Result.{err_from_is_err_and}
+use Rattle.dsd_bits.proofs.ExitLaws.{any_err}
 use Rattle.device_core.specs.Outlets.{outlet_failures, outlet_writer}
 use Rattle.stream_core.specs.Pieces.{PutsDue, PutsFrontOf}
-use Rattle.stream_core.proofs.PieceLaws.{any_err, as_dropped, as_taken, due_front}
+use Rattle.stream_core.proofs.PieceLaws.{as_dropped, as_taken, due_front}
 use Rattle.stream_core.proofs.FaultLaws.{same_writes}
 use Rattle.stream_core.proofs.pieces.play_bytes.Goals as goal
 

@@ -1,9 +1,10 @@
 use Rattle.std.proofs.Common.{take, length, length-take, ap, ◌≤◌, ◌∙◌, arith, refl, subst}
 use Rattle.std.proofs.lemmas.Result.{IfErr-weaker, IfOk-weaker, err_from_is_err_and}
+use Rattle.dsd_bits.proofs.ExitLaws.{any_err, no_ok, no_value}
 use Rattle.device_core.specs.Inlets.{inlet_reader}
 use Rattle.device_core.specs.Outlets.{outlet_writer}
 use Rattle.stream_core.specs.Pieces.{PutsFrontOf}
-use Rattle.stream_core.proofs.PieceLaws.{any_err, no_ok, no_value, none_left, on_err, part_left, read_played, some_taken}
+use Rattle.stream_core.proofs.PieceLaws.{none_left, on_err, part_left, read_played, some_taken}
 use Rattle.stream_core.proofs.FaultLaws.{counts_writing, reading_in_piece, unwritten, writing_goes_on, writing_in_piece}
 use Rattle.stream_core.proofs.pieces.play_read.Goals as goal
 

@@ -1,5 +1,6 @@
 use Rattle.std.proofs.Common.{◌≡◌, ℕ, List, ◌++◌, ◌+◌, ◌-◌, ◌∙◌, drop, take, length, length-take, ap, arith, sym, subst}
 use Rattle.std.proofs.lemmas.Result.{IfErr-weaker, err_from_is_err_and}
+use Rattle.dsd_bits.proofs.ExitLaws.{any_err, no_ok}
 use Rattle.device_core.specs.Inlets.{inlet_failures, inlet_given, inlet_reader}
 use Rattle.device_core.specs.Outlets.{outlet_failures, outlet_writer}
 use Rattle.dsd_bits.specs.declared.sound.Sound.{Sound}
@@ -8,7 +9,7 @@ use Rattle.sound_core.proofs.ReaderLaws.{counts_later}
 use Rattle.stream_core.specs.Pace.{PlaysGivenSound}
 use Rattle.stream_core.specs.Pieces.{IsPieceFault, IsSoundFault, PlaysFront, PlaysPart, PlaysSound, PutsDue, PutsFrontLeft, PutsFrontOf}
 use Rattle.stream_core.proofs.PaceLaws.{sound_so_far}
-use Rattle.stream_core.proofs.PieceLaws.{any_err, no_ok, on_err, on_ok}
+use Rattle.stream_core.proofs.PieceLaws.{on_err, on_ok}
 use Rattle.stream_core.proofs.SoundLaws.{ahead_front, end_front, front_of_none, rest_fault, rest_front, said, sound_played}
 use Rattle.stream_core.proofs.pieces.play_sound.Given.{Over}
 use Rattle.stream_core.proofs.FaultLaws.{counts_writing, counts_written, same_writes, writes_later, writing_goes_on, writing_in_sound}
@@ -218,3 +219,38 @@ returns-in_err-player-clause-counts g c =
 
 pub returns-clause-same_reader : goal.returns-clause-same_reader
 returns-clause-same_reader g c = record { reference = c.play_rest.ensures.same_reader.reference ∙ c.take_ahead-ahead.ensures.same.reference; given = c.play_rest.ensures.same_reader.given ∙ c.take_ahead-ahead.ensures.same.given; limit = c.play_rest.ensures.same_reader.limit ∙ c.take_ahead-ahead.ensures.same.limit }
+
+pub returns-clause-reading : goal.returns-clause-reading
+returns-clause-reading g c = on_ok c.put_rest.result (λ rest. c.in_ok-play_rest.ensures.reading) c.put_rest.ensures.ok
+
+-- ---- what the calls need
+pub play_bytes-requires : goal.play_bytes-requires
+play_bytes-requires g c =
+    let made = c.in_ok-player.ensures.made in
+    record { player = c.in_ok-player.ensures.ready; few = omega (arith, made.2, ap (λ (s : Sound). s.size) made.1); ready = c.requires.outlet_ready }
+
+pub overflow_sub-sound : goal.overflow_sub-sound
+overflow_sub-sound g c = omega (arith, c.in_ok-first.ensures.number, length-take c.args.sound.now.size c.deref.result.now)
+
+pub play_rest-requires : goal.play_rest-requires
+play_rest-requires g c =
+    let made = c.in_ok-player.ensures.made in
+    let first = c.in_ok-first.ensures in
+    let reading = c.take_ahead-ahead.ensures.reading c.requires.reading in
+    record {
+      player = first.player;
+      few = omega (arith, made.2, first.same.2, first.number, length-take c.args.sound.now.size c.deref.result.now, ap (λ (s : Sound). s.size) first.same.1, ap (λ (s : Sound). s.size) made.1);
+      reading = record { ready = reading.ready; budget = reading.budget; size = reading.size };
+      outlet_ready = omega (arith, first.failures, c.requires.outlet_ready);
+    }
+
+pub put_rest-requires : goal.put_rest-requires
+put_rest-requires g c =
+    let made = c.in_ok-player.ensures.made in
+    let first = c.in_ok-first.ensures in
+    let later = c.in_ok-play_rest.ensures in
+    record {
+      player = later.player;
+      all = omega (arith, made.2, first.same.2, later.same.2, first.number, length-take c.args.sound.now.size c.deref.result.now, ap (λ (s : Sound). s.size) later.same.1, ap (λ (s : Sound). s.size) first.same.1, ap (λ (s : Sound). s.size) made.1);
+      ready = omega (arith, later.write_failed, first.failures, c.requires.outlet_ready);
+    }

@@ -1,6 +1,7 @@
 use Rattle.std.proofs.Common.{arith}
 use Rattle.std.proofs.lemmas.Result.{err_from_is_err_and}
-use Rattle.stream_core.proofs.PieceLaws.{any_err, due_put, no_ok, nothing_put, on_err, on_ok, part_put}
+use Rattle.dsd_bits.proofs.ExitLaws.{any_err, no_ok}
+use Rattle.stream_core.proofs.PieceLaws.{due_put, nothing_put, on_err, on_ok, part_put}
 use Rattle.stream_core.proofs.pieces.put_due.Goals as goal
 
 pub returns-in_err-feed-clause-front : goal.returns-in_err-feed-clause-front

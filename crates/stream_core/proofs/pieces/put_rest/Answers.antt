@@ -1,5 +1,6 @@
 use Rattle.std.specs.Prelude.{[]}
-use Rattle.stream_core.proofs.PieceLaws.{any_err, nothing_put, on_err, on_ok, rest_part, rest_put}
+use Rattle.dsd_bits.proofs.ExitLaws.{any_err}
+use Rattle.stream_core.proofs.PieceLaws.{nothing_put, on_err, on_ok, rest_part, rest_put}
 use Rattle.stream_core.proofs.pieces.put_rest.Goals as goal
 
 pub returns-in_err-finish-clause-front : goal.returns-in_err-finish-clause-front

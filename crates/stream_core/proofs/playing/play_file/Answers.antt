@@ -1,12 +1,14 @@
 use Rattle.std.proofs.Common.{◌-◌, ◌∙◌, arith, refl, subst, sym}
 use Rattle.std.proofs.lemmas.Result.{IfErr-weaker, IfOk-weaker, err_from_is_err_and}
+use Rattle.dsd_bits.proofs.ExitLaws.{no_value}
 use Rattle.device_core.specs.Inlets.{inlet_given, inlet_reader}
 use Rattle.device_core.specs.Outlets.{outlet_writer}
 use Rattle.stream_core.specs.Pace.{KeepsUp}
 use Rattle.stream_core.proofs.PaceLaws.{keeps_file, keeps_front}
 use Rattle.stream_core.specs.Playing.{PlaysBy}
-use Rattle.stream_core.proofs.PlayLaws.{found_outside, front_outside, none_written, plays_file, plays_given}
-use Rattle.sound_core.proofs.ReaderLaws.{same_counts}
+use Rattle.stream_core.proofs.PlayLaws.{found_front, found_outside, found_stands, front_outside, none_written, plays_file, plays_given}
+use Rattle.sound_core.proofs.ReaderLaws.{counts_from, same_counts, same_on}
+use Rattle.stream_core.proofs.PieceLaws.{on_err}
 use Rattle.stream_core.proofs.FaultLaws.{front_stands, front_unwritten}
 use Rattle.stream_core.proofs.playing.play_file.Goals as goal
 
@@ -58,3 +60,27 @@ returns-in_err-sound-clause-write_failed g c =
 pub returns-in_err-sound-clause-front : goal.returns-in_err-sound-clause-front
 returns-in_err-sound-clause-front g c =
     none_written c.from_residual.result (g.R.Read.remaining (inlet_reader c.args.reader.now.inlet.now)) (PlaysBy c.args.taps.now) (g.W.Write.contents (outlet_writer c.args.outlet.now))
+
+pub returns-in_err-sound-clause-ok : goal.returns-in_err-sound-clause-ok
+returns-in_err-sound-clause-ok g c = no_value _ _ c.from_residual.result c.from_residual.ensures.1
+
+pub returns-in_err-sound-clause-any_reader : goal.returns-in_err-sound-clause-any_reader
+returns-in_err-sound-clause-any_reader g c = no_value _ _ c.from_residual.result c.from_residual.ensures.1
+
+pub returns-in_err-sound-clause-unwritten : goal.returns-in_err-sound-clause-unwritten
+returns-in_err-sound-clause-unwritten g c = let e = err_from_is_err_and c.from_residual.result c.from_residual.ensures.1 in rw e.1 (λ early. refl)
+
+pub returns-clause-same : goal.returns-clause-same
+returns-clause-same g c = same_on c.args.reader.now c.read_front.new.reader c.play_found.new.reader c.read_front.ensures.same c.play_found.ensures.same
+
+pub returns-clause-fault : goal.returns-clause-fault
+returns-clause-fault g c = IfErr-weaker c.play_found.result _ _ (λ f. found_stands _ _ c.args.taps.now _ _ f c.in_ok-sound.ensures.read.consumed refl) c.play_found.ensures.fault
+
+pub returns-clause-front : goal.returns-clause-front
+returns-clause-front g c = on_err c.play_found.result (found_front _ _ _ _ c.args.taps.now _ _ c.in_ok-sound.ensures.read.consumed refl) c.play_found.ensures.front
+
+pub returns-clause-counts : goal.returns-clause-counts
+returns-clause-counts g c = counts_from c.args.reader.now c.read_front.new.reader c.play_found.new.reader c.play_found.result c.read_front.ensures.same.limit (omega (arith, c.in_ok-sound.ensures.counts.failures)) c.play_found.ensures.counts
+
+pub play_found-requires : goal.play_found-requires
+play_found-requires g c = record { tells = c.in_ok-sound.ensures.tells; given = c.in_ok-sound.ensures.given; reading = c.in_ok-sound.ensures.reading; outlet_ready = c.requires.outlet_ready }

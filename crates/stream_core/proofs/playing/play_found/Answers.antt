@@ -1,5 +1,6 @@
 use Rattle.std.proofs.Common.{◌≡◌, ◌∙◌, ◌+◌, ℕ, arith, refl, take, drop, sym, subst, ap, length}
 use Rattle.std.proofs.lemmas.Result.{err_from_is_err_and}
+use Rattle.dsd_bits.proofs.ExitLaws.{any_err, no_value}
 use Rattle.device_core.specs.Inlets.{inlet_failures, inlet_given, inlet_reader}
 use Rattle.device_core.specs.Outlets.{outlet_writer}
 use Rattle.sound_core.specs.Closing.{Closes, EndsAt}
@@ -11,7 +12,7 @@ use Rattle.sound_core.proofs.ClosingLaws.{ends_at}
 use Rattle.sound_core.proofs.ReaderLaws.{counts_later, counts_ok, counts_refused, same_on}
 use Rattle.stream_core.proofs.FaultLaws.{counts_opening, counts_writing, counts_written, opening_goes_on, opening_stands, reading_later, reading_stands, sound_later, unwritten, writes_later, writing_goes_on, writing_later, writing_stands}
 use Rattle.stream_core.proofs.PaceLaws.{keeps_all, keeps_part}
-use Rattle.stream_core.proofs.PieceLaws.{any_err, front_nil, no_value}
+use Rattle.stream_core.proofs.PieceLaws.{front_nil}
 use Rattle.stream_core.proofs.PlayLaws.{given_is, header_part, none_written, not_closed, pad_part, plays_read, sound_part, sound_stands}
 use Rattle.stream_core.proofs.playing.play_found.Given.{Over}
 use Rattle.stream_core.proofs.playing.play_found.Goals as goal

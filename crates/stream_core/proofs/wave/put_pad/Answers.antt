@@ -1,8 +1,9 @@
 use Rattle.std.proofs.Common.{◌∙◌, subst}
 use Rattle.std.specs.Io.KnownBytes.{Appends}
+use Rattle.dsd_bits.proofs.ExitLaws.{any_err}
 use Rattle.device_core.specs.Outlets.{AppendsFront, outlet_writer}
 use Rattle.stream_core.specs.Wave.{pad_of}
-use Rattle.stream_core.proofs.PieceLaws.{any_err, front_nil, on_err, on_ok}
+use Rattle.stream_core.proofs.PieceLaws.{front_nil, on_err, on_ok}
 use Rattle.stream_core.proofs.WaveLaws.{pad_is}
 use Rattle.stream_core.proofs.wave.put_pad.Goals as goal
 

@@ -1,5 +1,6 @@
 use Rattle.std.proofs.Common.{inr}
 use Rattle.std.proofs.lemmas.Result.{err_from_is_err_and}
+use Rattle.stream_core.proofs.PieceLaws.{no_value}
 use Rattle.transfer_core.proofs.ReadingLaws.{file_refused, project_refused, rate_not_divided, samples_refused, text_played}
 use Rattle.transfer_core.proofs.playing.play.Goals as goal
 
@@ -40,3 +41,15 @@ returns-clause-found c = record {
 pub returns-clause-exact : goal.returns-clause-exact
 returns-clause-exact c =
     text_played c.args.project.now c.args.file.now c.in_ok-taps.taps c.in_ok-taps.ensures.exact c.in_ok-recording.field-0 c.in_ok-recording.ensures.exact (rw (← c.rate.ensures.value) (c.rate_fits.ensures.0 c.if-not-rate_fits.false)) c.in_ok-wave_of.field-0.items c.in_ok-wave_of.ensures.text
+
+pub returns-in_err-taps-clause-found : goal.returns-in_err-taps-clause-found
+returns-in_err-taps-clause-found c = no_value _ _ c.from_residual.result c.from_residual.ensures.1
+
+pub returns-in_err-recording-clause-found : goal.returns-in_err-recording-clause-found
+returns-in_err-recording-clause-found c = no_value _ _ c.from_residual-in_err-recording.result c.from_residual-in_err-recording.ensures.1
+
+pub returns-in_err-wave_of-clause-found : goal.returns-in_err-wave_of-clause-found
+returns-in_err-wave_of-clause-found c = no_value _ _ c.from_residual-in_err-wave_of.result c.from_residual-in_err-wave_of.ensures.1
+
+pub wave_of-requires : goal.wave_of-requires
+wave_of-requires c = record { divided = rw (← c.rate.ensures.value) (c.rate_fits.ensures.0 c.if-not-rate_fits.false) }

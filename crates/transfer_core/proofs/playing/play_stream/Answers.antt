@@ -3,10 +3,10 @@ use Rattle.std.proofs.lemmas.Result.{err_from_is_err_and}
 use Rattle.device_core.specs.Inlets.{inlet_reader}
 use Rattle.device_core.specs.Outlets.{outlet_writer}
 use Rattle.sound_core.specs.Faults.{StopsReading}
-use Rattle.stream_core.proofs.PieceLaws.{any_err}
+use Rattle.stream_core.proofs.PieceLaws.{any_err, no_value}
 use Rattle.stream_core.proofs.PlayLaws.{none_written}
 use Rattle.transfer_core.specs.Playing.{Plays}
-use Rattle.transfer_core.proofs.StreamLaws.{before_writing, keeps_up, of_stream, only_outside, plays_file, plays_given, project_keeps_up, project_outside, project_stream, project_turns, same_stream, stands, stream_turns, writes_front}
+use Rattle.transfer_core.proofs.StreamLaws.{answered, before_writing, keeps_up, of_stream, only_outside, plays_file, plays_given, project_keeps_up, project_outside, project_stream, project_turns, same_stream, stands, stream_turns, writes_front}
 use Rattle.transfer_core.proofs.playing.play_stream.Goals as goal
 
 pub returns-in_err-taps-clause-cause : goal.returns-in_err-taps-clause-cause
@@ -97,3 +97,18 @@ returns-clause-ok g c =
 pub returns-clause-any_reader : goal.returns-clause-any_reader
 returns-clause-any_reader g c =
     plays_given c.args.project.now c.in_ok-taps.taps c.in_ok-taps.ensures.found g.R.Read.remaining c.args.inlet.now c.play.new.inlet (g.W.Write.contents (outlet_writer c.args.outlet.now)) (g.W.Write.contents (outlet_writer c.play.new.outlet)) c.in_ok-play.field-0 c.in_ok-play.ensures.any_reader
+
+pub returns-in_err-taps-clause-ok : goal.returns-in_err-taps-clause-ok
+returns-in_err-taps-clause-ok g c = no_value _ _ c.from_residual.result c.from_residual.ensures.1
+
+pub returns-in_err-taps-clause-any_reader : goal.returns-in_err-taps-clause-any_reader
+returns-in_err-taps-clause-any_reader g c = no_value _ _ c.from_residual.result c.from_residual.ensures.1
+
+pub returns-in_err-play-clause-ok : goal.returns-in_err-play-clause-ok
+returns-in_err-play-clause-ok g c = no_value _ _ c.from_residual-in_err-play.result c.from_residual-in_err-play.ensures.1
+
+pub returns-in_err-play-clause-any_reader : goal.returns-in_err-play-clause-any_reader
+returns-in_err-play-clause-any_reader g c = no_value _ _ c.from_residual-in_err-play.result c.from_residual-in_err-play.ensures.1
+
+pub returns-clause-turn_limit : goal.returns-clause-turn_limit
+returns-clause-turn_limit g c = λ is. absurd (answered c.in_ok-play.field-0 _ is)

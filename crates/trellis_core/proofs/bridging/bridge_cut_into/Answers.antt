@@ -1,9 +1,10 @@
 use Rattle.std.proofs.Common.{Err, ap, subst, refl, ◌∙◌}
 use Rattle.std.proofs.lemmas.Result.{err_from_is_err_and}
+use Rattle.dsd_bits.proofs.ExitLaws.{no_ok, no_value}
 use Rattle.cost_core.specs.StateCosts.{trellis_of}
 use Rattle.trellis_core.specs.Handing.{HandsOverUpTo, cut_spelling}
 use Rattle.trellis_core.specs.declared.fault.BridgeFault.TheVariants.{Memory, Sink}
-use Rattle.trellis_core.proofs.FaultLaws.{no_ok, no_value, not_memory, not_refused, not_sink, true_or_false}
+use Rattle.trellis_core.proofs.FaultLaws.{not_memory, not_refused, not_sink, true_or_false}
 use Rattle.trellis_core.proofs.bridging.bridge_cut_into.Goals as goal
 
 pub returns-clause-rows : goal.returns-clause-rows

@@ -1,7 +1,8 @@
 use Rattle.std.proofs.lemmas.Result.{err_from_is_err_and}
+use Rattle.dsd_bits.proofs.ExitLaws.{no_ok, no_value}
 use Rattle.cost_core.specs.StateCosts.{trellis_of}
 use Rattle.trellis_core.specs.declared.fault.BridgeFault.TheVariants.{Memory, Sink}
-use Rattle.trellis_core.proofs.FaultLaws.{fault_after, fault_before, no_ok, no_value, not_refused, not_sink}
+use Rattle.trellis_core.proofs.FaultLaws.{fault_after, fault_before, not_refused, not_sink}
 use Rattle.trellis_core.proofs.HandedOver.{some_of_all}
 use Rattle.trellis_core.proofs.bridging.bridge_into.Goals as goal
 

@@ -1,12 +1,12 @@
 use Rattle.std.proofs.Common.{◌≡◌, ◌+◌, ◌*◌, length, ap, sym, ◌∙◌, refl, arith}
 use Rattle.std.proofs.lemmas.Result.{err_from_is_err_and}
 use Rattle.std.proofs.KnownBytes.{Appends-nil}
+use Rattle.dsd_bits.proofs.ExitLaws.{no_ok}
 use Rattle.cost_core.specs.Trellis.{states}
 use Rattle.cost_core.specs.StateCosts.{trellis_of}
 use Rattle.trellis_core.specs.Best.{best_row}
 use Rattle.trellis_core.specs.Decisions.{decision_bytes}
 use Rattle.trellis_core.specs.Handing.{cut_at, cut_spelling}
-use Rattle.trellis_core.proofs.FaultLaws.{no_ok}
 use Rattle.trellis_core.proofs.TableLaws.{written, written_length}
 use Rattle.trellis_core.proofs.HandedOver.{cut_front, cut_is, cut_more, hands_all, hands_up_to}
 use Rattle.trellis_core.proofs.RowLaws.{row_length}

@@ -1,8 +1,9 @@
 use Rattle.std.proofs.Common.{refl}
 use Rattle.std.proofs.lemmas.Result.{err_from_is_err_and}
+use Rattle.dsd_bits.proofs.ExitLaws.{no_ok, no_value}
 use Rattle.cost_core.specs.StateCosts.{trellis_of}
 use Rattle.trellis_core.specs.declared.fault.BridgeFault.TheVariants.{Memory, Sink}
-use Rattle.trellis_core.proofs.FaultLaws.{fault_after, fault_before, no_ok, no_value, not_refused, not_sink, true_or_false}
+use Rattle.trellis_core.proofs.FaultLaws.{fault_after, fault_before, not_refused, not_sink, true_or_false}
 use Rattle.trellis_core.proofs.HandedOver.{hands_none}
 use Rattle.trellis_core.proofs.rows.forward.Goals as goal
 

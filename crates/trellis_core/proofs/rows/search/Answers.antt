@@ -1,6 +1,7 @@
 use Rattle.std.proofs.Common.{◌≡◌, ◌+◌, ◌*◌, ◌++◌, Err, length, ap, sym, subst, ◌∙◌, refl, arith}
 use Rattle.std.proofs.lemmas.Result.{err_from_is_err_and}
 use Rattle.std.proofs.KnownBytes.{Appends-nil}
+use Rattle.dsd_bits.proofs.ExitLaws.{no_ok}
 use Rattle.cost_core.specs.Trellis.{states}
 use Rattle.cost_core.specs.StateCosts.{trellis_of}
 use Rattle.trellis_core.specs.Best.{best_row}
@@ -10,7 +11,7 @@ use Rattle.trellis_core.proofs.Decisions.{one_more}
 use Rattle.trellis_core.proofs.TableLaws.{totals_length, written, written_length}
 use Rattle.trellis_core.proofs.HandedOver.{hands_more, hands_front, hands_some, hands_up_to, hands_all}
 use Rattle.trellis_core.proofs.RowLaws.{row_length}
-use Rattle.trellis_core.proofs.FaultLaws.{no_ok, not_memory, not_refused, not_sink, true_or_false}
+use Rattle.trellis_core.proofs.FaultLaws.{not_memory, not_refused, not_sink, true_or_false}
 use Rattle.trellis_core.proofs.rows.search.Goals as goal
 
 pub level-requires-clause-row : goal.level-requires-clause-row

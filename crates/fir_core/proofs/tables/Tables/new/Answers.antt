@@ -1,4 +1,5 @@
 use Rattle.std.proofs.Common.{◌≡◌, ◌+◌, ◌*◌, ◌/◌, ◌%◌, ◌<◌, ◌≤◌, ◌∙◌, ap, arith, length}
+use Rattle.dsd_bits.proofs.ExitLaws.{no_value}
 use Rattle.fir_core.specs.Rows.{rows}
 use Rattle.fir_core.proofs.RowLaws.{is_laid}
 use Rattle.fir_core.proofs.WindowLaws.{abs_sum_aligned}
@@ -19,3 +20,9 @@ invariant_of-result c =
     is_laid d.taps c.in_ok-aligned.aligned.items c.in_ok-rows.rows.items d.delay step c.span_of-span.result c.in_ok-aligned.ensures limits.some_taps limits.few_taps limits.small_sum
     (omega (arith, c.factor.ensures.value, limits.least_factor)) (omega (arith, c.factor.ensures.value, limits.greatest_factor)) wide loose c.span_of-span.ensures.narrow c.span_of-span.ensures.eights
     (c.in_ok-rows.ensures ∙ ap (λ hs. rows hs step c.span_of-span.result) c.as_slice.ensures.value)
+
+pub returns-in_err-aligned : goal.returns-in_err-aligned
+returns-in_err-aligned c = no_value _ _ c.from_residual.result c.from_residual.ensures.1
+
+pub returns-in_err-rows : goal.returns-in_err-rows
+returns-in_err-rows c = no_value _ _ c.from_residual-in_err-rows.result c.from_residual-in_err-rows.ensures.1

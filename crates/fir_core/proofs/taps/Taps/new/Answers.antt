@@ -25,6 +25,9 @@ returns-then-abs_sum-clause-only c = λ limits. absurd (omega (arith, limits.sma
 pub returns-then-delay-taps-clause-only : goal.returns-then-delay-taps-clause-only
 returns-then-delay-taps-clause-only c = λ limits. absurd (omega (arith, limits.delay_in_taps))
 
+pub returns-then-shift-gt30-clause-only : goal.returns-then-shift-gt30-clause-only
+returns-then-shift-gt30-clause-only c = λ limits. absurd (omega (arith, limits.small_shift))
+
 pub returns-in_err-taps-clause-ok : goal.returns-in_err-taps-clause-ok
 returns-in_err-taps-clause-ok c = let e = err_from_is_err_and c.from_residual.result c.from_residual.ensures.1 in rw e.1 tt
 

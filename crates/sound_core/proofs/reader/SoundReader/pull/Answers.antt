@@ -2,6 +2,7 @@ use Rattle.std.proofs.Common.{◌≡◌, ◌≤◌, ◌+◌, ◌∙◌, arith, l
 use Rattle.std.proofs.lemmas.List.{with_items_is}
 use Rattle.device_core.specs.Inlets.{inlet_given, inlet_reads}
 use Rattle.sound_core.specs.Reads.{HasBudget}
+use Rattle.sound_core.proofs.FaultLaws.{failed_no_turn}
 use Rattle.sound_core.proofs.ReaderLaws.{read_one}
 use Rattle.sound_core.proofs.reader.SoundReader.pull.Given.{Over}
 use Rattle.sound_core.proofs.reader.SoundReader.pull.Goals as goal
@@ -52,11 +53,12 @@ pub returns-in-Err-clause-none : goal.returns-in-Err-clause-none
 returns-in-Err-clause-none g c = c.in-Err.ensures.given
 
 pub returns-in-Err-clause-counts : goal.returns-in-Err-clause-counts
-returns-in-Err-clause-counts g c = record {
-  failures = c.in-Err.ensures.failures;
-  turns = λ turn. absurd cc;
-  most = omega (arith, c.in-Err.ensures.reads, c.requires.reading.budget.reads, c.requires.reading.budget.low, c.reads.ensures, c.if-reads-self.false);
-}
+returns-in-Err-clause-counts g c =
+    record {
+      failures = c.in-Err.ensures.failures;
+      turns = λ turn. failed_no_turn turn;
+      most = omega (arith, c.in-Err.ensures.reads, c.requires.reading.budget.reads, c.requires.reading.budget.low, c.reads.ensures, c.if-reads-self.false);
+    }
 
 pub returns-then-reads-self-clause-same : goal.returns-then-reads-self-clause-same
 returns-then-reads-self-clause-same g c = record { reference = refl; given = refl; limit = refl }

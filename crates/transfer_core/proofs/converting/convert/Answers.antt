@@ -1,5 +1,5 @@
 use Rattle.std.proofs.lemmas.Result.{err_from_is_err_and}
-use Rattle.stream_core.proofs.PieceLaws.{no_value}
+use Rattle.dsd_bits.proofs.ExitLaws.{no_value}
 use Rattle.transfer_core.proofs.ReadingLaws.{file_unread, file_unwritten, text_converted}
 use Rattle.transfer_core.proofs.converting.convert.Goals as goal
 

@@ -1,8 +1,8 @@
 use Rattle.std.proofs.Common.{◌∙◌, Err, ap, arith, refl, sym}
 use Rattle.std.proofs.lemmas.Result.{err_from_is_err_and}
+use Rattle.dsd_bits.proofs.ExitLaws.{any_err, no_value}
 use Rattle.device_core.specs.Inlets.{inlet_reader}
 use Rattle.device_core.specs.Outlets.{outlet_writer}
-use Rattle.stream_core.proofs.PieceLaws.{any_err, no_value}
 use Rattle.sound_core.specs.Outlines.{around_of}
 use Rattle.transfer_core.proofs.ConversionLaws.{converts_file, converts_front, converts_given, ends_stand, nothing_converted, relay_stands, stream_whole, writing_not_whole, writing_stream}
 use Rattle.transfer_core.proofs.StreamLaws.{answered, same_stream}

@@ -1,6 +1,6 @@
 use Rattle.std.proofs.Common.{inr}
 use Rattle.std.proofs.lemmas.Result.{err_from_is_err_and}
-use Rattle.stream_core.proofs.PieceLaws.{no_value}
+use Rattle.dsd_bits.proofs.ExitLaws.{no_value}
 use Rattle.transfer_core.proofs.ReadingLaws.{file_refused, project_refused, rate_not_divided, samples_refused, text_played}
 use Rattle.transfer_core.proofs.playing.play.Goals as goal
 

@@ -1,9 +1,9 @@
 use Rattle.std.proofs.Common.{inl, refl, arith}
 use Rattle.std.proofs.lemmas.Result.{err_from_is_err_and}
+use Rattle.dsd_bits.proofs.ExitLaws.{any_err, no_value}
 use Rattle.device_core.specs.Inlets.{inlet_reader}
 use Rattle.device_core.specs.Outlets.{outlet_writer}
 use Rattle.sound_core.specs.Faults.{StopsReading}
-use Rattle.stream_core.proofs.PieceLaws.{any_err, no_value}
 use Rattle.stream_core.proofs.PlayLaws.{none_written}
 use Rattle.transfer_core.specs.Playing.{Plays}
 use Rattle.transfer_core.proofs.StreamLaws.{answered, before_writing, keeps_up, of_stream, only_outside, plays_file, plays_given, project_keeps_up, project_outside, project_stream, project_turns, same_stream, stands, stream_turns, writes_front}

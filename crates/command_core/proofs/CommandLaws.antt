@@ -122,13 +122,13 @@ module _ (project_name master_name cert_name : List ℕ) (old read held new : Fi
 -- ---- what was refused before a file was written
 -- the project or a take was not read
 pub edit_unread : (cut : Cut) (old new : Files) (f : CommandFault) → SourcesUnread cut.project_name old new f → EditComesTo cut old new (Err f)
-edit_unread cut old new (faults.Call fault) h = (h.0, elim h.1 [ | inl memory ↦ inl memory | inr unnamed ↦ inr (inl unnamed) ])
+edit_unread cut old new (faults.Call fault) h = (h.0, elim h.1 [ inl memory ↦ inl memory | inr unnamed ↦ inr (inl unnamed) ])
 edit_unread cut old new faults.ReadFailed h = h
 edit_unread cut old new faults.WriteFailed h = absurd h
 
 module _ (project master cert : List ℕ) (old new : Files) where
   pub sources_unread : (f : CommandFault) → SourcesUnread project old new f → CheckComesTo project master cert old new (Err f)
-  sources_unread (faults.Call fault) h = (h.0, elim h.1 [ | inl memory ↦ inl memory | inr unnamed ↦ inr (inl unnamed) ])
+  sources_unread (faults.Call fault) h = (h.0, elim h.1 [ inl memory ↦ inl memory | inr unnamed ↦ inr (inl unnamed) ])
   sources_unread faults.ReadFailed h = h
   sources_unread faults.WriteFailed h = absurd h
 

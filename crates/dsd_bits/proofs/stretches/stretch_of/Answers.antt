@@ -1,5 +1,5 @@
-use Rattle.std.proofs.Common.{◌∙◌, Bool, List, ap, arith}
-use Rattle.std.proofs.lemmas.List.{take_all}
+use Rattle.std.proofs.Common.{◌∙◌, Bool, List, slice_range, ap, sym, arith}
+use Rattle.std.proofs.lemmas.List.{map_more, take_all}
 use Rattle.std.proofs.lemmas.Result.{err_from_is_err_and}
 use Rattle.dsd_bits.specs.Stretches as specs
 use Rattle.dsd_bits.proofs.stretches.stretch_of.Goals as goal
@@ -12,3 +12,8 @@ returns-in_err-push c = let e = err_from_is_err_and c.from_residual-in_err-push.
 
 pub returns : goal.returns
 returns c = c.loop-c.invariant ∙ ap (λ (l : List (List Bool)). specs.stretch_of l c.args.range) (take_all c.loop-c.c c.args.channels.now (omega (arith, c.loop-c-test.false)))
+
+pub loop-c-preserved : goal.loop-c-preserved
+loop-c-preserved c =
+    let cut = λ (bits : List Bool). slice_range bits c.args.range.start c.args.range.stop in
+    rw (c.in_ok-push.ensures.items, c.loop-c.invariant, c.in_ok-cut_out.ensures, ap cut c.index-channels-c.is) (sym (map_more cut c.args.channels.now c.loop-c.c c.index-channels-c.result (omega (arith, c.loop-c-test.true))))

@@ -14,3 +14,8 @@ returns-in-Bytes-Bytes-clause-ok c =
     let same : relaced c.args.from c.args.to n count bytes ≡ bytes =
     same_frames bytes n count c.requires.channel_number.0 (c.requires.from_whole from_bytes) size c.requires.in_limit (λ k. omega (arith, c.type_inv.bytes k)) c.args.from c.args.to from_bytes c.in-Bytes-Bytes.is-1 in
     rw same (search rules)
+
+pub returns-in_ok-channels-in-Blocks-Blocks-clause-ok : goal.returns-in_ok-channels-in-Blocks-Blocks-clause-ok
+returns-in_ok-channels-in-Blocks-Blocks-clause-ok c =
+    let bits = c.deref.ensures.value ∙ c.in_ok-channels-in-Blocks-Blocks.ensures.bits in
+    rw (c.in-Blocks-Blocks.is-1, ← bits) (search rules)

@@ -87,17 +87,6 @@ returns-in_err-play-clause-turn_limit g c =
 pub returns-in_err-play-clause-unread : goal.returns-in_err-play-clause-unread
 returns-in_err-play-clause-unread g c = λ none. absurd (none c.in_ok-taps.taps c.in_ok-taps.ensures.found)
 
-pub returns-clause-unread : goal.returns-clause-unread
-returns-clause-unread g c = λ none. absurd (none c.in_ok-taps.taps c.in_ok-taps.ensures.found)
-
-pub returns-clause-ok : goal.returns-clause-ok
-returns-clause-ok g c =
-    plays_file c.args.project.now c.in_ok-taps.taps c.in_ok-taps.ensures.found (g.R.Read.remaining (inlet_reader c.args.inlet.now)) (g.W.Write.contents (outlet_writer c.args.outlet.now)) (g.W.Write.contents (outlet_writer c.play.new.outlet)) c.in_ok-play.field-0 c.in_ok-play.ensures.ok
-
-pub returns-clause-any_reader : goal.returns-clause-any_reader
-returns-clause-any_reader g c =
-    plays_given c.args.project.now c.in_ok-taps.taps c.in_ok-taps.ensures.found g.R.Read.remaining c.args.inlet.now c.play.new.inlet (g.W.Write.contents (outlet_writer c.args.outlet.now)) (g.W.Write.contents (outlet_writer c.play.new.outlet)) c.in_ok-play.field-0 c.in_ok-play.ensures.any_reader
-
 pub returns-in_err-taps-clause-ok : goal.returns-in_err-taps-clause-ok
 returns-in_err-taps-clause-ok g c = no_value _ _ c.from_residual.result c.from_residual.ensures.1
 
@@ -110,5 +99,18 @@ returns-in_err-play-clause-ok g c = no_value _ _ c.from_residual-in_err-play.res
 pub returns-in_err-play-clause-any_reader : goal.returns-in_err-play-clause-any_reader
 returns-in_err-play-clause-any_reader g c = no_value _ _ c.from_residual-in_err-play.result c.from_residual-in_err-play.ensures.1
 
-pub returns-clause-turn_limit : goal.returns-clause-turn_limit
-returns-clause-turn_limit g c = λ is. absurd (answered c.in_ok-play.field-0 _ is)
+pub returns : goal.returns
+returns g c = record {
+  ok = plays_file c.args.project.now c.in_ok-taps.taps c.in_ok-taps.ensures.found (g.R.Read.remaining (inlet_reader c.args.inlet.now)) (g.W.Write.contents (outlet_writer c.args.outlet.now)) (g.W.Write.contents (outlet_writer c.play.new.outlet)) c.in_ok-play.field-0 c.in_ok-play.ensures.ok;
+  any_reader = plays_given c.args.project.now c.in_ok-taps.taps c.in_ok-taps.ensures.found g.R.Read.remaining c.args.inlet.now c.play.new.inlet (g.W.Write.contents (outlet_writer c.args.outlet.now)) (g.W.Write.contents (outlet_writer c.play.new.outlet)) c.in_ok-play.field-0 c.in_ok-play.ensures.any_reader;
+  cause = tt;
+  front = tt;
+  keeps_up = tt;
+  refused = tt;
+  read_failed = c.in_ok-play.ensures.read_failed;
+  write_failed = c.in_ok-play.ensures.write_failed;
+  reads = c.play.ensures.reads;
+  turn_limit = λ is. absurd (answered c.in_ok-play.field-0 _ is);
+  unread = λ none. absurd (none c.in_ok-taps.taps c.in_ok-taps.ensures.found);
+  unwritten = tt;
+}

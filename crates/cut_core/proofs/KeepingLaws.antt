@@ -1,5 +1,5 @@
 -- What a `Cut` keeps, read off its fields.
-use Rattle.std.proofs.Common.{◌≡◌, ℕ, ◌+◌, ◌-◌, ◌<◌, ◌≤◌, Bool, List, [], Ok, Err, Result, Option, OnOk, inr, length, map, get_or, slice_range, refl, sym, ap, subst, ◌∙◌, arith}
+use Rattle.std.proofs.Common.{◌≡◌, ℕ, ◌+◌, ◌-◌, ◌<◌, ◌≤◌, Bool, List, [], Ok, Err, Option, inr, length, map, get_or, slice_range, refl, sym, ap, subst, ◌∙◌, arith}
 use Rattle.std.proofs.lemmas.List.{length-map}
 use Rattle.std.proofs.lemmas.List.FromFn.{length-map-range_with_len}
 use Rattle.dsd_bits.specs.Contents.{Content}
@@ -73,10 +73,6 @@ module _ (x : Inside) (keeps : KeepsCut x) where
     bridge_there i lt some =
         subst (λ (l : List HeardContent). CanBridge splice i (stretch_at splice l c i) (stop_in splice i) (stretch_at splice l c (i + 1)) (start_in splice (i + 1))) (sym keeps.heard.heard)
         (can_bridge splice keeps.takes fine keeps.fit keeps.heard.shaped keeps.room c i (omega (arith, number_is, there)) lt some)
-
-pub on_ok : {X E : Type 0} {P Q : Type 0} (r : Result X E) → (P → Q) → OnOk r P → OnOk r Q
-on_ok (Ok x) f h = f h
-on_ok (Err e) f h = tt
 
 -- the same room of the same bits
 pub room_again : (splice : SpliceContent) (i : ℕ) (a x : List Bool) (stop p : ℕ) (b y : List Bool) (start q : ℕ) → a ≡ x → stop ≡ p → b ≡ y → start ≡ q → CanBridge splice i a stop b start → CanBridge splice i x p y q

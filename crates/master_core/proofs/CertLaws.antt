@@ -1,6 +1,6 @@
 -- Certificates of chosen bridges: their entries one after the other, and fronts of them.
-use Rattle.std.proofs.Common.{◌≡◌, ℕ, suc, ◌+◌, ◌<◌, Bool, true, false, List, [], ◌∷◌, ◌++◌, Option, Result, Ok, Err, length, get_or, map, flat_map, take, drop, append_assoc, take-append-drop, refl, sym, ap, subst, ◌∙◌, arith}
-use Rattle.std.specs.Prelude.{◌↔◌, IsErrOf, OnErr, OnOk}
+use Rattle.std.proofs.Common.{◌≡◌, ℕ, suc, ◌+◌, ◌<◌, Bool, true, false, List, [], ◌∷◌, ◌++◌, Option, Err, length, get_or, map, flat_map, take, drop, append_assoc, take-append-drop, refl, sym, ap, subst, ◌∙◌, arith}
+use Rattle.std.specs.Prelude.{◌↔◌, IsErrOf}
 use Rattle.std.specs.Int.{w64, to_be_bytes}
 use Rattle.std.specs.Io.KnownBytes.{Appends}
 use Rattle.std.specs.List.{All}
@@ -43,15 +43,6 @@ front_after a b c xs ys whole (front, back, is, grown) = (xs ++ front, back, ap 
 pub failed_write : {T P : Type 0} (fault : FusedFault) (before : Bool) → before ≡ false → (IsErrOf {T = T} (Err fault) Failed ↔ (before ≡ true)) → (IsErrOf {T = T} (Err fault) Device → P) → P
 failed_write Device before fine failed found = found refl
 failed_write Failed before fine failed found = let both : true ≡ false = sym (failed.0 refl) ∙ fine in absurd cc
-
--- what follows of an answer, where it is one
-pub on_ok : {T E P Q : Type 0} (r : Result T E) → OnOk r P → (P → Q) → OnOk r Q
-on_ok (Ok x) h f = f h
-on_ok (Err e) h f = tt
-
-pub on_err : {T E P Q : Type 0} (r : Result T E) → OnErr r P → (P → Q) → OnErr r Q
-on_err (Ok x) h f = tt
-on_err (Err e) h f = f h
 
 -- ---- entries, one after the other
 pub entries_append : (cs ds : List Claim) (a b : List ℕ) → AreEntries Two cs a → AreEntries Two ds b → AreEntries Two (cs ++ ds) (a ++ b)

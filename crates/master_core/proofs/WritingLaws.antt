@@ -1,5 +1,5 @@
 -- Parts of channels that are written one after the other, and the room that they are written through.
-use Rattle.std.proofs.Common.{◌≡◌, ℕ, ◌+◌, ◌-◌, ◌*◌, ◌/◌, ◌%◌, ◌<◌, ◌≤◌, ◌⊎◌, inl, inr, min, Bool, List, [], ◌∷◌, ◌++◌, Option, Result, Ok, Err, OnOk, OnErr, length, map, get_or, slice_range, set, append_assoc, zero-mul, sym, ap, subst, ◌∙◌, arith}
+use Rattle.std.proofs.Common.{◌≡◌, ℕ, ◌+◌, ◌-◌, ◌*◌, ◌/◌, ◌%◌, ◌<◌, ◌≤◌, ◌⊎◌, inl, inr, min, Bool, List, [], ◌∷◌, ◌++◌, Option, length, map, get_or, slice_range, set, append_assoc, zero-mul, sym, ap, subst, ◌∙◌, arith}
 use Rattle.std.specs.List.{All, AllZip, range_with_len}
 use Rattle.std.specs.Int.{div_ceil}
 use Rattle.std.specs.Io.KnownBytes.{Appends}
@@ -28,14 +28,6 @@ use Rattle.master_core.specs.Writing.{AreRooms, HasOneBest, WritesBest, WritesBe
 use Rattle.master_core.proofs.SliceLaws.{length-slice, slice_all, slice_join}
 
 -- ---- fronts of what is written
-pub on_ok : {X E : Type 0} {P Q : Type 0} (r : Result X E) → (P → Q) → OnOk r P → OnOk r Q
-on_ok (Ok x) f p = f p
-on_ok (Err e) f p = tt
-
-pub on_err : {X E : Type 0} {P Q : Type 0} (r : Result X E) → (P → Q) → OnErr r P → OnErr r Q
-on_err (Ok x) f p = tt
-on_err (Err e) f p = f p
-
 pub front_more : (a b : Option (List ℕ)) (xs ys : List ℕ) → AppendsPart a b xs → AppendsPart a b (xs ++ ys)
 front_more a b xs ys f = (f.0, f.1 ++ ys, ap (λ zs. zs ++ ys) f.2 ∙ append_assoc f.0 f.1 ys, omega (arith, length-append f.1 ys, f.3), f.4)
 

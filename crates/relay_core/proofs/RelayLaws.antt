@@ -1,5 +1,5 @@
 -- A file of a known outline, part by part.
-use Rattle.std.proofs.Common.{◌≡◌, ℕ, ◌+◌, ◌%◌, ◌<◌, ◌≤◌, ◌⊎◌, inl, inr, true, false, List, [], ◌++◌, length, take, drop, Option, None, Some, Result, Ok, Err, IsErr, OnErr, OnOk, refl, sym, subst, ap, ap₂, ◌∙◌, arith, append_assoc, append-nil, length-append, length-take, length-drop, take-append-drop}
+use Rattle.std.proofs.Common.{◌≡◌, ℕ, ◌+◌, ◌%◌, ◌<◌, ◌≤◌, ◌⊎◌, inl, inr, true, false, List, [], ◌++◌, length, take, drop, Option, None, Some, Err, refl, sym, subst, ap, ap₂, ◌∙◌, arith, append_assoc, append-nil, length-append, length-take, length-drop, take-append-drop}
 use Rattle.std.proofs.lemmas.List.{append_cancel_left, nil_from_length}
 use Rattle.std.specs.Io.KnownBytes.{Appends, Consumes, IsAtEnd}
 use Rattle.std.proofs.KnownBytes.{Appends-nil, Appends-trans, Consumes-nil, Consumes-trans}
@@ -21,18 +21,6 @@ use Rattle.relay_core.specs.declared.relaying.Target.{Target}
 use Rattle.relay_core.proofs.ComparingLaws.{by_refusal, left_is, same_front, same_rest}
 
 -- ---- fronts of what is written
-pub on_err : {X E : Type 0} {P Q : Type 0} (r : Result X E) → (P → Q) → OnErr r P → OnErr r Q
-on_err (Ok x) f p = tt
-on_err (Err e) f p = f p
-
-pub on_ok : {X E : Type 0} {P Q : Type 0} (r : Result X E) → (P → Q) → OnOk r P → OnOk r Q
-on_ok (Ok x) f p = f p
-on_ok (Err e) f p = tt
-
-pub not_ok : {X E : Type 0} (P : Type 0) (r : Result X E) → IsErr r → OnOk r P
-not_ok P (Ok x) e = cc
-not_ok P (Err y) e = tt
-
 pub front_nil : (a : Option (List ℕ)) (all : List ℕ) → AppendsFront a a all
 front_nil a all = ([], all, refl, Appends-nil a)
 
@@ -355,6 +343,12 @@ unwritten P f h = by_refusal P (λ g. failed_writes {X = Unit {0}} (Err g) ≡ 0
 pub none_before : (a m b n : ℕ) → m ≡ a + 0 → b ≡ m + n → b ≡ a + n
 none_before a m b n none p = omega arith
 
+pub no_more : (a b n : ℕ) → b ≡ a + 0 → n ≡ 0 → b ≡ a + n
+no_more a b n p none = omega arith
+
+pub none_counted : (a n : ℕ) → n ≡ 0 → a ≡ a + n
+none_counted a n none = omega arith
+
 -- ---- faults of a part
 pub filling_in_part : (l : Option (List ℕ)) (s : Sound) (bits size : ℕ) (f : StreamFault) → size ≡ sound_size s.interleaving s.channels bits → IsFillFault l size f → IsPartFault l s bits f
 filling_in_part l s bits size f e h = by_refusal (IsFillFault l size FileRefused) (IsPartFault l s bits) (by l) tt f h
@@ -369,3 +363,8 @@ writing_in_part l s bits f h = by_writing (IsPartFault l s bits) tt tt f h
 pub none_of_part : (l : Option (List ℕ)) (s : Sound) (to : Interleaving) (bits : ℕ) (a : Option (List ℕ)) → PartFront l s to bits a a
 none_of_part None s to bits a = tt
 none_of_part (Some xs) s to bits a = λ part rest e long. front_nil a (relaced s.interleaving to s.channels bits part)
+
+-- whole bytes of each channel in a part, where the sound has them
+pub whole_part : (bits count : ℕ) (P : Type 0) → (bits % 8 ≡ 0) ⊎ (bits % 8 ≡ count % 8) → (P → count % 8 ≡ 0) → P → bits % 8 ≡ 0
+whole_part bits count P (inl groups) whole p = groups
+whole_part bits count P (inr last) whole p = last ∙ whole p

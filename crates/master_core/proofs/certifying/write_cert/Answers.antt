@@ -1,12 +1,13 @@
 use Rattle.std.proofs.Common.{◌≡◌, length, subst, arith}
 use Rattle.std.specs.Io.KnownBytes.{Appends}
+use Rattle.std.proofs.lemmas.Result.{on_err_weaker, on_ok_weaker}
 use Rattle.cert_core.specs.Text.{cert_head}
 use Rattle.cert_core.specs.Writers.{cert_outlet, cert_weights, has_failed}
 use Rattle.cert_core.specs.declared.version.Version.{Version}
 use Rattle.cert_core.specs.declared.version.Version.TheVariants.{Two}
 use Rattle.device_core.specs.Outlets.{AppendsPart, outlet_writer}
 use Rattle.master_core.specs.Choosing.{chosen_claims}
-use Rattle.master_core.proofs.CertLaws.{cert_cut, cert_whole, failed_write, head_cut, on_err, on_ok, part_is_front}
+use Rattle.master_core.proofs.CertLaws.{cert_cut, cert_whole, failed_write, head_cut, part_is_front}
 use Rattle.master_core.proofs.ChoiceLaws.{claim_number, showable}
 use Rattle.master_core.proofs.certifying.write_cert.Given.{Over}
 use Rattle.master_core.proofs.certifying.write_cert.Goals as goal
@@ -38,9 +39,9 @@ returns-in_default-clause-err g c =
 pub returns-clause-ok : goal.returns-clause-ok
 returns-clause-ok g c =
     let at = goal.at.returns-clause-ok g c in
-    on_ok c.write_entries.result c.write_entries.ensures.ok (λ rest. cert_whole c.read_is_cert.ensures.read _ c.len.result _ (announced g at.After-len) _ _ _ (begun g at.In-Ok) rest)
+    on_ok_weaker c.write_entries.result (λ rest. cert_whole c.read_is_cert.ensures.read _ c.len.result _ (announced g at.After-len) _ _ _ (begun g at.In-Ok) rest) c.write_entries.ensures.ok
 
 pub returns-clause-err : goal.returns-clause-err
 returns-clause-err g c =
     let at = goal.at.returns-clause-err g c in
-    on_err c.write_entries.result c.write_entries.ensures.err (λ rest. cert_cut c.read_is_cert.ensures.read _ c.len.result _ (announced g at.After-len) _ _ _ (begun g at.In-Ok) rest)
+    on_err_weaker c.write_entries.result (λ rest. cert_cut c.read_is_cert.ensures.read _ c.len.result _ (announced g at.After-len) _ _ _ (begun g at.In-Ok) rest) c.write_entries.ensures.err

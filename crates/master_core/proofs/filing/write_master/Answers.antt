@@ -1,5 +1,5 @@
 use Rattle.std.proofs.Common.{◌≡◌, ◌+◌, ◌∙◌, ap, subst, sym}
-use Rattle.std.proofs.lemmas.Result.{err_from_is_err_and}
+use Rattle.std.proofs.lemmas.Result.{err_from_is_err_and, on_err_weaker, on_ok_weaker}
 use Rattle.std.specs.Prelude.{MatchResult}
 use Rattle.std.specs.Io.KnownBytes.{Appends}
 use Rattle.dsd_bits.proofs.ExitLaws.{any_err}
@@ -9,7 +9,6 @@ use Rattle.cut_core.proofs.CutLaws.{first_shape}
 use Rattle.master_core.specs.Parting.{HasChosen}
 use Rattle.master_core.specs.Writing.{WritesBest, WritesBestFront}
 use Rattle.master_core.proofs.FilingLaws.{file_whole, head_front, sound_front, tail_front}
-use Rattle.master_core.proofs.WritingLaws.{on_err, on_ok}
 use Rattle.master_core.proofs.filing.write_master.Given.{Over}
 use Rattle.master_core.proofs.filing.write_master.Goals as goal
 use Rattle.master_core.proofs.filing.write_master.Goals.{After-deref-2, In_ok-put_all, In_ok-write_sound}
@@ -50,7 +49,7 @@ returns-clause-ok g c =
     let a2 = g.W.Write.contents (outlet_writer c.write_sound.new.outlet) in
     let a3 = g.W.Write.contents (outlet_writer c.put_all-2.new.self) in
     let at = goal.at.returns-clause-ok g c in
-    on_ok c.put_all-2.result (λ out. file_whole c.args.cut.now c.args.form c.written_in_parts.ensures c.args.ends.now c.requires.ends c.has_one_best.ensures (first_shape c.args.cut.now c.can_cut.ensures).some_channel _ _
+    on_ok_weaker c.put_all-2.result (λ out. file_whole c.args.cut.now c.args.form c.written_in_parts.ensures c.args.ends.now c.requires.ends c.has_one_best.ensures (first_shape c.args.cut.now c.can_cut.ensures).some_channel _ _
     (head_out g at.In_ok-put_all) a2 (sound_out g at.In_ok-write_sound) a3 (subst (Appends a2 a3) c.deref-4.ensures.value out)) c.put_all-2.ensures.ok
 
 pub returns-clause-front : goal.returns-clause-front
@@ -58,7 +57,7 @@ returns-clause-front g c =
     let a2 = g.W.Write.contents (outlet_writer c.write_sound.new.outlet) in
     let a3 = g.W.Write.contents (outlet_writer c.put_all-2.new.self) in
     let at = goal.at.returns-clause-front g c in
-    on_err c.put_all-2.result (λ out. tail_front c.args.cut.now c.args.form c.written_in_parts.ensures c.args.ends.now c.requires.ends c.has_one_best.ensures (first_shape c.args.cut.now c.can_cut.ensures).some_channel _ _
+    on_err_weaker c.put_all-2.result (λ out. tail_front c.args.cut.now c.args.form c.written_in_parts.ensures c.args.ends.now c.requires.ends c.has_one_best.ensures (first_shape c.args.cut.now c.can_cut.ensures).some_channel _ _
     (head_out g at.In_ok-put_all) a2 (sound_out g at.In_ok-write_sound) a3 (subst (AppendsPart a2 a3) c.deref-4.ensures.value out)) c.put_all-2.ensures.err
 
 -- ---- the other clauses

@@ -1,5 +1,6 @@
 use Rattle.std.proofs.Common.{◌≡◌, ◌-◌, ◌++◌, ◌%◌, ℕ, List, length, map, refl, sym, ap, ap₂, subst, ◌∙◌, arith}
 use Rattle.std.specs.Io.KnownBytes.{Appends}
+use Rattle.std.proofs.lemmas.Result.{on_err_weaker, on_ok_weaker}
 use Rattle.device_core.specs.Outlets.{AppendsPart, outlet_writer}
 use Rattle.dsd_bits.specs.Channels.{IsLevel, count_of}
 use Rattle.dsd_bits.specs.Rooms.{RoomContent, rooms_bits}
@@ -10,7 +11,7 @@ use Rattle.relace_core.proofs.GroupLaws.{size_fits}
 use Rattle.cut_core.specs.Cuts.{channel_number}
 use Rattle.cut_core.proofs.CutLaws.{first_shape}
 use Rattle.master_core.specs.Parting.{within}
-use Rattle.master_core.proofs.WritingLaws.{on_err, on_ok, parts_count, parts_level, parts_number, rooms_kept}
+use Rattle.master_core.proofs.WritingLaws.{parts_count, parts_level, parts_number, rooms_kept}
 use Rattle.master_core.proofs.writing.write_stretch.Given.{Over}
 use Rattle.master_core.proofs.writing.write_stretch.Goals as goal
 use Rattle.master_core.proofs.writing.write_stretch.Goals.{After-deref, After-deref-2}
@@ -81,12 +82,12 @@ returns-clause-stretch g c = refl
 pub returns-clause-ok : goal.returns-clause-ok
 returns-clause-ok g c =
     let parts = c.fill_rooms.ensures.parts in
-    on_ok c.put_all.result (λ out. record { channels = parts.wholes; best = parts.best; written = subst (Appends (g.W.Write.contents (outlet_writer c.args.outlet.now)) (g.W.Write.contents (outlet_writer c.put_all.new.self))) (bytes g (goal.at.returns-clause-ok g c).After-deref-2) out }) c.put_all.ensures.ok
+    on_ok_weaker c.put_all.result (λ out. record { channels = parts.wholes; best = parts.best; written = subst (Appends (g.W.Write.contents (outlet_writer c.args.outlet.now)) (g.W.Write.contents (outlet_writer c.put_all.new.self))) (bytes g (goal.at.returns-clause-ok g c).After-deref-2) out }) c.put_all.ensures.ok
 
 pub returns-clause-front : goal.returns-clause-front
 returns-clause-front g c =
     let parts = c.fill_rooms.ensures.parts in
-    on_err c.put_all.result (λ out. record { channels = parts.wholes; best = parts.best; written = subst (AppendsPart (g.W.Write.contents (outlet_writer c.args.outlet.now)) (g.W.Write.contents (outlet_writer c.put_all.new.self))) (bytes g (goal.at.returns-clause-front g c).After-deref-2) out }) c.put_all.ensures.err
+    on_err_weaker c.put_all.result (λ out. record { channels = parts.wholes; best = parts.best; written = subst (AppendsPart (g.W.Write.contents (outlet_writer c.args.outlet.now)) (g.W.Write.contents (outlet_writer c.put_all.new.self))) (bytes g (goal.at.returns-clause-front g c).After-deref-2) out }) c.put_all.ensures.err
 
 pub returns-clause-failures : goal.returns-clause-failures
 returns-clause-failures g c = c.put_all.ensures.failures

@@ -1,6 +1,7 @@
 use Rattle.std.proofs.Common.{◌≡◌, ◌∙◌, ap, arith, length, length-take, take}
+use Rattle.std.proofs.lemmas.Result.{err_from_is_err_and}
 use Rattle.device_core.specs.Inlets.{inlet_reader}
-use Rattle.relay_core.proofs.ComparingLaws.{differ, part_differs}
+use Rattle.relay_core.proofs.ComparingLaws.{differ, fewer_differ, part_differs}
 use Rattle.relay_core.proofs.comparing.expect_part.Goals as goal
 
 pub returns-clause-fault : goal.returns-clause-fault
@@ -8,3 +9,13 @@ returns-clause-fault g c =
     let n = length c.args.part.now in
     let read : c.split_at.result.0.now ≡ take n c.fill.new.block.items = c.split_at.ensures.front ∙ ap (take n) c.deref.ensures.value in
     part_differs (g.R.Read.remaining (inlet_reader c.args.inlet.now)) (g.R.Read.remaining (inlet_reader c.fill.new.inlet)) (take n c.fill.new.block.items) c.args.part.now c.in_ok-fill.ensures.read (omega (arith, length-take n c.fill.new.block.items, c.requires.fits, c.requires.size, c.fill.ensures.size)) (λ same. differ c.split_at.result.0.now c.args.part.now (read ∙ same) c.if-eq.ensures)
+
+pub returns-in_err-fill : goal.returns-in_err-fill
+returns-in_err-fill g c =
+    let e = err_from_is_err_and c.from_residual.result c.from_residual.ensures.1 in
+    rw (e.1, e.2) (record {
+      size = c.fill.ensures.size ∙ c.requires.size;
+      read = tt;
+      failures = c.in_err-fill.ensures.failures;
+      fault = fewer_differ (g.R.Read.remaining (inlet_reader c.args.inlet.now)) c.args.part.now c.in_err-fill.field-0.0 c.in_err-fill.ensures.fault;
+    })

@@ -1,10 +1,10 @@
 use Rattle.std.proofs.Common.{subst}
 use Rattle.std.specs.Io.KnownBytes.{Consumes}
-use Rattle.std.proofs.lemmas.Result.{IfErr-weaker, err_from_is_err_and}
+use Rattle.std.proofs.lemmas.Result.{IfErr-weaker, err_from_is_err_and, on_ok_weaker}
 use Rattle.device_core.specs.Inlets.{inlet_reader}
 use Rattle.sound_core.specs.Outlines.{around_of}
 use Rattle.relay_core.specs.Comparing.{IsExpectFault}
-use Rattle.relay_core.proofs.RelayLaws.{back_fault, end_fault, gap_fault, on_ok, passes_end, passes_open}
+use Rattle.relay_core.proofs.RelayLaws.{back_fault, end_fault, gap_fault, passes_end, passes_open}
 use Rattle.relay_core.proofs.relaying.expect_rest.Goals as goal
 
 pub returns-in_err-pass-clause-fault : goal.returns-in_err-pass-clause-fault
@@ -32,7 +32,7 @@ returns-then-outline-clause-ok g c =
     let new = g.R.Read.remaining (inlet_reader c.expect.new.inlet) in
     let last = g.R.Read.remaining (inlet_reader c.expect_end.new.inlet) in
     let read = subst (Consumes now new) c.deref.ensures.value c.in_ok-expect.ensures.read in
-    on_ok c.expect_end.result (λ end. passes_end (around_of c.args.outline.now) (g.R.Read.remaining (inlet_reader c.args.inlet.now)) now c.in_ok-pass.ensures.read new read last end.0 end.1) c.expect_end.ensures.read
+    on_ok_weaker c.expect_end.result (λ end. passes_end (around_of c.args.outline.now) (g.R.Read.remaining (inlet_reader c.args.inlet.now)) now c.in_ok-pass.ensures.read new read last end.0 end.1) c.expect_end.ensures.read
 
 pub returns-clause-ok : goal.returns-clause-ok
 returns-clause-ok g c =

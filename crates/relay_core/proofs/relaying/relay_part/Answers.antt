@@ -1,13 +1,12 @@
-use Rattle.std.proofs.Common.{◌≡◌, ◌+◌, ◌∙◌, ◌++◌, ap, arith, length, length-take, subst, sym, take}
-use Rattle.std.proofs.lemmas.Result.{IfErr-weaker, err_from_is_err_and}
+use Rattle.std.proofs.Common.{◌≡◌, ◌+◌, ◌∙◌, ◌++◌, add-zero, ap, arith, length, length-take, subst, sym, take}
+use Rattle.std.proofs.lemmas.Result.{IfErr-weaker, err_from_is_err_and, on_err_weaker, on_ok_weaker}
 use Rattle.std.specs.Io.KnownBytes.{Appends}
-use Rattle.dsd_bits.proofs.ExitLaws.{any_err}
 use Rattle.device_core.specs.Inlets.{inlet_failures, inlet_reader}
 use Rattle.device_core.specs.Outlets.{AppendsFront, outlet_writer}
 use Rattle.dsd_bits.specs.Sounds.{sound_size}
 use Rattle.relace_core.specs.Relacing.{relaced}
 use Rattle.sound_core.proofs.FaultLaws.{unread}
-use Rattle.relay_core.proofs.RelayLaws.{filling_in_part, none_of_part, on_err, on_ok, stretch_front, unwritten, writing_in_part}
+use Rattle.relay_core.proofs.RelayLaws.{filling_in_part, none_counted, none_of_part, stretch_front, unwritten, whole_part, writing_in_part}
 use Rattle.relay_core.proofs.relaying.relay_part.Goals as goal
 use Rattle.relay_core.proofs.relaying.relay_part.Goals.{After-deref-2}
 use Rattle.relay_core.proofs.relaying.relay_part.Given.{Over}
@@ -29,7 +28,7 @@ returns-clause-front g c =
     let here = (goal.at.returns-clause-front g c).After-deref-2 in
     let a = g.W.Write.contents (outlet_writer c.args.outlet.now) in
     let b = g.W.Write.contents (outlet_writer c.put.new.outlet) in
-    on_err c.put.result (λ front. stretch_front s to c.args.part.bits (g.R.Read.remaining (inlet_reader c.args.inlet.now)) (g.R.Read.remaining (inlet_reader c.fill.new.inlet)) a b read c.in_ok-fill.ensures.read (omega (arith, length-take n c.fill.new.block.items, c.stretch_size-size.ensures, c.requires.part.fits, c.requires.size, c.fill.ensures.size)) (subst (AppendsFront a b) (made g here) front)) c.put.ensures.err
+    on_err_weaker c.put.result (λ front. stretch_front s to c.args.part.bits (g.R.Read.remaining (inlet_reader c.args.inlet.now)) (g.R.Read.remaining (inlet_reader c.fill.new.inlet)) a b read c.in_ok-fill.ensures.read (omega (arith, length-take n c.fill.new.block.items, c.stretch_size-size.ensures, c.requires.part.fits, c.requires.size, c.fill.ensures.size)) (subst (AppendsFront a b) (made g here) front)) c.put.ensures.err
 
 pub returns-clause-ok : goal.returns-clause-ok
 returns-clause-ok g c =
@@ -39,7 +38,7 @@ returns-clause-ok g c =
     let read = take n c.fill.new.block.items in
     let here = (goal.at.returns-clause-ok g c).After-deref-2 in
     let long : length read ≡ sound_size s.interleaving s.channels c.args.part.bits = omega (arith, length-take n c.fill.new.block.items, c.stretch_size-size.ensures, c.requires.part.fits, c.requires.size, c.fill.ensures.size) in
-    on_ok c.put.result (λ out. record { part = read; consumed = c.in_ok-fill.ensures.read; long = long; written = subst (Appends (g.W.Write.contents (outlet_writer c.args.outlet.now)) (g.W.Write.contents (outlet_writer c.put.new.outlet))) (made g here) out }) c.put.ensures.ok
+    on_ok_weaker c.put.result (λ out. record { part = read; consumed = c.in_ok-fill.ensures.read; long = long; written = subst (Appends (g.W.Write.contents (outlet_writer c.args.outlet.now)) (g.W.Write.contents (outlet_writer c.put.new.outlet))) (made g here) out }) c.put.ensures.ok
 
 pub returns-clause-fault : goal.returns-clause-fault
 returns-clause-fault g c = IfErr-weaker c.put.result _ _ (λ f h. writing_in_part (g.R.Read.remaining (inlet_reader c.args.inlet.now)) c.args.part.relacing.sound c.args.part.bits f h) c.put.ensures.fault
@@ -47,25 +46,40 @@ returns-clause-fault g c = IfErr-weaker c.put.result _ _ (λ f h. writing_in_par
 pub returns-clause-read_failed : goal.returns-clause-read_failed
 returns-clause-read_failed g c = c.in_ok-fill.ensures.failures ∙ ap (λ n. inlet_failures c.args.inlet.now + n) (sym (unread c.put.result c.put.ensures.fault))
 
-pub returns-in_err-fill-clause-front : goal.returns-in_err-fill-clause-front
-returns-in_err-fill-clause-front g c =
-    any_err c.from_residual.result (none_of_part (g.R.Read.remaining (inlet_reader c.args.inlet.now)) c.args.part.relacing.sound c.args.part.relacing.to c.args.part.bits (g.W.Write.contents (outlet_writer c.args.outlet.now)))
+pub push_relaced-requires-clause-size : goal.push_relaced-requires-clause-size
+push_relaced-requires-clause-size g c = c.split_at.ensures.front_len ∙ c.stretch_size-size.ensures
 
-pub returns-in_err-fill-clause-fault : goal.returns-in_err-fill-clause-fault
-returns-in_err-fill-clause-fault g c =
+pub push_relaced-requires-clause-from_whole : goal.push_relaced-requires-clause-from_whole
+push_relaced-requires-clause-from_whole g c = whole_part c.args.part.bits c.args.part.relacing.sound.count _ c.requires.part.whole c.requires.part.relacing.from_whole
+
+pub push_relaced-requires-clause-to_whole : goal.push_relaced-requires-clause-to_whole
+push_relaced-requires-clause-to_whole g c = whole_part c.args.part.bits c.args.part.relacing.sound.count _ c.requires.part.whole c.requires.part.relacing.to_whole
+
+-- ---- refusals
+pub returns-in_err-fill : goal.returns-in_err-fill
+returns-in_err-fill g c =
+    let s = c.args.part.relacing.sound in
+    let left = g.R.Read.remaining (inlet_reader c.args.inlet.now) in
+    let f = c.in_err-fill.field-0.0 in
     let e = err_from_is_err_and c.from_residual.result c.from_residual.ensures.1 in
-    rw (e.1, e.2) (filling_in_part (g.R.Read.remaining (inlet_reader c.args.inlet.now)) c.args.part.relacing.sound c.args.part.bits _ c.in_err-fill.field-0.0 c.stretch_size-size.ensures c.in_err-fill.ensures.fault)
+    rw (e.1, e.2) (record {
+      size = c.fill.ensures.size ∙ c.requires.size;
+      ok = tt;
+      front = none_of_part left s c.args.part.relacing.to c.args.part.bits (g.W.Write.contents (outlet_writer c.args.outlet.now));
+      fault = filling_in_part left s c.args.part.bits _ f c.stretch_size-size.ensures c.in_err-fill.ensures.fault;
+      read_failed = c.in_err-fill.ensures.failures;
+      write_failed = none_counted _ _ (unwritten _ f c.in_err-fill.ensures.fault);
+    })
 
-pub returns-in_err-fill-clause-read_failed : goal.returns-in_err-fill-clause-read_failed
-returns-in_err-fill-clause-read_failed g c =
-    let e = err_from_is_err_and c.from_residual.result c.from_residual.ensures.1 in
-    rw (e.1, e.2) c.in_err-fill.ensures.failures
-
-pub returns-in_err-fill-clause-write_failed : goal.returns-in_err-fill-clause-write_failed
-returns-in_err-fill-clause-write_failed g c =
-    let e = err_from_is_err_and c.from_residual.result c.from_residual.ensures.1 in
-    rw (e.1, e.2) (omega (arith, unwritten _ c.in_err-fill.field-0.0 c.in_err-fill.ensures.fault))
-
-pub returns-in_err-push_relaced-clause-front : goal.returns-in_err-push_relaced-clause-front
-returns-in_err-push_relaced-clause-front g c =
-    any_err c.from_residual-in_err-push_relaced.result (none_of_part (g.R.Read.remaining (inlet_reader c.args.inlet.now)) c.args.part.relacing.sound c.args.part.relacing.to c.args.part.bits (g.W.Write.contents (outlet_writer c.args.outlet.now)))
+pub returns-in_err-push_relaced : goal.returns-in_err-push_relaced
+returns-in_err-push_relaced g c =
+    let left = g.R.Read.remaining (inlet_reader c.args.inlet.now) in
+    let e = err_from_is_err_and c.from_residual-in_err-push_relaced.result c.from_residual-in_err-push_relaced.ensures.1 in
+    rw (e.1, e.2) (record {
+      size = c.fill.ensures.size ∙ c.requires.size;
+      ok = tt;
+      front = none_of_part left c.args.part.relacing.sound c.args.part.relacing.to c.args.part.bits (g.W.Write.contents (outlet_writer c.args.outlet.now));
+      fault = tt;
+      read_failed = c.in_ok-fill.ensures.failures;
+      write_failed = sym (add-zero _);
+    })

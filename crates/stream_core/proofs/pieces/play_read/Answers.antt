@@ -1,10 +1,10 @@
 use Rattle.std.proofs.Common.{take, length, length-take, ap, ◌≤◌, ◌∙◌, arith, refl, subst}
-use Rattle.std.proofs.lemmas.Result.{IfErr-weaker, IfOk-weaker, err_from_is_err_and}
+use Rattle.std.proofs.lemmas.Result.{IfErr-weaker, IfOk-weaker, err_from_is_err_and, on_err_weaker}
 use Rattle.dsd_bits.proofs.ExitLaws.{any_err, no_ok, no_value}
 use Rattle.device_core.specs.Inlets.{inlet_reader}
 use Rattle.device_core.specs.Outlets.{outlet_writer}
 use Rattle.stream_core.specs.Pieces.{PutsFrontOf}
-use Rattle.stream_core.proofs.PieceLaws.{none_left, on_err, part_left, read_played, some_taken}
+use Rattle.stream_core.proofs.PieceLaws.{none_left, part_left, read_played, some_taken}
 use Rattle.stream_core.proofs.FaultLaws.{counts_writing, reading_in_piece, unwritten, writing_goes_on, writing_in_piece}
 use Rattle.stream_core.proofs.pieces.play_read.Goals as goal
 
@@ -17,7 +17,7 @@ returns-clause-front g c =
     let piece = c.split_at.ensures.front ∙ ap (take c.in_ok-count.count) c.deref.ensures.value in
     let a = g.W.Write.contents (outlet_writer c.args.outlet.now) in
     let b = g.W.Write.contents (outlet_writer c.play_bytes.new.outlet) in
-    on_err c.play_bytes.result (λ front. part_left c.args.player.now _ _ read c.args.wanted a b c.in_ok-count.ensures.read.consumed (subst (λ xs. PutsFrontOf c.args.player.now (take c.args.wanted xs) a b) piece front)) c.play_bytes.ensures.front
+    on_err_weaker c.play_bytes.result (λ front. part_left c.args.player.now _ _ read c.args.wanted a b c.in_ok-count.ensures.read.consumed (subst (λ xs. PutsFrontOf c.args.player.now (take c.args.wanted xs) a b) piece front)) c.play_bytes.ensures.front
 
 pub returns-in_err-count-clause-fault : goal.returns-in_err-count-clause-fault
 returns-in_err-count-clause-fault g c =

@@ -1,5 +1,5 @@
 use Rattle.std.proofs.Common.{◌≡◌, ℕ, List, ◌++◌, ◌+◌, ◌-◌, ◌∙◌, drop, take, length, length-take, ap, arith, sym, subst}
-use Rattle.std.proofs.lemmas.Result.{IfErr-weaker, err_from_is_err_and}
+use Rattle.std.proofs.lemmas.Result.{IfErr-weaker, err_from_is_err_and, on_err_weaker, on_ok_weaker}
 use Rattle.dsd_bits.proofs.ExitLaws.{any_err, no_ok}
 use Rattle.device_core.specs.Inlets.{inlet_failures, inlet_given, inlet_reader}
 use Rattle.device_core.specs.Outlets.{outlet_failures, outlet_writer}
@@ -9,7 +9,6 @@ use Rattle.sound_core.proofs.ReaderLaws.{counts_later}
 use Rattle.stream_core.specs.Pace.{PlaysGivenSound}
 use Rattle.stream_core.specs.Pieces.{IsPieceFault, IsSoundFault, PlaysFront, PlaysPart, PlaysSound, PutsDue, PutsFrontLeft, PutsFrontOf}
 use Rattle.stream_core.proofs.PaceLaws.{sound_so_far}
-use Rattle.stream_core.proofs.PieceLaws.{on_err, on_ok}
 use Rattle.stream_core.proofs.SoundLaws.{ahead_front, end_front, front_of_none, rest_fault, rest_front, said, sound_played}
 use Rattle.stream_core.proofs.pieces.play_sound.Given.{Over}
 use Rattle.stream_core.proofs.FaultLaws.{counts_writing, counts_written, same_writes, writes_later, writing_goes_on, writing_in_sound}
@@ -105,7 +104,7 @@ returns-clause-ok g c =
     let later = c.in_ok-play_rest.ensures.same in
     let a = g.W.Write.contents (outlet_writer c.args.outlet.now) in
     let e = g.W.Write.contents (outlet_writer c.put_rest.new.outlet) in
-    on_ok c.put_rest.result (λ rest. subst (λ xs. PlaysSound g.R.Read.remaining c.args.reader.now.inlet.now c.play_rest.new.reader.inlet.now c.args.taps.now c.args.sound.now xs c.play_rest.new.reader.ahead.now.items a e) (ahead_is g (goal.at.returns-clause-ok g c).After-deref) (said (λ d s. PlaysSound g.R.Read.remaining c.args.reader.now.inlet.now c.play_rest.new.reader.inlet.now d s c.deref.result.now c.play_rest.new.reader.ahead.now.items a e) made.0 made.1
+    on_ok_weaker c.put_rest.result (λ rest. subst (λ xs. PlaysSound g.R.Read.remaining c.args.reader.now.inlet.now c.play_rest.new.reader.inlet.now c.args.taps.now c.args.sound.now xs c.play_rest.new.reader.ahead.now.items a e) (ahead_is g (goal.at.returns-clause-ok g c).After-deref) (said (λ d s. PlaysSound g.R.Read.remaining c.args.reader.now.inlet.now c.play_rest.new.reader.inlet.now d s c.deref.result.now c.play_rest.new.reader.ahead.now.items a e) made.0 made.1
     (sound_played g.R.Read.remaining _ _ c.in_ok-player.player _ _ c.in_ok-player.ensures.fed c.deref.result.now _ a _ _ _ (number_is g k) (first_is g k) same.0 same.1 (rest_is g k) later.0 later.1 e rest))) c.put_rest.ensures.ok
 
 pub returns-clause-front : goal.returns-clause-front
@@ -118,7 +117,7 @@ returns-clause-front g c =
     let a = g.W.Write.contents (outlet_writer c.args.outlet.now) in
     let e = g.W.Write.contents (outlet_writer c.put_rest.new.outlet) in
     let all : c.play_rest.new.player.fed ≡ c.play_rest.new.player.sound.size = omega (arith, made.2, same.2, later.2, c.in_ok-first.ensures.number, ap (λ (s : Sound). s.size) made.1, ap (λ (s : Sound). s.size) same.1, ap (λ (s : Sound). s.size) later.1, length-take c.args.sound.now.size c.deref.result.now) in
-    on_err c.put_rest.result (λ front. subst (λ xs. PlaysFront (g.R.Read.remaining (inlet_reader c.args.reader.now.inlet.now)) c.args.taps.now c.args.sound.now xs a e) (ahead_is g (goal.at.returns-clause-front g c).After-deref) (said (λ d s. PlaysFront (g.R.Read.remaining (inlet_reader c.args.reader.now.inlet.now)) d s c.deref.result.now a e) made.0 made.1
+    on_err_weaker c.put_rest.result (λ front. subst (λ xs. PlaysFront (g.R.Read.remaining (inlet_reader c.args.reader.now.inlet.now)) c.args.taps.now c.args.sound.now xs a e) (ahead_is g (goal.at.returns-clause-front g c).After-deref) (said (λ d s. PlaysFront (g.R.Read.remaining (inlet_reader c.args.reader.now.inlet.now)) d s c.deref.result.now a e) made.0 made.1
     (end_front g.R.Read.remaining _ _ p _ _ c.in_ok-player.ensures.fed c.deref.result.now _ a _ _ _ (number_is g k) (first_is g k) same.0 same.1 (rest_is g k) later.0 later.1 e all front))) c.put_rest.ensures.front
 
 -- ---- which fault it is, and what came before it
@@ -221,7 +220,7 @@ pub returns-clause-same_reader : goal.returns-clause-same_reader
 returns-clause-same_reader g c = record { reference = c.play_rest.ensures.same_reader.reference ∙ c.take_ahead-ahead.ensures.same.reference; given = c.play_rest.ensures.same_reader.given ∙ c.take_ahead-ahead.ensures.same.given; limit = c.play_rest.ensures.same_reader.limit ∙ c.take_ahead-ahead.ensures.same.limit }
 
 pub returns-clause-reading : goal.returns-clause-reading
-returns-clause-reading g c = on_ok c.put_rest.result (λ rest. c.in_ok-play_rest.ensures.reading) c.put_rest.ensures.ok
+returns-clause-reading g c = on_ok_weaker c.put_rest.result (λ rest. c.in_ok-play_rest.ensures.reading) c.put_rest.ensures.ok
 
 -- ---- what the calls need
 pub play_bytes-requires : goal.play_bytes-requires

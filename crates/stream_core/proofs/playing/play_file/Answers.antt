@@ -1,5 +1,5 @@
 use Rattle.std.proofs.Common.{◌-◌, ◌∙◌, arith, refl, subst, sym}
-use Rattle.std.proofs.lemmas.Result.{IfErr-weaker, IfOk-weaker, err_from_is_err_and}
+use Rattle.std.proofs.lemmas.Result.{IfErr-weaker, IfOk-weaker, err_from_is_err_and, on_err_weaker}
 use Rattle.dsd_bits.proofs.ExitLaws.{no_value}
 use Rattle.device_core.specs.Inlets.{inlet_given, inlet_reader}
 use Rattle.device_core.specs.Outlets.{outlet_writer}
@@ -8,7 +8,6 @@ use Rattle.stream_core.proofs.PaceLaws.{keeps_file, keeps_front}
 use Rattle.stream_core.specs.Playing.{PlaysBy}
 use Rattle.stream_core.proofs.PlayLaws.{found_front, found_outside, found_stands, front_outside, none_written, plays_file, plays_given}
 use Rattle.sound_core.proofs.ReaderLaws.{counts_from, same_counts, same_on}
-use Rattle.stream_core.proofs.PieceLaws.{on_err}
 use Rattle.stream_core.proofs.FaultLaws.{front_stands, front_unwritten}
 use Rattle.stream_core.proofs.playing.play_file.Goals as goal
 
@@ -77,7 +76,7 @@ pub returns-clause-fault : goal.returns-clause-fault
 returns-clause-fault g c = IfErr-weaker c.play_found.result _ _ (λ f. found_stands _ _ c.args.taps.now _ _ f c.in_ok-sound.ensures.read.consumed refl) c.play_found.ensures.fault
 
 pub returns-clause-front : goal.returns-clause-front
-returns-clause-front g c = on_err c.play_found.result (found_front _ _ _ _ c.args.taps.now _ _ c.in_ok-sound.ensures.read.consumed refl) c.play_found.ensures.front
+returns-clause-front g c = on_err_weaker c.play_found.result (found_front _ _ _ _ c.args.taps.now _ _ c.in_ok-sound.ensures.read.consumed refl) c.play_found.ensures.front
 
 pub returns-clause-counts : goal.returns-clause-counts
 returns-clause-counts g c = counts_from c.args.reader.now c.read_front.new.reader c.play_found.new.reader c.play_found.result c.read_front.ensures.same.limit (omega (arith, c.in_ok-sound.ensures.counts.failures)) c.play_found.ensures.counts

@@ -1,9 +1,10 @@
 use Rattle.std.proofs.Common.{◌∙◌, subst}
 use Rattle.std.specs.Io.KnownBytes.{Appends}
+use Rattle.std.proofs.lemmas.Result.{on_err_weaker, on_ok_weaker}
 use Rattle.dsd_bits.proofs.ExitLaws.{any_err}
 use Rattle.device_core.specs.Outlets.{AppendsFront, outlet_writer}
 use Rattle.stream_core.specs.Wave.{pad_of}
-use Rattle.stream_core.proofs.PieceLaws.{front_nil, on_err, on_ok}
+use Rattle.stream_core.proofs.PieceLaws.{front_nil}
 use Rattle.stream_core.proofs.WaveLaws.{pad_is}
 use Rattle.stream_core.proofs.wave.put_pad.Goals as goal
 
@@ -13,9 +14,9 @@ returns-in_err-push_pad-clause-err g c = any_err c.from_residual.result (front_n
 pub returns-clause-ok : goal.returns-clause-ok
 returns-clause-ok g c =
     let is = c.as_slice.ensures.value ∙ pad_is c.args.taps.now c.args.sound.now c.spec_of.result c.total_frames.result c.clear.new.self.items c.push_pad.new.out.items c.spec_of.ensures.spec c.total_frames.ensures c.clear.ensures.items c.in_ok-push_pad.ensures.ok in
-    on_ok c.put.result (subst (Appends (g.W.Write.contents (outlet_writer c.args.outlet.now)) (g.W.Write.contents (outlet_writer c.put.new.outlet))) is) c.put.ensures.ok
+    on_ok_weaker c.put.result (subst (Appends (g.W.Write.contents (outlet_writer c.args.outlet.now)) (g.W.Write.contents (outlet_writer c.put.new.outlet))) is) c.put.ensures.ok
 
 pub returns-clause-err : goal.returns-clause-err
 returns-clause-err g c =
     let is = c.as_slice.ensures.value ∙ pad_is c.args.taps.now c.args.sound.now c.spec_of.result c.total_frames.result c.clear.new.self.items c.push_pad.new.out.items c.spec_of.ensures.spec c.total_frames.ensures c.clear.ensures.items c.in_ok-push_pad.ensures.ok in
-    on_err c.put.result (subst (AppendsFront (g.W.Write.contents (outlet_writer c.args.outlet.now)) (g.W.Write.contents (outlet_writer c.put.new.outlet))) is) c.put.ensures.err
+    on_err_weaker c.put.result (subst (AppendsFront (g.W.Write.contents (outlet_writer c.args.outlet.now)) (g.W.Write.contents (outlet_writer c.put.new.outlet))) is) c.put.ensures.err

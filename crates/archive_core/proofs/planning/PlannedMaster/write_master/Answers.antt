@@ -1,7 +1,7 @@
 use Rattle.std.proofs.Common.{subst}
 use Rattle.std.specs.Io.KnownBytes.{Appends}
+use Rattle.std.proofs.lemmas.Result.{on_err_weaker, on_ok_weaker}
 use Rattle.device_core.specs.Outlets.{AppendsPart, outlet_writer}
-use Rattle.master_core.proofs.WritingLaws.{on_err, on_ok}
 use Rattle.archive_core.proofs.EditLaws.{one_file}
 use Rattle.archive_core.proofs.planning.PlannedMaster.write_master.Goals as goal
 
@@ -10,7 +10,7 @@ returns-clause-ok g c = λ file is.
     let old = g.W.Write.contents (outlet_writer c.args.outlet.now) in
     let new = g.W.Write.contents (outlet_writer c.write_master.new.outlet) in
     let planned = c.args.self.now in
-    on_ok c.write_master.result
+    on_ok_weaker c.write_master.result
     (λ written. subst (Appends old new) (one_file planned.cut planned.form written.channels is.channels written.text file written.best is.best written.text_is is.text) written.written) c.write_master.ensures.ok
 
 pub returns-clause-err : goal.returns-clause-err
@@ -18,5 +18,5 @@ returns-clause-err g c = λ file is.
     let old = g.W.Write.contents (outlet_writer c.args.outlet.now) in
     let new = g.W.Write.contents (outlet_writer c.write_master.new.outlet) in
     let planned = c.args.self.now in
-    on_err c.write_master.result
+    on_err_weaker c.write_master.result
     (λ written. subst (AppendsPart old new) (one_file planned.cut planned.form written.channels is.channels written.text file written.best is.best written.text_is is.text) written.written) c.write_master.ensures.front

@@ -20,12 +20,10 @@ overflow_add-second-2 c =
     eight_fit c.as_chunks-2.result.0.now c.args.values.now c.args.steps.now c.doubled.result.1 (2 * c.args.chunk + 1) c.as_chunks-2.ensures.front (omega (arith, c.requires.inside, c.requires.as_many))
     (back_is (goal.at.overflow_add-second-2 c).After-doubled) c.requires.values c.requires.steps
 
-pub returns-clause-front : goal.returns-clause-front
-returns-clause-front c =
-    eight_sums c.as_chunks-2.result.0.now c.args.values.now c.args.steps.now c.doubled.result.0 (2 * c.args.chunk) c.as_chunks-2.ensures.front (omega (arith, c.requires.inside, c.requires.as_many))
-    (front_is (goal.at.returns-clause-front c).After-doubled)
-
-pub returns-clause-back : goal.returns-clause-back
-returns-clause-back c =
-    eight_sums c.as_chunks-2.result.0.now c.args.values.now c.args.steps.now c.doubled.result.1 (2 * c.args.chunk + 1) c.as_chunks-2.ensures.front (omega (arith, c.requires.inside, c.requires.as_many))
-    (back_is (goal.at.returns-clause-back c).After-doubled)
+pub returns : goal.returns
+returns c = record {
+  front = eight_sums c.as_chunks-2.result.0.now c.args.values.now c.args.steps.now c.doubled.result.0 (2 * c.args.chunk) c.as_chunks-2.ensures.front (omega (arith, c.requires.inside, c.requires.as_many))
+      (front_is (goal.at.returns c).After-doubled);
+  back = eight_sums c.as_chunks-2.result.0.now c.args.values.now c.args.steps.now c.doubled.result.1 (2 * c.args.chunk + 1) c.as_chunks-2.ensures.front (omega (arith, c.requires.inside, c.requires.as_many))
+      (back_is (goal.at.returns c).After-doubled);
+}

@@ -13,11 +13,11 @@ value_is c =
     let ea : to_z w32 (of_z w32 (to_z w32 c.args.levels +ℤ pos 1)) ≡ pos (c.args.levels + 1) = omega (arith, ints, c.requires.levels) in
     rw (ea, kept c.args.sum (omega (arith, c.requires.sum))) (kept (pos (c.args.levels + 1) *ℤ c.args.sum) (omega (arith, product_in c, c.requires.levels)))
 
-pub returns-clause-value : goal.returns-clause-value
-returns-clause-value c = value_is (goal.at.returns-clause-value c).Start
-
-pub returns-clause-bound : goal.returns-clause-bound
-returns-clause-bound c = let s = (goal.at.returns-clause-bound c).Start in rw (value_is s) (product_in s)
+pub returns : goal.returns
+returns c = record {
+  value = value_is (goal.at.returns c).Start;
+  bound = let s = (goal.at.returns c).Start in rw (value_is s) (product_in s);
+}
 
 pub overflow_cast-result : goal.overflow_cast-result
 overflow_cast-result c = small_fits c.args.levels (omega (arith, c.requires.levels))

@@ -14,16 +14,14 @@ overflow_cast-result c =
     let bound = squared_bound c.args.sum c.args.other c.from-difference.result c.requires.sum c.requires.other is in
     rw (squared_is c.args.sum c.args.other c.from-difference.result c.requires.sum c.requires.other is) (tt, record { fits = omega (arith, bound) })
 
-pub returns-clause-value : goal.returns-clause-value
-returns-clause-value c =
-    let is = difference_is (goal.at.returns-clause-value c).After-from-difference in
-    ap unsigned_abs (squared_is c.args.sum c.args.other c.from-difference.result c.requires.sum c.requires.other is)
-
-pub returns-clause-bound : goal.returns-clause-bound
-returns-clause-bound c =
-    let is = difference_is (goal.at.returns-clause-bound c).After-from-difference in
-    let bound = squared_bound c.args.sum c.args.other c.from-difference.result c.requires.sum c.requires.other is in
-    omega (arith, ap unsigned_abs (squared_is c.args.sum c.args.other c.from-difference.result c.requires.sum c.requires.other is), bound)
+pub returns : goal.returns
+returns c =
+    let is = difference_is (goal.at.returns c).After-from-difference in
+    record {
+      value = ap unsigned_abs (squared_is c.args.sum c.args.other c.from-difference.result c.requires.sum c.requires.other is);
+      bound = let bound = squared_bound c.args.sum c.args.other c.from-difference.result c.requires.sum c.requires.other is in
+          omega (arith, ap unsigned_abs (squared_is c.args.sum c.args.other c.from-difference.result c.requires.sum c.requires.other is), bound);
+    }
 
 pub overflow_mul-result : goal.overflow_mul-result
 overflow_mul-result c = squared_fits c.args.sum c.args.other c.from-difference.result c.requires.sum c.requires.other (difference_is (goal.at.overflow_mul-result c).After-from-difference)

@@ -14,13 +14,13 @@ returns-in_err-next-clause-heard c = λ splice files file before next.
     let p = err_from_is_err_and c.from_residual-in_err-next.result c.from_residual-in_err-next.ensures.1 in
     rw (p.1, p.2) (not_more splice files file c.in_ok-takes.takes.items c.in_err-next.field-0.0 (subst (λ t. HearsTakes splice t (takes_before files (length files))) c.in_ok-takes.was before) (subst (λ t. HearsTake splice (length files) t (take_in (length files) file)) c.in_err-next.was next))
 
-pub returns-in-Ok-clause-heard : goal.returns-in-Ok-clause-heard
-returns-in-Ok-clause-heard c = λ splice files file before next.
-    one_more splice files file c.in_ok-takes.takes.items c.push.new.self.items c.in_ok-next.field-0 c.in-Ok.ensures.items (subst (λ t. HearsTakes splice t (takes_before files (length files))) c.in_ok-takes.was before) (subst (λ t. HearsTake splice (length files) t (take_in (length files) file)) c.in_ok-next.was next)
-
-pub returns-in-Ok-clause-of : goal.returns-in-Ok-clause-of
-returns-in-Ok-clause-of c = λ splice n before next.
-    of_more splice n c.in_ok-takes.takes.items c.push.new.self.items c.in_ok-next.field-0 c.in-Ok.ensures.items (subst (λ t. IsOfTakes splice n t) c.in_ok-takes.was before) (subst (λ t. IsOfTake splice n t) c.in_ok-next.was next)
+pub returns-in-Ok : goal.returns-in-Ok
+returns-in-Ok c = record {
+  heard = λ splice files file before next.
+      one_more splice files file c.in_ok-takes.takes.items c.push.new.self.items c.in_ok-next.field-0 c.in-Ok.ensures.items (subst (λ t. HearsTakes splice t (takes_before files (length files))) c.in_ok-takes.was before) (subst (λ t. HearsTake splice (length files) t (take_in (length files) file)) c.in_ok-next.was next);
+  of = λ splice n before next.
+      of_more splice n c.in_ok-takes.takes.items c.push.new.self.items c.in_ok-next.field-0 c.in-Ok.ensures.items (subst (λ t. IsOfTakes splice n t) c.in_ok-takes.was before) (subst (λ t. IsOfTake splice n t) c.in_ok-next.was next);
+}
 
 pub returns-in-Err-clause-heard : goal.returns-in-Err-clause-heard
 returns-in-Err-clause-heard c = λ splice files file before next. inl refl

@@ -21,12 +21,10 @@ loop-k-preserved c =
       right = λ j h. more_lanes right c.split_frames.result.1 bytes (16 * k) (λ j. (from + j) * 2 + 1) odd.0 (omega arith) inv.right (λ j low. odd.1 j low ∙ moved 1 j) j (omega arith);
     }
 
-pub returns-clause-left : goal.returns-clause-left
-returns-clause-left c =
+pub returns : goal.returns
+returns c =
     let inv = c.loop-frame.invariant in
-    picked_is c.loop-frame.left c.args.bytes.now 2 0 c.args.from (length c.args.left.now) inv.left_size (λ j h. inv.left j (omega arith))
-
-pub returns-clause-right : goal.returns-clause-right
-returns-clause-right c =
-    let inv = c.loop-frame.invariant in
-    picked_is c.loop-frame.right c.args.bytes.now 2 1 c.args.from (length c.args.left.now) (inv.right_size ∙ c.requires.right) (λ j h. inv.right j (omega arith))
+    record {
+      left = picked_is c.loop-frame.left c.args.bytes.now 2 0 c.args.from (length c.args.left.now) inv.left_size (λ j h. inv.left j (omega arith));
+      right = picked_is c.loop-frame.right c.args.bytes.now 2 1 c.args.from (length c.args.left.now) (inv.right_size ∙ c.requires.right) (λ j h. inv.right j (omega arith));
+    }

@@ -27,15 +27,6 @@ both left behind_left right behind_right frames count c k left_is right_is long 
       get_or-append_right (left ++ behind_left) (right ++ behind_right) 4096 (4096 * c + k) 0 long (omega (arith, e)) ∙ ap (slice_index (right ++ behind_right)) behind ∙ own right behind_right frames count 1 k right_is below ∙ ap (slice_index frames) back
 ]
 
-pub returns-clause-written : goal.returns-clause-written
-returns-clause-written c = λ d k in_list below.
-    let first = c.split_at_mut-first in
-    let left = c.split_at_mut-left in
-    let right = c.split_at_mut-right in
-    both c.split_two.new.left left.result.1.now c.split_two.new.right right.result.1.now c.args.frames.now c.args.count d k
-    (c.split_two.ensures.left ∙ ap (picked c.args.frames.now 2 0 0) left.ensures.front_len) (c.split_two.ensures.right ∙ ap (picked c.args.frames.now 2 1 0) left.ensures.front_len)
-    (omega (arith, length-append c.split_two.new.left left.result.1.now, c.split_two.auto.left, left.ensures.front_len, left.ensures.back_len, first.ensures.front_len)) in_list below (omega (arith, c.requires.few))
-
 -- a byte that stands behind the part of its plane that is written
 kept : (new old rest : List ℕ) (count place : ℕ) → length new ≡ count → length old ≡ count → count ≤ place → slice_index (new ++ rest) place ≡ slice_index (old ++ rest) place
 kept new old rest count place new_long old_long behind = get_or-append_right new rest count place 0 new_long behind ∙ sym (get_or-append_right old rest count place 0 old_long behind)
@@ -55,13 +46,21 @@ module _ (planes first second left behind_left right behind_right new_left new_r
         ∙ sym (get_or-append_right first second 4096 place 0 long high) ∙ ap (λ xs. slice_index xs place) (sym both_are)
   ]
 
-pub returns-clause-others : goal.returns-clause-others
-returns-clause-others c =
-    let first = c.split_at_mut-first in
-    let left = c.split_at_mut-left in
-    let right = c.split_at_mut-right in
-    others c.args.planes.now first.result.0.now first.result.1.now left.result.0.now left.result.1.now right.result.0.now right.result.1.now c.split_two.new.left c.split_two.new.right c.args.count c.requires.few first.ensures.value left.ensures.value right.ensures.value
-    first.ensures.front_len left.ensures.front_len right.ensures.front_len (c.split_two.auto.left ∙ left.ensures.front_len) (c.split_two.auto.right ∙ right.ensures.front_len)
+pub returns : goal.returns
+returns c = record {
+  written = λ d k in_list below.
+      let first = c.split_at_mut-first in
+      let left = c.split_at_mut-left in
+      let right = c.split_at_mut-right in
+      both c.split_two.new.left left.result.1.now c.split_two.new.right right.result.1.now c.args.frames.now c.args.count d k
+      (c.split_two.ensures.left ∙ ap (picked c.args.frames.now 2 0 0) left.ensures.front_len) (c.split_two.ensures.right ∙ ap (picked c.args.frames.now 2 1 0) left.ensures.front_len)
+      (omega (arith, length-append c.split_two.new.left left.result.1.now, c.split_two.auto.left, left.ensures.front_len, left.ensures.back_len, first.ensures.front_len)) in_list below (omega (arith, c.requires.few));
+  others = let first = c.split_at_mut-first in
+      let left = c.split_at_mut-left in
+      let right = c.split_at_mut-right in
+      others c.args.planes.now first.result.0.now first.result.1.now left.result.0.now left.result.1.now right.result.0.now right.result.1.now c.split_two.new.left c.split_two.new.right c.args.count c.requires.few first.ensures.value left.ensures.value right.ensures.value
+      first.ensures.front_len left.ensures.front_len right.ensures.front_len (c.split_two.auto.left ∙ left.ensures.front_len) (c.split_two.auto.right ∙ right.ensures.front_len);
+}
 
 pub split_two-requires : goal.split_two-requires
 split_two-requires c = record {

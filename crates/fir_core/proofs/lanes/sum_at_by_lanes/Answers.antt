@@ -7,20 +7,17 @@ use Rattle.fir_core.proofs.Dot.{dot_bound}
 use Rattle.fir_core.proofs.TileLaws.{conv_at}
 use Rattle.fir_core.proofs.lanes.sum_at_by_lanes.Goals as goal
 
-pub returns-clause-value : goal.returns-clause-value
-returns-clause-value c =
-    let h = c.args.taps.now.taps in
+pub returns : goal.returns
+returns c =
     let bytes = c.as_bytes.result.now in
     let at = c.args.n / 8 + 1 - length c.args.turned.now / 8 in
-    let packed = c.as_bytes.ensures.bits ∙ ap (unpacked bytes) (sym c.len.ensures.value) in
-    to_z-of_z w32 c.dot_by_lanes.result (record { sfits = c.dot_by_lanes.type_inv })
-    ∙ c.dot_by_lanes.ensures
-    ∙ ap (λ bs. dot c.args.turned.now (bits_of bs)) (take_rest bytes at)
-    ∙ sym (conv_at h c.args.turned.now c.args.bits.now bytes c.len.result c.args.n c.args.taps.now.delay c.requires.turned c.requires.phase packed (omega (arith, c.if-n-size.false)) c.if-len-n.false (omega (arith, c.as_bytes.ensures.tight.enough, c.len.ensures.value)))
-
-pub returns-clause-bound : goal.returns-clause-bound
-returns-clause-bound c =
-    let bytes = c.as_bytes.result.now in
-    let at = c.args.n / 8 + 1 - length c.args.turned.now / 8 in
-    rw (to_z-of_z w32 c.dot_by_lanes.result (record { sfits = c.dot_by_lanes.type_inv }), c.dot_by_lanes.ensures)
-    (omega (arith, dot_bound c.args.turned.now (bits_of (take (length bytes - at) (drop at bytes))), c.requires.small))
+    record {
+      value = let h = c.args.taps.now.taps in
+          let packed = c.as_bytes.ensures.bits ∙ ap (unpacked bytes) (sym c.len.ensures.value) in
+          to_z-of_z w32 c.dot_by_lanes.result (record { sfits = c.dot_by_lanes.type_inv })
+          ∙ c.dot_by_lanes.ensures
+          ∙ ap (λ bs. dot c.args.turned.now (bits_of bs)) (take_rest bytes at)
+          ∙ sym (conv_at h c.args.turned.now c.args.bits.now bytes c.len.result c.args.n c.args.taps.now.delay c.requires.turned c.requires.phase packed (omega (arith, c.if-n-size.false)) c.if-len-n.false (omega (arith, c.as_bytes.ensures.tight.enough, c.len.ensures.value)));
+      bound = rw (to_z-of_z w32 c.dot_by_lanes.result (record { sfits = c.dot_by_lanes.type_inv }), c.dot_by_lanes.ensures)
+          (omega (arith, dot_bound c.args.turned.now (bits_of (take (length bytes - at) (drop at bytes))), c.requires.small));
+    }

@@ -28,15 +28,6 @@ loop-k-init c =
       rest = λ k h l. c.requires.so_far k l;
     }
 
-pub returns-clause-sums : goal.returns-clause-sums
-returns-clause-sums c = λ k l. elim (cases_lt k (c.saturating_sub-start.result + c.loop-k.k)) [
-  | inl before ↦ c.loop-k.invariant.done k before
-  | inr behind ↦
-      let late : c.args.spot.window < k = omega (arith, c.saturating_sub-start.ensures, c.min.ensures, c.loop-k.auto.sums) in
-      let begins = begins_behind c.args.rows.step c.args.spot.p c.args.spot.window c.args.spot.place k c.requires.spot late in
-      c.loop-k.invariant.rest k behind l ∙ not_begun c.args.taps.now c.args.bytes.now c.args.rows.step c.args.spot.p (c.args.spot.p + 1) k (omega (arith, begins)) (omega (arith, begins))
-]
-
 pub row_part-row-requires : goal.row_part-row-requires
 row_part-row-requires c = record {
   laid = c.requires.laid;
@@ -100,11 +91,16 @@ next-requires-clause-spot c = c.requires.spot
 pub next-requires-clause-small : goal.next-requires-clause-small
 next-requires-clause-small c = omega (arith, c.requires.within)
 
-pub returns-clause-len : goal.returns-clause-len
-returns-clause-len c = c.loop-k.auto.sums
-
-pub returns-clause-next : goal.returns-clause-next
-returns-clause-next c = c.next.ensures.p
-
-pub returns-clause-spot : goal.returns-clause-spot
-returns-clause-spot c = c.next.ensures.spot
+pub returns : goal.returns
+returns c = record {
+  len = c.loop-k.auto.sums;
+  sums = λ k l. elim (cases_lt k (c.saturating_sub-start.result + c.loop-k.k)) [
+    | inl before ↦ c.loop-k.invariant.done k before
+    | inr behind ↦
+        let late : c.args.spot.window < k = omega (arith, c.saturating_sub-start.ensures, c.min.ensures, c.loop-k.auto.sums) in
+        let begins = begins_behind c.args.rows.step c.args.spot.p c.args.spot.window c.args.spot.place k c.requires.spot late in
+        c.loop-k.invariant.rest k behind l ∙ not_begun c.args.taps.now c.args.bytes.now c.args.rows.step c.args.spot.p (c.args.spot.p + 1) k (omega (arith, begins)) (omega (arith, begins))
+  ];
+  next = c.next.ensures.p;
+  spot = c.next.ensures.spot;
+}

@@ -81,24 +81,6 @@ next-requires-2-clause-spot c = rw c.spots_from-back.ensures.places.2 c.spots_fr
 pub next-requires-2-clause-small : goal.next-requires-2-clause-small
 next-requires-2-clause-small c = omega (arith, c.requires.within, c.spots_from-back.ensures.places, fifth (goal.at.next-requires-2-clause-small c).After-min)
 
-pub returns-clause-limit : goal.returns-clause-limit
-returns-clause-limit c = omega (arith, starts_below (goal.at.returns-clause-limit c).After-min, c.min.ensures)
-
-pub returns-clause-done : goal.returns-clause-done
-returns-clause-done c = λ j h.
-    ends_before c.args.rows.step c.args.rows.span (length c.args.taps.now / 8) c.args.spot.p c.spots_from-back.result.four.window c.spots_from-back.result.four.place j c.requires.eights
-    (eighth (goal.at.returns-clause-done c).After-min) c.requires.laid.wide c.requires.laid.loose (omega (arith, c.saturating_sub-start.ensures))
-
-pub returns-clause-rest : goal.returns-clause-rest
-returns-clause-rest c = λ j h l.
-    let late : c.spots_from-back.result.four.window < j = omega (arith, starts_below (goal.at.returns-clause-rest c).After-min, c.min.ensures) in
-    omega (arith, begins_behind c.args.rows.step (c.args.spot.p + 7) c.spots_from-back.result.four.window c.spots_from-back.result.four.place j (eighth (goal.at.returns-clause-rest c).After-min) late)
-
-pub returns-clause-back : goal.returns-clause-back
-returns-clause-back c =
-    subst (λ (p : ℕ). IsBlock c.args.taps.now c.args.bytes.now c.args.rows.step p c.saturating_sub-start.result (c.min.result - c.saturating_sub-start.result) c.four_of-2.result.one.now c.four_of-2.result.two.now c.four_of-2.result.three.now c.four_of-2.result.four.now)
-    (fifth (goal.at.returns-clause-back c).After-min) (rw (← c.spots_from-back.ensures.one) c.four_of-2.ensures)
-
 pub spots_from-front-requires-clause-spot : goal.spots_from-front-requires-clause-spot
 spots_from-front-requires-clause-spot c = c.requires.spot
 
@@ -108,17 +90,20 @@ spots_from-back-requires-clause-spot c = c.next.ensures.spot
 pub overflow_add-behind : goal.overflow_add-behind
 overflow_add-behind c = omega (arith, window_before _ _ _ _ c.spots_from-back.ensures.four, c.next.ensures.p, c.spots_from-front.ensures.places, c.requires.within)
 
-pub returns-clause-p : goal.returns-clause-p
-returns-clause-p c = refl
-
-pub returns-clause-step : goal.returns-clause-step
-returns-clause-step c = refl
-
-pub returns-clause-front : goal.returns-clause-front
-returns-clause-front c = rw (← c.spots_from-front.ensures.one) c.four_of.ensures
-
-pub returns-clause-next : goal.returns-clause-next
-returns-clause-next c = omega (arith, c.next-2.ensures.p, c.spots_from-back.ensures.places, fifth (goal.at.returns-clause-next c).After-min)
-
-pub returns-clause-spot : goal.returns-clause-spot
-returns-clause-spot c = c.next-2.ensures.spot
+pub returns : goal.returns
+returns c = record {
+  p = refl;
+  step = refl;
+  limit = omega (arith, starts_below (goal.at.returns c).After-min, c.min.ensures);
+  done = λ j h.
+      ends_before c.args.rows.step c.args.rows.span (length c.args.taps.now / 8) c.args.spot.p c.spots_from-back.result.four.window c.spots_from-back.result.four.place j c.requires.eights
+      (eighth (goal.at.returns c).After-min) c.requires.laid.wide c.requires.laid.loose (omega (arith, c.saturating_sub-start.ensures));
+  rest = λ j h l.
+      let late : c.spots_from-back.result.four.window < j = omega (arith, starts_below (goal.at.returns c).After-min, c.min.ensures) in
+      omega (arith, begins_behind c.args.rows.step (c.args.spot.p + 7) c.spots_from-back.result.four.window c.spots_from-back.result.four.place j (eighth (goal.at.returns c).After-min) late);
+  front = rw (← c.spots_from-front.ensures.one) c.four_of.ensures;
+  back = subst (λ (p : ℕ). IsBlock c.args.taps.now c.args.bytes.now c.args.rows.step p c.saturating_sub-start.result (c.min.result - c.saturating_sub-start.result) c.four_of-2.result.one.now c.four_of-2.result.two.now c.four_of-2.result.three.now c.four_of-2.result.four.now)
+      (fifth (goal.at.returns c).After-min) (rw (← c.spots_from-back.ensures.one) c.four_of-2.ensures);
+  next = omega (arith, c.next-2.ensures.p, c.spots_from-back.ensures.places, fifth (goal.at.returns c).After-min);
+  spot = c.next-2.ensures.spot;
+}

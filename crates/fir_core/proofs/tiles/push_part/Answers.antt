@@ -22,14 +22,6 @@ push_samples-requires-clause-phase c =
     let d = c.args.taps.now in
     rw (c.factor.ensures.value, ap (λ f. f.delay) c.taps.view_is) (omega (arith, whole_step c.args.start d.factor c.factor.ensures.limits.whole_bytes))
 
-pub returns-clause-ok : goal.returns-clause-ok
-returns-clause-ok c =
-    let d = c.args.taps.now in
-    let bits : unpacked c.as_bytes.result.now c.len-count.result ≡ c.args.bits.now = ap (unpacked c.as_bytes.result.now) c.len-count.ensures.value ∙ sym c.as_bytes.ensures.bits in
-    let place : c.args.start * c.factor.result + c.taps.inside.delay ≡ c.args.start * d.factor + d.delay = ap₂ (λ (x y : ℕ). c.args.start * x + y) c.factor.ensures.value (ap (λ f. f.delay) c.taps.view_is) in
-    c.in_ok-push_samples.ensures.ok
-    ∙ ap (λ xs. c.args.out.now.items ++ xs) (ap₂ (λ (bs : List Bool) (n : ℕ). samples_from d bs n c.args.number) bits place ∙ numbered d c.args.bits.now c.args.start c.args.number)
-
 pub overflow_mul-first : goal.overflow_mul-first
 overflow_mul-first c = rw c.factor.ensures.value (omega (arith, reaches (goal.at.overflow_mul-first c).After-factor))
 
@@ -42,11 +34,18 @@ push_samples-requires-clause-enough c = omega (arith, c.len-count.ensures.value)
 pub push_samples-requires-clause-tables : goal.push_samples-requires-clause-tables
 push_samples-requires-clause-tables c = c.requires.tables
 
-pub returns-in_err-push_samples-clause-ok : goal.returns-in_err-push_samples-clause-ok
-returns-in_err-push_samples-clause-ok c = no_ok _ _ c.from_residual.result c.from_residual.ensures.1
+pub returns-in_err-push_samples : goal.returns-in_err-push_samples
+returns-in_err-push_samples c = record {
+  ok = no_ok _ _ c.from_residual.result c.from_residual.ensures.1;
+  err = any_err c.from_residual.result c.in_err-push_samples.ensures.err;
+}
 
-pub returns-in_err-push_samples-clause-err : goal.returns-in_err-push_samples-clause-err
-returns-in_err-push_samples-clause-err c = any_err c.from_residual.result c.in_err-push_samples.ensures.err
-
-pub returns-clause-err : goal.returns-clause-err
-returns-clause-err c = tt
+pub returns : goal.returns
+returns c = record {
+  ok = let d = c.args.taps.now in
+      let bits : unpacked c.as_bytes.result.now c.len-count.result ≡ c.args.bits.now = ap (unpacked c.as_bytes.result.now) c.len-count.ensures.value ∙ sym c.as_bytes.ensures.bits in
+      let place : c.args.start * c.factor.result + c.taps.inside.delay ≡ c.args.start * d.factor + d.delay = ap₂ (λ (x y : ℕ). c.args.start * x + y) c.factor.ensures.value (ap (λ f. f.delay) c.taps.view_is) in
+      c.in_ok-push_samples.ensures.ok
+      ∙ ap (λ xs. c.args.out.now.items ++ xs) (ap₂ (λ (bs : List Bool) (n : ℕ). samples_from d bs n c.args.number) bits place ∙ numbered d c.args.bits.now c.args.start c.args.number);
+  err = tt;
+}

@@ -39,16 +39,16 @@ loop-s-preserved g c =
           ∙ ap (int_wrap w32) (sym (sum_next c.loop-s.s (turn (j + 7))));
     }
 
-pub returns-clause-len : goal.returns-clause-len
-returns-clause-len g c = c.loop-s.invariant.long
-
-pub returns-clause-sums : goal.returns-clause-sums
-returns-clause-sums g c = λ j below.
-    let hs = c.args.taps.now in
-    let bytes = c.args.bytes.now in
-    let step = c.args.rows.step in
-    let span = c.args.rows.span in
-    let all : c.loop-s.s ≡ 8 = omega arith in
-    c.loop-s.invariant.sums j below
-    ∙ ap (λ m. int_wrap w32 (sum_below m (λ s. turn_sum hs bytes step span g.row.N s (j + 7)))) all
-    ∙ all_turns_fit hs bytes step span g.row.N j c.requires.span (reach_within j g.row.N (length c.args.sums.now / 8) step (length bytes) below c.requires.enough) c.requires.laid.whole c.requires.wide c.requires.laid.small
+pub returns : goal.returns
+returns g c = record {
+  len = c.loop-s.invariant.long;
+  sums = λ j below.
+      let hs = c.args.taps.now in
+      let bytes = c.args.bytes.now in
+      let step = c.args.rows.step in
+      let span = c.args.rows.span in
+      let all : c.loop-s.s ≡ 8 = omega arith in
+      c.loop-s.invariant.sums j below
+      ∙ ap (λ m. int_wrap w32 (sum_below m (λ s. turn_sum hs bytes step span g.row.N s (j + 7)))) all
+      ∙ all_turns_fit hs bytes step span g.row.N j c.requires.span (reach_within j g.row.N (length c.args.sums.now / 8) step (length bytes) below c.requires.enough) c.requires.laid.whole c.requires.wide c.requires.laid.small;
+}

@@ -1,4 +1,4 @@
-use Rattle.std.proofs.Common.{◌≡◌, length, subst, arith}
+use Rattle.std.proofs.Common.{◌≡◌, length, rules, subst, arith}
 use Rattle.std.specs.Io.KnownBytes.{Appends}
 use Rattle.std.proofs.lemmas.Result.{on_err_weaker, on_ok_weaker}
 use Rattle.cert_core.specs.Text.{cert_head}
@@ -36,12 +36,12 @@ returns-in_default-clause-err g c =
     let part = subst (λ n. AppendsPart a b (cert_head Two n c.len.result)) c.requires.fresh.weights_are told in
     head_cut c.read_is_cert.ensures.read (length cut.splice.weights) c.len.result _ (announced g (goal.at.returns-in_default-clause-err g c).After-len) c.cut_rows_are_valid.ensures (showable cut made c.requires.bridges) a b (part_is_front a b _ part))
 
-pub returns-clause-ok : goal.returns-clause-ok
-returns-clause-ok g c =
-    let at = goal.at.returns-clause-ok g c in
-    on_ok_weaker c.write_entries.result (λ rest. cert_whole c.read_is_cert.ensures.read _ c.len.result _ (announced g at.After-len) _ _ _ (begun g at.In-Ok) rest) c.write_entries.ensures.ok
-
-pub returns-clause-err : goal.returns-clause-err
-returns-clause-err g c =
-    let at = goal.at.returns-clause-err g c in
-    on_err_weaker c.write_entries.result (λ rest. cert_cut c.read_is_cert.ensures.read _ c.len.result _ (announced g at.After-len) _ _ _ (begun g at.In-Ok) rest) c.write_entries.ensures.err
+pub returns : goal.returns
+returns g c =
+    let at = goal.at.returns g c in
+    record {
+      ok = on_ok_weaker c.write_entries.result (λ rest. cert_whole c.read_is_cert.ensures.read _ c.len.result _ (announced g at.After-len) _ _ _ (begun g at.In-Ok) rest) c.write_entries.ensures.ok;
+      err = on_err_weaker c.write_entries.result (λ rest. cert_cut c.read_is_cert.ensures.read _ c.len.result _ (announced g at.After-len) _ _ _ (begun g at.In-Ok) rest) c.write_entries.ensures.err;
+      failed = c.write_entries.ensures.failed;
+      before = search rules;
+    }

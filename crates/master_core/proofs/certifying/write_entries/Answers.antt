@@ -62,14 +62,18 @@ pub write_entry-requires-clause-ready : goal.write_entry-requires-clause-ready
 write_entry-requires-clause-ready g c =
     subst (λ n. IsReady n c.loop-k.writer) (sym (weights g (goal.at.write_entry-requires-clause-ready g c).After-index-in-loop-k)) c.loop-k.invariant.ready
 
-pub returns-in_err-write_entry-clause-err : goal.returns-in_err-write_entry-clause-err
-returns-in_err-write_entry-clause-err g c =
-    let here = (goal.at.returns-in_err-write_entry-clause-err g c).After-index-in-loop-k in
-    let p = err_from_is_err_and c.from_residual.result c.from_residual.ensures.1 in
-    let a = g.W.Write.contents (outlet_writer (cert_outlet c.args.writer.now)) in
-    let b = g.W.Write.contents (outlet_writer (cert_outlet c.loop-k.writer)) in
-    let e = g.W.Write.contents (outlet_writer (cert_outlet c.write_entry.new.writer)) in
-    rw p.1 (cut_short (claims g here) c.loop-k.k (claim g here) (claim_there g here) (is g here) c.cut_rows_are_valid.ensures (showable c.args.cut.now c.args.bridges.now c.requires.bridges) a b e c.loop-k.invariant.written c.in_err-write_entry.ensures.err)
+pub returns-in_err-write_entry : goal.returns-in_err-write_entry
+returns-in_err-write_entry g c = record {
+  ok = let e = err_from_is_err_and c.from_residual.result c.from_residual.ensures.1 in rw e.1 tt;
+  err = let here = (goal.at.returns-in_err-write_entry g c).After-index-in-loop-k in
+      let p = err_from_is_err_and c.from_residual.result c.from_residual.ensures.1 in
+      let a = g.W.Write.contents (outlet_writer (cert_outlet c.args.writer.now)) in
+      let b = g.W.Write.contents (outlet_writer (cert_outlet c.loop-k.writer)) in
+      let e = g.W.Write.contents (outlet_writer (cert_outlet c.write_entry.new.writer)) in
+      rw p.1 (cut_short (claims g here) c.loop-k.k (claim g here) (claim_there g here) (is g here) c.cut_rows_are_valid.ensures (showable c.args.cut.now c.args.bridges.now c.requires.bridges) a b e c.loop-k.invariant.written c.in_err-write_entry.ensures.err);
+  failed = let e = err_from_is_err_and c.from_residual.result c.from_residual.ensures.1 in rw e.1 c.in_err-write_entry.ensures.failed;
+  before = c.write_entry.ensures.before ∙ c.loop-k.invariant.before;
+}
 
 pub loop-k-preserved : goal.loop-k-preserved
 loop-k-preserved g c =
@@ -87,33 +91,19 @@ loop-k-preserved g c =
       room = subst (λ n. HasBuffers (2 ^ (n - 1)) c.write_entry.new.pass) (weights g here) made.room;
     }
 
-pub returns-clause-ok : goal.returns-clause-ok
-returns-clause-ok g c =
-    let made = c.args.bridges.now in
-    let claims = chosen_claims c.args.cut.now made.places.items made.chosen.items in
-    let all : take c.loop-k.k claims ≡ claims = take_all c.loop-k.k claims (omega (arith, c.loop-k-test.false, c.len-k-end.ensures, made.places.ok.0, claim_number c.args.cut.now made c.requires.bridges)) in
-    subst (λ (l : List Claim). AppendsEntries l (g.W.Write.contents (outlet_writer (cert_outlet c.args.writer.now))) (g.W.Write.contents (outlet_writer (cert_outlet c.loop-k.writer)))) all c.loop-k.invariant.written
-
-pub returns-in_err-write_entry-clause-ok : goal.returns-in_err-write_entry-clause-ok
-returns-in_err-write_entry-clause-ok g c = let e = err_from_is_err_and c.from_residual.result c.from_residual.ensures.1 in rw e.1 tt
-
-pub returns-in_err-write_entry-clause-failed : goal.returns-in_err-write_entry-clause-failed
-returns-in_err-write_entry-clause-failed g c = let e = err_from_is_err_and c.from_residual.result c.from_residual.ensures.1 in rw e.1 c.in_err-write_entry.ensures.failed
-
-pub returns-in_err-write_entry-clause-before : goal.returns-in_err-write_entry-clause-before
-returns-in_err-write_entry-clause-before g c = c.write_entry.ensures.before ∙ c.loop-k.invariant.before
+pub returns : goal.returns
+returns g c = record {
+  ok = let made = c.args.bridges.now in
+      let claims = chosen_claims c.args.cut.now made.places.items made.chosen.items in
+      let all : take c.loop-k.k claims ≡ claims = take_all c.loop-k.k claims (omega (arith, c.loop-k-test.false, c.len-k-end.ensures, made.places.ok.0, claim_number c.args.cut.now made c.requires.bridges)) in
+      subst (λ (l : List Claim). AppendsEntries l (g.W.Write.contents (outlet_writer (cert_outlet c.args.writer.now))) (g.W.Write.contents (outlet_writer (cert_outlet c.loop-k.writer)))) all c.loop-k.invariant.written;
+  err = tt;
+  failed = c.loop-k.invariant.ready.fine;
+  before = c.loop-k.invariant.before;
+}
 
 pub write_entry-requires-clause-entries : goal.write_entry-requires-clause-entries
 write_entry-requires-clause-entries g c = omega (arith, c.loop-k.invariant.left, there g (goal.at.write_entry-requires-clause-entries g c).After-index-in-loop-k)
-
-pub returns-clause-err : goal.returns-clause-err
-returns-clause-err g c = tt
-
-pub returns-clause-failed : goal.returns-clause-failed
-returns-clause-failed g c = c.loop-k.invariant.ready.fine
-
-pub returns-clause-before : goal.returns-clause-before
-returns-clause-before g c = c.loop-k.invariant.before
 
 pub loop-k-init : goal.loop-k-init
 loop-k-init g c = record { written = ([], refl, Appends-nil (g.W.Write.contents (outlet_writer (cert_outlet c.args.writer.now)))); ready = c.requires.ready; left = omega (arith, c.requires.entries); before = refl; room = c.requires.room }

@@ -37,122 +37,76 @@ rows_written g c version =
     let e = g.W.Write.contents (outlet_writer (cert_outlet c.hand_cut.new.sink)) in
     subst (λ (v : Version). HandsOverAll (trellis_of c.args.window.now) (cut_spelling c.args.chosen.now.cost (row_text (version_of (version_number v)))) b e) version c.in-Ok-hand_cut.ensures.ok
 
-pub returns-in_default-clause-err : goal.returns-in_default-clause-err
-returns-in_default-clause-err g c =
-    let x = c.args.chosen.now in
-    let a = g.W.Write.contents (outlet_writer (cert_outlet c.args.writer.now)) in
-    let b = g.W.Write.contents (outlet_writer (cert_outlet c.begin_bridge.new.self)) in
-    failed_write c.in_default.field-0 (has_failed c.args.writer.now) c.requires.ready.fine c.in_default.ensures.failed (λ e.
-    let part = subst (λ n. AppendsPart a b (entry_start c.args.place.cue c.args.place.channel n)) c.length-length.ensures.value (c.in_default.ensures.device e) in
-    cut_in_start c.cut_rows_are_valid.ensures c.args.window.now c.length-length.ensures.limits c.args.place.cue c.args.place.channel x.bits c.requires.chosen.first_least.is_least x.cost c.requires.chosen.cost_is a b (part_is_front a b _ part))
+pub returns-in_default : goal.returns-in_default
+returns-in_default g c = record {
+  ok = tt;
+  err = let x = c.args.chosen.now in
+      let a = g.W.Write.contents (outlet_writer (cert_outlet c.args.writer.now)) in
+      let b = g.W.Write.contents (outlet_writer (cert_outlet c.begin_bridge.new.self)) in
+      failed_write c.in_default.field-0 (has_failed c.args.writer.now) c.requires.ready.fine c.in_default.ensures.failed (λ e.
+      let part = subst (λ n. AppendsPart a b (entry_start c.args.place.cue c.args.place.channel n)) c.length-length.ensures.value (c.in_default.ensures.device e) in
+      cut_in_start c.cut_rows_are_valid.ensures c.args.window.now c.length-length.ensures.limits c.args.place.cue c.args.place.channel x.bits c.requires.chosen.first_least.is_least x.cost c.requires.chosen.cost_is a b (part_is_front a b _ part));
+  ready = tt;
+  left = tt;
+  room = tt;
+  failed = c.in_default.ensures.refused;
+  before = ap (λ (s : Stage). s.failures) c.in_default.ensures.kept;
+}
 
-pub returns-in_default-hand_cut-clause-err : goal.returns-in_default-hand_cut-clause-err
-returns-in_default-hand_cut-clause-err g c =
-    let x = c.args.chosen.now in
-    let b = g.W.Write.contents (outlet_writer (cert_outlet c.begin_bridge.new.self)) in
-    let e = g.W.Write.contents (outlet_writer (cert_outlet c.hand_cut.new.sink)) in
-    let begun = (goal.at.returns-in_default-hand_cut-clause-err g c).In-Ok in
-    let rows = subst (λ (v : Version). HandsOverUpTo (trellis_of c.args.window.now) (cut_spelling x.cost (row_text (version_of (version_number v)))) b e) (version_is g begun) c.in_default-hand_cut.ensures.err in
-    cut_in_rows c.cut_rows_are_valid.ensures c.args.window.now c.length-length.ensures.limits c.args.place.cue c.args.place.channel x.bits c.requires.chosen.first_least.is_least x.cost c.requires.chosen.cost_is _ b e (started g begun) rows
+pub returns-in_default-hand_cut : goal.returns-in_default-hand_cut
+returns-in_default-hand_cut g c = record {
+  ok = tt;
+  err = let x = c.args.chosen.now in
+      let b = g.W.Write.contents (outlet_writer (cert_outlet c.begin_bridge.new.self)) in
+      let e = g.W.Write.contents (outlet_writer (cert_outlet c.hand_cut.new.sink)) in
+      let begun = (goal.at.returns-in_default-hand_cut g c).In-Ok in
+      let rows = subst (λ (v : Version). HandsOverUpTo (trellis_of c.args.window.now) (cut_spelling x.cost (row_text (version_of (version_number v)))) b e) (version_is g begun) c.in_default-hand_cut.ensures.err in
+      cut_in_rows c.cut_rows_are_valid.ensures c.args.window.now c.length-length.ensures.limits c.args.place.cue c.args.place.channel x.bits c.requires.chosen.first_least.is_least x.cost c.requires.chosen.cost_is _ b e (started g begun) rows;
+  ready = tt;
+  left = tt;
+  room = tt;
+  failed = c.in_default-hand_cut.ensures.refused;
+  before = ap (λ (s : Stage). s.failures) (c.hand_cut.ensures.kept ∙ c.in-Ok.ensures.begun);
+}
 
-pub returns-in_default-end_bridge-clause-err : goal.returns-in_default-end_bridge-clause-err
-returns-in_default-end_bridge-clause-err g c =
-    let x = c.args.chosen.now in
-    let e = g.W.Write.contents (outlet_writer (cert_outlet c.hand_cut.new.sink)) in
-    let f = g.W.Write.contents (outlet_writer (cert_outlet c.end_bridge.new.self)) in
-    let at = goal.at.returns-in_default-end_bridge-clause-err g c in
-    failed_write c.in_default-end_bridge.field-0 (has_failed c.hand_cut.new.sink) c.in-Ok-hand_cut.ensures.refused c.in_default-end_bridge.ensures.failed (λ w.
-    cut_in_cost c.cut_rows_are_valid.ensures c.args.window.now c.length-length.ensures.limits c.args.place.cue c.args.place.channel x.bits c.requires.chosen.first_least.is_least x.cost c.requires.chosen.cost_is _ _ e f
-    (started g at.In-Ok) (rows_written g at.In-Ok-hand_cut (version_is g at.In-Ok)) (part_is_front e f _ (c.in_default-end_bridge.ensures.device w)))
+pub returns-in_default-end_bridge : goal.returns-in_default-end_bridge
+returns-in_default-end_bridge g c = record {
+  ok = tt;
+  err = let x = c.args.chosen.now in
+      let e = g.W.Write.contents (outlet_writer (cert_outlet c.hand_cut.new.sink)) in
+      let f = g.W.Write.contents (outlet_writer (cert_outlet c.end_bridge.new.self)) in
+      let at = goal.at.returns-in_default-end_bridge g c in
+      failed_write c.in_default-end_bridge.field-0 (has_failed c.hand_cut.new.sink) c.in-Ok-hand_cut.ensures.refused c.in_default-end_bridge.ensures.failed (λ w.
+      cut_in_cost c.cut_rows_are_valid.ensures c.args.window.now c.length-length.ensures.limits c.args.place.cue c.args.place.channel x.bits c.requires.chosen.first_least.is_least x.cost c.requires.chosen.cost_is _ _ e f
+      (started g at.In-Ok) (rows_written g at.In-Ok-hand_cut (version_is g at.In-Ok)) (part_is_front e f _ (c.in_default-end_bridge.ensures.device w)));
+  ready = tt;
+  left = tt;
+  room = tt;
+  failed = c.in_default-end_bridge.ensures.refused;
+  before = ap (λ (s : Stage). s.failures) (c.in_default-end_bridge.ensures.kept ∙ c.hand_cut.ensures.kept ∙ c.in-Ok.ensures.begun);
+}
 
-pub returns-clause-ok : goal.returns-clause-ok
-returns-clause-ok g c =
-    let x = c.args.chosen.now in
-    let at = goal.at.returns-clause-ok g c in
-    entry_whole c.cut_rows_are_valid.ensures c.args.window.now c.length-length.ensures.limits c.args.place.cue c.args.place.channel x.bits c.requires.chosen.first_least.is_least x.cost c.requires.chosen.cost_is _ _ _ _
-    (started g at.In-Ok) (rows_written g at.In-Ok-hand_cut (version_is g at.In-Ok)) c.in-Ok-end_bridge.ensures.ok
-
-pub returns-in_default-clause-ok : goal.returns-in_default-clause-ok
-returns-in_default-clause-ok g c = tt
-
-pub returns-in_default-clause-ready : goal.returns-in_default-clause-ready
-returns-in_default-clause-ready g c = tt
-
-pub returns-in_default-clause-left : goal.returns-in_default-clause-left
-returns-in_default-clause-left g c = tt
-
-pub returns-in_default-clause-room : goal.returns-in_default-clause-room
-returns-in_default-clause-room g c = tt
-
-pub returns-in_default-clause-failed : goal.returns-in_default-clause-failed
-returns-in_default-clause-failed g c = c.in_default.ensures.refused
-
-pub returns-in_default-clause-before : goal.returns-in_default-clause-before
-returns-in_default-clause-before g c = ap (λ (s : Stage). s.failures) c.in_default.ensures.kept
-
-pub returns-in_default-hand_cut-clause-ok : goal.returns-in_default-hand_cut-clause-ok
-returns-in_default-hand_cut-clause-ok g c = tt
-
-pub returns-in_default-hand_cut-clause-ready : goal.returns-in_default-hand_cut-clause-ready
-returns-in_default-hand_cut-clause-ready g c = tt
-
-pub returns-in_default-hand_cut-clause-left : goal.returns-in_default-hand_cut-clause-left
-returns-in_default-hand_cut-clause-left g c = tt
-
-pub returns-in_default-hand_cut-clause-room : goal.returns-in_default-hand_cut-clause-room
-returns-in_default-hand_cut-clause-room g c = tt
-
-pub returns-in_default-hand_cut-clause-failed : goal.returns-in_default-hand_cut-clause-failed
-returns-in_default-hand_cut-clause-failed g c = c.in_default-hand_cut.ensures.refused
-
-pub returns-in_default-hand_cut-clause-before : goal.returns-in_default-hand_cut-clause-before
-returns-in_default-hand_cut-clause-before g c = ap (λ (s : Stage). s.failures) (c.hand_cut.ensures.kept ∙ c.in-Ok.ensures.begun)
-
-pub returns-in_default-end_bridge-clause-ok : goal.returns-in_default-end_bridge-clause-ok
-returns-in_default-end_bridge-clause-ok g c = tt
-
-pub returns-in_default-end_bridge-clause-ready : goal.returns-in_default-end_bridge-clause-ready
-returns-in_default-end_bridge-clause-ready g c = tt
-
-pub returns-in_default-end_bridge-clause-left : goal.returns-in_default-end_bridge-clause-left
-returns-in_default-end_bridge-clause-left g c = tt
-
-pub returns-in_default-end_bridge-clause-room : goal.returns-in_default-end_bridge-clause-room
-returns-in_default-end_bridge-clause-room g c = tt
-
-pub returns-in_default-end_bridge-clause-failed : goal.returns-in_default-end_bridge-clause-failed
-returns-in_default-end_bridge-clause-failed g c = c.in_default-end_bridge.ensures.refused
-
-pub returns-in_default-end_bridge-clause-before : goal.returns-in_default-end_bridge-clause-before
-returns-in_default-end_bridge-clause-before g c = ap (λ (s : Stage). s.failures) (c.in_default-end_bridge.ensures.kept ∙ c.hand_cut.ensures.kept ∙ c.in-Ok.ensures.begun)
-
-pub returns-clause-err : goal.returns-clause-err
-returns-clause-err g c = tt
-
-pub returns-clause-ready : goal.returns-clause-ready
-returns-clause-ready g c =
+pub returns : goal.returns
+returns g c =
     let s = c.in-Ok-end_bridge.ensures.ended ∙ ap (λ (s : Stage). record s { is_open = false }) (c.hand_cut.ensures.kept ∙ c.in-Ok.ensures.begun) in
     record {
-      version_is = ap (λ (s : Stage). s.version) s ∙ c.requires.ready.version_is;
-      weights_are = ap (λ (s : Stage). s.weights) s ∙ c.requires.ready.weights_are;
-      begun = ap (λ (s : Stage). s.has_head) s ∙ c.requires.ready.begun;
-      closed = ap (λ (s : Stage). s.is_open) s;
-      fine = c.in-Ok-end_bridge.ensures.refused;
+      ok = let x = c.args.chosen.now in
+          let at = goal.at.returns g c in
+          entry_whole c.cut_rows_are_valid.ensures c.args.window.now c.length-length.ensures.limits c.args.place.cue c.args.place.channel x.bits c.requires.chosen.first_least.is_least x.cost c.requires.chosen.cost_is _ _ _ _
+          (started g at.In-Ok) (rows_written g at.In-Ok-hand_cut (version_is g at.In-Ok)) c.in-Ok-end_bridge.ensures.ok;
+      err = tt;
+      ready = record {
+        version_is = ap (λ (s : Stage). s.version) s ∙ c.requires.ready.version_is;
+        weights_are = ap (λ (s : Stage). s.weights) s ∙ c.requires.ready.weights_are;
+        begun = ap (λ (s : Stage). s.has_head) s ∙ c.requires.ready.begun;
+        closed = ap (λ (s : Stage). s.is_open) s;
+        fine = c.in-Ok-end_bridge.ensures.refused;
+      };
+      left = omega (arith, ap (λ (s : Stage). s.entries_left) s, c.requires.entries);
+      room = subst (λ n. HasBuffers (2 ^ n) c.hand_cut.new.room) (sym (width_is c.args.window.now c.length-length.ensures.limits)) c.in-Ok-hand_cut.ensures.buffers;
+      failed = c.in-Ok-end_bridge.ensures.refused;
+      before = ap (λ (s : Stage). s.failures) (c.in-Ok-end_bridge.ensures.ended ∙ ap (λ (s : Stage). record s { is_open = false }) (c.hand_cut.ensures.kept ∙ c.in-Ok.ensures.begun));
     }
-
-pub returns-clause-left : goal.returns-clause-left
-returns-clause-left g c =
-    let s = c.in-Ok-end_bridge.ensures.ended ∙ ap (λ (s : Stage). record s { is_open = false }) (c.hand_cut.ensures.kept ∙ c.in-Ok.ensures.begun) in
-    omega (arith, ap (λ (s : Stage). s.entries_left) s, c.requires.entries)
-
-pub returns-clause-room : goal.returns-clause-room
-returns-clause-room g c = subst (λ n. HasBuffers (2 ^ n) c.hand_cut.new.room) (sym (width_is c.args.window.now c.length-length.ensures.limits)) c.in-Ok-hand_cut.ensures.buffers
-
-pub returns-clause-failed : goal.returns-clause-failed
-returns-clause-failed g c = c.in-Ok-end_bridge.ensures.refused
-
-pub returns-clause-before : goal.returns-clause-before
-returns-clause-before g c = ap (λ (s : Stage). s.failures) (c.in-Ok-end_bridge.ensures.ended ∙ ap (λ (s : Stage). record s { is_open = false }) (c.hand_cut.ensures.kept ∙ c.in-Ok.ensures.begun))
 
 pub hand_cut-requires-clause-buffers : goal.hand_cut-requires-clause-buffers
 hand_cut-requires-clause-buffers g c = subst (λ n. HasBuffers (2 ^ n) c.args.pass.now) (width_is c.args.window.now c.length-length.ensures.limits) c.requires.room

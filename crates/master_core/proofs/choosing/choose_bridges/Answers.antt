@@ -56,8 +56,23 @@ loop-k-preserved c =
       windows_room = omega (arith, c.push_reserved.ensures.capacity, so_far.windows_room);
     }
 
-pub returns-clause-total : goal.returns-clause-total
-returns-clause-total c = c.loop-k.invariant.total
+pub returns : goal.returns
+returns c = record {
+  bridges = let cut = c.args.cut.now in
+      let ps = c.in_ok-places.places.items in
+      let known = c.in_ok-places.ensures in
+      let so_far = c.loop-k.invariant in
+      let all : take c.loop-k.k ps ≡ ps = take_all c.loop-k.k ps (omega (arith, c.loop-k-test.false, c.len-k-end.ensures)) in
+      record {
+        places_are = known.places;
+        each_there = known.each;
+        few = known.few;
+        windows_are = so_far.windows ∙ ap (map (window_at cut)) all;
+        within = so_far.within;
+        chosen = subst (λ (l : List BridgePlace). AllZip (IsChosenAt cut) l c.loop-k.chosen.items) (all ∙ known.places) so_far.chosen;
+      };
+  total = c.loop-k.invariant.total;
+}
 
 pub returns-in_err-places : goal.returns-in_err-places
 returns-in_err-places c = let e = err_from_is_err_and c.from_residual.result c.from_residual.ensures.1 in rw e.1 (record { bridges = tt; total = tt })
@@ -70,22 +85,6 @@ returns-in_err-chosen c = let e = err_from_is_err_and c.from_residual-in_err-cho
 
 pub returns-in_err-window : goal.returns-in_err-window
 returns-in_err-window c = let e = err_from_is_err_and c.from_residual-in_err-window.result c.from_residual-in_err-window.ensures.1 in rw e.1 (record { bridges = tt; total = tt })
-
-pub returns-clause-bridges : goal.returns-clause-bridges
-returns-clause-bridges c =
-    let cut = c.args.cut.now in
-    let ps = c.in_ok-places.places.items in
-    let known = c.in_ok-places.ensures in
-    let so_far = c.loop-k.invariant in
-    let all : take c.loop-k.k ps ≡ ps = take_all c.loop-k.k ps (omega (arith, c.loop-k-test.false, c.len-k-end.ensures)) in
-    record {
-      places_are = known.places;
-      each_there = known.each;
-      few = known.few;
-      windows_are = so_far.windows ∙ ap (map (window_at cut)) all;
-      within = so_far.within;
-      chosen = subst (λ (l : List BridgePlace). AllZip (IsChosenAt cut) l c.loop-k.chosen.items) (all ∙ known.places) so_far.chosen;
-    }
 
 pub overflow_add-total : goal.overflow_add-total
 overflow_add-total c = omega (arith, c.loop-k.invariant.bound, c.from-total.ensures, c.len-k-end.ensures)

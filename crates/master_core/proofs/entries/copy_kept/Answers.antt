@@ -13,11 +13,13 @@ kept_in-held-requires c =
 pub push_range-requires : goal.push_range-requires
 push_range-requires c = record { in_order = omega arith; in_source = omega (arith, c.len.ensures.value); in_limit = omega (arith, c.len.ensures.in_limit, ap length c.new-bits.ensures) }
 
-pub returns-in_err-push_range-clause-bits : goal.returns-in_err-push_range-clause-bits
-returns-in_err-push_range-clause-bits c = let e = err_from_is_err_and c.from_residual.result c.from_residual.ensures.1 in rw e.1 tt
-
-pub returns-in_err-push_range-clause-long : goal.returns-in_err-push_range-clause-long
-returns-in_err-push_range-clause-long c = let e = err_from_is_err_and c.from_residual.result c.from_residual.ensures.1 in rw e.1 tt
+pub returns-in_err-push_range : goal.returns-in_err-push_range
+returns-in_err-push_range c =
+    let e = err_from_is_err_and c.from_residual.result c.from_residual.ensures.1 in
+    record {
+      bits = rw e.1 tt;
+      long = rw e.1 tt;
+    }
 
 -- the bits that were kept are copied whole
 copied : (c : In_ok-push_range) → c.push_range.new.self ≡ kept_at (rows_of c.args.kept.now) c.args.place.channel c.args.place.cue
@@ -26,8 +28,8 @@ copied c =
     c.in_ok-push_range.ensures.ok ∙ ap (λ (l : List Bool). l ++ slice_range held 0 c.len.result) c.new-bits.ensures
     ∙ ap (λ n. slice_range held 0 n) c.len.ensures.value ∙ slice_all held ∙ c.kept_in-held.ensures
 
-pub returns-clause-bits : goal.returns-clause-bits
-returns-clause-bits c = copied (goal.at.returns-clause-bits c).In_ok-push_range
-
-pub returns-clause-long : goal.returns-clause-long
-returns-clause-long c = ap length (copied (goal.at.returns-clause-long c).In_ok-push_range) ∙ c.requires.kept.long c.args.place.channel c.args.place.cue c.requires.place.channel_there c.requires.place.cue_there
+pub returns : goal.returns
+returns c = record {
+  bits = copied (goal.at.returns c).In_ok-push_range;
+  long = ap length (copied (goal.at.returns c).In_ok-push_range) ∙ c.requires.kept.long c.args.place.channel c.args.place.cue c.requires.place.channel_there c.requires.place.cue_there;
+}

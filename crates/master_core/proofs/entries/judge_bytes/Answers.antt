@@ -26,35 +26,47 @@ all_shown g c zs bits =
     let are = same_claims cut c.args.source zs c.args.places.now c.requires.places c.requires.each bits in
     claims_at cut zs (claim_from cut c.args.source) c.args.places.now are c.judge_head.new.reader.version _ _ c.in_ok-verdict.verdict (Accepted c.in-Accepted.total) c.in-Accepted.is c.in_ok-verdict.ensures.judged
 
-pub returns-in-Some-clause-judged : goal.returns-in-Some-clause-judged
-returns-in-Some-clause-judged g c = λ zs bits.
-    let cut = c.args.cut.now in
-    let f = claim_from cut c.args.source in
-    let are = same_claims cut c.args.source zs c.args.places.now c.requires.places c.requires.each bits in
-    let from = g.R.Read.remaining (inlet_reader (cert_inlet c.args.reader.now)) in
-    let here = g.R.Read.remaining (inlet_reader (cert_inlet c.judge_head.new.reader)) in
-    let reason = c.in-Some.reason in
-    head_rejected cut zs c.read_is_cert.ensures.head c.judge_head.new.reader.version from here reason (head_at cut zs f c.args.places.now are c.judge_head.new.reader.version from here c.in_ok-reason.field-0 (Some reason) c.in-Some.is c.in_ok-reason.ensures.judged)
+pub returns-in-Some : goal.returns-in-Some
+returns-in-Some g c = record {
+  judged = λ zs bits.
+      let cut = c.args.cut.now in
+      let f = claim_from cut c.args.source in
+      let are = same_claims cut c.args.source zs c.args.places.now c.requires.places c.requires.each bits in
+      let from = g.R.Read.remaining (inlet_reader (cert_inlet c.args.reader.now)) in
+      let here = g.R.Read.remaining (inlet_reader (cert_inlet c.judge_head.new.reader)) in
+      let reason = c.in-Some.reason in
+      head_rejected cut zs c.read_is_cert.ensures.head c.judge_head.new.reader.version from here reason (head_at cut zs f c.args.places.now are c.judge_head.new.reader.version from here c.in_ok-reason.field-0 (Some reason) c.in-Some.is c.in_ok-reason.ensures.judged);
+  failures = omega (arith, c.in_ok-reason.ensures.failures);
+}
 
-pub returns-in-Rejected-clause-judged : goal.returns-in-Rejected-clause-judged
-returns-in-Rejected-clause-judged g c = λ zs bits.
-    let cut = c.args.cut.now in
-    let are = same_claims cut c.args.source zs c.args.places.now c.requires.places c.requires.each bits in
-    let here = g.R.Read.remaining (inlet_reader (cert_inlet c.judge_head.new.reader)) in
-    let to = g.R.Read.remaining (inlet_reader (cert_inlet c.judge_entries.new.reader)) in
-    let reason = c.in-Rejected.reason in
-    let wrong = claims_at cut zs (claim_from cut c.args.source) c.args.places.now are c.judge_head.new.reader.version here to c.in_ok-verdict.verdict (Rejected reason) c.in-Rejected.is c.in_ok-verdict.ensures.judged in
-    entries_rejected cut zs c.judge_head.new.reader.version _ here (head_read g (goal.at.returns-in-Rejected-clause-judged g c).In_default zs bits) c.read_is_cert.ensures.only to reason wrong
+pub returns-in-Rejected : goal.returns-in-Rejected
+returns-in-Rejected g c = record {
+  judged = λ zs bits.
+      let cut = c.args.cut.now in
+      let are = same_claims cut c.args.source zs c.args.places.now c.requires.places c.requires.each bits in
+      let here = g.R.Read.remaining (inlet_reader (cert_inlet c.judge_head.new.reader)) in
+      let to = g.R.Read.remaining (inlet_reader (cert_inlet c.judge_entries.new.reader)) in
+      let reason = c.in-Rejected.reason in
+      let wrong = claims_at cut zs (claim_from cut c.args.source) c.args.places.now are c.judge_head.new.reader.version here to c.in_ok-verdict.verdict (Rejected reason) c.in-Rejected.is c.in_ok-verdict.ensures.judged in
+      entries_rejected cut zs c.judge_head.new.reader.version _ here (head_read g (goal.at.returns-in-Rejected g c).In_default zs bits) c.read_is_cert.ensures.only to reason wrong;
+  failures = omega (arith, c.in_ok-verdict.ensures.failures, c.in_ok-reason.ensures.failures);
+}
 
-pub returns-then-branch-clause-judged : goal.returns-then-branch-clause-judged
-returns-then-branch-clause-judged g c = λ zs bits.
-    let at = goal.at.returns-then-branch-clause-judged g c in
-    more_rejected c.args.cut.now zs c.judge_head.new.reader.version _ _ (head_read g at.In_default zs bits) _ c.in-Accepted.total (all_shown g at.In-Accepted zs bits) c.read_is_cert.ensures.only c.cert_goes_on.ensures.end (c.in_ok-has_more-in-Accepted.ensures.more c.if-branch.true)
+pub returns-then-branch : goal.returns-then-branch
+returns-then-branch g c = record {
+  judged = λ zs bits.
+      let at = goal.at.returns-then-branch g c in
+      more_rejected c.args.cut.now zs c.judge_head.new.reader.version _ _ (head_read g at.In_default zs bits) _ c.in-Accepted.total (all_shown g at.In-Accepted zs bits) c.read_is_cert.ensures.only c.cert_goes_on.ensures.end (c.in_ok-has_more-in-Accepted.ensures.more c.if-branch.true);
+  failures = omega (arith, c.in_ok-has_more-in-Accepted.ensures.failures, c.in_ok-verdict.ensures.failures, c.in_ok-reason.ensures.failures);
+}
 
-pub returns-else-branch-clause-judged : goal.returns-else-branch-clause-judged
-returns-else-branch-clause-judged g c = λ zs bits.
-    let at = goal.at.returns-else-branch-clause-judged g c in
-    all_accepted c.args.cut.now zs c.judge_head.new.reader.version _ _ (head_read g at.In_default zs bits) _ c.in-Accepted.total (all_shown g at.In-Accepted zs bits) c.read_is_cert.ensures.read (c.in_ok-has_more-in-Accepted.ensures.end c.if-branch.false)
+pub returns-else-branch : goal.returns-else-branch
+returns-else-branch g c = record {
+  judged = λ zs bits.
+      let at = goal.at.returns-else-branch g c in
+      all_accepted c.args.cut.now zs c.judge_head.new.reader.version _ _ (head_read g at.In_default zs bits) _ c.in-Accepted.total (all_shown g at.In-Accepted zs bits) c.read_is_cert.ensures.read (c.in_ok-has_more-in-Accepted.ensures.end c.if-branch.false);
+  failures = omega (arith, c.in_ok-has_more-in-Accepted.ensures.failures, c.in_ok-verdict.ensures.failures, c.in_ok-reason.ensures.failures);
+}
 
 pub judge_head-requires : goal.judge_head-requires
 judge_head-requires g c = record { ready = c.requires.ready; few = c.requires.few }
@@ -69,32 +81,26 @@ judge_entries-requires g c = record {
   starts = c.requires.starts;
 }
 
-pub returns-in_err-reason-clause-judged : goal.returns-in_err-reason-clause-judged
-returns-in_err-reason-clause-judged g c = λ zs bits. let e = err_from_is_err_and c.from_residual.result c.from_residual.ensures.1 in rw e.1 tt
+pub returns-in_err-reason : goal.returns-in_err-reason
+returns-in_err-reason g c =
+    let e = err_from_is_err_and c.from_residual.result c.from_residual.ensures.1 in
+    record {
+      judged = λ zs bits. rw e.1 tt;
+      failures = rw (e.1, e.2) (omega (arith, c.in_err-reason.ensures.failures));
+    }
 
-pub returns-in_err-reason-clause-failures : goal.returns-in_err-reason-clause-failures
-returns-in_err-reason-clause-failures g c = let e = err_from_is_err_and c.from_residual.result c.from_residual.ensures.1 in rw (e.1, e.2) (omega (arith, c.in_err-reason.ensures.failures))
+pub returns-in_err-verdict : goal.returns-in_err-verdict
+returns-in_err-verdict g c =
+    let e = err_from_is_err_and c.from_residual-in_err-verdict.result c.from_residual-in_err-verdict.ensures.1 in
+    record {
+      judged = λ zs bits. rw e.1 tt;
+      failures = rw (e.1, e.2) (omega (arith, c.in_err-verdict.ensures.failures, c.in_ok-reason.ensures.failures));
+    }
 
-pub returns-in_err-verdict-clause-judged : goal.returns-in_err-verdict-clause-judged
-returns-in_err-verdict-clause-judged g c = λ zs bits. let e = err_from_is_err_and c.from_residual-in_err-verdict.result c.from_residual-in_err-verdict.ensures.1 in rw e.1 tt
-
-pub returns-in_err-verdict-clause-failures : goal.returns-in_err-verdict-clause-failures
-returns-in_err-verdict-clause-failures g c = let e = err_from_is_err_and c.from_residual-in_err-verdict.result c.from_residual-in_err-verdict.ensures.1 in rw (e.1, e.2) (omega (arith, c.in_err-verdict.ensures.failures, c.in_ok-reason.ensures.failures))
-
-pub returns-in_err-has_more-in-Accepted-clause-judged : goal.returns-in_err-has_more-in-Accepted-clause-judged
-returns-in_err-has_more-in-Accepted-clause-judged g c = λ zs bits. let e = err_from_is_err_and c.from_residual-in_err-has_more-in-Accepted.result c.from_residual-in_err-has_more-in-Accepted.ensures.1 in rw e.1 tt
-
-pub returns-in_err-has_more-in-Accepted-clause-failures : goal.returns-in_err-has_more-in-Accepted-clause-failures
-returns-in_err-has_more-in-Accepted-clause-failures g c = let e = err_from_is_err_and c.from_residual-in_err-has_more-in-Accepted.result c.from_residual-in_err-has_more-in-Accepted.ensures.1 in rw (e.1, e.2) (omega (arith, c.in_err-has_more-in-Accepted.ensures.failures, c.in_ok-verdict.ensures.failures, c.in_ok-reason.ensures.failures))
-
-pub returns-in-Some-clause-failures : goal.returns-in-Some-clause-failures
-returns-in-Some-clause-failures g c = omega (arith, c.in_ok-reason.ensures.failures)
-
-pub returns-in-Rejected-clause-failures : goal.returns-in-Rejected-clause-failures
-returns-in-Rejected-clause-failures g c = omega (arith, c.in_ok-verdict.ensures.failures, c.in_ok-reason.ensures.failures)
-
-pub returns-then-branch-clause-failures : goal.returns-then-branch-clause-failures
-returns-then-branch-clause-failures g c = omega (arith, c.in_ok-has_more-in-Accepted.ensures.failures, c.in_ok-verdict.ensures.failures, c.in_ok-reason.ensures.failures)
-
-pub returns-else-branch-clause-failures : goal.returns-else-branch-clause-failures
-returns-else-branch-clause-failures g c = omega (arith, c.in_ok-has_more-in-Accepted.ensures.failures, c.in_ok-verdict.ensures.failures, c.in_ok-reason.ensures.failures)
+pub returns-in_err-has_more-in-Accepted : goal.returns-in_err-has_more-in-Accepted
+returns-in_err-has_more-in-Accepted g c =
+    let e = err_from_is_err_and c.from_residual-in_err-has_more-in-Accepted.result c.from_residual-in_err-has_more-in-Accepted.ensures.1 in
+    record {
+      judged = λ zs bits. rw e.1 tt;
+      failures = rw (e.1, e.2) (omega (arith, c.in_err-has_more-in-Accepted.ensures.failures, c.in_ok-verdict.ensures.failures, c.in_ok-reason.ensures.failures));
+    }

@@ -12,20 +12,22 @@ use Rattle.master_core.specs.Standing.{claim_from}
 use Rattle.master_core.proofs.EntryLaws.{lacks_one, shown_more}
 use Rattle.master_core.proofs.entries.judge_entries.Goals as goal
 
-pub returns-in-Rejected-clause-judged : goal.returns-in-Rejected-clause-judged
-returns-in-Rejected-clause-judged g c =
-    let f = claim_from c.args.cut.now c.args.source in
-    let places = c.args.places.now in
-    let v = c.args.reader.now.version in
-    let k = c.loop-k.k in
-    let claim = f (get_or places k (record { cue = 0; channel = 0 })) in
-    let from = g.R.Read.remaining (inlet_reader (cert_inlet c.args.reader.now)) in
-    let here = g.R.Read.remaining (inlet_reader (cert_inlet c.loop-k.reader)) in
-    let to = g.R.Read.remaining (inlet_reader (cert_inlet c.judge_entry.new.reader)) in
-    let lt : k < length (map f places) = omega (arith, length-map places f) in
-    let is : get_or (map f places) k claim ≡ claim = get_or-map f places k (record { cue = 0; channel = 0 }) claim (omega arith) in
-    let lacks : LacksClaim v claim here c.in-Rejected.reason = subst (λ x. JudgesClaim v claim here to x) c.in-Rejected.is (subst (λ x. JudgesClaim x claim here to c.in_ok-cost.field-0) c.loop-k.invariant.version c.in_ok-cost.ensures.judged) in
-    lacks_one v (map f places) k claim lt is from here c.loop-k.invariant.entries c.cert_goes_on.ensures.next c.in-Rejected.reason lacks
+pub returns-in-Rejected : goal.returns-in-Rejected
+returns-in-Rejected g c = record {
+  judged = let f = claim_from c.args.cut.now c.args.source in
+      let places = c.args.places.now in
+      let v = c.args.reader.now.version in
+      let k = c.loop-k.k in
+      let claim = f (get_or places k (record { cue = 0; channel = 0 })) in
+      let from = g.R.Read.remaining (inlet_reader (cert_inlet c.args.reader.now)) in
+      let here = g.R.Read.remaining (inlet_reader (cert_inlet c.loop-k.reader)) in
+      let to = g.R.Read.remaining (inlet_reader (cert_inlet c.judge_entry.new.reader)) in
+      let lt : k < length (map f places) = omega (arith, length-map places f) in
+      let is : get_or (map f places) k claim ≡ claim = get_or-map f places k (record { cue = 0; channel = 0 }) claim (omega arith) in
+      let lacks : LacksClaim v claim here c.in-Rejected.reason = subst (λ x. JudgesClaim v claim here to x) c.in-Rejected.is (subst (λ x. JudgesClaim x claim here to c.in_ok-cost.field-0) c.loop-k.invariant.version c.in_ok-cost.ensures.judged) in
+      lacks_one v (map f places) k claim lt is from here c.loop-k.invariant.entries c.cert_goes_on.ensures.next c.in-Rejected.reason lacks;
+  failures = omega (arith, c.in_ok-cost.ensures.failures, c.loop-k.invariant.failures);
+}
 
 pub loop-k-preserved : goal.loop-k-preserved
 loop-k-preserved g c =
@@ -51,22 +53,27 @@ loop-k-preserved g c =
       failures = omega (arith, c.in_ok-cost.ensures.failures, so.failures);
     }
 
-pub returns-clause-judged : goal.returns-clause-judged
-returns-clause-judged g c =
-    let f = claim_from c.args.cut.now c.args.source in
-    let places = c.args.places.now in
-    let from = g.R.Read.remaining (inlet_reader (cert_inlet c.args.reader.now)) in
-    let here = g.R.Read.remaining (inlet_reader (cert_inlet c.loop-k.reader)) in
-    let so = c.loop-k.invariant in
-    let all : take c.loop-k.k (map f places) ≡ map f places = take_all c.loop-k.k (map f places) (omega (arith, length-map places f)) in
-    record {
-      entries = subst (λ l. ReadsEntries c.args.reader.now.version l from here) all so.entries;
-      cost_is = subst (λ l. c.loop-k.total ≡ sum_by claim_cost l) all so.cost_is;
-      least = subst (λ l. All IsLeastClaim l) all so.least;
-    }
+pub returns : goal.returns
+returns g c = record {
+  judged = let f = claim_from c.args.cut.now c.args.source in
+      let places = c.args.places.now in
+      let from = g.R.Read.remaining (inlet_reader (cert_inlet c.args.reader.now)) in
+      let here = g.R.Read.remaining (inlet_reader (cert_inlet c.loop-k.reader)) in
+      let so = c.loop-k.invariant in
+      let all : take c.loop-k.k (map f places) ≡ map f places = take_all c.loop-k.k (map f places) (omega (arith, length-map places f)) in
+      record {
+        entries = subst (λ l. ReadsEntries c.args.reader.now.version l from here) all so.entries;
+        cost_is = subst (λ l. c.loop-k.total ≡ sum_by claim_cost l) all so.cost_is;
+        least = subst (λ l. All IsLeastClaim l) all so.least;
+      };
+  failures = omega (arith, c.loop-k.invariant.failures);
+}
 
-pub returns-in_err-cost-clause-judged : goal.returns-in_err-cost-clause-judged
-returns-in_err-cost-clause-judged g c = IfOk-from_err c.from_residual.result _ c.from_residual.ensures.0
+pub returns-in_err-cost : goal.returns-in_err-cost
+returns-in_err-cost g c = record {
+  judged = IfOk-from_err c.from_residual.result _ c.from_residual.ensures.0;
+  failures = let e = err_from_is_err_and c.from_residual.result c.from_residual.ensures.1 in rw (e.1, e.2) (omega (arith, c.in_err-cost.ensures.failures, c.loop-k.invariant.failures));
+}
 
 pub offset_bounds-places-k : goal.offset_bounds-places-k
 offset_bounds-places-k g c = omega (arith, c.loop-k-test.true, c.requires.few)
@@ -85,12 +92,3 @@ judge_entry-requires g c = record {
 
 pub overflow_add-total : goal.overflow_add-total
 overflow_add-total g c = omega (arith, c.loop-k.invariant.bound, c.from-total.ensures, c.loop-k-test.true, c.requires.few)
-
-pub returns-in_err-cost-clause-failures : goal.returns-in_err-cost-clause-failures
-returns-in_err-cost-clause-failures g c = let e = err_from_is_err_and c.from_residual.result c.from_residual.ensures.1 in rw (e.1, e.2) (omega (arith, c.in_err-cost.ensures.failures, c.loop-k.invariant.failures))
-
-pub returns-in-Rejected-clause-failures : goal.returns-in-Rejected-clause-failures
-returns-in-Rejected-clause-failures g c = omega (arith, c.in_ok-cost.ensures.failures, c.loop-k.invariant.failures)
-
-pub returns-clause-failures : goal.returns-clause-failures
-returns-clause-failures g c = omega (arith, c.loop-k.invariant.failures)

@@ -24,52 +24,43 @@ check_bits-requires g c =
       bits = c.in_ok-bits.ensures.long ∙ sym levels;
     }
 
-pub returns-clause-judged : goal.returns-clause-judged
-returns-clause-judged g c =
-    let cut = c.args.cut.now in
-    let place = c.args.place in
-    let from = g.R.Read.remaining (inlet_reader (cert_inlet c.args.reader.now)) in
-    let to = g.R.Read.remaining (inlet_reader (cert_inlet c.check_bits.new.reader)) in
-    let window = c.in_ok-window.window in
-    let bits = c.in_ok-bits.bits in
-    let same = claim_is place.cue place.channel window (cuts.window cut place.channel place.cue) bits (standing_bits cut c.args.source place.channel place.cue) c.in_ok-window.ensures c.in_ok-bits.ensures.bits in
-    subst (λ claim. IfOk c.check_bits.result (JudgesClaim c.args.reader.now.version claim from to)) same c.check_bits.ensures.judged
+pub returns : goal.returns
+returns g c = record {
+  judged = let cut = c.args.cut.now in
+      let place = c.args.place in
+      let from = g.R.Read.remaining (inlet_reader (cert_inlet c.args.reader.now)) in
+      let to = g.R.Read.remaining (inlet_reader (cert_inlet c.check_bits.new.reader)) in
+      let window = c.in_ok-window.window in
+      let bits = c.in_ok-bits.bits in
+      let same = claim_is place.cue place.channel window (cuts.window cut place.channel place.cue) bits (standing_bits cut c.args.source place.channel place.cue) c.in_ok-window.ensures c.in_ok-bits.ensures.bits in
+      subst (λ claim. IfOk c.check_bits.result (JudgesClaim c.args.reader.now.version claim from to)) same c.check_bits.ensures.judged;
+  failures = c.check_bits.ensures.failures;
+  read = c.check_bits.ensures.read;
+  version = c.check_bits.ensures.version;
+}
 
-pub returns-in_err-window-clause-judged : goal.returns-in_err-window-clause-judged
-returns-in_err-window-clause-judged g c = let e = err_from_is_err_and c.from_residual.result c.from_residual.ensures.1 in rw e.1 tt
+pub returns-in_err-window : goal.returns-in_err-window
+returns-in_err-window g c =
+    let e = err_from_is_err_and c.from_residual.result c.from_residual.ensures.1 in
+    record {
+      judged = rw e.1 tt;
+      failures = rw (e.1, e.2) (omega arith);
+      read = rw e.1 tt;
+      version = rw e.1 tt;
+    }
 
-pub returns-in_err-window-clause-read : goal.returns-in_err-window-clause-read
-returns-in_err-window-clause-read g c = let e = err_from_is_err_and c.from_residual.result c.from_residual.ensures.1 in rw e.1 tt
-
-pub returns-in_err-window-clause-version : goal.returns-in_err-window-clause-version
-returns-in_err-window-clause-version g c = let e = err_from_is_err_and c.from_residual.result c.from_residual.ensures.1 in rw e.1 tt
-
-pub returns-in_err-window-clause-failures : goal.returns-in_err-window-clause-failures
-returns-in_err-window-clause-failures g c = let e = err_from_is_err_and c.from_residual.result c.from_residual.ensures.1 in rw (e.1, e.2) (omega arith)
-
-pub returns-in_err-bits-clause-judged : goal.returns-in_err-bits-clause-judged
-returns-in_err-bits-clause-judged g c = let e = err_from_is_err_and c.from_residual-in_err-bits.result c.from_residual-in_err-bits.ensures.1 in rw e.1 tt
-
-pub returns-in_err-bits-clause-read : goal.returns-in_err-bits-clause-read
-returns-in_err-bits-clause-read g c = let e = err_from_is_err_and c.from_residual-in_err-bits.result c.from_residual-in_err-bits.ensures.1 in rw e.1 tt
-
-pub returns-in_err-bits-clause-version : goal.returns-in_err-bits-clause-version
-returns-in_err-bits-clause-version g c = let e = err_from_is_err_and c.from_residual-in_err-bits.result c.from_residual-in_err-bits.ensures.1 in rw e.1 tt
-
-pub returns-in_err-bits-clause-failures : goal.returns-in_err-bits-clause-failures
-returns-in_err-bits-clause-failures g c = let e = err_from_is_err_and c.from_residual-in_err-bits.result c.from_residual-in_err-bits.ensures.1 in rw (e.1, e.2) (omega arith)
+pub returns-in_err-bits : goal.returns-in_err-bits
+returns-in_err-bits g c =
+    let e = err_from_is_err_and c.from_residual-in_err-bits.result c.from_residual-in_err-bits.ensures.1 in
+    record {
+      judged = rw e.1 tt;
+      failures = rw (e.1, e.2) (omega arith);
+      read = rw e.1 tt;
+      version = rw e.1 tt;
+    }
 
 pub window-requires : goal.window-requires
 window-requires g c = c.requires.place
 
 pub bits_at-requires : goal.bits_at-requires
 bits_at-requires g c = record { source = c.requires.source; place = c.requires.place; starts = c.requires.starts }
-
-pub returns-clause-failures : goal.returns-clause-failures
-returns-clause-failures g c = c.check_bits.ensures.failures
-
-pub returns-clause-read : goal.returns-clause-read
-returns-clause-read g c = c.check_bits.ensures.read
-
-pub returns-clause-version : goal.returns-clause-version
-returns-clause-version g c = c.check_bits.ensures.version

@@ -25,15 +25,14 @@ push_standing-requires-clause-in_limit c =
     let fits = fits_at cut c.can_cut.ensures c.args.place.cue (omega (arith, c.requires.place.cue_there)) in
     omega (arith, fits.bridge_fits, ap length c.new-bits.ensures)
 
-pub returns-clause-bits : goal.returns-clause-bits
-returns-clause-bits c =
-    let channels = c.args.channels.now in
-    let there : c.args.place.channel < length channels = omega (arith, c.requires.shape.as_many, c.requires.place.channel_there) in
-    let channel = c.index-channels-channel.is ∙ get_or_default channels c.args.place.channel c.index-channels-channel.result [] there in
-    c.in_ok-push_standing.ensures.appended ∙ ap₂ (λ bits xs. bits ++ bridge_bits c.args.cut.now xs c.args.place.cue) c.new-bits.ensures channel
-
-pub returns-clause-long : goal.returns-clause-long
-returns-clause-long c = omega (arith, c.in_ok-push_standing.ensures.long, ap length c.new-bits.ensures)
+pub returns : goal.returns
+returns c = record {
+  bits = let channels = c.args.channels.now in
+      let there : c.args.place.channel < length channels = omega (arith, c.requires.shape.as_many, c.requires.place.channel_there) in
+      let channel = c.index-channels-channel.is ∙ get_or_default channels c.args.place.channel c.index-channels-channel.result [] there in
+      c.in_ok-push_standing.ensures.appended ∙ ap₂ (λ bits xs. bits ++ bridge_bits c.args.cut.now xs c.args.place.cue) c.new-bits.ensures channel;
+  long = omega (arith, c.in_ok-push_standing.ensures.long, ap length c.new-bits.ensures);
+}
 
 pub returns-in_err-push_standing : goal.returns-in_err-push_standing
 returns-in_err-push_standing c = let e = err_from_is_err_and c.from_residual.result c.from_residual.ensures.1 in rw e.1 (record { bits = tt; long = tt })

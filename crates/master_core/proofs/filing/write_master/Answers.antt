@@ -13,13 +13,19 @@ use Rattle.master_core.proofs.filing.write_master.Given.{Over}
 use Rattle.master_core.proofs.filing.write_master.Goals as goal
 use Rattle.master_core.proofs.filing.write_master.Goals.{After-deref-2, In_ok-put_all, In_ok-write_sound}
 
-pub returns-in_err-put_all-clause-front : goal.returns-in_err-put_all-clause-front
-returns-in_err-put_all-clause-front g c =
-    let cut = c.args.cut.now in
-    let a0 = g.W.Write.contents (outlet_writer c.args.outlet.now) in
-    let a1 = g.W.Write.contents (outlet_writer c.put_all.new.self) in
-    any_err c.from_residual.result (head_front cut c.args.form c.written_in_parts.ensures c.args.ends.now c.requires.ends c.has_one_best.ensures (first_shape cut c.can_cut.ensures).some_channel a0 a1
-    (subst (AppendsPart a0 a1) c.deref-3.ensures.value c.in_err-put_all.ensures.err))
+pub returns-in_err-put_all : goal.returns-in_err-put_all
+returns-in_err-put_all g c =
+    let e = err_from_is_err_and c.from_residual.result c.from_residual.ensures.1 in
+    record {
+      room = c.requires.room;
+      ok = rw e.1 tt;
+      front = let cut = c.args.cut.now in
+          let a0 = g.W.Write.contents (outlet_writer c.args.outlet.now) in
+          let a1 = g.W.Write.contents (outlet_writer c.put_all.new.self) in
+          any_err c.from_residual.result (head_front cut c.args.form c.written_in_parts.ensures c.args.ends.now c.requires.ends c.has_one_best.ensures (first_shape cut c.can_cut.ensures).some_channel a0 a1
+          (subst (AppendsPart a0 a1) c.deref-3.ensures.value c.in_err-put_all.ensures.err));
+      failures = rw e.1 c.in_err-put_all.ensures.failures;
+    }
 
 -- what stands before the sound was written
 head_out : (g : Over) (c : In_ok-put_all g) → Appends (g.W.Write.contents (outlet_writer c.args.outlet.now)) (g.W.Write.contents (outlet_writer c.put_all.new.self)) c.args.ends.now.head.items
@@ -28,14 +34,20 @@ head_out g c =
     let a1 = g.W.Write.contents (outlet_writer c.put_all.new.self) in
     subst (Appends a0 a1) c.deref-3.ensures.value c.in_ok-put_all.ensures.ok
 
-pub returns-in_err-write_sound-clause-front : goal.returns-in_err-write_sound-clause-front
-returns-in_err-write_sound-clause-front g c =
-    let cut = c.args.cut.now in
-    let a0 = g.W.Write.contents (outlet_writer c.args.outlet.now) in
-    let a1 = g.W.Write.contents (outlet_writer c.put_all.new.self) in
-    let a2 = g.W.Write.contents (outlet_writer c.write_sound.new.outlet) in
-    any_err c.from_residual-in_err-write_sound.result (sound_front cut c.args.form c.written_in_parts.ensures c.args.ends.now c.requires.ends c.has_one_best.ensures (first_shape cut c.can_cut.ensures).some_channel a0 a1
-    (head_out g (goal.at.returns-in_err-write_sound-clause-front g c).In_ok-put_all) a2 (subst (λ to. WritesBestFront cut to a1 a2) c.interleaving_in.ensures c.in_err-write_sound.ensures.front))
+pub returns-in_err-write_sound : goal.returns-in_err-write_sound
+returns-in_err-write_sound g c =
+    let e = err_from_is_err_and c.from_residual-in_err-write_sound.result c.from_residual-in_err-write_sound.ensures.1 in
+    record {
+      room = c.in_err-write_sound.ensures.room;
+      ok = rw e.1 tt;
+      front = let cut = c.args.cut.now in
+          let a0 = g.W.Write.contents (outlet_writer c.args.outlet.now) in
+          let a1 = g.W.Write.contents (outlet_writer c.put_all.new.self) in
+          let a2 = g.W.Write.contents (outlet_writer c.write_sound.new.outlet) in
+          any_err c.from_residual-in_err-write_sound.result (sound_front cut c.args.form c.written_in_parts.ensures c.args.ends.now c.requires.ends c.has_one_best.ensures (first_shape cut c.can_cut.ensures).some_channel a0 a1
+          (head_out g (goal.at.returns-in_err-write_sound g c).In_ok-put_all) a2 (subst (λ to. WritesBestFront cut to a1 a2) c.interleaving_in.ensures c.in_err-write_sound.ensures.front));
+      failures = rw e.1 (c.in_err-write_sound.ensures.failures ∙ ap (λ n. n + 1) c.in_ok-put_all.ensures.failures);
+    }
 
 -- and the sound behind it
 sound_out : (g : Over) (c : In_ok-write_sound g) → WritesBest c.args.cut.now (interleaving_in c.args.form) (g.W.Write.contents (outlet_writer c.put_all.new.self)) (g.W.Write.contents (outlet_writer c.write_sound.new.outlet))
@@ -44,51 +56,22 @@ sound_out g c =
     let a2 = g.W.Write.contents (outlet_writer c.write_sound.new.outlet) in
     subst (λ to. WritesBest c.args.cut.now to a1 a2) c.interleaving_in.ensures c.in_ok-write_sound.ensures.ok
 
-pub returns-clause-ok : goal.returns-clause-ok
-returns-clause-ok g c =
+pub returns : goal.returns
+returns g c =
     let a2 = g.W.Write.contents (outlet_writer c.write_sound.new.outlet) in
     let a3 = g.W.Write.contents (outlet_writer c.put_all-2.new.self) in
-    let at = goal.at.returns-clause-ok g c in
-    on_ok_weaker c.put_all-2.result (λ out. file_whole c.args.cut.now c.args.form c.written_in_parts.ensures c.args.ends.now c.requires.ends c.has_one_best.ensures (first_shape c.args.cut.now c.can_cut.ensures).some_channel _ _
-    (head_out g at.In_ok-put_all) a2 (sound_out g at.In_ok-write_sound) a3 (subst (Appends a2 a3) c.deref-4.ensures.value out)) c.put_all-2.ensures.ok
-
-pub returns-clause-front : goal.returns-clause-front
-returns-clause-front g c =
-    let a2 = g.W.Write.contents (outlet_writer c.write_sound.new.outlet) in
-    let a3 = g.W.Write.contents (outlet_writer c.put_all-2.new.self) in
-    let at = goal.at.returns-clause-front g c in
-    on_err_weaker c.put_all-2.result (λ out. tail_front c.args.cut.now c.args.form c.written_in_parts.ensures c.args.ends.now c.requires.ends c.has_one_best.ensures (first_shape c.args.cut.now c.can_cut.ensures).some_channel _ _
-    (head_out g at.In_ok-put_all) a2 (sound_out g at.In_ok-write_sound) a3 (subst (AppendsPart a2 a3) c.deref-4.ensures.value out)) c.put_all-2.ensures.err
+    let at = goal.at.returns g c in
+    record {
+      room = c.in_ok-write_sound.ensures.room;
+      ok = on_ok_weaker c.put_all-2.result (λ out. file_whole c.args.cut.now c.args.form c.written_in_parts.ensures c.args.ends.now c.requires.ends c.has_one_best.ensures (first_shape c.args.cut.now c.can_cut.ensures).some_channel _ _
+          (head_out g at.In_ok-put_all) a2 (sound_out g at.In_ok-write_sound) a3 (subst (Appends a2 a3) c.deref-4.ensures.value out)) c.put_all-2.ensures.ok;
+      front = on_err_weaker c.put_all-2.result (λ out. tail_front c.args.cut.now c.args.form c.written_in_parts.ensures c.args.ends.now c.requires.ends c.has_one_best.ensures (first_shape c.args.cut.now c.can_cut.ensures).some_channel _ _
+          (head_out g at.In_ok-put_all) a2 (sound_out g at.In_ok-write_sound) a3 (subst (AppendsPart a2 a3) c.deref-4.ensures.value out)) c.put_all-2.ensures.err;
+      failures = let now = outlet_failures c.put_all-2.new.self in
+          subst (λ n. MatchResult c.put_all-2.result (λ _. now ≡ n) (λ _. now ≡ n + 1)) (c.in_ok-write_sound.ensures.failures ∙ c.in_ok-put_all.ensures.failures) c.put_all-2.ensures.failures;
+    }
 
 -- ---- the other clauses
-pub returns-in_err-put_all-clause-ok : goal.returns-in_err-put_all-clause-ok
-returns-in_err-put_all-clause-ok g c = let e = err_from_is_err_and c.from_residual.result c.from_residual.ensures.1 in rw e.1 tt
-
-pub returns-in_err-put_all-clause-failures : goal.returns-in_err-put_all-clause-failures
-returns-in_err-put_all-clause-failures g c = let e = err_from_is_err_and c.from_residual.result c.from_residual.ensures.1 in rw e.1 c.in_err-put_all.ensures.failures
-
-pub returns-in_err-put_all-clause-room : goal.returns-in_err-put_all-clause-room
-returns-in_err-put_all-clause-room g c = c.requires.room
-
-pub returns-in_err-write_sound-clause-ok : goal.returns-in_err-write_sound-clause-ok
-returns-in_err-write_sound-clause-ok g c = let e = err_from_is_err_and c.from_residual-in_err-write_sound.result c.from_residual-in_err-write_sound.ensures.1 in rw e.1 tt
-
-pub returns-in_err-write_sound-clause-failures : goal.returns-in_err-write_sound-clause-failures
-returns-in_err-write_sound-clause-failures g c =
-    let e = err_from_is_err_and c.from_residual-in_err-write_sound.result c.from_residual-in_err-write_sound.ensures.1 in
-    rw e.1 (c.in_err-write_sound.ensures.failures ∙ ap (λ n. n + 1) c.in_ok-put_all.ensures.failures)
-
-pub returns-in_err-write_sound-clause-room : goal.returns-in_err-write_sound-clause-room
-returns-in_err-write_sound-clause-room g c = c.in_err-write_sound.ensures.room
-
-pub returns-clause-room : goal.returns-clause-room
-returns-clause-room g c = c.in_ok-write_sound.ensures.room
-
-pub returns-clause-failures : goal.returns-clause-failures
-returns-clause-failures g c =
-    let now = outlet_failures c.put_all-2.new.self in
-    subst (λ n. MatchResult c.put_all-2.result (λ _. now ≡ n) (λ _. now ≡ n + 1)) (c.in_ok-write_sound.ensures.failures ∙ c.in_ok-put_all.ensures.failures) c.put_all-2.ensures.failures
-
 pub put_all-requires : goal.put_all-requires
 put_all-requires g c = c.requires.outlet_ready
 

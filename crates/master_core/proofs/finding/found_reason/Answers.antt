@@ -17,28 +17,30 @@ some_not reason e = cc
 like : (c : In_default) → IsLike c.args.cut.now c.args.found.now.form c.args.found.now.recording c.args.found.now.count
 like c = subst (λ k. MatchOption k (IsLike c.args.cut.now c.args.found.now.form c.args.found.now.recording c.args.found.now.count) (OuterReason c.args.cut.now c.args.found.now.form c.args.found.now.recording c.args.found.now.count)) c.in_default.is c.in_ok-reason.ensures
 
-pub returns-in_err-reason-clause-reason : goal.returns-in_err-reason-clause-reason
-returns-in_err-reason-clause-reason c = λ r is. let e = err_from_is_err_and c.from_residual.result c.from_residual.ensures.1 in rw e.1 tt
+pub returns-in_err-reason : goal.returns-in_err-reason
+returns-in_err-reason c =
+    let e = err_from_is_err_and c.from_residual.result c.from_residual.ensures.1 in
+    record {
+      reason = λ r is. rw e.1 tt;
+      kept = rw e.1 tt;
+    }
 
-pub returns-in_err-reason-clause-kept : goal.returns-in_err-reason-clause-kept
-returns-in_err-reason-clause-kept c = let e = err_from_is_err_and c.from_residual.result c.from_residual.ensures.1 in rw e.1 tt
+pub returns-in-Some : goal.returns-in-Some
+returns-in-Some c = record {
+  reason = λ r is.
+      found_outer c.args.cut.now c.args.found.now r is c.in-Some.reason (some_is _ _ c.in_ok-reason.field-0 c.in-Some.reason c.in-Some.is c.in_ok-reason.ensures);
+  kept = λ none. absurd (some_not _ none);
+}
 
-pub returns-in-Some-clause-reason : goal.returns-in-Some-clause-reason
-returns-in-Some-clause-reason c = λ r is.
-    found_outer c.args.cut.now c.args.found.now r is c.in-Some.reason (some_is _ _ c.in_ok-reason.field-0 c.in-Some.reason c.in-Some.is c.in_ok-reason.ensures)
+pub returns-in-Some-differs : goal.returns-in-Some-differs
+returns-in-Some-differs c = record {
+  reason = λ r is.
+      rw (c.in-Some-differs.channel-is, c.in-Some-differs.place-is, sym c.in-Some-differs.channel-is ∙ ap (λ (p : CuedPlace). p.channel) c.in-Some-differs.field-0-is, sym c.in-Some-differs.place-is ∙ ap (λ (p : CuedPlace). p.place) c.in-Some-differs.field-0-is) (found_some c.args.cut.now c.args.found.now r is (like (goal.at.returns-in-Some-differs c).In_default) c.in-Some-differs.field-0 c.in-Some-differs.is);
+  kept = λ none. absurd (some_not _ none);
+}
 
-pub returns-in-Some-clause-kept : goal.returns-in-Some-clause-kept
-returns-in-Some-clause-kept c = λ none. absurd (some_not _ none)
-
-pub returns-in-Some-differs-clause-reason : goal.returns-in-Some-differs-clause-reason
-returns-in-Some-differs-clause-reason c = λ r is.
-    rw (c.in-Some-differs.channel-is, c.in-Some-differs.place-is, sym c.in-Some-differs.channel-is ∙ ap (λ (p : CuedPlace). p.channel) c.in-Some-differs.field-0-is, sym c.in-Some-differs.place-is ∙ ap (λ (p : CuedPlace). p.place) c.in-Some-differs.field-0-is) (found_some c.args.cut.now c.args.found.now r is (like (goal.at.returns-in-Some-differs-clause-reason c).In_default) c.in-Some-differs.field-0 c.in-Some-differs.is)
-
-pub returns-in-Some-differs-clause-kept : goal.returns-in-Some-differs-clause-kept
-returns-in-Some-differs-clause-kept c = λ none. absurd (some_not _ none)
-
-pub returns-in-None-clause-reason : goal.returns-in-None-clause-reason
-returns-in-None-clause-reason c = λ r is. found_none c.args.cut.now c.args.found.now r is (like (goal.at.returns-in-None-clause-reason c).In_default) c.in-None.is
-
-pub returns-in-None-clause-kept : goal.returns-in-None-clause-kept
-returns-in-None-clause-kept c = λ none. found_kept c.args.cut.now c.args.found.now c.requires.0 c.requires.1 (like (goal.at.returns-in-None-clause-kept c).In_default)
+pub returns-in-None : goal.returns-in-None
+returns-in-None c = record {
+  reason = λ r is. found_none c.args.cut.now c.args.found.now r is (like (goal.at.returns-in-None c).In_default) c.in-None.is;
+  kept = λ none. found_kept c.args.cut.now c.args.found.now c.requires.0 c.requires.1 (like (goal.at.returns-in-None c).In_default);
+}

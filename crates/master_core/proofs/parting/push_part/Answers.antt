@@ -48,18 +48,20 @@ loop-cue-preserved c =
       can = c.can_cut.ensures;
     }
 
-pub returns-clause-part : goal.returns-clause-part
-returns-clause-part c =
-    let cut = c.args.source.now.cut.now in
-    let so_far = c.loop-cue.invariant.so_far in
-    let n = c.loop-cue.cue in
-    let all : n + 1 ≡ length cut.splice.cues = omega (arith, c.cue_number-cue-end.ensures.value, c.cue_number-cue-end.ensures.some, c.loop-cue-test.false, c.loop-cue.auto.cue-end) in
-    record {
-      whole = so_far.whole;
-      best = front_best cut c.can_cut.ensures c.args.channel c.requires.channel so_far.whole n all so_far.front;
-      long = front_long cut c.can_cut.ensures c.args.channel c.requires.channel so_far.whole n all so_far.front;
-      part_is = so_far.part_is;
-    }
+pub returns : goal.returns
+returns c = record {
+  most = c.loop-cue.invariant.most;
+  part = let cut = c.args.source.now.cut.now in
+      let so_far = c.loop-cue.invariant.so_far in
+      let n = c.loop-cue.cue in
+      let all : n + 1 ≡ length cut.splice.cues = omega (arith, c.cue_number-cue-end.ensures.value, c.cue_number-cue-end.ensures.some, c.loop-cue-test.false, c.loop-cue.auto.cue-end) in
+      record {
+        whole = so_far.whole;
+        best = front_best cut c.can_cut.ensures c.args.channel c.requires.channel so_far.whole n all so_far.front;
+        long = front_long cut c.can_cut.ensures c.args.channel c.requires.channel so_far.whole n all so_far.front;
+        part_is = so_far.part_is;
+      };
+}
 
 pub push_cue_part-requires : goal.push_cue_part-requires
 push_cue_part-requires c = record {
@@ -80,9 +82,6 @@ push_step-requires c =
       start = so_far.place;
       in_room = omega (arith, c.requires.in_room, so_far.most, ap length so_far.so_far.part_is, length-slice whole range.start range.stop, so_far.so_far.front.long, so_far.place);
     }
-
-pub returns-clause-most : goal.returns-clause-most
-returns-clause-most c = c.loop-cue.invariant.most
 
 pub overflow_add-cue : goal.overflow_add-cue
 overflow_add-cue c = omega (arith, c.loop-cue-test.true, c.cue_number-cue-end.ensures.value, c.can_cut.ensures.splicing.few_cues)

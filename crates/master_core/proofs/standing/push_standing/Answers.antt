@@ -28,12 +28,11 @@ push_range-requires-clause-in_source c =
 pub push_range-requires-clause-in_limit : goal.push_range-requires-clause-in_limit
 push_range-requires-clause-in_limit c = omega (arith, c.requires.in_limit, ap (λ (q : CueContent). q.bridge) c.cue.ensures.value)
 
-pub returns-clause-appended : goal.returns-clause-appended
-returns-clause-appended c = c.in_ok-push_range.ensures.ok ∙ ap (λ l. c.args.out.now ++ l) (bridge_is (goal.at.returns-clause-appended c).After-cue)
-
-pub returns-clause-long : goal.returns-clause-long
-returns-clause-long c =
-    let cut = c.args.cut.now in
-    let here = (goal.at.returns-clause-long c).After-cue in
-    let own = length-slice_range c.args.channel.now (bridge_start cut c.args.cue) (bridge_start cut c.args.cue + (cue_at cut c.args.cue).bridge) (most here) in
-    omega (arith, ap length (c.in_ok-push_range.ensures.ok ∙ ap (λ l. c.args.out.now ++ l) (bridge_is here)), length-append c.args.out.now (bridge_bits cut c.args.channel.now c.args.cue), own)
+pub returns : goal.returns
+returns c = record {
+  appended = c.in_ok-push_range.ensures.ok ∙ ap (λ l. c.args.out.now ++ l) (bridge_is (goal.at.returns c).After-cue);
+  long = let cut = c.args.cut.now in
+      let here = (goal.at.returns c).After-cue in
+      let own = length-slice_range c.args.channel.now (bridge_start cut c.args.cue) (bridge_start cut c.args.cue + (cue_at cut c.args.cue).bridge) (most here) in
+      omega (arith, ap length (c.in_ok-push_range.ensures.ok ∙ ap (λ l. c.args.out.now ++ l) (bridge_is here)), length-append c.args.out.now (bridge_bits cut c.args.channel.now c.args.cue), own);
+}

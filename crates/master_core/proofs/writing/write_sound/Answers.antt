@@ -37,24 +37,34 @@ loop-from-preserved g c =
       failures = omega (arith, c.in_ok-write_stretch.ensures.failures, so_far.failures);
     }
 
-pub returns-in_err-write_stretch-clause-front : goal.returns-in_err-write_stretch-clause-front
-returns-in_err-write_stretch-clause-front g c =
-    let cut = c.args.source.now.cut.now in
-    let from = c.loop-from.from in
-    let stop = from + c.min.result in
-    let so_far = c.loop-from.invariant in
-    let groups = so_far.groups c.loop-from-test.true in
-    let inside : stop ≤ master_length cut.splice.cues = omega (arith, c.min.ensures, c.length-length.ensures.value, so_far.inside) in
-    any_err c.from_residual.result (written_front cut c.args.to c.has_one_best.ensures (first_shape cut c.can_cut.ensures).some_channel from stop (g.W.Write.contents (outlet_writer c.args.outlet.now)) (g.W.Write.contents (outlet_writer c.loop-from.outlet)) (g.W.Write.contents (outlet_writer c.write_stretch.new.outlet)) groups (omega arith) inside (subst (λ n. (stop % 32768 ≡ 0) ⊎ (stop ≡ n)) c.length-length.ensures.value (next_place from c.loop-from.room.stretch c.length-length.result stop groups so_far.room.groups c.loop-from-test.true (omega (arith, c.min.ensures)))) so_far.written c.in_err-write_stretch.ensures.front)
+pub returns-in_err-write_stretch : goal.returns-in_err-write_stretch
+returns-in_err-write_stretch g c =
+    let e = err_from_is_err_and c.from_residual.result c.from_residual.ensures.1 in
+    record {
+      room = c.in_err-write_stretch.ensures.room;
+      ok = rw e.1 tt;
+      front = let cut = c.args.source.now.cut.now in
+          let from = c.loop-from.from in
+          let stop = from + c.min.result in
+          let so_far = c.loop-from.invariant in
+          let groups = so_far.groups c.loop-from-test.true in
+          let inside : stop ≤ master_length cut.splice.cues = omega (arith, c.min.ensures, c.length-length.ensures.value, so_far.inside) in
+          any_err c.from_residual.result (written_front cut c.args.to c.has_one_best.ensures (first_shape cut c.can_cut.ensures).some_channel from stop (g.W.Write.contents (outlet_writer c.args.outlet.now)) (g.W.Write.contents (outlet_writer c.loop-from.outlet)) (g.W.Write.contents (outlet_writer c.write_stretch.new.outlet)) groups (omega arith) inside (subst (λ n. (stop % 32768 ≡ 0) ⊎ (stop ≡ n)) c.length-length.ensures.value (next_place from c.loop-from.room.stretch c.length-length.result stop groups so_far.room.groups c.loop-from-test.true (omega (arith, c.min.ensures)))) so_far.written c.in_err-write_stretch.ensures.front);
+      failures = rw e.1 (omega (arith, c.in_err-write_stretch.ensures.failures, c.loop-from.invariant.failures));
+    }
 
-pub returns-clause-ok : goal.returns-clause-ok
-returns-clause-ok g c =
-    let cut = c.args.source.now.cut.now in
-    let so_far = c.loop-from.invariant in
-    let all : c.loop-from.from ≡ master_length cut.splice.cues = omega (arith, so_far.inside, c.loop-from-test.false, c.length-length.ensures.value) in
-    let old = g.W.Write.contents (outlet_writer c.args.outlet.now) in
-    let new = g.W.Write.contents (outlet_writer c.loop-from.outlet) in
-    written_whole cut c.args.to c.has_one_best.ensures (first_shape cut c.can_cut.ensures).some_channel old new (subst (λ n. HasWritten cut c.args.to n old new) all so_far.written)
+pub returns : goal.returns
+returns g c = record {
+  room = c.loop-from.invariant.room;
+  ok = let cut = c.args.source.now.cut.now in
+      let so_far = c.loop-from.invariant in
+      let all : c.loop-from.from ≡ master_length cut.splice.cues = omega (arith, so_far.inside, c.loop-from-test.false, c.length-length.ensures.value) in
+      let old = g.W.Write.contents (outlet_writer c.args.outlet.now) in
+      let new = g.W.Write.contents (outlet_writer c.loop-from.outlet) in
+      written_whole cut c.args.to c.has_one_best.ensures (first_shape cut c.can_cut.ensures).some_channel old new (subst (λ n. HasWritten cut c.args.to n old new) all so_far.written);
+  front = tt;
+  failures = c.loop-from.invariant.failures;
+}
 
 pub has_one_best-requires : goal.has_one_best-requires
 has_one_best-requires g c = c.requires.ready
@@ -79,21 +89,3 @@ write_stretch-requires g c =
 
 pub loop-from-smaller : goal.loop-from-smaller
 loop-from-smaller g c = omega (arith, c.min.ensures, c.loop-from-test.true, c.loop-from.invariant.room.some)
-
-pub returns-in_err-write_stretch-clause-room : goal.returns-in_err-write_stretch-clause-room
-returns-in_err-write_stretch-clause-room g c = c.in_err-write_stretch.ensures.room
-
-pub returns-in_err-write_stretch-clause-ok : goal.returns-in_err-write_stretch-clause-ok
-returns-in_err-write_stretch-clause-ok g c = let e = err_from_is_err_and c.from_residual.result c.from_residual.ensures.1 in rw e.1 tt
-
-pub returns-in_err-write_stretch-clause-failures : goal.returns-in_err-write_stretch-clause-failures
-returns-in_err-write_stretch-clause-failures g c = let e = err_from_is_err_and c.from_residual.result c.from_residual.ensures.1 in rw e.1 (omega (arith, c.in_err-write_stretch.ensures.failures, c.loop-from.invariant.failures))
-
-pub returns-clause-room : goal.returns-clause-room
-returns-clause-room g c = c.loop-from.invariant.room
-
-pub returns-clause-front : goal.returns-clause-front
-returns-clause-front g c = tt
-
-pub returns-clause-failures : goal.returns-clause-failures
-returns-clause-failures g c = c.loop-from.invariant.failures

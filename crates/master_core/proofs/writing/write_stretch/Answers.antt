@@ -47,17 +47,6 @@ push_rooms-requires-clause-held g c =
     let room = c.requires.room in
     omega (arith, size, size_fits c.args.to n bits c.args.room.now.stretch c.requires.fits room.groups room.fits, room.held, c.clear.ensures.len, c.clear.ensures.capacity)
 
-pub returns-clause-room : goal.returns-clause-room
-returns-clause-room g c =
-    let room = c.requires.room in
-    record {
-      rooms = rooms_kept (channel_number c.args.source.now.cut.now) c.args.room.now.stretch c.args.room.now.rooms.items c.fill_rooms.new.rooms.items c.fill_rooms.ensures.most room.rooms;
-      some = room.some;
-      groups = room.groups;
-      fits = room.fits;
-      held = omega (arith, room.held, c.clear.ensures.capacity, c.push_rooms.ensures.capacity);
-    }
-
 pub fill_rooms-requires : goal.fill_rooms-requires
 fill_rooms-requires g c = record {
   ready = c.requires.ready;
@@ -76,21 +65,23 @@ bytes g c =
     c.deref-2.ensures.value ∙ c.push_rooms.ensures.text ∙ ap (λ l. l ++ laced_in c.args.to (rooms_bits c.deref.result.now)) c.clear.ensures.items
     ∙ ap (λ (rs : List RoomContent). laced_in c.args.to (rooms_bits rs)) c.deref.ensures.value ∙ ap (laced_in c.args.to) c.fill_rooms.ensures.parts.parts_are
 
-pub returns-clause-stretch : goal.returns-clause-stretch
-returns-clause-stretch g c = refl
-
-pub returns-clause-ok : goal.returns-clause-ok
-returns-clause-ok g c =
+pub returns : goal.returns
+returns g c =
     let parts = c.fill_rooms.ensures.parts in
-    on_ok_weaker c.put_all.result (λ out. record { channels = parts.wholes; best = parts.best; written = subst (Appends (g.W.Write.contents (outlet_writer c.args.outlet.now)) (g.W.Write.contents (outlet_writer c.put_all.new.self))) (bytes g (goal.at.returns-clause-ok g c).After-deref-2) out }) c.put_all.ensures.ok
-
-pub returns-clause-front : goal.returns-clause-front
-returns-clause-front g c =
-    let parts = c.fill_rooms.ensures.parts in
-    on_err_weaker c.put_all.result (λ out. record { channels = parts.wholes; best = parts.best; written = subst (AppendsPart (g.W.Write.contents (outlet_writer c.args.outlet.now)) (g.W.Write.contents (outlet_writer c.put_all.new.self))) (bytes g (goal.at.returns-clause-front g c).After-deref-2) out }) c.put_all.ensures.err
-
-pub returns-clause-failures : goal.returns-clause-failures
-returns-clause-failures g c = c.put_all.ensures.failures
+    record {
+      room = let room = c.requires.room in
+          record {
+            rooms = rooms_kept (channel_number c.args.source.now.cut.now) c.args.room.now.stretch c.args.room.now.rooms.items c.fill_rooms.new.rooms.items c.fill_rooms.ensures.most room.rooms;
+            some = room.some;
+            groups = room.groups;
+            fits = room.fits;
+            held = omega (arith, room.held, c.clear.ensures.capacity, c.push_rooms.ensures.capacity);
+          };
+      stretch = refl;
+      ok = on_ok_weaker c.put_all.result (λ out. record { channels = parts.wholes; best = parts.best; written = subst (Appends (g.W.Write.contents (outlet_writer c.args.outlet.now)) (g.W.Write.contents (outlet_writer c.put_all.new.self))) (bytes g (goal.at.returns g c).After-deref-2) out }) c.put_all.ensures.ok;
+      front = on_err_weaker c.put_all.result (λ out. record { channels = parts.wholes; best = parts.best; written = subst (AppendsPart (g.W.Write.contents (outlet_writer c.args.outlet.now)) (g.W.Write.contents (outlet_writer c.put_all.new.self))) (bytes g (goal.at.returns g c).After-deref-2) out }) c.put_all.ensures.err;
+      failures = c.put_all.ensures.failures;
+    }
 
 pub put_all-requires : goal.put_all-requires
 put_all-requires g c = c.requires.outlet_ready

@@ -52,9 +52,8 @@ steps_are c =
     let levels = ap (λ v. v.levels) c.self.view_is in
     ap (λ n. c.loop-level.total + n) c.tail_cost.ensures ∙ cost_done c.args.bits.now (trellis_of d) c.loop-level.level c.loop-level.level c.loop-level.state c.loop-level.total _ (omega (arith, c.requires, levels)) c.loop-level.invariant.sum
 
-pub returns-clause-steps : goal.returns-clause-steps
-returns-clause-steps c = steps_are (goal.at.returns-clause-steps c).After-tail_cost
-
-pub returns-clause-places : goal.returns-clause-places
-returns-clause-places c =
-    steps_are (goal.at.returns-clause-places c).After-tail_cost ∙ cost_is c.args.self.now c.args.bits.now (limits (goal.at.returns-clause-places c).After-self).before c.requires
+pub returns : goal.returns
+returns c = record {
+  places = steps_are (goal.at.returns c).After-tail_cost ∙ cost_is c.args.self.now c.args.bits.now (limits (goal.at.returns c).After-self).before c.requires;
+  steps = steps_are (goal.at.returns c).After-tail_cost;
+}

@@ -42,49 +42,34 @@ pub index-requires-2 : goal.index-requires-2
 index-requires-2 c = omega (arith, length-map c.args.splice.now.cues.items cue_content, c.requires.cues)
 
 -- ---- the exits
-pub returns-in_err-has_room-clause-ok : goal.returns-in_err-has_room-clause-ok
-returns-in_err-has_room-clause-ok c = IfOk-from_err c.from_residual.result _ c.from_residual.ensures.0
+pub returns-in_err-has_room : goal.returns-in_err-has_room
+returns-in_err-has_room c = record {
+  ok = IfOk-from_err c.from_residual.result _ c.from_residual.ensures.0;
+  found = IfOk-from_err c.from_residual.result _ c.from_residual.ensures.0;
+  only = λ room. let h = c.in_err-has_room.ensures.only (rw c.len.ensures.value room) in cc;
+  order = let p = err_from_is_err_and c.from_residual.result c.from_residual.ensures.1 in
+      rw p.1 (ap (first_fault (splice_content c.args.splice.now) c.args.cue) (sym c.len.ensures.value) ∙ c.in_err-has_room.ensures.order ∙ sym p.2);
+}
 
-pub returns-in_err-has_room-clause-found : goal.returns-in_err-has_room-clause-found
-returns-in_err-has_room-clause-found c = IfOk-from_err c.from_residual.result _ c.from_residual.ensures.0
+pub returns-in_err-between : goal.returns-in_err-between
+returns-in_err-between c = record {
+  ok = IfOk-from_err c.from_residual-in_err-between.result _ c.from_residual-in_err-between.ensures.0;
+  found = IfOk-from_err c.from_residual-in_err-between.result _ c.from_residual-in_err-between.ensures.0;
+  only = λ _.
+      let p = err_from_is_err_and c.from_residual-in_err-between.result c.from_residual-in_err-between.ensures.1 in
+      rw (p.1, p.2) refl;
+  order = let p = err_from_is_err_and c.from_residual-in_err-between.result c.from_residual-in_err-between.ensures.1 in
+      rw (p.1, p.2) (ap (first_fault (splice_content c.args.splice.now) c.args.cue) (sym c.len.ensures.value) ∙ c.in_ok-has_room.ensures.order);
+}
 
-pub returns-in_err-has_room-clause-only : goal.returns-in_err-has_room-clause-only
-returns-in_err-has_room-clause-only c = λ room. let h = c.in_err-has_room.ensures.only (rw c.len.ensures.value room) in cc
-
-pub returns-in_err-has_room-clause-order : goal.returns-in_err-has_room-clause-order
-returns-in_err-has_room-clause-order c =
-    let p = err_from_is_err_and c.from_residual.result c.from_residual.ensures.1 in
-    rw p.1 (ap (first_fault (splice_content c.args.splice.now) c.args.cue) (sym c.len.ensures.value) ∙ c.in_err-has_room.ensures.order ∙ sym p.2)
-
-pub returns-in_err-between-clause-ok : goal.returns-in_err-between-clause-ok
-returns-in_err-between-clause-ok c = IfOk-from_err c.from_residual-in_err-between.result _ c.from_residual-in_err-between.ensures.0
-
-pub returns-in_err-between-clause-found : goal.returns-in_err-between-clause-found
-returns-in_err-between-clause-found c = IfOk-from_err c.from_residual-in_err-between.result _ c.from_residual-in_err-between.ensures.0
-
-pub returns-in_err-between-clause-only : goal.returns-in_err-between-clause-only
-returns-in_err-between-clause-only c = λ _.
-    let p = err_from_is_err_and c.from_residual-in_err-between.result c.from_residual-in_err-between.ensures.1 in
-    rw (p.1, p.2) refl
-
-pub returns-in_err-between-clause-order : goal.returns-in_err-between-clause-order
-returns-in_err-between-clause-order c =
-    let p = err_from_is_err_and c.from_residual-in_err-between.result c.from_residual-in_err-between.ensures.1 in
-    rw (p.1, p.2) (ap (first_fault (splice_content c.args.splice.now) c.args.cue) (sym c.len.ensures.value) ∙ c.in_ok-has_room.ensures.order)
-
-pub returns-clause-ok : goal.returns-clause-ok
-returns-clause-ok c =
-    let splice = c.args.splice.now in
-    let i = c.args.cue in
-    let stop = ap (λ (q : CueContent). q.stop) (cue_read splice i c.index.result.now (omega (arith, c.requires.cues)) c.index.ensures) in
-    let start = ap (λ (q : CueContent). q.start) (cue_read splice (i + 1) c.index-2.result.now c.requires.cues c.index-2.ensures) in
-    c.in_ok-between.ensures ∙ (λ z. bridging_at (splice_content splice) i c.args.own.now (stop z) c.args.next.now (start z))
-
-pub returns-clause-found : goal.returns-clause-found
-returns-clause-found c = rw (← c.len.ensures.value) c.in_ok-has_room.ensures.found
-
-pub returns-clause-only : goal.returns-clause-only
-returns-clause-only c = λ _. tt
-
-pub returns-clause-order : goal.returns-clause-order
-returns-clause-order c = ap (first_fault (splice_content c.args.splice.now) c.args.cue) (sym c.len.ensures.value) ∙ c.in_ok-has_room.ensures.order
+pub returns : goal.returns
+returns c = record {
+  ok = let splice = c.args.splice.now in
+      let i = c.args.cue in
+      let stop = ap (λ (q : CueContent). q.stop) (cue_read splice i c.index.result.now (omega (arith, c.requires.cues)) c.index.ensures) in
+      let start = ap (λ (q : CueContent). q.start) (cue_read splice (i + 1) c.index-2.result.now c.requires.cues c.index-2.ensures) in
+      c.in_ok-between.ensures ∙ (λ z. bridging_at (splice_content splice) i c.args.own.now (stop z) c.args.next.now (start z));
+  found = rw (← c.len.ensures.value) c.in_ok-has_room.ensures.found;
+  only = λ _. tt;
+  order = ap (first_fault (splice_content c.args.splice.now) c.args.cue) (sym c.len.ensures.value) ∙ c.in_ok-has_room.ensures.order;
+}

@@ -35,16 +35,11 @@ pub overflow_sub-cut : goal.overflow_sub-cut
 overflow_sub-cut c =
     rw (base_is (goal.at.overflow_sub-cut c).After-len, cut_is c) (cut_within (state_of c.args.self.now) c.args.more c.requires.ready.limits c.requires.ready.ready c.requires.few)
 
-pub returns-clause-number : goal.returns-clause-number
-returns-clause-number c = ap₂ ◌-◌ c.due_number-next.ensures c.due_number-given.ensures
-
-pub returns-clause-first : goal.returns-clause-first
-returns-clause-first c =
-    let d = c.args.self.now.taps in
-    ap₂ (λ m n. m - 8 * n) (c.place_of.ensures ∙ ap (λ m. m * d.factor + d.delay) c.due_number-given.ensures) (base_is (goal.at.returns-clause-first c).After-len)
-
-pub returns-clause-stop : goal.returns-clause-stop
-returns-clause-stop c = c.saturating_sub-stop.ensures ∙ ap₂ (λ m n. m - 8 * n) c.min.ensures (base_is (goal.at.returns-clause-stop c).After-len)
-
-pub returns-clause-cut : goal.returns-clause-cut
-returns-clause-cut c = ap₂ ◌-◌ (cut_is (goal.at.returns-clause-cut c).After-min-2) (base_is (goal.at.returns-clause-cut c).After-len)
+pub returns : goal.returns
+returns c = record {
+  number = ap₂ ◌-◌ c.due_number-next.ensures c.due_number-given.ensures;
+  first = let d = c.args.self.now.taps in
+      ap₂ (λ m n. m - 8 * n) (c.place_of.ensures ∙ ap (λ m. m * d.factor + d.delay) c.due_number-given.ensures) (base_is (goal.at.returns c).After-len);
+  stop = c.saturating_sub-stop.ensures ∙ ap₂ (λ m n. m - 8 * n) c.min.ensures (base_is (goal.at.returns c).After-len);
+  cut = ap₂ ◌-◌ (cut_is (goal.at.returns c).After-min-2) (base_is (goal.at.returns c).After-len);
+}

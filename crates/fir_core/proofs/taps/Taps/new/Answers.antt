@@ -28,28 +28,20 @@ returns-then-delay-taps-clause-only c = λ limits. absurd (omega (arith, limits.
 pub returns-then-shift-gt30-clause-only : goal.returns-then-shift-gt30-clause-only
 returns-then-shift-gt30-clause-only c = λ limits. absurd (omega (arith, limits.small_shift))
 
-pub returns-in_err-taps-clause-ok : goal.returns-in_err-taps-clause-ok
-returns-in_err-taps-clause-ok c = let e = err_from_is_err_and c.from_residual.result c.from_residual.ensures.1 in rw e.1 tt
-
-pub returns-in_err-taps-clause-found : goal.returns-in_err-taps-clause-found
-returns-in_err-taps-clause-found c = let e = err_from_is_err_and c.from_residual.result c.from_residual.ensures.1 in rw e.1 tt
-
-pub returns-in_err-taps-clause-only : goal.returns-in_err-taps-clause-only
-returns-in_err-taps-clause-only c = let e = err_from_is_err_and c.from_residual.result c.from_residual.ensures.1 in λ limits. rw (e.1, e.2) refl
-
-pub returns-in_err-taps-clause-order : goal.returns-in_err-taps-clause-order
-returns-in_err-taps-clause-order c =
+pub returns-in_err-taps : goal.returns-in_err-taps
+returns-in_err-taps c =
     let e = err_from_is_err_and c.from_residual.result c.from_residual.ensures.1 in
-    rw (e.1, e.2) (no_fault-from_IsWithinLimits _ (within (goal.at.returns-in_err-taps-clause-order c).After-from_slice))
+    record {
+      ok = rw e.1 tt;
+      found = rw e.1 tt;
+      only = λ limits. rw (e.1, e.2) refl;
+      order = rw (e.1, e.2) (no_fault-from_IsWithinLimits _ (within (goal.at.returns-in_err-taps c).After-from_slice));
+    }
 
-pub returns-clause-ok : goal.returns-clause-ok
-returns-clause-ok c = rw c.in_ok-taps.ensures.items refl
-
-pub returns-clause-only : goal.returns-clause-only
-returns-clause-only c = λ limits. tt
-
-pub returns-clause-found : goal.returns-clause-found
-returns-clause-found c = within (goal.at.returns-clause-found c).After-from_slice
-
-pub returns-clause-order : goal.returns-clause-order
-returns-clause-order c = no_fault-from_IsWithinLimits _ (within (goal.at.returns-clause-order c).After-from_slice)
+pub returns : goal.returns
+returns c = record {
+  ok = rw c.in_ok-taps.ensures.items refl;
+  found = within (goal.at.returns c).After-from_slice;
+  only = λ limits. tt;
+  order = no_fault-from_IsWithinLimits _ (within (goal.at.returns c).After-from_slice);
+}

@@ -2,7 +2,6 @@
 use Rattle.std.proofs.Common.{◌≡◌, ℕ, ◌*◌, ◌<◌, List, [], ◌∷◌, ◌++◌, ◌∙◌, Option, None, Some, Result, Ok, Err, IfSome, refl, sym, ap, subst, length, arith}
 use Rattle.std.proofs.lemmas.List.{length-append}
 use Rattle.std.specs.Int.{w64, to_be_bytes}
-use Rattle.std.specs.Result.{IsErrAnd}
 use Rattle.std.specs.Io.KnownBytes.{Consumes, IsAtEnd}
 use Rattle.cert_core.specs.Spelling.{row_text}
 use Rattle.cert_core.specs.declared.version.Version.TheVariants.{One}
@@ -21,19 +20,13 @@ before P Q None b bs c f p = tt
 before P Q (Some xs) None bs c f p = absurd c
 before P Q (Some xs) (Some ys) bs c f p = subst Q (sym c) (f ys p)
 
--- a reason goes on to the caller
-pub passes : {A : Type 0} (B : Type 0) (r : Result A Stop) (stop : Stop) (P Q : CertReason → Type 0) → IsErrAnd r (λ e. e ≡ stop) → ((reason : CertReason) → P reason → Q reason) → OnReason {T = B} (Err stop) P → OnReason r Q
-passes {A} B (Ok x) stop P Q e f p = tt
-passes {A} B (Err s) (Reason reason) P Q e f p = subst (λ x. OnReason {T = A} (Err x) Q) (sym e) (f reason p)
-passes {A} B (Err s) Device P Q e f p = subst (λ x. OnReason {T = A} (Err x) Q) (sym e) tt
-passes {A} B (Err s) Memory P Q e f p = subst (λ x. OnReason {T = A} (Err x) Q) (sym e) tt
-
 -- what holds of what was consumed and anything after it
 pub after : (Q : List ℕ → Type 0) (a b : Option (List ℕ)) (bs : List ℕ) → Consumes a b bs → ((rest : List ℕ) → Q (bs ++ rest)) → IfSome a Q
 after Q None b bs c f = tt
 after Q (Some xs) None bs c f = absurd c
 after Q (Some xs) (Some ys) bs c f = subst Q (sym c) (f ys)
 
+-- a reason goes on to the caller
 pub maps : {A : Type 0} (r : Result A Stop) (P Q : CertReason → Type 0) → ((reason : CertReason) → P reason → Q reason) → OnReason r P → OnReason r Q
 maps (Ok x) P Q f p = tt
 maps (Err (Reason reason)) P Q f p = f reason p

@@ -1,6 +1,8 @@
 -- What an exit says, and what it says nothing of.
-use Rattle.std.specs.Prelude.{if◌then◌else◌, is_ok, not, ◌↔◌}
-use Rattle.std.proofs.Common.{◌≡◌, ℕ, ◌+◌, Bool, true, false, Some, Result, Ok, Err, IsErrAnd, IsErrOf, ap, arith, refl, subst, sym}
+use Rattle.std.specs.Prelude.{if◌then◌else◌, ◌↔◌}
+use Rattle.std.proofs.Common.{◌≡◌, ℕ, ◌+◌, ◌-◌, ◌*◌, ◌^◌, ◌≤◌, ◌∙◌, Bool, true, false, Some, Ok, Err, IsErrOf, ap, arith, length, refl, subst, sym}
+use native.Mathlib.Nat.{ℕ_set}
+use native.Mathlib.Bridge.{le_prop}
 use Rattle.device_core.specs.FusedOutlets.{failed_parts, fused_failed, fused_outlet}
 use Rattle.device_core.specs.Outlets.{outlet_failures}
 use Rattle.device_core.specs.declared.fused_outlet.FusedFault.{FusedFault}
@@ -10,10 +12,10 @@ use Rattle.cert_core.specs.Counting.{IsCounted}
 use Rattle.cert_core.specs.Readers.{IsWell}
 use Rattle.cert_core.specs.declared.verdict.CertReason.{CertReason}
 use Rattle.cert_core.specs.declared.verdict.CheckFault.{CheckFault}
+use Rattle.cert_core.specs.declared.writer.CertWriter.{CertWriter}
 
-pub failed_err : {X E : Type 0} (P : E → Type 0) (b : Bool) (r : Result X E) → IsErrAnd r P → b ≡ true → b ≡ not (is_ok r)
-failed_err P b (Ok x) h failed = absurd h
-failed_err P b (Err e) h failed = failed
+pub true_or_false : {Q : Type 0} (b : Bool) → b ≡ true → b ≡ false → Q
+true_or_false b is is_not = absurd cc
 
 -- a result that is no fault is none of them
 pub not_refused : {X E Q : Type 0} (x : X) (e : E) → IsErrOf (Ok x) e → Q
@@ -51,3 +53,13 @@ not_well reason is = absurd cc
 
 pub fault_not_well : {Q : Type 0} (f : CheckFault) → IsWell (Err f) → Q
 fault_not_well f is = absurd cc
+
+-- a writer whose outlet is as it was
+pub outlet_back : {W : Type 0} (old : CertWriter W) (new : FusedOutlet W) (few : old.weights ≤ 12) (room : length old.buffer.items ≡ 17 + 8 * 2 ^ (old.weights - 1)) (counted : IsCounted old.failures new) → new ≡ old.outlet
+    → record old { outlet = new; few = few; room = room; counted = counted } ≡ old
+outlet_back old new few room counted same =
+    let one_few : IsProp (old.weights ≤ 12) = hlevel le_prop in
+    let one_room : IsProp (length old.buffer.items ≡ 17 + 8 * 2 ^ (old.weights - 1)) = hlevel ℕ_set in
+    let one_counted : IsProp (IsCounted old.failures old.outlet) = hlevel ℕ_set in
+    subst (λ o. (k : IsCounted old.failures o) → record old { outlet = o; few = few; room = room; counted = k } ≡ old) (sym same)
+    (λ k. ap (λ x. record old { few = x; room = room; counted = k }) (one_few few old.few) ∙ ap (λ x. record old { room = x; counted = k }) (one_room room old.room) ∙ ap (λ x. record old { counted = x }) (one_counted k old.counted)) counted

@@ -1,11 +1,25 @@
 -- The order of refusals in the three chunks.
-use Rattle.std.proofs.Common.{◌≡◌, ℕ, ◌+◌, ◌-◌, ◌<◌, ◌≤◌, Bool, true, false, List, length, Ok, Err, refl, sym, ap, subst, ◌∙◌, arith, ne_eqb, eq-eqb}
+use Rattle.std.proofs.Common.{◌≡◌, ℕ, ◌+◌, ◌-◌, ◌<◌, ◌≤◌, Bool, true, false, List, length, Result, Ok, Err, refl, sym, ap, subst, ◌∙◌, arith, ne_eqb, eq-eqb}
 use Rattle.std.proofs.lemmas.Bool.{le-ltb, lt-ltb}
 use Rattle.chunk_core.specs.Numbers.{id_at}
 use Rattle.dsd_bits.specs.Ids.{same_id, DSD}
-use Rattle.dsf_core.specs.declared.fault.DsfFault.TheVariants.{NotDsf, HeadCut, BadFormat}
+use Rattle.dsf_core.specs.declared.fault.DsfFault.{DsfFault}
+use Rattle.dsf_core.specs.declared.fault.DsfFault.TheVariants.{NotDsf, HeadCut, BadFormat, Memory}
 use Rattle.dsf_core.specs.Fields.{FMT, DATA, first_size, format_size, format, data_place, data_size}
 use Rattle.dsf_core.specs.Reading.{chunks_of}
+
+-- none of them is want of memory
+pub other_kept : ◌≡◌ {A = Result ℕ DsfFault} (Err NotDsf) (Err Memory) → ⊥
+other_kept same = absurd cc
+
+pub cut_kept : ◌≡◌ {A = Result ℕ DsfFault} (Err HeadCut) (Err Memory) → ⊥
+cut_kept same = absurd cc
+
+pub bad_kept : ◌≡◌ {A = Result ℕ DsfFault} (Err BadFormat) (Err Memory) → ⊥
+bad_kept same = absurd cc
+
+pub found_kept : (n : ℕ) → ◌≡◌ {A = Result ℕ DsfFault} (Ok n) (Err Memory) → ⊥
+found_kept n same = absurd cc
 
 module _ (file : List ℕ) where
   pub no_id : length file < 4 → chunks_of file ≡ Err NotDsf

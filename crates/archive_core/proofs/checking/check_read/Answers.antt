@@ -8,56 +8,55 @@ use Rattle.archive_core.proofs.CuttingLaws.{one_cut, only_memory}
 use Rattle.archive_core.proofs.checking.check_read.Goals as goal
 
 -- ---- refusals
-pub returns-in_err-cut-clause-refused : goal.returns-in_err-cut-clause-refused
-returns-in_err-cut-clause-refused g c = λ project files are.
-    let p = err_from_is_err_and c.from_residual.result c.from_residual.ensures.1 in
-    rw (p.1, p.2) (inr (c.in_err-cut.ensures.exact project files are))
-
-pub returns-in_err-cut-clause-only : goal.returns-in_err-cut-clause-only
-returns-in_err-cut-clause-only g c = λ project files are cost.
-    let p = err_from_is_err_and c.from_residual.result c.from_residual.ensures.1 in
-    rw (p.1, p.2) (for_known (g.R.Read.remaining (inlet_reader (cert_inlet c.args.cert.now))) (λ bytes. Accepts project files c.args.master.now bytes cost → ReadsAccepted (Err c.in_err-cut.field-0.0) cost)
-    (λ bytes accepts. inr (only_memory project files None accepts.cut accepts.says c.in_err-cut.field-0.0 (c.in_err-cut.ensures.exact project files are))))
-
-pub returns-in_err-cut-clause-failures : goal.returns-in_err-cut-clause-failures
-returns-in_err-cut-clause-failures g c =
-    let p = err_from_is_err_and c.from_residual.result c.from_residual.ensures.1 in
+pub returns-in_err-cut : goal.returns-in_err-cut
+returns-in_err-cut g c =
+    let e = err_from_is_err_and c.from_residual.result c.from_residual.ensures.1 in
     let f = c.in_err-cut.ensures.fault in
-    rw (p.1, p.2, f.1) (omega (arith, cut_reads f.0))
+    rw (e.1, e.2) (record {
+      found = λ project files are. tt;
+      master = λ project files are. tt;
+      least = λ project files are. tt;
+      joint = λ project files are. tt;
+      windows = λ project files are. tt;
+      only = λ project files are cost. for_known (g.R.Read.remaining (inlet_reader (cert_inlet c.args.cert.now))) (λ bytes. Accepts project files c.args.master.now bytes cost → ReadsAccepted (Err c.in_err-cut.field-0.0) cost)
+          (λ bytes accepts. inr (only_memory project files None accepts.cut accepts.says c.in_err-cut.field-0.0 (c.in_err-cut.ensures.exact project files are)));
+      rejected = λ project files are. tt;
+      refused = λ project files are. inr (c.in_err-cut.ensures.exact project files are);
+      failures = rw f.1 (omega (arith, cut_reads f.0));
+    })
 
-pub returns-clause-only : goal.returns-clause-only
-returns-clause-only g c = λ project files are cost.
-    rw c.fault_of.ensures (for_known (g.R.Read.remaining (inlet_reader (cert_inlet c.args.cert.now))) (λ bytes. Accepts project files c.args.master.now bytes cost → ReadsAccepted (Err (fault_of_check c.in-Err.fault)) cost) (λ bytes accepts. not_judged c.in-Err.fault))
-
-pub returns-clause-refused : goal.returns-clause-refused
-returns-clause-refused g c = λ project files are. rw c.fault_of.ensures (elim (not_judged c.in-Err.fault) [ inl failed ↦ inl failed | inr memory ↦ inr (inl memory) ])
-
-pub returns-clause-failures : goal.returns-clause-failures
-returns-clause-failures g c = rw c.fault_of.ensures (omega (arith, c.in-Err.ensures.failures, same_count c.in-Err.fault))
+pub returns : goal.returns
+returns g c =
+    let f = c.in-Err.fault in
+    rw c.fault_of.ensures (record {
+      found = λ project files are. tt;
+      master = λ project files are. tt;
+      least = λ project files are. tt;
+      joint = λ project files are. tt;
+      windows = λ project files are. tt;
+      only = λ project files are cost. for_known (g.R.Read.remaining (inlet_reader (cert_inlet c.args.cert.now))) (λ bytes. Accepts project files c.args.master.now bytes cost → ReadsAccepted (Err (fault_of_check f)) cost) (λ bytes accepts. not_judged f);
+      rejected = λ project files are. tt;
+      refused = λ project files are. elim (not_judged f) [ inl failed ↦ inl failed | inr memory ↦ inr (inl memory) ];
+      failures = omega (arith, c.in-Err.ensures.failures, same_count f);
+    })
 
 -- ---- what is answered
-pub returns-in-Ok-clause-found : goal.returns-in-Ok-clause-found
-returns-in-Ok-clause-found g c = λ project files are.
-    read_found project files c.args.master.now c.in_ok-cut.cut (c.in_ok-cut.ensures.found project files are) (g.R.Read.remaining (inlet_reader (cert_inlet c.args.cert.now))) c.in-Ok.verdict c.in-Ok.ensures.judged
-
-pub returns-in-Ok-clause-windows : goal.returns-in-Ok-clause-windows
-returns-in-Ok-clause-windows g c = λ project files are.
-    read_windows project files c.args.master.now c.in_ok-cut.cut (c.in_ok-cut.ensures.found project files are) (g.R.Read.remaining (inlet_reader (cert_inlet c.args.cert.now))) c.in-Ok.verdict c.in-Ok.ensures.judged
-
-pub returns-in-Ok-clause-rejected : goal.returns-in-Ok-clause-rejected
-returns-in-Ok-clause-rejected g c = λ project files are.
-    read_rejected project files c.args.master.now c.in_ok-cut.cut (c.in_ok-cut.ensures.found project files are) (g.R.Read.remaining (inlet_reader (cert_inlet c.args.cert.now))) c.in-Ok.verdict c.in-Ok.ensures.judged
-
-pub returns-in-Ok-clause-master : goal.returns-in-Ok-clause-master
-returns-in-Ok-clause-master g c = λ project files are. judged_master project files c.args.master.now c.in_ok-cut.cut (c.in_ok-cut.ensures.found project files are) c.in-Ok.verdict c.in-Ok.ensures.least
-
-pub returns-in-Ok-clause-least : goal.returns-in-Ok-clause-least
-returns-in-Ok-clause-least g c = λ project files are. judged_least project files c.args.master.now c.in_ok-cut.cut (c.in_ok-cut.ensures.found project files are) c.in-Ok.verdict c.in-Ok.ensures.least
-
-pub returns-in-Ok-clause-joint : goal.returns-in-Ok-clause-joint
-returns-in-Ok-clause-joint g c = λ project files are. judged_joint project files c.args.master.now c.in_ok-cut.cut (c.in_ok-cut.ensures.found project files are) c.in-Ok.verdict c.in-Ok.ensures.least
-
-pub returns-in-Ok-clause-only : goal.returns-in-Ok-clause-only
-returns-in-Ok-clause-only g c = λ project files are cost.
-    read_only project files c.args.master.now c.in_ok-cut.cut (λ t says. one_cut project files None t says c.in_ok-cut.cut (c.in_ok-cut.ensures.exact project files are)) (c.in_ok-cut.ensures.found project files are)
-    (g.R.Read.remaining (inlet_reader (cert_inlet c.args.cert.now))) c.in-Ok.verdict cost c.in-Ok.ensures.only
+pub returns-in-Ok : goal.returns-in-Ok
+returns-in-Ok g c =
+    let m = c.args.master.now in
+    let cut = c.in_ok-cut.cut in
+    let v = c.in-Ok.verdict in
+    let known = g.R.Read.remaining (inlet_reader (cert_inlet c.args.cert.now)) in
+    let says = c.in_ok-cut.ensures.found in
+    let e = c.in-Ok.ensures in
+    record {
+      found = λ project files are. read_found project files m cut (says project files are) known v e.judged;
+      master = λ project files are. judged_master project files m cut (says project files are) v e.least;
+      least = λ project files are. judged_least project files m cut (says project files are) v e.least;
+      joint = λ project files are. judged_joint project files m cut (says project files are) v e.least;
+      windows = λ project files are. read_windows project files m cut (says project files are) known v e.judged;
+      only = λ project files are cost. read_only project files m cut (λ t of. one_cut project files None t of cut (c.in_ok-cut.ensures.exact project files are)) (says project files are) known v cost e.only;
+      rejected = λ project files are. read_rejected project files m cut (says project files are) known v e.judged;
+      refused = λ project files are. tt;
+      failures = e.failures;
+    }

@@ -1,4 +1,4 @@
-use Rattle.std.proofs.Common.{◌≡◌, ℕ, ◌*◌, ◌<◌, ◌≤◌, ◌⊎◌, ◌∙◌, List, Option, length, refl, ap, sym, subst, inl, inr, arith}
+use Rattle.std.proofs.Common.{Err, ◌≡◌, ℕ, ◌*◌, ◌<◌, ◌≤◌, ◌⊎◌, ◌∙◌, List, Option, length, refl, ap, sym, subst, inl, inr, arith}
 use borrow.Rule.Slice.PartMut.{same_len_mid}
 use Rattle.std.proofs.lemmas.Nat.{mul-le}
 use Rattle.std.proofs.lemmas.Result.{err_from_is_err_and}
@@ -11,7 +11,7 @@ use Rattle.cert_core.specs.Reasons.{SpellingReason}
 use Rattle.cert_core.specs.Spelling.{IsTooWide}
 use Rattle.cert_core.specs.Stops.{CutBelow, InForm, InSpelling}
 use Rattle.cert_core.specs.declared.version.Version.TheVariants.{Two}
-use Rattle.cert_core.proofs.Consuming.{if_some, passes}
+use Rattle.cert_core.proofs.Consuming.{if_some, maps}
 use Rattle.cert_core.proofs.Reading.{cut_in_excesses, raised_consumed, raised_first}
 use Rattle.cert_core.proofs.row_reader.read_raised.Goals as goal
 
@@ -26,19 +26,17 @@ form_first a m level reason = if_some a _ (λ bytes. SpellingReason Two m level 
     told bytes (inl (is, short)) = subst (SpellingReason Two m level bytes) (sym is) (inl short)
     told bytes (inr (is, wide)) = subst (SpellingReason Two m level bytes) (sym is) (refl, inl wide)
 
-pub returns-in_err-least-clause-bounded : goal.returns-in_err-least-clause-bounded
-returns-in_err-least-clause-bounded g c = let e = err_from_is_err_and c.from_residual.result c.from_residual.ensures.1 in rw e.1 tt
-
-pub returns-in_err-least-clause-ok : goal.returns-in_err-least-clause-ok
-returns-in_err-least-clause-ok g c = let e = err_from_is_err_and c.from_residual.result c.from_residual.ensures.1 in rw e.1 tt
-
-pub returns-in_err-least-clause-reason : goal.returns-in_err-least-clause-reason
-returns-in_err-least-clause-reason g c =
-    passes (Unit {0}) c.from_residual.result c.in_err-least.field-0.0 _ _ c.from_residual.ensures.1
-    (form_first (g.R.Read.remaining (inlet_reader c.args.inlet.now)) (length c.args.row.now) c.args.level) c.in_err-least.ensures.reason
-
-pub returns-in_err-least-clause-failures : goal.returns-in_err-least-clause-failures
-returns-in_err-least-clause-failures g c = let e = err_from_is_err_and c.from_residual.result c.from_residual.ensures.1 in rw (e.1, e.2) c.in_err-least.ensures.failures
+pub returns-in_err-least : goal.returns-in_err-least
+returns-in_err-least g c =
+    let e = err_from_is_err_and c.from_residual.result c.from_residual.ensures.1 in
+    rw (e.1, e.2) (record {
+      len = refl;
+      buffer = refl;
+      bounded = tt;
+      ok = tt;
+      reason = maps {A = Unit {0}} (Err c.in_err-least.field-0.0) _ _ (form_first (g.R.Read.remaining (inlet_reader c.args.inlet.now)) (length c.args.row.now) c.args.level) c.in_err-least.ensures.reason;
+      failures = c.in_err-least.ensures.failures;
+    })
 
 pub overflow_mul-size : goal.overflow_mul-size
 overflow_mul-size g c = omega (arith, few_bytes c.in_ok-least.width (length c.args.row.now) c.in_ok-least.ensures.few, c.requires.room)
@@ -46,41 +44,28 @@ overflow_mul-size g c = omega (arith, few_bytes c.in_ok-least.width (length c.ar
 pub slice_bounds-fill-end : goal.slice_bounds-fill-end
 slice_bounds-fill-end g c = omega (arith, few_bytes c.in_ok-least.width (length c.args.row.now) c.in_ok-least.ensures.few, c.requires.room)
 
-pub returns-in_err-fill-clause-buffer : goal.returns-in_err-fill-clause-buffer
-returns-in_err-fill-clause-buffer g c = same_len_mid 0 _ c.args.buffer.now c.fill.new.buffer c.fill.auto.buffer
-
-pub returns-in_err-fill-clause-bounded : goal.returns-in_err-fill-clause-bounded
-returns-in_err-fill-clause-bounded g c = let e = err_from_is_err_and c.from_residual-in_err-fill.result c.from_residual-in_err-fill.ensures.1 in rw e.1 tt
-
-pub returns-in_err-fill-clause-ok : goal.returns-in_err-fill-clause-ok
-returns-in_err-fill-clause-ok g c = let e = err_from_is_err_and c.from_residual-in_err-fill.result c.from_residual-in_err-fill.ensures.1 in rw e.1 tt
-
-pub returns-in_err-fill-clause-reason : goal.returns-in_err-fill-clause-reason
-returns-in_err-fill-clause-reason g c =
+pub returns-in_err-fill : goal.returns-in_err-fill
+returns-in_err-fill g c =
     let from = g.R.Read.remaining (inlet_reader c.args.inlet.now) in
     let mid = g.R.Read.remaining (inlet_reader c.read_form.new.inlet) in
     let size : length c.fill.new.buffer ≡ c.in_ok-least.width * length c.args.row.now = omega (arith, c.fill.auto.buffer) in
-    passes (Unit {0}) c.from_residual-in_err-fill.result c.in_err-fill.field-0.0 (CutBelow mid (length c.fill.new.buffer)) (InSpelling Two (length c.args.row.now) c.args.level from) c.from_residual-in_err-fill.ensures.1
-    (λ reason w. cut_in_excesses from mid (length c.args.row.now) c.args.level c.in_ok-least.least c.in_ok-least.width reason c.in_ok-least.ensures.ok c.in_ok-least.ensures.few (subst (λ n. CutBelow mid n reason) size w)) c.in_err-fill.ensures.cut
-
-pub returns-in_err-fill-clause-failures : goal.returns-in_err-fill-clause-failures
-returns-in_err-fill-clause-failures g c =
     let e = err_from_is_err_and c.from_residual-in_err-fill.result c.from_residual-in_err-fill.ensures.1 in
-    rw (e.1, e.2) (omega (arith, c.in_err-fill.ensures.failures, c.in_ok-least.ensures.failures))
+    rw (e.1, e.2) (record {
+      len = refl;
+      buffer = same_len_mid 0 _ c.args.buffer.now c.fill.new.buffer c.fill.auto.buffer;
+      bounded = tt;
+      ok = tt;
+      reason = maps {A = Unit {0}} (Err c.in_err-fill.field-0.0) (CutBelow mid (length c.fill.new.buffer)) (InSpelling Two (length c.args.row.now) c.args.level from) (λ reason w. cut_in_excesses from mid (length c.args.row.now) c.args.level c.in_ok-least.least c.in_ok-least.width reason c.in_ok-least.ensures.ok c.in_ok-least.ensures.few (subst (λ n. CutBelow mid n reason) size w)) c.in_err-fill.ensures.cut;
+      failures = omega (arith, c.in_err-fill.ensures.failures, c.in_ok-least.ensures.failures);
+    })
 
 pub take_excesses-requires : goal.take_excesses-requires
 take_excesses-requires g c =
     let size = same_len_mid 0 _ c.args.buffer.now c.fill.new.buffer c.fill.auto.buffer in
     record { few = c.in_ok-least.ensures.few; room = omega (arith, few_bytes c.in_ok-least.width (length c.args.row.now) c.in_ok-least.ensures.few, c.requires.room, size) }
 
-pub returns-in-Ok-clause-len : goal.returns-in-Ok-clause-len
-returns-in-Ok-clause-len g c = c.in-Ok.ensures.len ∙ c.take_excesses.ensures.len
-
-pub returns-in-Ok-clause-buffer : goal.returns-in-Ok-clause-buffer
-returns-in-Ok-clause-buffer g c = same_len_mid 0 _ c.args.buffer.now c.fill.new.buffer c.fill.auto.buffer
-
-pub returns-in-Ok-clause-ok : goal.returns-in-Ok-clause-ok
-returns-in-Ok-clause-ok g c =
+pub returns-in-Ok : goal.returns-in-Ok
+returns-in-Ok g c =
     let over = c.take_excesses.new.row in
     let w = c.in_ok-least.width in
     let filled = c.fill.new.buffer in
@@ -88,26 +73,27 @@ returns-in-Ok-clause-ok g c =
     let text = sym (written_back filled _ (w * length over) (omega (arith, c.fill.auto.buffer, size))) ∙ c.take_excesses.ensures.text in
     let from = g.R.Read.remaining (inlet_reader c.args.inlet.now) in
     let to = g.R.Read.remaining (inlet_reader c.fill.new.inlet) in
-    subst (Consumes from to) c.in-Ok.ensures.own (raised_consumed from (g.R.Read.remaining (inlet_reader c.read_form.new.inlet)) to c.in_ok-least.least w over filled c.in_ok-least.ensures.ok c.in_ok-fill.ensures.ok text)
+    record {
+      len = c.in-Ok.ensures.len ∙ c.take_excesses.ensures.len;
+      buffer = same_len_mid 0 _ c.args.buffer.now c.fill.new.buffer c.fill.auto.buffer;
+      bounded = c.in-Ok.ensures.bounded;
+      ok = subst (Consumes from to) c.in-Ok.ensures.own (raised_consumed from (g.R.Read.remaining (inlet_reader c.read_form.new.inlet)) to c.in_ok-least.least w over filled c.in_ok-least.ensures.ok c.in_ok-fill.ensures.ok text);
+      reason = tt;
+      failures = omega (arith, c.in_ok-fill.ensures.failures, c.in_ok-least.ensures.failures);
+    }
 
-pub returns-in-Ok-clause-failures : goal.returns-in-Ok-clause-failures
-returns-in-Ok-clause-failures g c = omega (arith, c.in_ok-fill.ensures.failures, c.in_ok-least.ensures.failures)
-
-pub returns-in-Err-clause-len : goal.returns-in-Err-clause-len
-returns-in-Err-clause-len g c = c.in-Err.ensures.len ∙ c.take_excesses.ensures.len
-
-pub returns-in-Err-clause-buffer : goal.returns-in-Err-clause-buffer
-returns-in-Err-clause-buffer g c = same_len_mid 0 _ c.args.buffer.now c.fill.new.buffer c.fill.auto.buffer
-
-pub returns-in-Err-clause-reason : goal.returns-in-Err-clause-reason
-returns-in-Err-clause-reason g c =
+pub returns-in-Err : goal.returns-in-Err
+returns-in-Err g c =
     let over = c.take_excesses.new.row in
     let w = c.in_ok-least.width in
     let filled = c.fill.new.buffer in
     let size : w * length over ≡ w * length c.args.row.now = ap (λ n. w * n) c.take_excesses.ensures.len in
     let text = sym (written_back filled _ (w * length over) (omega (arith, c.fill.auto.buffer, size))) ∙ c.take_excesses.ensures.text in
-    raised_first (g.R.Read.remaining (inlet_reader c.args.inlet.now)) (g.R.Read.remaining (inlet_reader c.fill.new.inlet)) (length c.args.row.now) c.args.level c.in_ok-least.least w over c.in-Err.reason
-    (raised_consumed (g.R.Read.remaining (inlet_reader c.args.inlet.now)) (g.R.Read.remaining (inlet_reader c.read_form.new.inlet)) (g.R.Read.remaining (inlet_reader c.fill.new.inlet)) c.in_ok-least.least w over filled c.in_ok-least.ensures.ok c.in_ok-fill.ensures.ok text) c.take_excesses.ensures.len c.requires.some (omega arith) c.in_ok-least.ensures.few c.take_excesses.ensures.below c.in-Err.ensures.reason
-
-pub returns-in-Err-clause-failures : goal.returns-in-Err-clause-failures
-returns-in-Err-clause-failures g c = omega (arith, c.in_ok-fill.ensures.failures, c.in_ok-least.ensures.failures)
+    record {
+      len = c.in-Err.ensures.len ∙ c.take_excesses.ensures.len;
+      buffer = same_len_mid 0 _ c.args.buffer.now c.fill.new.buffer c.fill.auto.buffer;
+      bounded = tt;
+      ok = tt;
+      reason = raised_first (g.R.Read.remaining (inlet_reader c.args.inlet.now)) (g.R.Read.remaining (inlet_reader c.fill.new.inlet)) (length c.args.row.now) c.args.level c.in_ok-least.least w over c.in-Err.reason (raised_consumed (g.R.Read.remaining (inlet_reader c.args.inlet.now)) (g.R.Read.remaining (inlet_reader c.read_form.new.inlet)) (g.R.Read.remaining (inlet_reader c.fill.new.inlet)) c.in_ok-least.least w over filled c.in_ok-least.ensures.ok c.in_ok-fill.ensures.ok text) c.take_excesses.ensures.len c.requires.some (omega arith) c.in_ok-least.ensures.few c.take_excesses.ensures.below c.in-Err.ensures.reason;
+      failures = omega (arith, c.in_ok-fill.ensures.failures, c.in_ok-least.ensures.failures);
+    }

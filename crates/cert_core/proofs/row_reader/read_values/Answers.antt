@@ -1,4 +1,4 @@
-use Rattle.std.proofs.Common.{◌≡◌, ℕ, ◌*◌, ◌-◌, ◌^◌, ◌<◌, List, Option, IfSome, get_or, length, refl, sym, ap, ◌∙◌, subst, arith, rules}
+use Rattle.std.proofs.Common.{Err, ◌≡◌, ℕ, ◌*◌, ◌-◌, ◌^◌, ◌<◌, List, Option, IfSome, get_or, length, refl, sym, ap, ◌∙◌, subst, arith, rules}
 use borrow.Rule.Slice.PartMut.{same_len_mid}
 use Rattle.std.proofs.lemmas.Result.{err_from_is_err_and}
 use Rattle.std.specs.Io.KnownBytes.{Consumes}
@@ -10,7 +10,7 @@ use Rattle.cert_core.specs.declared.version.Version.TheVariants.{One}
 use Rattle.cert_core.specs.Reasons.{SpellingReason}
 use Rattle.cert_core.specs.Spelling.{row_text}
 use Rattle.cert_core.specs.Stops.{CutBelow, InSpelling}
-use Rattle.cert_core.proofs.Consuming.{after, passes}
+use Rattle.cert_core.proofs.Consuming.{after, maps}
 use Rattle.cert_core.proofs.row_reader.read_values.Goals as goal
 
 -- bytes that end before the values do
@@ -28,40 +28,40 @@ take_row-requires g c =
     let size : length c.fill.new.buffer ≡ 8 * length c.args.row.now - 0 = omega (arith, c.fill.auto.buffer) in
     ap length (written_back c.fill.new.buffer _ (8 * length c.args.row.now - 0) size) ∙ omega (arith, size)
 
-pub returns-in_err-fill-clause-buffer : goal.returns-in_err-fill-clause-buffer
-returns-in_err-fill-clause-buffer g c = same_len_mid 0 _ c.args.buffer.now c.fill.new.buffer c.fill.auto.buffer
+pub returns-in_err-fill : goal.returns-in_err-fill
+returns-in_err-fill g c =
+    let e = err_from_is_err_and c.from_residual.result c.from_residual.ensures.1 in
+    rw (e.1, e.2) (record {
+      len = refl;
+      buffer = same_len_mid 0 _ c.args.buffer.now c.fill.new.buffer c.fill.auto.buffer;
+      bounded = tt;
+      ok = tt;
+      reason = maps {A = Unit {0}} (Err c.in_err-fill.field-0.0) _ _ (cut_in_values _ (length c.args.row.now) c.args.level (length c.fill.new.buffer) (omega (arith, c.fill.auto.buffer))) c.in_err-fill.ensures.cut;
+      failures = c.in_err-fill.ensures.failures;
+    })
 
-pub returns-in_err-fill-clause-bounded : goal.returns-in_err-fill-clause-bounded
-returns-in_err-fill-clause-bounded g c = let e = err_from_is_err_and c.from_residual.result c.from_residual.ensures.1 in rw e.1 tt
-
-pub returns-in_err-fill-clause-ok : goal.returns-in_err-fill-clause-ok
-returns-in_err-fill-clause-ok g c = let e = err_from_is_err_and c.from_residual.result c.from_residual.ensures.1 in rw e.1 tt
-
-pub returns-in_err-fill-clause-reason : goal.returns-in_err-fill-clause-reason
-returns-in_err-fill-clause-reason g c =
-    passes (Unit {0}) c.from_residual.result c.in_err-fill.field-0.0 _ _ c.from_residual.ensures.1
-    (cut_in_values _ (length c.args.row.now) c.args.level (length c.fill.new.buffer) (omega (arith, c.fill.auto.buffer))) c.in_err-fill.ensures.cut
-
-pub returns-in_err-fill-clause-failures : goal.returns-in_err-fill-clause-failures
-returns-in_err-fill-clause-failures g c = let e = err_from_is_err_and c.from_residual.result c.from_residual.ensures.1 in rw (e.1, e.2) c.in_err-fill.ensures.failures
-
-pub returns-then-is_above-clause-buffer : goal.returns-then-is_above-clause-buffer
-returns-then-is_above-clause-buffer g c = same_len_mid 0 _ c.args.buffer.now c.fill.new.buffer c.fill.auto.buffer
-
-pub returns-then-is_above-clause-reason : goal.returns-then-is_above-clause-reason
-returns-then-is_above-clause-reason g c =
+pub returns-then-is_above : goal.returns-then-is_above
+returns-then-is_above g c =
     let text = sym (written_back c.fill.new.buffer _ (8 * length c.args.row.now - 0) (omega (arith, c.fill.auto.buffer))) ∙ c.take_row.ensures in
     let from = g.R.Read.remaining (inlet_reader c.args.inlet.now) in
     let consumed = subst (Consumes from (g.R.Read.remaining (inlet_reader c.fill.new.inlet))) text c.in_ok-fill.ensures.ok in
-    above_first from _ (length c.args.row.now) c.args.level c.take_row.new.row consumed c.take_row.auto.row (λ q. search rules) (c.if-is_above.ensures.above refl)
+    record {
+      len = c.take_row.auto.row;
+      buffer = same_len_mid 0 _ c.args.buffer.now c.fill.new.buffer c.fill.auto.buffer;
+      bounded = tt;
+      ok = tt;
+      reason = above_first from _ (length c.args.row.now) c.args.level c.take_row.new.row consumed c.take_row.auto.row (λ q. search rules) (c.if-is_above.ensures.above refl);
+      failures = c.in_ok-fill.ensures.failures;
+    }
 
-pub returns-clause-buffer : goal.returns-clause-buffer
-returns-clause-buffer g c = same_len_mid 0 _ c.args.buffer.now c.fill.new.buffer c.fill.auto.buffer
-
-pub returns-clause-bounded : goal.returns-clause-bounded
-returns-clause-bounded g c = c.if-is_above.ensures.within refl
-
-pub returns-clause-ok : goal.returns-clause-ok
-returns-clause-ok g c =
+pub returns : goal.returns
+returns g c =
     let text = sym (written_back c.fill.new.buffer _ (8 * length c.args.row.now - 0) (omega (arith, c.fill.auto.buffer))) ∙ c.take_row.ensures in
-    subst (Consumes (g.R.Read.remaining (inlet_reader c.args.inlet.now)) (g.R.Read.remaining (inlet_reader c.fill.new.inlet))) text c.in_ok-fill.ensures.ok
+    record {
+      len = c.take_row.auto.row;
+      buffer = same_len_mid 0 _ c.args.buffer.now c.fill.new.buffer c.fill.auto.buffer;
+      bounded = c.if-is_above.ensures.within refl;
+      ok = subst (Consumes (g.R.Read.remaining (inlet_reader c.args.inlet.now)) (g.R.Read.remaining (inlet_reader c.fill.new.inlet))) text c.in_ok-fill.ensures.ok;
+      reason = tt;
+      failures = c.in_ok-fill.ensures.failures;
+    }

@@ -1,6 +1,6 @@
 use Rattle.std.proofs.Common.{◌≡◌, ◌∙◌, ◌/◌, ℕ, Bool, List, length, sym, ap, ap₂, arith, Vec, Global, append_assoc}
 use Rattle.std.specs.Int.{div_ceil}
-use Rattle.std.proofs.lemmas.Result.{IfOk-from_err, err_from_is_err_and}
+use Rattle.std.proofs.lemmas.Result.{err_from_is_err_and}
 use Rattle.std.specs.List.{flat_map}
 use Rattle.wave_core.specs.Contents.{spec_of}
 use Rattle.wave_core.specs.Sizes.{FitsRiff}
@@ -15,50 +15,6 @@ count_is c = c.div_ceil-count.ensures ∙ ap₂ (λ a b. div_ceil a b) c.count.e
 
 known : (c : After-wave_spec-spec) → c.wave_spec-spec.result ≡ spec_of (length c.args.recording.now.channels) (c.args.recording.now.rate / c.args.taps.now.factor) c.args.taps.now.width
 known c = c.wave_spec-spec.ensures.spec ∙ ap₂ (λ (cs : List (List Bool)) (rate : ℕ). spec_of (length cs) (rate / c.args.taps.now.factor) c.args.taps.now.width) c.channels-channels.ensures.value c.rate.ensures.value
-
-pub returns-in_err-push_header-clause-too_large : goal.returns-in_err-push_header-clause-too_large
-returns-in_err-push_header-clause-too_large c =
-    let p = err_from_is_err_and c.from_residual.result c.from_residual.ensures.1 in
-    let count = count_is (goal.at.returns-in_err-push_header-clause-too_large c).After-div_ceil-count in
-    rw (p.1, p.2) (header_refused c.args.recording.now c.args.taps.now c.channels-channels.ensures.shape.some_channel c.parts_join.ensures {X = Unit {0}} {Y = Vec ℕ Global} c.in_err-push_header.field-0.0
-    (rw (← count) (rw (known (goal.at.returns-in_err-push_header-clause-too_large c).After-wave_spec-spec) at c.in_err-push_header.ensures.too_large)))
-
-pub returns-in_err-reserve_exact-clause-too_large : goal.returns-in_err-reserve_exact-clause-too_large
-returns-in_err-reserve_exact-clause-too_large c =
-    let p = err_from_is_err_and c.from_residual-in_err-reserve_exact.result c.from_residual-in_err-reserve_exact.ensures.1 in
-    let count = count_is (goal.at.returns-in_err-reserve_exact-clause-too_large c).After-div_ceil-count in
-    let fits : FitsRiff (length c.args.recording.now.channels) c.args.taps.now.width (frame_count c.args.taps.now c.args.recording.now.channels) = rw (← count) (rw (known (goal.at.returns-in_err-reserve_exact-clause-too_large c).After-wave_spec-spec) at c.in_ok-push_header.ensures.fits) in
-    rw p.1 (memory_refused c.args.recording.now c.args.taps.now c.channels-channels.ensures.shape.some_channel c.parts_join.ensures {Y = Vec ℕ Global} p.0 p.2 fits)
-
-pub returns-in_err-push_tiles-clause-too_large : goal.returns-in_err-push_tiles-clause-too_large
-returns-in_err-push_tiles-clause-too_large c =
-    let p = err_from_is_err_and c.from_residual-in_err-push_tiles.result c.from_residual-in_err-push_tiles.ensures.1 in
-    let count = count_is (goal.at.returns-in_err-push_tiles-clause-too_large c).After-div_ceil-count in
-    let fits : FitsRiff (length c.args.recording.now.channels) c.args.taps.now.width (frame_count c.args.taps.now c.args.recording.now.channels) = rw (← count) (rw (known (goal.at.returns-in_err-push_tiles-clause-too_large c).After-wave_spec-spec) at c.in_ok-push_header.ensures.fits) in
-    rw p.1 (memory_refused c.args.recording.now c.args.taps.now c.channels-channels.ensures.shape.some_channel c.parts_join.ensures {Y = Vec ℕ Global} p.0 p.2 fits)
-
-pub returns-in_err-push_pad-clause-too_large : goal.returns-in_err-push_pad-clause-too_large
-returns-in_err-push_pad-clause-too_large c =
-    let p = err_from_is_err_and c.from_residual-in_err-push_pad.result c.from_residual-in_err-push_pad.ensures.1 in
-    let count = count_is (goal.at.returns-in_err-push_pad-clause-too_large c).After-div_ceil-count in
-    let fits : FitsRiff (length c.args.recording.now.channels) c.args.taps.now.width (frame_count c.args.taps.now c.args.recording.now.channels) = rw (← count) (rw (known (goal.at.returns-in_err-push_pad-clause-too_large c).After-wave_spec-spec) at c.in_ok-push_header.ensures.fits) in
-    rw p.1 (memory_refused c.args.recording.now c.args.taps.now c.channels-channels.ensures.shape.some_channel c.parts_join.ensures {Y = Vec ℕ Global} p.0 p.2 fits)
-
-pub returns-clause-text : goal.returns-clause-text
-returns-clause-text c =
-    let count = count_is (goal.at.returns-clause-text c).After-div_ceil-count in
-    let fits : FitsRiff (length c.args.recording.now.channels) c.args.taps.now.width (frame_count c.args.taps.now c.args.recording.now.channels) = rw (← count) (rw (known (goal.at.returns-clause-text c).After-wave_spec-spec) at c.in_ok-push_header.ensures.fits) in
-    let r = c.args.recording.now in
-    let d = c.args.taps.now in
-    let n = c.div_ceil-count.result in
-    text_is c.args.recording.now c.args.taps.now c.channels-channels.ensures.shape.some_channel c.parts_join.ensures c.push_pad.new.out.items fits
-    (rw (← count) (rw (c.in_ok-push_pad.ensures.ok, c.in_ok-push_tiles.ensures, c.in_ok-reserve_exact.ensures.items, c.in_ok-push_header.ensures.ok, c.new-wave.ensures.items, known (goal.at.returns-clause-text c).After-wave_spec-spec, c.channels-channels.ensures.value) (append_assoc (header (length r.channels) (r.rate / d.factor) d.width n) (flat_map (sample_bytes d.width) (frames_below d r.channels n)) (pad_bytes (length r.channels) d.width n))))
-
-pub returns-clause-too_large : goal.returns-clause-too_large
-returns-clause-too_large c =
-    let count = count_is (goal.at.returns-clause-too_large c).After-div_ceil-count in
-    let fits : FitsRiff (length c.args.recording.now.channels) c.args.taps.now.width (frame_count c.args.taps.now c.args.recording.now.channels) = rw (← count) (rw (known (goal.at.returns-clause-too_large c).After-wave_spec-spec) at c.in_ok-push_header.ensures.fits) in
-    answered c.args.recording.now c.args.taps.now c.channels-channels.ensures.shape.some_channel c.parts_join.ensures {Y = Vec ℕ Global} c.push_pad.new.out fits
 
 -- ---- what the calls need
 
@@ -76,14 +32,55 @@ push_tiles-requires-clause-count c = count_is (goal.at.push_tiles-requires-claus
 
 -- ---- the exits
 
-pub returns-in_err-push_header-clause-text : goal.returns-in_err-push_header-clause-text
-returns-in_err-push_header-clause-text c = IfOk-from_err c.from_residual.result _ c.from_residual.ensures.0
+pub returns-in_err-push_header : goal.returns-in_err-push_header
+returns-in_err-push_header c =
+    let at = goal.at.returns-in_err-push_header c in
+    let e = err_from_is_err_and c.from_residual.result c.from_residual.ensures.1 in
+    rw (e.1, e.2) (record {
+      text = tt;
+      too_large = header_refused c.args.recording.now c.args.taps.now c.channels-channels.ensures.shape.some_channel c.parts_join.ensures {X = Unit {0}} {Y = Vec ℕ Global} c.in_err-push_header.field-0.0
+          (rw (← count_is at.After-div_ceil-count) (rw (known at.After-wave_spec-spec) at c.in_err-push_header.ensures.too_large));
+    })
 
-pub returns-in_err-reserve_exact-clause-text : goal.returns-in_err-reserve_exact-clause-text
-returns-in_err-reserve_exact-clause-text c = IfOk-from_err c.from_residual-in_err-reserve_exact.result _ c.from_residual-in_err-reserve_exact.ensures.0
+pub returns-in_err-reserve_exact : goal.returns-in_err-reserve_exact
+returns-in_err-reserve_exact c =
+    let at = goal.at.returns-in_err-reserve_exact c in
+    let e = err_from_is_err_and c.from_residual-in_err-reserve_exact.result c.from_residual-in_err-reserve_exact.ensures.1 in
+    let fits : FitsRiff (length c.args.recording.now.channels) c.args.taps.now.width (frame_count c.args.taps.now c.args.recording.now.channels) = rw (← count_is at.After-div_ceil-count) (rw (known at.After-wave_spec-spec) at c.in_ok-push_header.ensures.fits) in
+    rw e.1 (record {
+      text = tt;
+      too_large = memory_refused c.args.recording.now c.args.taps.now c.channels-channels.ensures.shape.some_channel c.parts_join.ensures {Y = Vec ℕ Global} e.0 e.2 fits;
+    })
 
-pub returns-in_err-push_tiles-clause-text : goal.returns-in_err-push_tiles-clause-text
-returns-in_err-push_tiles-clause-text c = IfOk-from_err c.from_residual-in_err-push_tiles.result _ c.from_residual-in_err-push_tiles.ensures.0
+pub returns-in_err-push_tiles : goal.returns-in_err-push_tiles
+returns-in_err-push_tiles c =
+    let at = goal.at.returns-in_err-push_tiles c in
+    let e = err_from_is_err_and c.from_residual-in_err-push_tiles.result c.from_residual-in_err-push_tiles.ensures.1 in
+    let fits : FitsRiff (length c.args.recording.now.channels) c.args.taps.now.width (frame_count c.args.taps.now c.args.recording.now.channels) = rw (← count_is at.After-div_ceil-count) (rw (known at.After-wave_spec-spec) at c.in_ok-push_header.ensures.fits) in
+    rw e.1 (record {
+      text = tt;
+      too_large = memory_refused c.args.recording.now c.args.taps.now c.channels-channels.ensures.shape.some_channel c.parts_join.ensures {Y = Vec ℕ Global} e.0 e.2 fits;
+    })
 
-pub returns-in_err-push_pad-clause-text : goal.returns-in_err-push_pad-clause-text
-returns-in_err-push_pad-clause-text c = IfOk-from_err c.from_residual-in_err-push_pad.result _ c.from_residual-in_err-push_pad.ensures.0
+pub returns-in_err-push_pad : goal.returns-in_err-push_pad
+returns-in_err-push_pad c =
+    let at = goal.at.returns-in_err-push_pad c in
+    let e = err_from_is_err_and c.from_residual-in_err-push_pad.result c.from_residual-in_err-push_pad.ensures.1 in
+    let fits : FitsRiff (length c.args.recording.now.channels) c.args.taps.now.width (frame_count c.args.taps.now c.args.recording.now.channels) = rw (← count_is at.After-div_ceil-count) (rw (known at.After-wave_spec-spec) at c.in_ok-push_header.ensures.fits) in
+    rw e.1 (record {
+      text = tt;
+      too_large = memory_refused c.args.recording.now c.args.taps.now c.channels-channels.ensures.shape.some_channel c.parts_join.ensures {Y = Vec ℕ Global} e.0 e.2 fits;
+    })
+
+pub returns : goal.returns
+returns c =
+    let at = goal.at.returns c in
+    let fits : FitsRiff (length c.args.recording.now.channels) c.args.taps.now.width (frame_count c.args.taps.now c.args.recording.now.channels) = rw (← count_is at.After-div_ceil-count) (rw (known at.After-wave_spec-spec) at c.in_ok-push_header.ensures.fits) in
+    let r = c.args.recording.now in
+    let d = c.args.taps.now in
+    let n = c.div_ceil-count.result in
+    record {
+      text = text_is r d c.channels-channels.ensures.shape.some_channel c.parts_join.ensures c.push_pad.new.out.items fits
+          (rw (← count_is at.After-div_ceil-count) (rw (c.in_ok-push_pad.ensures.ok, c.in_ok-push_tiles.ensures, c.in_ok-reserve_exact.ensures.items, c.in_ok-push_header.ensures.ok, c.new-wave.ensures.items, known at.After-wave_spec-spec, c.channels-channels.ensures.value) (append_assoc (header (length r.channels) (r.rate / d.factor) d.width n) (flat_map (sample_bytes d.width) (frames_below d r.channels n)) (pad_bytes (length r.channels) d.width n))));
+      too_large = answered r d c.channels-channels.ensures.shape.some_channel c.parts_join.ensures {Y = Vec ℕ Global} c.push_pad.new.out fits;
+    }

@@ -1,7 +1,6 @@
 use Rattle.std.proofs.Common.{◌≡◌, ◌+◌, ◌*◌, length, ap, sym, ◌∙◌, refl, arith}
 use Rattle.std.proofs.lemmas.Result.{err_from_is_err_and}
 use Rattle.std.proofs.KnownBytes.{Appends-nil}
-use Rattle.dsd_bits.proofs.ExitLaws.{no_ok}
 use Rattle.cost_core.specs.Trellis.{states}
 use Rattle.cost_core.specs.StateCosts.{trellis_of}
 use Rattle.trellis_core.specs.Best.{best_row}
@@ -38,15 +37,24 @@ module _ (g : Over) (c : After-deref-in-loop-level g) where
       ∙ written c.loop-level.room.totals.len c.cut_row.new.cut c.loop-level.room.totals.items c.loop-level.room.totals.ok.0 (omega (arith, cut_long, c.loop-level.invariant.totals))
       ∙ cut_is c.args.cost c.deref.result.now c.cut_row.new.cut (cut_long ∙ sym (ap length row_is ∙ row_length (trellis_of c.args.window.now) c.loop-level.level)) c.cut_row.ensures
 
-pub returns-in_err-level-clause-err : goal.returns-in_err-level-clause-err
-returns-in_err-level-clause-err g c =
-    let here = (goal.at.returns-in_err-level-clause-err g c).After-deref-in-loop-level in
-    let p = err_from_is_err_and c.from_residual.result c.from_residual.ensures.1 in
+pub returns-in_err-level : goal.returns-in_err-level
+returns-in_err-level g c =
+    let here = (goal.at.returns-in_err-level g c).After-deref-in-loop-level in
     let t = trellis_of c.args.window.now in
     let inv = c.loop-level.invariant in
     let part = cut_front t c.args.cost g.S.LevelSink.spelling (g.S.LevelSink.kind c.args.sink.now) (g.S.LevelSink.kind c.loop-level.sink) (g.S.LevelSink.text c.args.sink.now) (g.S.LevelSink.text c.loop-level.sink) (g.S.LevelSink.text c.level.new.self) c.loop-level.level c.deref.result.now c.deref-in-loop-level.result.now
     inv.kind (row_is g here) (row_cut g here) inv.handed c.in_err-level.ensures.err in
-    rw p.1 (hands_up_to t c.length-level-end.ensures.bounded (cut_spelling c.args.cost (g.S.LevelSink.spelling (g.S.LevelSink.kind c.args.sink.now))) (g.S.LevelSink.text c.args.sink.now) (g.S.LevelSink.text c.level.new.self) c.loop-level.level c.deref.result.now (omega (arith, c.loop-level-test.true, c.length-level-end.ensures.value)) (row_is g here) part)
+    let e = err_from_is_err_and c.from_residual.result c.from_residual.ensures.1 in
+    rw e.1 (record {
+      buffers = tt;
+      ok = tt;
+      err = hands_up_to t c.length-level-end.ensures.bounded (cut_spelling c.args.cost (g.S.LevelSink.spelling (g.S.LevelSink.kind c.args.sink.now))) (g.S.LevelSink.text c.args.sink.now) (g.S.LevelSink.text c.level.new.self) c.loop-level.level c.deref.result.now (omega (arith, c.loop-level-test.true, c.length-level-end.ensures.value)) (row_is g here) part;
+      refused = c.in_err-level.ensures.refused c.loop-level.invariant.ready;
+      rows_left = tt;
+      row_length = c.level.ensures.row_length ∙ c.loop-level.invariant.row_length;
+      kind = c.level.ensures.kind ∙ c.loop-level.invariant.kind;
+      kept = c.level.ensures.kept ∙ c.loop-level.invariant.kept;
+    })
 
 pub loop-level-preserved : goal.loop-level-preserved
 loop-level-preserved g c =
@@ -86,35 +94,46 @@ module _ (g : Over) (c : After-deref-3 g) where
       ∙ written c.loop-level.room.totals.len c.cut_row-2.new.cut c.loop-level.room.totals.items c.loop-level.room.totals.ok.0 (omega (arith, last_long, c.loop-level.invariant.totals))
       ∙ cut_is c.args.cost c.deref-2.result.now c.cut_row-2.new.cut (last_long ∙ sym (ap length last_is ∙ row_length (trellis_of c.args.window.now) c.loop-level.level)) c.cut_row-2.ensures
 
-pub returns-in_err-level-2-clause-err : goal.returns-in_err-level-2-clause-err
-returns-in_err-level-2-clause-err g c =
-    let here = (goal.at.returns-in_err-level-2-clause-err g c).After-deref-3 in
-    let p = err_from_is_err_and c.from_residual-in_err-level-2.result c.from_residual-in_err-level-2.ensures.1 in
+pub returns-in_err-level-2 : goal.returns-in_err-level-2
+returns-in_err-level-2 g c =
+    let here = (goal.at.returns-in_err-level-2 g c).After-deref-3 in
     let t = trellis_of c.args.window.now in
     let inv = c.loop-level.invariant in
     let part = cut_front t c.args.cost g.S.LevelSink.spelling (g.S.LevelSink.kind c.args.sink.now) (g.S.LevelSink.kind c.loop-level.sink) (g.S.LevelSink.text c.args.sink.now) (g.S.LevelSink.text c.loop-level.sink) (g.S.LevelSink.text c.level-2.new.self) c.loop-level.level c.deref-2.result.now c.deref-3.result.now
     inv.kind (last_is g here) (last_cut g here) inv.handed c.in_err-level-2.ensures.err in
-    rw p.1 (hands_up_to t c.length-level-end.ensures.bounded (cut_spelling c.args.cost (g.S.LevelSink.spelling (g.S.LevelSink.kind c.args.sink.now))) (g.S.LevelSink.text c.args.sink.now) (g.S.LevelSink.text c.level-2.new.self) c.loop-level.level c.deref-2.result.now (omega (arith, c.loop-level-test.false, c.length-level-end.ensures.value)) (last_is g here) part)
+    let e = err_from_is_err_and c.from_residual-in_err-level-2.result c.from_residual-in_err-level-2.ensures.1 in
+    rw e.1 (record {
+      buffers = tt;
+      ok = tt;
+      err = hands_up_to t c.length-level-end.ensures.bounded (cut_spelling c.args.cost (g.S.LevelSink.spelling (g.S.LevelSink.kind c.args.sink.now))) (g.S.LevelSink.text c.args.sink.now) (g.S.LevelSink.text c.level-2.new.self) c.loop-level.level c.deref-2.result.now (omega (arith, c.loop-level-test.false, c.length-level-end.ensures.value)) (last_is g here) part;
+      refused = c.in_err-level-2.ensures.refused c.loop-level.invariant.ready;
+      rows_left = tt;
+      row_length = c.level-2.ensures.row_length ∙ c.loop-level.invariant.row_length;
+      kind = c.level-2.ensures.kind ∙ c.loop-level.invariant.kind;
+      kept = c.level-2.ensures.kept ∙ c.loop-level.invariant.kept;
+    })
 
-pub returns-clause-ok : goal.returns-clause-ok
-returns-clause-ok g c =
-    let here = (goal.at.returns-clause-ok g c).After-deref-3 in
+pub returns : goal.returns
+returns g c =
     let t = trellis_of c.args.window.now in
     let inv = c.loop-level.invariant in
+    let here = (goal.at.returns g c).After-deref-3 in
     let more = cut_more t c.args.cost g.S.LevelSink.spelling (g.S.LevelSink.kind c.args.sink.now) (g.S.LevelSink.kind c.loop-level.sink) (g.S.LevelSink.text c.args.sink.now) (g.S.LevelSink.text c.loop-level.sink) (g.S.LevelSink.text c.level-2.new.self) c.loop-level.level c.deref-2.result.now c.deref-3.result.now
     inv.kind (last_is g here) (last_cut g here) inv.handed c.in_ok-level-2.ensures.ok in
-    hands_all t c.length-level-end.ensures.bounded (cut_spelling c.args.cost (g.S.LevelSink.spelling (g.S.LevelSink.kind c.args.sink.now))) (g.S.LevelSink.text c.args.sink.now) (g.S.LevelSink.text c.level-2.new.self) c.loop-level.level (omega (arith, c.loop-level-test.false, c.length-level-end.ensures.value, c.loop-level.auto.level-end)) more
-
-pub returns-clause-buffers : goal.returns-clause-buffers
-returns-clause-buffers g c =
-    let t = trellis_of c.args.window.now in
-    let inv = c.loop-level.invariant in
-    let here = (goal.at.returns-clause-buffers g c).After-deref-3 in
     record {
-      steps = inv.steps;
-      row = ap length inv.row ∙ row_length t c.loop-level.level;
-      totals = written_length c.loop-level.room.totals.len (states t) c.cut_row-2.new.cut c.loop-level.room.totals.items c.loop-level.room.totals.ok.0 (last_long g here) inv.totals;
-      decided = inv.decided;
+      buffers = record {
+        steps = inv.steps;
+        row = ap length inv.row ∙ row_length t c.loop-level.level;
+        totals = written_length c.loop-level.room.totals.len (states t) c.cut_row-2.new.cut c.loop-level.room.totals.items c.loop-level.room.totals.ok.0 (last_long g here) inv.totals;
+        decided = inv.decided;
+      };
+      ok = hands_all t c.length-level-end.ensures.bounded (cut_spelling c.args.cost (g.S.LevelSink.spelling (g.S.LevelSink.kind c.args.sink.now))) (g.S.LevelSink.text c.args.sink.now) (g.S.LevelSink.text c.level-2.new.self) c.loop-level.level (omega (arith, c.loop-level-test.false, c.length-level-end.ensures.value, c.loop-level.auto.level-end)) more;
+      err = tt;
+      refused = c.in_ok-level-2.ensures.refused c.loop-level.invariant.ready;
+      rows_left = omega (arith, c.in_ok-level-2.ensures.rows, c.loop-level.invariant.left, c.loop-level-test.false, c.loop-level.auto.level-end, c.length-level-end.ensures.value);
+      row_length = c.level-2.ensures.row_length ∙ c.loop-level.invariant.row_length;
+      kind = c.level-2.ensures.kind ∙ c.loop-level.invariant.kind;
+      kept = c.level-2.ensures.kept ∙ c.loop-level.invariant.kept;
     }
 
 pub loop-level-init : goal.loop-level-init
@@ -135,93 +154,26 @@ loop-level-init g c =
       ready = c.requires.ready;
     }
 
--- ---- what an exit says nothing of, and what is left of the sink
-pub returns-in_err-level-clause-buffers : goal.returns-in_err-level-clause-buffers
-returns-in_err-level-clause-buffers g c = no_ok _ _ c.from_residual.result c.from_residual.ensures.1
+pub level-requires : goal.level-requires
+level-requires g c = record {
+  rows = omega (arith, c.loop-level.invariant.left, c.loop-level-test.true, c.length-level-end.ensures.value, c.requires.rows);
+  row = omega (arith, c.deref-in-loop-level.ensures.len, c.loop-level.room.totals.ok.0, c.loop-level.invariant.totals, c.loop-level.invariant.row_length, c.requires.row_length);
+}
 
-pub returns-in_err-level-clause-ok : goal.returns-in_err-level-clause-ok
-returns-in_err-level-clause-ok g c = no_ok _ _ c.from_residual.result c.from_residual.ensures.1
+pub level-requires-2 : goal.level-requires-2
+level-requires-2 g c = record {
+  rows = omega (arith, c.loop-level.invariant.left, c.loop-level.auto.level-end, c.length-level-end.ensures.value, c.requires.rows);
+  row = omega (arith, c.deref-3.ensures.len, c.loop-level.room.totals.ok.0, c.loop-level.invariant.totals, c.loop-level.invariant.row_length, c.requires.row_length);
+}
 
-pub returns-in_err-level-clause-rows_left : goal.returns-in_err-level-clause-rows_left
-returns-in_err-level-clause-rows_left g c = no_ok _ _ c.from_residual.result c.from_residual.ensures.1
-
-pub returns-in_err-level-clause-refused : goal.returns-in_err-level-clause-refused
-returns-in_err-level-clause-refused g c = let e = err_from_is_err_and c.from_residual.result c.from_residual.ensures.1 in rw e.1 (c.in_err-level.ensures.refused c.loop-level.invariant.ready)
-
-pub returns-in_err-level-clause-row_length : goal.returns-in_err-level-clause-row_length
-returns-in_err-level-clause-row_length g c = c.level.ensures.row_length ∙ c.loop-level.invariant.row_length
-
-pub returns-in_err-level-clause-kind : goal.returns-in_err-level-clause-kind
-returns-in_err-level-clause-kind g c = c.level.ensures.kind ∙ c.loop-level.invariant.kind
-
-pub returns-in_err-level-clause-kept : goal.returns-in_err-level-clause-kept
-returns-in_err-level-clause-kept g c = c.level.ensures.kept ∙ c.loop-level.invariant.kept
-
-pub returns-in_err-level-2-clause-buffers : goal.returns-in_err-level-2-clause-buffers
-returns-in_err-level-2-clause-buffers g c = no_ok _ _ c.from_residual-in_err-level-2.result c.from_residual-in_err-level-2.ensures.1
-
-pub returns-in_err-level-2-clause-ok : goal.returns-in_err-level-2-clause-ok
-returns-in_err-level-2-clause-ok g c = no_ok _ _ c.from_residual-in_err-level-2.result c.from_residual-in_err-level-2.ensures.1
-
-pub returns-in_err-level-2-clause-rows_left : goal.returns-in_err-level-2-clause-rows_left
-returns-in_err-level-2-clause-rows_left g c = no_ok _ _ c.from_residual-in_err-level-2.result c.from_residual-in_err-level-2.ensures.1
-
-pub returns-in_err-level-2-clause-refused : goal.returns-in_err-level-2-clause-refused
-returns-in_err-level-2-clause-refused g c = let e = err_from_is_err_and c.from_residual-in_err-level-2.result c.from_residual-in_err-level-2.ensures.1 in rw e.1 (c.in_err-level-2.ensures.refused c.loop-level.invariant.ready)
-
-pub returns-in_err-level-2-clause-row_length : goal.returns-in_err-level-2-clause-row_length
-returns-in_err-level-2-clause-row_length g c = c.level-2.ensures.row_length ∙ c.loop-level.invariant.row_length
-
-pub returns-in_err-level-2-clause-kind : goal.returns-in_err-level-2-clause-kind
-returns-in_err-level-2-clause-kind g c = c.level-2.ensures.kind ∙ c.loop-level.invariant.kind
-
-pub returns-in_err-level-2-clause-kept : goal.returns-in_err-level-2-clause-kept
-returns-in_err-level-2-clause-kept g c = c.level-2.ensures.kept ∙ c.loop-level.invariant.kept
-
-pub returns-clause-row_length : goal.returns-clause-row_length
-returns-clause-row_length g c = c.level-2.ensures.row_length ∙ c.loop-level.invariant.row_length
-
-pub returns-clause-kind : goal.returns-clause-kind
-returns-clause-kind g c = c.level-2.ensures.kind ∙ c.loop-level.invariant.kind
-
-pub returns-clause-kept : goal.returns-clause-kept
-returns-clause-kept g c = c.level-2.ensures.kept ∙ c.loop-level.invariant.kept
-
-pub returns-clause-err : goal.returns-clause-err
-returns-clause-err g c = tt
-
-pub returns-clause-refused : goal.returns-clause-refused
-returns-clause-refused g c = c.in_ok-level-2.ensures.refused c.loop-level.invariant.ready
-
-pub returns-clause-rows_left : goal.returns-clause-rows_left
-returns-clause-rows_left g c = omega (arith, c.in_ok-level-2.ensures.rows, c.loop-level.invariant.left, c.loop-level-test.false, c.loop-level.auto.level-end, c.length-level-end.ensures.value)
-
-pub level-requires-clause-rows : goal.level-requires-clause-rows
-level-requires-clause-rows g c = omega (arith, c.loop-level.invariant.left, c.loop-level-test.true, c.length-level-end.ensures.value, c.requires.rows)
-
-pub level-requires-2-clause-rows : goal.level-requires-2-clause-rows
-level-requires-2-clause-rows g c = omega (arith, c.loop-level.invariant.left, c.loop-level.auto.level-end, c.length-level-end.ensures.value, c.requires.rows)
-
-pub level-requires-clause-row : goal.level-requires-clause-row
-level-requires-clause-row g c = omega (arith, c.deref-in-loop-level.ensures.len, c.loop-level.room.totals.ok.0, c.loop-level.invariant.totals, c.loop-level.invariant.row_length, c.requires.row_length)
-
-pub level-requires-2-clause-row : goal.level-requires-2-clause-row
-level-requires-2-clause-row g c = omega (arith, c.deref-3.ensures.len, c.loop-level.room.totals.ok.0, c.loop-level.invariant.totals, c.loop-level.invariant.row_length, c.requires.row_length)
-
-pub next_row-requires-clause-level : goal.next_row-requires-clause-level
-next_row-requires-clause-level g c = omega (arith, c.loop-level-test.true, c.length-level-end.ensures.value)
-
-pub next_row-requires-clause-row : goal.next_row-requires-clause-row
-next_row-requires-clause-row g c = c.deref-in-loop-level-2.ensures.value ∙ c.loop-level.invariant.row
-
-pub next_row-requires-clause-steps : goal.next_row-requires-clause-steps
-next_row-requires-clause-steps g c = ap length c.deref_mut-in-loop-level-2.ensures.value ∙ c.loop-level.invariant.steps
-
-pub next_row-requires-clause-following : goal.next_row-requires-clause-following
-next_row-requires-clause-following g c = omega (arith, c.deref_mut-in-loop-level-3.ensures.len, c.loop-level.room.totals.ok.0, c.loop-level.invariant.totals)
-
-pub next_row-requires-clause-decisions : goal.next_row-requires-clause-decisions
-next_row-requires-clause-decisions g c = ap length c.deref_mut-in-loop-level-4.ensures.value ∙ c.loop-level.invariant.decided
+pub next_row-requires : goal.next_row-requires
+next_row-requires g c = record {
+  level = omega (arith, c.loop-level-test.true, c.length-level-end.ensures.value);
+  row = c.deref-in-loop-level-2.ensures.value ∙ c.loop-level.invariant.row;
+  steps = ap length c.deref_mut-in-loop-level-2.ensures.value ∙ c.loop-level.invariant.steps;
+  following = omega (arith, c.deref_mut-in-loop-level-3.ensures.len, c.loop-level.room.totals.ok.0, c.loop-level.invariant.totals);
+  decisions = ap length c.deref_mut-in-loop-level-4.ensures.value ∙ c.loop-level.invariant.decided;
+}
 
 pub write_first_row-requires : goal.write_first_row-requires
 write_first_row-requires g c = ap length c.deref_mut.ensures.value ∙ c.requires.buffers.row

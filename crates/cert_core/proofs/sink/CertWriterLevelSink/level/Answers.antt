@@ -1,6 +1,16 @@
-use Rattle.std.specs.Prelude.{◌≡◌, ℕ, ◌+◌, ◌<◌, ◌^◌, Bool, false, if◌then◌else◌}
-use Rattle.std.proofs.Common.{rules, subst}
-use Rattle.cert_core.specs.Writers.{has_failed, rows_left}
+use Rattle.std.specs.Prelude.{◌≡◌, ℕ, ◌+◌, ◌-◌, ◌<◌, ◌^◌, Bool, false, if◌then◌else◌}
+use Rattle.std.specs.Option.{IsSome}
+use Rattle.std.specs.Io.KnownBytes.{Appends}
+use Rattle.std.proofs.Common.{List, [], Option, None, Some, Err, IsErrOf, ap, refl, rules, subst, sym, true≢false}
+use Rattle.std.proofs.KnownBytes.{Appends-nil}
+use Rattle.device_core.specs.Outlets.{outlet_writer, AppendsPart}
+use Rattle.device_core.specs.declared.fused_outlet.FusedFault.{FusedFault}
+use Rattle.device_core.specs.declared.fused_outlet.FusedFault.TheVariants.{Device, Failed}
+use Rattle.cost_core.specs.Sinks.{AppendsFront}
+use Rattle.cert_core.specs.Spelling.{row_text, version_number, version_of}
+use Rattle.cert_core.specs.Writers.{cert_outlet, cert_version, has_failed, rows_left}
+use Rattle.cert_core.specs.declared.version.Version.{Version}
+use Rattle.cert_core.specs.declared.version.Version.TheVariants.{One, Two}
 use Rattle.cert_core.proofs.sink.CertWriterLevelSink.level.Goals as goal
 
 pub level-requires-clause-rows : goal.level-requires-clause-rows
@@ -10,5 +20,49 @@ level-requires-clause-rows g c = λ fine. subst (λ failed. 0 < (if failed then 
 taken : (before after : Bool) (old new : ℕ) → before ≡ false → after ≡ false → new + 1 ≡ old → (if after then 2 ^ 16 else new) + 1 ≡ (if before then 2 ^ 16 else old)
 taken before after old new fine still left = rw (fine, still) left
 
-pub returns-in-Ok-clause-rows : goal.returns-in-Ok-clause-rows
-returns-in-Ok-clause-rows g c = taken (has_failed c.args.self.now) (has_failed c.level.new.self) (rows_left c.args.self.now) (rows_left c.level.new.self) (search rules) (search rules) (search rules)
+-- the version that a kind is of
+same_version : (v : Version) → v ≡ version_of (version_number v)
+same_version One = refl
+same_version Two = refl
+
+-- what was told stays told
+told : (old new : Option (List ℕ)) (bytes : List ℕ) → Appends old new bytes → IsSome old → IsSome new
+told None new bytes wrote is = absurd (true≢false (sym is))
+told (Some x) None bytes wrote is = absurd wrote
+told (Some x) (Some y) bytes wrote is = refl
+
+-- what a refusal leaves of the bytes
+front : (old new : Option (List ℕ)) (bytes : List ℕ) (f : FusedFault) → (IsErrOf {T = Unit {0}} (Err f) Device → AppendsPart old new bytes) → (IsErrOf {T = Unit {0}} (Err f) Failed → new ≡ old) → AppendsFront old new bytes
+front old new bytes Device part same = let (front, back, is, some, wrote) = part refl in (front, back, is, wrote)
+front old new bytes Failed part same = ([], bytes, refl, subst (λ a. Appends old a []) (sym (same refl)) (Appends-nil old))
+
+pub returns-in-Ok : goal.returns-in-Ok
+returns-in-Ok g c =
+    let old = g.W.Write.contents (outlet_writer (cert_outlet c.args.self.now)) in
+    let new = g.W.Write.contents (outlet_writer (cert_outlet c.level.new.self)) in
+    record {
+      rows = taken (has_failed c.args.self.now) (has_failed c.level.new.self) (rows_left c.args.self.now) (rows_left c.level.new.self) (search rules) c.in-Ok.ensures.refused c.in-Ok.ensures.rows;
+      row_length = ap (λ s. 2 ^ (s.weights - 1)) c.level.ensures.kept;
+      kind = ap (λ s. version_number s.version) c.level.ensures.kept;
+      kept = c.level.ensures.kept;
+      telling = told old new _ c.in-Ok.ensures.ok;
+      ok = subst (λ v. Appends old new (row_text v c.args.row.now)) (same_version (cert_version c.args.self.now)) c.in-Ok.ensures.ok;
+      err = tt;
+      refused = λ _. c.in-Ok.ensures.refused;
+    }
+
+pub returns-in-Err : goal.returns-in-Err
+returns-in-Err g c =
+    let old = g.W.Write.contents (outlet_writer (cert_outlet c.args.self.now)) in
+    let new = g.W.Write.contents (outlet_writer (cert_outlet c.level.new.self)) in
+    let part = front old new (row_text (cert_version c.args.self.now) c.args.row.now) c.in-Err.field-0 c.in-Err.ensures.device (λ h. ap (λ w. g.W.Write.contents (outlet_writer (cert_outlet w))) (c.in-Err.ensures.unchanged h)) in
+    record {
+      rows = tt;
+      row_length = ap (λ s. 2 ^ (s.weights - 1)) c.level.ensures.kept;
+      kind = ap (λ s. version_number s.version) c.level.ensures.kept;
+      kept = c.level.ensures.kept;
+      telling = told old new _ part.3;
+      ok = tt;
+      err = subst (λ v. AppendsFront old new (row_text v c.args.row.now)) (same_version (cert_version c.args.self.now)) part;
+      refused = λ _. c.in-Err.ensures.refused;
+    }

@@ -1,11 +1,10 @@
 -- A file whose front was read: what it plays, by its parts.
-use Rattle.std.proofs.Common.{◌≡◌, ℕ, ◌+◌, ◌%◌, ◌^◌, ◌≤◌, inl, inr, true, false, Bool, List, ◌++◌, length, take, drop, Option, None, Some, IfSome, OnErr, Result, refl, sym, subst, ap, ap₂, ◌∙◌, arith, append_assoc, length-append, length-take-le, length-drop, take-append-drop}
+use Rattle.std.proofs.Common.{◌≡◌, ℕ, ◌+◌, ◌%◌, ◌^◌, ◌≤◌, inl, inr, true, false, Bool, List, ◌++◌, length, take, drop, Option, None, Some, IfSome, refl, sym, subst, ap, ap₂, ◌∙◌, arith, append_assoc, length-append, length-take-le, length-drop, take-append-drop}
 use Rattle.std.proofs.lemmas.Bool.{cases_lt}
 use Rattle.std.proofs.lemmas.List.{drop-append-le}
 use Rattle.std.proofs.Math.Seq.{take-append_seam}
 use Rattle.std.specs.Io.KnownBytes.{Appends, Consumes}
 use Rattle.std.proofs.KnownBytes.{Appends-trans}
-use Rattle.dsd_bits.proofs.ExitLaws.{any_err}
 use Rattle.device_core.specs.Inlets.{inlet_given, inlet_reader}
 use Rattle.device_core.specs.Outlets.{AppendsFront}
 use Rattle.device_core.specs.declared.inlet.Inlet.{Inlet}
@@ -184,9 +183,6 @@ module _ (law : SoundIsPlayed) (d : Decimator) (front : List ℕ) (s : Sound) (t
 pub none_front : (left : Option (List ℕ)) (Plays : List ℕ → List ℕ → Type 0) (a : Option (List ℕ)) → WritesFront left Plays a a
 none_front None Plays a = tt
 none_front (Some file) Plays a = λ bytes plays. front_nil a bytes
-
-pub none_written : {X E : Type 0} (r : Result X E) (left : Option (List ℕ)) (Plays : List ℕ → List ℕ → Type 0) (a : Option (List ℕ)) → OnErr r (WritesFront left Plays a a)
-none_written r left Plays a = any_err r (none_front left Plays a)
 
 module _ {R : Type 0} (left : R → Option (List ℕ)) (i j k : Inlet R) (d : Decimator) (front bytes : List ℕ) (is : bytes ≡ front) (a e : Option (List ℕ)) (before : Reads left i j front) where
   pub plays_given : (n : ℕ) → PlaysRead left j k d bytes a e n → PlaysGiven left i k (PlaysBy d) a e n

@@ -11,87 +11,71 @@ tag_at-requires g c =
     let told = has_order c.args.sound.now.interleaving c.requires.interleaving in
     record { at_sound = ends c.args.head.now c.args.sound.now c.requires.at_sound told.0 told.1 }
 
-pub returns-in_err-gap-clause-fault : goal.returns-in_err-gap-clause-fault
-returns-in_err-gap-clause-fault g c =
-    let told = has_order c.args.sound.now.interleaving c.requires.interleaving in
-    let e = err_from_is_err_and c.from_residual.result c.from_residual.ensures.1 in
-    rw (e.1, e.2) (tag_fault c.args.head.now c.args.sound.now c.requires.at_sound told.0 told.1 c.requires.sound _ _ _ _ c.in_err-gap.field-0.0 c.tag_at.ensures.place (omega arith) c.in_err-gap.ensures.fault)
-
 pub outline-requires-clause-at_sound : goal.outline-requires-clause-at_sound
 outline-requires-clause-at_sound g c =
     let told = has_order c.args.sound.now.interleaving c.requires.interleaving in
     ends c.args.head.now c.args.sound.now c.requires.at_sound told.0 told.1
-
-pub returns-in_default-clause-fault : goal.returns-in_default-clause-fault
-returns-in_default-clause-fault g c =
-    let told = has_order c.args.sound.now.interleaving c.requires.interleaving in
-    let read = c.in_ok-gap.ensures.ok in
-    let refused = subst (TellsOutline c.args.head.now (c.given.result - c.read_tag.new.reader.given) c.in_ok-tag.tag.items) c.in_default.is c.in_ok-recording.ensures.told in
-    let total : c.given.result - c.read_tag.new.reader.given ≡ length c.args.head.now + c.args.sound.now.size + length c.args.reader.now.ahead.now.items + length read.read = omega (arith, c.given.ensures, c.read_tag.ensures.same.given, read.reads.given, c.requires.given) in
-    blocks_refused c.args.head.now c.args.sound.now c.requires.at_sound told.0 told.1 c.requires.sound g.R.Read.remaining c.args.reader.now.inlet.now c.read_tag.new.reader.inlet.now _ c.in_ok-gap.gap _ _ c.args.reader.now.ahead.now.items _ read total refused
-
-pub returns-clause-ok : goal.returns-clause-ok
-returns-clause-ok g c =
-    let told = has_order c.args.sound.now.interleaving c.requires.interleaving in
-    let read = c.in_ok-gap.ensures.ok in
-    let tag = c.in_ok-tag.ensures.items ∙ c.as_slice.ensures.value in
-    let outline = subst (λ xs. TellsOutline c.args.head.now (c.given.result - c.read_tag.new.reader.given) xs (Some c.in-Some.recording)) tag (subst (TellsOutline c.args.head.now (c.given.result - c.read_tag.new.reader.given) c.in_ok-tag.tag.items) c.in-Some.is c.in_ok-recording.ensures.told) in
-    let total : c.given.result - c.read_tag.new.reader.given ≡ length c.args.head.now + c.args.sound.now.size + length c.args.reader.now.ahead.now.items + length read.read = omega (arith, c.given.ensures, c.read_tag.ensures.same.given, read.reads.given, c.requires.given) in
-    blocks_around c.args.head.now c.args.sound.now c.requires.at_sound told.0 told.1 c.requires.sound g.R.Read.remaining c.args.reader.now.inlet.now c.read_tag.new.reader.inlet.now _ c.in_ok-gap.gap _ _ c.args.reader.now.ahead.now.items _ c.in-Some.recording c.tag_at.ensures.place (omega arith) read total outline
-
-pub returns-in_err-gap-clause-same : goal.returns-in_err-gap-clause-same
-returns-in_err-gap-clause-same g c = c.read_tag.ensures.same
-
-pub returns-in_err-tag-clause-same : goal.returns-in_err-tag-clause-same
-returns-in_err-tag-clause-same g c = c.read_tag.ensures.same
-
-pub returns-in_err-recording-clause-same : goal.returns-in_err-recording-clause-same
-returns-in_err-recording-clause-same g c = c.read_tag.ensures.same
-
-pub returns-in_default-clause-same : goal.returns-in_default-clause-same
-returns-in_default-clause-same g c = c.read_tag.ensures.same
-
-pub returns-clause-same : goal.returns-clause-same
-returns-clause-same g c = c.read_tag.ensures.same
-
-pub returns-in_err-gap-clause-ok : goal.returns-in_err-gap-clause-ok
-returns-in_err-gap-clause-ok g c = let e = err_from_is_err_and c.from_residual.result c.from_residual.ensures.1 in rw e.1 tt
-
-pub returns-in_err-tag-clause-ok : goal.returns-in_err-tag-clause-ok
-returns-in_err-tag-clause-ok g c = let e = err_from_is_err_and c.from_residual-in_err-tag.result c.from_residual-in_err-tag.ensures.1 in rw e.1 tt
-
-pub returns-in_err-recording-clause-ok : goal.returns-in_err-recording-clause-ok
-returns-in_err-recording-clause-ok g c = let e = err_from_is_err_and c.from_residual-in_err-recording.result c.from_residual-in_err-recording.ensures.1 in rw e.1 tt
-
-pub returns-in_err-gap-clause-counts : goal.returns-in_err-gap-clause-counts
-returns-in_err-gap-clause-counts g c =
-    let e = err_from_is_err_and c.from_residual.result c.from_residual.ensures.1 in
-    rw (e.1, e.2) (same_counts c.args.reader.now c.read_tag.new.reader c.in_err-gap.field-0.0 c.in_err-gap.ensures.counts)
-
-pub returns-in_err-tag-clause-fault : goal.returns-in_err-tag-clause-fault
-returns-in_err-tag-clause-fault g c = let e = err_from_is_err_and c.from_residual-in_err-tag.result c.from_residual-in_err-tag.ensures.1 in rw (e.1, e.2) tt
-
-pub returns-in_err-tag-clause-counts : goal.returns-in_err-tag-clause-counts
-returns-in_err-tag-clause-counts g c =
-    let e = err_from_is_err_and c.from_residual-in_err-tag.result c.from_residual-in_err-tag.ensures.1 in
-    rw (e.1, e.2) (counts_want c.args.reader.now c.args.reader.now c.read_tag.new.reader c.in_ok-gap.gap refl refl c.in_ok-gap.ensures.counts)
-
-pub returns-in_err-recording-clause-fault : goal.returns-in_err-recording-clause-fault
-returns-in_err-recording-clause-fault g c = let e = err_from_is_err_and c.from_residual-in_err-recording.result c.from_residual-in_err-recording.ensures.1 in rw (e.1, e.2) tt
-
-pub returns-in_err-recording-clause-counts : goal.returns-in_err-recording-clause-counts
-returns-in_err-recording-clause-counts g c =
-    let e = err_from_is_err_and c.from_residual-in_err-recording.result c.from_residual-in_err-recording.ensures.1 in
-    rw (e.1, e.2) (counts_want c.args.reader.now c.args.reader.now c.read_tag.new.reader c.in_ok-gap.gap refl refl c.in_ok-gap.ensures.counts)
-
-pub returns-in_default-clause-counts : goal.returns-in_default-clause-counts
-returns-in_default-clause-counts g c = counts_refused c.args.reader.now c.args.reader.now c.read_tag.new.reader c.in_ok-gap.gap refl refl c.in_ok-gap.ensures.counts
-
-pub returns-clause-counts : goal.returns-clause-counts
-returns-clause-counts g c = counts_ok c.args.reader.now c.args.reader.now c.read_tag.new.reader c.in_ok-gap.gap _ refl refl c.in_ok-gap.ensures.counts
 
 pub read_tag-requires : goal.read_tag-requires
 read_tag-requires g c = record { reading = c.requires.reading; given = omega (arith, c.requires.given) }
 
 pub outline-requires-clause-not_cut : goal.outline-requires-clause-not_cut
 outline-requires-clause-not_cut g c = omega (arith, c.given.ensures, c.read_tag.ensures.same.given, c.in_ok-gap.ensures.ok.reads.given, c.requires.given)
+
+pub returns-in_err-gap : goal.returns-in_err-gap
+returns-in_err-gap g c =
+    let told = has_order c.args.sound.now.interleaving c.requires.interleaving in
+    let e = err_from_is_err_and c.from_residual.result c.from_residual.ensures.1 in
+    rw (e.1, e.2) (record {
+      same = c.read_tag.ensures.same;
+      ok = tt;
+      counts = same_counts c.args.reader.now c.read_tag.new.reader c.in_err-gap.field-0.0 c.in_err-gap.ensures.counts;
+      fault = tag_fault c.args.head.now c.args.sound.now c.requires.at_sound told.0 told.1 c.requires.sound _ _ _ _ c.in_err-gap.field-0.0 c.tag_at.ensures.place (omega arith) c.in_err-gap.ensures.fault;
+    })
+
+pub returns-in_err-tag : goal.returns-in_err-tag
+returns-in_err-tag g c =
+    let e = err_from_is_err_and c.from_residual-in_err-tag.result c.from_residual-in_err-tag.ensures.1 in
+    rw (e.1, e.2) (record {
+      same = c.read_tag.ensures.same;
+      ok = tt;
+      counts = counts_want c.args.reader.now c.args.reader.now c.read_tag.new.reader c.in_ok-gap.gap refl refl c.in_ok-gap.ensures.counts;
+      fault = tt;
+    })
+
+pub returns-in_err-recording : goal.returns-in_err-recording
+returns-in_err-recording g c =
+    let e = err_from_is_err_and c.from_residual-in_err-recording.result c.from_residual-in_err-recording.ensures.1 in
+    rw (e.1, e.2) (record {
+      same = c.read_tag.ensures.same;
+      ok = tt;
+      counts = counts_want c.args.reader.now c.args.reader.now c.read_tag.new.reader c.in_ok-gap.gap refl refl c.in_ok-gap.ensures.counts;
+      fault = tt;
+    })
+
+pub returns-in_default : goal.returns-in_default
+returns-in_default g c =
+    let told = has_order c.args.sound.now.interleaving c.requires.interleaving in
+    let read = c.in_ok-gap.ensures.ok in
+    let refused = subst (TellsOutline c.args.head.now (c.given.result - c.read_tag.new.reader.given) c.in_ok-tag.tag.items) c.in_default.is c.in_ok-recording.ensures.told in
+    let total : c.given.result - c.read_tag.new.reader.given ≡ length c.args.head.now + c.args.sound.now.size + length c.args.reader.now.ahead.now.items + length read.read = omega (arith, c.given.ensures, c.read_tag.ensures.same.given, read.reads.given, c.requires.given) in
+    record {
+      same = c.read_tag.ensures.same;
+      ok = tt;
+      counts = counts_refused c.args.reader.now c.args.reader.now c.read_tag.new.reader c.in_ok-gap.gap refl refl c.in_ok-gap.ensures.counts;
+      fault = blocks_refused c.args.head.now c.args.sound.now c.requires.at_sound told.0 told.1 c.requires.sound g.R.Read.remaining c.args.reader.now.inlet.now c.read_tag.new.reader.inlet.now _ c.in_ok-gap.gap _ _ c.args.reader.now.ahead.now.items _ read total refused;
+    }
+
+pub returns : goal.returns
+returns g c =
+    let told = has_order c.args.sound.now.interleaving c.requires.interleaving in
+    let read = c.in_ok-gap.ensures.ok in
+    let tag = c.in_ok-tag.ensures.items ∙ c.as_slice.ensures.value in
+    let outline = subst (λ xs. TellsOutline c.args.head.now (c.given.result - c.read_tag.new.reader.given) xs (Some c.in-Some.recording)) tag (subst (TellsOutline c.args.head.now (c.given.result - c.read_tag.new.reader.given) c.in_ok-tag.tag.items) c.in-Some.is c.in_ok-recording.ensures.told) in
+    let total : c.given.result - c.read_tag.new.reader.given ≡ length c.args.head.now + c.args.sound.now.size + length c.args.reader.now.ahead.now.items + length read.read = omega (arith, c.given.ensures, c.read_tag.ensures.same.given, read.reads.given, c.requires.given) in
+    record {
+      same = c.read_tag.ensures.same;
+      ok = blocks_around c.args.head.now c.args.sound.now c.requires.at_sound told.0 told.1 c.requires.sound g.R.Read.remaining c.args.reader.now.inlet.now c.read_tag.new.reader.inlet.now _ c.in_ok-gap.gap _ _ c.args.reader.now.ahead.now.items _ c.in-Some.recording c.tag_at.ensures.place (omega arith) read total outline;
+      counts = counts_ok c.args.reader.now c.args.reader.now c.read_tag.new.reader c.in_ok-gap.gap _ refl refl c.in_ok-gap.ensures.counts;
+      fault = tt;
+    }

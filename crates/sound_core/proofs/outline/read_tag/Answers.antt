@@ -1,19 +1,10 @@
 use Rattle.std.proofs.Common.{◌-◌, arith, refl}
 use Rattle.std.proofs.lemmas.Result.{err_from_is_err_and}
-use Rattle.dsd_bits.proofs.ExitLaws.{no_value}
 use Rattle.device_core.specs.Inlets.{inlet_reader}
 use Rattle.sound_core.proofs.FaultLaws.{early_tag, pass_in_tag, reading_in_tag}
 use Rattle.sound_core.proofs.OutlineLaws.{tag_none, tag_some}
 use Rattle.sound_core.proofs.ReaderLaws.{counts_later, counts_none_refused, counts_ok, same_counts, same_on, same_self}
 use Rattle.sound_core.proofs.outline.read_tag.Goals as goal
-
-pub returns-then-place-eq0-clause-ok : goal.returns-then-place-eq0-clause-ok
-returns-then-place-eq0-clause-ok g c =
-    let all = c.in_ok-read_to_end.ensures.read in
-    tag_none g.R.Read.remaining c.args.reader.now.inlet.now c.read_to_end.new.self.inlet.now c.args.place c.args.stop _ c.args.reader.now.ahead.now.items _ c.if-place-eq0.true all c.clear.ensures.items (omega (arith, c.given.ensures, all.reads.given, c.requires.given, c.read_to_end.ensures.same.given))
-
-pub returns-clause-ok : goal.returns-clause-ok
-returns-clause-ok g c = tag_some g.R.Read.remaining c.args.reader.now.inlet.now c.pass.new.self.inlet.now c.read_all.new.self.inlet.now c.args.place c.args.stop (c.args.place - c.args.stop) c.args.reader.now.ahead.now.items c.pass.new.self.ahead.now.items _ c.if-place-eq0.false (omega (arith, c.if-place-stop.false)) c.in_ok-pass.ensures.ok c.in_ok-read_all.ensures.read
 
 pub read_to_end-requires : goal.read_to_end-requires
 read_to_end-requires g c = record { reading = c.requires.reading }
@@ -24,71 +15,61 @@ pass-requires g c = record { reading = c.requires.reading }
 pub read_all-requires : goal.read_all-requires
 read_all-requires g c = record { reading = c.in_ok-pass.ensures.reading }
 
-pub returns-in_err-read_to_end-clause-same : goal.returns-in_err-read_to_end-clause-same
-returns-in_err-read_to_end-clause-same g c = c.read_to_end.ensures.same
-
-pub returns-in_err-read_to_end-clause-ok : goal.returns-in_err-read_to_end-clause-ok
-returns-in_err-read_to_end-clause-ok g c = no_value _ _ c.from_residual.result c.from_residual.ensures.1
-
-pub returns-in_err-read_to_end-clause-counts : goal.returns-in_err-read_to_end-clause-counts
-returns-in_err-read_to_end-clause-counts g c =
+pub returns-in_err-read_to_end : goal.returns-in_err-read_to_end
+returns-in_err-read_to_end g c =
     let e = err_from_is_err_and c.from_residual.result c.from_residual.ensures.1 in
-    rw (e.1, e.2) (same_counts c.args.reader.now c.read_to_end.new.self c.in_err-read_to_end.field-0.0 c.in_err-read_to_end.ensures.counts)
+    rw (e.1, e.2) (record {
+      same = c.read_to_end.ensures.same;
+      ok = tt;
+      counts = same_counts c.args.reader.now c.read_to_end.new.self c.in_err-read_to_end.field-0.0 c.in_err-read_to_end.ensures.counts;
+      fault = reading_in_tag (g.R.Read.remaining (inlet_reader c.args.reader.now.inlet.now)) c.args.place c.args.stop c.args.reader.now.ahead.now.items c.in_err-read_to_end.field-0.0 c.in_err-read_to_end.ensures.fault;
+    })
 
-pub returns-in_err-read_to_end-clause-fault : goal.returns-in_err-read_to_end-clause-fault
-returns-in_err-read_to_end-clause-fault g c =
-    let e = err_from_is_err_and c.from_residual.result c.from_residual.ensures.1 in
-    rw (e.1, e.2) (reading_in_tag (g.R.Read.remaining (inlet_reader c.args.reader.now.inlet.now)) c.args.place c.args.stop c.args.reader.now.ahead.now.items c.in_err-read_to_end.field-0.0 c.in_err-read_to_end.ensures.fault)
+pub returns-then-place-eq0 : goal.returns-then-place-eq0
+returns-then-place-eq0 g c =
+    let same = c.read_to_end.ensures.same in
+    let all = c.in_ok-read_to_end.ensures.read in
+    record {
+      same = record { reference = same.reference; given = same.given; limit = same.limit };
+      ok = tag_none g.R.Read.remaining c.args.reader.now.inlet.now c.read_to_end.new.self.inlet.now c.args.place c.args.stop _ c.args.reader.now.ahead.now.items _ c.if-place-eq0.true all c.clear.ensures.items (omega (arith, c.given.ensures, all.reads.given, c.requires.given, c.read_to_end.ensures.same.given));
+      counts = counts_ok c.args.reader.now c.args.reader.now _ _ _ refl refl (let all = c.in_ok-read_to_end.ensures.counts in record { failures = all.failures; turns = all.turns; most = all.most });
+      fault = tt;
+    }
 
-pub returns-then-place-eq0-clause-same : goal.returns-then-place-eq0-clause-same
-returns-then-place-eq0-clause-same g c = let same = c.read_to_end.ensures.same in record { reference = same.reference; given = same.given; limit = same.limit }
+pub returns-then-place-stop : goal.returns-then-place-stop
+returns-then-place-stop g c =
+    record {
+      same = same_self c.args.reader.now;
+      ok = tt;
+      counts = counts_none_refused c.args.reader.now c.args.reader.now refl c.requires.reading.budget.reads;
+      fault = early_tag (g.R.Read.remaining (inlet_reader c.args.reader.now.inlet.now)) c.args.place c.args.stop c.args.reader.now.ahead.now.items c.if-place-eq0.false c.if-place-stop.true;
+    }
 
-pub returns-then-place-eq0-clause-counts : goal.returns-then-place-eq0-clause-counts
-returns-then-place-eq0-clause-counts g c = counts_ok c.args.reader.now c.args.reader.now _ _ _ refl refl (let all = c.in_ok-read_to_end.ensures.counts in record { failures = all.failures; turns = all.turns; most = all.most })
-
-pub returns-then-place-stop-clause-same : goal.returns-then-place-stop-clause-same
-returns-then-place-stop-clause-same g c = same_self c.args.reader.now
-
-pub returns-then-place-stop-clause-counts : goal.returns-then-place-stop-clause-counts
-returns-then-place-stop-clause-counts g c = counts_none_refused c.args.reader.now c.args.reader.now refl c.requires.reading.budget.reads
-
-pub returns-then-place-stop-clause-fault : goal.returns-then-place-stop-clause-fault
-returns-then-place-stop-clause-fault g c = early_tag (g.R.Read.remaining (inlet_reader c.args.reader.now.inlet.now)) c.args.place c.args.stop c.args.reader.now.ahead.now.items c.if-place-eq0.false c.if-place-stop.true
-
-pub returns-in_err-pass-clause-same : goal.returns-in_err-pass-clause-same
-returns-in_err-pass-clause-same g c = c.pass.ensures.same
-
-pub returns-in_err-pass-clause-ok : goal.returns-in_err-pass-clause-ok
-returns-in_err-pass-clause-ok g c = no_value _ _ c.from_residual-in_err-pass.result c.from_residual-in_err-pass.ensures.1
-
-pub returns-in_err-pass-clause-counts : goal.returns-in_err-pass-clause-counts
-returns-in_err-pass-clause-counts g c =
+pub returns-in_err-pass : goal.returns-in_err-pass
+returns-in_err-pass g c =
     let e = err_from_is_err_and c.from_residual-in_err-pass.result c.from_residual-in_err-pass.ensures.1 in
-    rw (e.1, e.2) (same_counts c.args.reader.now c.pass.new.self c.in_err-pass.field-0.0 c.in_err-pass.ensures.counts)
+    rw (e.1, e.2) (record {
+      same = c.pass.ensures.same;
+      ok = tt;
+      counts = same_counts c.args.reader.now c.pass.new.self c.in_err-pass.field-0.0 c.in_err-pass.ensures.counts;
+      fault = pass_in_tag (g.R.Read.remaining (inlet_reader c.args.reader.now.inlet.now)) c.args.place c.args.stop c.args.reader.now.ahead.now.items c.in_err-pass.field-0.0 c.if-place-eq0.false c.in_err-pass.ensures.fault;
+    })
 
-pub returns-in_err-pass-clause-fault : goal.returns-in_err-pass-clause-fault
-returns-in_err-pass-clause-fault g c =
-    let e = err_from_is_err_and c.from_residual-in_err-pass.result c.from_residual-in_err-pass.ensures.1 in
-    rw (e.1, e.2) (pass_in_tag (g.R.Read.remaining (inlet_reader c.args.reader.now.inlet.now)) c.args.place c.args.stop c.args.reader.now.ahead.now.items c.in_err-pass.field-0.0 c.if-place-eq0.false c.in_err-pass.ensures.fault)
-
-pub returns-in_err-read_all-clause-same : goal.returns-in_err-read_all-clause-same
-returns-in_err-read_all-clause-same g c = same_on c.args.reader.now c.pass.new.self c.read_all.new.self c.pass.ensures.same c.read_all.ensures.same
-
-pub returns-in_err-read_all-clause-ok : goal.returns-in_err-read_all-clause-ok
-returns-in_err-read_all-clause-ok g c = no_value _ _ c.from_residual-in_err-read_all.result c.from_residual-in_err-read_all.ensures.1
-
-pub returns-in_err-read_all-clause-counts : goal.returns-in_err-read_all-clause-counts
-returns-in_err-read_all-clause-counts g c =
+pub returns-in_err-read_all : goal.returns-in_err-read_all
+returns-in_err-read_all g c =
     let e = err_from_is_err_and c.from_residual-in_err-read_all.result c.from_residual-in_err-read_all.ensures.1 in
-    rw (e.1, e.2) (counts_later c.args.reader.now c.pass.new.self c.read_all.new.self c.in_err-read_all.field-0.0 c.pass.ensures.same.limit (omega (arith, c.in_ok-pass.ensures.counts.failures)) c.in_err-read_all.ensures.counts)
+    rw (e.1, e.2) (record {
+      same = same_on c.args.reader.now c.pass.new.self c.read_all.new.self c.pass.ensures.same c.read_all.ensures.same;
+      ok = tt;
+      counts = counts_later c.args.reader.now c.pass.new.self c.read_all.new.self c.in_err-read_all.field-0.0 c.pass.ensures.same.limit (omega (arith, c.in_ok-pass.ensures.counts.failures)) c.in_err-read_all.ensures.counts;
+      fault = reading_in_tag (g.R.Read.remaining (inlet_reader c.args.reader.now.inlet.now)) c.args.place c.args.stop c.args.reader.now.ahead.now.items c.in_err-read_all.field-0.0 c.in_err-read_all.ensures.fault;
+    })
 
-pub returns-in_err-read_all-clause-fault : goal.returns-in_err-read_all-clause-fault
-returns-in_err-read_all-clause-fault g c =
-    let e = err_from_is_err_and c.from_residual-in_err-read_all.result c.from_residual-in_err-read_all.ensures.1 in
-    rw (e.1, e.2) (reading_in_tag (g.R.Read.remaining (inlet_reader c.args.reader.now.inlet.now)) c.args.place c.args.stop c.args.reader.now.ahead.now.items c.in_err-read_all.field-0.0 c.in_err-read_all.ensures.fault)
-
-pub returns-clause-same : goal.returns-clause-same
-returns-clause-same g c = same_on c.args.reader.now c.pass.new.self c.read_all.new.self c.pass.ensures.same c.read_all.ensures.same
-
-pub returns-clause-counts : goal.returns-clause-counts
-returns-clause-counts g c = counts_ok c.args.reader.now c.pass.new.self c.read_all.new.self _ _ c.pass.ensures.same.limit (omega (arith, c.in_ok-pass.ensures.counts.failures)) c.in_ok-read_all.ensures.counts
+pub returns : goal.returns
+returns g c =
+    record {
+      same = same_on c.args.reader.now c.pass.new.self c.read_all.new.self c.pass.ensures.same c.read_all.ensures.same;
+      ok = tag_some g.R.Read.remaining c.args.reader.now.inlet.now c.pass.new.self.inlet.now c.read_all.new.self.inlet.now c.args.place c.args.stop (c.args.place - c.args.stop) c.args.reader.now.ahead.now.items c.pass.new.self.ahead.now.items _ c.if-place-eq0.false (omega (arith, c.if-place-stop.false)) c.in_ok-pass.ensures.ok c.in_ok-read_all.ensures.read;
+      counts = counts_ok c.args.reader.now c.pass.new.self c.read_all.new.self _ _ c.pass.ensures.same.limit (omega (arith, c.in_ok-pass.ensures.counts.failures)) c.in_ok-read_all.ensures.counts;
+      fault = tt;
+    }

@@ -29,180 +29,20 @@ passes_is g c =
       long = passes.long ∙ sym c.in_ok-sound.ensures.tells.is_sound.size;
     }
 
+pub take_head-requires : goal.take_head-requires
+take_head-requires g c = record { within = c.in_ok-sound.ensures.tells.within }
+
 pub begin-requires : goal.begin-requires
 begin-requires g c = fed_none c.in_ok-sound.sound c.in_ok-sound.ensures.tells.is_sound c.in_ok-sound.ensures.tells.whole
-
-pub take_sound-requires-clause-fed : goal.take_sound-requires-clause-fed
-take_sound-requires-clause-fed g c = fed_none c.in_ok-sound.sound c.in_ok-sound.ensures.tells.is_sound c.in_ok-sound.ensures.tells.whole
-
-pub returns-in_err-take_sound-clause-fault : goal.returns-in_err-take_sound-clause-fault
-returns-in_err-take_sound-clause-fault g c =
-    let k = (goal.at.returns-in_err-take_sound-clause-fault g c).In_ok-head in
-    let f = c.in_err-take_sound.field-0.0 in
-    let e = err_from_is_err_and c.from_residual-in_err-take_sound.result c.from_residual-in_err-take_sound.ensures.1 in
-    rw (e.1, e.2) (pass_stands g.R.Read.remaining _ _ _ _ _ c.in_ok-sound.sound (reads_is g k) c.in_ok-sound.ensures.tells c.in_ok-head.ensures.head c.in_ok-head.ensures.rest f c.in_err-take_sound.ensures.fault)
-
-pub read_rest-requires-clause-at_sound : goal.read_rest-requires-clause-at_sound
-read_rest-requires-clause-at_sound g c =
-    let k = (goal.at.read_rest-requires-clause-at_sound g c).In_ok-head in
-    at_sound g.R.Read.remaining _ _ _ _ _ c.in_ok-sound.sound (reads_is g k) c.in_ok-sound.ensures.tells c.in_ok-head.ensures.head c.in_ok-head.ensures.rest
-
-pub read_rest-requires-clause-given : goal.read_rest-requires-clause-given
-read_rest-requires-clause-given g c =
-    let k = (goal.at.read_rest-requires-clause-given g c).In_ok-head in
-    let l = (goal.at.read_rest-requires-clause-given g c).In_ok-take_sound in
-    omega (
-      arith,
-      c.take_sound.ensures.same.given,
-      c.take_head.ensures.same.given,
-      c.read_front.ensures.same.given,
-      given_is g.R.Read.remaining _ _ _ _ _ c.in_ok-sound.sound (reads_is g k) c.in_ok-sound.ensures.tells c.in_ok-head.ensures.head c.in_ok-head.ensures.rest _ _ (passes_is g l) c.args.reader.now.given c.requires.given,
-    )
-
-pub returns-clause-fault : goal.returns-clause-fault
-returns-clause-fault g c =
-    let k = (goal.at.returns-clause-fault g c).In_ok-head in
-    let l = (goal.at.returns-clause-fault g c).In_ok-take_sound in
-    IfErr-weaker c.read_rest.result _ _ (λ f stands. rest_stands g.R.Read.remaining _ _ _ _ _ c.in_ok-sound.sound (reads_is g k) c.in_ok-sound.ensures.tells c.in_ok-head.ensures.head c.in_ok-head.ensures.rest _ _ (passes_is g l) f stands) c.read_rest.ensures.fault
-
-pub returns-clause-ok : goal.returns-clause-ok
-returns-clause-ok g c =
-    let k = (goal.at.returns-clause-ok g c).In_ok-head in
-    let l = (goal.at.returns-clause-ok g c).In_ok-take_sound in
-    IfOk-weaker c.read_rest.result _ _ (λ o told.
-    file_taken (g.S.SoundSink.has c.take_sound.new.sink) (g.R.Read.remaining _) (around_of o) c.in_ok-take_sound.ensures.ok.passes.passed told.2.told
-    (file_stands g.R.Read.remaining _ _ _ _ _ c.in_ok-sound.sound (reads_is g k) c.in_ok-sound.ensures.tells c.in_ok-head.ensures.head c.in_ok-head.ensures.rest _ _ (passes_is g l) _ (around_of o) told.0 told.1 told.2)
-    c.in_ok-take_sound.ensures.ok.taken) c.read_rest.ensures.ok
-
-pub returns-clause-any_reader : goal.returns-clause-any_reader
-returns-clause-any_reader g c =
-    let k = (goal.at.returns-clause-any_reader g c).In_ok-head in
-    let l = (goal.at.returns-clause-any_reader g c).In_ok-take_sound in
-    let passes = c.in_ok-take_sound.ensures.ok.passes in
-    IfOk-weaker c.read_rest.result _ _ (λ o told.
-    let stands = given_stands g.R.Read.remaining _ _ _ _ _ c.in_ok-sound.sound (reads_is g k) c.in_ok-sound.ensures.tells c.in_ok-head.ensures.head c.in_ok-head.ensures.rest _ _ (passes_is g l) _ (around_of o) told.0 told.1 told.2 in (
-      c.read_front.new.reader.ahead.now.items ++ (passes.read ++ told.2.read),
-      stands.0,
-      (passes.passed, stands.1, c.in_ok-take_sound.ensures.ok.taken),
-    )) c.read_rest.ensures.ok
-
-pub returns-clause-source : goal.returns-clause-source
-returns-clause-source g c =
-    let taken = c.in_ok-take_sound.ensures.ok in
-    IfOk-weaker c.read_rest.result _ _ (λ o told. (taken.source_is ∙ sym told.0, taken.done_is ∙ ap (λ (s : Sound). s.count) (sym told.0))) c.read_rest.ensures.ok
-
-pub returns-in_err-sound-clause-fault : goal.returns-in_err-sound-clause-fault
-returns-in_err-sound-clause-fault g c =
-    let e = err_from_is_err_and c.from_residual.result c.from_residual.ensures.1 in
-    rw (e.1, e.2) (front_in_outline (g.R.Read.remaining (inlet_reader c.args.reader.now.inlet.now)) c.in_err-sound.field-0.0 c.in_err-sound.ensures.fault)
-
-pub returns-in_err-sound-clause-counts : goal.returns-in_err-sound-clause-counts
-returns-in_err-sound-clause-counts g c =
-    let e = err_from_is_err_and c.from_residual.result c.from_residual.ensures.1 in
-    rw (e.1, e.2) (same_counts c.args.reader.now c.read_front.new.reader c.in_err-sound.field-0.0 c.in_err-sound.ensures.counts)
-
-pub returns-in_err-take_sound-clause-counts : goal.returns-in_err-take_sound-clause-counts
-returns-in_err-take_sound-clause-counts g c =
-    let e = err_from_is_err_and c.from_residual-in_err-take_sound.result c.from_residual-in_err-take_sound.ensures.1 in
-    rw (e.1, e.2) (counts_later c.args.reader.now c.take_head.new.self c.take_sound.new.reader c.in_err-take_sound.field-0.0 (c.take_head.ensures.same.limit ∙ c.read_front.ensures.same.limit) (ap inlet_failures c.take_head.ensures.untouched ∙ omega (arith, c.in_ok-sound.ensures.counts.failures)) c.in_err-take_sound.ensures.counts)
-
-pub returns-clause-counts : goal.returns-clause-counts
-returns-clause-counts g c =
-    counts_from _ _ _ c.read_rest.result (c.take_sound.ensures.same.limit ∙ c.take_head.ensures.same.limit ∙ c.read_front.ensures.same.limit) (omega (arith, c.in_ok-take_sound.ensures.counts.failures, ap inlet_failures c.take_head.ensures.untouched, c.in_ok-sound.ensures.counts.failures)) c.read_rest.ensures.counts
-
-pub returns-in_err-sound-clause-same : goal.returns-in_err-sound-clause-same
-returns-in_err-sound-clause-same g c = c.read_front.ensures.same
-
-pub returns-in_err-sound-clause-ok : goal.returns-in_err-sound-clause-ok
-returns-in_err-sound-clause-ok g c = let e = err_from_is_err_and c.from_residual.result c.from_residual.ensures.1 in rw e.1 tt
-
-pub returns-in_err-sound-clause-any_reader : goal.returns-in_err-sound-clause-any_reader
-returns-in_err-sound-clause-any_reader g c = let e = err_from_is_err_and c.from_residual.result c.from_residual.ensures.1 in rw e.1 tt
-
-pub returns-in_err-sound-clause-source : goal.returns-in_err-sound-clause-source
-returns-in_err-sound-clause-source g c = let e = err_from_is_err_and c.from_residual.result c.from_residual.ensures.1 in rw e.1 tt
-
-pub returns-in_err-head-clause-ok : goal.returns-in_err-head-clause-ok
-returns-in_err-head-clause-ok g c = let e = err_from_is_err_and c.from_residual-in_err-head.result c.from_residual-in_err-head.ensures.1 in rw e.1 tt
-
-pub returns-in_err-head-clause-any_reader : goal.returns-in_err-head-clause-any_reader
-returns-in_err-head-clause-any_reader g c = let e = err_from_is_err_and c.from_residual-in_err-head.result c.from_residual-in_err-head.ensures.1 in rw e.1 tt
-
-pub returns-in_err-head-clause-source : goal.returns-in_err-head-clause-source
-returns-in_err-head-clause-source g c = let e = err_from_is_err_and c.from_residual-in_err-head.result c.from_residual-in_err-head.ensures.1 in rw e.1 tt
-
-pub returns-in_err-begin-clause-ok : goal.returns-in_err-begin-clause-ok
-returns-in_err-begin-clause-ok g c = let e = err_from_is_err_and c.from_residual-in_err-begin.result c.from_residual-in_err-begin.ensures.1 in rw e.1 tt
-
-pub returns-in_err-begin-clause-any_reader : goal.returns-in_err-begin-clause-any_reader
-returns-in_err-begin-clause-any_reader g c = let e = err_from_is_err_and c.from_residual-in_err-begin.result c.from_residual-in_err-begin.ensures.1 in rw e.1 tt
-
-pub returns-in_err-begin-clause-source : goal.returns-in_err-begin-clause-source
-returns-in_err-begin-clause-source g c = let e = err_from_is_err_and c.from_residual-in_err-begin.result c.from_residual-in_err-begin.ensures.1 in rw e.1 tt
-
-pub returns-in_err-take_sound-clause-ok : goal.returns-in_err-take_sound-clause-ok
-returns-in_err-take_sound-clause-ok g c = let e = err_from_is_err_and c.from_residual-in_err-take_sound.result c.from_residual-in_err-take_sound.ensures.1 in rw e.1 tt
-
-pub returns-in_err-take_sound-clause-any_reader : goal.returns-in_err-take_sound-clause-any_reader
-returns-in_err-take_sound-clause-any_reader g c = let e = err_from_is_err_and c.from_residual-in_err-take_sound.result c.from_residual-in_err-take_sound.ensures.1 in rw e.1 tt
-
-pub returns-in_err-take_sound-clause-source : goal.returns-in_err-take_sound-clause-source
-returns-in_err-take_sound-clause-source g c = let e = err_from_is_err_and c.from_residual-in_err-take_sound.result c.from_residual-in_err-take_sound.ensures.1 in rw e.1 tt
-
-pub returns-in_err-sound-clause-kept : goal.returns-in_err-sound-clause-kept
-returns-in_err-sound-clause-kept g c = refl
-
-pub returns-in_err-head-clause-kept : goal.returns-in_err-head-clause-kept
-returns-in_err-head-clause-kept g c = refl
-
-pub returns-in_err-begin-clause-kept : goal.returns-in_err-begin-clause-kept
-returns-in_err-begin-clause-kept g c = c.begin.ensures.kept
-
-pub returns-in_err-take_sound-clause-kept : goal.returns-in_err-take_sound-clause-kept
-returns-in_err-take_sound-clause-kept g c = c.take_sound.ensures.kept ∙ c.begin.ensures.kept
-
-pub returns-clause-kept : goal.returns-clause-kept
-returns-clause-kept g c = c.take_sound.ensures.kept ∙ c.begin.ensures.kept
-
-pub returns-in_err-head-clause-same : goal.returns-in_err-head-clause-same
-returns-in_err-head-clause-same g c = same_on c.args.reader.now c.read_front.new.reader c.take_head.new.self c.read_front.ensures.same c.take_head.ensures.same
-
-pub returns-in_err-begin-clause-same : goal.returns-in_err-begin-clause-same
-returns-in_err-begin-clause-same g c = same_on c.args.reader.now c.read_front.new.reader c.take_head.new.self c.read_front.ensures.same c.take_head.ensures.same
-
-pub returns-in_err-take_sound-clause-same : goal.returns-in_err-take_sound-clause-same
-returns-in_err-take_sound-clause-same g c =
-    same_on c.args.reader.now c.take_head.new.self c.take_sound.new.reader (same_on c.args.reader.now c.read_front.new.reader c.take_head.new.self c.read_front.ensures.same c.take_head.ensures.same) c.take_sound.ensures.same
-
-pub returns-clause-same : goal.returns-clause-same
-returns-clause-same g c =
-    same_on c.args.reader.now c.take_sound.new.reader c.read_rest.new.reader (same_on c.args.reader.now c.take_head.new.self c.take_sound.new.reader (same_on c.args.reader.now c.read_front.new.reader c.take_head.new.self c.read_front.ensures.same c.take_head.ensures.same) c.take_sound.ensures.same) c.read_rest.ensures.same
-
-pub returns-in_err-head-clause-counts : goal.returns-in_err-head-clause-counts
-returns-in_err-head-clause-counts g c =
-    let e = err_from_is_err_and c.from_residual-in_err-head.result c.from_residual-in_err-head.ensures.1 in
-    rw (e.1, e.2, c.in_err-head.ensures.fault) (counts_memory c.args.reader.now c.read_front.new.reader c.take_head.new.self c.in_ok-sound.sound c.take_head.ensures.untouched c.in_ok-sound.ensures.counts)
-
-pub returns-in_err-head-clause-fault : goal.returns-in_err-head-clause-fault
-returns-in_err-head-clause-fault g c =
-    let e = err_from_is_err_and c.from_residual-in_err-head.result c.from_residual-in_err-head.ensures.1 in
-    rw (e.1, e.2, c.in_err-head.ensures.fault) tt
-
-pub returns-in_err-begin-clause-counts : goal.returns-in_err-begin-clause-counts
-returns-in_err-begin-clause-counts g c =
-    let e = err_from_is_err_and c.from_residual-in_err-begin.result c.from_residual-in_err-begin.ensures.1 in
-    rw (e.1, e.2) (counts_memory c.args.reader.now c.read_front.new.reader c.take_head.new.self c.in_ok-sound.sound c.take_head.ensures.untouched c.in_ok-sound.ensures.counts)
-
-pub returns-in_err-begin-clause-fault : goal.returns-in_err-begin-clause-fault
-returns-in_err-begin-clause-fault g c =
-    let e = err_from_is_err_and c.from_residual-in_err-begin.result c.from_residual-in_err-begin.ensures.1 in
-    rw (e.1, e.2) tt
 
 pub take_sound-requires-clause-source : goal.take_sound-requires-clause-source
 take_sound-requires-clause-source g c = c.in_ok-begin.ensures.source
 
 pub take_sound-requires-clause-done : goal.take_sound-requires-clause-done
 take_sound-requires-clause-done g c = c.in_ok-begin.ensures.done
+
+pub take_sound-requires-clause-fed : goal.take_sound-requires-clause-fed
+take_sound-requires-clause-fed g c = fed_none c.in_ok-sound.sound c.in_ok-sound.ensures.tells.is_sound c.in_ok-sound.ensures.tells.whole
 
 pub take_sound-requires-clause-has : goal.take_sound-requires-clause-has
 take_sound-requires-clause-has g c = c.in_ok-begin.ensures.has
@@ -216,8 +56,99 @@ read_rest-requires-clause-sound g c = c.in_ok-sound.ensures.tells.is_sound
 pub read_rest-requires-clause-whole : goal.read_rest-requires-clause-whole
 read_rest-requires-clause-whole g c = c.in_ok-sound.ensures.tells.whole
 
+pub read_rest-requires-clause-at_sound : goal.read_rest-requires-clause-at_sound
+read_rest-requires-clause-at_sound g c =
+    let k = (goal.at.read_rest-requires-clause-at_sound g c).In_ok-head in
+    at_sound g.R.Read.remaining _ _ _ _ _ c.in_ok-sound.sound (reads_is g k) c.in_ok-sound.ensures.tells c.in_ok-head.ensures.head c.in_ok-head.ensures.rest
+
 pub read_rest-requires-clause-reading : goal.read_rest-requires-clause-reading
 read_rest-requires-clause-reading g c = c.in_ok-take_sound.ensures.reading
 
-pub take_head-requires : goal.take_head-requires
-take_head-requires g c = record { within = c.in_ok-sound.ensures.tells.within }
+pub read_rest-requires-clause-given : goal.read_rest-requires-clause-given
+read_rest-requires-clause-given g c =
+    let k = (goal.at.read_rest-requires-clause-given g c).In_ok-head in
+    let l = (goal.at.read_rest-requires-clause-given g c).In_ok-take_sound in
+    omega (
+      arith,
+      c.take_sound.ensures.same.given,
+      c.take_head.ensures.same.given,
+      c.read_front.ensures.same.given,
+      given_is g.R.Read.remaining _ _ _ _ _ c.in_ok-sound.sound (reads_is g k) c.in_ok-sound.ensures.tells c.in_ok-head.ensures.head c.in_ok-head.ensures.rest _ _ (passes_is g l) c.args.reader.now.given c.requires.given,
+    )
+
+pub returns-in_err-sound : goal.returns-in_err-sound
+returns-in_err-sound g c =
+    let f = c.in_err-sound.field-0.0 in
+    let e = err_from_is_err_and c.from_residual.result c.from_residual.ensures.1 in
+    rw (e.1, e.2) (record {
+      same = c.read_front.ensures.same;
+      ok = tt;
+      any_reader = tt;
+      source = tt;
+      kept = refl;
+      counts = same_counts c.args.reader.now c.read_front.new.reader f c.in_err-sound.ensures.counts;
+      fault = front_in_outline (g.R.Read.remaining (inlet_reader c.args.reader.now.inlet.now)) f c.in_err-sound.ensures.fault;
+    })
+
+pub returns-in_err-head : goal.returns-in_err-head
+returns-in_err-head g c =
+    let e = err_from_is_err_and c.from_residual-in_err-head.result c.from_residual-in_err-head.ensures.1 in
+    rw (e.1, e.2, c.in_err-head.ensures.fault) (record {
+      same = same_on c.args.reader.now c.read_front.new.reader c.take_head.new.self c.read_front.ensures.same c.take_head.ensures.same;
+      ok = tt;
+      any_reader = tt;
+      source = tt;
+      kept = refl;
+      counts = counts_memory c.args.reader.now c.read_front.new.reader c.take_head.new.self c.in_ok-sound.sound c.take_head.ensures.untouched c.in_ok-sound.ensures.counts;
+      fault = tt;
+    })
+
+pub returns-in_err-begin : goal.returns-in_err-begin
+returns-in_err-begin g c =
+    let e = err_from_is_err_and c.from_residual-in_err-begin.result c.from_residual-in_err-begin.ensures.1 in
+    rw (e.1, e.2) (record {
+      same = same_on c.args.reader.now c.read_front.new.reader c.take_head.new.self c.read_front.ensures.same c.take_head.ensures.same;
+      ok = tt;
+      any_reader = tt;
+      source = tt;
+      kept = c.begin.ensures.kept;
+      counts = counts_memory c.args.reader.now c.read_front.new.reader c.take_head.new.self c.in_ok-sound.sound c.take_head.ensures.untouched c.in_ok-sound.ensures.counts;
+      fault = tt;
+    })
+
+pub returns-in_err-take_sound : goal.returns-in_err-take_sound
+returns-in_err-take_sound g c =
+    let k = (goal.at.returns-in_err-take_sound g c).In_ok-head in
+    let f = c.in_err-take_sound.field-0.0 in
+    let e = err_from_is_err_and c.from_residual-in_err-take_sound.result c.from_residual-in_err-take_sound.ensures.1 in
+    rw (e.1, e.2) (record {
+      same = same_on c.args.reader.now c.take_head.new.self c.take_sound.new.reader (same_on c.args.reader.now c.read_front.new.reader c.take_head.new.self c.read_front.ensures.same c.take_head.ensures.same) c.take_sound.ensures.same;
+      ok = tt;
+      any_reader = tt;
+      source = tt;
+      kept = c.take_sound.ensures.kept ∙ c.begin.ensures.kept;
+      counts = counts_later c.args.reader.now c.take_head.new.self c.take_sound.new.reader f (c.take_head.ensures.same.limit ∙ c.read_front.ensures.same.limit) (ap inlet_failures c.take_head.ensures.untouched ∙ omega (arith, c.in_ok-sound.ensures.counts.failures)) c.in_err-take_sound.ensures.counts;
+      fault = pass_stands g.R.Read.remaining _ _ _ _ _ c.in_ok-sound.sound (reads_is g k) c.in_ok-sound.ensures.tells c.in_ok-head.ensures.head c.in_ok-head.ensures.rest f c.in_err-take_sound.ensures.fault;
+    })
+
+pub returns : goal.returns
+returns g c =
+    let at = goal.at.returns g c in
+    let taken = c.in_ok-take_sound.ensures.ok in
+    record {
+      same = same_on c.args.reader.now c.take_sound.new.reader c.read_rest.new.reader (same_on c.args.reader.now c.take_head.new.self c.take_sound.new.reader (same_on c.args.reader.now c.read_front.new.reader c.take_head.new.self c.read_front.ensures.same c.take_head.ensures.same) c.take_sound.ensures.same) c.read_rest.ensures.same;
+      ok = IfOk-weaker c.read_rest.result _ _ (λ o told.
+          file_taken (g.S.SoundSink.has c.take_sound.new.sink) (g.R.Read.remaining _) (around_of o) taken.passes.passed told.2.told
+          (file_stands g.R.Read.remaining _ _ _ _ _ c.in_ok-sound.sound (reads_is g at.In_ok-head) c.in_ok-sound.ensures.tells c.in_ok-head.ensures.head c.in_ok-head.ensures.rest _ _ (passes_is g at.In_ok-take_sound) _ (around_of o) told.0 told.1 told.2)
+          taken.taken) c.read_rest.ensures.ok;
+      any_reader = IfOk-weaker c.read_rest.result _ _ (λ o told.
+          let stands = given_stands g.R.Read.remaining _ _ _ _ _ c.in_ok-sound.sound (reads_is g at.In_ok-head) c.in_ok-sound.ensures.tells c.in_ok-head.ensures.head c.in_ok-head.ensures.rest _ _ (passes_is g at.In_ok-take_sound) _ (around_of o) told.0 told.1 told.2 in (
+            c.read_front.new.reader.ahead.now.items ++ (taken.passes.read ++ told.2.read),
+            stands.0,
+            (taken.passes.passed, stands.1, taken.taken),
+          )) c.read_rest.ensures.ok;
+      source = IfOk-weaker c.read_rest.result _ _ (λ o told. (taken.source_is ∙ sym told.0, taken.done_is ∙ ap (λ (s : Sound). s.count) (sym told.0))) c.read_rest.ensures.ok;
+      kept = c.take_sound.ensures.kept ∙ c.begin.ensures.kept;
+      counts = counts_from _ _ _ c.read_rest.result (c.take_sound.ensures.same.limit ∙ c.take_head.ensures.same.limit ∙ c.read_front.ensures.same.limit) (omega (arith, c.in_ok-take_sound.ensures.counts.failures, ap inlet_failures c.take_head.ensures.untouched, c.in_ok-sound.ensures.counts.failures)) c.read_rest.ensures.counts;
+      fault = IfErr-weaker c.read_rest.result _ _ (λ f stands. rest_stands g.R.Read.remaining _ _ _ _ _ c.in_ok-sound.sound (reads_is g at.In_ok-head) c.in_ok-sound.ensures.tells c.in_ok-head.ensures.head c.in_ok-head.ensures.rest _ _ (passes_is g at.In_ok-take_sound) f stands) c.read_rest.ensures.fault;
+    }

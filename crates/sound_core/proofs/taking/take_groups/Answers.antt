@@ -11,6 +11,18 @@ use Rattle.sound_core.proofs.ReaderLaws.{counts_kept, counts_refused, counts_wan
 use Rattle.sound_core.proofs.taking.take_groups.Goals as goal
 use Rattle.sound_core.proofs.taking.take_groups.Goals.{After-split_at}
 
+pub stretch_size-size-requires-clause-channels : goal.stretch_size-size-requires-clause-channels
+stretch_size-size-requires-clause-channels g c = (c.requires.sound.some_channel, c.requires.sound.six_channels)
+
+pub stretch_size-size-requires-clause-in_limit : goal.stretch_size-size-requires-clause-in_limit
+stretch_size-size-requires-clause-in_limit g c = omega (arith, c.requires.within, c.requires.sound.in_limit)
+
+pub read_until-requires : goal.read_until-requires
+read_until-requires g c = record { reading = c.requires.reading }
+
+pub split_at-requires : goal.split_at-requires
+split_at-requires g c = omega (arith, c.if-len-size.false, c.len.ensures, ap length c.deref.ensures.value)
+
 -- the bytes are those of so many bits of each channel of the sink's sound
 long : (g : Over) (c : After-split_at g) → (let s = g.S.SoundSink.source c.args.sink.now in length c.split_at.result.0.now ≡ sound_size s.interleaving s.channels c.args.bits)
 long g c =
@@ -24,116 +36,86 @@ long g c =
 pub take-requires-clause-size : goal.take-requires-clause-size
 take-requires-clause-size g c = long g (goal.at.take-requires-clause-size g c).After-split_at
 
-pub take-requires-clause-within : goal.take-requires-clause-within
-take-requires-clause-within g c = omega (arith, c.requires.within, ap (λ (s : Sound). s.count) c.requires.source)
-
-pub take-requires-clause-groups : goal.take-requires-clause-groups
-take-requires-clause-groups g c = rw c.requires.source c.requires.groups
-
-pub returns-clause-ok : goal.returns-clause-ok
-returns-clause-ok g c =
-    let read = c.in_ok-read_until.ensures.read in
-    let size = c.stretch_size-size.result in
-    let ahead = c.read_until.new.self.ahead.now.items in
-    let part = c.split_at.result.0.now in
-    let is : part ≡ take size ahead = c.split_at.ensures.front ∙ ap (take size) c.deref.ensures.value in
-    record {
-      passes = record {
-        passed = part;
-        read = read.bytes;
-        reads = subst (λ k. Reads g.R.Read.remaining c.args.reader.now.inlet.now k read.bytes) (sym c.drop_ahead.ensures.untouched) read.reads;
-        parts = sym read.appended ∙ sym (take-append-drop size ahead) ∙ ap₂ (λ xs ys. xs ++ ys) (sym is) (sym c.drop_ahead.ensures.rest);
-        long = long g (goal.at.returns-clause-ok g c).After-split_at;
-      };
-      same = (c.take.ensures.source, c.take.ensures.kept);
-      more = c.in_ok-take.ensures.done;
-      taken = c.in_ok-take.ensures.has;
-    }
-
-pub returns-in_err-read_until-clause-fault : goal.returns-in_err-read_until-clause-fault
-returns-in_err-read_until-clause-fault g c =
-    let e = err_from_is_err_and c.from_residual.result c.from_residual.ensures.1 in
-    rw (e.1, e.2) (reading_in_pass (g.R.Read.remaining (inlet_reader c.args.reader.now.inlet.now)) _ c.args.reader.now.ahead.now.items c.in_err-read_until.field-0.0 c.in_err-read_until.ensures.fault)
-
-pub returns-in_err-read_until-clause-reading : goal.returns-in_err-read_until-clause-reading
-returns-in_err-read_until-clause-reading g c = let e = err_from_is_err_and c.from_residual.result c.from_residual.ensures.1 in rw e.1 tt
-
-pub returns-in_err-read_until-clause-ok : goal.returns-in_err-read_until-clause-ok
-returns-in_err-read_until-clause-ok g c = let e = err_from_is_err_and c.from_residual.result c.from_residual.ensures.1 in rw e.1 tt
-
-pub returns-in_err-take-clause-reading : goal.returns-in_err-take-clause-reading
-returns-in_err-take-clause-reading g c = let e = err_from_is_err_and c.from_residual-in_err-take.result c.from_residual-in_err-take.ensures.1 in rw e.1 tt
-
-pub returns-in_err-take-clause-ok : goal.returns-in_err-take-clause-ok
-returns-in_err-take-clause-ok g c = let e = err_from_is_err_and c.from_residual-in_err-take.result c.from_residual-in_err-take.ensures.1 in rw e.1 tt
-
-pub returns-in_err-read_until-clause-same : goal.returns-in_err-read_until-clause-same
-returns-in_err-read_until-clause-same g c = c.read_until.ensures.same
-
-pub returns-then-len-size-clause-same : goal.returns-then-len-size-clause-same
-returns-then-len-size-clause-same g c = c.read_until.ensures.same
-
-pub returns-in_err-take-clause-same : goal.returns-in_err-take-clause-same
-returns-in_err-take-clause-same g c = c.read_until.ensures.same
-
-pub returns-clause-same : goal.returns-clause-same
-returns-clause-same g c = same_on c.args.reader.now c.read_until.new.self c.drop_ahead.new.self c.read_until.ensures.same c.drop_ahead.ensures.same
-
-pub returns-clause-reading : goal.returns-clause-reading
-returns-clause-reading g c = c.drop_ahead.ensures.reading c.in_ok-read_until.ensures.reading
-
-pub returns-in_err-take-clause-kept : goal.returns-in_err-take-clause-kept
-returns-in_err-take-clause-kept g c = c.take.ensures.kept
-
-pub returns-clause-kept : goal.returns-clause-kept
-returns-clause-kept g c = c.take.ensures.kept
-
-pub returns-in_err-read_until-clause-counts : goal.returns-in_err-read_until-clause-counts
-returns-in_err-read_until-clause-counts g c =
-    let e = err_from_is_err_and c.from_residual.result c.from_residual.ensures.1 in
-    rw (e.1, e.2) (same_counts c.args.reader.now c.read_until.new.self c.in_err-read_until.field-0.0 c.in_err-read_until.ensures.counts)
-
-pub returns-then-len-size-clause-counts : goal.returns-then-len-size-clause-counts
-returns-then-len-size-clause-counts g c = counts_refused c.args.reader.now c.args.reader.now c.read_until.new.self _ refl refl c.in_ok-read_until.ensures.counts
-
-pub returns-then-len-size-clause-fault : goal.returns-then-len-size-clause-fault
-returns-then-len-size-clause-fault g c =
-    let read = c.in_ok-read_until.ensures.read in
-    let ahead = c.args.reader.now.ahead.now.items in
-    let size = sound_size c.args.sound.interleaving c.args.sound.channels c.args.bits in
-    elim read.enough [
-      | inl enough ↦ absurd (omega (arith, enough, c.len.ensures, c.if-len-size.true))
-      | inr end ↦ Consumes-whole (g.R.Read.remaining (inlet_reader c.args.reader.now.inlet.now)) (g.R.Read.remaining (inlet_reader c.read_until.new.self.inlet.now)) read.bytes (λ left. length (ahead ++ left) < size) read.reads.consumed end (omega (arith, c.if-len-size.true, c.len.ensures, ap length read.appended, c.stretch_size-size.ensures))
-    ]
-
-pub returns-in_err-take-clause-counts : goal.returns-in_err-take-clause-counts
-returns-in_err-take-clause-counts g c =
-    let e = err_from_is_err_and c.from_residual-in_err-take.result c.from_residual-in_err-take.ensures.1 in
-    rw (e.1, e.2) (counts_want c.args.reader.now c.args.reader.now c.read_until.new.self _ refl refl c.in_ok-read_until.ensures.counts)
-
-pub returns-in_err-take-clause-fault : goal.returns-in_err-take-clause-fault
-returns-in_err-take-clause-fault g c = let e = err_from_is_err_and c.from_residual-in_err-take.result c.from_residual-in_err-take.ensures.1 in rw (e.1, e.2) tt
-
-pub returns-clause-counts : goal.returns-clause-counts
-returns-clause-counts g c = counts_kept c.args.reader.now c.read_until.new.self c.drop_ahead.new.self _ _ c.drop_ahead.ensures.untouched c.in_ok-read_until.ensures.counts
-
-pub read_until-requires : goal.read_until-requires
-read_until-requires g c = record { reading = c.requires.reading }
-
 pub take-requires-clause-fed : goal.take-requires-clause-fed
 take-requires-clause-fed g c = c.requires.fed
 
 pub take-requires-clause-some : goal.take-requires-clause-some
 take-requires-clause-some g c = c.requires.some
 
-pub split_at-requires : goal.split_at-requires
-split_at-requires g c = omega (arith, c.if-len-size.false, c.len.ensures, ap length c.deref.ensures.value)
+pub take-requires-clause-within : goal.take-requires-clause-within
+take-requires-clause-within g c = omega (arith, c.requires.within, ap (λ (s : Sound). s.count) c.requires.source)
+
+pub take-requires-clause-groups : goal.take-requires-clause-groups
+take-requires-clause-groups g c = rw c.requires.source c.requires.groups
 
 pub drop_ahead-requires : goal.drop_ahead-requires
 drop_ahead-requires g c = record { within = omega (arith, c.if-len-size.false, c.len.ensures) }
 
-pub stretch_size-size-requires-clause-channels : goal.stretch_size-size-requires-clause-channels
-stretch_size-size-requires-clause-channels g c = (c.requires.sound.some_channel, c.requires.sound.six_channels)
+pub returns-in_err-read_until : goal.returns-in_err-read_until
+returns-in_err-read_until g c =
+    let f = c.in_err-read_until.field-0.0 in
+    let e = err_from_is_err_and c.from_residual.result c.from_residual.ensures.1 in
+    rw (e.1, e.2) (record {
+      same = c.read_until.ensures.same;
+      reading = tt;
+      ok = tt;
+      kept = refl;
+      counts = same_counts c.args.reader.now c.read_until.new.self f c.in_err-read_until.ensures.counts;
+      fault = reading_in_pass (g.R.Read.remaining (inlet_reader c.args.reader.now.inlet.now)) _ c.args.reader.now.ahead.now.items f c.in_err-read_until.ensures.fault;
+    })
 
-pub stretch_size-size-requires-clause-in_limit : goal.stretch_size-size-requires-clause-in_limit
-stretch_size-size-requires-clause-in_limit g c = omega (arith, c.requires.within, c.requires.sound.in_limit)
+pub returns-then-len-size : goal.returns-then-len-size
+returns-then-len-size g c =
+    let read = c.in_ok-read_until.ensures.read in
+    let ahead = c.args.reader.now.ahead.now.items in
+    let size = sound_size c.args.sound.interleaving c.args.sound.channels c.args.bits in
+    record {
+      same = c.read_until.ensures.same;
+      reading = tt;
+      ok = tt;
+      kept = refl;
+      counts = counts_refused c.args.reader.now c.args.reader.now c.read_until.new.self _ refl refl c.in_ok-read_until.ensures.counts;
+      fault = elim read.enough [
+        | inl enough ↦ absurd (omega (arith, enough, c.len.ensures, c.if-len-size.true))
+        | inr end ↦ Consumes-whole (g.R.Read.remaining (inlet_reader c.args.reader.now.inlet.now)) (g.R.Read.remaining (inlet_reader c.read_until.new.self.inlet.now)) read.bytes (λ left. length (ahead ++ left) < size) read.reads.consumed end (omega (arith, c.if-len-size.true, c.len.ensures, ap length read.appended, c.stretch_size-size.ensures))
+      ];
+    }
+
+pub returns-in_err-take : goal.returns-in_err-take
+returns-in_err-take g c =
+    let e = err_from_is_err_and c.from_residual-in_err-take.result c.from_residual-in_err-take.ensures.1 in
+    rw (e.1, e.2) (record {
+      same = c.read_until.ensures.same;
+      reading = tt;
+      ok = tt;
+      kept = c.take.ensures.kept;
+      counts = counts_want c.args.reader.now c.args.reader.now c.read_until.new.self _ refl refl c.in_ok-read_until.ensures.counts;
+      fault = tt;
+    })
+
+pub returns : goal.returns
+returns g c =
+    let read = c.in_ok-read_until.ensures.read in
+    let size = c.stretch_size-size.result in
+    let ahead = c.read_until.new.self.ahead.now.items in
+    let part = c.split_at.result.0.now in
+    let is : part ≡ take size ahead = c.split_at.ensures.front ∙ ap (take size) c.deref.ensures.value in
+    record {
+      same = same_on c.args.reader.now c.read_until.new.self c.drop_ahead.new.self c.read_until.ensures.same c.drop_ahead.ensures.same;
+      reading = c.drop_ahead.ensures.reading c.in_ok-read_until.ensures.reading;
+      ok = record {
+        passes = record {
+          passed = part;
+          read = read.bytes;
+          reads = subst (λ k. Reads g.R.Read.remaining c.args.reader.now.inlet.now k read.bytes) (sym c.drop_ahead.ensures.untouched) read.reads;
+          parts = sym read.appended ∙ sym (take-append-drop size ahead) ∙ ap₂ (λ xs ys. xs ++ ys) (sym is) (sym c.drop_ahead.ensures.rest);
+          long = long g (goal.at.returns g c).After-split_at;
+        };
+        same = (c.take.ensures.source, c.take.ensures.kept);
+        more = c.in_ok-take.ensures.done;
+        taken = c.in_ok-take.ensures.has;
+      };
+      kept = c.take.ensures.kept;
+      counts = counts_kept c.args.reader.now c.read_until.new.self c.drop_ahead.new.self _ _ c.drop_ahead.ensures.untouched c.in_ok-read_until.ensures.counts;
+      fault = tt;
+    }

@@ -1,6 +1,5 @@
 use Rattle.std.proofs.Common.{◌≡◌, ◌+◌, ◌-◌, ◌%◌, ◌≤◌, ◌⊎◌, ◌∙◌, inl, inr, arith, refl}
 use Rattle.std.proofs.lemmas.Result.{err_from_is_err_and}
-use Rattle.dsd_bits.proofs.ExitLaws.{no_ok}
 use Rattle.relace_core.proofs.GroupLaws.{last_groups}
 use Rattle.sound_core.proofs.ReaderLaws.{counts_later, counts_so_far, same_on, same_self}
 use Rattle.sound_core.proofs.TakingLaws.{some_all, some_fault, some_fed, some_none, some_on}
@@ -52,18 +51,6 @@ loop-done-preserved g c =
       omega (arith, so_far.3, c.in_ok-take_groups.ensures.counts.failures),
     )
 
-pub returns-in_err-take_groups-clause-fault : goal.returns-in_err-take_groups-clause-fault
-returns-in_err-take_groups-clause-fault g c =
-    let so_far = c.loop-done.invariant in
-    let at = (goal.at.returns-in_err-take_groups-clause-fault g c).After-min-bits in
-    let e = err_from_is_err_and c.from_residual.result c.from_residual.ensures.1 in
-    rw (e.1, e.2) (some_fault g.R.Read.remaining g.S.SoundSink.source g.S.SoundSink.done g.S.SoundSink.has g.S.SoundSink.kept c.args.sound c.args.reader.now.inlet.now c.loop-done.reader.inlet.now c.args.sink.now c.loop-done.sink c.loop-done.done c.args.reader.now.ahead.now.items c.loop-done.reader.ahead.now.items so_far.0 c.loop-done-test.true
-    c.min-bits.result c.in_err-take_groups.field-0.0 (within g at) (last g at) c.in_err-take_groups.ensures.fault)
-
-pub returns-clause-ok : goal.returns-clause-ok
-returns-clause-ok g c =
-    some_all g.R.Read.remaining g.S.SoundSink.source g.S.SoundSink.done g.S.SoundSink.has g.S.SoundSink.kept c.args.sound c.args.reader.now.inlet.now c.loop-done.reader.inlet.now c.args.sink.now c.loop-done.sink c.loop-done.done c.args.reader.now.ahead.now.items c.loop-done.reader.ahead.now.items c.loop-done.invariant.0 c.loop-done-test.false
-
 pub take_groups-requires-clause-sound : goal.take_groups-requires-clause-sound
 take_groups-requires-clause-sound g c = c.loop-done.invariant.0.fed.is_sound
 
@@ -73,32 +60,29 @@ take_groups-requires-clause-source g c = c.loop-done.invariant.0.source_is
 pub take_groups-requires-clause-reading : goal.take_groups-requires-clause-reading
 take_groups-requires-clause-reading g c = c.loop-done.invariant.1
 
-pub returns-in_err-take_groups-clause-same : goal.returns-in_err-take_groups-clause-same
-returns-in_err-take_groups-clause-same g c = same_on c.args.reader.now c.loop-done.reader c.take_groups.new.reader c.loop-done.invariant.2 c.take_groups.ensures.same
-
-pub returns-in_err-take_groups-clause-reading : goal.returns-in_err-take_groups-clause-reading
-returns-in_err-take_groups-clause-reading g c = no_ok _ _ c.from_residual.result c.from_residual.ensures.1
-
-pub returns-in_err-take_groups-clause-ok : goal.returns-in_err-take_groups-clause-ok
-returns-in_err-take_groups-clause-ok g c = no_ok _ _ c.from_residual.result c.from_residual.ensures.1
-
-pub returns-in_err-take_groups-clause-kept : goal.returns-in_err-take_groups-clause-kept
-returns-in_err-take_groups-clause-kept g c = c.take_groups.ensures.kept ∙ c.loop-done.invariant.0.kept_is
-
-pub returns-in_err-take_groups-clause-counts : goal.returns-in_err-take_groups-clause-counts
-returns-in_err-take_groups-clause-counts g c =
+pub returns-in_err-take_groups : goal.returns-in_err-take_groups
+returns-in_err-take_groups g c =
     let so_far = c.loop-done.invariant in
+    let at = (goal.at.returns-in_err-take_groups g c).After-min-bits in
     let e = err_from_is_err_and c.from_residual.result c.from_residual.ensures.1 in
-    rw (e.1, e.2) (counts_later c.args.reader.now c.loop-done.reader c.take_groups.new.reader c.in_err-take_groups.field-0.0 so_far.2.limit so_far.3 c.in_err-take_groups.ensures.counts)
+    rw (e.1, e.2) (record {
+      same = same_on c.args.reader.now c.loop-done.reader c.take_groups.new.reader c.loop-done.invariant.2 c.take_groups.ensures.same;
+      reading = tt;
+      ok = tt;
+      kept = c.take_groups.ensures.kept ∙ c.loop-done.invariant.0.kept_is;
+      counts = counts_later c.args.reader.now c.loop-done.reader c.take_groups.new.reader c.in_err-take_groups.field-0.0 so_far.2.limit so_far.3 c.in_err-take_groups.ensures.counts;
+      fault = some_fault g.R.Read.remaining g.S.SoundSink.source g.S.SoundSink.done g.S.SoundSink.has g.S.SoundSink.kept c.args.sound c.args.reader.now.inlet.now c.loop-done.reader.inlet.now c.args.sink.now c.loop-done.sink c.loop-done.done c.args.reader.now.ahead.now.items c.loop-done.reader.ahead.now.items so_far.0 c.loop-done-test.true
+          c.min-bits.result c.in_err-take_groups.field-0.0 (within g at) (last g at) c.in_err-take_groups.ensures.fault;
+    })
 
-pub returns-clause-same : goal.returns-clause-same
-returns-clause-same g c = c.loop-done.invariant.2
-
-pub returns-clause-reading : goal.returns-clause-reading
-returns-clause-reading g c = c.loop-done.invariant.1
-
-pub returns-clause-kept : goal.returns-clause-kept
-returns-clause-kept g c = c.loop-done.invariant.0.kept_is
-
-pub returns-clause-counts : goal.returns-clause-counts
-returns-clause-counts g c = let so_far = c.loop-done.invariant in counts_so_far c.args.reader.now c.loop-done.reader _ so_far.1 so_far.2 so_far.3
+pub returns : goal.returns
+returns g c =
+    let so_far = c.loop-done.invariant in
+    record {
+      same = c.loop-done.invariant.2;
+      reading = c.loop-done.invariant.1;
+      ok = some_all g.R.Read.remaining g.S.SoundSink.source g.S.SoundSink.done g.S.SoundSink.has g.S.SoundSink.kept c.args.sound c.args.reader.now.inlet.now c.loop-done.reader.inlet.now c.args.sink.now c.loop-done.sink c.loop-done.done c.args.reader.now.ahead.now.items c.loop-done.reader.ahead.now.items c.loop-done.invariant.0 c.loop-done-test.false;
+      kept = c.loop-done.invariant.0.kept_is;
+      counts = counts_so_far c.args.reader.now c.loop-done.reader _ so_far.1 so_far.2 so_far.3;
+      fault = tt;
+    }

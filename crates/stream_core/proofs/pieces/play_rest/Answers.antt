@@ -1,6 +1,5 @@
-use Rattle.std.proofs.Common.{◌≡◌, ℕ, ◌+◌, ◌-◌, ◌∙◌, ap, arith, subst, refl}
+use Rattle.std.proofs.Common.{◌≡◌, ℕ, ◌+◌, ◌-◌, ◌<◌, ◌∙◌, add-zero, ap, arith, subst, sym, refl}
 use Rattle.std.proofs.lemmas.Result.{err_from_is_err_and}
-use Rattle.dsd_bits.proofs.ExitLaws.{any_err, no_ok}
 use Rattle.device_core.specs.Outlets.{outlet_writer}
 use Rattle.dsd_bits.specs.declared.sound.Sound.{Sound}
 use Rattle.stream_core.specs.Pieces.{PlaysPart}
@@ -27,22 +26,10 @@ loop-left-init g c =
       refl,
     )
 
-pub returns-in_err-left-clause-front : goal.returns-in_err-left-clause-front
-returns-in_err-left-clause-front g c =
+pub play_read-requires : goal.play_read-requires
+play_read-requires g c =
     let so_far = c.loop-left.invariant in
-    any_err c.from_residual.result (part_front g.R.Read.remaining _ _ _ _ _ _ _ _ _ _ so_far.0 (omega (arith, so_far.1)) so_far.3 so_far.4 c.loop-left.left _ (omega (arith, so_far.1)) (omega (arith, so_far.1, so_far.5)) c.in_err-left.ensures.front)
-
-pub returns-in_err-left-clause-fault : goal.returns-in_err-left-clause-fault
-returns-in_err-left-clause-fault g c =
-    let so_far = c.loop-left.invariant in
-    let p = err_from_is_err_and c.from_residual.result c.from_residual.ensures.1 in
-    rw (p.1, p.2) (part_fault g.R.Read.remaining _ _ _ _ _ _ _ _ _ _ so_far.0 (omega (arith, so_far.1)) so_far.3 so_far.4 c.loop-left.left c.in_err-left.field-0.0 (omega (arith, so_far.1)) c.in_err-left.ensures.fault)
-
-pub returns-in_err-left-clause-stopped : goal.returns-in_err-left-clause-stopped
-returns-in_err-left-clause-stopped g c =
-    let so_far = c.loop-left.invariant in
-    let p = err_from_is_err_and c.from_residual.result c.from_residual.ensures.1 in
-    rw (p.1, p.2) (λ stops. (let kept = c.in_err-left.ensures.stopped stops in part_given g.R.Read.remaining _ _ _ _ _ _ _ _ _ _ _ _ so_far.0 (omega (arith, so_far.1)) (ap (λ w. g.W.Write.contents w) kept.0) kept.1))
+    record { some = omega (arith, c.loop-left-test.true); player = so_far.2; few = omega (arith, so_far.5, ap (λ (s : Sound). s.size) so_far.4, c.requires.few); reading = so_far.6; outlet_ready = omega (arith, so_far.9, c.requires.outlet_ready) }
 
 pub loop-left-preserved : goal.loop-left-preserved
 loop-left-preserved g c =
@@ -64,45 +51,39 @@ loop-left-preserved g c =
       omega (arith, so_far.9, c.in_ok-left.ensures.write_failed),
     )
 
-pub returns-in_err-left-clause-same_reader : goal.returns-in_err-left-clause-same_reader
-returns-in_err-left-clause-same_reader g c = same_on c.args.reader.now c.loop-left.reader c.play_read.new.reader c.loop-left.invariant.7 c.play_read.ensures.same_reader
-
-pub returns-in_err-left-clause-reading : goal.returns-in_err-left-clause-reading
-returns-in_err-left-clause-reading g c = no_ok _ _ c.from_residual.result c.from_residual.ensures.1
-
-pub returns-in_err-left-clause-player : goal.returns-in_err-left-clause-player
-returns-in_err-left-clause-player g c = no_ok _ _ c.from_residual.result c.from_residual.ensures.1
-
-pub returns-in_err-left-clause-same : goal.returns-in_err-left-clause-same
-returns-in_err-left-clause-same g c = no_ok _ _ c.from_residual.result c.from_residual.ensures.1
-
-pub returns-in_err-left-clause-ok : goal.returns-in_err-left-clause-ok
-returns-in_err-left-clause-ok g c = no_ok _ _ c.from_residual.result c.from_residual.ensures.1
-
-pub returns-in_err-left-clause-counts : goal.returns-in_err-left-clause-counts
-returns-in_err-left-clause-counts g c =
+pub returns-in_err-left : goal.returns-in_err-left
+returns-in_err-left g c =
     let so_far = c.loop-left.invariant in
-    let p = err_from_is_err_and c.from_residual.result c.from_residual.ensures.1 in
-    rw (p.1, p.2) (counts_later _ _ _ c.in_err-left.field-0.0 so_far.7.limit so_far.8 c.in_err-left.ensures.counts)
+    let size : c.loop-left.left + (c.args.wanted - c.loop-left.left) ≡ c.args.wanted = omega (arith, so_far.1) in
+    let some : c.args.wanted - c.loop-left.left < c.args.wanted = omega (arith, so_far.1, c.loop-left-test.true) in
+    let f = c.in_err-left.field-0.0 in
+    let e = err_from_is_err_and c.from_residual.result c.from_residual.ensures.1 in
+    rw (e.1, e.2) (record {
+      same_reader = same_on c.args.reader.now c.loop-left.reader c.play_read.new.reader so_far.7 c.play_read.ensures.same_reader;
+      reading = tt;
+      player = tt;
+      same = tt;
+      ok = tt;
+      front = part_front g.R.Read.remaining _ _ _ _ _ _ _ _ _ _ so_far.0 some so_far.3 so_far.4 c.loop-left.left _ size (omega (arith, so_far.1, so_far.5)) c.in_err-left.ensures.front;
+      fault = part_fault g.R.Read.remaining _ _ _ _ _ _ _ _ _ _ so_far.0 some so_far.3 so_far.4 c.loop-left.left f size c.in_err-left.ensures.fault;
+      stopped = λ stops. (let kept = c.in_err-left.ensures.stopped stops in part_given g.R.Read.remaining _ _ _ _ _ _ _ _ _ _ _ _ so_far.0 some (ap (λ w. g.W.Write.contents w) kept.0) kept.1);
+      counts = counts_later _ _ _ f so_far.7.limit so_far.8 c.in_err-left.ensures.counts;
+      write_failed = writes_later ℕ (Unit {0}) f _ _ _ so_far.9 c.in_err-left.ensures.write_failed;
+    })
 
-pub returns-in_err-left-clause-write_failed : goal.returns-in_err-left-clause-write_failed
-returns-in_err-left-clause-write_failed g c =
-    let p = err_from_is_err_and c.from_residual.result c.from_residual.ensures.1 in
-    rw (p.1, p.2) (writes_later ℕ (Unit {0}) c.in_err-left.field-0.0 _ _ _ c.loop-left.invariant.9 c.in_err-left.ensures.write_failed)
-
-pub returns-clause-ok : goal.returns-clause-ok
-returns-clause-ok g c =
+pub returns : goal.returns
+returns g c =
     let so_far = c.loop-left.invariant in
     let all : c.args.wanted - c.loop-left.left ≡ c.args.wanted = omega (arith, c.loop-left-test.false) in
-    subst (λ n. PlaysPart g.R.Read.remaining c.args.reader.now.inlet.now c.loop-left.reader.inlet.now c.args.player.now c.loop-left.player c.args.wanted n c.args.reader.now.ahead.now.items c.loop-left.reader.ahead.now.items (g.W.Write.contents (outlet_writer c.args.outlet.now)) (g.W.Write.contents (outlet_writer c.loop-left.outlet))) all so_far.0
-
-pub returns-clause-same : goal.returns-clause-same
-returns-clause-same g c = (c.loop-left.invariant.3, c.loop-left.invariant.4, omega (arith, c.loop-left.invariant.5, c.loop-left-test.false))
-
-pub returns-clause-counts : goal.returns-clause-counts
-returns-clause-counts g c = counts_so_far c.args.reader.now c.loop-left.reader _ c.loop-left.invariant.6 c.loop-left.invariant.7 c.loop-left.invariant.8
-
-pub play_read-requires : goal.play_read-requires
-play_read-requires g c =
-    let so_far = c.loop-left.invariant in
-    record { some = omega (arith, c.loop-left-test.true); player = so_far.2; few = omega (arith, so_far.5, ap (λ (s : Sound). s.size) so_far.4, c.requires.few); reading = so_far.6; outlet_ready = omega (arith, so_far.9, c.requires.outlet_ready) }
+    record {
+      same_reader = so_far.7;
+      reading = so_far.6;
+      player = so_far.2;
+      same = (so_far.3, so_far.4, omega (arith, so_far.5, c.loop-left-test.false));
+      ok = subst (λ n. PlaysPart g.R.Read.remaining c.args.reader.now.inlet.now c.loop-left.reader.inlet.now c.args.player.now c.loop-left.player c.args.wanted n c.args.reader.now.ahead.now.items c.loop-left.reader.ahead.now.items (g.W.Write.contents (outlet_writer c.args.outlet.now)) (g.W.Write.contents (outlet_writer c.loop-left.outlet))) all so_far.0;
+      front = tt;
+      fault = tt;
+      stopped = tt;
+      counts = counts_so_far c.args.reader.now c.loop-left.reader _ so_far.6 so_far.7 so_far.8;
+      write_failed = so_far.9 ∙ sym (add-zero _);
+    }

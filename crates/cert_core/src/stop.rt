@@ -5,7 +5,7 @@ use device_core::Device;
 use std::alloc::AllocError;
 
 /// A reason for a rejection, a read that failed, or want of memory.
-#[derive(Clone, Copy, Debug, PartialEq, Eq)]
+#[derive(Clone, Copy)]
 pub enum Stop {
     Reason(CertReason),
     Device,

@@ -53,15 +53,19 @@ pub enum CertVerdict {
     Rejected(CertReason),
 }
 
-/// Why a certificate wasn't judged.
+/// Why a certificate wasn't judged. A fault's text is its name.
 #[derive(Clone, Copy, Debug, PartialEq, Eq, Error)]
 pub enum CheckFault {
     /// A read failed.
-    #[error("Device")]
     Device,
     /// Want of memory.
-    #[error("Memory")]
     Memory,
+}
+
+impl fmt::Display for CheckFault {
+    fn fmt<W: fmt::Write>(&self, f: &mut fmt::Formatter<W>) -> fmt::Result {
+        fmt::Debug::fmt(self, f)
+    }
 }
 
 impl From<AllocError> for CheckFault {

@@ -5,31 +5,39 @@ ghost use Rattle.cost_core.specs.declared.fault.WindowFault.TheVariants.{Memory}
 ghost use Rattle.cost_core.specs.Faults.{named};
 
 use std::alloc::AllocError;
+use std::fmt;
 use thiserror::Error;
 
-/// Which room a bridge wants, in the order in which it is looked for.
+/// Which room a bridge wants, in the order in which it is looked for. A fault's text is its name.
 #[derive(Clone, Copy, Debug, PartialEq, Eq, Error)]
 pub enum RoomFault {
     /// The next cue starts so early in its take that the target would read bits before it.
-    #[error("NoRoomBefore")]
     NoRoomBefore,
     /// The cue stops so late in its take that the target would read bits past its end.
-    #[error("NoRoomAfter")]
     NoRoomAfter,
 }
 
-/// Why a bridge has no window, in the order in which it is looked for.
+impl fmt::Display for RoomFault {
+    fn fmt<W: fmt::Write>(&self, f: &mut fmt::Formatter<W>) -> fmt::Result {
+        fmt::Debug::fmt(self, f)
+    }
+}
+
+/// Why a bridge has no window, in the order in which it is looked for. A fault's text is its name.
 #[derive(Clone, Copy, Debug, PartialEq, Eq, Error)]
 pub enum WindowFault {
     /// The next cue starts so early in its take that the target would read bits before it.
-    #[error("NoRoomBefore")]
     NoRoomBefore,
     /// The cue stops so late in its take that the target would read bits past its end.
-    #[error("NoRoomAfter")]
     NoRoomAfter,
     /// Want of memory.
-    #[error("Memory")]
     Memory,
+}
+
+impl fmt::Display for WindowFault {
+    fn fmt<W: fmt::Write>(&self, f: &mut fmt::Formatter<W>) -> fmt::Result {
+        fmt::Debug::fmt(self, f)
+    }
 }
 
 impl From<RoomFault> for WindowFault {

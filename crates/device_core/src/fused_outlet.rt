@@ -6,17 +6,22 @@ ghost use Rattle.device_core.specs.Outlets.{outlet_writer, outlet_failures, Appe
 
 use crate::outlet::Outlet;
 use std::io::Write;
+use std::fmt;
 use thiserror::Error;
 
-/// Why bytes weren't written, or not all of them.
+/// Why bytes weren't written, or not all of them. A fault's text is its name.
 #[derive(Clone, Copy, Debug, PartialEq, Eq, Error)]
 pub enum FusedFault {
     /// A write failed. A front of the bytes went out.
-    #[error("Device")]
     Device,
     /// An earlier write failed. Nothing went out.
-    #[error("Failed")]
     Failed,
+}
+
+impl fmt::Display for FusedFault {
+    fn fmt<W: fmt::Write>(&self, f: &mut fmt::Formatter<W>) -> fmt::Result {
+        fmt::Debug::fmt(self, f)
+    }
 }
 
 /// An outlet that writes nothing more once a write failed.

@@ -5,17 +5,22 @@ ghost use Rattle.dsd_bits.specs.declared.fault.BitsFault.TheVariants as bits_fau
 ghost use Rattle.dsd_bits.specs.declared.fault.LaceFault.TheVariants as lace_faults;
 
 use std::alloc::{AllocError, AllocFailed};
+use std::fmt;
 use thiserror::Error;
 
-/// Why bytes give no list of bits.
+/// Why bytes give no list of bits. A fault's text is its name.
 #[derive(Clone, Copy, Debug, PartialEq, Eq, Error)]
 pub enum BitsFault {
     /// The bytes hold fewer bits than were asked for.
-    #[error("TooFewBytes")]
     TooFewBytes,
     /// Want of memory.
-    #[error("Memory")]
     Memory,
+}
+
+impl fmt::Display for BitsFault {
+    fn fmt<W: fmt::Write>(&self, f: &mut fmt::Formatter<W>) -> fmt::Result {
+        fmt::Debug::fmt(self, f)
+    }
 }
 
 impl From<AllocError> for BitsFault {
@@ -26,18 +31,21 @@ impl From<AllocError> for BitsFault {
     }
 }
 
-/// Why sound bytes give no channels.
+/// Why sound bytes give no channels. A fault's text is its name.
 #[derive(Clone, Copy, Debug, PartialEq, Eq, Error)]
 pub enum LaceFault {
     /// The bytes are no whole number of frames, a frame being one byte of each channel.
-    #[error("PartFrame")]
     PartFrame,
     /// The bytes hold fewer blocks than the channels take.
-    #[error("TooFewBytes")]
     TooFewBytes,
     /// Want of memory.
-    #[error("Memory")]
     Memory,
+}
+
+impl fmt::Display for LaceFault {
+    fn fmt<W: fmt::Write>(&self, f: &mut fmt::Formatter<W>) -> fmt::Result {
+        fmt::Debug::fmt(self, f)
+    }
 }
 
 impl From<AllocError> for LaceFault {

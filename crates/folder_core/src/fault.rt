@@ -1,17 +1,21 @@
 //! Why a file is not read or written whole.
 
+use std::fmt;
 use thiserror::Error;
 
-/// Why a file is not read or written whole.
+/// Why a file is not read or written whole. A fault's text is its name.
 #[derive(Clone, Copy, Debug, PartialEq, Eq, Error)]
 pub enum FileFault {
     /// The file could not be opened or read.
-    #[error("ReadFailed")]
     ReadFailed,
     /// The file could not be created, written or kept.
-    #[error("WriteFailed")]
     WriteFailed,
     /// Want of memory.
-    #[error("Memory")]
     Memory,
+}
+
+impl fmt::Display for FileFault {
+    fn fmt<W: fmt::Write>(&self, f: &mut fmt::Formatter<W>) -> fmt::Result {
+        fmt::Debug::fmt(self, f)
+    }
 }

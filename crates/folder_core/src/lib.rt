@@ -1,7 +1,7 @@
-//! Files under names: a folder of them, on a disk or in memory, and files of it read and written whole.
+//! Files under names: a folder of them, and files of it read and written whole.
 //!
-//! A [`Folder`] opens files, creates them and takes back what was created. [`Disk`] is the operating system's, and
-//! [`MemoryFolder`] one in memory, which tells what stands in it. [`read_file`] reads a file to its end, [`read_files`]
+//! A [`Folder`] opens files, creates them and takes back what was created. [`MemoryFolder`] is one in memory, which tells
+//! what stands in it; `disk_core` has that of the operating system. [`read_file`] reads a file to its end, [`read_files`]
 //! several in turn, [`read_short`] only one that is short, [`write_file`] creates one and writes it; [`read_whole`] reads
 //! what any reader has left.
 //!
@@ -13,7 +13,6 @@
 //! - `IsShort most file answer` says that an answer has the bytes of a file that is shorter (`specs/ShortFiles.antt`).
 //! - `watched_folder` and `watched_file` are what is watched (`specs/WatchedFolders.antt`).
 //!
-//! What a [`Disk`] creates is a [`DiskFile`], which has its name only once it is kept, whole.
 //! A [`WatchedFolder`] shows on a terminal how far the files of another folder are read.
 //!
 //! What it promises: over a folder that tells its files, what is read is what stands there, and what was written stands
@@ -26,19 +25,14 @@
 //! ```
 #![tactic(auto)]
 
-mod disk;
-mod disk_file;
 mod fault;
 mod files;
 mod folder;
 mod memory_folder;
-mod places;
 mod progress;
 mod short_files;
 mod watched_folder;
 
-pub use disk::Disk;
-pub use disk_file::DiskFile;
 pub use fault::FileFault;
 pub use files::{read_file, read_files, read_whole, write_file};
 pub use folder::{Folder, FolderFault};

@@ -1,35 +1,39 @@
 //! What a check of a master comes to.
 
 use cert_core::CertReason;
+use std::fmt;
 use thiserror::Error;
 
-/// Why a master is rejected: the first reason that stands.
+/// Why a master is rejected: the first reason that stands. Its text is its name, and after a space each what it tells.
 #[derive(Clone, Copy, Debug, PartialEq, Eq, Error)]
 pub enum Reason {
     /// The master's file is not read as a recording.
-    #[error("MasterUnread")]
     MasterUnread,
     /// It has another sample rate or another number of channels than the takes.
-    #[error("MasterShape")]
     MasterShape,
     /// Its channels don't have as many bits as the cues and bridges.
-    #[error("MasterLength")]
     MasterLength,
     /// It is a DSDIFF file, and its marks aren't those of the titles.
-    #[error("MasterMarks")]
     MasterMarks,
     /// In this channel the bit at this place isn't that of the cue there.
-    #[error("CuedBit {0} {1}")]
     CuedBit(usize, usize),
     /// The certificate's head isn't the expected one.
-    #[error("CertHead {0}")]
     CertHead(CertReason),
     /// The certificate's entry of this number doesn't show its bridge to be least.
-    #[error("Cert {0} {1}")]
     Cert(usize, CertReason),
     /// Bytes follow the certificate's last entry.
-    #[error("CertExtra")]
     CertExtra,
+}
+
+impl fmt::Display for Reason {
+    fn fmt<W: fmt::Write>(&self, f: &mut fmt::Formatter<W>) -> fmt::Result {
+        match self {
+            Reason::CuedBit(channel, place) => write!(f, "CuedBit {channel} {place}"),
+            Reason::CertHead(reason) => write!(f, "CertHead {reason}"),
+            Reason::Cert(entry, reason) => write!(f, "Cert {entry} {reason}"),
+            _ => fmt::Debug::fmt(self, f),
+        }
+    }
 }
 
 /// What a check of a master comes to.

@@ -4,32 +4,32 @@ ghost use Rattle.std.specs.Prelude.{◌≡◌};
 ghost use Rattle.sound_core.specs.declared.fault.StreamFault.TheVariants as faults;
 
 use std::alloc::AllocError;
+use std::fmt;
 use thiserror::Error;
 
 /// Why a reader's file is not read or played, or not to its end. A fault's text is its name.
 #[derive(Clone, Copy, Debug, PartialEq, Eq, Error)]
 pub enum StreamFault {
     /// The bytes are neither a DSDIFF 1.5 nor a DSF 1.01 file that holds a recording.
-    #[error("FileRefused")]
     FileRefused,
     /// The decimation factor doesn't divide the sample rate.
-    #[error("RateNotDivided")]
     RateNotDivided,
     /// The WAVE file would be larger than its 32-bit sizes can say.
-    #[error("TooLarge")]
     TooLarge,
     /// A read failed.
-    #[error("ReadFailed")]
     ReadFailed,
     /// A write failed, or took nothing.
-    #[error("WriteFailed")]
     WriteFailed,
     /// There were `2^40` reads, and the file wasn't at its end.
-    #[error("TurnLimit")]
     TurnLimit,
     /// Want of memory.
-    #[error("Memory")]
     Memory,
+}
+
+impl fmt::Display for StreamFault {
+    fn fmt<W: fmt::Write>(&self, f: &mut fmt::Formatter<W>) -> fmt::Result {
+        fmt::Debug::fmt(self, f)
+    }
 }
 
 impl From<AllocError> for StreamFault {

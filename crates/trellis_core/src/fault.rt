@@ -5,17 +5,22 @@ ghost use Rattle.trellis_core.specs.declared.fault.BridgeFault.TheVariants.{Memo
 
 use cost_core::SinkFault;
 use std::alloc::AllocError;
+use std::fmt;
 use thiserror::Error;
 
-/// Why no bridge was found.
+/// Why no bridge was found. A fault's text is its name.
 #[derive(Clone, Copy, Debug, PartialEq, Eq, Error)]
 pub enum BridgeFault {
     /// Want of memory.
-    #[error("Memory")]
     Memory,
     /// The sink refused a row.
-    #[error("Sink")]
     Sink,
+}
+
+impl fmt::Display for BridgeFault {
+    fn fmt<W: fmt::Write>(&self, f: &mut fmt::Formatter<W>) -> fmt::Result {
+        fmt::Debug::fmt(self, f)
+    }
 }
 
 impl From<AllocError> for BridgeFault {

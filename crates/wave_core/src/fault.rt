@@ -4,17 +4,22 @@ ghost use Rattle.std.specs.Prelude.{◌≡◌};
 ghost use Rattle.wave_core.specs.declared.fault.WaveFault.TheVariants.{Memory};
 
 use std::alloc::AllocError;
+use std::fmt;
 use thiserror::Error;
 
-/// Why samples are not written.
+/// Why samples are not written. A fault's text is its name.
 #[derive(Clone, Copy, Debug, PartialEq, Eq, Error)]
 pub enum WaveFault {
     /// The size of the RIFF chunk would not fit the 32 bits that it has.
-    #[error("TooLarge")]
     TooLarge,
     /// Want of memory.
-    #[error("Memory")]
     Memory,
+}
+
+impl fmt::Display for WaveFault {
+    fn fmt<W: fmt::Write>(&self, f: &mut fmt::Formatter<W>) -> fmt::Result {
+        fmt::Debug::fmt(self, f)
+    }
 }
 
 impl From<AllocError> for WaveFault {

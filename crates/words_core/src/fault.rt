@@ -1,17 +1,21 @@
 //! Why words ask for nothing.
 
+use std::fmt;
 use thiserror::Error;
 
-/// Why words ask for nothing.
+/// Why words ask for nothing. A fault's text is its name.
 #[derive(Clone, Copy, Debug, PartialEq, Eq, Error)]
 pub enum WordsFault {
     /// The words are no command.
-    #[error("WrongWords")]
     WrongWords,
     /// A form is named that isn't known.
-    #[error("UnknownFormName")]
     UnknownFormName,
     /// Want of memory.
-    #[error("Memory")]
     Memory,
+}
+
+impl fmt::Display for WordsFault {
+    fn fmt<W: fmt::Write>(&self, f: &mut fmt::Formatter<W>) -> fmt::Result {
+        fmt::Debug::fmt(self, f)
+    }
 }

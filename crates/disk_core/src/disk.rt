@@ -3,8 +3,8 @@
 ghost use Rattle.std.specs.Prelude.{None, false};
 
 use crate::disk_file::DiskFile;
-use crate::folder::{Folder, FolderFault};
 use crate::places::Place;
+use folder_core::{Folder, FolderFault};
 use std::io::{Error, ErrorKind};
 use std::os::fd::AsFd;
 use std::rt::Files;

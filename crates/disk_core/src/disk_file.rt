@@ -7,7 +7,7 @@ use std::rt::Files;
 use std::{fs, io};
 
 /// A file of a [`Disk`](crate::Disk) that is being written. It is let go only by
-/// [`keep`](crate::Folder::keep) and [`give_up`](crate::Folder::give_up).
+/// [`keep`](folder_core::Folder::keep) and [`give_up`](folder_core::Folder::give_up).
 pub struct DiskFile<F> {
     file: F,
     // Where it is written and where it is to go; none where it is written as it stands.

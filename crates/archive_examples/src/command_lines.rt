@@ -63,10 +63,11 @@ const REFUSED: [Line; 7] = [
 fn refuses_and_creates_nothing(rt: HostRuntime) -> Result<(), Fail> {
     let alloc = rt.alloc();
     let mut folder = folder(alloc)?;
-    for (number, line) in REFUSED.iter().enumerate() {
+    for line in &REFUSED {
         assert!(rt;
             comes_to(alloc, &mut folder, line).unwrap_or(false),
-            "line {number}"
+            "{:?}",
+            line.0
         );
     }
     Ok(())
@@ -127,10 +128,11 @@ fn whole_folder(alloc: Global) -> Result<MemoryFolder, AllocError> {
 fn does_commands_whole(rt: HostRuntime) -> Result<(), Fail> {
     let alloc = rt.alloc();
     let mut folder = whole_folder(alloc)?;
-    for (number, line) in DONE.iter().enumerate() {
+    for line in &DONE {
         assert!(rt;
             comes_to(alloc, &mut folder, line).unwrap_or(false),
-            "line {number}"
+            "{:?}",
+            line.0
         );
     }
     assert!(rt; made(alloc, &folder).unwrap_or(false));

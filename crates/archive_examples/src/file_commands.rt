@@ -3,7 +3,7 @@
 use crate::builders::file_in;
 use crate::folders::{asks, comes_to, folder_of, holds, is_refused};
 use crate::outcomes::TOLD;
-use crate::watched_folder::{Failure, NOTHING, WatchedFolder};
+use crate::watched_folder::{Asked, NOTHING, WatchedFolder};
 use archive_core::Form;
 use command_core::{MemoryFolder, Task};
 use fixtures::files::{FILE, WAVE};
@@ -134,9 +134,8 @@ fn reads_nothing_else_and_creates_nothing(rt: HostRuntime) {
     assert!(rt; is_unread(alloc, "p.toml", "fault: FileUnread UnknownForm").unwrap_or(false));
 }
 
-// What fails, what is printed, and what the folder is asked for, and no more. A file that was created is kept, or
-// given up after a fault.
-const PLAYS: [(&str, Failure, &str, &str); 8] = [
+// A file that was created is kept, or given up after a fault.
+const PLAYS: [Asked; 8] = [
     (
         "nothing",
         NOTHING,
@@ -187,15 +186,17 @@ const PLAYS: [(&str, Failure, &str, &str); 8] = [
     ),
 ];
 
+// Whether playing asks so.
+fn plays_so(alloc: Global, (_, failure, line, calls): &Asked) -> bool {
+    let task = playing("p.toml", "in.dff");
+    asks(alloc, folder(alloc), *failure, task, (line, calls)).unwrap_or(false)
+}
+
 #[test]
 fn asks_for_files_in_order(rt: HostRuntime) {
     let alloc = rt.alloc();
-    for (case, failure, line, calls) in &PLAYS {
-        let task = playing("p.toml", "in.dff");
-        assert!(rt;
-            asks(alloc, folder(alloc), *failure, task, (line, calls)).unwrap_or(false),
-            "{case} fails"
-        );
+    for asked in &PLAYS {
+        assert!(rt; plays_so(alloc, asked), "{} fails", asked.0);
     }
 }
 

@@ -77,29 +77,35 @@ fn is_alike(alloc: Global, file: &[u8]) -> Result<bool, AllocError> {
     Ok(alike)
 }
 
+// The same of a file that was built.
+fn is_built_alike(alloc: Global, file: Result<Vec<u8>, AllocError>) -> bool {
+    match file {
+        Ok(file) => is_alike(alloc, &file).unwrap_or(false),
+        Err(_) => false,
+    }
+}
+
 // Each form, two channels, and what only one of the forms has a place for.
 #[test]
-fn converts_and_tells_alike(rt: HostRuntime) -> Result<(), Fail> {
+fn converts_and_tells_alike(rt: HostRuntime) {
     let alloc = rt.alloc();
-    assert!(rt; is_alike(alloc, &file_in(alloc, Form::Dsdiff)?)?);
-    assert!(rt; is_alike(alloc, &file_in(alloc, Form::Dsf)?)?);
-    assert!(rt; is_alike(alloc, &file_in(alloc, Form::Dsf8)?)?);
-    assert!(rt; is_alike(alloc, &stereo(alloc, &[1, 2, 3, 4])?)?);
-    assert!(rt; is_alike(alloc, &commented(alloc)?)?);
-    assert!(rt; is_alike(alloc, &tagged(alloc, 1, 0x0f)?)?);
-    Ok(())
+    assert!(rt; is_built_alike(alloc, file_in(alloc, Form::Dsdiff)));
+    assert!(rt; is_built_alike(alloc, file_in(alloc, Form::Dsf)));
+    assert!(rt; is_built_alike(alloc, file_in(alloc, Form::Dsf8)));
+    assert!(rt; is_built_alike(alloc, stereo(alloc, &[1, 2, 3, 4])));
+    assert!(rt; is_built_alike(alloc, commented(alloc)));
+    assert!(rt; is_built_alike(alloc, tagged(alloc, 1, 0x0f)));
 }
 
 // A DSF file of two channels of 32,769 bits, one more than a block holds; a sound that is cut off; no file at all; and
 // a text.
 #[test]
-fn refuses_alike(rt: HostRuntime) -> Result<(), Fail> {
+fn refuses_alike(rt: HostRuntime) {
     let alloc = rt.alloc();
-    assert!(rt; is_alike(alloc, &dsf_of(alloc, (2, 1, 32769), &[1], 16384, &[])?)?);
-    assert!(rt; is_alike(alloc, &CUT_OFF)?);
-    assert!(rt; is_alike(alloc, &[])?);
-    assert!(rt; is_alike(alloc, b"[decimate]\nfactor = 8\n")?);
-    Ok(())
+    assert!(rt; is_built_alike(alloc, dsf_of(alloc, (2, 1, 32769), &[1], 16384, &[])));
+    assert!(rt; is_alike(alloc, &CUT_OFF).unwrap_or(false));
+    assert!(rt; is_alike(alloc, &[]).unwrap_or(false));
+    assert!(rt; is_alike(alloc, b"[decimate]\nfactor = 8\n").unwrap_or(false));
 }
 
 // What fails, what is printed, and what the folder is asked for, and no more. What was created is kept, or given
@@ -136,12 +142,14 @@ fn asks(alloc: Global, failure: Failure, line: &str, calls: &str) -> Result<bool
 }
 
 #[test]
-fn asks_for_files_in_order(rt: HostRuntime) -> Result<(), Fail> {
+fn asks_for_files_in_order(rt: HostRuntime) {
     let alloc = rt.alloc();
     for (failure, line, calls) in &CALLS {
-        assert!(rt; asks(alloc, *failure, line, calls)?, "{line}");
+        assert!(rt;
+            asks(alloc, *failure, line, calls).unwrap_or(false),
+            "{line}"
+        );
     }
-    Ok(())
 }
 
 /// A folder in which a file is another one from some opening on. It tells nothing.

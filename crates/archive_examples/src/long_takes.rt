@@ -161,11 +161,10 @@ fn is_refused_alike(
 }
 
 #[test]
-fn refuses_long_takes_that_are_cut_off_as_in_memory(rt: HostRuntime) -> Result<(), Fail> {
+fn refuses_long_takes_that_are_cut_off_as_in_memory(rt: HostRuntime) {
     let alloc = rt.alloc();
-    assert!(rt; is_refused_alike(alloc, shortened(alloc, 0, 2_097_200))?);
-    assert!(rt; is_refused_alike(alloc, shortened(alloc, 1, 2_105_000))?);
-    Ok(())
+    assert!(rt; is_refused_alike(alloc, shortened(alloc, 0, 2_097_200)).unwrap_or(false));
+    assert!(rt; is_refused_alike(alloc, shortened(alloc, 1, 2_105_000)).unwrap_or(false));
 }
 
 // How many takes were heard, or the first fault of what they hold.

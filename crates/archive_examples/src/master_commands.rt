@@ -4,7 +4,7 @@ use crate::builders::{CUES, CUT_OFF, CueNumbers, ONES, ZEROS, fast, splice, titl
 use crate::certifying::{CERT, FALLING, LEVEL, cert_of};
 use crate::folders;
 use crate::folders::{asks, comes_to, holds, is_refused};
-use crate::watched_folder::{Failure, NOTHING, WatchedFolder};
+use crate::watched_folder::{Asked, NOTHING, WatchedFolder};
 use archive_core::Form;
 use command_core::{MemoryFolder, Task};
 use fixtures::files::{FILE, dsf_of, with_sounds};
@@ -239,9 +239,8 @@ fn cuts_nothing_where_a_take_is_missing(rt: HostRuntime) {
     );
 }
 
-// What fails, what is printed, and what the folder is asked for, and no more: takes by their numbers, and the
-// certificate is created once the master is written and kept.
-const CUTS: [(&str, Failure, &str, &str); 7] = [
+// Takes are asked for by their numbers, and the certificate is created once the master is written and kept.
+const CUTS: [Asked; 7] = [
     (
         "nothing",
         NOTHING,
@@ -286,15 +285,17 @@ const CUTS: [(&str, Failure, &str, &str); 7] = [
     ),
 ];
 
+// Whether cutting asks so.
+fn cuts_so(alloc: Global, (_, failure, line, calls): &Asked) -> bool {
+    let folder = folder_of(alloc, SPLICE);
+    asks(alloc, folder, *failure, CUT, (line, calls)).unwrap_or(false)
+}
+
 #[test]
 fn asks_for_takes_by_number(rt: HostRuntime) {
     let alloc = rt.alloc();
-    for (case, failure, line, calls) in &CUTS {
-        let folder = folder_of(alloc, SPLICE);
-        assert!(rt;
-            asks(alloc, folder, *failure, CUT, (line, calls)).unwrap_or(false),
-            "{case} fails"
-        );
+    for asked in &CUTS {
+        assert!(rt; cuts_so(alloc, asked), "{} fails", asked.0);
     }
 }
 

@@ -118,7 +118,15 @@ fn checks(
 
 // What is unusual, the master's sound, the byte of the certificate that is changed, how many of its 46 bytes come before a
 // read fails, and what the check comes to. Its byte 5 is its version, 2; its byte 36 the bound of level 1, 4.
-const CASES: [(&str, [u8; 2], (usize, u8), usize, (u8, &str)); 9] = [
+type Case = (
+    &'static str,
+    [u8; 2],
+    (usize, u8),
+    usize,
+    (u8, &'static str),
+);
+
+const CASES: [Case; 9] = [
     ("nothing", [0xff, 0], (5, 2), 47, (0, "accepted total 4")),
     ("no end", [0xff, 0], (5, 2), 46, (2, "fault: ReadFailed")),
     ("cut off", [0xff, 0], (5, 2), 20, (2, "fault: ReadFailed")),
@@ -166,13 +174,17 @@ const CASES: [(&str, [u8; 2], (usize, u8), usize, (u8, &str)); 9] = [
     ),
 ];
 
+// Whether the check of a case comes to what it says.
+fn is_read(alloc: Global, (_, sound, change, left, came): &Case) -> bool {
+    let folder = folder_of(alloc, &ZEROS, &with_sounds(*sound));
+    checks(alloc, folder, &cert_with(*change), *left, *came).unwrap_or(false)
+}
+
 #[test]
 fn reads_a_certificate_to_its_end(rt: HostRuntime) {
     let alloc = rt.alloc();
-    for (case, sound, change, left, came) in &CASES {
-        let folder = folder_of(alloc, &ZEROS, &with_sounds(*sound));
-        let checked = checks(alloc, folder, &cert_with(*change), *left, *came);
-        assert!(rt; checked.unwrap_or(false), "{case}");
+    for case in &CASES {
+        assert!(rt; is_read(alloc, case), "{}", case.0);
     }
 }
 

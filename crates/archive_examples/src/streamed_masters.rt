@@ -11,7 +11,6 @@ use archive_core::{Fault, Form};
 use command_core::{Folder, MemoryFolder, outcome_line, perform};
 use fixtures::files::{stereo, with_sounds};
 use std::alloc::{AllocError, Global};
-use std::test::Fail;
 
 // Whether a check comes to this line.
 fn is_judged<F: Folder>(alloc: Global, folder: &mut F, line: &str) -> Result<bool, AllocError> {
@@ -76,13 +75,12 @@ fn pair(alloc: Global) -> Result<Sources, AllocError> {
 const THERE_AND_BACK: [CueNumbers; 3] = [(0, 0, 8, 1), (1, 2, 3, 1), (0, 2, 7, 0)];
 
 #[test]
-fn accepts_masters(rt: HostRuntime) -> Result<(), Fail> {
+fn accepts_masters(rt: HostRuntime) {
     let alloc = rt.alloc();
-    assert!(rt; accepts(alloc, pair(alloc), "accepted total 0")?);
-    assert!(rt; accepts(alloc, titled_sources(alloc), "accepted total 0")?);
+    assert!(rt; accepts(alloc, pair(alloc), "accepted total 0").unwrap_or(false));
+    assert!(rt; accepts(alloc, titled_sources(alloc), "accepted total 0").unwrap_or(false));
     let back = mono_sources(alloc, "1, 1", &THERE_AND_BACK);
-    assert!(rt; accepts(alloc, back, "accepted total 0")?);
-    Ok(())
+    assert!(rt; accepts(alloc, back, "accepted total 0").unwrap_or(false));
 }
 
 // Whether a master with this file is rejected so, with the certificate of what is cut.

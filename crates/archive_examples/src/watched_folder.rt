@@ -11,6 +11,9 @@ use std::io::{Cursor, ErrorKind, Read, Write};
 /// What fails: to `open`, `read`, `create` or `keep` the file of a name, or to `write` it after so many bytes.
 pub(crate) type Failure = (&'static str, &'static str, usize);
 
+/// What fails in words and as a failure, what is printed then, and what the folder is asked for, and no more.
+pub(crate) type Asked = (&'static str, Failure, &'static str, &'static str);
+
 /// Nothing fails.
 pub(crate) const NOTHING: Failure = ("", "", 0);
 

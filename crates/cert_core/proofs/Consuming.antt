@@ -1,5 +1,5 @@
 -- What was consumed so far, and what is left.
-use Rattle.std.proofs.Common.{◌≡◌, ℕ, ◌*◌, ◌<◌, List, [], ◌∷◌, ◌++◌, ◌∙◌, Option, None, Some, Result, Ok, Err, IfSome, refl, sym, ap, subst, length, arith}
+use Rattle.std.proofs.Common.{◌≡◌, ℕ, ◌+◌, ◌*◌, ◌<◌, List, [], ◌∷◌, ◌++◌, ◌∙◌, Option, None, Some, Result, Ok, Err, IfSome, refl, sym, ap, subst, length, arith}
 use Rattle.std.proofs.lemmas.List.{length-append}
 use Rattle.std.specs.Int.{w64, to_be_bytes}
 use Rattle.std.specs.Io.KnownBytes.{Consumes, IsAtEnd}
@@ -8,7 +8,7 @@ use Rattle.cert_core.specs.declared.version.Version.TheVariants.{One}
 use Rattle.cert_core.specs.declared.verdict.CertReason.{CertReason}
 use Rattle.cert_core.specs.declared.stop.Stop.{Stop}
 use Rattle.cert_core.specs.declared.stop.Stop.TheVariants.{Reason, Device, Memory}
-use Rattle.cert_core.specs.Stops.{OnReason}
+use Rattle.cert_core.specs.Stops.{OnReason, failed_stops}
 
 pub row_text-length : (row : List ℕ) → length (row_text One row) ≡ 8 * length row
 row_text-length [] = refl
@@ -32,6 +32,13 @@ maps (Ok x) P Q f p = tt
 maps (Err (Reason reason)) P Q f p = f reason p
 maps (Err Device) P Q f p = tt
 maps (Err Memory) P Q f p = tt
+
+-- what an exit says of the stop that it hands on
+pub told_back : {A : Type 0} (r : Result A Stop) (stop : Stop) (P : CertReason → Type 0) → r ≡ Err stop → OnReason {T = A} (Err stop) P → OnReason r P
+told_back r stop P is = subst (λ r. OnReason r P) (sym is)
+
+pub counted_back : {A : Type 0} (r : Result A Stop) (stop : Stop) (new old : ℕ) → r ≡ Err stop → new ≡ old + failed_stops {T = A} (Err stop) → new ≡ old + failed_stops r
+counted_back r stop new old is = subst (λ r. new ≡ old + failed_stops r) (sym is)
 
 pub if_some : (a : Option (List ℕ)) (P Q : List ℕ → Type 0) → ((bytes : List ℕ) → P bytes → Q bytes) → IfSome a P → IfSome a Q
 if_some None P Q f p = tt

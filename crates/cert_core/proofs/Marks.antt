@@ -73,6 +73,16 @@ in_rest rest xs i is =
 pub in_eight : (ws : List (List ℕ)) (xs : List ℕ) (i k : ℕ) → ws ≡ first_chunks 8 (length xs / 8) xs → i < length xs / 8 → k < 8 → get_or (get_or ws i []) k 0 ≡ get_or xs (8 * i + k) 0
 in_eight ws xs i k e l h = lane i k (get_or ws i []) xs (at_chunk ws xs i e l) h
 
+not_false : (b : Bool) → not b ≡ false → IsTrue b
+not_false true h = refl
+not_false false h = absurd (let f : true ≡ false = h in cc)
+
+pub zero_where_not : (m : ℕ) → not (eqb m 0) ≡ false → m ≡ 0
+zero_where_not m h = is_zero m (not_false (eqb m 0) h)
+
+pub none_over_value : (row : List ℕ) (v : ℕ) → length row ≡ 8 → marked row (replicate 8 v) ≡ 0 → (k : ℕ) → k < 8 → get_or row k 0 ≤ v
+none_over_value row v lr e k h = omega (arith, none_over row (replicate 8 v) lr refl e k h, get_or-replicate 8 k v 0 h)
+
 -- eight places more
 pub eight_places : (P : ℕ → Type 0) (i : ℕ) → ((k : ℕ) → k < 8 * i → P k) → ((m : ℕ) → m < 8 → P (8 * i + m)) → (k : ℕ) → k < 8 * (i + 1) → P k
 eight_places P i before eight k h =

@@ -12,7 +12,7 @@ use Rattle.cert_core.proofs.Bytes.{high_stored}
 use borrow.Rule.Slice.PartMut.{put_mid}
 
 -- the first of some bytes that were put into a buffer
-put_front : (at k w : ℕ) (buffer low : List ℕ) → w ≤ length low → at ≤ length buffer → take (at + w) (put_mid at k buffer low) ≡ take at buffer ++ take w low
+pub put_front : (at k w : ℕ) (buffer low : List ℕ) → w ≤ length low → at ≤ length buffer → take (at + w) (put_mid at k buffer low) ≡ take at buffer ++ take w low
 put_front at k w buffer low few room =
     let front = take at buffer in
     let n : length front ≡ at = length-take-le at buffer room in

@@ -1,7 +1,7 @@
 -- Parts of lists.
-use Rattle.std.proofs.Common.{◌≡◌, ℕ, ◌+◌, ◌-◌, ◌<◌, ◌≤◌, min, Bool, false, List, ◌++◌, length, get_or, slice_range, drop, get_or-take, get_or-drop, length-append, length-drop, length-take, inl, inr, refl, sym, ap, ◌∙◌, arith}
-use Rattle.std.proofs.lemmas.Bool.{cases_lt}
-use Rattle.std.proofs.lemmas.List.{ext_get_or, get_or_append_left, get_or-append_right}
+use Rattle.std.proofs.Common.{◌≡◌, ℕ, zero, suc, ◌+◌, ◌-◌, ◌<◌, ◌≤◌, min, Bool, false, List, [], ◌∷◌, ◌++◌, length, get_or, slice_range, take, drop, get_or-take, get_or-drop, length-drop, length-take, sym, ap, ◌∙◌, arith}
+use Rattle.std.proofs.lemmas.List.{ext_get_or}
+use Rattle.cost_core.proofs.Chunks.{take_two}
 
 pub length-slice : (xs : List Bool) (s t : ℕ) → length (slice_range xs s t) ≡ min (t - s) (length xs - s)
 length-slice xs s t = omega (arith, length-take (t - s) (drop s xs), length-drop s xs)
@@ -10,29 +10,23 @@ length-slice xs s t = omega (arith, length-take (t - s) (drop s xs), length-drop
 pub slice_at : (xs : List Bool) (s t i : ℕ) → i < t - s → get_or (slice_range xs s t) i false ≡ get_or xs (s + i) false
 slice_at xs s t i lt = get_or-take (t - s) (drop s xs) i false lt ∙ get_or-drop s xs i false
 
+-- what is taken of lists that are appended
+take_both : (n : ℕ) (xs ys : List Bool) → take n (xs ++ ys) ≡ take n xs ++ take (n - length xs) ys
+take_both zero xs ys = let none : 0 ≡ 0 - length xs = omega arith in ap (λ k. take k ys) none
+take_both (suc n) [] ys = let all : suc n ≡ suc n - 0 = omega arith in ap (λ k. take k ys) all
+take_both (suc n) (x ∷ xs) ys = let less : n - length xs ≡ suc n - suc (length xs) = omega arith in ap (λ l. x ∷ l) (take_both n xs ys ∙ ap (λ k. take n xs ++ take k ys) less)
+
+drop_both : (n : ℕ) (xs ys : List Bool) → drop n (xs ++ ys) ≡ drop n xs ++ drop (n - length xs) ys
+drop_both zero xs ys = let none : 0 ≡ 0 - length xs = omega arith in ap (λ k. xs ++ drop k ys) none
+drop_both (suc n) [] ys = let all : suc n ≡ suc n - 0 = omega arith in ap (λ k. drop k ys) all
+drop_both (suc n) (x ∷ xs) ys = let less : n - length xs ≡ suc n - suc (length xs) = omega arith in drop_both n xs ys ∙ ap (λ k. drop n xs ++ drop k ys) less
+
 -- a part of lists that are appended
 pub slice-append : (xs ys : List Bool) (s t : ℕ) → slice_range (xs ++ ys) s t ≡ slice_range xs s t ++ slice_range ys (s - length xs) (t - length xs)
 slice-append xs ys s t =
-    let n = length xs in
-    let a = slice_range xs s t in
-    let b = slice_range ys (s - n) (t - n) in
-    let la = length-slice xs s t in
-    let lb = length-slice ys (s - n) (t - n) in
-    let all = length-slice (xs ++ ys) s t in
-    let long = length-append xs ys in
-    let both = length-append a b in
-    ext_get_or false _ _ (omega (arith, la, lb, all, long, both)) (λ i lt.
-    let inside : i < t - s = omega (arith, all) in
-    slice_at (xs ++ ys) s t i inside ∙ elim (cases_lt i (length a)) [
-      | inl low ↦
-          let there : s + i < length xs = omega (arith, la, low) in
-          get_or_append_left xs ys false (s + i) there ∙ sym (slice_at xs s t i inside) ∙ sym (get_or_append_left a b false i low)
-      | inr high ↦
-          let past : n ≤ s + i = omega (arith, la, high, inside) in
-          let place : s + i - n ≡ s - n + (i - length a) = omega (arith, la, high, inside) in
-          let below : i - length a < (t - n) - (s - n) = omega (arith, la, high, inside) in
-          get_or-append_right xs ys n (s + i) false refl past ∙ ap (λ k. get_or ys k false) place ∙ sym (slice_at ys (s - n) (t - n) (i - length a) below) ∙ sym (get_or-append_right a b (length a) i false refl high)
-    ])
+    let rest = drop (s - length xs) ys in
+    let many : t - s - length (drop s xs) ≡ t - length xs - (s - length xs) = omega (arith, length-drop s xs) in
+    ap (take (t - s)) (drop_both s xs ys) ∙ take_both (t - s) (drop s xs) rest ∙ ap (λ k. slice_range xs s t ++ take k rest) many
 
 -- a part of a part
 pub slice-slice : (xs : List Bool) (a b s t : ℕ) → a ≤ b → b ≤ length xs → slice_range xs (a + min s (min t (b - a))) (a + min t (b - a)) ≡ slice_range (slice_range xs a b) s t
@@ -59,18 +53,6 @@ slice_all xs =
 -- a front, and what stands behind it
 pub slice_join : (xs : List Bool) (s t : ℕ) → s ≤ t → slice_range xs 0 t ≡ slice_range xs 0 s ++ slice_range xs s t
 slice_join xs s t order =
-    let a = slice_range xs 0 s in
-    let b = slice_range xs s t in
-    let la = length-slice xs 0 s in
-    let lb = length-slice xs s t in
-    let all = length-slice xs 0 t in
-    let both = length-append a b in
-    ext_get_or false _ _ (omega (arith, la, lb, all, both, order)) (λ i lt.
-    let inside : i < t - 0 = omega (arith, all) in
-    slice_at xs 0 t i inside ∙ elim (cases_lt i (length a)) [
-      | inl low ↦ (let below : i < s - 0 = omega (arith, la, low) in sym (slice_at xs 0 s i below) ∙ sym (get_or_append_left a b false i low))
-      | inr high ↦
-          let below : i - length a < t - s = omega (arith, la, lb, all, high) in
-          let place : 0 + i ≡ s + (i - length a) = omega (arith, la, all, high, lt) in
-          ap (λ m. get_or xs m false) place ∙ sym (slice_at xs s t (i - length a) below) ∙ sym (get_or-append_right a b (length a) i false refl high)
-    ])
+    let all : t - 0 ≡ s - 0 + (t - s) = omega (arith, order) in
+    let at : s - 0 ≡ s = omega arith in
+    ap (λ n. take n xs) all ∙ take_two (s - 0) (t - s) xs ∙ ap (λ k. take (s - 0) xs ++ take (t - s) (drop k xs)) at

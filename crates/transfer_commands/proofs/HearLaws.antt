@@ -1,5 +1,5 @@
 -- What is heard of files one by one, and of those of a project.
-use Rattle.std.proofs.Common.{◌≡◌, ℕ, ◌+◌, ◌<◌, List, [], ◌∷◌, ◌++◌, Result, Some, Global, Vec, inl, inr, get_or, length, map, take, refl, sym, ap, subst, ◌∙◌, arith}
+use Rattle.std.proofs.Common.{◌≡◌, ℕ, ◌+◌, ◌<◌, List, [], ◌∷◌, ◌++◌, Result, Some, Err, IfErr, Global, Vec, inl, inr, get_or, length, map, take, refl, sym, ap, subst, ◌∙◌, arith}
 use Rattle.std.proofs.lemmas.Bool.{eq-eqb}
 use Rattle.std.proofs.lemmas.List.{length-append, length-map, length-take-le, map-append, take_more}
 use Rattle.splice_core.specs.Splices.{SpliceContent}
@@ -77,3 +77,7 @@ pub unread_of : (fault : FileFault) → IsReadFault fault → IsUnread (of_file 
 unread_of files.ReadFailed is = tt
 unread_of files.Memory is = tt
 unread_of files.WriteFailed is = absurd is
+
+-- what a fault that is handed on says
+pub err_says : {X E : Type 0} (r : Result X E) (fault : E) (P : E → Type 0) → r ≡ Err fault → P fault → IfErr r P
+err_says r fault P is = subst (λ r. IfErr r P) (sym is)

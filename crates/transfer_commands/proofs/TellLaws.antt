@@ -1,5 +1,5 @@
 -- What is told of a file by its outline.
-use Rattle.std.proofs.Common.{◌≡◌, ℕ, List, [], Some, length, sym, ap, ◌∙◌, refl, subst}
+use Rattle.std.proofs.Common.{◌≡◌, ℕ, List, [], Some, Result, Ok, Err, IfOk, IfErr, inr, length, sym, ap, ◌∙◌, refl, subst}
 use Rattle.std.proofs.lemmas.List.{length-replicate}
 use Rattle.dsd_bits.specs.declared.blocks.BitOrder.TheVariants.{LeastFirst, MostFirst}
 use Rattle.dsd_bits.specs.declared.interleaving.Interleaving.{Interleaving}
@@ -13,7 +13,9 @@ use Rattle.sound_core.proofs.HeldLaws.{channels_count, channels_number}
 use Rattle.folder_core.specs.Files.{Files}
 use Rattle.info_core.specs.declared.told.Told.{Told}
 use Rattle.transfer_commands.specs.Outlining.{IsOutlined, OutlinesFile, form_in}
-use Rattle.transfer_commands.specs.Telling.{IsToldOf, TellsFile}
+use Rattle.transfer_commands.specs.Telling.{IsToldOf, IsUntoldOf, TellComesTo, TellsFile}
+use Rattle.transfer_commands.specs.declared.fault.CommandFault.{CommandFault}
+use Rattle.transfer_commands.specs.declared.fault.CommandFault.TheVariants.{Call, ReadFailed, WriteFailed}
 
 -- a file in a form
 pub holds_as : (interleaving : Interleaving) (file : List ℕ) (r : Content) → HoldsIn interleaving file r → HoldsAs file (form_in interleaving) r
@@ -50,3 +52,10 @@ outline_tells file_name old mid new outline told same again found tells = record
   is_told = tells found.file found.is_outline;
   same = again ∙ same;
 }
+
+-- a file that was read whole comes to what is told of its bytes
+pub whole_told : (file_name : List ℕ) (old new : Files) (file : List ℕ) (r : Result Told CommandFault) → IfOk r (IsToldOf file) → IfErr r (IsUntoldOf file) → new ≡ old → old file_name ≡ Some file → TellComesTo file_name old new r
+whole_told file_name old new file (Ok told) is not same stands = record { file = file; file_stands = stands; is_told = is; same = same }
+whole_told file_name old new file (Err (Call fault)) is not same stands = (same, inr (record { file = file; file_stands = stands; unopened = not }))
+whole_told file_name old new file (Err ReadFailed) is not same stands = absurd not
+whole_told file_name old new file (Err WriteFailed) is not same stands = absurd not

@@ -1,5 +1,5 @@
 -- A fault of a search is want of memory or one of the sink, and never both.
-use Rattle.std.proofs.Common.{◌≡◌, Bool, true, false, Result, Ok, Err, IsErrOf, ap, ◌∙◌}
+use Rattle.std.proofs.Common.{◌≡◌, Bool, true, false, Result, Ok, Err, IsErrAnd, IsErrOf, MatchResult, ap, ◌∙◌}
 use Rattle.trellis_core.specs.declared.fault.BridgeFault.{BridgeFault}
 use Rattle.trellis_core.specs.declared.fault.BridgeFault.TheVariants.{Memory, Sink}
 
@@ -21,3 +21,8 @@ fault_before r b f d is same told = let e : f ≡ d = cc in ap Err e
 
 pub fault_after : {X Y : Type 0} (r : Result X BridgeFault) (b f d : BridgeFault) → r ≡ Err b → b ≡ f → IsErrOf {T = Y} (Err f) d → IsErrOf r d
 fault_after r b f d is same told = let e : f ≡ d = cc in is ∙ ap Err (same ∙ e)
+
+-- what a fault says, whichever it is
+pub fault_says : {X E Q : Type 0} (P : Type 0) (R : E → Type 0) (r : Result X E) → IsErrAnd r R → Q → MatchResult r (λ _. P) (λ _. Q)
+fault_says P R (Ok x) h q = absurd h
+fault_says P R (Err e) h q = q

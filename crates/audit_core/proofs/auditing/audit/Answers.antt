@@ -1,6 +1,6 @@
-use Rattle.std.proofs.Common.{◌≡◌, ◌∙◌, List, ap, subst, sym}
+use Rattle.std.proofs.Common.{◌≡◌, ◌∙◌, Err, List, Ok, ap, length, subst, sym}
 use Rattle.device_core.specs.Inlets.{inlet_reader}
-use Rattle.cut_core.specs.Cuts.{CutContent}
+use Rattle.cut_core.specs.Cuts.{CutContent, channel_number}
 use Rattle.dsd_bits.specs.declared.stretches.BitRange.{BitRange}
 use Rattle.master_core.specs.Standing.{TellAll}
 use Rattle.audit_core.specs.Auditing.{bridge_ranges}
@@ -26,3 +26,14 @@ returns-in-Ok-clause-any_reader g c =
     let w = (goal.at.returns-in-Ok-clause-any_reader g c).After-lowest_off-differs in
     given_audited c.read_into.new.sink c.in-Ok.outline c.args.cut.now (cut_is g w) c.in-Ok.ensures.source.0 c.in-Ok.ensures.source.1 (ranges_are g w) c.has_shape.ensures c.lowest_off-differs.result
     (λ r shape tells. c.lowest_off-differs.ensures r shape (subst (TellAll c.args.cut.now r.channels) (sym c.deref-in-Ok.ensures.value) tells)) g.R.Read.remaining c.args.inlet.now c.read_into.new.inlet c.in-Ok.ensures.ok.0 c.in-Ok.ensures.any_reader
+
+pub lowest_off-differs-requires : goal.lowest_off-differs-requires
+lowest_off-differs-requires g c =
+    let cut_is = ap (λ (p : CutContent × List BitRange). p.0) c.read_into.ensures.kept ∙ c.new-auditor.ensures.cut in
+    ap length c.deref-in-Ok.ensures.value ∙ c.in-Ok.ensures.any_reader.2.2.number ∙ ap channel_number cut_is
+
+no_fault : {X E Q : Type 0} (x : X) (fault : E) → Ok x ≡ Err fault → Q
+no_fault x fault is = absurd cc
+
+pub returns-in-Ok-clause-turn_limit : goal.returns-in-Ok-clause-turn_limit
+returns-in-Ok-clause-turn_limit g c = no_fault _ _

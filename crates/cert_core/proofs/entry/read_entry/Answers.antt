@@ -81,3 +81,6 @@ returns g c =
       reason = maps c.read_end.result (InEnd t c.deref.result.now c.cost_of.result to) _ (λ reason w. end_first c.args.version t c.args.place.cue c.args.place.channel (cost t c.args.bits.now) from mid to c.deref.result.now small start rows reason (subst (λ f. InEnd t c.deref.result.now f to reason) c.cost_of.ensures.steps w)) c.read_end.ensures.reason;
       failures = omega (arith, c.read_end.ensures.failures, c.in_ok-last.ensures.failures, c.in_ok-read_start.ensures.failures);
     }
+
+pub cost_of-requires : goal.cost_of-requires
+cost_of-requires g c = c.requires.bits

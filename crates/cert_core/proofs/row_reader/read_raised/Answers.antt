@@ -1,7 +1,8 @@
-use Rattle.std.proofs.Common.{Err, ◌≡◌, ℕ, ◌*◌, ◌<◌, ◌≤◌, ◌⊎◌, ◌∙◌, List, Option, length, refl, ap, sym, subst, inl, inr, arith}
+use Rattle.std.proofs.Common.{Err, ◌≡◌, ℕ, ◌+◌, ◌*◌, ◌-◌, ◌<◌, ◌≤◌, ◌⊎◌, ◌∙◌, List, Option, length, length-take-le, take, refl, ap, sym, subst, inl, inr, arith, rules}
 use borrow.Rule.Slice.PartMut.{same_len_mid}
 use Rattle.std.proofs.lemmas.Nat.{mul-le}
 use Rattle.std.proofs.lemmas.Result.{err_from_is_err_and}
+use Rattle.dsd_bits.proofs.ExitLaws.{no_ok}
 use Rattle.dsd_bits.proofs.ShiftingLemmas.{written_back}
 use Rattle.std.specs.Io.KnownBytes.{Consumes}
 use Rattle.device_core.specs.Inlets.{inlet_reader}
@@ -11,12 +12,17 @@ use Rattle.cert_core.specs.Reasons.{SpellingReason}
 use Rattle.cert_core.specs.Spelling.{IsTooWide}
 use Rattle.cert_core.specs.Stops.{CutBelow, InForm, InSpelling}
 use Rattle.cert_core.specs.declared.version.Version.TheVariants.{Two}
-use Rattle.cert_core.proofs.Consuming.{if_some, maps}
+use Rattle.cert_core.proofs.Consuming.{counted_back, if_some, maps, told_back}
 use Rattle.cert_core.proofs.Reading.{cut_in_excesses, raised_consumed, raised_first}
 use Rattle.cert_core.proofs.row_reader.read_raised.Goals as goal
 
 few_bytes : (width m : ℕ) → width ≤ 8 → width * m ≤ 8 * m
 few_bytes width m few = mul-le width m 8 m few (omega arith)
+
+filled_len : (width m : ℕ) (buffer filled : List ℕ) → width ≤ 8 → 8 * m + 8 ≤ length buffer → length filled ≡ length (take (width * m - 0) buffer) → length filled ≡ width * m
+filled_len width m buffer filled few room e =
+    let h : width * m - 0 ≤ length buffer = omega (arith, few_bytes width m few, room) in
+    omega (arith, e, length-take-le (width * m - 0) buffer h)
 
 -- what is wrong with the number and the width that a row begins with
 form_first : (a : Option (List ℕ)) (m level : ℕ) (reason : CertReason) → InForm level a reason → InSpelling Two m level a reason
@@ -46,18 +52,21 @@ slice_bounds-fill-end g c = omega (arith, few_bytes c.in_ok-least.width (length 
 
 pub returns-in_err-fill : goal.returns-in_err-fill
 returns-in_err-fill g c =
-    let from = g.R.Read.remaining (inlet_reader c.args.inlet.now) in
     let mid = g.R.Read.remaining (inlet_reader c.read_form.new.inlet) in
-    let size : length c.fill.new.buffer ≡ c.in_ok-least.width * length c.args.row.now = omega (arith, c.fill.auto.buffer) in
-    let e = err_from_is_err_and c.from_residual-in_err-fill.result c.from_residual-in_err-fill.ensures.1 in
-    rw (e.1, e.2) (record {
+    let m = length c.args.row.now in
+    let r = c.from_residual-in_err-fill.result in
+    let stop = c.in_err-fill.field-0.0 in
+    let size = filled_len c.in_ok-least.width m c.args.buffer.now c.fill.new.buffer c.in_ok-least.ensures.few c.requires.room c.fill.auto.buffer in
+    let e = err_from_is_err_and r c.from_residual-in_err-fill.ensures.1 in
+    let is : r ≡ Err stop = e.1 ∙ ap Err e.2 in
+    record {
       len = refl;
       buffer = same_len_mid 0 _ c.args.buffer.now c.fill.new.buffer c.fill.auto.buffer;
-      bounded = tt;
-      ok = tt;
-      reason = maps {A = Unit {0}} (Err c.in_err-fill.field-0.0) (CutBelow mid (length c.fill.new.buffer)) (InSpelling Two (length c.args.row.now) c.args.level from) (λ reason w. cut_in_excesses from mid (length c.args.row.now) c.args.level c.in_ok-least.least c.in_ok-least.width reason c.in_ok-least.ensures.ok c.in_ok-least.ensures.few (subst (λ n. CutBelow mid n reason) size w)) c.in_err-fill.ensures.cut;
-      failures = omega (arith, c.in_err-fill.ensures.failures, c.in_ok-least.ensures.failures);
-    })
+      bounded = no_ok _ _ r c.from_residual-in_err-fill.ensures.1;
+      ok = no_ok _ _ r c.from_residual-in_err-fill.ensures.1;
+      reason = told_back r stop _ is (maps {A = Unit {0}} (Err stop) _ _ (λ reason w. cut_in_excesses _ mid m c.args.level c.in_ok-least.least c.in_ok-least.width reason c.in_ok-least.ensures.ok c.in_ok-least.ensures.few (subst (λ n. CutBelow mid n reason) size w)) c.in_err-fill.ensures.cut);
+      failures = counted_back r stop _ _ is (omega (arith, c.in_err-fill.ensures.failures, c.in_ok-least.ensures.failures));
+    }
 
 pub take_excesses-requires : goal.take_excesses-requires
 take_excesses-requires g c =
@@ -70,7 +79,7 @@ returns-in-Ok g c =
     let w = c.in_ok-least.width in
     let filled = c.fill.new.buffer in
     let size : w * length over ≡ w * length c.args.row.now = ap (λ n. w * n) c.take_excesses.ensures.len in
-    let text = sym (written_back filled _ (w * length over) (omega (arith, c.fill.auto.buffer, size))) ∙ c.take_excesses.ensures.text in
+    let text = sym (written_back filled _ (w * length over) (filled_len w (length c.args.row.now) c.args.buffer.now filled c.in_ok-least.ensures.few c.requires.room c.fill.auto.buffer ∙ sym size)) ∙ c.take_excesses.ensures.text in
     let from = g.R.Read.remaining (inlet_reader c.args.inlet.now) in
     let to = g.R.Read.remaining (inlet_reader c.fill.new.inlet) in
     record {
@@ -88,12 +97,12 @@ returns-in-Err g c =
     let w = c.in_ok-least.width in
     let filled = c.fill.new.buffer in
     let size : w * length over ≡ w * length c.args.row.now = ap (λ n. w * n) c.take_excesses.ensures.len in
-    let text = sym (written_back filled _ (w * length over) (omega (arith, c.fill.auto.buffer, size))) ∙ c.take_excesses.ensures.text in
+    let text = sym (written_back filled _ (w * length over) (filled_len w (length c.args.row.now) c.args.buffer.now filled c.in_ok-least.ensures.few c.requires.room c.fill.auto.buffer ∙ sym size)) ∙ c.take_excesses.ensures.text in
     record {
       len = c.in-Err.ensures.len ∙ c.take_excesses.ensures.len;
       buffer = same_len_mid 0 _ c.args.buffer.now c.fill.new.buffer c.fill.auto.buffer;
       bounded = tt;
       ok = tt;
-      reason = raised_first (g.R.Read.remaining (inlet_reader c.args.inlet.now)) (g.R.Read.remaining (inlet_reader c.fill.new.inlet)) (length c.args.row.now) c.args.level c.in_ok-least.least w over c.in-Err.reason (raised_consumed (g.R.Read.remaining (inlet_reader c.args.inlet.now)) (g.R.Read.remaining (inlet_reader c.read_form.new.inlet)) (g.R.Read.remaining (inlet_reader c.fill.new.inlet)) c.in_ok-least.least w over filled c.in_ok-least.ensures.ok c.in_ok-fill.ensures.ok text) c.take_excesses.ensures.len c.requires.some (omega arith) c.in_ok-least.ensures.few c.take_excesses.ensures.below c.in-Err.ensures.reason;
+      reason = raised_first (g.R.Read.remaining (inlet_reader c.args.inlet.now)) (g.R.Read.remaining (inlet_reader c.fill.new.inlet)) (length c.args.row.now) c.args.level c.in_ok-least.least w over c.in-Err.reason (raised_consumed (g.R.Read.remaining (inlet_reader c.args.inlet.now)) (g.R.Read.remaining (inlet_reader c.read_form.new.inlet)) (g.R.Read.remaining (inlet_reader c.fill.new.inlet)) c.in_ok-least.least w over filled c.in_ok-least.ensures.ok c.in_ok-fill.ensures.ok text) c.take_excesses.ensures.len c.requires.some (search rules) c.in_ok-least.ensures.few c.take_excesses.ensures.below c.in-Err.ensures.reason;
       failures = omega (arith, c.in_ok-fill.ensures.failures, c.in_ok-least.ensures.failures);
     }

@@ -34,3 +34,6 @@ returns-then-is_within-clause-found c =
     none_exceeds c.args.window.now c.args.level c.states-states.result c.args.previous.now c.args.row.now c.step_costs.new.row c.states-states.ensures.bounded c.requires.level c.states-states.ensures.value (omega (arith, c.requires.previous, c.states-states.ensures.value)) c.step_costs.ensures
     (subst (λ highs. WithinBoth (length previous) previous (take c.states-states.result c.step_costs.new.row) highs row) c.split_at.ensures.back
     (subst (λ lows. WithinBoth (length previous) previous lows c.split_at.result.1.now row) c.split_at.ensures.front (c.if-is_within.ensures refl)))
+
+pub returns-then-exceeds-clause-found : goal.returns-then-exceeds-clause-found
+returns-then-exceeds-clause-found c = (omega (arith, c.loop-state-test.true, c.states-states.ensures.value), c.exceeds.ensures.0 c.if-exceeds.true, c.loop-state.invariant)

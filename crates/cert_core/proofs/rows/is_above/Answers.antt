@@ -1,4 +1,5 @@
 use Rattle.std.proofs.Common.{◌+◌, ◌*◌, ◌/◌, ◌^◌, ◌<◌, ◌≤◌, below_more, refl, length, get_or, arith}
+use Rattle.cert_core.proofs.ExitLaws.{true_or_false}
 use Rattle.cert_core.proofs.Marks.{in_eight, in_rest, eight_places}
 use Rattle.cert_core.proofs.rows.is_above.Goals as goal
 
@@ -38,3 +39,9 @@ returns-then-rest-i-gt-GREATEST-clause-above c = λ _.
     let row = c.args.row.now in
     let n = 8 * (length row / 8) in
     (n + i, omega (arith, c.loop-i-2-test.true, c.as_chunks.ensures.back_len), omega (arith, c.if-rest-i-gt-GREATEST.true, in_rest c.as_chunks.result.1.now row i c.as_chunks.ensures.back))
+
+pub returns-then-rest-i-gt-GREATEST-clause-within : goal.returns-then-rest-i-gt-GREATEST-clause-within
+returns-then-rest-i-gt-GREATEST-clause-within c = true_or_false _ refl
+
+pub returns-then-are_above-clause-within : goal.returns-then-are_above-clause-within
+returns-then-are_above-clause-within c = true_or_false _ refl

@@ -1,4 +1,5 @@
-use Rattle.std.proofs.Common.{ap, length-take, ◌≡◌, ◌*◌, ◌-◌, ◌^◌, ◌<◌, ◌≤◌, ◌∙◌, length, take, sym, subst, arith, rules}
+use Rattle.std.proofs.Common.{ap, length-take, length-set, ◌≡◌, ℕ, List, set, ◌*◌, ◌-◌, ◌^◌, ◌<◌, ◌≤◌, ◌∙◌, length, take, sym, subst, arith, rules}
+use borrow.Rule.Slice.PartMut.{put_mid, same_len_mid}
 use Rattle.std.proofs.lemmas.Nat.{mul-le}
 use Rattle.cert_core.specs.Spelling.{byte_width}
 use Rattle.cert_core.proofs.Narrow.{narrow_is, narrow_text}
@@ -47,3 +48,18 @@ put_excesses-requires-clause-below c = c.bounds_of-least.ensures.below
 
 pub overflow_cast-buffer : goal.overflow_cast-buffer
 overflow_cast-buffer c = omega (arith, c.width_of-width.ensures.few)
+
+-- the buffer stays as long as it is
+as_long : (buffer front : List ℕ) (w : ℕ) → length front ≡ length (take 8 buffer) → length (set (put_mid 0 8 buffer front) 8 w) ≡ length buffer
+as_long buffer front w e = length-set (put_mid 0 8 buffer front) 8 w ∙ same_len_mid 0 8 buffer front e
+
+pub slice_bounds-put_excesses-end : goal.slice_bounds-put_excesses-end
+slice_bounds-put_excesses-end c = omega (arith, few_bytes (goal.at.slice_bounds-put_excesses-end c).After-width_of-width, c.requires.room, as_long c.args.buffer.now c.copy_from_slice.new.self c.width_of-width.result c.copy_from_slice.ensures.len)
+
+pub returns-clause-room : goal.returns-clause-room
+returns-clause-room c = same_len_mid 9 _ _ c.put_excesses.new.buffer c.put_excesses.ensures.room ∙ as_long c.args.buffer.now c.copy_from_slice.new.self c.width_of-width.result c.copy_from_slice.ensures.len
+
+pub returns-clause-count : goal.returns-clause-count
+returns-clause-count c =
+    let long = same_len_mid 9 _ _ c.put_excesses.new.buffer c.put_excesses.ensures.room ∙ as_long c.args.buffer.now c.copy_from_slice.new.self c.width_of-width.result c.copy_from_slice.ensures.len in
+    omega (arith, few_bytes (goal.at.returns-clause-count c).After-width_of-width, c.requires.room, long)

@@ -1,6 +1,8 @@
-use Rattle.std.proofs.Common.{◌≡◌, ◌+◌, ◌*◌, ◌-◌, ◌^◌, ◌≤◌, ap, ◌∙◌, get_or, length, arith, rules}
+use Rattle.std.proofs.Common.{◌≡◌, ◌+◌, ◌*◌, ◌-◌, ◌^◌, ◌≤◌, ap, ◌∙◌, get_or, length, map, sym, take, arith, rules}
 use Rattle.std.proofs.lemmas.Nat.{mul-le}
-use Rattle.std.specs.Int.{w64, to_be_bytes}
+use Rattle.std.proofs.lemmas.List.{take_all}
+use Rattle.std.specs.List.{flat_map}
+use Rattle.std.specs.Int.{bytes_high_first, w64, to_be_bytes}
 use Rattle.cert_core.proofs.Bytes.{high_moved}
 use Rattle.cert_core.proofs.Narrow.{narrow_more}
 use Rattle.cert_core.proofs.spelling.put_some.Goals as goal
@@ -44,3 +46,10 @@ slice_bounds-copy_from_slice-end c = omega (arith, in_buffer (goal.at.slice_boun
 
 pub slice_bounds-copy_from_slice-count : goal.slice_bounds-copy_from_slice-count
 slice_bounds-copy_from_slice-count c = omega arith
+
+pub returns-clause-text : goal.returns-clause-text
+returns-clause-text c =
+    let w = c.args.width in
+    let row = c.args.row.now in
+    let all : c.loop-place.place ≡ length row = omega (arith, c.loop-place-test.false, c.loop-place.auto.place-end) in
+    ap (λ n. take (w * n) c.loop-place.buffer) (sym all) ∙ c.loop-place.invariant.0 ∙ ap (λ l. flat_map (bytes_high_first w) (map (λ v. v - c.args.least) l)) (take_all c.loop-place.place row (omega (arith, all)))

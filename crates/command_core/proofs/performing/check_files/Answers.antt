@@ -1,5 +1,6 @@
-use Rattle.std.proofs.Common.{◌∙◌, IsTrue, inr, subst, sym}
+use Rattle.std.proofs.Common.{◌∙◌, Err, IsTrue, ap, inr, subst, sym}
 use Rattle.std.proofs.lemmas.Result.{err_from_is_err_and}
+use Rattle.command_core.specs.Commands.{CheckComesTo}
 use Rattle.command_core.specs.Sources.{AreHeardOf}
 use Rattle.command_core.proofs.CommandLaws.{checked, master_unread, sources_unread, uncut}
 use Rattle.command_core.proofs.performing.check_files.Goals as goal
@@ -30,12 +31,12 @@ cut_of-requires g c = c.in_ok-sources.ensures.of
 pub returns-in_err-sources : goal.returns-in_err-sources
 returns-in_err-sources g c = λ told.
     let e = err_from_is_err_and c.from_residual.result c.from_residual.ensures.1 in
-    rw (e.1, e.2) (sources_unread c.args.project.now c.args.master.now c.args.cert.now (g.F.Folder.file c.args.folder.now) (g.F.Folder.file c.hear_sources.new.folder) c.in_err-sources.field-0.0 (c.in_err-sources.ensures.fault told))
+    subst (CheckComesTo c.args.project.now c.args.master.now c.args.cert.now (g.F.Folder.file c.args.folder.now) (g.F.Folder.file c.hear_sources.new.folder)) (sym (e.1 ∙ ap Err e.2)) (sources_unread c.args.project.now c.args.master.now c.args.cert.now (g.F.Folder.file c.args.folder.now) (g.F.Folder.file c.hear_sources.new.folder) c.in_err-sources.field-0.0 (c.in_err-sources.ensures.fault told))
 
 pub returns-in_err-found : goal.returns-in_err-found
 returns-in_err-found g c = λ told.
     let e = err_from_is_err_and c.from_residual-in_err-found.result c.from_residual-in_err-found.ensures.1 in
-    rw (e.1, e.2) (master_unread c.args.project.now c.args.master.now c.args.cert.now (g.F.Folder.file c.args.folder.now) (g.F.Folder.file c.find_master.new.folder) (c.find_master.ensures.same ∙ c.hear_sources.ensures.same) c.in_err-found.field-0.0 c.in_err-found.ensures.fault)
+    subst (CheckComesTo c.args.project.now c.args.master.now c.args.cert.now (g.F.Folder.file c.args.folder.now) (g.F.Folder.file c.find_master.new.folder)) (sym (e.1 ∙ ap Err e.2)) (master_unread c.args.project.now c.args.master.now c.args.cert.now (g.F.Folder.file c.args.folder.now) (g.F.Folder.file c.find_master.new.folder) (c.find_master.ensures.same ∙ c.hear_sources.ensures.same) c.in_err-found.field-0.0 c.in_err-found.ensures.fault)
 
 pub returns-in-Err : goal.returns-in-Err
 returns-in-Err g c = λ told.

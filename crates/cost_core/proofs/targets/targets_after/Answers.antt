@@ -1,6 +1,7 @@
 use Rattle.std.proofs.Common.{◌≡◌, length, sym, ap, subst, ◌∙◌, arith}
+use Rattle.std.proofs.lemmas.List.{length-map}
 use Rattle.std.specs.Prelude.{IfOk}
-use Rattle.splice_core.specs.Cues.{CueContent, IsLine}
+use Rattle.splice_core.specs.Cues.{CueContent, IsLine, cue_content}
 use Rattle.splice_core.specs.Splices.{splice_content}
 use Rattle.splice_core.specs.declared.cue.Target.TheVariants.{Fade, Line}
 use Rattle.cost_core.specs.Fade.{fade_targets}
@@ -24,6 +25,12 @@ lined c = sym (ap (λ (q : CueContent). q.target) (cue_read c.args.splice.now c.
 
 line_fits : (c : In-Line) → IsLine c.in-Line.a c.in-Line.b
 line_fits c = (cue_fits (splice_content c.args.splice.now) (splicing c.args.splice.now) c.args.cue (omega (arith, c.requires.cues))).target_fits c.in-Line.a c.in-Line.b (lined c)
+
+pub index-requires : goal.index-requires
+index-requires c = omega (arith, c.requires.cues, length-map c.args.splice.now.cues.items cue_content, c.args.splice.now.cues.ok.0)
+
+pub index-requires-2 : goal.index-requires-2
+index-requires-2 c = omega (arith, c.requires.cues, length-map c.args.splice.now.cues.items cue_content, c.args.splice.now.cues.ok.0)
 
 pub fade_targets-requires : goal.fade_targets-requires
 fade_targets-requires c =

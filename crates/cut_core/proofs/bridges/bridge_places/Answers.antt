@@ -1,4 +1,4 @@
-use Rattle.std.proofs.Common.{◌≡◌, ◌+◌, ◌++◌, ◌∷◌, [], ◌∙◌, ap, arith, flat_map, sym}
+use Rattle.std.proofs.Common.{◌≡◌, ◌+◌, ◌-◌, ◌++◌, ◌∷◌, [], ◌∙◌, ap, arith, flat_map, length, sym}
 use Rattle.std.specs.List.{range_with_len}
 use Rattle.std.proofs.lemmas.List.{append-nil}
 use Rattle.std.proofs.lemmas.Grind.{flat_map-append}
@@ -17,3 +17,8 @@ loop-cue-preserved c =
       each = pushed.each c.loop-cue.invariant.each;
       few = omega (arith, pushed.few, c.loop-cue.invariant.few);
     }
+
+pub returns-clause-places : goal.returns-clause-places
+returns-clause-places c =
+    let all : c.loop-cue.cue ≡ length c.args.cut.now.splice.cues - 1 = omega (arith, c.loop-cue-test.false, c.loop-cue.auto.cue-end, c.cue_number-cue-end.ensures.value) in
+    c.loop-cue.invariant.places ∙ ap (λ n. flat_map (places_behind c.args.cut.now) (range_with_len 0 n)) all

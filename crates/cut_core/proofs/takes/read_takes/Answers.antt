@@ -1,9 +1,14 @@
-use Rattle.std.proofs.Common.{◌∷◌, ◌++◌, [], arith, refl}
+use Rattle.std.proofs.Common.{◌≡◌, ℕ, ◌<◌, ◌∷◌, ◌++◌, ◌∙◌, [], Err, List, Ok, ap, arith, inl, inr, length, refl, subst, sym}
 use Rattle.std.proofs.lemmas.List.{length-append}
+use Rattle.std.proofs.lemmas.Result.{err_from_is_err_and}
+use Rattle.dsd_bits.specs.Contents.{Content}
+use Rattle.form_core.specs.Steps.{Fails}
 use Rattle.splice_core.specs.Splices.{splice_content}
-use Rattle.cut_core.specs.Opening.{file_bytes}
+use Rattle.cut_core.specs.Opening.{HearsTakes, file_bytes, take_from, takes_before}
+use Rattle.cut_core.specs.declared.fault.CutFault.{CutFault}
+use Rattle.cut_core.specs.declared.fault.CutFault.TheVariants.{Memory}
 use Rattle.cut_core.proofs.HearingLaws.{heard_more, heard_none}
-use Rattle.cut_core.proofs.Steps.{takes_more}
+use Rattle.cut_core.proofs.Steps.{takes_more, takes_stop}
 use Rattle.cut_core.proofs.takes.read_takes.Goals as goal
 
 pub loop-number-init : goal.loop-number-init
@@ -29,3 +34,15 @@ loop-number-preserved c =
       len = omega (arith, c.push_reserved.ensures.len, so_far.len);
       room = omega (arith, c.push_reserved.ensures.capacity, so_far.room);
     }
+
+-- a take that fails ends them all
+stopped : (files : List (List ℕ)) (n i : ℕ) (takes : List Content) (fault : CutFault) → i < n → takes_before files i ≡ Ok takes → Fails Memory fault (take_from files i) → Fails Memory fault (takes_before files n)
+stopped files n i takes fault lt before (inl memory) = inl memory
+stopped files n i takes fault lt before (inr refused) = inr (takes_stop files n i takes fault lt before refused)
+
+pub returns-in_err-hear_take : goal.returns-in_err-hear_take
+returns-in_err-hear_take c =
+    let e = err_from_is_err_and c.from_residual-in_err-hear_take.result c.from_residual-in_err-hear_take.ensures.1 in
+    let files = file_bytes c.args.files.now in
+    let n = length c.args.files.now in
+    subst (λ r. HearsTakes (splice_content c.args.splice.now) r (takes_before files n)) (sym (e.1 ∙ ap Err e.2)) (stopped files n c.loop-number.number c.loop-number.invariant.whole c.in_err-hear_take.field-0.0 c.loop-number-test.true c.loop-number.invariant.before c.in_err-hear_take.ensures)

@@ -11,7 +11,7 @@ use Rattle.trellis_core.specs.Passes.{HasBuffers}
 use Rattle.master_core.specs.Certifying.{AppendsEntries, IsReady}
 use Rattle.master_core.specs.Choosing.{chosen_claims}
 use Rattle.master_core.proofs.CertLaws.{cut_short, entry_more}
-use Rattle.master_core.proofs.ChoiceLaws.{as_many, chosen_is, claim_is, claim_number, showable, weights_are}
+use Rattle.master_core.proofs.ChoiceLaws.{as_many, as_many_windows, chosen_is, claim_is, claim_number, showable, weights_are}
 use Rattle.master_core.proofs.certifying.write_entries.Goals as goal
 use Rattle.master_core.proofs.certifying.write_entries.Goals.{After-index-in-loop-k}
 use Rattle.master_core.proofs.certifying.write_entries.Given.{Over}
@@ -107,3 +107,8 @@ write_entry-requires-clause-entries g c = omega (arith, c.loop-k.invariant.left,
 
 pub loop-k-init : goal.loop-k-init
 loop-k-init g c = record { written = ([], refl, Appends-nil (g.W.Write.contents (outlet_writer (cert_outlet c.args.writer.now)))); ready = c.requires.ready; left = omega (arith, c.requires.entries); before = refl; room = c.requires.room }
+
+pub index-window-requires : goal.index-window-requires
+index-window-requires g c =
+    let made = c.args.bridges.now in
+    omega (arith, as_many_windows c.args.cut.now made c.requires.bridges, c.loop-k-test.true, c.len-k-end.ensures, made.windows.ok.0, made.places.ok.0)

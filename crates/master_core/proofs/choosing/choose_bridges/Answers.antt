@@ -1,13 +1,14 @@
-use Rattle.std.proofs.Common.{◌≡◌, ◌<◌, ◌∙◌, List, ap, arith, get_or, length, map, refl, subst, sym, take}
-use Rattle.std.specs.List.{AllZip}
+use Rattle.std.proofs.Common.{◌≡◌, ◌+◌, ◌<◌, ◌∙◌, List, ap, arith, get_or, length, map, refl, subst, sym, take}
+use Rattle.std.specs.List.{All, AllZip}
 use Rattle.std.proofs.lemmas.List.{take_all}
 use Rattle.std.proofs.lemmas.List.Elements.{All-nil, All-push}
 use Rattle.std.proofs.lemmas.Result.{err_from_is_err_and}
 use Rattle.cost_core.specs.Bridges.{Bridging}
 use Rattle.cost_core.specs.Limits.{IsBridging}
+use Rattle.trellis_core.specs.declared.bridging.Chosen.{Chosen}
 use Rattle.cut_core.specs.Bridges.{IsPlace}
 use Rattle.cut_core.specs.declared.bridges.BridgePlace.{BridgePlace}
-use Rattle.master_core.specs.Choosing.{IsChosen, IsChosenAt, window_at}
+use Rattle.master_core.specs.Choosing.{IsChosen, IsChosenAt, chosen_cost, window_at}
 use Rattle.master_core.proofs.ChoiceLaws.{chosen_more, cost_more, window_more}
 use Rattle.master_core.proofs.choosing.choose_bridges.Goals as goal
 use Rattle.master_core.proofs.choosing.choose_bridges.Goals.{After-index}
@@ -44,12 +45,14 @@ loop-k-preserved c =
     let so_far = c.loop-k.invariant in
     let made = c.in_ok-window in
     let one : IsChosenAt cut p made.field-0.chosen = subst (λ (d : Bridging). IsChosen d made.field-0.chosen) made.ensures.window made.ensures.chosen in
+    let more = c.push_reserved-in-loop-k.ensures.items in
+    let more_windows = c.push_reserved.ensures.items in
     record {
-      chosen = rw c.push_reserved-in-loop-k.ensures.items (chosen_more cut ps c.loop-k.k p (there here) (is here) c.loop-k.chosen.items made.field-0.chosen so_far.chosen one);
-      windows = rw c.push_reserved.ensures.items (window_more cut ps c.loop-k.k p (there here) (is here) c.loop-k.windows.items made.field-0.window so_far.windows made.ensures.window);
-      within = rw c.push_reserved.ensures.items (All-push IsBridging c.loop-k.windows.items made.field-0.window so_far.within made.ensures.within);
-      total = rw c.push_reserved-in-loop-k.ensures.items (cost_more c.loop-k.chosen.items made.field-0.chosen c.loop-k.total c.from-total.result so_far.total (c.from-total.ensures ∙ c.cost_of.ensures));
-      bound = omega (arith, so_far.bound, c.from-total.ensures);
+      chosen = subst (λ (l : List Chosen). AllZip (IsChosenAt cut) (take (c.loop-k.k + 1) ps) l) (sym more) (chosen_more cut ps c.loop-k.k p (there here) (is here) c.loop-k.chosen.items made.field-0.chosen so_far.chosen one);
+      windows = more_windows ∙ window_more cut ps c.loop-k.k p (there here) (is here) c.loop-k.windows.items made.field-0.window so_far.windows made.ensures.window;
+      within = subst (All IsBridging) (sym more_windows) (All-push IsBridging c.loop-k.windows.items made.field-0.window so_far.within made.ensures.within);
+      total = cost_more c.loop-k.chosen.items made.field-0.chosen c.loop-k.total c.from-total.result so_far.total (c.from-total.ensures ∙ c.cost_of.ensures) ∙ ap chosen_cost (sym more);
+      bound = omega (arith, so_far.bound, c.from-total.ensures, c.cost_of.type_inv);
       len = omega (arith, c.push_reserved-in-loop-k.ensures.len, so_far.len);
       room = omega (arith, c.push_reserved-in-loop-k.ensures.capacity, so_far.room);
       windows_len = omega (arith, c.push_reserved.ensures.len, so_far.windows_len);

@@ -1,4 +1,6 @@
-use Rattle.std.proofs.Common.{◌≡◌, ◌+◌, ◌-◌, ℕ, false, get_or, ap, ◌∙◌, arith, length, slice_range}
+use Rattle.std.proofs.Common.{◌≡◌, ◌+◌, ◌-◌, ◌≤◌, ℕ, false, get_or, ap, ◌∙◌, arith, length, slice_range}
+use Rattle.std.proofs.lemmas.List.Sums.{sum_by_more_le}
+use Rattle.cut_core.specs.Cuts.{cue_at, master_length, span}
 use Rattle.master_core.specs.Comparing.{cue_start}
 use Rattle.master_core.proofs.OffLaws.{differs_there, none_alike, none_more}
 use Rattle.master_core.proofs.cueing.first_off_at.Goals as goal
@@ -49,3 +51,9 @@ pub loop-place-preserved : goal.loop-place-preserved
 loop-place-preserved c =
     let here = c.cued-here.result in
     record { none = none_more c.args.cut.now c.args.at.channel c.args.at.cue c.args.done c.args.part.now here.bits.now here.start here.stop c.loop-place.place c.cued-here.ensures.bits c.get.result c.cued_bit.result c.get.ensures (cued (goal.at.loop-place-preserved c).After-cued_bit) c.if-get-cued_bit.false c.loop-place.invariant.none }
+
+pub overflow_add-start : goal.overflow_add-start
+overflow_add-start c =
+    let cut = c.args.cut.now in
+    let within : cue_start cut c.args.at.cue + span (cue_at cut c.args.at.cue) ≤ master_length cut.splice.cues = sum_by_more_le span cut.splice.cues c.args.at.cue _ c.requires.cue in
+    omega (arith, within, c.requires.start, c.cued-here.ensures.long, c.can_cut.ensures.in_limit)

@@ -1,10 +1,11 @@
-use Rattle.std.proofs.Common.{◌≡◌, ◌<◌, ◌∙◌, ap, arith, get_or, length, map, subst, sum_by, sym, take}
+use Rattle.std.proofs.Common.{◌≡◌, ◌+◌, ◌<◌, ◌∙◌, List, ℕ, ap, arith, get_or, length, map, subst, sum_by, sym, take}
 use Rattle.std.proofs.lemmas.Result.{IfOk-from_err, err_from_is_err_and}
 use Rattle.std.specs.List.{All}
 use Rattle.std.proofs.lemmas.List.{get_or-map, length-map, take_all}
 use Rattle.std.proofs.lemmas.List.Elements.{All-more}
 use Rattle.std.proofs.lemmas.List.Sums.{sum_by_more}
 use Rattle.device_core.specs.Inlets.{inlet_reader}
+use Rattle.cert_core.specs.Certificates.{Claim}
 use Rattle.cert_core.specs.Readers.{cert_inlet}
 use Rattle.master_core.specs.Judging.{JudgesClaim, LacksClaim, ReadsEntries, ShowsClaim}
 use Rattle.master_core.specs.Claims.{IsLeastClaim, claim_cost}
@@ -23,11 +24,15 @@ returns-in-Rejected g c = record {
       let here = g.R.Read.remaining (inlet_reader (cert_inlet c.loop-k.reader)) in
       let to = g.R.Read.remaining (inlet_reader (cert_inlet c.judge_entry.new.reader)) in
       let lt : k < length (map f places) = omega (arith, length-map places f) in
-      let is : get_or (map f places) k claim ≡ claim = get_or-map f places k (record { cue = 0; channel = 0 }) claim (omega arith) in
+      let is : get_or (map f places) k claim ≡ claim = get_or-map f places k (record { cue = 0; channel = 0 }) claim c.loop-k-test.true in
       let lacks : LacksClaim v claim here c.in-Rejected.reason = subst (λ x. JudgesClaim v claim here to x) c.in-Rejected.is (subst (λ x. JudgesClaim x claim here to c.in_ok-cost.field-0) c.loop-k.invariant.version c.in_ok-cost.ensures.judged) in
       lacks_one v (map f places) k claim lt is from here c.loop-k.invariant.entries c.cert_goes_on.ensures.next c.in-Rejected.reason lacks;
   failures = omega (arith, c.in_ok-cost.ensures.failures, c.loop-k.invariant.failures);
 }
+
+-- the costs with one more
+costs_more : (cs : List Claim) (claim : Claim) (k total cost : ℕ) → k < length cs → get_or cs k claim ≡ claim → total ≡ sum_by claim_cost (take k cs) → cost ≡ claim_cost claim → total + cost ≡ sum_by claim_cost (take (k + 1) cs)
+costs_more cs claim k total cost lt is so_far own = omega (arith, so_far, own, sum_by_more claim_cost cs k claim lt, ap claim_cost is)
 
 pub loop-k-preserved : goal.loop-k-preserved
 loop-k-preserved g c =
@@ -40,12 +45,12 @@ loop-k-preserved g c =
     let here = g.R.Read.remaining (inlet_reader (cert_inlet c.loop-k.reader)) in
     let to = g.R.Read.remaining (inlet_reader (cert_inlet c.judge_entry.new.reader)) in
     let lt : k < length (map f places) = omega (arith, length-map places f) in
-    let is : get_or (map f places) k claim ≡ claim = get_or-map f places k (record { cue = 0; channel = 0 }) claim (omega arith) in
+    let is : get_or (map f places) k claim ≡ claim = get_or-map f places k (record { cue = 0; channel = 0 }) claim c.loop-k-test.true in
     let shows : ShowsClaim v claim here to c.in-Accepted.cost = subst (λ x. JudgesClaim v claim here to x) c.in-Accepted.is (subst (λ x. JudgesClaim x claim here to c.in_ok-cost.field-0) c.loop-k.invariant.version c.in_ok-cost.ensures.judged) in
     let so = c.loop-k.invariant in
     record {
       entries = shown_more v (map f places) k claim lt is from here so.entries c.read_is_cert.ensures.more to shows.entry;
-      cost_is = omega (arith, so.cost_is, c.from-total.ensures, shows.cost_is, sum_by_more claim_cost (map f places) k claim lt, ap claim_cost is);
+      cost_is = costs_more (map f places) claim k c.loop-k.total c.from-total.result lt is so.cost_is (c.from-total.ensures ∙ shows.cost_is);
       bound = omega (arith, so.bound, c.from-total.ensures);
       least = All-more IsLeastClaim (map f places) k claim lt so.least (subst IsLeastClaim (sym is) shows.least);
       read = c.in_ok-cost.ensures.read;

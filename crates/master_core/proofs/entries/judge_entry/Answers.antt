@@ -1,8 +1,9 @@
-use Rattle.std.proofs.Common.{◌∙◌, ap, arith, subst, sym}
+use Rattle.std.proofs.Common.{◌≡◌, ◌+◌, ◌∙◌, Err, add-zero, ap, arith, subst, sym}
 use Rattle.std.proofs.lemmas.Result.{err_from_is_err_and}
 use Rattle.std.specs.Result.{IfOk}
-use Rattle.device_core.specs.Inlets.{inlet_reader}
-use Rattle.cert_core.specs.Readers.{cert_inlet}
+use Rattle.dsd_bits.proofs.ExitLaws.{no_ok, no_value}
+use Rattle.device_core.specs.Inlets.{inlet_failures, inlet_reader}
+use Rattle.cert_core.specs.Readers.{cert_inlet, failed_checks}
 use Rattle.cost_core.specs.Bridges.{Bridging}
 use Rattle.cut_core.specs.Cuts as cuts
 use Rattle.cut_core.proofs.CutLaws.{first_shape}
@@ -41,22 +42,26 @@ returns g c = record {
 
 pub returns-in_err-window : goal.returns-in_err-window
 returns-in_err-window g c =
-    let e = err_from_is_err_and c.from_residual.result c.from_residual.ensures.1 in
+    let r = c.from_residual.result in
+    let e = err_from_is_err_and r c.from_residual.ensures.1 in
+    let failures = inlet_failures (cert_inlet c.args.reader.now) in
     record {
-      judged = rw e.1 tt;
-      failures = rw (e.1, e.2) (omega arith);
-      read = rw e.1 tt;
-      version = rw e.1 tt;
+      judged = no_value _ _ r c.from_residual.ensures.1;
+      failures = subst (λ r. failures ≡ failures + failed_checks r) (sym (e.1 ∙ ap Err e.2)) (sym (add-zero _));
+      read = no_ok _ _ r c.from_residual.ensures.1;
+      version = no_ok _ _ r c.from_residual.ensures.1;
     }
 
 pub returns-in_err-bits : goal.returns-in_err-bits
 returns-in_err-bits g c =
-    let e = err_from_is_err_and c.from_residual-in_err-bits.result c.from_residual-in_err-bits.ensures.1 in
+    let r = c.from_residual-in_err-bits.result in
+    let e = err_from_is_err_and r c.from_residual-in_err-bits.ensures.1 in
+    let failures = inlet_failures (cert_inlet c.args.reader.now) in
     record {
-      judged = rw e.1 tt;
-      failures = rw (e.1, e.2) (omega arith);
-      read = rw e.1 tt;
-      version = rw e.1 tt;
+      judged = no_value _ _ r c.from_residual-in_err-bits.ensures.1;
+      failures = subst (λ r. failures ≡ failures + failed_checks r) (sym (e.1 ∙ ap Err e.2)) (sym (add-zero _));
+      read = no_ok _ _ r c.from_residual-in_err-bits.ensures.1;
+      version = no_ok _ _ r c.from_residual-in_err-bits.ensures.1;
     }
 
 pub window-requires : goal.window-requires

@@ -1,7 +1,8 @@
-use Rattle.std.proofs.Common.{◌≡◌, ◌-◌, ◌+◌, ◌++◌, ◌∙◌, ℕ, Bool, List, ap, ap₂, arith, length, length-append, slice_range}
+use Rattle.std.proofs.Common.{◌≡◌, ◌-◌, ◌+◌, ◌++◌, ◌∙◌, ◌≤◌, ℕ, Bool, List, ap, ap₂, arith, length, length-append, slice_range, sum_by, take}
+use Rattle.std.proofs.lemmas.List.Sums.{sum_by_more_le}
 use Rattle.dsd_bits.specs.Rooms.{RoomContent}
 use Rattle.splice_core.specs.Cues.{CueContent}
-use Rattle.cut_core.specs.Cuts.{cue_at, cue_bits}
+use Rattle.cut_core.specs.Cuts.{cue_at, cue_bits, master_length, span}
 use Rattle.master_core.specs.Claims.{bridge_start}
 use Rattle.master_core.proofs.SliceLaws.{length-slice}
 use Rattle.master_core.proofs.parting.push_step.Goals as goal
@@ -66,3 +67,10 @@ returns c =
 
 pub cue-requires : goal.cue-requires
 cue-requires c = omega (arith, c.requires.cue)
+
+pub overflow_add-next : goal.overflow_add-next
+overflow_add-next c =
+    let cut = c.args.source.now.cut.now in
+    let cue = c.args.place.cue in
+    let within : sum_by span (take cue cut.splice.cues) + span (cue_at cut cue) ≤ master_length cut.splice.cues = sum_by_more_le span cut.splice.cues cue _ (omega (arith, c.requires.cue)) in
+    omega (arith, within, c.requires.start, ap (λ (q : CueContent). q.bridge) c.cue.ensures.value, c.can_cut.ensures.in_limit)

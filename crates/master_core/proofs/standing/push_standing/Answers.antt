@@ -36,3 +36,6 @@ returns c = record {
       let own = length-slice_range c.args.channel.now (bridge_start cut c.args.cue) (bridge_start cut c.args.cue + (cue_at cut c.args.cue).bridge) (most here) in
       omega (arith, ap length (c.in_ok-push_range.ensures.ok ∙ ap (λ l. c.args.out.now ++ l) (bridge_is here)), length-append c.args.out.now (bridge_bits cut c.args.channel.now c.args.cue), own);
 }
+
+pub overflow_add-start : goal.overflow_add-start
+overflow_add-start c = omega (arith, most (goal.at.overflow_add-start c).After-cue, c.requires.start, ap (λ (q : CueContent). q.bridge) c.cue.ensures.value, c.requires.long, c.can_cut.ensures.in_limit)

@@ -1,7 +1,9 @@
-use Rattle.std.proofs.Common.{◌∙◌, IsTrue, Some, ap, subst, sym}
+use Rattle.std.proofs.Common.{◌∙◌, Err, IsTrue, Some, ap, subst, sym}
+use Rattle.std.specs.Prelude.{IfSome}
 use Rattle.std.proofs.lemmas.Result.{err_from_is_err_and}
 use Rattle.folder_core.specs.Files.{Files}
 use Rattle.folder_core.specs.ShortFiles.{IsShort}
+use Rattle.sound_core.specs.Outlines.{AreTold, around_of}
 use Rattle.transfer_commands.specs.Converting.{ConvertComesTo}
 use Rattle.transfer_commands.specs.Outlining.{OutlinesFile}
 use Rattle.transfer_commands.proofs.ConvertLaws.{unconverted}
@@ -11,7 +13,7 @@ use Rattle.transfer_commands.proofs.converting.convert_file.Goals as goal
 pub returns-in_err-file : goal.returns-in_err-file
 returns-in_err-file g c = λ told.
     let e = err_from_is_err_and c.from_residual.result c.from_residual.ensures.1 in
-    rw (e.1, e.2) (unconverted c.args.form c.args.input.now c.args.output.now (g.F.Folder.file c.args.folder.now) (g.F.Folder.file c.read_short.new.folder) _ c.read_short.ensures.same (unread_of c.in_err-file.field-0.0 c.in_err-file.ensures.fault))
+    subst (ConvertComesTo c.args.form c.args.input.now c.args.output.now (g.F.Folder.file c.args.folder.now) (g.F.Folder.file c.read_short.new.folder)) (sym (e.1 ∙ ap Err e.2)) (unconverted c.args.form c.args.input.now c.args.output.now (g.F.Folder.file c.args.folder.now) (g.F.Folder.file c.read_short.new.folder) _ c.read_short.ensures.same (unread_of c.in_err-file.field-0.0 c.in_err-file.ensures.fault))
 
 pub returns-in-Some : goal.returns-in-Some
 returns-in-Some g c = λ told.
@@ -42,9 +44,12 @@ returns g c = λ told.
 pub returns-in_err-outline : goal.returns-in_err-outline
 returns-in_err-outline g c = λ told.
     let e = err_from_is_err_and c.from_residual-in_err-outline.result c.from_residual-in_err-outline.ensures.1 in
-    rw (e.1, e.2) (unconverted c.args.form c.args.input.now c.args.output.now (g.F.Folder.file c.args.folder.now) (g.F.Folder.file c.outline_file.new.folder) c.in_err-outline.field-0.0 (c.outline_file.ensures.same ∙ c.read_short.ensures.same) c.in_err-outline.ensures.fault)
+    subst (ConvertComesTo c.args.form c.args.input.now c.args.output.now (g.F.Folder.file c.args.folder.now) (g.F.Folder.file c.outline_file.new.folder)) (sym (e.1 ∙ ap Err e.2)) (unconverted c.args.form c.args.input.now c.args.output.now (g.F.Folder.file c.args.folder.now) (g.F.Folder.file c.outline_file.new.folder) c.in_err-outline.field-0.0 (c.outline_file.ensures.same ∙ c.read_short.ensures.same) c.in_err-outline.ensures.fault)
 
 pub returns-in_err-file-2 : goal.returns-in_err-file-2
 returns-in_err-file-2 g c = λ told.
     let e = err_from_is_err_and c.from_residual-in_err-file-2.result c.from_residual-in_err-file-2.ensures.1 in
-    rw (e.1, e.2) (unconverted c.args.form c.args.input.now c.args.output.now (g.F.Folder.file c.args.folder.now) (g.F.Folder.file c.read_file.new.folder) _ (c.read_file.ensures.same ∙ c.outline_file.ensures.same ∙ c.read_short.ensures.same) (unread_of c.in_err-file-2.field-0.0 c.in_err-file-2.ensures.fault))
+    subst (ConvertComesTo c.args.form c.args.input.now c.args.output.now (g.F.Folder.file c.args.folder.now) (g.F.Folder.file c.read_file.new.folder)) (sym (e.1 ∙ ap Err e.2)) (unconverted c.args.form c.args.input.now c.args.output.now (g.F.Folder.file c.args.folder.now) (g.F.Folder.file c.read_file.new.folder) _ (c.read_file.ensures.same ∙ c.outline_file.ensures.same ∙ c.read_short.ensures.same) (unread_of c.in_err-file-2.field-0.0 c.in_err-file-2.ensures.fault))
+
+pub convert_outlined-requires : goal.convert_outlined-requires
+convert_outlined-requires g c = record { told = subst (λ o. IfSome o (λ outline. AreTold (around_of outline))) c.in-Some-2.is c.in_ok-outline.ensures.around }

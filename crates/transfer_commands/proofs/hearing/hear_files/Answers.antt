@@ -1,13 +1,15 @@
-use Rattle.std.proofs.Common.{◌≡◌, ◌<◌, ◌∙◌, [], IsTrue, ap, get_or, length, map, refl, subst, sym, arith}
+use Rattle.std.proofs.Common.{◌≡◌, ◌<◌, ◌∙◌, [], Err, IsTrue, ap, get_or, length, map, refl, subst, sym, arith}
 use Rattle.std.specs.Prelude.{string_bytes}
 use Rattle.std.proofs.lemmas.List.{length-map, take_all}
 use Rattle.std.proofs.lemmas.Result.{err_from_is_err_and}
+use Rattle.dsd_bits.proofs.ExitLaws.{no_value}
 use Rattle.splice_core.specs.Splices.{splice_content}
 use Rattle.cut_core.specs.Hearing.{AreHeard, heard_content}
 use Rattle.cut_core.specs.Opening.{IsOfTakes}
 use Rattle.folder_core.specs.Files.{Files}
 use Rattle.transfer_commands.specs.Hearing.{HearsFile, HearsFiles}
-use Rattle.transfer_commands.proofs.HearLaws.{files_more}
+use Rattle.transfer_commands.specs.Outlining.{IsUnread}
+use Rattle.transfer_commands.proofs.HearLaws.{err_says, files_more}
 use Rattle.transfer_commands.proofs.hearing.hear_files.Goals as goal
 
 pub loop-number-preserved : goal.loop-number-preserved
@@ -40,14 +42,15 @@ loop-number-init g c =
 pub returns-in_err-next : goal.returns-in_err-next
 returns-in_err-next g c =
     let so_far = c.loop-number.invariant in
-    let e = err_from_is_err_and c.from_residual.result c.from_residual.ensures.1 in
-    rw (e.1, e.2) (record {
+    let r = c.from_residual.result in
+    let e = err_from_is_err_and r c.from_residual.ensures.1 in
+    record {
       same = c.hear_named.ensures.same ∙ so_far.same;
       told = c.hear_named.ensures.told ∙ so_far.told;
-      heard = tt;
-      of = tt;
-      fault = c.in_err-next.ensures.fault;
-    })
+      heard = no_value _ _ r c.from_residual.ensures.1;
+      of = no_value _ _ r c.from_residual.ensures.1;
+      fault = err_says r _ IsUnread (e.1 ∙ ap Err e.2) (c.in_err-next.ensures.fault);
+    }
 
 pub returns : goal.returns
 returns g c =
@@ -62,3 +65,6 @@ returns g c =
       of = subst (λ k. IsOfTakes splice k c.loop-number.heard) many so_far.of;
       fault = tt;
     }
+
+pub hear_named-requires : goal.hear_named-requires
+hear_named-requires g c = omega (arith, c.loop-number-test.true, c.len-number-end.ensures, length-map c.args.splice.now.takes.items string_bytes)

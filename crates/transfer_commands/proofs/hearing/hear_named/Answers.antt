@@ -1,14 +1,16 @@
-use Rattle.std.proofs.Common.{◌≡◌, ◌<◌, ◌∙◌, [], Global, IsTrue, List, Ok, Option, Some, String, ℕ, ap, arith, get_or, length, map, subst, sym}
+use Rattle.std.proofs.Common.{◌≡◌, ◌<◌, ◌∙◌, [], Err, Global, IsTrue, List, Ok, Option, Some, String, ℕ, ap, arith, get_or, length, map, subst, sym}
 use Rattle.std.specs.Prelude.{IfSome, string_bytes}
 use Rattle.std.proofs.lemmas.List.{get_or-map, length-map}
 use Rattle.std.proofs.lemmas.Result.{err_from_is_err_and}
+use Rattle.dsd_bits.proofs.ExitLaws.{no_value}
 use Rattle.splice_core.specs.Splices.{splice_content}
 use Rattle.cut_core.specs.Opening.{HearsTake, IsOfTake, take_in}
 use Rattle.cut_core.specs.declared.heard.Heard.{Heard}
 use Rattle.folder_core.specs.Files.{Files}
 use Rattle.folder_core.specs.ShortFiles.{IsShort}
 use Rattle.transfer_commands.specs.Hearing.{StreamsFile}
-use Rattle.transfer_commands.proofs.HearLaws.{unread_of}
+use Rattle.transfer_commands.specs.Outlining.{IsUnread}
+use Rattle.transfer_commands.proofs.HearLaws.{err_says, unread_of}
 use Rattle.transfer_commands.proofs.StreamLaws.{streamed_hears}
 use Rattle.transfer_commands.proofs.hearing.hear_named.Goals as goal
 
@@ -73,33 +75,36 @@ returns g c =
 
 pub returns-in_err-heard : goal.returns-in_err-heard
 returns-in_err-heard g c =
-    let e = err_from_is_err_and c.from_residual-in_err-heard.result c.from_residual-in_err-heard.ensures.1 in
-    rw (e.1, e.2) (record {
+    let r = c.from_residual-in_err-heard.result in
+    let e = err_from_is_err_and r c.from_residual-in_err-heard.ensures.1 in
+    record {
       same = c.hear_streamed.ensures.same ∙ c.read_short.ensures.same;
       told = c.hear_streamed.ensures.told ∙ c.read_short.ensures.told;
-      heard = tt;
-      of = tt;
-      fault = c.in_err-heard.ensures.fault;
-    })
+      heard = no_value _ _ r c.from_residual-in_err-heard.ensures.1;
+      of = no_value _ _ r c.from_residual-in_err-heard.ensures.1;
+      fault = err_says r _ IsUnread (e.1 ∙ ap Err e.2) (c.in_err-heard.ensures.fault);
+    }
 
 pub returns-in_err-file : goal.returns-in_err-file
 returns-in_err-file g c =
-    let e = err_from_is_err_and c.from_residual.result c.from_residual.ensures.1 in
-    rw (e.1, e.2) (record {
+    let r = c.from_residual.result in
+    let e = err_from_is_err_and r c.from_residual.ensures.1 in
+    record {
       same = c.read_short.ensures.same;
       told = c.read_short.ensures.told;
-      heard = tt;
-      of = tt;
-      fault = unread_of c.in_err-file.field-0.0 c.in_err-file.ensures.fault;
-    })
+      heard = no_value _ _ r c.from_residual.ensures.1;
+      of = no_value _ _ r c.from_residual.ensures.1;
+      fault = err_says r _ IsUnread (e.1 ∙ ap Err e.2) (unread_of c.in_err-file.field-0.0 c.in_err-file.ensures.fault);
+    }
 
 pub returns-in_err-file-2 : goal.returns-in_err-file-2
 returns-in_err-file-2 g c =
-    let e = err_from_is_err_and c.from_residual-in_err-file-2.result c.from_residual-in_err-file-2.ensures.1 in
-    rw (e.1, e.2) (record {
+    let r = c.from_residual-in_err-file-2.result in
+    let e = err_from_is_err_and r c.from_residual-in_err-file-2.ensures.1 in
+    record {
       same = c.read_file.ensures.same ∙ c.hear_streamed.ensures.same ∙ c.read_short.ensures.same;
       told = c.read_file.ensures.told ∙ c.hear_streamed.ensures.told ∙ c.read_short.ensures.told;
-      heard = tt;
-      of = tt;
-      fault = unread_of c.in_err-file-2.field-0.0 c.in_err-file-2.ensures.fault;
-    })
+      heard = no_value _ _ r c.from_residual-in_err-file-2.ensures.1;
+      of = no_value _ _ r c.from_residual-in_err-file-2.ensures.1;
+      fault = err_says r _ IsUnread (e.1 ∙ ap Err e.2) (unread_of c.in_err-file-2.field-0.0 c.in_err-file-2.ensures.fault);
+    }

@@ -1,7 +1,8 @@
-use Rattle.std.proofs.Common.{◌∙◌, IsTrue, inr, subst, sym}
+use Rattle.std.proofs.Common.{◌∙◌, Err, IsTrue, ap, inr, subst, sym}
 use Rattle.std.proofs.lemmas.Result.{err_from_is_err_and}
+use Rattle.dsd_bits.proofs.ExitLaws.{no_value}
 use Rattle.splice_core.specs.Splices.{splice_content}
-use Rattle.transfer_commands.proofs.HearLaws.{sources_heard, unnamed, unread, unread_of}
+use Rattle.transfer_commands.proofs.HearLaws.{err_says, sources_heard, unnamed, unread, unread_of}
 use Rattle.transfer_commands.proofs.sources.hear_sources.Goals as goal
 
 pub returns : goal.returns
@@ -17,36 +18,39 @@ returns g c = record {
 
 pub returns-in_err-project : goal.returns-in_err-project
 returns-in_err-project g c =
-    let p = err_from_is_err_and c.from_residual.result c.from_residual.ensures.1 in
+    let r = c.from_residual.result in
+    let p = err_from_is_err_and r c.from_residual.ensures.1 in
     let same = c.read_file.ensures.same in
-    rw (p.1, p.2) (record {
+    record {
       same = same;
       told = c.read_file.ensures.told;
-      heard = tt;
-      of = tt;
-      fault = λ told. unread c.args.project.now (g.F.Folder.file c.args.folder.now) (g.F.Folder.file c.read_file.new.folder) _ same (unread_of c.in_err-project.field-0.0 c.in_err-project.ensures.fault);
-    })
+      heard = no_value _ _ r c.from_residual.ensures.1;
+      of = no_value _ _ r c.from_residual.ensures.1;
+      fault = err_says r _ _ (p.1 ∙ ap Err p.2) (λ told. unread c.args.project.now (g.F.Folder.file c.args.folder.now) (g.F.Folder.file c.read_file.new.folder) _ same (unread_of c.in_err-project.field-0.0 c.in_err-project.ensures.fault));
+    }
 
 pub returns-in_err-splice : goal.returns-in_err-splice
 returns-in_err-splice g c =
-    let p = err_from_is_err_and c.from_residual-in_err-splice.result c.from_residual-in_err-splice.ensures.1 in
+    let r = c.from_residual-in_err-splice.result in
+    let p = err_from_is_err_and r c.from_residual-in_err-splice.ensures.1 in
     let same = c.read_file.ensures.same in
-    rw (p.1, p.2) (record {
+    record {
       same = same;
       told = c.read_file.ensures.told;
-      heard = tt;
-      of = tt;
-      fault = λ told. (same, inr (unnamed c.args.project.now (g.F.Folder.file c.args.folder.now) c.in_ok-project.project.items c.in_err-splice.field-0.0 (c.in_ok-project.ensures.bytes told) (rw c.deref.ensures.value at c.in_err-splice.ensures.exact)));
-    })
+      heard = no_value _ _ r c.from_residual-in_err-splice.ensures.1;
+      of = no_value _ _ r c.from_residual-in_err-splice.ensures.1;
+      fault = err_says r _ _ (p.1 ∙ ap Err p.2) (λ told. (same, inr (unnamed c.args.project.now (g.F.Folder.file c.args.folder.now) c.in_ok-project.project.items c.in_err-splice.field-0.0 (c.in_ok-project.ensures.bytes told) (rw c.deref.ensures.value at c.in_err-splice.ensures.exact))));
+    }
 
 pub returns-in_err-takes : goal.returns-in_err-takes
 returns-in_err-takes g c =
-    let p = err_from_is_err_and c.from_residual-in_err-takes.result c.from_residual-in_err-takes.ensures.1 in
+    let r = c.from_residual-in_err-takes.result in
+    let p = err_from_is_err_and r c.from_residual-in_err-takes.ensures.1 in
     let same = c.hear_files.ensures.same ∙ c.read_file.ensures.same in
-    rw (p.1, p.2) (record {
+    record {
       same = same;
       told = c.hear_files.ensures.told ∙ c.read_file.ensures.told;
-      heard = tt;
-      of = tt;
-      fault = λ told. unread c.args.project.now (g.F.Folder.file c.args.folder.now) (g.F.Folder.file c.hear_files.new.folder) c.in_err-takes.field-0.0 same c.in_err-takes.ensures.fault;
-    })
+      heard = no_value _ _ r c.from_residual-in_err-takes.ensures.1;
+      of = no_value _ _ r c.from_residual-in_err-takes.ensures.1;
+      fault = err_says r _ _ (p.1 ∙ ap Err p.2) (λ told. unread c.args.project.now (g.F.Folder.file c.args.folder.now) (g.F.Folder.file c.hear_files.new.folder) c.in_err-takes.field-0.0 same c.in_err-takes.ensures.fault);
+    }

@@ -1,5 +1,6 @@
-use Rattle.std.proofs.Common.{Err, refl, subst}
+use Rattle.std.proofs.Common.{Err, ap, refl, subst, ◌∙◌}
 use Rattle.std.proofs.lemmas.Result.{err_from_is_err_and}
+use Rattle.dsd_bits.proofs.ExitLaws.{no_ok, no_value}
 use Rattle.cost_core.specs.StateCosts.{trellis_of}
 use Rattle.trellis_core.specs.Handing.{HandsOverUpTo, cut_spelling}
 use Rattle.trellis_core.specs.declared.fault.BridgeFault.TheVariants.{Memory, Sink}
@@ -24,23 +25,24 @@ returns g c = record {
 pub returns-in_err-hand_cut : goal.returns-in_err-hand_cut
 returns-in_err-hand_cut g c =
     let spelling = g.S.LevelSink.spelling (g.S.LevelSink.kind c.args.sink.now) in
-    let e = err_from_is_err_and c.from_residual-in_err-hand_cut.result c.from_residual-in_err-hand_cut.ensures.1 in
-    rw (e.1, e.2) (record {
-      first_least = tt;
-      cost = tt;
-      rows = tt;
-      memory = not_memory (Err Sink) Sink refl refl;
+    let r = c.from_residual-in_err-hand_cut.result in
+    let e = err_from_is_err_and r c.from_residual-in_err-hand_cut.ensures.1 in
+    record {
+      first_least = no_value _ _ r c.from_residual-in_err-hand_cut.ensures.1;
+      cost = no_value _ _ r c.from_residual-in_err-hand_cut.ensures.1;
+      rows = no_value _ _ r c.from_residual-in_err-hand_cut.ensures.1;
+      memory = not_memory r _ e.1 e.2;
       sink = λ _. (
         c.in_ok-chosen.chosen.bits,
         c.in_ok-chosen.ensures.first_least.is_least,
         subst (λ cost. HandsOverUpTo (trellis_of c.args.window.now) (cut_spelling cost spelling) (g.S.LevelSink.text c.args.sink.now) (g.S.LevelSink.text c.hand_cut.new.sink)) c.in_ok-chosen.ensures.cost c.in_err-hand_cut.ensures.err,
       );
-      refused = (λ _. c.in_err-hand_cut.ensures.refused, λ _. refl);
-      rows_left = tt;
+      refused = (λ _. c.in_err-hand_cut.ensures.refused, λ _. e.1 ∙ ap Err e.2);
+      rows_left = no_ok _ _ r c.from_residual-in_err-hand_cut.ensures.1;
       row_length = c.hand_cut.ensures.row_length;
       kind = c.hand_cut.ensures.kind;
       kept = c.hand_cut.ensures.kept;
-    })
+    }
 
 -- ---- which fault it is, and what is left of the sink
 pub returns-in_default : goal.returns-in_default
@@ -59,19 +61,20 @@ returns-in_default g c = record {
 
 pub returns-in_err-chosen : goal.returns-in_err-chosen
 returns-in_err-chosen g c =
-    let e = err_from_is_err_and c.from_residual.result c.from_residual.ensures.1 in
-    rw (e.1, e.2) (record {
-      first_least = tt;
-      cost = tt;
-      rows = tt;
+    let r = c.from_residual.result in
+    let e = err_from_is_err_and r c.from_residual.ensures.1 in
+    record {
+      first_least = no_value _ _ r c.from_residual.ensures.1;
+      cost = no_value _ _ r c.from_residual.ensures.1;
+      rows = no_value _ _ r c.from_residual.ensures.1;
       memory = λ _. refl;
-      sink = λ is. absurd (not_sink (Err Memory) Memory refl refl is);
-      refused = (λ is. absurd (not_sink (Err Memory) Memory refl refl is), λ yes. absurd (true_or_false _ yes c.requires.ready));
-      rows_left = tt;
+      sink = λ is. absurd (not_sink r _ e.1 e.2 is);
+      refused = (λ is. absurd (not_sink r _ e.1 e.2 is), λ yes. absurd (true_or_false _ yes c.requires.ready));
+      rows_left = no_ok _ _ r c.from_residual.ensures.1;
       row_length = refl;
       kind = refl;
       kept = refl;
-    })
+    }
 
 pub hand_cut-requires : goal.hand_cut-requires
 hand_cut-requires g c = record {

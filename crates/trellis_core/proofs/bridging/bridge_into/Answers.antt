@@ -1,5 +1,5 @@
-use Rattle.std.proofs.Common.{Err, refl}
 use Rattle.std.proofs.lemmas.Result.{err_from_is_err_and}
+use Rattle.dsd_bits.proofs.ExitLaws.{no_ok, no_value}
 use Rattle.cost_core.specs.StateCosts.{trellis_of}
 use Rattle.trellis_core.specs.declared.fault.BridgeFault.TheVariants.{Memory, Sink}
 use Rattle.trellis_core.proofs.FaultLaws.{fault_after, fault_before, not_refused, not_sink}
@@ -8,20 +8,21 @@ use Rattle.trellis_core.proofs.bridging.bridge_into.Goals as goal
 
 pub returns-in_err-choose : goal.returns-in_err-choose
 returns-in_err-choose g c =
-    let e = err_from_is_err_and c.from_residual-in_err-choose.result c.from_residual-in_err-choose.ensures.1 in
-    rw (e.1, e.2) (record {
-      first_least = tt;
-      cost = tt;
-      rows = tt;
+    let r = c.from_residual-in_err-choose.result in
+    let e = err_from_is_err_and r c.from_residual-in_err-choose.ensures.1 in
+    record {
+      first_least = no_value _ _ r c.from_residual-in_err-choose.ensures.1;
+      cost = no_value _ _ r c.from_residual-in_err-choose.ensures.1;
+      rows = no_ok _ _ r c.from_residual-in_err-choose.ensures.1;
       memory = λ _.
           some_of_all (trellis_of c.args.window.now) (g.S.LevelSink.spelling (g.S.LevelSink.kind c.args.sink.now)) (g.S.LevelSink.text c.args.sink.now) (g.S.LevelSink.text c.forward.new.sink) c.in_ok-searched.ensures.rows;
-      sink = λ is. absurd (not_sink (Err Memory) Memory refl refl is);
-      refused = (λ is. absurd (not_sink (Err Memory) Memory refl refl is), λ yes. not_refused _ Sink (c.in_ok-searched.ensures.refused.1 yes));
-      rows_left = tt;
+      sink = λ is. absurd (not_sink r _ e.1 e.2 is);
+      refused = (λ is. absurd (not_sink r _ e.1 e.2 is), λ yes. not_refused _ Sink (c.in_ok-searched.ensures.refused.1 yes));
+      rows_left = no_ok _ _ r c.from_residual-in_err-choose.ensures.1;
       row_length = c.forward.ensures.row_length;
       kind = c.forward.ensures.kind;
       kept = c.forward.ensures.kept;
-    })
+    }
 
 pub returns : goal.returns
 returns g c = record {
@@ -40,19 +41,20 @@ returns g c = record {
 -- ---- which fault it is, and what is left of the sink
 pub returns-in_err-searched : goal.returns-in_err-searched
 returns-in_err-searched g c =
-    let e = err_from_is_err_and c.from_residual.result c.from_residual.ensures.1 in
-    rw (e.1, e.2) (record {
-      first_least = tt;
-      cost = tt;
-      rows = tt;
-      memory = λ is. c.in_err-searched.ensures.memory (fault_before (Err _) _ _ Memory refl refl is);
-      sink = λ is. c.in_err-searched.ensures.sink (fault_before (Err _) _ _ Sink refl refl is);
-      refused = (λ is. c.in_err-searched.ensures.refused.0 (fault_before (Err _) _ _ Sink refl refl is), λ yes. fault_after (Err _) _ _ Sink refl refl (c.in_err-searched.ensures.refused.1 yes));
-      rows_left = tt;
+    let r = c.from_residual.result in
+    let e = err_from_is_err_and r c.from_residual.ensures.1 in
+    record {
+      first_least = no_value _ _ r c.from_residual.ensures.1;
+      cost = no_value _ _ r c.from_residual.ensures.1;
+      rows = no_ok _ _ r c.from_residual.ensures.1;
+      memory = λ is. c.in_err-searched.ensures.memory (fault_before r _ _ Memory e.1 e.2 is);
+      sink = λ is. c.in_err-searched.ensures.sink (fault_before r _ _ Sink e.1 e.2 is);
+      refused = (λ is. c.in_err-searched.ensures.refused.0 (fault_before r _ _ Sink e.1 e.2 is), λ yes. fault_after r _ _ Sink e.1 e.2 (c.in_err-searched.ensures.refused.1 yes));
+      rows_left = no_ok _ _ r c.from_residual.ensures.1;
       row_length = c.forward.ensures.row_length;
       kind = c.forward.ensures.kind;
       kept = c.forward.ensures.kept;
-    })
+    }
 
 pub choose-requires : goal.choose-requires
 choose-requires g c = record {

@@ -9,17 +9,17 @@ use Rattle.trellis_core.proofs.choosing.choose_few.Goals.{then-second-first, els
 
 pub overflow_add-choices : goal.overflow_add-choices
 overflow_add-choices c =
-    record { fits = (few_second c.args.old.now c.args.lows.now c.args.highs.now c.loop-k.row c.loop-k.k c.loop-k.choices (omega arith) (omega arith) c.requires.even (omega arith) (omega arith) (omega arith) c.loop-k.invariant.row c.loop-k.invariant.choices c.if-second-first.true).fits }
+    record { fits = (few_second c.args.old.now c.args.lows.now c.args.highs.now c.loop-k.row c.loop-k.k c.loop-k.choices (omega (arith, c.loop-k-test.true, c.loop-k.auto.row)) (omega (arith, c.loop-k.auto.row, c.requires.row_len, c.requires.short)) c.requires.even (c.loop-k.auto.row ∙ c.requires.row_len) c.requires.lows_len c.requires.highs_len c.loop-k.invariant.row c.loop-k.invariant.choices c.if-second-first.true).fits }
 
 pub loop-k-preserved : goal.loop-k-preserved
 loop-k-preserved c =
     let k = c.loop-k.k in
     elim c.if-second-first.branch [
       | then-second-first w ↦
-          let s = few_second c.args.old.now c.args.lows.now c.args.highs.now c.loop-k.row c.loop-k.k c.loop-k.choices (omega arith) (omega arith) c.requires.even (omega arith) (omega arith) (omega arith) c.loop-k.invariant.row c.loop-k.invariant.choices w.if-second-first.true in
+          let s = few_second c.args.old.now c.args.lows.now c.args.highs.now c.loop-k.row c.loop-k.k c.loop-k.choices (omega (arith, c.loop-k-test.true, c.loop-k.auto.row)) (omega (arith, c.loop-k.auto.row, c.requires.row_len, c.requires.short)) c.requires.even (c.loop-k.auto.row ∙ c.requires.row_len) c.requires.lows_len c.requires.highs_len c.loop-k.invariant.row c.loop-k.invariant.choices w.if-second-first.true in
           record { row = ap (take (k + 1)) (w.row-is ∙ ap (set c.loop-k.row k) w.min.ensures) ∙ s.out; choices = w.choices-is ∙ s.mask }
       | else-second-first w ↦
-          let s = few_first c.args.old.now c.args.lows.now c.args.highs.now c.loop-k.row c.loop-k.k c.loop-k.choices (omega arith) (omega arith) c.requires.even (omega arith) (omega arith) (omega arith) c.loop-k.invariant.row c.loop-k.invariant.choices w.if-second-first.false in
+          let s = few_first c.args.old.now c.args.lows.now c.args.highs.now c.loop-k.row c.loop-k.k c.loop-k.choices (omega (arith, c.loop-k-test.true, c.loop-k.auto.row)) (omega (arith, c.loop-k.auto.row, c.requires.row_len, c.requires.short)) c.requires.even (c.loop-k.auto.row ∙ c.requires.row_len) c.requires.lows_len c.requires.highs_len c.loop-k.invariant.row c.loop-k.invariant.choices w.if-second-first.false in
           record { row = ap (take (k + 1)) (w.row-is ∙ ap (set c.loop-k.row k) w.min-else-second-first.ensures) ∙ s.out; choices = w.choices-is ∙ s.mask }
     ]
 
@@ -27,15 +27,15 @@ pub returns-clause-row : goal.returns-clause-row
 returns-clause-row c =
     let a = c.args in
     let k = c.loop-k.k in
-    let long = few_long a.old.now a.lows.now a.highs.now c.requires.even (omega arith) (omega arith) in
-    sym (take_all k c.loop-k.row (omega arith)) ∙ c.loop-k.invariant.row ∙ take_all k (least (lower a.old.now a.lows.now) (upper a.old.now a.highs.now)) (omega (arith, long.0))
+    let long = few_long a.old.now a.lows.now a.highs.now c.requires.even c.requires.lows_len c.requires.highs_len in
+    sym (take_all k c.loop-k.row (omega (arith, c.loop-k-test.false, c.loop-k.auto.row))) ∙ c.loop-k.invariant.row ∙ take_all k (least (lower a.old.now a.lows.now) (upper a.old.now a.highs.now)) (omega (arith, long.0, c.loop-k-test.false, c.requires.row_len))
 
 pub returns-clause-choices : goal.returns-clause-choices
 returns-clause-choices c =
     let a = c.args in
     let k = c.loop-k.k in
-    let long = few_long a.old.now a.lows.now a.highs.now c.requires.even (omega arith) (omega arith) in
-    c.loop-k.invariant.choices ∙ ap mask_l (take_all k (seconds (lower a.old.now a.lows.now) (upper a.old.now a.highs.now)) (omega (arith, long.1)))
+    let long = few_long a.old.now a.lows.now a.highs.now c.requires.even c.requires.lows_len c.requires.highs_len in
+    c.loop-k.invariant.choices ∙ ap mask_l (take_all k (seconds (lower a.old.now a.lows.now) (upper a.old.now a.highs.now)) (omega (arith, long.1, c.loop-k-test.false, c.requires.row_len)))
 
 -- ---- in range
 pub overflow_add-first : goal.overflow_add-first
@@ -55,3 +55,9 @@ bounds-old-half c = omega (arith, c.loop-k-test.true, c.requires.even, c.require
 
 pub bounds-old-k : goal.bounds-old-k
 bounds-old-k c = omega (arith, c.loop-k-test.true, c.requires.row_len)
+
+pub bounds-row-k : goal.bounds-row-k
+bounds-row-k c = omega (arith, c.loop-k-test.true, c.loop-k.auto.row)
+
+pub bounds-row-k-else-second-first : goal.bounds-row-k-else-second-first
+bounds-row-k-else-second-first c = omega (arith, c.loop-k-test.true, c.loop-k.auto.row)

@@ -1,12 +1,13 @@
-use Rattle.std.proofs.Common.{◌≡◌, ◌+◌, ◌*◌, length, ap, sym, ◌∙◌, refl, arith}
-use Rattle.std.proofs.lemmas.Result.{err_from_is_err_and}
+use Rattle.std.proofs.Common.{◌≡◌, ◌+◌, ◌*◌, length, ap, sym, ◌∙◌, true, refl, arith}
 use Rattle.std.proofs.KnownBytes.{Appends-nil}
+use Rattle.dsd_bits.proofs.ExitLaws.{any_err, no_ok}
 use Rattle.cost_core.specs.Trellis.{states}
 use Rattle.cost_core.specs.StateCosts.{trellis_of}
 use Rattle.trellis_core.specs.Best.{best_row}
 use Rattle.trellis_core.specs.Decisions.{decision_bytes}
 use Rattle.trellis_core.specs.Handing.{cut_at, cut_spelling}
 use Rattle.trellis_core.proofs.TableLaws.{written, written_length}
+use Rattle.trellis_core.proofs.FaultLaws.{fault_says}
 use Rattle.trellis_core.proofs.HandedOver.{cut_front, cut_is, cut_more, hands_all, hands_up_to}
 use Rattle.trellis_core.proofs.RowLaws.{row_length}
 use Rattle.trellis_core.proofs.cutting.hand_cut.Goals as goal
@@ -44,17 +45,17 @@ returns-in_err-level g c =
     let inv = c.loop-level.invariant in
     let part = cut_front t c.args.cost g.S.LevelSink.spelling (g.S.LevelSink.kind c.args.sink.now) (g.S.LevelSink.kind c.loop-level.sink) (g.S.LevelSink.text c.args.sink.now) (g.S.LevelSink.text c.loop-level.sink) (g.S.LevelSink.text c.level.new.self) c.loop-level.level c.deref.result.now c.deref-in-loop-level.result.now
     inv.kind (row_is g here) (row_cut g here) inv.handed c.in_err-level.ensures.err in
-    let e = err_from_is_err_and c.from_residual.result c.from_residual.ensures.1 in
-    rw e.1 (record {
-      buffers = tt;
-      ok = tt;
-      err = hands_up_to t c.length-level-end.ensures.bounded (cut_spelling c.args.cost (g.S.LevelSink.spelling (g.S.LevelSink.kind c.args.sink.now))) (g.S.LevelSink.text c.args.sink.now) (g.S.LevelSink.text c.level.new.self) c.loop-level.level c.deref.result.now (omega (arith, c.loop-level-test.true, c.length-level-end.ensures.value)) (row_is g here) part;
-      refused = c.in_err-level.ensures.refused c.loop-level.invariant.ready;
-      rows_left = tt;
+    let r = c.from_residual.result in
+    record {
+      buffers = no_ok _ _ r c.from_residual.ensures.1;
+      ok = no_ok _ _ r c.from_residual.ensures.1;
+      err = any_err r (hands_up_to t c.length-level-end.ensures.bounded (cut_spelling c.args.cost (g.S.LevelSink.spelling (g.S.LevelSink.kind c.args.sink.now))) (g.S.LevelSink.text c.args.sink.now) (g.S.LevelSink.text c.level.new.self) c.loop-level.level c.deref.result.now (omega (arith, c.loop-level-test.true, c.length-level-end.ensures.value)) (row_is g here) part);
+      refused = fault_says {Q = g.S.LevelSink.has_refused c.level.new.self ≡ true} _ _ r c.from_residual.ensures.1 (c.in_err-level.ensures.refused c.loop-level.invariant.ready);
+      rows_left = no_ok _ _ r c.from_residual.ensures.1;
       row_length = c.level.ensures.row_length ∙ c.loop-level.invariant.row_length;
       kind = c.level.ensures.kind ∙ c.loop-level.invariant.kind;
       kept = c.level.ensures.kept ∙ c.loop-level.invariant.kept;
-    })
+    }
 
 pub loop-level-preserved : goal.loop-level-preserved
 loop-level-preserved g c =
@@ -66,12 +67,12 @@ loop-level-preserved g c =
     inv.kind (row_is g here) (row_cut g here) inv.handed c.in_ok-level.ensures.ok in
     let between = written_length c.loop-level.room.totals.len (states t) c.cut_row.new.cut c.loop-level.room.totals.items c.loop-level.room.totals.ok.0 (cut_long g here) inv.totals in
     let following_long : length c.next_row.new.following ≡ states t = ap length kept.following ∙ row_length t (c.loop-level.level + 1) in
-    let following = written c.loop-level.room.totals.len c.next_row.new.following _ (omega (arith, c.loop-level.room.totals.ok.0, inv.totals, between)) (following_long ∙ sym between) in
+    let following = written c.loop-level.room.totals.len c.next_row.new.following _ (c.loop-level.room.totals.ok.0 ∙ inv.totals ∙ sym between) (following_long ∙ sym between) in
     record {
-      steps = written_length c.loop-level.room.steps.len (2 * states t) c.next_row.new.steps c.loop-level.room.steps.items c.loop-level.room.steps.ok.0 (omega (arith, kept.steps_length, ap length c.deref_mut-in-loop-level-2.ensures.value, inv.steps)) inv.steps;
+      steps = written_length c.loop-level.room.steps.len (2 * states t) c.next_row.new.steps c.loop-level.room.steps.items c.loop-level.room.steps.ok.0 (kept.steps_length ∙ ap length c.deref_mut-in-loop-level-2.ensures.value ∙ inv.steps) inv.steps;
       row = ap (λ v. v.items) c.swap.ensures.x_after ∙ following ∙ kept.following;
       totals = ap (λ v. length v.items) c.swap.ensures.y_after ∙ ap length inv.row ∙ row_length t c.loop-level.level;
-      decided = written_length c.loop-level.room.decided.len (decision_bytes (states t)) c.next_row.new.decisions c.loop-level.room.decided.items c.loop-level.room.decided.ok.0 (omega (arith, kept.decisions_length, ap length c.deref_mut-in-loop-level-4.ensures.value, inv.decided)) inv.decided;
+      decided = written_length c.loop-level.room.decided.len (decision_bytes (states t)) c.next_row.new.decisions c.loop-level.room.decided.items c.loop-level.room.decided.ok.0 (kept.decisions_length ∙ ap length c.deref_mut-in-loop-level-4.ensures.value ∙ inv.decided) inv.decided;
       handed = more;
       left = omega (arith, c.in_ok-level.ensures.rows, inv.left);
       row_length = c.level.ensures.row_length ∙ inv.row_length;
@@ -101,17 +102,17 @@ returns-in_err-level-2 g c =
     let inv = c.loop-level.invariant in
     let part = cut_front t c.args.cost g.S.LevelSink.spelling (g.S.LevelSink.kind c.args.sink.now) (g.S.LevelSink.kind c.loop-level.sink) (g.S.LevelSink.text c.args.sink.now) (g.S.LevelSink.text c.loop-level.sink) (g.S.LevelSink.text c.level-2.new.self) c.loop-level.level c.deref-2.result.now c.deref-3.result.now
     inv.kind (last_is g here) (last_cut g here) inv.handed c.in_err-level-2.ensures.err in
-    let e = err_from_is_err_and c.from_residual-in_err-level-2.result c.from_residual-in_err-level-2.ensures.1 in
-    rw e.1 (record {
-      buffers = tt;
-      ok = tt;
-      err = hands_up_to t c.length-level-end.ensures.bounded (cut_spelling c.args.cost (g.S.LevelSink.spelling (g.S.LevelSink.kind c.args.sink.now))) (g.S.LevelSink.text c.args.sink.now) (g.S.LevelSink.text c.level-2.new.self) c.loop-level.level c.deref-2.result.now (omega (arith, c.loop-level-test.false, c.length-level-end.ensures.value)) (last_is g here) part;
-      refused = c.in_err-level-2.ensures.refused c.loop-level.invariant.ready;
-      rows_left = tt;
+    let r = c.from_residual-in_err-level-2.result in
+    record {
+      buffers = no_ok _ _ r c.from_residual-in_err-level-2.ensures.1;
+      ok = no_ok _ _ r c.from_residual-in_err-level-2.ensures.1;
+      err = any_err r (hands_up_to t c.length-level-end.ensures.bounded (cut_spelling c.args.cost (g.S.LevelSink.spelling (g.S.LevelSink.kind c.args.sink.now))) (g.S.LevelSink.text c.args.sink.now) (g.S.LevelSink.text c.level-2.new.self) c.loop-level.level c.deref-2.result.now (omega (arith, c.loop-level-test.false, c.length-level-end.ensures.value)) (last_is g here) part);
+      refused = fault_says {Q = g.S.LevelSink.has_refused c.level-2.new.self ≡ true} _ _ r c.from_residual-in_err-level-2.ensures.1 (c.in_err-level-2.ensures.refused c.loop-level.invariant.ready);
+      rows_left = no_ok _ _ r c.from_residual-in_err-level-2.ensures.1;
       row_length = c.level-2.ensures.row_length ∙ c.loop-level.invariant.row_length;
       kind = c.level-2.ensures.kind ∙ c.loop-level.invariant.kind;
       kept = c.level-2.ensures.kept ∙ c.loop-level.invariant.kept;
-    })
+    }
 
 pub returns : goal.returns
 returns g c =
@@ -171,7 +172,7 @@ next_row-requires g c = record {
   level = omega (arith, c.loop-level-test.true, c.length-level-end.ensures.value);
   row = c.deref-in-loop-level-2.ensures.value ∙ c.loop-level.invariant.row;
   steps = ap length c.deref_mut-in-loop-level-2.ensures.value ∙ c.loop-level.invariant.steps;
-  following = omega (arith, c.deref_mut-in-loop-level-3.ensures.len, c.loop-level.room.totals.ok.0, c.loop-level.invariant.totals);
+  following = c.deref_mut-in-loop-level-3.ensures.len ∙ c.loop-level.room.totals.ok.0 ∙ c.loop-level.invariant.totals;
   decisions = ap length c.deref_mut-in-loop-level-4.ensures.value ∙ c.loop-level.invariant.decided;
 }
 

@@ -1,6 +1,7 @@
 use Rattle.std.proofs.Common.{◌≡◌, ◌+◌, ◌*◌, ◌++◌, Err, length, ap, sym, subst, ◌∙◌, refl, arith}
 use Rattle.std.proofs.lemmas.Result.{err_from_is_err_and}
 use Rattle.std.proofs.KnownBytes.{Appends-nil}
+use Rattle.dsd_bits.proofs.ExitLaws.{no_ok}
 use Rattle.cost_core.specs.Trellis.{states}
 use Rattle.cost_core.specs.StateCosts.{trellis_of}
 use Rattle.trellis_core.specs.Best.{best_row}
@@ -26,40 +27,42 @@ returns-in_err-level g c =
     let t = trellis_of c.args.window.now in
     let row_is : c.deref.result.now ≡ best_row t c.loop-level.level = c.deref.ensures.value ∙ c.loop-level.invariant.row in
     let part = hands_front t g.S.LevelSink.spelling (g.S.LevelSink.kind c.args.sink.now) (g.S.LevelSink.kind c.loop-level.sink) (g.S.LevelSink.text c.args.sink.now) (g.S.LevelSink.text c.loop-level.sink) (g.S.LevelSink.text c.level.new.self) c.loop-level.level c.deref.result.now c.loop-level.invariant.kind row_is c.loop-level.invariant.handed c.in_err-level.ensures.err in
-    let e = err_from_is_err_and c.from_residual.result c.from_residual.ensures.1 in
-    rw (e.1, e.2) (record {
-      totals = tt;
-      decisions = tt;
-      buffers = tt;
-      rows = tt;
-      memory = not_memory (Err Sink) Sink refl refl;
+    let r = c.from_residual.result in
+    let e = err_from_is_err_and r c.from_residual.ensures.1 in
+    record {
+      totals = no_ok _ _ r c.from_residual.ensures.1;
+      decisions = no_ok _ _ r c.from_residual.ensures.1;
+      buffers = no_ok _ _ r c.from_residual.ensures.1;
+      rows = no_ok _ _ r c.from_residual.ensures.1;
+      memory = not_memory r _ e.1 e.2;
       sink = λ _. hands_up_to t c.length-level-end.ensures.bounded (g.S.LevelSink.spelling (g.S.LevelSink.kind c.args.sink.now)) (g.S.LevelSink.text c.args.sink.now) (g.S.LevelSink.text c.level.new.self) c.loop-level.level c.deref.result.now (omega (arith, c.loop-level-test.true, c.length-level-end.ensures.value)) row_is part;
-      refused = (λ _. c.in_err-level.ensures.refused c.loop-level.invariant.ready, λ _. refl);
-      rows_left = tt;
+      refused = (λ _. c.in_err-level.ensures.refused c.loop-level.invariant.ready, λ _. e.1 ∙ ap Err e.2);
+      rows_left = no_ok _ _ r c.from_residual.ensures.1;
       row_length = c.level.ensures.row_length ∙ c.loop-level.invariant.row_length;
       kind = c.level.ensures.kind ∙ c.loop-level.invariant.kind;
       kept = c.level.ensures.kept ∙ c.loop-level.invariant.kept;
-    })
+    }
 
 pub returns-in_err-extend_from_slice : goal.returns-in_err-extend_from_slice
 returns-in_err-extend_from_slice g c =
     let t = trellis_of c.args.window.now in
     let row_is : c.deref.result.now ≡ best_row t c.loop-level.level = c.deref.ensures.value ∙ c.loop-level.invariant.row in
     let more = hands_more t g.S.LevelSink.spelling (g.S.LevelSink.kind c.args.sink.now) (g.S.LevelSink.kind c.loop-level.sink) (g.S.LevelSink.text c.args.sink.now) (g.S.LevelSink.text c.loop-level.sink) (g.S.LevelSink.text c.level.new.self) c.loop-level.level c.deref.result.now c.loop-level.invariant.kind row_is c.loop-level.invariant.handed c.in_ok-level.ensures.ok in
-    let e = err_from_is_err_and c.from_residual-in_err-extend_from_slice.result c.from_residual-in_err-extend_from_slice.ensures.1 in
-    rw (e.1, e.2) (record {
-      totals = tt;
-      decisions = tt;
-      buffers = tt;
-      rows = tt;
+    let r = c.from_residual-in_err-extend_from_slice.result in
+    let e = err_from_is_err_and r c.from_residual-in_err-extend_from_slice.ensures.1 in
+    record {
+      totals = no_ok _ _ r c.from_residual-in_err-extend_from_slice.ensures.1;
+      decisions = no_ok _ _ r c.from_residual-in_err-extend_from_slice.ensures.1;
+      buffers = no_ok _ _ r c.from_residual-in_err-extend_from_slice.ensures.1;
+      rows = no_ok _ _ r c.from_residual-in_err-extend_from_slice.ensures.1;
       memory = λ _. hands_some t c.length-level-end.ensures.bounded (g.S.LevelSink.spelling (g.S.LevelSink.kind c.args.sink.now)) (g.S.LevelSink.text c.args.sink.now) (g.S.LevelSink.text c.level.new.self) (c.loop-level.level + 1) (omega (arith, c.loop-level-test.true, c.length-level-end.ensures.value)) more;
-      sink = λ sink. absurd (not_sink (Err Memory) Memory refl refl sink);
-      refused = (λ sink. absurd (not_sink (Err Memory) Memory refl refl sink), λ yes. absurd (true_or_false _ yes (c.in_ok-level.ensures.refused c.loop-level.invariant.ready)));
-      rows_left = tt;
+      sink = λ sink. absurd (not_sink r _ e.1 e.2 sink);
+      refused = (λ sink. absurd (not_sink r _ e.1 e.2 sink), λ yes. absurd (true_or_false _ yes (c.in_ok-level.ensures.refused c.loop-level.invariant.ready)));
+      rows_left = no_ok _ _ r c.from_residual-in_err-extend_from_slice.ensures.1;
       row_length = c.level.ensures.row_length ∙ c.loop-level.invariant.row_length;
       kind = c.level.ensures.kind ∙ c.loop-level.invariant.kind;
       kept = c.level.ensures.kept ∙ c.loop-level.invariant.kept;
-    })
+    }
 
 pub loop-level-preserved : goal.loop-level-preserved
 loop-level-preserved g c =
@@ -69,15 +72,16 @@ loop-level-preserved g c =
     let kept = c.next_row.ensures in
     let inv = c.loop-level.invariant in
     let following = written c.loop-level.room.totals.len c.next_row.new.following c.loop-level.room.totals.items c.loop-level.room.totals.ok.0 (ap length kept.following ∙ row_length t (c.loop-level.level + 1) ∙ sym inv.totals) in
-    let decided = written c.loop-level.room.decided.len c.next_row.new.decisions c.loop-level.room.decided.items c.loop-level.room.decided.ok.0 (omega (arith, kept.decisions_length)) in
+    let as_many : length c.next_row.new.decisions ≡ length c.loop-level.room.decided.items = kept.decisions_length ∙ ap length c.deref_mut-in-loop-level-3.ensures.value in
+    let decided = written c.loop-level.room.decided.len c.next_row.new.decisions c.loop-level.room.decided.items c.loop-level.room.decided.ok.0 as_many in
     let part : c.deref-in-loop-level-2.result.now ≡ c.next_row.new.decisions = c.deref-in-loop-level-2.ensures.value ∙ decided in
     let items : c.extend_from_slice.new.self.items ≡ c.loop-level.decisions.items ++ c.next_row.new.decisions = c.in_ok-extend_from_slice.ensures.items ∙ ap (λ r. c.loop-level.decisions.items ++ r) part in
     record {
-      steps = written_length c.loop-level.room.steps.len (2 * states t) c.next_row.new.steps c.loop-level.room.steps.items c.loop-level.room.steps.ok.0 (omega (arith, kept.steps_length)) inv.steps;
+      steps = written_length c.loop-level.room.steps.len (2 * states t) c.next_row.new.steps c.loop-level.room.steps.items c.loop-level.room.steps.ok.0 (kept.steps_length ∙ ap length c.deref_mut-in-loop-level.ensures.value ∙ inv.steps) inv.steps;
       row = ap (λ v. v.items) c.swap.ensures.x_after ∙ following ∙ kept.following;
       totals = ap (λ v. length v.items) c.swap.ensures.y_after ∙ ap length inv.row ∙ row_length t c.loop-level.level;
-      decided = ap length decided ∙ omega (arith, kept.decisions_length, inv.decided);
-      decisions = subst (AreAllDecisions t (c.loop-level.level + 1)) (sym items) (one_more t c.loop-level.level c.loop-level.decisions.items c.next_row.new.decisions inv.decisions (omega (arith, kept.decisions_length, inv.decided)) kept.decisions);
+      decided = ap length decided ∙ as_many ∙ inv.decided;
+      decisions = subst (AreAllDecisions t (c.loop-level.level + 1)) (sym items) (one_more t c.loop-level.level c.loop-level.decisions.items c.next_row.new.decisions inv.decisions (as_many ∙ inv.decided) kept.decisions);
       handed = more;
       left = omega (arith, c.in_ok-level.ensures.rows, inv.left);
       row_length = c.level.ensures.row_length ∙ inv.row_length;
@@ -99,20 +103,21 @@ returns-in_err-level-2 g c =
     let t = trellis_of c.args.window.now in
     let row_is : c.deref-2.result.now ≡ best_row t c.loop-level.level = c.deref-2.ensures.value ∙ c.loop-level.invariant.row in
     let part = hands_front t g.S.LevelSink.spelling (g.S.LevelSink.kind c.args.sink.now) (g.S.LevelSink.kind c.loop-level.sink) (g.S.LevelSink.text c.args.sink.now) (g.S.LevelSink.text c.loop-level.sink) (g.S.LevelSink.text c.level-2.new.self) c.loop-level.level c.deref-2.result.now c.loop-level.invariant.kind row_is c.loop-level.invariant.handed c.in_err-level-2.ensures.err in
-    let e = err_from_is_err_and c.from_residual-in_err-level-2.result c.from_residual-in_err-level-2.ensures.1 in
-    rw (e.1, e.2) (record {
-      totals = tt;
-      decisions = tt;
-      buffers = tt;
-      rows = tt;
-      memory = not_memory (Err Sink) Sink refl refl;
+    let r = c.from_residual-in_err-level-2.result in
+    let e = err_from_is_err_and r c.from_residual-in_err-level-2.ensures.1 in
+    record {
+      totals = no_ok _ _ r c.from_residual-in_err-level-2.ensures.1;
+      decisions = no_ok _ _ r c.from_residual-in_err-level-2.ensures.1;
+      buffers = no_ok _ _ r c.from_residual-in_err-level-2.ensures.1;
+      rows = no_ok _ _ r c.from_residual-in_err-level-2.ensures.1;
+      memory = not_memory r _ e.1 e.2;
       sink = λ _. hands_up_to t c.length-level-end.ensures.bounded (g.S.LevelSink.spelling (g.S.LevelSink.kind c.args.sink.now)) (g.S.LevelSink.text c.args.sink.now) (g.S.LevelSink.text c.level-2.new.self) c.loop-level.level c.deref-2.result.now (omega (arith, c.loop-level-test.false, c.length-level-end.ensures.value)) row_is part;
-      refused = (λ _. c.in_err-level-2.ensures.refused c.loop-level.invariant.ready, λ _. refl);
-      rows_left = tt;
+      refused = (λ _. c.in_err-level-2.ensures.refused c.loop-level.invariant.ready, λ _. e.1 ∙ ap Err e.2);
+      rows_left = no_ok _ _ r c.from_residual-in_err-level-2.ensures.1;
       row_length = c.level-2.ensures.row_length ∙ c.loop-level.invariant.row_length;
       kind = c.level-2.ensures.kind ∙ c.loop-level.invariant.kind;
       kept = c.level-2.ensures.kept ∙ c.loop-level.invariant.kept;
-    })
+    }
 
 pub returns : goal.returns
 returns g c =

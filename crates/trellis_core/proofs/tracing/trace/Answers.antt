@@ -16,3 +16,6 @@ pub returns : goal.returns
 returns c =
     let t = trellis_of c.args.window.now in
     returned t c.loop-level.level c.loop-level.state c.loop-level.bits.items _ (omega arith) c.loop-level.invariant.bits
+
+pub before-state-requires-clause-decisions : goal.before-state-requires-clause-decisions
+before-state-requires-clause-decisions c = c.requires.decisions

@@ -1,4 +1,4 @@
-use Rattle.std.proofs.Common.{◌≡◌, ◌-◌, ◌∙◌, ap₂, refl, subst, sym, take, arith}
+use Rattle.std.proofs.Common.{◌≡◌, ◌-◌, ◌∙◌, ap, ap₂, length, refl, subst, sym, take, arith}
 use Rattle.std.specs.Io.KnownBytes.{Appends}
 use Rattle.std.proofs.lemmas.Result.{err_from_is_err_and}
 use Rattle.dsd_bits.proofs.ShiftingLemmas.{written_back}
@@ -6,7 +6,7 @@ use Rattle.device_core.specs.Outlets.{outlet_writer, AppendsPart}
 use Rattle.device_core.specs.FusedOutlets.{fused_outlet}
 use Rattle.cert_core.specs.Spelling.{row_text}
 use Rattle.cert_core.specs.Writers.{cert_version}
-use Rattle.cert_core.proofs.ExitLaws.{failed_not_device, not_refused, true_or_false}
+use Rattle.cert_core.proofs.ExitLaws.{counted_err, counted_ok, failed_not_device, not_refused, true_or_false}
 use Rattle.cert_core.proofs.writer.CertWriter.level.Given.{Over}
 use Rattle.cert_core.proofs.writer.CertWriter.level.Goals as goal
 use Rattle.cert_core.proofs.writer.CertWriter.level.Goals.{After-deref}
@@ -60,3 +60,21 @@ returns-then-has_failed g c = record {
 
 pub overflow_sub-self : goal.overflow_sub-self
 overflow_sub-self g c = omega (arith, c.requires.rows (sym c.has_failed.ensures ∙ c.if-has_failed.false))
+
+pub invariant_of-self : goal.invariant_of-self
+invariant_of-self g c =
+    let self = c.args.self.now in
+    record {
+      few = self.few;
+      room = ap length (written_back c.put_row-count.new.buffer _ self.buffer.len (c.put_row-count.ensures.room ∙ c.deref_mut.ensures.len)) ∙ c.put_row-count.ensures.room ∙ ap length c.deref_mut.ensures.value ∙ self.room;
+      counted = counted_err _ self.outlet c.put_all.new.self c.in_err-put_all.field-0.0 self.counted c.in_err-put_all.ensures.failures c.in_err-put_all.ensures.refused c.in_err-put_all.ensures.failed;
+    }
+
+pub invariant_of-self-2 : goal.invariant_of-self-2
+invariant_of-self-2 g c =
+    let self = c.args.self.now in
+    record {
+      few = self.few;
+      room = ap length (written_back c.put_row-count.new.buffer _ self.buffer.len (c.put_row-count.ensures.room ∙ c.deref_mut.ensures.len)) ∙ c.put_row-count.ensures.room ∙ ap length c.deref_mut.ensures.value ∙ self.room;
+      counted = counted_ok _ self.outlet c.put_all.new.self _ self.counted c.in_ok-put_all.ensures.failures c.in_ok-put_all.ensures.refused c.in_ok-put_all.ensures.failed;
+    }

@@ -1,5 +1,6 @@
 use Rattle.std.proofs.Common.{◌<◌, ◌+◌, ◌-◌, ◌++◌, ◌∙◌, sym, ap, length, subst, slice_range, arith}
-use Rattle.splice_core.specs.Cues.{CueContent}
+use Rattle.std.proofs.lemmas.List.{length-map}
+use Rattle.splice_core.specs.Cues.{CueContent, cue_content}
 use Rattle.splice_core.specs.Splices.{splice_content}
 use Rattle.cost_core.specs.Bridges.{Bridging}
 use Rattle.cost_core.specs.Limits.{IsBridging}
@@ -40,6 +41,9 @@ overflow_sub-width c = omega (arith, (splicing c.args.splice.now).weights_fit.tw
 
 pub overflow_add-start : goal.overflow_add-start
 overflow_add-start c = omega (arith, c.requires.room.start_in, (splicing c.args.splice.now).weights_fit.few_weights)
+
+pub index-requires : goal.index-requires
+index-requires c = omega (arith, c.requires.cues, length-map c.args.splice.now.cues.items cue_content, c.args.splice.now.cues.ok.0)
 
 pub push_range-requires-clause-in_order : goal.push_range-requires-clause-in_order
 push_range-requires-clause-in_order c = omega arith

@@ -105,3 +105,9 @@ returns c =
     let all : length d.following ≤ k = omega (arith, c.len-place-end.ensures.value, c.loop-place-test.false, ap (λ b. length b.following) c.self.view_is) in
     fill_by_all (trellis_of d).tail c.loop-place.row (2 ^ w) 0 c.loop-place.invariant.long
     (λ q h. steps_done d.following w (step_of d) k (d.levels + k) ((q * 2 ^ k + c.loop-place.ending) % 2 ^ w) (get_or c.loop-place.row q 0) _ all (c.loop-place.invariant.sums q h))
+
+pub add_squared_differences-requires-clause-row : goal.add_squared_differences-requires-clause-row
+add_squared_differences-requires-clause-row c = λ k h.
+    let few = limits (goal.at.add_squared_differences-requires-clause-row c).After-self in
+    let place = there (goal.at.add_squared_differences-requires-clause-row c).After-deref in
+    omega (arith, c.loop-place.invariant.row k (omega (arith, h, c.loop-place.invariant.long)), place, ap (λ b. length b.following) c.self.view_is, few.after, few.weights_in.few_weights)

@@ -37,6 +37,15 @@ stretch-next-requires-clause-there c =
     let here = (goal.at.stretch-next-requires-clause-there c).After-deref in
     subst (λ hs. HasStretch (splice_content c.self.inside.splice) (map heard_content hs) c.args.place.channel (c.args.place.cue + 1)) (sym c.deref-2.ensures.value) (stretch_there c.self.inside c.self.invariant c.args.place.channel (channel here) (c.args.place.cue + 1) (next here))
 
+pub stretch-next-requires-clause-cue : goal.stretch-next-requires-clause-cue
+stretch-next-requires-clause-cue c = next (goal.at.stretch-next-requires-clause-cue c).After-deref
+
+pub cue_at-requires-2 : goal.cue_at-requires-2
+cue_at-requires-2 c = next (goal.at.cue_at-requires-2 c).After-deref
+
+pub heard_from-requires-2 : goal.heard_from-requires-2
+heard_from-requires-2 c = next (goal.at.heard_from-requires-2 c).After-deref
+
 abbrev first : (c : After-heard_from-2) → After-deref
 first c = (goal.at.After-heard_from-2 c).After-deref
 
@@ -51,6 +60,9 @@ stop_is c = omega (arith, ap (λ (q : CueContent). q.stop) c.cue_at.ensures.valu
 
 start_is : (c : After-heard_from-2) → c.cue_at-2.result.now.start - c.heard_from-2.result ≡ start_in (splice_content c.self.inside.splice) (c.args.place.cue + 1)
 start_is c = omega (arith, ap (λ (q : CueContent). q.start) c.cue_at-2.ensures.value, c.heard_from-2.ensures)
+
+pub between-requires-clause-cues : goal.between-requires-clause-cues
+between-requires-clause-cues c = next (goal.at.between-requires-clause-cues c).After-deref
 
 pub between-requires-clause-room : goal.between-requires-clause-room
 between-requires-clause-room c =

@@ -5,8 +5,8 @@ ghost use Rattle.std.specs.Io.KnownBytes.{Appends};
 ghost use Rattle.device_core.specs.Outlets.{outlet_writer, outlet_failures, AppendsPart};
 
 use crate::outlet::Outlet;
-use std::io::Write;
 use std::fmt;
+use std::io::Write;
 use thiserror::Error;
 
 /// Why bytes weren't written, or not all of them. A fault's text is its name.

@@ -8,7 +8,7 @@ use Rattle.std.proofs.lemmas.Int.{ints, to_z-of_z, fits_signed_from_abs, int_wra
 use Rattle.std.proofs.lemmas.Simd.{get_or-put_chunk_above, get_or-put_chunk_at, get_or-zip2, length-zip2}
 use Rattle.std.proofs.lemmas.List.{drop-drop, get_or-drop, get_or-map, get_or-take, get_or_append_left, length-map, length-take-le}
 use Rattle.std.proofs.Math.Seq.{get_or-append_right}
-use Rattle.std.proofs.Common.{◌≢◌, ◌++◌, add-one, length-append, refl}
+use Rattle.std.proofs.Common.{◌≢◌, ◌++◌, min, add-one, length-append, refl}
 use Rattle.std.proofs.Math.IntN.{+ℤ_assoc, +ℤ_comm}
 use Rattle.std.proofs.Math.Nat.{div-mul-le_self, mul-le-mul_right}
 use Rattle.std.proofs.lemmas.List.FromFn.{fill_by_all, get_or-map-range_with_len}
@@ -373,6 +373,9 @@ pub reach_within : (j number eights step long : ℕ) → j + 15 < 8 * eights →
 reach_within j number eights step long below enough = let e : (j + 8 * number) * step ≤ (8 * (eights + number) - 16) * step = mul-le-mul_right step (omega (arith, below)) in omega (arith, enough)
 
 -- ---- windows in two parts
+pub many_follow : (front many few left steps number most tile : ℕ) → front ≡ many → left ≡ steps - (8 * number + 7) → few ≡ min left most → many ≡ min few tile → many ≢ 0 → front + 8 * number + 7 ≤ steps
+many_follow front many few left steps number most tile is l f m some = omega arith
+
 pub steps_within : (many number steps step long : ℕ) → steps ≡ long / step → many + 8 * number + 7 ≤ steps → (many + 8 * number + 7) * step ≤ long
 steps_within many number steps step long is few =
     let e : (many + 8 * number + 7) * step ≤ steps * step = mul-le-mul_right step few in

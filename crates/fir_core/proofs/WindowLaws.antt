@@ -1,8 +1,9 @@
 -- Windows of whole bytes: the convolution is the sum of the aligned taps over the bits of the window's bytes.
-use Rattle.std.proofs.Common.{◌≡◌, ℕ, ◌+◌, ◌-◌, ◌*◌, ◌/◌, ◌%◌, ◌<◌, ◌≤◌, ℤ, pos, ◌+ℤ◌, ◌*ℤ◌, unsigned_abs, Bool, false, eqb, List, [], ◌∷◌, ◌++◌, length, get_or, drop, replicate, reverse, sum_by, refl, sym, ap, ap₂, ◌∙◌, arith, mul-zero, length-append, length-drop}
-use Rattle.std.specs.Int.{bit_at}
+use Rattle.std.proofs.Common.{◌≡◌, ℕ, ◌+◌, ◌-◌, ◌*◌, ◌/◌, ◌%◌, ◌<◌, ◌≤◌, ℤ, pos, ◌+ℤ◌, ◌*ℤ◌, unsigned_abs, Bool, false, eqb, List, [], ◌∷◌, ◌++◌, length, get_or, drop, take, replicate, reverse, sum_by, refl, sym, ap, ap₂, ◌∙◌, arith, mul-zero, length-append, length-drop}
+use Rattle.std.specs.Int.{bit_at, div_ceil}
+use Rattle.std.proofs.lemmas.Grind.{div_ceil_times}
 use Rattle.std.proofs.lemmas.Int.{ints}
-use Rattle.std.proofs.lemmas.List.{length-replicate, length-reverse, get_or-reverse, get_or-drop, reverse-append}
+use Rattle.std.proofs.lemmas.List.{length-replicate, length-reverse, get_or-reverse, get_or-drop, reverse-append, take_all}
 use Rattle.std.proofs.lemmas.List.Sums.{sum_by-append, sum_by-cons}
 use Rattle.std.proofs.lemmas.List.Folds.{sum_by-replicate}
 use Rattle.dsd_bits.specs.Packing.{unpacked}
@@ -36,6 +37,17 @@ length-aligned h n =
     let zeros : List ℤ = replicate before (pos 0) in
     let rest : List ℤ = replicate (behind n) (pos 0) in
     length-append (zeros ++ reverse h) rest ∙ ap₂ ◌+◌ (length-append zeros (reverse h) ∙ ap₂ ◌+◌ (length-replicate before (pos 0)) (length-reverse h)) (length-replicate (behind n) (pos 0)) ∙ omega arith
+
+-- as they are put together: zeros, the taps turned, and zeros
+pub aligned_made : (h start front back both all : List ℤ) (n filled size none long : ℕ) → filled ≡ length h + behind n → size ≡ 8 * div_ceil filled 8 → start ≡ [] → none ≡ 0
+    → front ≡ take (size - filled) start ++ replicate (size - filled - none) (pos 0) → back ≡ reverse h → both ≡ front ++ back → long ≡ length both → all ≡ take size both ++ replicate (size - long) (pos 0)
+    → all ≡ aligned h n
+aligned_made h start front back both all n filled size none long f s empty zero front_is back_is both_is l is =
+    let before = ahead (length h) n in
+    let zeros : front ≡ replicate before (pos 0) = front_is ∙ ap₂ ◌++◌ (ap (take (size - filled)) empty ∙ take_all (size - filled) [] (omega arith)) (ap (λ m. replicate m (pos 0)) (omega (arith, ap (λ m. 8 * div_ceil m 8 - m) f))) in
+    let whole : both ≡ replicate before (pos 0) ++ reverse h = both_is ∙ ap₂ ◌++◌ zeros back_is in
+    let long_is : long + behind n ≡ size = omega (arith, l, ap length whole, length-append (replicate before (pos 0)) (reverse h), length-replicate before (pos 0), length-reverse h, (div_ceil_times filled 8 (omega arith)).0, ap (λ m. 8 * div_ceil m 8 - m) f) in
+    is ∙ ap₂ ◌++◌ (take_all size both (omega arith) ∙ whole) (ap (λ m. replicate m (pos 0)) (omega arith))
 
 sum_by-reverse : (h : List ℤ) → sum_by unsigned_abs (reverse h) ≡ sum_by unsigned_abs h
 sum_by-reverse [] = refl

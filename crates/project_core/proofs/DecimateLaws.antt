@@ -3,11 +3,13 @@ use Rattle.std.proofs.Common.{◌≡◌, ℕ, ◌<◌, ◌^◌, ℤ, List, Optio
 use Rattle.toml.specs.Data.{Data, table, Members}
 use Rattle.fir_core.specs.declared.fault.TapsFault.{TapsFault}
 use Rattle.fir_core.specs.Decimator.{Decimator, IsWithinLimits}
-use Rattle.fir_core.specs.Faults.{first_fault}
+use Rattle.fir_core.specs.declared.fault.TapsFault.TheVariants.{TapNumber, TapSum, Factor, Delay, Shift, Width, Memory}
+use Rattle.fir_core.specs.Faults.{first_fault, named}
 use Rattle.fir_core.proofs.LimitLaws.{IsWithinLimits-from_no_fault, no_fault-from_IsWithinLimits}
 use Rattle.project_core.specs.declared.key.Key.TheVariants as keys
 use Rattle.project_core.specs.declared.fault.ProjectFault.{ProjectFault}
 use Rattle.project_core.specs.declared.fault.ProjectFault.TheVariants as faults
+use Rattle.project_core.specs.Faults.{limit_fault}
 use Rattle.project_core.specs.Keys.{decimate_keys}
 use Rattle.project_core.specs.Steps.{◌>>=◌, Fails}
 use Rattle.project_core.specs.Reading.{integers_at, table_of, unsigned_at}
@@ -80,3 +82,16 @@ pub factor_fails : (value : Data) (t : Members) (taps : List ℤ) (e : ProjectFa
 unfolding decimate_of
 factor_fails value t taps faults.Memory is_table are_taps is = tt
 factor_fails value t taps e is_table are_taps is = rw (is_table, are_taps, is) refl
+
+-- what is refused where a limit is broken
+pub broken_fails : (d : Decimator) (fault : TapsFault) → first_fault d ≡ named fault → Fails (limit_fault fault) (unless_broken (first_fault d) d)
+broken_fails d Memory e = tt
+broken_fails d TapNumber e = rw e
+broken_fails d TapSum e = rw e
+broken_fails d Factor e = rw e
+broken_fails d Delay e = rw e
+broken_fails d Shift e = rw e
+broken_fails d Width e = rw e
+
+pub unbroken_is : (d made : Decimator) → first_fault d ≡ None → made ≡ d → unless_broken (first_fault d) d ≡ Ok made
+unbroken_is d made e is = rw (e, is)

@@ -39,6 +39,11 @@ pub each_ends : {A B : Type 0} (e : ProjectFault) (f : ℕ → A → Result B Pr
     → with_front front (each f i (drop i xs)) ≡ total → Fails e total
 each_ends e f front xs i d x total lt is h so_far = rw (← so_far, drop-cons xs i d, ← is) (fails_at e f front i x (drop (suc i) xs) h)
 
+pub each_done : {A B : Type 0} (f : ℕ → A → Result B ProjectFault) (front : List B) (xs : List A) (i : ℕ) (total : Result (List B) ProjectFault) → length xs ≤ i → with_front front (each f i (drop i xs)) ≡ total → total ≡ Ok front
+each_done {B = B} f front xs i total le so_far =
+    let one : with_front front (each f i (drop i xs)) ≡ Ok front = rw (drop_all i xs le) (ap (λ (ys : List B). Ok ys) (append-nil front)) in
+    sym so_far ∙ one
+
 -- The same over the values of an array.
 abbrev pub values_left : {B : Type 0} → (ℕ → Data → Result B ProjectFault) → List B → ℕ → List Value → Result (List B) ProjectFault
 values_left f front i vs = with_front front (each f i (list_of (items_view (drop i vs))))

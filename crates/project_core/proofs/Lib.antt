@@ -1,4 +1,5 @@
 pub mod Each
+pub mod StepLaws
 pub mod KeyLaws
 pub mod TableLaws
 pub mod TableAgain

@@ -1,5 +1,5 @@
 -- Bytes that are read one after the other.
-use Rattle.std.proofs.Common.{◌≡◌, ◌≢◌, ℕ, ◌+◌, ◌<◌, ◌≤◌, List, ◌++◌, length, take, drop, take-append-drop, take-take, Option, None, Some, IfSome, refl, sym, subst, ap, ap₂, ◌∙◌, arith, append_assoc, length-append, length-drop, length-take}
+use Rattle.std.proofs.Common.{◌≡◌, ◌≢◌, Result, Ok, Err, IsErrAnd, ℕ, ◌+◌, ◌<◌, ◌≤◌, List, ◌++◌, length, take, drop, take-append-drop, take-take, Option, None, Some, IfSome, refl, sym, subst, ap, ap₂, ◌∙◌, arith, append_assoc, length-append, length-drop, length-take}
 use Rattle.std.proofs.lemmas.List.{append_cancel_left, take-append-le}
 use Rattle.std.proofs.Math.Seq.{take-append_seam}
 use Rattle.std.specs.Io.KnownBytes.{Consumes, IsAtEnd}
@@ -10,6 +10,11 @@ use Rattle.std.proofs.lemmas.Slice.Eq.{bytes_eq-Decides}
 use Rattle.sound_core.specs.declared.fault.StreamFault.{StreamFault}
 use Rattle.sound_core.specs.declared.fault.StreamFault.TheVariants.{FileRefused, RateNotDivided, TooLarge, ReadFailed, WriteFailed, TurnLimit, Memory}
 use Rattle.relay_core.specs.Comparing.{ConsumesMany, IsExpectFault, IsFillFault, IsRefusal}
+
+-- what is returned for a fault
+pub fault_is : {X E : Type 0} (r : Result X E) (f : E) → IsErrAnd r (λ g. g ≡ f) → r ≡ Err f
+fault_is (Ok x) f h = absurd h
+fault_is (Err g) f h = rw h
 
 -- as many bytes are left as there are behind those that were read
 pub left_is : (a b : Option (List ℕ)) (read xs : List ℕ) → Consumes a b read → a ≡ Some xs → (ys : List ℕ) × (b ≡ Some ys) × (xs ≡ read ++ ys)

@@ -1,11 +1,16 @@
 -- What holds of each fault of a kind; faults of a stage are faults of the whole.
-use Rattle.std.proofs.Common.{ap, ◌≡◌, ◌≢◌, ◌-◌, ◌<◌, ℕ, inl, inr, arith, List, Option, None, Some, Result, Ok, Err, IfErr, IsErrOf, refl, subst}
+use Rattle.std.proofs.Common.{ap, ◌≡◌, ◌≢◌, ◌-◌, ◌<◌, ℕ, inl, inr, arith, List, Option, None, Some, Result, Ok, Err, IfErr, IsErrAnd, IsErrOf, refl, subst}
 use Rattle.sound_core.specs.Faults.{IsReadingFault, IsWritingFault, failed_reads}
 use Rattle.sound_core.specs.Files.{IsFrontFault}
 use Rattle.sound_core.specs.Outlines.{IsOutlineFault, IsTagFault}
 use Rattle.sound_core.specs.Readers.{IsPassFault}
 use Rattle.sound_core.specs.declared.fault.StreamFault.{StreamFault}
 use Rattle.sound_core.specs.declared.fault.StreamFault.TheVariants.{FileRefused, RateNotDivided, TooLarge, ReadFailed, WriteFailed, TurnLimit, Memory}
+
+-- ---- what is returned for a fault
+pub fault_is : {X : Type 0} (r : Result X StreamFault) (f : StreamFault) → IsErrAnd r (λ g. g ≡ f) → r ≡ Err f
+fault_is (Ok x) f h = absurd h
+fault_is (Err g) f h = rw h
 
 -- ---- a fault of reading, or of writing, is one of a few
 pub by_reading : (P : StreamFault → Type 0) → P ReadFailed → P TurnLimit → P Memory → (f : StreamFault) → IsReadingFault f → P f

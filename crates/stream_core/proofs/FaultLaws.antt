@@ -1,5 +1,5 @@
 -- Which faults stand, stop the reading or come before the first write, by where they rose.
-use Rattle.std.proofs.Common.{◌≡◌, ℕ, ◌≤◌, List, ◌++◌, Option, None, Some, IfErr, IfSome, Result, Ok, Err, refl, arith, subst, ap₂, ◌∙◌, ◌+◌}
+use Rattle.std.proofs.Common.{◌≡◌, ℕ, ◌≤◌, List, ◌++◌, Option, None, Some, IfErr, IfSome, Result, Ok, Err, IsErrAnd, refl, arith, subst, ap₂, ◌∙◌, ◌+◌}
 use Rattle.device_core.specs.Inlets.{inlet_failures, inlet_reads}
 use Rattle.dsd_bits.specs.declared.sound.Sound.{Sound}
 use Rattle.fir_core.specs.Decimator.{Decimator}
@@ -14,6 +14,11 @@ use Rattle.sound_core.proofs.ReaderLaws.{counts_before}
 use Rattle.stream_core.specs.Pieces.{IsPieceFault, IsSoundFault}
 use Rattle.stream_core.specs.Playing.{Stands}
 use Rattle.stream_core.specs.Wave.{IsOpeningFault}
+
+-- ---- what is returned for a fault
+pub fault_is : {X : Type 0} (r : Result X StreamFault) (f : StreamFault) → IsErrAnd r (λ g. g ≡ f) → r ≡ Err f
+fault_is (Ok x) f h = absurd h
+fault_is (Err g) f h = rw h
 
 -- ---- where the header is written
 pub opening_stands : (left : Option (List ℕ)) (d : Decimator) (front : List ℕ) (s : Sound) → TellsSound front s → (f : StreamFault) → IsOpeningFault d s f → IfSome left (λ xs. Stands d (front ++ xs) f)

@@ -155,3 +155,8 @@ module _ {R : Type 0} (left : R → Option (List ℕ)) (i j : Inlet R) (p q r : 
           let own : PutsFront d s whole whole c e = said (λ f t. PutsFront f t whole whole c e) (filter' ∙ filter) (sound' ∙ sound) made in
           let bytes : all_bytes d s whole ≡ both.0 ++ own.0 = own.1 ∙ ap (λ xs. xs ++ own.0) (fed.1 ∙ ap (λ xs. xs ++ both.0) (nothing_is_due d s)) in
           subst (λ xs. AppendsFront a e (all_bytes d s xs)) (sym same) (subst (AppendsFront a e) (sym bytes) (front_on a c e both.0 own.0 both.1 own.2))
+
+-- the sound is fed once what was ahead of it was fed, and then the rest
+pub all_fed : (ahead : List ℕ) {s p q r : Sound} {fed_p fed_q fed_r first : ℕ} → fed_p ≡ 0 → fed_q ≡ fed_p + first → fed_r ≡ fed_q + (s.size - first) → first ≡ length (take s.size ahead) → p ≡ s → q ≡ p → r ≡ q → fed_r ≡ r.size
+all_fed ahead {s} none fed_q fed_r is p q r =
+    omega (arith, length-take s.size ahead, ap (λ (x : Sound). x.size) (r ∙ q ∙ p))

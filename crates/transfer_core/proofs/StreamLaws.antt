@@ -1,5 +1,5 @@
 -- What is played from a reader by a project's decimator is what project and file play.
-use Rattle.std.proofs.Common.{◌≡◌, ◌⊎◌, ◌-◌, ℕ, inl, inr, List, [], Option, None, Some, IfSome, IsErrOf, Ok, Err, refl, sym, ap, ◌∙◌, subst}
+use Rattle.std.proofs.Common.{◌≡◌, ◌⊎◌, ◌-◌, ℕ, inl, inr, List, [], Option, None, Some, IfSome, IsErrAnd, IsErrOf, Result, Ok, Err, refl, sym, ap, ◌∙◌, subst}
 use Rattle.device_core.specs.declared.inlet.Inlet.{Inlet}
 use Rattle.dsd_bits.specs.declared.blocks.BitOrder.TheVariants.{LeastFirst, MostFirst}
 use Rattle.dsd_bits.specs.Contents.{Content}
@@ -23,6 +23,11 @@ use Rattle.transfer_core.specs.Playing.{Plays}
 use Rattle.transfer_core.specs.Projects.{IsOfDecimator, SaysDecimator, decimator_of}
 use Rattle.transfer_core.proofs.ReadingLaws.{says_decimator}
 use Rattle.transfer_core.specs.Streaming.{IsBeforeWriting, KeepsUp, OnlyFromOutside, StreamStands}
+
+-- what is returned for a fault
+pub fault_is : {X E : Type 0} (r : Result X E) (f : E) → IsErrAnd r (λ g. g ≡ f) → r ≡ Err f
+fault_is (Ok x) f h = absurd h
+fault_is (Err g) f h = rw h
 
 -- ---- the form of a file
 form_held : (file : List ℕ) (r : Content) → HoldsRecording file r → (form : Form) × HoldsAs file form r

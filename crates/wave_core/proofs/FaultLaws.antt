@@ -12,3 +12,7 @@ IsMemory Memory = Unit
 pub memory_told : {T : Type 0} (r : Result T WaveFault) (Large : Type 0) → IsErrAnd r (λ e. e ≡ Memory) → (Large → ⊥) → (r ≡ Err TooLarge → Large) × (Large → r ≡ Err TooLarge)
 memory_told (Ok x) Large h fits = absurd h
 memory_told (Err e) Large h fits = (λ is. absurd (subst (λ r. IsErrAnd r IsMemory) is (subst IsMemory (sym h) tt)), λ large. absurd (fits large))
+
+-- nor is a text that stands
+pub made_told : {T : Type 0} (x : T) (Large : Type 0) → (Large → ⊥) → (Ok x ≡ Err TooLarge → Large) × (Large → Ok x ≡ Err TooLarge)
+made_told x Large fits = (λ is. absurd cc, λ large. absurd (fits large))

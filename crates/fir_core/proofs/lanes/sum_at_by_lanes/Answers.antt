@@ -1,10 +1,11 @@
-use Rattle.std.proofs.Common.{◌+◌, ◌-◌, ◌/◌, ◌∙◌, ap, arith, length, take, drop, sym, w32}
+use Rattle.std.proofs.Common.{◌+◌, ◌-◌, ◌/◌, ◌∙◌, ap, arith, length, take, drop, length-drop, sym, w32}
 use Rattle.std.proofs.lemmas.Int.{to_z-of_z}
 use Rattle.std.proofs.lemmas.List.{take_rest}
 use Rattle.dsd_bits.specs.Packing.{unpacked}
 use Rattle.fir_core.specs.Signed.{dot, bits_of}
 use Rattle.fir_core.proofs.Dot.{dot_bound}
 use Rattle.fir_core.proofs.TileLaws.{conv_at}
+use Rattle.fir_core.proofs.WindowLaws.{length-aligned}
 use Rattle.fir_core.proofs.lanes.sum_at_by_lanes.Goals as goal
 
 pub returns : goal.returns
@@ -21,3 +22,9 @@ returns c =
       bound = rw (to_z-of_z w32 c.dot_by_lanes.result (record { sfits = c.dot_by_lanes.type_inv }), c.dot_by_lanes.ensures)
           (omega (arith, dot_bound c.args.turned.now (bits_of (take (length bytes - at) (drop at bytes))), c.requires.small));
     }
+
+pub dot_by_lanes-requires-clause-enough : goal.dot_by_lanes-requires-clause-enough
+dot_by_lanes-requires-clause-enough c =
+    let at = c.args.n / 8 + 1 - length c.args.turned.now / 8 in
+    let size = ap length c.requires.turned ∙ length-aligned c.args.taps.now.taps c.args.taps.now.delay in
+    rw (take_rest c.as_bytes.result.now at) (omega (arith, size, length-drop at c.as_bytes.result.now, c.as_bytes.ensures.tight.enough, c.len.ensures.value))

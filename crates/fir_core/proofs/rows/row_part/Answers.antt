@@ -1,5 +1,5 @@
 use Rattle.std.proofs.Common.{◌≡◌, ◌+◌, ◌-◌, arith, rules}
-use Rattle.fir_core.proofs.RowLaws.{part_is, part_within}
+use Rattle.fir_core.proofs.RowLaws.{part_is, part_within, window_before}
 use Rattle.fir_core.proofs.rows.row_part.Goals as goal
 
 pub slice_bounds-result-end : goal.slice_bounds-result-end
@@ -19,3 +19,6 @@ row_place-at-requires-clause-near c = c.requires.near
 
 pub row_place-at-requires-clause-narrow : goal.row_place-at-requires-clause-narrow
 row_place-at-requires-clause-narrow c = c.requires.laid.narrow
+
+pub row_place-at-requires-clause-small : goal.row_place-at-requires-clause-small
+row_place-at-requires-clause-small c = omega (arith, window_before _ _ _ _ c.requires.spot)

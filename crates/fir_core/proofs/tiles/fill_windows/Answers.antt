@@ -56,3 +56,6 @@ returns c =
     ∙ ap (λ n. window_sums (aligned d.taps d.delay) front (n / 8) number) c.factor.ensures.value)
     ∙ run_by_windows d c.args.bytes.now front c.args.count c.args.first number c.factor.ensures.limits.whole_bytes c.requires.phase c.requires.begins c.requires.inside c.requires.enough
     (take_rest c.args.bytes.now at ∙ ap (λ m. drop (c.args.first / 8 + 1 - m) c.args.bytes.now) (size before))
+
+pub overflow_sub-at : goal.overflow_sub-at
+overflow_sub-at c = rw (size c) c.requires.begins

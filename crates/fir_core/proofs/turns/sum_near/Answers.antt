@@ -3,13 +3,13 @@ use Rattle.std.proofs.lemmas.List.{take_rest}
 use Rattle.std.proofs.lemmas.List.FromFn.{get_or-map-range_with_len}
 use Rattle.fir_core.specs.Windows.{window_sum, window_sums}
 use Rattle.fir_core.proofs.TileLaws.{length-sums}
-use Rattle.fir_core.proofs.TurnLaws.{eights_cover, eights_fit, some_eights, steps_within, sums_joined}
+use Rattle.fir_core.proofs.TurnLaws.{eights_cover, eights_fit, many_follow, some_eights, steps_within, sums_joined}
 use Rattle.fir_core.proofs.turns.sum_near.Goals as goal
 
 pub sum_front-requires-clause-enough : goal.sum_front-requires-clause-enough
 sum_front-requires-clause-enough g c =
     steps_within (length c.split_at_mut-front.result.0.now) g.row.N (length c.args.bytes.now / c.args.rows.step) c.args.rows.step (length c.args.bytes.now) refl
-    (omega (arith, c.split_at_mut-front.ensures.front_len, c.saturating_sub.ensures, c.min.ensures, c.min-many.ensures, c.if-many-eq0.false))
+    (many_follow _ _ _ _ _ _ _ _ c.split_at_mut-front.ensures.front_len c.saturating_sub.ensures c.min.ensures c.min-many.ensures c.if-many-eq0.false)
 
 pub sum_front-requires-clause-some : goal.sum_front-requires-clause-some
 sum_front-requires-clause-some g c = some_eights (length c.args.taps.now / 8) c.args.rows.step g.row.N c.requires.laid.least (omega (arith, c.requires.laid.some)) c.requires.number

@@ -1,15 +1,13 @@
 use Rattle.std.proofs.Common.{◌++◌, arith}
-use Rattle.std.proofs.lemmas.Result.{err_from_is_err_and}
 use Rattle.device_core.specs.Inlets.{inlet_reader}
-use Rattle.relay_core.proofs.ComparingLaws.{expect_fault, expect_on, halves}
+use Rattle.relay_core.proofs.ComparingLaws.{expect_fault, expect_on, fault_is, halves}
 use Rattle.relay_core.proofs.comparing.expect.Goals as goal
 
 pub returns-in_err-expect_part-clause-fault : goal.returns-in_err-expect_part-clause-fault
 returns-in_err-expect_part-clause-fault g c =
     let so_far = c.loop-left.invariant in
     let split = halves _ c.loop-left.left.now _ _ c.split_at.ensures.front c.split_at.ensures.back in
-    let e = err_from_is_err_and c.from_residual.result c.from_residual.ensures.1 in
-    rw (e.1, e.2) (expect_fault (g.R.Read.remaining (inlet_reader c.args.inlet.now)) (g.R.Read.remaining (inlet_reader c.loop-left.inlet)) c.args.bytes.now so_far.0 c.loop-left.left.now so_far.1 so_far.2 _ _ c.in_err-expect_part.field-0.0 split c.in_err-expect_part.ensures.fault)
+    rw (fault_is c.from_residual.result _ c.from_residual.ensures.1) (expect_fault (g.R.Read.remaining (inlet_reader c.args.inlet.now)) (g.R.Read.remaining (inlet_reader c.loop-left.inlet)) c.args.bytes.now so_far.0 c.loop-left.left.now so_far.1 so_far.2 _ _ c.in_err-expect_part.field-0.0 split c.in_err-expect_part.ensures.fault)
 
 pub loop-left-preserved : goal.loop-left-preserved
 loop-left-preserved g c =

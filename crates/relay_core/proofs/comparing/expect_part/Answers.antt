@@ -1,7 +1,6 @@
 use Rattle.std.proofs.Common.{◌≡◌, ◌∙◌, ap, arith, length, length-take, take}
-use Rattle.std.proofs.lemmas.Result.{err_from_is_err_and}
 use Rattle.device_core.specs.Inlets.{inlet_reader}
-use Rattle.relay_core.proofs.ComparingLaws.{differ, fewer_differ, part_differs}
+use Rattle.relay_core.proofs.ComparingLaws.{differ, fault_is, fewer_differ, part_differs}
 use Rattle.relay_core.proofs.comparing.expect_part.Goals as goal
 
 pub returns-clause-fault : goal.returns-clause-fault
@@ -12,8 +11,7 @@ returns-clause-fault g c =
 
 pub returns-in_err-fill : goal.returns-in_err-fill
 returns-in_err-fill g c =
-    let e = err_from_is_err_and c.from_residual.result c.from_residual.ensures.1 in
-    rw (e.1, e.2) (record {
+    rw (fault_is c.from_residual.result _ c.from_residual.ensures.1) (record {
       size = c.fill.ensures.size ∙ c.requires.size;
       read = tt;
       failures = c.in_err-fill.ensures.failures;

@@ -1,9 +1,8 @@
 use Rattle.std.proofs.Common.{◌≡◌, ◌+◌, ◌-◌, ◌≤◌, ◌∙◌, Err, ap, arith, length, length-take, subst, take}
-use Rattle.std.proofs.lemmas.Result.{err_from_is_err_and}
 use Rattle.device_core.specs.Inlets.{inlet_reader}
 use Rattle.sound_core.specs.Faults.{failed_reads}
 use Rattle.relay_core.specs.Comparing.{ConsumesMany}
-use Rattle.relay_core.proofs.ComparingLaws.{fewer_at_first, many_on}
+use Rattle.relay_core.proofs.ComparingLaws.{fault_is, fewer_at_first, many_on}
 use Rattle.relay_core.proofs.comparing.pass.Goals as goal
 
 pub loop-left-preserved : goal.loop-left-preserved
@@ -24,8 +23,7 @@ pub returns-in_err-fill : goal.returns-in_err-fill
 returns-in_err-fill g c =
     let so_far = c.loop-left.invariant in
     let within : c.args.wanted - c.loop-left.left + c.min-size.result ≤ c.args.wanted = omega (arith, so_far.1, c.min-size.ensures) in
-    let e = err_from_is_err_and c.from_residual.result c.from_residual.ensures.1 in
-    rw (e.1, e.2) (record {
+    rw (fault_is c.from_residual.result _ c.from_residual.ensures.1) (record {
       size = c.fill.ensures.size ∙ so_far.2;
       read = tt;
       failures = c.in_err-fill.ensures.failures ∙ ap (λ n. n + failed_reads {X = Unit {0}} (Err c.in_err-fill.field-0.0)) so_far.3;

@@ -4,13 +4,13 @@ use Rattle.std.proofs.lemmas.Result.{IfErr-weaker, err_from_is_err_and, on_ok_we
 use Rattle.device_core.specs.Inlets.{inlet_reader}
 use Rattle.sound_core.specs.Outlines.{around_of}
 use Rattle.relay_core.specs.Comparing.{IsExpectFault}
+use Rattle.relay_core.proofs.ComparingLaws.{fault_is}
 use Rattle.relay_core.proofs.RelayLaws.{back_fault, end_fault, gap_fault, passes_end, passes_open}
 use Rattle.relay_core.proofs.relaying.expect_rest.Goals as goal
 
 pub returns-in_err-pass-clause-fault : goal.returns-in_err-pass-clause-fault
 returns-in_err-pass-clause-fault g c =
-    let e = err_from_is_err_and c.from_residual.result c.from_residual.ensures.1 in
-    rw (e.1, e.2) (gap_fault (around_of c.args.outline.now) (g.R.Read.remaining (inlet_reader c.args.inlet.now)) c.in_err-pass.field-0.0 c.in_err-pass.ensures.fault)
+    rw (fault_is c.from_residual.result _ c.from_residual.ensures.1) (gap_fault (around_of c.args.outline.now) (g.R.Read.remaining (inlet_reader c.args.inlet.now)) c.in_err-pass.field-0.0 c.in_err-pass.ensures.fault)
 
 pub returns-in_err-expect-clause-fault : goal.returns-in_err-expect-clause-fault
 returns-in_err-expect-clause-fault g c =

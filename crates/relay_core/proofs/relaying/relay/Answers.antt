@@ -1,11 +1,12 @@
-use Rattle.std.proofs.Common.{◌≡◌, ◌+◌, Err, add-zero, subst, sym}
+use Rattle.std.proofs.Common.{◌≡◌, ◌+◌, Err, add-zero, arith, subst, sym}
 use Rattle.std.specs.Io.KnownBytes.{Consumes}
-use Rattle.std.proofs.lemmas.Result.{IfErr-weaker, err_from_is_err_and, on_err_weaker, on_ok_weaker}
+use Rattle.std.proofs.lemmas.Result.{IfErr-weaker, on_err_weaker, on_ok_weaker}
 use Rattle.device_core.specs.Inlets.{inlet_failures, inlet_reader}
 use Rattle.device_core.specs.Outlets.{outlet_writer}
 use Rattle.sound_core.specs.Outlines.{around_of}
 use Rattle.relay_core.specs.Comparing.{IsExpectFault}
 use Rattle.sound_core.proofs.FaultLaws.{unread}
+use Rattle.relay_core.proofs.ComparingLaws.{fault_is}
 use Rattle.relay_core.proofs.RelayLaws.{front_nil, head_fault, head_part, head_whole, no_more, none_before, none_counted, relays, relays_given, rest_fault, sound_fault, sound_part, sound_whole, tail_part, unwritten, writing_stands}
 use Rattle.relay_core.proofs.relaying.relay.Given.{Over}
 use Rattle.relay_core.proofs.relaying.relay.Goals as goal
@@ -26,8 +27,7 @@ relay_sound-requires-clause-sound g c = record { is_sound = c.requires.told.is_s
 pub returns-in_err-vec : goal.returns-in_err-vec
 returns-in_err-vec g c =
     let a = g.W.Write.contents (outlet_writer c.args.outlet.now) in
-    let e = err_from_is_err_and c.from_residual.result c.from_residual.ensures.1 in
-    rw (e.1, e.2) (record {
+    rw (fault_is c.from_residual.result _ c.from_residual.ensures.1) (record {
       ok = tt;
       any_reader = tt;
       front = head_part c.args.target.now (around_of c.args.outline.now) c.requires.told.is_sound (g.R.Read.remaining (inlet_reader c.args.inlet.now)) a a (front_nil a c.args.target.now.head.now);
@@ -40,8 +40,7 @@ pub returns-in_err-put : goal.returns-in_err-put
 returns-in_err-put g c =
     let left = g.R.Read.remaining (inlet_reader c.args.inlet.now) in
     let f = c.in_err-put.field-0.0 in
-    let e = err_from_is_err_and c.from_residual-in_err-put.result c.from_residual-in_err-put.ensures.1 in
-    rw (e.1, e.2) (record {
+    rw (fault_is c.from_residual-in_err-put.result _ c.from_residual-in_err-put.ensures.1) (record {
       ok = tt;
       any_reader = tt;
       front = head_part c.args.target.now (around_of c.args.outline.now) c.requires.told.is_sound left (g.W.Write.contents (outlet_writer c.args.outlet.now)) (g.W.Write.contents (outlet_writer c.put.new.outlet)) c.in_err-put.ensures.err;
@@ -55,8 +54,7 @@ returns-in_err-expect g c =
     let left = g.R.Read.remaining (inlet_reader c.args.inlet.now) in
     let a = g.W.Write.contents (outlet_writer c.args.outlet.now) in
     let f = c.in_err-expect.field-0.0 in
-    let e = err_from_is_err_and c.from_residual-in_err-expect.result c.from_residual-in_err-expect.ensures.1 in
-    rw (e.1, e.2) (record {
+    rw (fault_is c.from_residual-in_err-expect.result _ c.from_residual-in_err-expect.ensures.1) (record {
       ok = tt;
       any_reader = tt;
       front = head_whole c.args.target.now (around_of c.args.outline.now) c.requires.told.is_sound left a (g.W.Write.contents (outlet_writer c.put.new.outlet)) c.in_ok-put.ensures.ok;
@@ -72,8 +70,7 @@ returns-in_err-relay_sound g c =
     let read = g.R.Read.remaining (inlet_reader c.expect.new.inlet) in
     let a = g.W.Write.contents (outlet_writer c.args.outlet.now) in
     let b = g.W.Write.contents (outlet_writer c.put.new.outlet) in
-    let e = err_from_is_err_and c.from_residual-in_err-relay_sound.result c.from_residual-in_err-relay_sound.ensures.1 in
-    rw (e.1, e.2) (record {
+    rw (fault_is c.from_residual-in_err-relay_sound.result _ c.from_residual-in_err-relay_sound.ensures.1) (record {
       ok = tt;
       any_reader = tt;
       front = sound_part c.args.target.now (around_of c.args.outline.now) c.requires.told.is_sound left a b c.in_ok-put.ensures.ok read (head_in g k) (g.W.Write.contents (outlet_writer c.relay_sound.new.outlet)) c.in_err-relay_sound.ensures.front;
@@ -92,8 +89,7 @@ returns-in_err-expect_rest g c =
     let b = g.W.Write.contents (outlet_writer c.put.new.outlet) in
     let d = g.W.Write.contents (outlet_writer c.relay_sound.new.outlet) in
     let f = c.in_err-expect_rest.field-0.0 in
-    let e = err_from_is_err_and c.from_residual-in_err-expect_rest.result c.from_residual-in_err-expect_rest.ensures.1 in
-    rw (e.1, e.2) (record {
+    rw (fault_is c.from_residual-in_err-expect_rest.result _ c.from_residual-in_err-expect_rest.ensures.1) (record {
       ok = tt;
       any_reader = tt;
       front = sound_whole c.args.target.now (around_of c.args.outline.now) c.requires.told.is_sound left a b c.in_ok-put.ensures.ok read (head_in g at.In_ok-expect) now d c.in_ok-relay_sound.ensures.ok;
@@ -123,3 +119,27 @@ returns g c =
       read_failed = no_more _ _ _ (none_before _ _ _ _ (no_failure g at.In_ok-relay_sound) c.in_ok-expect_rest.ensures.failures) (unread c.put-2.result c.put-2.ensures.fault);
       write_failed = none_before _ _ _ _ (none_before _ _ _ _ c.in_ok-put.ensures.failures c.in_ok-relay_sound.ensures.write_failed) c.put-2.ensures.failures;
     }
+
+pub put-requires : goal.put-requires
+put-requires g c = record { ready = c.requires.outlet_ready }
+
+pub expect-requires-clause-ready : goal.expect-requires-clause-ready
+expect-requires-clause-ready g c = c.requires.inlet_ready
+
+pub relay_sound-requires-clause-inlet_ready : goal.relay_sound-requires-clause-inlet_ready
+relay_sound-requires-clause-inlet_ready g c = omega (arith, c.in_ok-expect.ensures.failures, c.requires.inlet_ready)
+
+pub relay_sound-requires-clause-outlet_ready : goal.relay_sound-requires-clause-outlet_ready
+relay_sound-requires-clause-outlet_ready g c = omega (arith, c.in_ok-put.ensures.failures, c.requires.outlet_ready)
+
+pub relay_sound-requires-clause-size : goal.relay_sound-requires-clause-size
+relay_sound-requires-clause-size g c = c.expect.ensures.size
+
+pub expect_rest-requires-clause-size : goal.expect_rest-requires-clause-size
+expect_rest-requires-clause-size g c = c.relay_sound.ensures.size
+
+pub expect_rest-requires-clause-ready : goal.expect_rest-requires-clause-ready
+expect_rest-requires-clause-ready g c = omega (arith, c.in_ok-relay_sound.ensures.read_failed, c.in_ok-expect.ensures.failures, c.requires.inlet_ready)
+
+pub put-requires-2 : goal.put-requires-2
+put-requires-2 g c = record { ready = omega (arith, c.in_ok-relay_sound.ensures.write_failed, c.in_ok-put.ensures.failures, c.requires.outlet_ready) }

@@ -1,11 +1,12 @@
 use Rattle.std.proofs.Common.{◌≡◌, ◌+◌, ◌∙◌, ◌++◌, add-zero, ap, arith, length, length-take, subst, sym, take}
-use Rattle.std.proofs.lemmas.Result.{IfErr-weaker, err_from_is_err_and, on_err_weaker, on_ok_weaker}
+use Rattle.std.proofs.lemmas.Result.{IfErr-weaker, on_err_weaker, on_ok_weaker}
 use Rattle.std.specs.Io.KnownBytes.{Appends}
 use Rattle.device_core.specs.Inlets.{inlet_failures, inlet_reader}
 use Rattle.device_core.specs.Outlets.{AppendsFront, outlet_writer}
 use Rattle.dsd_bits.specs.Sounds.{sound_size}
 use Rattle.relace_core.specs.Relacing.{relaced}
 use Rattle.sound_core.proofs.FaultLaws.{unread}
+use Rattle.relay_core.proofs.ComparingLaws.{fault_is}
 use Rattle.relay_core.proofs.RelayLaws.{filling_in_part, none_counted, none_of_part, stretch_front, unwritten, whole_part, writing_in_part}
 use Rattle.relay_core.proofs.relaying.relay_part.Goals as goal
 use Rattle.relay_core.proofs.relaying.relay_part.Goals.{After-deref-2}
@@ -61,8 +62,7 @@ returns-in_err-fill g c =
     let s = c.args.part.relacing.sound in
     let left = g.R.Read.remaining (inlet_reader c.args.inlet.now) in
     let f = c.in_err-fill.field-0.0 in
-    let e = err_from_is_err_and c.from_residual.result c.from_residual.ensures.1 in
-    rw (e.1, e.2) (record {
+    rw (fault_is c.from_residual.result _ c.from_residual.ensures.1) (record {
       size = c.fill.ensures.size ∙ c.requires.size;
       ok = tt;
       front = none_of_part left s c.args.part.relacing.to c.args.part.bits (g.W.Write.contents (outlet_writer c.args.outlet.now));
@@ -74,8 +74,7 @@ returns-in_err-fill g c =
 pub returns-in_err-push_relaced : goal.returns-in_err-push_relaced
 returns-in_err-push_relaced g c =
     let left = g.R.Read.remaining (inlet_reader c.args.inlet.now) in
-    let e = err_from_is_err_and c.from_residual-in_err-push_relaced.result c.from_residual-in_err-push_relaced.ensures.1 in
-    rw (e.1, e.2) (record {
+    rw (fault_is c.from_residual-in_err-push_relaced.result _ c.from_residual-in_err-push_relaced.ensures.1) (record {
       size = c.fill.ensures.size ∙ c.requires.size;
       ok = tt;
       front = none_of_part left c.args.part.relacing.sound c.args.part.relacing.to c.args.part.bits (g.W.Write.contents (outlet_writer c.args.outlet.now));

@@ -1,10 +1,10 @@
 use Rattle.std.proofs.Common.{◌≡◌, ◌+◌, ◌-◌, ◌≤◌, inl, inr, arith, subst}
-use Rattle.std.proofs.lemmas.Result.{err_from_is_err_and}
 use Rattle.dsd_bits.proofs.ExitLaws.{any_err}
 use Rattle.device_core.specs.Inlets.{inlet_reader}
 use Rattle.device_core.specs.Outlets.{outlet_writer}
 use Rattle.relay_core.specs.Relays.{IsPartFault, PartFront, RelaysPart}
 use Rattle.relace_core.proofs.GroupLaws.{size_fits, whole_on, last_groups}
+use Rattle.relay_core.proofs.ComparingLaws.{fault_is}
 use Rattle.relay_core.proofs.RelayLaws.{part_fault, part_front, part_none, part_on}
 use Rattle.relay_core.proofs.relaying.relay_sound.Goals as goal
 
@@ -64,8 +64,7 @@ returns-in_err-relay_part-clause-fault g c =
     let f = c.in_err-relay_part.field-0.0 in
     let all : done + (bits + (c.loop-left.left - bits)) ≡ s.count = omega (arith, so_far.1, c.min-bits.ensures) in
     let last = last_groups c.loop-left.left c.stretch_bits-most.result bits c.stretch_bits-most.ensures.groups c.min-bits.ensures in
-    let e = err_from_is_err_and c.from_residual.result c.from_residual.ensures.1 in
-    rw (e.1, e.2) (subst (λ n. IsPartFault l0 s n f) all
+    rw (fault_is c.from_residual.result _ c.from_residual.ensures.1) (subst (λ n. IsPartFault l0 s n f) all
     (part_fault c.groups_join.ensures s to l0 (g.R.Read.remaining (inlet_reader c.loop-left.inlet)) a0 (g.W.Write.contents (outlet_writer c.loop-left.outlet)) done so_far.0 (so_far.2 (omega (arith, c.loop-left-test.true))) bits (c.loop-left.left - bits) f last c.in_err-relay_part.ensures.fault))
 
 pub loop-left-preserved : goal.loop-left-preserved

@@ -1,5 +1,5 @@
 use Rattle.std.proofs.Common.{◌-◌, ◌∙◌, arith, refl, sym}
-use Rattle.std.proofs.lemmas.Result.{err_from_is_err_and}
+use Rattle.sound_core.proofs.FaultLaws.{fault_is}
 use Rattle.sound_core.proofs.ClosingLaws.{dsf_closes, ends, form_closes, form_ends_at, form_behind, has_order, no_order}
 use Rattle.sound_core.proofs.ReaderLaws.{counts_ok, counts_want, same_counts}
 use Rattle.sound_core.proofs.closing.closes.Goals as goal
@@ -26,8 +26,7 @@ closes-requires-2 g c = (c.args.sound.now, form_ends_at c.args.head.now c.args.s
 
 pub returns-in_err-read_to_end : goal.returns-in_err-read_to_end
 returns-in_err-read_to_end g c =
-    let e = err_from_is_err_and c.from_residual.result c.from_residual.ensures.1 in
-    rw (e.1, e.2) (record {
+    rw (fault_is c.from_residual.result _ c.from_residual.ensures.1) (record {
       same = c.read_to_end.ensures.same;
       ok = tt;
       counts = same_counts c.args.reader.now c.read_to_end.new.self c.in_err-read_to_end.field-0.0 c.in_err-read_to_end.ensures.counts;
@@ -47,8 +46,7 @@ returns-then-has_blocks g c =
 
 pub returns-in_err-read_until : goal.returns-in_err-read_until
 returns-in_err-read_until g c =
-    let e = err_from_is_err_and c.from_residual-in_err-read_until.result c.from_residual-in_err-read_until.ensures.1 in
-    rw (e.1, e.2) (record {
+    rw (fault_is c.from_residual-in_err-read_until.result _ c.from_residual-in_err-read_until.ensures.1) (record {
       same = c.read_until.ensures.same;
       ok = tt;
       counts = same_counts c.args.reader.now c.read_until.new.self c.in_err-read_until.field-0.0 c.in_err-read_until.ensures.counts;
@@ -57,8 +55,7 @@ returns-in_err-read_until g c =
 
 pub returns-in_err-closes : goal.returns-in_err-closes
 returns-in_err-closes g c =
-    let e = err_from_is_err_and c.from_residual-in_err-closes.result c.from_residual-in_err-closes.ensures.1 in
-    rw (e.1, e.2) (record {
+    rw (fault_is c.from_residual-in_err-closes.result _ c.from_residual-in_err-closes.ensures.1) (record {
       same = c.read_until.ensures.same;
       ok = tt;
       counts = counts_want c.args.reader.now c.args.reader.now c.read_until.new.self _ refl refl c.in_ok-read_until.ensures.counts;

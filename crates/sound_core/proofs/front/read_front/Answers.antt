@@ -1,12 +1,11 @@
 use Rattle.std.proofs.Common.{◌∙◌, [], ap, inl, inr, arith, length, length-append, refl, subst, sym}
-use Rattle.std.proofs.lemmas.Result.{err_from_is_err_and}
 use Rattle.device_core.specs.Inlets.{inlet_given, inlet_reader}
 use Rattle.sound_core.specs.Files.{IsBeforeSound, IsRefused, TellsSound}
 use Rattle.sound_core.specs.Reads.{Reads}
 use Rattle.sound_core.proofs.ToldLaws.{before_first, gives_none}
 use Rattle.sound_core.proofs.ReadLaws.{after, at_end, reads_none, reads_on}
 use Rattle.sound_core.proofs.ReaderLaws.{counts_later, counts_ok, counts_refused, counts_want, same_on, same_self}
-use Rattle.sound_core.proofs.FaultLaws.{reading_in_front}
+use Rattle.sound_core.proofs.FaultLaws.{fault_is, reading_in_front}
 use Rattle.sound_core.proofs.front.read_front.Goals as goal
 
 -- no file is empty
@@ -49,8 +48,7 @@ pub returns-in_err-count : goal.returns-in_err-count
 returns-in_err-count g c =
     let so_far = c.loop-count.invariant in
     let f = c.in_err-count.field-0.0 in
-    let e = err_from_is_err_and c.from_residual.result c.from_residual.ensures.1 in
-    rw (e.1, e.2) (record {
+    rw (fault_is c.from_residual.result _ c.from_residual.ensures.1) (record {
       same = same_on c.args.reader.now c.loop-count.reader c.read_more.new.self so_far.3 c.read_more.ensures.same;
       reading = tt;
       given = tt;
@@ -79,8 +77,7 @@ returns-then-count-eq0 g c =
 pub returns-in_err-sound : goal.returns-in_err-sound
 returns-in_err-sound g c =
     let so_far = c.loop-count.invariant in
-    let e = err_from_is_err_and c.from_residual-in_err-sound.result c.from_residual-in_err-sound.ensures.1 in
-    rw (e.1, e.2) (record {
+    rw (fault_is c.from_residual-in_err-sound.result _ c.from_residual-in_err-sound.ensures.1) (record {
       same = same_on c.args.reader.now c.loop-count.reader c.read_more.new.self so_far.3 c.read_more.ensures.same;
       reading = tt;
       given = tt;

@@ -2,26 +2,16 @@ use Rattle.sound_core.proofs.HeadLaws.{dsdiff_found, dsdiff_more, dsf_found, dsf
 use Rattle.sound_core.proofs.ToldLaws.{dsf_wanted, form_wanted}
 use Rattle.sound_core.proofs.front.told_by.Goals as goal
 
-pub returns-in-Refused-clause-found : goal.returns-in-Refused-clause-found
-returns-in-Refused-clause-found c =
+pub returns-in-Refused : goal.returns-in-Refused
+returns-in-Refused c =
     let no_form = rw c.in-Refused.is at c.in_ok-told.ensures.refused in
     let told = c.sound_at-in-Refused in
-    dsf_found c.args.front.now no_form told.result told.ensures.exact told.ensures.found told.ensures.limits told.ensures.within told.ensures.interleaving
-
-pub returns-in-Refused-clause-refused : goal.returns-in-Refused-clause-refused
-returns-in-Refused-clause-refused c =
-    let no_form = rw c.in-Refused.is at c.in_ok-told.ensures.refused in
-    dsf_refused c.args.front.now no_form c.sound_at-in-Refused.result c.sound_at-in-Refused.ensures.exact c.sound_at-in-Refused.ensures.refused
-
-pub returns-in-Refused-clause-more : goal.returns-in-Refused-clause-more
-returns-in-Refused-clause-more c =
-    let no_form = rw c.in-Refused.is at c.in_ok-told.ensures.refused in
-    dsf_more c.args.front.now no_form c.sound_at-in-Refused.result c.sound_at-in-Refused.ensures.exact c.sound_at-in-Refused.ensures.more
-
-pub returns-in-Refused-clause-before : goal.returns-in-Refused-clause-before
-returns-in-Refused-clause-before c =
-    let no_form = rw c.in-Refused.is at c.in_ok-told.ensures.refused in
-    dsf_wanted c.args.front.now no_form c.sound_at-in-Refused.result c.sound_at-in-Refused.ensures.more
+    record {
+      found = dsf_found c.args.front.now no_form told.result told.ensures.exact told.ensures.found told.ensures.limits told.ensures.within told.ensures.interleaving;
+      refused = dsf_refused c.args.front.now no_form c.sound_at-in-Refused.result c.sound_at-in-Refused.ensures.exact c.sound_at-in-Refused.ensures.refused;
+      more = dsf_more c.args.front.now no_form c.sound_at-in-Refused.result c.sound_at-in-Refused.ensures.exact c.sound_at-in-Refused.ensures.more;
+      before = dsf_wanted c.args.front.now no_form c.sound_at-in-Refused.result c.sound_at-in-Refused.ensures.more;
+    }
 
 pub returns-in_default : goal.returns-in_default
 returns-in_default c =

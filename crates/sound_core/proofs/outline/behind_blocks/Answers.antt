@@ -1,6 +1,6 @@
 use Rattle.std.proofs.Common.{◌≡◌, ◌+◌, ◌-◌, ◌∙◌, Some, arith, length, refl, subst}
-use Rattle.std.proofs.lemmas.Result.{err_from_is_err_and}
 use Rattle.dsf_core.specs.Fronts.{TellsOutline}
+use Rattle.sound_core.proofs.FaultLaws.{fault_is}
 use Rattle.sound_core.proofs.BehindLaws.{blocks_around, blocks_refused, tag_fault}
 use Rattle.sound_core.proofs.ClosingLaws.{ends, has_order}
 use Rattle.sound_core.proofs.ReaderLaws.{counts_ok, counts_refused, counts_want, same_counts}
@@ -25,8 +25,7 @@ outline-requires-clause-not_cut g c = omega (arith, c.given.ensures, c.read_tag.
 pub returns-in_err-gap : goal.returns-in_err-gap
 returns-in_err-gap g c =
     let told = has_order c.args.sound.now.interleaving c.requires.interleaving in
-    let e = err_from_is_err_and c.from_residual.result c.from_residual.ensures.1 in
-    rw (e.1, e.2) (record {
+    rw (fault_is c.from_residual.result _ c.from_residual.ensures.1) (record {
       same = c.read_tag.ensures.same;
       ok = tt;
       counts = same_counts c.args.reader.now c.read_tag.new.reader c.in_err-gap.field-0.0 c.in_err-gap.ensures.counts;
@@ -35,8 +34,7 @@ returns-in_err-gap g c =
 
 pub returns-in_err-tag : goal.returns-in_err-tag
 returns-in_err-tag g c =
-    let e = err_from_is_err_and c.from_residual-in_err-tag.result c.from_residual-in_err-tag.ensures.1 in
-    rw (e.1, e.2) (record {
+    rw (fault_is c.from_residual-in_err-tag.result _ c.from_residual-in_err-tag.ensures.1) (record {
       same = c.read_tag.ensures.same;
       ok = tt;
       counts = counts_want c.args.reader.now c.args.reader.now c.read_tag.new.reader c.in_ok-gap.gap refl refl c.in_ok-gap.ensures.counts;
@@ -45,8 +43,7 @@ returns-in_err-tag g c =
 
 pub returns-in_err-recording : goal.returns-in_err-recording
 returns-in_err-recording g c =
-    let e = err_from_is_err_and c.from_residual-in_err-recording.result c.from_residual-in_err-recording.ensures.1 in
-    rw (e.1, e.2) (record {
+    rw (fault_is c.from_residual-in_err-recording.result _ c.from_residual-in_err-recording.ensures.1) (record {
       same = c.read_tag.ensures.same;
       ok = tt;
       counts = counts_want c.args.reader.now c.args.reader.now c.read_tag.new.reader c.in_ok-gap.gap refl refl c.in_ok-gap.ensures.counts;

@@ -1,21 +1,18 @@
 use Rattle.std.proofs.Common.{IfErr, IfOk, arith, subst}
-use Rattle.std.proofs.lemmas.Result.{err_from_is_err_and}
 use Rattle.device_core.specs.Inlets.{inlet_reader}
 use Rattle.sound_core.specs.Outlines.{IsOutlineFault, SurroundsFile, around_of}
-use Rattle.sound_core.proofs.FaultLaws.{memory_no_turn}
+use Rattle.sound_core.proofs.FaultLaws.{fault_is, memory_no_turn}
 use Rattle.sound_core.proofs.outline.read_outline.Goals as goal
 
-pub returns-in_err-block-clause-ok : goal.returns-in_err-block-clause-ok
-returns-in_err-block-clause-ok g c = let e = err_from_is_err_and c.from_residual.result c.from_residual.ensures.1 in rw e.1 tt
-
-pub returns-in_err-block-clause-fault : goal.returns-in_err-block-clause-fault
-returns-in_err-block-clause-fault g c = let e = err_from_is_err_and c.from_residual.result c.from_residual.ensures.1 in rw (e.1, e.2) tt
-
-pub returns-in_err-block-clause-read_failed : goal.returns-in_err-block-clause-read_failed
-returns-in_err-block-clause-read_failed g c = let e = err_from_is_err_and c.from_residual.result c.from_residual.ensures.1 in rw (e.1, e.2) (omega arith)
-
-pub returns-in_err-block-clause-turn_limit : goal.returns-in_err-block-clause-turn_limit
-returns-in_err-block-clause-turn_limit g c = let e = err_from_is_err_and c.from_residual.result c.from_residual.ensures.1 in rw (e.1, e.2) (λ turn. memory_no_turn turn)
+pub returns-in_err-block : goal.returns-in_err-block
+returns-in_err-block g c =
+    rw (fault_is c.from_residual.result _ c.from_residual.ensures.1) (record {
+      ok = tt;
+      fault = tt;
+      read_failed = omega arith;
+      reads = omega arith;
+      turn_limit = λ turn. memory_no_turn turn;
+    })
 
 pub new-requires : goal.new-requires
 new-requires g c = record {

@@ -1,5 +1,5 @@
 use Rattle.std.proofs.Common.{refl}
-use Rattle.std.proofs.lemmas.Result.{err_from_is_err_and}
+use Rattle.sound_core.proofs.FaultLaws.{fault_is}
 use Rattle.sound_core.proofs.ReaderLaws.{counts_kept, same_counts, same_on}
 use Rattle.sound_core.proofs.outline.read_rest.Goals as goal
 
@@ -12,30 +12,19 @@ read_behind-requires g c = record {
   given = rw c.deref.ensures.value c.requires.given;
 }
 
-pub returns-in_err-behind-clause-same : goal.returns-in_err-behind-clause-same
-returns-in_err-behind-clause-same g c = c.read_behind.ensures.same
+pub returns-in_err-behind : goal.returns-in_err-behind
+returns-in_err-behind g c =
+    rw (fault_is c.from_residual.result _ c.from_residual.ensures.1) (record {
+      same = c.read_behind.ensures.same;
+      ok = tt;
+      counts = same_counts c.args.reader.now c.read_behind.new.reader c.in_err-behind.field-0.0 c.in_err-behind.ensures.counts;
+      fault = rw (← c.deref.ensures.value) c.in_err-behind.ensures.fault;
+    })
 
-pub returns-in_err-behind-clause-ok : goal.returns-in_err-behind-clause-ok
-returns-in_err-behind-clause-ok g c = let e = err_from_is_err_and c.from_residual.result c.from_residual.ensures.1 in rw e.1 tt
-
-pub returns-in_err-behind-clause-counts : goal.returns-in_err-behind-clause-counts
-returns-in_err-behind-clause-counts g c =
-    let e = err_from_is_err_and c.from_residual.result c.from_residual.ensures.1 in
-    rw (e.1, e.2) (same_counts c.args.reader.now c.read_behind.new.reader c.in_err-behind.field-0.0 c.in_err-behind.ensures.counts)
-
-pub returns-in_err-behind-clause-fault : goal.returns-in_err-behind-clause-fault
-returns-in_err-behind-clause-fault g c =
-    let e = err_from_is_err_and c.from_residual.result c.from_residual.ensures.1 in
-    rw (e.1, e.2, ← c.deref.ensures.value) c.in_err-behind.ensures.fault
-
-pub returns-clause-same : goal.returns-clause-same
-returns-clause-same g c = same_on c.args.reader.now c.read_behind.new.reader c.take_ahead-back.new.self c.read_behind.ensures.same c.take_ahead-back.ensures.same
-
-pub returns-clause-ok : goal.returns-clause-ok
-returns-clause-ok g c = (refl, refl, rw (c.take_ahead-back.ensures.untouched, c.take_ahead-back.ensures.taken, ← c.deref.ensures.value) c.in_ok-behind.ensures.ok)
-
-pub returns-clause-counts : goal.returns-clause-counts
-returns-clause-counts g c = counts_kept c.args.reader.now c.read_behind.new.reader c.take_ahead-back.new.self _ _ c.take_ahead-back.ensures.untouched c.in_ok-behind.ensures.counts
-
-pub returns-clause-fault : goal.returns-clause-fault
-returns-clause-fault g c = tt
+pub returns : goal.returns
+returns g c = record {
+  same = same_on c.args.reader.now c.read_behind.new.reader c.take_ahead-back.new.self c.read_behind.ensures.same c.take_ahead-back.ensures.same;
+  ok = (refl, refl, rw (c.take_ahead-back.ensures.untouched, c.take_ahead-back.ensures.taken, ← c.deref.ensures.value) c.in_ok-behind.ensures.ok);
+  counts = counts_kept c.args.reader.now c.read_behind.new.reader c.take_ahead-back.new.self _ _ c.take_ahead-back.ensures.untouched c.in_ok-behind.ensures.counts;
+  fault = tt;
+}

@@ -1,7 +1,6 @@
 use Rattle.std.proofs.Common.{◌-◌, arith, refl}
-use Rattle.std.proofs.lemmas.Result.{err_from_is_err_and}
 use Rattle.device_core.specs.Inlets.{inlet_reader}
-use Rattle.sound_core.proofs.FaultLaws.{early_tag, pass_in_tag, reading_in_tag}
+use Rattle.sound_core.proofs.FaultLaws.{early_tag, fault_is, pass_in_tag, reading_in_tag}
 use Rattle.sound_core.proofs.OutlineLaws.{tag_none, tag_some}
 use Rattle.sound_core.proofs.ReaderLaws.{counts_later, counts_none_refused, counts_ok, same_counts, same_on, same_self}
 use Rattle.sound_core.proofs.outline.read_tag.Goals as goal
@@ -17,8 +16,7 @@ read_all-requires g c = record { reading = c.in_ok-pass.ensures.reading }
 
 pub returns-in_err-read_to_end : goal.returns-in_err-read_to_end
 returns-in_err-read_to_end g c =
-    let e = err_from_is_err_and c.from_residual.result c.from_residual.ensures.1 in
-    rw (e.1, e.2) (record {
+    rw (fault_is c.from_residual.result _ c.from_residual.ensures.1) (record {
       same = c.read_to_end.ensures.same;
       ok = tt;
       counts = same_counts c.args.reader.now c.read_to_end.new.self c.in_err-read_to_end.field-0.0 c.in_err-read_to_end.ensures.counts;
@@ -47,8 +45,7 @@ returns-then-place-stop g c =
 
 pub returns-in_err-pass : goal.returns-in_err-pass
 returns-in_err-pass g c =
-    let e = err_from_is_err_and c.from_residual-in_err-pass.result c.from_residual-in_err-pass.ensures.1 in
-    rw (e.1, e.2) (record {
+    rw (fault_is c.from_residual-in_err-pass.result _ c.from_residual-in_err-pass.ensures.1) (record {
       same = c.pass.ensures.same;
       ok = tt;
       counts = same_counts c.args.reader.now c.pass.new.self c.in_err-pass.field-0.0 c.in_err-pass.ensures.counts;
@@ -57,8 +54,7 @@ returns-in_err-pass g c =
 
 pub returns-in_err-read_all : goal.returns-in_err-read_all
 returns-in_err-read_all g c =
-    let e = err_from_is_err_and c.from_residual-in_err-read_all.result c.from_residual-in_err-read_all.ensures.1 in
-    rw (e.1, e.2) (record {
+    rw (fault_is c.from_residual-in_err-read_all.result _ c.from_residual-in_err-read_all.ensures.1) (record {
       same = same_on c.args.reader.now c.pass.new.self c.read_all.new.self c.pass.ensures.same c.read_all.ensures.same;
       ok = tt;
       counts = counts_later c.args.reader.now c.pass.new.self c.read_all.new.self c.in_err-read_all.field-0.0 c.pass.ensures.same.limit (omega (arith, c.in_ok-pass.ensures.counts.failures)) c.in_err-read_all.ensures.counts;

@@ -1,10 +1,9 @@
 use Rattle.std.proofs.Common.{◌≤◌, ◌+◌, ◌^◌, ◌∙◌, IfErr, IfOk, ap, arith, refl, subst, sym}
-use Rattle.std.proofs.lemmas.Result.{err_from_is_err_and}
 use Rattle.device_core.specs.Inlets.{inlet_failures, inlet_reader, inlet_reads}
 use Rattle.sound_core.specs.Faults.{failed_reads}
 use Rattle.sound_core.specs.Outlines.{IsOutlineFault, around_of}
 use Rattle.sound_core.specs.Sinks.{TakesFile, TakesGiven}
-use Rattle.sound_core.proofs.FaultLaws.{memory_no_turn}
+use Rattle.sound_core.proofs.FaultLaws.{fault_is, memory_no_turn}
 use Rattle.sound_core.proofs.taking.read_into.Goals as goal
 
 pub new-requires : goal.new-requires
@@ -21,8 +20,7 @@ take_file-requires g c = c.new.ensures.start
 
 pub returns-in_err-block : goal.returns-in_err-block
 returns-in_err-block g c =
-    let e = err_from_is_err_and c.from_residual.result c.from_residual.ensures.1 in
-    rw (e.1, e.2) (record {
+    rw (fault_is c.from_residual.result _ c.from_residual.ensures.1) (record {
       ok = tt;
       any_reader = tt;
       source = tt;

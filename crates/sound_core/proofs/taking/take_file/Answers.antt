@@ -1,5 +1,5 @@
 use Rattle.std.proofs.Common.{◌∙◌, ◌++◌, ap, arith, refl, subst, sym}
-use Rattle.std.proofs.lemmas.Result.{IfErr-weaker, IfOk-weaker, err_from_is_err_and}
+use Rattle.std.proofs.lemmas.Result.{IfErr-weaker, IfOk-weaker}
 use Rattle.device_core.specs.Inlets.{inlet_failures, inlet_reader}
 use Rattle.dsd_bits.specs.declared.sound.Sound.{Sound}
 use Rattle.sound_core.specs.Outlines.{around_of}
@@ -8,7 +8,7 @@ use Rattle.sound_core.specs.Reads.{Reads}
 use Rattle.sound_core.proofs.BehindLaws.{at_sound, file_stands, given_is, given_stands, pass_stands, rest_stands}
 use Rattle.sound_core.proofs.TakingLaws.{fed_none, file_taken}
 use Rattle.sound_core.proofs.taking.take_file.Given.{Over}
-use Rattle.sound_core.proofs.FaultLaws.{front_in_outline}
+use Rattle.sound_core.proofs.FaultLaws.{fault_is, front_in_outline}
 use Rattle.sound_core.proofs.ReaderLaws.{counts_from, counts_later, counts_memory, same_counts, same_on}
 use Rattle.sound_core.proofs.taking.take_file.Goals as goal
 use Rattle.sound_core.proofs.taking.take_file.Goals.{In_ok-head, In_ok-take_sound}
@@ -79,8 +79,7 @@ read_rest-requires-clause-given g c =
 pub returns-in_err-sound : goal.returns-in_err-sound
 returns-in_err-sound g c =
     let f = c.in_err-sound.field-0.0 in
-    let e = err_from_is_err_and c.from_residual.result c.from_residual.ensures.1 in
-    rw (e.1, e.2) (record {
+    rw (fault_is c.from_residual.result _ c.from_residual.ensures.1) (record {
       same = c.read_front.ensures.same;
       ok = tt;
       any_reader = tt;
@@ -92,8 +91,7 @@ returns-in_err-sound g c =
 
 pub returns-in_err-head : goal.returns-in_err-head
 returns-in_err-head g c =
-    let e = err_from_is_err_and c.from_residual-in_err-head.result c.from_residual-in_err-head.ensures.1 in
-    rw (e.1, e.2, c.in_err-head.ensures.fault) (record {
+    rw (fault_is c.from_residual-in_err-head.result _ c.from_residual-in_err-head.ensures.1, c.in_err-head.ensures.fault) (record {
       same = same_on c.args.reader.now c.read_front.new.reader c.take_head.new.self c.read_front.ensures.same c.take_head.ensures.same;
       ok = tt;
       any_reader = tt;
@@ -105,8 +103,7 @@ returns-in_err-head g c =
 
 pub returns-in_err-begin : goal.returns-in_err-begin
 returns-in_err-begin g c =
-    let e = err_from_is_err_and c.from_residual-in_err-begin.result c.from_residual-in_err-begin.ensures.1 in
-    rw (e.1, e.2) (record {
+    rw (fault_is c.from_residual-in_err-begin.result _ c.from_residual-in_err-begin.ensures.1) (record {
       same = same_on c.args.reader.now c.read_front.new.reader c.take_head.new.self c.read_front.ensures.same c.take_head.ensures.same;
       ok = tt;
       any_reader = tt;
@@ -120,8 +117,7 @@ pub returns-in_err-take_sound : goal.returns-in_err-take_sound
 returns-in_err-take_sound g c =
     let k = (goal.at.returns-in_err-take_sound g c).In_ok-head in
     let f = c.in_err-take_sound.field-0.0 in
-    let e = err_from_is_err_and c.from_residual-in_err-take_sound.result c.from_residual-in_err-take_sound.ensures.1 in
-    rw (e.1, e.2) (record {
+    rw (fault_is c.from_residual-in_err-take_sound.result _ c.from_residual-in_err-take_sound.ensures.1) (record {
       same = same_on c.args.reader.now c.take_head.new.self c.take_sound.new.reader (same_on c.args.reader.now c.read_front.new.reader c.take_head.new.self c.read_front.ensures.same c.take_head.ensures.same) c.take_sound.ensures.same;
       ok = tt;
       any_reader = tt;

@@ -1,12 +1,11 @@
 use Rattle.std.proofs.Common.{◌≡◌, ◌<◌, ◌++◌, ◌∙◌, ap, ap₂, arith, inl, inr, length, length-take, refl, subst, sym, take, take-append-drop}
-use Rattle.std.proofs.lemmas.Result.{err_from_is_err_and}
 use Rattle.std.proofs.KnownBytes.{Consumes-whole}
 use Rattle.device_core.specs.Inlets.{inlet_reader}
 use Rattle.dsd_bits.specs.declared.sound.Sound.{Sound}
 use Rattle.dsd_bits.specs.Sounds.{sound_size}
 use Rattle.sound_core.specs.Reads.{Reads}
 use Rattle.sound_core.proofs.taking.take_groups.Given.{Over}
-use Rattle.sound_core.proofs.FaultLaws.{reading_in_pass}
+use Rattle.sound_core.proofs.FaultLaws.{fault_is, reading_in_pass}
 use Rattle.sound_core.proofs.ReaderLaws.{counts_kept, counts_refused, counts_want, same_counts, same_on}
 use Rattle.sound_core.proofs.taking.take_groups.Goals as goal
 use Rattle.sound_core.proofs.taking.take_groups.Goals.{After-split_at}
@@ -54,8 +53,7 @@ drop_ahead-requires g c = record { within = omega (arith, c.if-len-size.false, c
 pub returns-in_err-read_until : goal.returns-in_err-read_until
 returns-in_err-read_until g c =
     let f = c.in_err-read_until.field-0.0 in
-    let e = err_from_is_err_and c.from_residual.result c.from_residual.ensures.1 in
-    rw (e.1, e.2) (record {
+    rw (fault_is c.from_residual.result _ c.from_residual.ensures.1) (record {
       same = c.read_until.ensures.same;
       reading = tt;
       ok = tt;
@@ -83,8 +81,7 @@ returns-then-len-size g c =
 
 pub returns-in_err-take : goal.returns-in_err-take
 returns-in_err-take g c =
-    let e = err_from_is_err_and c.from_residual-in_err-take.result c.from_residual-in_err-take.ensures.1 in
-    rw (e.1, e.2) (record {
+    rw (fault_is c.from_residual-in_err-take.result _ c.from_residual-in_err-take.ensures.1) (record {
       same = c.read_until.ensures.same;
       reading = tt;
       ok = tt;

@@ -1,6 +1,6 @@
 use Rattle.std.proofs.Common.{◌≡◌, ◌+◌, ◌-◌, ◌%◌, ◌≤◌, ◌⊎◌, ◌∙◌, inl, inr, arith, refl}
-use Rattle.std.proofs.lemmas.Result.{err_from_is_err_and}
 use Rattle.relace_core.proofs.GroupLaws.{last_groups}
+use Rattle.sound_core.proofs.FaultLaws.{fault_is}
 use Rattle.sound_core.proofs.ReaderLaws.{counts_later, counts_so_far, same_on, same_self}
 use Rattle.sound_core.proofs.TakingLaws.{some_all, some_fault, some_fed, some_none, some_on}
 use Rattle.sound_core.proofs.taking.take_sound.Given.{Over}
@@ -64,8 +64,7 @@ pub returns-in_err-take_groups : goal.returns-in_err-take_groups
 returns-in_err-take_groups g c =
     let so_far = c.loop-done.invariant in
     let at = (goal.at.returns-in_err-take_groups g c).After-min-bits in
-    let e = err_from_is_err_and c.from_residual.result c.from_residual.ensures.1 in
-    rw (e.1, e.2) (record {
+    rw (fault_is c.from_residual.result _ c.from_residual.ensures.1) (record {
       same = same_on c.args.reader.now c.loop-done.reader c.take_groups.new.reader c.loop-done.invariant.2 c.take_groups.ensures.same;
       reading = tt;
       ok = tt;

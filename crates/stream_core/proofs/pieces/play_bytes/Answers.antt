@@ -1,17 +1,15 @@
 use Rattle.std.proofs.Common.{ℕ, ◌++◌, ◌+◌, ◌∙◌, ap, arith, length, length-take, subst, sym}
-use Rattle.std.proofs.lemmas.Result.{err_from_is_err_and}
 use Rattle.device_core.specs.Outlets.{outlet_failures, outlet_writer}
 use Rattle.stream_core.specs.Pieces.{PutsDue, PutsFrontOf}
 use Rattle.stream_core.proofs.PieceLaws.{as_dropped, as_taken, due_front}
-use Rattle.stream_core.proofs.FaultLaws.{same_writes}
+use Rattle.stream_core.proofs.FaultLaws.{fault_is, same_writes}
 use Rattle.stream_core.proofs.pieces.play_bytes.Goals as goal
 
 pub returns-in_err-put_due : goal.returns-in_err-put_due
 returns-in_err-put_due g c =
     let piece = as_taken c.args.wanted _ c.args.bytes.now _ c.min-number.ensures c.split_at.ensures.front in
     let f = c.in_err-put_due.field-0.0 in
-    let e = err_from_is_err_and c.from_residual.result c.from_residual.ensures.1 in
-    rw (e.1, e.2) (record {
+    rw (fault_is c.from_residual.result _ c.from_residual.ensures.1) (record {
       player = tt;
       same = tt;
       number = tt;
@@ -27,8 +25,7 @@ returns-in_err-extend_from_slice g c =
     let piece = as_taken c.args.wanted _ c.args.bytes.now _ c.min-number.ensures c.split_at.ensures.front in
     let a = g.W.Write.contents (outlet_writer c.args.outlet.now) in
     let b = g.W.Write.contents (outlet_writer c.put_due.new.outlet) in
-    let e = err_from_is_err_and c.from_residual-in_err-extend_from_slice.result c.from_residual-in_err-extend_from_slice.ensures.1 in
-    rw (e.1, e.2) (record {
+    rw (fault_is c.from_residual-in_err-extend_from_slice.result _ c.from_residual-in_err-extend_from_slice.ensures.1) (record {
       player = tt;
       same = tt;
       number = tt;

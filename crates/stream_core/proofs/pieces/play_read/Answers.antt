@@ -1,20 +1,19 @@
 use Rattle.std.proofs.Common.{ℕ, Err, add-zero, sym, ◌<◌, take, length, length-take, ap, ◌≤◌, ◌∙◌, arith, refl, subst}
-use Rattle.std.proofs.lemmas.Result.{IfErr-weaker, IfOk-weaker, err_from_is_err_and, on_err_weaker, on_ok_weaker}
+use Rattle.std.proofs.lemmas.Result.{IfErr-weaker, IfOk-weaker, on_err_weaker, on_ok_weaker}
 use Rattle.std.proofs.KnownBytes.{Consumes-whole}
 use Rattle.device_core.specs.Inlets.{inlet_reader}
 use Rattle.device_core.specs.Outlets.{outlet_writer}
 use Rattle.stream_core.specs.Pieces.{PutsFrontOf}
 use Rattle.sound_core.proofs.ReaderLaws.{counts_refused}
 use Rattle.stream_core.proofs.PieceLaws.{none_left, part_left, read_played, some_taken}
-use Rattle.stream_core.proofs.FaultLaws.{counts_writing, reading_in_piece, unwritten, writing_goes_on, writing_in_piece}
+use Rattle.stream_core.proofs.FaultLaws.{counts_writing, fault_is, reading_in_piece, unwritten, writing_goes_on, writing_in_piece}
 use Rattle.stream_core.proofs.pieces.play_read.Goals as goal
 
 pub returns-in_err-count : goal.returns-in_err-count
 returns-in_err-count g c =
     let left = g.R.Read.remaining (inlet_reader c.args.reader.now.inlet.now) in
     let f = c.in_err-count.field-0.0 in
-    let e = err_from_is_err_and c.from_residual.result c.from_residual.ensures.1 in
-    rw (e.1, e.2) (record {
+    rw (fault_is c.from_residual.result _ c.from_residual.ensures.1) (record {
       same_reader = c.pull.ensures.same;
       reading = tt;
       some = tt;

@@ -1,11 +1,10 @@
 use Rattle.std.proofs.Common.{◌≡◌, ℕ, ◌+◌, ◌-◌, ◌<◌, ◌∙◌, add-zero, ap, arith, subst, sym, refl}
-use Rattle.std.proofs.lemmas.Result.{err_from_is_err_and}
 use Rattle.device_core.specs.Outlets.{outlet_writer}
 use Rattle.dsd_bits.specs.declared.sound.Sound.{Sound}
 use Rattle.stream_core.specs.Pieces.{PlaysPart}
 use Rattle.stream_core.proofs.PaceLaws.{part_given}
 use Rattle.sound_core.proofs.ReaderLaws.{counts_later, counts_so_far, same_on, same_self}
-use Rattle.stream_core.proofs.FaultLaws.{writes_later}
+use Rattle.stream_core.proofs.FaultLaws.{fault_is, writes_later}
 use Rattle.stream_core.proofs.RestLaws.{part_fault, part_front, part_more, part_none}
 use Rattle.stream_core.proofs.pieces.play_rest.Goals as goal
 
@@ -57,8 +56,7 @@ returns-in_err-left g c =
     let size : c.loop-left.left + (c.args.wanted - c.loop-left.left) ≡ c.args.wanted = omega (arith, so_far.1) in
     let some : c.args.wanted - c.loop-left.left < c.args.wanted = omega (arith, so_far.1, c.loop-left-test.true) in
     let f = c.in_err-left.field-0.0 in
-    let e = err_from_is_err_and c.from_residual.result c.from_residual.ensures.1 in
-    rw (e.1, e.2) (record {
+    rw (fault_is c.from_residual.result _ c.from_residual.ensures.1) (record {
       same_reader = same_on c.args.reader.now c.loop-left.reader c.play_read.new.reader so_far.7 c.play_read.ensures.same_reader;
       reading = tt;
       player = tt;

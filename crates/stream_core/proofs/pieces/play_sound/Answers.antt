@@ -1,5 +1,5 @@
 use Rattle.std.proofs.Common.{◌≡◌, ◌≤◌, ℕ, List, Err, ◌++◌, ◌+◌, ◌-◌, add-zero, ◌∙◌, drop, take, length, length-take, ap, arith, sym, subst}
-use Rattle.std.proofs.lemmas.Result.{IfErr-weaker, err_from_is_err_and, on_err_weaker, on_ok_weaker}
+use Rattle.std.proofs.lemmas.Result.{IfErr-weaker, on_err_weaker, on_ok_weaker}
 use Rattle.device_core.specs.Inlets.{inlet_failures, inlet_given, inlet_reader, inlet_reads}
 use Rattle.device_core.specs.Outlets.{outlet_failures, outlet_writer}
 use Rattle.dsd_bits.specs.declared.sound.Sound.{Sound}
@@ -9,9 +9,9 @@ use Rattle.sound_core.proofs.ReaderLaws.{counts_later}
 use Rattle.stream_core.specs.Pace.{PlaysGivenPart, PlaysGivenSound}
 use Rattle.stream_core.specs.Pieces.{IsPieceFault, IsSoundFault, PlaysFront, PlaysPart, PlaysSound, PutsDue, PutsFrontLeft, PutsFrontOf}
 use Rattle.stream_core.proofs.PaceLaws.{sound_so_far}
-use Rattle.stream_core.proofs.SoundLaws.{ahead_front, end_front, front_of_none, rest_fault, rest_front, said, sound_played}
+use Rattle.stream_core.proofs.SoundLaws.{ahead_front, all_fed, end_front, front_of_none, rest_fault, rest_front, said, sound_played}
 use Rattle.stream_core.proofs.pieces.play_sound.Given.{Over}
-use Rattle.stream_core.proofs.FaultLaws.{counts_writing, counts_written, same_writes, writes_later, writing_goes_on, writing_in_sound}
+use Rattle.stream_core.proofs.FaultLaws.{counts_writing, counts_written, fault_is, same_writes, writes_later, writing_goes_on, writing_in_sound}
 use Rattle.stream_core.proofs.pieces.play_sound.Goals as goal
 use Rattle.stream_core.proofs.pieces.play_sound.Goals.{After-deref, After-put_rest}
 
@@ -61,7 +61,7 @@ put_rest-requires g c =
     let later = c.in_ok-play_rest.ensures in
     record {
       player = later.player;
-      all = omega (arith, made.2, first.same.2, later.same.2, first.number, length-take c.args.sound.now.size c.deref.result.now, ap (λ (s : Sound). s.size) later.same.1, ap (λ (s : Sound). s.size) first.same.1, ap (λ (s : Sound). s.size) made.1);
+      all = all_fed c.deref.result.now made.2 first.same.2 later.same.2 first.number made.1 first.same.1 later.same.1;
       ready = omega (arith, later.write_failed, first.failures, c.requires.outlet_ready);
     }
 
@@ -69,8 +69,7 @@ put_rest-requires g c =
 pub returns-in_err-player : goal.returns-in_err-player
 returns-in_err-player g c =
     let untouched = c.take_ahead-ahead.ensures.untouched in
-    let e = err_from_is_err_and c.from_residual.result c.from_residual.ensures.1 in
-    rw (e.1, e.2) (record {
+    rw (fault_is c.from_residual.result _ c.from_residual.ensures.1) (record {
       same_reader = c.take_ahead-ahead.ensures.same;
       reading = tt;
       ok = tt;
@@ -92,8 +91,7 @@ returns-in_err-first g c =
     let same = c.take_ahead-ahead.ensures.same in
     let untouched = c.take_ahead-ahead.ensures.untouched in
     let f = c.in_err-first.field-0.0 in
-    let e = err_from_is_err_and c.from_residual-in_err-first.result c.from_residual-in_err-first.ensures.1 in
-    rw (e.1, e.2) (record {
+    rw (fault_is c.from_residual-in_err-first.result _ c.from_residual-in_err-first.ensures.1) (record {
       same_reader = record { reference = same.reference; given = same.given; limit = same.limit };
       reading = tt;
       ok = tt;
@@ -122,8 +120,7 @@ returns-in_err-play_rest g c =
     let wanted : c.args.sound.now.size - c.in_ok-first.first ≡ p.sound.size - length (take p.sound.size ahead) = omega (arith, number, ap (λ (s : Sound). s.size) made.1) in
     let puts = subst (λ (s : Sound). PutsDue p q (take s.size ahead) a b) (sym made.1) c.in_ok-first.ensures.ok in
     let f = c.in_err-play_rest.field-0.0 in
-    let e = err_from_is_err_and c.from_residual-in_err-play_rest.result c.from_residual-in_err-play_rest.ensures.1 in
-    rw (e.1, e.2) (record {
+    rw (fault_is c.from_residual-in_err-play_rest.result _ c.from_residual-in_err-play_rest.ensures.1) (record {
       same_reader = record { reference = c.play_rest.ensures.same_reader.reference ∙ c.take_ahead-ahead.ensures.same.reference; given = c.play_rest.ensures.same_reader.given ∙ c.take_ahead-ahead.ensures.same.given; limit = c.play_rest.ensures.same_reader.limit ∙ c.take_ahead-ahead.ensures.same.limit };
       reading = tt;
       ok = tt;
@@ -149,7 +146,7 @@ returns g c =
     let a = g.W.Write.contents (outlet_writer c.args.outlet.now) in
     let e = g.W.Write.contents (outlet_writer c.put_rest.new.outlet) in
     let is = ahead_is g at.After-deref in
-    let all : c.play_rest.new.player.fed ≡ c.play_rest.new.player.sound.size = omega (arith, made.2, same.2, later.2, c.in_ok-first.ensures.number, ap (λ (s : Sound). s.size) made.1, ap (λ (s : Sound). s.size) same.1, ap (λ (s : Sound). s.size) later.1, length-take c.args.sound.now.size c.deref.result.now) in
+    let all : c.play_rest.new.player.fed ≡ c.play_rest.new.player.sound.size = all_fed c.deref.result.now made.2 same.2 later.2 c.in_ok-first.ensures.number made.1 same.1 later.1 in
     record {
       same_reader = record { reference = c.play_rest.ensures.same_reader.reference ∙ c.take_ahead-ahead.ensures.same.reference; given = c.play_rest.ensures.same_reader.given ∙ c.take_ahead-ahead.ensures.same.given; limit = c.play_rest.ensures.same_reader.limit ∙ c.take_ahead-ahead.ensures.same.limit };
       reading = on_ok_weaker c.put_rest.result (λ rest. c.in_ok-play_rest.ensures.reading) c.put_rest.ensures.ok;

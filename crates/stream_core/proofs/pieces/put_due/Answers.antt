@@ -1,13 +1,13 @@
 use Rattle.std.proofs.Common.{◌≡◌, add-zero, refl, sym}
-use Rattle.std.proofs.lemmas.Result.{err_from_is_err_and, on_err_weaker, on_ok_weaker}
+use Rattle.std.proofs.lemmas.Result.{on_err_weaker, on_ok_weaker}
 use Rattle.player_core.specs.PlayerView.{filter_of}
+use Rattle.stream_core.proofs.FaultLaws.{fault_is}
 use Rattle.stream_core.proofs.PieceLaws.{due_put, nothing_put, part_put}
 use Rattle.stream_core.proofs.pieces.put_due.Goals as goal
 
 pub returns-in_err-feed : goal.returns-in_err-feed
 returns-in_err-feed g c =
-    let e = err_from_is_err_and c.from_residual.result c.from_residual.ensures.1 in
-    rw (e.1, e.2) (record {
+    rw (fault_is c.from_residual.result _ c.from_residual.ensures.1) (record {
       player = tt;
       same = tt;
       ok = tt;

@@ -1,5 +1,4 @@
 use Rattle.std.proofs.Common.{◌≤◌, ◌+◌, ◌-◌, ◌^◌, ◌∙◌, [], IfErr, IfOk, add-zero, ap, arith, refl, subst, sym}
-use Rattle.std.proofs.lemmas.Result.{err_from_is_err_and}
 use Rattle.device_core.specs.Inlets.{inlet_failures, inlet_given, inlet_reader, inlet_reads}
 use Rattle.device_core.specs.Outlets.{outlet_writer}
 use Rattle.sound_core.specs.Faults.{StopsReading, failed_reads}
@@ -7,15 +6,14 @@ use Rattle.sound_core.specs.declared.fault.StreamFault.TheVariants.{Memory}
 use Rattle.sound_core.proofs.FaultLaws.{memory_no_turn}
 use Rattle.stream_core.specs.Pace.{KeepsUp}
 use Rattle.stream_core.specs.Playing.{PlaysBy, PlaysGiven}
-use Rattle.stream_core.proofs.FaultLaws.{front_stands}
+use Rattle.stream_core.proofs.FaultLaws.{fault_is, front_stands}
 use Rattle.stream_core.proofs.PlayLaws.{front_outside, none_front}
 use Rattle.stream_core.proofs.playing.play.Goals as goal
 
 pub returns-in_err-block : goal.returns-in_err-block
 returns-in_err-block g c =
     let left = g.R.Read.remaining (inlet_reader c.args.inlet.now) in
-    let e = err_from_is_err_and c.from_residual.result c.from_residual.ensures.1 in
-    rw (e.1, e.2) (record {
+    rw (fault_is c.from_residual.result _ c.from_residual.ensures.1) (record {
       ok = tt;
       any_reader = tt;
       fault = front_stands left c.args.taps.now Memory tt;

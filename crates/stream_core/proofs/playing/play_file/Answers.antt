@@ -1,5 +1,5 @@
 use Rattle.std.proofs.Common.{ℕ, Err, ◌-◌, ◌∙◌, arith, refl, subst, sym}
-use Rattle.std.proofs.lemmas.Result.{IfErr-weaker, IfOk-weaker, err_from_is_err_and, on_err_weaker}
+use Rattle.std.proofs.lemmas.Result.{IfErr-weaker, IfOk-weaker, on_err_weaker}
 use Rattle.device_core.specs.Inlets.{inlet_given, inlet_reader}
 use Rattle.device_core.specs.Outlets.{outlet_writer}
 use Rattle.stream_core.specs.Pace.{KeepsUp}
@@ -7,7 +7,7 @@ use Rattle.stream_core.proofs.PaceLaws.{keeps_file, keeps_front}
 use Rattle.stream_core.specs.Playing.{PlaysBy}
 use Rattle.stream_core.proofs.PlayLaws.{found_front, found_outside, found_stands, front_outside, none_front, plays_file, plays_given}
 use Rattle.sound_core.proofs.ReaderLaws.{counts_from, same_counts, same_on}
-use Rattle.stream_core.proofs.FaultLaws.{front_stands, front_unwritten}
+use Rattle.stream_core.proofs.FaultLaws.{fault_is, front_stands, front_unwritten}
 use Rattle.stream_core.proofs.playing.play_file.Goals as goal
 
 pub play_found-requires : goal.play_found-requires
@@ -18,8 +18,7 @@ returns-in_err-sound g c =
     let left = g.R.Read.remaining (inlet_reader c.args.reader.now.inlet.now) in
     let a = g.W.Write.contents (outlet_writer c.args.outlet.now) in
     let f = c.in_err-sound.field-0.0 in
-    let e = err_from_is_err_and c.from_residual.result c.from_residual.ensures.1 in
-    rw (e.1, e.2) (record {
+    rw (fault_is c.from_residual.result _ c.from_residual.ensures.1) (record {
       same = c.read_front.ensures.same;
       ok = tt;
       any_reader = tt;

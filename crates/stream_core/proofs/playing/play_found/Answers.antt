@@ -1,5 +1,4 @@
 use Rattle.std.proofs.Common.{◌≡◌, ◌≤◌, ◌∙◌, ◌+◌, ℕ, Err, add-zero, arith, refl, take, drop, sym, subst, ap, length}
-use Rattle.std.proofs.lemmas.Result.{err_from_is_err_and}
 use Rattle.device_core.specs.Inlets.{inlet_failures, inlet_given, inlet_reader, inlet_reads}
 use Rattle.device_core.specs.Outlets.{outlet_writer}
 use Rattle.sound_core.specs.Closing.{Closes, EndsAt}
@@ -10,7 +9,7 @@ use Rattle.stream_core.specs.Wave.{pad_of}
 use Rattle.sound_core.specs.declared.fault.StreamFault.TheVariants.{Memory}
 use Rattle.sound_core.proofs.ClosingLaws.{ends_at}
 use Rattle.sound_core.proofs.ReaderLaws.{counts_later, counts_ok, counts_refused, same_on}
-use Rattle.stream_core.proofs.FaultLaws.{counts_opening, counts_writing, counts_written, opening_goes_on, opening_stands, reading_later, reading_stands, sound_later, unwritten, writes_later, writing_goes_on, writing_later, writing_stands}
+use Rattle.stream_core.proofs.FaultLaws.{counts_opening, counts_writing, counts_written, fault_is, opening_goes_on, opening_stands, reading_later, reading_stands, sound_later, unwritten, writes_later, writing_goes_on, writing_later, writing_stands}
 use Rattle.stream_core.proofs.PaceLaws.{keeps_all, keeps_part}
 use Rattle.stream_core.proofs.PieceLaws.{front_nil}
 use Rattle.stream_core.proofs.PlayLaws.{given_is, header_part, none_front, not_closed, pad_part, plays_read, sound_part, sound_stands}
@@ -86,8 +85,7 @@ same_limit g c = c.play_sound.ensures.same_reader.limit ∙ c.take_head.ensures.
 pub returns-in_err-head : goal.returns-in_err-head
 returns-in_err-head g c =
     let left = g.R.Read.remaining (inlet_reader c.args.reader.now.inlet.now) in
-    let e = err_from_is_err_and c.from_residual.result c.from_residual.ensures.1 in
-    rw (e.1, e.2, c.in_err-head.ensures.fault) (record {
+    rw (fault_is c.from_residual.result _ c.from_residual.ensures.1, c.in_err-head.ensures.fault) (record {
       same = c.take_head.ensures.same;
       ok = tt;
       fault = reading_stands left c.args.taps.now c.args.reader.now.ahead.now.items Memory tt;
@@ -102,8 +100,7 @@ pub returns-in_err-put_header : goal.returns-in_err-put_header
 returns-in_err-put_header g c =
     let left = g.R.Read.remaining (inlet_reader c.args.reader.now.inlet.now) in
     let f = c.in_err-put_header.field-0.0 in
-    let e = err_from_is_err_and c.from_residual-in_err-put_header.result c.from_residual-in_err-put_header.ensures.1 in
-    rw (e.1, e.2) (record {
+    rw (fault_is c.from_residual-in_err-put_header.result _ c.from_residual-in_err-put_header.ensures.1) (record {
       same = c.take_head.ensures.same;
       ok = tt;
       fault = opening_stands left c.args.taps.now c.args.reader.now.ahead.now.items c.args.sound.now c.requires.tells f c.in_err-put_header.ensures.fault;
@@ -121,8 +118,7 @@ returns-in_err-play_sound g c =
     let b = g.W.Write.contents (outlet_writer c.put_header.new.outlet) in
     let d = g.W.Write.contents (outlet_writer c.play_sound.new.outlet) in
     let f = c.in_err-play_sound.field-0.0 in
-    let e = err_from_is_err_and c.from_residual-in_err-play_sound.result c.from_residual-in_err-play_sound.ensures.1 in
-    rw (e.1, e.2) (record {
+    rw (fault_is c.from_residual-in_err-play_sound.result _ c.from_residual-in_err-play_sound.ensures.1) (record {
       same = same_on _ _ _ c.take_head.ensures.same c.play_sound.ensures.same_reader;
       ok = tt;
       fault = sound_stands c.sound_is_played.ensures c.args.taps.now c.args.reader.now.ahead.now.items c.args.sound.now c.requires.tells left f (subst (λ xs. IsSoundFault left xs c.args.sound.now f) c.in_ok-head.ensures.rest (subst (λ i. IsSoundFault (g.R.Read.remaining (inlet_reader i)) c.take_head.new.self.ahead.now.items c.args.sound.now f) c.take_head.ensures.untouched c.in_err-play_sound.ensures.fault));
@@ -139,8 +135,7 @@ pub returns-in_err-closes : goal.returns-in_err-closes
 returns-in_err-closes g c =
     let at = goal.at.returns-in_err-closes g c in
     let f = c.in_err-closes.field-0.0 in
-    let e = err_from_is_err_and c.from_residual-in_err-closes.result c.from_residual-in_err-closes.ensures.1 in
-    rw (e.1, e.2) (record {
+    rw (fault_is c.from_residual-in_err-closes.result _ c.from_residual-in_err-closes.ensures.1) (record {
       same = same_on _ _ _ (same_on _ _ _ c.take_head.ensures.same c.play_sound.ensures.same_reader) c.closes.ensures.same;
       ok = tt;
       fault = reading_stands (g.R.Read.remaining (inlet_reader c.args.reader.now.inlet.now)) c.args.taps.now c.args.reader.now.ahead.now.items f c.in_err-closes.ensures.fault;
@@ -169,8 +164,7 @@ pub returns-in_err-put_pad : goal.returns-in_err-put_pad
 returns-in_err-put_pad g c =
     let at = goal.at.returns-in_err-put_pad g c in
     let f = c.in_err-put_pad.field-0.0 in
-    let e = err_from_is_err_and c.from_residual-in_err-put_pad.result c.from_residual-in_err-put_pad.ensures.1 in
-    rw (e.1, e.2) (record {
+    rw (fault_is c.from_residual-in_err-put_pad.result _ c.from_residual-in_err-put_pad.ensures.1) (record {
       same = same_on _ _ _ (same_on _ _ _ c.take_head.ensures.same c.play_sound.ensures.same_reader) c.closes.ensures.same;
       ok = tt;
       fault = writing_stands (g.R.Read.remaining (inlet_reader c.args.reader.now.inlet.now)) c.args.taps.now c.args.reader.now.ahead.now.items f c.in_err-put_pad.ensures.fault;

@@ -1,4 +1,5 @@
 use Rattle.std.proofs.Common.{Err, ap, ◌≤◌, ◌^◌, ◌∙◌, add-zero, refl, subst, sym}
+use Rattle.std.proofs.lemmas.Bool.{true≢false}
 use Rattle.std.proofs.lemmas.Result.{IfErr-weaker, on_err_weaker, on_ok_weaker}
 use Rattle.device_core.specs.Outlets.{AppendsFront, outlet_writer}
 use Rattle.wave_core.specs.Sizes.{riff_size}
@@ -15,7 +16,7 @@ returns-then-not-rate_fits g c = record {
   ok = tt;
   err = front_nil (g.W.Write.contents (outlet_writer c.args.outlet.now)) (header_of c.args.taps.now c.args.sound.now);
   least = tt;
-  fault = λ fits. (let does = c.rate_fits.ensures.1 fits in absurd cc);
+  fault = λ fits. absurd (true≢false (sym (c.rate_fits.ensures.1 fits) ∙ c.if-not-rate_fits.true));
   unwritten = λ early. refl;
   failures = sym (add-zero _);
 }

@@ -1,5 +1,5 @@
-use Rattle.std.proofs.lemmas.Result.{err_from_is_err_and}
 use Rattle.dsd_bits.proofs.ExitLaws.{no_value}
+use Rattle.transfer_core.proofs.StreamLaws.{fault_is}
 use Rattle.transfer_core.proofs.ReadingLaws.{file_unread, file_unwritten, text_converted}
 use Rattle.transfer_core.proofs.converting.convert.Goals as goal
 
@@ -30,13 +30,11 @@ returns-in_err-bytes-clause-kept c = no_value _ _ c.from_residual-in_err-bytes.r
 
 pub returns-in_err-opened-clause-exact : goal.returns-in_err-opened-clause-exact
 returns-in_err-opened-clause-exact c =
-    let e = err_from_is_err_and c.from_residual.result c.from_residual.ensures.1 in
-    rw (e.1, e.2) (file_unread c.args.file.now c.args.form c.in_err-opened.field-0.0 c.in_err-opened.ensures.exact)
+    rw (fault_is c.from_residual.result _ c.from_residual.ensures.1) (file_unread c.args.file.now c.args.form c.in_err-opened.field-0.0 c.in_err-opened.ensures.exact)
 
 pub returns-in_err-bytes-clause-exact : goal.returns-in_err-bytes-clause-exact
 returns-in_err-bytes-clause-exact c =
-    let e = err_from_is_err_and c.from_residual-in_err-bytes.result c.from_residual-in_err-bytes.ensures.1 in
-    rw (e.1, e.2) (file_unwritten c.args.file.now c.args.form c.in_ok-opened.opened c.in_ok-opened.ensures.exact c.in_err-bytes.field-0.0 c.in_err-bytes.ensures.refused)
+    rw (fault_is c.from_residual-in_err-bytes.result _ c.from_residual-in_err-bytes.ensures.1) (file_unwritten c.args.file.now c.args.form c.in_ok-opened.opened c.in_ok-opened.ensures.exact c.in_err-bytes.field-0.0 c.in_err-bytes.ensures.refused)
 
 pub returns-clause-found : goal.returns-clause-found
 returns-clause-found c = record {

@@ -1,11 +1,10 @@
 use Rattle.std.proofs.Common.{◌≡◌, ◌∙◌, Err, add-zero, ap, refl, sym}
-use Rattle.std.proofs.lemmas.Result.{err_from_is_err_and}
 use Rattle.device_core.specs.Inlets.{inlet_reader}
 use Rattle.device_core.specs.Outlets.{outlet_writer}
 use Rattle.sound_core.specs.Outlines.{around_of}
 use Rattle.form_core.specs.Parts.{head_in, tail_in}
 use Rattle.transfer_core.proofs.ConversionLaws.{converts_file, converts_front, converts_given, ends_stand, nothing_converted, relay_stands, stream_whole, writing_not_whole, writing_stream}
-use Rattle.transfer_core.proofs.StreamLaws.{answered, same_stream}
+use Rattle.transfer_core.proofs.StreamLaws.{answered, fault_is, same_stream}
 use Rattle.transfer_core.proofs.converting.convert_stream.Given.{Over}
 use Rattle.transfer_core.proofs.converting.convert_stream.Goals as goal
 use Rattle.transfer_core.proofs.converting.convert_stream.Goals.{After-relay}
@@ -23,8 +22,7 @@ returns-in_err-ends g c =
     let around = around_of c.args.outline.now in
     let before = g.W.Write.contents (outlet_writer c.args.outlet.now) in
     let f = c.in_err-ends.field-0.0 in
-    let e = err_from_is_err_and c.from_residual.result c.from_residual.ensures.1 in
-    rw (e.1, e.2) (record {
+    rw (fault_is c.from_residual.result _ c.from_residual.ensures.1) (record {
       ok = tt;
       any_reader = tt;
       front = nothing_converted left around c.args.form before;
@@ -43,8 +41,7 @@ returns-in_err-relay g c =
     let around = around_of c.args.outline.now in
     let before = g.W.Write.contents (outlet_writer c.args.outlet.now) in
     let f = c.in_err-relay.field-0.0 in
-    let e = err_from_is_err_and c.from_residual-in_err-relay.result c.from_residual-in_err-relay.ensures.1 in
-    rw (e.1, e.2) (record {
+    rw (fault_is c.from_residual-in_err-relay.result _ c.from_residual-in_err-relay.ensures.1) (record {
       ok = tt;
       any_reader = tt;
       front = converts_front c.written_in_parts.ensures around c.requires.told c.args.form c.in_ok-ends.ensures.fits (record { interleaving = c.interleaving_in.result; head = c.deref.result; tail = c.deref-2.result }) c.interleaving_in.ensures (head_is g at.After-relay) (tail_is g at.After-relay) left before (g.W.Write.contents (outlet_writer c.relay.new.outlet)) c.in_err-relay.ensures.front;

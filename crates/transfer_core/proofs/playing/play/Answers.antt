@@ -1,18 +1,16 @@
 use Rattle.std.proofs.Common.{inr}
-use Rattle.std.proofs.lemmas.Result.{err_from_is_err_and}
 use Rattle.dsd_bits.proofs.ExitLaws.{no_value}
+use Rattle.transfer_core.proofs.StreamLaws.{fault_is}
 use Rattle.transfer_core.proofs.ReadingLaws.{file_refused, project_refused, rate_not_divided, samples_refused, text_played}
 use Rattle.transfer_core.proofs.playing.play.Goals as goal
 
 pub returns-in_err-taps-clause-exact : goal.returns-in_err-taps-clause-exact
 returns-in_err-taps-clause-exact c =
-    let e = err_from_is_err_and c.from_residual.result c.from_residual.ensures.1 in
-    rw (e.1, e.2) (project_refused c.args.project.now c.args.file.now c.in_err-taps.field-0.0 c.in_err-taps.ensures.exact)
+    rw (fault_is c.from_residual.result _ c.from_residual.ensures.1) (project_refused c.args.project.now c.args.file.now c.in_err-taps.field-0.0 c.in_err-taps.ensures.exact)
 
 pub returns-in_err-recording-clause-exact : goal.returns-in_err-recording-clause-exact
 returns-in_err-recording-clause-exact c =
-    let e = err_from_is_err_and c.from_residual-in_err-recording.result c.from_residual-in_err-recording.ensures.1 in
-    rw (e.1, e.2) (file_refused c.args.project.now c.args.file.now c.in_ok-taps.taps c.in_ok-taps.ensures.exact c.in_err-recording.field-0.0 c.in_err-recording.ensures.exact)
+    rw (fault_is c.from_residual-in_err-recording.result _ c.from_residual-in_err-recording.ensures.1) (file_refused c.args.project.now c.args.file.now c.in_ok-taps.taps c.in_ok-taps.ensures.exact c.in_err-recording.field-0.0 c.in_err-recording.ensures.exact)
 
 pub returns-then-not-rate_fits-clause-found : goal.returns-then-not-rate_fits-clause-found
 returns-then-not-rate_fits-clause-found c = tt
@@ -24,8 +22,7 @@ returns-then-not-rate_fits-clause-exact c =
 
 pub returns-in_err-wave_of-clause-exact : goal.returns-in_err-wave_of-clause-exact
 returns-in_err-wave_of-clause-exact c =
-    let e = err_from_is_err_and c.from_residual-in_err-wave_of.result c.from_residual-in_err-wave_of.ensures.1 in
-    rw (e.1, e.2) (samples_refused c.args.project.now c.args.file.now c.in_ok-taps.taps c.in_ok-taps.ensures.exact c.in_ok-recording.field-0 c.in_ok-recording.ensures.exact (rw (← c.rate.ensures.value) (c.rate_fits.ensures.0 c.if-not-rate_fits.false)) c.in_err-wave_of.field-0.0 c.in_err-wave_of.ensures.too_large.0)
+    rw (fault_is c.from_residual-in_err-wave_of.result _ c.from_residual-in_err-wave_of.ensures.1) (samples_refused c.args.project.now c.args.file.now c.in_ok-taps.taps c.in_ok-taps.ensures.exact c.in_ok-recording.field-0 c.in_ok-recording.ensures.exact (rw (← c.rate.ensures.value) (c.rate_fits.ensures.0 c.if-not-rate_fits.false)) c.in_err-wave_of.field-0.0 c.in_err-wave_of.ensures.too_large.0)
 
 pub returns-clause-found : goal.returns-clause-found
 returns-clause-found c = record {

@@ -1,11 +1,10 @@
 use Rattle.std.proofs.Common.{add-zero, arith, inl, refl, sym}
-use Rattle.std.proofs.lemmas.Result.{err_from_is_err_and}
 use Rattle.device_core.specs.Inlets.{inlet_reader}
 use Rattle.device_core.specs.Outlets.{outlet_writer}
 use Rattle.sound_core.specs.Faults.{StopsReading}
 use Rattle.stream_core.proofs.PlayLaws.{none_front}
 use Rattle.transfer_core.specs.Playing.{Plays}
-use Rattle.transfer_core.proofs.StreamLaws.{answered, before_writing, keeps_up, of_stream, only_outside, plays_file, plays_given, project_keeps_up, project_outside, project_stream, project_turns, same_stream, stands, stream_turns, writes_front}
+use Rattle.transfer_core.proofs.StreamLaws.{answered, before_writing, fault_is, keeps_up, of_stream, only_outside, plays_file, plays_given, project_keeps_up, project_outside, project_stream, project_turns, same_stream, stands, stream_turns, writes_front}
 use Rattle.transfer_core.proofs.playing.play_stream.Goals as goal
 
 pub returns-in_err-taps : goal.returns-in_err-taps
@@ -15,8 +14,7 @@ returns-in_err-taps g c =
     let p = c.args.project.now in
     let f = c.in_err-taps.field-0.0 in
     let s = c.in_err-taps.ensures in
-    let e = err_from_is_err_and c.from_residual.result c.from_residual.ensures.1 in
-    rw (e.1, e.2) (record {
+    rw (fault_is c.from_residual.result _ c.from_residual.ensures.1) (record {
       ok = tt;
       any_reader = tt;
       cause = project_outside left p f s.exact;
@@ -40,8 +38,7 @@ returns-in_err-play g c =
     let taps = c.in_ok-taps.taps in
     let f = c.in_err-play.field-0.0 in
     let s = c.in_err-play.ensures in
-    let e = err_from_is_err_and c.from_residual-in_err-play.result c.from_residual-in_err-play.ensures.1 in
-    rw (e.1, e.2) (record {
+    rw (fault_is c.from_residual-in_err-play.result _ c.from_residual-in_err-play.ensures.1) (record {
       ok = tt;
       any_reader = tt;
       cause = only_outside p taps c.in_ok-taps.ensures.exact left f s.cause;

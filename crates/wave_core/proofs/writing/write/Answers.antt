@@ -1,8 +1,8 @@
-use Rattle.std.proofs.Common.{ap, arith}
+use Rattle.std.proofs.Common.{All, ap, arith, subst, sym}
 use Rattle.std.proofs.lemmas.Grind.{common_steps}
 use Rattle.std.proofs.lemmas.Result.{err_from_is_err_and}
-use Rattle.wave_core.specs.Contents.{WaveSpec}
-use Rattle.wave_core.proofs.FaultLaws.{memory_told}
+use Rattle.wave_core.specs.Contents.{IsSample, WaveSpec}
+use Rattle.wave_core.proofs.FaultLaws.{made_told, memory_told}
 use Rattle.wave_core.proofs.JoinLaws.{sized_text_stands}
 use Rattle.wave_core.proofs.writing.write.Goals as goal
 
@@ -44,3 +44,12 @@ returns-in_err-push_pad c =
       text = rw e.1 tt;
       too_large = memory_told c.from_residual-in_err-push_pad.result _ told (sized_text_stands c.args.pcm.now _ c.in-Some.sizes.riff_size c.len.result c.from.result c.spec.inside.channels c.pcm.view_is (omega arith) c.from.ensures (ap (λ (s : WaveSpec). s.channels) c.spec.view_is) c.in-Some.ensures.riff_size (omega arith));
     }
+
+pub push_samples-requires-clause-values : goal.push_samples-requires-clause-values
+push_samples-requires-clause-values c =
+    let width = ap (λ (s : WaveSpec). s.width) (sym c.spec.view_is) in
+    rw c.deref.ensures.value (subst (λ w. All (IsSample w) c.pcm.inside.samples.items) width c.pcm.invariant.in_range)
+
+pub returns-clause-too_large : goal.returns-clause-too_large
+returns-clause-too_large c =
+    made_told c.push_pad.new.out _ (sized_text_stands c.args.pcm.now _ c.in-Some.sizes.riff_size c.len.result c.from.result c.spec.inside.channels c.pcm.view_is (omega arith) c.from.ensures (ap (λ (s : WaveSpec). s.channels) c.spec.view_is) c.in-Some.ensures.riff_size (omega arith))

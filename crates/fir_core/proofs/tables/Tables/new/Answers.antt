@@ -2,7 +2,7 @@ use Rattle.std.proofs.Common.{◌≡◌, ◌+◌, ◌*◌, ◌/◌, ◌%◌, ◌
 use Rattle.dsd_bits.proofs.ExitLaws.{no_value}
 use Rattle.fir_core.specs.Rows.{rows}
 use Rattle.fir_core.proofs.RowLaws.{is_laid}
-use Rattle.fir_core.proofs.WindowLaws.{abs_sum_aligned}
+use Rattle.fir_core.proofs.WindowLaws.{abs_sum_aligned, length-aligned}
 use Rattle.fir_core.proofs.tables.Tables.new.Goals as goal
 
 pub rows_of-requires-clause-small : goal.rows_of-requires-clause-small
@@ -26,3 +26,7 @@ returns-in_err-aligned c = no_value _ _ c.from_residual.result c.from_residual.e
 
 pub returns-in_err-rows : goal.returns-in_err-rows
 returns-in_err-rows c = no_value _ _ c.from_residual-in_err-rows.result c.from_residual-in_err-rows.ensures.1
+
+pub rows_of-requires-clause-whole : goal.rows_of-requires-clause-whole
+rows_of-requires-clause-whole c =
+    rw (c.as_slice.ensures.value ∙ c.in_ok-aligned.ensures) (omega (arith, length-aligned c.args.taps.now.taps c.args.taps.now.delay))

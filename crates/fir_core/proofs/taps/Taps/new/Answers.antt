@@ -45,3 +45,6 @@ returns c = record {
   only = λ limits. tt;
   order = no_fault-from_IsWithinLimits _ (within (goal.at.returns c).After-from_slice);
 }
+
+pub invariant_of-result : goal.invariant_of-result
+invariant_of-result c = rw c.in_ok-taps.ensures.items (within (goal.at.invariant_of-result c).After-from_slice)

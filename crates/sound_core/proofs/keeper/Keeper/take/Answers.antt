@@ -2,7 +2,7 @@ use Rattle.std.proofs.Common.{ℕ, ◌<◌, Bool, List, arith, refl}
 use Rattle.std.specs.Prelude.{Vec}
 use Rattle.std.specs.declared.alloc.Global.{Global}
 use Rattle.std.proofs.lemmas.List.{length-map, with_items_is}
-use Rattle.std.proofs.lemmas.Result.{err_from_is_err_and}
+use Rattle.dsd_bits.proofs.ExitLaws.{no_ok}
 use Rattle.sound_core.specs.Keepers.{IsKeeping}
 use Rattle.sound_core.specs.Stretches.{items_of}
 use Rattle.sound_core.proofs.KeeperLaws.{from_whole, keeps_apart, keeps_grown, keeps_roomy}
@@ -41,23 +41,19 @@ unlace-requires c =
 pub grow_all-requires-clause-number : goal.grow_all-requires-clause-number
 grow_all-requires-clause-number c = omega (arith, c.deref_mut.ensures.len, c.requires.keeping.1.kept.number, length-map c.args.self.now.stretches.items (λ (stretch : Vec (List Bool) Global). stretch.items))
 
-pub returns-in_err-channels-clause-same : goal.returns-in_err-channels-clause-same
-returns-in_err-channels-clause-same c = (refl, refl)
+pub returns-in_err-channels : goal.returns-in_err-channels
+returns-in_err-channels c = record {
+  same = (refl, refl);
+  done = no_ok _ _ c.from_residual.result c.from_residual.ensures.1;
+  ok = no_ok _ _ c.from_residual.result c.from_residual.ensures.1;
+}
 
-pub returns-in_err-channels-clause-done : goal.returns-in_err-channels-clause-done
-returns-in_err-channels-clause-done c = let e = err_from_is_err_and c.from_residual.result c.from_residual.ensures.1 in rw e.1 tt
-
-pub returns-in_err-channels-clause-ok : goal.returns-in_err-channels-clause-ok
-returns-in_err-channels-clause-ok c = let e = err_from_is_err_and c.from_residual.result c.from_residual.ensures.1 in rw e.1 tt
-
-pub returns-in_err-grow_all-clause-same : goal.returns-in_err-grow_all-clause-same
-returns-in_err-grow_all-clause-same c = (refl, refl)
-
-pub returns-in_err-grow_all-clause-done : goal.returns-in_err-grow_all-clause-done
-returns-in_err-grow_all-clause-done c = let e = err_from_is_err_and c.from_residual-in_err-grow_all.result c.from_residual-in_err-grow_all.ensures.1 in rw e.1 tt
-
-pub returns-in_err-grow_all-clause-ok : goal.returns-in_err-grow_all-clause-ok
-returns-in_err-grow_all-clause-ok c = let e = err_from_is_err_and c.from_residual-in_err-grow_all.result c.from_residual-in_err-grow_all.ensures.1 in rw e.1 tt
+pub returns-in_err-grow_all : goal.returns-in_err-grow_all
+returns-in_err-grow_all c = record {
+  same = (refl, refl);
+  done = no_ok _ _ c.from_residual-in_err-grow_all.result c.from_residual-in_err-grow_all.ensures.1;
+  ok = no_ok _ _ c.from_residual-in_err-grow_all.result c.from_residual-in_err-grow_all.ensures.1;
+}
 
 pub returns-clause-same : goal.returns-clause-same
 returns-clause-same c =

@@ -1,8 +1,7 @@
 use Rattle.std.proofs.Common.{◌≡◌, ◌+◌, ◌-◌, ◌++◌, ◌∙◌, ap, arith, length, refl, subst, sym}
-use Rattle.std.proofs.lemmas.Result.{err_from_is_err_and}
 use Rattle.device_core.specs.Inlets.{inlet_failures, inlet_reader}
 use Rattle.sound_core.specs.Readers.{Passes}
-use Rattle.sound_core.proofs.FaultLaws.{reading_in_pass}
+use Rattle.sound_core.proofs.FaultLaws.{fault_is, reading_in_pass}
 use Rattle.sound_core.proofs.OutlineLaws.{pass_more, pass_none, pass_part, pass_short}
 use Rattle.sound_core.proofs.ReaderLaws.{counts_later, counts_refused, counts_so_far, same_on, same_self}
 use Rattle.sound_core.proofs.reader.SoundReader.pass.Goals as goal
@@ -37,14 +36,20 @@ loop-left-preserved g c =
       omega (arith, so_far.4, c.in_ok-read_more.ensures.counts.failures),
     )
 
-pub returns-clause-ok : goal.returns-clause-ok
-returns-clause-ok g c =
+pub returns : goal.returns
+returns g c =
     let so_far = c.loop-left.invariant in
     let old = c.args.self.now.ahead.now.items in
     let rest = c.drop_ahead.new.self.ahead.now.items in
     let sum : c.args.wanted - c.loop-left.left + c.loop-left.left ≡ c.args.wanted = omega (arith, so_far.1) in
-    subst (λ n. Passes g.R.Read.remaining c.args.self.now.inlet.now c.drop_ahead.new.self.inlet.now n old rest) sum
-    (pass_part g.R.Read.remaining c.args.self.now.inlet.now c.loop-left.self.inlet.now (c.args.wanted - c.loop-left.left) old c.loop-left.self.ahead.now.items so_far.0 c.drop_ahead.new.self.inlet.now c.loop-left.left rest c.drop_ahead.ensures.untouched (omega (arith, c.len.ensures, c.loop-left-test.false)) c.drop_ahead.ensures.rest)
+    record {
+      same = same_on c.args.self.now c.loop-left.self c.drop_ahead.new.self c.loop-left.invariant.3 c.drop_ahead.ensures.same;
+      reading = c.drop_ahead.ensures.reading c.loop-left.invariant.2;
+      ok = subst (λ n. Passes g.R.Read.remaining c.args.self.now.inlet.now c.drop_ahead.new.self.inlet.now n old rest) sum
+          (pass_part g.R.Read.remaining c.args.self.now.inlet.now c.loop-left.self.inlet.now (c.args.wanted - c.loop-left.left) old c.loop-left.self.ahead.now.items so_far.0 c.drop_ahead.new.self.inlet.now c.loop-left.left rest c.drop_ahead.ensures.untouched (omega (arith, c.len.ensures, c.loop-left-test.false)) c.drop_ahead.ensures.rest);
+      counts = counts_so_far c.args.self.now c.drop_ahead.new.self _ (c.drop_ahead.ensures.reading so_far.2) (same_on c.args.self.now c.loop-left.self c.drop_ahead.new.self so_far.3 c.drop_ahead.ensures.same) (ap inlet_failures c.drop_ahead.ensures.untouched ∙ so_far.4);
+      fault = tt;
+    }
 
 pub loop-left-smaller : goal.loop-left-smaller
 loop-left-smaller g c = omega (arith, c.in_ok-read_more.ensures.turn, c.in_ok-read_more.ensures.counts.most, c.loop-left.invariant.3.limit)
@@ -55,46 +60,28 @@ read_more-requires g c = let still = c.loop-left.invariant.2 in record { reading
 pub drop_ahead-requires : goal.drop_ahead-requires
 drop_ahead-requires g c = record { within = omega (arith, c.len.ensures, c.loop-left-test.false) }
 
-pub returns-in_err-read_more-clause-same : goal.returns-in_err-read_more-clause-same
-returns-in_err-read_more-clause-same g c = let so_far = c.loop-left.invariant in let same = c.read_more.ensures.same in record { reference = same.reference ∙ so_far.3.reference; given = same.given ∙ so_far.3.given; limit = same.limit ∙ so_far.3.limit }
-
-pub returns-in_err-read_more-clause-reading : goal.returns-in_err-read_more-clause-reading
-returns-in_err-read_more-clause-reading g c = let e = err_from_is_err_and c.from_residual.result c.from_residual.ensures.1 in rw e.1 tt
-
-pub returns-in_err-read_more-clause-ok : goal.returns-in_err-read_more-clause-ok
-returns-in_err-read_more-clause-ok g c = let e = err_from_is_err_and c.from_residual.result c.from_residual.ensures.1 in rw e.1 tt
-
-pub returns-in_err-read_more-clause-counts : goal.returns-in_err-read_more-clause-counts
-returns-in_err-read_more-clause-counts g c =
+pub returns-in_err-read_more : goal.returns-in_err-read_more
+returns-in_err-read_more g c =
     let so_far = c.loop-left.invariant in
-    let e = err_from_is_err_and c.from_residual.result c.from_residual.ensures.1 in
-    rw (e.1, e.2) (counts_later c.args.self.now _ c.read_more.new.self c.in_err-read_more.field-0.0 so_far.3.limit so_far.4 c.in_err-read_more.ensures.counts)
+    let same = c.read_more.ensures.same in
+    rw (fault_is c.from_residual.result _ c.from_residual.ensures.1) (record {
+      same = record { reference = same.reference ∙ so_far.3.reference; given = same.given ∙ so_far.3.given; limit = same.limit ∙ so_far.3.limit };
+      reading = tt;
+      ok = tt;
+      counts = counts_later c.args.self.now _ c.read_more.new.self c.in_err-read_more.field-0.0 so_far.3.limit so_far.4 c.in_err-read_more.ensures.counts;
+      fault = reading_in_pass (g.R.Read.remaining (inlet_reader c.args.self.now.inlet.now)) c.args.wanted c.args.self.now.ahead.now.items c.in_err-read_more.field-0.0 c.in_err-read_more.ensures.fault;
+    })
 
-pub returns-in_err-read_more-clause-fault : goal.returns-in_err-read_more-clause-fault
-returns-in_err-read_more-clause-fault g c =
-    let e = err_from_is_err_and c.from_residual.result c.from_residual.ensures.1 in
-    rw (e.1, e.2) (reading_in_pass (g.R.Read.remaining (inlet_reader c.args.self.now.inlet.now)) c.args.wanted c.args.self.now.ahead.now.items c.in_err-read_more.field-0.0 c.in_err-read_more.ensures.fault)
-
-pub returns-clause-same : goal.returns-clause-same
-returns-clause-same g c = same_on c.args.self.now c.loop-left.self c.drop_ahead.new.self c.loop-left.invariant.3 c.drop_ahead.ensures.same
-
-pub returns-clause-reading : goal.returns-clause-reading
-returns-clause-reading g c = c.drop_ahead.ensures.reading c.loop-left.invariant.2
-
-pub returns-clause-counts : goal.returns-clause-counts
-returns-clause-counts g c =
+pub returns-then-branch-eq0 : goal.returns-then-branch-eq0
+returns-then-branch-eq0 g c =
     let so_far = c.loop-left.invariant in
-    counts_so_far c.args.self.now c.drop_ahead.new.self _ (c.drop_ahead.ensures.reading so_far.2) (same_on c.args.self.now c.loop-left.self c.drop_ahead.new.self so_far.3 c.drop_ahead.ensures.same) (ap inlet_failures c.drop_ahead.ensures.untouched ∙ so_far.4)
-
-pub returns-then-branch-eq0-clause-same : goal.returns-then-branch-eq0-clause-same
-returns-then-branch-eq0-clause-same g c = let so_far = c.loop-left.invariant in let same = c.read_more.ensures.same in record { reference = same.reference ∙ so_far.3.reference; given = same.given ∙ so_far.3.given; limit = same.limit ∙ so_far.3.limit }
-
-pub returns-then-branch-eq0-clause-counts : goal.returns-then-branch-eq0-clause-counts
-returns-then-branch-eq0-clause-counts g c = let so_far = c.loop-left.invariant in counts_refused c.args.self.now _ c.read_more.new.self c.in_ok-read_more.field-0 so_far.3.limit so_far.4 c.in_ok-read_more.ensures.counts
-
-pub returns-then-branch-eq0-clause-fault : goal.returns-then-branch-eq0-clause-fault
-returns-then-branch-eq0-clause-fault g c =
-    let so_far = c.loop-left.invariant in
+    let same = c.read_more.ensures.same in
     let read = c.in_ok-read_more.ensures.read in
-    pass_short g.R.Read.remaining c.args.self.now.inlet.now c.loop-left.self.inlet.now (c.args.wanted - c.loop-left.left) c.args.self.now.ahead.now.items c.loop-left.self.ahead.now.items so_far.0 c.read_more.new.self.inlet.now read.0 c.args.wanted read.1
-    (omega (arith, read.2, c.if-branch-eq0.true)) (c.in_ok-read_more.ensures.end c.if-branch-eq0.true) (omega (arith, so_far.1, c.len.ensures, c.loop-left-test.true))
+    record {
+      same = record { reference = same.reference ∙ so_far.3.reference; given = same.given ∙ so_far.3.given; limit = same.limit ∙ so_far.3.limit };
+      reading = tt;
+      ok = tt;
+      counts = counts_refused c.args.self.now _ c.read_more.new.self c.in_ok-read_more.field-0 so_far.3.limit so_far.4 c.in_ok-read_more.ensures.counts;
+      fault = pass_short g.R.Read.remaining c.args.self.now.inlet.now c.loop-left.self.inlet.now (c.args.wanted - c.loop-left.left) c.args.self.now.ahead.now.items c.loop-left.self.ahead.now.items so_far.0 c.read_more.new.self.inlet.now read.0 c.args.wanted read.1
+          (omega (arith, read.2, c.if-branch-eq0.true)) (c.in_ok-read_more.ensures.end c.if-branch-eq0.true) (omega (arith, so_far.1, c.len.ensures, c.loop-left-test.true));
+    }

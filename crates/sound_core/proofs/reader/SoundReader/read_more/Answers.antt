@@ -1,5 +1,5 @@
 use Rattle.std.proofs.Common.{◌++◌, ◌∙◌, ap, ap₂, arith, length, length-take, refl, take}
-use Rattle.std.proofs.lemmas.Result.{err_from_is_err_and}
+use Rattle.sound_core.proofs.FaultLaws.{fault_is}
 use Rattle.sound_core.proofs.ReaderLaws.{counts_memory}
 use Rattle.sound_core.proofs.reader.SoundReader.read_more.Goals as goal
 
@@ -11,8 +11,7 @@ split_at-requires g c = omega (arith, c.in_ok-count.ensures.few, c.in_ok-count.e
 
 pub returns-in_err-count : goal.returns-in_err-count
 returns-in_err-count g c =
-    let e = err_from_is_err_and c.from_residual.result c.from_residual.ensures.1 in
-    rw (e.1, e.2) (record {
+    rw (fault_is c.from_residual.result _ c.from_residual.ensures.1) (record {
       same = c.pull.ensures.same;
       reading = tt;
       read = tt;
@@ -26,8 +25,7 @@ returns-in_err-count g c =
 pub returns-in_err-extend_from_slice : goal.returns-in_err-extend_from_slice
 returns-in_err-extend_from_slice g c =
     let same = c.pull.ensures.same in
-    let e = err_from_is_err_and c.from_residual-in_err-extend_from_slice.result c.from_residual-in_err-extend_from_slice.ensures.1 in
-    rw (e.1, e.2) (record {
+    rw (fault_is c.from_residual-in_err-extend_from_slice.result _ c.from_residual-in_err-extend_from_slice.ensures.1) (record {
       same = record { reference = same.reference; given = same.given; limit = same.limit };
       reading = tt;
       read = tt;

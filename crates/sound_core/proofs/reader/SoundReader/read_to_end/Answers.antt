@@ -1,5 +1,5 @@
 use Rattle.std.proofs.Common.{◌++◌, ◌∙◌, [], arith, refl, take}
-use Rattle.std.proofs.lemmas.Result.{err_from_is_err_and}
+use Rattle.sound_core.proofs.FaultLaws.{fault_is}
 use Rattle.sound_core.proofs.ReadLaws.{reads_none, reads_on}
 use Rattle.sound_core.proofs.ReaderLaws.{counts_later, counts_ok, same_on, same_self}
 use Rattle.sound_core.proofs.reader.SoundReader.read_to_end.Goals as goal
@@ -32,39 +32,29 @@ loop-count-smaller g c = omega (arith, c.in_ok-count.ensures.turn, c.in_ok-count
 pub pull-requires : goal.pull-requires
 pull-requires g c = record { reading = c.loop-count.invariant.3 }
 
-pub returns-in_err-count-clause-same : goal.returns-in_err-count-clause-same
-returns-in_err-count-clause-same g c = same_on c.args.self.now c.loop-count.self c.pull.new.self c.loop-count.invariant.4 c.pull.ensures.same
-
-pub returns-in_err-count-clause-kept : goal.returns-in_err-count-clause-kept
-returns-in_err-count-clause-kept g c = c.pull.ensures.kept ∙ c.loop-count.invariant.2
-
-pub returns-then-count-eq0-clause-kept : goal.returns-then-count-eq0-clause-kept
-returns-then-count-eq0-clause-kept g c = c.pull.ensures.kept ∙ c.loop-count.invariant.2
-
-pub returns-in_err-count-clause-read : goal.returns-in_err-count-clause-read
-returns-in_err-count-clause-read g c = let e = err_from_is_err_and c.from_residual.result c.from_residual.ensures.1 in rw e.1 tt
-
-pub returns-in_err-count-clause-counts : goal.returns-in_err-count-clause-counts
-returns-in_err-count-clause-counts g c =
+pub returns-in_err-count : goal.returns-in_err-count
+returns-in_err-count g c =
     let so_far = c.loop-count.invariant in
-    let e = err_from_is_err_and c.from_residual.result c.from_residual.ensures.1 in
-    rw (e.1, e.2) (counts_later c.args.self.now c.loop-count.self c.pull.new.self c.in_err-count.field-0.0 so_far.4.limit so_far.5 c.in_err-count.ensures.counts)
+    rw (fault_is c.from_residual.result _ c.from_residual.ensures.1) (record {
+      same = same_on c.args.self.now c.loop-count.self c.pull.new.self c.loop-count.invariant.4 c.pull.ensures.same;
+      kept = c.pull.ensures.kept ∙ c.loop-count.invariant.2;
+      read = tt;
+      counts = counts_later c.args.self.now c.loop-count.self c.pull.new.self c.in_err-count.field-0.0 so_far.4.limit so_far.5 c.in_err-count.ensures.counts;
+      fault = c.in_err-count.ensures.fault;
+    })
 
-pub returns-in_err-count-clause-fault : goal.returns-in_err-count-clause-fault
-returns-in_err-count-clause-fault g c = let e = err_from_is_err_and c.from_residual.result c.from_residual.ensures.1 in rw (e.1, e.2) c.in_err-count.ensures.fault
-
-pub returns-then-count-eq0-clause-same : goal.returns-then-count-eq0-clause-same
-returns-then-count-eq0-clause-same g c = same_on c.args.self.now c.loop-count.self c.pull.new.self c.loop-count.invariant.4 c.pull.ensures.same
-
-pub returns-then-count-eq0-clause-counts : goal.returns-then-count-eq0-clause-counts
-returns-then-count-eq0-clause-counts g c = let so_far = c.loop-count.invariant in counts_ok c.args.self.now c.loop-count.self c.pull.new.self c.in_ok-count.count _ so_far.4.limit so_far.5 c.in_ok-count.ensures.counts
-
-pub returns-then-count-eq0-clause-read : goal.returns-then-count-eq0-clause-read
-returns-then-count-eq0-clause-read g c =
+pub returns-then-count-eq0 : goal.returns-then-count-eq0
+returns-then-count-eq0 g c =
     let so_far = c.loop-count.invariant in
     let read = take c.in_ok-count.count c.pull.new.self.block.now.items in
     record {
-      bytes = so_far.0 ++ read;
-      reads = reads_on g.R.Read.remaining c.args.self.now.inlet.now c.loop-count.self.inlet.now c.pull.new.self.inlet.now so_far.0 read so_far.1 c.in_ok-count.ensures.read;
-      at_end = c.in_ok-count.ensures.end c.if-count-eq0.true;
+      same = same_on c.args.self.now c.loop-count.self c.pull.new.self c.loop-count.invariant.4 c.pull.ensures.same;
+      kept = c.pull.ensures.kept ∙ c.loop-count.invariant.2;
+      read = record {
+        bytes = so_far.0 ++ read;
+        reads = reads_on g.R.Read.remaining c.args.self.now.inlet.now c.loop-count.self.inlet.now c.pull.new.self.inlet.now so_far.0 read so_far.1 c.in_ok-count.ensures.read;
+        at_end = c.in_ok-count.ensures.end c.if-count-eq0.true;
+      };
+      counts = counts_ok c.args.self.now c.loop-count.self c.pull.new.self c.in_ok-count.count _ so_far.4.limit so_far.5 c.in_ok-count.ensures.counts;
+      fault = tt;
     }

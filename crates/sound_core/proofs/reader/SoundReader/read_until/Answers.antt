@@ -1,5 +1,5 @@
 use Rattle.std.proofs.Common.{◌++◌, [], append-nil, arith, inl, inr, refl, sym}
-use Rattle.std.proofs.lemmas.Result.{err_from_is_err_and}
+use Rattle.sound_core.proofs.FaultLaws.{fault_is}
 use Rattle.sound_core.proofs.ReadLaws.{ahead_on, reads_none, reads_on}
 use Rattle.sound_core.proofs.ReaderLaws.{counts_later, counts_ok, counts_so_far, same_on, same_self}
 use Rattle.sound_core.proofs.reader.SoundReader.read_until.Goals as goal
@@ -16,21 +16,33 @@ loop-self-preserved g c =
       omega (arith, so_far.5, c.in_ok-count.ensures.counts.failures),
     )
 
-pub returns-then-count-eq0-clause-read : goal.returns-then-count-eq0-clause-read
-returns-then-count-eq0-clause-read g c =
+pub returns-then-count-eq0 : goal.returns-then-count-eq0
+returns-then-count-eq0 g c =
     let so_far = c.loop-self.invariant in
     let read = c.in_ok-count.ensures.read in
     record {
-      bytes = so_far.0 ++ read.0;
-      reads = reads_on g.R.Read.remaining c.args.self.now.inlet.now c.loop-self.self.inlet.now c.read_more.new.self.inlet.now so_far.0 read.0 so_far.1 read.1;
-      appended = ahead_on c.args.self.now.ahead.now.items c.loop-self.self.ahead.now.items c.read_more.new.self.ahead.now.items so_far.0 read.0 so_far.2 read.3;
-      enough = inr (c.in_ok-count.ensures.end c.if-count-eq0.true);
+      same = same_on c.args.self.now c.loop-self.self c.read_more.new.self c.loop-self.invariant.4 c.read_more.ensures.same;
+      reading = c.in_ok-count.ensures.reading;
+      read = record {
+        bytes = so_far.0 ++ read.0;
+        reads = reads_on g.R.Read.remaining c.args.self.now.inlet.now c.loop-self.self.inlet.now c.read_more.new.self.inlet.now so_far.0 read.0 so_far.1 read.1;
+        appended = ahead_on c.args.self.now.ahead.now.items c.loop-self.self.ahead.now.items c.read_more.new.self.ahead.now.items so_far.0 read.0 so_far.2 read.3;
+        enough = inr (c.in_ok-count.ensures.end c.if-count-eq0.true);
+      };
+      counts = counts_ok c.args.self.now c.loop-self.self c.read_more.new.self c.in_ok-count.count _ so_far.4.limit so_far.5 c.in_ok-count.ensures.counts;
+      fault = tt;
     }
 
-pub returns-clause-read : goal.returns-clause-read
-returns-clause-read g c =
+pub returns : goal.returns
+returns g c =
     let so_far = c.loop-self.invariant in
-    record { bytes = so_far.0; reads = so_far.1; appended = so_far.2; enough = inl (omega (arith, c.loop-self-test.false)) }
+    record {
+      same = c.loop-self.invariant.4;
+      reading = c.loop-self.invariant.3;
+      read = record { bytes = so_far.0; reads = so_far.1; appended = so_far.2; enough = inl (omega (arith, c.loop-self-test.false)) };
+      counts = counts_so_far c.args.self.now c.loop-self.self _ so_far.3 so_far.4 so_far.5;
+      fault = tt;
+    }
 
 pub loop-self-init : goal.loop-self-init
 loop-self-init g c = (
@@ -48,38 +60,13 @@ loop-self-smaller g c = omega (arith, c.in_ok-count.ensures.turn, c.in_ok-count.
 pub read_more-requires : goal.read_more-requires
 read_more-requires g c = record { reading = c.loop-self.invariant.3 }
 
-pub returns-in_err-count-clause-same : goal.returns-in_err-count-clause-same
-returns-in_err-count-clause-same g c = same_on c.args.self.now c.loop-self.self c.read_more.new.self c.loop-self.invariant.4 c.read_more.ensures.same
-
-pub returns-in_err-count-clause-reading : goal.returns-in_err-count-clause-reading
-returns-in_err-count-clause-reading g c = let e = err_from_is_err_and c.from_residual.result c.from_residual.ensures.1 in rw e.1 tt
-
-pub returns-in_err-count-clause-read : goal.returns-in_err-count-clause-read
-returns-in_err-count-clause-read g c = let e = err_from_is_err_and c.from_residual.result c.from_residual.ensures.1 in rw e.1 tt
-
-pub returns-in_err-count-clause-counts : goal.returns-in_err-count-clause-counts
-returns-in_err-count-clause-counts g c =
+pub returns-in_err-count : goal.returns-in_err-count
+returns-in_err-count g c =
     let so_far = c.loop-self.invariant in
-    let e = err_from_is_err_and c.from_residual.result c.from_residual.ensures.1 in
-    rw (e.1, e.2) (counts_later c.args.self.now c.loop-self.self c.read_more.new.self c.in_err-count.field-0.0 so_far.4.limit so_far.5 c.in_err-count.ensures.counts)
-
-pub returns-in_err-count-clause-fault : goal.returns-in_err-count-clause-fault
-returns-in_err-count-clause-fault g c = let e = err_from_is_err_and c.from_residual.result c.from_residual.ensures.1 in rw (e.1, e.2) c.in_err-count.ensures.fault
-
-pub returns-then-count-eq0-clause-same : goal.returns-then-count-eq0-clause-same
-returns-then-count-eq0-clause-same g c = same_on c.args.self.now c.loop-self.self c.read_more.new.self c.loop-self.invariant.4 c.read_more.ensures.same
-
-pub returns-then-count-eq0-clause-reading : goal.returns-then-count-eq0-clause-reading
-returns-then-count-eq0-clause-reading g c = c.in_ok-count.ensures.reading
-
-pub returns-then-count-eq0-clause-counts : goal.returns-then-count-eq0-clause-counts
-returns-then-count-eq0-clause-counts g c = let so_far = c.loop-self.invariant in counts_ok c.args.self.now c.loop-self.self c.read_more.new.self c.in_ok-count.count _ so_far.4.limit so_far.5 c.in_ok-count.ensures.counts
-
-pub returns-clause-same : goal.returns-clause-same
-returns-clause-same g c = c.loop-self.invariant.4
-
-pub returns-clause-reading : goal.returns-clause-reading
-returns-clause-reading g c = c.loop-self.invariant.3
-
-pub returns-clause-counts : goal.returns-clause-counts
-returns-clause-counts g c = let so_far = c.loop-self.invariant in counts_so_far c.args.self.now c.loop-self.self _ so_far.3 so_far.4 so_far.5
+    rw (fault_is c.from_residual.result _ c.from_residual.ensures.1) (record {
+      same = same_on c.args.self.now c.loop-self.self c.read_more.new.self c.loop-self.invariant.4 c.read_more.ensures.same;
+      reading = tt;
+      read = tt;
+      counts = counts_later c.args.self.now c.loop-self.self c.read_more.new.self c.in_err-count.field-0.0 so_far.4.limit so_far.5 c.in_err-count.ensures.counts;
+      fault = c.in_err-count.ensures.fault;
+    })

@@ -126,8 +126,13 @@ joined_append (x ∷ a) b = ap (λ (l : List Chunk). x ++ l) (joined_append a b)
 
 -- ---- a file that is accepted closes
 
-pub accepted_closes : (front middle back : List ℕ) (s : Sound) → EndsAt front s → length middle ≡ s.size → IsAccepted (front ++ (middle ++ back)) → (a : Around) × (closing_of front s.size back ≡ Ok a)
+-- readings that all give something, and no kind that stands once: the bytes close
+closes : (front back : List ℕ) (size : ℕ) (a : Around) → ltb (length back + 1) (left_behind front size) ≡ false → spans_in back (min (size % 2) (end_behind front size back)) (end_behind front size back) ≡ Ok a.later
+    → spans_in front 16 (length front - 12) ≡ Ok a.before → masters_of front a.before ≡ Ok a.early → masters_of back a.later ≡ Ok a.late → none_known (map (span_chunk back) a.later) ≡ Ok tt → closing_of front size back ≡ Ok a
 unfolding closing_of later_of
+closes front back size a whole later before early late fresh = rw (whole, later, before, early, late, fresh) refl
+
+pub accepted_closes : (front middle back : List ℕ) (s : Sound) → EndsAt front s → length middle ≡ s.size → IsAccepted (front ++ (middle ++ back)) → (a : Around) × (closing_of front s.size back ≡ Ok a)
 accepted_closes front middle back s e long accepted =
     let r = accepted.0 in
     let h = accepted.1 in
@@ -164,7 +169,7 @@ accepted_closes front middle back s e long accepted =
     let early = masters_again front (places 16 l.before) m.early (subst (λ (cs : List Chunk). Each (filter (has_id DIIN) cs) m.early) (sym again.1) m.each_early) both.0 in
     let late = masters_again back (places (min (s.size % 2) end) l.later) m.late (subst (λ (cs : List Chunk). Each (filter (has_id DIIN) cs) m.late) (sym later.1) m.each_late) both.1 in
     let around : Around = record { before = places 16 l.before; early = early.0; later = places (min (s.size % 2) end) l.later; late = late.0 } in
-    (around, rw (not_cut, later.0, before, early.1, late.1, fresh) refl)
+    (around, closes front back s.size around not_cut later.0 before early.1 late.1 fresh)
 
 -- ---- bytes that close make an accepted file
 

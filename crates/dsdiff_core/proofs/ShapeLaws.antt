@@ -10,7 +10,7 @@ use Rattle.chunk_core.specs.Chunks.{Chunk}
 use Rattle.dsd_bits.specs.declared.marks.Place.{Place}
 use Rattle.dsd_bits.specs.declared.marks.Place.TheVariants.{Property, Master, Form}
 use Rattle.dsd_bits.specs.Channels.{IsLevel, count_of}
-use Rattle.dsd_bits.specs.Contents.{MarkContent, OtherContent}
+use Rattle.dsd_bits.specs.Contents.{Content, MarkContent, OtherContent}
 use Rattle.dsd_bits.specs.Lacing.{laced_bit, unlaced, unlaced_all}
 use Rattle.dsd_bits.specs.Layouts.{layout_channels, usual_layout}
 use Rattle.dsd_bits.specs.Shape.{HasShape, at_place, has_part, same_place}
@@ -42,6 +42,9 @@ empties f none a (suc n) = rw (none a, empties f none (a + 1) n) refl
 -- no sound bytes are channels of no bits
 pub silent : (n : ℕ) → unlaced_all [] n ≡ replicate n []
 silent n = empties (unlaced [] n) (λ c. rw (zero-div n) refl) 0 n
+
+pub silent_short : (n : ℕ) → 8 * (0 / n) ≤ 2 ^ 36
+silent_short n = rw (zero-div n) (omega arith)
 
 -- ---- what is kept
 
@@ -110,3 +113,9 @@ shape_is rate number layout channels ids sound tag marks others a b c low high s
       in_order = rw kept_are (in_order a b c);
       no_parts = rw kept_are (All-append NoPart (kept Property a) (kept Master b ++ kept Form c) (no_part Property a) (All-append NoPart (kept Master b) (kept Form c) (no_part Master b) (no_part Form c)));
     }
+
+-- contents of equal parts, and of no tag
+pub same_content : (rate : ℕ) (ids : List (List ℕ)) (channels channels' : List (List Bool)) (layout layout' : ℕ) (marks marks' : List MarkContent) (others others' : List OtherContent) (tag : List ℕ)
+    → channels ≡ channels' → layout ≡ layout' → marks ≡ marks' → others ≡ others' → tag ≡ []
+    → (let r : Content = record { rate = rate; channels = channels; ids = ids; layout = layout; marks = marks; others = others; tag = tag } in r) ≡ record { rate = rate; channels = channels'; ids = ids; layout = layout'; marks = marks'; others = others'; tag = [] }
+same_content rate ids channels channels' layout layout' marks marks' others others' tag c l m o t = rw (c, l, m, o, t) refl

@@ -1,4 +1,4 @@
-use Rattle.std.proofs.Common.{Ok, arith}
+use Rattle.std.proofs.Common.{Ok, Err, arith}
 use Rattle.std.specs.Global.{Vec}
 use Rattle.std.proofs.lemmas.Result.{err_from_is_err_and}
 use Rattle.chunk_core.specs.declared.layout.Span.{Span}
@@ -15,15 +15,23 @@ loop-at-preserved c =
     let on = walked_on c.args.bytes.now c.args.start c.loop-at.at c.args.stop c.loop-at.spans.items c.loop-at.invariant in
     rw c.in_ok-push.ensures.items (on c.in_ok-span.span (omega arith) (omega arith) found.exact found.start found.inside)
 
-pub returns-in_err-span-clause-exact : goal.returns-in_err-span-clause-exact
-returns-in_err-span-clause-exact c =
+pub returns-in_err-span : goal.returns-in_err-span
+returns-in_err-span c =
     let p = err_from_is_err_and c.from_residual.result c.from_residual.ensures.1 in
-    let fails = walk_fails c.args.bytes.now c.args.start c.loop-at.at c.args.stop c.loop-at.spans.items c.loop-at.invariant in
-    rw (p.1, p.2) (fails c.in_err-span.field-0.0 (omega arith) (omega arith) c.in_err-span.ensures.exact)
+    let fault = c.in_err-span.field-0.0 in
+    let fails = walk_fails c.args.bytes.now c.args.start c.loop-at.at c.args.stop c.loop-at.spans.items c.loop-at.invariant fault (omega arith) (omega arith) c.in_err-span.ensures.exact in
+    rw (p.1, p.2) (record {
+      found = tt;
+      places = tt;
+      only = only_these (λ (spans : Vec Span). spans.items) (Err fault) c.args.bytes.now c.args.start c.args.stop fails;
+      exact = fails;
+      inside = tt;
+    })
 
-pub returns-in_err-span-clause-only : goal.returns-in_err-span-clause-only
-returns-in_err-span-clause-only c =
-    only_these (λ (spans : Vec Span). spans.items) c.from_residual.result c.args.bytes.now c.args.start c.args.stop (returns-in_err-span-clause-exact c)
+pub returns-in_err-push : goal.returns-in_err-push
+returns-in_err-push c =
+    let p = err_from_is_err_and c.from_residual-in_err-push.result c.from_residual-in_err-push.ensures.1 in
+    rw (p.1, p.2) (record { found = tt; places = tt; only = λ cs h. tt; exact = tt; inside = tt })
 
 pub returns-clause-exact : goal.returns-clause-exact
 returns-clause-exact c =

@@ -7,7 +7,7 @@ use Rattle.dsd_bits.proofs.PackingLemmas.{unpacked_is, IsTight-from_holds, lengt
 use Rattle.dsd_bits.proofs.RangeLemmas.{range_appended}
 use Rattle.dsd_bits.proofs.ShiftingLemmas.{packed_bit-append_before}
 use Rattle.dsd_bits.proofs.ranges.append_range.Goals as goal
-use Rattle.dsd_bits.proofs.ranges.append_range.Goals.{After-append_bytes, In_ok-append_bytes}
+use Rattle.dsd_bits.proofs.ranges.append_range.Goals.{After-append_bytes, After-as_bytes-from, In_ok-append_bytes}
 
 -- the bytes that there are now are as many as the bits need
 all_bytes : (c : In_ok-append_bytes) → vec_len c.append_bytes.new.bytes ≡ div_ceil (c.args.before + (c.args.stop - c.args.start)) 8
@@ -27,14 +27,17 @@ returns-clause-tight c =
     let items = c.clear_from.new.bytes.ok.0 in
     IsTight-from_holds _ _ _ c.clear_from.ensures.holds (length-unpacked _ _) (omega arith) (omega arith) (omega (arith, c.requires.in_limit))
 
+small_source : (c : After-as_bytes-from) → (j : ℕ) → slice_index c.as_bytes-from.result.now j < 256
+small_source c j = search rules
+
 pub returns-clause-appended : goal.returns-clause-appended
 returns-clause-appended c =
     let bytes = c.args.bytes.now.items in
     let n = c.args.before in
     let source = c.as_bytes-from.result.now in
-    let kept : c.len-kept.result ≡ length bytes = omega (arith, c.len-kept.ensures, c.args.bytes.now.ok.0) in
+    let kept = c.len-kept.ensures ∙ c.args.bytes.now.ok.0 in
     let size : length bytes + (c.div_ceil.result - c.len-kept.result) ≡ div_ceil (n + (c.args.stop - c.args.start)) 8 = omega (arith, c.div_ceil.ensures, c.requires.tight.no_more, c.requires.tight.enough) in
-    let small : (j : ℕ) → slice_index source j < 256 = λ j. search rules in
+    let small = small_source (goal.at.returns-clause-appended c).After-as_bytes-from in
     let added = c.div_ceil.result - c.len-kept.result in
     let appended = c.in_ok-append_bytes.ensures.items ∙ ap (λ (k : ℕ). bytes ++ bytes_from source (c.args.start + (8 * k - n)) added) kept in
     unpacked_is _ _ _ c.clear_from.ensures.holds (length-unpacked _ _)

@@ -26,6 +26,18 @@ returns-in_err-push_kept-5 c = no_value _ _ c.from_residual-in_err-push_kept-5.r
 pub push_kept-requires : goal.push_kept-requires
 push_kept-requires c = c.requires.parts
 
+pub push_kept-requires-2 : goal.push_kept-requires-2
+push_kept-requires-2 c = rw c.deref.ensures.value c.requires.around.early
+
+pub push_kept-requires-3 : goal.push_kept-requires-3
+push_kept-requires-3 c = rw c.deref-2.ensures.value c.requires.around.late
+
+pub push_kept-requires-4 : goal.push_kept-requires-4
+push_kept-requires-4 c = rw c.deref-3.ensures.value c.requires.around.before
+
+pub push_kept-requires-5 : goal.push_kept-requires-5
+push_kept-requires-5 c = rw c.deref-4.ensures.value c.requires.around.later
+
 pub returns : goal.returns
 returns c =
     kept_around c.args.front.now c.args.back.now c.args.parts.now (around_of c.args.around.now) _ _ _ _ _ _ (ap (map other_content) c.new-others.ensures.items) c.in_ok-push_kept.ensures

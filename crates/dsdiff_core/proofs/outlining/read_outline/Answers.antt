@@ -1,4 +1,4 @@
-use Rattle.std.proofs.Common.{◌≡◌, ◌<◌, ◌^◌, ◌∙◌, [], Ok, length, map, ap, refl, replicate, sym, subst, rules, arith}
+use Rattle.std.proofs.Common.{◌≡◌, ◌<◌, ◌^◌, ◌∙◌, [], Ok, length, map, ap, refl, replicate, sym, subst, arith}
 use Rattle.std.proofs.lemmas.Result.{err_from_is_err_and}
 use Rattle.std.proofs.lemmas.List.Elements.{All-map}
 use Rattle.chunk_core.specs.Places.{span_chunk}
@@ -10,7 +10,7 @@ use Rattle.dsdiff_core.specs.Properties.{property_of, told_of}
 use Rattle.dsdiff_core.specs.Steps.{Fails}
 use Rattle.dsdiff_core.proofs.JoinedSteps.{step_then, fails_then}
 use Rattle.dsdiff_core.proofs.Steps.{step_fails}
-use Rattle.dsdiff_core.proofs.ShapeLaws.{shape_is, silent}
+use Rattle.dsdiff_core.proofs.ShapeLaws.{same_content, shape_is, silent, silent_short}
 use Rattle.dsdiff_core.proofs.outlining.read_outline.Goals as goal
 
 pub new-requires-2 : goal.new-requires-2
@@ -20,14 +20,14 @@ new-requires-2 c =
     let back = c.args.back.now in
     let around = around_of c.in_ok-around.around in
     let number = length told.ids.items in
-    let long : c.len-number.result ≡ number = search rules in
+    let long : c.len-number.result ≡ number = omega (arith, c.len-number.ensures, told.ids.ok.0) in
     let made : c.in_ok-channels.channels.items ≡ unlaced_all [] number = c.in_ok-channels.ensures ∙ (sym (silent c.len-number.result) ∙ ap (unlaced_all []) long) in
-    let others : map other_content c.in_ok-others.others.items ≡ others_around front back told.parts.items around = search rules in
-    let usual : c.usual_layout.result ≡ usual_layout number = search rules in
+    let others = subst (λ parts. map other_content c.in_ok-others.others.items ≡ others_around front back parts around) c.deref-2.ensures.value c.in_ok-others.ensures in
+    let usual : c.usual_layout.result ≡ usual_layout number = c.usual_layout.ensures ∙ ap usual_layout long in
     record {
       shape = shape_is told.rate number c.usual_layout.result c.in_ok-channels.channels.items told.ids.items [] c.new.result.items
           (map mark_content c.in_ok-marks.marks.items) (map other_content c.in_ok-others.others.items) (map (span_chunk front) told.parts.items) (inner_around front back around) (top_around front back around)
-          c.in_ok-told.ensures.rate.0 c.in_ok-told.ensures.rate.1 c.in_ok-told.ensures.number.0 c.in_ok-told.ensures.number.1 refl made (omega arith) usual
+          c.in_ok-told.ensures.rate.0 c.in_ok-told.ensures.rate.1 c.in_ok-told.ensures.number.0 c.in_ok-told.ensures.number.1 refl made (silent_short number) usual
           (All-map (λ (m : MarkContent). length m.text < 2 ^ 32) mark_content c.in_ok-marks.marks.items c.in_ok-marks.ensures.short) others;
     }
 
@@ -61,13 +61,13 @@ returns-in_err-others c =
 pub returns : goal.returns
 unfolding outline_of
 returns c =
-    let long : c.len-number.result ≡ length c.in_ok-told.told.ids.items = search rules in
+    let long = c.len-number.ensures ∙ c.in_ok-told.told.ids.ok.0 in
     let told = subst (λ top. property_of c.args.front.now top ≡ Ok (told_of c.in_ok-told.told)) c.deref.ensures.value c.in_ok-told.ensures.exact in
     let channels = c.in_ok-channels.ensures ∙ ap (λ n. replicate n []) long in
-    let layout : c.usual_layout.result ≡ usual_layout (length c.in_ok-told.told.ids.items) = search rules in
+    let layout : c.usual_layout.result ≡ usual_layout (length c.in_ok-told.told.ids.items) = c.usual_layout.ensures ∙ ap usual_layout long in
     let others = subst (λ parts. map other_content c.in_ok-others.others.items ≡ others_around c.args.front.now c.args.back.now parts (around_of c.in_ok-around.around)) c.deref-2.ensures.value c.in_ok-others.ensures in
-    let tag : c.new.result.items ≡ [] = search rules in
-    step_then _ _ _ _ c.in_ok-around.ensures.exact (step_then _ _ _ _ told (ap Ok (sym (c.new-2.ensures ∙ rw (channels, layout, c.in_ok-marks.ensures.marks, others, tag) refl))))
+    let tag : c.new.result.items ≡ [] = c.new.ensures.items in
+    step_then _ _ _ _ c.in_ok-around.ensures.exact (step_then _ _ _ _ told (ap Ok (sym (c.new-2.ensures ∙ same_content _ _ _ _ _ _ _ _ _ _ _ channels layout c.in_ok-marks.ensures.marks others tag))))
 
 pub chunks_around-requires-clause-long : goal.chunks_around-requires-clause-long
 chunks_around-requires-clause-long c = c.requires.long

@@ -16,7 +16,7 @@ use Rattle.dsdiff_core.specs.Spans.{data_with}
 use Rattle.dsdiff_core.specs.Steps.{Fails}
 use Rattle.dsdiff_core.proofs.JoinedSteps.{step_then}
 use Rattle.dsdiff_core.proofs.Steps.{step_fails}
-use Rattle.dsdiff_core.proofs.ShapeLaws.{shape_is}
+use Rattle.dsdiff_core.proofs.ShapeLaws.{same_content, shape_is}
 use Rattle.dsdiff_core.proofs.reading.read_in_order.Goals as goal
 
 pub new-requires-2 : goal.new-requires-2
@@ -25,7 +25,7 @@ new-requires-2 c =
     let a = map (span_chunk c.args.file.now) told.parts.items in
     let b = map (span_chunk c.args.file.now) c.in_ok-inner.inner.items in
     let d = map (span_chunk c.args.file.now) c.in_ok-top.top.items in
-    let long : c.len-number.result ≡ length told.ids.items = omega (arith, c.len-number.ensures, told.ids.ok.0) in
+    let long = c.len-number.ensures ∙ told.ids.ok.0 in
     let made : c.in_ok-channels.channels.items ≡ unlaced_all c.in_ok-sound.sound.now (length told.ids.items) = c.in_ok-channels.ensures ∙ ap (unlaced_all c.in_ok-sound.sound.now) long in
     let others : map other_content c.in_ok-others.others.items ≡ others_told c.args.file.now told.parts.items c.in_ok-inner.inner.items c.in_ok-top.top.items = rw (sym c.deref-5.ensures.value, sym c.deref-6.ensures.value, sym c.deref-7.ensures.value) c.in_ok-others.ensures in
     let usual : c.usual_layout.result ≡ usual_layout (length told.ids.items) = c.usual_layout.ensures ∙ ap usual_layout long in
@@ -57,7 +57,7 @@ unfolding recording_of
 returns-in_err-sound c =
     let e = err_from_is_err_and c.from_residual-in_err-sound.result c.from_residual-in_err-sound.ensures.1 in
     let told = subst (λ top. property_of c.args.file.now top ≡ Ok (told_of c.in_ok-told.told)) c.deref.ensures.value c.in_ok-told.ensures.exact in
-    let long : c.len-number.result ≡ length c.in_ok-told.told.ids.items = omega (arith, c.len-number.ensures, c.in_ok-told.told.ids.ok.0) in
+    let long = c.len-number.ensures ∙ c.in_ok-told.told.ids.ok.0 in
     rw (e.1, e.2, c.in_ok-top.ensures.exact, told, sym c.deref-2.ensures.value) (step_fails c.in_err-sound.field-0.0 _ _ (subst (λ n. Fails c.in_err-sound.field-0.0 (sound_in c.args.file.now c.deref-2.result.now n)) long c.in_err-sound.ensures.exact))
 
 pub returns-in_err-inner : goal.returns-in_err-inner
@@ -65,7 +65,7 @@ unfolding recording_of
 returns-in_err-inner c =
     let e = err_from_is_err_and c.from_residual-in_err-inner.result c.from_residual-in_err-inner.ensures.1 in
     let told = subst (λ top. property_of c.args.file.now top ≡ Ok (told_of c.in_ok-told.told)) c.deref.ensures.value c.in_ok-told.ensures.exact in
-    let long : c.len-number.result ≡ length c.in_ok-told.told.ids.items = omega (arith, c.len-number.ensures, c.in_ok-told.told.ids.ok.0) in
+    let long = c.len-number.ensures ∙ c.in_ok-told.told.ids.ok.0 in
     let sound : sound_in c.args.file.now c.in_ok-top.top.items (length c.in_ok-told.told.ids.items) ≡ Ok c.in_ok-sound.sound.now = subst (λ n. sound_in c.args.file.now c.in_ok-top.top.items n ≡ Ok c.in_ok-sound.sound.now) long (subst (λ top. sound_in c.args.file.now top c.len-number.result ≡ Ok c.in_ok-sound.sound.now) c.deref-2.ensures.value c.in_ok-sound.ensures.exact) in
     rw (e.1, e.2, c.in_ok-top.ensures.exact, told, sound, sym c.deref-3.ensures.value) (step_fails c.in_err-inner.field-0.0 _ _ c.in_err-inner.ensures.exact)
 
@@ -88,7 +88,7 @@ pub returns : goal.returns
 unfolding recording_of
 returns c =
     let told = subst (λ top. property_of c.args.file.now top ≡ Ok (told_of c.in_ok-told.told)) c.deref.ensures.value c.in_ok-told.ensures.exact in
-    let long : c.len-number.result ≡ length c.in_ok-told.told.ids.items = omega (arith, c.len-number.ensures, c.in_ok-told.told.ids.ok.0) in
+    let long = c.len-number.ensures ∙ c.in_ok-told.told.ids.ok.0 in
     let sound : sound_in c.args.file.now c.in_ok-top.top.items (length c.in_ok-told.told.ids.items) ≡ Ok c.in_ok-sound.sound.now = subst (λ n. sound_in c.args.file.now c.in_ok-top.top.items n ≡ Ok c.in_ok-sound.sound.now) long (subst (λ top. sound_in c.args.file.now top c.len-number.result ≡ Ok c.in_ok-sound.sound.now) c.deref-2.ensures.value c.in_ok-sound.ensures.exact) in
     let inner = subst (λ top. masters_of c.args.file.now top ≡ Ok c.in_ok-inner.inner.items) c.deref-3.ensures.value c.in_ok-inner.ensures.exact in
     let channels : c.in_ok-channels.channels.items ≡ unlaced_all c.in_ok-sound.sound.now (length c.in_ok-told.told.ids.items) = c.in_ok-channels.ensures ∙ ap (unlaced_all c.in_ok-sound.sound.now) long in
@@ -96,7 +96,7 @@ returns c =
     let marks = subst (λ inner. map mark_content c.in_ok-marks.marks.items ≡ marks_of c.args.file.now inner) c.deref-4.ensures.value c.in_ok-marks.ensures.marks in
     let others : map other_content c.in_ok-others.others.items ≡ others_told c.args.file.now c.in_ok-told.told.parts.items c.in_ok-inner.inner.items c.in_ok-top.top.items = rw (sym c.deref-5.ensures.value, sym c.deref-6.ensures.value, sym c.deref-7.ensures.value) c.in_ok-others.ensures in
     let tag : c.new.result.items ≡ [] = c.new.ensures.items in
-    step_then _ _ _ _ c.in_ok-top.ensures.exact (step_then _ _ _ _ told (step_then _ _ _ _ sound (step_then _ _ _ _ inner (ap Ok (sym (c.new-2.ensures ∙ rw (channels, layout, marks, others, tag) refl))))))
+    step_then _ _ _ _ c.in_ok-top.ensures.exact (step_then _ _ _ _ told (step_then _ _ _ _ sound (step_then _ _ _ _ inner (ap Ok (sym (c.new-2.ensures ∙ same_content _ _ _ _ _ _ _ _ _ _ _ channels layout marks others tag))))))
 
 pub read_property-requires : goal.read_property-requires
 read_property-requires c = rw c.deref.ensures.value c.in_ok-top.ensures.inside

@@ -1,4 +1,4 @@
-use Rattle.std.proofs.Common.{◌≡◌, ◌+◌, ◌≤◌, ◌∙◌, [], drop, ap, sym, arith}
+use Rattle.std.proofs.Common.{◌≡◌, ◌+◌, ◌≤◌, ◌∙◌, [], drop, ap, sym, subst, arith}
 use Rattle.std.proofs.lemmas.Result.{err_from_is_err_and}
 use Rattle.dsd_bits.specs.Channels.{count_of}
 use Rattle.dsd_bits.specs.Limits.{most_bits}
@@ -16,10 +16,10 @@ new-recording-requires c =
     let fields = c.in_ok-order.ensures in
     let channels = c.in_ok-channels.channels.items in
     let number = c.channel_number-number in
-    let short : count_of channels ≤ most_bits = omega (arith, c.in_ok-channels.ensures.count, c.count-count.ensures, fields.short) in
+    let short : count_of channels ≤ most_bits = subst (λ n. n ≤ most_bits) (sym (c.in_ok-channels.ensures.count ∙ c.count-count.ensures)) fields.short in
     record {
       shape = rw (c.new.ensures.items, c.new-2.ensures.items) (shape_is c.rate.result number.result c.channel_type.result c.layout.result channels c.in_ok-ids.ids.items c.in_ok-tag-2.tag.items c.split_at.result.1.now c.in_ok-order.order c.count-count.result
-          (omega (arith, c.rate.ensures, fields.rate.0)) (omega (arith, c.rate.ensures, fields.rate.1)) (omega (arith, number.ensures, fields.channels.0)) (omega (arith, number.ensures, fields.channels.1))
+          (subst (λ n. 1000000 ≤ n) (sym c.rate.ensures) fields.rate.0) (subst (λ n. n ≤ 50000000) (sym c.rate.ensures) fields.rate.1) (subst (λ n. 1 ≤ n) (sym number.ensures) fields.channels.0) (subst (λ n. n ≤ 6) (sym number.ensures) fields.channels.1)
           c.in_ok-channels.ensures.bits c.in_ok-channels.ensures.level short c.in_ok-ids.ensures c.layout.ensures);
     }
 
@@ -88,10 +88,10 @@ channels_of-requires-clause-enough c =
     rw (c.channel_number-number.ensures, c.count-count.ensures) (omega (arith, c.split_at.ensures.back_len, c.in_ok-data_at.ensures.place, c.in_ok-end.ensures.end, c.in_ok-end.ensures.inside))
 
 pub channels_of-requires-clause-channel_number : goal.channels_of-requires-clause-channel_number
-channels_of-requires-clause-channel_number c = rw c.channel_number-number.ensures c.in_ok-order.ensures.channels
+channels_of-requires-clause-channel_number c = subst (λ n. (1 ≤ n) × (n ≤ 6)) (sym c.channel_number-number.ensures) c.in_ok-order.ensures.channels
 
 pub channels_of-requires-clause-in_limit : goal.channels_of-requires-clause-in_limit
-channels_of-requires-clause-in_limit c = rw c.count-count.ensures c.in_ok-order.ensures.short
+channels_of-requires-clause-in_limit c = subst (λ n. n ≤ most_bits) (sym c.count-count.ensures) c.in_ok-order.ensures.short
 
 pub find_sound_end-requires-clause-channels : goal.find_sound_end-requires-clause-channels
 find_sound_end-requires-clause-channels c = c.in_ok-order.ensures.channels
@@ -119,3 +119,21 @@ find_tag-requires-clause-long c = c.in_ok-data_at.ensures.long
 
 pub split_at-requires : goal.split_at-requires
 split_at-requires c = c.in_ok-data_at.ensures.inside
+
+pub channel_number-number-requires : goal.channel_number-number-requires
+channel_number-number-requires c = c.in_ok-data_at.ensures.long
+
+pub count-count-requires : goal.count-count-requires
+count-count-requires c = c.in_ok-data_at.ensures.long
+
+pub channel_ids-requires : goal.channel_ids-requires
+channel_ids-requires c = subst (λ n. n ≤ 6) (sym c.channel_number-number.ensures) c.in_ok-order.ensures.channels.1
+
+pub rate-requires : goal.rate-requires
+rate-requires c = c.in_ok-data_at.ensures.long
+
+pub channel_type-requires : goal.channel_type-requires
+channel_type-requires c = c.in_ok-data_at.ensures.long
+
+pub layout-requires : goal.layout-requires
+layout-requires c = subst (λ n. n ≤ 6) (sym c.channel_number-number.ensures) c.in_ok-order.ensures.channels.1

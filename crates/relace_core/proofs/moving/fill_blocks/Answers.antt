@@ -1,8 +1,21 @@
-use Rattle.std.proofs.Common.{◌+◌, ◌*◌, ◌/◌, ◌<◌, arith, rules}
+use Rattle.std.proofs.Common.{◌+◌, ◌*◌, ◌/◌, ◌^◌, ◌<◌, arith, rules}
 use Rattle.std.proofs.lemmas.Nat.{mul-le}
 use Rattle.std.specs.Int.{div_ceil}
 use Rattle.relace_core.proofs.MovingLaws.{more_blocks, less_left}
 use Rattle.relace_core.proofs.moving.fill_blocks.Goals as goal
+
+pub overflow_mul-from-in-loop-group : goal.overflow_mul-from-in-loop-group
+overflow_mul-from-in-loop-group c = omega (arith, mul-le (4096 * c.loop-group.group) c.args.stretch.channels (2 ^ 33) 6 (omega (arith, c.div_ceil-group-end.ensures, c.loop-group-test.true, c.requires.in_limit)) c.requires.channel_number.1)
+
+pub split_at_mut-planes-requires : goal.split_at_mut-planes-requires
+split_at_mut-planes-requires c =
+    let n = c.args.stretch.channels in
+    omega (arith, c.requires.room, c.loop-group.invariant.size, mul-le c.loop-group.group n (div_ceil c.args.stretch.count 32768) n (omega (arith, c.div_ceil-group-end.ensures, c.loop-group-test.true)) (omega arith))
+
+pub split_at-requires : goal.split_at-requires
+split_at-requires c =
+    let n = c.args.stretch.channels in
+    omega (arith, c.requires.size, mul-le (4096 * c.loop-group.group) n (c.args.stretch.count / 8) n (omega (arith, c.div_ceil-group-end.ensures, c.loop-group-test.true)) (omega arith))
 
 pub frames_to_planes-requires-clause-frames : goal.frames_to_planes-requires-clause-frames
 frames_to_planes-requires-clause-frames c =

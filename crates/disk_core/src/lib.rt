@@ -2,7 +2,7 @@
 //!
 //! A [`Disk`] is a [`Folder`](folder_core::Folder) whose names are paths. What it creates is a [`DiskFile`], which has its
 //! name only once it is kept, whole. It tells nothing of what stands in it, so its calls have no clauses of their own
-//! beside those that hold of any folder.
+//! beside those that hold of any folder and of any writer.
 #![tactic(auto)]
 
 mod disk;

@@ -196,22 +196,8 @@ pub(crate) fn titled_sources(alloc: Global) -> Result<Sources, AllocError> {
     sources_with(alloc, text, &ONES, &ZEROS)
 }
 
-/// The project of `CUES` by the weights 1 and 0, with takes of two channels of 16 ones and of 16 zeros.
-pub(crate) fn stereo_sources(alloc: Global) -> Result<Sources, AllocError> {
-    let text = splice(alloc, "1, 0", &CUES);
+/// The project of `CUES` by these weights, with takes of two channels of 16 ones and of 16 zeros.
+pub(crate) fn stereo_sources(alloc: Global, weights: &str) -> Result<Sources, AllocError> {
+    let text = splice(alloc, weights, &CUES);
     sources_of(text, stereo(alloc, &[0xff; 4]), stereo(alloc, &[0; 4]))
-}
-
-/// The bytes with another one at a place.
-pub(crate) fn with_byte(
-    alloc: Global,
-    bytes: &[u8],
-    place: usize,
-    byte: u8,
-) -> Result<Vec<u8>, AllocError> {
-    let mut made = Vec::from_slice(alloc, bytes)?;
-    if let Some(old) = made.get_mut(place) {
-        *old = byte;
-    }
-    Ok(made)
 }

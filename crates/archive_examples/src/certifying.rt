@@ -31,6 +31,12 @@ pub(crate) const CERT: [u8; 46] = *b"DSPC\0\x02\0\x02\0\0\0\x01\0\0\0\0\0\x01\
     \0\0\0\0\0\0\0\x04\0\
     \0\0\0\0\0\0\0\x04";
 
+/// The certificate of the same bridge by the weights 1 and 1, whose bit costs nothing: its rows and its cost are zeros.
+pub(crate) const FREE: [u8; 44] = *b"DSPC\0\x02\0\x02\0\0\0\x01\0\0\0\0\0\x01\
+    \0\0\0\0\0\0\0\0\0\
+    \0\0\0\0\0\0\0\0\0\
+    \0\0\0\0\0\0\0\0";
+
 #[test]
 fn certifies_a_bridge(rt: HostRuntime) {
     let alloc = rt.alloc();
@@ -54,9 +60,9 @@ fn certifies_a_bridge_of_two_bits(rt: HostRuntime) {
 /// The entry of a bridge of one bit: its cue, its channel, the bytes of its two rows and of its cost.
 pub(crate) type EntryBytes = (u16, u16, &'static [u8]);
 
-/// The rows and the cost between ones and zeros by the weights 1 and 1: the bit 0 meets the fade and costs nothing, and
-/// where the cost is 0 each bound is.
-pub(crate) const FALLING: &[u8] = &[0; 26];
+// The rows and the cost between ones and zeros by the weights 1 and 1: the bit 0 meets the fade and costs nothing, and
+// where the cost is 0 each bound is.
+const FALLING: &[u8] = &[0; 26];
 
 // The same between zeros and ones, where the bit 1 meets the fade.
 const RISING: &[u8] = &[0; 26];
@@ -103,13 +109,10 @@ const CERTIFIED: [(&[CueNumbers], &[EntryBytes]); 3] = [
 #[test]
 fn certifies_each_bridge(rt: HostRuntime) {
     let alloc = rt.alloc();
-    for (cues, entries) in &CERTIFIED {
-        let number = entries.len();
-        let sources = mono_sources(alloc, "1, 1", cues);
-        assert!(rt;
-            certifies_entries(alloc, sources, entries).unwrap_or(false),
-            "{number} entries"
-        );
+    for case in &CERTIFIED {
+        let sources = mono_sources(alloc, "1, 1", case.0);
+        let certified = certifies_entries(alloc, sources, case.1);
+        assert!(rt; certified.unwrap_or(false), "{} entries", case.1.len());
     }
 }
 
@@ -119,5 +122,5 @@ fn certifies_each_channel(rt: HostRuntime) {
     let alloc = rt.alloc();
     let entries = [(0, 0, LEVEL), (0, 1, LEVEL)];
     assert!(rt; size_of(cert_of(alloc, &entries)) == Ok(80));
-    assert!(rt; certifies_entries(alloc, stereo_sources(alloc), &entries).unwrap_or(false));
+    assert!(rt; certifies_entries(alloc, stereo_sources(alloc, "1, 0"), &entries).unwrap_or(false));
 }

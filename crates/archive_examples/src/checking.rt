@@ -2,11 +2,11 @@
 
 use crate::builders::{
     CUES, CUTS, CueNumbers, Sources, mono_sources, sources_of, splice, stereo_sources,
-    titled_sources, with_byte,
+    titled_sources,
 };
 use crate::certifying::WIDE;
 use archive_core::{Edited, Fault, Form, Verdict, check};
-use fixtures::files::mono;
+use fixtures::files::{changed, mono};
 use std::alloc::{AllocError, Global};
 
 /// Whether what is cut is accepted at this cost.
@@ -67,7 +67,7 @@ fn accepts_titles_and_channels(rt: HostRuntime) {
     assert!(rt; accepts(alloc, titled_sources(alloc), Form::Dsdiff, 0).unwrap_or(false));
     assert!(rt; accepts(alloc, titled_sources(alloc), Form::Dsf, 0).unwrap_or(false));
     assert!(rt; accepts(alloc, titled_sources(alloc), Form::Dsf8, 0).unwrap_or(false));
-    assert!(rt; accepts(alloc, stereo_sources(alloc), Form::Dsdiff, 8).unwrap_or(false));
+    assert!(rt; accepts(alloc, stereo_sources(alloc, "1, 0"), Form::Dsdiff, 8).unwrap_or(false));
 }
 
 // The number in so many bytes from a place on, the highest first.
@@ -99,45 +99,41 @@ fn widened(alloc: Global, cert: &[u8], rows: usize, states: usize) -> Result<Vec
     Ok(made)
 }
 
-// At which costs a master is accepted with its own certificate and with that of the first version, of so many rows of
-// so many states; and how many bytes this one has.
-fn widened_costs(
+// Whether a master is accepted at its cost with its own certificate and with that of the first version, which has so
+// many rows of so many states, and so many bytes.
+fn accepts_widened(
     alloc: Global,
     sources: &Sources,
     made: &Edited,
-    (rows, states): (usize, usize),
-) -> Result<(Option<u128>, Option<u128>, usize), Fault> {
+    (rows, states, size): (usize, usize, usize),
+) -> Result<bool, Fault> {
     let first = widened(alloc, &made.cert, rows, states)?;
-    let own = cost(alloc, sources, made, &made.cert)?;
-    Ok((own, cost(alloc, sources, made, &first)?, first.len()))
+    let own = cost(alloc, sources, made, &made.cert)? == Some(made.total);
+    Ok(own && cost(alloc, sources, made, &first)? == Some(made.total) && first.len() == size)
 }
 
-// The same of what is cut, and before it how many bytes the master and its certificate have, and the cost.
-type Costs = ([usize; 2], u128, (Option<u128>, Option<u128>, usize));
-
+// The same of what is cut, of which the master and its certificate have so many bytes; and what it costs.
 fn both_versions(
     alloc: Global,
     sources: Result<Sources, AllocError>,
-    shape: (usize, usize),
-) -> Result<Costs, Fault> {
+    sizes: [usize; 2],
+    first: (usize, usize, usize),
+) -> Result<(bool, u128), Fault> {
     let sources = sources?;
     let made = sources.edit(alloc, Form::Dsdiff)?;
-    let costs = widened_costs(alloc, &sources, &made, shape)?;
-    Ok(([made.master.len(), made.cert.len()], made.total, costs))
+    let accepted = accepts_widened(alloc, &sources, &made, first)?;
+    Ok((
+        accepted && [made.master.len(), made.cert.len()] == sizes,
+        made.total,
+    ))
 }
 
 // A certificate of the first version shows the same, with bounds that are cut at the cost.
 #[test]
 fn accepts_the_first_version(rt: HostRuntime) {
     let sources = mono_sources(rt.alloc(), "1, 0", &CUES);
-    assert!(rt; are_small(both_versions(rt.alloc(), sources, (2, 2))).unwrap_or(false));
-}
-
-// Whether the master of `CUES` and both its certificates have their sizes, and are accepted at the cost 4.
-fn are_small(costs: Result<Costs, Fault>) -> Result<bool, Fault> {
-    let (sizes, total, accepted) = costs?;
-    let expected = (Some(4), Some(4), WIDE.len());
-    Ok(sizes == [128, 46] && total == 4 && accepted == expected)
+    let accepted = both_versions(rt.alloc(), sources, [128, 46], (2, 2, WIDE.len()));
+    assert!(rt; accepted.unwrap_or((false, 0)) == (true, 4));
 }
 
 // At which cost the master of `CUES` by the weights 1 and 0 is accepted with this certificate.
@@ -164,14 +160,9 @@ fn accepts_the_longest_bridge(rt: HostRuntime) {
     let weights = "341, 341, 341, 341, 341, 341, 341, 341, 341, 341, 341, 345";
     let text = splice(alloc, weights, &LONGEST);
     let sources = sources_of(text, mono(alloc, &[0xff; 1024]), mono(alloc, &[0; 1024]));
-    assert!(rt; is_longest(both_versions(alloc, sources, (4097, 2048))).unwrap_or(false));
-}
-
-// Whether both certificates have their sizes and are accepted at the cost.
-fn is_longest(costs: Result<Costs, Fault>) -> Result<bool, Fault> {
-    let (sizes, total, accepted) = costs?;
-    let expected = (Some(total), Some(total), 67_125_274);
-    Ok(sizes == [1152, 57_694_243] && accepted == expected)
+    let sizes = [1152, 57_694_243];
+    let accepted = both_versions(alloc, sources, sizes, (4097, 2048, 67_125_274));
+    assert!(rt; accepted.unwrap_or((false, 0)).0);
 }
 
 // Whether a master is accepted with its certificate with bits of one byte turned over.
@@ -182,7 +173,7 @@ fn accepts_flipped(
     (place, bits): (usize, u8),
 ) -> Result<bool, Fault> {
     let byte = made.cert.get(place).copied().unwrap_or(0);
-    let cert = with_byte(alloc, &made.cert, place, byte ^ bits)?;
+    let cert = changed(alloc, &made.cert, place, &[byte ^ bits])?;
     Ok(cost(alloc, sources, made, &cert)?.is_some())
 }
 
@@ -229,5 +220,5 @@ const OTHERS: [u8; 7] = [1, 2, 8, 16, 32, 64, 128];
 fn accepts_no_other_bit(rt: HostRuntime) {
     let alloc = rt.alloc();
     assert!(rt; accepts_just(alloc, mono_sources(alloc, "1, 0", &CUES), &[27]).unwrap_or(false));
-    assert!(rt; accepts_just(alloc, stereo_sources(alloc), &[27, 61]).unwrap_or(false));
+    assert!(rt; accepts_just(alloc, stereo_sources(alloc, "1, 0"), &[27, 61]).unwrap_or(false));
 }

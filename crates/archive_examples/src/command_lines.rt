@@ -1,10 +1,10 @@
 //! Whole command lines over a folder in memory: the line, the status, and the files behind it.
 
 use crate::builders::{CUES, ONES, ZEROS, splice};
-use crate::certifying::{LEVEL, cert_of};
+use crate::certifying::CERT;
 use crate::folders::{folder_of, holds};
-use crate::outcomes::TOLD;
-use command_core::{MemoryFolder, outcome_line, run, status};
+use crate::outcomes::{TOLD, prints};
+use command_core::{MemoryFolder, run};
 use fixtures::files::{FILE, WAVE, with_sounds};
 use fixtures::projects::DECIMATE;
 use std::alloc::{AllocError, Global};
@@ -19,16 +19,19 @@ pub(crate) fn words_of(alloc: Global, texts: &[&str]) -> Result<Vec<String>, All
     Ok(words)
 }
 
-// A folder with the file, both projects, that of `CUES` by the weights 1 and 0, and its first take, the one of ones.
-fn folder(alloc: Global) -> Result<MemoryFolder, AllocError> {
+// A folder with the first so many of these: the file, both projects, that of `CUES` by the weights 1 and 0, and its takes,
+// the one of ones and the one of zeros.
+fn folder(alloc: Global, number: usize) -> Result<MemoryFolder, AllocError> {
     let text = splice(alloc, "1, 0", &CUES)?;
-    let files: [(&str, &[u8]); 4] = [
+    let files: [(&str, &[u8]); 5] = [
         ("in.dff", &FILE),
         ("p.toml", DECIMATE.as_bytes()),
         ("e.toml", text.as_bytes()),
         ("a.dff", &ONES),
+        ("b.dff", &ZEROS),
     ];
-    folder_of(alloc, &files)
+    let (first, _) = files.split_at(number.min(5));
+    folder_of(alloc, first)
 }
 
 // A command line, and the status, the line and the number of files that it comes to.
@@ -38,9 +41,8 @@ type Line = (&'static [&'static str], (u8, &'static str, usize));
 fn comes_to(alloc: Global, folder: &mut MemoryFolder, line: &Line) -> Result<bool, AllocError> {
     let (words, (number, text, count)) = *line;
     let words = words_of(alloc, words)?;
-    let outcome = run(alloc, words.as_slice(), folder);
-    let said = outcome_line(alloc, &outcome)?;
-    Ok(status(&outcome) == number && said.as_str() == text && folder.count() == count)
+    let said = prints(alloc, run(alloc, words.as_slice(), folder), number, text)?;
+    Ok(said && folder.count() == count)
 }
 
 const WRONG: (u8, &str, usize) = (3, "fault: WrongWords", 4);
@@ -62,7 +64,7 @@ const REFUSED: [Line; 7] = [
 #[test]
 fn refuses_and_creates_nothing(rt: HostRuntime) -> Result<(), Fail> {
     let alloc = rt.alloc();
-    let mut folder = folder(alloc)?;
+    let mut folder = folder(alloc, 4)?;
     for line in &REFUSED {
         assert!(rt;
             comes_to(alloc, &mut folder, line).unwrap_or(false),
@@ -108,26 +110,19 @@ const DONE: [Line; 8] = [
     ),
 ];
 
-// Whether the files that were made are these: the least sums of the bridge's two levels are those of `LEVEL`.
-fn made(alloc: Global, folder: &MemoryFolder) -> Result<bool, AllocError> {
+// Whether the files that were made are these.
+fn made(folder: &MemoryFolder) -> bool {
     let played = holds(folder, "out.wav", &WAVE);
     let converted = holds(folder, "again.dff", &FILE);
     let cut = holds(folder, "m.dff", &with_sounds([0xff, 0]));
-    let certified = holds(folder, "c.cert", &cert_of(alloc, &[(0, 0, LEVEL)])?);
-    Ok(played && converted && cut && certified)
-}
-
-// The folder with the second take.
-fn whole_folder(alloc: Global) -> Result<MemoryFolder, AllocError> {
-    let mut folder = folder(alloc)?;
-    folder.put("b.dff", &ZEROS)?;
-    Ok(folder)
+    let certified = holds(folder, "c.cert", &CERT);
+    played && converted && cut && certified
 }
 
 #[test]
 fn does_commands_whole(rt: HostRuntime) -> Result<(), Fail> {
     let alloc = rt.alloc();
-    let mut folder = whole_folder(alloc)?;
+    let mut folder = folder(alloc, 5)?;
     for line in &DONE {
         assert!(rt;
             comes_to(alloc, &mut folder, line).unwrap_or(false),
@@ -135,6 +130,6 @@ fn does_commands_whole(rt: HostRuntime) -> Result<(), Fail> {
             line.0
         );
     }
-    assert!(rt; made(alloc, &folder).unwrap_or(false));
+    assert!(rt; made(&folder));
     Ok(())
 }

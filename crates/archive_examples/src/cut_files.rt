@@ -1,5 +1,6 @@
 //! Files cut at each length: why they hold no recording.
 
+use crate::opening::is_unread;
 use archive_core::read_any;
 use fixtures::files::{FILE, one_bit};
 use std::alloc::{AllocError, Global};
@@ -27,14 +28,6 @@ fn is_cut_so(
         }
     }
     Ok(first < end && end <= file.len())
-}
-
-// Whether a file is not read for this fault.
-fn is_unread(alloc: Global, file: &[u8], expected: &str) -> Result<bool, AllocError> {
-    match read_any(alloc, file) {
-        Ok(_) => Ok(false),
-        Err(fault) => Ok(fault.to_string(alloc)?.as_str() == expected),
-    }
 }
 
 #[test]

@@ -73,7 +73,16 @@ fn marks_titles_in_dsdiff_alone(rt: HostRuntime) {
 fn cuts_each_channel(rt: HostRuntime) {
     let alloc = rt.alloc();
     let master = stereo(alloc, &[0xff, 0xff, 0, 0]);
-    assert!(rt; cuts_built(alloc, stereo_sources(alloc), Form::Dsdiff, master, 8).unwrap_or(false));
+    assert!(rt;
+        cuts_built(
+            alloc,
+            stereo_sources(alloc, "1, 0"),
+            Form::Dsdiff,
+            master,
+            8
+        )
+        .unwrap_or(false)
+    );
 }
 
 // Whether a cut is refused for this fault.

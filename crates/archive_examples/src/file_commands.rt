@@ -1,7 +1,7 @@
 //! `play`, `convert` and `info` over folders in memory: what they print and which files they create.
 
 use crate::builders::file_in;
-use crate::folders::{asks, comes_to, folder_of, holds, is_refused};
+use crate::folders::{asks, comes_to, comes_to_watched, folder_of, holds, is_refused};
 use crate::outcomes::TOLD;
 use crate::watched_folder::{Asked, NOTHING, WatchedFolder};
 use archive_core::Form;
@@ -16,14 +16,12 @@ fn folder(alloc: Global) -> Result<MemoryFolder, AllocError> {
     folder_of(alloc, &files)
 }
 
-// Playing this input by this project.
-fn playing<'a>(project: &'a str, input: &'a str) -> Task<'a> {
-    Task::Play {
-        project,
-        input,
-        output: "out",
-    }
-}
+// Playing the file by the project.
+const PLAY: Task = Task::Play {
+    project: "p.toml",
+    input: "in.dff",
+    output: "out",
+};
 
 // Converting this input to this output.
 fn converting<'a>(form: Form, input: &'a str, output: &'a str) -> Task<'a> {
@@ -51,8 +49,7 @@ fn makes(
 #[test]
 fn plays_to_a_file(rt: HostRuntime) {
     let alloc = rt.alloc();
-    let task = playing("p.toml", "in.dff");
-    assert!(rt; makes(alloc, task, "played 46 bytes", ("out", &WAVE), 3).unwrap_or(false));
+    assert!(rt; makes(alloc, PLAY, "played 46 bytes", ("out", &WAVE), 3).unwrap_or(false));
 }
 
 // Whether the file is converted to the one that its recording has in this form, beside itself.
@@ -83,15 +80,21 @@ fn tells_of_a_file(rt: HostRuntime) {
 // A project and an input of which one is not there.
 const NOT_THERE: [(&str, &str); 2] = [("none", "in.dff"), ("in.dff", "none")];
 
+// Whether nothing is played by them.
+fn is_unplayed(alloc: Global, (project, input): &(&str, &str)) -> bool {
+    let task = Task::Play {
+        project,
+        input,
+        output: "out",
+    };
+    is_refused(alloc, folder(alloc), task, "fault: ReadFailed").unwrap_or(false)
+}
+
 #[test]
 fn plays_no_missing_file_and_creates_nothing(rt: HostRuntime) {
     let alloc = rt.alloc();
-    for (project, input) in &NOT_THERE {
-        let task = playing(project, input);
-        assert!(rt;
-            is_refused(alloc, folder(alloc), task, "fault: ReadFailed").unwrap_or(false),
-            "{project} {input}"
-        );
+    for names in &NOT_THERE {
+        assert!(rt; is_unplayed(alloc, names), "{names:?}");
     }
 }
 
@@ -102,8 +105,16 @@ const NOT_PLAYED: [(&str, &str, &str); 2] = [
 ];
 
 // Whether playing comes to this line, and leaves an empty file.
-fn leaves_none(alloc: Global, task: Task, line: &str) -> Result<bool, AllocError> {
+fn leaves_none(
+    alloc: Global,
+    (project, input, line): &(&str, &str, &str),
+) -> Result<bool, AllocError> {
     let mut folder = folder(alloc)?;
+    let task = Task::Play {
+        project,
+        input,
+        output: "out",
+    };
     let refused = comes_to(alloc, &mut folder, task, 2, line)?;
     Ok(refused && holds(&folder, "out", &[]) && folder.count() == 3)
 }
@@ -111,12 +122,8 @@ fn leaves_none(alloc: Global, task: Task, line: &str) -> Result<bool, AllocError
 #[test]
 fn leaves_an_empty_file_where_nothing_is_played(rt: HostRuntime) {
     let alloc = rt.alloc();
-    for (project, input, line) in &NOT_PLAYED {
-        let task = playing(project, input);
-        assert!(rt;
-            leaves_none(alloc, task, line).unwrap_or(false),
-            "{project} {input}"
-        );
+    for case in &NOT_PLAYED {
+        assert!(rt; leaves_none(alloc, case).unwrap_or(false), "{}", case.2);
     }
 }
 
@@ -188,8 +195,7 @@ const PLAYS: [Asked; 8] = [
 
 // Whether playing asks so.
 fn plays_so(alloc: Global, (_, failure, line, calls): &Asked) -> bool {
-    let task = playing("p.toml", "in.dff");
-    asks(alloc, folder(alloc), *failure, task, (line, calls)).unwrap_or(false)
+    asks(alloc, folder(alloc), *failure, PLAY, (line, calls)).unwrap_or(false)
 }
 
 #[test]
@@ -202,9 +208,8 @@ fn asks_for_files_in_order(rt: HostRuntime) {
 
 // Whether the file is kept as the front of so many bytes where there is no room for more.
 fn keeps_front(alloc: Global, room: usize) -> Result<bool, AllocError> {
-    let task = playing("p.toml", "in.dff");
     let mut folder = WatchedFolder::over(alloc, folder(alloc)?, ("write", "out", room));
-    let failed = comes_to(alloc, &mut folder, task, 2, "fault: WriteFailed")?;
+    let failed = comes_to_watched(alloc, &mut folder, PLAY, 2, "fault: WriteFailed")?;
     let (front, _) = WAVE.split_at(room.min(46));
     Ok(failed && holds(&folder.files, "out", front))
 }

@@ -1,7 +1,8 @@
 //! What a command comes to in a folder, and what it asks the folder for.
 
+use crate::outcomes::prints;
 use crate::watched_folder::{Failure, WatchedFolder};
-use command_core::{Folder, MemoryFolder, Task, outcome_line, perform, status};
+use command_core::{MemoryFolder, Outcome, Task, perform};
 use std::alloc::{AllocError, Global};
 
 /// A folder with these files.
@@ -16,17 +17,31 @@ pub(crate) fn folder_of(
     Ok(folder)
 }
 
+/// What a task comes to in the folder.
+pub(crate) fn outcome_of(alloc: Global, folder: &mut MemoryFolder, task: Task) -> Outcome {
+    perform(alloc, task, folder)
+}
+
 /// Whether a task comes to this status and this line in the folder.
-pub(crate) fn comes_to<F: Folder>(
+pub(crate) fn comes_to(
     alloc: Global,
-    folder: &mut F,
+    folder: &mut MemoryFolder,
     task: Task,
     number: u8,
     line: &str,
 ) -> Result<bool, AllocError> {
-    let outcome = perform(alloc, task, folder);
-    let said = outcome_line(alloc, &outcome)?;
-    Ok(status(&outcome) == number && said.as_str() == line)
+    prints(alloc, outcome_of(alloc, folder, task), number, line)
+}
+
+/// The same in a folder that is watched.
+pub(crate) fn comes_to_watched(
+    alloc: Global,
+    folder: &mut WatchedFolder,
+    task: Task,
+    number: u8,
+    line: &str,
+) -> Result<bool, AllocError> {
+    prints(alloc, perform(alloc, task, folder), number, line)
 }
 
 /// Whether a file of these bytes stands in the folder.
@@ -60,6 +75,6 @@ pub(crate) fn asks(
 ) -> Result<bool, AllocError> {
     let mut watched = WatchedFolder::over(alloc, folder?, failure);
     let number = if failure.0.is_empty() { 0 } else { 2 };
-    let said = comes_to(alloc, &mut watched, task, number, line)?;
+    let said = comes_to_watched(alloc, &mut watched, task, number, line)?;
     Ok(said && watched.calls.as_str() == calls)
 }

@@ -205,7 +205,15 @@ fn a_reader_is_played(rt: HostRuntime) -> Result<(), Fail> {
 fn a_master_is_cut(rt: HostRuntime) -> Result<(), Fail> {
     let alloc = rt.alloc();
     let master = stereo(alloc, &[0xff, 0xff, 0, 0]);
-    assert!(rt; cuts_built(alloc, stereo_sources(alloc), Form::Dsdiff, master, 8)?);
+    assert!(rt;
+        cuts_built(
+            alloc,
+            stereo_sources(alloc, "1, 0"),
+            Form::Dsdiff,
+            master,
+            8
+        )?
+    );
     Ok(())
 }
 
@@ -219,7 +227,7 @@ fn a_master_is_marked(rt: HostRuntime) -> Result<(), Fail> {
 #[test]
 fn a_master_is_accepted(rt: HostRuntime) -> Result<(), Fail> {
     let alloc = rt.alloc();
-    assert!(rt; accepts(alloc, stereo_sources(alloc), Form::Dsdiff, 8)?);
+    assert!(rt; accepts(alloc, stereo_sources(alloc, "1, 0"), Form::Dsdiff, 8)?);
     assert!(rt; accepts(alloc, titled_sources(alloc), Form::Dsdiff, 0)?);
     Ok(())
 }
@@ -395,7 +403,10 @@ fn files_are_read_whole(rt: HostRuntime) -> Result<(), Fail> {
 // Puts the file `a`, and keeps a file `b` of no bytes.
 fn fill(alloc: Global, folder: &mut MemoryFolder) -> Result<(), AllocError> {
     folder.put("a", &FILE)?;
-    folder.keep("b", Vec::new(alloc)).map_err(|_| AllocError)
+    match folder.keep("b", Vec::new(alloc)) {
+        Ok(()) => Ok(()),
+        Err(_) => Err(AllocError),
+    }
 }
 
 // How many bytes are read of the file `a` of a folder and how many files it has. A folder in memory where the file is
@@ -403,7 +414,9 @@ fn fill(alloc: Global, folder: &mut MemoryFolder) -> Result<(), AllocError> {
 fn held(alloc: Global) -> Result<(usize, usize), Fail> {
     let mut folder = MemoryFolder::new(alloc);
     fill(alloc, &mut folder)?;
-    let mut opened = folder.open("a").map_err(|_| AllocError)?;
+    let Ok(mut opened) = folder.open("a") else {
+        return Err(Fail::from(AllocError));
+    };
     let mut bytes = [0; 128];
     let count = opened.read(&mut bytes)?;
     Ok((count, folder.count()))

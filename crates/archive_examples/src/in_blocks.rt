@@ -1,17 +1,13 @@
 //! `convert` and `info` where they don't hold the file: here every file is taken for a large one.
 
-ghost use Rattle.std.specs.Prelude.{None, false};
-
 use crate::builders::{CUT_OFF, file_in};
 use crate::conversion::{commented, tagged};
 use crate::folders::folder_of;
 use crate::watched_folder::{Failure, NOTHING, WatchedFolder};
 use archive_core::Form;
-use command_core::{Folder, FolderFault, MemoryFolder, Outcome, outcome_line};
+use command_core::{Folder, MemoryFolder, Outcome, outcome_line};
 use fixtures::files::{FILE, dsf_of, stereo};
 use std::alloc::{AllocError, Global};
-use std::io::Cursor;
-use std::test::Fail;
 use transfer_commands::{convert_file, open_file};
 
 // A file of fewer bytes is held whole: any of these, or none.
@@ -42,10 +38,17 @@ fn told<F: Folder>(alloc: Global, folder: &mut F, most: usize) -> Result<String,
     outcome_line(alloc, &outcome)
 }
 
-// A folder with this file.
-fn folder_with(alloc: Global, file: &[u8]) -> Result<MemoryFolder, AllocError> {
-    let files: [(&str, &[u8]); 1] = [("in", file)];
-    folder_of(alloc, &files)
+// What is told of `in` in a folder in memory, or, with a form, what converting it comes to.
+fn said(
+    alloc: Global,
+    folder: &mut MemoryFolder,
+    form: Option<Form>,
+    most: usize,
+) -> Result<String, AllocError> {
+    match form {
+        Some(form) => converted(alloc, folder, form, most),
+        None => told(alloc, folder, most),
+    }
 }
 
 // Whether the same stands in both folders.
@@ -57,24 +60,26 @@ fn are_alike(first: &MemoryFolder, second: &MemoryFolder) -> bool {
     }
 }
 
-// Whether a file is converted alike, held and not.
-fn is_converted_alike(alloc: Global, file: &[u8], form: Form) -> Result<bool, AllocError> {
-    let mut held = folder_with(alloc, file)?;
-    let mut read = folder_with(alloc, file)?;
-    let line = converted(alloc, &mut held, form, ALL)?;
-    let again = converted(alloc, &mut read, form, NONE)?;
+// Whether a file is told of, or converted to a form, alike, held and not.
+fn is_done_alike(alloc: Global, file: &[u8], form: Option<Form>) -> Result<bool, AllocError> {
+    let mut held = folder_of(alloc, &[("in", file)])?;
+    let mut read = folder_of(alloc, &[("in", file)])?;
+    let line = said(alloc, &mut held, form, ALL)?;
+    let again = said(alloc, &mut read, form, NONE)?;
     Ok(again == line && are_alike(&held, &read))
 }
 
-// Whether a file is told of, and converted to each form, alike, held and not.
+// What is done with a file: it is told of, and converted to each form.
+const DONE: [Option<Form>; 4] = [None, Some(Form::Dsdiff), Some(Form::Dsf), Some(Form::Dsf8)];
+
+// Whether all is done alike with a file, held and not.
 fn is_alike(alloc: Global, file: &[u8]) -> Result<bool, AllocError> {
-    let mut folder = folder_with(alloc, file)?;
-    let line = told(alloc, &mut folder, ALL)?;
-    let mut alike = told(alloc, &mut folder, NONE)? == line;
-    for form in &[Form::Dsdiff, Form::Dsf, Form::Dsf8] {
-        alike = is_converted_alike(alloc, file, *form)? && alike;
+    for form in &DONE {
+        if !is_done_alike(alloc, file, *form)? {
+            return Ok(false);
+        }
     }
-    Ok(alike)
+    Ok(true)
 }
 
 // The same of a file that was built.
@@ -134,76 +139,47 @@ const CALLS: [(Failure, &str, &str); 5] = [
     ),
 ];
 
-// Whether converting `FILE` where this fails comes to this line and these calls.
-fn asks(alloc: Global, failure: Failure, line: &str, calls: &str) -> Result<bool, AllocError> {
-    let mut folder = WatchedFolder::over(alloc, folder_with(alloc, &FILE)?, failure);
+// Whether converting in these files, where this fails, comes to this line, and to these calls.
+fn asks(
+    alloc: Global,
+    files: Result<MemoryFolder, AllocError>,
+    (failure, line, calls): &(Failure, &str, &str),
+) -> Result<bool, AllocError> {
+    let mut folder = WatchedFolder::over(alloc, files?, *failure);
     let said = converted(alloc, &mut folder, Form::Dsf, NONE)?;
-    Ok(said.as_str() == line && folder.calls.as_str() == calls)
+    Ok(said.as_str() == *line && folder.calls.as_str() == *calls)
 }
 
 #[test]
 fn asks_for_files_in_order(rt: HostRuntime) {
     let alloc = rt.alloc();
-    for (failure, line, calls) in &CALLS {
-        assert!(rt;
-            asks(alloc, *failure, line, calls).unwrap_or(false),
-            "{line}"
-        );
+    for case in &CALLS {
+        let asked = asks(alloc, folder_of(alloc, &[("in", &FILE)]), case);
+        assert!(rt; asked.unwrap_or(false), "{}", case.1);
     }
 }
 
-/// A folder in which a file is another one from some opening on. It tells nothing.
-#[derive(Drop)]
-pub(crate) struct ChangingFolder {
-    /// The files, and under the name `changed` the other one.
-    pub(crate) files: MemoryFolder,
-    /// How often files are opened before.
-    pub(crate) left: usize,
-}
-
-impl Folder for ChangingFolder {
-    type In = Cursor<Vec<u8>>;
-
-    type Out = Vec<u8>;
-
-    ghost file = { λ f n. None };
-
-    ghost is_told = { λ f. false };
-
-    fn open(&mut self, name: &str) -> Result<Cursor<Vec<u8>>, FolderFault> {
-        if self.left == 0 {
-            return self.files.open("changed");
-        }
-        self.left -= 1;
-        self.files.open(name)
-    }
-
-    fn create(&mut self, name: &str) -> Result<Vec<u8>, FolderFault> {
-        self.files.create(name)
-    }
-
-    fn keep(&mut self, name: &str, out: Vec<u8>) -> Result<(), FolderFault> {
-        self.files.keep(name, out)
-    }
-
-    fn give_up(&mut self, name: &str, out: Vec<u8>) {
-        self.files.give_up(name, out);
-    }
-}
-
-// What converting `FILE` comes to where it is this file once it was opened so often.
-fn converts_changed(alloc: Global, left: usize, changed: &[u8]) -> Result<String, AllocError> {
-    let files = folder_of(alloc, &[("in", &FILE), ("changed", changed)])?;
-    converted(alloc, &mut ChangingFolder { files, left }, Form::Dsf, NONE)
+// Whether converting `FILE` comes to this line where it is this file once it was opened so often.
+fn converts_changed(
+    alloc: Global,
+    often: usize,
+    changed: Result<Vec<u8>, AllocError>,
+    line: &str,
+) -> Result<bool, AllocError> {
+    let files = folder_of(alloc, &[("in", &FILE), ("changed", &changed?)])?;
+    let mut folder = WatchedFolder::over(alloc, files, ("change", "", often));
+    Ok(converted(alloc, &mut folder, Form::Dsf, NONE)?.as_str() == line)
 }
 
 // Another number of channels is seen at the last reading; before that, the file is what it became.
 #[test]
-fn refuses_a_file_that_changes(rt: HostRuntime) -> Result<(), Fail> {
+fn refuses_a_file_that_changes(rt: HostRuntime) {
     let alloc = rt.alloc();
-    let changed = stereo(alloc, &[1, 2])?;
-    assert!(rt; converts_changed(alloc, 2, &changed)?.as_str() == "fault: ReadFailed");
-    assert!(rt; converts_changed(alloc, 1, &changed)?.as_str() == "converted dropped 0");
-    assert!(rt; converts_changed(alloc, 2, &FILE)?.as_str() == "converted dropped 0");
-    Ok(())
+    let done = "converted dropped 0";
+    let changed = stereo(alloc, &[1, 2]);
+    assert!(rt; converts_changed(alloc, 2, changed, "fault: ReadFailed").unwrap_or(false));
+    let changed = stereo(alloc, &[1, 2]);
+    assert!(rt; converts_changed(alloc, 1, changed, done).unwrap_or(false));
+    let same = file_in(alloc, Form::Dsdiff);
+    assert!(rt; converts_changed(alloc, 2, same, done).unwrap_or(false));
 }

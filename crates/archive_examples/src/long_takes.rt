@@ -2,16 +2,14 @@
 
 use crate::builders::{CUT_OFF, CueNumbers, ONES, Sources, ZEROS, sources_of, splice};
 use crate::folders;
-use crate::folders::{comes_to, holds, is_refused};
-use crate::in_blocks::ChangingFolder;
+use crate::folders::{comes_to, holds, is_refused, outcome_of};
 use crate::master_commands::{CHECK, CUT};
 use crate::watched_folder::{Failure, NOTHING, WatchedFolder};
 use archive_core::{Edited, Fault, Form};
-use command_core::{Folder, MemoryFolder, Outcome, Task, outcome_line, perform, status};
-use fixtures::files::{dsf_of, stereo};
+use command_core::{MemoryFolder, Outcome, Task, outcome_line, status};
+use fixtures::files::{changed, dsf_of, stereo};
 use fixtures::projects::SPLICE;
 use std::alloc::{AllocError, Global};
-use std::test::Fail;
 use transfer_commands::{CommandFault, Sources as Heard, hear_sources};
 
 // Cues that begin and end inside bytes, to the last bits of each take: 128 bits in all, with their bridges.
@@ -45,11 +43,6 @@ fn sources_by(alloc: Global, cues: &[CueNumbers]) -> Result<Sources, AllocError>
     sources_of(splice(alloc, "1, 2", cues), first, second)
 }
 
-// The same of `LONG_CUES`.
-fn long_sources(alloc: Global) -> Result<Sources, AllocError> {
-    sources_by(alloc, &LONG_CUES)
-}
-
 // A folder of a project and its takes.
 fn folder_of(alloc: Global, sources: &Sources) -> Result<MemoryFolder, AllocError> {
     let [first, second] = &sources.takes;
@@ -79,22 +72,17 @@ fn cuts_to(alloc: Global, folder: &mut MemoryFolder, edited: &Edited) -> Result<
 }
 
 // Whether those that are cut in a folder are those that are cut in memory.
-fn cuts_alike(alloc: Global, sources: &Sources) -> Result<bool, Fault> {
+fn cuts_alike(alloc: Global, cues: &[CueNumbers]) -> Result<bool, Fault> {
+    let sources = sources_by(alloc, cues)?;
     let edited = sources.edit(alloc, Form::Dsdiff)?;
-    let mut folder = folder_of(alloc, sources)?;
+    let mut folder = folder_of(alloc, &sources)?;
     Ok(cuts_to(alloc, &mut folder, &edited)?)
 }
 
 #[test]
-fn cuts_long_takes_as_in_memory(rt: HostRuntime) -> Result<(), Fail> {
+fn cuts_long_takes_as_in_memory(rt: HostRuntime) {
     let alloc = rt.alloc();
-    assert!(rt; cuts_alike(alloc, &long_sources(alloc)?)?);
-    Ok(())
-}
-
-// The folder of a long master.
-fn long_folder(alloc: Global) -> Result<MemoryFolder, AllocError> {
-    folder_of(alloc, &sources_by(alloc, &LONG_MASTER)?)
+    assert!(rt; cuts_alike(alloc, &LONG_CUES).unwrap_or(false));
 }
 
 // Turns the last bit of the file of a name.
@@ -103,39 +91,31 @@ fn turns_last(
     folder: &mut MemoryFolder,
     name: &'static str,
 ) -> Result<(), AllocError> {
-    let changed = turned_last(alloc, folder.get(name))?;
-    folder.put(name, &changed)
+    let bytes = folder.get(name).unwrap_or(&[]);
+    let last = bytes.last().copied().unwrap_or(0);
+    let turned = changed(alloc, bytes, bytes.len().saturating_sub(1), &[last ^ 1])?;
+    folder.put(name, &turned)
 }
 
 // Whether a long master is rejected whose last bit is another, that of the last cue in the last channel.
 fn rejects_the_last_bit(alloc: Global) -> Result<bool, AllocError> {
-    let mut folder = long_folder(alloc)?;
-    let cut = status(&perform(alloc, CUT, &mut folder)) == 0;
+    let mut folder = folder_of(alloc, &sources_by(alloc, &LONG_MASTER)?)?;
+    let cut = status(&outcome_of(alloc, &mut folder, CUT)) == 0;
     turns_last(alloc, &mut folder, "m.dff")?;
     let line = "rejected CuedBit 1 8488599";
     Ok(cut && comes_to(alloc, &mut folder, CHECK, 1, line)?)
 }
 
-// The bytes with the last bit turned.
-fn turned_last(alloc: Global, bytes: Option<&[u8]>) -> Result<Vec<u8>, AllocError> {
-    let mut made = Vec::from_slice(alloc, bytes.unwrap_or(&[]))?;
-    if let Some(last) = made.last_mut() {
-        *last ^= 1;
-    }
-    Ok(made)
-}
-
 #[test]
-fn checks_a_long_master(rt: HostRuntime) -> Result<(), Fail> {
+fn checks_a_long_master(rt: HostRuntime) {
     let alloc = rt.alloc();
-    assert!(rt; cuts_alike(alloc, &sources_by(alloc, &LONG_MASTER)?)?);
-    assert!(rt; rejects_the_last_bit(alloc)?);
-    Ok(())
+    assert!(rt; cuts_alike(alloc, &LONG_MASTER).unwrap_or(false));
+    assert!(rt; rejects_the_last_bit(alloc).unwrap_or(false));
 }
 
 // The long takes, of which that of a number has so many bytes.
 fn shortened(alloc: Global, number: usize, size: usize) -> Result<Sources, AllocError> {
-    let mut sources = long_sources(alloc)?;
+    let mut sources = sources_by(alloc, &LONG_CUES)?;
     if let Some(take) = sources.takes.get_mut(number) {
         take.truncate(size);
     }
@@ -173,17 +153,18 @@ fn number_of(sources: Heard) -> Result<usize, Fault> {
 }
 
 // How many takes are heard in a folder where each is taken for a long one.
-fn number_heard<F: Folder>(alloc: Global, folder: &mut F) -> Result<usize, CommandFault> {
+fn number_heard(alloc: Global, folder: &mut WatchedFolder) -> Result<usize, CommandFault> {
     let sources = hear_sources(alloc, folder, "e.toml", 0)?;
     Ok(number_of(sources)?)
 }
 
-// The same, or the fault, as it is printed.
-fn heard<F: Folder>(alloc: Global, folder: &mut F) -> Result<String, AllocError> {
-    match number_heard(alloc, folder) {
+// Whether this is their number, or the fault, as it is printed.
+fn is_heard(alloc: Global, folder: &mut WatchedFolder, line: &str) -> Result<bool, AllocError> {
+    let said = match number_heard(alloc, folder) {
         Ok(number) => format!(in alloc; "takes {number}"),
         Err(fault) => outcome_line(alloc, &Outcome::from(fault)),
-    }
+    };
+    Ok(said?.as_str() == line)
 }
 
 // The folder of `SPLICE` with a take of ones, this second take, and another file.
@@ -204,59 +185,61 @@ fn folder_with<'a>(
 
 const UNREAD: &str = "fault: TakeUnread 1 Dsdiff Chunk DataCut 114";
 
-// What fails, what is said, and what the folder is asked for behind the project and its first take, and no more: a take
-// is opened twice.
-const CALLS: [(Failure, &str, &str); 4] = [
-    (NOTHING, "takes 2", "open b.dff\nopen b.dff\n"),
-    (("open", "b.dff", 0), "fault: ReadFailed", "open b.dff\n"),
+// What fails, what is said, and what the folder is asked for, and no more.
+type Case = (Failure, &'static str, &'static str);
+
+// A take is opened twice.
+const CALLS: [Case; 4] = [
+    (
+        NOTHING,
+        "takes 2",
+        "open e.toml\nopen a.dff\nopen a.dff\nopen b.dff\nopen b.dff\n",
+    ),
+    (
+        ("open", "b.dff", 0),
+        "fault: ReadFailed",
+        "open e.toml\nopen a.dff\nopen a.dff\nopen b.dff\n",
+    ),
     (
         ("read", "b.dff", 0),
         "fault: ReadFailed",
-        "open b.dff\nopen b.dff\n",
+        "open e.toml\nopen a.dff\nopen a.dff\nopen b.dff\nopen b.dff\n",
     ),
-    (("read", "a.dff", 0), "fault: ReadFailed", ""),
+    (
+        ("read", "a.dff", 0),
+        "fault: ReadFailed",
+        "open e.toml\nopen a.dff\nopen a.dff\n",
+    ),
 ];
 
-// Whether hearing takes of which this is the second, where this fails, comes to this line and these calls.
-fn asks(
-    alloc: Global,
-    second: &[u8],
-    failure: Failure,
-    line: &str,
-    calls: &str,
-) -> Result<bool, AllocError> {
-    let mut folder = WatchedFolder::over(alloc, folder_with(alloc, second, b"")?, failure);
-    let said = is_heard(alloc, &mut folder, line)?;
-    Ok(said && is_behind(folder.calls.as_str(), calls))
-}
-
-// Whether these calls stand behind those of the project and the first take.
-fn is_behind(said: &str, calls: &str) -> bool {
-    said.strip_prefix("open e.toml\nopen a.dff\nopen a.dff\n") == Some(calls)
-}
-
-// Whether what is heard, or the fault, is this line.
-fn is_heard<F: Folder>(alloc: Global, folder: &mut F, line: &str) -> Result<bool, AllocError> {
-    Ok(heard(alloc, folder)?.as_str() == line)
-}
-
 // A take that holds no recording is opened a third time.
+const THRICE: Case = (
+    NOTHING,
+    UNREAD,
+    "open e.toml\nopen a.dff\nopen a.dff\nopen b.dff\nopen b.dff\nopen b.dff\n",
+);
+
+// Whether hearing takes of which this is the second comes to what a case says.
+fn asks(alloc: Global, second: &[u8], (failure, line, calls): &Case) -> Result<bool, AllocError> {
+    let mut folder = WatchedFolder::over(alloc, folder_with(alloc, second, b"")?, *failure);
+    let said = is_heard(alloc, &mut folder, line)?;
+    Ok(said && folder.calls.as_str() == *calls)
+}
+
 #[test]
 fn opens_takes_again(rt: HostRuntime) {
     let alloc = rt.alloc();
-    for (failure, line, calls) in &CALLS {
-        let asked = asks(alloc, &ZEROS, *failure, line, calls);
-        assert!(rt; asked.unwrap_or(false), "{line}");
+    for case in &CALLS {
+        assert!(rt; asks(alloc, &ZEROS, case).unwrap_or(false), "{}", case.1);
     }
-    let calls = "open b.dff\nopen b.dff\nopen b.dff\n";
-    let asked = asks(alloc, &CUT_OFF, NOTHING, UNREAD, calls);
-    assert!(rt; asked.unwrap_or(false));
+    assert!(rt; asks(alloc, &CUT_OFF, &THRICE).unwrap_or(false));
 }
 
 // Whether this is heard where the second take is a whole one once files were opened so often, and cut off before.
-fn is_heard_changed(alloc: Global, left: usize, line: &str) -> Result<bool, AllocError> {
+fn is_heard_changed(alloc: Global, often: usize, line: &str) -> Result<bool, AllocError> {
     let files = folder_with(alloc, &CUT_OFF, &ZEROS)?;
-    is_heard(alloc, &mut ChangingFolder { files, left }, line)
+    let mut folder = WatchedFolder::over(alloc, files, ("change", "", often));
+    is_heard(alloc, &mut folder, line)
 }
 
 // It may be whole at its third opening, for which it is still heard, or at none.

@@ -1,9 +1,9 @@
 //! `edit` and `check` over folders in memory: what they print and which files they create.
 
 use crate::builders::{CUES, CUT_OFF, CueNumbers, ONES, ZEROS, fast, splice, titled};
-use crate::certifying::{CERT, FALLING, LEVEL, cert_of};
+use crate::certifying::{CERT, FREE};
 use crate::folders;
-use crate::folders::{asks, comes_to, holds, is_refused};
+use crate::folders::{asks, comes_to, comes_to_watched, holds, is_refused};
 use crate::watched_folder::{Asked, NOTHING, WatchedFolder};
 use archive_core::Form;
 use command_core::{MemoryFolder, Task};
@@ -37,74 +37,48 @@ fn folder_with<'a>(
     folders::folder_of(alloc, &files)
 }
 
-// A folder with this project, a take of ones and a take of zeros.
-fn folder_of(alloc: Global, project: &str) -> Result<MemoryFolder, AllocError> {
-    folder_with(alloc, project, &ZEROS)
-}
-
-// The same with a project of these weights and cues.
+// A folder with a project of these weights and cues, a take of ones and a take of zeros.
 fn folder_by(
     alloc: Global,
     weights: &str,
     cues: &[CueNumbers],
 ) -> Result<MemoryFolder, AllocError> {
-    folder_of(alloc, &splice(alloc, weights, cues)?)
+    folder_with(alloc, &splice(alloc, weights, cues)?, &ZEROS)
 }
 
-// Whether the certificate of one entry of these rows stands in the folder.
-fn holds_cert(
-    alloc: Global,
-    folder: &MemoryFolder,
-    name: &str,
-    rows: &'static [u8],
-) -> Result<bool, AllocError> {
-    Ok(holds(folder, name, &cert_of(alloc, &[(0, 0, rows)])?))
-}
-
-// Whether the cut of `CUES` by these weights comes to this line, its certificate has one entry of these
-// rows, and its master is accepted with this line.
+// Whether the cut of `CUES` by these weights comes to this line and this certificate, and its master is accepted with this
+// line.
 fn cuts_and_accepts(
     alloc: Global,
     weights: &str,
-    rows: &'static [u8],
+    cert: &[u8],
     (line, accepted): (&str, &str),
 ) -> Result<bool, AllocError> {
     let mut folder = folder_by(alloc, weights, &CUES)?;
-    is_cut_and_accepted(alloc, &mut folder, rows, (line, accepted))
-}
-
-// The same in a folder.
-fn is_cut_and_accepted(
-    alloc: Global,
-    folder: &mut MemoryFolder,
-    rows: &'static [u8],
-    (line, accepted): (&str, &str),
-) -> Result<bool, AllocError> {
-    let cut = cuts_here(alloc, folder, rows, line)?;
-    let checked = comes_to(alloc, folder, CHECK, 0, accepted)?;
+    let cut = cuts_here(alloc, &mut folder, cert, line)?;
+    let checked = comes_to(alloc, &mut folder, CHECK, 0, accepted)?;
     Ok(cut && checked && folder.count() == 5)
 }
 
-// Whether the cut of the folder comes to this line and is ff, 00, with a certificate of one entry of these
-// rows.
+// Whether the cut of the folder comes to this line and is ff, 00, with this certificate.
 fn cuts_here(
     alloc: Global,
     folder: &mut MemoryFolder,
-    rows: &'static [u8],
+    cert: &[u8],
     line: &str,
 ) -> Result<bool, AllocError> {
     let cut = comes_to(alloc, folder, CUT, 0, line)?;
     let master = holds(folder, "m.dff", &with_sounds([0xff, 0]));
-    Ok(cut && master && holds_cert(alloc, folder, "c.cert", rows)?)
+    Ok(cut && master && holds(folder, "c.cert", cert))
 }
 
 #[test]
 fn cuts_a_master_and_accepts_it(rt: HostRuntime) {
     let alloc = rt.alloc();
     let free = ("edited total 0", "accepted total 0");
-    assert!(rt; cuts_and_accepts(alloc, "1, 1", FALLING, free).unwrap_or(false));
+    assert!(rt; cuts_and_accepts(alloc, "1, 1", &FREE, free).unwrap_or(false));
     let four = ("edited total 4", "accepted total 4");
-    assert!(rt; cuts_and_accepts(alloc, "1, 0", LEVEL, four).unwrap_or(false));
+    assert!(rt; cuts_and_accepts(alloc, "1, 0", &CERT, four).unwrap_or(false));
 }
 
 // Cutting the master to the file that its certificate is written to behind it.
@@ -119,7 +93,7 @@ const CUT_TO_ONE: Task = Task::Edit {
 fn keeps_the_certificate(alloc: Global) -> Result<bool, AllocError> {
     let mut folder = folder_by(alloc, "1, 0", &CUES)?;
     let cut = comes_to(alloc, &mut folder, CUT_TO_ONE, 0, "edited total 4")?;
-    Ok(cut && folder.count() == 4 && holds_cert(alloc, &folder, "m", LEVEL)?)
+    Ok(cut && folder.count() == 4 && holds(&folder, "m", &CERT))
 }
 
 #[test]
@@ -134,7 +108,7 @@ fn cuts_in(
     made: Result<Vec<u8>, AllocError>,
     told: &str,
 ) -> Result<bool, AllocError> {
-    let mut folder = folder_of(alloc, SPLICE)?;
+    let mut folder = folder_with(alloc, SPLICE, &ZEROS)?;
     cuts_to(alloc, &mut folder, form, &made?, told)
 }
 
@@ -214,13 +188,13 @@ fn refuses_takes_and_projects_and_creates_nothing(rt: HostRuntime) {
     assert!(rt; is_refused(alloc, other, CUT, "fault: TakeMismatch 1").unwrap_or(false));
     let cut = folder_with(alloc, SPLICE, &CUT_OFF);
     assert!(rt; is_refused(alloc, cut, CUT, unread).unwrap_or(false));
-    let folder = folder_of(alloc, "");
+    let folder = folder_with(alloc, "", &ZEROS);
     assert!(rt; is_refused(alloc, folder, cutting("none"), "fault: ReadFailed").unwrap_or(false));
-    let folder = folder_of(alloc, "");
+    let folder = folder_with(alloc, "", &ZEROS);
     assert!(rt;
         is_refused(alloc, folder, cutting("a.dff"), "fault: Project NotToml").unwrap_or(false)
     );
-    let folder = folder_of(alloc, "");
+    let folder = folder_with(alloc, "", &ZEROS);
     assert!(rt; is_refused(alloc, folder, CUT, "fault: NoSplice").unwrap_or(false));
 }
 
@@ -287,7 +261,7 @@ const CUTS: [Asked; 7] = [
 
 // Whether cutting asks so.
 fn cuts_so(alloc: Global, (_, failure, line, calls): &Asked) -> bool {
-    let folder = folder_of(alloc, SPLICE);
+    let folder = folder_with(alloc, SPLICE, &ZEROS);
     asks(alloc, folder, *failure, CUT, (line, calls)).unwrap_or(false)
 }
 
@@ -303,7 +277,7 @@ fn asks_for_takes_by_number(rt: HostRuntime) {
 fn leaves_a_front(alloc: Global, cert: &[u8], room: usize) -> Result<bool, AllocError> {
     let folder = folder_by(alloc, "1, 0", &CUES)?;
     let mut watched = WatchedFolder::over(alloc, folder, ("write", "c.cert", room));
-    let failed = comes_to(alloc, &mut watched, CUT, 2, "fault: WriteFailed")?;
+    let failed = comes_to_watched(alloc, &mut watched, CUT, 2, "fault: WriteFailed")?;
     let (front, _) = cert.split_at(room.min(cert.len()));
     let master = holds(&watched.files, "m.dff", &with_sounds([0xff, 0]));
     Ok(failed && master && holds(&watched.files, "c.cert", front))
@@ -348,16 +322,18 @@ const CHECKS: [(&str, &str); 3] = [
     ),
 ];
 
+// Whether a check asks so where the file can't be opened.
+fn checks_so(alloc: Global, (name, calls): &(&'static str, &str)) -> bool {
+    let folder = folder_with_master(alloc, SPLICE, b"");
+    let said = ("fault: ReadFailed", *calls);
+    asks(alloc, folder, ("open", *name, 0), CHECK, said).unwrap_or(false)
+}
+
 #[test]
 fn reads_a_master_and_its_certificate_behind_the_takes(rt: HostRuntime) {
     let alloc = rt.alloc();
-    for (name, calls) in &CHECKS {
-        let folder = folder_with_master(alloc, SPLICE, b"");
-        let failure = ("open", *name, 0);
-        assert!(rt;
-            asks(alloc, folder, failure, CHECK, ("fault: ReadFailed", calls)).unwrap_or(false),
-            "{name}"
-        );
+    for case in &CHECKS {
+        assert!(rt; checks_so(alloc, case), "{}", case.0);
     }
 }
 

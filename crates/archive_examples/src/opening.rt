@@ -1,11 +1,12 @@
 //! Files told apart by their first bytes, and the first fault of those that hold no recording, as it is named and as
 //! it is printed.
 
-use crate::builders::{file_in, with_byte};
+use crate::builders::file_in;
 use crate::folders;
 use crate::outcomes::prints;
 use archive_core::{Form, play, read_any};
-use command_core::{MemoryFolder, Outcome, Task};
+use command_core::{Outcome, Task};
+use fixtures::files;
 use fixtures::files::{FILE, MONO, RATE, RAW, dsf_of, file_of, noted};
 use fixtures::projects::DECIMATE;
 use std::alloc::{AllocError, Global};
@@ -50,8 +51,8 @@ fn is_refused(
     )
 }
 
-// Whether a file is not read for this fault.
-fn is_unread(alloc: Global, file: &[u8], expected: &str) -> Result<bool, AllocError> {
+/// Whether a file is not read for this fault.
+pub(crate) fn is_unread(alloc: Global, file: &[u8], expected: &str) -> Result<bool, AllocError> {
     match read_any(alloc, file) {
         Ok(_) => Ok(false),
         Err(fault) => Ok(fault.to_string(alloc)?.as_str() == expected),
@@ -69,15 +70,14 @@ fn is_unplayed(alloc: Global, file: &[u8], line: &str) -> Result<bool, AllocErro
 
 // Whether `info` refuses a file with this line.
 fn is_untold(alloc: Global, file: &[u8], line: &str) -> Result<bool, AllocError> {
-    let mut folder = MemoryFolder::new(alloc);
-    folder.put("in", file)?;
-    folders::is_refused(alloc, Ok(folder), Task::Info { file: "in" }, line)
+    let folder = folders::folder_of(alloc, &[("in", file)]);
+    folders::is_refused(alloc, folder, Task::Info { file: "in" }, line)
 }
 
 // The first bytes of `FILE`, with another byte at a place.
 fn front_with(alloc: Global, length: usize, place: usize, byte: u8) -> Result<Vec<u8>, AllocError> {
     let (front, _) = FILE.split_at(length.min(128));
-    with_byte(alloc, front, place, byte)
+    files::changed(alloc, front, place, &[byte])
 }
 
 // Of files cut off at a length or with another byte at a place: the sound's size ends at 125, and the four

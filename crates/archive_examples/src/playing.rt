@@ -14,23 +14,23 @@ fn plays(alloc: Global, text: &str, file: &[u8], wave: &[u8]) -> Result<bool, Fa
     Ok(equal(&made, wave))
 }
 
-// Whether a file of one sound byte is played to one sample.
+// Whether a file of one sound byte is played to these bytes.
 fn plays_byte(
     alloc: Global,
     taps: &str,
     numbers: Numbers,
     sound: u8,
-    bytes: [u8; 2],
+    wave: &[u8],
 ) -> Result<bool, Fault> {
     let text = project(alloc, taps, numbers)?;
-    plays(alloc, &text, &with_sound(sound), &sample(bytes))
+    plays(alloc, &text, &with_sound(sound), wave)
 }
 
 #[test]
 fn plays_one_sample(rt: HostRuntime) {
     let alloc = rt.alloc();
     for (taps, numbers, sound, bytes) in &SAMPLES {
-        let equal = plays_byte(alloc, taps, *numbers, *sound, *bytes);
+        let equal = plays_byte(alloc, taps, *numbers, *sound, &sample(*bytes));
         assert!(rt; equal.unwrap_or(false), "{taps} {numbers:?} {sound}");
     }
 }
@@ -70,16 +70,10 @@ fn plays_several_channels_and_dsf(rt: HostRuntime) {
     assert!(rt; plays_built(alloc, one_bit(alloc, &[]), &sample([4, 0])).unwrap_or(false));
 }
 
-// Whether `FILE` is played to these bytes by a project.
-fn plays_by(alloc: Global, text: Result<String, AllocError>, wave: &[u8]) -> Result<bool, Fault> {
-    plays(alloc, &text?, &FILE, wave)
-}
-
 #[test]
 fn plays_24_bits(rt: HostRuntime) {
-    let alloc = rt.alloc();
-    let text = project(alloc, "[1, 2, 3, 4]", (8, 3, 0, 24));
-    assert!(rt; plays_by(alloc, text, &WIDE).unwrap_or(false));
+    let played = plays_byte(rt.alloc(), "[1, 2, 3, 4]", (8, 3, 0, 24), 0xf0, &WIDE);
+    assert!(rt; played.unwrap_or(false));
 }
 
 // The pad counted in the size of the chunk `CMPR`, no pad behind the last chunk, and bytes behind the form.

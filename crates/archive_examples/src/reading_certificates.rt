@@ -1,74 +1,15 @@
 //! A certificate is read while a master is judged by it, and to its end whatever comes of that: a read that fails there is
 //! told before any reason against the master.
 
-ghost use Rattle.std.specs.Prelude.{None, false};
-
 use crate::builders::{CUES, ONES, ZEROS, fast, splice};
 use crate::certifying::CERT;
 use crate::folders;
-use crate::folders::{comes_to, is_refused};
+use crate::folders::{comes_to_watched, is_refused};
 use crate::master_commands::CHECK;
-use command_core::{Folder, FolderFault, MemoryFolder};
+use crate::watched_folder::WatchedFolder;
+use command_core::MemoryFolder;
 use fixtures::files::with_sounds;
 use std::alloc::{AllocError, Global};
-use std::io;
-use std::io::{Cursor, ErrorKind, Read};
-
-// A file that gives seven bytes a read, and so many before a read fails.
-#[derive(Drop)]
-struct BreakingInput {
-    bytes: Cursor<Vec<u8>>,
-    left: usize,
-}
-
-impl Read for BreakingInput {
-    fn read(&mut self, buffer: &mut [u8]) -> io::Result<usize> {
-        if self.left == 0 {
-            return Err(io::Error::from(ErrorKind::TimedOut));
-        }
-        let count = buffer.len().min(self.left).min(7);
-        let given = self.bytes.read(&mut buffer[..count])?;
-        self.left = self.left.saturating_sub(given);
-        Ok(given)
-    }
-}
-
-// Files in memory, whose certificate gives so many bytes before a read fails.
-#[derive(Drop)]
-struct BreakingFolder {
-    files: MemoryFolder,
-    left: usize,
-}
-
-impl Folder for BreakingFolder {
-    type In = BreakingInput;
-
-    type Out = Vec<u8>;
-
-    ghost file = { λ f n. None };
-
-    ghost is_told = { λ f. false };
-
-    fn open(&mut self, name: &str) -> Result<BreakingInput, FolderFault> {
-        let left = if name == "c.cert" {
-            self.left
-        } else {
-            usize::MAX
-        };
-        let bytes = self.files.open(name)?;
-        Ok(BreakingInput { bytes, left })
-    }
-
-    fn create(&mut self, _name: &str) -> Result<Vec<u8>, FolderFault> {
-        Err(FolderFault)
-    }
-
-    fn keep(&mut self, _name: &str, _out: Vec<u8>) -> Result<(), FolderFault> {
-        Err(FolderFault)
-    }
-
-    fn give_up(&mut self, _name: &str, _out: Vec<u8>) {}
-}
 
 // A folder with the project of `CUES` by the weights 1 and 0, a take of ones, this second take and this master.
 fn folder_of(alloc: Global, second: &[u8], master: &[u8]) -> Result<MemoryFolder, AllocError> {
@@ -112,8 +53,8 @@ fn checks(
 ) -> Result<bool, AllocError> {
     let mut files = folder?;
     files.put("c.cert", cert)?;
-    let mut folder = BreakingFolder { files, left };
-    comes_to(alloc, &mut folder, CHECK, number, line)
+    let mut folder = WatchedFolder::over(alloc, files, ("read", "c.cert", left));
+    comes_to_watched(alloc, &mut folder, CHECK, number, line)
 }
 
 // What is unusual, the master's sound, the byte of the certificate that is changed, how many of its 46 bytes come before a

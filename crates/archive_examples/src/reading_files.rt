@@ -1,7 +1,9 @@
 //! Files read whole: one, several in turn, and with a limit to the reads.
 
+use crate::command_lines::words_of;
+use crate::folders::folder_of;
 use crate::watched_folder::{NOTHING, WatchedFolder};
-use command_core::{MemoryFolder, read_files, read_whole};
+use command_core::{read_files, read_whole};
 use fixtures::compared::equal;
 use folder_core::FileFault;
 use std::alloc::{AllocError, Global};
@@ -39,25 +41,14 @@ fn gives_up_a_file_that_has_no_end(rt: HostRuntime) {
 }
 
 // A folder with the file `a` of three bytes and the file `b` of none.
-fn folder(alloc: Global) -> Result<MemoryFolder, AllocError> {
-    let mut folder = MemoryFolder::new(alloc);
-    folder.put("a", b"one")?;
-    folder.put("b", b"")?;
-    Ok(folder)
-}
-
-// Three names.
-fn names(alloc: Global, texts: &[&str; 3]) -> Result<Vec<String>, AllocError> {
-    let mut names = Vec::new(alloc);
-    for text in texts {
-        names.push(String::from_str(alloc, text)?)?;
-    }
-    Ok(names)
+fn folder(alloc: Global) -> Result<WatchedFolder, AllocError> {
+    let files: [(&str, &[u8]); 2] = [("a", b"one"), ("b", b"")];
+    Ok(WatchedFolder::over(alloc, folder_of(alloc, &files)?, NOTHING))
 }
 
 // Whether the files of these names in the folder are read, and are one of three bytes between two of none.
 fn are_read(alloc: Global, texts: &[&str; 3]) -> Result<bool, AllocError> {
-    let names = names(alloc, texts)?;
+    let names = words_of(alloc, texts)?;
     let mut folder = folder(alloc)?;
     match read_files(alloc, &mut folder, &names) {
         Ok(files) => Ok(are_one_of_three(&files)),
@@ -80,8 +71,8 @@ fn reads_files_in_turn(rt: HostRuntime) {
 
 // Whether no file is read of names of which the second is missing, and the third is not opened.
 fn stops_at_the_second(alloc: Global) -> Result<bool, AllocError> {
-    let names = names(alloc, &["a", "c", "a"])?;
-    let mut folder = WatchedFolder::over(alloc, folder(alloc)?, NOTHING);
+    let names = words_of(alloc, &["a", "c", "a"])?;
+    let mut folder = folder(alloc)?;
     let refused = read_files(alloc, &mut folder, &names);
     let failed = matches!(&refused, Err(FileFault::ReadFailed));
     Ok(failed && folder.calls.as_str() == "open a\nopen c\n")

@@ -1,8 +1,9 @@
 //! Masters rejected, and the first reason in the certificate or in the master.
 
-use crate::builders::{CUES, Sources, fast, mono_sources, titled_sources, with_byte};
-use crate::certifying::{CERT, FALLING, WIDE, cert_of};
+use crate::builders::{CUES, Sources, fast, mono_sources, titled_sources};
+use crate::certifying::{CERT, FREE, WIDE};
 use archive_core::{Fault, Form, Verdict, check};
+use fixtures::files;
 use fixtures::files::{mono, stereo, with_sounds};
 use std::alloc::{AllocError, Global};
 
@@ -35,8 +36,11 @@ fn rejects_byte(
     byte: u8,
     expected: &str,
 ) -> Result<bool, Fault> {
-    let changed = with_byte(alloc, cert, place, byte)?;
-    rejects_cert(alloc, &changed, expected)
+    rejects_cert(
+        alloc,
+        &files::changed(alloc, cert, place, &[byte])?,
+        expected,
+    )
 }
 
 // Bytes of the certificate of the first version: the head has the version at 4 to 5; the entry has its cue at 12 to 13, its length
@@ -93,14 +97,7 @@ fn rejects_front(alloc: Global, cert: &[u8], length: usize, expected: &str) -> R
 
 // The same with a byte behind it.
 fn rejects_longer(alloc: Global, cert: &[u8], expected: &str) -> Result<bool, Fault> {
-    rejects_cert(alloc, &longer(alloc, cert)?, expected)
-}
-
-// The bytes with a zero behind them.
-fn longer(alloc: Global, bytes: &[u8]) -> Result<Vec<u8>, AllocError> {
-    let mut made = Vec::from_slice(alloc, bytes)?;
-    made.push(0)?;
-    Ok(made)
+    rejects_cert(alloc, &[cert, &[0]].concat(alloc)?, expected)
 }
 
 // A certificate of either version cut off at each byte, in the head's 12 bytes first, and with one byte more.
@@ -125,20 +122,10 @@ fn names_cut_and_long_certificates(rt: HostRuntime) {
     }
 }
 
-// Whether a master is rejected for this reason with the certificate of `CUES` by the weights 1 and 1.
-fn rejects_master(
-    alloc: Global,
-    sources: Result<Sources, AllocError>,
-    master: &[u8],
-    expected: &str,
-) -> Result<bool, Fault> {
-    let cert = cert_of(alloc, &[(0, 0, FALLING)])?;
-    rejects(alloc, sources, master, &cert, expected)
-}
-
-// The same by the project of that certificate.
+// Whether a master is rejected for this reason by the project of `CUES` and the weights 1 and 1, with its certificate.
 fn rejects_made(alloc: Global, master: &[u8], expected: &str) -> Result<bool, Fault> {
-    rejects_master(alloc, mono_sources(alloc, "1, 1", &CUES), master, expected)
+    let sources = mono_sources(alloc, "1, 1", &CUES);
+    rejects(alloc, sources, master, &FREE, expected)
 }
 
 // The same of a file that was built.
@@ -178,6 +165,6 @@ fn names_the_first_reason_in_a_master(rt: HostRuntime) {
     assert!(rt; rejects_built(alloc, two, "MasterShape").unwrap_or(false));
     let bare = with_sounds([0xff, 0]);
     assert!(rt;
-        rejects_master(alloc, titled_sources(alloc), &bare, "MasterMarks").unwrap_or(false)
+        rejects(alloc, titled_sources(alloc), &bare, &FREE, "MasterMarks").unwrap_or(false)
     );
 }

@@ -1,20 +1,20 @@
 //! `check` of masters that it reads once, and doesn't hold.
 
 use crate::builders::{
-    CUES, CUT_OFF, CueNumbers, ONES, Sources, fast, mono_sources, sources_of, sources_with, splice,
-    titled_sources,
+    CUES, CUT_OFF, CueNumbers, ONES, Sources, fast, mono_sources, sources_with, splice,
+    stereo_sources, titled_sources,
 };
 use crate::folders;
+use crate::folders::outcome_of;
 use crate::master_commands::CHECK;
 use crate::watched_folder::{Failure, NOTHING, WatchedFolder};
 use archive_core::{Fault, Form};
-use command_core::{Folder, MemoryFolder, outcome_line, perform};
+use command_core::{MemoryFolder, Outcome, outcome_line, perform};
 use fixtures::files::{stereo, with_sounds};
 use std::alloc::{AllocError, Global};
 
-// Whether a check comes to this line.
-fn is_judged<F: Folder>(alloc: Global, folder: &mut F, line: &str) -> Result<bool, AllocError> {
-    let outcome = perform(alloc, CHECK, folder);
+// Whether this is what is printed of an outcome.
+fn is_line(alloc: Global, outcome: Outcome, line: &str) -> Result<bool, AllocError> {
     Ok(outcome_line(alloc, &outcome)?.as_str() == line)
 }
 
@@ -45,7 +45,8 @@ fn says(
     line: &str,
 ) -> Result<bool, AllocError> {
     let mut folder = folder_of(alloc, sources, master, cert)?;
-    Ok(is_judged(alloc, &mut folder, line)? && folder.count() == 5)
+    let outcome = outcome_of(alloc, &mut folder, CHECK);
+    Ok(is_line(alloc, outcome, line)? && folder.count() == 5)
 }
 
 // Whether what is cut is accepted at this cost in each form.
@@ -65,19 +66,14 @@ fn is_accepted(alloc: Global, sources: &Sources, form: Form, line: &str) -> Resu
     Ok(says(alloc, sources, &made.master, &made.cert, line)?)
 }
 
-// Two channels of ones and zeros: the bridge of each is the bit at place 8, which costs nothing as a 0.
-fn pair(alloc: Global) -> Result<Sources, AllocError> {
-    let text = splice(alloc, "1, 1", &CUES);
-    sources_of(text, stereo(alloc, &[0xff; 4]), stereo(alloc, &[0; 4]))
-}
-
 // Three cues of one channel, whose bridges are the bits at the places 8 and 10.
 const THERE_AND_BACK: [CueNumbers; 3] = [(0, 0, 8, 1), (1, 2, 3, 1), (0, 2, 7, 0)];
 
 #[test]
 fn accepts_masters(rt: HostRuntime) {
     let alloc = rt.alloc();
-    assert!(rt; accepts(alloc, pair(alloc), "accepted total 0").unwrap_or(false));
+    let pair = stereo_sources(alloc, "1, 1");
+    assert!(rt; accepts(alloc, pair, "accepted total 0").unwrap_or(false));
     assert!(rt; accepts(alloc, titled_sources(alloc), "accepted total 0").unwrap_or(false));
     let back = mono_sources(alloc, "1, 1", &THERE_AND_BACK);
     assert!(rt; accepts(alloc, back, "accepted total 0").unwrap_or(false));
@@ -105,7 +101,7 @@ fn rejects_built(
     rejects(alloc, sources, &master?, line)
 }
 
-// A byte of each channel in turn: what is cut is ff ff, 00 00. A bit of a cue differs in one channel or in both; the
+// A byte of each channel in turn: what is cut is ff ff, 00 00, of which the bit at place 8 is the bridge of each. A bit of a cue differs in one channel or in both; the
 // bit of a bridge costs more as a 1; then there is a byte more of each channel.
 const SOUNDS: [(&[u8], &str); 7] = [
     (&[0x7f, 0xff, 0, 0], "rejected CuedBit 0 0"),
@@ -121,7 +117,8 @@ const SOUNDS: [(&[u8], &str); 7] = [
 fn tells_the_first_reason_in_a_sound(rt: HostRuntime) {
     let alloc = rt.alloc();
     for (sound, line) in &SOUNDS {
-        let rejected = rejects_built(alloc, pair(alloc), stereo(alloc, sound), line);
+        let sources = stereo_sources(alloc, "1, 1");
+        let rejected = rejects_built(alloc, sources, stereo(alloc, sound), line);
         assert!(rt; rejected.unwrap_or(false), "{line}");
     }
 }
@@ -149,7 +146,8 @@ fn tells_the_first_reason_in_a_master(rt: HostRuntime) {
     let alloc = rt.alloc();
     let bare = with_sounds([0xff, 0]);
     let shape = "rejected MasterShape";
-    assert!(rt; rejects(alloc, pair(alloc), &bare, shape).unwrap_or(false));
+    let pair = stereo_sources(alloc, "1, 1");
+    assert!(rt; rejects(alloc, pair, &bare, shape).unwrap_or(false));
     let sources = mono_sources(alloc, "1, 1", &CUES);
     assert!(rt; rejects(alloc, sources, &fast([0xff, 0]), shape).unwrap_or(false));
     let titled = titled_sources(alloc);
@@ -157,45 +155,55 @@ fn tells_the_first_reason_in_a_master(rt: HostRuntime) {
     let unread = "rejected MasterUnread";
     let sources = mono_sources(alloc, "1, 1", &CUES);
     assert!(rt; rejects(alloc, sources, &CUT_OFF, unread).unwrap_or(false));
-    assert!(rt; rejects(alloc, pair(alloc), &[1, 2, 3], unread).unwrap_or(false));
+    let pair = stereo_sources(alloc, "1, 1");
+    assert!(rt; rejects(alloc, pair, &[1, 2, 3], unread).unwrap_or(false));
 }
 
-// What fails, what is printed, and what the folder is asked for behind the takes, and no more.
-const CALLS: [(Failure, &str, &str); 5] = [
-    (NOTHING, "accepted total 0", "open m.dff\nopen c.cert\n"),
-    (("open", "m.dff", 0), "fault: ReadFailed", "open m.dff\n"),
-    (("read", "m.dff", 0), "fault: ReadFailed", "open m.dff\n"),
+// What fails, what is printed, and what the folder is asked for, and no more.
+type Case = (Failure, &'static str, &'static str);
+
+const CALLS: [Case; 5] = [
+    (
+        NOTHING,
+        "accepted total 0",
+        "open e.toml\nopen a.dff\nopen b.dff\nopen m.dff\nopen c.cert\n",
+    ),
+    (
+        ("open", "m.dff", 0),
+        "fault: ReadFailed",
+        "open e.toml\nopen a.dff\nopen b.dff\nopen m.dff\n",
+    ),
+    (
+        ("read", "m.dff", 0),
+        "fault: ReadFailed",
+        "open e.toml\nopen a.dff\nopen b.dff\nopen m.dff\n",
+    ),
     (
         ("open", "c.cert", 0),
         "fault: ReadFailed",
-        "open m.dff\nopen c.cert\n",
+        "open e.toml\nopen a.dff\nopen b.dff\nopen m.dff\nopen c.cert\n",
     ),
     (
         ("read", "c.cert", 0),
         "fault: ReadFailed",
-        "open m.dff\nopen c.cert\n",
+        "open e.toml\nopen a.dff\nopen b.dff\nopen m.dff\nopen c.cert\n",
     ),
 ];
 
-// Whether a check in a folder where this fails comes to this line and to these calls behind the takes.
+// Whether a check in a folder comes to what a case says.
 fn asks(
     alloc: Global,
     files: Result<MemoryFolder, Fault>,
-    (failure, line, calls): (Failure, &str, &str),
+    (failure, line, calls): &Case,
 ) -> Result<bool, Fault> {
-    let mut folder = WatchedFolder::over(alloc, files?, failure);
-    let said = is_judged(alloc, &mut folder, line)?;
-    Ok(said && is_behind(folder.calls.as_str(), calls))
-}
-
-// Whether these calls stand behind those of the project and the takes.
-fn is_behind(said: &str, calls: &str) -> bool {
-    said.strip_prefix("open e.toml\nopen a.dff\nopen b.dff\n") == Some(calls)
+    let mut folder = WatchedFolder::over(alloc, files?, *failure);
+    let said = is_line(alloc, perform(alloc, CHECK, &mut folder), line)?;
+    Ok(said && folder.calls.as_str() == *calls)
 }
 
 // The folder of what is cut.
 fn cut(alloc: Global) -> Result<MemoryFolder, Fault> {
-    let sources = pair(alloc)?;
+    let sources = stereo_sources(alloc, "1, 1")?;
     let made = sources.edit(alloc, Form::Dsdiff)?;
     Ok(folder_of(alloc, &sources, &made.master, &made.cert)?)
 }
@@ -204,24 +212,32 @@ fn cut(alloc: Global) -> Result<MemoryFolder, Fault> {
 fn asks_for_files_in_order(rt: HostRuntime) {
     let alloc = rt.alloc();
     for case in &CALLS {
-        let asked = asks(alloc, cut(alloc), *case);
+        let asked = asks(alloc, cut(alloc), case);
         assert!(rt; asked.unwrap_or(false), "{}", case.1);
     }
 }
 
 // Takes of two rates: master and certificate are read through before that is told, and nothing is where one can't be.
-const UNCUT: [(Failure, &str, &str); 4] = [
+const UNCUT: [Case; 4] = [
     (
         NOTHING,
         "fault: TakeMismatch 1",
-        "open m.dff\nopen c.cert\n",
+        "open e.toml\nopen a.dff\nopen b.dff\nopen m.dff\nopen c.cert\n",
     ),
-    (("open", "m.dff", 0), "fault: ReadFailed", "open m.dff\n"),
-    (("read", "m.dff", 0), "fault: ReadFailed", "open m.dff\n"),
+    (
+        ("open", "m.dff", 0),
+        "fault: ReadFailed",
+        "open e.toml\nopen a.dff\nopen b.dff\nopen m.dff\n",
+    ),
+    (
+        ("read", "m.dff", 0),
+        "fault: ReadFailed",
+        "open e.toml\nopen a.dff\nopen b.dff\nopen m.dff\n",
+    ),
     (
         ("read", "c.cert", 0),
         "fault: ReadFailed",
-        "open m.dff\nopen c.cert\n",
+        "open e.toml\nopen a.dff\nopen b.dff\nopen m.dff\nopen c.cert\n",
     ),
 ];
 
@@ -236,7 +252,7 @@ fn unlike(alloc: Global) -> Result<MemoryFolder, Fault> {
 fn reads_master_and_certificate_before_it_tells_of_takes(rt: HostRuntime) {
     let alloc = rt.alloc();
     for case in &UNCUT {
-        let asked = asks(alloc, unlike(alloc), *case);
+        let asked = asks(alloc, unlike(alloc), case);
         assert!(rt; asked.unwrap_or(false), "{}", case.1);
     }
 }

@@ -1,4 +1,4 @@
-//! A folder in memory that notes what is asked of it, and fails where a test says.
+//! A folder in memory that notes what is asked of it, and fails, changes or is slow where a test says.
 
 ghost use Rattle.std.specs.Prelude.{None, false};
 
@@ -8,7 +8,9 @@ use std::fmt::Write as _;
 use std::io;
 use std::io::{Cursor, ErrorKind, Read, Write};
 
-/// What fails: to `open`, `read`, `create` or `keep` the file of a name, or to `write` it after so many bytes.
+/// What fails: to `open`, `create` or `keep` the file of a name, or to `read` or `write` it after so many bytes; where it
+/// is read, files give seven bytes a read. Or what is unusual: files `drip`, one byte a read; or they `change`, each to the
+/// one that is named `changed`, once files were opened so often.
 pub(crate) type Failure = (&'static str, &'static str, usize);
 
 /// What fails in words and as a failure, what is printed then, and what the folder is asked for, and no more.
@@ -25,24 +27,40 @@ pub(crate) struct WatchedFolder {
     /// The calls, a line each.
     pub(crate) calls: String,
     failure: Failure,
+    // How often files are opened before they change.
+    steady: usize,
+    // How many bytes a read gives at most.
+    most: usize,
 }
 
 impl WatchedFolder {
     /// A folder with these files, in which this fails.
     pub(crate) fn over(alloc: Global, files: MemoryFolder, failure: Failure) -> Self {
+        let (failing, _, often) = failure;
+        let steady = if failing == "change" {
+            often
+        } else {
+            usize::MAX
+        };
+        let most = if failing == "drip" {
+            1
+        } else if failing == "read" {
+            7
+        } else {
+            usize::MAX
+        };
         WatchedFolder {
             files,
             calls: String::new(alloc),
             failure,
+            steady,
+            most,
         }
     }
 
-    // Notes a call, unless it fails.
-    fn note(&mut self, call: &str, name: &str) -> Result<(), FolderFault> {
-        if writeln!(self.calls, "{call} {name}").is_err() || self.fails(call, name) {
-            return Err(FolderFault);
-        }
-        Ok(())
+    // Notes a call, and says whether it is done.
+    fn note(&mut self, call: &str, name: &str) -> bool {
+        writeln!(self.calls, "{call} {name}").is_ok() && !self.fails(call, name)
     }
 
     // Whether a call fails.
@@ -51,30 +69,35 @@ impl WatchedFolder {
         failing == call && at == name
     }
 
-    // How many bytes the file of a name has room for.
-    fn room(&self, name: &str) -> usize {
-        let (_, _, room) = self.failure;
-        if self.fails("write", name) {
-            room
+    // How many bytes the file of a name gives, or has room for, before the call fails.
+    fn room(&self, call: &str, name: &str) -> usize {
+        if self.fails(call, name) {
+            self.failure.2
         } else {
             usize::MAX
         }
     }
 }
 
-/// A file of which each read may fail.
+/// A file that gives so many bytes a read at most, and so many before a read fails.
 #[derive(Drop)]
 pub(crate) struct WatchedInput {
     bytes: Cursor<Vec<u8>>,
-    fails: bool,
+    // How many bytes a read gives at most.
+    most: usize,
+    // How many bytes come before a read fails.
+    left: usize,
 }
 
 impl Read for WatchedInput {
     fn read(&mut self, buffer: &mut [u8]) -> io::Result<usize> {
-        if self.fails {
+        if self.left == 0 {
             return Err(io::Error::from(ErrorKind::TimedOut));
         }
-        self.bytes.read(buffer)
+        let count = buffer.len().min(self.left).min(self.most);
+        let given = self.bytes.read(&mut buffer[..count])?;
+        self.left = self.left.saturating_sub(given);
+        Ok(given)
     }
 }
 
@@ -110,28 +133,41 @@ impl Folder for WatchedFolder {
     ghost is_told = { λ f. false };
 
     fn open(&mut self, name: &str) -> Result<WatchedInput, FolderFault> {
-        self.note("open", name)?;
-        let fails = self.fails("read", name);
-        let bytes = self.files.open(name)?;
-        Ok(WatchedInput { bytes, fails })
+        if !self.note("open", name) {
+            return Err(FolderFault);
+        }
+        let most = self.most;
+        let left = self.room("read", name);
+        let name = if self.steady == 0 { "changed" } else { name };
+        self.steady = self.steady.saturating_sub(1);
+        match self.files.open(name) {
+            Ok(bytes) => Ok(WatchedInput { bytes, most, left }),
+            Err(fault) => Err(fault),
+        }
     }
 
     fn create(&mut self, name: &str) -> Result<WatchedOutput, FolderFault> {
-        self.note("create", name)?;
-        let room = self.room(name);
-        let bytes = self.files.create(name)?;
-        Ok(WatchedOutput { bytes, room })
+        if !self.note("create", name) {
+            return Err(FolderFault);
+        }
+        let room = self.room("write", name);
+        match self.files.create(name) {
+            Ok(bytes) => Ok(WatchedOutput { bytes, room }),
+            Err(fault) => Err(fault),
+        }
     }
 
     fn keep(&mut self, name: &str, out: WatchedOutput) -> Result<(), FolderFault> {
         let WatchedOutput { bytes, room: _ } = out;
-        self.note("keep", name)?;
+        if !self.note("keep", name) {
+            return Err(FolderFault);
+        }
         self.files.keep(name, bytes)
     }
 
     fn give_up(&mut self, name: &str, out: WatchedOutput) {
         let WatchedOutput { bytes, room: _ } = out;
-        if self.note("give up", name).is_ok() {
+        if self.note("give up", name) {
             self.files.give_up(name, bytes);
         }
     }

@@ -6,10 +6,14 @@ use command_core::Task;
 use std::alloc::{AllocError, Global};
 use words_core::{WordsFault, task_of};
 
-// Whether the words are refused for this.
-fn is_refused(alloc: Global, texts: &[&str], fault: WordsFault) -> Result<bool, AllocError> {
+// Whether the words ask for this, or are refused for this.
+fn ask_for(
+    alloc: Global,
+    texts: &[&str],
+    asked: Result<Task, WordsFault>,
+) -> Result<bool, AllocError> {
     let words = words_of(alloc, texts)?;
-    Ok(task_of(alloc, words.as_slice()) == Err(fault))
+    Ok(task_of(alloc, words.as_slice()) == asked)
 }
 
 const WRONG: [&[&str]; 11] = [
@@ -31,23 +35,17 @@ fn refuses_words(rt: HostRuntime) {
     let alloc = rt.alloc();
     for texts in WRONG {
         assert!(rt;
-            is_refused(alloc, texts, WordsFault::WrongWords).unwrap_or(false),
+            ask_for(alloc, texts, Err(WordsFault::WrongWords)).unwrap_or(false),
             "{texts:?}"
         );
     }
     for form in ["wav", "DSF", ""] {
         let texts = ["dsdarc", "convert", form, "a", "b"];
         assert!(rt;
-            is_refused(alloc, &texts, WordsFault::UnknownFormName).unwrap_or(false),
+            ask_for(alloc, &texts, Err(WordsFault::UnknownFormName)).unwrap_or(false),
             "{form}"
         );
     }
-}
-
-// Whether the words ask for this.
-fn asks_for(alloc: Global, texts: &[&str], task: Task) -> Result<bool, AllocError> {
-    let words = words_of(alloc, texts)?;
-    Ok(task_of(alloc, words.as_slice()) == Ok(task))
 }
 
 const PLAY: Task = Task::Play {
@@ -90,6 +88,9 @@ const ASKED: [(&[&str], Task); 5] = [
 fn reads_commands(rt: HostRuntime) {
     let alloc = rt.alloc();
     for (texts, task) in &ASKED {
-        assert!(rt; asks_for(alloc, texts, *task).unwrap_or(false), "{texts:?}");
+        assert!(rt;
+            ask_for(alloc, texts, Ok(*task)).unwrap_or(false),
+            "{texts:?}"
+        );
     }
 }

@@ -13,7 +13,16 @@ use Rattle.transfer_commands.specs.declared.fault.CommandFault.TheVariants as fa
 use Rattle.transfer_core.specs.declared.fault.Fault.{Fault}
 use Rattle.transfer_core.specs.declared.fault.Fault.TheVariants.{Memory}
 use Rattle.master_core.specs.declared.verdict.Verdict.{Verdict}
-use Rattle.command_core.specs.Commands.{CheckComesTo, Cut, CutRefused, CutsFile, EditComesTo, EditsFiles, JudgedComesTo}
+use Rattle.command_core.specs.Commands.{CheckComesTo, Cut, CutRefused, CutsFile, EditComesTo, EditsFiles, IsNoCommand, JudgedComesTo}
+use Rattle.command_core.specs.Outcomes.{of_words}
+use Rattle.words_core.specs.declared.fault.WordsFault.{WordsFault}
+use Rattle.words_core.specs.declared.fault.WordsFault.TheVariants as words
+
+-- what is told of words that ask for nothing
+pub no_command : (fault : WordsFault) → IsNoCommand (of_words fault)
+no_command words.WrongWords = tt
+no_command words.UnknownFormName = tt
+no_command words.Memory = tt
 
 -- a master is cut, and could not be written
 pub cut_unwritten : (cut : Cut) (old read new : Files) (told told_read : Bool) (project master : List ℕ) (takes : List (List ℕ)) (total : ℕ) (fault : FileFault)

@@ -43,6 +43,13 @@ whole_is (Some forms.Dsdiff) splice e = λ h. eqb-true (master_length splice.cue
 whole_is (Some forms.Dsf) splice e = λ h. absurd cc
 whole_is (Some forms.Dsf8) splice e = λ h. absurd cc
 
+-- a cut that fits but for its last byte
+pub not_whole : (form : Option Form) (splice : SpliceContent) (shapes : List TakeShape)
+    → Ok tt ≡ each_before (length shapes) (alike_at shapes) → Ok tt ≡ each_before (length splice.cues) (inside_at splice shapes)
+    → master_length splice.cues ≤ 2 ^ 36 → whole_in form splice ≡ false → Err NotWholeBytes ≡ fitting form splice shapes
+unfolding fitting
+not_whole form splice shapes alike inside in_limit whole = rw (sym alike, sym inside, le-leb _ _ in_limit, whole) refl
+
 -- ---- room
 wants_none : (i : ℕ) (o : Option RoomFault) → wanted i o ≡ Ok tt → o ≡ None
 wants_none i None e = refl

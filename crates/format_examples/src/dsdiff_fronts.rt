@@ -54,12 +54,16 @@ fn told_with(alloc: Global, at: usize, bytes: &[u8]) -> Result<SoundAt, AllocErr
     sound_at(alloc, &front)
 }
 
-// No fault is told as want of memory.
+// Whether a front is refused, and not for want of memory.
+fn is_refused(told: Result<SoundAt, AllocError>) -> bool {
+    matches!(told, Ok(SoundAt::Refused))
+}
+
 #[test]
 fn refuses_changed_fronts(rt: HostRuntime) {
     for (at, bytes, fault) in &CHANGES {
         let told = told_with(rt.alloc(), *at, bytes);
-        assert!(rt; told == Ok(SoundAt::Refused), "{fault}");
+        assert!(rt; is_refused(told), "{fault}");
     }
 }
 
@@ -144,7 +148,7 @@ fn told_of(alloc: Global, chunks: &[&[u8]], size: u64) -> Result<SoundAt, AllocE
 fn refuses_fronts_of_other_chunks(rt: HostRuntime) {
     for (chunks, size, fault) in &FRONTS {
         let told = told_of(rt.alloc(), chunks, *size);
-        assert!(rt; told == Ok(SoundAt::Refused), "{fault}");
+        assert!(rt; is_refused(told), "{fault}");
     }
 }
 
@@ -154,8 +158,12 @@ fn finds_the_longest_sound(rt: HostRuntime) {
     assert!(rt; matches!(longest, Ok(SoundAt::Found(sound)) if sound.count == 1 << 36));
 }
 
-// Whether these bytes close the file whose front leads up to its sound, None where it doesn't.
-fn closes_behind(alloc: Global, front: &[u8], back: &[u8]) -> Result<Option<bool>, AllocError> {
+/// Whether these bytes close the file whose front leads up to its sound, None where it doesn't.
+pub(crate) fn closes_behind(
+    alloc: Global,
+    front: &[u8],
+    back: &[u8],
+) -> Result<Option<bool>, AllocError> {
     match sound_at(alloc, front)? {
         SoundAt::Found(sound) if sound.start == front.len() => {
             Ok(Some(closes(alloc, front, back)?))
@@ -164,11 +172,16 @@ fn closes_behind(alloc: Global, front: &[u8], back: &[u8]) -> Result<Option<bool
     }
 }
 
+// Whether a file is closed, or isn't, as it should be; no fault is told as want of memory.
+fn is_told(closed: Result<Option<bool>, AllocError>, expected: bool) -> bool {
+    closed == Ok(Some(expected))
+}
+
 #[test]
 fn closes_behind_the_sound(rt: HostRuntime) {
     for back in &[[].as_slice(), &[0], &[0, 1, 2, 3, 4, 5]] {
         let closed = closes_behind(rt.alloc(), &FILE[..126], back);
-        assert!(rt; closed == Ok(Some(true)), "{back:?}");
+        assert!(rt; is_told(closed, true), "{} bytes", back.len());
     }
 }
 
@@ -220,11 +233,10 @@ fn closes_between(
     closes_behind(alloc, &front, &back)
 }
 
-// No fault is told as want of memory.
 #[test]
 fn closes_with_each_fault_behind_the_sound(rt: HostRuntime) {
     for (before, behind, missing, closed, fault) in &BACKS {
         let found = closes_between(rt.alloc(), before, behind, *missing);
-        assert!(rt; found == Ok(Some(*closed)), "{fault}");
+        assert!(rt; is_told(found, *closed), "{fault}");
     }
 }

@@ -6,32 +6,41 @@ use crate::dsdiff_writing::WITH_PARTS;
 use dsd_bits::{Other, Recording, SoundAt};
 use dsdiff_core::{outline, sound_at, write_head, write_tail};
 use fixtures::compared::equal;
-use std::alloc::Global;
-use std::test::Fail;
+use std::alloc::{AllocError, Global};
 
-// What a file tells that is `front`, which ends where its sound starts, the sound, and `back`.
-fn outlined(alloc: Global, front: &[u8], back: &[u8]) -> Result<Option<Recording>, Fail> {
+// What a file tells that is `front`, which ends where its sound starts, the sound, and `back`. A front that ends
+// elsewhere is told as want of memory.
+fn outlined(alloc: Global, front: &[u8], back: &[u8]) -> Result<Option<Recording>, AllocError> {
     match sound_at(alloc, front)? {
-        SoundAt::Found(sound) if sound.start == front.len() => Ok(outline(alloc, front, back)?),
-        _ => Err("a front that ends at its sound")?,
+        SoundAt::Found(sound) if sound.start == front.len() => outline(alloc, front, back),
+        _ => Err(AllocError),
     }
 }
 
-/// `WITH_PARTS`, written again by what stands around its one byte of sound.
-pub(crate) fn written_again(alloc: Global) -> Result<Vec<u8>, Fail> {
+/// `WITH_PARTS`, written again by what stands around its one byte of sound; nothing where that tells nothing.
+pub(crate) fn written_again(alloc: Global) -> Result<Vec<u8>, AllocError> {
     let (front, rest) = WITH_PARTS.split_at(140);
-    let recording = outlined(alloc, front, &rest[1..])?.ok_or("no outline")?;
-    let tail = write_tail(alloc, &recording, 1)?;
-    let mut file = write_head(alloc, &recording, 1, tail.len())?;
-    file.push(rest[0])?;
-    file.extend_from_slice(&tail)?;
-    Ok(file)
+    match outlined(alloc, front, &rest[1..])? {
+        Some(told) => written_around(alloc, &told, &rest[..1]),
+        None => Ok(Vec::new(alloc)),
+    }
+}
+
+// The file that is written around one byte of sound.
+fn written_around(alloc: Global, told: &Recording, sound: &[u8]) -> Result<Vec<u8>, AllocError> {
+    let tail = write_tail(alloc, told, 1)?;
+    let head = write_head(alloc, told, 1, tail.len())?;
+    [head.as_slice(), sound, &tail].concat(alloc)
+}
+
+// Whether these bytes are those of `WITH_PARTS`.
+fn is_with_parts(file: Result<Vec<u8>, AllocError>) -> Result<bool, AllocError> {
+    Ok(equal(&file?, WITH_PARTS))
 }
 
 #[test]
-fn writes_a_file_around_its_sound(rt: HostRuntime) -> Result<(), Fail> {
-    assert!(rt; equal(&written_again(rt.alloc())?, WITH_PARTS));
-    Ok(())
+fn writes_a_file_around_its_sound(rt: HostRuntime) {
+    assert!(rt; is_with_parts(written_again(rt.alloc())).unwrap_or(false));
 }
 
 // An edited master of a mark with this hour and no text, and then a kept chunk.
@@ -44,7 +53,11 @@ const LATE: &[u8] = b"\0DIIN\0\0\0\0\0\0\0\x22\
     COMT\0\0\0\0\0\0\0\x02\0\x02";
 
 // What these bytes tell around a sound of one byte.
-fn outlined_around(alloc: Global, before: &[u8], back: &[u8]) -> Result<Option<Recording>, Fail> {
+fn outlined_around(
+    alloc: Global,
+    before: &[u8],
+    back: &[u8],
+) -> Result<Option<Recording>, AllocError> {
     let front = front_of(alloc, &[VERSION, MONO, before], 1, back.len() as u64)?;
     outlined(alloc, &front, back)
 }
@@ -57,19 +70,35 @@ fn keeps(others: &[Other], early: &[u8], late: &[u8]) -> bool {
     }
 }
 
-#[test]
-fn tells_what_stands_before_the_sound_first(rt: HostRuntime) -> Result<(), Fail> {
-    let told = outlined_around(rt.alloc(), EARLY, LATE)?.ok_or("no outline")?;
-    assert!(rt; (told.channels().len(), told.count()) == (1, 0));
-    assert!(rt; matches!(told.marks(), [first, second] if (first.hours, second.hours) == (1, 2)));
-    assert!(rt; keeps(told.others(), &[0, 1], &[0, 2]));
-    Ok(())
+// Whether one channel of no bits is told, and what stands before the sound first.
+fn is_in_order(told: &Recording) -> bool {
+    (told.channels().len(), told.count()) == (1, 0)
+        && matches!(told.marks(), [first, second] if (first.hours, second.hours) == (1, 2))
+        && keeps(told.others(), &[0, 1], &[0, 2])
 }
 
-// A second version behind the sound.
+// Whether it is so of a file of both.
+fn tells_in_order(alloc: Global) -> Result<bool, AllocError> {
+    match outlined_around(alloc, EARLY, LATE)? {
+        Some(told) => Ok(is_in_order(&told)),
+        None => Ok(false),
+    }
+}
+
 #[test]
-fn tells_nothing_of_a_file_that_is_refused(rt: HostRuntime) -> Result<(), Fail> {
-    let back = [b"\0".as_slice(), VERSION].concat(rt.alloc())?;
-    assert!(rt; outlined_around(rt.alloc(), EARLY, &back)?.is_none());
-    Ok(())
+fn tells_what_stands_before_the_sound_first(rt: HostRuntime) {
+    assert!(rt; tells_in_order(rt.alloc()).unwrap_or(false));
+}
+
+// A second version behind the sound and its pad.
+const VERSION_AGAIN: &[u8] = b"\0FVER\0\0\0\0\0\0\0\x04\x01\x05\0\0";
+
+// Whether anything is told of such a file.
+fn tells_of_two_versions(alloc: Global) -> Result<bool, AllocError> {
+    Ok(outlined_around(alloc, EARLY, VERSION_AGAIN)?.is_some())
+}
+
+#[test]
+fn tells_nothing_of_a_file_that_is_refused(rt: HostRuntime) {
+    assert!(rt; tells_of_two_versions(rt.alloc()) == Ok(false));
 }

@@ -2,93 +2,115 @@
 
 use crate::told::{Numbers, has_ids, numbers_of};
 use dsd_bits::{BitOrder, Recording, SoundAt};
-use dsf_core::{head, outline, read, sound_at, tag_at, write};
+use dsf_core::{DsfFault, head, outline, read, sound_at, tag_at, write};
 use fixtures::compared::equal;
-use fixtures::files::{DSF_FRONT, changed, filled};
-use std::alloc::Global;
-use std::test::Fail;
+use fixtures::files::{DSF_FRONT, filled};
+use std::alloc::{AllocError, Global};
 
-// The outline of a file of so many bytes that begins with a front up to its sound, and has this tag.
+// The outline of a file of so many bytes that begins with a front up to its sound, and has this tag. A front that ends
+// elsewhere is told as want of memory.
 fn outline_of(
     alloc: Global,
     front: &[u8],
     total: u64,
     tag: &[u8],
-) -> Result<Option<Recording>, Fail> {
+) -> Result<Option<Recording>, AllocError> {
     match sound_at(front) {
         SoundAt::Found(sound) if sound.start == front.len() && front.len() as u64 <= total => {
-            Ok(outline(alloc, front, total, tag.to_vec(alloc)?)?)
+            outline(alloc, front, total, tag.to_vec(alloc)?)
         }
-        _ => Err("a front that ends at its sound")?,
+        _ => Err(AllocError),
     }
 }
 
-// The place of the tag.
-fn tag_place(front: &[u8]) -> Result<u64, Fail> {
+// The place of the tag, None where a front doesn't end at its sound.
+fn tag_place(front: &[u8]) -> Option<u64> {
     match sound_at(front) {
-        SoundAt::Found(sound) if sound.start == front.len() => Ok(tag_at(front)),
-        _ => Err("a front that ends at its sound")?,
+        SoundAt::Found(sound) if sound.start == front.len() => Some(tag_at(front)),
+        _ => None,
+    }
+}
+
+const NUMBERS: Numbers = Numbers {
+    rate: 2_822_400,
+    layout: 1,
+    channels: 1,
+    bits: 0,
+    marks: 0,
+    others: 0,
+    tag: 0,
+};
+
+// Whether all but its bit is told of the file with one bit.
+fn tells_all(alloc: Global) -> Result<bool, AllocError> {
+    match outline_of(alloc, &DSF_FRONT[..92], 4188, &[])? {
+        Some(told) => Ok(numbers_of(&told) == NUMBERS && has_ids(&told, &[*b"C000"])),
+        None => Ok(false),
     }
 }
 
 #[test]
-fn tells_all_but_the_bits(rt: HostRuntime) -> Result<(), Fail> {
-    let told = outline_of(rt.alloc(), &DSF_FRONT[..92], 4188, &[])?;
-    let told = told.ok_or("an outline")?;
-    let numbers = Numbers {
-        rate: 2_822_400,
-        layout: 1,
-        channels: 1,
-        bits: 0,
-        marks: 0,
-        others: 0,
-        tag: 0,
-    };
-    assert!(rt; numbers_of(&told) == numbers);
-    assert!(rt; has_ids(&told, &[*b"C000"]));
-    assert!(rt; tag_place(&DSF_FRONT[..92])? == 0);
-    Ok(())
+fn tells_all_but_the_bits(rt: HostRuntime) {
+    assert!(rt; tells_all(rt.alloc()).unwrap_or(false));
+    assert!(rt; tag_place(&DSF_FRONT[..92]) == Some(0));
 }
 
-// The front of a file whose tag stands at 4188, behind the block.
-fn with_tag(alloc: Global) -> Result<Vec<u8>, Fail> {
-    Ok(changed(alloc, &DSF_FRONT[..92], 20, &[0x5c, 0x10])?)
+// `DSF_FRONT` up to its sound, of a file whose tag stands at 4188, behind the block.
+const WITH_TAG: &[u8; 92] = b"DSD \x1c\0\0\0\0\0\0\0\x5c\x10\0\0\0\0\0\0\x5c\x10\0\0\0\0\0\0\
+    fmt \x34\0\0\0\0\0\0\0\x01\0\0\0\0\0\0\0\x01\0\0\0\x01\0\0\0\0\x11\x2b\0\x01\0\0\0\
+    \x01\0\0\0\0\0\0\0\0\x10\0\0\0\0\0\0\
+    data\x0c\x10\0\0\0\0\0\0";
+
+// Whether this tag is told of such a file.
+fn tells_tag(alloc: Global, tag: &[u8]) -> Result<bool, AllocError> {
+    match outline_of(alloc, WITH_TAG, 4191, tag)? {
+        Some(told) => Ok(equal(told.tag(), tag)),
+        None => Ok(false),
+    }
 }
 
 #[test]
-fn tells_where_the_tag_stands(rt: HostRuntime) -> Result<(), Fail> {
-    let front = with_tag(rt.alloc())?;
-    assert!(rt; tag_place(&front)? == 4188);
-    let told = outline_of(rt.alloc(), &front, 4191, b"ID3")?.ok_or("an outline")?;
-    assert!(rt; equal(told.tag(), b"ID3"));
-    Ok(())
+fn tells_where_the_tag_stands(rt: HostRuntime) {
+    assert!(rt; tag_place(WITH_TAG) == Some(4188));
+    assert!(rt; tells_tag(rt.alloc(), b"ID3").unwrap_or(false));
+}
+
+// Whether such a file of so many bytes, without its tag, is told.
+fn is_told(alloc: Global, total: u64) -> Result<bool, AllocError> {
+    Ok(outline_of(alloc, WITH_TAG, total, &[])?.is_some())
 }
 
 #[test]
-fn tells_nothing_of_a_file_that_is_cut(rt: HostRuntime) -> Result<(), Fail> {
-    let front = with_tag(rt.alloc())?;
-    assert!(rt; outline_of(rt.alloc(), &front, 4188, &[])?.is_some());
-    assert!(rt; outline_of(rt.alloc(), &front, 4187, &[])?.is_none());
-    Ok(())
+fn tells_nothing_of_a_file_that_is_cut(rt: HostRuntime) {
+    assert!(rt; is_told(rt.alloc(), 4188) == Ok(true));
+    assert!(rt; is_told(rt.alloc(), 4187) == Ok(false));
 }
 
-// Whether the head that is written from the outline of the file with one bit begins the file of that recording.
-fn begins(alloc: Global, order: BitOrder) -> Result<bool, Fail> {
-    let (recording, _) = read(alloc, &filled(alloc, &DSF_FRONT, 4188)?)?;
-    let told = outline_of(alloc, &DSF_FRONT[..92], 4188, &[])?.ok_or("an outline")?;
-    let written = write(alloc, &recording, order)?;
-    Ok(written.starts_with(&head(alloc, &told, 1, order)?))
+// Whether a file begins with the head that is written from the outline of the file with one bit.
+fn begins_with_head(alloc: Global, file: &[u8], order: BitOrder) -> Result<bool, AllocError> {
+    match outline_of(alloc, &DSF_FRONT[..92], 4188, &[])? {
+        Some(told) => Ok(file.starts_with(&head(alloc, &told, 1, order)?)),
+        None => Ok(false),
+    }
+}
+
+// What a file holds, written in this order of bits.
+fn written(alloc: Global, file: &[u8], order: BitOrder) -> Result<Vec<u8>, DsfFault> {
+    let (recording, _) = read(alloc, file)?;
+    Ok(write(alloc, &recording, order)?)
+}
+
+// Whether the file that is written of what the one with one bit holds begins so.
+fn begins(alloc: Global, order: BitOrder) -> Result<bool, DsfFault> {
+    let file = filled(alloc, &DSF_FRONT, 4188)?;
+    let written = written(alloc, &file, order)?;
+    Ok(begins_with_head(alloc, &written, order)?)
 }
 
 #[test]
-fn writes_heads_from_outlines(rt: HostRuntime) -> Result<(), Fail> {
-    assert!(rt;
-        begins(rt.alloc(), BitOrder::LeastFirst)?,
-        "1 bit per sample"
-    );
-    assert!(rt;
-        begins(rt.alloc(), BitOrder::MostFirst)?,
-        "8 bits per sample"
-    );
-    Ok(())
+fn writes_heads_from_outlines(rt: HostRuntime) {
+    let least = begins(rt.alloc(), BitOrder::LeastFirst);
+    assert!(rt; least.unwrap_or(false), "1 bit per sample");
+    let most = begins(rt.alloc(), BitOrder::MostFirst);
+    assert!(rt; most.unwrap_or(false), "8 bits per sample");
 }

@@ -27,15 +27,17 @@ const ONE_BIT: Numbers = Numbers {
     tag: 0,
 };
 
-// Whether the file of `DSF_FRONT` holds one bit, which is 1, the earliest bit of a byte being its lowest.
+// Whether this is one bit, which is 1.
+fn is_one_bit(recording: &Recording) -> bool {
+    numbers_of(recording) == ONE_BIT
+        && has_sounds(recording, &[&[0x80]])
+        && has_ids(recording, &[*b"C000"])
+}
+
+// Whether the file of `DSF_FRONT` holds it, the earliest bit of a byte being its lowest.
 fn holds_one_bit(alloc: Global) -> Result<bool, DsfFault> {
     let (recording, order) = holding_in_order(alloc, &DSF_FRONT, 4188)?;
-    Ok(
-        order == BitOrder::LeastFirst
-            && numbers_of(&recording) == ONE_BIT
-            && has_sounds(&recording, &[&[0x80]])
-            && has_ids(&recording, &[*b"C000"]),
-    )
+    Ok(order == BitOrder::LeastFirst && is_one_bit(&recording))
 }
 
 #[test]
@@ -43,16 +45,20 @@ fn reads_one_bit(rt: HostRuntime) {
     assert!(rt; holds_one_bit(rt.alloc()).unwrap_or(false));
 }
 
-// Whether a file of this front and so many bytes has one channel of so many bits, of the layout 1, and this
-// tag.
+// Whether this is one channel of so many bits, of the layout 1, and this tag.
+fn is_mono(recording: &Recording, (bits, tag): (usize, &[u8])) -> bool {
+    recording.count() == bits && recording.layout() == 1 && equal(recording.tag(), tag)
+}
+
+// Whether a file of this front and so many bytes holds that.
 fn is_read(
     alloc: Global,
     front: &[u8],
     size: usize,
-    (bits, tag): (usize, &[u8]),
+    parts: (usize, &[u8]),
 ) -> Result<bool, DsfFault> {
     let (recording, _) = holding_in_order(alloc, front, size)?;
-    Ok(recording.count() == bits && recording.layout() == 1 && equal(recording.tag(), tag))
+    Ok(is_mono(&recording, parts))
 }
 
 // Bytes and the place from which on they stand.
@@ -71,7 +77,7 @@ fn is_read_changed(alloc: Global, lenient: &Lenient) -> Result<bool, DsfFault> {
     is_read(alloc, &twice, *size, (*bits, tag))
 }
 
-const LENIENT: [Lenient; 4] = [
+const LENIENT: &[Lenient] = &[
     (
         "a pointer to the end",
         (20, &[0x5c, 0x10]),
@@ -101,7 +107,7 @@ const LENIENT: [Lenient; 4] = [
 
 #[test]
 fn is_lenient(rt: HostRuntime) {
-    for lenient in &LENIENT {
+    for lenient in LENIENT {
         let is_so = is_read_changed(rt.alloc(), lenient);
         assert!(rt; is_so.unwrap_or(false), "{}", lenient.0);
     }

@@ -42,23 +42,22 @@ fn two_channels(alloc: Global) -> Result<Recording, AllocError> {
     ))
 }
 
-// Whether two groups of a block for each channel are written in this order: with so many bits per sample,
-// with this first byte of both blocks of the first group, and of the second group's with this one and 0.
-fn is_written(
-    alloc: Global,
-    order: BitOrder,
-    (bits, first, last): (u8, u8, u8),
-) -> Result<bool, AllocError> {
+// Whether a file has two groups of a block for each channel: with so many bits per sample, with this first byte
+// of both blocks of the first group, and of the second group's with this one and 0.
+fn has_groups(file: &[u8], (bits, first, last): (u8, u8, u8)) -> bool {
+    file.len() == 16479
+        && byte(file, 60) == bits
+        && byte(file, 92) == first
+        && byte(file, 4188) == first
+        && byte(file, 8284) == last
+        && byte(file, 12380) == 0
+}
+
+// Whether they are written so in this order.
+fn is_written(alloc: Global, order: BitOrder, parts: (u8, u8, u8)) -> Result<bool, AllocError> {
     let recording = two_channels(alloc)?;
     let file = write(alloc, &recording, order)?;
-    Ok(
-        file.len() == 16479
-            && byte(&file, 60) == bits
-            && byte(&file, 92) == first
-            && byte(&file, 4188) == first
-            && byte(&file, 8284) == last
-            && byte(&file, 12380) == 0,
-    )
+    Ok(has_groups(&file, parts))
 }
 
 // The byte at a place, 0xee where there is none.
@@ -74,9 +73,22 @@ fn writes_two_groups_of_blocks(rt: HostRuntime) {
     assert!(rt; most.unwrap_or(false), "8 bits per sample");
 }
 
-// Whether a recording is read as this one that was written, but for the IDs, which DSF has for two channels.
+// What two channels have.
+const TWO_CHANNELS: Numbers = Numbers {
+    rate: 5644800,
+    layout: 2,
+    channels: 2,
+    bits: 32769,
+    marks: 0,
+    others: 0,
+    tag: 3,
+};
+
+// Whether a recording is read as this one of two channels that was written, but for the IDs, which DSF has for two
+// channels.
 fn is_same(read: &Recording, written: &Recording) -> bool {
-    numbers_of(read) == numbers_of(written)
+    numbers_of(written) == TWO_CHANNELS
+        && numbers_of(read) == TWO_CHANNELS
         && has_ids(read, &[*b"SLFT", *b"SRGT"])
         && equal(read.tag(), b"ID3")
         && has_sound(read, 0, sound_of(written, 0))
@@ -94,22 +106,11 @@ fn is_read(
     Ok(order_read == order && is_same(&again, written))
 }
 
-// What two channels have.
-const TWO_CHANNELS: Numbers = Numbers {
-    rate: 5644800,
-    layout: 2,
-    channels: 2,
-    bits: 32769,
-    marks: 0,
-    others: 0,
-    tag: 3,
-};
-
 // Whether two channels that are written in this order of bits are read as the same, in the same order.
 fn is_read_again(alloc: Global, order: BitOrder) -> Result<bool, DsfFault> {
     let written = two_channels(alloc)?;
     let file = write(alloc, &written, order)?;
-    Ok(is_read(alloc, &file, &written, order)? && numbers_of(&written) == TWO_CHANNELS)
+    is_read(alloc, &file, &written, order)
 }
 
 #[test]

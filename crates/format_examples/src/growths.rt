@@ -1,15 +1,18 @@
 //! Each call of these crates that takes memory, for `tools/growths`, which refuses their growths in turn: what was
 //! refused is handed out as it was answered.
 
+use crate::dsdiff_fronts::closes_behind;
 use crate::dsdiff_outlines::written_again;
 use crate::dsdiff_writing::WITH_PARTS;
 use crate::projects::EXAMPLE;
 use chunk_core::{Order, push_chunk, push_u16, push_u32, push_u64, walk};
 use dsd_bits::{
-    BitOrder, BitRoom, Bits, SoundAt, lace_blocks, lace_bytes, push_blocks, push_laced,
-    unlace_blocks, unlace_bytes,
+    BitOrder, BitRoom, Bits, BitsFault, LaceFault, SoundAt, lace_blocks, lace_bytes, push_blocks,
+    push_laced, unlace_blocks, unlace_bytes,
 };
+use dsf_core::DsfFault;
 use fixtures::files::{FILE, one_bit};
+use project_core::{Project, Splice};
 use std::alloc::Global;
 use std::test::Fail;
 use wave_core::{Pcm, push_frames, push_header, push_pad, push_sample};
@@ -43,8 +46,8 @@ fn numbers_are_appended(rt: HostRuntime) -> Result<(), Fail> {
 }
 
 // Twelve bits.
-fn bits(alloc: Global) -> Result<Bits, Fail> {
-    Ok(Bits::from_packed(alloc, &[0xf0, 0xff], 12)?)
+fn bits(alloc: Global) -> Result<Bits, BitsFault> {
+    Bits::from_packed(alloc, &[0xf0, 0xff], 12)
 }
 
 #[test]
@@ -61,14 +64,20 @@ fn a_bit_is_added(rt: HostRuntime) -> Result<(), Fail> {
     Ok(())
 }
 
+// How many bits of twelve are added, from a place to the tenth.
+fn added(alloc: Global, start: usize) -> Result<usize, BitsFault> {
+    let source = bits(alloc)?;
+    let mut made = Bits::new(alloc);
+    if start <= 10 && source.len() == 12 {
+        made.push_range(&source, start, 10)?;
+    }
+    Ok(made.len())
+}
+
 #[test]
 fn ranges_are_added(rt: HostRuntime) -> Result<(), Fail> {
-    let source = bits(rt.alloc())?;
-    assert!(rt; source.len() == 12);
     for start in &[0, 2] {
-        let mut bits = Bits::new(rt.alloc());
-        bits.push_range(&source, *start, 10)?;
-        assert!(rt; bits.len() == 10 - *start);
+        assert!(rt; added(rt.alloc(), *start)? == 10 - *start);
     }
     Ok(())
 }
@@ -89,13 +98,21 @@ fn bytes_are_taken_apart(rt: HostRuntime) -> Result<(), Fail> {
     Ok(())
 }
 
+// How many bytes six bytes are laced to that are taken apart into one channel, and into two.
+fn laced_of_one(alloc: Global) -> Result<usize, LaceFault> {
+    let one = unlace_bytes(alloc, b"abcdef", 1)?;
+    Ok(lace_bytes(alloc, &one)?.len())
+}
+
+fn laced_of_two(alloc: Global) -> Result<usize, LaceFault> {
+    let two = unlace_bytes(alloc, b"abcdef", 2)?;
+    Ok(lace_bytes(alloc, &two)?.len())
+}
+
 #[test]
 fn bytes_are_laced(rt: HostRuntime) -> Result<(), Fail> {
-    let alloc = rt.alloc();
-    let one = unlace_bytes(alloc, b"abcdef", 1)?;
-    assert!(rt; lace_bytes(alloc, &one)?.len() == 6);
-    let two = unlace_bytes(alloc, b"abcdef", 2)?;
-    assert!(rt; lace_bytes(alloc, &two)?.len() == 6);
+    assert!(rt; laced_of_one(rt.alloc())? == 6);
+    assert!(rt; laced_of_two(rt.alloc())? == 6);
     Ok(())
 }
 
@@ -166,20 +183,11 @@ fn a_front_leads_to_its_sound(rt: HostRuntime) -> Result<(), Fail> {
     Ok(())
 }
 
-// Whether `WITH_PARTS` closes behind its sound, with a mark and kept chunks.
-fn closes(alloc: Global) -> Result<bool, Fail> {
-    let (front, rest) = WITH_PARTS.split_at(140);
-    match dsdiff_core::sound_at(alloc, front)? {
-        SoundAt::Found(sound) if sound.start == front.len() => {
-            Ok(dsdiff_core::closes(alloc, front, &rest[1..])?)
-        }
-        _ => Err("a front that ends at its sound")?,
-    }
-}
-
+// A mark and kept chunks stand behind the one byte of sound.
 #[test]
 fn an_end_closes_a_file(rt: HostRuntime) -> Result<(), Fail> {
-    assert!(rt; closes(rt.alloc())?);
+    let (front, rest) = WITH_PARTS.split_at(140);
+    assert!(rt; closes_behind(rt.alloc(), front, &rest[1..])? == Some(true));
     Ok(())
 }
 
@@ -189,11 +197,16 @@ fn a_file_is_written_around_its_sound(rt: HostRuntime) -> Result<(), Fail> {
     Ok(())
 }
 
+// How many bits and how many bytes of a tag a DSF file has.
+fn sizes_in_dsf(alloc: Global) -> Result<(usize, usize), DsfFault> {
+    let file = one_bit(alloc, b"a tag")?;
+    let (recording, _) = dsf_core::read(alloc, &file)?;
+    Ok((recording.count(), recording.tag().len()))
+}
+
 #[test]
 fn a_dsf_file_is_read(rt: HostRuntime) -> Result<(), Fail> {
-    let file = one_bit(rt.alloc(), b"a tag")?;
-    let (recording, _) = dsf_core::read(rt.alloc(), &file)?;
-    assert!(rt; (recording.count(), recording.tag().len()) == (1, 5));
+    assert!(rt; sizes_in_dsf(rt.alloc())? == (1, 5));
     Ok(())
 }
 
@@ -248,11 +261,22 @@ fn a_wave_file_is_written(rt: HostRuntime) -> Result<(), Fail> {
     Ok(())
 }
 
+// How many weights, takes and cues a splice has.
+fn sizes_of(splice: &Splice) -> [usize; 3] {
+    [splice.weights.len(), splice.takes.len(), splice.cues.len()]
+}
+
+// Whether a project has a decimator, and a splice of two weights, takes and cues.
+fn has_both(project: &Project) -> bool {
+    match &project.splice {
+        Some(splice) => project.decimate.is_some() && sizes_of(splice) == [2; 3],
+        None => false,
+    }
+}
+
 #[test]
 fn a_project_is_read(rt: HostRuntime) -> Result<(), Fail> {
     let project = project_core::read(rt.alloc(), EXAMPLE.as_bytes())?;
-    let splice = project.splice.ok_or("no splice")?;
-    assert!(rt; project.decimate.is_some());
-    assert!(rt; (splice.weights.len(), splice.takes.len(), splice.cues.len()) == (2, 2, 2));
+    assert!(rt; has_both(&project));
     Ok(())
 }

@@ -2,16 +2,21 @@
 //! one end or the other. All values are worked out by hand.
 
 use crate::told::has_bits;
-use dsd_bits::{BitOrder, LaceFault, lace_blocks, push_blocks, unlace_blocks, unlace_bytes};
+use dsd_bits::{BitOrder, Bits, LaceFault, lace_blocks, push_blocks, unlace_blocks, unlace_bytes};
 use fixtures::compared::equal;
 use fixtures::files::filled;
 use std::alloc::Global;
 
-// Whether one bit of each of two channels is taken out of so many bytes: 1 and 0.
+// Whether these are two channels of one bit: 1 and 0.
+fn are_apart(channels: &[Bits]) -> bool {
+    channels.len() == 2 && has_bits(channels, 0, &[0x80], 1) && has_bits(channels, 1, &[0], 1)
+}
+
+// Whether they are taken out of so many bytes.
 fn takes_apart(alloc: Global, size: usize) -> Result<bool, LaceFault> {
     let bytes = filled(alloc, &[1], size)?;
     let channels = unlace_blocks(alloc, &bytes, 2, 1, BitOrder::LeastFirst)?;
-    Ok(channels.len() == 2 && has_bits(&channels, 0, &[0x80], 1) && has_bits(&channels, 1, &[0], 1))
+    Ok(are_apart(&channels))
 }
 
 #[test]

@@ -2,22 +2,24 @@
 
 use crate::compared::check_printed;
 use crate::told::has_bits;
-use dsd_bits::{LaceFault, lace_bytes, push_laced, unlace_bytes};
+use dsd_bits::{Bits, LaceFault, lace_bytes, push_laced, unlace_bytes};
 use fixtures::compared::equal;
 use std::alloc::Global;
 
 const LACED: [u8; 4] = [0xf0, 0x0f, 0xaa, 0x55];
 
-// Whether the bytes are taken apart into two channels, and are these where the channels are laced.
+// Whether these are the two channels of the bytes.
+fn are_apart(channels: &[Bits]) -> bool {
+    channels.len() == 2
+        && has_bits(channels, 0, &[0xf0, 0xaa], 16)
+        && has_bits(channels, 1, &[0x0f, 0x55], 16)
+}
+
+// Whether the bytes are taken apart into them, and are these where the channels are laced.
 fn laces_again(alloc: Global) -> Result<bool, LaceFault> {
     let channels = unlace_bytes(alloc, &LACED, 2)?;
     let laced = lace_bytes(alloc, &channels)?;
-    Ok(
-        channels.len() == 2
-            && has_bits(&channels, 0, &[0xf0, 0xaa], 16)
-            && has_bits(&channels, 1, &[0x0f, 0x55], 16)
-            && equal(&laced, &LACED),
-    )
+    Ok(are_apart(&channels) && equal(&laced, &LACED))
 }
 
 #[test]

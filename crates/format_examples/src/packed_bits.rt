@@ -69,13 +69,18 @@ fn add(bits: &mut Bits, source: &Bits, (start, stop): (usize, usize)) -> Result<
 // First bits, how many they are, a range, and what both make together.
 type Added = (&'static [u8], usize, usize, usize, &'static [u8], usize);
 
-// Whether such bits of 12 34 56 78 make these bytes of so many bits.
+// Whether such bits of a source make these bytes of so many bits.
+fn adds_from(bits: &mut Bits, source: &Bits, case: &Added) -> Result<bool, AllocError> {
+    let (_, count, start, stop, made, length) = *case;
+    let is_added = bits.len() == count && add(bits, source, (start, stop))?;
+    Ok(is_added && are(bits, made, length))
+}
+
+// Whether it is so of 12 34 56 78.
 fn adds(alloc: Global, case: &Added) -> Result<bool, BitsFault> {
-    let (old, count, start, stop, made, length) = *case;
     let source = Bits::from_packed(alloc, &[0x12, 0x34, 0x56, 0x78], 32)?;
-    let mut bits = Bits::from_packed(alloc, old, count.min(64))?;
-    let is_added = bits.len() == count && add(&mut bits, &source, (start, stop))?;
-    Ok(is_added && are(&bits, made, length))
+    let mut bits = Bits::from_packed(alloc, case.0, case.1.min(64))?;
+    Ok(adds_from(&mut bits, &source, case)?)
 }
 
 const RANGES: [Added; 7] = [
@@ -138,9 +143,7 @@ fn adds_ranges_to_held_room(rt: HostRuntime) {
 
 #[test]
 fn turns_bytes(rt: HostRuntime) {
-    for (byte, turned) in &[(0x0f, 0xf0), (0x01, 0x80)] {
-        assert!(rt; turn_byte(*byte) == *turned, "{byte}");
-    }
+    assert!(rt; (turn_byte(0x0f), turn_byte(0x01)) == (0xf0, 0x80));
     let mut bytes = [0x0f, 0x01, 0x35];
     turn(&mut bytes);
     assert!(rt; bytes == [0xf0, 0x80, 0xac]);

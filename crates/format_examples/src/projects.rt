@@ -1,7 +1,7 @@
 //! Projects' texts with what they say, and the faults of whole documents.
 
 use crate::project_faults::check_faults;
-use project_core::{Cue, ProjectFault, Splice, Target, read};
+use project_core::{Cue, Project, ProjectFault, Splice, Target, read};
 use std::alloc::Global;
 
 /// A project of a decimator and a splice.
@@ -32,13 +32,17 @@ fn numbers(cue: &Cue) -> (usize, usize, usize, usize, Target) {
     (cue.take, cue.start, cue.stop, cue.bridge, cue.target)
 }
 
-// The factor and the width of a text's decimator, if it has one.
-fn decimator(alloc: Global, text: &[u8]) -> Result<Option<(u32, u32)>, ProjectFault> {
-    let project = read(alloc, text)?;
+// The factor and the width of a project's decimator, if it has one.
+fn decimator_of(project: &Project) -> Option<(u32, u32)> {
     match &project.decimate {
-        Some(taps) => Ok(Some((taps.factor(), taps.width()))),
-        None => Ok(None),
+        Some(taps) => Some((taps.factor(), taps.width())),
+        None => None,
     }
+}
+
+// The same of a text.
+fn decimator(alloc: Global, text: &[u8]) -> Result<Option<(u32, u32)>, ProjectFault> {
+    Ok(decimator_of(&read(alloc, text)?))
 }
 
 // Whether a text has a splice.
@@ -89,13 +93,17 @@ fn is_example(splice: &Splice) -> bool {
         && has_cue(splice, 1, (1, 2, 9, 0, Target::Fade), Some("one"))
 }
 
-// Whether the example's splice is read.
-fn reads_example(alloc: Global) -> Result<bool, ProjectFault> {
-    let project = read(alloc, EXAMPLE.as_bytes())?;
+// Whether a project has it.
+fn has_example(project: &Project) -> bool {
     match &project.splice {
-        Some(splice) => Ok(is_example(splice)),
-        None => Ok(false),
+        Some(splice) => is_example(splice),
+        None => false,
     }
+}
+
+// Whether it is read.
+fn reads_example(alloc: Global) -> Result<bool, ProjectFault> {
+    Ok(has_example(&read(alloc, EXAMPLE.as_bytes())?))
 }
 
 #[test]

@@ -14,8 +14,8 @@ use fixtures::windows::{bits_of, by_equal, by_newest, ones, zeros};
 use std::alloc::{AllocError, Global};
 use std::io::Read;
 
-// The window of a bridge of one bit from ones to zeros, by the weights 1, 0.
-fn newest(alloc: Global) -> Result<Window, WindowFault> {
+/// The window of a bridge of one bit from ones to zeros, by the weights 1, 0.
+pub(crate) fn newest(alloc: Global) -> Result<Window, WindowFault> {
     by_newest(alloc, ones(0, 8), 1, zeros(2, 9))
 }
 
@@ -47,8 +47,8 @@ fn verdict<R: Read>(
     }
 }
 
-// What is said of a certificate for the first bit of a byte as the bridge of a window.
-fn checked<R: Read + Drop>(
+/// What is said of a certificate for the first bit of a byte as the bridge of a window.
+pub(crate) fn checked<R: Read + Drop>(
     alloc: Global,
     window: Result<Window, WindowFault>,
     byte: u8,

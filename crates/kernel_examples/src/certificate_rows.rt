@@ -91,8 +91,8 @@ fn judged_in(
     verdict(alloc, window, &bits, weights, &cert)
 }
 
-/// What is said of a certificate of one entry by so many weights.
-pub(crate) fn verdict(
+// What is said of a certificate of one entry by so many weights.
+fn verdict(
     alloc: Global,
     window: &Window,
     bits: &Bits,

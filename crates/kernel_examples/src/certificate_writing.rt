@@ -24,7 +24,7 @@ struct Worked {
     parts: [(usize, usize); 5],
 }
 
-const CERTIFICATES: [Worked; 2] = [
+const CERTIFICATES: &[Worked] = &[
     Worked {
         version: Version::One,
         first: [1 << 63, 0],
@@ -118,7 +118,7 @@ fn is_written(alloc: Global, worked: &Worked) -> Result<bool, AllocError> {
 
 #[test]
 fn the_worked_certificates_are_written(rt: HostRuntime) {
-    for worked in &CERTIFICATES {
+    for worked in CERTIFICATES {
         let is_written = is_written(rt.alloc(), worked);
         assert!(rt; is_written.unwrap_or(false), "{} bytes", worked.bytes.len());
     }
@@ -155,7 +155,7 @@ fn leaves_a_front(alloc: Global, worked: &Worked, write: usize) -> Result<bool, 
 
 #[test]
 fn a_failed_write_leaves_a_front(rt: HostRuntime) {
-    for worked in &CERTIFICATES {
+    for worked in CERTIFICATES {
         for write in 1..worked.bytes.len() + 1 {
             let is_left = leaves_a_front(rt.alloc(), worked, write);
             assert!(rt; is_left.unwrap_or(false), "write {write}");

@@ -7,6 +7,8 @@ use fir_core::{
 use std::alloc::{AllocError, Global};
 use std::test::Fail;
 
+const KERNELS: &[Kernel] = &[Kernel::Plain, Kernel::Table, Kernel::Lanes];
+
 // Whether each kernel gives these samples.
 fn each_gives(
     alloc: Global,
@@ -14,8 +16,8 @@ fn each_gives(
     bits: &Bits,
     samples: &[i32],
 ) -> Result<bool, AllocError> {
-    for kernel in [Kernel::Plain, Kernel::Table, Kernel::Lanes] {
-        if decimate_with(alloc, taps, bits, kernel)?.as_slice() != samples {
+    for kernel in KERNELS {
+        if decimate_with(alloc, taps, bits, *kernel)?.as_slice() != samples {
             return Ok(false);
         }
     }
@@ -43,31 +45,49 @@ fn plays_bytes(alloc: Global, taps: &Taps, (bytes, count): (&[u8], u16), samples
     }
 }
 
+const RAMP: &[i32] = &[1, 2, 3, 4];
+
+const TURNED: &[i32] = &[-1, -2, -3, -4];
+
+const LOUD: &[i32] = &[32_768];
+
+// What is told, a decimator, a channel and its samples.
+type Played = (
+    &'static str,
+    (&'static [i32], u32, u32),
+    (&'static [u8], u16),
+    &'static [i32],
+);
+
+// What lies outside the recording counts 0, also the spare bits of its last byte.
+const CHANNELS: &[Played] = &[
+    ("the sum", (RAMP, 3, 0), (&[0xf0], 8), &[10]),
+    ("a part of it", (RAMP, 1, 0), (&[0xf0], 8), &[3]),
+    ("less than nothing", (TURNED, 3, 0), (&[0xf0], 8), &[-10]),
+    ("2.5, rounded upwards", (RAMP, 3, 2), (&[0xf0], 8), &[3]),
+    ("-2.5, rounded upwards", (TURNED, 3, 2), (&[0xf0], 8), &[-2]),
+    ("clipped above", (LOUD, 0, 0), (&[0xf0], 8), &[32_767]),
+    ("clipped below", (LOUD, 0, 0), (&[0x0f], 8), &[-32_768]),
+    ("before the first", (&[1; 9], 8, 0), (&[0xf0], 8), &[0]),
+    ("one bit", (RAMP, 3, 0), (&[0xf0], 1), &[4]),
+    (
+        "to the end",
+        (&[1; 33], 32, 0),
+        (&[0xff; 5], 40),
+        &[33, 32, 24, 16, 8],
+    ),
+    ("none", (RAMP, 3, 0), (&[], 0), &[]),
+];
+
+// Whether a channel has its samples.
+fn is_played(alloc: Global, played: &Played) -> bool {
+    plays(alloc, played.1, played.2, played.3)
+}
+
 #[test]
 fn plays_small_channels(rt: HostRuntime) {
-    let ramp = [1, 2, 3, 4].as_slice();
-    let turned = [-1, -2, -3, -4].as_slice();
-    let loud = [32_768].as_slice();
-    let nine = [1; 9].as_slice();
-    let many = [1; 33].as_slice();
-    for (decimator, channel, samples) in [
-        ((ramp, 3, 0), ([0xf0].as_slice(), 8), [10].as_slice()),
-        ((ramp, 1, 0), (&[0xf0], 8), &[3]),
-        ((turned, 3, 0), (&[0xf0], 8), &[-10]),
-        // Halves are rounded upwards: 2.5 and -2.5.
-        ((ramp, 3, 2), (&[0xf0], 8), &[3]),
-        ((turned, 3, 2), (&[0xf0], 8), &[-2]),
-        // Clipped to 16 bits.
-        ((loud, 0, 0), (&[0xf0], 8), &[32_767]),
-        ((loud, 0, 0), (&[0x0f], 8), &[-32_768]),
-        // What lies outside the recording counts 0, also the spare bits of its last byte.
-        ((nine, 8, 0), (&[0xf0], 8), &[0]),
-        ((ramp, 3, 0), (&[0xf0], 1), &[4]),
-        ((many, 32, 0), (&[0xff; 5], 40), &[33, 32, 24, 16, 8]),
-        ((ramp, 3, 0), (&[], 0), &[]),
-    ] {
-        let is_played = plays(rt.alloc(), decimator, channel, samples);
-        assert!(rt; is_played, "{channel:?} by {decimator:?}");
+    for played in CHANNELS {
+        assert!(rt; is_played(rt.alloc(), played), "{}", played.0);
     }
 }
 
@@ -80,8 +100,8 @@ fn sample_of_most_taps(alloc: Global, kernel: Kernel) -> Result<Option<i32>, Fai
 
 #[test]
 fn plays_the_most_taps_by_each_kernel(rt: HostRuntime) -> Result<(), Fail> {
-    for kernel in [Kernel::Plain, Kernel::Table, Kernel::Lanes] {
-        assert!(rt; sample_of_most_taps(rt.alloc(), kernel)? == Some(4096));
+    for kernel in KERNELS {
+        assert!(rt; sample_of_most_taps(rt.alloc(), *kernel)? == Some(4096));
     }
     Ok(())
 }

@@ -1,19 +1,19 @@
 //! Each call of these crates that takes memory, for `tools/growths`, which refuses their growths in turn: what was
 //! refused is handed out as it was answered.
 
-ghost use Rattle.std.specs.Prelude.{◌≡◌, ◌+◌, ◌≤◌, None, OnOk, false};
+ghost use Rattle.std.specs.Prelude.{◌≡◌, ◌+◌, None, OnOk, false};
 ghost use Rattle.cost_core.specs.StateCosts.{trellis_of};
 ghost use Rattle.cost_core.specs.Trellis.{states};
 ghost use Rattle.fir_core.specs.StreamView.{IsStream, state_of};
 
-use crate::certificate_rows::verdict;
+use crate::certificate_checking::{checked, newest};
 use crate::certificates::WORKED;
 use cert_core::{CertVerdict, CertWriter, Version};
-use cost_core::{LevelSink, SinkFault, Window, WindowFault};
+use cost_core::{LevelSink, SinkFault, Window};
 use device_core::Outlet;
 use dsd_bits::{BitOrder, Bits, Interleaving, Sound};
 use fir_core::{Kernel, Stream, Taps, decimate, decimate_with};
-use fixtures::windows::{bits_of, by_newest, ones, zeros};
+use fixtures::windows::{by_newest, ones, zeros};
 use player_core::Player;
 use relace_core::{Stretch, push_relaced};
 use std::alloc::{AllocError, Global};
@@ -83,11 +83,12 @@ fn channel(alloc: Global) -> Result<Bits, Fail> {
     Ok(Bits::from_packed(alloc, b"a channel of bits", 132)?)
 }
 
-// The bridge of so many bits by the weights 1, 0 from ones to zeros.
-fn window(alloc: Global, bridge: usize) -> Result<Window, WindowFault>
-    requires { (1 ≤ bridge) × (bridge ≤ 4096) }
-{
-    by_newest(alloc, ones(0, 8), bridge, zeros(3, 9))
+// The bridge of two bits by the weights 1, 0 from ones to zeros. A window that is refused is told as want of memory.
+fn two_bits(alloc: Global) -> Result<Window, BridgeFault> {
+    match by_newest(alloc, ones(0, 8), 2, zeros(3, 9)) {
+        Ok(window) => Ok(window),
+        Err(_) => Err(BridgeFault::Memory),
+    }
 }
 
 // What a stream answers to all its bytes; where memory is refused they are fed again, and its refusal then is Err.
@@ -205,39 +206,43 @@ fn a_sound_is_played(rt: HostRuntime) -> Result<(), Fail> {
     Ok(())
 }
 
+// Its cost.
+fn chosen(alloc: Global) -> Result<u64, BridgeFault> {
+    let window = two_bits(alloc)?;
+    Ok(bridge(alloc, &window)?.cost)
+}
+
 #[test]
 fn a_bridge_is_chosen(rt: HostRuntime) -> Result<(), Fail> {
-    let alloc = rt.alloc();
-    let window = window(alloc, 2)?;
-    assert!(rt; bridge(alloc, &window)?.cost == 8);
+    assert!(rt; chosen(rt.alloc())? == 8);
     Ok(())
 }
 
-// The cost of a bridge that is handed over, and how many rows are wanting.
-fn handed_over(alloc: Global, window: &Window) -> Result<(u64, usize), BridgeFault> {
-    let mut sink = sink_for(window);
-    let cost = bridge_into(alloc, window, &mut sink)?.cost;
+// The same where it is handed over, and how many rows are wanting.
+fn handed_over(alloc: Global) -> Result<(u64, usize), BridgeFault> {
+    let window = two_bits(alloc)?;
+    let mut sink = sink_for(&window);
+    let cost = bridge_into(alloc, &window, &mut sink)?.cost;
     Ok((cost, sink.left))
 }
 
 #[test]
 fn a_bridge_is_handed_over(rt: HostRuntime) -> Result<(), Fail> {
-    let window = window(rt.alloc(), 2)?;
-    assert!(rt; handed_over(rt.alloc(), &window)? == (8, 0));
+    assert!(rt; handed_over(rt.alloc())? == (8, 0));
     Ok(())
 }
 
 // The same where its rows are cut.
-fn handed_over_cut(alloc: Global, window: &Window) -> Result<(u64, usize), BridgeFault> {
-    let mut sink = sink_for(window);
-    let cost = bridge_cut_into(alloc, window, &mut sink)?.cost;
+fn handed_over_cut(alloc: Global) -> Result<(u64, usize), BridgeFault> {
+    let window = two_bits(alloc)?;
+    let mut sink = sink_for(&window);
+    let cost = bridge_cut_into(alloc, &window, &mut sink)?.cost;
     Ok((cost, sink.left))
 }
 
 #[test]
 fn a_bridge_is_handed_over_cut(rt: HostRuntime) -> Result<(), Fail> {
-    let window = window(rt.alloc(), 2)?;
-    assert!(rt; handed_over_cut(rt.alloc(), &window)? == (8, 0));
+    assert!(rt; handed_over_cut(rt.alloc())? == (8, 0));
     Ok(())
 }
 
@@ -255,16 +260,11 @@ fn a_writer_is_made(rt: HostRuntime) -> Result<(), Fail> {
     Ok(())
 }
 
-// What is said of a bit 0 by the worked certificate.
-fn judged_zero(alloc: Global, window: &Window) -> Result<CertVerdict, Fail> {
-    let bits = bits_of(alloc, window, 0x00)?;
-    Ok(verdict(alloc, window, &bits, 2, &WORKED)?)
-}
-
 #[test]
 fn a_bridge_is_checked(rt: HostRuntime) -> Result<(), Fail> {
-    let window = by_newest(rt.alloc(), ones(0, 8), 1, zeros(2, 9))?;
-    assert!(rt; judged_zero(rt.alloc(), &window)? == CertVerdict::Accepted { cost: 4 });
+    let alloc = rt.alloc();
+    let told = checked(alloc, newest(alloc), 0x00, WORKED.as_slice())?;
+    assert!(rt; told == CertVerdict::Accepted { cost: 4 });
     Ok(())
 }
 

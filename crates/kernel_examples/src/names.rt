@@ -3,84 +3,98 @@
 use cert_core::{CertFault, CertReason, CheckFault};
 use cost_core::{RoomFault, SinkFault, WindowFault};
 use fir_core::TapsFault;
-use std::alloc::Global;
+use std::alloc::{AllocError, Global};
 use std::fmt::{Debug, Display};
-use std::test::Fail;
+use std::process::Abort;
 use trellis_core::BridgeFault;
 
-// Whether these are printed for debugging as the text says, a semicolon behind each.
-fn are_shown<T: Debug>(alloc: Global, values: &[T], text: &str) -> Result<bool, Fail> {
-    let mut shown = String::new(alloc);
-    for value in values {
-        shown.push_str(format!(in alloc; "{value:?}")?.as_str())?;
-        shown.push(';')?;
-    }
-    Ok(shown.as_str() == text)
+// Whether a value is printed for debugging as this text.
+fn is_shown<T: Debug>(alloc: Global, value: &T, text: &str) -> Result<bool, AllocError> {
+    Ok(format!(in alloc; "{value:?}")?.as_str() == text)
 }
 
-// Whether these are printed as the text says, a semicolon behind each.
-fn are_told<T: Display>(alloc: Global, values: &[T], text: &str) -> Result<bool, Fail> {
-    let mut told = String::new(alloc);
-    for value in values {
-        told.push_str(value.to_string(alloc)?.as_str())?;
-        told.push(';')?;
+// Each value is, as the text that stands beside it.
+fn check_shown<T: Debug>(rt: &impl Abort, alloc: Global, cases: &[(T, &str)]) {
+    for (value, text) in cases {
+        assert!(rt; is_shown(alloc, value, text).unwrap_or(false), "{text}");
     }
-    Ok(told.as_str() == text)
 }
+
+// Whether a value is printed as this text.
+fn is_told<T: Display>(alloc: Global, value: &T, text: &str) -> Result<bool, AllocError> {
+    Ok(format!(in alloc; "{value}")?.as_str() == text)
+}
+
+// Each value is, as the text that stands beside it.
+fn check_told<T: Display>(rt: &impl Abort, alloc: Global, cases: &[(T, &str)]) {
+    for (value, text) in cases {
+        assert!(rt; is_told(alloc, value, text).unwrap_or(false), "{text}");
+    }
+}
+
+const LIMITS: &[(TapsFault, &str)] = &[
+    (TapsFault::TapNumber, "TapNumber"),
+    (TapsFault::TapSum, "TapSum"),
+    (TapsFault::Factor, "Factor"),
+    (TapsFault::Delay, "Delay"),
+    (TapsFault::Shift, "Shift"),
+    (TapsFault::Width, "Width"),
+    (TapsFault::Memory, "Memory"),
+];
+
+const ROOMS: &[(RoomFault, &str)] = &[
+    (RoomFault::NoRoomBefore, "NoRoomBefore"),
+    (RoomFault::NoRoomAfter, "NoRoomAfter"),
+];
+
+const WINDOWS: &[(WindowFault, &str)] = &[
+    (WindowFault::NoRoomBefore, "NoRoomBefore"),
+    (WindowFault::NoRoomAfter, "NoRoomAfter"),
+    (WindowFault::Memory, "Memory"),
+];
+
+const SEARCHES: &[(BridgeFault, &str)] = &[
+    (BridgeFault::Memory, "Memory"),
+    (BridgeFault::Sink, "Sink"),
+];
 
 #[test]
-fn refusals_of_decimators_and_bridges(rt: HostRuntime) -> Result<(), Fail> {
+fn refusals_of_decimators_and_bridges(rt: HostRuntime) {
     let alloc = rt.alloc();
-    let limits = [
-        TapsFault::TapNumber,
-        TapsFault::TapSum,
-        TapsFault::Factor,
-        TapsFault::Delay,
-        TapsFault::Shift,
-        TapsFault::Width,
-        TapsFault::Memory,
-    ];
-    assert!(rt;
-        are_shown(
-            alloc,
-            &limits,
-            "TapNumber;TapSum;Factor;Delay;Shift;Width;Memory;"
-        )?
-    );
-    let rooms = [RoomFault::NoRoomBefore, RoomFault::NoRoomAfter];
-    assert!(rt; are_told(alloc, &rooms, "NoRoomBefore;NoRoomAfter;")?);
-    let windows = [
-        WindowFault::NoRoomBefore,
-        WindowFault::NoRoomAfter,
-        WindowFault::Memory,
-    ];
-    assert!(rt; are_told(alloc, &windows, "NoRoomBefore;NoRoomAfter;Memory;")?);
-    let searches = [BridgeFault::Memory, BridgeFault::Sink];
-    assert!(rt; are_told(alloc, &searches, "Memory;Sink;")?);
-    assert!(rt; are_told(alloc, &[SinkFault], "SinkFault;")?);
-    Ok(())
+    check_shown(&rt, alloc, LIMITS);
+    check_told(&rt, alloc, ROOMS);
+    check_told(&rt, alloc, WINDOWS);
+    check_told(&rt, alloc, SEARCHES);
+    check_told(&rt, alloc, &[(SinkFault, "SinkFault")]);
 }
 
+const REASONS: &[(CertReason, &str)] = &[
+    (CertReason::Cut, "Cut"),
+    (CertReason::Head, "Head"),
+    (CertReason::Length, "Length"),
+    (CertReason::Bound, "Bound"),
+    (CertReason::Row(3), "Row 3"),
+    (CertReason::Start, "Start"),
+    (CertReason::Step(1, 0), "Step 1 0"),
+    (CertReason::End(0), "End 0"),
+    (CertReason::Cost, "Cost"),
+    (CertReason::Extra, "Extra"),
+];
+
+const CHECKS: &[(CheckFault, &str)] = &[
+    (CheckFault::Device, "Device"),
+    (CheckFault::Memory, "Memory"),
+];
+
+const WRITES: &[(CertFault, &str)] = &[
+    (CertFault::Device, "Device"),
+    (CertFault::Failed, "Failed"),
+];
+
 #[test]
-fn reasons_and_failures_of_certificates(rt: HostRuntime) -> Result<(), Fail> {
+fn reasons_and_failures_of_certificates(rt: HostRuntime) {
     let alloc = rt.alloc();
-    let reasons = [
-        CertReason::Cut,
-        CertReason::Head,
-        CertReason::Length,
-        CertReason::Bound,
-        CertReason::Row(3),
-        CertReason::Start,
-        CertReason::Step(1, 0),
-        CertReason::End(0),
-        CertReason::Cost,
-        CertReason::Extra,
-    ];
-    let text = "Cut;Head;Length;Bound;Row 3;Start;Step 1 0;End 0;Cost;Extra;";
-    assert!(rt; are_told(alloc, &reasons, text)?);
-    let checks = [CheckFault::Device, CheckFault::Memory];
-    assert!(rt; are_told(alloc, &checks, "Device;Memory;")?);
-    let writes = [CertFault::Device, CertFault::Failed];
-    assert!(rt; are_told(alloc, &writes, "Device;Failed;")?);
-    Ok(())
+    check_told(&rt, alloc, REASONS);
+    check_told(&rt, alloc, CHECKS);
+    check_told(&rt, alloc, WRITES);
 }

@@ -8,8 +8,7 @@ use dsd_bits::{
 };
 use fixtures::compared::equal;
 use relace_core::{Stretch, push_relaced};
-use std::alloc::Global;
-use std::test::Fail;
+use std::alloc::{AllocError, Global};
 
 const FRAMES: Interleaving = Interleaving::Bytes;
 
@@ -18,7 +17,7 @@ const LEAST: Interleaving = Interleaving::Blocks(BitOrder::LeastFirst);
 const MOST: Interleaving = Interleaving::Blocks(BitOrder::MostFirst);
 
 // Interleavings, and the bits of each channel: within the second group, and within a byte where both have blocks.
-const CASES: [(Interleaving, Interleaving, usize); 9] = [
+const CASES: &[(Interleaving, Interleaving, usize)] = &[
     (FRAMES, FRAMES, 32808),
     (FRAMES, LEAST, 32808),
     (FRAMES, MOST, 32808),
@@ -31,7 +30,7 @@ const CASES: [(Interleaving, Interleaving, usize); 9] = [
 ];
 
 // So many bytes, each another than those beside it; behind the bits of a stretch too.
-fn bytes_of(alloc: Global, size: usize) -> Result<Vec<u8>, Fail> {
+fn bytes_of(alloc: Global, size: usize) -> Result<Vec<u8>, AllocError> {
     let mut made = Vec::new(alloc);
     let mut byte: u8 = 1;
     for _k in 0..size {
@@ -53,7 +52,8 @@ fn takes(bytes: &[u8], stretch: Stretch, from: Interleaving) -> bool
     }
 }
 
-// Appends a stretch that takes just these bytes, of whole bytes of each channel where that is wanted.
+// Appends a stretch within the limits that takes just these bytes, of whole bytes of each channel where that is wanted;
+// another stretch is told as want of memory.
 fn push(
     alloc: Global,
     out: &mut Vec<u8>,
@@ -61,17 +61,17 @@ fn push(
     stretch: Stretch,
     from: Interleaving,
     to: Interleaving,
-) -> Result<(), Fail> {
+) -> Result<(), AllocError> {
     if stretch.channels < 1 || 6 < stretch.channels || MOST_BITS < stretch.count {
-        return Err("a stretch within the limits")?;
+        return Err(AllocError);
     }
     if !takes(bytes, stretch, from) {
-        return Err("as many bytes as the stretch takes")?;
+        return Err(AllocError);
     }
     if !(from.has_blocks() && to.has_blocks()) && stretch.count % 8 != 0 {
-        return Err("whole bytes of each channel")?;
+        return Err(AllocError);
     }
-    Ok(push_relaced(alloc, out, bytes, stretch, from, to)?)
+    push_relaced(alloc, out, bytes, stretch, from, to)
 }
 
 // The channels that stand in sound bytes.
@@ -114,7 +114,7 @@ fn holds_channels(
     from: Interleaving,
     to: Interleaving,
     count: usize,
-) -> Result<bool, Fail> {
+) -> Result<bool, LaceFault> {
     let stretch = Stretch { channels: 3, count };
     let bytes = bytes_of(alloc, size_of(from))?;
     let mut out = Vec::new(alloc);
@@ -138,15 +138,15 @@ fn size_of(interleaving: Interleaving) -> usize
 }
 
 #[test]
-fn writes_the_channels_that_stand_in_the_bytes(rt: HostRuntime) -> Result<(), Fail> {
+fn writes_the_channels_that_stand_in_the_bytes(rt: HostRuntime) {
     for (from, to, count) in CASES {
-        assert!(rt; holds_channels(rt.alloc(), from, to, count)?, "{count}");
+        let is_so = holds_channels(rt.alloc(), *from, *to, *count);
+        assert!(rt; is_so.unwrap_or(false), "{count}");
     }
-    Ok(())
 }
 
 // Whether the first group and what stands behind it are written as both together.
-fn joins(alloc: Global, from: Interleaving, to: Interleaving) -> Result<bool, Fail> {
+fn joins(alloc: Global, from: Interleaving, to: Interleaving) -> Result<bool, AllocError> {
     let bytes = bytes_of(alloc, size_of(from))?;
     let mut whole = Vec::new(alloc);
     push(
@@ -188,9 +188,9 @@ fn joins(alloc: Global, from: Interleaving, to: Interleaving) -> Result<bool, Fa
 }
 
 #[test]
-fn goes_group_by_group(rt: HostRuntime) -> Result<(), Fail> {
+fn goes_group_by_group(rt: HostRuntime) {
     for (from, to, count) in CASES {
-        assert!(rt; joins(rt.alloc(), from, to)?, "{count}");
+        let is_so = joins(rt.alloc(), *from, *to);
+        assert!(rt; is_so.unwrap_or(false), "{count}");
     }
-    Ok(())
 }

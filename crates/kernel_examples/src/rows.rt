@@ -117,7 +117,7 @@ fn hands_over(alloc: Global, search: &Search) -> bool {
 }
 
 // The rows as they are, and where the first, the second and the last row are refused.
-const WHOLE: [Search; 4] = [
+const WHOLE: &[Search] = &[
     (false, 0, &[1 << 63, 0, 16, 4, 8, 20], Ok((0x80, 8))),
     (false, 3, &[], Err(BridgeFault::Sink)),
     (false, 2, &[1 << 63, 0], Err(BridgeFault::Sink)),
@@ -126,13 +126,13 @@ const WHOLE: [Search; 4] = [
 
 #[test]
 fn hands_over_a_row_for_each_level(rt: HostRuntime) {
-    for search in &WHOLE {
+    for search in WHOLE {
         assert!(rt; hands_over(rt.alloc(), search), "{} left", search.1);
     }
 }
 
 // The cost is 8: each number above it is 8.
-const CUT: [Search; 4] = [
+const CUT: &[Search] = &[
     (true, 0, &[8, 0, 8, 4, 8, 8], Ok((0x80, 8))),
     (true, 3, &[], Err(BridgeFault::Sink)),
     (true, 2, &[8, 0], Err(BridgeFault::Sink)),
@@ -141,7 +141,7 @@ const CUT: [Search; 4] = [
 
 #[test]
 fn hands_over_rows_that_are_cut(rt: HostRuntime) {
-    for search in &CUT {
+    for search in CUT {
         assert!(rt; hands_over(rt.alloc(), search), "{} left", search.1);
     }
 }

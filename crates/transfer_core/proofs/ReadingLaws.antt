@@ -1,9 +1,13 @@
 -- Whatever the relations of the calls say is what their readings in order come to.
-use Rattle.std.proofs.Common.{◌≡◌, ℕ, ◌%◌, List, None, Some, IsErrOf, Ok, Err, inl, inr, Vec, Global, refl}
+use Rattle.std.proofs.Common.{◌≡◌, ℕ, ◌%◌, List, None, Option, Some, IsErrOf, Ok, Err, inl, inr, option_map, Vec, Global, refl}
+use Rattle.std.specs.Option.{ok_or}
 use Rattle.std.proofs.lemmas.Bool.{ne_eqb}
 use Rattle.fir_core.specs.Decimator.{Decimator}
 use Rattle.project_core.proofs.ProjectLaws.{project_again}
-use Rattle.splice_core.specs.Splices.{SpliceContent}
+use Rattle.project_core.specs.Projects.{ProjectContent}
+use Rattle.project_core.specs.ReadingProject.{project_at}
+use Rattle.splice_core.specs.Splices.{SpliceContent, splice_content}
+use Rattle.splice_core.specs.declared.splice.Splice.{Splice}
 use Rattle.sound_core.specs.declared.fault.StreamFault.TheVariants.{RateNotDivided}
 use Rattle.wave_core.specs.declared.fault.WaveFault.{WaveFault}
 use Rattle.wave_core.specs.declared.fault.WaveFault.TheVariants as waves
@@ -18,10 +22,10 @@ use Rattle.form_core.specs.declared.fault.ReadFault.{ReadFault}
 use Rattle.form_core.specs.declared.fault.ReadFault.TheVariants as reads
 use Rattle.form_core.specs.declared.opening.Opened.{Opened}
 use Rattle.form_core.specs.Opening.{Opens, opened_of}
-use Rattle.form_core.specs.Steps.{Fails}
+use Rattle.form_core.specs.Steps.{Fails, Gives}
 use Rattle.form_core.proofs.OpeningLaws.{held_is_opened}
 use Rattle.transfer_core.specs.declared.fault.Fault.{Fault}
-use Rattle.transfer_core.specs.declared.fault.Fault.TheVariants.{Memory, Stream}
+use Rattle.transfer_core.specs.declared.fault.Fault.TheVariants.{Memory, NoSplice, Stream}
 use Rattle.transfer_core.specs.Converting.{converted_of}
 use Rattle.transfer_core.specs.Faults.{fault_of_file, fault_of_wave, fault_of_writing}
 use Rattle.transfer_core.specs.Laws.{ConvertsInOrder, PlaysInOrder, SaysTakesInOrder}
@@ -47,6 +51,12 @@ says_takes = λ text names is. rw (project_again text is.says.project is.says.sa
 pub says_splice : (text : List ℕ) (s : SpliceContent) → SaysSplice text s → splice_of text ≡ Ok s
 unfolding splice_of
 says_splice text s is = rw (project_again text is.project is.says, is.has) refl
+
+-- the splice of a project that was read, or that it has none
+pub splice_given : (text : List ℕ) (p : ProjectContent) → project_at text ≡ Ok p → (s : Option Splice) → p.splice ≡ option_map splice_content s → Gives Memory splice_content (ok_or s NoSplice) (splice_of text)
+unfolding splice_of
+splice_given text p read None is = inr (rw (read, is) refl)
+splice_given text p read (Some s) is = rw (read, is) refl
 
 -- ---- what is converted, or the first fault
 module _ (file : List ℕ) (form : Form) where

@@ -1,8 +1,18 @@
-use Rattle.std.proofs.Common.{◌≡◌, ap, ◌∙◌, arith, rules}
+use Rattle.std.proofs.Common.{◌≡◌, ℕ, List, Result, Ok, Err, OnErr, OnOk, cond, is_ok, ap, ◌∙◌, arith, rules}
 use Rattle.dsd_bits.specs.Sounds.{sound_size}
 use Rattle.relace_core.specs.Relacing.{relaced}
 use Rattle.relace_core.proofs.FrameLaws.{same_frames}
 use Rattle.relace_core.proofs.relacing.push_relaced.Goals as goal
+
+-- what is left as it was unless all went well is so on Err
+kept_on_err : {X E : Type 0} (new more old : List ℕ) (r : Result X E) → new ≡ cond (is_ok r) more old → OnErr r (new ≡ old)
+kept_on_err new more old (Ok x) e = tt
+kept_on_err new more old (Err f) e = e
+
+-- and is what was made on Ok
+made_on_ok : {X E : Type 0} (new more old : List ℕ) (r : Result X E) → new ≡ cond (is_ok r) more old → OnOk r (new ≡ more)
+made_on_ok new more old (Ok x) e = e
+made_on_ok new more old (Err f) e = tt
 
 pub returns-in-Bytes-Bytes-clause-ok : goal.returns-in-Bytes-Bytes-clause-ok
 returns-in-Bytes-Bytes-clause-ok c =
@@ -18,4 +28,16 @@ returns-in-Bytes-Bytes-clause-ok c =
 pub returns-in_ok-channels-in-Blocks-Blocks-clause-ok : goal.returns-in_ok-channels-in-Blocks-Blocks-clause-ok
 returns-in_ok-channels-in-Blocks-Blocks-clause-ok c =
     let bits = c.deref.ensures.value ∙ c.in_ok-channels-in-Blocks-Blocks.ensures.bits in
-    rw (c.in-Blocks-Blocks.is-1, ← bits) (search rules)
+    rw (c.in-Blocks-Blocks.is-1, ← bits) (made_on_ok _ _ _ c.push_blocks.result c.push_blocks.ensures.text)
+
+pub returns-in_ok-channels-in-Blocks-Blocks-clause-err : goal.returns-in_ok-channels-in-Blocks-Blocks-clause-err
+returns-in_ok-channels-in-Blocks-Blocks-clause-err c = kept_on_err _ _ _ c.push_blocks.result c.push_blocks.ensures.text
+
+pub push_as_blocks-requires-clause-size : goal.push_as_blocks-requires-clause-size
+push_as_blocks-requires-clause-size c = c.requires.size ∙ ap (λ o. sound_size o c.args.stretch.channels c.args.stretch.count) c.in-Bytes-Blocks.is-0
+
+pub push_as_frames-requires-clause-size : goal.push_as_frames-requires-clause-size
+push_as_frames-requires-clause-size c = c.requires.size ∙ ap (λ o. sound_size o c.args.stretch.channels c.args.stretch.count) c.in-Blocks-Bytes.is-0
+
+pub push_blocks-requires-clause-level : goal.push_blocks-requires-clause-level
+push_blocks-requires-clause-level c = rw c.deref.ensures.value c.in_ok-channels-in-Blocks-Blocks.ensures.level

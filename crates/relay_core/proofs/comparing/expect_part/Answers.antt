@@ -1,7 +1,14 @@
-use Rattle.std.proofs.Common.{◌≡◌, ◌∙◌, ap, arith, length, length-take, take}
+use Rattle.std.proofs.Common.{◌≡◌, ◌∙◌, ap, arith, length, length-take, subst, sym, take}
+use Rattle.std.specs.Cmp.Lexicographic.{same_text}
+use Rattle.std.specs.Io.KnownBytes.{Consumes}
 use Rattle.device_core.specs.Inlets.{inlet_reader}
 use Rattle.relay_core.proofs.ComparingLaws.{differ, fault_is, fewer_differ, part_differs}
 use Rattle.relay_core.proofs.comparing.expect_part.Goals as goal
+
+pub returns-then-eq-clause-read : goal.returns-then-eq-clause-read
+returns-then-eq-clause-read g c =
+    let read : c.split_at.result.0.now ≡ take (length c.args.part.now) c.fill.new.block.items = c.split_at.ensures.front ∙ ap (take (length c.args.part.now)) c.deref.ensures.value in
+    subst (Consumes (g.R.Read.remaining (inlet_reader c.args.inlet.now)) (g.R.Read.remaining (inlet_reader c.fill.new.inlet))) (sym read ∙ same_text c.split_at.result.0.now c.args.part.now c.if-eq.ensures) c.in_ok-fill.ensures.read
 
 pub returns-clause-fault : goal.returns-clause-fault
 returns-clause-fault g c =

@@ -1,4 +1,5 @@
-use Rattle.std.proofs.Common.{inr}
+use Rattle.std.proofs.Common.{◌∙◌, inr, sym}
+use Rattle.std.proofs.lemmas.Bool.{true≢false}
 use Rattle.dsd_bits.proofs.ExitLaws.{no_value}
 use Rattle.transfer_core.proofs.StreamLaws.{fault_is}
 use Rattle.transfer_core.proofs.ReadingLaws.{file_refused, project_refused, rate_not_divided, samples_refused, text_played}
@@ -17,8 +18,7 @@ returns-then-not-rate_fits-clause-found c = tt
 
 pub returns-then-not-rate_fits-clause-exact : goal.returns-then-not-rate_fits-clause-exact
 returns-then-not-rate_fits-clause-exact c =
-    let none = c.if-not-rate_fits.true in
-    inr (rate_not_divided c.args.project.now c.args.file.now c.in_ok-taps.taps c.in_ok-taps.ensures.exact c.in_ok-recording.field-0 c.in_ok-recording.ensures.exact (λ is. let fits = c.rate_fits.ensures.1 (rw c.rate.ensures.value is) in absurd cc))
+    inr (rate_not_divided c.args.project.now c.args.file.now c.in_ok-taps.taps c.in_ok-taps.ensures.exact c.in_ok-recording.field-0 c.in_ok-recording.ensures.exact (λ is. true≢false (sym (c.rate_fits.ensures.1 (rw c.rate.ensures.value is)) ∙ c.if-not-rate_fits.true)))
 
 pub returns-in_err-wave_of-clause-exact : goal.returns-in_err-wave_of-clause-exact
 returns-in_err-wave_of-clause-exact c =

@@ -7,6 +7,7 @@ use fixtures::files::{ONES_FILE, dsf_of};
 use fixtures::projects;
 use fixtures::projects::DECIMATE;
 use std::alloc::{AllocError, Global};
+use std::process::Abort;
 use std::test::Fail;
 
 // What comes of 40 ones and 33 taps from a reader that gives one byte at a time, and fails at a read.
@@ -99,6 +100,15 @@ fn stops_at(alloc: Global, file: &[u8], wave: &[u8], read: u64) -> bool {
     read_blocks(alloc, file, read).stops_reading(wave)
 }
 
+// The file is played, and a failed read leaves a front, wherever it comes.
+fn check_blocks(rt: &impl Abort, alloc: Global, file: &[u8], wave: &[u8]) {
+    assert!(rt; plays_blocks(alloc, file, wave));
+    for read in [1, 13, 14, 15, 1183, 1184, 1185, 2353, 2354, 2355, 2356] {
+        let stops = stops_at(alloc, file, wave, read);
+        assert!(rt; stops, "read {read} fails");
+    }
+}
+
 // A DSF file of two groups of blocks is 16,481 bytes: 2355 reads, of which the 14th reaches the sound, the 1184th
 // the second group, and the last the file's end. Behind them one read more gives nothing.
 #[test]
@@ -106,11 +116,7 @@ fn a_failed_read_of_blocks_leaves_a_front(rt: HostRuntime) -> Result<(), Fail> {
     let alloc = rt.alloc();
     let file = dsf_of(alloc, (2, 1, 32_769), b"some bits", 16_384, b"a tag")?;
     let wave = play(alloc, DECIMATE.as_bytes(), &file)?;
-    assert!(rt; plays_blocks(alloc, &file, &wave));
-    for read in [1, 13, 14, 15, 1183, 1184, 1185, 2353, 2354, 2355, 2356] {
-        let stops = stops_at(alloc, &file, &wave, read);
-        assert!(rt; stops, "read {read} fails");
-    }
+    check_blocks(&rt, alloc, &file, &wave);
     Ok(())
 }
 

@@ -159,35 +159,20 @@ fn tells_the_first_reason_in_a_master(rt: HostRuntime) {
     assert!(rt; rejects(alloc, pair, &[1, 2, 3], unread).unwrap_or(false));
 }
 
+// What a folder is asked for up to the master, and up to its certificate.
+const TO_MASTER: &str = "open e.toml\nopen a.dff\nopen b.dff\nopen m.dff\n";
+
+const TO_CERT: &str = "open e.toml\nopen a.dff\nopen b.dff\nopen m.dff\nopen c.cert\n";
+
 // What fails, what is printed, and what the folder is asked for, and no more.
 type Case = (Failure, &'static str, &'static str);
 
 const CALLS: [Case; 5] = [
-    (
-        NOTHING,
-        "accepted total 0",
-        "open e.toml\nopen a.dff\nopen b.dff\nopen m.dff\nopen c.cert\n",
-    ),
-    (
-        ("open", "m.dff", 0),
-        "fault: ReadFailed",
-        "open e.toml\nopen a.dff\nopen b.dff\nopen m.dff\n",
-    ),
-    (
-        ("read", "m.dff", 0),
-        "fault: ReadFailed",
-        "open e.toml\nopen a.dff\nopen b.dff\nopen m.dff\n",
-    ),
-    (
-        ("open", "c.cert", 0),
-        "fault: ReadFailed",
-        "open e.toml\nopen a.dff\nopen b.dff\nopen m.dff\nopen c.cert\n",
-    ),
-    (
-        ("read", "c.cert", 0),
-        "fault: ReadFailed",
-        "open e.toml\nopen a.dff\nopen b.dff\nopen m.dff\nopen c.cert\n",
-    ),
+    (NOTHING, "accepted total 0", TO_CERT),
+    (("open", "m.dff", 0), "fault: ReadFailed", TO_MASTER),
+    (("read", "m.dff", 0), "fault: ReadFailed", TO_MASTER),
+    (("open", "c.cert", 0), "fault: ReadFailed", TO_CERT),
+    (("read", "c.cert", 0), "fault: ReadFailed", TO_CERT),
 ];
 
 // Whether a check in a folder comes to what a case says.
@@ -219,26 +204,10 @@ fn asks_for_files_in_order(rt: HostRuntime) {
 
 // Takes of two rates: master and certificate are read through before that is told, and nothing is where one can't be.
 const UNCUT: [Case; 4] = [
-    (
-        NOTHING,
-        "fault: TakeMismatch 1",
-        "open e.toml\nopen a.dff\nopen b.dff\nopen m.dff\nopen c.cert\n",
-    ),
-    (
-        ("open", "m.dff", 0),
-        "fault: ReadFailed",
-        "open e.toml\nopen a.dff\nopen b.dff\nopen m.dff\n",
-    ),
-    (
-        ("read", "m.dff", 0),
-        "fault: ReadFailed",
-        "open e.toml\nopen a.dff\nopen b.dff\nopen m.dff\n",
-    ),
-    (
-        ("read", "c.cert", 0),
-        "fault: ReadFailed",
-        "open e.toml\nopen a.dff\nopen b.dff\nopen m.dff\nopen c.cert\n",
-    ),
+    (NOTHING, "fault: TakeMismatch 1", TO_CERT),
+    (("open", "m.dff", 0), "fault: ReadFailed", TO_MASTER),
+    (("read", "m.dff", 0), "fault: ReadFailed", TO_MASTER),
+    (("read", "c.cert", 0), "fault: ReadFailed", TO_CERT),
 ];
 
 // A folder of two takes of different rates, and a master that is no file.

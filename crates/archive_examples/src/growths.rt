@@ -403,10 +403,7 @@ fn files_are_read_whole(rt: HostRuntime) -> Result<(), Fail> {
 // Puts the file `a`, and keeps a file `b` of no bytes.
 fn fill(alloc: Global, folder: &mut MemoryFolder) -> Result<(), AllocError> {
     folder.put("a", &FILE)?;
-    match folder.keep("b", Vec::new(alloc)) {
-        Ok(()) => Ok(()),
-        Err(_) => Err(AllocError),
-    }
+    folder.keep("b", Vec::new(alloc)).map_err(|_| AllocError)
 }
 
 // How many bytes are read of the file `a` of a folder and how many files it has. A folder in memory where the file is
@@ -414,9 +411,7 @@ fn fill(alloc: Global, folder: &mut MemoryFolder) -> Result<(), AllocError> {
 fn held(alloc: Global) -> Result<(usize, usize), Fail> {
     let mut folder = MemoryFolder::new(alloc);
     fill(alloc, &mut folder)?;
-    let Ok(mut opened) = folder.open("a") else {
-        return Err(Fail::from(AllocError));
-    };
+    let mut opened = folder.open("a").map_err(|_| AllocError)?;
     let mut bytes = [0; 128];
     let count = opened.read(&mut bytes)?;
     Ok((count, folder.count()))

@@ -140,10 +140,8 @@ impl Folder for WatchedFolder {
         let left = self.room("read", name);
         let name = if self.steady == 0 { "changed" } else { name };
         self.steady = self.steady.saturating_sub(1);
-        match self.files.open(name) {
-            Ok(bytes) => Ok(WatchedInput { bytes, most, left }),
-            Err(fault) => Err(fault),
-        }
+        let bytes = self.files.open(name)?;
+        Ok(WatchedInput { bytes, most, left })
     }
 
     fn create(&mut self, name: &str) -> Result<WatchedOutput, FolderFault> {
@@ -151,10 +149,8 @@ impl Folder for WatchedFolder {
             return Err(FolderFault);
         }
         let room = self.room("write", name);
-        match self.files.create(name) {
-            Ok(bytes) => Ok(WatchedOutput { bytes, room }),
-            Err(fault) => Err(fault),
-        }
+        let bytes = self.files.create(name)?;
+        Ok(WatchedOutput { bytes, room })
     }
 
     fn keep(&mut self, name: &str, out: WatchedOutput) -> Result<(), FolderFault> {

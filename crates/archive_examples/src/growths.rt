@@ -13,13 +13,13 @@ use crate::conversion::{commented, converts, tagged};
 use crate::cutting::cuts_built;
 use crate::master_commands::{CHECK, CUT};
 use crate::outcomes::{MARKED, prints};
-use crate::playing::plays_built;
-use archive_core::{Fault, Form, Reason, StreamFault, play_stream, read_any, take_names};
+use archive_core::{Fault, Form, Reason, StreamFault, play, play_stream, read_any, take_names};
 use command_core::{
     Folder, FolderFault, MemoryFolder, Outcome, Task, outcome_line, perform, read_files,
     read_whole, status,
 };
 use device_core::{Inlet, Outlet};
+use fixtures::compared::equal;
 use fixtures::files::{FILE, WAVE, dsf_of, noted, stereo, with_sounds};
 use fixtures::projects::{DECIMATE, SPLICE};
 use fixtures::waves::TWO_CHANNELS;
@@ -176,10 +176,16 @@ fn a_file_is_converted_to_dsf(rt: HostRuntime) -> Result<(), Fail> {
     Ok(())
 }
 
+// Whether a file that was built is played to this WAVE file.
+fn plays(alloc: Global, file: Result<Vec<u8>, AllocError>, wave: &[u8]) -> Result<bool, Fault> {
+    let made = play(alloc, DECIMATE.as_bytes(), &file?)?;
+    Ok(equal(&made, wave))
+}
+
 #[test]
 fn a_file_is_played(rt: HostRuntime) -> Result<(), Fail> {
     let alloc = rt.alloc();
-    assert!(rt; plays_built(alloc, stereo(alloc, &[0xf0, 0x0f]), &TWO_CHANNELS)?);
+    assert!(rt; plays(alloc, stereo(alloc, &[0xf0, 0x0f]), &TWO_CHANNELS)?);
     Ok(())
 }
 

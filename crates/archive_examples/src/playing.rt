@@ -1,119 +1,23 @@
-//! Small files played to WAVE files of 16 and 24 bits, and the fault that comes first.
+//! What the most taps make of a long sound, and the fault of playing that comes first.
 
-use crate::builders::{is_named, size_of};
+use crate::builders::is_named;
 use archive_core::{Fault, play};
-use fixtures::compared::equal;
-use fixtures::files::{FILE, WAVE, followed, mono, one_bit, stereo, three, with_sound};
-use fixtures::projects::{DECIMATE, Numbers, project, with_ones};
-use fixtures::waves::{SAMPLES, THREE_CHANNELS, TWO_CHANNELS, WIDE, sample};
+use fixtures::files::{FILE, mono};
+use fixtures::projects::{Numbers, project, with_ones};
 use std::alloc::{AllocError, Global};
 
-// Whether a file is played to these bytes.
-fn plays(alloc: Global, text: &str, file: &[u8], wave: &[u8]) -> Result<bool, Fault> {
-    let made = play(alloc, text.as_bytes(), file)?;
-    Ok(equal(&made, wave))
-}
-
-// Whether a file of one sound byte is played to these bytes.
-fn plays_byte(
-    alloc: Global,
-    taps: &str,
-    numbers: Numbers,
-    sound: u8,
-    wave: &[u8],
-) -> Result<bool, Fault> {
-    let text = project(alloc, taps, numbers)?;
-    plays(alloc, &text, &with_sound(sound), wave)
-}
-
-#[test]
-fn plays_one_sample(rt: HostRuntime) {
-    let alloc = rt.alloc();
-    for (taps, numbers, sound, bytes) in &SAMPLES {
-        let equal = plays_byte(alloc, taps, *numbers, *sound, &sample(*bytes));
-        assert!(rt; equal.unwrap_or(false), "{taps} {numbers:?} {sound}");
-    }
-}
-
-// A sound of no bytes: the form's size ends at 11 and the sound's at 125, as the RIFF's begins at 4 and the
-// data's at 40.
-#[test]
-fn plays_no_sound(rt: HostRuntime) {
-    let mut file = FILE;
-    file[11] = 114;
-    file[125] = 0;
-    let mut wave = WAVE;
-    wave[4] = 36;
-    wave[40] = 0;
-    assert!(rt; plays(rt.alloc(), DECIMATE, &file[..126], &wave[..44]).unwrap_or(false));
-}
-
-/// Whether a file that was built is played to these bytes by `DECIMATE`.
-pub(crate) fn plays_built(
-    alloc: Global,
-    file: Result<Vec<u8>, AllocError>,
-    wave: &[u8],
-) -> Result<bool, Fault> {
-    plays(alloc, DECIMATE, &file?, wave)
-}
-
-// Of the DSF file's first byte the first bit alone counts, which the fourth tap reads.
-#[test]
-fn plays_several_channels_and_dsf(rt: HostRuntime) {
-    let alloc = rt.alloc();
-    assert!(rt; size_of(stereo(alloc, &[0xf0, 0x0f])) == Ok(132));
-    assert!(rt; plays_built(alloc, stereo(alloc, &[0xf0, 0x0f]), &TWO_CHANNELS).unwrap_or(false));
-    assert!(rt;
-        plays_built(alloc, three(alloc, &[0xf0, 0x0f, 0xf0]), &THREE_CHANNELS).unwrap_or(false)
-    );
-    assert!(rt; size_of(one_bit(alloc, &[])) == Ok(4188));
-    assert!(rt; plays_built(alloc, one_bit(alloc, &[]), &sample([4, 0])).unwrap_or(false));
-}
-
-#[test]
-fn plays_24_bits(rt: HostRuntime) {
-    let played = plays_byte(rt.alloc(), "[1, 2, 3, 4]", (8, 3, 0, 24), 0xf0, &WIDE);
-    assert!(rt; played.unwrap_or(false));
-}
-
-// The pad counted in the size of the chunk `CMPR`, no pad behind the last chunk, and bytes behind the form.
-#[test]
-fn plays_files_of_usual_writers(rt: HostRuntime) {
-    let alloc = rt.alloc();
-    let mut long_name = FILE;
-    long_name[93] = 20;
-    assert!(rt; plays(alloc, DECIMATE, &long_name, &WAVE).unwrap_or(false));
-    assert!(rt; plays(alloc, DECIMATE, &FILE[..127], &WAVE).unwrap_or(false));
-    assert!(rt; plays_built(alloc, followed(alloc), &WAVE).unwrap_or(false));
-}
-
-// Whether so many taps of 1 make so many bytes of so many bytes of ones, and the first of them are these.
-fn begins(
-    alloc: Global,
-    number: u32,
-    sound: &[u8],
-    size: usize,
-    samples: &[u8],
-) -> Result<bool, Fault> {
-    let text = with_ones(alloc, number)?;
-    let file = mono(alloc, sound)?;
+// Whether 4096 taps of 1 make 512 samples of 4096 ones, of which the first sees them all: it is 0x1000.
+fn sees_all(alloc: Global) -> Result<bool, Fault> {
+    let text = with_ones(alloc, 4096)?;
+    let file = mono(alloc, &[0xff; 512])?;
     let wave = play(alloc, text.as_bytes(), &file)?;
     let (_, made) = wave.split_at(wave.len().min(44));
-    Ok(made.len() == size && made.starts_with(samples))
+    Ok(made.len() == 2 * 512 && made.starts_with(&[0, 0x10]))
 }
 
-// 33 taps see the bits 0 to 32 at the first sample, at the second 8 to 39, the last one, and from then on 8
-// fewer each time.
-#[test]
-fn plays_the_edges_of_33_taps(rt: HostRuntime) {
-    let samples = [33, 0, 32, 0, 24, 0, 16, 0, 8, 0];
-    assert!(rt; begins(rt.alloc(), 33, &[0xff; 5], 10, &samples).unwrap_or(false));
-}
-
-// 4096 taps see all 4096 ones at the first sample, which is 0x1000.
 #[test]
 fn plays_the_edges_of_4096_taps(rt: HostRuntime) {
-    assert!(rt; begins(rt.alloc(), 4096, &[0xff; 512], 2 * 512, &[0, 0x10]).unwrap_or(false));
+    assert!(rt; sees_all(rt.alloc()).unwrap_or(false));
 }
 
 // Whether playing is refused for this fault.

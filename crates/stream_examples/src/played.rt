@@ -1,7 +1,8 @@
 //! What came of playing a reader's file to a writer, and a file that several examples play.
 
-use archive_core::{Fault, StreamFault, play_stream};
+use archive_core::{Fault, StreamFault, play, play_stream};
 use device_core::{Inlet, Outlet};
+use fixtures::compared::equal;
 use fixtures::devices::{Dripping, Sipping, drip, sip};
 use std::alloc::{AllocError, Global};
 
@@ -81,12 +82,15 @@ pub(crate) fn play_by(alloc: Global, text: &[u8], file: &[u8], most: usize) -> P
     )
 }
 
-/// Whether a file is played to these bytes, read by 1, by 7 and by 4096 bytes.
+/// Whether a file is played to these bytes, in memory, and read by 1, by 7 and by 4096 bytes.
 pub(crate) fn plays(alloc: Global, text: &str, file: &[u8], wave: &[u8]) -> bool {
     for most in [1, 7, 4096] {
         if !play_by(alloc, text.as_bytes(), file, most).gives(wave) {
             return false;
         }
     }
-    true
+    match play(alloc, text.as_bytes(), file) {
+        Ok(made) => equal(&made, wave),
+        Err(_) => false,
+    }
 }

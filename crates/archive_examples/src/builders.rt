@@ -6,9 +6,12 @@ use fixtures::projects::SPLICE;
 use std::alloc::{AllocError, Global};
 use std::fmt::Write;
 
-/// How many bytes a file has that was built.
-pub(crate) fn size_of(file: Result<Vec<u8>, AllocError>) -> Result<usize, AllocError> {
-    Ok(file?.len())
+/// Whether a file that was built has so many bytes.
+pub(crate) fn has_size(file: Result<Vec<u8>, AllocError>, size: usize) -> bool {
+    match file {
+        Ok(file) => file.len() == size,
+        Err(_) => false,
+    }
 }
 
 /// Whether a fault has this name.

@@ -1,8 +1,7 @@
 //! Masters accepted with their certificates, and which other certificates show the same.
 
 use crate::builders::{
-    CUES, CUTS, CueNumbers, Sources, mono_sources, sources_of, splice, stereo_sources,
-    titled_sources,
+    CUES, CueNumbers, Sources, mono_sources, sources_of, splice, stereo_sources,
 };
 use crate::certifying::WIDE;
 use archive_core::{Edited, Fault, Form, Verdict, check};
@@ -18,56 +17,21 @@ pub(crate) fn accepts(
 ) -> Result<bool, Fault> {
     let sources = sources?;
     let made = sources.edit(alloc, form)?;
-    Ok(cost(alloc, &sources, &made, &made.cert)? == Some(total))
+    Ok(made.total == total && is_accepted(alloc, &sources, &made, &made.cert)?)
 }
 
-// At which cost the master that was cut is accepted with this certificate, if it is.
-fn cost(
+// Whether the master that was cut is accepted at its cost with this certificate.
+fn is_accepted(
     alloc: Global,
     sources: &Sources,
     made: &Edited,
     cert: &[u8],
-) -> Result<Option<u128>, Fault> {
+) -> Result<bool, Fault> {
     let text = sources.text.as_bytes();
     match check(alloc, text, &sources.takes, &made.master, cert)? {
-        Verdict::Accepted { total } => Ok(Some(total)),
-        Verdict::Rejected(_) => Ok(None),
+        Verdict::Accepted { total } => Ok(total == made.total),
+        Verdict::Rejected(_) => Ok(false),
     }
-}
-
-// Whether what these weights and cues cut is accepted at this cost, as DSDIFF and as DSF.
-fn accepts_cues(
-    alloc: Global,
-    weights: &str,
-    cues: &[CueNumbers],
-    total: u128,
-) -> Result<bool, Fault> {
-    let sources = mono_sources(alloc, weights, cues);
-    let least = accepts(alloc, sources, Form::Dsf, total)?;
-    let sources = mono_sources(alloc, weights, cues);
-    Ok(accepts(alloc, sources, Form::Dsdiff, total)? && least)
-}
-
-// The costs are worked out where these masters are cut.
-#[test]
-fn accepts_what_was_cut(rt: HostRuntime) {
-    let alloc = rt.alloc();
-    for (case, weights, cues, _, total) in &CUTS {
-        assert!(rt;
-            accepts_cues(alloc, weights, cues, *total).unwrap_or(false),
-            "{case}"
-        );
-    }
-}
-
-// Titles are marks in DSDIFF alone, and each channel has bridges of its own.
-#[test]
-fn accepts_titles_and_channels(rt: HostRuntime) {
-    let alloc = rt.alloc();
-    assert!(rt; accepts(alloc, titled_sources(alloc), Form::Dsdiff, 0).unwrap_or(false));
-    assert!(rt; accepts(alloc, titled_sources(alloc), Form::Dsf, 0).unwrap_or(false));
-    assert!(rt; accepts(alloc, titled_sources(alloc), Form::Dsf8, 0).unwrap_or(false));
-    assert!(rt; accepts(alloc, stereo_sources(alloc, "1, 0"), Form::Dsdiff, 8).unwrap_or(false));
 }
 
 // The number in so many bytes from a place on, the highest first.
@@ -108,24 +72,21 @@ fn accepts_widened(
     (rows, states, size): (usize, usize, usize),
 ) -> Result<bool, Fault> {
     let first = widened(alloc, &made.cert, rows, states)?;
-    let own = cost(alloc, sources, made, &made.cert)? == Some(made.total);
-    Ok(own && cost(alloc, sources, made, &first)? == Some(made.total) && first.len() == size)
+    let own = is_accepted(alloc, sources, made, &made.cert)?;
+    Ok(own && is_accepted(alloc, sources, made, &first)? && first.len() == size)
 }
 
-// The same of what is cut, of which the master and its certificate have so many bytes; and what it costs.
+// The same of what is cut, of which the master and its certificate have so many bytes.
 fn both_versions(
     alloc: Global,
     sources: Result<Sources, AllocError>,
     sizes: [usize; 2],
     first: (usize, usize, usize),
-) -> Result<(bool, u128), Fault> {
+) -> Result<bool, Fault> {
     let sources = sources?;
     let made = sources.edit(alloc, Form::Dsdiff)?;
-    let accepted = accepts_widened(alloc, &sources, &made, first)?;
-    Ok((
-        accepted && [made.master.len(), made.cert.len()] == sizes,
-        made.total,
-    ))
+    let sized = [made.master.len(), made.cert.len()] == sizes;
+    Ok(sized && accepts_widened(alloc, &sources, &made, first)?)
 }
 
 // A certificate of the first version shows the same, with bounds that are cut at the cost.
@@ -133,20 +94,20 @@ fn both_versions(
 fn accepts_the_first_version(rt: HostRuntime) {
     let sources = mono_sources(rt.alloc(), "1, 0", &CUES);
     let accepted = both_versions(rt.alloc(), sources, [128, 46], (2, 2, WIDE.len()));
-    assert!(rt; accepted.unwrap_or((false, 0)) == (true, 4));
+    assert!(rt; accepted.unwrap_or(false));
 }
 
-// At which cost the master of `CUES` by the weights 1 and 0 is accepted with this certificate.
-fn cost_with(alloc: Global, cert: &[u8]) -> Result<Option<u128>, Fault> {
+// Whether the master of `CUES` by the weights 1 and 0 is accepted with this certificate.
+fn accepts_with(alloc: Global, cert: &[u8]) -> Result<bool, Fault> {
     let sources = mono_sources(alloc, "1, 0", &CUES)?;
     let made = sources.edit(alloc, Form::Dsdiff)?;
-    cost(alloc, &sources, &made, cert)
+    is_accepted(alloc, &sources, &made, cert)
 }
 
 // The same with a bound above the cost.
 #[test]
 fn accepts_bounds_above_the_cost(rt: HostRuntime) {
-    assert!(rt; cost_with(rt.alloc(), &WIDE) == Ok(Some(4)));
+    assert!(rt; accepts_with(rt.alloc(), &WIDE).unwrap_or(false));
 }
 
 // A bridge of 4096 bits from ones to zeros by twelve weights, whose sum is 4096.
@@ -162,7 +123,7 @@ fn accepts_the_longest_bridge(rt: HostRuntime) {
     let sources = sources_of(text, mono(alloc, &[0xff; 1024]), mono(alloc, &[0; 1024]));
     let sizes = [1152, 57_694_243];
     let accepted = both_versions(alloc, sources, sizes, (4097, 2048, 67_125_274));
-    assert!(rt; accepted.unwrap_or((false, 0)).0);
+    assert!(rt; accepted.unwrap_or(false));
 }
 
 // Whether a master is accepted with its certificate with bits of one byte turned over.
@@ -174,7 +135,7 @@ fn accepts_flipped(
 ) -> Result<bool, Fault> {
     let byte = made.cert.get(place).copied().unwrap_or(0);
     let cert = changed(alloc, &made.cert, place, &[byte ^ bits])?;
-    Ok(cost(alloc, sources, made, &cert)?.is_some())
+    is_accepted(alloc, sources, made, &cert)
 }
 
 // Whether of all certificates that differ from a master's in one bit, just those are accepted with one of `OTHERS` turned

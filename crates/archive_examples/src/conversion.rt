@@ -1,6 +1,6 @@
 //! Recordings written in each form, and how many of their parts have no place there.
 
-use crate::builders::{file_in, is_named, size_of};
+use crate::builders::{file_in, has_size, is_named};
 use archive_core::{Fault, Form, convert};
 use chunk_core::push_chunk;
 use fixtures::compared::equal;
@@ -76,7 +76,7 @@ fn is_refused(
 #[test]
 fn converts_channels_that_end_inside_a_byte(rt: HostRuntime) {
     let alloc = rt.alloc();
-    assert!(rt; size_of(long(alloc, 1, 0x80)) == Ok(16476));
+    assert!(rt; has_size(long(alloc, 1, 0x80), 16476));
     assert!(rt; is_refused(alloc, long(alloc, 1, 0x80), "NotWholeBytes").unwrap_or(false));
     let turned = long(alloc, 8, 0x01);
     assert!(rt; converts(alloc, long(alloc, 1, 0x80), Form::Dsf8, turned, 0).unwrap_or(false));
@@ -89,28 +89,19 @@ pub(crate) fn commented(alloc: Global) -> Result<Vec<u8>, AllocError> {
     file_of(alloc, &[&RATE, &MONO, &RAW], &[0xf0], &rest)
 }
 
-#[test]
-fn counts_what_has_no_place_in_dsf(rt: HostRuntime) {
-    let alloc = rt.alloc();
-    assert!(rt; size_of(commented(alloc)) == Ok(188));
-    let bare = file_in(alloc, Form::Dsf);
-    assert!(rt; converts(alloc, commented(alloc), Form::Dsf, bare, 2).unwrap_or(false));
-    assert!(rt;
-        converts(alloc, commented(alloc), Form::Dsdiff, commented(alloc), 0).unwrap_or(false)
-    );
-}
-
 /// The DSF file of one byte of sound with a tag.
 pub(crate) fn tagged(alloc: Global, bits: u32, first: u8) -> Result<Vec<u8>, AllocError> {
     dsf_of(alloc, (1, bits, 8), &[first], 4096, b"ID3")
 }
 
+// Whole conversions of both, in which all is kept, stand in `growths`.
 #[test]
-fn keeps_a_tag_in_dsf_alone(rt: HostRuntime) {
+fn counts_what_has_no_place(rt: HostRuntime) {
     let alloc = rt.alloc();
-    assert!(rt; size_of(tagged(alloc, 1, 0x0f)) == Ok(4191));
-    let turned = tagged(alloc, 8, 0xf0);
-    assert!(rt; converts(alloc, tagged(alloc, 1, 0x0f), Form::Dsf8, turned, 0).unwrap_or(false));
+    assert!(rt; has_size(commented(alloc), 188));
+    let bare = file_in(alloc, Form::Dsf);
+    assert!(rt; converts(alloc, commented(alloc), Form::Dsf, bare, 2).unwrap_or(false));
+    assert!(rt; has_size(tagged(alloc, 1, 0x0f), 4191));
     let bare = file_in(alloc, Form::Dsdiff);
     assert!(rt; converts(alloc, tagged(alloc, 1, 0x0f), Form::Dsdiff, bare, 1).unwrap_or(false));
 }

@@ -1,8 +1,7 @@
-//! `play`, `convert` and `info` over folders in memory: what they print and which files they create.
+//! `play` and `convert` over folders in memory: what they print and which files they create.
 
 use crate::builders::file_in;
 use crate::folders::{asks, comes_to, comes_to_watched, folder_of, holds, is_refused};
-use crate::outcomes::TOLD;
 use crate::watched_folder::{Asked, NOTHING, WatchedFolder};
 use archive_core::Form;
 use command_core::{MemoryFolder, Task};
@@ -23,79 +22,57 @@ const PLAY: Task = Task::Play {
     output: "out",
 };
 
-// Converting this input to this output.
-fn converting<'a>(form: Form, input: &'a str, output: &'a str) -> Task<'a> {
-    Task::Convert {
-        form,
-        input,
-        output,
-    }
-}
-
-// Whether a task comes to the status 0 and this line in the folder, which has so many files then, and this
-// one of these bytes.
-fn makes(
+// Whether the file is converted to this one of these bytes, with so many files then.
+fn converts(
     alloc: Global,
-    task: Task,
-    line: &str,
-    (name, bytes): (&str, &[u8]),
+    form: Form,
+    (output, bytes): (&str, &[u8]),
     count: usize,
 ) -> Result<bool, AllocError> {
     let mut folder = folder(alloc)?;
-    let done = comes_to(alloc, &mut folder, task, 0, line)?;
-    Ok(done && holds(&folder, name, bytes) && folder.count() == count)
+    let task = Task::Convert {
+        form,
+        input: "in.dff",
+        output,
+    };
+    let done = comes_to(alloc, &mut folder, task, 0, "converted dropped 0")?;
+    Ok(done && holds(&folder, output, bytes) && folder.count() == count)
 }
 
-#[test]
-fn plays_to_a_file(rt: HostRuntime) {
-    let alloc = rt.alloc();
-    assert!(rt; makes(alloc, PLAY, "played 46 bytes", ("out", &WAVE), 3).unwrap_or(false));
-}
-
-// Whether the file is converted to the one that its recording has in this form, beside itself.
-fn converts(alloc: Global, form: Form) -> Result<bool, AllocError> {
-    let made = file_in(alloc, form)?;
-    let task = converting(form, "in.dff", "out");
-    makes(alloc, task, "converted dropped 0", ("out", &made), 3)
+// Whether it is converted to the file that its recording has in this form, beside itself.
+fn converts_beside(alloc: Global, form: Form) -> Result<bool, AllocError> {
+    converts(alloc, form, ("out", &file_in(alloc, form)?), 3)
 }
 
 // In the end the file takes its own place: it is read whole before it is created.
 #[test]
 fn converts_to_files(rt: HostRuntime) {
     let alloc = rt.alloc();
-    assert!(rt; converts(alloc, Form::Dsf).unwrap_or(false));
-    assert!(rt; converts(alloc, Form::Dsf8).unwrap_or(false));
-    assert!(rt; converts(alloc, Form::Dsdiff).unwrap_or(false));
-    let task = converting(Form::Dsdiff, "in.dff", "in.dff");
-    assert!(rt; makes(alloc, task, "converted dropped 0", ("in.dff", &FILE), 2).unwrap_or(false));
+    assert!(rt; converts_beside(alloc, Form::Dsf).unwrap_or(false));
+    assert!(rt; converts_beside(alloc, Form::Dsf8).unwrap_or(false));
+    assert!(rt; converts(alloc, Form::Dsdiff, ("in.dff", &FILE), 2).unwrap_or(false));
 }
+
+// What is no project, and an input that is not there.
+const UNPLAYED: Task = Task::Play {
+    project: "in.dff",
+    input: "none",
+    output: "out",
+};
+
+// An input that holds no recording.
+const UNCONVERTED: Task = Task::Convert {
+    form: Form::Dsf,
+    input: "p.toml",
+    output: "out",
+};
 
 #[test]
-fn tells_of_a_file(rt: HostRuntime) {
+fn refuses_files_and_creates_nothing(rt: HostRuntime) {
     let alloc = rt.alloc();
-    let task = Task::Info { file: "in.dff" };
-    assert!(rt; makes(alloc, task, TOLD, ("in.dff", &FILE), 2).unwrap_or(false));
-}
-
-// A project and an input of which one is not there.
-const NOT_THERE: [(&str, &str); 2] = [("none", "in.dff"), ("in.dff", "none")];
-
-// Whether nothing is played by them.
-fn is_unplayed(alloc: Global, (project, input): &(&str, &str)) -> bool {
-    let task = Task::Play {
-        project,
-        input,
-        output: "out",
-    };
-    is_refused(alloc, folder(alloc), task, "fault: ReadFailed").unwrap_or(false)
-}
-
-#[test]
-fn plays_no_missing_file_and_creates_nothing(rt: HostRuntime) {
-    let alloc = rt.alloc();
-    for names in &NOT_THERE {
-        assert!(rt; is_unplayed(alloc, names), "{names:?}");
-    }
+    let unread = "fault: FileUnread UnknownForm";
+    assert!(rt; is_refused(alloc, folder(alloc), UNPLAYED, "fault: ReadFailed").unwrap_or(false));
+    assert!(rt; is_refused(alloc, folder(alloc), UNCONVERTED, unread).unwrap_or(false));
 }
 
 // A project and an input that are no such, and what is printed.
@@ -125,20 +102,6 @@ fn leaves_an_empty_file_where_nothing_is_played(rt: HostRuntime) {
     for case in &NOT_PLAYED {
         assert!(rt; leaves_none(alloc, case).unwrap_or(false), "{}", case.2);
     }
-}
-
-// Whether a file is neither converted nor told of, for this fault.
-fn is_unread(alloc: Global, input: &str, line: &str) -> Result<bool, AllocError> {
-    let task = converting(Form::Dsf, input, "out");
-    let converted = is_refused(alloc, folder(alloc), task, line)?;
-    Ok(converted && is_refused(alloc, folder(alloc), Task::Info { file: input }, line)?)
-}
-
-#[test]
-fn reads_nothing_else_and_creates_nothing(rt: HostRuntime) {
-    let alloc = rt.alloc();
-    assert!(rt; is_unread(alloc, "none", "fault: ReadFailed").unwrap_or(false));
-    assert!(rt; is_unread(alloc, "p.toml", "fault: FileUnread UnknownForm").unwrap_or(false));
 }
 
 // A file that was created is kept, or given up after a fault.
@@ -193,16 +156,12 @@ const PLAYS: [Asked; 8] = [
     ),
 ];
 
-// Whether playing asks so.
-fn plays_so(alloc: Global, (_, failure, line, calls): &Asked) -> bool {
-    asks(alloc, folder(alloc), *failure, PLAY, (line, calls)).unwrap_or(false)
-}
-
 #[test]
 fn asks_for_files_in_order(rt: HostRuntime) {
     let alloc = rt.alloc();
     for asked in &PLAYS {
-        assert!(rt; plays_so(alloc, asked), "{} fails", asked.0);
+        let said = asks(alloc, folder(alloc), PLAY, asked);
+        assert!(rt; said.unwrap_or(false), "{} fails", asked.0);
     }
 }
 

@@ -1,7 +1,7 @@
 //! What a command comes to in a folder, and what it asks the folder for.
 
 use crate::outcomes::prints;
-use crate::watched_folder::{Failure, WatchedFolder};
+use crate::watched_folder::{Asked, WatchedFolder};
 use command_core::{MemoryFolder, Outcome, Task, perform};
 use std::alloc::{AllocError, Global};
 
@@ -65,16 +65,15 @@ pub(crate) fn is_refused(
     Ok(refused && folder.count() == count)
 }
 
-/// Whether a task in the folder comes to this line where this fails, and asks for these calls and no more.
+/// Whether a task in the folder comes to the line of a case, and asks for its calls and no more.
 pub(crate) fn asks(
     alloc: Global,
     folder: Result<MemoryFolder, AllocError>,
-    failure: Failure,
     task: Task,
-    (line, calls): (&str, &str),
+    (_, failure, line, calls): &Asked,
 ) -> Result<bool, AllocError> {
-    let mut watched = WatchedFolder::over(alloc, folder?, failure);
-    let number = if failure.0.is_empty() { 0 } else { 2 };
+    let mut watched = WatchedFolder::over(alloc, folder?, *failure);
+    let number = if line.starts_with("fault: ") { 2 } else { 0 };
     let said = comes_to_watched(alloc, &mut watched, task, number, line)?;
-    Ok(said && watched.calls.as_str() == calls)
+    Ok(said && watched.calls.as_str() == *calls)
 }

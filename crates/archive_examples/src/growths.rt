@@ -4,10 +4,9 @@
 ghost use Rattle.std.specs.Prelude.{None, false};
 
 use crate::builders::{
-    CUES, Sources, file_in, mono_sources, sources_of, splice, stereo_sources, titled,
-    titled_sources,
+    CUES, ONES, Sources, ZEROS, file_in, sources_of, splice, stereo_sources, titled, titled_sources,
 };
-use crate::certifying::{LEVEL, cert_of};
+use crate::certifying::CERT;
 use crate::checking::accepts;
 use crate::conversion::{commented, converts, tagged};
 use crate::cutting::cuts_built;
@@ -284,16 +283,13 @@ fn comes_to_over_master(
     line: &str,
     written: usize,
 ) -> Result<bool, Fail> {
-    let sources = mono_sources(alloc, "1, 0", &CUES)?;
-    let master = with_sounds([0xff, 0]);
-    let cert = cert_of(alloc, &[(0, 0, LEVEL)])?;
-    let [first, second] = &sources.takes;
+    let text = splice(alloc, "1, 0", &CUES)?;
     let files: [(&str, &[u8]); 5] = [
-        ("e.toml", sources.text.as_bytes()),
-        ("a.dff", first),
-        ("b.dff", second),
-        ("m.dff", &master),
-        ("c.cert", &cert),
+        ("e.toml", text.as_bytes()),
+        ("a.dff", &ONES),
+        ("b.dff", &ZEROS),
+        ("m.dff", &with_sounds([0xff, 0])),
+        ("c.cert", &CERT),
     ];
     comes_to(alloc, &files, task, line, written)
 }

@@ -1,7 +1,6 @@
 //! Bridges that are held against a straight line, and what whole masters cost.
 
-use crate::builders::{ONES, Sources, ZEROS, is_named, mono_sources, sources_with};
-use crate::checking::accepts;
+use crate::builders::{ONES, Sources, ZEROS, mono_sources, sources_with};
 use crate::cutting::cuts_built;
 use archive_core::{Fault, Form};
 use fixtures::files::mono;
@@ -28,50 +27,12 @@ const LINES: [(usize, &str, &[u8], u128); 3] = [
 ];
 
 #[test]
-fn cuts_lines_and_accepts_them(rt: HostRuntime) {
+fn cuts_lines(rt: HostRuntime) {
     let alloc = rt.alloc();
     for (stop, target, sound, total) in &LINES {
         let sources = bridged(alloc, *stop, target);
         let cut = cuts_built(alloc, sources, Form::Dsdiff, mono(alloc, sound), *total);
         assert!(rt; cut.unwrap_or(false), "{stop} {target}");
-        let sources = bridged(alloc, *stop, target);
-        assert!(rt;
-            accepts(alloc, sources, Form::Dsdiff, *total).unwrap_or(false),
-            "{stop} {target}"
-        );
-    }
-}
-
-// Why nothing is cut with this target.
-fn is_refused(alloc: Global, target: &str, expected: &str) -> Result<bool, AllocError> {
-    match bridged(alloc, 8, target)?.edit(alloc, Form::Dsdiff) {
-        Ok(_) => Ok(false),
-        Err(fault) => is_named(alloc, fault, expected),
-    }
-}
-
-// A fade reads two bits before the seven zeros, where there are none.
-const REFUSED: [(&str, &str); 4] = [
-    ("target = \"fade\"", "NoRoomBefore 0"),
-    (
-        "target = \"line\"\nline = [4097, 0]",
-        "Project OutOfLimit line",
-    ),
-    ("target = \"line\"", "Project MissingKey line"),
-    (
-        "target = \"fade\"\nline = [0, 0]",
-        "Project OutOfLimit line",
-    ),
-];
-
-#[test]
-fn names_the_fault_of_a_target(rt: HostRuntime) {
-    let alloc = rt.alloc();
-    for (target, expected) in &REFUSED {
-        assert!(rt;
-            is_refused(alloc, target, expected).unwrap_or(false),
-            "{target}"
-        );
     }
 }
 
@@ -122,7 +83,7 @@ fn total(alloc: Global) -> Result<u128, Fault> {
 #[test]
 fn no_master_costs_less(rt: HostRuntime) {
     let least = whole_cost(0xff3f);
-    assert!(rt; total(rt.alloc()) == Ok(least));
+    assert!(rt; total(rt.alloc()).unwrap_or(u128::MAX) == least);
     for (master, expected) in &MASTERS {
         assert!(rt; whole_cost(*master) == *expected, "{master}");
         assert!(rt; least <= *expected, "{master}");

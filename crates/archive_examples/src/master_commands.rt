@@ -7,7 +7,7 @@ use crate::folders::{asks, comes_to, comes_to_watched, holds, is_refused};
 use crate::watched_folder::{Asked, NOTHING, WatchedFolder};
 use archive_core::Form;
 use command_core::{MemoryFolder, Task};
-use fixtures::files::{FILE, dsf_of, with_sounds};
+use fixtures::files::{dsf_of, with_sounds};
 use fixtures::projects::SPLICE;
 use std::alloc::{AllocError, Global};
 
@@ -37,8 +37,8 @@ fn folder_with<'a>(
     folders::folder_of(alloc, &files)
 }
 
-// A folder with a project of these weights and cues, a take of ones and a take of zeros.
-fn folder_by(
+/// A folder with a project of these weights and cues, a take of ones and a take of zeros.
+pub(crate) fn folder_by(
     alloc: Global,
     weights: &str,
     cues: &[CueNumbers],
@@ -46,39 +46,19 @@ fn folder_by(
     folder_with(alloc, &splice(alloc, weights, cues)?, &ZEROS)
 }
 
-// Whether the cut of `CUES` by these weights comes to this line and this certificate, and its master is accepted with this
-// line.
-fn cuts_and_accepts(
-    alloc: Global,
-    weights: &str,
-    cert: &[u8],
-    (line, accepted): (&str, &str),
-) -> Result<bool, AllocError> {
-    let mut folder = folder_by(alloc, weights, &CUES)?;
-    let cut = cuts_here(alloc, &mut folder, cert, line)?;
-    let checked = comes_to(alloc, &mut folder, CHECK, 0, accepted)?;
-    Ok(cut && checked && folder.count() == 5)
-}
-
-// Whether the cut of the folder comes to this line and is ff, 00, with this certificate.
-fn cuts_here(
-    alloc: Global,
-    folder: &mut MemoryFolder,
-    cert: &[u8],
-    line: &str,
-) -> Result<bool, AllocError> {
-    let cut = comes_to(alloc, folder, CUT, 0, line)?;
-    let master = holds(folder, "m.dff", &with_sounds([0xff, 0]));
-    Ok(cut && master && holds(folder, "c.cert", cert))
+// Whether the cut of `CUES` by the weights 1 and 1 is ff, 00, with its certificate, and is accepted.
+fn cuts_and_accepts(alloc: Global) -> Result<bool, AllocError> {
+    let mut folder = folder_by(alloc, "1, 1", &CUES)?;
+    let cut = comes_to(alloc, &mut folder, CUT, 0, "edited total 0")?;
+    let checked = comes_to(alloc, &mut folder, CHECK, 0, "accepted total 0")?;
+    let master = holds(&folder, "m.dff", &with_sounds([0xff, 0]));
+    let cert = holds(&folder, "c.cert", &FREE);
+    Ok(cut && checked && master && cert && folder.count() == 5)
 }
 
 #[test]
 fn cuts_a_master_and_accepts_it(rt: HostRuntime) {
-    let alloc = rt.alloc();
-    let free = ("edited total 0", "accepted total 0");
-    assert!(rt; cuts_and_accepts(alloc, "1, 1", &FREE, free).unwrap_or(false));
-    let four = ("edited total 4", "accepted total 4");
-    assert!(rt; cuts_and_accepts(alloc, "1, 0", &CERT, four).unwrap_or(false));
+    assert!(rt; cuts_and_accepts(rt.alloc()).unwrap_or(false));
 }
 
 // Cutting the master to the file that its certificate is written to behind it.
@@ -146,21 +126,53 @@ fn tells_of_a_master_with_a_title(rt: HostRuntime) {
     assert!(rt; cuts_in(alloc, Form::Dsf, least, BARE).unwrap_or(false));
 }
 
-// Cues that are refused where masters are cut, and what is printed.
-const REFUSED: [(&[CueNumbers], &str); 6] = [
-    (&[(0, 0, 8, 1), (1, 1, 8, 0)], "fault: NoRoomBefore 0"),
-    (&[(0, 0, 16, 1), (1, 2, 9, 0)], "fault: NoRoomAfter 0"),
-    (&[(0, 0, 8, 1), (1, 2, 17, 0)], "fault: CueOutside 1"),
-    (&[(0, 0, 8, 1), (1, 2, 2, 0)], "fault: Project ShortCue 1"),
-    (&[(0, 0, 8, 1), (1, 2, 9, 1)], "fault: Project LastBridge"),
-    (&[(0, 0, 8, 0), (1, 0, 4, 0)], "fault: NotWholeBytes"),
+// With two weights a fade of one bit needs one bit of its take behind its cue, and two bits before the cue
+// behind it. Takes have 16 bits, cues at least one, no bridge follows the last, a DSDIFF master ends with a
+// whole byte, and weights add up to at most 4096.
+const REFUSED: [(&str, &[CueNumbers], &str); 8] = [
+    (
+        "1, 1",
+        &[(0, 0, 8, 1), (1, 0, 7, 0)],
+        "fault: NoRoomBefore 0",
+    ),
+    (
+        "1, 1",
+        &[(0, 0, 8, 1), (1, 1, 8, 0)],
+        "fault: NoRoomBefore 0",
+    ),
+    (
+        "1, 1",
+        &[(0, 0, 16, 1), (1, 2, 9, 0)],
+        "fault: NoRoomAfter 0",
+    ),
+    (
+        "1, 1",
+        &[(0, 0, 8, 1), (1, 2, 17, 0)],
+        "fault: CueOutside 1",
+    ),
+    (
+        "1, 1",
+        &[(0, 0, 8, 1), (1, 2, 2, 0)],
+        "fault: Project ShortCue 1",
+    ),
+    (
+        "1, 1",
+        &[(0, 0, 8, 1), (1, 2, 9, 1)],
+        "fault: Project LastBridge",
+    ),
+    (
+        "1, 1",
+        &[(0, 0, 8, 0), (1, 0, 4, 0)],
+        "fault: NotWholeBytes",
+    ),
+    ("4096, 1", &CUES, "fault: Project OutOfLimit weights"),
 ];
 
 #[test]
 fn refuses_cues_and_creates_nothing(rt: HostRuntime) {
     let alloc = rt.alloc();
-    for (cues, line) in &REFUSED {
-        let folder = folder_by(alloc, "1, 1", cues);
+    for (weights, cues, line) in &REFUSED {
+        let folder = folder_by(alloc, weights, cues);
         assert!(rt;
             is_refused(alloc, folder, CUT, line).unwrap_or(false),
             "{line}"
@@ -196,21 +208,6 @@ fn refuses_takes_and_projects_and_creates_nothing(rt: HostRuntime) {
     );
     let folder = folder_with(alloc, "", &ZEROS);
     assert!(rt; is_refused(alloc, folder, CUT, "fault: NoSplice").unwrap_or(false));
-}
-
-// A folder with the project of `CUES` by the weights 1 and 0, which has no title, and with its first take alone.
-fn folder_of_one_take(alloc: Global) -> Result<MemoryFolder, AllocError> {
-    let text = splice(alloc, "1, 0", &CUES)?;
-    let files: [(&str, &[u8]); 2] = [("e.toml", text.as_bytes()), ("a.dff", &ONES)];
-    folders::folder_of(alloc, &files)
-}
-
-#[test]
-fn cuts_nothing_where_a_take_is_missing(rt: HostRuntime) {
-    let alloc = rt.alloc();
-    assert!(rt;
-        is_refused(alloc, folder_of_one_take(alloc), CUT, "fault: ReadFailed").unwrap_or(false)
-    );
 }
 
 // Takes are asked for by their numbers, and the certificate is created once the master is written and kept.
@@ -259,17 +256,12 @@ const CUTS: [Asked; 7] = [
     ),
 ];
 
-// Whether cutting asks so.
-fn cuts_so(alloc: Global, (_, failure, line, calls): &Asked) -> bool {
-    let folder = folder_with(alloc, SPLICE, &ZEROS);
-    asks(alloc, folder, *failure, CUT, (line, calls)).unwrap_or(false)
-}
-
 #[test]
 fn asks_for_takes_by_number(rt: HostRuntime) {
     let alloc = rt.alloc();
     for asked in &CUTS {
-        assert!(rt; cuts_so(alloc, asked), "{} fails", asked.0);
+        let said = asks(alloc, folder_with(alloc, SPLICE, &ZEROS), CUT, asked);
+        assert!(rt; said.unwrap_or(false), "{} fails", asked.0);
     }
 }
 
@@ -293,76 +285,4 @@ fn leaves_the_master_where_the_certificate_is_not_written(rt: HostRuntime) {
             "{room}"
         );
     }
-}
-
-// A folder with this master and a certificate of no bytes beside a project and its takes.
-fn folder_with_master<'a>(
-    alloc: Global,
-    project: &'a str,
-    master: &'a [u8],
-) -> Result<MemoryFolder, AllocError> {
-    let files: [(&str, &[u8]); 5] = [
-        ("e.toml", project.as_bytes()),
-        ("a.dff", &ONES),
-        ("b.dff", &ZEROS),
-        ("m.dff", master),
-        ("c.cert", b""),
-    ];
-    folders::folder_of(alloc, &files)
-}
-
-// Which file can't be opened, and what the folder is asked for: the master and its certificate behind the
-// takes.
-const CHECKS: [(&str, &str); 3] = [
-    ("b.dff", "open e.toml\nopen a.dff\nopen b.dff\n"),
-    ("m.dff", "open e.toml\nopen a.dff\nopen b.dff\nopen m.dff\n"),
-    (
-        "c.cert",
-        "open e.toml\nopen a.dff\nopen b.dff\nopen m.dff\nopen c.cert\n",
-    ),
-];
-
-// Whether a check asks so where the file can't be opened.
-fn checks_so(alloc: Global, (name, calls): &(&'static str, &str)) -> bool {
-    let folder = folder_with_master(alloc, SPLICE, b"");
-    let said = ("fault: ReadFailed", *calls);
-    asks(alloc, folder, ("open", *name, 0), CHECK, said).unwrap_or(false)
-}
-
-#[test]
-fn reads_a_master_and_its_certificate_behind_the_takes(rt: HostRuntime) {
-    let alloc = rt.alloc();
-    for case in &CHECKS {
-        assert!(rt; checks_so(alloc, case), "{}", case.0);
-    }
-}
-
-// Whether a check of this master comes to the status 1 and this line, and creates nothing.
-fn is_rejected(alloc: Global, master: &[u8], line: &str) -> Result<bool, AllocError> {
-    let text = splice(alloc, "1, 1", &CUES)?;
-    let mut folder = folder_with_master(alloc, &text, master)?;
-    let rejected = comes_to(alloc, &mut folder, CHECK, 1, line)?;
-    Ok(rejected && folder.count() == 5)
-}
-
-// The same of a file that was built.
-fn is_built_rejected(
-    alloc: Global,
-    master: Result<Vec<u8>, AllocError>,
-    line: &str,
-) -> Result<bool, AllocError> {
-    is_rejected(alloc, &master?, line)
-}
-
-// The reasons are worked out where masters are rejected.
-#[test]
-fn rejects_masters_and_creates_nothing(rt: HostRuntime) {
-    let alloc = rt.alloc();
-    assert!(rt; is_rejected(alloc, b"", "rejected MasterUnread").unwrap_or(false));
-    assert!(rt; is_rejected(alloc, &fast([0; 2]), "rejected MasterShape").unwrap_or(false));
-    assert!(rt; is_rejected(alloc, &FILE, "rejected MasterLength").unwrap_or(false));
-    let titled = titled(alloc);
-    assert!(rt; is_built_rejected(alloc, titled, "rejected MasterMarks").unwrap_or(false));
-    let other = with_sounds([0x7f, 0]);
-    assert!(rt; is_rejected(alloc, &other, "rejected CuedBit 0 0").unwrap_or(false));
 }

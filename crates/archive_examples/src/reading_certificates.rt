@@ -1,36 +1,20 @@
 //! A certificate is read while a master is judged by it, and to its end whatever comes of that: a read that fails there is
 //! told before any reason against the master.
 
-use crate::builders::{CUES, ONES, ZEROS, fast, splice};
+use crate::builders::CUES;
 use crate::certifying::CERT;
-use crate::folders;
 use crate::folders::{comes_to_watched, is_refused};
-use crate::master_commands::CHECK;
+use crate::master_commands::{CHECK, folder_by};
 use crate::watched_folder::WatchedFolder;
 use command_core::MemoryFolder;
 use fixtures::files::with_sounds;
 use std::alloc::{AllocError, Global};
 
-// A folder with the project of `CUES` by the weights 1 and 0, a take of ones, this second take and this master.
-fn folder_of(alloc: Global, second: &[u8], master: &[u8]) -> Result<MemoryFolder, AllocError> {
-    let text = splice(alloc, "1, 0", &CUES)?;
-    folder_with(alloc, &text, second, master)
-}
-
-// The same with this project.
-fn folder_with<'a>(
-    alloc: Global,
-    text: &'a str,
-    second: &'a [u8],
-    master: &'a [u8],
-) -> Result<MemoryFolder, AllocError> {
-    let files: [(&str, &[u8]); 4] = [
-        ("e.toml", text.as_bytes()),
-        ("a.dff", &ONES),
-        ("b.dff", second),
-        ("m.dff", master),
-    ];
-    folders::folder_of(alloc, &files)
+// A folder with the project of `CUES` by the weights 1 and 0, its takes, and this master.
+fn folder_of(alloc: Global, master: &[u8]) -> Result<MemoryFolder, AllocError> {
+    let mut folder = folder_by(alloc, "1, 0", &CUES)?;
+    folder.put("m.dff", master)?;
+    Ok(folder)
 }
 
 // The certificate with another byte at a place.
@@ -117,7 +101,7 @@ const CASES: [Case; 9] = [
 
 // Whether the check of a case comes to what it says.
 fn is_read(alloc: Global, (_, sound, change, left, came): &Case) -> bool {
-    let folder = folder_of(alloc, &ZEROS, &with_sounds(*sound));
+    let folder = folder_of(alloc, &with_sounds(*sound));
     checks(alloc, folder, &cert_with(*change), *left, *came).unwrap_or(false)
 }
 
@@ -129,22 +113,10 @@ fn reads_a_certificate_to_its_end(rt: HostRuntime) {
     }
 }
 
-// A take of another rate is told only once the certificate was read.
-#[test]
-fn reads_a_certificate_before_a_fault_of_the_takes(rt: HostRuntime) {
-    let alloc = rt.alloc();
-    let folder = folder_of(alloc, &fast([0; 2]), &with_sounds([0xff, 0]));
-    let told = (2, "fault: TakeMismatch 1");
-    assert!(rt; checks(alloc, folder, &CERT, 47, told).unwrap_or(false));
-    let folder = folder_of(alloc, &fast([0; 2]), &with_sounds([0xff, 0]));
-    let unread = (2, "fault: ReadFailed");
-    assert!(rt; checks(alloc, folder, &CERT, 46, unread).unwrap_or(false));
-}
-
 // A master that is no file, and no certificate beside it.
 #[test]
 fn a_missing_certificate_is_told_before_a_wrong_master(rt: HostRuntime) {
     let alloc = rt.alloc();
-    let folder = folder_of(alloc, &ZEROS, b"");
+    let folder = folder_of(alloc, b"");
     assert!(rt; is_refused(alloc, folder, CHECK, "fault: ReadFailed").unwrap_or(false));
 }

@@ -1,21 +1,22 @@
-//! Masters rejected, and the first reason in the certificate or in the master.
+//! The first reason in a certificate, or in the bits of a master, for which it is rejected. Those in the rest of a master
+//! stand in `streamed_masters`.
 
-use crate::builders::{CUES, Sources, fast, mono_sources, titled_sources};
+use crate::builders::{CUES, Sources, mono_sources};
 use crate::certifying::{CERT, FREE, WIDE};
-use archive_core::{Fault, Form, Verdict, check};
+use archive_core::{Fault, Verdict, check};
 use fixtures::files;
-use fixtures::files::{mono, stereo, with_sounds};
-use std::alloc::{AllocError, Global};
+use fixtures::files::{mono, with_sounds};
+use std::alloc::Global;
 
-// Whether a master is rejected with this certificate for this reason.
+// Whether a master is rejected for this reason by the project of `CUES` and these weights, with this certificate.
 fn rejects(
     alloc: Global,
-    sources: Result<Sources, AllocError>,
+    weights: &str,
     master: &[u8],
     cert: &[u8],
     expected: &str,
 ) -> Result<bool, Fault> {
-    let Sources { text, takes } = &sources?;
+    let Sources { text, takes } = &mono_sources(alloc, weights, &CUES)?;
     match check(alloc, text.as_bytes(), takes, master, cert)? {
         Verdict::Accepted { .. } => Ok(false),
         Verdict::Rejected(reason) => Ok(reason.to_string(alloc)?.as_str() == expected),
@@ -24,8 +25,7 @@ fn rejects(
 
 // Whether the master is rejected for this reason with this certificate.
 fn rejects_cert(alloc: Global, cert: &[u8], expected: &str) -> Result<bool, Fault> {
-    let sources = mono_sources(alloc, "1, 0", &CUES);
-    rejects(alloc, sources, &with_sounds([0xff, 0]), cert, expected)
+    rejects(alloc, "1, 0", &with_sounds([0xff, 0]), cert, expected)
 }
 
 // The same with a certificate of its with another byte at a place.
@@ -122,23 +122,13 @@ fn names_cut_and_long_certificates(rt: HostRuntime) {
     }
 }
 
-// Whether a master is rejected for this reason by the project of `CUES` and the weights 1 and 1, with its certificate.
-fn rejects_made(alloc: Global, master: &[u8], expected: &str) -> Result<bool, Fault> {
-    let sources = mono_sources(alloc, "1, 1", &CUES);
-    rejects(alloc, sources, master, &FREE, expected)
+// Whether a master of these bytes is rejected for this reason by the weights 1 and 1, with the certificate of what is cut.
+fn rejects_sound(alloc: Global, sound: &[u8], expected: &str) -> Result<bool, Fault> {
+    rejects(alloc, "1, 1", &mono(alloc, sound)?, &FREE, expected)
 }
 
-// The same of a file that was built.
-fn rejects_built(
-    alloc: Global,
-    master: Result<Vec<u8>, AllocError>,
-    expected: &str,
-) -> Result<bool, Fault> {
-    rejects_made(alloc, &master?, expected)
-}
-
-// The master is ff, 00. Its bridge is the bit at place 8, which costs more as a 1; a bit of a cue differs at
-// the place 0, and at 15; then it has a byte more.
+// What is cut is ff, 00. Its bridge is the bit at place 8, which costs more as a 1; a bit of a cue differs at the place 0,
+// and at 15; then it has a byte more.
 const SOUNDS: [(&[u8], &str); 4] = [
     (&[0xff, 0x80], "Cert 0 Cost"),
     (&[0x7f, 0x00], "CuedBit 0 0"),
@@ -150,21 +140,9 @@ const SOUNDS: [(&[u8], &str); 4] = [
 fn names_the_first_reason_in_a_sound(rt: HostRuntime) {
     let alloc = rt.alloc();
     for (sound, expected) in &SOUNDS {
-        let rejected = rejects_built(alloc, mono(alloc, sound), expected);
-        assert!(rt; rejected.unwrap_or(false), "{expected}");
+        assert!(rt;
+            rejects_sound(alloc, sound, expected).unwrap_or(false),
+            "{expected}"
+        );
     }
-}
-
-// What is no file, another rate, two channels, and no mark for a title.
-#[test]
-fn names_the_first_reason_in_a_master(rt: HostRuntime) {
-    let alloc = rt.alloc();
-    assert!(rt; rejects_made(alloc, &[1, 2, 3], "MasterUnread").unwrap_or(false));
-    assert!(rt; rejects_made(alloc, &fast([0xff, 0]), "MasterShape").unwrap_or(false));
-    let two = stereo(alloc, &[0xff, 0xff, 0, 0]);
-    assert!(rt; rejects_built(alloc, two, "MasterShape").unwrap_or(false));
-    let bare = with_sounds([0xff, 0]);
-    assert!(rt;
-        rejects(alloc, titled_sources(alloc), &bare, &FREE, "MasterMarks").unwrap_or(false)
-    );
 }

@@ -2,21 +2,17 @@
 
 use crate::builders::{
     CUES, CUT_OFF, CueNumbers, ONES, Sources, fast, mono_sources, sources_with, splice,
-    stereo_sources, titled_sources,
+    stereo_sources, titled, titled_sources,
 };
+use crate::certifying::{CERT, FREE};
 use crate::folders;
-use crate::folders::outcome_of;
+use crate::folders::{asks, comes_to};
 use crate::master_commands::CHECK;
-use crate::watched_folder::{Failure, NOTHING, WatchedFolder};
+use crate::watched_folder::{Asked, NOTHING};
 use archive_core::{Fault, Form};
-use command_core::{MemoryFolder, Outcome, outcome_line, perform};
-use fixtures::files::{stereo, with_sounds};
+use command_core::MemoryFolder;
+use fixtures::files::{FILE, stereo, with_sounds};
 use std::alloc::{AllocError, Global};
-
-// Whether this is what is printed of an outcome.
-fn is_line(alloc: Global, outcome: Outcome, line: &str) -> Result<bool, AllocError> {
-    Ok(outcome_line(alloc, &outcome)?.as_str() == line)
-}
 
 // A folder of a project, its takes, a master and a certificate.
 fn folder_of(
@@ -36,24 +32,23 @@ fn folder_of(
     folders::folder_of(alloc, &files)
 }
 
-// Whether a check comes to this line, and creates nothing.
+// Whether a check comes to this status and line, and creates nothing.
 fn says(
     alloc: Global,
     sources: &Sources,
     master: &[u8],
     cert: &[u8],
-    line: &str,
+    (number, line): (u8, &str),
 ) -> Result<bool, AllocError> {
     let mut folder = folder_of(alloc, sources, master, cert)?;
-    let outcome = outcome_of(alloc, &mut folder, CHECK);
-    Ok(is_line(alloc, outcome, line)? && folder.count() == 5)
+    Ok(comes_to(alloc, &mut folder, CHECK, number, line)? && folder.count() == 5)
 }
 
-// Whether what is cut is accepted at this cost in each form.
-fn accepts(alloc: Global, sources: Result<Sources, AllocError>, line: &str) -> Result<bool, Fault> {
+// Whether what is cut is accepted in each form, at no cost.
+fn accepts(alloc: Global, sources: Result<Sources, AllocError>) -> Result<bool, Fault> {
     let sources = sources?;
     for form in &[Form::Dsdiff, Form::Dsf, Form::Dsf8] {
-        if !is_accepted(alloc, &sources, *form, line)? {
+        if !is_accepted(alloc, &sources, *form)? {
             return Ok(false);
         }
     }
@@ -61,9 +56,10 @@ fn accepts(alloc: Global, sources: Result<Sources, AllocError>, line: &str) -> R
 }
 
 // The same in one form.
-fn is_accepted(alloc: Global, sources: &Sources, form: Form, line: &str) -> Result<bool, Fault> {
+fn is_accepted(alloc: Global, sources: &Sources, form: Form) -> Result<bool, Fault> {
     let made = sources.edit(alloc, form)?;
-    Ok(says(alloc, sources, &made.master, &made.cert, line)?)
+    let free = (0, "accepted total 0");
+    Ok(says(alloc, sources, &made.master, &made.cert, free)?)
 }
 
 // Three cues of one channel, whose bridges are the bits at the places 8 and 10.
@@ -72,11 +68,10 @@ const THERE_AND_BACK: [CueNumbers; 3] = [(0, 0, 8, 1), (1, 2, 3, 1), (0, 2, 7, 0
 #[test]
 fn accepts_masters(rt: HostRuntime) {
     let alloc = rt.alloc();
-    let pair = stereo_sources(alloc, "1, 1");
-    assert!(rt; accepts(alloc, pair, "accepted total 0").unwrap_or(false));
-    assert!(rt; accepts(alloc, titled_sources(alloc), "accepted total 0").unwrap_or(false));
+    assert!(rt; accepts(alloc, stereo_sources(alloc, "1, 1")).unwrap_or(false));
+    assert!(rt; accepts(alloc, titled_sources(alloc)).unwrap_or(false));
     let back = mono_sources(alloc, "1, 1", &THERE_AND_BACK);
-    assert!(rt; accepts(alloc, back, "accepted total 0").unwrap_or(false));
+    assert!(rt; accepts(alloc, back).unwrap_or(false));
 }
 
 // Whether a master with this file is rejected so, with the certificate of what is cut.
@@ -88,7 +83,7 @@ fn rejects(
 ) -> Result<bool, Fault> {
     let sources = sources?;
     let made = sources.edit(alloc, Form::Dsdiff)?;
-    Ok(says(alloc, &sources, master, &made.cert, line)?)
+    Ok(says(alloc, &sources, master, &made.cert, (1, line))?)
 }
 
 // The same of a file that was built.
@@ -101,8 +96,9 @@ fn rejects_built(
     rejects(alloc, sources, &master?, line)
 }
 
-// A byte of each channel in turn: what is cut is ff ff, 00 00, of which the bit at place 8 is the bridge of each. A bit of a cue differs in one channel or in both; the
-// bit of a bridge costs more as a 1; then there is a byte more of each channel.
+// A byte of each channel in turn: what is cut is ff ff, 00 00, of which the bit at place 8 is the bridge of each. A bit of
+// a cue differs in one channel or in both; the bit of a bridge costs more as a 1; then there is a byte more of each
+// channel.
 const SOUNDS: [(&[u8], &str); 7] = [
     (&[0x7f, 0xff, 0, 0], "rejected CuedBit 0 0"),
     (&[0xff, 0xff, 0, 1], "rejected CuedBit 1 15"),
@@ -140,88 +136,124 @@ fn tells_which_bridge_costs_more(rt: HostRuntime) {
     }
 }
 
-// One channel in place of two, another rate, no mark for a title, a sound that is cut off, and what is no file.
+// Masters of the project of `CUES`: one of 8 bits, one whose sound is cut off, and what is no file.
+const MASTERS: [(&[u8], &str); 4] = [
+    (&FILE, "rejected MasterLength"),
+    (&CUT_OFF, "rejected MasterUnread"),
+    (&[1, 2, 3], "rejected MasterUnread"),
+    (&[], "rejected MasterUnread"),
+];
+
+// Another rate, one channel in place of two, no mark for a title, and a mark for none.
 #[test]
 fn tells_the_first_reason_in_a_master(rt: HostRuntime) {
     let alloc = rt.alloc();
-    let bare = with_sounds([0xff, 0]);
-    let shape = "rejected MasterShape";
-    let pair = stereo_sources(alloc, "1, 1");
-    assert!(rt; rejects(alloc, pair, &bare, shape).unwrap_or(false));
+    for (master, line) in &MASTERS {
+        let sources = mono_sources(alloc, "1, 1", &CUES);
+        assert!(rt;
+            rejects(alloc, sources, master, line).unwrap_or(false),
+            "{line}"
+        );
+    }
+    let [shape, marks] = ["rejected MasterShape", "rejected MasterMarks"];
     let sources = mono_sources(alloc, "1, 1", &CUES);
     assert!(rt; rejects(alloc, sources, &fast([0xff, 0]), shape).unwrap_or(false));
-    let titled = titled_sources(alloc);
-    assert!(rt; rejects(alloc, titled, &bare, "rejected MasterMarks").unwrap_or(false));
-    let unread = "rejected MasterUnread";
+    let bare = with_sounds([0xff, 0]);
+    assert!(rt; rejects(alloc, stereo_sources(alloc, "1, 1"), &bare, shape).unwrap_or(false));
+    assert!(rt; rejects(alloc, titled_sources(alloc), &bare, marks).unwrap_or(false));
     let sources = mono_sources(alloc, "1, 1", &CUES);
-    assert!(rt; rejects(alloc, sources, &CUT_OFF, unread).unwrap_or(false));
-    let pair = stereo_sources(alloc, "1, 1");
-    assert!(rt; rejects(alloc, pair, &[1, 2, 3], unread).unwrap_or(false));
+    assert!(rt; rejects_built(alloc, sources, titled(alloc), marks).unwrap_or(false));
 }
 
-// What a folder is asked for up to the master, and up to its certificate.
+// What a folder is asked for up to the takes, up to the master, and up to its certificate.
+const TO_TAKES: &str = "open e.toml\nopen a.dff\nopen b.dff\n";
+
 const TO_MASTER: &str = "open e.toml\nopen a.dff\nopen b.dff\nopen m.dff\n";
 
 const TO_CERT: &str = "open e.toml\nopen a.dff\nopen b.dff\nopen m.dff\nopen c.cert\n";
 
-// What fails, what is printed, and what the folder is asked for, and no more.
-type Case = (Failure, &'static str, &'static str);
+const UNREAD: &str = "fault: ReadFailed";
 
-const CALLS: [Case; 5] = [
-    (NOTHING, "accepted total 0", TO_CERT),
-    (("open", "m.dff", 0), "fault: ReadFailed", TO_MASTER),
-    (("read", "m.dff", 0), "fault: ReadFailed", TO_MASTER),
-    (("open", "c.cert", 0), "fault: ReadFailed", TO_CERT),
-    (("read", "c.cert", 0), "fault: ReadFailed", TO_CERT),
+const CALLS: [Asked; 6] = [
+    ("nothing", NOTHING, "accepted total 0", TO_CERT),
+    ("opening a take", ("open", "b.dff", 0), UNREAD, TO_TAKES),
+    (
+        "opening the master",
+        ("open", "m.dff", 0),
+        UNREAD,
+        TO_MASTER,
+    ),
+    (
+        "reading the master",
+        ("read", "m.dff", 0),
+        UNREAD,
+        TO_MASTER,
+    ),
+    (
+        "opening the certificate",
+        ("open", "c.cert", 0),
+        UNREAD,
+        TO_CERT,
+    ),
+    (
+        "reading the certificate",
+        ("read", "c.cert", 0),
+        UNREAD,
+        TO_CERT,
+    ),
 ];
 
-// Whether a check in a folder comes to what a case says.
-fn asks(
-    alloc: Global,
-    files: Result<MemoryFolder, Fault>,
-    (failure, line, calls): &Case,
-) -> Result<bool, Fault> {
-    let mut folder = WatchedFolder::over(alloc, files?, *failure);
-    let said = is_line(alloc, perform(alloc, CHECK, &mut folder), line)?;
-    Ok(said && folder.calls.as_str() == *calls)
-}
-
 // The folder of what is cut.
-fn cut(alloc: Global) -> Result<MemoryFolder, Fault> {
-    let sources = stereo_sources(alloc, "1, 1")?;
-    let made = sources.edit(alloc, Form::Dsdiff)?;
-    Ok(folder_of(alloc, &sources, &made.master, &made.cert)?)
+fn cut(alloc: Global) -> Result<MemoryFolder, AllocError> {
+    let sources = mono_sources(alloc, "1, 1", &CUES)?;
+    folder_of(alloc, &sources, &with_sounds([0xff, 0]), &FREE)
 }
 
 #[test]
 fn asks_for_files_in_order(rt: HostRuntime) {
     let alloc = rt.alloc();
-    for case in &CALLS {
-        let asked = asks(alloc, cut(alloc), case);
-        assert!(rt; asked.unwrap_or(false), "{}", case.1);
+    for asked in &CALLS {
+        let said = asks(alloc, cut(alloc), CHECK, asked);
+        assert!(rt; said.unwrap_or(false), "{} fails", asked.0);
     }
 }
 
-// Takes of two rates: master and certificate are read through before that is told, and nothing is where one can't be.
-const UNCUT: [Case; 4] = [
-    (NOTHING, "fault: TakeMismatch 1", TO_CERT),
-    (("open", "m.dff", 0), "fault: ReadFailed", TO_MASTER),
-    (("read", "m.dff", 0), "fault: ReadFailed", TO_MASTER),
-    (("read", "c.cert", 0), "fault: ReadFailed", TO_CERT),
+// Takes of two rates: master and certificate are read through before that is told, and nothing is where one can't be. The
+// certificate has 46 bytes.
+const UNCUT: [Asked; 4] = [
+    ("nothing", NOTHING, "fault: TakeMismatch 1", TO_CERT),
+    (
+        "opening the master",
+        ("open", "m.dff", 0),
+        UNREAD,
+        TO_MASTER,
+    ),
+    (
+        "reading the master",
+        ("read", "m.dff", 0),
+        UNREAD,
+        TO_MASTER,
+    ),
+    (
+        "reading the certificate's end",
+        ("read", "c.cert", 46),
+        UNREAD,
+        TO_CERT,
+    ),
 ];
 
 // A folder of two takes of different rates, and a master that is no file.
-fn unlike(alloc: Global) -> Result<MemoryFolder, Fault> {
+fn unlike(alloc: Global) -> Result<MemoryFolder, AllocError> {
     let text = splice(alloc, "1, 1", &CUES);
     let sources = sources_with(alloc, text, &ONES, &fast([0; 2]))?;
-    Ok(folder_of(alloc, &sources, b"no master", b"")?)
+    folder_of(alloc, &sources, b"no master", &CERT)
 }
 
 #[test]
 fn reads_master_and_certificate_before_it_tells_of_takes(rt: HostRuntime) {
     let alloc = rt.alloc();
-    for case in &UNCUT {
-        let asked = asks(alloc, unlike(alloc), case);
-        assert!(rt; asked.unwrap_or(false), "{}", case.1);
+    for asked in &UNCUT {
+        let said = asks(alloc, unlike(alloc), CHECK, asked);
+        assert!(rt; said.unwrap_or(false), "{} fails", asked.0);
     }
 }

@@ -177,9 +177,12 @@ fn is_told(closed: Result<Option<bool>, AllocError>, expected: bool) -> bool {
     closed == Ok(Some(expected))
 }
 
+// What may stand behind the sound of `FILE`: nothing, its pad, and bytes behind the form.
+const ENDS: [&[u8]; 3] = [&[], &[0], &[0, 1, 2, 3, 4, 5]];
+
 #[test]
 fn closes_behind_the_sound(rt: HostRuntime) {
-    for back in &[[].as_slice(), &[0], &[0, 1, 2, 3, 4, 5]] {
+    for back in &ENDS {
         let closed = closes_behind(rt.alloc(), &FILE[..126], back);
         assert!(rt; is_told(closed, true), "{} bytes", back.len());
     }

@@ -27,36 +27,42 @@ fn with_mark(alloc: Global, fields: &[u8]) -> Result<Recording, DsdiffFault> {
     read(alloc, &file)
 }
 
-// Whether a file with a mark of these bytes has one mark, each of whose numbers is another one.
-fn has_each_number(alloc: Global, fields: &[u8]) -> Result<bool, DsdiffFault> {
-    let recording = with_mark(alloc, fields)?;
-    match recording.marks() {
-        [mark] => Ok(is_mark(mark, (1, 2, 3), (4, -5), (6, 7, 8), b"x")),
-        _ => Ok(false),
+// Whether a mark of these bytes is read, each of whose numbers is another one.
+fn has_each_number(alloc: Global, fields: &[u8]) -> bool {
+    match with_mark(alloc, fields) {
+        Ok(recording) => match recording.marks() {
+            [mark] => is_mark(mark, (1, 2, 3), (4, -5), (6, 7, 8), b"x"),
+            _ => false,
+        },
+        Err(_) => false,
     }
 }
 
 #[test]
 fn reads_marks(rt: HostRuntime) {
     let fields = b"\0\x01\x02\x03\0\0\0\x04\xff\xff\xff\xfb\0\x06\0\x07\0\x08\0\0\0\x01x";
-    assert!(rt; has_each_number(rt.alloc(), fields).unwrap_or(false));
+    assert!(rt; has_each_number(rt.alloc(), fields));
 }
 
-// How many marks a file with a mark of these bytes has.
-fn marks_of(alloc: Global, fields: &[u8]) -> Result<usize, DsdiffFault> {
-    Ok(with_mark(alloc, fields)?.marks().len())
+// Whether a mark of these bytes is read.
+fn is_whole(alloc: Global, fields: &[u8]) -> bool {
+    match with_mark(alloc, fields) {
+        Ok(recording) => recording.marks().len() == 1,
+        Err(_) => false,
+    }
+}
+
+// Whether a file with a mark of these bytes is refused for it.
+fn is_bad(alloc: Global, fields: &[u8]) -> bool {
+    matches!(with_mark(alloc, fields), Err(DsdiffFault::BadMark))
 }
 
 #[test]
 fn wants_whole_marks(rt: HostRuntime) {
-    assert!(rt; marks_of(rt.alloc(), &[0; 22]) == Ok(1));
-    assert!(rt; marks_of(rt.alloc(), &[0; 21]) == Err(DsdiffFault::BadMark));
-}
-
-#[test]
-fn wants_the_text_that_is_counted(rt: HostRuntime) {
+    assert!(rt; is_whole(rt.alloc(), &[0; 22]), "22 bytes");
+    assert!(rt; is_bad(rt.alloc(), &[0; 21]), "21 bytes");
     let lying = b"\0\x01\x02\x03\0\0\0\x04\xff\xff\xff\xfb\0\x06\0\x07\0\x08\xff\xff\xff\xffx";
-    assert!(rt; marks_of(rt.alloc(), lying) == Err(DsdiffFault::BadMark));
+    assert!(rt; is_bad(rt.alloc(), lying), "a text that is not there");
 }
 
 // The place of a mark of so many hours, minutes and seconds each, five samples, and an offset.

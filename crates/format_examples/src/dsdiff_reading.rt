@@ -154,14 +154,9 @@ fn keeps_other_chunks_in_order(rt: HostRuntime) {
     assert!(rt; kept(rt.alloc()) == Ok([1, 6, 6]));
 }
 
-// How many bits a channel of what was read has.
-fn count_of(read: Result<Recording, DsdiffFault>) -> Result<usize, DsdiffFault> {
-    Ok(read?.count())
-}
-
-// How many bits a channel of a file has that was built.
-fn count_in(alloc: Global, file: Result<Vec<u8>, AllocError>) -> Result<usize, DsdiffFault> {
-    count_of(read(alloc, &file?))
+// What a file holds that was built.
+fn holding_of(alloc: Global, file: Result<Vec<u8>, AllocError>) -> Result<Recording, DsdiffFault> {
+    read(alloc, &file?)
 }
 
 const LONG_NAME: &[u8] = b"CMPR\0\0\0\0\0\0\0\x14DSD \x0fnot compressed.";
@@ -170,7 +165,10 @@ const LONG_NAME: &[u8] = b"CMPR\0\0\0\0\0\0\0\x14DSD \x0fnot compressed.";
 fn reads_a_long_name_and_a_form_without_its_last_pad(rt: HostRuntime) {
     let alloc = rt.alloc();
     let named = holding(alloc, &[&RATE, &MONO, LONG_NAME], &[0xf0], &[]);
-    assert!(rt; count_of(named) == Ok(8));
-    assert!(rt; count_of(read(alloc, &FILE[..127])) == Ok(8));
-    assert!(rt; count_in(alloc, followed(alloc)) == Ok(8));
+    assert!(rt; is_held(&ONE, named), "a long name");
+    assert!(rt; is_held(&ONE, read(alloc, &FILE[..127])), "no pad");
+    assert!(rt;
+        is_held(&ONE, holding_of(alloc, followed(alloc))),
+        "bytes behind"
+    );
 }

@@ -53,24 +53,9 @@ fn has_groups(file: &[u8], (bits, first, last): (u8, u8, u8)) -> bool {
         && byte(file, 12380) == 0
 }
 
-// Whether they are written so in this order.
-fn is_written(alloc: Global, order: BitOrder, parts: (u8, u8, u8)) -> Result<bool, AllocError> {
-    let recording = two_channels(alloc)?;
-    let file = write(alloc, &recording, order)?;
-    Ok(has_groups(&file, parts))
-}
-
 // The byte at a place, 0xee where there is none.
 fn byte(file: &[u8], place: usize) -> u8 {
     file.get(place).copied().unwrap_or(0xee)
-}
-
-#[test]
-fn writes_two_groups_of_blocks(rt: HostRuntime) {
-    let least = is_written(rt.alloc(), BitOrder::LeastFirst, (1, 0xac, 0x01));
-    assert!(rt; least.unwrap_or(false), "1 bit per sample");
-    let most = is_written(rt.alloc(), BitOrder::MostFirst, (8, 0x35, 0x80));
-    assert!(rt; most.unwrap_or(false), "8 bits per sample");
 }
 
 // What two channels have.
@@ -106,19 +91,20 @@ fn is_read(
     Ok(order_read == order && is_same(&again, written))
 }
 
-// Whether two channels that are written in this order of bits are read as the same, in the same order.
-fn is_read_again(alloc: Global, order: BitOrder) -> Result<bool, DsfFault> {
+// Whether two channels are written so in this order of bits, and read as the same, in the same order.
+fn is_written(alloc: Global, order: BitOrder, parts: (u8, u8, u8)) -> Result<bool, DsfFault> {
     let written = two_channels(alloc)?;
     let file = write(alloc, &written, order)?;
-    is_read(alloc, &file, &written, order)
+    let is_read = is_read(alloc, &file, &written, order)?;
+    Ok(is_read && has_groups(&file, parts))
 }
 
 #[test]
-fn reads_what_was_written(rt: HostRuntime) {
-    let least = is_read_again(rt.alloc(), BitOrder::LeastFirst);
-    assert!(rt; least.unwrap_or(false), "least first");
-    let most = is_read_again(rt.alloc(), BitOrder::MostFirst);
-    assert!(rt; most.unwrap_or(false), "most first");
+fn writes_two_groups_of_blocks_and_reads_them(rt: HostRuntime) {
+    let least = is_written(rt.alloc(), BitOrder::LeastFirst, (1, 0xac, 0x01));
+    assert!(rt; least.unwrap_or(false), "1 bit per sample");
+    let most = is_written(rt.alloc(), BitOrder::MostFirst, (8, 0x35, 0x80));
+    assert!(rt; most.unwrap_or(false), "8 bits per sample");
 }
 
 // The file of a recording of the file that is read.

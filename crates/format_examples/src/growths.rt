@@ -4,18 +4,22 @@
 use crate::dsdiff_fronts::closes_behind;
 use crate::dsdiff_outlines::written_again;
 use crate::dsdiff_writing::WITH_PARTS;
+use crate::laced_blocks::pushed;
+use crate::laced_bytes::lace_three;
 use crate::projects::EXAMPLE;
+use crate::wave::{pcm, writes};
 use chunk_core::{Order, push_chunk, push_u16, push_u32, push_u64, walk};
 use dsd_bits::{
-    BitOrder, BitRoom, Bits, BitsFault, LaceFault, SoundAt, lace_blocks, lace_bytes, push_blocks,
-    push_laced, unlace_blocks, unlace_bytes,
+    BitOrder, BitRoom, Bits, BitsFault, LaceFault, SoundAt, lace_blocks, lace_bytes, unlace_blocks,
+    unlace_bytes,
 };
 use dsf_core::DsfFault;
 use fixtures::files::{FILE, one_bit};
+use fixtures::waves::WIDE;
 use project_core::{Project, Splice};
-use std::alloc::Global;
+use std::alloc::{AllocError, Global};
 use std::test::Fail;
-use wave_core::{Pcm, push_frames, push_header, push_pad, push_sample};
+use wave_core::{push_frames, push_header, push_pad, push_sample};
 
 #[test]
 fn chunks_are_found(rt: HostRuntime) -> Result<(), Fail> {
@@ -33,15 +37,22 @@ fn a_chunk_is_appended(rt: HostRuntime) -> Result<(), Fail> {
     Ok(())
 }
 
+// How many bytes a number of so many appends.
+fn appended(alloc: Global, size: usize) -> Result<usize, AllocError> {
+    let mut out = Vec::new(alloc);
+    match size {
+        2 => push_u16(&mut out, Order::Big, 1),
+        4 => push_u32(&mut out, Order::Big, 1),
+        _ => push_u64(&mut out, Order::Big, 1),
+    }?;
+    Ok(out.len())
+}
+
 #[test]
 fn numbers_are_appended(rt: HostRuntime) -> Result<(), Fail> {
-    let mut two = Vec::new(rt.alloc());
-    push_u16(&mut two, Order::Big, 1)?;
-    let mut four = Vec::new(rt.alloc());
-    push_u32(&mut four, Order::Big, 1)?;
-    let mut eight = Vec::new(rt.alloc());
-    push_u64(&mut eight, Order::Big, 1)?;
-    assert!(rt; (two.len(), four.len(), eight.len()) == (2, 4, 8));
+    for size in &[2, 4, 8] {
+        assert!(rt; appended(rt.alloc(), *size)? == *size);
+    }
     Ok(())
 }
 
@@ -119,10 +130,9 @@ fn bytes_are_laced(rt: HostRuntime) -> Result<(), Fail> {
 #[test]
 fn laced_bytes_are_appended(rt: HostRuntime) -> Result<(), Fail> {
     let alloc = rt.alloc();
-    let three = unlace_bytes(alloc, b"abcdef", 3)?;
     let mut out = [7].to_vec(alloc)?;
-    push_laced(&mut out, &three)?;
-    assert!(rt; out.len() == 7);
+    lace_three(alloc, &mut out)?;
+    assert!(rt; out.len() == 4);
     Ok(())
 }
 
@@ -148,10 +158,7 @@ fn blocks_are_laced(rt: HostRuntime) -> Result<(), Fail> {
 
 #[test]
 fn blocks_are_appended(rt: HostRuntime) -> Result<(), Fail> {
-    let one = unlace_bytes(rt.alloc(), b"abcdef", 1)?;
-    let mut out = [7].to_vec(rt.alloc())?;
-    push_blocks(&mut out, &one, BitOrder::LeastFirst)?;
-    assert!(rt; out.len() == 4097);
+    assert!(rt; pushed(rt.alloc())?.len() == 4097);
     Ok(())
 }
 
@@ -254,10 +261,8 @@ fn a_pad_is_appended(rt: HostRuntime) -> Result<(), Fail> {
 
 #[test]
 fn a_wave_file_is_written(rt: HostRuntime) -> Result<(), Fail> {
-    let mut samples = Vec::new(rt.alloc());
-    samples.extend_from_slice(&[10])?;
-    let pcm = Pcm::new(1, 352_800, 24, samples);
-    assert!(rt; wave_core::write(rt.alloc(), &pcm)?.len() == 72);
+    let alloc = rt.alloc();
+    assert!(rt; writes(alloc, pcm(alloc, 1, 24, &[10]), &WIDE)?);
     Ok(())
 }
 

@@ -54,8 +54,8 @@ fn puts_them_together_in_the_other_order(rt: HostRuntime) {
     assert!(rt; is_filled(alloc, turned_blocks(alloc), &[0x80], 8192).unwrap_or(false));
 }
 
-// A byte, and a block of a channel behind it.
-fn pushed(alloc: Global) -> Result<Vec<u8>, LaceFault> {
+/// A byte, and a block of a channel behind it.
+pub(crate) fn pushed(alloc: Global) -> Result<Vec<u8>, LaceFault> {
     let channels = unlace_bytes(alloc, &[1], 1)?;
     let mut out = [1].to_vec(alloc)?;
     push_blocks(&mut out, &channels, BitOrder::LeastFirst)?;

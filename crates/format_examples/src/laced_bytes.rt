@@ -27,13 +27,19 @@ fn laces_what_it_took_apart(rt: HostRuntime) {
     assert!(rt; laces_again(rt.alloc()).unwrap_or(false));
 }
 
+/// Three channels behind what is there.
+pub(crate) fn lace_three(alloc: Global, out: &mut Vec<u8>) -> Result<(), LaceFault> {
+    let channels = unlace_bytes(alloc, &[1, 2, 3], 3)?;
+    push_laced(out, &channels)?;
+    Ok(())
+}
+
 // One, two and three channels behind a byte.
 fn lace_each(alloc: Global, out: &mut Vec<u8>) -> Result<(), LaceFault> {
     out.extend_from_slice(&[7])?;
     push_laced(out, &unlace_bytes(alloc, &[0xf0, 0x0f], 1)?)?;
     push_laced(out, &unlace_bytes(alloc, &[0xaa, 0x55], 2)?)?;
-    push_laced(out, &unlace_bytes(alloc, &[1, 2, 3], 3)?)?;
-    Ok(())
+    lace_three(alloc, out)
 }
 
 #[test]

@@ -46,8 +46,6 @@ mod project_faults;
 #[cfg(test)]
 mod projects;
 #[cfg(test)]
-mod recordings;
-#[cfg(test)]
 mod splices;
 #[cfg(test)]
 mod told;

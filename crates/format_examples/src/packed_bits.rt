@@ -33,13 +33,6 @@ fn packs_the_first_bits(rt: HostRuntime) {
     assert!(rt; twelve_bits(rt.alloc()) == Ok((true, each)));
 }
 
-#[test]
-fn begins_empty(rt: HostRuntime) {
-    let bits = Bits::new(rt.alloc());
-    assert!(rt; bits.len() == 0);
-    assert!(rt; bits.as_bytes().len() == 0);
-}
-
 // Faults and what they are printed as.
 const NAMES: &[(BitsFault, &str)] = &[
     (BitsFault::TooFewBytes, "TooFewBytes"),
@@ -83,11 +76,12 @@ fn adds(alloc: Global, case: &Added) -> Result<bool, BitsFault> {
     Ok(adds_from(&mut bits, &source, case)?)
 }
 
-const RANGES: [Added; 7] = [
+const RANGES: [Added; 8] = [
     // whole bytes behind whole bytes
     (&[0xff], 8, 8, 24, &[0xff, 0x34, 0x56], 24),
     // from half a byte, to half a byte, and both
     (&[], 0, 4, 28, &[0x23, 0x45, 0x67], 24),
+    (&[], 0, 2, 10, &[0x48], 8),
     (&[0xa0], 4, 0, 32, &[0xa1, 0x23, 0x45, 0x67, 0x80], 36),
     (&[0xa0], 4, 4, 28, &[0xa2, 0x34, 0x56, 0x70], 28),
     // at other places, inside one byte, and none
@@ -105,22 +99,16 @@ fn adds_ranges_at_every_kind_of_place(rt: HostRuntime) {
     }
 }
 
-// Whether a range behind no bits, and a bit behind it, make these bytes.
-fn adds_a_bit(alloc: Global, bits: &mut Bits) -> Result<bool, BitsFault> {
-    let source = Bits::from_packed(alloc, &[0xf0, 0xff], 12)?;
-    let is_added = add(bits, &source, (2, 10))? && are(bits, &[0xc3], 8);
-    if !is_added || bits.len() != 8 {
-        return Ok(false);
-    }
+// Whether a bit behind eight others makes these bytes.
+fn adds_a_bit(alloc: Global) -> Result<bool, BitsFault> {
+    let mut bits = Bits::from_packed(alloc, &[0xc3], 8)?;
     bits.push_bit(true)?;
-    Ok(are(bits, &[0xc3, 0x80], 9))
+    Ok(are(&bits, &[0xc3, 0x80], 9))
 }
 
 #[test]
-fn adds_a_range_and_a_bit(rt: HostRuntime) {
-    let mut bits = Bits::new(rt.alloc());
-    let is_so = adds_a_bit(rt.alloc(), &mut bits);
-    assert!(rt; is_so.unwrap_or(false));
+fn adds_bits(rt: HostRuntime) {
+    assert!(rt; adds_a_bit(rt.alloc()).unwrap_or(false));
 }
 
 // How many bits two ranges make in held room, and how many are left when it is cleared.

@@ -52,10 +52,8 @@ pub(crate) type Repeated = (
 );
 
 // Whether such a text has its fault.
-fn has_fault_of_many(
-    alloc: Global,
-    (before, middle, times, after, fault): Repeated,
-) -> Result<bool, AllocError> {
+fn has_fault_of_many(alloc: Global, case: &Repeated) -> Result<bool, AllocError> {
+    let (before, middle, times, after, fault) = *case;
     let many = middle.repeat(alloc, times)?;
     has_fault_between(alloc, (before, after), many.as_str(), fault)
 }
@@ -63,11 +61,7 @@ fn has_fault_of_many(
 /// Each text has its fault.
 pub(crate) fn check_repeated(rt: &impl Abort, alloc: Global, cases: &[Repeated]) {
     for case in cases {
-        let (_, middle, times, after, _) = *case;
-        let has_fault = has_fault_of_many(alloc, *case);
-        assert!(rt;
-            has_fault.unwrap_or(false),
-            "{times} times {middle} before {after}"
-        );
+        let has_fault = has_fault_of_many(alloc, case);
+        assert!(rt; has_fault.unwrap_or(false), "{} times {}", case.2, case.1);
     }
 }

@@ -40,14 +40,15 @@ fn decimator_of(project: &Project) -> Option<(u32, u32)> {
     }
 }
 
-// The same of a text.
-fn decimator(alloc: Global, text: &[u8]) -> Result<Option<(u32, u32)>, ProjectFault> {
-    Ok(decimator_of(&read(alloc, text)?))
-}
-
-// Whether a text has a splice.
-fn has_splice(alloc: Global, text: &[u8]) -> Result<bool, ProjectFault> {
-    Ok(read(alloc, text)?.splice.is_some())
+// Whether a text is read as a project of this decimator, and whether of a splice.
+fn is_read(
+    alloc: Global,
+    text: &[u8],
+    decimator: Option<(u32, u32)>,
+    has_splice: bool,
+) -> Result<bool, ProjectFault> {
+    let project = read(alloc, text)?;
+    Ok(decimator_of(&project) == decimator && project.splice.is_some() == has_splice)
 }
 
 const MOST: &[u8] =
@@ -55,9 +56,12 @@ const MOST: &[u8] =
 
 #[test]
 fn reads_the_decimator(rt: HostRuntime) {
-    assert!(rt; decimator(rt.alloc(), EXAMPLE.as_bytes()) == Ok(Some((8, 16))));
-    assert!(rt; decimator(rt.alloc(), MOST) == Ok(Some((1024, 24))));
-    assert!(rt; has_splice(rt.alloc(), MOST) == Ok(false));
+    let both = is_read(rt.alloc(), EXAMPLE.as_bytes(), Some((8, 16)), true);
+    assert!(rt; both.unwrap_or(false), "the example");
+    let alone = is_read(rt.alloc(), MOST, Some((1024, 24)), false);
+    assert!(rt; alone.unwrap_or(false), "without a splice");
+    let none = is_read(rt.alloc(), b"# nothing\n", None, false);
+    assert!(rt; none.unwrap_or(false), "no tables");
 }
 
 // Whether a splice has these weights and the two takes of the example.
@@ -112,14 +116,8 @@ fn reads_the_splice(rt: HostRuntime) {
 }
 
 #[test]
-fn reads_no_tables(rt: HostRuntime) {
-    assert!(rt; decimator(rt.alloc(), b"# nothing\n") == Ok(None));
-    assert!(rt; has_splice(rt.alloc(), b"# nothing\n") == Ok(false));
-}
-
-#[test]
 fn refuses_what_is_no_text(rt: HostRuntime) {
-    assert!(rt; has_splice(rt.alloc(), &[0xff]) == Err(ProjectFault::NotToml));
+    assert!(rt; read(rt.alloc(), &[0xff]).err() == Some(ProjectFault::NotToml));
 }
 
 const DOCUMENTS: &[(&str, &str)] = &[

@@ -1,6 +1,6 @@
 //! RIFF WAVE files byte by byte, and the edges of sizes and widths.
 
-ghost use Rattle.wave_core.specs.Contents.{IsWidth};
+ghost use Rattle.wave_core.specs.Contents.{IsPcm, IsWidth, pcm_of};
 
 use crate::compared::check_printed;
 use fixtures::compared::equal;
@@ -9,52 +9,50 @@ use fixtures::waves::{THREE_CHANNELS, TWO_CHANNELS, WIDE};
 use std::alloc::{AllocError, Global};
 use wave_core::{Pcm, WaveFault, push_frames, push_header, push_pad, push_sample, write};
 
-// Whether these samples are written as this file.
-fn writes(alloc: Global, pcm: Result<Pcm, AllocError>, file: &[u8]) -> Result<bool, WaveFault> {
+/// Whether these samples are written as this file.
+pub(crate) fn writes(
+    alloc: Global,
+    pcm: Result<Pcm, AllocError>,
+    file: &[u8],
+) -> Result<bool, WaveFault> {
     let written = write(alloc, &pcm?)?;
     Ok(equal(&written, file))
 }
 
-// A sample of 16 bits, and one of 24.
-fn narrow(alloc: Global) -> Result<Pcm, AllocError> {
-    Ok(Pcm::new(1, 352_800, 16, vec![in alloc; 10]?))
-}
-
-fn wide(alloc: Global) -> Result<Pcm, AllocError> {
-    Ok(Pcm::new(1, 352_800, 24, vec![in alloc; 10]?))
+/// So many channels of these samples.
+pub(crate) fn pcm(
+    alloc: Global,
+    channels: u16,
+    width: u32,
+    samples: &[i32],
+) -> Result<Pcm, AllocError>
+    requires { IsPcm (pcm_of channels 352800 width samples.now) }
+{
+    Ok(Pcm::new(channels, 352_800, width, samples.to_vec(alloc)?))
 }
 
 #[test]
 fn writes_one_sample(rt: HostRuntime) {
     let alloc = rt.alloc();
     assert!(rt;
-        writes(alloc, narrow(alloc), &WAVE).unwrap_or(false),
+        writes(alloc, pcm(alloc, 1, 16, &[10]), &WAVE).unwrap_or(false),
         "16 bits"
     );
     assert!(rt;
-        writes(alloc, wide(alloc), &WIDE).unwrap_or(false),
+        writes(alloc, pcm(alloc, 1, 24, &[10]), &WIDE).unwrap_or(false),
         "24 bits"
     );
-}
-
-// A frame of two channels, and one of three.
-fn two(alloc: Global) -> Result<Pcm, AllocError> {
-    Ok(Pcm::new(2, 352_800, 16, vec![in alloc; 10, -10]?))
-}
-
-fn three(alloc: Global) -> Result<Pcm, AllocError> {
-    Ok(Pcm::new(3, 352_800, 16, vec![in alloc; 10, -10, 10]?))
 }
 
 #[test]
 fn writes_several_channels(rt: HostRuntime) {
     let alloc = rt.alloc();
     assert!(rt;
-        writes(alloc, two(alloc), &TWO_CHANNELS).unwrap_or(false),
+        writes(alloc, pcm(alloc, 2, 16, &[10, -10]), &TWO_CHANNELS).unwrap_or(false),
         "two"
     );
     assert!(rt;
-        writes(alloc, three(alloc), &THREE_CHANNELS).unwrap_or(false),
+        writes(alloc, pcm(alloc, 3, 16, &[10, -10, 10]), &THREE_CHANNELS).unwrap_or(false),
         "three"
     );
 }

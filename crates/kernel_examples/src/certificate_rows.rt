@@ -4,14 +4,13 @@
 //! any state, and the places behind it cost nothing. So a row of zeros and then a row of fours show the cost 4; no value
 //! of the second row may be higher, and none lower.
 
-ghost use Rattle.std.specs.Prelude.{◌≡◌, ◌<◌, ◌≤◌, length};
+ghost use Rattle.std.specs.Prelude.{◌≡◌, ◌<◌, ◌≤◌};
 ghost use Rattle.splice_core.specs.Cues.{AreWeights};
 
-use cert_core::{CertReader, CertReason, CertVerdict, CheckFault};
+use crate::certificate_checking::checked_in;
+use cert_core::{CertReason, CertVerdict, CheckFault};
 use cost_core::Window;
-use device_core::Inlet;
-use dsd_bits::Bits;
-use fixtures::windows::{bits_of, ones, window, zeros};
+use fixtures::windows::{ones, window, zeros};
 use std::alloc::{AllocError, Global};
 use std::process::Abort;
 
@@ -84,36 +83,10 @@ fn judged_in(
 ) -> Result<CertVerdict, CheckFault>
     requires weights { weights ≤ 12 }
 {
-    let cert = cert_with(alloc, weights as u8, window.states(), changed);
-    let (Ok(bits), Ok(cert)) = (bits_of(alloc, window, 0x00), cert) else {
-        return Err(CheckFault::Memory);
-    };
-    verdict(alloc, window, &bits, weights, &cert)
-}
-
-// What is said of a certificate of one entry by so many weights.
-fn verdict(
-    alloc: Global,
-    window: &Window,
-    bits: &Bits,
-    weights: usize,
-    cert: &[u8],
-) -> Result<CertVerdict, CheckFault>
-    requires bits { length bits.now ≡ window.now.levels }
-    requires weights { weights ≤ 12 }
-{
-    let mut reader = CertReader::new(Inlet::new(cert));
-    match reader.read_head(weights, 1)? {
-        Some(reason) => Ok(CertVerdict::Rejected(reason)),
-        None => reader.check_bridge(alloc, 0, 0, window, bits),
+    match cert_with(alloc, weights as u8, window.states(), changed) {
+        Ok(cert) => checked_in(alloc, window, 0x00, cert.as_slice()),
+        Err(_) => Err(CheckFault::Memory),
     }
-}
-
-// Whether a value of a state is judged so.
-fn judges(alloc: Global, weights: &[i32], changed: Changed, expected: CertVerdict) -> bool
-    requires weights { AreWeights weights.now }
-{
-    judged(alloc, weights, changed) == Ok(expected)
 }
 
 // Whether each value of a state is judged as it is: the right ones, one more and one less at level 1, and above the
@@ -134,7 +107,7 @@ fn judges_state(alloc: Global, weights: &[i32], state: usize) -> bool
             state,
             value,
         };
-        is_right &= judges(alloc, weights, changed, expected);
+        is_right &= judged(alloc, weights, changed) == Ok(expected);
     }
     is_right
 }

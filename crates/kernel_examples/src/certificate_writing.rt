@@ -6,7 +6,7 @@ ghost use Rattle.cert_core.specs.Writers.{has_head, is_open, row_length};
 
 use crate::certificates::{NARROW, WORKED};
 use cert_core::{CertFault, CertWriter, Version};
-use cost_core::{LevelSink, SinkFault};
+use cost_core::LevelSink;
 use device_core::Outlet;
 use fixtures::devices::sip;
 use std::alloc::{AllocError, Global};
@@ -52,6 +52,7 @@ fn answers<W: Write>(
     requires open { is_open writer.old ≡ false }
     requires first { length first.now ≡ row_length writer.old }
     requires last { length last.now ≡ row_length writer.old }
+    ensures { row_length writer.new ≡ row_length writer.old }
 {
     [
         writer.begin(1),
@@ -67,6 +68,8 @@ fn answers<W: Write>(
 struct Outcome<W> {
     answers: [Result<(), CertFault>; 5],
     is_refused: bool,
+    // Whether a row more is refused as it is by a sink.
+    refuses_rows: bool,
     outlet: Outlet<W>,
 }
 
@@ -82,9 +85,12 @@ fn written<W: Write + Drop>(
         return Err(AllocError);
     };
     let answers = answers(&mut writer, &worked.first, &worked.last, 4);
+    let is_refused = LevelSink::refused(&writer);
+    let refuses_rows = is_refused && LevelSink::level(&mut writer, &worked.last).is_err();
     Ok(Outcome {
         answers,
-        is_refused: LevelSink::refused(&writer),
+        is_refused,
+        refuses_rows,
         outlet: writer.finish(),
     })
 }
@@ -137,7 +143,7 @@ fn leaves(
 {
     let outlet = Outlet::new(sip(alloc, fails_at, full_from));
     let written = written(alloc, outlet, worked)?;
-    let is_told = are_answers(&written.answers, worked, write) && written.is_refused;
+    let is_told = are_answers(&written.answers, worked, write) && written.refuses_rows;
     let is_once = written.outlet.failures() == 1;
     let device = written.outlet.into_inner();
     let is_front = worked.bytes.get(..write - 1) == Some(device.bytes.as_slice());
@@ -161,32 +167,4 @@ fn a_failed_write_leaves_a_front(rt: HostRuntime) {
             assert!(rt; is_left.unwrap_or(false), "write {write}");
         }
     }
-}
-
-// What a writer that fails at the byte behind the head answers to it, whether it then refuses rows, and what
-// it answers to a row as a sink.
-fn refusals(
-    alloc: Global,
-    row: &[u64],
-) -> Result<(Option<CertFault>, bool, Option<SinkFault>), CertFault>
-    requires { length row.now ≡ 2 }
-{
-    let Ok(mut writer) = CertWriter::new(alloc, Outlet::new(sip(alloc, 13, NEVER)), 2, Version::One)
-    else {
-        return Err(CertFault::Failed);
-    };
-    writer.begin(1)?;
-    let first = writer.begin_bridge(0, 0, 1);
-    if first.is_ok() {
-        return Err(CertFault::Failed);
-    }
-    let is_refused = LevelSink::refused(&writer);
-    let second = LevelSink::level(&mut writer, row);
-    Ok((first.err(), is_refused, second.err()))
-}
-
-#[test]
-fn a_sink_refuses_rows_after_a_failure(rt: HostRuntime) {
-    let refusals = refusals(rt.alloc(), &[1 << 63, 0]);
-    assert!(rt; refusals == Ok((Some(CertFault::Device), true, Some(SinkFault))));
 }

@@ -8,27 +8,18 @@ ghost use Rattle.fir_core.specs.StreamView.{IsStream, state_of};
 
 use crate::certificate_checking::{checked, newest};
 use crate::certificates::WORKED;
+use crate::kernels::kernels_agree;
+use crate::players::laced_by;
 use cert_core::{CertVerdict, CertWriter, Version};
 use cost_core::{LevelSink, SinkFault, Window};
 use device_core::Outlet;
-use dsd_bits::{BitOrder, Bits, Interleaving, Sound};
-use fir_core::{Kernel, Stream, Taps, decimate, decimate_with};
+use dsd_bits::{BitOrder, Bits, Interleaving};
+use fir_core::{Stream, Taps, decimate};
 use fixtures::windows::{by_newest, ones, zeros};
-use player_core::Player;
 use relace_core::{Stretch, push_relaced};
 use std::alloc::{AllocError, Global};
 use std::test::Fail;
 use trellis_core::{BridgeFault, bridge, bridge_cut_into, bridge_into};
-
-// One channel of 40 bits, as in DSDIFF 1.5.
-const FORTY: Sound = Sound {
-    rate: 2_822_400,
-    channels: 1,
-    count: 40,
-    start: 0,
-    size: 5,
-    interleaving: Interleaving::Bytes,
-};
 
 // Counts the rows of a window.
 #[derive(Drop)]
@@ -73,8 +64,8 @@ fn sink_for(window: &Window) -> Counted
     }
 }
 
-// A decimator by a factor of 8.
-fn ten_taps(alloc: Global) -> Result<Taps, Fail> {
+/// A decimator by a factor of 8.
+pub(crate) fn ten_taps(alloc: Global) -> Result<Taps, Fail> {
     Ok(Taps::new(alloc, &[5, -7, 11, 2, 9, 4, -1, 8, 6, 3], 8, 4, 1, 16)?)
 }
 
@@ -142,27 +133,17 @@ fn stream_whole(
     Ok(fed.and(finish_again(&mut stream, made)?))
 }
 
-// How many samples each call makes.
-fn numbers_of_samples(alloc: Global, taps: &Taps, bits: &Bits) -> Result<[usize; 4], AllocError> {
-    Ok([
-        decimate(alloc, taps, bits)?.len(),
-        decimate_with(alloc, taps, bits, Kernel::Plain)?.len(),
-        decimate_with(alloc, taps, bits, Kernel::Table)?.len(),
-        decimate_with(alloc, taps, bits, Kernel::Lanes)?.len(),
-    ])
-}
-
 #[test]
 fn a_channel_is_decimated(rt: HostRuntime) -> Result<(), Fail> {
     let alloc = rt.alloc();
     let taps = ten_taps(alloc)?;
     let bits = channel(alloc)?;
-    assert!(rt; numbers_of_samples(alloc, &taps, &bits)? == [17; 4]);
+    assert!(rt; kernels_agree(alloc, &taps, &bits)?);
     Ok(())
 }
 
-// The samples of the whole channel.
-fn whole(alloc: Global, taps: &Taps) -> Result<Vec<i32>, Fail> {
+/// The samples of the whole channel.
+pub(crate) fn whole(alloc: Global, taps: &Taps) -> Result<Vec<i32>, Fail> {
     let bits = channel(alloc)?;
     Ok(decimate(alloc, taps, &bits)?)
 }
@@ -184,25 +165,16 @@ fn a_stream_goes_on_after_a_refusal(rt: HostRuntime) -> Result<(), Fail> {
     let taps = ten_taps(alloc)?;
     let whole = whole(alloc, &taps)?;
     let (is_same, result) = streams(alloc, &taps, &whole)?;
-    assert!(rt; is_same);
+    assert!(rt; is_same && whole.len() == 17);
     Ok(result?)
-}
-
-// Plays 40 ones by 33 taps: how many bytes of frames there are behind the sound's last byte, before the end.
-fn play_ones(alloc: Global, out: &mut Vec<u8>) -> Result<usize, Fail> {
-    let taps = Taps::new(alloc, &[1; 33], 8, 32, 0, 16)?;
-    let mut player = Player::new(alloc, &taps, FORTY)?;
-    player.feed(&[0xff; 5], out)?;
-    let early = out.len();
-    player.finish(out)?;
-    Ok(early)
 }
 
 #[test]
 fn a_sound_is_played(rt: HostRuntime) -> Result<(), Fail> {
+    let taps = Taps::new(rt.alloc(), &[1; 33], 8, 32, 0, 16)?;
     let mut out = Vec::new(rt.alloc());
-    assert!(rt; play_ones(rt.alloc(), &mut out)? == 2);
-    assert!(rt; out.len() == 10);
+    assert!(rt; laced_by(rt.alloc(), &taps, &mut out)? == (0, 4));
+    assert!(rt; out.len() == 20);
     Ok(())
 }
 
@@ -218,31 +190,23 @@ fn a_bridge_is_chosen(rt: HostRuntime) -> Result<(), Fail> {
     Ok(())
 }
 
-// The same where it is handed over, and how many rows are wanting.
-fn handed_over(alloc: Global) -> Result<(u64, usize), BridgeFault> {
+// The same where its rows are handed over, cut at the cost or not, and how many of them are wanting.
+fn handed_over(alloc: Global, is_cut: bool) -> Result<(u64, usize), BridgeFault> {
     let window = two_bits(alloc)?;
     let mut sink = sink_for(&window);
-    let cost = bridge_into(alloc, &window, &mut sink)?.cost;
-    Ok((cost, sink.left))
+    let chosen = if is_cut {
+        bridge_cut_into(alloc, &window, &mut sink)
+    } else {
+        bridge_into(alloc, &window, &mut sink)
+    };
+    Ok((chosen?.cost, sink.left))
 }
 
 #[test]
 fn a_bridge_is_handed_over(rt: HostRuntime) -> Result<(), Fail> {
-    assert!(rt; handed_over(rt.alloc())? == (8, 0));
-    Ok(())
-}
-
-// The same where its rows are cut.
-fn handed_over_cut(alloc: Global) -> Result<(u64, usize), BridgeFault> {
-    let window = two_bits(alloc)?;
-    let mut sink = sink_for(&window);
-    let cost = bridge_cut_into(alloc, &window, &mut sink)?.cost;
-    Ok((cost, sink.left))
-}
-
-#[test]
-fn a_bridge_is_handed_over_cut(rt: HostRuntime) -> Result<(), Fail> {
-    assert!(rt; handed_over_cut(rt.alloc())? == (8, 0));
+    for is_cut in [false, true] {
+        assert!(rt; handed_over(rt.alloc(), is_cut)? == (8, 0));
+    }
     Ok(())
 }
 

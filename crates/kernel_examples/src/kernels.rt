@@ -4,22 +4,15 @@ use dsd_bits::Bits;
 use fir_core::{Kernel, Taps, decimate_with};
 use std::alloc::{AllocError, Global};
 
-// Whether a kernel gives these samples.
-fn gives(
-    alloc: Global,
-    taps: &Taps,
-    bits: &Bits,
-    kernel: Kernel,
-    samples: &[i32],
-) -> Result<bool, AllocError> {
-    Ok(decimate_with(alloc, taps, bits, kernel)?.as_slice() == samples)
-}
-
-// Whether tables and lanes give the samples of these bits that the plain sum gives.
-fn kernels_agree(alloc: Global, taps: &Taps, bits: &Bits) -> Result<bool, AllocError> {
+/// Whether tables and lanes give the samples of these bits that the plain sum gives.
+pub(crate) fn kernels_agree(alloc: Global, taps: &Taps, bits: &Bits) -> Result<bool, AllocError> {
     let plain = decimate_with(alloc, taps, bits, Kernel::Plain)?;
-    let table = gives(alloc, taps, bits, Kernel::Table, plain.as_slice())?;
-    Ok(table && gives(alloc, taps, bits, Kernel::Lanes, plain.as_slice())?)
+    for kernel in &[Kernel::Table, Kernel::Lanes] {
+        if decimate_with(alloc, taps, bits, *kernel)?.as_slice() != plain.as_slice() {
+            return Ok(false);
+        }
+    }
+    Ok(true)
 }
 
 // The same of the first `count` bits of some bytes.

@@ -45,8 +45,12 @@ fn feed_laced(player: &mut Player, out: &mut Vec<u8>) -> Result<(usize, usize), 
     Ok((early, late))
 }
 
-// The same of a new player.
-fn laced_by(alloc: Global, taps: &Taps, out: &mut Vec<u8>) -> Result<(usize, usize), AllocError> {
+/// The same of a new player.
+pub(crate) fn laced_by(
+    alloc: Global,
+    taps: &Taps,
+    out: &mut Vec<u8>,
+) -> Result<(usize, usize), AllocError> {
     let mut player = Player::new(alloc, taps, LACED)?;
     feed_laced(&mut player, out)
 }

@@ -6,7 +6,6 @@ ghost use Rattle.dsd_bits.specs.Sounds.{sound_size};
 use dsd_bits::{
     BitOrder, Bits, Interleaving, LaceFault, MOST_BITS, blocks_size, unlace_blocks, unlace_bytes,
 };
-use fixtures::compared::equal;
 use relace_core::{Stretch, push_relaced};
 use std::alloc::{AllocError, Global};
 
@@ -141,56 +140,6 @@ fn size_of(interleaving: Interleaving) -> usize
 fn writes_the_channels_that_stand_in_the_bytes(rt: HostRuntime) {
     for (from, to, count) in CASES {
         let is_so = holds_channels(rt.alloc(), *from, *to, *count);
-        assert!(rt; is_so.unwrap_or(false), "{count}");
-    }
-}
-
-// Whether the first group and what stands behind it are written as both together.
-fn joins(alloc: Global, from: Interleaving, to: Interleaving) -> Result<bool, AllocError> {
-    let bytes = bytes_of(alloc, size_of(from))?;
-    let mut whole = Vec::new(alloc);
-    push(
-        alloc,
-        &mut whole,
-        &bytes,
-        Stretch {
-            channels: 3,
-            count: 32808,
-        },
-        from,
-        to,
-    )?;
-    let (first, more) = bytes.split_at(12288.min(bytes.len()));
-    let mut out = Vec::new(alloc);
-    push(
-        alloc,
-        &mut out,
-        first,
-        Stretch {
-            channels: 3,
-            count: 32768,
-        },
-        from,
-        to,
-    )?;
-    push(
-        alloc,
-        &mut out,
-        more,
-        Stretch {
-            channels: 3,
-            count: 40,
-        },
-        from,
-        to,
-    )?;
-    Ok(equal(&out, &whole))
-}
-
-#[test]
-fn goes_group_by_group(rt: HostRuntime) {
-    for (from, to, count) in CASES {
-        let is_so = joins(rt.alloc(), *from, *to);
         assert!(rt; is_so.unwrap_or(false), "{count}");
     }
 }

@@ -3,8 +3,8 @@
 ghost use Rattle.std.specs.Prelude.{◌≡◌};
 ghost use Rattle.fir_core.specs.StreamView.{IsStream, state_of};
 
-use dsd_bits::Bits;
-use fir_core::{Stream, Taps, decimate};
+use crate::growths::{ten_taps, whole};
+use fir_core::{Stream, Taps};
 use std::alloc::{AllocError, Global};
 use std::test::Fail;
 
@@ -34,12 +34,6 @@ fn stream_pieces(
     feed_pieces(&mut stream, made)
 }
 
-// The samples of the whole.
-fn whole(alloc: Global, taps: &Taps) -> Result<Vec<i32>, Fail> {
-    let bits = Bits::from_packed(alloc, b"a channel of bits", 132)?;
-    Ok(decimate(alloc, taps, &bits)?)
-}
-
 // How many samples a stream gave early and late, and whether in the end it gave these.
 fn streams_them(
     alloc: Global,
@@ -53,7 +47,7 @@ fn streams_them(
 
 // The same of ten taps and of the samples of the whole.
 fn streams(alloc: Global) -> Result<(usize, usize, bool), Fail> {
-    let taps = Taps::new(alloc, &[5, -7, 11, 2, 9, 4, -1, 8, 6, 3], 8, 4, 1, 16)?;
+    let taps = ten_taps(alloc)?;
     let whole = whole(alloc, &taps)?;
     Ok(streams_them(alloc, &taps, &whole)?)
 }

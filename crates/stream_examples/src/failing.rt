@@ -1,17 +1,18 @@
 //! Readers and writers that fail: the fault is named, and what was written is a front of the WAVE file.
 
-use crate::played::{NEVER, ONES, Played, play_from};
-use archive_core::{Fault, StreamFault, play};
+use crate::played::{ONES, play_from, two_groups};
+use crate::streamed::{NEVER, Streamed, is_named};
+use archive_core::{Fault, StreamFault};
 use fixtures::devices::{Sipping, drip, sip};
-use fixtures::files::{ONES_FILE, dsf_of};
+use fixtures::files::ONES_FILE;
 use fixtures::projects;
 use fixtures::projects::DECIMATE;
-use std::alloc::{AllocError, Global};
+use std::alloc::Global;
 use std::process::Abort;
 use std::test::Fail;
 
 // What comes of 40 ones and 33 taps from a reader that gives one byte at a time, and fails at a read.
-fn read_failing(alloc: Global, read: u64) -> Played {
+fn read_failing(alloc: Global, read: u64) -> Streamed {
     let reader = drip(&ONES_FILE, 1, read);
     play_from(
         alloc,
@@ -22,7 +23,7 @@ fn read_failing(alloc: Global, read: u64) -> Played {
 }
 
 // The same to a writer that takes one byte at a time.
-fn write_failing(alloc: Global, writer: Sipping) -> Played {
+fn write_failing(alloc: Global, writer: Sipping) -> Streamed {
     let reader = drip(&ONES_FILE, 1, NEVER);
     play_from(alloc, projects::ONES.as_bytes(), reader, writer)
 }
@@ -54,12 +55,6 @@ fn a_failed_read_leaves_a_front(rt: HostRuntime) {
     }
 }
 
-#[test]
-fn no_read_behind_the_form_fails(rt: HostRuntime) {
-    let played = read_failing(rt.alloc(), 133);
-    assert!(rt; played.gives(&ONES) && played.reads == 132);
-}
-
 // A byte is taken by each write; a writer that is full from the first write on takes nothing.
 #[test]
 fn a_failed_write_leaves_a_front(rt: HostRuntime) {
@@ -73,14 +68,17 @@ fn a_failed_write_leaves_a_front(rt: HostRuntime) {
     }
 }
 
+// No read is asked for behind the form, and no write behind the end.
 #[test]
-fn no_write_behind_the_end_fails(rt: HostRuntime) {
+fn nothing_behind_the_end_fails(rt: HostRuntime) {
     let alloc = rt.alloc();
-    assert!(rt; write_failing(alloc, sip(alloc, 55, 55)).gives(&ONES));
+    let played = read_failing(alloc, 133);
+    assert!(rt; played.plays(&ONES) && played.reads == 132);
+    assert!(rt; write_failing(alloc, sip(alloc, 55, 55)).plays(&ONES));
 }
 
 // What `DECIMATE` makes of a reader that gives 7 bytes at a time, and fails at a read.
-fn read_blocks(alloc: Global, file: &[u8], read: u64) -> Played {
+fn read_blocks(alloc: Global, file: &[u8], read: u64) -> Streamed {
     play_from(
         alloc,
         DECIMATE.as_bytes(),
@@ -89,55 +87,50 @@ fn read_blocks(alloc: Global, file: &[u8], read: u64) -> Played {
     )
 }
 
-// Whether the file is played to these bytes in 2356 reads.
-fn plays_blocks(alloc: Global, file: &[u8], wave: &[u8]) -> bool {
-    let whole = read_blocks(alloc, file, NEVER);
-    whole.gives(wave) && whole.reads == 2356
-}
-
 // Whether a failed read leaves a front of these bytes.
 fn stops_at(alloc: Global, file: &[u8], wave: &[u8], read: u64) -> bool {
     read_blocks(alloc, file, read).stops_reading(wave)
 }
 
-// The file is played, and a failed read leaves a front, wherever it comes.
+// Whether the file was played in 2356 reads.
+fn are_blocks(whole: &Streamed) -> bool {
+    whole.plays(&whole.bytes) && whole.reads == 2356
+}
+
+// A failed read leaves a front of these bytes, wherever it comes.
 fn check_blocks(rt: &impl Abort, alloc: Global, file: &[u8], wave: &[u8]) {
-    assert!(rt; plays_blocks(alloc, file, wave));
     for read in [1, 13, 14, 15, 1183, 1184, 1185, 2353, 2354, 2355, 2356] {
         let stops = stops_at(alloc, file, wave, read);
         assert!(rt; stops, "read {read} fails");
     }
 }
 
-// A DSF file of two groups of blocks is 16,481 bytes: 2355 reads, of which the 14th reaches the sound, the 1184th
+// The DSF file of two groups of blocks is 16,481 bytes: 2355 reads, of which the 14th reaches the sound, the 1184th
 // the second group, and the last the file's end. Behind them one read more gives nothing.
 #[test]
 fn a_failed_read_of_blocks_leaves_a_front(rt: HostRuntime) -> Result<(), Fail> {
-    let alloc = rt.alloc();
-    let file = dsf_of(alloc, (2, 1, 32_769), b"some bits", 16_384, b"a tag")?;
-    let wave = play(alloc, DECIMATE.as_bytes(), &file)?;
-    check_blocks(&rt, alloc, &file, &wave);
+    let file = two_groups(rt.alloc())?;
+    let whole = read_blocks(rt.alloc(), &file, NEVER);
+    assert!(rt; are_blocks(&whole));
+    check_blocks(&rt, rt.alloc(), &file, &whole.bytes);
     Ok(())
 }
 
 // The faults of playing from a reader, and their names.
-const NAMES: [(StreamFault, &str); 4] = [
+const NAMES: [(StreamFault, &str); 6] = [
     (StreamFault::FileRefused, "FileRefused"),
+    (StreamFault::RateNotDivided, "RateNotDivided"),
+    (StreamFault::TooLarge, "TooLarge"),
     (StreamFault::ReadFailed, "ReadFailed"),
     (StreamFault::WriteFailed, "WriteFailed"),
     (StreamFault::TurnLimit, "TurnLimit"),
 ];
 
-// Whether a fault of playing has this name.
-fn is_named(alloc: Global, fault: StreamFault, name: &str) -> Result<bool, AllocError> {
-    Ok(Fault::from(fault).to_string(alloc)?.as_str() == name)
-}
-
 #[test]
 fn the_faults_have_their_names(rt: HostRuntime) {
     for (fault, name) in &NAMES {
         assert!(rt;
-            is_named(rt.alloc(), *fault, name).unwrap_or(false),
+            is_named(rt.alloc(), Fault::from(*fault), name).unwrap_or(false),
             "{name}"
         );
     }

@@ -1,27 +1,42 @@
 //! Playing and converting from a reader to a writer, for `tools/growths`, which refuses its growths in turn: what was
 //! refused is handed out as it was answered, and a front of the file was written.
 
-use crate::converting::stream;
-use crate::played::{NEVER, ONES, play_from};
+use crate::converting::{convert_from, outline_of};
+use crate::played::{ONES, play_from, two_groups};
+use crate::streamed::{NEVER, Streamed};
 use archive_core::play;
 use device_core::Inlet;
 use dsd_bits::BitRange;
+use fixtures::compared::equal;
 use fixtures::devices::{Sipping, drip, sip};
-use fixtures::files::{ONES_FILE, WAVE, dsf_of, noted};
+use fixtures::files::{ONES_FILE, WAVE, noted};
 use fixtures::projects;
 use fixtures::projects::DECIMATE;
 use form_core::Form;
-use sound_core::read_stretches;
+use sound_core::{Kept, StreamFault, read_stretches};
 use std::alloc::{AllocError, Global};
 use std::process::Abort;
 use std::test::Fail;
-use transfer_core::convert;
+use transfer_core::{Converted, convert};
 
 // A writer that takes so many bytes without a growth: of one that is refused it would say that the write failed.
 fn roomy(alloc: Global, size: usize) -> Result<Sipping, AllocError> {
     let mut writer = sip(alloc, NEVER, NEVER);
     writer.bytes.reserve(size)?;
     Ok(writer)
+}
+
+// These bytes were written and this was answered, or a front of them.
+fn check_streamed(
+    rt: &impl Abort,
+    streamed: &Streamed,
+    answer: u64,
+    bytes: &[u8],
+) -> Result<(), Fail> {
+    assert!(rt; bytes.starts_with(&streamed.bytes));
+    let found = streamed.answer?;
+    assert!(rt; found == answer && streamed.bytes.len() == bytes.len());
+    Ok(())
 }
 
 // What a project makes of a file that is read so many bytes at a time, as the WAVE file or a front of it.
@@ -33,9 +48,7 @@ fn check_played(
 ) -> Result<(), Fail> {
     let writer = roomy(alloc, wave.len())?;
     let played = play_from(alloc, text.as_bytes(), drip(file, 100, NEVER), writer);
-    assert!(rt; wave.starts_with(&played.bytes));
-    assert!(rt; played.answer? == wave.len() as u64);
-    Ok(())
+    check_streamed(rt, &played, wave.len() as u64, wave)
 }
 
 #[test]
@@ -51,42 +64,52 @@ fn bytes_behind_the_sound_are_kept(rt: HostRuntime) -> Result<(), Fail> {
     check_played(&rt, alloc, (DECIMATE, &file), &WAVE)
 }
 
-// Two groups of blocks, of which the second has one bit.
 #[test]
 fn blocks_are_played(rt: HostRuntime) -> Result<(), Fail> {
-    let alloc = rt.alloc();
-    let file = dsf_of(alloc, (2, 1, 32_769), b"some bits", 16_384, b"a tag")?;
-    let wave = play(alloc, DECIMATE.as_bytes(), &file)?;
-    check_played(&rt, alloc, (DECIMATE, &file), &wave)
+    let file = two_groups(rt.alloc())?;
+    let wave = play(rt.alloc(), DECIMATE.as_bytes(), &file)?;
+    check_played(&rt, rt.alloc(), (DECIMATE, &file), &wave)
+}
+
+// A file is converted to these bytes, or to a front of them.
+fn check_converted(
+    rt: &impl Abort,
+    alloc: Global,
+    file: &[u8],
+    made: &Converted,
+) -> Result<(), Fail> {
+    let writer = roomy(alloc, made.bytes.len())?;
+    let outline = outline_of(alloc, file)?;
+    let streamed = convert_from(alloc, &outline, Form::Dsf, drip(file, 100, NEVER), writer);
+    check_streamed(rt, &streamed, made.dropped, &made.bytes)
 }
 
 // A form with a mark and other chunks, which have no place in what is written.
 #[test]
 fn a_file_is_converted(rt: HostRuntime) -> Result<(), Fail> {
-    let alloc = rt.alloc();
-    let file = noted(alloc, 200)?;
-    let made = convert(alloc, &file, Form::Dsf)?;
-    let writer = roomy(alloc, made.bytes.len())?;
-    let reader = drip(&file, 100, NEVER);
-    let streamed = stream(alloc, (&file, Form::Dsf), reader, writer)?;
-    assert!(rt; made.bytes.starts_with(&streamed.bytes));
-    assert!(rt; streamed.answer? == made.dropped);
-    assert!(rt; streamed.bytes.len() == made.bytes.len());
-    Ok(())
+    let file = noted(rt.alloc(), 200)?;
+    let made = convert(rt.alloc(), &file, Form::Dsf)?;
+    check_converted(&rt, rt.alloc(), &file, &made)
 }
 
-// Two groups of blocks, and a range over their seam.
-#[test]
-fn stretches_are_kept(rt: HostRuntime) -> Result<(), Fail> {
-    let alloc = rt.alloc();
-    let file = dsf_of(alloc, (2, 1, 32_769), b"some bits", 16_384, b"a tag")?;
-    let mut inlet = Inlet::new(drip(&file, 100, NEVER));
+// Whether one range was kept, and the tag.
+fn is_seam(kept: &Kept) -> bool {
+    kept.stretches.len() == 1 && equal(&kept.outline.back, b"a tag")
+}
+
+// Whether a range over the seam of its groups is kept of a file.
+fn keeps_seam(alloc: Global, file: &[u8]) -> Result<bool, StreamFault> {
     let range = BitRange {
         start: 8,
         stop: 32_769,
     };
-    let kept = read_stretches(alloc, &mut inlet, &[range])?;
-    assert!(rt; kept.stretches.len() == 1);
-    assert!(rt; kept.outline.back.as_slice() == b"a tag".as_slice());
+    let mut inlet = Inlet::new(drip(file, 100, NEVER));
+    Ok(is_seam(&read_stretches(alloc, &mut inlet, &[range])?))
+}
+
+#[test]
+fn stretches_are_kept(rt: HostRuntime) -> Result<(), Fail> {
+    let file = two_groups(rt.alloc())?;
+    assert!(rt; keeps_seam(rt.alloc(), &file)?);
     Ok(())
 }

@@ -1,15 +1,14 @@
 //! Stretches of a sound that are kept while its file is read: the bits that stand there, however the file is read.
 
 use crate::long_sounds::{blocks, laced};
-use crate::played::NEVER;
+use crate::streamed::NEVER;
 use device_core::Inlet;
-use dsd_bits::{BitRange, Bits, Recording};
+use dsd_bits::{BitRange, Bits};
 use fixtures::devices::drip;
 use fixtures::files::{FILE, STEREO, mono, noted, one_bit, stereo};
 use form_core::read_any;
 use sound_core::{Kept, StreamFault, read_stretches};
 use std::alloc::{AllocError, Global};
-use transfer_core::Fault;
 
 // The bits from one place to another.
 fn range(start: usize, stop: usize) -> BitRange {
@@ -26,17 +25,24 @@ fn are_stereo(kept: &Kept) -> bool {
 }
 
 // The same of a file.
-fn keeps_stereo(alloc: Global, file: Result<Vec<u8>, AllocError>) -> Result<bool, Fault> {
-    let file = file?;
-    let mut inlet = Inlet::new(drip(&file, 7, NEVER));
+fn keeps_stereo(alloc: Global, file: &[u8]) -> bool {
+    let mut inlet = Inlet::new(drip(file, 7, NEVER));
     let ranges = [range(4, 12), range(12, 100), range(3, 3)];
-    Ok(are_stereo(&read_stretches(alloc, &mut inlet, &ranges)?))
+    match read_stretches(alloc, &mut inlet, &ranges) {
+        Ok(kept) => are_stereo(&kept),
+        Err(_) => false,
+    }
+}
+
+// The same of one that was built.
+fn keeps_built_stereo(alloc: Global) -> Result<bool, AllocError> {
+    let file = stereo(alloc, &[0xf0, 0x0f, 0xaa, 0x55])?;
+    Ok(keeps_stereo(alloc, &file))
 }
 
 #[test]
 fn keeps_bits_of_each_channel(rt: HostRuntime) {
-    let file = stereo(rt.alloc(), &[0xf0, 0x0f, 0xaa, 0x55]);
-    assert!(rt; keeps_stereo(rt.alloc(), file).unwrap_or(false));
+    assert!(rt; keeps_built_stereo(rt.alloc()).unwrap_or(false));
 }
 
 // Whether a stretch has two channels of so many bits, packed as these.
@@ -57,77 +63,72 @@ fn is_packed(bits: &Bits, packed: &[u8], count: usize) -> bool {
 }
 
 // Whether a stretch has just the bits of a channel in a range, as far as there are.
-fn is_part(
-    alloc: Global,
-    stretch: &Bits,
-    channel: &Bits,
-    range: BitRange,
-) -> Result<bool, AllocError> {
+fn is_part(stretch: &Bits, channel: &Bits, range: BitRange) -> bool {
     let stop = range.stop.min(channel.len());
-    let mut part = Bits::new(alloc);
-    if range.start < stop {
-        part.push_range(channel, range.start, stop)?;
+    if stretch.len() != stop.saturating_sub(range.start) {
+        return false;
     }
-    Ok(stretch.len() == part.len() && stretch.as_bytes() == part.as_bytes())
+    for at in 0..stretch.len() {
+        if stretch.get(at) != channel.get(range.start + at) {
+            return false;
+        }
+    }
+    true
 }
 
 // Whether a stretch has just the bits of each channel in a range.
-fn is_stretch(
-    alloc: Global,
-    stretch: &[Bits],
-    recording: &Recording,
-    range: BitRange,
-) -> Result<bool, AllocError> {
-    let channels = recording.channels();
+fn is_stretch(stretch: &[Bits], channels: &[Bits], range: BitRange) -> bool {
     for (part, channel) in stretch.iter().zip(channels) {
-        if !is_part(alloc, part, channel, range)? {
-            return Ok(false);
+        if !is_part(part, channel, range) {
+            return false;
         }
     }
-    Ok(stretch.len() == channels.len())
+    stretch.len() == channels.len()
 }
 
 // Whether stretches have just the bits in these ranges.
-fn are_stretches(
-    alloc: Global,
-    stretches: &[Vec<Bits>],
-    recording: &Recording,
-    ranges: &[BitRange],
-) -> Result<bool, AllocError> {
+fn are_stretches(stretches: &[Vec<Bits>], channels: &[Bits], ranges: &[BitRange]) -> bool {
     for (stretch, range) in stretches.iter().zip(ranges) {
-        if !is_stretch(alloc, stretch, recording, *range)? {
-            return Ok(false);
+        if !is_stretch(stretch, channels, *range) {
+            return false;
         }
     }
-    Ok(stretches.len() == ranges.len())
+    stretches.len() == ranges.len()
 }
 
-// Whether just the bits in these ranges are kept of the file of a recording that is read so many bytes at a time.
+// Whether just the bits of these channels in these ranges are kept of a file that is read so many bytes at a time.
 fn are_kept(
     alloc: Global,
-    (file, recording): (&[u8], &Recording),
+    file: &[u8],
+    channels: &[Bits],
     ranges: &[BitRange],
     most: usize,
-) -> Result<bool, Fault> {
-    let mut inlet = Inlet::new(drip(file, most, NEVER));
-    let kept = read_stretches(alloc, &mut inlet, ranges)?;
-    Ok(are_stretches(alloc, &kept.stretches, recording, ranges)?)
+) -> bool {
+    match read_stretches(alloc, &mut Inlet::new(drip(file, most, NEVER)), ranges) {
+        Ok(kept) => are_stretches(&kept.stretches, channels, ranges),
+        Err(_) => false,
+    }
 }
 
-// The same of a file that is read by 1, by 4096 and by 65,536 bytes.
-fn is_same(
-    alloc: Global,
-    file: Result<Vec<u8>, AllocError>,
-    ranges: &[BitRange],
-) -> Result<bool, Fault> {
-    let file = file?;
-    let opened = read_any(alloc, &file)?;
-    for most in [1, 4096, 65_536] {
-        if !are_kept(alloc, (&file, &opened.recording), ranges, most)? {
-            return Ok(false);
+// The same of the channels that are read in memory, and of a file that is read by 1, by 4096 and by 65,536 bytes.
+fn keeps(alloc: Global, file: &[u8], ranges: &[BitRange]) -> bool {
+    match read_any(alloc, file) {
+        Ok(opened) => {
+            let channels = opened.recording.channels();
+            are_kept(alloc, file, channels, ranges, 1)
+                && are_kept(alloc, file, channels, ranges, 4096)
+                && are_kept(alloc, file, channels, ranges, 65_536)
         }
+        Err(_) => false,
     }
-    Ok(true)
+}
+
+// The same of a file that was built.
+fn is_same(alloc: Global, file: Result<Vec<u8>, AllocError>, ranges: &[BitRange]) -> bool {
+    match file {
+        Ok(file) => keeps(alloc, &file, ranges),
+        Err(_) => false,
+    }
 }
 
 // Ranges in any order that overlap, that begin and end inside a byte, and that reach behind the end.
@@ -141,13 +142,20 @@ fn keeps_what_stands_in_short_sounds(rt: HostRuntime) {
         range(9, 2),
         range(15, 40),
     ];
-    assert!(rt; is_same(alloc, mono(alloc, &[0xa7, 0x1c]), &ranges).unwrap_or(false));
-    assert!(rt; is_same(alloc, noted(alloc, 200), &ranges).unwrap_or(false));
-    assert!(rt; is_same(alloc, one_bit(alloc, b"a tag"), &ranges).unwrap_or(false));
+    assert!(rt; is_same(alloc, mono(alloc, &[0xa7, 0x1c]), &ranges));
+    assert!(rt; is_same(alloc, noted(alloc, 200), &ranges));
+    assert!(rt; is_same(alloc, one_bit(alloc, b"a tag"), &ranges));
 }
 
-// Two groups of blocks, of which the second ends inside a byte; frames of three reads; six channels, of which two groups
-// are taken at a time; and ranges at the seams of groups.
+// Two groups of blocks, of which the second ends inside a byte; two of 8 bits per sample; and six channels, of which two
+// groups are taken at a time.
+const BLOCKS: [((u32, u32, u64), usize); 3] = [
+    ((1, 1, 65_535), 8192),
+    ((2, 8, 40_001), 16_384),
+    ((6, 1, 140_000), 122_880),
+];
+
+// Ranges at the seams of groups, of those blocks and of frames of three reads.
 #[test]
 fn keeps_what_stands_across_groups(rt: HostRuntime) {
     let alloc = rt.alloc();
@@ -156,44 +164,39 @@ fn keeps_what_stands_across_groups(rt: HostRuntime) {
         range(65_535, 65_537),
         range(1, 140_000),
     ];
-    let one = is_same(alloc, blocks(alloc, (1, 1, 65_535), 8192), &seams);
-    assert!(rt; one.unwrap_or(false), "one channel");
-    let two = is_same(alloc, blocks(alloc, (2, 8, 40_001), 16_384), &seams);
-    assert!(rt; two.unwrap_or(false), "two channels");
+    for (numbers, size) in &BLOCKS {
+        let same = is_same(alloc, blocks(alloc, *numbers, *size), &seams);
+        assert!(rt; same, "{numbers:?}");
+    }
     let frames = is_same(alloc, laced(alloc, &STEREO, 150_000), &seams);
-    assert!(rt; frames.unwrap_or(false), "frames");
-    let six = is_same(alloc, blocks(alloc, (6, 1, 140_000), 122_880), &seams);
-    assert!(rt; six.unwrap_or(false), "six channels");
+    assert!(rt; frames, "frames");
 }
 
-// Whether a reader that gives one byte at a time and fails at a read is answered by this fault, after so many reads, of
-// which so many failed.
+// How many bytes of `FILE` there are, the read that fails of a reader that gives one byte at a time, the fault, how many
+// reads there are, and how many of them fail.
+const FAULTS: [(usize, u64, StreamFault, (u64, u64)); 4] = [
+    (128, 1, StreamFault::ReadFailed, (1, 1)),
+    (128, 127, StreamFault::ReadFailed, (127, 1)),
+    (0, NEVER, StreamFault::FileRefused, (1, 0)),
+    (126, NEVER, StreamFault::FileRefused, (127, 0)),
+];
+
+// Whether reading is answered so.
 fn fails(
     alloc: Global,
-    file: &[u8],
-    read: u64,
-    fault: StreamFault,
-    (reads, failures): (u64, u64),
+    (length, read, fault, counts): (usize, u64, StreamFault, (u64, u64)),
 ) -> bool {
+    let (file, _) = FILE.split_at(length.min(128));
     let mut inlet = Inlet::new(drip(file, 1, read));
-    let kept = read_stretches(alloc, &mut inlet, &[range(0, 8)]);
-    let is_so = matches!(kept, Err(found) if found == fault);
-    is_so && inlet.reads() == reads && inlet.failures() == failures
+    match read_stretches(alloc, &mut inlet, &[range(0, 8)]) {
+        Ok(_) => false,
+        Err(found) => found == fault && (inlet.reads(), inlet.failures()) == counts,
+    }
 }
 
 #[test]
 fn names_what_fails(rt: HostRuntime) {
-    let alloc = rt.alloc();
-    assert!(rt; fails(alloc, &FILE, 1, StreamFault::ReadFailed, (1, 1)));
-    assert!(rt; fails(alloc, &FILE, 127, StreamFault::ReadFailed, (127, 1)));
-    assert!(rt; fails(alloc, b"", NEVER, StreamFault::FileRefused, (1, 0)));
-    assert!(rt;
-        fails(
-            alloc,
-            &FILE[..126],
-            NEVER,
-            StreamFault::FileRefused,
-            (127, 0)
-        )
-    );
+    for row in &FAULTS {
+        assert!(rt; fails(rt.alloc(), *row), "of {} bytes, {}", row.0, row.1);
+    }
 }

@@ -19,3 +19,5 @@ mod played;
 mod refused;
 #[cfg(test)]
 mod small_files;
+#[cfg(test)]
+mod streamed;

@@ -1,7 +1,8 @@
 //! Sounds of more than one block of 65,536 bytes: what is written is what is made in memory.
 
-use crate::played::{NEVER, play_by, play_from, plays};
-use archive_core::{Fault, play};
+use crate::played::{play_by, play_from, plays};
+use crate::streamed::NEVER;
+use archive_core::play;
 use fixtures::devices::{drip, sip};
 use fixtures::files::{MONO, RATE, RAW, STEREO, dsf_of, file_of, mono};
 use fixtures::projects::{DECIMATE, Numbers, project, with_ones};
@@ -19,19 +20,23 @@ fn noise(alloc: Global, size: usize) -> Result<Vec<u8>, AllocError> {
 }
 
 // Whether a project plays a file to a writer as in memory, read by 1, by 7, by 4096 and by 65,536 bytes.
+fn plays_same(alloc: Global, text: &str, file: &[u8]) -> bool {
+    match play(alloc, text.as_bytes(), file) {
+        Ok(wave) => {
+            play_by(alloc, text.as_bytes(), file, 65_536).plays(&wave)
+                && plays(alloc, text, file, &wave)
+        }
+        Err(_) => false,
+    }
+}
+
+// The same of a project and a file that were built.
 fn is_same(
     alloc: Global,
     text: Result<String, AllocError>,
     file: Result<Vec<u8>, AllocError>,
-) -> Result<bool, Fault> {
-    plays_same(alloc, &text?, &file?)
-}
-
-// The same of a project and a file that were built.
-fn plays_same(alloc: Global, text: &str, file: &[u8]) -> Result<bool, Fault> {
-    let wave = play(alloc, text.as_bytes(), file)?;
-    let by_blocks = play_by(alloc, text.as_bytes(), file, 65_536);
-    Ok(by_blocks.gives(&wave) && plays(alloc, text, file, &wave))
+) -> Result<bool, AllocError> {
+    Ok(plays_same(alloc, &text?, &file?))
 }
 
 /// A DSDIFF file of one or of two channels with so many sound bytes.
@@ -61,25 +66,28 @@ const PROJECTS: [(&str, Numbers); 3] = [
     ),
 ];
 
+// Whether one of them plays a file as in memory.
+fn is_same_by(
+    alloc: Global,
+    (taps, numbers): (&str, Numbers),
+    file: Result<Vec<u8>, AllocError>,
+) -> Result<bool, AllocError> {
+    is_same(alloc, project(alloc, taps, numbers), file)
+}
+
+// Sounds of one and of two channels, and one of two blocks: the first block of 65,536 bytes holds the first 65,410
+// bytes of the sound, and the second the rest.
+const LACED: [(&[u8], usize); 3] = [(&MONO, 4099), (&STEREO, 8198), (&MONO, 65_411)];
+
 #[test]
 fn plays_laced_bytes_as_in_memory(rt: HostRuntime) {
     let alloc = rt.alloc();
-    for (taps, numbers) in &PROJECTS {
-        let mono = laced(alloc, &MONO, 4099);
-        let mono = is_same(alloc, project(alloc, taps, *numbers), mono);
-        assert!(rt; mono.unwrap_or(false), "mono by {taps}");
-        let stereo = laced(alloc, &STEREO, 8198);
-        let stereo = is_same(alloc, project(alloc, taps, *numbers), stereo);
-        assert!(rt; stereo.unwrap_or(false), "stereo by {taps}");
+    for (channels, size) in &LACED {
+        for project in &PROJECTS {
+            let same = is_same_by(alloc, *project, laced(alloc, channels, *size));
+            assert!(rt; same.unwrap_or(false), "{size} bytes by {}", project.0);
+        }
     }
-}
-
-// The first block of 65,536 bytes holds the first 65,410 bytes of the sound, and the second the rest.
-#[test]
-fn plays_two_blocks_as_in_memory(rt: HostRuntime) {
-    let alloc = rt.alloc();
-    let text = project(alloc, "[1, 2, 3, 4]", (64, 3, 0, 16));
-    assert!(rt; is_same(alloc, text, laced(alloc, &MONO, 65_411)).unwrap_or(false));
 }
 
 // Two groups of blocks, of which the second has one bit, or all but one; two groups of 8 bits per sample, and
@@ -95,10 +103,9 @@ const BLOCKS: [((u32, u32, u64), usize); 4] = [
 fn plays_blocks_as_in_memory(rt: HostRuntime) {
     let alloc = rt.alloc();
     for (numbers, size) in &BLOCKS {
-        for (taps, decimator) in &PROJECTS {
-            let text = project(alloc, taps, *decimator);
-            let same = is_same(alloc, text, blocks(alloc, *numbers, *size));
-            assert!(rt; same.unwrap_or(false), "{size} bytes by {taps}");
+        for project in &PROJECTS {
+            let same = is_same_by(alloc, *project, blocks(alloc, *numbers, *size));
+            assert!(rt; same.unwrap_or(false), "{size} bytes by {}", project.0);
         }
     }
 }
@@ -112,13 +119,32 @@ fn plays_4096_taps_as_in_memory(rt: HostRuntime) {
     );
 }
 
-// A reader of 32,789 bytes at a time fails behind 196,734 of 262,270 bytes: 196,608 of them are of the sound. What was
-// written lags behind by at most 131,072 bytes of the sound, each of which makes a sample of two bytes.
-#[test]
-fn writes_before_all_is_read(rt: HostRuntime) {
-    let alloc = rt.alloc();
-    let written = written_before(alloc, all_ones(alloc), (32_789, 7));
-    assert!(rt; matches!(written, Ok((524_332, true, size)) if size >= 131_116));
+// Whether a file is played to so many bytes in memory, and a reader of so many bytes at a time that fails at a read
+// leaves a front of them, which has at least so many.
+fn keeps_up(
+    alloc: Global,
+    file: &[u8],
+    (most, fails_at): (usize, u64),
+    (whole, least): (usize, usize),
+) -> bool {
+    let reader = drip(file, most, fails_at);
+    let played = play_from(alloc, DECIMATE.as_bytes(), reader, sip(alloc, NEVER, NEVER));
+    match play(alloc, DECIMATE.as_bytes(), file) {
+        Ok(wave) => {
+            wave.len() == whole && played.stops_reading(&wave) && played.bytes.len() >= least
+        }
+        Err(_) => false,
+    }
+}
+
+// The same of a file that was built.
+fn keeps_up_with(
+    alloc: Global,
+    file: Result<Vec<u8>, AllocError>,
+    failing: (usize, u64),
+    sizes: (usize, usize),
+) -> Result<bool, AllocError> {
+    Ok(keeps_up(alloc, &file?, failing, sizes))
 }
 
 // A file of one channel of 262,144 bytes of ones.
@@ -127,26 +153,13 @@ fn all_ones(alloc: Global) -> Result<Vec<u8>, AllocError> {
     mono(alloc, &sound)
 }
 
-// How many bytes a file is played to in memory, whether a reader of so many bytes at a time that fails at a read leaves
-// a front of them, and how many bytes this has.
-fn written_before(
-    alloc: Global,
-    file: Result<Vec<u8>, AllocError>,
-    failing: (usize, u64),
-) -> Result<(usize, bool, usize), Fault> {
-    written_before_the_end(alloc, &file?, failing)
-}
-
-// The same of a file that was built.
-fn written_before_the_end(
-    alloc: Global,
-    file: &[u8],
-    (most, fails_at): (usize, u64),
-) -> Result<(usize, bool, usize), Fault> {
-    let wave = play(alloc, DECIMATE.as_bytes(), file)?;
-    let reader = drip(file, most, fails_at);
-    let played = play_from(alloc, DECIMATE.as_bytes(), reader, sip(alloc, NEVER, NEVER));
-    Ok((wave.len(), played.stops_reading(&wave), played.bytes.len()))
+// A reader of 32,789 bytes at a time fails behind 196,734 of 262,270 bytes: 196,608 of them are of the sound. What was
+// written lags behind by at most 131,072 bytes of the sound, each of which makes a sample of two bytes.
+#[test]
+fn writes_before_all_is_read(rt: HostRuntime) {
+    let alloc = rt.alloc();
+    let keeps_up = keeps_up_with(alloc, all_ones(alloc), (32_789, 7), (524_332, 131_116));
+    assert!(rt; keeps_up.unwrap_or(false));
 }
 
 // Ten groups of six blocks are 245,760 bytes behind a head of 92. A reader of 40,000 bytes at a time fails behind
@@ -156,6 +169,6 @@ fn written_before_the_end(
 fn writes_blocks_before_all_is_read(rt: HostRuntime) {
     let alloc = rt.alloc();
     let file = blocks(alloc, (6, 1, 327_680), 245_760);
-    let written = written_before(alloc, file, (40_000, 6));
-    assert!(rt; matches!(written, Ok((491_588, true, size)) if size >= 98_372));
+    let keeps_up = keeps_up_with(alloc, file, (40_000, 6), (491_588, 98_372));
+    assert!(rt; keeps_up.unwrap_or(false));
 }

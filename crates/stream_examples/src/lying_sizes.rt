@@ -1,39 +1,31 @@
 //! Files whose sizes and numbers lie, whole and cut at each length, and how far a reader is read.
 
 use crate::played::play_by;
-use crate::refused::{is_no_file, is_played};
-use fixtures::files::{FILE, MONO, RATE, RAW, WAVE, changed, file_of, marked_with, one_bit};
+use crate::refused::{is_no_file, one_bit_with};
+use archive_core::StreamFault;
+use fixtures::files::{
+    FILE, MONO, RATE, RAW, WAVE, changed, file_of, filled, marked_with, one_bit,
+};
 use fixtures::projects::DECIMATE;
 use fixtures::waves::sample;
 use std::alloc::{AllocError, Global};
 
 // Whether a file that is cut at each length up to so many bytes is refused, all at one read. Shorter than `bare` nothing
 // is written, and else a front of these bytes.
-fn are_cut(
-    alloc: Global,
-    file: &[u8],
-    (bare, end): (usize, usize),
-    wave: &[u8],
-) -> Result<bool, AllocError> {
+fn are_cut(alloc: Global, file: &[u8], (bare, end): (usize, usize), wave: &[u8]) -> bool {
     for length in 0..end.min(file.len()) {
         let front = if length < bare { b"" } else { wave };
         let played = play_by(alloc, DECIMATE.as_bytes(), &file[..length], 4096);
-        if !is_played(alloc, played, "FileRefused", front)? {
-            return Ok(false);
+        if !played.is_refused(StreamFault::FileRefused, front) {
+            return false;
         }
     }
-    Ok(true)
+    true
 }
 
 // The same, and whole.
-fn are_no_files(
-    alloc: Global,
-    file: &[u8],
-    ends: (usize, usize),
-    wave: &[u8],
-) -> Result<bool, AllocError> {
-    let whole = is_no_file(alloc, Vec::from_slice(alloc, file), wave)?;
-    Ok(whole && are_cut(alloc, file, ends, wave)?)
+fn are_no_files(alloc: Global, file: &[u8], ends: (usize, usize), wave: &[u8]) -> bool {
+    is_no_file(alloc, file, wave) && are_cut(alloc, file, ends, wave)
 }
 
 // A place of `FILE` and other bytes there: the form's size, that of the version, and the channel number.
@@ -49,7 +41,7 @@ const LIES: [(usize, &[u8]); 4] = [
 fn is_lie_refused(alloc: Global, (place, bytes): (usize, &[u8])) -> Result<bool, AllocError> {
     let file = changed(alloc, &FILE, place, bytes)?;
     let wave = if place == 4 { WAVE.as_slice() } else { b"" };
-    are_no_files(alloc, &file, (126, 128), wave)
+    Ok(are_no_files(alloc, &file, (126, 128), wave))
 }
 
 #[test]
@@ -75,7 +67,7 @@ fn long_text(alloc: Global) -> Result<Vec<u8>, AllocError> {
 // Whether its 174 bytes are refused.
 fn is_mark_refused(alloc: Global) -> Result<bool, AllocError> {
     let file = long_text(alloc)?;
-    Ok(file.len() == 174 && are_no_files(alloc, &file, (126, 174), &WAVE)?)
+    Ok(file.len() == 174 && are_no_files(alloc, &file, (126, 174), &WAVE))
 }
 
 #[test]
@@ -93,18 +85,12 @@ const BLOCK_LIES: [(usize, [u8; 8]); 5] = [
     (20, [0x5d, 0x10, 0, 0, 0, 0, 0, 0]),
 ];
 
-// The file of 4188 bytes with other bytes at a place.
-fn blocks_with(alloc: Global, (place, bytes): (usize, [u8; 8])) -> Result<Vec<u8>, AllocError> {
-    let file = one_bit(alloc, b"")?;
-    changed(alloc, &file, place, &bytes)
-}
-
-// Whether it is refused. All but the last are refused before anything is written.
+// Whether the file is refused with such bytes. All but the last are refused before anything is written.
 fn is_block_lie_refused(alloc: Global, lie: (usize, [u8; 8])) -> Result<bool, AllocError> {
-    let file = blocks_with(alloc, lie)?;
+    let file = one_bit_with(alloc, lie)?;
     let played = sample([4, 0]);
     let wave = if lie.0 == 20 { played.as_slice() } else { b"" };
-    are_no_files(alloc, &file, (92, 4188), wave)
+    Ok(are_no_files(alloc, &file, (92, 4188), wave))
 }
 
 #[test]
@@ -121,8 +107,8 @@ fn blocks_that_lie_are_refused(rt: HostRuntime) {
 // The file that tells no lie is played to these bytes, and refused at each lesser length.
 fn is_played_whole(alloc: Global, wave: &[u8]) -> Result<bool, AllocError> {
     let file = one_bit(alloc, b"")?;
-    let whole = play_by(alloc, DECIMATE.as_bytes(), &file, 4096).gives(wave);
-    Ok(whole && are_cut(alloc, &file, (92, 4188), wave)?)
+    let whole = play_by(alloc, DECIMATE.as_bytes(), &file, 4096).plays(wave);
+    Ok(whole && are_cut(alloc, &file, (92, 4188), wave))
 }
 
 #[test]
@@ -150,60 +136,33 @@ const SLOW: &[u8] = b"FRM8\0\0\0\0\0\0\0\x74DSD \
     CMPR\0\0\0\0\0\0\0\x13DSD \x0enot compressed\0\
     DSD \0\0\0\0\0\0\0\x01\xf0\0";
 
-// Whether a file is played or refused in so many reads.
-fn is_read(
-    alloc: Global,
-    file: &[u8],
-    [by_1, by_7, by_4096]: [u64; 3],
-    plays: bool,
-) -> Result<bool, AllocError> {
-    for (most, reads) in [(1, by_1), (7, by_7), (4096, by_4096)] {
-        if !ends_in(alloc, file, most, reads, plays)? {
-            return Ok(false);
-        }
-    }
-    Ok(true)
-}
-
-// The same by reads of so many bytes.
-fn ends_in(
-    alloc: Global,
-    file: &[u8],
-    most: usize,
-    reads: u64,
-    plays: bool,
-) -> Result<bool, AllocError> {
+// Whether a file is played, or refused with nothing written, in so many reads of so many bytes.
+fn ends_in(alloc: Global, file: &[u8], (most, reads): (usize, u64), plays: bool) -> bool {
     let played = play_by(alloc, DECIMATE.as_bytes(), file, most);
     let ends = if plays {
-        played.gives(&WAVE)
+        played.plays(&WAVE)
     } else {
-        played.is_refused(alloc, "FileRefused")?
+        played.is_refused(StreamFault::FileRefused, &[])
     };
-    Ok(ends && played.reads == reads)
+    ends && played.reads == reads
 }
 
-// A file of 100,000 bytes that begins so.
-fn long_file(alloc: Global, front: &[u8]) -> Result<Vec<u8>, AllocError> {
-    let mut file = Vec::from_slice(alloc, front)?;
-    file.resize(100_000, 0)?;
-    Ok(file)
-}
-
-// Whether such a file is played or refused in so many reads.
-fn is_long_read(
+// Whether a file of 100,000 bytes that begins so is, by reads of one byte, of 7 and of 4096.
+fn is_read(
     alloc: Global,
-    front: &[u8],
-    reads: [u64; 3],
-    plays: bool,
+    (front, [by_1, by_7, by_4096], plays): (&[u8], [u64; 3], bool),
 ) -> Result<bool, AllocError> {
-    let file = long_file(alloc, front)?;
-    is_read(alloc, &file, reads, plays)
+    let file = filled(alloc, front, 100_000)?;
+    Ok(
+        ends_in(alloc, &file, (1, by_1), plays)
+            && ends_in(alloc, &file, (7, by_7), plays)
+            && ends_in(alloc, &file, (4096, by_4096), plays),
+    )
 }
 
 #[test]
 fn no_more_is_read_than_tells(rt: HostRuntime) {
-    for (front, reads, plays) in &READS {
-        let is_so = is_long_read(rt.alloc(), front, *reads, *plays);
-        assert!(rt; is_so.unwrap_or(false), "{reads:?}");
+    for row in &READS {
+        assert!(rt; is_read(rt.alloc(), *row).unwrap_or(false), "{:?}", row.1);
     }
 }

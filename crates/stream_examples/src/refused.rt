@@ -1,7 +1,9 @@
 //! What is refused before anything is read, before anything is written, and for the file's sake.
 
-use crate::played::{Played, play_by, plays};
-use fixtures::files::{DSF_FRONT, FILE, MONO, RATE, RAW, WAVE, file_of, one_bit};
+use crate::played::{play_by, plays_built};
+use crate::streamed::is_named;
+use archive_core::StreamFault;
+use fixtures::files::{DSF_FRONT, FILE, MONO, RATE, RAW, WAVE, changed, file_of, one_bit};
 use fixtures::projects::{DECIMATE, Numbers, SPLICE, project};
 use fixtures::waves::sample;
 use std::alloc::{AllocError, Global};
@@ -9,8 +11,12 @@ use std::alloc::{AllocError, Global};
 // Whether a project is refused for this fault, and nothing was read or written.
 fn is_unread(alloc: Global, text: &[u8], expected: &str) -> Result<bool, AllocError> {
     let played = play_by(alloc, text, &FILE, 1);
-    let is_refused = played.is_refused(alloc, expected)?;
-    Ok(is_refused && played.reads == 0 && played.bytes.is_empty())
+    match played.answer {
+        Err(fault) if played.reads == 0 && played.bytes.is_empty() => {
+            is_named(alloc, fault, expected)
+        }
+        _ => Ok(false),
+    }
 }
 
 // Texts of projects, and the first fault of each.
@@ -38,69 +44,45 @@ fn a_project_is_refused_before_the_first_read(rt: HostRuntime) {
 
 // Whether a file is refused for this fault, read by 1, by 7 and by 4096 bytes, and what was written is a front of
 // these bytes.
-fn is_refused(
-    alloc: Global,
-    text: &str,
-    file: &[u8],
-    expected: &str,
-    wave: &[u8],
-) -> Result<bool, AllocError> {
+fn is_refused(alloc: Global, text: &str, file: &[u8], fault: StreamFault, wave: &[u8]) -> bool {
     for most in [1, 7, 4096] {
-        let played = play_by(alloc, text.as_bytes(), file, most);
-        if !is_played(alloc, played, expected, wave)? {
-            return Ok(false);
+        if !play_by(alloc, text.as_bytes(), file, most).is_refused(fault, wave) {
+            return false;
         }
     }
-    Ok(true)
+    true
 }
 
-/// Whether playing was refused for this fault, no read or write failed, and what was written is a front of these bytes.
-pub(crate) fn is_played(
-    alloc: Global,
-    played: Played,
-    expected: &str,
-    wave: &[u8],
-) -> Result<bool, AllocError> {
-    let is_refused = played.is_refused(alloc, expected)?;
-    Ok(is_refused && played.failures == (0, 0) && wave.starts_with(&played.bytes))
+// A project by 1024, which doesn't divide 2,822,400.
+const BY_1024: &str =
+    "[decimate]\ntaps = [1, 2, 3, 4]\nfactor = 1024\ndelay = 3\nshift = 0\nwidth = 16\n";
+
+// Whether that rate is refused.
+fn is_rate_refused(alloc: Global, file: &[u8]) -> bool {
+    is_refused(alloc, BY_1024, file, StreamFault::RateNotDivided, &[])
 }
 
-// The same of a project and a file that were built.
-fn is_built_refused(
-    alloc: Global,
-    text: Result<String, AllocError>,
-    file: Result<Vec<u8>, AllocError>,
-    expected: &str,
-    wave: &[u8],
-) -> Result<bool, AllocError> {
-    is_refused(alloc, &text?, &file?, expected, wave)
-}
-
-// 1024 doesn't divide 2,822,400.
 #[test]
 fn a_rate_is_refused_before_the_first_write(rt: HostRuntime) {
     let alloc = rt.alloc();
-    assert!(rt; is_rate_refused(alloc, &FILE).unwrap_or(false));
-    assert!(rt;
-        is_rate_refused(alloc, &FILE[..126]).unwrap_or(false),
-        "no sound"
-    );
-}
-
-// Whether that rate is.
-fn is_rate_refused(alloc: Global, file: &[u8]) -> Result<bool, AllocError> {
-    let text = project(alloc, "[1, 2, 3, 4]", (1024, 3, 0, 16))?;
-    is_refused(alloc, &text, file, "RateNotDivided", &[])
+    assert!(rt; is_rate_refused(alloc, &FILE));
+    assert!(rt; is_rate_refused(alloc, &FILE[..126]), "no sound");
 }
 
 // The head of a DSF file without its sound: so many channels, so many bits each, and the size of the chunk `data`.
 fn head_of(alloc: Global, (number, count, size): Claim) -> Result<Vec<u8>, AllocError> {
-    let mut head = DSF_FRONT;
-    head[48..52].copy_from_slice(&number.to_le_bytes());
-    head[52..56].copy_from_slice(&number.to_le_bytes());
-    head[64..72].copy_from_slice(&count.to_le_bytes());
-    head[84..92].copy_from_slice(&size.to_le_bytes());
-    Vec::from_slice(alloc, &head[..92])
+    let front = DSF_FRONT.as_slice();
+    let number = number.to_le_bytes();
+    [
+        &front[..48],
+        &number,
+        &number,
+        &front[56..64],
+        &count.to_le_bytes(),
+        &front[72..84],
+        &size.to_le_bytes(),
+    ]
+    .concat(alloc)
 }
 
 // What a head claims.
@@ -114,62 +96,75 @@ const HEADER: &[u8] =
 // 32,768 bits of each channel in 4096 bytes. `2^36` bits in 6 channels are `2^33` frames of 18 bytes. In one channel
 // of 16 bits 2,147,483,629 frames are `2^32-38` bytes, which with 36 bytes around them are just fewer than `2^32`: the
 // header goes out before the sound is missed. With a bit more there is a frame more.
-const CLAIMS: [(Claim, Numbers, &str, &[u8]); 4] = [
-    ((6, 1 << 36, 51_539_607_564), (8, 3, 0, 24), "TooLarge", b""),
+const CLAIMS: [(Claim, Numbers, StreamFault, &[u8]); 4] = [
+    (
+        (6, 1 << 36, 51_539_607_564),
+        (8, 3, 0, 24),
+        StreamFault::TooLarge,
+        b"",
+    ),
     (
         (6, 1 << 36, 51_539_607_564),
         (1024, 3, 0, 24),
-        "RateNotDivided",
+        StreamFault::RateNotDivided,
         b"",
     ),
     (
         (1, 17_179_869_033, 2_147_483_660),
         (8, 3, 0, 16),
-        "TooLarge",
+        StreamFault::TooLarge,
         b"",
     ),
     (
         (1, 17_179_869_032, 2_147_483_660),
         (8, 3, 0, 16),
-        "FileRefused",
+        StreamFault::FileRefused,
         HEADER,
     ),
 ];
 
+// Whether such a head is refused.
+fn is_claim_refused(
+    alloc: Global,
+    (claim, numbers, fault, wave): (Claim, Numbers, StreamFault, &[u8]),
+) -> Result<bool, AllocError> {
+    let head = head_of(alloc, claim)?;
+    let text = project(alloc, "[1, 2, 3, 4]", numbers)?;
+    Ok(is_refused(alloc, &text, &head, fault, wave))
+}
+
 #[test]
 fn a_size_is_refused_before_the_first_write(rt: HostRuntime) {
-    let alloc = rt.alloc();
-    for (claim, numbers, expected, wave) in &CLAIMS {
-        let text = project(alloc, "[1, 2, 3, 4]", *numbers);
-        let head = head_of(alloc, *claim);
+    for claim in &CLAIMS {
         assert!(rt;
-            is_built_refused(alloc, text, head, expected, wave).unwrap_or(false),
-            "{expected} {claim:?}"
+            is_claim_refused(rt.alloc(), *claim).unwrap_or(false),
+            "{} bits by {}",
+            claim.0.1,
+            claim.1.0
         );
     }
 }
 
 /// Whether `DECIMATE` doesn't play a file, for its own sake, and writes a front of these bytes.
-pub(crate) fn is_no_file(
-    alloc: Global,
-    file: Result<Vec<u8>, AllocError>,
-    wave: &[u8],
-) -> Result<bool, AllocError> {
-    is_refused(alloc, DECIMATE, &file?, "FileRefused", wave)
+pub(crate) fn is_no_file(alloc: Global, file: &[u8], wave: &[u8]) -> bool {
+    is_refused(alloc, DECIMATE, file, StreamFault::FileRefused, wave)
+}
+
+// The same of a file that was built.
+fn is_none_built(alloc: Global, file: Result<Vec<u8>, AllocError>, wave: &[u8]) -> bool {
+    match file {
+        Ok(file) => is_no_file(alloc, &file, wave),
+        Err(_) => false,
+    }
 }
 
 // The front of `FILE`: nothing, a form's head cut, chunks' heads and data cut, the sound's head cut, and no sound.
 #[test]
 fn a_cut_file_is_refused(rt: HostRuntime) {
-    let alloc = rt.alloc();
     for end in 0..127 {
         // The header may stand where the sound's head does.
-        let wave = if end < 126 { &[] } else { &WAVE[..44] };
-        let file = Vec::from_slice(alloc, &FILE[..end]);
-        assert!(rt;
-            is_no_file(alloc, file, wave).unwrap_or(false),
-            "{end} bytes"
-        );
+        let wave = if end < 126 { b"" } else { &WAVE[..44] };
+        assert!(rt; is_no_file(rt.alloc(), &FILE[..end], wave), "{end} bytes");
     }
 }
 
@@ -189,27 +184,21 @@ const CHANGES: [(usize, &[u8], &[u8]); 10] = [
     (11, &[120], &WAVE),
 ];
 
-#[test]
-fn a_changed_file_is_refused(rt: HostRuntime) {
-    let alloc = rt.alloc();
-    for (place, bytes, wave) in &CHANGES {
-        let file = with_bytes(alloc, *place, bytes);
-        assert!(rt;
-            is_no_file(alloc, file, wave).unwrap_or(false),
-            "{place} {bytes:?}"
-        );
-    }
+// Whether `FILE` with such bytes is refused.
+fn is_change_refused(alloc: Global, (place, bytes, wave): (usize, &[u8], &[u8])) -> bool {
+    is_none_built(alloc, changed(alloc, &FILE, place, bytes), wave)
 }
 
-// `FILE` with other bytes at a place.
-fn with_bytes(alloc: Global, place: usize, bytes: &[u8]) -> Result<Vec<u8>, AllocError> {
-    let mut file = Vec::from_slice(alloc, &FILE)?;
-    for (at, byte) in bytes.iter().enumerate() {
-        if let Some(old) = file.get_mut(place.saturating_add(at)) {
-            *old = *byte;
-        }
+#[test]
+fn a_changed_file_is_refused(rt: HostRuntime) {
+    for change in &CHANGES {
+        assert!(rt;
+            is_change_refused(rt.alloc(), *change),
+            "{} {:?}",
+            change.0,
+            change.1
+        );
     }
-    Ok(file)
 }
 
 // A DSDIFF file with these chunks in its sound property, and these behind its sound of one byte.
@@ -218,21 +207,21 @@ fn built(alloc: Global, parts: &[&[u8]], rest: &[u8]) -> Result<Vec<u8>, AllocEr
 }
 
 // Whether a file with this sound property, or with these chunks behind its sound, is refused.
-fn is_property_refused(alloc: Global, parts: &[&[u8]]) -> Result<bool, AllocError> {
-    is_no_file(alloc, built(alloc, parts, b""), &[])
+fn is_property_refused(alloc: Global, parts: &[&[u8]]) -> bool {
+    is_none_built(alloc, built(alloc, parts, b""), &[])
 }
 
-fn is_rest_refused(alloc: Global, rest: &[u8]) -> Result<bool, AllocError> {
-    is_no_file(alloc, built(alloc, &[&RATE, &MONO, &RAW], rest), &WAVE)
+fn is_rest_refused(alloc: Global, rest: &[u8]) -> bool {
+    is_none_built(alloc, built(alloc, &[&RATE, &MONO, &RAW], rest), &WAVE)
 }
 
 #[test]
 fn a_file_of_another_property_is_refused(rt: HostRuntime) {
     let alloc = rt.alloc();
     let two_rates = is_property_refused(alloc, &[&RATE, &RATE, &MONO, &RAW]);
-    assert!(rt; two_rates.unwrap_or(false), "two rates");
+    assert!(rt; two_rates, "two rates");
     let no_channels = is_property_refused(alloc, &[&RATE, &RAW]);
-    assert!(rt; no_channels.unwrap_or(false), "no channels");
+    assert!(rt; no_channels, "no channels");
 }
 
 // A mark of 21 bytes, one of a text that goes past its end, another sound, and a chunk's head cut.
@@ -246,10 +235,7 @@ const RESTS: [(&[u8], &str); 4] = [
 #[test]
 fn a_file_of_other_chunks_is_refused(rt: HostRuntime) {
     for (rest, case) in &RESTS {
-        assert!(rt;
-            is_rest_refused(rt.alloc(), rest).unwrap_or(false),
-            "{case}"
-        );
+        assert!(rt; is_rest_refused(rt.alloc(), rest), "{case}");
     }
 }
 
@@ -263,34 +249,26 @@ const SHORT_MARK: &[u8] = b"DIIN\0\0\0\0\0\0\0\x22\
 const LONG_TEXT: &[u8] = b"DIIN\0\0\0\0\0\0\0\x22\
     MARK\0\0\0\0\0\0\0\x16\0\0\0\0\0\0\0\0\0\0\0\0\0\0\0\0\0\0\0\0\0\x01";
 
-// The DSF file of 4188 bytes with one bit, and this pointer to a tag.
-fn pointing(alloc: Global, pointer: u64) -> Result<Vec<u8>, AllocError> {
-    let file = one_bit(alloc, b"")?;
-    let mut made = Vec::new(alloc);
-    made.extend_from_slice(&file[..file.len().min(20)])?;
-    made.extend_from_slice(&pointer.to_le_bytes())?;
-    made.extend_from_slice(&file[file.len().min(28)..])?;
-    Ok(made)
+/// The DSF file of 4188 bytes with one bit, and eight other bytes at a place.
+pub(crate) fn one_bit_with(
+    alloc: Global,
+    (place, bytes): (usize, [u8; 8]),
+) -> Result<Vec<u8>, AllocError> {
+    changed(alloc, &one_bit(alloc, b"")?, place, &bytes)
 }
 
-// Whether that file is played, or refused.
-fn is_pointed_played(alloc: Global, pointer: u64) -> Result<bool, AllocError> {
-    let file = pointing(alloc, pointer)?;
-    Ok(plays(alloc, DECIMATE, &file, &sample([4, 0])))
-}
-
-fn is_pointed_refused(alloc: Global, pointer: u64) -> Result<bool, AllocError> {
-    is_no_file(alloc, pointing(alloc, pointer), &sample([4, 0]))
+// Whether that file is refused with this pointer to a tag, but for a front of what it is played to.
+fn is_pointed_refused(alloc: Global, pointer: u64) -> bool {
+    let file = one_bit_with(alloc, (20, pointer.to_le_bytes()));
+    is_none_built(alloc, file, &sample([4, 0]))
 }
 
 // A tag begins behind the sound, at the file's end at the latest.
 #[test]
 fn a_dsf_file_without_its_whole_is_refused(rt: HostRuntime) {
     for pointer in [1, 4187, 4189, u64::MAX] {
-        assert!(rt;
-            is_pointed_refused(rt.alloc(), pointer).unwrap_or(false),
-            "to {pointer}"
-        );
+        assert!(rt; is_pointed_refused(rt.alloc(), pointer), "to {pointer}");
     }
-    assert!(rt; is_pointed_played(rt.alloc(), 4188).unwrap_or(false));
+    let file = one_bit_with(rt.alloc(), (20, 4188u64.to_le_bytes()));
+    assert!(rt; plays_built(rt.alloc(), file, &sample([4, 0])));
 }

@@ -1,35 +1,33 @@
 //! Small files played in memory, and from a reader that gives 1, 7 or 4096 bytes at a time: what is written doesn't hang
 //! on how the reads are cut.
 
-use crate::played::{NEVER, ONES, plays};
-use archive_core::play_stream;
-use device_core::{Inlet, Outlet};
+use crate::played::{ONES, play_on, plays, plays_built};
+use crate::streamed::NEVER;
+use device_core::Inlet;
 use fixtures::devices::{drip, sip};
 use fixtures::files::{
-    FILE, ONES_FILE, WAVE, followed, mono, noted, one_bit, stereo, three, with_sound,
+    FILE, ONES_FILE, RATE, RAW, STEREO, THREE, WAVE, file_of, followed, mono, noted, one_bit,
+    with_sound,
 };
 use fixtures::projects;
-use fixtures::projects::{DECIMATE, project};
+use fixtures::projects::{DECIMATE, Numbers, project};
 use fixtures::waves::{SAMPLES, THREE_CHANNELS, TWO_CHANNELS, WIDE, sample};
 use std::alloc::{AllocError, Global};
 
-// Whether a file of one sound byte is played to one sample.
+// Whether a project of these taps and numbers plays a file of one sound byte to one sample.
 fn plays_byte(
     alloc: Global,
-    text: Result<String, AllocError>,
-    sound: u8,
-    bytes: [u8; 2],
+    (taps, numbers, sound, bytes): (&str, Numbers, u8, [u8; 2]),
 ) -> Result<bool, AllocError> {
-    Ok(plays(alloc, &text?, &with_sound(sound), &sample(bytes)))
+    let text = project(alloc, taps, numbers)?;
+    Ok(plays(alloc, &text, &with_sound(sound), &sample(bytes)))
 }
 
 #[test]
 fn plays_one_sample(rt: HostRuntime) {
-    let alloc = rt.alloc();
-    for (taps, numbers, sound, bytes) in &SAMPLES {
-        let text = project(alloc, taps, *numbers);
-        let equal = plays_byte(alloc, text, *sound, *bytes);
-        assert!(rt; equal.unwrap_or(false), "{taps} {sound}");
+    for row in &SAMPLES {
+        let equal = plays_byte(rt.alloc(), *row);
+        assert!(rt; equal.unwrap_or(false), "{} {}", row.0, row.2);
     }
 }
 
@@ -45,41 +43,40 @@ fn plays_no_sound(rt: HostRuntime) {
     assert!(rt; plays(rt.alloc(), DECIMATE, &file[..126], &wave[..44]));
 }
 
-// Whether a file that was built is played to these bytes by `DECIMATE`.
-fn plays_built(
-    alloc: Global,
-    file: Result<Vec<u8>, AllocError>,
-    wave: &[u8],
-) -> Result<bool, AllocError> {
-    Ok(plays(alloc, DECIMATE, &file?, wave))
+// Chunks of channels, a byte of each, and what `DECIMATE` plays them to.
+const FRAMES: [(&[u8], &[u8], &[u8]); 2] = [
+    (&STEREO, &[0xf0, 0x0f], &TWO_CHANNELS),
+    (&THREE, &[0xf0, 0x0f, 0xf0], &THREE_CHANNELS),
+];
+
+// Whether it does.
+fn plays_frame(alloc: Global, (channels, sound, wave): (&[u8], &[u8], &[u8])) -> bool {
+    let file = file_of(alloc, &[&RATE, channels, &RAW], sound, &[]);
+    plays_built(alloc, file, wave)
 }
 
 // Of the DSF file's first byte the first bit alone counts, which the fourth tap reads.
 #[test]
 fn plays_several_channels_and_dsf(rt: HostRuntime) {
     let alloc = rt.alloc();
-    assert!(rt; matches!(stereo(alloc, &[0xf0, 0x0f]), Ok(file) if file.len() == 132));
-    assert!(rt; plays_built(alloc, stereo(alloc, &[0xf0, 0x0f]), &TWO_CHANNELS).unwrap_or(false));
-    assert!(rt;
-        plays_built(alloc, three(alloc, &[0xf0, 0x0f, 0xf0]), &THREE_CHANNELS).unwrap_or(false)
-    );
-    assert!(rt; plays_built(alloc, one_bit(alloc, b""), &sample([4, 0])).unwrap_or(false));
-    assert!(rt; plays_built(alloc, one_bit(alloc, b"a tag"), &sample([4, 0])).unwrap_or(false));
+    for row in &FRAMES {
+        assert!(rt; plays_frame(alloc, *row), "{:?}", row.1);
+    }
+    for tag in [b"".as_slice(), b"a tag"] {
+        assert!(rt;
+            plays_built(alloc, one_bit(alloc, tag), &sample([4, 0])),
+            "{tag:?}"
+        );
+    }
 }
 
-// Whether `FILE` is played to these bytes by a project that was built.
-fn plays_by(
-    alloc: Global,
-    text: Result<String, AllocError>,
-    wave: &[u8],
-) -> Result<bool, AllocError> {
-    Ok(plays(alloc, &text?, &FILE, wave))
-}
+// A project of 24 bits.
+const WIDER: &str =
+    "[decimate]\ntaps = [1, 2, 3, 4]\nfactor = 8\ndelay = 3\nshift = 0\nwidth = 24\n";
 
 #[test]
 fn plays_24_bits(rt: HostRuntime) {
-    let text = project(rt.alloc(), "[1, 2, 3, 4]", (8, 3, 0, 24));
-    assert!(rt; plays_by(rt.alloc(), text, &WIDE).unwrap_or(false));
+    assert!(rt; plays(rt.alloc(), WIDER, &FILE, &WIDE));
 }
 
 // The pad counted in the size of the chunk `CMPR`, no pad behind the last chunk, bytes behind the form, and a mark
@@ -91,8 +88,8 @@ fn plays_files_of_usual_writers(rt: HostRuntime) {
     long_name[93] = 20;
     assert!(rt; plays(alloc, DECIMATE, &long_name, &WAVE));
     assert!(rt; plays(alloc, DECIMATE, &FILE[..127], &WAVE));
-    assert!(rt; plays_built(alloc, followed(alloc), &WAVE).unwrap_or(false));
-    assert!(rt; plays_built(alloc, noted(alloc, 22), &WAVE).unwrap_or(false));
+    assert!(rt; plays_built(alloc, followed(alloc), &WAVE));
+    assert!(rt; plays_built(alloc, noted(alloc, 22), &WAVE));
 }
 
 #[test]
@@ -100,29 +97,31 @@ fn plays_the_edges_of_33_taps(rt: HostRuntime) {
     assert!(rt; plays(rt.alloc(), projects::ONES, &ONES_FILE, &ONES));
 }
 
-// Whether a file is played to these bytes from an inlet that gave three bytes before.
-fn plays_behind(
+// Whether what stands behind three bytes is played to these from an inlet that gave the three before.
+fn plays_behind(alloc: Global, bytes: &[u8], wave: &[u8]) -> bool {
+    let mut inlet = Inlet::new(drip(bytes, 100, NEVER));
+    let pulled = inlet.pull(&mut [0; 3]);
+    let played = play_on(alloc, DECIMATE.as_bytes(), inlet, sip(alloc, NEVER, NEVER));
+    matches!(pulled, Ok(3)) && played.plays(wave)
+}
+
+// Whether a file behind three others is.
+fn plays_behind_others(
     alloc: Global,
     file: Result<Vec<u8>, AllocError>,
     wave: &[u8],
 ) -> Result<bool, AllocError> {
-    let mut bytes = Vec::from_slice(alloc, b"abc")?;
-    bytes.extend_from_slice(&file?)?;
-    let mut inlet = Inlet::new(drip(&bytes, 100, NEVER));
-    let mut outlet = Outlet::new(sip(alloc, NEVER, NEVER));
-    let pulled = inlet.pull(&mut [0; 3]);
-    let answer = play_stream(alloc, DECIMATE.as_bytes(), &mut inlet, &mut outlet);
-    Ok(
-        matches!(pulled, Ok(3))
-            && matches!(answer, Ok(number) if number == wave.len() as u64)
-            && outlet.into_inner().bytes.as_slice() == wave,
-    )
+    let file = file?;
+    let bytes = [b"abc".as_slice(), &file].concat(alloc)?;
+    Ok(plays_behind(alloc, &bytes, wave))
 }
 
 // What the inlet counted before is none of the file's.
 #[test]
 fn plays_files_behind_other_bytes(rt: HostRuntime) {
     let alloc = rt.alloc();
-    assert!(rt; plays_behind(alloc, mono(alloc, &[0xf0]), &WAVE).unwrap_or(false));
-    assert!(rt; plays_behind(alloc, one_bit(alloc, b"a tag"), &sample([4, 0])).unwrap_or(false));
+    assert!(rt; plays_behind_others(alloc, mono(alloc, &[0xf0]), &WAVE).unwrap_or(false));
+    assert!(rt;
+        plays_behind_others(alloc, one_bit(alloc, b"a tag"), &sample([4, 0])).unwrap_or(false)
+    );
 }

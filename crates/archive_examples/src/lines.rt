@@ -1,6 +1,7 @@
 //! Bridges that are held against a straight line, and what whole masters cost.
 
 use crate::builders::{ONES, Sources, ZEROS, mono_sources, sources_with};
+use crate::checking::accepts;
 use crate::cutting::cuts_built;
 use archive_core::{Fault, Form};
 use fixtures::files::mono;
@@ -27,12 +28,15 @@ const LINES: [(usize, &str, &[u8], u128); 3] = [
 ];
 
 #[test]
-fn cuts_lines(rt: HostRuntime) {
+fn cuts_lines_and_accepts_them(rt: HostRuntime) {
     let alloc = rt.alloc();
     for (stop, target, sound, total) in &LINES {
         let sources = bridged(alloc, *stop, target);
         let cut = cuts_built(alloc, sources, Form::Dsdiff, mono(alloc, sound), *total);
         assert!(rt; cut.unwrap_or(false), "{stop} {target}");
+        let sources = bridged(alloc, *stop, target);
+        let accepted = accepts(alloc, sources, Form::Dsdiff, *total);
+        assert!(rt; accepted.unwrap_or(false), "{stop} {target}");
     }
 }
 

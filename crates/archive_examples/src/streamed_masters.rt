@@ -174,21 +174,25 @@ const TO_CERT: &str = "open e.toml\nopen a.dff\nopen b.dff\nopen m.dff\nopen c.c
 
 const UNREAD: &str = "fault: ReadFailed";
 
+const OPENING_MASTER: Asked = (
+    "opening the master",
+    ("open", "m.dff", 0),
+    UNREAD,
+    TO_MASTER,
+);
+
+const READING_MASTER: Asked = (
+    "reading the master",
+    ("read", "m.dff", 0),
+    UNREAD,
+    TO_MASTER,
+);
+
 const CALLS: [Asked; 6] = [
     ("nothing", NOTHING, "accepted total 0", TO_CERT),
     ("opening a take", ("open", "b.dff", 0), UNREAD, TO_TAKES),
-    (
-        "opening the master",
-        ("open", "m.dff", 0),
-        UNREAD,
-        TO_MASTER,
-    ),
-    (
-        "reading the master",
-        ("read", "m.dff", 0),
-        UNREAD,
-        TO_MASTER,
-    ),
+    OPENING_MASTER,
+    READING_MASTER,
     (
         "opening the certificate",
         ("open", "c.cert", 0),
@@ -222,18 +226,8 @@ fn asks_for_files_in_order(rt: HostRuntime) {
 // certificate has 46 bytes.
 const UNCUT: [Asked; 4] = [
     ("nothing", NOTHING, "fault: TakeMismatch 1", TO_CERT),
-    (
-        "opening the master",
-        ("open", "m.dff", 0),
-        UNREAD,
-        TO_MASTER,
-    ),
-    (
-        "reading the master",
-        ("read", "m.dff", 0),
-        UNREAD,
-        TO_MASTER,
-    ),
+    OPENING_MASTER,
+    READING_MASTER,
     (
         "reading the certificate's end",
         ("read", "c.cert", 46),

@@ -235,7 +235,7 @@ fn check_changes(rt: &impl Abort, alloc: Global, outline: &Outline, made: &[u8])
 #[test]
 fn a_changed_form_is_refused(rt: HostRuntime) -> Result<(), Fail> {
     let outline = outline_of(rt.alloc(), &FILE)?;
-    let made = convert_by(rt.alloc(), &outline, Form::Dsf, &FILE, 4096);
+    let made = convert(rt.alloc(), &FILE, Form::Dsf)?;
     check_changes(&rt, rt.alloc(), &outline, &made.bytes);
     Ok(())
 }
@@ -272,7 +272,7 @@ fn check_ends(rt: &impl Abort, alloc: Global, outline: &Outline, file: &[u8], ma
 fn a_changed_tag_is_refused(rt: HostRuntime) -> Result<(), Fail> {
     let file = one_bit(rt.alloc(), b"a tag")?;
     let outline = outline_of(rt.alloc(), &file)?;
-    let made = convert_by(rt.alloc(), &outline, Form::Dsf8, &file, 4096);
+    let made = convert(rt.alloc(), &file, Form::Dsf8)?;
     check_ends(&rt, rt.alloc(), &outline, &file, &made.bytes);
     Ok(())
 }

@@ -2,7 +2,7 @@
 
 use crate::played::{ONES, play_from, two_groups};
 use crate::streamed::{NEVER, Streamed, is_named};
-use archive_core::{Fault, StreamFault};
+use archive_core::{Fault, StreamFault, play};
 use fixtures::devices::{Sipping, drip, sip};
 use fixtures::files::ONES_FILE;
 use fixtures::projects;
@@ -92,13 +92,15 @@ fn stops_at(alloc: Global, file: &[u8], wave: &[u8], read: u64) -> bool {
     read_blocks(alloc, file, read).stops_reading(wave)
 }
 
-// Whether the file was played in 2356 reads.
-fn are_blocks(whole: &Streamed) -> bool {
-    whole.plays(&whole.bytes) && whole.reads == 2356
+// Whether the file is played to these bytes in 2356 reads.
+fn plays_blocks(alloc: Global, file: &[u8], wave: &[u8]) -> bool {
+    let whole = read_blocks(alloc, file, NEVER);
+    whole.plays(wave) && whole.reads == 2356
 }
 
-// A failed read leaves a front of these bytes, wherever it comes.
+// The file is played, and a failed read leaves a front, wherever it comes.
 fn check_blocks(rt: &impl Abort, alloc: Global, file: &[u8], wave: &[u8]) {
+    assert!(rt; plays_blocks(alloc, file, wave));
     for read in [1, 13, 14, 15, 1183, 1184, 1185, 2353, 2354, 2355, 2356] {
         let stops = stops_at(alloc, file, wave, read);
         assert!(rt; stops, "read {read} fails");
@@ -110,9 +112,8 @@ fn check_blocks(rt: &impl Abort, alloc: Global, file: &[u8], wave: &[u8]) {
 #[test]
 fn a_failed_read_of_blocks_leaves_a_front(rt: HostRuntime) -> Result<(), Fail> {
     let file = two_groups(rt.alloc())?;
-    let whole = read_blocks(rt.alloc(), &file, NEVER);
-    assert!(rt; are_blocks(&whole));
-    check_blocks(&rt, rt.alloc(), &file, &whole.bytes);
+    let wave = play(rt.alloc(), DECIMATE.as_bytes(), &file)?;
+    check_blocks(&rt, rt.alloc(), &file, &wave);
     Ok(())
 }
 

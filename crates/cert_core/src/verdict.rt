@@ -45,7 +45,7 @@ impl fmt::Display for CertReason {
 impl error::Error for CertReason {}
 
 /// Whether an entry shows the bits of a bridge to be least.
-#[derive(Clone, Copy, Debug, PartialEq, Eq)]
+#[derive(Clone, Copy, PartialEq, Eq)]
 pub enum CertVerdict {
     /// It does: no bits of the bridge's length cost less than these, and this is what they cost.
     Accepted { cost: u64 },

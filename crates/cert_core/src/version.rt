@@ -1,7 +1,7 @@
 //! The versions of a certificate.
 
 /// How a certificate spells its rows.
-#[derive(Clone, Copy, Debug, PartialEq, Eq)]
+#[derive(Clone, Copy)]
 pub enum Version {
     /// Each value whole, eight bytes each.
     One,

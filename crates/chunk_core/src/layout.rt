@@ -1,7 +1,7 @@
 //! What a chunk's head says, and where its data stand.
 
 /// A chunk's head, read.
-#[derive(Clone, Copy, Debug, PartialEq, Eq)]
+#[derive(Clone, Copy)]
 pub struct Head {
     /// The four bytes of the ID.
     pub id: [u8; 4],
@@ -10,7 +10,7 @@ pub struct Head {
 }
 
 /// Where a chunk's data stand in the bytes that were walked.
-#[derive(Clone, Copy, Debug, PartialEq, Eq)]
+#[derive(Clone, Copy, PartialEq, Eq)]
 pub struct Span {
     /// The four bytes of the ID.
     pub id: [u8; 4],

@@ -7,7 +7,7 @@ use byteorder::{BigEndian, ByteOrder, LittleEndian};
 use std::alloc::AllocError;
 
 /// The order of a number's bytes.
-#[derive(Clone, Copy, Debug, PartialEq, Eq)]
+#[derive(Clone, Copy)]
 pub enum Order {
     /// The highest byte first, as in IFF and DSDIFF 1.5.
     Big,

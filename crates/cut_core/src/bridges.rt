@@ -8,7 +8,7 @@ use crate::cut::Cut;
 use std::alloc::{AllocError, Global};
 
 /// Where a bridge of a master stands.
-#[derive(Clone, Copy, Debug, PartialEq, Eq)]
+#[derive(Clone, Copy, PartialEq, Eq)]
 pub struct BridgePlace {
     /// The number of the cue before it.
     pub cue: usize,

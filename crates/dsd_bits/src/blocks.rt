@@ -14,7 +14,7 @@ use crate::turning::turn;
 use std::alloc::{AllocError, Global};
 
 /// Which bit of a sound byte of DSF 1.01 is the earliest.
-#[derive(Clone, Copy, Debug, PartialEq, Eq)]
+#[derive(Clone, Copy, PartialEq, Eq)]
 pub enum BitOrder {
     /// The least significant, as of 1 bit per sample.
     LeastFirst,

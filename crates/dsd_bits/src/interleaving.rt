@@ -3,7 +3,7 @@
 use crate::blocks::BitOrder;
 
 /// How the sound bytes of several channels are interleaved.
-#[derive(Clone, Copy, Debug, PartialEq, Eq)]
+#[derive(Clone, Copy, PartialEq, Eq)]
 pub enum Interleaving {
     /// As in DSDIFF 1.5: frames of one byte of each channel in turn, the most significant bit the earliest.
     Bytes,

@@ -1,7 +1,7 @@
 //! What a recording holds beside its sound: marks, and chunks that are kept as they are.
 
 /// A mark of a DSDIFF 1.5 edited master: a place in time, what it means, and a text.
-#[derive(Debug, PartialEq, Eq, Drop)]
+#[derive(PartialEq, Eq, Drop)]
 pub struct Mark {
     /// Whole hours.
     pub hours: u16,
@@ -24,7 +24,7 @@ pub struct Mark {
 }
 
 /// Where a kept chunk stands in a DSDIFF 1.5 file.
-#[derive(Clone, Copy, Debug, PartialEq, Eq)]
+#[derive(Clone, Copy, PartialEq, Eq)]
 pub enum Place {
     /// In the sound's property chunk.
     Property,
@@ -35,7 +35,7 @@ pub enum Place {
 }
 
 /// A chunk whose meaning isn't known, which is kept as its bytes.
-#[derive(Debug, PartialEq, Eq, Drop)]
+#[derive(Drop)]
 pub struct Other {
     /// Where it stands.
     pub place: Place,

@@ -3,7 +3,7 @@
 use crate::interleaving::Interleaving;
 
 /// The sound of a file before its bytes are read.
-#[derive(Clone, Copy, Debug, PartialEq, Eq)]
+#[derive(Clone, Copy, PartialEq, Eq)]
 pub struct Sound {
     /// Hertz.
     pub rate: u32,
@@ -20,7 +20,7 @@ pub struct Sound {
 }
 
 /// What the front of a file tells of its sound.
-#[derive(Clone, Copy, Debug, PartialEq, Eq)]
+#[derive(Clone, Copy, PartialEq, Eq)]
 pub enum SoundAt {
     /// The head of the chunk of the sound is not yet there.
     More,

@@ -7,7 +7,7 @@ use crate::bits::Bits;
 use std::alloc::{AllocError, Global};
 
 /// Some bits of each channel in turn: the first, and the place after the last.
-#[derive(Clone, Copy, Debug, PartialEq, Eq)]
+#[derive(Clone, Copy)]
 pub struct BitRange {
     /// The place of the first bit.
     pub start: usize,

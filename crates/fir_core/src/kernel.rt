@@ -12,7 +12,7 @@ use dsd_bits::Bits;
 use std::alloc::{AllocError, Global};
 
 /// How the sums of a decimator are computed. Each way gives the same samples.
-#[derive(Clone, Copy, Debug, Drop, PartialEq, Eq)]
+#[derive(Clone, Copy, Drop)]
 pub enum Kernel {
     /// Bit by bit.
     Plain,

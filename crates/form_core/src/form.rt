@@ -1,7 +1,7 @@
 //! The forms that a recording is kept in.
 
 /// A form of file that holds a one-bit recording.
-#[derive(Clone, Copy, Debug, PartialEq, Eq)]
+#[derive(Clone, Copy, PartialEq, Eq)]
 pub enum Form {
     /// DSDIFF 1.5.
     Dsdiff,

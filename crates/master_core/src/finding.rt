@@ -24,7 +24,7 @@ use std::alloc::{AllocError, Global};
 use std::io::Read;
 
 /// A place in a channel of a master.
-#[derive(Clone, Copy, Debug, PartialEq, Eq)]
+#[derive(Clone, Copy)]
 pub struct CuedPlace {
     /// The number of the channel.
     pub channel: usize,

@@ -37,7 +37,7 @@ impl fmt::Display for Reason {
 }
 
 /// What a check of a master comes to.
-#[derive(Clone, Copy, Debug, PartialEq, Eq)]
+#[derive(Clone, Copy)]
 pub enum Verdict {
     /// It holds the cues, and no bridge could cost less; this is what all bridges of all channels cost.
     Accepted { total: u128 },

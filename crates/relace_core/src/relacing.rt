@@ -12,7 +12,7 @@ use dsd_bits::{BitOrder, Bits, Interleaving, LaceFault, push_blocks, unlace_bloc
 use std::alloc::{AllocError, Global};
 
 /// How many channels a stretch of sound has, and how many bits each of them.
-#[derive(Clone, Copy, Debug, PartialEq, Eq)]
+#[derive(Clone, Copy)]
 pub struct Stretch {
     /// One to six channels.
     pub channels: usize,

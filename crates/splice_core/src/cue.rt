@@ -1,7 +1,7 @@
 //! Cues.
 
 /// What the sound of a bridge should be like.
-#[derive(Clone, Copy, Debug, PartialEq, Eq)]
+#[derive(Clone, Copy, PartialEq, Eq)]
 pub enum Target {
     /// A linear fade from the take before the bridge to the take after it.
     Fade,
@@ -11,7 +11,7 @@ pub enum Target {
 }
 
 /// A part of a take, and the bridge to the next cue. Places and lengths are in bits of a channel.
-#[derive(Debug, Drop)]
+#[derive(Drop)]
 pub struct Cue {
     /// The number of the take, counted from 0.
     pub take: usize,

@@ -7,7 +7,7 @@ use crate::cue::Cue;
 
 /// Takes, the cues that are cut from them, and the weights by which bridges are judged, all within their
 /// limits. The last cue has no bridge.
-#[derive(Debug, Drop)]
+#[derive(Drop)]
 pub struct Splice {
     /// What the newest bit, the one before it and so on count in a sum over bits: 2 to 12 weights with
     /// absolute values that add up to at most 4096.

@@ -3,7 +3,7 @@
 use form_core::Form;
 
 /// What a command line asks for, with the names of the files.
-#[derive(Clone, Copy, Debug, PartialEq, Eq)]
+#[derive(Clone, Copy)]
 pub enum Task<'a> {
     /// `play PROJECT IN OUT`
     Play {

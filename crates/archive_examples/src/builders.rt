@@ -1,23 +1,13 @@
 //! The files, cuts and certificates that several examples are built of.
 
 use archive_core::{Edited, Fault, Form, edit};
-use fixtures::files::{FILE, MONO, RATE, RAW, dsf_of, file_of, marked_with, stereo, with_sounds};
+use chunk_core::push_chunk;
+use fixtures::files::{
+    FILE, MONO, RATE, RAW, dsf_of, file_of, marked, marked_with, stereo, with_sounds,
+};
 use fixtures::projects::SPLICE;
 use std::alloc::{AllocError, Global};
 use std::fmt::Write;
-
-/// Whether a file that was built has so many bytes.
-pub(crate) fn has_size(file: Result<Vec<u8>, AllocError>, size: usize) -> bool {
-    match file {
-        Ok(file) => file.len() == size,
-        Err(_) => false,
-    }
-}
-
-/// Whether a fault has this name.
-pub(crate) fn is_named(alloc: Global, fault: Fault, expected: &str) -> Result<bool, AllocError> {
-    Ok(fault.to_string(alloc)?.as_str() == expected)
-}
 
 /// The recording of `FILE` as it stands in a file of a form. DSF fills a block of 4096 bytes, and the
 /// earliest bit of a byte is its lowest where it has 1 bit per sample.
@@ -27,6 +17,18 @@ pub(crate) fn file_in(alloc: Global, form: Form) -> Result<Vec<u8>, AllocError> 
         Form::Dsf => dsf_of(alloc, (1, 1, 8), &[0x0f], 4096, &[]),
         Form::Dsf8 => dsf_of(alloc, (1, 8, 8), &[0xf0], 4096, &[]),
     }
+}
+
+/// The file of one byte of sound with a mark, and a comment chunk of no comments, behind it.
+pub(crate) fn commented(alloc: Global) -> Result<Vec<u8>, AllocError> {
+    let mut rest = marked(alloc, 22)?;
+    push_chunk(&mut rest, *b"COMT", &[0, 0])?;
+    file_of(alloc, &[&RATE, &MONO, &RAW], &[0xf0], &rest)
+}
+
+/// The DSF file of one byte of sound with a tag.
+pub(crate) fn tagged(alloc: Global, bits: u32, first: u8) -> Result<Vec<u8>, AllocError> {
+    dsf_of(alloc, (1, bits, 8), &[first], 4096, b"ID3")
 }
 
 /// A DSDIFF file of one channel with these two sound bytes, at 5,644,800 Hz, twice the usual rate.
@@ -78,48 +80,18 @@ pub(crate) type CueNumbers = (usize, usize, usize, usize);
 /// The cue of the first 8 bits of take 0 and the cue of take 1 behind it, with a bridge of one bit.
 pub(crate) const CUES: [CueNumbers; 2] = [(0, 0, 8, 1), (1, 2, 9, 0)];
 
-/// A cut: its name, weights, cues, the sound that is cut, and its cost. A bridge of one bit between ones and
-/// zeros has the targets 0 and -2 times the sum of the weights; all numbers are times 2. By the weights 1 and
-/// 1 the bit 0 meets both: it costs 0. By 1 and 0 either bit is 2 off, which costs 4, and of both the 0 is
-/// taken. A bridge of two bits by 1 and 0, times 3, has the targets 1 and -1: the bits 1 and 0 are 2 off each,
-/// 8 in all. A plain cut costs nothing.
-pub(crate) const CUTS: [(&str, &str, &[CueNumbers], [u8; 2], u128); 5] = [
-    (
-        "one bit",
-        "1, 1",
-        &[(0, 0, 8, 1), (1, 2, 9, 0)],
-        [0xff, 0x00],
-        0,
-    ),
-    (
-        "one bit by the newest",
-        "1, 0",
-        &[(0, 0, 8, 1), (1, 2, 9, 0)],
-        [0xff, 0x00],
-        4,
-    ),
-    (
-        "two bits",
-        "1, 0",
-        &[(0, 0, 8, 2), (1, 3, 9, 0)],
-        [0xff, 0x80],
-        8,
-    ),
-    (
-        "there and back",
-        "1, 1",
-        &[(0, 0, 8, 1), (1, 2, 3, 1), (0, 2, 7, 0)],
-        [0xff, 0x3f],
-        0,
-    ),
-    (
-        "a plain cut",
-        "1, 1",
-        &[(0, 0, 8, 0), (1, 0, 8, 0)],
-        [0xff, 0x00],
-        0,
-    ),
-];
+/// The certificate of the bridge of `CUES` by the weights 1 and 0: two weights, one entry; cue 0, channel 0, one bit; level
+/// 0 is 0, one byte an excess, 4 and 0; level 1 is 4, and no byte an excess; the cost.
+pub(crate) const CERT: [u8; 46] = *b"DSPC\0\x02\0\x02\0\0\0\x01\0\0\0\0\0\x01\
+    \0\0\0\0\0\0\0\0\x01\x04\0\
+    \0\0\0\0\0\0\0\x04\0\
+    \0\0\0\0\0\0\0\x04";
+
+/// The certificate of the same bridge by the weights 1 and 1, whose bit costs nothing: its rows and its cost are zeros.
+pub(crate) const FREE: [u8; 44] = *b"DSPC\0\x02\0\x02\0\0\0\x01\0\0\0\0\0\x01\
+    \0\0\0\0\0\0\0\0\0\
+    \0\0\0\0\0\0\0\0\0\
+    \0\0\0\0\0\0\0\0";
 
 /// A project of these weights and cues, whose takes are `a.dff` and `b.dff`.
 pub(crate) fn splice(
@@ -183,17 +155,7 @@ pub(crate) fn sources_of(
     })
 }
 
-/// A project of these weights and cues, with a take of 16 ones and a take of 16 zeros.
-pub(crate) fn mono_sources(
-    alloc: Global,
-    weights: &str,
-    cues: &[CueNumbers],
-) -> Result<Sources, AllocError> {
-    let text = splice(alloc, weights, cues);
-    sources_with(alloc, text, &ONES, &ZEROS)
-}
-
-/// The project `SPLICE` with the same takes.
+/// The project `SPLICE` with a take of 16 ones and a take of 16 zeros.
 pub(crate) fn titled_sources(alloc: Global) -> Result<Sources, AllocError> {
     let text: Result<_, _> = String::from_str(alloc, SPLICE);
     sources_with(alloc, text, &ONES, &ZEROS)

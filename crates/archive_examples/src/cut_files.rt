@@ -1,61 +1,39 @@
-//! Files cut at each length: why they hold no recording.
+//! A DSF file cut at each of its lengths: why it holds no recording. Of a DSDIFF file `tools/try_commands` asks the command.
 
-use crate::opening::is_unread;
 use archive_core::read_any;
-use fixtures::files::{FILE, one_bit};
+use fixtures::files::one_bit;
 use std::alloc::{AllocError, Global};
 
-// Lengths, from the first to before the second, and the fault of a file that is cut so. `FILE` has 128 bytes, the last
-// of which is a pad that may be missing.
-const FORM_CUTS: [(usize, usize, &str); 2] = [(0, 16, "UnknownForm"), (16, 127, "Dsdiff FormCut")];
+// Whether a file is not read for this fault.
+fn is_unread(alloc: Global, file: &[u8], expected: &str) -> Result<bool, AllocError> {
+    match read_any(alloc, file) {
+        Ok(_) => Ok(false),
+        Err(fault) => Ok(fault.to_string(alloc)?.as_str() == expected),
+    }
+}
 
-// Of the DSF file of 4188 bytes.
-const BLOCK_CUTS: [(usize, usize, &str); 3] = [
+// Lengths, from the first to before the second, and the fault of the file of 4188 bytes that is cut so.
+const CUTS: [(usize, usize, &str); 3] = [
     (0, 4, "UnknownForm"),
     (4, 92, "Dsf HeadCut"),
     (92, 4188, "Dsf DataCut"),
 ];
 
-// Whether a file that is cut at each of these lengths is refused for this fault.
-fn is_cut_so(
-    alloc: Global,
-    file: &[u8],
-    (first, end, expected): (usize, usize, &str),
-) -> Result<bool, AllocError> {
-    for length in first..end.min(file.len()) {
-        if !is_unread(alloc, &file[..length], expected)? {
-            return Ok(false);
+// Whether a file is read whole, and cut at none of its lengths.
+fn is_read_whole_alone(alloc: Global, file: &[u8]) -> Result<bool, AllocError> {
+    for (first, end, expected) in &CUTS {
+        for length in *first..*end {
+            let (front, _) = file.split_at(length.min(file.len()));
+            if !is_unread(alloc, front, expected)? {
+                return Ok(false);
+            }
         }
     }
-    Ok(first < end && end <= file.len())
-}
-
-#[test]
-fn a_form_may_lack_its_last_pad_alone(rt: HostRuntime) {
-    let alloc = rt.alloc();
-    for cut in &FORM_CUTS {
-        assert!(rt; is_cut_so(alloc, &FILE, *cut).unwrap_or(false), "{cut:?}");
-    }
-    assert!(rt; read_any(alloc, &FILE[..127]).is_ok());
-}
-
-// The same of the DSF file.
-fn is_dsf_cut_so(alloc: Global, cut: (usize, usize, &str)) -> Result<bool, AllocError> {
-    let file = one_bit(alloc, b"")?;
-    is_cut_so(alloc, &file, cut)
-}
-
-// Whether that file is read whole.
-fn is_dsf_read(alloc: Global) -> Result<bool, AllocError> {
-    let file = one_bit(alloc, b"")?;
-    Ok(read_any(alloc, &file).is_ok())
+    Ok(read_any(alloc, file).is_ok())
 }
 
 #[test]
 fn blocks_are_read_whole_or_not_at_all(rt: HostRuntime) {
-    let alloc = rt.alloc();
-    for cut in &BLOCK_CUTS {
-        assert!(rt; is_dsf_cut_so(alloc, *cut).unwrap_or(false), "{cut:?}");
-    }
-    assert!(rt; is_dsf_read(alloc).unwrap_or(false));
+    let file = one_bit(rt.alloc(), b"").unwrap_or(Vec::new(rt.alloc()));
+    assert!(rt; is_read_whole_alone(rt.alloc(), &file).unwrap_or(false));
 }

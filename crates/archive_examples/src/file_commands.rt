@@ -1,9 +1,7 @@
-//! `play` and `convert` over folders in memory: what they print and which files they create.
+//! `play` over folders in memory: which files it asks for, also where a call fails.
 
-use crate::builders::file_in;
-use crate::folders::{asks, comes_to, comes_to_watched, folder_of, holds, is_refused};
+use crate::folders::{asks, comes_to_watched, folder_of, holds};
 use crate::watched_folder::{Asked, NOTHING, WatchedFolder};
-use archive_core::Form;
 use command_core::{MemoryFolder, Task};
 use fixtures::files::{FILE, WAVE};
 use fixtures::projects::DECIMATE;
@@ -21,88 +19,6 @@ const PLAY: Task = Task::Play {
     input: "in.dff",
     output: "out",
 };
-
-// Whether the file is converted to this one of these bytes, with so many files then.
-fn converts(
-    alloc: Global,
-    form: Form,
-    (output, bytes): (&str, &[u8]),
-    count: usize,
-) -> Result<bool, AllocError> {
-    let mut folder = folder(alloc)?;
-    let task = Task::Convert {
-        form,
-        input: "in.dff",
-        output,
-    };
-    let done = comes_to(alloc, &mut folder, task, 0, "converted dropped 0")?;
-    Ok(done && holds(&folder, output, bytes) && folder.count() == count)
-}
-
-// Whether it is converted to the file that its recording has in this form, beside itself.
-fn converts_beside(alloc: Global, form: Form) -> Result<bool, AllocError> {
-    converts(alloc, form, ("out", &file_in(alloc, form)?), 3)
-}
-
-// In the end the file takes its own place: it is read whole before it is created.
-#[test]
-fn converts_to_files(rt: HostRuntime) {
-    let alloc = rt.alloc();
-    assert!(rt; converts_beside(alloc, Form::Dsf).unwrap_or(false));
-    assert!(rt; converts_beside(alloc, Form::Dsf8).unwrap_or(false));
-    assert!(rt; converts(alloc, Form::Dsdiff, ("in.dff", &FILE), 2).unwrap_or(false));
-}
-
-// What is no project, and an input that is not there.
-const UNPLAYED: Task = Task::Play {
-    project: "in.dff",
-    input: "none",
-    output: "out",
-};
-
-// An input that holds no recording.
-const UNCONVERTED: Task = Task::Convert {
-    form: Form::Dsf,
-    input: "p.toml",
-    output: "out",
-};
-
-#[test]
-fn refuses_files_and_creates_nothing(rt: HostRuntime) {
-    let alloc = rt.alloc();
-    let unread = "fault: FileUnread UnknownForm";
-    assert!(rt; is_refused(alloc, folder(alloc), UNPLAYED, "fault: ReadFailed").unwrap_or(false));
-    assert!(rt; is_refused(alloc, folder(alloc), UNCONVERTED, unread).unwrap_or(false));
-}
-
-// A project and an input that are no such, and what is printed.
-const NOT_PLAYED: [(&str, &str, &str); 2] = [
-    ("in.dff", "p.toml", "fault: Project NotToml"),
-    ("p.toml", "p.toml", "fault: FileRefused"),
-];
-
-// Whether playing comes to this line, and leaves an empty file.
-fn leaves_none(
-    alloc: Global,
-    (project, input, line): &(&str, &str, &str),
-) -> Result<bool, AllocError> {
-    let mut folder = folder(alloc)?;
-    let task = Task::Play {
-        project,
-        input,
-        output: "out",
-    };
-    let refused = comes_to(alloc, &mut folder, task, 2, line)?;
-    Ok(refused && holds(&folder, "out", &[]) && folder.count() == 3)
-}
-
-#[test]
-fn leaves_an_empty_file_where_nothing_is_played(rt: HostRuntime) {
-    let alloc = rt.alloc();
-    for case in &NOT_PLAYED {
-        assert!(rt; leaves_none(alloc, case).unwrap_or(false), "{}", case.2);
-    }
-}
 
 // A file that was created is kept, or given up after a fault.
 const PLAYS: [Asked; 8] = [

@@ -1,28 +1,23 @@
-//! Each call of whole files and of commands, for `tools/growths`, which refuses their growths in turn: what was refused
-//! is handed out as it was answered.
+//! Each call of whole files, and of what commands do with them, for `tools/growths`, which refuses their growths in turn: what
+//! was refused is handed out as it was answered. The commands themselves it asks of the built program.
 
 ghost use Rattle.std.specs.Prelude.{None, false};
 
 use crate::builders::{
-    CUES, ONES, Sources, ZEROS, file_in, sources_of, splice, stereo_sources, titled, titled_sources,
+    CUES, Sources, commented, file_in, sources_of, splice, stereo_sources, tagged, titled,
+    titled_sources,
 };
-use crate::certifying::CERT;
 use crate::checking::accepts;
-use crate::conversion::{commented, converts, tagged};
-use crate::cutting::cuts_built;
-use crate::master_commands::{CHECK, CUT};
-use crate::outcomes::{MARKED, prints};
-use archive_core::{Fault, Form, Reason, StreamFault, play, play_stream, read_any, take_names};
-use command_core::{
-    Folder, FolderFault, MemoryFolder, Outcome, Task, outcome_line, perform, read_files,
-    read_whole, status,
+use crate::outcomes::prints;
+use archive_core::{
+    Fault, Form, Reason, StreamFault, convert, play, play_stream, read_any, take_names,
 };
+use command_core::{Folder, FolderFault, MemoryFolder, Outcome, read_files, read_whole};
 use device_core::{Inlet, Outlet};
 use fixtures::compared::equal;
-use fixtures::files::{FILE, WAVE, dsf_of, noted, stereo, with_sounds};
+use fixtures::files::{FILE, WAVE, dsf_of, stereo};
 use fixtures::projects::{DECIMATE, SPLICE};
 use fixtures::waves::TWO_CHANNELS;
-use folder_core::FileFault;
 use std::alloc::{AllocError, Global};
 use std::io;
 use std::io::{ErrorKind, Read, Write};
@@ -54,8 +49,6 @@ impl Write for Awaited<'_> {
 #[derive(Drop)]
 struct Shelf<'a> {
     files: &'a [(&'a str, &'a [u8])],
-    // How many files were created.
-    created: usize,
     // How many files were written whole.
     written: usize,
 }
@@ -87,7 +80,6 @@ impl<'a> Folder for Shelf<'a> {
 
     fn create(&mut self, name: &str) -> Result<Awaited<'a>, FolderFault> {
         let left = self.bytes(name)?;
-        self.created = self.created.saturating_add(1);
         Ok(Awaited { left })
     }
 
@@ -102,13 +94,9 @@ impl<'a> Folder for Shelf<'a> {
     fn give_up(&mut self, _name: &str, _out: Awaited<'a>) {}
 }
 
-// These files, before any is created.
+// These files, before any is written.
 fn shelf_of<'a>(files: &'a [(&'a str, &'a [u8])]) -> Shelf<'a> {
-    Shelf {
-        files,
-        created: 0,
-        written: 0,
-    }
+    Shelf { files, written: 0 }
 }
 
 // The fault of a command that was refused.
@@ -117,25 +105,6 @@ fn fault_of(outcome: Outcome) -> Fault {
         Outcome::Fault(fault) => fault,
         Outcome::WriteFailed => Fault::Stream(StreamFault::WriteFailed),
         _ => Fault::Stream(StreamFault::ReadFailed),
-    }
-}
-
-// Whether a task over these files comes to this line, and writes so many of them. A task that is refused memory has created
-// none, unless it plays.
-fn comes_to(
-    alloc: Global,
-    files: &[(&str, &[u8])],
-    task: Task,
-    line: &str,
-    written: usize,
-) -> Result<bool, Fail> {
-    let mut shelf = shelf_of(files);
-    let plays = matches!(&task, Task::Play { .. });
-    let outcome = perform(alloc, task, &mut shelf);
-    if status(&outcome) == 2 && (plays || shelf.created == 0) {
-        Err(fault_of(outcome))?
-    } else {
-        Ok(outcome_line(alloc, &outcome)?.as_str() == line && shelf.written == written)
     }
 }
 
@@ -154,16 +123,35 @@ fn a_file_is_read(rt: HostRuntime) -> Result<(), Fail> {
     Ok(())
 }
 
+// Whether names are those of the splice.
+fn are_of_splice(names: &[String]) -> bool {
+    match names {
+        [first, second] => first.as_str() == "a.dff" && second.as_str() == "b.dff",
+        _ => false,
+    }
+}
+
 #[test]
 fn takes_are_named(rt: HostRuntime) -> Result<(), Fail> {
-    assert!(rt; take_names(rt.alloc(), SPLICE.as_bytes())?.len() == 2);
+    assert!(rt; are_of_splice(&take_names(rt.alloc(), SPLICE.as_bytes())?));
     Ok(())
+}
+
+// Whether a file is converted to these bytes, and nothing is dropped.
+fn converts(
+    alloc: Global,
+    from: Result<Vec<u8>, AllocError>,
+    form: Form,
+    to: Result<Vec<u8>, AllocError>,
+) -> Result<bool, Fault> {
+    let made = convert(alloc, &from?, form)?;
+    Ok(equal(&made.bytes, &to?) && made.dropped == 0)
 }
 
 #[test]
 fn a_file_is_converted_to_dsdiff(rt: HostRuntime) -> Result<(), Fail> {
     let alloc = rt.alloc();
-    assert!(rt; converts(alloc, commented(alloc), Form::Dsdiff, commented(alloc), 0)?);
+    assert!(rt; converts(alloc, commented(alloc), Form::Dsdiff, commented(alloc))?);
     Ok(())
 }
 
@@ -171,7 +159,7 @@ fn a_file_is_converted_to_dsdiff(rt: HostRuntime) -> Result<(), Fail> {
 fn a_file_is_converted_to_dsf(rt: HostRuntime) -> Result<(), Fail> {
     let alloc = rt.alloc();
     let turned = tagged(alloc, 8, 0xf0);
-    assert!(rt; converts(alloc, tagged(alloc, 1, 0x0f), Form::Dsf8, turned, 0)?);
+    assert!(rt; converts(alloc, tagged(alloc, 1, 0x0f), Form::Dsf8, turned)?);
     Ok(())
 }
 
@@ -206,26 +194,29 @@ fn a_reader_is_played(rt: HostRuntime) -> Result<(), Fail> {
     Ok(())
 }
 
+// Whether the DSDIFF master that is cut is this file, at this cost.
+fn cuts(
+    alloc: Global,
+    sources: Result<Sources, AllocError>,
+    master: Result<Vec<u8>, AllocError>,
+    total: u128,
+) -> Result<bool, Fault> {
+    let made = sources?.edit(alloc, Form::Dsdiff)?;
+    Ok(equal(&made.master, &master?) && made.total == total)
+}
+
 #[test]
 fn a_master_is_cut(rt: HostRuntime) -> Result<(), Fail> {
     let alloc = rt.alloc();
     let master = stereo(alloc, &[0xff, 0xff, 0, 0]);
-    assert!(rt;
-        cuts_built(
-            alloc,
-            stereo_sources(alloc, "1, 0"),
-            Form::Dsdiff,
-            master,
-            8
-        )?
-    );
+    assert!(rt; cuts(alloc, stereo_sources(alloc, "1, 0"), master, 8)?);
     Ok(())
 }
 
 #[test]
 fn a_master_is_marked(rt: HostRuntime) -> Result<(), Fail> {
     let alloc = rt.alloc();
-    assert!(rt; cuts_built(alloc, titled_sources(alloc), Form::Dsdiff, titled(alloc), 0)?);
+    assert!(rt; cuts(alloc, titled_sources(alloc), titled(alloc), 0)?);
     Ok(())
 }
 
@@ -244,77 +235,6 @@ fn a_line_is_made(rt: HostRuntime) -> Result<(), Fail> {
     assert!(rt; prints(alloc, rejected, 1, "rejected CuedBit 0 0")?);
     assert!(rt; prints(alloc, Outcome::Fault(Fault::NoSplice), 2, "fault: NoSplice")?);
     assert!(rt; prints(alloc, Outcome::ReadFailed, 2, "fault: ReadFailed")?);
-    Ok(())
-}
-
-// Whether a task over `FILE`, a project and what it is played to comes to this line, and writes one of them.
-fn comes_to_over_file(alloc: Global, task: Task, line: &str) -> Result<bool, Fail> {
-    let project = DECIMATE.as_bytes();
-    let files: [(&str, &[u8]); 3] = [("p.toml", project), ("in.dff", &FILE), ("out", &WAVE)];
-    comes_to(alloc, &files, task, line, 1)
-}
-
-#[test]
-fn the_command_play_ends(rt: HostRuntime) -> Result<(), Fail> {
-    let task = Task::Play {
-        project: "p.toml",
-        input: "in.dff",
-        output: "out",
-    };
-    assert!(rt; comes_to_over_file(rt.alloc(), task, "played 46 bytes")?);
-    Ok(())
-}
-
-#[test]
-fn the_command_convert_ends(rt: HostRuntime) -> Result<(), Fail> {
-    let task = Task::Convert {
-        form: Form::Dsdiff,
-        input: "in.dff",
-        output: "in.dff",
-    };
-    assert!(rt; comes_to_over_file(rt.alloc(), task, "converted dropped 0")?);
-    Ok(())
-}
-
-// Whether a task over the files of a cut comes to this line, and writes so many of them.
-fn comes_to_over_master(
-    alloc: Global,
-    task: Task,
-    line: &str,
-    written: usize,
-) -> Result<bool, Fail> {
-    let text = splice(alloc, "1, 0", &CUES)?;
-    let files: [(&str, &[u8]); 5] = [
-        ("e.toml", text.as_bytes()),
-        ("a.dff", &ONES),
-        ("b.dff", &ZEROS),
-        ("m.dff", &with_sounds([0xff, 0])),
-        ("c.cert", &CERT),
-    ];
-    comes_to(alloc, &files, task, line, written)
-}
-
-#[test]
-fn the_command_edit_ends(rt: HostRuntime) -> Result<(), Fail> {
-    assert!(rt; comes_to_over_master(rt.alloc(), CUT, "edited total 4", 2)?);
-    Ok(())
-}
-
-#[test]
-fn the_command_check_ends(rt: HostRuntime) -> Result<(), Fail> {
-    assert!(rt; comes_to_over_master(rt.alloc(), CHECK, "accepted total 4", 0)?);
-    Ok(())
-}
-
-// Whether a file is told of by this line.
-fn tells(alloc: Global, file: &[u8], line: &str) -> Result<bool, Fail> {
-    comes_to(alloc, &[("in", file)], Task::Info { file: "in" }, line, 0)
-}
-
-#[test]
-fn the_command_info_ends(rt: HostRuntime) -> Result<(), Fail> {
-    let alloc = rt.alloc();
-    assert!(rt; tells(alloc, &noted(alloc, 22)?, MARKED)?);
     Ok(())
 }
 
@@ -383,11 +303,6 @@ fn takes_are_heard_in_one_pass(rt: HostRuntime) -> Result<(), Fail> {
     Ok(())
 }
 
-// How many bytes a reader has.
-fn length_of(alloc: Global, bytes: &[u8]) -> Result<usize, FileFault> {
-    Ok(read_whole(alloc, bytes, 8)?.len())
-}
-
 // How many files are read of those that `SPLICE` names.
 fn number_read(alloc: Global, files: &[(&str, &[u8])]) -> Result<usize, Fail> {
     let names = take_names(alloc, SPLICE.as_bytes())?;
@@ -397,7 +312,8 @@ fn number_read(alloc: Global, files: &[(&str, &[u8])]) -> Result<usize, Fail> {
 #[test]
 fn files_are_read_whole(rt: HostRuntime) -> Result<(), Fail> {
     let alloc = rt.alloc();
-    assert!(rt; length_of(alloc, &FILE)? == 128);
+    assert!(rt; equal(&read_whole(alloc, FILE.as_slice(), 8)?, &FILE));
+    assert!(rt; equal(&read_whole(alloc, b"abc".as_slice(), 2)?, b"abc"));
     assert!(rt; number_read(alloc, &[("a.dff", &FILE), ("b.dff", &[])])? == 2);
     Ok(())
 }

@@ -1,7 +1,6 @@
 //! `convert` and `info` where they don't hold the file: here every file is taken for a large one.
 
-use crate::builders::{CUT_OFF, file_in};
-use crate::conversion::{commented, tagged};
+use crate::builders::{CUT_OFF, commented, file_in, tagged};
 use crate::folders::folder_of;
 use crate::watched_folder::{Failure, NOTHING, WatchedFolder};
 use archive_core::Form;

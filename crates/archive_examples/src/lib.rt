@@ -1,20 +1,18 @@
-//! Worked examples of whole files and of the commands over them.
+//! Worked examples of whole files: of calls over them, of streams from a reader to a writer, and of commands over folders.
 #![tactic(auto)]
 
 #[cfg(test)]
 mod builders;
 #[cfg(test)]
-mod certifying;
+mod calls;
 #[cfg(test)]
 mod checking;
 #[cfg(test)]
-mod command_lines;
-#[cfg(test)]
-mod conversion;
+mod converting;
 #[cfg(test)]
 mod cut_files;
 #[cfg(test)]
-mod cutting;
+mod failing;
 #[cfg(test)]
 mod file_commands;
 #[cfg(test)]
@@ -24,30 +22,32 @@ mod growths;
 #[cfg(test)]
 mod in_blocks;
 #[cfg(test)]
-mod lines;
+mod kept;
+#[cfg(test)]
+mod long_sounds;
 #[cfg(test)]
 mod long_takes;
 #[cfg(test)]
-mod master_commands;
+mod lying_sizes;
 #[cfg(test)]
-mod opening;
+mod master_commands;
 #[cfg(test)]
 mod outcomes;
 #[cfg(test)]
-mod playing;
+mod played;
 #[cfg(test)]
 mod reading_certificates;
 #[cfg(test)]
 mod reading_files;
 #[cfg(test)]
-mod rejecting;
+mod refused;
 #[cfg(test)]
 mod slow_folder;
 #[cfg(test)]
+mod small_files;
+#[cfg(test)]
+mod streamed;
+#[cfg(test)]
 mod streamed_masters;
 #[cfg(test)]
-mod take_names;
-#[cfg(test)]
 mod watched_folder;
-#[cfg(test)]
-mod words;

@@ -1,6 +1,5 @@
 //! Files read whole: one, several in turn, and with a limit to the reads.
 
-use crate::command_lines::words_of;
 use crate::folders::folder_of;
 use crate::watched_folder::{NOTHING, WatchedFolder};
 use command_core::{read_files, read_whole};
@@ -27,12 +26,6 @@ impl Read for Endless {
 }
 
 #[test]
-fn reads_to_the_end(rt: HostRuntime) {
-    let bytes = read_whole(rt.alloc(), b"abc".as_slice(), 2);
-    assert!(rt; matches!(&bytes, Ok(bytes) if equal(bytes, b"abc")));
-}
-
-#[test]
 fn gives_up_a_file_that_has_no_end(rt: HostRuntime) {
     let one = read_whole(rt.alloc(), b"abc".as_slice(), 1);
     assert!(rt; matches!(&one, Err(FileFault::ReadFailed)));
@@ -46,17 +39,16 @@ fn folder(alloc: Global) -> Result<WatchedFolder, AllocError> {
     Ok(WatchedFolder::over(alloc, folder_of(alloc, &files)?, NOTHING))
 }
 
-// Whether the files of these names in the folder are read, and are one of three bytes between two of none.
-fn are_read(alloc: Global, texts: &[&str; 3]) -> Result<bool, AllocError> {
-    let names = words_of(alloc, texts)?;
-    let mut folder = folder(alloc)?;
-    match read_files(alloc, &mut folder, &names) {
-        Ok(files) => Ok(are_one_of_three(&files)),
-        Err(_) => Ok(false),
+// Names of files.
+fn names_of(alloc: Global, texts: &[&str; 3]) -> Result<Vec<String>, AllocError> {
+    let mut names = Vec::new(alloc);
+    for text in texts {
+        names.push(String::from_str(alloc, text)?)?;
     }
+    Ok(names)
 }
 
-// Whether files are these.
+// Whether files are one of three bytes between two of none.
 fn are_one_of_three(files: &[Vec<u8>]) -> bool {
     match files {
         [first, second, third] => { first.is_empty() && equal(second, b"one") && third.is_empty() }
@@ -64,21 +56,30 @@ fn are_one_of_three(files: &[Vec<u8>]) -> bool {
     }
 }
 
-#[test]
-fn reads_files_in_turn(rt: HostRuntime) {
-    assert!(rt; are_read(rt.alloc(), &["b", "a", "b"]).unwrap_or(false));
+// Whether these files are read in turn.
+fn are_read(alloc: Global) -> Result<bool, AllocError> {
+    let names = names_of(alloc, &["b", "a", "b"])?;
+    match read_files(alloc, &mut folder(alloc)?, &names) {
+        Ok(files) => Ok(are_one_of_three(&files)),
+        Err(_) => Ok(false),
+    }
 }
 
-// Whether no file is read of names of which the second is missing, and the third is not opened.
-fn stops_at_the_second(alloc: Global) -> Result<bool, AllocError> {
-    let names = words_of(alloc, &["a", "c", "a"])?;
+#[test]
+fn reads_files_in_turn(rt: HostRuntime) {
+    assert!(rt; are_read(rt.alloc()).unwrap_or(false));
+}
+
+// Whether of names of which the second is missing the third is not opened.
+fn stops_at_missing(alloc: Global) -> Result<bool, AllocError> {
+    let names = names_of(alloc, &["a", "c", "a"])?;
     let mut folder = folder(alloc)?;
     let refused = read_files(alloc, &mut folder, &names);
-    let failed = matches!(&refused, Err(FileFault::ReadFailed));
-    Ok(failed && folder.calls.as_str() == "open a\nopen c\n")
+    let calls = folder.calls.as_str() == "open a\nopen c\n";
+    Ok(calls && matches!(&refused, Err(FileFault::ReadFailed)))
 }
 
 #[test]
 fn stops_at_the_first_file_that_is_missing(rt: HostRuntime) {
-    assert!(rt; stops_at_the_second(rt.alloc()).unwrap_or(false));
+    assert!(rt; stops_at_missing(rt.alloc()).unwrap_or(false));
 }

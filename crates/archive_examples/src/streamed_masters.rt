@@ -1,17 +1,13 @@
-//! `check` of masters that it reads once, and doesn't hold.
+//! `check` of masters that it reads once, and doesn't hold: which files it asks for, also where a call fails. What it says
+//! of small masters is asked of the command, by `tools/try_commands`.
 
-use crate::builders::{
-    CUES, CUT_OFF, CueNumbers, ONES, Sources, fast, mono_sources, sources_with, splice,
-    stereo_sources, titled, titled_sources,
-};
-use crate::certifying::{CERT, FREE};
+use crate::builders::{CERT, CUES, FREE, ONES, Sources, ZEROS, fast, sources_with, splice};
 use crate::folders;
-use crate::folders::{asks, comes_to};
+use crate::folders::asks;
 use crate::master_commands::CHECK;
 use crate::watched_folder::{Asked, NOTHING};
-use archive_core::{Fault, Form};
 use command_core::MemoryFolder;
-use fixtures::files::{FILE, stereo, with_sounds};
+use fixtures::files::with_sounds;
 use std::alloc::{AllocError, Global};
 
 // A folder of a project, its takes, a master and a certificate.
@@ -30,139 +26,6 @@ fn folder_of(
         ("c.cert", cert),
     ];
     folders::folder_of(alloc, &files)
-}
-
-// Whether a check comes to this status and line, and creates nothing.
-fn says(
-    alloc: Global,
-    sources: &Sources,
-    master: &[u8],
-    cert: &[u8],
-    (number, line): (u8, &str),
-) -> Result<bool, AllocError> {
-    let mut folder = folder_of(alloc, sources, master, cert)?;
-    Ok(comes_to(alloc, &mut folder, CHECK, number, line)? && folder.count() == 5)
-}
-
-// Whether what is cut is accepted in each form, at no cost.
-fn accepts(alloc: Global, sources: Result<Sources, AllocError>) -> Result<bool, Fault> {
-    let sources = sources?;
-    for form in &[Form::Dsdiff, Form::Dsf, Form::Dsf8] {
-        if !is_accepted(alloc, &sources, *form)? {
-            return Ok(false);
-        }
-    }
-    Ok(true)
-}
-
-// The same in one form.
-fn is_accepted(alloc: Global, sources: &Sources, form: Form) -> Result<bool, Fault> {
-    let made = sources.edit(alloc, form)?;
-    let free = (0, "accepted total 0");
-    Ok(says(alloc, sources, &made.master, &made.cert, free)?)
-}
-
-// Three cues of one channel, whose bridges are the bits at the places 8 and 10.
-const THERE_AND_BACK: [CueNumbers; 3] = [(0, 0, 8, 1), (1, 2, 3, 1), (0, 2, 7, 0)];
-
-#[test]
-fn accepts_masters(rt: HostRuntime) {
-    let alloc = rt.alloc();
-    assert!(rt; accepts(alloc, stereo_sources(alloc, "1, 1")).unwrap_or(false));
-    assert!(rt; accepts(alloc, titled_sources(alloc)).unwrap_or(false));
-    let back = mono_sources(alloc, "1, 1", &THERE_AND_BACK);
-    assert!(rt; accepts(alloc, back).unwrap_or(false));
-}
-
-// Whether a master with this file is rejected so, with the certificate of what is cut.
-fn rejects(
-    alloc: Global,
-    sources: Result<Sources, AllocError>,
-    master: &[u8],
-    line: &str,
-) -> Result<bool, Fault> {
-    let sources = sources?;
-    let made = sources.edit(alloc, Form::Dsdiff)?;
-    Ok(says(alloc, &sources, master, &made.cert, (1, line))?)
-}
-
-// The same of a file that was built.
-fn rejects_built(
-    alloc: Global,
-    sources: Result<Sources, AllocError>,
-    master: Result<Vec<u8>, AllocError>,
-    line: &str,
-) -> Result<bool, Fault> {
-    rejects(alloc, sources, &master?, line)
-}
-
-// A byte of each channel in turn: what is cut is ff ff, 00 00, of which the bit at place 8 is the bridge of each. A bit of
-// a cue differs in one channel or in both; the bit of a bridge costs more as a 1; then there is a byte more of each
-// channel.
-const SOUNDS: [(&[u8], &str); 7] = [
-    (&[0x7f, 0xff, 0, 0], "rejected CuedBit 0 0"),
-    (&[0xff, 0xff, 0, 1], "rejected CuedBit 1 15"),
-    (&[0xff, 0x7f, 1, 0], "rejected CuedBit 0 15"),
-    (&[0xff, 0xff, 0x81, 1], "rejected CuedBit 0 15"),
-    (&[0xff, 0xff, 0x80, 0], "rejected Cert 0 Cost"),
-    (&[0xff, 0xff, 0, 0x80], "rejected Cert 1 Cost"),
-    (&[0xff, 0xff, 0, 0, 0, 0], "rejected MasterLength"),
-];
-
-#[test]
-fn tells_the_first_reason_in_a_sound(rt: HostRuntime) {
-    let alloc = rt.alloc();
-    for (sound, line) in &SOUNDS {
-        let sources = stereo_sources(alloc, "1, 1");
-        let rejected = rejects_built(alloc, sources, stereo(alloc, sound), line);
-        assert!(rt; rejected.unwrap_or(false), "{line}");
-    }
-}
-
-// The same of three cues: what is cut is ff, 3f.
-const LATER: [([u8; 2], &str); 3] = [
-    ([0xff, 0xbf], "rejected Cert 0 Cost"),
-    ([0xff, 0x1f], "rejected Cert 1 Cost"),
-    ([0xff, 0x7f], "rejected CuedBit 0 9"),
-];
-
-#[test]
-fn tells_which_bridge_costs_more(rt: HostRuntime) {
-    let alloc = rt.alloc();
-    for (sound, line) in &LATER {
-        let sources = mono_sources(alloc, "1, 1", &THERE_AND_BACK);
-        let rejected = rejects(alloc, sources, &with_sounds(*sound), line);
-        assert!(rt; rejected.unwrap_or(false), "{line}");
-    }
-}
-
-// Masters of the project of `CUES`: one of 8 bits, one whose sound is cut off, and what is no file.
-const MASTERS: [(&[u8], &str); 4] = [
-    (&FILE, "rejected MasterLength"),
-    (&CUT_OFF, "rejected MasterUnread"),
-    (&[1, 2, 3], "rejected MasterUnread"),
-    (&[], "rejected MasterUnread"),
-];
-
-// Another rate, one channel in place of two, no mark for a title, and a mark for none.
-#[test]
-fn tells_the_first_reason_in_a_master(rt: HostRuntime) {
-    let alloc = rt.alloc();
-    for (master, line) in &MASTERS {
-        let sources = mono_sources(alloc, "1, 1", &CUES);
-        assert!(rt;
-            rejects(alloc, sources, master, line).unwrap_or(false),
-            "{line}"
-        );
-    }
-    let [shape, marks] = ["rejected MasterShape", "rejected MasterMarks"];
-    let sources = mono_sources(alloc, "1, 1", &CUES);
-    assert!(rt; rejects(alloc, sources, &fast([0xff, 0]), shape).unwrap_or(false));
-    let bare = with_sounds([0xff, 0]);
-    assert!(rt; rejects(alloc, stereo_sources(alloc, "1, 1"), &bare, shape).unwrap_or(false));
-    assert!(rt; rejects(alloc, titled_sources(alloc), &bare, marks).unwrap_or(false));
-    let sources = mono_sources(alloc, "1, 1", &CUES);
-    assert!(rt; rejects_built(alloc, sources, titled(alloc), marks).unwrap_or(false));
 }
 
 // What a folder is asked for up to the takes, up to the master, and up to its certificate.
@@ -209,7 +72,8 @@ const CALLS: [Asked; 6] = [
 
 // The folder of what is cut.
 fn cut(alloc: Global) -> Result<MemoryFolder, AllocError> {
-    let sources = mono_sources(alloc, "1, 1", &CUES)?;
+    let text = splice(alloc, "1, 1", &CUES);
+    let sources = sources_with(alloc, text, &ONES, &ZEROS)?;
     folder_of(alloc, &sources, &with_sounds([0xff, 0]), &FREE)
 }
 

@@ -3,7 +3,7 @@
 ghost use Rattle.std.specs.Prelude.{None, false};
 
 use command_core::{Folder, FolderFault, MemoryFolder};
-use std::alloc::{AllocError, Global};
+use std::alloc::Global;
 use std::fmt::Write as _;
 use std::io;
 use std::io::{Cursor, ErrorKind, Read, Write};

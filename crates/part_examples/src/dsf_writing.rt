@@ -1,0 +1,135 @@
+//! Recordings with the DSF 1.01 files that they are written to, and read again.
+
+ghost use Rattle.std.specs.Prelude.{◌≡◌, length, IfOk};
+
+use crate::told::{Numbers, has_ids, has_sound, numbers_of, sound_of};
+use dsd_bits::{BitOrder, Bits, Recording};
+use dsf_core::{DsfFault, read, write};
+use fixtures::compared::equal;
+use fixtures::files::{DSF_FRONT, dsf_of, filled};
+use std::alloc::{AllocError, Global};
+use std::test::Fail;
+
+// So many bytes of one value, and a last one.
+fn ending_in(alloc: Global, byte: u8, number: usize, last: u8) -> Result<Vec<u8>, AllocError> {
+    let mut made = vec![in alloc; byte; number]?;
+    made.push(last)?;
+    Ok(made)
+}
+
+// 32769 bits, so many of the bytes 35 with one bit behind them.
+fn channel(alloc: Global, last: u8) -> Result<Bits, AllocError>
+    ensures { IfOk result (λ bits. length bits ≡ 32769) }
+{
+    let bytes = ending_in(alloc, 0x35, 4096, last)?;
+    match Bits::from_packed(alloc, &bytes, 32769) {
+        Ok(bits) if bits.len() == 32769 => Ok(bits),
+        _ => Err(AllocError),
+    }
+}
+
+// A recording of two channels with 32769 bits, of which the last is 1 in the first channel alone.
+fn two_channels(alloc: Global) -> Result<Recording, AllocError> {
+    let left = channel(alloc, 0xff)?;
+    let right = channel(alloc, 0x35)?;
+    Ok(Recording::new(
+        5644800,
+        vec![in alloc; left, right]?,
+        vec![in alloc; *b"LLLL", *b"RRRR"]?,
+        2,
+        Vec::new(alloc),
+        Vec::new(alloc),
+        b"ID3".to_vec(alloc)?,
+    ))
+}
+
+// Whether a file has two groups of a block for each channel: with so many bits per sample, with this first byte
+// of both blocks of the first group, and of the second group's with this one and 0.
+fn has_groups(file: &[u8], (bits, first, last): (u8, u8, u8)) -> bool {
+    file.len() == 16479
+        && byte(file, 60) == bits
+        && byte(file, 92) == first
+        && byte(file, 4188) == first
+        && byte(file, 8284) == last
+        && byte(file, 12380) == 0
+}
+
+// The byte at a place, 0xee where there is none.
+fn byte(file: &[u8], place: usize) -> u8 {
+    file.get(place).copied().unwrap_or(0xee)
+}
+
+// What two channels have.
+const TWO_CHANNELS: Numbers = Numbers {
+    rate: 5644800,
+    layout: 2,
+    channels: 2,
+    bits: 32769,
+    marks: 0,
+    others: 0,
+    tag: 3,
+};
+
+// Whether a recording is read as this one of two channels that was written, but for the IDs, which DSF has for two
+// channels.
+fn is_same(read: &Recording, written: &Recording) -> bool {
+    numbers_of(written) == TWO_CHANNELS
+        && numbers_of(read) == TWO_CHANNELS
+        && has_ids(read, &[*b"SLFT", *b"SRGT"])
+        && equal(read.tag(), b"ID3")
+        && has_sound(read, 0, sound_of(written, 0))
+        && has_sound(read, 1, sound_of(written, 1))
+}
+
+// Whether a file in this order of bits is read as this recording, in the same order.
+fn is_read(
+    alloc: Global,
+    file: &[u8],
+    written: &Recording,
+    order: BitOrder,
+) -> Result<bool, DsfFault> {
+    let (again, order_read) = read(alloc, file)?;
+    Ok(order_read == order && is_same(&again, written))
+}
+
+// Whether two channels are written so in this order of bits, and read as the same, in the same order.
+fn is_written(alloc: Global, order: BitOrder, parts: (u8, u8, u8)) -> Result<bool, DsfFault> {
+    let written = two_channels(alloc)?;
+    let file = write(alloc, &written, order)?;
+    let is_read = is_read(alloc, &file, &written, order)?;
+    Ok(is_read && has_groups(&file, parts))
+}
+
+#[test]
+fn writes_two_groups_of_blocks_and_reads_them(rt: HostRuntime) {
+    let least = is_written(rt.alloc(), BitOrder::LeastFirst, (1, 0xac, 0x01));
+    assert!(rt; least.unwrap_or(false), "1 bit per sample");
+    let most = is_written(rt.alloc(), BitOrder::MostFirst, (8, 0x35, 0x80));
+    assert!(rt; most.unwrap_or(false), "8 bits per sample");
+}
+
+// The file of a recording of the file that is read.
+fn written_again(alloc: Global, file: &[u8]) -> Result<Vec<u8>, DsfFault> {
+    let (recording, order) = read(alloc, file)?;
+    Ok(write(alloc, &recording, order)?)
+}
+
+// Whether the file of `DSF_FRONT` is written again as this one.
+fn is_written_again(alloc: Global, expected: &[u8]) -> Result<bool, DsfFault> {
+    let file = filled(alloc, &DSF_FRONT, 4188)?;
+    let again = written_again(alloc, &file)?;
+    Ok(equal(&again, expected))
+}
+
+// The same of a file that was built.
+fn is_written_as(alloc: Global, expected: Result<Vec<u8>, AllocError>) -> Result<bool, DsfFault> {
+    is_written_again(alloc, &expected?)
+}
+
+// The bits of the byte 0f behind the first are no sound: zeros stand there.
+#[test]
+fn writes_the_one_bit_that_it_read(rt: HostRuntime) -> Result<(), Fail> {
+    let expected = dsf_of(rt.alloc(), (1, 1, 1), &[0x01], 4096, &[]);
+    assert!(rt; is_written_as(rt.alloc(), expected)?);
+    Ok(())
+}

@@ -1,0 +1,71 @@
+//! Worked examples of the parts that files and masters are made of: bits, chunks, devices, both formats, WAVE files and
+//! projects; decimation, frames, the costs and the bits of bridges, certificates, and sound bytes that are interleaved
+//! otherwise.
+#![tactic(auto)]
+
+#[cfg(test)]
+mod bridges;
+#[cfg(test)]
+mod certificate_checking;
+#[cfg(test)]
+mod certificate_writing;
+#[cfg(test)]
+mod certificates;
+#[cfg(test)]
+mod chunks;
+#[cfg(test)]
+mod compared;
+#[cfg(test)]
+mod decimation;
+#[cfg(test)]
+mod decimators;
+#[cfg(test)]
+mod devices;
+#[cfg(test)]
+mod dsdiff_fronts;
+#[cfg(test)]
+mod dsdiff_marks;
+#[cfg(test)]
+mod dsdiff_outlines;
+#[cfg(test)]
+mod dsdiff_reading;
+#[cfg(test)]
+mod dsdiff_refusals;
+#[cfg(test)]
+mod dsdiff_writing;
+#[cfg(test)]
+mod dsf_fronts;
+#[cfg(test)]
+mod dsf_outlines;
+#[cfg(test)]
+mod dsf_reading;
+#[cfg(test)]
+mod dsf_refusals;
+#[cfg(test)]
+mod dsf_writing;
+#[cfg(test)]
+mod kernels;
+#[cfg(test)]
+mod laced_blocks;
+#[cfg(test)]
+mod laced_bytes;
+#[cfg(test)]
+mod names;
+#[cfg(test)]
+mod packed_bits;
+#[cfg(test)]
+mod players;
+#[cfg(test)]
+mod projects;
+#[cfg(test)]
+mod relacing;
+#[cfg(test)]
+mod rows;
+#[cfg(test)]
+mod streams;
+#[cfg(test)]
+mod told;
+#[cfg(test)]
+mod wave;
+#[cfg(test)]
+mod windows;

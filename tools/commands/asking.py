@@ -1,0 +1,127 @@
+"""Asks the built program command lines, each case in a fresh folder. A status has to be the one that is written, standard
+output and standard error too, byte by byte, and behind each command line just those files have to stand that were there
+or that it has to make, with their bytes.
+
+DSDARC names another program: the built one itself, for bin/dsdarc answers some words of its own."""
+import os
+import subprocess
+import sys
+import tempfile
+from collections import namedtuple
+from concurrent.futures import ThreadPoolExecutor
+
+ROOT = os.path.dirname(os.path.dirname(os.path.dirname(os.path.abspath(__file__))))
+PROGRAM = os.path.abspath(os.environ.get("DSDARC") or os.path.join(ROOT, "crates", "dsdarc", "out", "dsdarc"))
+
+# No file.
+NONE = {}
+
+# The usual names of what a master is cut by and of what is cut.
+EDIT = "edit dsdiff e.toml m.dff c.cert"
+CHECK = "check e.toml m.dff c.cert"
+
+# A command line, its words behind the program's name, or none where there is no name either; the status, the line that is
+# printed, on standard output where the status is 0 or 1 and else on standard error, and the files that are made.
+Step = namedtuple("Step", "words status line made", defaults=(NONE,))
+
+# The files that are there, and command lines one after the other.
+Case = namedtuple("Case", "files steps")
+
+
+def done(words, line, made=NONE):
+    return Step(words.split(), 0, line, made)
+
+
+def refused(words, line, made=NONE):
+    return Step(words.split(), 2, f"fault: {line}", made)
+
+
+def rejected(words, line):
+    return Step(words.split(), 1, f"rejected {line}")
+
+
+def unread(words, line):
+    return Step(words, 3, f"fault: {line}")
+
+
+def demand(holds, text):
+    """Ends all where what is written in a table doesn't fit itself."""
+    if not holds:
+        sys.exit(f"{os.path.basename(sys.argv[0])}: {text}")
+
+
+def files_in(folder):
+    """The bytes of each file of a folder, and None of what is no file."""
+    found = {}
+    for entry in os.scandir(folder):
+        found[entry.name] = None
+        if entry.is_file(follow_symlinks=False):
+            with open(entry.path, "rb") as file:
+                found[entry.name] = file.read()
+    return found
+
+
+def differences(found, stands):
+    """In what the files of a folder differ from those that have to stand there."""
+    for name in sorted(found.keys() | stands.keys()):
+        if name not in stands:
+            yield f"{name} was made"
+        elif found.get(name) is None:
+            yield f"{name} is missing, or no file"
+        elif found[name] != stands[name]:
+            yield f"{name} has other bytes, {found[name][:200].hex()}.. of {len(found[name])}"
+
+
+def wrong_in(step, folder, stands):
+    """What is wrong where a command line is run in a folder, and these files have to stand behind it."""
+    words = [] if step.words is None else ["dsdarc", *step.words]
+    ran = subprocess.run(
+        words, executable=PROGRAM, cwd=folder, stdin=subprocess.DEVNULL, capture_output=True, check=False
+    )
+    line = step.line.encode() + b"\n"
+    out, err = (line, b"") if step.status < 2 else (b"", line)
+    if ran.returncode != step.status:
+        yield f"status {ran.returncode}, not {step.status}"
+    if ran.stdout != out:
+        yield f"standard output {ran.stdout}, not {out}"
+    if ran.stderr != err:
+        yield f"standard error {ran.stderr}, not {err}"
+    yield from differences(files_in(folder), stands)
+
+
+def try_case(case):
+    """Runs the command lines of a case: what is wrong with each."""
+    found, stands = [], dict(case.files)
+    with tempfile.TemporaryDirectory() as folder:
+        for name, data in stands.items():
+            with open(os.path.join(folder, name), "wb") as file:
+                file.write(data)
+        for step in case.steps:
+            stands.update(step.made)
+            found.append(list(wrong_in(step, folder, stands)))
+    return found
+
+
+def tell(case, found):
+    """Prints what is wrong with the command lines of a case, and over which files: how many were answered as they must
+    be."""
+    for step, wrong in zip(case.steps, found):
+        for each in wrong:
+            print(f"  FOUND: dsdarc {step.words}: {each}", flush=True)
+    if any(found):
+        over = (f"{name} {data if len(data) < 500 else len(data)}" for name, data in case.files.items())
+        print(f"  OVER: {'; '.join(over)}", flush=True)
+    return sum(not wrong for wrong in found)
+
+
+def ask(title, cases):
+    """Runs all cases, some side by side, and prints how they were answered: 0, or 1 where one failed."""
+    if not os.path.exists(PROGRAM):
+        sys.exit(f"{os.path.basename(sys.argv[0])}: run bin/dsdarc first")
+    cases = list(cases)
+    with ThreadPoolExecutor(os.cpu_count()) as pool:
+        right = sum(map(tell, cases, pool.map(try_case, cases)))
+    number = sum(len(case.steps) for case in cases)
+    told_of = "each answered as it must be" if right == number else f"{number - right} not answered as they must be"
+    print(f"{title}: {number} cases, {told_of}")
+    return 0 if right == number else 1

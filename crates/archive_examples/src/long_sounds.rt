@@ -8,8 +8,8 @@ use fixtures::files::{MONO, RATE, RAW, STEREO, dsf_of, file_of, mono};
 use fixtures::projects::{DECIMATE, Numbers, project, with_ones};
 use std::alloc::{AllocError, Global};
 
-// So many bytes, in no order.
-fn noise(alloc: Global, size: usize) -> Result<Vec<u8>, AllocError> {
+/// So many bytes, in no order.
+pub(crate) fn noise(alloc: Global, size: usize) -> Result<Vec<u8>, AllocError> {
     let mut bytes = vec![in alloc; 0u8; size]?;
     let mut state = 1u32;
     for byte in &mut bytes {

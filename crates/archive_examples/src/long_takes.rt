@@ -3,6 +3,7 @@
 use crate::builders::{CUT_OFF, CueNumbers, ONES, Sources, ZEROS, sources_of, splice};
 use crate::folders;
 use crate::folders::{comes_to, holds, is_refused, outcome_of};
+use crate::long_sounds::noise;
 use crate::master_commands::{CHECK, CUT};
 use crate::watched_folder::{Failure, NOTHING, WatchedFolder};
 use archive_core::{Edited, Fault, Form};
@@ -19,17 +20,6 @@ const LONG_CUES: [CueNumbers; 4] = [
     (1, 5, 18, 4),
     (0, 8_388_604, 8_388_616, 0),
 ];
-
-// So many bytes, in no order.
-fn noise(alloc: Global, size: usize) -> Result<Vec<u8>, AllocError> {
-    let mut bytes = vec![in alloc; 0u8; size]?;
-    let mut state = 1u32;
-    for byte in &mut bytes {
-        state = state.wrapping_mul(1_664_525).wrapping_add(1_013_904_223);
-        *byte = (state >> 24) as u8;
-    }
-    Ok(bytes)
-}
 
 // Cues of which the master is longer than 2 MiB: 8,488,600 bits a channel.
 const LONG_MASTER: [CueNumbers; 2] = [(0, 3, 8_388_600, 3), (1, 1_005, 101_005, 0)];

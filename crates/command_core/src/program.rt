@@ -10,15 +10,18 @@ use disk_core::Disk;
 use folder_core::{Folder, WatchedFolder};
 use std::alloc::Global;
 use std::io;
+use std::io::Input;
 use std::os::fd::AsFd;
 use std::process::ExitCode;
 use std::rt::{Clock, Env, Files};
 use words_core::task_of;
 
 /// Does what the words of a runtime ask for on its disk, tells it on its output, and answers the status that the
-/// program ends with. What was done or judged goes to standard output, a fault to standard error. The process is named by
-/// its number; where it is watched, standard error shows how far a file is read that takes more than a second.
-pub fn run_program<R: Env + Files + Clock + Print + Eprint + AllocGlobal>(
+/// program ends with. What was done or judged goes to standard output, a fault to standard error. Where standard output is
+/// a file that was written, what was done goes to standard error, and where that is the same file it isn't told. The
+/// process is named by its number; where it is watched, standard error shows how far a file is read that takes more than
+/// a second.
+pub fn run_program<R: Env + Files + Clock + Input + Print + Eprint + AllocGlobal>(
     rt: &R,
     process: u32,
     is_watched: bool,
@@ -26,30 +29,48 @@ pub fn run_program<R: Env + Files + Clock + Print + Eprint + AllocGlobal>(
 where
     R::File: AsFd,
 {
-    let outcome = match given_words(rt) {
+    let (outcome, answers) = match given_words(rt) {
         Ok(words) => run_on_disk(rt, words.as_slice(), process, is_watched),
-        Err(error) if error.kind() == io::ErrorKind::OutOfMemory => Fault::Memory.into(),
-        Err(_) => Outcome::WrongWords,
+        Err(error) if error.kind() == io::ErrorKind::OutOfMemory => {
+            (Fault::Memory.into(), Answers::ToOutput)
+        }
+        Err(_) => (Outcome::WrongWords, Answers::ToOutput),
     };
-    ExitCode::from(status(&tell(rt, outcome)))
+    ExitCode::from(status(&tell(rt, outcome, answers)))
 }
 
-// A file that was not created for want of memory is told as that.
-fn run_on_disk<R: Files + Clock + Eprint + AllocGlobal>(
+// Where the line of a command that was done goes.
+#[derive(Clone, Copy)]
+enum Answers {
+    ToOutput,
+    // Standard output is a file that was written.
+    ToError,
+    // Standard error is that file too, and no terminal.
+    Nowhere,
+}
+
+// A file that was not opened or created for want of memory is told as that.
+fn run_on_disk<R: Files + Clock + Input + Print + Eprint + AllocGlobal>(
     rt: &R,
     words: &[String],
     process: u32,
     is_watched: bool,
-) -> Outcome
+) -> (Outcome, Answers)
 where
     R::File: AsFd,
 {
     let mut folder = WatchedFolder::new(rt, Disk::new(rt, process), is_watched);
     let outcome = run(rt.alloc(), words, &mut folder);
-    if folder.into_inner().has_wanted_memory() {
-        return Fault::Memory.into();
+    let disk = folder.into_inner();
+    let answers = match (disk.has_used_output(), disk.is_error_output()) {
+        (false, _) => Answers::ToOutput,
+        (true, true) if !is_watched => Answers::Nowhere,
+        (true, _) => Answers::ToError,
+    };
+    if disk.has_wanted_memory() {
+        return (Fault::Memory.into(), answers);
     }
-    outcome
+    (outcome, answers)
 }
 
 /// Does the command that the words ask for, the program's name first, by [`perform`]. The first fault is what the
@@ -69,19 +90,24 @@ fn given_words<R: Env + AllocGlobal>(rt: &R) -> io::Result<Vec<String>> {
 }
 
 // What a command came to once it is told of: an outcome whose line there is no room for is want of memory, and an
-// answer that standard output doesn't take is a failed write. The fault itself needs no one to read it.
-fn tell<R: Print + Eprint + AllocGlobal>(rt: &R, outcome: Outcome) -> Outcome {
-    match outcome_line(rt.alloc(), &outcome) {
-        Ok(line) if is_answer(&outcome) => match println!(rt; "{line}") {
-            Ok(()) => outcome,
-            Err(_) => untold(rt, Outcome::WriteFailed),
-        },
-        Ok(line) => {
-            let _ = eprintln!(rt; "{line}");
-            outcome
+// answer that standard output doesn't take is a failed write. The fault itself, and an answer that goes to standard error,
+// need no one to read them.
+fn tell<R: Print + Eprint + AllocGlobal>(rt: &R, outcome: Outcome, answers: Answers) -> Outcome {
+    let Ok(line) = outcome_line(rt.alloc(), &outcome) else {
+        return untold(rt, Fault::Memory.into());
+    };
+    match answers {
+        Answers::ToOutput if is_answer(&outcome) => {
+            if println!(rt; "{line}").is_err() {
+                return untold(rt, Outcome::WriteFailed);
+            }
         }
-        Err(_) => untold(rt, Fault::Memory.into()),
+        Answers::Nowhere if is_answer(&outcome) => {}
+        _ => {
+            let _ = eprintln!(rt; "{line}");
+        }
     }
+    outcome
 }
 
 // What was done or judged goes to standard output, a fault to standard error.

@@ -1,5 +1,7 @@
 //! A file of the operating system that is being written.
 
+ghost use Rattle.std.specs.Io.{WritesAtMost};
+
 use crate::places::Target;
 use std::fs::OpenFile;
 use std::io::{ErrorKind, Write};
@@ -8,11 +10,20 @@ use std::{fs, io};
 
 /// A file of a [`Disk`](crate::Disk) that is being written. It is let go only by
 /// [`keep`](folder_core::Folder::keep) and [`give_up`](folder_core::Folder::give_up).
-pub struct DiskFile<F> {
-    file: F,
-    // Where it is written and where it is to go; none where it is written as it stands.
-    beside: Option<Beside>,
+pub struct DiskFile<F, O> {
+    destination: Destination<F, O>,
     has_failed: bool,
+}
+
+// Where the bytes go.
+#[derive(Drop)]
+enum Destination<F, O> {
+    // To a file beside the one that it is to replace.
+    Beside(F, Beside),
+    // To the file itself.
+    InPlace(InPlace<F>),
+    // To standard output.
+    Output(O),
 }
 
 // A path beside that of a file, and where it is to go.
@@ -22,80 +33,126 @@ struct Beside {
     target: Target,
 }
 
-impl<F> DiskFile<F> {
-    // A file that is written as it stands.
-    pub(crate) fn in_place(file: F) -> DiskFile<F> {
-        DiskFile {
-            file,
-            beside: None,
-            has_failed: false,
-        }
+// A file that is written as it stands. What it held goes at the first write, or when it is kept.
+#[derive(Drop)]
+struct InPlace<F> {
+    file: F,
+    holds_old: bool,
+}
+
+impl<F, O> DiskFile<F, O> {
+    // A file that is written as it stands, with what it held before or without.
+    pub(crate) fn in_place(file: F, holds_old: bool) -> Self {
+        Self::to(Destination::InPlace(InPlace { file, holds_old }))
     }
 
     // A file that is written under another name, and then put in its place.
-    pub(crate) fn beside(file: F, leftover: String, target: Target) -> DiskFile<F> {
+    pub(crate) fn beside(file: F, leftover: String, target: Target) -> Self {
+        Self::to(Destination::Beside(file, Beside { leftover, target }))
+    }
+
+    // Standard output.
+    pub(crate) fn output(output: O) -> Self {
+        Self::to(Destination::Output(output))
+    }
+
+    fn to(destination: Destination<F, O>) -> Self {
         DiskFile {
-            file,
-            beside: Some(Beside { leftover, target }),
+            destination,
             has_failed: false,
         }
     }
 }
 
-impl<F: OpenFile + Drop> DiskFile<F> {
+impl<F: OpenFile + Drop, O: Drop> DiskFile<F, O> {
     // Gives the file its name once its bytes are on the device, and else removes what was written.
     pub(crate) fn put_in_place<R: Files>(self, rt: &R) -> io::Result<()> {
         let DiskFile {
-            file,
-            beside,
+            destination,
             has_failed,
         } = self;
-        let Some(Beside { leftover, target }) = beside else {
-            return Ok(());
-        };
+        match destination {
+            Destination::Beside(file, beside) => beside.end(rt, &file, has_failed),
+            Destination::InPlace(mut stands) => stands.empty(),
+            Destination::Output(_) => Ok(()),
+        }
+    }
+
+    // Gives the file its name where no other has it, and else removes what was written.
+    pub(crate) fn give_up<R: Files>(self, rt: &R) {
+        let DiskFile {
+            destination,
+            has_failed,
+        } = self;
+        if let Destination::Beside(file, beside) = destination {
+            let has_failed = has_failed || beside.target.is_there();
+            let _ = beside.end(rt, &file, has_failed);
+        }
+    }
+}
+
+impl Beside {
+    // Puts what was written in the place of its target, or removes it where a write failed or it can't be put there.
+    fn end<R: Files>(&self, rt: &R, file: &impl OpenFile, has_failed: bool) -> io::Result<()> {
         let put = if has_failed {
             Err(io::Error::from(ErrorKind::WriteZero))
         } else {
-            replace(rt, &file, leftover.as_str(), &target)
+            self.replace(rt, file)
         };
         if put.is_err() {
-            let _ = fs::remove_file(rt, leftover.as_str());
+            let _ = fs::remove_file(rt, self.leftover.as_str());
         }
         put
     }
 
-    // Gives the file its name where no other has it, and else removes what was written.
-    pub(crate) fn give_up<R: Files>(mut self, rt: &R) {
-        self.has_failed |= self.replaces();
-        let _ = self.put_in_place(rt);
+    // The new name is on the device too where the folder can be opened.
+    fn replace<R: Files>(&self, rt: &R, file: &impl OpenFile) -> io::Result<()> {
+        file.sync_data()?;
+        fs::rename(rt, self.leftover.as_str(), self.target.path())?;
+        if let Ok(folder) = fs::open(rt, self.target.folder()) {
+            let _ = folder.sync_all();
+        }
+        Ok(())
+    }
+}
+
+impl<F: OpenFile> InPlace<F> {
+    // Takes away what the file held before.
+    fn empty(&mut self) -> io::Result<()> {
+        if self.holds_old {
+            self.file.set_len(0)?;
+            self.holds_old = false;
+        }
+        Ok(())
+    }
+}
+
+impl<F: Write + OpenFile, O: Write> Destination<F, O> {
+    fn write(&mut self, buf: &[u8]) -> io::Result<usize>
+        ensures bound { WritesAtMost result buf.now }
+    {
+        match self {
+            Destination::Beside(file, _) => file.write(buf),
+            Destination::InPlace(stands) => {
+                stands.empty()?;
+                stands.file.write(buf)
+            }
+            Destination::Output(output) => output.write(buf),
+        }
     }
 
-    fn replaces(&self) -> bool {
-        match &self.beside {
-            Some(beside) => beside.target.is_there(),
-            None => false,
+    fn flush(&mut self) -> io::Result<()> {
+        match self {
+            Destination::Beside(file, _) => file.flush(),
+            Destination::InPlace(stands) => stands.file.flush(),
+            Destination::Output(output) => output.flush(),
         }
     }
 }
 
-// The new name is on the device too where the folder can be opened.
-fn replace<R: Files>(
-    rt: &R,
-    file: &impl OpenFile,
-    leftover: &str,
-    target: &Target,
-) -> io::Result<()> {
-    file.sync_data()?;
-    fs::rename(rt, leftover, target.path())?;
-    if let Ok(folder) = fs::open(rt, target.folder()) {
-        let _ = folder.sync_all();
-    }
-    Ok(())
-}
-
-impl<F: Write> Write for DiskFile<F> {
+impl<F: Write + OpenFile, O: Write> Write for DiskFile<F, O> {
     fn write(&mut self, buf: &[u8]) -> io::Result<usize> {
-        match self.file.write(buf) {
+        match self.destination.write(buf) {
             Ok(count) => {
                 self.has_failed |= count == 0 && !buf.is_empty();
                 Ok(count)
@@ -108,6 +165,6 @@ impl<F: Write> Write for DiskFile<F> {
     }
 
     fn flush(&mut self) -> io::Result<()> {
-        self.file.flush()
+        self.destination.flush()
     }
 }

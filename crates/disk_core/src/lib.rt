@@ -7,7 +7,11 @@
 
 mod disk;
 mod disk_file;
+mod disk_input;
+mod leftovers;
+mod opened;
 mod places;
 
 pub use disk::Disk;
 pub use disk_file::DiskFile;
+pub use disk_input::DiskInput;

@@ -1,27 +1,18 @@
 //! Where new files of the operating system go.
 
 use crate::disk_file::DiskFile;
-use std::alloc::AllocError;
-use std::fmt::Write;
-use std::fs::{Metadata, OpenFile, OpenOptions, Permissions};
-use std::io::{Error, ErrorKind};
+use crate::leftovers::{MOST_ADDED_BYTES, create_beside, folder_of, remove_abandoned};
+use crate::opened::{Opened, STANDARD};
+use std::fs::{Metadata, OpenFile, OpenOptions};
+use std::io::{Error, ErrorKind, Printer};
 use std::os::fd::AsFd;
-use std::os::unix::fs::{MetadataExt, OpenOptionsExt, PermissionsExt, fchown};
+use std::os::unix::fs::MetadataExt;
 use std::path::PathBuf;
 use std::rt::Files;
 use std::{fs, io};
 
 // How many links are followed; Linux follows as many.
 const MOST_LINKS: u32 = 40;
-
-// How many names are tried.
-const MOST_LEFTOVERS: u32 = 1000;
-
-// Longer names don't stand in a leftover's, for a name has 255 bytes at most.
-const MOST_NAME_BYTES: usize = 200;
-
-// How many bytes a leftover's name has at most beside the file's own: `.`, `.dsdarc-`, ten digits, `-`, three digits.
-const MOST_ADDED_BYTES: usize = 23;
 
 // Where the file of a name goes.
 #[derive(Drop)]
@@ -35,6 +26,9 @@ pub(crate) enum Place {
 impl Place {
     // The place of a name, and all memory that it takes to create its file. It fails only for want of that.
     pub(crate) fn of<R: Files + AllocGlobal>(rt: &R, name: &str) -> io::Result<Place> {
+        if name == STANDARD {
+            return Ok(Place::AsItStands);
+        }
         match path_of(rt, name) {
             Ok(path) => {
                 let room = path.as_str().len().saturating_add(MOST_ADDED_BYTES);
@@ -47,39 +41,94 @@ impl Place {
     }
 
     // A file beside the one of this name, or that one where none can be made beside it.
-    pub(crate) fn create<R: Files>(
+    pub(crate) fn create<'a, R: Files + Print>(
         self,
-        rt: &R,
+        rt: &'a R,
         name: &str,
         process: u32,
-    ) -> io::Result<DiskFile<R::File>>
+        opened: &Opened,
+    ) -> io::Result<DiskFile<R::File, Printer<'a, R>>>
     where
         R::File: AsFd,
     {
         match self {
-            Place::Path(path, leftover) => create_at(rt, Target::at(rt, path)?, leftover, process),
-            Place::AsItStands => Ok(DiskFile::in_place(fs::create(rt, name)?)),
+            Place::Path(path, leftover) => {
+                create_at(rt, Target::at(rt, path)?, leftover, process, opened)
+            }
+            Place::AsItStands => as_it_stands(rt, name, opened),
+        }
+    }
+
+    // Fails where a file that is read has this name and could only be written as it stands.
+    pub(crate) fn check<R: Files>(
+        &mut self,
+        rt: &R,
+        name: &str,
+        process: u32,
+        opened: &Opened,
+    ) -> io::Result<()>
+    where
+        R::File: AsFd,
+    {
+        let Ok(found) = fs::metadata(rt, name) else {
+            return Ok(());
+        };
+        if !opened.is_source(&found) {
+            return Ok(());
+        }
+        match self {
+            Place::Path(path, leftover) => {
+                create_beside(rt, path.as_str(), Some(&found), process, leftover)?;
+                fs::remove_file(rt, leftover.as_str())
+            }
+            Place::AsItStands => Err(refused()),
         }
     }
 }
 
-fn create_at<R: Files>(
-    rt: &R,
+// What a file is refused for that is read, and is to be written as it stands.
+fn refused() -> Error {
+    Error::from(ErrorKind::ResourceBusy)
+}
+
+fn create_at<'a, R: Files + Print>(
+    rt: &'a R,
     target: Target,
     mut leftover: String,
     process: u32,
-) -> io::Result<DiskFile<R::File>>
+    opened: &Opened,
+) -> io::Result<DiskFile<R::File, Printer<'a, R>>>
 where
     R::File: AsFd,
 {
     target.check_writable(rt)?;
-    match target.create_beside(rt, process, &mut leftover) {
+    remove_abandoned(rt, target.path(), &mut leftover);
+    match create_beside(rt, target.path(), target.old(), process, &mut leftover) {
         Ok(file) => Ok(DiskFile::beside(file, leftover, target)),
-        Err(error) if is_refused_beside(&error) => {
-            Ok(DiskFile::in_place(fs::create(rt, target.path())?))
-        }
+        Err(error) if is_refused_beside(&error) => as_it_stands(rt, target.path(), opened),
         Err(error) => Err(error),
     }
+}
+
+// A file that is written as it stands, and is left as it is until then: standard output itself, whatever its name, or any
+// other that isn't read.
+fn as_it_stands<'a, R: Files + Print>(
+    rt: &'a R,
+    path: &str,
+    opened: &Opened,
+) -> io::Result<DiskFile<R::File, Printer<'a, R>>> {
+    if opened.is_output(rt, path) {
+        if opened.is_output_source() {
+            return Err(refused());
+        }
+        return Ok(DiskFile::output(io::writer(rt)));
+    }
+    let file = OpenOptions::new().write(true).create(true).open(rt, path)?;
+    let found = file.metadata()?;
+    if opened.is_source(&found) {
+        return Err(refused());
+    }
+    Ok(DiskFile::in_place(file, found.is_file()))
 }
 
 // Where a file is to stand, and what is known of the one that stands there.
@@ -105,6 +154,11 @@ impl Target {
         self.path.as_str()
     }
 
+    // What is known of the file that stands there.
+    fn old(&self) -> Option<&Metadata> {
+        self.old.as_ref()
+    }
+
     // Whether a file stands there.
     pub(crate) fn is_there(&self) -> bool {
         self.old.is_some()
@@ -112,11 +166,7 @@ impl Target {
 
     // The folder of the file.
     pub(crate) fn folder(&self) -> &str {
-        match self.path().rsplit_once('/') {
-            Some(("", _)) => "/",
-            Some((folder, _)) => folder,
-            None => ".",
-        }
+        folder_of(self.path())
     }
 
     // Fails where a file stands there that may not be written.
@@ -125,37 +175,6 @@ impl Target {
             OpenOptions::new().write(true).open(rt, self.path())?;
         }
         Ok(())
-    }
-
-    // A new file beside it, which others may read as they may read the old one. The text becomes its path.
-    fn create_beside<R: Files>(
-        &self,
-        rt: &R,
-        process: u32,
-        leftover: &mut String,
-    ) -> io::Result<R::File>
-    where
-        R::File: AsFd,
-    {
-        let mut how = OpenOptions::new();
-        how.write(true).create_new(true);
-        if self.is_there() {
-            how.mode(0o600);
-        }
-        for number in 0..MOST_LEFTOVERS {
-            write_leftover(leftover, self.path(), process, number)?;
-            match how.open(rt, leftover.as_str()) {
-                Ok(file) => {
-                    if let Some(old) = &self.old {
-                        hand_down(old, &file);
-                    }
-                    return Ok(file);
-                }
-                Err(error) if error.kind() == ErrorKind::AlreadyExists => {}
-                Err(error) => return Err(error),
-            }
-        }
-        Err(Error::from(ErrorKind::AlreadyExists))
     }
 }
 
@@ -204,37 +223,4 @@ fn follow<R: Files + AllocGlobal>(rt: &R, path: &mut PathBuf, link: &Metadata) -
     path.pop();
     path.push(named.as_str())?;
     Ok(())
-}
-
-// Makes the text the name beside a path for a file that isn't kept yet. It takes memory only where the text has no room.
-fn write_leftover(
-    leftover: &mut String,
-    path: &str,
-    process: u32,
-    number: u32,
-) -> Result<(), AllocError> {
-    let (folder, slash, name) = match path.rsplit_once('/') {
-        Some((folder, name)) => (folder, "/", name),
-        None => ("", "", path),
-    };
-    let name = if name.len() > MOST_NAME_BYTES {
-        ""
-    } else {
-        name
-    };
-    leftover.clear();
-    write!(leftover, "{folder}{slash}.{name}.dsdarc-{process}-{number}")
-}
-
-// Gives a new file the owner and the group of an old one, as far as the system lets us, and what each may do with it.
-fn hand_down<F: OpenFile + AsFd>(old: &Metadata, file: &F) {
-    if let Ok(new) = file.metadata() {
-        if new.gid() != old.gid() {
-            let _ = fchown(file, None, Some(old.gid()));
-        }
-        if new.uid() != old.uid() {
-            let _ = fchown(file, Some(old.uid()), None);
-        }
-    }
-    let _ = file.set_permissions(Permissions::from_mode(old.mode() & 0o777));
 }

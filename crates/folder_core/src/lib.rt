@@ -13,7 +13,8 @@
 //! - `IsShort most file answer` says that an answer has the bytes of a file that is shorter (`specs/ShortFiles.antt`).
 //! - `watched_folder` and `watched_file` are what is watched (`specs/WatchedFolders.antt`).
 //!
-//! A [`WatchedFolder`] shows on a terminal how far the files of another folder are read.
+//! A [`WatchedFolder`] shows on a terminal how far the files of another folder are read, in per cent where their
+//! [`KnownLength`] is told.
 //!
 //! What it promises: over a folder that tells its files, what is read is what stands there, and what was written stands
 //! there then; a write that failed leaves a front of it, and no other file is touched. Every reader comes to an end: one
@@ -38,4 +39,4 @@ pub use files::{read_file, read_files, read_whole, write_file};
 pub use folder::{Folder, FolderFault};
 pub use memory_folder::MemoryFolder;
 pub use short_files::read_short;
-pub use watched_folder::{WatchedFile, WatchedFolder};
+pub use watched_folder::{KnownLength, WatchedFile, WatchedFolder};

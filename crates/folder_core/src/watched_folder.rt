@@ -5,7 +5,6 @@ ghost use Rattle.folder_core.specs.WatchedFolders.{watched_file, watched_folder}
 
 use crate::folder::{Folder, FolderFault};
 use crate::progress::ProgressLine;
-use std::fs::OpenFile;
 use std::io;
 use std::io::{Eprint, Read};
 use std::rt::Clock;
@@ -19,6 +18,12 @@ pub struct WatchedFolder<'a, F, R> {
     folder: F,
     rt: &'a R,
     start: Option<Instant>,
+}
+
+/// Something whose length may be known before it is read.
+pub trait KnownLength {
+    /// How many bytes it has; none where that isn't known, as of a pipe.
+    fn known_length(&self) -> Option<u64>;
 }
 
 /// A file of a [`WatchedFolder`] that is read.
@@ -58,7 +63,7 @@ impl<'a, F: Folder, R: Clock> WatchedFolder<'a, F, R> {
 
 impl<'a, F: Folder, R: Clock + Eprint> Folder for WatchedFolder<'a, F, R>
 where
-    F::In: OpenFile,
+    F::In: KnownLength,
 {
     type In = WatchedFile<'a, F::In, R>;
 
@@ -71,7 +76,7 @@ where
     fn open(&mut self, name: &str) -> Result<WatchedFile<'a, F::In, R>, FolderFault> {
         let file = self.folder.open(name)?;
         Ok(WatchedFile {
-            length: length_of(&file),
+            length: file.known_length().unwrap_or(0),
             file,
             given: 0,
             line: ProgressLine::new(self.rt, self.start),
@@ -92,14 +97,6 @@ where
 
     fn give_up(&mut self, name: &str, out: F::Out) {
         self.folder.give_up(name, out);
-    }
-}
-
-// How many bytes a file has; 0 where it isn't known.
-fn length_of(file: &impl OpenFile) -> u64 {
-    match file.metadata() {
-        Ok(found) if found.is_file() => found.len(),
-        _ => 0,
     }
 }
 

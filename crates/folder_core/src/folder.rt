@@ -41,7 +41,7 @@ pub trait Folder {
     /// Holds the memory that it takes to create a file of this name, whenever that is. A folder that takes none, or that
     /// fails where it is refused, holds none.
     ///
-    /// Refusal: `FolderFault` where there is none to be held.
+    /// Refusal: `FolderFault` where there is none to be held, or the file is known not to be created.
     fn hold(&mut self, name: &str) -> Result<(), FolderFault>
         ensures same { file self.new ≡ file self.old }
         ensures told { is_told self.new ≡ is_told self.old }

@@ -105,6 +105,6 @@ def make(folder: Path, program: Path, asked: Asked) -> list[Made]:
             started = int(np.random.default_rng([asked.seed, channel, take, 7]).integers(1, 2**63))
             sounds.append(modulators.modulated(program, modulator, asked.rate, whole, started)[lead // 8 + take :])
         path = folder / f"{asked.name}-{take}.dff"
-        takes.write_dsdiff(path, asked.rate, sounds)
+        path.write_bytes(takes.dsdiff_of(asked.rate, sounds))
         made.append(Made(path, true))
     return made

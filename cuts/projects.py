@@ -1,17 +1,17 @@
 """Projects with a table `splice`: read, changed and written again with their order and comments."""
-import os
+import copy
+import sys
+import tomllib
+from collections.abc import Callable
 from pathlib import Path
 
 import tomlkit
 
-from takes import Take, alike
+from takes import Take, Unread
+from outputs import Refused
+from project_texts import MOST_BITS, MOST_CUES, MOST_TAKES, Text, read, shown
 
-MOST_CUES = 256
 LINK = 1e-5  # seconds: a shorter cue between two plain cuts is a link, which has no sound of its own
-
-
-class Refused(Exception):
-    """The project can't be used, and why."""
 
 
 def hand_over(one: tomlkit.items.Item, other: tomlkit.items.Item) -> bool:
@@ -27,22 +27,91 @@ def hand_over(one: tomlkit.items.Item, other: tomlkit.items.Item) -> bool:
     return bool(tail)
 
 
+def update(cue: tomlkit.items.Item, new: dict) -> None:
+    """Sets what is new in a cue."""
+    for key in set(cue) - set(new):
+        del cue[key]
+    for key, value in new.items():
+        if cue.get(key) != value:
+            cue[key] = value
+
+
+def insert_into(cues: tomlkit.items.Item, number: int, new: dict) -> None:
+    """Puts a new cue into an array of tables, or of inline ones."""
+    cue = tomlkit.table() if isinstance(cues, tomlkit.items.AoT) else tomlkit.inline_table()
+    cue.update(new)
+    if hand_over(cues[number - 1], cue):
+        cues[number - 1].value.body.append((None, tomlkit.nl()))
+    cues.insert(number, cue)
+
+
+def opened(text: Text) -> list[Take]:
+    """The takes of a project, which are found from the folder that the script runs in, as by the program."""
+    takes, names = [], text.data["splice"]["takes"]
+    for number, name in enumerate(names):
+        try:
+            takes.append(Take(name))
+        except (Unread, OSError, ValueError) as error:
+            words = f"TakeUnread {number}" if isinstance(error, Unread) else "ReadFailed"
+            why = getattr(error, "strerror", None) or str(error)
+            raise text.fault(words, ("splice", "takes", number), f"take {number}, {shown(name)}: {why}") from None
+    for number, take in enumerate(takes):
+        if (take.rate, take.count) != (takes[0].rate, takes[0].count):
+            why = f"take {number}, {shown(take.name)}, has another rate or another number of channels than take 0"
+            raise text.fault(f"TakeMismatch {number}", ("splice", "takes", number), why)
+    return takes
+
+
+def written(make: Callable[[], str], data: dict) -> str | None:
+    """A text that is made by tomlkit, if it says what it is to say."""
+    try:
+        text = make()
+        return text if tomllib.loads(text) == data else None
+    except (tomlkit.exceptions.TOMLKitError, ValueError, LookupError, TypeError, AttributeError):
+        return None
+
+
 class Project:
-    """A project and its takes, which are found from the folder that the script runs in, as by the program."""
+    """A project and its takes. Its cues are changed as plain tables; `origins` says which of the text each was."""
 
     def __init__(self, path: Path):
-        self.document = tomlkit.parse(path.read_text(encoding="utf-8"))
-        if "splice" not in self.document:
-            raise Refused("it has no table `splice`")
-        self.splice = self.document["splice"]
-        self.weights = [int(it) for it in self.splice["weights"]]
-        self.cues = self.splice["cue"]
-        self.takes = [Take(os.fspath(it)) for it in self.splice["takes"]]
-        alike(self.takes)
+        self.source = read(path)
+        if "splice" not in self.source.data:
+            raise self.source.fault("NoSplice", (), "it has no table `splice`")
+        splice = self.source.data["splice"]
+        self.weights = splice["weights"]
+        self.cues: list[dict] = copy.deepcopy(splice["cue"])
+        self.origins: list[int | None] = list(range(len(self.cues)))
+        self.names = list(splice["takes"])
+        self.takes = opened(self.source)
         self.rate, self.count = self.takes[0].rate, self.takes[0].count
+        self.demand_bits()
+
+    def demand_bits(self) -> None:
+        """The takes have all bits that are asked for."""
         for number, cue in enumerate(self.cues):
-            if not 0 <= cue["start"] <= cue["stop"] - self.shortest or cue["stop"] > self.take(number).bits:
-                raise Refused(f"cue {number} is shorter than the weights ask for, or stops behind its take")
+            bits = self.take(number).bits
+            if cue["stop"] > bits:
+                why = f"{cue['stop']} is behind the end of take {cue['take']}, which has {bits} bits"
+                raise self.fault(f"CueOutside {number}", number, "stop", why)
+        if self.length() > MOST_BITS:
+            raise self.source.fault("MasterTooLong", ("splice",), "the master has more than 2^36 bits a channel")
+        for number, (cue, following) in enumerate(zip(self.cues, self.cues[1:])):
+            length = 0 if self.is_line(number) else self.bridge(number)
+            if length and following["start"] < length + self.shortest:
+                why = f"before bit {following['start']} of its take there is no room for the bridge"
+                raise self.fault(f"NoRoomBefore {number}", number + 1, "start", why)
+            if length and cue["stop"] + length > self.take(number).bits:
+                why = f"behind bit {cue['stop']} of its take there is no room for the bridge"
+                raise self.fault(f"NoRoomAfter {number}", number, "stop", why)
+
+    def fault(self, words: str, cue: int, key: str, why: str) -> Refused:
+        return self.source.fault(words, ("splice", "cue", cue, key), why)
+
+    @property
+    def inputs(self) -> list[tuple[str, str]]:
+        """The files that are read: what each is, and its name."""
+        return [("the project", self.source.name), *((f"take {it}", take.name) for it, take in enumerate(self.takes))]
 
     @property
     def shortest(self) -> int:
@@ -53,7 +122,7 @@ class Project:
         return self.takes[self.cues[cue]["take"]]
 
     def bridge(self, cue: int) -> int:
-        return int(self.cues[cue].get("bridge", 0))
+        return self.cues[cue].get("bridge", 0)
 
     def is_line(self, cue: int) -> bool:
         return self.cues[cue].get("target") == "line"
@@ -63,12 +132,12 @@ class Project:
         those of the cue behind."""
         if not 0 < cue < len(self.cues) - 1 or self.bridge(cue - 1) or self.bridge(cue):
             return False
-        length = int(self.cues[cue]["stop"]) - int(self.cues[cue]["start"])
+        length = self.cues[cue]["stop"] - self.cues[cue]["start"]
         return length < LINK * self.rate and not self.is_link(cue - 1)
 
     def length(self) -> int:
         """Bits of a channel of the master."""
-        return sum(int(cue["stop"]) - int(cue["start"]) + int(cue.get("bridge", 0)) for cue in self.cues)
+        return sum(cue["stop"] - cue["start"] + cue.get("bridge", 0) for cue in self.cues)
 
     def move(self, cut: int, stop: int, start: int) -> None:
         """Sets the places of the cut behind a cue."""
@@ -79,7 +148,7 @@ class Project:
         """Makes a plain cut of one whose bridge fades, in the middle of the bridge: so nothing comes earlier."""
         length, cue = self.bridge(cut), self.cues[cut]
         if length and not self.is_line(cut):
-            self.move(cut, int(cue["stop"]) + length - length // 2, int(self.cues[cut + 1]["start"]) - length // 2)
+            self.move(cut, cue["stop"] + length - length // 2, self.cues[cut + 1]["start"] - length // 2)
             del cue["bridge"]
             cue.pop("target", None)
 
@@ -87,26 +156,26 @@ class Project:
         """Makes plain cuts of those that have links, each in the middle of the link."""
         for number in reversed(range(len(self.cues))):
             if self.is_link(number):
-                length = int(self.cues[number]["stop"]) - int(self.cues[number]["start"])
-                stop = int(self.cues[number - 1]["stop"]) + length // 2
-                start = int(self.cues[number + 1]["start"]) - (length - length // 2)
+                length = self.cues[number]["stop"] - self.cues[number]["start"]
+                stop = self.cues[number - 1]["stop"] + length // 2
+                start = self.cues[number + 1]["start"] - (length - length // 2)
                 if stop <= self.take(number - 1).bits and start >= 0:
-                    hand_over(self.cues[number], self.cues[number - 1])
-                    del self.cues[number]
+                    del self.cues[number], self.origins[number]
                     self.move(number - 1, stop, start)
 
     def add_take(self, name: str) -> int:
         """The number of a take that is added."""
-        self.splice["takes"].append(name)
-        return len(self.splice["takes"]) - 1
+        if len(self.names) == MOST_TAKES:
+            raise Refused(f"the project has {MOST_TAKES} takes, and there is no room for one more")
+        self.names.append(name)
+        return len(self.names) - 1
 
     def insert(self, cut: int, take: int, start: int, stop: int) -> None:
         """Puts a cue behind another."""
-        cue = tomlkit.table() if isinstance(self.cues, tomlkit.items.AoT) else tomlkit.inline_table()
-        cue.update({"take": take, "start": start, "stop": stop})
-        if hand_over(self.cues[cut], cue):
-            self.cues[cut].value.body.append((None, tomlkit.nl()))
-        self.cues.insert(cut + 1, cue)
+        if len(self.cues) == MOST_CUES:
+            raise Refused(f"the project has {MOST_CUES} cues, and there is no room for one more")
+        self.cues.insert(cut + 1, {"take": take, "start": start, "stop": stop})
+        self.origins.insert(cut + 1, None)
 
     def end_with_a_byte(self) -> int:
         """Lets the last cue end up to 7 bits earlier, so that a DSDIFF file holds the master. Tells how many."""
@@ -114,9 +183,37 @@ class Project:
         last = self.cues[-1]
         if last["stop"] - last["start"] - spare < self.shortest:
             raise Refused("the last cue is too short to end with a whole byte")
-        if spare:
-            last["stop"] = int(last["stop"]) - spare
+        last["stop"] -= spare
         return spare
 
-    def write(self, path: Path) -> None:
-        path.write_text(tomlkit.dumps(self.document), encoding="utf-8")
+    @property
+    def data(self) -> dict:
+        """What the text is to say."""
+        splice = {"weights": self.weights, "takes": self.names, "cue": self.cues}
+        return {**self.source.data, "splice": splice}
+
+    def text(self) -> str:
+        """The project as a text with the order and comments that it had; without these where tomlkit can't keep them."""
+        text = written(self.changed, self.data)
+        if text is None:
+            print("the order and the comments of the project can't be kept, and are left out", file=sys.stderr)
+            text = written(lambda: tomlkit.dumps(self.data), self.data)
+        if text is None:
+            raise Refused(f"{shown(self.source.name)}: tomlkit can't write this project again")
+        return text
+
+    def changed(self) -> str:
+        """The text with what was changed, by tomlkit."""
+        document = tomlkit.parse(self.source.text)
+        takes, cues = document["splice"]["takes"], document["splice"]["cue"]
+        for name in self.names[len(takes) :]:
+            takes.append(name)
+        for number in sorted(set(range(len(cues))) - set(self.origins), reverse=True):
+            hand_over(cues[number], cues[number - 1])
+            del cues[number]
+        for cue, new in zip(list(cues), (it for it, origin in zip(self.cues, self.origins) if origin is not None)):
+            update(cue, new)
+        for number, origin in enumerate(self.origins):
+            if origin is None:
+                insert_into(cues, number, self.cues[number])
+        return tomlkit.dumps(document)

@@ -1,5 +1,8 @@
 """Takes as signals: a stored 1 is +1, a stored 0 is -1, and outside of a recording there is 0. Only what is asked for
 is read, by workflows/channels.py."""
+import os
+import stat
+import struct
 import sys
 from pathlib import Path
 
@@ -9,14 +12,33 @@ sys.path.insert(0, str(Path(__file__).resolve().parent.parent / "workflows"))
 import channels  # noqa: E402
 import dsdiffs  # noqa: E402
 
+Unread = channels.Unread
+
+
+def sound_of(file) -> channels.Sound:
+    """The sound of a file that dsdarc would read, as far as its heads tell."""
+    try:
+        sound = channels.sound_of(file)
+    except (struct.error, LookupError, ArithmeticError, ValueError, MemoryError, OSError):
+        raise Unread("its heads say what can't be") from None
+    if not 1 <= sound.count <= 6 or not 1_000_000 <= sound.rate <= 50_000_000:
+        raise Unread("it has not 1 to 6 channels, or no rate from 1 to 50 MHz")
+    if sound.width not in (None, 1, 8) or sound.bits > 2**36 or sound.width is None and (sound.stop - sound.start) % sound.count:
+        raise Unread("its heads say what can't be")
+    if sound.stop > os.fstat(file.fileno()).st_size:
+        raise Unread("its sound is cut")
+    return sound
+
 
 class Take:
     """A DSDIFF or DSF file that is open: its rate, number of channels (count) and bits of each channel."""
 
     def __init__(self, path: str | Path):
         self.name = str(path)
+        if not stat.S_ISREG(os.stat(path).st_mode):
+            raise Unread("it is no file")
         self.file = open(path, "rb")
-        self.sound = channels.sound_of(self.file)
+        self.sound = sound_of(self.file)
         self.rate, self.count, self.bits = self.sound.rate, self.sound.count, self.sound.bits
 
     def stored(self, first: int, stop: int) -> np.ndarray:
@@ -35,14 +57,7 @@ class Take:
         return found
 
 
-def alike(takes: list[Take]) -> None:
-    """Refuses takes of several rates or numbers of channels."""
-    for take in takes[1:]:
-        if (take.rate, take.count) != (takes[0].rate, takes[0].count):
-            raise channels.Unread(f"{take.name} has another rate or another number of channels than {takes[0].name}")
-
-
-def write_dsdiff(path: Path, rate: int, sounds: list[bytes]) -> None:
-    """Writes a DSDIFF file of channels that are given as their bytes, the earliest bit the most significant."""
+def dsdiff_of(rate: int, sounds: list[bytes]) -> bytes:
+    """The DSDIFF file of channels that are given as their bytes, the earliest bit the most significant."""
     laced = np.stack([np.frombuffer(it, np.uint8) for it in sounds], axis=1).tobytes()
-    path.write_bytes(dsdiffs.dsdiff(rate, len(sounds), laced))
+    return dsdiffs.dsdiff(rate, len(sounds), laced)

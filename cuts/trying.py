@@ -12,7 +12,7 @@ import placing
 from hearing import PASSED, STOPPED, hearing_of
 from program import PROGRAM
 from projects import Project
-from takes import Take, write_dsdiff
+from takes import Take, dsdiff_of
 
 SECONDS = 0.4
 CUTS = 8  # in a master
@@ -99,7 +99,7 @@ def tried(folder: Path, asked: material.Asked, made: list[material.Made], way: W
             if found is not None:
                 predicted[number] = found.loudest
         project.end_with_a_byte()
-        project.write(path)
+        path.write_text(project.text(), encoding="utf-8")
     master = cut_and_checked(path, "dsf" if project.length() % 8 else "dsdiff")
     return measured(project, Take(master), made, predicted)
 
@@ -131,9 +131,9 @@ def faded(folder: Path, program: Path, asked: material.Asked, made: list[materia
         for name, row in (("signs", found.signs), ("sound", found.sound), ("true", true)):
             rows[name].append(fading.whole_bytes(row))
     signs, sound, true = (np.concatenate(it, axis=1) for it in rows.values())
-    write_dsdiff(take, asked.rate, [np.packbits(it > 0).tobytes() for it in signs])
+    take.write_bytes(dsdiff_of(asked.rate, [np.packbits(it > 0).tobytes() for it in signs]))
     project.end_with_a_byte()
-    project.write(path)
+    path.write_text(project.text(), encoding="utf-8")
     project = Project(path)
     master = Take(cut_and_checked(path, "dsdiff"))
     named = {

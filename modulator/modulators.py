@@ -1,6 +1,7 @@
 """The delta-sigma modulator of one bit (modulate.c, compiled with CC or cc) and its noise transfers."""
 import os
 import subprocess
+import sys
 from dataclasses import dataclass
 from functools import lru_cache
 from pathlib import Path
@@ -10,6 +11,9 @@ from numpy.polynomial import legendre
 from scipy import optimize, signal
 
 FOLDER = Path(__file__).resolve().parent
+sys.path.insert(0, str(FOLDER.parent / "workflows"))
+from outputs import Refused  # noqa: E402
+
 AUDIO = 20_000  # Hz: the zeros of the noise transfer lie below
 SEED = 88172645463325252
 STABLE = 3  # what stands before the quantizer stays below this
@@ -51,7 +55,14 @@ def compiled(folder: Path) -> Path:
     """The modulator's program, made in a folder."""
     program = folder / "modulate"
     compiler = os.environ.get("CC", "cc")
-    subprocess.run([compiler, "-O2", "-o", program, FOLDER / "modulate.c", "-lm"], check=True)
+    words = [compiler, "-O2", "-o", program, FOLDER / "modulate.c", "-lm"]
+    try:
+        done = subprocess.run(words, capture_output=True, text=True, errors="replace", check=False)
+    except (OSError, ValueError) as error:
+        raise Refused(f"the C compiler {compiler!r} can't be run ({error}): install one, or name it by CC") from None
+    if done.returncode:
+        said = (done.stderr.strip().splitlines() or ["it says nothing"])[-1]
+        raise Refused(f"{compiler} can't compile modulate.c in {folder}: {said}")
     return program
 
 

@@ -1,0 +1,274 @@
+"""What scripts write: whole or not at all, and never over what they read; and how they end.
+
+Files are written beside those that they replace, and get their names once all files of a run are whole. After a fault or a
+signal (INT, TERM, HUP) nothing is left over, and old files stand as they were. What is no file of a folder, such as a pipe,
+is written as it stands, last."""
+import contextlib
+import errno
+import os
+import shutil
+import signal
+import stat
+import sys
+import tempfile
+
+STOPS = (signal.SIGINT, signal.SIGTERM, signal.SIGHUP)
+FULL = (errno.ENOSPC, errno.EDQUOT)
+
+# Until `ended` is called Ctrl-C just ends a script, without a word of where it was.
+if signal.getsignal(signal.SIGINT) is signal.default_int_handler:
+    signal.signal(signal.SIGINT, signal.SIG_DFL)
+
+
+class Refused(Exception):
+    """What is asked for can't be done, and why."""
+
+
+class Stopped(BaseException):
+    """A signal came."""
+
+
+@contextlib.contextmanager
+def unstopped():
+    """Lets signals wait."""
+    before = signal.pthread_sigmask(signal.SIG_BLOCK, STOPS)
+    try:
+        yield
+    finally:
+        signal.pthread_sigmask(signal.SIG_SETMASK, before)
+
+
+def identity(name):
+    """Tells a file from others, by whatever name: its device and inode, or those of its folder and its name there where
+    it isn't there yet."""
+    try:
+        found = os.stat(name)
+        return found.st_dev, found.st_ino
+    except FileNotFoundError:
+        folder, last = os.path.split(os.path.realpath(name))
+        found = os.stat(folder)
+        return found.st_dev, found.st_ino, last
+
+
+def disk_of(name):
+    """Where the disk of a file is mounted."""
+    place = os.path.realpath(name)
+    while not os.path.ismount(place):
+        place = os.path.dirname(place)
+    return place
+
+
+def told(error):
+    """The line of a fault of the system."""
+    name = error.filename
+    if isinstance(name, bytes):
+        name = os.fsdecode(name)
+    shown = name if isinstance(name, str) and name.isprintable() else ascii(name)
+    if error.errno in FULL and isinstance(name, str):
+        return f"the disk at {disk_of(name)} is full, and {shown} has no room: free some there, or write to another disk"
+    why = error.strerror or str(error)
+    return why if name is None else f"{shown}: {why}"
+
+
+class Output:
+    """A file that is to be written: what it is to the user, and its name."""
+
+    def __init__(self, what, name):
+        self.what, self.name = what, os.fspath(name)
+        self.part = self.backup = self.old = None
+        with contextlib.suppress(FileNotFoundError):
+            self.old = os.stat(self.name)
+        self.target = os.path.realpath(self.name)
+        self.identity = identity(self.name)
+        self.is_plain = self.old is None or self.is_in_folder()
+        if self.old and stat.S_ISDIR(self.old.st_mode) or not os.path.basename(self.name):
+            raise IsADirectoryError(errno.EISDIR, os.strerror(errno.EISDIR), self.name)
+        if self.old and not os.access(self.name, os.W_OK):
+            raise PermissionError(errno.EACCES, os.strerror(errno.EACCES), self.name)
+
+    def is_in_folder(self):
+        """Whether it is a file with a name that may get another file, and no pipe, device or standard output."""
+        streams = []
+        for number in (1, 2):
+            with contextlib.suppress(OSError):
+                streams.append(os.path.sameopenfile(number, number) and os.fstat(number))
+        is_stream = any(os.path.samestat(self.old, it) for it in streams)
+        is_there = os.path.exists(self.target) and os.path.samestat(self.old, os.stat(self.target))
+        return stat.S_ISREG(self.old.st_mode) and is_there and not is_stream
+
+    @contextlib.contextmanager
+    def named(self):
+        """Faults are of the file that was asked for."""
+        try:
+            yield
+        except OSError as error:
+            error.filename, error.filename2 = self.name, None
+            raise
+
+    def begin(self):
+        """Makes the file beside."""
+        with self.named(), unstopped():
+            folder = os.path.dirname(self.target) if self.is_plain else None
+            handle, self.part = tempfile.mkstemp(prefix=".dsdarc-script-", dir=folder)
+            with os.fdopen(handle, "wb"):
+                mask = os.umask(0)
+                os.umask(mask)
+                os.fchmod(handle, stat.S_IMODE(self.old.st_mode) if self.old else 0o666 & ~mask)
+                if self.old and self.is_plain:
+                    with contextlib.suppress(OSError):
+                        os.fchown(handle, self.old.st_uid, self.old.st_gid)
+
+    @contextlib.contextmanager
+    def opened(self):
+        """The file beside, open to be written."""
+        with self.named(), open(self.part, "r+b") as file:
+            yield file
+
+    def pour(self):
+        """Writes what is no file of a folder."""
+        with self.named(), open(self.part, "rb") as file, open(self.name, "wb") as out:
+            shutil.copyfileobj(file, out)
+
+    def replace(self):
+        """Gives the file its name, and keeps what stood there."""
+        with self.named():
+            if self.old:
+                self.backup = f"{self.part}-old"
+                try:
+                    os.link(self.target, self.backup)
+                except OSError:
+                    os.rename(self.target, self.backup)
+            os.replace(self.part, self.target)
+            self.part = None
+
+    def put_back(self):
+        """Undoes `replace`."""
+        if self.backup:
+            os.replace(self.backup, self.target)
+            self.backup = None
+        elif self.part is None and self.is_plain and self.old is None:
+            os.remove(self.target)
+
+    def clear(self):
+        for name in (self.part, self.backup):
+            if name:
+                with contextlib.suppress(OSError):
+                    os.remove(name)
+        self.part = self.backup = None
+
+
+class Outputs:
+    """The files of a run, which get their names where the block behind `with` ends without a fault. `inputs` are the
+    files that are read: what each is, and its name."""
+
+    def __init__(self, inputs=()):
+        self.inputs = [(what, os.fspath(name), identity(name)) for what, name in inputs]
+        self.files, self.folders = {}, []
+
+    def add(self, what, name):
+        """Takes one more file, before anything is written to it. It may be no file that is read, and no other one."""
+        made = Output(what, name)
+        for other, known, it in [*self.inputs, *((it.what, it.name, it.identity) for it in self.files.values())]:
+            if it == made.identity:
+                same = "" if known == made.name else f", by the name {shown_name(known)}"
+                raise Refused(f"{what}: {shown_name(made.name)} is {other} too{same}: name another file")
+        made.begin()
+        self.files[made.name] = made
+
+    def folder(self, name):
+        """Makes a folder where there is none; it goes again after a fault."""
+        name = os.path.abspath(name)
+        missing = []
+        while not os.path.exists(name):
+            missing.append(name)
+            name = os.path.dirname(name)
+        for each in reversed(missing):
+            with unstopped():
+                os.mkdir(each)
+                self.folders.append(each)
+
+    def open(self, name):
+        return self.files[os.fspath(name)].opened()
+
+    def put(self, name, data):
+        """Writes a whole file: bytes, or a text."""
+        with self.open(name) as file:
+            file.write(data.encode() if isinstance(data, str) else data)
+
+    def __enter__(self):
+        return self
+
+    def __exit__(self, kind, fault, trace):
+        try:
+            if kind is None:
+                self.name_all()
+                self.folders = []
+        finally:
+            with unstopped():
+                for it in self.files.values():
+                    it.clear()
+                for each in reversed(self.folders):
+                    with contextlib.suppress(OSError):
+                        os.rmdir(each)
+
+    def name_all(self):
+        files = self.files.values()
+        for it in files:
+            if not it.is_plain:
+                it.pour()
+        with unstopped():
+            try:
+                for it in files:
+                    if it.is_plain:
+                        it.replace()
+            except BaseException:
+                for it in files:
+                    with contextlib.suppress(OSError):
+                        it.put_back()
+                raise
+
+
+def shown_name(name):
+    return name if name.isprintable() else ascii(name)
+
+
+def stop(number, _):
+    """Later signals are ignored: what is left over is removed in peace."""
+    for each in STOPS:
+        signal.signal(each, signal.SIG_IGN)
+    raise Stopped(number)
+
+
+def ended(main):
+    """Runs a script: its status, and one line on standard error for a fault. A signal ends it as it would without this,
+    once nothing is left over."""
+    name = os.path.basename(sys.argv[0])
+    try:
+        for each in STOPS:
+            if signal.getsignal(each) is not signal.SIG_IGN:
+                signal.signal(each, stop)
+        status = main()
+        sys.stdout.flush()
+        return status
+    except Stopped as stopped:
+        number = stopped.args[0]
+        signal.signal(number, signal.SIG_DFL)
+        os.kill(os.getpid(), number)
+        return 128 + number
+    except OSError as error:
+        why = told(error)
+    except MemoryError:
+        why = "more memory is wanted than there is"
+    except Refused as error:
+        why = str(error)
+    print(f"{name}: {why}", file=sys.stderr)
+    quiet_end()
+    return 2
+
+
+def quiet_end():
+    """What standard output didn't take is not tried again at the end."""
+    try:
+        sys.stdout.flush()
+    except OSError:
+        os.dup2(os.open(os.devnull, os.O_WRONLY), 1)

@@ -4,22 +4,37 @@
 Its stored rate is 2,822,400 Hz where RATE is left out."""
 import os
 import random
+import re
 import sys
 
 sys.path.insert(0, os.path.join(os.path.dirname(os.path.dirname(os.path.abspath(__file__))), "workflows"))
 from dsdiffs import dsdiff, numbered  # noqa: E402
+from outputs import Outputs, Refused, ended  # noqa: E402
+
+USUAL = ("2", "1", "2822400")  # channels, seed, rate
+MOST = (100_000, 1000, 10**9, 2**32 - 1)
+
+
+def numbers(words):
+    """Megabytes, channels, seed and rate."""
+    for word, most in zip(words, MOST):
+        if not re.fullmatch(r"\d{1,10}", word) or not 1 <= int(word) <= most:
+            raise Refused(f"{word} is no number from 1 to {most}")
+    return [int(word) for word in words]
 
 
 def main():
-    out, megabytes = sys.argv[1], int(sys.argv[2])
-    channels = int(sys.argv[3]) if len(sys.argv) > 3 else 2
-    seed = int(sys.argv[4]) if len(sys.argv) > 4 else 1
-    rate = int(sys.argv[5]) if len(sys.argv) > 5 else 2_822_400
+    if not 3 <= len(sys.argv) <= 6:
+        raise Refused(__doc__.partition("\n")[0])
+    out, *words = sys.argv[1:]
+    megabytes, channels, seed, rate = numbers([*words, *USUAL[len(words) - 1 :]])
     # DSF has no place for IDs: of more channels than two it gives numbers back.
     ids = numbered(channels) if channels > 2 else None
     block = random.Random(seed).randbytes(channels * 10_000)
-    with open(out, "wb") as file:
-        file.write(dsdiff(rate, channels, block * (megabytes * 1_000_000 // len(block)), ids=ids))
+    with Outputs() as files:
+        files.add("OUT", out)
+        files.put(out, dsdiff(rate, channels, block * (megabytes * 1_000_000 // len(block)), ids=ids))
+    return 0
 
 
-main()
+sys.exit(ended(main))

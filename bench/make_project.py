@@ -8,7 +8,12 @@ and the other in turn, with a bridge of BRIDGE bits between each two, which is j
 
 PLAN is a plain text of the same project for the C program that is measured beside: the takes' names, a line each, then
 the number of weights and the weights, then the number of cues and for each its take, start, stop and bridge."""
+import os
+import re
 import sys
+
+sys.path.insert(0, os.path.join(os.path.dirname(os.path.dirname(os.path.abspath(__file__))), "workflows"))
+from outputs import Outputs, Refused, ended  # noqa: E402
 
 WEIGHTS = [16, 62, 146, 260, 360, 412, 412, 360, 260, 146, 62, 16]
 
@@ -38,22 +43,36 @@ def project(takes, weights, cues):
 
 
 def plan(takes, weights, cues):
-    return [*takes, " ".join(map(str, [len(weights), *weights])), str(len(cues)), *(" ".join(map(str, it)) for it in cues)]
+    numbers = [(len(weights), *weights), (len(cues),), *cues]
+    return [*takes, *(" ".join(map(str, it)) for it in numbers)]
 
 
-def write(name, lines):
-    with open(name, "w", encoding="utf-8") as file:
-        file.write("\n".join(lines) + "\n")
+def numbers(words):
+    """Bits, cues, the bits of a bridge and how many weights."""
+    for word in words:
+        if not re.fullmatch(r"\d{1,12}", word):
+            raise Refused(f"{word} is no number")
+    bits, number, bridge, weights = (int(word) for word in words)
+    if not (1 <= number <= 256 and 2 <= weights <= len(WEIGHTS)):
+        raise Refused("there are 1 to 256 cues, and 2 to 12 weights")
+    return bits, number, bridge, weights
 
 
 def main():
+    if not 7 <= len(sys.argv) <= 9:
+        raise Refused("make_project.py OUT FIRST SECOND BITS CUES BRIDGE [WEIGHTS [PLAN]]")
     out, *takes = sys.argv[1:4]
-    bits, number, bridge = (int(word) for word in sys.argv[4:7])
-    weights = middle_weights(int(sys.argv[7]) if len(sys.argv) > 7 else len(WEIGHTS))
+    bits, number, bridge, some = numbers([*sys.argv[4:8], *([str(len(WEIGHTS))] if len(sys.argv) == 7 else [])])
+    weights = middle_weights(some)
     cues = list(cues_of(bits, number, bridge))
-    write(out, project(takes, weights, cues))
+    made = [("OUT", out, project(takes, weights, cues))]
     if len(sys.argv) > 8:
-        write(sys.argv[8], plan(takes, weights, cues))
+        made.append(("PLAN", sys.argv[8], plan(takes, weights, cues)))
+    with Outputs(("a take", it) for it in takes if os.path.exists(it)) as files:
+        for what, name, lines in made:
+            files.add(what, name)
+            files.put(name, "\n".join(lines) + "\n")
+    return 0
 
 
-main()
+sys.exit(ended(main))

@@ -193,7 +193,7 @@ class Project:
         return {**self.source.data, "splice": splice}
 
     def text(self) -> str:
-        """The project as a text with the order and comments that it had; without these where tomlkit can't keep them."""
+        """The project as a text, with the order and comments that it had unless tomlkit can't keep them."""
         text = written(self.changed, self.data)
         if text is None:
             print("the order and the comments of the project can't be kept, and are left out", file=sys.stderr)
@@ -211,7 +211,8 @@ class Project:
         for number in sorted(set(range(len(cues))) - set(self.origins), reverse=True):
             hand_over(cues[number], cues[number - 1])
             del cues[number]
-        for cue, new in zip(list(cues), (it for it, origin in zip(self.cues, self.origins) if origin is not None)):
+        kept = [it for it, origin in zip(self.cues, self.origins) if origin is not None]
+        for cue, new in zip(list(cues), kept):
             update(cue, new)
         for number, origin in enumerate(self.origins):
             if origin is None:

@@ -23,7 +23,8 @@ def sound_of(file) -> channels.Sound:
         raise Unread("its heads say what can't be") from None
     if not 1 <= sound.count <= 6 or not 1_000_000 <= sound.rate <= 50_000_000:
         raise Unread("it has not 1 to 6 channels, or no rate from 1 to 50 MHz")
-    if sound.width not in (None, 1, 8) or sound.bits > 2**36 or sound.width is None and (sound.stop - sound.start) % sound.count:
+    is_part = sound.width is None and (sound.stop - sound.start) % sound.count
+    if sound.width not in (None, 1, 8) or sound.bits > 2**36 or is_part:
         raise Unread("its heads say what can't be")
     if sound.stop > os.fstat(file.fileno()).st_size:
         raise Unread("its sound is cut")

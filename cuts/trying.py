@@ -1,5 +1,4 @@
 """Masters of made takes, cut by the built program and judged by its `check`, for the figures of cuts/README.md."""
-import subprocess
 from dataclasses import dataclass, replace
 from pathlib import Path
 
@@ -10,7 +9,8 @@ import fading
 import material
 import placing
 from hearing import PASSED, STOPPED, hearing_of
-from program import PROGRAM
+from outputs import Refused
+from program import PROGRAM, must
 from projects import Project
 from takes import Take, dsdiff_of
 
@@ -60,8 +60,8 @@ def project_text(names: list[str], way: Way, bits: int, rate: int, seed: int) ->
 def cut_and_checked(project: Path, form: str) -> Path:
     """The master of a project, which `check` has to accept."""
     master, cert = project.with_suffix(".dff"), project.with_suffix(".cert")
-    subprocess.run([PROGRAM, "edit", form, project, master, cert], check=True, stdout=subprocess.DEVNULL)
-    subprocess.run([PROGRAM, "check", project, master, cert], check=True, stdout=subprocess.DEVNULL)
+    must(PROGRAM, "edit", form, project, master, cert)
+    must(PROGRAM, "check", project, master, cert)
     cert.unlink()
     return master
 
@@ -83,7 +83,7 @@ def measured(project: Project, master: Take, made: list[material.Made], predicte
         levels = {name: loudest(clicks.levels(hearing, project, master, spot, it)) for name, it in named.items()}
         found.append(Seen(levels, predicted.get(number)))
     if clicks.wrong_cue(project, master) is not None:
-        raise RuntimeError("a cue doesn't hold its take's bits")
+        raise Refused("a cue doesn't hold its take's bits")
     return found
 
 

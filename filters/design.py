@@ -11,8 +11,12 @@ from pathlib import Path
 
 os.environ.setdefault("OMP_NUM_THREADS", "1")
 
-import numpy as np
-from scipy import signal
+sys.path.insert(0, str(Path(__file__).resolve().parent.parent / "workflows"))
+import outputs  # noqa: E402
+
+outputs.begin()
+import numpy as np  # noqa: E402
+from scipy import signal  # noqa: E402
 
 MOST_TAPS = 4095  # odd, so that one tap is the middle; a project has room for 4096
 MOST_SUM = 2**30  # of the taps' absolute values
@@ -198,20 +202,23 @@ def variants_of(design: Design) -> list[Variant]:
     return [variant for variant in VARIANTS if variant.width == 24 or design.out < 50_000]
 
 
+def name_of(design: Design, variant: Variant) -> str:
+    return f"{design.source.name}-to-{design.out}-{variant.suffix}.toml"
+
+
 def files() -> dict[str, str]:
     """The text of each file, by its name."""
     texts = {}
     for design in DESIGNS:
         taps, exponent = rounded(response_of(design))
         for variant in variants_of(design):
-            name = f"{design.source.name}-to-{design.out}-{variant.suffix}.toml"
-            texts[name] = text_of(design, variant, taps, exponent)
+            texts[name_of(design, variant)] = text_of(design, variant, taps, exponent)
     return texts
 
 
 def check(folder: Path, texts: dict[str, str]) -> bool:
     """Says which files of the folder are others than those designed."""
-    there = {path.name: path.read_text(encoding="ascii") for path in sorted(folder.glob("*.toml"))}
+    there = {path.name: path.read_text(encoding="ascii", errors="replace") for path in sorted(folder.glob("*.toml"))}
     differing = sorted(name for name in texts.keys() | there.keys() if texts.get(name) != there.get(name))
     for name in differing:
         print(f"{name} differs")
@@ -224,14 +231,20 @@ def main() -> int:
     words.add_argument("folder", nargs="?", type=Path, default=Path(__file__).parent)
     words.add_argument("--check", action="store_true", help="compare with the files that stand there, write nothing")
     asked = words.parse_args()
-    texts = files()
+    if not asked.folder.is_dir():
+        raise outputs.Refused(f"{asked.folder} is no folder")
     if asked.check:
-        return 0 if check(asked.folder, texts) else 1
-    for name, text in texts.items():
-        (asked.folder / name).write_text(text, encoding="ascii")
+        return 0 if check(asked.folder, files()) else 1
+    with outputs.Outputs() as made:
+        for design in DESIGNS:
+            for variant in variants_of(design):
+                made.add("FOLDER", asked.folder / name_of(design, variant))
+        texts = files()
+        for name, text in texts.items():
+            made.put(asked.folder / name, text)
     print(f"{len(texts)} filters written")
     return 0
 
 
 if __name__ == "__main__":
-    sys.exit(main())
+    sys.exit(outputs.ended(main))

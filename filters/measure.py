@@ -5,16 +5,23 @@ Nothing is known of how a filter was made: the taps are read from the TOML text,
 name and its factor. It prints two tables; --plots draws each response to responses/NAME.png; --check ends with status
 1 where a limit of projects or a target is missed, or where README.md does not hold these tables."""
 import argparse
+import io
 import os
 import re
 import sys
-import tomllib
 from dataclasses import dataclass
 from pathlib import Path
 
 os.environ.setdefault("OMP_NUM_THREADS", "1")
 
-import numpy as np
+sys.path.insert(0, str(Path(__file__).resolve().parent.parent / "workflows"))
+import outputs  # noqa: E402
+
+outputs.begin()
+import numpy as np  # noqa: E402
+
+import project_texts  # noqa: E402
+from outputs import Refused  # noqa: E402
 
 POINTS = 2**20  # of the Fourier transform: 256 for each tap or more
 LOWEST = 1e-12  # below this, magnitudes are drawn and printed as this
@@ -71,10 +78,10 @@ def read(path: Path) -> Project:
     """The project of a file whose name ends with -to-RATE-WIDTH or that and -plus6."""
     said = re.fullmatch(r"\w+-to-(\d+)-(16|24)(-plus6)?", path.stem)
     if not said:
-        raise ValueError(f"{path.name} is no name of a filter")
-    table = tomllib.loads(path.read_text(encoding="utf-8"))["decimate"]
+        raise Refused(f"{path}: its name doesn't end with -to-RATE-WIDTH, as a filter's")
+    table = project_texts.read_decimate(path)
     if table["width"] != int(said[2]):
-        raise ValueError(f"{path.name} has another width than its name")
+        raise Refused(f"{path}: it has another width than its name")
     out = int(said[1])
     taps = np.array(table["taps"], dtype=np.int64)
     return Project(
@@ -227,8 +234,8 @@ def envelope(hertz: np.ndarray, values: np.ndarray, edges: np.ndarray) -> tuple[
     return np.array([hertz[a] for a, _ in kept]), np.array([values[a:b].max() for a, b in kept])
 
 
-def plot(project: Project, path: Path) -> None:
-    """Draws the whole response, and the passband closely."""
+def drawn(project: Project) -> bytes:
+    """A picture (PNG) of the whole response, and of the passband closely."""
     import matplotlib
 
     matplotlib.use("Agg")
@@ -254,9 +261,22 @@ def plot(project: Project, path: Path) -> None:
     near.ticklabel_format(axis="y", style="plain")
     for panel in (whole, near):
         panel.grid(linewidth=0.3)
-    path.parent.mkdir(exist_ok=True)
-    shape.savefig(path, dpi=80, metadata={"Software": None}, pil_kwargs={"optimize": True})
+    file = io.BytesIO()
+    shape.savefig(file, dpi=80, metadata={"Software": None}, pil_kwargs={"optimize": True})
     plt.close(shape)
+    return file.getvalue()
+
+
+def draw_all(projects: list[Project], folder: Path) -> None:
+    """Draws the response of each filter that a folder has for 24 bits."""
+    inputs = [(f"{it.name}.toml", folder / f"{it.name}.toml") for it in projects]
+    with outputs.Outputs(inputs) as files:
+        files.folder(folder / "responses")
+        for project in projects:
+            if project.name.endswith("-24"):
+                path = folder / "responses" / f"{stem_of(project)}.png"
+                files.add("--plots", path)
+                files.put(path, drawn(project))
 
 
 def main() -> int:
@@ -265,16 +285,16 @@ def main() -> int:
     words.add_argument("--plots", action="store_true", help="draw each response")
     words.add_argument("--check", action="store_true", help="status 1 where something is missed")
     asked = words.parse_args()
+    if not asked.folder.is_dir():
+        raise Refused(f"{asked.folder} is no folder")
     projects = [read(path) for path in asked.folder.glob("*.toml")]
     projects.sort(key=lambda project: (project.rate, project.out, -project.width, project.name))
     printed, faults = tables(projects)
     print("\n\n".join("\n".join(table) for table in printed))
     if asked.plots:
-        for project in projects:
-            if project.name.endswith("-24"):
-                plot(project, asked.folder / "responses" / f"{stem_of(project)}.png")
+        draw_all(projects, asked.folder)
     if asked.check:
-        told = (asked.folder / "README.md").read_text(encoding="utf-8")
+        told = (asked.folder / "README.md").read_text(encoding="utf-8", errors="replace")
         faults += [f"README.md: not the table of {table[0]}" for table in printed if "\n".join(table) not in told]
     for fault in faults:
         print(f"missed: {fault}", file=sys.stderr)
@@ -282,4 +302,4 @@ def main() -> int:
 
 
 if __name__ == "__main__":
-    sys.exit(main())
+    sys.exit(outputs.ended(main))

@@ -2,31 +2,35 @@
 """Plays a test tone by the built program and measures the WAVE: tone.py [--program PROGRAM] [--exact] [FILTER ..].
 
 The tone is a sine of 1 kHz at -6 dB, made by a delta-sigma modulator (modulator/modulate.c, compiled with CC or cc) at
-the stored rate of each filter, 6 seconds of one channel as DSDIFF. Where ffmpeg is installed, it decodes the same tone to the same
-rate and width, by its own resampler and by soxr. Without names it takes the filters for 24 bits at 0 dB of DSD64 and
-DSD128. With --exact ffmpeg is left out, and every sample is compared with a convolution of scipy; the status is 1 where
-one differs. The program is bin/dsdarc, or what DSDARC or --program names."""
+the stored rate of each filter, 6 seconds of one channel as DSDIFF. Where ffmpeg is installed, it decodes the same tone
+to the same rate and width, by its own resampler and by soxr. Without names it takes the filters for 24 bits at 0 dB of
+DSD64 and DSD128. With --exact ffmpeg is left out, and every sample is compared with a convolution of scipy; the status
+is 1 where one differs. The program is bin/dsdarc, or what DSDARC or --program names."""
 import argparse
 import os
+import re
 import shutil
-import subprocess
 import sys
 import tempfile
-import tomllib
 from dataclasses import dataclass
 from pathlib import Path
 
 os.environ.setdefault("OMP_NUM_THREADS", "1")
 
-import numpy as np
-from scipy import signal
-
 FOLDER = Path(__file__).resolve().parent
 sys.path[:0] = [str(FOLDER.parent / name) for name in ("workflows", "modulator")]
+import outputs  # noqa: E402
+
+outputs.begin()
+import numpy as np  # noqa: E402
+from scipy import signal  # noqa: E402
+
 import modulators  # noqa: E402
+import project_texts  # noqa: E402
 import waves  # noqa: E402
 from dsdiffs import dsdiff  # noqa: E402
-from program import PROGRAM  # noqa: E402
+from outputs import Refused  # noqa: E402
+from program import PROGRAM, must  # noqa: E402
 
 HERTZ = 1000
 DECIBELS = -6.0
@@ -128,16 +132,16 @@ def row(name: str, way: str, figures: Figures) -> str:
 
 
 def play(program: str, project: Path, tone: Path, out: Path) -> None:
-    subprocess.run([program, "play", project, tone, out], check=True, stdout=subprocess.DEVNULL)
+    must(program, "play", project, tone, out)
 
 
 def decode(tone: Path, out: Path, rate: int, width: int, options: str) -> None:
     words = ["ffmpeg", "-v", "error", "-y", "-threads", "1", "-i", tone, "-af", f"aresample={rate}{options}"]
-    subprocess.run([*words, "-c:a", f"pcm_s{width}le", out], check=True)
+    must(*words, "-c:a", f"pcm_s{width}le", out)
 
 
 def table_of(project: Path) -> dict:
-    return tomllib.loads(project.read_text(encoding="utf-8"))["decimate"]
+    return project_texts.read_decimate(project)
 
 
 def compare(program: str, project: Path, tone: Path, out: Path) -> list[str]:
@@ -166,7 +170,11 @@ def compare_exactly(program: str, project: Path, tone: Path, out: Path) -> int:
 
 def stored_rate(project: Path) -> int:
     """The rate of a filter's recordings: the new one, which its name says, times its factor."""
-    return int(project.stem.split("-to-")[1].split("-")[0]) * table_of(project)["factor"]
+    said = re.search(r"-to-(\d{1,8})-(?:16|24)(?:-plus6)?$", project.stem)
+    rate = int(said[1]) * table_of(project)["factor"] if said else 0
+    if not 1_000_000 <= rate <= 50_000_000:
+        raise Refused(f"{project}: its name doesn't end with -to-RATE-WIDTH of a filter for 1 to 50 MHz")
+    return rate
 
 
 def usual() -> list[Path]:
@@ -212,4 +220,4 @@ def main() -> int:
 
 
 if __name__ == "__main__":
-    sys.exit(main())
+    sys.exit(outputs.ended(main))

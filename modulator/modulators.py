@@ -71,7 +71,9 @@ def run(program: Path, modulator: Modulator, rate: int, words: list, samples: by
     zeros, poles = noise_transfer(modulator, rate)
     numbers = [*(repr(float(it)) for it in [*poles[1:], *zeros[1:]]), str(modulator.dither)]
     line = [program, str(modulator.order), *numbers, *(str(it) for it in words)]
-    done = subprocess.run(line, input=samples, capture_output=True, check=True)
+    done = subprocess.run(line, input=samples, capture_output=True, check=False)
+    if done.returncode:
+        raise Refused(f"the modulator ended with status {done.returncode}")
     largest = float(done.stderr)
     if not largest < STABLE:
         raise Unstable(f"the modulator is not stable: {largest} before the quantizer")
@@ -79,7 +81,12 @@ def run(program: Path, modulator: Modulator, rate: int, words: list, samples: by
 
 
 def modulated(
-    program: Path, modulator: Modulator, rate: int, samples: np.ndarray, seed: int = SEED, state: np.ndarray | None = None
+    program: Path,
+    modulator: Modulator,
+    rate: int,
+    samples: np.ndarray,
+    seed: int = SEED,
+    state: np.ndarray | None = None,
 ) -> bytes:
     """The bits of a signal with a multiple of 8 samples, the earliest bit the most significant; stored ones are 1. The
     state is what the quantizer's errors were before, and the same after the noise transfer, the newest first."""

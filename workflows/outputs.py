@@ -1,8 +1,8 @@
 """What scripts write: whole or not at all, and never over what they read; and how they end.
 
-Files are written beside those that they replace, and get their names once all files of a run are whole. After a fault or a
-signal (INT, TERM, HUP) nothing is left over, and old files stand as they were. What is no file of a folder, such as a pipe,
-is written as it stands, last."""
+Files are written beside those that they replace, and get their names once all files of a run are whole. After a
+fault or a signal (INT, TERM, HUP) nothing is left over, and old files stand as they were. What is no file of a folder,
+such as a pipe, is written as it stands."""
 import contextlib
 import errno
 import os
@@ -14,10 +14,6 @@ import tempfile
 
 STOPS = (signal.SIGINT, signal.SIGTERM, signal.SIGHUP)
 FULL = (errno.ENOSPC, errno.EDQUOT)
-
-# Until `ended` is called Ctrl-C just ends a script, without a word of where it was.
-if signal.getsignal(signal.SIGINT) is signal.default_int_handler:
-    signal.signal(signal.SIGINT, signal.SIG_DFL)
 
 
 class Refused(Exception):
@@ -39,8 +35,8 @@ def unstopped():
 
 
 def identity(name):
-    """Tells a file from others, by whatever name: its device and inode, or those of its folder and its name there where
-    it isn't there yet."""
+    """Tells a file from others, by whatever name: its device and inode, or, where it isn't there yet, its name and
+    those of its folder."""
     try:
         found = os.stat(name)
         return found.st_dev, found.st_ino
@@ -58,14 +54,19 @@ def disk_of(name):
     return place
 
 
+def shown_name(name):
+    """A name on one line."""
+    return name if name.isprintable() else ascii(name)
+
+
 def told(error):
     """The line of a fault of the system."""
     name = error.filename
     if isinstance(name, bytes):
         name = os.fsdecode(name)
-    shown = name if isinstance(name, str) and name.isprintable() else ascii(name)
+    shown = shown_name(name) if isinstance(name, str) else ascii(name)
     if error.errno in FULL and isinstance(name, str):
-        return f"the disk at {disk_of(name)} is full, and {shown} has no room: free some there, or write to another disk"
+        return f"{shown} has no room: the disk at {disk_of(name)} is full; free some of it, or write to another disk"
     why = error.strerror or str(error)
     return why if name is None else f"{shown}: {why}"
 
@@ -91,7 +92,7 @@ class Output:
         streams = []
         for number in (1, 2):
             with contextlib.suppress(OSError):
-                streams.append(os.path.sameopenfile(number, number) and os.fstat(number))
+                streams.append(os.fstat(number))
         is_stream = any(os.path.samestat(self.old, it) for it in streams)
         is_there = os.path.exists(self.target) and os.path.samestat(self.old, os.stat(self.target))
         return stat.S_ISREG(self.old.st_mode) and is_there and not is_stream
@@ -228,8 +229,10 @@ class Outputs:
                 raise
 
 
-def shown_name(name):
-    return name if name.isprintable() else ascii(name)
+def begin():
+    """Lets Ctrl-C end a script without a word while it loads its modules."""
+    if signal.getsignal(signal.SIGINT) is signal.default_int_handler:
+        signal.signal(signal.SIGINT, signal.SIG_DFL)
 
 
 def stop(number, _):
@@ -242,7 +245,7 @@ def stop(number, _):
 def ended(main):
     """Runs a script: its status, and one line on standard error for a fault. A signal ends it as it would without this,
     once nothing is left over."""
-    name = os.path.basename(sys.argv[0])
+    name = shown_name(os.path.basename(sys.argv[0]))
     try:
         for each in STOPS:
             if signal.getsignal(each) is not signal.SIG_IGN:
@@ -261,7 +264,8 @@ def ended(main):
         why = "more memory is wanted than there is"
     except Refused as error:
         why = str(error)
-    print(f"{name}: {why}", file=sys.stderr)
+    with contextlib.suppress(OSError):
+        print(f"{name}: {why}", file=sys.stderr)
     quiet_end()
     return 2
 

@@ -35,8 +35,9 @@ def place_told(path):
         return ""
     if path[:2] == ("splice", "cue") and len(path) > 2:
         return f"cue {path[2]}: " if len(path) == 3 else f"key `{shown(path[3])}` of cue {path[2]}: "
-    names = [it for it in path if isinstance(it, str)]
-    return f"table `{names[0]}`: " if len(names) == 1 and names[0] in ("decimate", "splice") else f"key `{shown(names[-1])}`: "
+    if path in (("decimate",), ("splice",)):
+        return f"table `{path[0]}`: "
+    return f"key `{shown([it for it in path if isinstance(it, str)][-1])}`: "
 
 
 def finite(text):
@@ -169,7 +170,8 @@ class Reading:
                 self.kind(is_whole(value), path, key, "a whole number")
                 self.limit(0 <= value < 2**32, path, key, "a number of 32 bits without a sign")
         taps, factor, delay, shift, width = (table[key] for key in DECIMATE)
-        self.limit(1 <= len(taps) <= 4096 and total(taps) <= 2**30, path, TAPS, "1 to 4096 numbers, absolute sum at most 2^30")
+        is_inside = 1 <= len(taps) <= 4096 and total(taps) <= 2**30
+        self.limit(is_inside, path, TAPS, "1 to 4096 numbers, absolute sum at most 2^30")
         self.limit(factor % 8 == 0 and 8 <= factor <= 1024, path, FACTOR, "a multiple of 8, 8 to 1024")
         self.limit(delay < len(taps), path, DELAY, "less than the number of taps")
         self.limit(shift <= 30, path, SHIFT, "0 to 30")
@@ -207,7 +209,7 @@ class Reading:
         self.kind(isinstance(title, str), path, "title", "a text")
         self.limit(len(title.encode()) <= 255, path, "title", "at most 255 bytes in UTF-8")
         is_long = cue["stop"] - cue["start"] >= shortest
-        self.demand(is_long, f"ShortCue {number}", path, f"it has fewer than {shortest} bits, which the weights ask for")
+        self.demand(is_long, f"ShortCue {number}", path, f"it has fewer than {shortest} bits, which the weights want")
 
     def whole(self, cue, path, key):
         value = self.given(cue, path, key)
@@ -232,3 +234,11 @@ def read(name):
     """The text of a file."""
     with open(name, "rb") as file:
         return Text(name, file.read())
+
+
+def read_decimate(name):
+    """The table `decimate` of a file."""
+    text = read(name)
+    if "decimate" not in text.data:
+        raise text.fault("NoDecimation", (), "it has no table `decimate`")
+    return text.data["decimate"]

@@ -1,7 +1,7 @@
 """TOML texts as they are written: the lines in which their keys stand, and TOML 1.1 spelled as TOML 1.0.
 
-Python's `tomllib` reads TOML 1.0 and tells no lines. TOML 1.1 may also have line ends, comments and a last comma in inline
-tables, the escapes \\e and \\xHH, and times without seconds. Nothing here judges a text: that is for a parser."""
+Python's `tomllib` reads TOML 1.0 and tells no lines. TOML 1.1 may also have line ends, comments and a last comma in
+inline tables, the escapes \\e and \\xHH, and times without seconds. Nothing here judges a text, as a parser does."""
 import re
 import tomllib
 
@@ -43,37 +43,65 @@ def older_word(word):
 
 
 class Older:
-    """A text of TOML 1.1 spelled as TOML 1.0, and for each of its lines that which it had."""
+    """A text of TOML 1.1 spelled as TOML 1.0, and for each of its lines that which it had. An inline table may have line
+    ends before a key and behind a value; others stay, and so does all behind what is no TOML."""
 
     def __init__(self, text):
         self.parts, self.lines = [], [1]
-        self.open, self.seen = [], []  # brackets, and where parts that count stand
+        self.open = []  # brackets, each with what came last behind it
+        self.ends = []  # where line ends were that a value may not go on behind
+        self.comma = self.word = None
+        self.is_broken = False
         for kind, part, line in parts_of(text):
-            self.add(kind, part, line)
+            self.is_broken = self.is_broken or kind == "other"
+            part = part if self.is_broken else self.older(kind, part)
+            self.parts.append(part)
+            self.lines += range(line + 1, line + 1 + part.count("\n"))
         self.text = "".join(self.parts)
 
-    def add(self, kind, part, line):
-        is_inline = bool(self.open) and self.open[-1] == "{"
+    def older(self, kind, part):
+        last = self.open[-1] if self.open else ["", ""]
+        if last[0] == "{" and kind in ("end", "comment"):
+            return self.between(last, kind, part)
         if kind == "text" and part[0] == '"':
             part = ESCAPES.sub(older_escape, part)
         elif kind == "word":
+            self.word = part
             part = older_word(part)
-        elif is_inline and (kind == "end" or kind == "comment" and not CONTROLS.search(part)):
-            part = " " if kind == "end" else ""
-        elif kind == "sign":
-            self.bracket(part)
-        if kind in ("text", "sign", "word", "other"):
-            self.seen.append(len(self.parts))
-        self.parts.append(part)
-        self.lines += range(line + 1, line + 1 + part.count("\n"))
+        elif part == "." and self.parts and self.word and self.parts[-1] == older_word(self.word):
+            self.parts[-1] = self.word  # a time with a point has its seconds
+        if kind in ("text", "word", "sign"):
+            self.note(last, part)
+        return part
 
-    def bracket(self, part):
-        if part in "[{":
-            self.open.append(part)
-        elif part in "]}" and self.open:
-            last = [self.parts[it] for it in self.seen[-2:]]
-            if self.open.pop() + part == "{}" and last[1:] == [","] and last[0] not in ("{", ","):
-                self.parts[self.seen[-1]] = ""
+    def between(self, last, kind, part):
+        """A line end or a comment in an inline table."""
+        if last[1] not in ("", "comma", "value", "behind"):
+            return part
+        if kind == "comment":
+            return part if CONTROLS.search(part) else ""
+        if last[1] in ("value", "behind"):
+            last[1] = "behind"
+            self.ends.append(len(self.parts))
+        return " "
+
+    def note(self, last, part):
+        """What comes next in the innermost bracket."""
+        if part in ("]", "}") and self.open:
+            if self.open.pop() == ["{", "comma"] and part == "}":
+                self.parts[self.comma] = ""
+            return
+        if last[1] == "behind" and part != ",":
+            self.parts[self.ends[-1]] = "\n"
+        if part == "," and last[1] in ("value", "behind"):
+            self.comma = len(self.parts)
+            last[1] = "comma"
+        elif part == "=":
+            last[1] = "equals"
+        else:
+            last[1] = "value" if last[1] in ("equals", "value") else "key"
+        if part in ("[", "{"):
+            self.open.append([part, ""])
 
 
 class Lines:

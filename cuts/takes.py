@@ -11,6 +11,7 @@ import numpy as np
 sys.path.insert(0, str(Path(__file__).resolve().parent.parent / "workflows"))
 import channels  # noqa: E402
 import dsdiffs  # noqa: E402
+from outputs import shown_name  # noqa: E402
 
 Unread = channels.Unread
 
@@ -45,7 +46,10 @@ class Take:
     def stored(self, first: int, stop: int) -> np.ndarray:
         """The bits of all channels from `first` to `stop` - 1, which lie inside: 0 and 1, a row for each channel."""
         start = first // 8 * 8
-        spans = channels.span(self.file, self.sound, start, stop)
+        try:
+            spans = channels.span(self.file, self.sound, start, stop)
+        except Unread as error:
+            raise Unread(f"{shown_name(self.name)}: {error}") from None
         rows = [np.unpackbits(np.frombuffer(it, np.uint8))[first - start : stop - start] for it in spans]
         return np.stack(rows)
 

@@ -11,7 +11,6 @@ import os
 import re
 import shutil
 import sys
-import tempfile
 from dataclasses import dataclass
 from pathlib import Path
 
@@ -209,7 +208,7 @@ def main() -> int:
     words.add_argument("--exact", action="store_true", help="compare each sample with a convolution of scipy")
     asked = words.parse_args()
     filters = asked.filters or usual()
-    with tempfile.TemporaryDirectory() as name:
+    with outputs.scratch() as name:
         modulate = modulators.compiled(Path(name))
         if not asked.exact:
             print_figures(asked.program, filters, modulate)

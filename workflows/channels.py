@@ -11,11 +11,13 @@ import os
 import struct
 import sys
 
+from outputs import Refused
+
 BLOCK = 4096
 TURNED = bytes(int(f"{byte:08b}"[::-1], 2) for byte in range(256))
 
 
-class Unread(Exception):
+class Unread(Refused):
     """The file isn't read."""
 
 

@@ -34,6 +34,40 @@ def unstopped():
         signal.pthread_sigmask(signal.SIG_SETMASK, before)
 
 
+left = []  # what is to be removed at an end of any kind: how, and its name
+
+
+def note(remove, name):
+    left.append((remove, name))
+
+
+def clear(name):
+    """Removes what was noted by a name."""
+    for each in [it for it in left if it[1] == name]:
+        with contextlib.suppress(OSError):
+            each[0](name)
+        left.remove(each)
+
+
+def keep(name):
+    """What was noted by a name stays."""
+    left[:] = [it for it in left if it[1] != name]
+
+
+@contextlib.contextmanager
+def scratch():
+    """A folder for the time of a block."""
+    folder = None
+    try:
+        with unstopped():
+            folder = tempfile.mkdtemp()
+            note(shutil.rmtree, folder)
+        yield folder
+    finally:
+        with unstopped():
+            clear(folder)
+
+
 def identity(name):
     """Tells a file from others, by whatever name: its device and inode, or, where it isn't there yet, its name and
     those of its folder."""
@@ -77,6 +111,7 @@ class Output:
     def __init__(self, what, name):
         self.what, self.name = what, os.fspath(name)
         self.part = self.backup = self.old = None
+        self.is_named = False
         with contextlib.suppress(FileNotFoundError):
             self.old = os.stat(self.name)
         self.target = os.path.realpath(self.name)
@@ -111,6 +146,7 @@ class Output:
         with self.named(), unstopped():
             folder = os.path.dirname(self.target) if self.is_plain else None
             handle, self.part = tempfile.mkstemp(prefix=".dsdarc-script-", dir=folder)
+            note(os.remove, self.part)
             with os.fdopen(handle, "wb"):
                 mask = os.umask(0)
                 os.umask(mask)
@@ -130,32 +166,33 @@ class Output:
         with self.named(), open(self.part, "rb") as file, open(self.name, "wb") as out:
             shutil.copyfileobj(file, out)
 
-    def replace(self):
-        """Gives the file its name, and keeps what stood there."""
+    def replace(self, is_last):
+        """Gives the file its name, and keeps what stood there unless it is the last of all."""
         with self.named():
-            if self.old:
-                self.backup = f"{self.part}-old"
+            if self.old and not is_last:
+                backup = f"{self.part}-old"
                 try:
-                    os.link(self.target, self.backup)
+                    os.link(self.target, backup)
                 except OSError:
-                    os.rename(self.target, self.backup)
+                    os.rename(self.target, backup)
+                self.backup = backup
             os.replace(self.part, self.target)
-            self.part = None
+            keep(self.part)
+            self.is_named = True
 
     def put_back(self):
         """Undoes `replace`."""
         if self.backup:
             os.replace(self.backup, self.target)
-            self.backup = None
-        elif self.part is None and self.is_plain and self.old is None:
+        elif self.is_named and self.old is None:
             os.remove(self.target)
+        self.backup = None
 
     def clear(self):
-        for name in (self.part, self.backup):
-            if name:
-                with contextlib.suppress(OSError):
-                    os.remove(name)
-        self.part = self.backup = None
+        clear(self.part)
+        if self.backup:
+            with contextlib.suppress(OSError):
+                os.remove(self.backup)
 
 
 class Outputs:
@@ -173,8 +210,8 @@ class Outputs:
             if it == made.identity:
                 same = "" if known == made.name else f", by the name {shown_name(known)}"
                 raise Refused(f"{what}: {shown_name(made.name)} is {other} too{same}: name another file")
-        made.begin()
         self.files[made.name] = made
+        made.begin()
 
     def folder(self, name):
         """Makes a folder where there is none; it goes again after a fault."""
@@ -186,6 +223,7 @@ class Outputs:
         for each in reversed(missing):
             with unstopped():
                 os.mkdir(each)
+                note(os.rmdir, each)
                 self.folders.append(each)
 
     def open(self, name):
@@ -202,31 +240,36 @@ class Outputs:
     def __exit__(self, kind, fault, trace):
         try:
             if kind is None:
+                go_on()
                 self.name_all()
-                self.folders = []
         finally:
             with unstopped():
-                for it in self.files.values():
-                    it.clear()
-                for each in reversed(self.folders):
-                    with contextlib.suppress(OSError):
-                        os.rmdir(each)
+                self.clear()
+
+    def clear(self):
+        for it in self.files.values():
+            it.clear()
+        for each in reversed(self.folders):
+            clear(each)
 
     def name_all(self):
-        files = self.files.values()
-        for it in files:
+        """Pipes and devices are written first, as that can fail; then all files get their names at once."""
+        for it in self.files.values():
             if not it.is_plain:
                 it.pour()
+        files = [it for it in self.files.values() if it.is_plain]
         with unstopped():
             try:
                 for it in files:
-                    if it.is_plain:
-                        it.replace()
-            except BaseException:
+                    it.replace(it is files[-1])
+            except OSError:
                 for it in files:
                     with contextlib.suppress(OSError):
                         it.put_back()
                 raise
+            for each in self.folders:
+                keep(each)
+            self.clear()
 
 
 def begin():
@@ -235,39 +278,64 @@ def begin():
         signal.signal(signal.SIGINT, signal.SIG_DFL)
 
 
+came = []  # the signal that came; what it raises may be lost in the code of a library
+
+
 def stop(number, _):
     """Later signals are ignored: what is left over is removed in peace."""
     for each in STOPS:
         signal.signal(each, signal.SIG_IGN)
-    raise Stopped(number)
+    came.append(number)
+    raise Stopped
+
+
+def go_on():
+    """Ends a run whose signal was lost."""
+    if came:
+        raise Stopped
+
+
+def die():
+    """Ends by the signal that came. What it raised may have come where nothing was ready for it."""
+    for _, name in left[::-1]:
+        clear(name)
+    signal.signal(came[0], signal.SIG_DFL)
+    os.kill(os.getpid(), came[0])
+    return 128 + came[0]
 
 
 def ended(main):
     """Runs a script: its status, and one line on standard error for a fault. A signal ends it as it would without this,
     once nothing is left over."""
-    name = shown_name(os.path.basename(sys.argv[0]))
     try:
         for each in STOPS:
             if signal.getsignal(each) is not signal.SIG_IGN:
                 signal.signal(each, stop)
         status = main()
         sys.stdout.flush()
+        go_on()
         return status
-    except Stopped as stopped:
-        number = stopped.args[0]
-        signal.signal(number, signal.SIG_DFL)
-        os.kill(os.getpid(), number)
-        return 128 + number
-    except OSError as error:
-        why = told(error)
-    except MemoryError:
-        why = "more memory is wanted than there is"
-    except Refused as error:
-        why = str(error)
+    except Stopped:
+        return die()
+    except Exception as error:
+        if came:
+            return die()
+        why = why_of(error)
     with contextlib.suppress(OSError):
-        print(f"{name}: {why}", file=sys.stderr)
+        print(f"{shown_name(os.path.basename(sys.argv[0]))}: {why}", file=sys.stderr)
     quiet_end()
     return 2
+
+
+def why_of(error):
+    """The line of what can be wrong with what a script is given; other faults are its own."""
+    if isinstance(error, OSError):
+        return told(error)
+    if isinstance(error, MemoryError):
+        return "more memory is wanted than there is"
+    if isinstance(error, Refused):
+        return str(error)
+    raise error
 
 
 def quiet_end():

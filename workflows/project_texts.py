@@ -52,8 +52,8 @@ def is_whole(value):
     return type(value) is int
 
 
-def are_whole(value):
-    return isinstance(value, list) and all(map(is_whole, value))
+def is_text(value):
+    return isinstance(value, str)
 
 
 def total(numbers):
@@ -147,6 +147,12 @@ class Reading:
     def kind(self, holds, path, key, wanted):
         self.demand(holds, f"WrongKind {key}", (*path, key), f"it is to be {wanted}")
 
+    def each(self, value, path, key, kind, wanted):
+        """An array whose elements are all of a kind; the line is that of the first which isn't."""
+        self.kind(isinstance(value, list), path, key, wanted)
+        for number, it in enumerate(value):
+            self.demand(kind(it), f"WrongKind {key}", (*path, key, number), f"it is to be {wanted}")
+
     def limit(self, holds, path, key, limits):
         self.demand(holds, f"OutOfLimit {key}", (*path, key), f"it is to be {limits}")
 
@@ -164,7 +170,7 @@ class Reading:
         for key in DECIMATE:
             value = self.given(table, path, key)
             if key == TAPS:
-                self.kind(are_whole(value), path, key, "an array of whole numbers")
+                self.each(value, path, key, is_whole, "an array of whole numbers")
                 self.limit(all(-(2**31) <= it < 2**31 for it in value), path, key, "of numbers of 32 bits")
             else:
                 self.kind(is_whole(value), path, key, "a whole number")
@@ -180,12 +186,11 @@ class Reading:
     def splice(self, table, path):
         self.table(table, path, SPLICE, "splice")
         weights = self.given(table, path, "weights")
-        self.kind(are_whole(weights), path, "weights", "an array of whole numbers")
+        self.each(weights, path, "weights", is_whole, "an array of whole numbers")
         is_inside = 2 <= len(weights) <= 12 and total(weights) <= 4096
         self.limit(is_inside, path, "weights", "2 to 12 numbers, absolute sum at most 4096")
         takes = self.given(table, path, "takes")
-        are_texts = isinstance(takes, list) and all(isinstance(it, str) for it in takes)
-        self.kind(are_texts, path, "takes", "an array of texts")
+        self.each(takes, path, "takes", is_text, "an array of texts")
         self.limit(1 <= len(takes) <= MOST_TAKES, path, "takes", f"1 to {MOST_TAKES} names")
         cues = self.given(table, path, "cue")
         self.kind(isinstance(cues, list), path, "cue", "an array of tables")
@@ -206,7 +211,7 @@ class Reading:
             self.limit(0 <= self.whole(cue, path, "bridge") <= 4096, path, "bridge", "0 to 4096")
         self.target(cue, path)
         title = cue.get("title", "")
-        self.kind(isinstance(title, str), path, "title", "a text")
+        self.kind(is_text(title), path, "title", "a text")
         self.limit(len(title.encode()) <= 255, path, "title", "at most 255 bytes in UTF-8")
         is_long = cue["stop"] - cue["start"] >= shortest
         self.demand(is_long, f"ShortCue {number}", path, f"it has fewer than {shortest} bits, which the weights want")
@@ -219,13 +224,13 @@ class Reading:
     def target(self, cue, path):
         """A bridge's target, and its line."""
         target = cue.get("target", "fade")
-        self.kind(isinstance(target, str), path, "target", "a text")
+        self.kind(is_text(target), path, "target", "a text")
         self.limit(target in ("fade", "line"), path, "target", '"fade" or "line"')
         if target == "fade":
             self.limit("line" not in cue, path, "line", 'left out where the target is not "line"')
             return
         ends = self.given(cue, path, "line")
-        self.kind(are_whole(ends), path, "line", "an array of whole numbers")
+        self.each(ends, path, "line", is_whole, "an array of whole numbers")
         is_inside = len(ends) == 2 and all(-4096 <= it <= 4096 for it in ends)
         self.limit(is_inside, path, "line", "two numbers from -4096 to 4096")
 

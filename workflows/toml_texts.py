@@ -43,8 +43,8 @@ def older_word(word):
 
 
 class Older:
-    """A text of TOML 1.1 spelled as TOML 1.0, and for each of its lines that which it had. An inline table may have line
-    ends before a key and behind a value; others stay, and so does all behind what is no TOML."""
+    """A text of TOML 1.1 spelled as TOML 1.0, and for each of its lines that which it had. An inline table may have
+    line ends before a key and behind a value; others stay, and so does all behind what is no TOML."""
 
     def __init__(self, text):
         self.parts, self.lines = [], [1]

@@ -1,5 +1,6 @@
 """The delta-sigma modulator of one bit (modulate.c, compiled with CC or cc) and its noise transfers."""
 import os
+import signal
 import subprocess
 import sys
 from dataclasses import dataclass
@@ -8,7 +9,8 @@ from pathlib import Path
 
 import numpy as np
 from numpy.polynomial import legendre
-from scipy import optimize, signal
+from scipy import optimize
+from scipy import signal as signals
 
 FOLDER = Path(__file__).resolve().parent
 sys.path.insert(0, str(FOLDER.parent / "workflows"))
@@ -44,24 +46,31 @@ def noise_transfer(modulator: Modulator, rate: int) -> tuple[np.ndarray, np.ndar
     zeros = np.exp(2j * np.pi * AUDIO / rate * legendre.legroots([0] * order + [1]))
 
     def excess(turn: float) -> float:
-        return 1 / signal.butter(order, turn, "high")[0][0] - modulator.gain
+        return 1 / signals.butter(order, turn, "high")[0][0] - modulator.gain
 
     turn = optimize.brentq(excess, 1e-3, 0.9)
-    poles = signal.butter(order, turn, "high", output="zpk")[1]
+    poles = signals.butter(order, turn, "high", output="zpk")[1]
     return np.real(np.poly(zeros)), np.real(np.poly(poles))
 
 
 def compiled(folder: Path) -> Path:
-    """The modulator's program, made in a folder."""
+    """The modulator's program, made in a folder, in which the compiler has its own files too."""
     program = folder / "modulate"
     compiler = os.environ.get("CC", "cc")
     words = [compiler, "-O2", "-o", program, FOLDER / "modulate.c", "-lm"]
+    how = {"stdout": subprocess.DEVNULL, "stderr": subprocess.PIPE, "env": os.environ | {"TMPDIR": str(folder)}}
     try:
-        done = subprocess.run(words, capture_output=True, text=True, errors="replace", check=False)
+        running = subprocess.Popen(words, start_new_session=True, **how)
     except (OSError, ValueError) as error:
         raise Refused(f"the C compiler {compiler!r} can't be run ({error}): install one, or name it by CC") from None
-    if done.returncode:
-        said = (done.stderr.strip().splitlines() or ["it says nothing"])[-1]
+    try:
+        told = running.communicate()[1]
+    except BaseException:
+        os.killpg(running.pid, signal.SIGKILL)
+        running.wait()
+        raise
+    if running.returncode:
+        said = (told.decode(errors="replace").strip().splitlines() or ["it says nothing"])[-1]
         raise Refused(f"{compiler} can't compile modulate.c in {folder}: {said}")
     return program
 

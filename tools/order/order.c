@@ -1,8 +1,9 @@
 /* Preloaded into a program, it notes the calls that put a file in place, and fails one of them. To the file of number
-   ORDER_TOLD it writes a line for each call that makes a file, syncs a file or a folder, or renames, in their order, and
-   one for the writes to a file, however many come in a row: the call, the file's mode behind it, and its paths. ORDER_FAILS
-   names the call that fails, as it stands in its line, and ORDER_WHICH counts it from 1: it is noted, and not made. A call
-   that opens a folder isn't noted, but can be failed (folder). */
+   ORDER_TOLD it writes a line for each call that makes a file, syncs a file or a folder, or renames, in their order,
+   and one for the writes to a file, however many come in a row: the call, the file's mode behind it, and its paths.
+   ORDER_FAILS names the call that fails, as it stands in its line, and ORDER_WHICH counts it from 1: it is noted, and
+   not made; but one that would make a file isn't noted. A call that opens a folder isn't noted either, but can be
+   failed (folder). */
 #define _GNU_SOURCE
 #include <dlfcn.h>
 #include <errno.h>

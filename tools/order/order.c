@@ -2,8 +2,8 @@
    ORDER_TOLD it writes a line for each call that makes a file, syncs a file or a folder, or renames, in their order,
    and one for the writes to a file, however many come in a row: the call, the file's mode behind it, and its paths.
    ORDER_FAILS names the call that fails, as it stands in its line, and ORDER_WHICH counts it from 1: it is noted, and
-   not made; but one that would make a file isn't noted. A call that opens a folder isn't noted either, but can be
-   failed (folder). */
+   not made; but one that would make a file isn't noted. Calls that open a folder or read from a file aren't noted
+   either, but can be failed (folder, read). */
 #define _GNU_SOURCE
 #include <dlfcn.h>
 #include <errno.h>
@@ -91,6 +91,13 @@ ssize_t write(int file, const void *bytes, size_t size)
     if (file > 2 && fstat(file, &found) == 0 && S_ISREG(found.st_mode))
         note_open("write", file);
     return write_on(file, bytes, size);
+}
+
+ssize_t read(int file, void *bytes, size_t size)
+{
+    if (is_failed("read"))
+        return -1;
+    return ((ssize_t (*)(int, void *, size_t))dlsym(RTLD_NEXT, "read"))(file, bytes, size);
 }
 
 int rename(const char *from, const char *to)

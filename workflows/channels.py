@@ -11,6 +11,8 @@ import os
 import struct
 import sys
 
+import room
+
 BLOCK = 4096
 TURNED = bytes(int(f"{byte:08b}"[::-1], 2) for byte in range(256))
 
@@ -144,10 +146,14 @@ def read(name):
 
 def main():
     for name in sys.argv[1:]:
-        rate, channels = read(name)
+        try:
+            rate, channels = read(name)
+        except Unread as why:
+            sys.exit(f"{name!r}: {why}")
         for number, (bits, total) in enumerate(channels):
             print(f"{total}  rate {rate} channel {number} bits {bits}  {name}")
 
 
 if __name__ == "__main__":
-    main()
+    with room.told("standard output"):
+        main()

@@ -11,6 +11,7 @@ import os
 import struct
 import sys
 
+import room
 from outputs import Refused
 
 BLOCK = 4096
@@ -146,10 +147,14 @@ def read(name):
 
 def main():
     for name in sys.argv[1:]:
-        rate, channels = read(name)
+        try:
+            rate, channels = read(name)
+        except Unread as why:
+            sys.exit(f"{name!r}: {why}")
         for number, (bits, total) in enumerate(channels):
             print(f"{total}  rate {rate} channel {number} bits {bits}  {name}")
 
 
 if __name__ == "__main__":
-    main()
+    with room.told("standard output"):
+        main()

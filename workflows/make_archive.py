@@ -5,11 +5,14 @@ DSDIFF files are written here, DSF files by dsdarc (or what DSDARC names) from t
 that is refused, two of a rate that the usual filters don't have, and two end inside a byte.
 """
 import argparse
+import contextlib
 import os
 import random
 import struct
 import subprocess
+import sys
 
+import room
 from dsdiffs import chunk, dsdiff, mark
 from program import PROGRAM
 
@@ -18,18 +21,34 @@ NAMES = ["{nr:02} track.dff", "{nr:02} - Größe & Maß.dff", "{nr:02} it's \"qu
          "{nr:02} 100% $HOME `x`.dff", "-{nr:02} first.dff"]
 
 
-def write(name, data):
+@contextlib.contextmanager
+def part_of(name, data):
+    """A file of the data beside a name, while it is needed."""
+    part = name + ".part"
     os.makedirs(os.path.dirname(name), exist_ok=True)
-    with open(name, "wb") as file:
-        file.write(data)
+    try:
+        with open(part, "wb") as file:
+            file.write(data)
+        yield part
+    finally:
+        with contextlib.suppress(FileNotFoundError):
+            os.remove(part)
 
 
-def to_dsf(name, form):
-    """Puts a DSF file in the place of a DSDIFF file."""
-    made = os.path.splitext(name)[0] + ".dsf"
-    subprocess.run([PROGRAM, "convert", form, name, made], check=True, stdout=subprocess.DEVNULL)
-    os.remove(name)
-    return made
+def write(name, data):
+    """Writes a file, whole or not at all."""
+    with part_of(name, data) as part:
+        os.replace(part, name)
+
+
+def write_dsf(name, form, data):
+    """Writes the DSF file of a DSDIFF file's data."""
+    with part_of(name, data) as part:
+        done = subprocess.run([PROGRAM, "convert", form, part, name], capture_output=True, text=True)
+        if done.returncode != 0:
+            line = done.stderr.strip()
+            room.check(line, os.path.dirname(name), lambda: room.copied_size(part))
+            sys.exit(f"{line or f'status {done.returncode}'}: {name!r}")
 
 
 def good(folder, number, chance):
@@ -40,9 +59,11 @@ def good(folder, number, chance):
     more = mark(b"one") + chunk(b"COMT", b"\0\0") if number % 7 == 0 else b""
     place = ["", "Artist A/Disc 1", "Artist A/Disc 2", "Künstler Ö/an album/CD 1"][number % 4]
     name = os.path.join(folder, place, NAMES[number % len(NAMES)].format(nr=number))
-    write(name, dsdiff(rate, channels, chance.randbytes(channels * count), more=more))
+    data = dsdiff(rate, channels, chance.randbytes(channels * count), more=more)
     if number % 3:
-        to_dsf(name, "dsf" if number % 2 else "dsf8")
+        write_dsf(os.path.splitext(name)[0] + ".dsf", "dsf" if number % 2 else "dsf8", data)
+    else:
+        write(name, data)
 
 
 def patched(data, at, new):
@@ -53,9 +74,8 @@ def broken(folder, chance):
     """Files that are refused, each for its own reason."""
     stereo = chance.randbytes(40_000)
     whole = dsdiff(2_822_400, 2, stereo)
-    name = os.path.join(folder, "broken", "x.dff")
-    write(name, whole)
-    made = to_dsf(name, "dsf")
+    made = os.path.join(folder, "broken", "x.dsf")
+    write_dsf(made, "dsf", whole)
     with open(made, "rb") as file:
         dsf = file.read()
     os.remove(made)
@@ -93,4 +113,5 @@ def main():
 
 
 if __name__ == "__main__":
-    main()
+    with room.told("FOLDER"):
+        main()

@@ -12,6 +12,8 @@ import stat
 import sys
 import unicodedata
 
+import room
+
 KEY_DIGITS = 32
 ENDINGS = (".dff", ".dsf")
 # What the results of one file end with, by the folder that they stand in.
@@ -51,13 +53,17 @@ def sum_line(total, name):
 def keep(name, data):
     """Writes a text or an object as JSON, whole or not at all."""
     part = name + ".part"
-    with open(part, "w", encoding="utf-8", errors="surrogateescape") as file:
-        if isinstance(data, str):
-            file.write(data)
-        else:
-            json.dump(data, file, indent=1, sort_keys=True)
-            file.write("\n")
-    os.replace(part, name)
+    try:
+        with open(part, "w", encoding="utf-8", errors="surrogateescape") as file:
+            if isinstance(data, str):
+                file.write(data)
+            else:
+                json.dump(data, file, indent=1, sort_keys=True)
+                file.write("\n")
+        os.replace(part, name)
+    except BaseException:
+        remove(part)
+        raise
 
 
 def load(name):
@@ -277,6 +283,7 @@ def settle(archive, settings):
     for folder in ("looks", "converted", "played", "parts"):
         os.makedirs(f"work/{folder}", exist_ok=True)
     table = table_of("archive", ".")
+    room.start("work", len(table["files"]))
     clash = clashing(table["files"], "work")
     if clash:
         sys.exit("the disk of OUT takes these two for one name, take another: " + ", ".join(map(repr, clash)))

@@ -12,8 +12,9 @@ import stat
 import sys
 import tempfile
 
+import room
+
 STOPS = (signal.SIGINT, signal.SIGTERM, signal.SIGHUP)
-FULL = (errno.ENOSPC, errno.EDQUOT)
 
 
 class Refused(Exception):
@@ -99,7 +100,7 @@ def told(error):
     if isinstance(name, bytes):
         name = os.fsdecode(name)
     shown = shown_name(name) if isinstance(name, str) else ascii(name)
-    if error.errno in FULL and isinstance(name, str):
+    if room.is_full(error) and isinstance(name, str):
         return f"{shown} has no room: the disk at {disk_of(name)} is full; free some of it, or write to another disk"
     why = error.strerror or str(error)
     return why if name is None else f"{shown}: {why}"
@@ -311,19 +312,26 @@ def ended(main):
         for each in STOPS:
             if signal.getsignal(each) is not signal.SIG_IGN:
                 signal.signal(each, stop)
+        return status_of(main)
+    except Stopped:
+        return die()
+
+
+def status_of(main):
+    try:
         status = main()
         sys.stdout.flush()
         go_on()
         return status
-    except Stopped:
-        return die()
     except Exception as error:
-        if came:
-            return die()
+        go_on()
         why = why_of(error)
     with contextlib.suppress(OSError):
         print(f"{shown_name(os.path.basename(sys.argv[0]))}: {why}", file=sys.stderr)
-    quiet_end()
+    try:
+        sys.stdout.flush()
+    except OSError:
+        room.drop_output()
     return 2
 
 
@@ -336,11 +344,3 @@ def why_of(error):
     if isinstance(error, Refused):
         return str(error)
     raise error
-
-
-def quiet_end():
-    """What standard output didn't take is not tried again at the end."""
-    try:
-        sys.stdout.flush()
-    except OSError:
-        os.dup2(os.open(os.devnull, os.O_WRONLY), 1)

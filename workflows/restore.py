@@ -4,7 +4,7 @@
 For each file that was converted OUT keeps all but its sound, as it stood: `.head` is what stands before the sound,
 `.id3` or `.tail` what stands behind it, and `.fill` the last blocks of a DSF file whose fill isn't zero. With the sound
 of the converted file that is the old file, byte for byte. This writes it into FOLDER under its old name, once its
-SHA-256 is the old one's. It reads `results.json`, `converted/`, `kept/` and `renamed/`, and does without dsdarc.
+SHA-256 is the old one's; what stands there with that SHA-256 stays. It reads `results.json`, `converted/`, `kept/` and `renamed/`, and does without dsdarc.
 """
 import dataclasses
 import hashlib
@@ -15,6 +15,7 @@ import tempfile
 
 import channels
 import names
+import room
 
 PIECE = 1 << 20
 # Where the head of a DSF file has its bits per sample.
@@ -113,15 +114,21 @@ def sum_of_pieces(data):
     return total.hexdigest()
 
 
+def is_made(path, total):
+    return os.path.isfile(path) and not os.path.islink(path) and names.sum_of(path) == total
+
+
 def restore(out, name, found, part, folder):
     """Writes one file again; it has its name only where it is the old one."""
     if os.path.isabs(name) or ".." in name.split("/"):
         raise channels.Unread("its name leads out of the folder")
+    path = os.path.join(folder, name)
+    if is_made(path, found["sha256"]):
+        return
     kept = {os.path.splitext(path)[1]: os.path.join(out, path) for path in found["kept"]}
     write(part, made_again(os.path.join(out, found["converted"]), kept))
     if names.sum_of(part) != found["sha256"]:
         raise channels.Unread("it would have another sum")
-    path = os.path.join(folder, name)
     os.makedirs(os.path.dirname(path), exist_ok=True)
     os.replace(part, path)
 
@@ -138,6 +145,8 @@ def main(out, folder):
                 restore(out, name, found, os.path.join(parts, "part"), folder)
                 done += 1
             except (OSError, channels.Unread) as error:
+                if isinstance(error, OSError) and room.is_full(error):
+                    raise
                 wrong += 1
                 print(f"not made again: {name!r}: {error}", file=sys.stderr)
     print(f"made again {done}, not {wrong}")
@@ -147,4 +156,5 @@ def main(out, folder):
 if __name__ == "__main__":
     if len(sys.argv) != 3:
         sys.exit(__doc__.partition("\n")[0])
-    sys.exit(main(*sys.argv[1:]))
+    with room.told("FOLDER"):
+        sys.exit(main(*sys.argv[1:]))

@@ -11,6 +11,7 @@ import tomllib
 
 import channels
 import restore
+import room
 import waves
 from names import KINDS, SETTINGS, TABLE, keep, load, remove, result, shown, sum_line, sum_of
 from program import PROGRAM
@@ -24,10 +25,11 @@ def run(*words):
     return done.returncode, (done.stdout if done.returncode == 0 else done.stderr).strip()
 
 
-def must(entry, *words):
-    """The line of a command that has to be done."""
+def must(entry, size, *words):
+    """The line of a command that has to be done; `size` reckons that of the file that it makes."""
     status, line = run(*words)
     if status != 0:
+        room.check(line, "work/parts", size)
         sys.exit(f"{line or f'status {status}'}: {entry['name']!r}")
     return line
 
@@ -90,19 +92,20 @@ def convert(key):
     front = f"work/parts/{key}"
     part, back = f"{front}.{ENDINGS[form]}", f"{front}.back"
     try:
-        dropped = must(entry, "convert", form, source, part)
-        must(entry, "convert", looked["form"], part, back)
+        dropped = must(entry, lambda: room.copied_size(source), "convert", form, source, part)
+        must(entry, lambda: room.copied_size(source), "convert", looked["form"], part, back)
         kept = restore.keep_all_but_sound(source, front)
         rate, sums = compare(entry, source, looked["sha256"], part, back, kept)
-        remove(*(result("kept", entry, ending) for ending in KINDS["kept"]))
         made = {result("converted", entry, f".{ENDINGS[form]}"): part}
         made |= {result("kept", entry, ending): file for ending, file in kept.items()}
+        results = placed(made)
+        remove(*(result("kept", entry, ending) for ending in KINDS["kept"] if ending not in kept))
         keep(note_of("convert", key, form), {
             "rate": rate,
             "channels": [{"bits": bits, "sha256": total} for bits, total in sums],
             "dropped": int(dropped.split()[-1]),
             "renamed": entry["renamed"],
-            "results": placed(made),
+            "results": results,
         })
     finally:
         remove(part, back, *(front + ending for ending in KINDS["kept"]))
@@ -112,7 +115,8 @@ def play(key):
     """Plays a file to a WAVE file, by the filter for its rate."""
     settings, entry, part = load(SETTINGS), entry_of(key), f"work/parts/{key}.wav"
     try:
-        must(entry, "play", settings["filters"][str(load(look_of(key))["rate"])], source_of(key), part)
+        chosen, source = settings["filters"][str(load(look_of(key))["rate"])], source_of(key)
+        must(entry, lambda: room.played_size(source, chosen), "play", chosen, source, part)
         results = placed({result("pcm", entry, ".wav"): part})
         keep(note_of("play", key, settings["form"]), {"renamed": entry["renamed"], "results": results})
     finally:
@@ -219,5 +223,19 @@ def report(table, steps, results, sounds):
 
 STEPS = {step.__name__: step for step in (look, convert, play, plan, lists)}
 
+
+def main(step, *key):
+    """Takes a step; of a full disk the mark tells, and Snakemake says the line for all steps."""
+    try:
+        STEPS[step](*key)
+    except OSError as error:
+        if not room.is_full(error):
+            raise
+        room.remove_mark()
+        return 1
+    return 0
+
+
 if __name__ == "__main__":
-    STEPS[sys.argv[1]](*sys.argv[2:])
+    with room.told("OUT"):
+        sys.exit(main(*sys.argv[1:]))

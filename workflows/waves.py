@@ -9,6 +9,8 @@ import struct
 import sys
 from collections import namedtuple
 
+import room
+
 PLAIN, EXTENSIBLE = 1, 0xFFFE
 PCM_SUBFORMAT = bytes.fromhex("0100000000001000800000aa00389b71")
 # No size is as large as this.
@@ -80,11 +82,16 @@ def head_of(rate, channels, width, frames):
 def main():
     for name in sys.argv[1:]:
         with open(name, "rb") as file:
-            wave = read(file.read())
+            data = file.read()
+        try:
+            wave = read(data)
+        except Unread as why:
+            sys.exit(f"{name!r}: {why}")
         frames = len(wave.samples) // (wave.channels * wave.width // 8)
         mask = "" if wave.mask is None else f" mask {wave.mask:#x}"
         print(f"rate {wave.rate} channels {wave.channels} bits {wave.width} frames {frames}{mask}  {name}")
 
 
 if __name__ == "__main__":
-    main()
+    with room.told("standard output"):
+        main()

@@ -2,8 +2,8 @@
 import struct
 
 from asking import demand
-from bases import chunk_bytes, decimate_text, splice_text
-from dsdiffs import VERSION, chunk, dsdiff, mark, mark_data, property_chunks
+from bases import LAYOUTS, chunk_bytes, decimate_text, splice_text
+from dsdiffs import IDS, VERSION, chunk, dsdiff, mark, mark_data, numbered, property_chunks
 
 RATE = 2_822_400
 
@@ -22,7 +22,7 @@ def dsf(bits, count, sound, channels=1, size=4096, tag=b""):
     """A DSF file: 1 or 8 bits per sample, so many bits a channel, this sound at the front of so many bytes, and a tag."""
     stop = 92 + size
     head = b"DSD " + struct.pack("<QQQ", 28, stop + len(tag), stop if tag else 0)
-    head += b"fmt " + struct.pack("<QIIIIIIQII", 52, 1, 0, channels, channels, RATE, bits, count, 4096, 0)
+    head += b"fmt " + struct.pack("<QIIIIIIQII", 52, 1, 0, LAYOUTS[channels - 1], channels, RATE, bits, count, 4096, 0)
     return head + b"data" + struct.pack("<Q", 12 + size) + sound.ljust(size, b"\0") + tag
 
 
@@ -156,12 +156,11 @@ TO_PLAY = {"in.dff": FILE, "p.toml": DECIMATE}
 ALL = to_cut(splice([1, 0])) | TO_PLAY | {"m.dff": MASTER, "c.cert": CERT, "a": FILE}
 
 
-# The IDs of channels: `C000`; `SLFT` and `SRGT`.
-IDS = {1: "43303030", 2: "534c4654 53524754"}
-
-
-def told(form, samples, *marks, channels=1, others=0, tag=0):
-    """What is told of a file of one channel or two."""
+def told(form, samples, *marks, channels=1, others=0, tag=0, ids=None, layout=None):
+    """What is told of a file. Its channels have the IDs `SLFT` and `SRGT`, or `C000` and so on, and the usual layout,
+    where no others are given."""
+    ids = ids or (IDS[2] if channels == 2 else numbered(channels))
     lines = f"form {form}", "rate 2822400", f"channels {channels}", f"samples {samples}"
-    lines += f"ids {IDS[channels]}", f"layout {channels}", f"marks {len(marks)}"
+    lines += f"ids {' '.join(it.hex() for it in ids)}", f"layout {layout or LAYOUTS[channels - 1]}"
+    lines += (f"marks {len(marks)}",)
     return "\n".join((*lines, *marks, f"others {others}", f"tag {tag}"))

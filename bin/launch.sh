@@ -1,11 +1,47 @@
-# Runs the program as a child, so that a signal leaves nothing behind. bin/dsdarc (bash) and the installed launcher (sh)
-# read this file.
+# What bin/dsdarc (bash) and the installed launcher (sh) both do; they read this file.
+#
+#   answer_alone FOLDER FILTERS MANUAL WORD..
+#
+# answers the words that need no program, and ends this shell; at any others it does nothing. FOLDER holds docs/ and
+# VERSION. `--help` and `--version` are printed on standard output. `help`, `-h` and no words are no command, as the
+# program has it, so its fault comes first, on standard error, and then the usage. That names the filters below FILTERS,
+# and the manual as MANUAL.
 #
 #   run_child PROGRAM WORD..
 #
-# ends this shell with the program's status. HUP, INT, QUIT and TERM end the program too. What it was writing is then
-# removed, and the shell ends by the same signal (status 128 + n), so that whoever called it stops too.
+# runs the program as a child, so that a signal leaves nothing behind, and ends this shell with its status. HUP, INT,
+# QUIT and TERM end the program too. What it was writing is then removed, and the shell ends by the same signal (status
+# 128 + n), so that whoever called it stops too.
 # shellcheck shell=sh
+
+print_usage() {
+    while IFS= read -r usage_line; do
+        case "$usage_line" in
+            *filters/*) usage_line="${usage_line%%filters/*}$usage_filters/${usage_line#*filters/}" ;;
+            *"man docs/dsdarc.1"*) usage_line="${usage_line%docs/dsdarc.1*}$usage_manual" ;;
+        esac
+        printf '%s\n' "$usage_line" || return
+    done <"$usage_folder/docs/usage.txt"
+}
+
+answer_alone() {
+    usage_folder="$1" usage_filters="$2" usage_manual="$3"
+    shift 3
+    case "$#:${1-}" in
+        1:--help)
+            print_usage
+            exit
+            ;;
+        1:--version)
+            echo "dsdarc $(cat "$usage_folder/VERSION")"
+            exit
+            ;;
+        0: | 1:help | 1:-h)
+            { echo "fault: WrongWords" && print_usage; } >&2 || true
+            exit 3
+            ;;
+    esac
+}
 
 # Removes what a process of this number was writing beside files of these names, and half a line of progress.
 remove_leftovers() {

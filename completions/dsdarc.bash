@@ -1,0 +1,78 @@
+# Completes the words of dsdarc in bash: its commands, the names of forms, and files by what a command reads. Where a
+# filter is named, the ready ones are found by the fronts of their names too. bin/install installs this as
+# share/bash-completion/completions/dsdarc; from a clone it is read by `source completions/dsdarc.bash`.
+# shellcheck shell=bash
+
+# The folder of the ready filters, in the clone or the installation that this file belongs to.
+_dsdarc_filters=$(
+    here=${BASH_SOURCE[0]%/*}
+    [ "$here" != "${BASH_SOURCE[0]}" ] || here=.
+    cd "$here/../filters" 2>/dev/null || cd "$here/../../dsdarc/filters" 2>/dev/null && pwd
+)
+
+# Adds names, each a line of standard input. One that begins with - would be no name to the program.
+_dsdarc_add() {
+    local name
+    while IFS= read -r name; do
+        case "$name" in -?*) name="./$name" ;; esac
+        COMPREPLY+=("$name")
+    done
+}
+
+# Adds the files whose names end so, and all folders.
+_dsdarc_files() {
+    local ending
+    for ending; do
+        _dsdarc_add < <(compgen -f -X "!*.$ending" -- "$cur")
+    done
+    _dsdarc_add < <(compgen -d -- "$cur")
+}
+
+# Adds standard input or output. Before the first letter it is left out where one name alone fits, which is completed
+# at once then.
+_dsdarc_stream() {
+    case "$cur:${#COMPREPLY[@]}" in
+        -:* | :[!01]*) COMPREPLY+=(-) ;;
+    esac
+}
+
+_dsdarc_project() {
+    local path
+    _dsdarc_files '[tT][oO][mM][lL]'
+    if [ "$1" = play ] && [ -n "$_dsdarc_filters" ]; then
+        for path in "$_dsdarc_filters/$cur"*.toml; do
+            if [ -f "$path" ]; then COMPREPLY+=("$path"); fi
+        done
+    fi
+    _dsdarc_stream
+}
+
+_dsdarc_words() {
+    local word
+    while IFS= read -r word; do COMPREPLY+=("$word"); done < <(compgen -W "$*" -- "$cur")
+}
+
+_dsdarc() {
+    local cur=${COMP_WORDS[COMP_CWORD]} command=${COMP_WORDS[1]-}
+    COMPREPLY=()
+    if [ "$COMP_CWORD" -eq 1 ]; then
+        compopt +o filenames +o default 2>/dev/null
+        _dsdarc_words info convert play edit check --help --version
+        return
+    fi
+    case "$command:$COMP_CWORD" in
+        convert:2 | edit:2) compopt +o filenames 2>/dev/null; _dsdarc_words dsdiff dsf dsf8 ;;
+        play:2 | edit:3 | check:2) _dsdarc_project "$command" ;;
+        info:2 | convert:3 | play:3 | check:3)
+            _dsdarc_files '[dD][fF][fF]' '[dD][sS][fF]'
+            _dsdarc_stream
+            ;;
+        convert:4 | play:4 | edit:4 | edit:5 | check:4)
+            _dsdarc_add < <(compgen -f -- "$cur")
+            _dsdarc_stream
+            ;;
+        *) compopt +o default 2>/dev/null ;;
+    esac
+}
+
+complete -o filenames -o default -F _dsdarc dsdarc

@@ -1,0 +1,103 @@
+"""Says in one line that a disk is full, and what to do about it.
+
+Where jobs run side by side, an empty file, the mark, stands as long as none of them has met a full disk. The first that
+does removes it, which works where nothing can be written, and whoever starts the jobs then starts no more.
+"""
+import contextlib
+import errno
+import os
+import sys
+import tempfile
+import tomllib
+
+FULL = (errno.ENOSPC, errno.EDQUOT)
+MARK = "work/room"
+# What a start of the workflow wants: for Snakemake's log and locks, and for the names of the files.
+LEAST, LEAST_OF_FILE = 1 << 20, 1 << 10
+# What a file may have more than was reckoned: heads, and the fill of last blocks.
+SPARE = 1 << 16
+
+
+def is_full(error):
+    return error.errno in FULL
+
+
+def full():
+    return OSError(errno.ENOSPC, os.strerror(errno.ENOSPC))
+
+
+def advice(folder):
+    """What is said of the full disk of a folder."""
+    return f"the disk of {folder} is full: make room, then run the same command again; what is done stays done"
+
+
+def line_of(error, folder):
+    """What a script says of an error of the system; `folder` is the word for where it writes."""
+    if is_full(error):
+        return advice(folder)
+    said = error.strerror or str(error)
+    return said if error.filename is None else f"{said}: {os.fsdecode(error.filename)!r}"
+
+
+def has_room(folder, size):
+    """Whether a folder takes a file of that size."""
+    try:
+        with tempfile.TemporaryFile(dir=folder) as file:
+            os.posix_fallocate(file.fileno(), 0, size)
+    except OSError as error:
+        return not is_full(error)
+    return True
+
+
+def copied_size(source):
+    """About how many bytes a file has in any form, and no fewer."""
+    return os.path.getsize(source) + SPARE
+
+
+def played_size(source, chosen):
+    """About how many bytes a file has when it is played, and no fewer: `width` bits for `factor` of its own."""
+    with open(chosen, "rb") as file:
+        project = tomllib.load(file)["decimate"]
+    return os.path.getsize(source) * project["width"] // project["factor"] + SPARE
+
+
+def check(line, folder, size):
+    """Raises an error where a command says that it couldn't write a file, and there is no room for one of its size."""
+    if line == "fault: WriteFailed" and not has_room(folder, size()):
+        raise full()
+
+
+def set_mark(mark=MARK):
+    with open(mark, "w"):
+        pass
+
+
+def remove_mark(mark=MARK):
+    with contextlib.suppress(FileNotFoundError):
+        os.remove(mark)
+
+
+def start(folder, files):
+    """Sets the mark for a workflow over so many files, where there is room for its start."""
+    if not has_room(folder, LEAST + LEAST_OF_FILE * files):
+        raise full()
+    set_mark()
+
+
+def drop_output():
+    """Has what standard output didn't take forgotten, so that Python says no more of it at the end."""
+    with contextlib.suppress(OSError, ValueError):
+        os.dup2(os.open(os.devnull, os.O_WRONLY), sys.stdout.fileno())
+
+
+@contextlib.contextmanager
+def told(folder):
+    """Ends a script with one line where the system refuses it something."""
+    try:
+        try:
+            yield
+        finally:
+            sys.stdout.flush()
+    except OSError as error:
+        drop_output()
+        sys.exit(line_of(error, folder))

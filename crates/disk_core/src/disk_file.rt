@@ -2,6 +2,7 @@
 
 ghost use Rattle.std.specs.Io.{WritesAtMost};
 
+use crate::direct::Direct;
 use crate::places::Target;
 use std::fs::OpenFile;
 use std::io::{ErrorKind, Write};
@@ -23,7 +24,7 @@ enum Destination<F, O> {
     // To the file itself.
     InPlace(InPlace<F>),
     // To standard output.
-    Output(O),
+    Output(Direct<O>),
 }
 
 // A path beside that of a file, and where it is to go.
@@ -36,13 +37,14 @@ struct Beside {
 // A file that is written as it stands. What it held goes at the first write, or when it is kept.
 #[derive(Drop)]
 struct InPlace<F> {
-    file: F,
+    file: Direct<F>,
     holds_old: bool,
 }
 
 impl<F, O> DiskFile<F, O> {
     // A file that is written as it stands, with what it held before or without.
     pub(crate) fn in_place(file: F, holds_old: bool) -> Self {
+        let file = Direct::new(file);
         Self::to(Destination::InPlace(InPlace { file, holds_old }))
     }
 
@@ -53,7 +55,7 @@ impl<F, O> DiskFile<F, O> {
 
     // Standard output.
     pub(crate) fn output(output: O) -> Self {
-        Self::to(Destination::Output(output))
+        Self::to(Destination::Output(Direct::new(output)))
     }
 
     fn to(destination: Destination<F, O>) -> Self {
@@ -64,7 +66,7 @@ impl<F, O> DiskFile<F, O> {
     }
 }
 
-impl<F: OpenFile + Drop, O: Drop> DiskFile<F, O> {
+impl<F: Write + OpenFile + Drop, O: Write + Drop> DiskFile<F, O> {
     // Gives the file its name once its bytes are on the device, and else removes what was written.
     pub(crate) fn put_in_place<R: Files>(self, rt: &R) -> io::Result<()> {
         let DiskFile {
@@ -73,8 +75,8 @@ impl<F: OpenFile + Drop, O: Drop> DiskFile<F, O> {
         } = self;
         match destination {
             Destination::Beside(file, beside) => beside.end(rt, &file, has_failed),
-            Destination::InPlace(mut stands) => stands.empty(),
-            Destination::Output(_) => Ok(()),
+            Destination::InPlace(mut stands) => stands.end(),
+            Destination::Output(mut output) => output.flush(),
         }
     }
 
@@ -84,10 +86,14 @@ impl<F: OpenFile + Drop, O: Drop> DiskFile<F, O> {
             destination,
             has_failed,
         } = self;
-        if let Destination::Beside(file, beside) = destination {
-            let has_failed = has_failed || beside.target.is_there();
-            let _ = beside.end(rt, &file, has_failed);
-        }
+        let _ = match destination {
+            Destination::Beside(file, beside) => {
+                let has_failed = has_failed || beside.target.is_there();
+                beside.end(rt, &file, has_failed)
+            }
+            Destination::InPlace(mut stands) => stands.file.flush(),
+            Destination::Output(mut output) => output.flush(),
+        };
     }
 }
 
@@ -116,14 +122,20 @@ impl Beside {
     }
 }
 
-impl<F: OpenFile> InPlace<F> {
+impl<F: Write + OpenFile> InPlace<F> {
     // Takes away what the file held before.
     fn empty(&mut self) -> io::Result<()> {
         if self.holds_old {
-            self.file.set_len(0)?;
+            self.file.get_ref().set_len(0)?;
             self.holds_old = false;
         }
         Ok(())
+    }
+
+    // Writes what was kept back. A file to which nothing was written is empty.
+    fn end(&mut self) -> io::Result<()> {
+        self.empty()?;
+        self.file.flush()
     }
 }
 

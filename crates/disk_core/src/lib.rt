@@ -5,6 +5,7 @@
 //! what stands in it, so its calls have no clauses of their own beside those that hold of any folder and of any writer.
 #![tactic(auto)]
 
+mod direct;
 mod disk;
 mod disk_file;
 mod disk_input;

@@ -190,7 +190,7 @@ fn is_refused_beside(error: &Error) -> bool {
 // cannot be asked about, is to be written as it stands.
 fn path_of<R: Files + AllocGlobal>(rt: &R, name: &str) -> io::Result<PathBuf> {
     let mut path = PathBuf::from_str(rt.alloc(), name)?;
-    for _ in 0..MOST_LINKS {
+    for _ in 0..=MOST_LINKS {
         match fs::symlink_metadata(rt, path.as_str()) {
             Ok(found) if found.is_symlink() => follow(rt, &mut path, &found)?,
             Ok(found) if found.is_file() => return Ok(path),

@@ -1,0 +1,84 @@
+//! A writer to what is written directly, as a pipe.
+
+ghost use Rattle.std.specs.Io.{WritesAtMost};
+
+use std::io;
+use std::io::Write;
+
+/// A writer that keeps the last byte back until more comes. So the byte that pads a file goes out in one write with the
+/// byte before it: a reader that needs no pad may go once it has all it needs, and the pad is then already in the pipe.
+#[derive(Drop)]
+pub(crate) struct Direct<W> {
+    to: W,
+    kept: Kept,
+}
+
+// The bytes that were taken, and are to be written next.
+#[derive(Clone, Copy)]
+enum Kept {
+    None,
+    One(u8),
+    Two(u8, u8),
+}
+
+impl<W> Direct<W> {
+    pub(crate) fn new(to: W) -> Direct<W> {
+        Direct {
+            to,
+            kept: Kept::None,
+        }
+    }
+
+    /// What is written to.
+    pub(crate) fn get_ref(&self) -> &W {
+        &self.to
+    }
+}
+
+impl<W: Write> Direct<W> {
+    /// Takes bytes, of which it keeps the last back.
+    pub(crate) fn write(&mut self, buf: &[u8]) -> io::Result<usize>
+        ensures bound { WritesAtMost result buf.now }
+    {
+        if buf.is_empty() {
+            return Ok(0);
+        }
+        let last = buf[buf.len() - 1];
+        if buf.len() == 1 {
+            self.keep(last)?;
+            return Ok(1);
+        }
+        self.flush()?;
+        let front = &buf[..buf.len() - 1];
+        let count = self.to.write(front)?;
+        if count < front.len() {
+            return Ok(count);
+        }
+        self.kept = Kept::One(last);
+        Ok(buf.len())
+    }
+
+    // Keeps one byte more.
+    fn keep(&mut self, byte: u8) -> io::Result<()> {
+        if let Kept::Two(_, _) = self.kept {
+            self.flush()?;
+        }
+        self.kept = match self.kept {
+            Kept::One(first) => Kept::Two(first, byte),
+            _ => Kept::One(byte),
+        };
+        Ok(())
+    }
+
+    /// Writes what was kept back, in one write where the system takes it so.
+    pub(crate) fn flush(&mut self) -> io::Result<()> {
+        let kept = self.kept;
+        self.kept = Kept::None;
+        match kept {
+            Kept::None => {}
+            Kept::One(first) => self.to.write_all(&[first])?,
+            Kept::Two(first, second) => self.to.write_all(&[first, second])?,
+        }
+        self.to.flush()
+    }
+}

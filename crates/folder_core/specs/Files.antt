@@ -1,5 +1,6 @@
 -- What is known of the files of a folder, and what is read and written of them.
-use Rattle.std.specs.Prelude.{◌≡◌, ◌≢◌, ℕ, List, ◌++◌, map, Option, Some, ◌⊎◌}
+use Rattle.std.specs.Prelude.{◌≡◌, ◌≢◌, ℕ, Bool, IsTrue, List, ◌++◌, Option, None, Some, ◌⊎◌}
+use Rattle.std.specs.List.{AllZip}
 use Rattle.folder_core.specs.declared.fault.FileFault.{FileFault}
 use Rattle.folder_core.specs.declared.fault.FileFault.TheVariants.{ReadFailed, WriteFailed, Memory}
 
@@ -7,25 +8,52 @@ use Rattle.folder_core.specs.declared.fault.FileFault.TheVariants.{ReadFailed, W
 abbrev pub Files : Type 0
 Files = List ℕ → Option (List ℕ)
 
--- under every other name stands what stood there
-abbrev pub KeepsOthers : List ℕ → Files → Files → Type 0
-KeepsOthers name old new = (other : List ℕ) → other ≢ name → new other ≡ old other
+-- what is known of a folder: what an opening of each name gives at each time, what was put under each name last, and whether giving a file up leaves an old one as it was
+pub record View : Type 0 where
+  pub given : ℕ → Files
+  pub file : Files
+  pub keeps_old : Bool
 
--- under every name but two stands what stood there
-abbrev pub KeepsAllBut : List ℕ → List ℕ → Files → Files → Type 0
-KeepsAllBut name second old new = (other : List ℕ) → other ≢ name → other ≢ second → new other ≡ old other
+-- an opening of a name gives these bytes, at some time
+abbrev pub Gives : View → List ℕ → List ℕ → Type 0
+Gives view name bytes = (time : ℕ) × (view.given time name ≡ Some bytes)
 
--- a file's bytes are known, and a reader has them left
-abbrev pub IsGiven : Option (List ℕ) → Option (List ℕ) → Type 0
-IsGiven file left = (bytes : List ℕ) × (file ≡ Some bytes) × (left ≡ Some bytes)
+-- openings of these names give these bytes, one by one
+abbrev pub AreGiven : View → List (List ℕ) → List (List ℕ) → Type 0
+AreGiven view names files = AllZip (Gives view) names files
 
--- a file is as it was, or holds a front of some bytes
-abbrev pub IsFront : Option (List ℕ) → Option (List ℕ) → List ℕ → Type 0
-IsFront old new bytes = (new ≡ old) ⊎ ((front : List ℕ) × (back : List ℕ) × (bytes ≡ front ++ back) × (new ≡ Some front))
+-- a reader has bytes left that an opening of the name gives
+abbrev pub IsGiven : View → List ℕ → Option (List ℕ) → Type 0
+IsGiven view name left = (bytes : List ℕ) × Gives view name bytes × (left ≡ Some bytes)
 
--- the files of these names hold these bytes, one by one
-abbrev pub AreFiles : Files → List (List ℕ) → List (List ℕ) → Type 0
-AreFiles old names files = map old names ≡ map (λ (bytes : List ℕ). Some bytes) files
+-- under every other name is what was there
+pub record KeepsOthers (name : List ℕ) (old new : View) : Type 0 where
+  pub others : (other : List ℕ) → other ≢ name → new.file other ≡ old.file other
+  pub still : new.keeps_old ≡ old.keeps_old
+
+-- under every name but two is what was there
+abbrev pub KeepsAllBut : List ℕ → List ℕ → View → View → Type 0
+KeepsAllBut name second old new = (other : List ℕ) → other ≢ name → other ≢ second → new.file other ≡ old.file other
+
+-- in a folder that keeps old files there was none under a name
+abbrev pub HadNone : List ℕ → View → Type 0
+HadNone name old = IsTrue old.keeps_old → old.file name ≡ None
+
+-- under a name is what was there, or what is known of a file that was given up; that only where no old file had to be kept
+abbrev pub IsGivenUp : List ℕ → View → View → Option (List ℕ) → Type 0
+IsGivenUp name old new held = (new.file name ≡ old.file name) ⊎ ((new.file name ≡ held) × HadNone name old)
+
+-- a file holds a prefix of some bytes now, and no old file had to be kept
+pub record HoldsPrefix (name : List ℕ) (old new : View) (bytes : List ℕ) : Type 0 where
+  pub prefix : List ℕ
+  pub rest : List ℕ
+  pub parts : bytes ≡ prefix ++ rest
+  pub stands : new.file name ≡ Some prefix
+  pub had_none : HadNone name old
+
+-- a file is as it was, or holds a prefix of some bytes where no old file had to be kept
+abbrev pub IsFront : List ℕ → View → View → List ℕ → Type 0
+IsFront name old new bytes = (new.file name ≡ old.file name) ⊎ HoldsPrefix name old new bytes
 
 -- a file could not be read: a read failed, or memory was wanting
 abbrev pub IsReadFault : FileFault → Type 0

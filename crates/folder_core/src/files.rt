@@ -1,12 +1,12 @@
 //! Files of a folder, read and written whole.
 
-ghost use Rattle.std.specs.Prelude.{◌≡◌, [], ◌∷◌, ◌++◌, Some, IfErr, IfOk, IfSome, IsTrue, OnErr, OnOk, map, string_bytes};
-ghost use Rattle.folder_core.specs.Files.{AreFiles, IsFront, IsReadFault, KeepsOthers};
+ghost use Rattle.std.specs.Prelude.{◌≡◌, ◌⊎◌, ℕ, List, [], ◌∷◌, ◌++◌, IfErr, IfOk, IfSome, IsErr, IsOk, IsTrue, OnErr, OnOk, map, string_bytes};
+ghost use Rattle.folder_core.specs.Files.{AreGiven, Gives, HadNone, IsFront, IsReadFault, KeepsOthers};
 ghost use Rattle.folder_core.specs.declared.fault.FileFault.TheVariants as faults;
 
 use crate::fault::FileFault;
 use crate::folder::Folder;
-use device_core::{FusedInlet, MOST_READS, Outlet};
+use device_core::{Device, FusedInlet, MOST_READS, Outlet};
 use std::alloc::Global;
 use std::io::Read;
 
@@ -15,10 +15,8 @@ use std::io::Read;
 /// Refusals: `ReadFailed` where it can't be opened, a read fails, or it isn't at its end after `2^40` reads;
 /// `Memory`.
 pub fn read_file<F: Folder>(alloc: Global, folder: &mut F, name: &str) -> Result<Vec<u8>, FileFault>
-    ensures same { F.file folder.new ≡ F.file folder.old }
-    ensures told { F.is_told folder.new ≡ F.is_told folder.old }
-    ensures bytes { IfOk result (λ bytes. IsTrue (F.is_told folder.old)
-        → F.file folder.old name.now ≡ Some bytes.items) }
+    ensures same { F.view folder.new ≡ F.view folder.old }
+    ensures bytes { IfOk result (λ bytes. IsTrue F.is_told → Gives (F.view folder.old) name.now bytes.items) }
     ensures fault { IfErr result IsReadFault }
 {
     match folder.open(name) {
@@ -35,10 +33,9 @@ pub fn read_files<F: Folder>(
     folder: &mut F,
     names: &[String],
 ) -> Result<Vec<Vec<u8>>, FileFault>
-    ensures same { F.file folder.new ≡ F.file folder.old }
-    ensures told { F.is_told folder.new ≡ F.is_told folder.old }
-    ensures bytes { IfOk result (λ files. IsTrue (F.is_told folder.old)
-        → AreFiles (F.file folder.old) (map string_bytes names.now) (map (λ file. file.items) files.items)) }
+    ensures same { F.view folder.new ≡ F.view folder.old }
+    ensures bytes { IfOk result (λ files. IsTrue F.is_told
+        → AreGiven (F.view folder.old) (map string_bytes names.now) (map (λ file. file.items) files.items)) }
     ensures fault { IfErr result IsReadFault }
 {
     let mut files = Vec::new(alloc);
@@ -55,11 +52,9 @@ fn push_file<F: Folder>(
     name: &str,
     files: &mut Vec<Vec<u8>>,
 ) -> Result<(), FileFault>
-    ensures same { F.file folder.new ≡ F.file folder.old }
-    ensures told { F.is_told folder.new ≡ F.is_told folder.old }
-    ensures bytes { OnOk result (IsTrue (F.is_told folder.old)
-        → map (λ bytes. Some bytes) (map (λ file. file.items) files.new.items)
-        ≡ map (λ bytes. Some bytes) (map (λ file. file.items) files.old.items) ++ F.file folder.old name.now ∷ []) }
+    ensures same { F.view folder.new ≡ F.view folder.old }
+    ensures bytes { OnOk result (IsTrue F.is_told → (file : List ℕ) × Gives (F.view folder.old) name.now file
+        × (map (λ file. file.items) files.new.items ≡ map (λ file. file.items) files.old.items ++ file ∷ [])) }
     ensures fault { IfErr result IsReadFault }
 {
     let file = read_file(alloc, folder, name)?;
@@ -85,26 +80,49 @@ pub fn read_whole<R: Read + Drop>(alloc: Global, reader: R, most: u64) -> Result
     }
 }
 
-/// Creates a file, writes these bytes to it and hands it back, also after a write that failed.
+/// Creates a file, writes these bytes to it and hands it back, or gives it up after a write that failed.
 ///
-/// Refusal: `WriteFailed` where it can't be created, written or kept; it may hold a front of the bytes then.
+/// Refusal: `WriteFailed` where it can't be created, written or kept; it may hold a prefix of the bytes then, but never
+/// instead of an old file where the folder keeps those.
 pub fn write_file<F: Folder>(folder: &mut F, name: &str, bytes: &[u8]) -> Result<(), FileFault>
-    ensures others { KeepsOthers name.now (F.file folder.old) (F.file folder.new) }
-    ensures told { F.is_told folder.new ≡ F.is_told folder.old }
-    ensures bytes { OnOk result (IsTrue (F.is_told folder.old) → F.file folder.new name.now ≡ Some bytes.now) }
-    ensures refused { OnErr result (IsTrue (F.is_told folder.old)
-        → IsFront (F.file folder.old name.now) (F.file folder.new name.now) bytes.now) }
+    ensures others { KeepsOthers name.now (F.view folder.old) (F.view folder.new) }
+    ensures bytes { OnOk result (IsTrue F.is_told → (F.view folder.new).file name.now ≡ Some bytes.now) }
+    ensures refused { OnErr result (IsTrue F.is_told
+        → IsFront name.now (F.view folder.old) (F.view folder.new) bytes.now) }
     ensures fault { IfErr result (λ fault. fault ≡ faults.WriteFailed) }
 {
     let Ok(file) = folder.create(name) else {
         return Err(FileFault::WriteFailed);
     };
     let mut outlet = Outlet::new(file);
-    let written = outlet.put_all(bytes).is_ok();
-    let kept = folder.keep(name, outlet.into_inner()).is_ok();
-    if written && kept {
-        Ok(())
-    } else {
-        Err(FileFault::WriteFailed)
+    let written = outlet.put_all(bytes);
+    hand_back(folder, name, written, outlet.into_inner())
+}
+
+/// Hands a created file back that was written whole, and gives up one of which a write failed.
+///
+/// Refusal: `WriteFailed` where a write failed, or the file can't be kept.
+pub fn hand_back<F: Folder>(
+    folder: &mut F,
+    name: &str,
+    written: Result<(), Device>,
+    made: F::Out,
+) -> Result<(), FileFault>
+    ensures others { KeepsOthers name.now (F.view folder.old) (F.view folder.new) }
+    ensures whole { OnOk result (IsOk written) }
+    ensures bytes { OnOk result (IsTrue F.is_told → (F.view folder.new).file name.now ≡ F.Out.contents made) }
+    ensures refused { OnErr result (IsTrue F.is_told
+        → ((F.view folder.new).file name.now ≡ (F.view folder.old).file name.now)
+        ⊎ (IsErr written × ((F.view folder.new).file name.now ≡ F.Out.contents made)
+        × HadNone name.now (F.view folder.old))) }
+    ensures fault { IfErr result (λ fault. fault ≡ faults.WriteFailed) }
+{
+    if written.is_err() {
+        folder.give_up(name, made);
+        return Err(FileFault::WriteFailed);
+    }
+    match folder.keep(name, made) {
+        Ok(()) => Ok(()),
+        Err(_) => Err(FileFault::WriteFailed),
     }
 }

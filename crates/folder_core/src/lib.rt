@@ -2,23 +2,28 @@
 //!
 //! A [`Folder`] opens files, creates them and takes back what was created. [`MemoryFolder`] is one in memory, which tells
 //! what stands in it; `disk_core` has that of the operating system. [`read_file`] reads a file to its end, [`read_files`]
-//! several in turn, [`read_short`] only one that is short, [`write_file`] creates one and writes it; [`read_whole`] reads
-//! what any reader has left.
+//! several in turn, [`read_short`] only one that is short, [`write_file`] creates one and writes it, [`hand_back`] ends one
+//! that was written; [`read_whole`] reads what any reader has left.
 //!
 //! The words of the contracts, of `specs/Files.antt` but for the last three:
 //!
-//! - `Files` are the bytes that are known under each name; a folder that tells its files has them as `F.file`.
-//! - `KeepsOthers name old new` says that only the file of this name may have changed, `IsFront old new bytes` that a
-//!   file is as it was or holds a front of these bytes, `AreFiles files names contents` which bytes stand under names.
-//! - `IsShort most file answer` says that an answer has the bytes of a file that is shorter (`specs/ShortFiles.antt`).
+//! - `F.view` is what is known of a folder, a `View`: what an opening of each name gives, at one time and another, what was
+//!   put under each name last, and whether giving a file up leaves an old one as it was; `F.is_told` says whether the
+//!   bytes of its readers and writers are known.
+//! - `Gives view name bytes` says that an opening of a name gives these bytes, `AreGiven view names files` the same of
+//!   several.
+//! - `KeepsOthers name old new` says that only the file of this name may have changed, `IsFront name old new bytes` that it
+//!   is as it was or holds a prefix of these bytes, and that only where no old file had to be kept.
+//! - `IsShortOf most view name answer` says that an answer has the bytes of a file that is shorter
+//!   (`specs/ShortFiles.antt`).
 //! - `watched_folder` and `watched_file` are what is watched (`specs/WatchedFolders.antt`).
 //!
 //! A [`WatchedFolder`] shows on a terminal how far the files of another folder are read, in per cent where their
 //! [`KnownLength`] is told.
 //!
-//! What it promises: over a folder that tells its files, what is read is what stands there, and what was written stands
-//! there then; a write that failed leaves a front of it, and no other file is touched. Every reader comes to an end: one
-//! that goes on for ever is given up.
+//! What it promises: over a folder that tells its files, what is read is what an opening of that name gives, and what was
+//! written is what is put under a name; a write that failed leaves the old file, or a prefix where there was none, and no
+//! other file is touched. Every reader comes to an end: one that goes on for ever is given up.
 //!
 //! ```text
 //! let project = read_file(alloc, &mut folder, "project.toml")?;
@@ -35,7 +40,7 @@ mod short_files;
 mod watched_folder;
 
 pub use fault::FileFault;
-pub use files::{read_file, read_files, read_whole, write_file};
+pub use files::{hand_back, read_file, read_files, read_whole, write_file};
 pub use folder::{Folder, FolderFault};
 pub use memory_folder::MemoryFolder;
 pub use short_files::read_short;

@@ -3,14 +3,14 @@
 ghost use Rattle.std.specs.Prelude.{◌≡◌, ℕ, List, None, Some, OnErr, OnOk, option_map, true};
 ghost use Rattle.std.specs.BTreeMap.{btree_map_len};
 ghost use Rattle.folder_core.specs.Files.{KeepsOthers};
-ghost use Rattle.folder_core.specs.MemoryFolders.{files_of};
+ghost use Rattle.folder_core.specs.MemoryFolders.{files_of, view_of};
 
 use crate::folder::{Folder, FolderFault};
 use std::alloc::{AllocError, Global};
 use std::collections::BTreeMap;
 use std::io::Cursor;
 
-/// Files in memory. It tells them.
+/// Files in memory. It tells them, and keeps an old file where a new one is given up.
 #[derive(Drop)]
 pub struct MemoryFolder {
     alloc: Global,
@@ -30,7 +30,7 @@ impl MemoryFolder {
 
     /// Puts a file of these bytes under a name. It is refused only for want of memory.
     pub fn put(&mut self, name: &str, bytes: &[u8]) -> Result<(), AllocError>
-        ensures others { KeepsOthers name.now (files_of self.old) (files_of self.new) }
+        ensures others { KeepsOthers name.now (view_of self.old) (view_of self.new) }
         ensures bytes { OnOk result (files_of self.new name.now ≡ Some bytes.now) }
         ensures refused { OnErr result (files_of self.new name.now ≡ files_of self.old name.now) }
     {
@@ -62,9 +62,9 @@ impl Folder for MemoryFolder {
 
     type Out = Vec<u8>;
 
-    ghost file = { λ f. files_of f };
+    ghost view = { λ f. view_of f };
 
-    ghost is_told = { λ f. true };
+    ghost is_told = { true };
 
     fn open(&mut self, name: &str) -> Result<Cursor<Vec<u8>>, FolderFault> {
         let file = self.files.get(name).ok_or(FolderFault)?;
@@ -90,6 +90,8 @@ impl Folder for MemoryFolder {
     }
 
     fn give_up(&mut self, name: &str, out: Vec<u8>) {
-        let _ = self.keep(name, out);
+        if self.files.get(name).is_none() {
+            let _ = self.keep(name, out);
+        }
     }
 }

@@ -1,8 +1,8 @@
 //! Files of a folder that are read whole only where they are short.
 
-ghost use Rattle.std.specs.Prelude.{◌≡◌, IfErr, IfOk, IfSome, IsTrue, Some};
+ghost use Rattle.std.specs.Prelude.{◌≡◌, IfErr, IfOk, IfSome, IsTrue};
 ghost use Rattle.folder_core.specs.Files.{IsReadFault};
-ghost use Rattle.folder_core.specs.ShortFiles.{IsShort};
+ghost use Rattle.folder_core.specs.ShortFiles.{IsShort, IsShortOf};
 
 use crate::fault::FileFault;
 use crate::folder::Folder;
@@ -19,10 +19,9 @@ pub fn read_short<F: Folder>(
     name: &str,
     most: usize,
 ) -> Result<Option<Vec<u8>>, FileFault>
-    ensures same { F.file folder.new ≡ F.file folder.old }
-    ensures told { F.is_told folder.new ≡ F.is_told folder.old }
-    ensures bytes { IfOk result (λ short. IsTrue (F.is_told folder.old)
-        → IsShort most (F.file folder.old name.now) short) }
+    ensures same { F.view folder.new ≡ F.view folder.old }
+    ensures bytes { IfOk result (λ short. IsTrue F.is_told
+        → IsShortOf most (F.view folder.old) name.now short) }
     ensures fault { IfErr result IsReadFault }
 {
     match folder.open(name) {
@@ -37,7 +36,7 @@ fn short_of<R: Read + Drop>(
     reader: R,
     most: usize,
 ) -> Result<Option<Vec<u8>>, FileFault>
-    ensures bytes { IfOk result (λ short. IfSome (R.remaining reader) (λ left. IsShort most (Some left) short)) }
+    ensures bytes { IfOk result (λ short. IfSome (R.remaining reader) (λ left. IsShort most left short)) }
     ensures fault { IfErr result IsReadFault }
 {
     let mut inlet = Inlet::new(reader);

@@ -69,9 +69,9 @@ where
 
     type Out = F::Out;
 
-    ghost file = { λ w. F.file (watched_folder w) };
+    ghost view = { λ w. F.view (watched_folder w) };
 
-    ghost is_told = { λ w. F.is_told (watched_folder w) };
+    ghost is_told = { F.is_told };
 
     fn open(&mut self, name: &str) -> Result<WatchedFile<'a, F::In, R>, FolderFault> {
         let file = self.folder.open(name)?;

@@ -4,10 +4,4 @@ use Rattle.folder_core.proofs.files.push_file.Goals as goal
 pub returns-in_err-file : goal.returns-in_err-file
 returns-in_err-file g c =
     let e = err_from_is_err_and c.from_residual.result c.from_residual.ensures.1 in
-    rw (e.1, e.2) (record { same = c.read_file.ensures.same; told = c.read_file.ensures.told; bytes = tt; fault = c.in_err-file.ensures.fault })
-
-pub returns-clause-same : goal.returns-clause-same
-returns-clause-same g c = c.read_file.ensures.same
-
-pub returns-clause-told : goal.returns-clause-told
-returns-clause-told g c = c.read_file.ensures.told
+    rw (e.1, e.2) (record { same = c.read_file.ensures.same; bytes = tt; fault = c.in_err-file.ensures.fault })

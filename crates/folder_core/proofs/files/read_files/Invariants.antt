@@ -1,11 +1,10 @@
 use Rattle.std.proofs.Common.{◌≡◌, ℕ, Global, IsTrue, Vec, map, take}
 use Rattle.std.specs.Prelude.{string_bytes}
-use Rattle.folder_core.specs.Files.{AreFiles}
+use Rattle.folder_core.specs.Files.{AreGiven}
 use Rattle.folder_core.proofs.files.read_files.Given as goal
 
 abbrev pub invariant-loop-name : goal.invariant-loop-name
 invariant-loop-name g l = record {
-  same : g.F.Folder.file l.folder ≡ g.F.Folder.file l.initial.folder;
-  told : g.F.Folder.is_told l.folder ≡ g.F.Folder.is_told l.initial.folder;
-  bytes : IsTrue (g.F.Folder.is_told l.initial.folder) → AreFiles (g.F.Folder.file l.initial.folder) (map string_bytes (take l.name-index l.names)) (map (λ (file : Vec ℕ Global). file.items) l.files.items);
+  same : g.F.Folder.view l.folder ≡ g.F.Folder.view l.initial.folder;
+  bytes : IsTrue g.F.Folder.is_told → AreGiven (g.F.Folder.view l.initial.folder) (map string_bytes (take l.name-index l.names)) (map (λ (file : Vec ℕ Global). file.items) l.files.items);
 }

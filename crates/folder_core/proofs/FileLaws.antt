@@ -3,7 +3,7 @@ use Rattle.std.proofs.Common.{◌≡◌, ℕ, ◌+◌, ◌<◌, ◌++◌, ◌∷
 use Rattle.std.specs.List.{AllZip}
 use Rattle.std.specs.Prelude.{string_bytes}
 use Rattle.std.proofs.lemmas.List.{map-append, take_more}
-use Rattle.folder_core.specs.Files.{AreGiven, Gives, View}
+use Rattle.folder_core.specs.Files.{AreReadOf, IsReadOf, View}
 
 pub zip_more : {A B : Type 0} (R : A → B → Type 0) (xs : List A) (ys : List B) (x : A) (y : B) → AllZip R xs ys → R x y → AllZip R (xs ++ x ∷ []) (ys ++ y ∷ [])
 zip_more R [] [] x y before one = (one, tt)
@@ -11,11 +11,11 @@ zip_more R [] (b ∷ ys) x y before one = absurd before
 zip_more R (a ∷ xs) [] x y before one = absurd before
 zip_more R (a ∷ xs) (b ∷ ys) x y before one = (before.0, zip_more R xs ys x y before.1 one)
 
-pub one_file_more : (view : View) (names : List (String Global)) (i : ℕ) (name : String Global) (files more : List (Vec ℕ Global)) (file : List ℕ) → i < length names → name ≡ get_or names i name → AreGiven view (map string_bytes (take i names)) (map (λ (file : Vec ℕ Global). file.items) files)
-    → Gives view (string_bytes name) file → map (λ (file : Vec ℕ Global). file.items) more ≡ map (λ (file : Vec ℕ Global). file.items) files ++ file ∷ [] → AreGiven view (map string_bytes (take (i + 1) names)) (map (λ (file : Vec ℕ Global). file.items) more)
+pub one_file_more : (view : View) (names : List (String Global)) (i : ℕ) (name : String Global) (files more : List (Vec ℕ Global)) (file : List ℕ) → i < length names → name ≡ get_or names i name → AreReadOf view (map string_bytes (take i names)) (map (λ (file : Vec ℕ Global). file.items) files)
+    → IsReadOf view (string_bytes name) file → map (λ (file : Vec ℕ Global). file.items) more ≡ map (λ (file : Vec ℕ Global). file.items) files ++ file ∷ [] → AreReadOf view (map string_bytes (take (i + 1) names)) (map (λ (file : Vec ℕ Global). file.items) more)
 one_file_more view names i name files more file lt is before given next =
     let last : take (i + 1) names ≡ take i names ++ name ∷ [] = take_more names i name lt ∙ ap (λ n. take i names ++ n ∷ []) (sym is) in
     let named : map string_bytes (take (i + 1) names) ≡ map string_bytes (take i names) ++ string_bytes name ∷ [] = ap (map string_bytes) last ∙ map-append string_bytes (take i names) (name ∷ []) in
-    let grown = zip_more (Gives view) (map string_bytes (take i names)) (map (λ (file : Vec ℕ Global). file.items) files) (string_bytes name) file before given in
-    subst (λ (ns : List (List ℕ)). AreGiven view ns (map (λ (file : Vec ℕ Global). file.items) more)) (sym named)
-    (subst (λ (fs : List (List ℕ)). AreGiven view (map string_bytes (take i names) ++ string_bytes name ∷ []) fs) (sym next) grown)
+    let grown = zip_more (IsReadOf view) (map string_bytes (take i names)) (map (λ (file : Vec ℕ Global). file.items) files) (string_bytes name) file before given in
+    subst (λ (ns : List (List ℕ)). AreReadOf view ns (map (λ (file : Vec ℕ Global). file.items) more)) (sym named)
+    (subst (λ (fs : List (List ℕ)). AreReadOf view (map string_bytes (take i names) ++ string_bytes name ∷ []) fs) (sym next) grown)

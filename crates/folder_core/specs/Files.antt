@@ -8,8 +8,9 @@ use Rattle.folder_core.specs.declared.fault.FileFault.TheVariants.{ReadFailed, W
 abbrev pub Files : Type 0
 Files = List ℕ → Option (List ℕ)
 
--- what is known of a folder: what an opening of each name gives at each time, what was put under each name last, and whether giving a file up leaves an old one as it was
+-- what is known of a folder: whether the bytes of its readers and writers are, what an opening of each name gives at each time, what was put under each name last, and whether giving a file up leaves an old one as it was
 pub record View : Type 0 where
+  pub is_told : Bool
   pub given : ℕ → Files
   pub file : Files
   pub keeps_old : Bool
@@ -18,18 +19,27 @@ pub record View : Type 0 where
 abbrev pub Gives : View → List ℕ → List ℕ → Type 0
 Gives view name bytes = (time : ℕ) × (view.given time name ≡ Some bytes)
 
--- openings of these names give these bytes, one by one
-abbrev pub AreGiven : View → List (List ℕ) → List (List ℕ) → Type 0
-AreGiven view names files = AllZip (Gives view) names files
+-- bytes were read of a name: where the folder tells its bytes, an opening of the name gives them
+abbrev pub IsReadOf : View → List ℕ → List ℕ → Type 0
+IsReadOf view name bytes = IsTrue view.is_told → Gives view name bytes
 
--- a reader has bytes left that an opening of the name gives
+-- bytes were read of names, one by one
+abbrev pub AreReadOf : View → List (List ℕ) → List (List ℕ) → Type 0
+AreReadOf view names files = AllZip (IsReadOf view) names files
+
+-- where the folder tells its bytes, a reader has those left that an opening of the name gives
 abbrev pub IsGiven : View → List ℕ → Option (List ℕ) → Type 0
-IsGiven view name left = (bytes : List ℕ) × Gives view name bytes × (left ≡ Some bytes)
+IsGiven view name left = IsTrue view.is_told → (bytes : List ℕ) × Gives view name bytes × (left ≡ Some bytes)
 
--- under every other name is what was there
+-- where the folder tells its bytes, these were put under a name
+abbrev pub IsPut : View → List ℕ → List ℕ → Type 0
+IsPut view name bytes = IsTrue view.is_told → view.file name ≡ Some bytes
+
+-- the folder is as it was but for what was put under this name, and what openings give
 pub record KeepsOthers (name : List ℕ) (old new : View) : Type 0 where
   pub others : (other : List ℕ) → other ≢ name → new.file other ≡ old.file other
-  pub still : new.keeps_old ≡ old.keeps_old
+  pub same_told : new.is_told ≡ old.is_told
+  pub same_keeping : new.keeps_old ≡ old.keeps_old
 
 -- under every name but two is what was there
 abbrev pub KeepsAllBut : List ℕ → List ℕ → View → View → Type 0
@@ -51,9 +61,9 @@ pub record HoldsPrefix (name : List ℕ) (old new : View) (bytes : List ℕ) : T
   pub stands : new.file name ≡ Some prefix
   pub had_none : HadNone name old
 
--- a file is as it was, or holds a prefix of some bytes where no old file had to be kept
+-- where the folder tells its bytes, a file is as it was, or holds a prefix of some bytes where no old file had to be kept
 abbrev pub IsFront : List ℕ → View → View → List ℕ → Type 0
-IsFront name old new bytes = (new.file name ≡ old.file name) ⊎ HoldsPrefix name old new bytes
+IsFront name old new bytes = IsTrue old.is_told → (new.file name ≡ old.file name) ⊎ HoldsPrefix name old new bytes
 
 -- a file could not be read: a read failed, or memory was wanting
 abbrev pub IsReadFault : FileFault → Type 0

@@ -8,6 +8,6 @@ use Rattle.folder_core.specs.declared.memory_folder.MemoryFolder.{MemoryFolder}
 abbrev pub files_of : MemoryFolder → Files
 files_of folder = λ name. option_map (λ v. v.items) (get_by_text folder.files name)
 
--- each opening gives them, and an old file is kept
+-- its bytes are known, each opening gives those, and an old file is kept
 abbrev pub view_of : MemoryFolder → View
-view_of folder = record { given = λ time. files_of folder; file = files_of folder; keeps_old = true }
+view_of folder = record { is_told = true; given = λ time. files_of folder; file = files_of folder; keeps_old = true }

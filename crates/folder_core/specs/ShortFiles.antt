@@ -1,5 +1,5 @@
 -- Files that are read whole only where they are short.
-use Rattle.std.specs.Prelude.{◌≡◌, ℕ, ◌<◌, ◌≤◌, List, Option, Some, None, Vec, length}
+use Rattle.std.specs.Prelude.{◌≡◌, ℕ, ◌<◌, ◌≤◌, IsTrue, List, Option, Some, None, Vec, length}
 use Rattle.std.specs.declared.alloc.Global.{Global}
 use Rattle.folder_core.specs.Files.{Gives, View}
 
@@ -8,6 +8,6 @@ abbrev pub IsShort : ℕ → List ℕ → Option (Vec ℕ Global) → Type 0
 IsShort most file (Some bytes) = (file ≡ bytes.items) × (length bytes.items < most)
 IsShort most file None = most ≤ length file
 
--- the same of bytes that an opening of a name gives
+-- the same of bytes that an opening of a name gives, where the folder tells its bytes
 abbrev pub IsShortOf : ℕ → View → List ℕ → Option (Vec ℕ Global) → Type 0
-IsShortOf most view name short = (file : List ℕ) × Gives view name file × IsShort most file short
+IsShortOf most view name short = IsTrue view.is_told → (file : List ℕ) × Gives view name file × IsShort most file short

@@ -1,7 +1,7 @@
 //! Files of a folder, read and written whole.
 
 ghost use Rattle.std.specs.Prelude.{◌≡◌, ◌⊎◌, ℕ, List, [], ◌∷◌, ◌++◌, IfErr, IfOk, IfSome, IsErr, IsOk, IsTrue, OnErr, OnOk, map, string_bytes};
-ghost use Rattle.folder_core.specs.Files.{AreGiven, Gives, HadNone, IsFront, IsReadFault, KeepsOthers};
+ghost use Rattle.folder_core.specs.Files.{AreReadOf, HadNone, IsFront, IsPut, IsReadFault, IsReadOf, KeepsOthers};
 ghost use Rattle.folder_core.specs.declared.fault.FileFault.TheVariants as faults;
 
 use crate::fault::FileFault;
@@ -16,7 +16,7 @@ use std::io::Read;
 /// `Memory`.
 pub fn read_file<F: Folder>(alloc: Global, folder: &mut F, name: &str) -> Result<Vec<u8>, FileFault>
     ensures same { F.view folder.new ≡ F.view folder.old }
-    ensures bytes { IfOk result (λ bytes. IsTrue F.is_told → Gives (F.view folder.old) name.now bytes.items) }
+    ensures bytes { IfOk result (λ bytes. IsReadOf (F.view folder.old) name.now bytes.items) }
     ensures fault { IfErr result IsReadFault }
 {
     match folder.open(name) {
@@ -34,8 +34,8 @@ pub fn read_files<F: Folder>(
     names: &[String],
 ) -> Result<Vec<Vec<u8>>, FileFault>
     ensures same { F.view folder.new ≡ F.view folder.old }
-    ensures bytes { IfOk result (λ files. IsTrue F.is_told
-        → AreGiven (F.view folder.old) (map string_bytes names.now) (map (λ file. file.items) files.items)) }
+    ensures bytes { IfOk result (λ files. AreReadOf (F.view folder.old)
+        (map string_bytes names.now) (map (λ file. file.items) files.items)) }
     ensures fault { IfErr result IsReadFault }
 {
     let mut files = Vec::new(alloc);
@@ -53,7 +53,7 @@ fn push_file<F: Folder>(
     files: &mut Vec<Vec<u8>>,
 ) -> Result<(), FileFault>
     ensures same { F.view folder.new ≡ F.view folder.old }
-    ensures bytes { OnOk result (IsTrue F.is_told → (file : List ℕ) × Gives (F.view folder.old) name.now file
+    ensures bytes { OnOk result ((file : List ℕ) × IsReadOf (F.view folder.old) name.now file
         × (map (λ file. file.items) files.new.items ≡ map (λ file. file.items) files.old.items ++ file ∷ [])) }
     ensures fault { IfErr result IsReadFault }
 {
@@ -86,9 +86,8 @@ pub fn read_whole<R: Read + Drop>(alloc: Global, reader: R, most: u64) -> Result
 /// instead of an old file where the folder keeps those.
 pub fn write_file<F: Folder>(folder: &mut F, name: &str, bytes: &[u8]) -> Result<(), FileFault>
     ensures others { KeepsOthers name.now (F.view folder.old) (F.view folder.new) }
-    ensures bytes { OnOk result (IsTrue F.is_told → (F.view folder.new).file name.now ≡ Some bytes.now) }
-    ensures refused { OnErr result (IsTrue F.is_told
-        → IsFront name.now (F.view folder.old) (F.view folder.new) bytes.now) }
+    ensures bytes { OnOk result (IsPut (F.view folder.new) name.now bytes.now) }
+    ensures refused { OnErr result (IsFront name.now (F.view folder.old) (F.view folder.new) bytes.now) }
     ensures fault { IfErr result (λ fault. fault ≡ faults.WriteFailed) }
 {
     let Ok(file) = folder.create(name) else {
@@ -110,8 +109,8 @@ pub fn hand_back<F: Folder>(
 ) -> Result<(), FileFault>
     ensures others { KeepsOthers name.now (F.view folder.old) (F.view folder.new) }
     ensures whole { OnOk result (IsOk written) }
-    ensures bytes { OnOk result (IsTrue F.is_told → (F.view folder.new).file name.now ≡ F.Out.contents made) }
-    ensures refused { OnErr result (IsTrue F.is_told
+    ensures bytes { OnOk result (IsTrue (F.view folder.old).is_told → (F.view folder.new).file name.now ≡ F.Out.contents made) }
+    ensures refused { OnErr result (IsTrue (F.view folder.old).is_told
         → ((F.view folder.new).file name.now ≡ (F.view folder.old).file name.now)
         ⊎ (IsErr written × ((F.view folder.new).file name.now ≡ F.Out.contents made)
         × HadNone name.now (F.view folder.old))) }

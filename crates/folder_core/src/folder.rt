@@ -1,6 +1,6 @@
 //! Files under names.
 
-ghost use Rattle.std.specs.Prelude.{◌≡◌, Bool, Option, [], Some, IfOk, OnOk, OnErr, IsTrue};
+ghost use Rattle.std.specs.Prelude.{◌≡◌, [], Some, IfOk, OnOk, OnErr, IsTrue};
 ghost use Rattle.folder_core.specs.Files.{IsGiven, IsGivenUp, KeepsOthers, View};
 
 use std::io::{Read, Write};
@@ -27,16 +27,12 @@ pub trait Folder {
     // What is known of its files.
     ghost view: { Self → View };
 
-    // Whether the bytes of its readers and writers are known.
-    ghost is_told: { Bool };
-
     /// The file of a name, from its start.
     ///
     /// Refusal: `FolderFault` where there is none that can be read.
     fn open(&mut self, name: &str) -> Result<Self::In, FolderFault>
         ensures same { view self.new ≡ view self.old }
-        ensures bytes { IfOk result (λ r. IsTrue is_told
-            → IsGiven (view self.old) name.now (Self.In.remaining r)) };
+        ensures bytes { IfOk result (λ r. IsGiven (view self.old) name.now (Self.In.remaining r)) };
 
     /// Holds the memory that it takes to create a file of this name, whenever that is. A folder that takes none, or that
     /// fails where it is refused, holds none.
@@ -54,20 +50,21 @@ pub trait Folder {
     /// Refusal: `FolderFault` where none can be made.
     fn create(&mut self, name: &str) -> Result<Self::Out, FolderFault>
         ensures same { view self.new ≡ view self.old }
-        ensures empty { IfOk result (λ w. IsTrue is_told → Self.Out.contents w ≡ Some []) };
+        ensures empty { IfOk result (λ w. IsTrue (view self.old).is_told → Self.Out.contents w ≡ Some []) };
 
     /// Hands a created file back, as it was written.
     ///
     /// Refusal: `FolderFault` where it can't be kept.
     fn keep(&mut self, name: &str, out: Self::Out) -> Result<(), FolderFault>
         ensures others { KeepsOthers name.now (view self.old) (view self.new) }
-        ensures bytes { OnOk result (IsTrue is_told → (view self.new).file name.now ≡ Self.Out.contents out) }
+        ensures bytes { OnOk result (IsTrue (view self.old).is_told
+            → (view self.new).file name.now ≡ Self.Out.contents out) }
         ensures refused { OnErr result ((view self.new).file name.now ≡ (view self.old).file name.now) };
 
     /// Lets a created file go whose writing came to a fault: it is handed back as it was written, or what was under the
     /// name stays. A folder that keeps old files leaves one as it was.
     fn give_up(&mut self, name: &str, out: Self::Out)
         ensures others { KeepsOthers name.now (view self.old) (view self.new) }
-        ensures left { IsTrue is_told
+        ensures left { IsTrue (view self.old).is_told
             → IsGivenUp name.now (view self.old) (view self.new) (Self.Out.contents out) };
 }

@@ -7,11 +7,11 @@
 //!
 //! The words of the contracts, of `specs/Files.antt` but for the last three:
 //!
-//! - `F.view` is what is known of a folder, a `View`: what an opening of each name gives, at one time and another, what was
-//!   put under each name last, and whether giving a file up leaves an old one as it was; `F.is_told` says whether the
-//!   bytes of its readers and writers are known.
-//! - `Gives view name bytes` says that an opening of a name gives these bytes, `AreGiven view names files` the same of
-//!   several.
+//! - `F.view` is what is known of a folder, a `View`: whether the bytes of its readers and writers are, what an opening of
+//!   each name gives, at one time and another, what was put under each name last, and whether giving a file up leaves an
+//!   old one as it was.
+//! - `IsReadOf view name bytes` says that bytes were read of a name: an opening of it gives them, where the folder tells its
+//!   bytes. `AreReadOf view names files` says the same of several, and `IsPut view name bytes` that bytes were put there.
 //! - `KeepsOthers name old new` says that only the file of this name may have changed, `IsFront name old new bytes` that it
 //!   is as it was or holds a prefix of these bytes, and that only where no old file had to be kept.
 //! - `IsShortOf most view name answer` says that an answer has the bytes of a file that is shorter

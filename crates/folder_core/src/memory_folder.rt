@@ -1,6 +1,6 @@
 //! A folder in memory.
 
-ghost use Rattle.std.specs.Prelude.{◌≡◌, ℕ, List, None, Some, OnErr, OnOk, option_map, true};
+ghost use Rattle.std.specs.Prelude.{◌≡◌, ℕ, List, None, Some, OnErr, OnOk, option_map};
 ghost use Rattle.std.specs.BTreeMap.{btree_map_len};
 ghost use Rattle.folder_core.specs.Files.{KeepsOthers};
 ghost use Rattle.folder_core.specs.MemoryFolders.{files_of, view_of};
@@ -63,8 +63,6 @@ impl Folder for MemoryFolder {
     type Out = Vec<u8>;
 
     ghost view = { λ f. view_of f };
-
-    ghost is_told = { true };
 
     fn open(&mut self, name: &str) -> Result<Cursor<Vec<u8>>, FolderFault> {
         let file = self.files.get(name).ok_or(FolderFault)?;

@@ -1,6 +1,6 @@
 //! Files of a folder that are read whole only where they are short.
 
-ghost use Rattle.std.specs.Prelude.{◌≡◌, IfErr, IfOk, IfSome, IsTrue};
+ghost use Rattle.std.specs.Prelude.{◌≡◌, IfErr, IfOk, IfSome};
 ghost use Rattle.folder_core.specs.Files.{IsReadFault};
 ghost use Rattle.folder_core.specs.ShortFiles.{IsShort, IsShortOf};
 
@@ -20,8 +20,7 @@ pub fn read_short<F: Folder>(
     most: usize,
 ) -> Result<Option<Vec<u8>>, FileFault>
     ensures same { F.view folder.new ≡ F.view folder.old }
-    ensures bytes { IfOk result (λ short. IsTrue F.is_told
-        → IsShortOf most (F.view folder.old) name.now short) }
+    ensures bytes { IfOk result (IsShortOf most (F.view folder.old) name.now) }
     ensures fault { IfErr result IsReadFault }
 {
     match folder.open(name) {

@@ -71,8 +71,6 @@ where
 
     ghost view = { λ w. F.view (watched_folder w) };
 
-    ghost is_told = { F.is_told };
-
     fn open(&mut self, name: &str) -> Result<WatchedFile<'a, F::In, R>, FolderFault> {
         let file = self.folder.open(name)?;
         Ok(WatchedFile {

@@ -70,9 +70,7 @@ impl<'a> Folder for Shelf<'a> {
 
     type Out = Awaited<'a>;
 
-    ghost file = { λ f n. None };
-
-    ghost is_told = { λ f. false };
+    ghost view = { λ f. untold };
 
     fn open(&mut self, name: &str) -> Result<&'a [u8], FolderFault> {
         self.bytes(name)

@@ -128,9 +128,7 @@ impl Folder for WatchedFolder {
 
     type Out = WatchedOutput;
 
-    ghost file = { λ f n. None };
-
-    ghost is_told = { λ f. false };
+    ghost view = { λ f. untold };
 
     fn open(&mut self, name: &str) -> Result<WatchedInput, FolderFault> {
         if !self.note("open", name) {

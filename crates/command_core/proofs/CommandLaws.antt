@@ -1,8 +1,8 @@
 -- What becomes of the files of a master and its certificate that could not be written, and of those that are judged.
-use Rattle.std.proofs.Common.{◌≡◌, ◌≢◌, ◌⊎◌, ℕ, inl, inr, List, Bool, IsTrue, None, Some, Ok, Err, Result, refl, subst, sym, ◌∙◌}
+use Rattle.std.proofs.Common.{◌≡◌, ◌≢◌, ◌⊎◌, ℕ, inl, inr, IfErr, IfOk, IfSome, IsTrue, List, None, Option, Some, Ok, Err, Result, ap, refl, subst, sym, ◌∙◌}
 use Rattle.archive_core.specs.Checking.{Accepts}
 use Rattle.archive_core.specs.Editing.{Edits}
-use Rattle.folder_core.specs.Files.{Files, IsFront, KeepsOthers}
+use Rattle.folder_core.specs.Files.{Gives, HadNone, HoldsPrefix, IsFront, IsGiven, IsPut, IsReadOf, KeepsOthers, View}
 use Rattle.folder_core.specs.declared.fault.FileFault.{FileFault}
 use Rattle.folder_core.specs.declared.fault.FileFault.TheVariants as files
 use Rattle.transfer_commands.specs.Faults.{of_file}
@@ -13,7 +13,7 @@ use Rattle.transfer_commands.specs.declared.fault.CommandFault.TheVariants as fa
 use Rattle.transfer_core.specs.declared.fault.Fault.{Fault}
 use Rattle.transfer_core.specs.declared.fault.Fault.TheVariants.{Memory}
 use Rattle.master_core.specs.declared.verdict.Verdict.{Verdict}
-use Rattle.command_core.specs.Commands.{CheckComesTo, Cut, CutRefused, CutsFile, EditComesTo, EditsFiles, IsNoCommand, JudgedComesTo}
+use Rattle.command_core.specs.Commands.{CheckComesTo, CostsAtLeast, Cut, CutRefused, CutsFile, EditComesTo, EditsFiles, IsLeastIfAccepted, IsNoCommand, JudgesBy, Judges}
 use Rattle.command_core.specs.Outcomes.{of_words}
 use Rattle.words_core.specs.declared.fault.WordsFault.{WordsFault}
 use Rattle.words_core.specs.declared.fault.WordsFault.TheVariants as words
@@ -25,117 +25,107 @@ no_command words.UnknownFormName = tt
 no_command words.Memory = tt
 
 -- a master is cut, and could not be written
-pub cut_unwritten : (cut : Cut) (old read new : Files) (told told_read : Bool) (project master : List ℕ) (takes : List (List ℕ)) (total : ℕ) (fault : FileFault)
-    → read ≡ old → told_read ≡ told
+pub cut_unwritten : (cut : Cut) (old new : View) (project master : List ℕ) (takes : List (List ℕ)) (total : ℕ) (fault : FileFault)
     → AreSources cut.project_name old project takes
     → Edits project takes cut.form master total
-    → KeepsOthers cut.master_name read new
-    → (IsTrue told_read → IsFront (read cut.master_name) (new cut.master_name) master)
-    → fault ≡ files.WriteFailed → IsTrue told → EditComesTo cut old new (Err (of_file fault))
-cut_unwritten cut old read new told told_read project master takes total fault
-    same tells sources edits others front is is_told =
+    → KeepsOthers cut.master_name old new
+    → IsFront cut.master_name old new master
+    → fault ≡ files.WriteFailed → EditComesTo cut old new (Err (of_file fault))
+cut_unwritten cut old new project master takes total fault sources edits others front is =
     subst (λ (f : FileFault). EditComesTo cut old new (Err (of_file f))) (sym is) (inl (record {
       project = project;
       takes = takes;
       master = master;
       total = total;
       sources = sources;
-      front = subst (λ (f : Files). IsFront (f cut.master_name) (new cut.master_name) master) same (front (subst IsTrue (sym tells) is_told));
-      others = subst (λ (f : Files). KeepsOthers cut.master_name f new) same others;
+      front = front;
+      others = others;
       edits = edits;
     }))
 
 -- a master is written, and then what stands under another name
-cuts_still : (cut : Cut) (old read written new : Files) (told told_read : Bool) (project master : List ℕ) (takes : List (List ℕ)) (total : ℕ)
-    → read ≡ old → told_read ≡ told → AreSources cut.project_name old project takes → Edits project takes cut.form master total
-    → KeepsOthers cut.master_name read written → (IsTrue told_read → written cut.master_name ≡ Some master) → KeepsOthers cut.cert_name written new → IsTrue told → CutsFile cut old new project takes master total
-cuts_still cut old read written new told told_read project master takes total
-    same tells sources edits others master_stands others_second is_told =
-    let kept = subst (λ (f : Files). KeepsOthers cut.master_name f written) same others in
-    record {
-      sources = sources;
-      master_stands = λ (differs : cut.master_name ≢ cut.cert_name). others_second cut.master_name differs ∙ master_stands (subst IsTrue (sym tells) is_told);
-      others = λ (other : List ℕ) (differs : other ≢ cut.master_name) (differs_second : other ≢ cut.cert_name). others_second other differs_second ∙ kept other differs;
-      edits = edits;
-    }
+module _ (cut : Cut) (old written new : View) (project master : List ℕ) (takes : List (List ℕ)) (total : ℕ)
+    (sources : AreSources cut.project_name old project takes) (edits : Edits project takes cut.form master total)
+    (others : KeepsOthers cut.master_name old written) (master_put : IsPut written cut.master_name master) (others_second : KeepsOthers cut.cert_name written new) where
+  cuts_still : CutsFile cut old new project takes master total
+  cuts_still = record {
+    sources = sources;
+    master_put = λ (differs : cut.master_name ≢ cut.cert_name) told. others_second.others cut.master_name differs ∙ master_put (subst IsTrue others_second.same_told told);
+    others = λ (other : List ℕ) (differs : other ≢ cut.master_name) (differs_second : other ≢ cut.cert_name). others_second.others other differs_second ∙ others.others other differs;
+    edits = edits;
+  }
 
--- a master is written, and its certificate could not be
-pub cert_unwritten : (cut : Cut) (old read written new : Files) (told told_read told_written : Bool) (project master cert : List ℕ) (takes : List (List ℕ)) (total : ℕ) (fault : FileFault)
-    → read ≡ old → told_read ≡ told → told_written ≡ told_read
-    → AreSources cut.project_name old project takes
-    → Edits project takes cut.form master total
-    → KeepsOthers cut.master_name read written
-    → (IsTrue told_read → written cut.master_name ≡ Some master)
-    → KeepsOthers cut.cert_name written new
-    → (IsTrue told_written → IsFront (written cut.cert_name) (new cut.cert_name) cert)
-    → Accepts project takes master cert total
-    → fault ≡ files.WriteFailed → IsTrue told → EditComesTo cut old new (Err (of_file fault))
-cert_unwritten cut old read written new told told_read told_written project master cert takes total fault
-    same tells tells_written sources edits others master_stands others_second front accepted is is_told =
-    let is_told_read = subst IsTrue (sym tells) is_told in
-    let kept = subst (λ (f : Files). KeepsOthers cut.master_name f written) same others in
-    subst (λ (f : FileFault). EditComesTo cut old new (Err (of_file f))) (sym is) (inr (record {
-      project = project;
-      takes = takes;
-      master = master;
-      cert = cert;
-      total = total;
-      cuts = cuts_still cut old read written new told told_read project master takes total same tells sources edits others master_stands others_second is_told;
-      front = λ (differs : cut.cert_name ≢ cut.master_name). subst (λ x. IsFront x (new cut.cert_name) cert) (kept cut.cert_name differs) (front (subst IsTrue (sym tells_written) is_told_read));
-      accepted = accepted;
-    }))
+  -- what is left of the certificate's file is so of the files before the master was written too
+  front_before : (cert : List ℕ) → cut.cert_name ≢ cut.master_name → IsFront cut.cert_name written new cert → IsFront cut.cert_name old new cert
+  front_before cert differs front = λ told.
+      let same = others.others cut.cert_name differs in
+      elim (front (subst IsTrue (sym others.same_told) told)) [
+        | inl kept ↦ inl (kept ∙ same)
+        | inr held ↦ inr (record {
+          prefix = held.prefix;
+          rest = held.rest;
+          parts = held.parts;
+          stands = held.stands;
+          had_none = λ keeps. sym same ∙ held.had_none (subst IsTrue (sym others.same_keeping) keeps);
+        })
+      ]
 
--- a master is written, and its certificate
-pub both_written : (cut : Cut) (old read written new : Files) (told told_read told_written : Bool) (project master cert : List ℕ) (takes : List (List ℕ)) (total : ℕ)
-    → read ≡ old → told_read ≡ told → told_written ≡ told_read
-    → AreSources cut.project_name old project takes
-    → Edits project takes cut.form master total
-    → KeepsOthers cut.master_name read written
-    → (IsTrue told_read → written cut.master_name ≡ Some master)
-    → KeepsOthers cut.cert_name written new
-    → (IsTrue told_written → new cut.cert_name ≡ Some cert)
-    → Accepts project takes master cert total
-    → IsTrue told → EditsFiles cut old new total
-both_written cut old read written new told told_read told_written project master cert takes total
-    same tells tells_written sources edits others master_stands others_second cert_stands accepted is_told =
-    record {
-      project = project;
-      takes = takes;
-      master = master;
-      cert = cert;
-      cuts = cuts_still cut old read written new told told_read project master takes total same tells sources edits others master_stands others_second is_told;
-      cert_stands = cert_stands (subst IsTrue (sym tells_written) (subst IsTrue (sym tells) is_told));
-      accepted = accepted;
-    }
+  -- its certificate could not be
+  pub cert_unwritten : (cert : List ℕ) (fault : FileFault) → IsFront cut.cert_name written new cert → Accepts project takes master cert total → fault ≡ files.WriteFailed → EditComesTo cut old new (Err (of_file fault))
+  cert_unwritten cert fault front accepted is =
+      subst (λ (f : FileFault). EditComesTo cut old new (Err (of_file f))) (sym is) (inr (record {
+        project = project;
+        takes = takes;
+        master = master;
+        cert = cert;
+        total = total;
+        cuts = cuts_still;
+        front = λ (differs : cut.cert_name ≢ cut.master_name). front_before cert differs front;
+        accepted = accepted;
+      }))
 
--- a master is judged by the project and its takes, or refused, and no file changes
-module _ (project_name master_name cert_name : List ℕ) (old read held new : Files) (project : List ℕ) (takes : List (List ℕ)) (master cert : List ℕ) where
-  pub checked : read ≡ old → held ≡ read → new ≡ held
-      → AreSources project_name old project takes → read master_name ≡ Some master → held cert_name ≡ Some cert
-      → (came : Result Verdict CommandFault) → JudgedComesTo project takes master cert came → CheckComesTo project_name master_name cert_name old new came
-  checked same_read same_held same_new sources master_stands cert_stands (Ok verdict) judges = record {
+  -- and its certificate is
+  pub both_written : (cert : List ℕ) → IsPut new cut.cert_name cert → Accepts project takes master cert total → CostsAtLeast project takes master total → EditsFiles cut old new total
+  both_written cert cert_put accepted least = record {
     project = project;
     takes = takes;
     master = master;
     cert = cert;
-    sources = sources;
-    master_stands = subst (λ (f : Files). f master_name ≡ Some master) same_read master_stands;
-    cert_stands = subst (λ (f : Files). f cert_name ≡ Some cert) (same_held ∙ same_read) cert_stands;
-    judges = judges;
-    same = same_new ∙ (same_held ∙ same_read);
+    cuts = cuts_still;
+    cert_put = cert_put;
+    accepted = accepted;
+    least = least;
   }
-  checked same_read same_held same_new sources master_stands cert_stands (Err (faults.Call fault)) fails = (same_new ∙ (same_held ∙ same_read), inr (inr (record { project = project; takes = takes; sources = sources; first = fails })))
-  checked same_read same_held same_new sources master_stands cert_stands (Err faults.ReadFailed) h = same_new ∙ (same_held ∙ same_read)
-  checked same_read same_held same_new sources master_stands cert_stands (Err faults.WriteFailed) h = absurd h
+
+-- a master is judged by the project and its takes, or refused, and nothing changes
+module _ (project_name master_name cert_name : List ℕ) (old new : View) (project : List ℕ) (takes : List (List ℕ)) (master : List ℕ) (left : Option (List ℕ)) where
+  pub checked : new ≡ old → AreSources project_name old project takes → IsReadOf old master_name master → IsGiven old cert_name left
+      → (came : Result Verdict CommandFault) → IfOk came (IsLeastIfAccepted project takes master) → (IsTrue old.is_told → IfOk came (JudgesBy project takes master left)) → IfErr came IsUnread → CheckComesTo project_name master_name cert_name old new came
+  checked same sources master_read given (Ok verdict) least judged unread = record {
+    project = project;
+    takes = takes;
+    master = master;
+    sources = sources;
+    master_read = master_read;
+    least = least;
+    by_certificate = λ told.
+        let g = given told in
+        (g.0, g.1, subst (λ o. IfSome o (λ cert. Judges project takes master cert verdict)) g.2 (judged told));
+    same = same;
+  }
+  checked same sources master_read given (Err (faults.Call Memory)) least judged unread = (same, inl refl)
+  checked same sources master_read given (Err (faults.Call fault)) least judged unread = absurd unread
+  checked same sources master_read given (Err faults.ReadFailed) least judged unread = same
+  checked same sources master_read given (Err faults.WriteFailed) least judged unread = absurd unread
 
 -- ---- what was refused before a file was written
 -- the project or a take was not read
-pub edit_unread : (cut : Cut) (old new : Files) (f : CommandFault) → SourcesUnread cut.project_name old new f → EditComesTo cut old new (Err f)
+pub edit_unread : (cut : Cut) (old new : View) (f : CommandFault) → SourcesUnread cut.project_name old new f → EditComesTo cut old new (Err f)
 edit_unread cut old new (faults.Call fault) h = (h.0, elim h.1 [ inl memory ↦ inl memory | inr unnamed ↦ inr (inl unnamed) ])
 edit_unread cut old new faults.ReadFailed h = h
 edit_unread cut old new faults.WriteFailed h = absurd h
 
-module _ (project master cert : List ℕ) (old new : Files) where
+module _ (project master cert : List ℕ) (old new : View) where
   pub sources_unread : (f : CommandFault) → SourcesUnread project old new f → CheckComesTo project master cert old new (Err f)
   sources_unread (faults.Call fault) h = (h.0, elim h.1 [ inl memory ↦ inl memory | inr unnamed ↦ inr (inl unnamed) ])
   sources_unread faults.ReadFailed h = h

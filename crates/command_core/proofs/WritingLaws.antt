@@ -1,9 +1,9 @@
 -- What the files of a master come to that were handed back or given up.
-use Rattle.std.proofs.Common.{◌≡◌, ℕ, inl, inr, ◌⊎◌, List, [], ◌++◌, Bool, true, false, IsTrue, Option, None, Some, Result, Ok, Err, ap, subst, sym, ◌∙◌}
+use Rattle.std.proofs.Common.{◌≡◌, ℕ, inl, inr, ◌⊎◌, List, [], ◌++◌, true, false, IsTrue, Option, None, Some, Result, Ok, Err, ap, subst, sym, ◌∙◌}
 use Rattle.std.specs.Prelude.{IsErr, IsOk, OnErr, OnOk}
 use Rattle.std.specs.Io.KnownBytes.{Appends}
 use Rattle.device_core.specs.Outlets.{AppendsPart}
-use Rattle.folder_core.specs.Files.{IsFront}
+use Rattle.folder_core.specs.Files.{HadNone, HoldsPrefix, IsFront, IsPut, KeepsOthers, View}
 use Rattle.archive_core.specs.Planning.{CertifiesPlanned, IsSamePlan}
 use Rattle.archive_core.specs.declared.planning.PlannedMaster.{PlannedMaster}
 use Rattle.master_core.specs.Certifying.{AppendsCert, AppendsCertFront}
@@ -15,50 +15,67 @@ grown None b bytes e h = absurd cc
 grown (Some xs) None bytes e h = absurd h
 grown (Some xs) (Some ys) bytes e h = let none : xs ≡ [] = cc in ap Some (h ∙ ap (λ l. l ++ bytes) none)
 
--- ---- the master
-module _ (file : List ℕ) (a b made old new : Option (List ℕ)) (told told_made : Bool) (tells : told_made ≡ told) (is : made ≡ b) (empty : IsTrue told → a ≡ Some []) where
-  pub file_whole : {S T E F : Type 0} (r : Result S E) (came : Result T F) → OnOk came (Appends a b file) → OnOk r (IsOk came) → OnOk r (IsTrue told_made → new ≡ made) → OnOk r (IsTrue told → new ≡ Some file)
-  file_whole (Err e) came written whole stands = tt
-  file_whole (Ok x) (Err f) written whole stands = absurd cc
-  file_whole (Ok x) (Ok y) appended whole stands = λ h. stands (subst IsTrue (sym tells) h) ∙ is ∙ grown a b file (empty h) appended
+-- nothing changed, and no other file
+pub unchanged : (name : List ℕ) (old new : View) → new ≡ old → KeepsOthers name old new
+unchanged name old new same = record {
+  others = λ other differs. ap (λ (v : View). v.file other) same;
+  same_told = ap (λ (v : View). v.is_told) same;
+  same_keeping = ap (λ (v : View). v.keeps_old) same;
+}
 
-  part_left : AppendsPart a b file → new ≡ made → IsTrue told → IsFront old new file
-  part_left (front, back, text, some, appended) stands h = inr (front, back, text, stands ∙ is ∙ grown a b front (empty h) appended)
+-- what is left of a file that was handed back, or given up after a write that failed
+abbrev Left : {T F : Type 0} → List ℕ → View → View → Option (List ℕ) → Result T F → Type 0
+Left name old new made came = IsTrue old.is_told → (new.file name ≡ old.file name) ⊎ (IsErr came × (new.file name ≡ made) × HadNone name old)
 
-  front_left : {T F : Type 0} (came : Result T F) → OnErr came (AppendsPart a b file) → (new ≡ old) ⊎ (IsErr came × (new ≡ made)) → IsTrue told → IsFront old new file
-  front_left (Ok y) written (inl same) h = inl same
-  front_left (Ok y) written (inr failed) h = let no : false ≡ true = failed.0 in absurd cc
-  front_left (Err f) written (inl same) h = inl same
-  front_left (Err f) written (inr failed) h = part_left written failed.1 h
+module _ (name : List ℕ) (old new : View) (others : KeepsOthers name old new) (a b made : Option (List ℕ)) (is : made ≡ b) (empty : IsTrue old.is_told → a ≡ Some []) where
+  -- all of these bytes were put there
+  put_all : (bytes : List ℕ) → Appends a b bytes → (IsTrue old.is_told → new.file name ≡ made) → IsPut new name bytes
+  put_all bytes appended stands = λ told.
+      let h = subst IsTrue others.same_told told in
+      stands h ∙ is ∙ grown a b bytes (empty h) appended
 
-  pub file_front : {S T E F : Type 0} (r : Result S E) (came : Result T F) → OnErr came (AppendsPart a b file) → OnErr r (IsTrue told_made → (new ≡ old) ⊎ (IsErr came × (new ≡ made))) → OnErr r (IsTrue told → IsFront old new file)
-  file_front (Ok x) came written left = tt
-  file_front (Err e) came written left = λ h. front_left came written (left (subst IsTrue (sym tells) h)) h
+  -- a prefix of them was, or nothing
+  front_of : {T F : Type 0} (came : Result T F) (bytes : List ℕ) → OnErr came (AppendsPart a b bytes) → Left name old new made came → IsFront name old new bytes
+  front_of came bytes part left = λ told. elim (left told) [
+    | inl same ↦ inl same
+    | inr (failed, (stands, had_none)) ↦ by came part failed told stands had_none
+  ]
+    where
+      by : {T F : Type 0} (came : Result T F) → OnErr came (AppendsPart a b bytes) → IsErr came → IsTrue old.is_told → new.file name ≡ made → HadNone name old → (new.file name ≡ old.file name) ⊎ HoldsPrefix name old new bytes
+      by (Ok y) part failed told stands had_none = let no : false ≡ true = failed in absurd cc
+      by (Err f) (front, back, text, some, appended) failed told stands had_none = inr (record { prefix = front; rest = back; parts = text; stands = stands ∙ is ∙ grown a b front (empty told) appended; had_none = had_none })
 
--- ---- its certificate
+  -- ---- the master
+  pub file_whole : (file : List ℕ) {S T E F : Type 0} (r : Result S E) (came : Result T F) → OnOk came (Appends a b file) → OnOk r (IsOk came) → OnOk r (IsTrue old.is_told → new.file name ≡ made) → OnOk r (IsPut new name file)
+  file_whole file (Err e) came written whole stands = tt
+  file_whole file (Ok x) (Err f) written whole stands = absurd cc
+  file_whole file (Ok x) (Ok y) appended whole stands = put_all file appended stands
+
+  pub file_front : (file : List ℕ) {S T E F : Type 0} (r : Result S E) (came : Result T F) → OnErr came (AppendsPart a b file) → OnErr r (Left name old new made came) → OnErr r (IsFront name old new file)
+  file_front file (Ok x) came written left = tt
+  file_front file (Err e) came written left = front_of came file written left
+
+  -- ---- its certificate
+  module _ (planned : PlannedMaster) where
+    pub cert_whole : {S T E F : Type 0} (r : Result S E) (came : Result T F) → OnOk came (AppendsCert planned.cut planned.bridges a b) → OnOk r (IsOk came) → OnOk r (IsTrue old.is_told → new.file name ≡ made) → OnOk r (CertifiesWhole planned name new)
+    cert_whole (Err e) came written whole stands = tt
+    cert_whole (Ok x) (Err f) written whole stands = absurd cc
+    cert_whole (Ok x) (Ok y) (cert, certifies, appended) whole stands = (cert, certifies, put_all cert appended stands)
+
+    cert_left : {T F : Type 0} (came : Result T F) → (cert : List ℕ) × CertifiesPlanned planned cert → OnErr came (AppendsCertFront planned.cut planned.bridges a b) → Left name old new made came → CertifiesFront planned name old new
+    cert_left (Ok y) some written left = (some.0, some.1, λ told. elim (left told) [
+      | inl same ↦ inl same
+      | inr failed ↦ (let no : false ≡ true = failed.0 in absurd cc)
+    ])
+    cert_left (Err f) some (cert, certifies, (front, back, text, appended)) left = (cert, certifies, λ told. elim (left told) [
+      | inl same ↦ inl same
+      | inr (failed, (stands, had_none)) ↦ inr (record { prefix = front; rest = back; parts = text; stands = stands ∙ is ∙ grown a b front (empty told) appended; had_none = had_none })
+    ])
+
+    pub cert_front : {S T E F : Type 0} (r : Result S E) (came : Result T F) → (cert : List ℕ) × CertifiesPlanned planned cert → OnErr came (AppendsCertFront planned.cut planned.bridges a b) → OnErr r (Left name old new made came) → OnErr r (CertifiesFront planned name old new)
+    cert_front (Ok x) came some written left = tt
+    cert_front (Err e) came some written left = cert_left came some written left
+
 -- it is of the plan as it was before the master was written
 pub still_certifies : (old new : PlannedMaster) (cert : List ℕ) → IsSamePlan old new → CertifiesPlanned new cert → CertifiesPlanned old cert
 still_certifies old new cert same certifies = subst (λ (p : PlannedMaster). CertifiesPlanned p cert) same certifies
-
-module _ (planned : PlannedMaster) (a b made old new : Option (List ℕ)) (told told_made : Bool) (tells : told_made ≡ told) (is : made ≡ b) (empty : IsTrue told → a ≡ Some []) where
-  still : IsTrue told → IsTrue told_made
-  still h = subst IsTrue (sym tells) h
-
-  pub cert_whole : {S T E F : Type 0} (r : Result S E) (came : Result T F) → OnOk came (AppendsCert planned.cut planned.bridges a b) → OnOk r (IsOk came) → OnOk r (IsTrue told_made → new ≡ made) → OnOk r (IsTrue told → CertifiesWhole planned new)
-  cert_whole (Err e) came written whole stands = tt
-  cert_whole (Ok x) (Err f) written whole stands = absurd cc
-  cert_whole (Ok x) (Ok y) (cert, certifies, appended) whole stands = λ h. (cert, certifies, stands (still h) ∙ is ∙ grown a b cert (empty h) appended)
-
-  given_up : AppendsCertFront planned.cut planned.bridges a b → new ≡ made → IsTrue told → CertifiesFront planned old new
-  given_up (cert, certifies, (front, back, text, appended)) stands h = (cert, certifies, inr (front, back, text, stands ∙ is ∙ grown a b front (empty h) appended))
-
-  front_of : {T F : Type 0} (came : Result T F) → (cert : List ℕ) × CertifiesPlanned planned cert → OnErr came (AppendsCertFront planned.cut planned.bridges a b) → (new ≡ old) ⊎ (IsErr came × (new ≡ made)) → IsTrue told → CertifiesFront planned old new
-  front_of (Ok y) some written (inl same) h = (some.0, some.1, inl same)
-  front_of (Ok y) some written (inr failed) h = let no : false ≡ true = failed.0 in absurd cc
-  front_of (Err f) some written (inl same) h = (some.0, some.1, inl same)
-  front_of (Err f) some written (inr failed) h = given_up written failed.1 h
-
-  pub cert_front : {S T E F : Type 0} (r : Result S E) (came : Result T F) → (cert : List ℕ) × CertifiesPlanned planned cert → OnErr came (AppendsCertFront planned.cut planned.bridges a b)
-      → OnErr r (IsTrue told_made → (new ≡ old) ⊎ (IsErr came × (new ≡ made))) → OnErr r (IsTrue told → CertifiesFront planned old new)
-  cert_front (Ok x) came some written left = tt
-  cert_front (Err e) came some written left = λ h. front_of came some written (left (still h)) h

@@ -1,15 +1,15 @@
--- What a command does to the files of a folder that tells them, whose names it is given.
-use Rattle.std.specs.Prelude.{◌≡◌, ◌≢◌, ℕ, List, Option, None, Some, ◌⊎◌, Result, Ok, Err}
+-- What a command does to a folder, by the names that it is given. What it says of bytes it says of some that were read, in any folder, and of those that openings of the names give, in one that tells its bytes.
+use Rattle.std.specs.Prelude.{◌≡◌, ◌≢◌, ℕ, List, IfSome, IsTrue, Option, None, Some, ◌⊎◌, Result, Ok, Err}
 use Rattle.transfer_core.specs.declared.fault.Fault as calls
 use Rattle.transfer_core.specs.declared.fault.Fault.TheVariants.{Memory}
 use Rattle.form_core.specs.declared.form.Form.{Form}
 use Rattle.master_core.specs.declared.verdict.Verdict.{Verdict}
 use Rattle.master_core.specs.declared.verdict.Verdict.TheVariants as verdicts
-use Rattle.archive_core.specs.Checking.{Accepts, RejectsFirst}
+use Rattle.archive_core.specs.Checking.{Accepts, IsLeastMaster, RejectsFirst}
 use Rattle.archive_core.specs.Cutting.{said_cut}
 use Rattle.form_core.specs.Steps.{Fails}
-use Rattle.archive_core.specs.Editing.{Edits}
-use Rattle.folder_core.specs.Files.{Files, IsFront, KeepsAllBut, KeepsOthers}
+use Rattle.archive_core.specs.Editing.{CostsLeast, CostsWindows, Edits, IsMaster}
+use Rattle.folder_core.specs.Files.{Gives, IsFront, IsPut, IsReadOf, KeepsAllBut, KeepsOthers, View}
 use Rattle.transfer_commands.specs.Converting.{ConvertComesTo}
 use Rattle.transfer_commands.specs.Playing.{PlayComesTo}
 use Rattle.transfer_commands.specs.Sources.{AreSources, IsUnnamed}
@@ -29,89 +29,103 @@ pub record Cut : Type 0 where
   pub master_name : List ℕ
   pub cert_name : List ℕ
 
--- the master's file holds now the master of the project and the files of its takes at this cost, unless its name is that of the certificate too; no file of another name changed
-pub record CutsFile (cut : Cut) (old new : Files) (project : List ℕ) (takes : List (List ℕ)) (master : List ℕ) (total : ℕ) : Type 0 where
+-- the master's file holds now the master of a project and takes that were read, at this cost, unless its name is that of the certificate too; no file of another name changed
+pub record CutsFile (cut : Cut) (old new : View) (project : List ℕ) (takes : List (List ℕ)) (master : List ℕ) (total : ℕ) : Type 0 where
   pub sources : AreSources cut.project_name old project takes
-  pub master_stands : cut.master_name ≢ cut.cert_name → new cut.master_name ≡ Some master
+  pub master_put : cut.master_name ≢ cut.cert_name → IsPut new cut.master_name master
   pub others : KeepsAllBut cut.master_name cut.cert_name old new
   pub edits : Edits project takes cut.form master total
 
--- a master was cut at this cost, and the certificate's file holds now a certificate with which it is accepted at this cost
-pub record EditsFiles (cut : Cut) (old new : Files) (total : ℕ) : Type 0 where
+-- a file is a master of a project and takes, and of all their masters none costs less, read whole and over its windows
+pub record CostsAtLeast (project : List ℕ) (takes : List (List ℕ)) (master : List ℕ) (total : ℕ) : Type 0 where
+  pub is_master : IsMaster project takes master
+  pub joint : CostsLeast project takes master total
+  pub windows : CostsWindows project takes master total
+
+-- a master was cut at this cost, than which none costs less, and the certificate's file holds now a certificate with which it is accepted at this cost
+pub record EditsFiles (cut : Cut) (old new : View) (total : ℕ) : Type 0 where
   pub project : List ℕ
   pub takes : List (List ℕ)
   pub master : List ℕ
   pub cert : List ℕ
   pub cuts : CutsFile cut old new project takes master total
-  pub cert_stands : new cut.cert_name ≡ Some cert
+  pub cert_put : IsPut new cut.cert_name cert
   pub accepted : Accepts project takes master cert total
+  pub least : CostsAtLeast project takes master total
 
--- the master's file is as it was, or holds a front of the master that was cut; no other file changed
-pub record CutsFront (cut : Cut) (old new : Files) : Type 0 where
+-- the master's file is as it was, or holds a prefix of the master that was cut; no other file changed
+pub record CutsFront (cut : Cut) (old new : View) : Type 0 where
   pub project : List ℕ
   pub takes : List (List ℕ)
   pub master : List ℕ
   pub total : ℕ
   pub sources : AreSources cut.project_name old project takes
-  pub front : IsFront (old cut.master_name) (new cut.master_name) master
+  pub front : IsFront cut.master_name old new master
   pub others : KeepsOthers cut.master_name old new
   pub edits : Edits project takes cut.form master total
 
--- a master was cut, and the certificate's file is as it was, or holds a front of a certificate with which it is accepted
-pub record LeavesMaster (cut : Cut) (old new : Files) : Type 0 where
+-- a master was cut, and the certificate's file is as it was, or holds a prefix of a certificate with which it is accepted
+pub record LeavesMaster (cut : Cut) (old new : View) : Type 0 where
   pub project : List ℕ
   pub takes : List (List ℕ)
   pub master : List ℕ
   pub cert : List ℕ
   pub total : ℕ
   pub cuts : CutsFile cut old new project takes master total
-  pub front : cut.cert_name ≢ cut.master_name → IsFront (old cut.cert_name) (new cut.cert_name) cert
+  pub front : cut.cert_name ≢ cut.master_name → IsFront cut.cert_name old new cert
   pub accepted : Accepts project takes master cert total
 
--- a master is accepted at this cost, or this reason stands first against it
+-- where a verdict accepts a master, it is a master of the project and takes, no bits of any bridge cost less, and of all their masters none costs less
+pub record IsLeastAt (project : List ℕ) (takes : List (List ℕ)) (master : List ℕ) (cost : ℕ) : Type 0 where
+  pub is_master : IsMaster project takes master
+  pub least : IsLeastMaster project takes master
+  pub joint : CostsLeast project takes master cost
+
+-- the same of a verdict, which may be another
+abbrev pub IsLeastIfAccepted : List ℕ → List (List ℕ) → List ℕ → Verdict → Type 0
+IsLeastIfAccepted project takes master (verdicts.Accepted cost) = IsLeastAt project takes master cost
+IsLeastIfAccepted project takes master (verdicts.Rejected reason) = Unit {0}
+
+-- a master is accepted by a certificate at this cost, which is that over its windows, or this reason comes first against it
 abbrev pub Judges : List ℕ → List (List ℕ) → List ℕ → List ℕ → Verdict → Type 0
-Judges project takes master cert (verdicts.Accepted cost) = Accepts project takes master cert cost
+Judges project takes master cert (verdicts.Accepted cost) = Accepts project takes master cert cost × CostsWindows project takes master cost
 Judges project takes master cert (verdicts.Rejected reason) = RejectsFirst project takes master cert reason
 
--- a master and a certificate came to this by a project and the files of its takes: a verdict, the first fault of their cut, or a read that failed
-abbrev pub JudgedComesTo : List ℕ → List (List ℕ) → List ℕ → List ℕ → Result Verdict CommandFault → Type 0
-JudgedComesTo project takes master cert (Ok verdict) = Judges project takes master cert verdict
-JudgedComesTo project takes master cert (Err (faults.Call fault)) = Fails Memory fault (said_cut project takes None)
-JudgedComesTo project takes master cert (Err faults.ReadFailed) = Unit {0}
-JudgedComesTo project takes master cert (Err faults.WriteFailed) = ⊥
+-- the same of whatever certificate was read, where its bytes are known
+abbrev pub JudgesBy : List ℕ → List (List ℕ) → List ℕ → Option (List ℕ) → Verdict → Type 0
+JudgesBy project takes master left verdict = IfSome left (λ cert. Judges project takes master cert verdict)
 
--- this is what the files of a master and a certificate come to by the project and the files of its takes, and no file changed
-pub record ChecksFiles (project_name master_name cert_name : List ℕ) (old new : Files) (verdict : Verdict) : Type 0 where
+-- a master that was read is least, where the verdict by a project and takes that were read accepts it; where the folder tells its bytes, the verdict is that by the certificate's; and nothing changed
+pub record ChecksFiles (project_name master_name cert_name : List ℕ) (old new : View) (verdict : Verdict) : Type 0 where
   pub project : List ℕ
   pub takes : List (List ℕ)
   pub master : List ℕ
-  pub cert : List ℕ
   pub sources : AreSources project_name old project takes
-  pub master_stands : old master_name ≡ Some master
-  pub cert_stands : old cert_name ≡ Some cert
-  pub judges : Judges project takes master cert verdict
+  pub master_read : IsReadOf old master_name master
+  pub least : IsLeastIfAccepted project takes master verdict
+  pub by_certificate : IsTrue old.is_told → (cert : List ℕ) × Gives old cert_name cert × Judges project takes master cert verdict
   pub same : new ≡ old
 
--- this fault stands first where the project and the files of the takes that it names are made a cut, into a file of the form where one is asked for
-pub record IsUncut (form : Option Form) (project_name : List ℕ) (old : Files) (fault : calls.Fault) : Type 0 where
+-- this fault comes first where a project and takes that were read are made a cut, into a file of the form where one is asked for
+pub record IsUncut (form : Option Form) (project_name : List ℕ) (old : View) (fault : calls.Fault) : Type 0 where
   pub project : List ℕ
   pub takes : List (List ℕ)
   pub sources : AreSources project_name old project takes
   pub first : Fails Memory fault (said_cut project takes form)
 
--- no file changed, and memory was wanting, or this fault stands first on the way from the project to its cut
-abbrev pub CutRefused : Option Form → List ℕ → Files → Files → calls.Fault → Type 0
+-- nothing changed, and memory was wanting, or this fault comes first on the way from the project to its cut
+abbrev pub CutRefused : Option Form → List ℕ → View → View → calls.Fault → Type 0
 CutRefused form project old new fault = (new ≡ old) × ((fault ≡ Memory) ⊎ (IsUnnamed project old fault ⊎ IsUncut form project old fault))
 
--- the files before and after `edit FORM PROJECT MASTER CERT` came to this
-abbrev pub EditComesTo : Cut → Files → Files → Result ℕ CommandFault → Type 0
+-- the folder before and after `edit FORM PROJECT MASTER CERT` came to this
+abbrev pub EditComesTo : Cut → View → View → Result ℕ CommandFault → Type 0
 EditComesTo cut old new (Ok total) = EditsFiles cut old new total
 EditComesTo cut old new (Err (faults.Call fault)) = CutRefused (Some cut.form) cut.project_name old new fault
 EditComesTo cut old new (Err faults.ReadFailed) = new ≡ old
 EditComesTo cut old new (Err faults.WriteFailed) = CutsFront cut old new ⊎ LeavesMaster cut old new
 
--- the files before and after `check PROJECT MASTER CERT` came to this
-abbrev pub CheckComesTo : List ℕ → List ℕ → List ℕ → Files → Files → Result Verdict CommandFault → Type 0
+-- the folder before and after `check PROJECT MASTER CERT` came to this
+abbrev pub CheckComesTo : List ℕ → List ℕ → List ℕ → View → View → Result Verdict CommandFault → Type 0
 CheckComesTo project master cert old new (Ok verdict) = ChecksFiles project master cert old new verdict
 CheckComesTo project master cert old new (Err (faults.Call fault)) = CutRefused None project old new fault
 CheckComesTo project master cert old new (Err faults.ReadFailed) = new ≡ old
@@ -121,8 +135,8 @@ CheckComesTo project master cert old new (Err faults.WriteFailed) = ⊥
 abbrev pub Says : {T : Type 0} → (T → Outcome) → (Result T CommandFault → Type 0) → Outcome → Type 0
 Says {T} done P outcome = (came : Result T CommandFault) × (outcome ≡ outcome_of done came) × P came
 
--- the files before and after a command came to this: a judgement changes none, and so does a refusal but where a file is played or converted piece by piece; a write that failed changes one, or two where the first is the master that was cut
-abbrev pub TaskComesTo : Task → Files → Files → Outcome → Type 0
+-- the folder before and after a command came to this: a judgement changes no file, and so does a refusal but where a file is played or converted piece by piece; a write that failed changes one, or two where the first is the master that was cut; and where the folder keeps old files, no fault puts a prefix in the place of one
+abbrev pub TaskComesTo : Task → View → View → Outcome → Type 0
 TaskComesTo (tasks.Play project input output) old new = Says Played (PlayComesTo project.now input.now output.now old new)
 TaskComesTo (tasks.Convert form input output) old new = Says Converted (ConvertComesTo form input.now output.now old new)
 TaskComesTo (tasks.Edit form project master cert) old new = Says Edited (EditComesTo (record { form = form; project_name = project.now; master_name = master.now; cert_name = cert.now }) old new)
@@ -136,6 +150,6 @@ IsNoCommand UnknownFormName = Unit {0}
 IsNoCommand (Fault Memory) = Unit {0}
 IsNoCommand _ = ⊥
 
--- no command was read and no file changed, or some command came to this
-abbrev pub ComesTo : Files → Files → Outcome → Type 0
+-- no command was read and nothing changed, or some command came to this
+abbrev pub ComesTo : View → View → Outcome → Type 0
 ComesTo old new outcome = (IsNoCommand outcome × (new ≡ old)) ⊎ ((task : Task) × TaskComesTo task old new outcome)

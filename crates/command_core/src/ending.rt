@@ -1,6 +1,6 @@
 //! Files read to their ends, of which nothing is kept.
 
-ghost use Rattle.std.specs.Prelude.{◌≡◌, ◌⊎◌, IsTrue, true};
+ghost use Rattle.std.specs.Prelude.{◌≡◌, ◌⊎◌, true};
 ghost use Rattle.std.specs.Io.KnownBytes.{IsAtEnd};
 ghost use Rattle.device_core.specs.Inlets.{inlet_reader};
 ghost use Rattle.transfer_commands.specs.declared.fault.CommandFault.TheVariants as faults;
@@ -36,8 +36,7 @@ pub(crate) fn fault_behind<F: Folder>(
     cert: &str,
     fault: Fault,
 ) -> CommandFault
-    ensures same { F.file folder.new ≡ F.file folder.old }
-    ensures told { F.is_told folder.new ≡ F.is_told folder.old }
+    ensures same { F.view folder.new ≡ F.view folder.old }
     ensures fault { (result ≡ faults.ReadFailed) ⊎ (result ≡ faults.Call fault) }
 {
     if reads_through(folder, master) && reads_through(folder, cert) {
@@ -49,8 +48,7 @@ pub(crate) fn fault_behind<F: Folder>(
 
 // Opens a file and reads it: whether that came to its end.
 fn reads_through<F: Folder>(folder: &mut F, name: &str) -> bool
-    ensures same { F.file folder.new ≡ F.file folder.old }
-    ensures told { F.is_told folder.new ≡ F.is_told folder.old }
+    ensures same { F.view folder.new ≡ F.view folder.old }
 {
     match folder.open(name) {
         Ok(file) => reads_to_end(&mut Inlet::new(file)),

@@ -1,12 +1,12 @@
 //! A master judged by a certificate that is opened, and read to its end.
 
-ghost use Rattle.std.specs.Prelude.{◌≡◌, ◌-◌, ◌<◌, ◌^◌, ◌⊎◌, IfErr, IfSome, List, None, Some, ℕ};
+ghost use Rattle.std.specs.Prelude.{◌≡◌, ◌-◌, ◌<◌, ◌^◌, ◌⊎◌, IfErr, IfOk, IfSome, List, None, ℕ};
 ghost use Rattle.device_core.specs.Inlets.{inlet_failures, inlet_reader};
 ghost use Rattle.cert_core.specs.Readers.{cert_inlet};
-ghost use Rattle.archive_core.specs.Checking.{Accepts, IfAccepted, IfRejected, RejectsFirst};
 ghost use Rattle.archive_core.specs.Cutting.{SaysCut};
-ghost use Rattle.command_core.specs.Commands.{JudgedComesTo};
-ghost use Rattle.command_core.specs.Masters.{IsFoundHeld, IsOfSome};
+ghost use Rattle.transfer_commands.specs.Outlining.{IsUnread};
+ghost use Rattle.command_core.specs.Commands.{IsLeastIfAccepted, JudgesBy};
+ghost use Rattle.command_core.specs.Masters.{FindsHeld, IsFoundHeld, IsOfSome};
 
 use crate::ending::reads_to_end;
 use archive_core::{Fault, Found, Reason, Verdict, check_found};
@@ -32,9 +32,12 @@ pub(crate) fn judge_opened<R: Read + Drop>(
     cert: R,
 ) -> Result<Verdict, CommandFault>
     requires { IsOfSome cut.now found.now }
-    ensures { (project : List ℕ) (files : List (List ℕ)) (file bytes : List ℕ) → SaysCut project files None cut.now
-        → IsFoundHeld cut.now file found.now → R.remaining cert ≡ Some bytes
-        → JudgedComesTo project files file bytes result }
+    // Of whichever project and files it is the cut, and of whichever file it was found, what is accepted is least.
+    ensures least { (project : List ℕ) (files : List (List ℕ)) (file : List ℕ) → SaysCut project files None cut.now
+        → IfSome found.now (FindsHeld cut.now file) → IfOk result (IsLeastIfAccepted project files file) }
+    ensures judged { (project : List ℕ) (files : List (List ℕ)) (file : List ℕ) → SaysCut project files None cut.now
+        → IsFoundHeld cut.now file found.now → IfOk result (JudgesBy project files file (R.remaining cert)) }
+    ensures fault { IfErr result IsUnread }
 {
     let fused = FusedInlet::new(cert, MOST_READS);
     let Ok(buffered) = BufReader::with_capacity(alloc, BLOCK, fused) else {
@@ -61,14 +64,11 @@ fn judge_by<R: Read>(
 ) -> Result<Verdict, Fault>
     requires of { IsOfSome cut.now found.now }
     requires ready { inlet_failures (cert_inlet cert.old) < 2 ^ 64 - 1 }
-    ensures found { (project : List ℕ) (files : List (List ℕ)) (file : List ℕ) → SaysCut project files None cut.now
+    ensures least { (project : List ℕ) (files : List (List ℕ)) (file : List ℕ) → SaysCut project files None cut.now
+        → IfSome found.now (FindsHeld cut.now file) → IfOk result (IsLeastIfAccepted project files file) }
+    ensures judged { (project : List ℕ) (files : List (List ℕ)) (file : List ℕ) → SaysCut project files None cut.now
         → IsFoundHeld cut.now file found.now
-        → IfAccepted result (λ cost. IfSome (R.remaining (inlet_reader (cert_inlet cert.old)))
-        (λ bytes. Accepts project files file bytes cost)) }
-    ensures rejected { (project : List ℕ) (files : List (List ℕ)) (file : List ℕ) → SaysCut project files None cut.now
-        → IsFoundHeld cut.now file found.now
-        → IfRejected result (λ reason. IfSome (R.remaining (inlet_reader (cert_inlet cert.old)))
-        (λ bytes. RejectsFirst project files file bytes reason)) }
+        → IfOk result (JudgesBy project files file (R.remaining (inlet_reader (cert_inlet cert.old)))) }
     ensures refused { IfErr result (λ fault. (fault ≡ Fault.Stream StreamFault.ReadFailed) ⊎ (fault ≡ Fault.Memory)) }
 {
     match found {

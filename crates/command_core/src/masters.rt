@@ -1,11 +1,11 @@
 //! A master's file, read to be judged.
 
-ghost use Rattle.std.specs.Prelude.{◌≡◌, ◌-◌, ◌<◌, ◌^◌, IfErr, IfOk, IfSome, IsTrue};
+ghost use Rattle.std.specs.Prelude.{◌≡◌, ◌-◌, ◌<◌, ◌^◌, IfErr, IfOk, IfSome};
 ghost use Rattle.device_core.specs.Inlets.{inlet_failures, inlet_given, inlet_reader, inlet_reads};
 ghost use Rattle.audit_core.specs.Auditing.{found_in};
 ghost use Rattle.transfer_commands.specs.Outlining as outlining;
 ghost use Rattle.transfer_commands.specs.Outlining.{IsUnread};
-ghost use Rattle.command_core.specs.Masters.{FindsMaster, IsFoundHeld, IsOfSome};
+ghost use Rattle.command_core.specs.Masters.{FindsMaster, IsFoundHeld, IsFoundInSome, IsOfSome};
 
 use crate::ending::reads_to_end;
 use archive_core::{Fault, Found};
@@ -28,10 +28,8 @@ pub(crate) fn find_master<F: Folder>(
     cut: &Cut,
     name: &str,
 ) -> Result<Option<Found>, CommandFault>
-    ensures same { F.file folder.new ≡ F.file folder.old }
-    ensures told { F.is_told folder.new ≡ F.is_told folder.old }
-    ensures found { IfOk result (λ found. IsTrue (F.is_told folder.old)
-        → FindsMaster (F.file folder.old) cut.now name.now found) }
+    ensures same { F.view folder.new ≡ F.view folder.old }
+    ensures found { IfOk result (FindsMaster (F.view folder.old) cut.now name.now) }
     ensures of { IfOk result (IsOfSome cut.now) }
     ensures fault { IfErr result IsUnread }
 {
@@ -44,6 +42,8 @@ pub(crate) fn find_master<F: Folder>(
 // The same of the file that a reader has.
 fn find_in<R: Read + Drop>(alloc: Global, cut: &Cut, file: R) -> Result<Option<Found>, CommandFault>
     ensures found { IfOk result (λ found. IfSome (R.remaining file) (λ left. IsFoundHeld cut.now left found)) }
+    // It was found of some bytes that were read, where the reader doesn't tell its own.
+    ensures any_reader { IfOk result (IsFoundInSome cut.now) }
     ensures of { IfOk result (IsOfSome cut.now) }
     ensures fault { IfErr result IsUnread }
 {
@@ -66,6 +66,7 @@ fn find_by<R: Read>(
     requires given_low { inlet_given inlet.old < 2 ^ 63 }
     ensures found { IfOk result (λ found. IfSome (R.remaining (inlet_reader inlet.old))
         (λ left. IsFoundHeld cut.now left found)) }
+    ensures any_reader { IfOk result (IsFoundInSome cut.now) }
     ensures of { IfOk result (IsOfSome cut.now) }
     ensures fault { IfErr result IsUnread }
 {

@@ -1,6 +1,6 @@
 //! Commands over the files of a folder.
 
-ghost use Rattle.std.specs.Prelude.{◌≡◌, IsTrue};
+ghost use Rattle.std.specs.Prelude.{◌≡◌};
 ghost use Rattle.command_core.specs.Commands.{CheckComesTo, EditComesTo, TaskComesTo};
 ghost use Rattle.command_core.specs.Outcomes.{outcome_of, verdict_of};
 ghost use Rattle.command_core.specs.declared.outcome.Outcome.TheVariants as outcomes;
@@ -33,11 +33,11 @@ use words_core::Task;
 /// it is opened again and read in one pass without its sound, of a take with the bits that are heard; where it holds no
 /// recording it is opened a third time and read whole, for the fault to be named; and what is converted is opened once
 /// more, the other file created, and the one read and the other written block by block. After a fault of this the file
-/// that was created is there and may hold a front.
+/// that was created may hold a prefix of what was due, but never in the place of an old file where the folder keeps those.
 ///
 /// The first fault is what the command comes to.
 pub fn perform<F: Folder>(alloc: Global, task: Task, folder: &mut F) -> Outcome
-    ensures { IsTrue (F.is_told folder.old) → TaskComesTo task.entry (F.file folder.old) (F.file folder.new) result }
+    ensures { TaskComesTo task.entry (F.view folder.old) (F.view folder.new) result }
 {
     match task {
         Task::Play {
@@ -75,7 +75,7 @@ fn edit_files<F: Folder>(
     master: &str,
     cert: &str,
 ) -> Result<u128, CommandFault>
-    ensures { IsTrue (F.is_told folder.old) → EditComesTo (record { form = form; project_name = project.now; master_name = master.now; cert_name = cert.now }) (F.file folder.old) (F.file folder.new) result }
+    ensures { EditComesTo (record { form = form; project_name = project.now; master_name = master.now; cert_name = cert.now }) (F.view folder.old) (F.view folder.new) result }
 {
     let sources = hear_sources(alloc, folder, project, MOST_KEPT)?;
     let mut planned = cut_sources(alloc, sources, form)?;
@@ -94,8 +94,7 @@ fn check_files<F: Folder>(
     master: &str,
     cert: &str,
 ) -> Result<Verdict, CommandFault>
-    ensures { IsTrue (F.is_told folder.old)
-        → CheckComesTo project.now master.now cert.now (F.file folder.old) (F.file folder.new) result }
+    ensures { CheckComesTo project.now master.now cert.now (F.view folder.old) (F.view folder.new) result }
 {
     let sources = hear_sources(alloc, folder, project, MOST_KEPT)?;
     let cut = match cut_of(sources) {

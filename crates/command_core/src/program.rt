@@ -1,6 +1,5 @@
 //! The program: what its words ask for, done over its files and told of.
 
-ghost use Rattle.std.specs.Prelude.{IsTrue};
 ghost use Rattle.command_core.specs.Commands.{ComesTo};
 
 use crate::outcome::{Outcome, outcome_line, status};
@@ -76,7 +75,7 @@ where
 /// Does the command that the words ask for, the program's name first, by [`perform`]. The first fault is what the
 /// command comes to.
 pub fn run<F: Folder>(alloc: Global, words: &[String], folder: &mut F) -> Outcome
-    ensures { IsTrue (F.is_told folder.old) → ComesTo (F.file folder.old) (F.file folder.new) result }
+    ensures { ComesTo (F.view folder.old) (F.view folder.new) result }
 {
     match task_of(alloc, words) {
         Ok(task) => perform(alloc, task, folder),

@@ -1,6 +1,6 @@
 //! The folder of the operating system.
 
-ghost use Rattle.std.specs.Prelude.{None, false};
+ghost use Rattle.folder_core.specs.Files.{untold};
 
 use crate::disk_file::DiskFile;
 use crate::disk_input::DiskInput;
@@ -126,9 +126,7 @@ where
 
     type Out = DiskFile<R::File, Printer<'a, R>>;
 
-    ghost file = { λ f n. None };
-
-    ghost is_told = { λ f. false };
+    ghost view = { λ f. untold };
 
     fn open(&mut self, name: &str) -> Result<DiskInput<R::File, R::Reader>, FolderFault> {
         match self.open_source(name) {

@@ -1,5 +1,5 @@
 -- What is known of the files of a folder, and what is read and written of them.
-use Rattle.std.specs.Prelude.{◌≡◌, ◌≢◌, ℕ, Bool, IsTrue, List, ◌++◌, Option, None, Some, ◌⊎◌}
+use Rattle.std.specs.Prelude.{◌≡◌, ◌≢◌, ℕ, Bool, IsTrue, false, List, ◌++◌, Option, None, Some, ◌⊎◌}
 use Rattle.std.specs.List.{AllZip}
 use Rattle.folder_core.specs.declared.fault.FileFault.{FileFault}
 use Rattle.folder_core.specs.declared.fault.FileFault.TheVariants.{ReadFailed, WriteFailed, Memory}
@@ -14,6 +14,10 @@ pub record View : Type 0 where
   pub given : ℕ → Files
   pub file : Files
   pub keeps_old : Bool
+
+-- of a folder that tells nothing, nothing is known
+abbrev pub untold : View
+untold = record { is_told = false; given = λ time name. None; file = λ name. None; keeps_old = false }
 
 -- an opening of a name gives these bytes, at some time
 abbrev pub Gives : View → List ℕ → List ℕ → Type 0

@@ -1,5 +1,5 @@
 -- What becomes of a file that another is converted to.
-use Rattle.std.proofs.Common.{arith, ◌≡◌, ℕ, ◌%◌, ◌⊎◌, ◌==◌, if◌then◌else◌, inl, inr, List, [], ◌++◌, Bool, IsTrue, Option, None, Some, Err, refl, subst, sym, ap, ◌∙◌}
+use Rattle.std.proofs.Common.{arith, ◌≡◌, ℕ, ◌%◌, ◌⊎◌, ◌==◌, if◌then◌else◌, inl, inr, List, [], ◌++◌, Bool, IsTrue, Option, None, Some, Err, false, true, refl, subst, sym, ap, ◌∙◌}
 use Rattle.std.proofs.lemmas.Bool.Decides.{nat_tests}
 use Rattle.dsd_bits.specs.Channels.{count_of}
 use Rattle.dsd_bits.specs.Contents.{Content}
@@ -10,7 +10,7 @@ use Rattle.form_core.specs.Parts.{FitsIn, WrittenInParts}
 use Rattle.form_core.specs.Steps.{Fails}
 use Rattle.form_core.specs.declared.form.Form.{Form}
 use Rattle.form_core.specs.declared.form.Form.TheVariants.{Dsdiff, Dsf, Dsf8}
-use Rattle.folder_core.specs.Files.{Files, IsFront, IsGiven, KeepsOthers}
+use Rattle.folder_core.specs.Files.{HadNone, HoldsPrefix, IsFront, IsGiven, IsGivenUp, IsReadOf, KeepsOthers, View}
 use Rattle.folder_core.specs.declared.fault.FileFault.{FileFault}
 use Rattle.folder_core.specs.declared.fault.FileFault.TheVariants as files
 use Rattle.sound_core.specs.Outlines.{around_of, with_sound}
@@ -20,29 +20,37 @@ use Rattle.transfer_core.specs.Conversions as streams
 use Rattle.transfer_core.specs.declared.fault.Fault.TheVariants.{Memory, NotWholeBytes}
 use Rattle.transfer_commands.specs.declared.fault.CommandFault.{CommandFault}
 use Rattle.transfer_commands.specs.declared.fault.CommandFault.TheVariants as faults
-use Rattle.transfer_commands.specs.Converting.{ConvertComesTo, ConvertsFile, ConvertsFront}
+use Rattle.transfer_commands.specs.Converting.{ConvertComesTo, ConvertsFile, ConvertsFront, KeepsOld}
 use Rattle.transfer_commands.specs.Faults.{of_file}
-use Rattle.transfer_commands.specs.Outlining.{IsOutlined, IsUnread, OutlinesFile, form_in}
+use Rattle.transfer_commands.specs.Outlining.{IsOutlined, IsUnread, OutlinesRead, form_in}
 use Rattle.sound_core.proofs.HeldLaws.{channels_count}
+use Rattle.transfer_commands.proofs.ReadLaws.{last_of, untold}
 use Rattle.transfer_commands.proofs.TellLaws.{holds_as, told_number}
 
 -- ---- a file that was read whole
 
+-- an old output was kept where what is left is a prefix
+kept_by : (output : List ℕ) (old new : View) (bytes : List ℕ) → IsFront output old new bytes → KeepsOld output old new
+kept_by output old new bytes front = λ told. elim (front told) [ inl same ↦ inl same | inr held ↦ inr held.had_none ]
+
 -- what it is converted to could not be written
-pub convert_unwritten : (old new : Files) (told : Bool) (form : Form) (file_name output_name file bytes : List ℕ) (dropped : ℕ) (fault : FileFault)
-    → old file_name ≡ Some file
-    → (IsTrue told → IsFront (old output_name) (new output_name) bytes)
+pub convert_unwritten : (old new : View) (form : Form) (file_name output_name file bytes : List ℕ) (dropped : ℕ) (fault : FileFault)
+    → IsReadOf old file_name file
+    → IsFront output_name old new bytes
     → KeepsOthers output_name old new → Converts file form bytes dropped → fault ≡ files.WriteFailed
-    → IsTrue told → ConvertComesTo form file_name output_name old new (Err (of_file fault))
-convert_unwritten old new told form file_name output_name file bytes dropped fault stands front others converts is is_told =
+    → ConvertComesTo form file_name output_name old new (Err (of_file fault))
+convert_unwritten old new form file_name output_name file bytes dropped fault read front others converts is =
     subst (λ (f : FileFault). ConvertComesTo form file_name output_name old new (Err (of_file f))) (sym is) (record {
       file = file;
+      last = file;
       bytes = bytes;
       dropped = dropped;
-      file_stands = stands;
-      front = front is_told;
-      others = others;
+      file_read = read;
+      last_read = read;
       converts = converts;
+      front = λ same. front;
+      kept = kept_by output_name old new bytes front;
+      others = others;
     })
 
 -- ---- a file of a known outline
@@ -90,62 +98,86 @@ module _ (outline : Outline) (file : List ℕ) (form : Form) (is : IsOutlined fi
 
 -- ---- what is left of the output
 
-module _ (form : Form) (input output : List ℕ) (old mid new : Files) (same : mid ≡ old) (others : KeepsOthers output mid new) where
-  moved : KeepsOthers output old new
-  moved = subst (λ (f : Files). KeepsOthers output f new) same others
-
-  -- all was written, and kept
-  pub converts_all : (left empty written : Option (List ℕ)) (dropped : ℕ) → IsGiven (old input) left → empty ≡ Some [] → new output ≡ written → streams.ConvertsFile left form empty written dropped → ConvertsFile form input output old new dropped
-  converts_all left empty written dropped given is_empty stands converts =
-      let made = by given.0 written (subst (λ o. streams.ConvertsFile o form (Some []) written dropped) given.2 (subst (λ o. streams.ConvertsFile left form o written dropped) is_empty converts)) in
-      record {
-        file = given.0;
-        bytes = made.0;
-        file_stands = given.1;
-        output_stands = stands ∙ made.2;
-        others = moved;
-        converts = made.1;
-      }
+module _ (form : Form) (input output : List ℕ) (old new : View) (others : KeepsOthers output old new) where
+  -- all was written, and handed back
+  pub converts_all : (left empty written : Option (List ℕ)) (dropped : ℕ) → IsGiven old input left → (IsTrue old.is_told → empty ≡ Some []) → (IsTrue old.is_told → new.file output ≡ written) → streams.ConvertsFile left form empty written dropped
+      → (read : List ℕ) × (bytes : List ℕ) × Converts read form bytes dropped → ConvertsFile form input output old new dropped
+  converts_all left empty written dropped given is_empty stands converts some = by old.is_told refl
     where
-      by : (file : List ℕ) (w : Option (List ℕ)) → streams.ConvertsFile (Some file) form (Some []) w dropped → (bytes : List ℕ) × Converts file form bytes dropped × (w ≡ Some bytes)
-      by file None h = absurd h.2
-      by file (Some w) h = (h.0, h.1, ap Some h.2)
+      all : (file : List ℕ) (w : Option (List ℕ)) → streams.ConvertsFile (Some file) form (Some []) w dropped → (bytes : List ℕ) × Converts file form bytes dropped × (w ≡ Some bytes)
+      all file None h = absurd h.2
+      all file (Some w) h = (h.0, h.1, ap Some h.2)
 
-  module _ (outline : Outline) (found : OutlinesFile input old (Some outline)) (in_parts : WrittenInParts) (fits : FitsIn form outline.sound.count) where
-    left_with : ((bytes : List ℕ) (dropped : ℕ) → Converts found.file form bytes dropped → IsFront (old output) (new output) bytes) → ConvertsFront form input output old new
-    left_with front =
+      by : (told : Bool) → old.is_told ≡ told → ConvertsFile form input output old new dropped
+      by true is =
+          let g = given is in
+          let made = all g.0 written (subst (λ o. streams.ConvertsFile o form (Some []) written dropped) g.2 (subst (λ o. streams.ConvertsFile left form o written dropped) (is_empty is) converts)) in
+          record {
+            file = g.0;
+            bytes = made.0;
+            file_read = λ told. g.1;
+            output_put = λ told. stands is ∙ made.2;
+            others = others;
+            converts = made.1;
+          }
+      by false is = record {
+        file = some.0;
+        bytes = some.1;
+        file_read = untold old.is_told is;
+        output_put = untold new.is_told (others.same_told ∙ is);
+        others = others;
+        converts = some.2;
+      }
+
+  module _ (outline : Outline) (found : OutlinesRead input old outline) (in_parts : WrittenInParts) (fits : FitsIn form outline.sound.count) where
+    -- the output is as it was
+    pub converts_none : new.file output ≡ old.file output → ConvertsFront form input output old new
+    converts_none same =
         let made = outlined_converts outline found.file form found.is_outline in_parts fits in
         record {
           file = found.file;
+          last = found.file;
           bytes = made.0;
           dropped = made.1;
-          file_stands = found.file_stands;
-          front = front made.0 made.1 made.2;
-          others = moved;
+          file_read = found.file_read;
+          last_read = found.file_read;
           converts = made.2;
+          front = λ is told. inl same;
+          kept = λ told. inl same;
+          others = others;
         }
 
-    -- the output is as it was
-    pub converts_none : new output ≡ mid output → ConvertsFront form input output old new
-    converts_none kept = left_with (λ bytes dropped converts. inl (kept ∙ ap (λ (f : Files). f output) same))
-
-    -- a front was written, and kept, or not even that
-    pub converts_front : (left empty written : Option (List ℕ)) → IsGiven (old input) left → empty ≡ Some [] → (new output ≡ mid output) ⊎ (new output ≡ written) → streams.ConvertsFront left (around_of outline) form empty written → ConvertsFront form input output old new
-    converts_front left empty written given is_empty (inl kept) front = converts_none kept
-    converts_front left empty written given is_empty (inr stands) front = left_with (λ bytes dropped converts. inr (by written stands (own found.is_outline.around bytes dropped converts)))
+    -- a prefix was written, and handed back, or not even that
+    pub converts_front : (left empty written : Option (List ℕ)) → IsGiven old input left → (IsTrue old.is_told → empty ≡ Some []) → (IsTrue old.is_told → IsGivenUp output old new written) → streams.ConvertsFront left (around_of outline) form empty written → ConvertsFront form input output old new
+    converts_front left empty written given is_empty stays front =
+        let made = outlined_converts outline found.file form found.is_outline in_parts fits in
+        let read = last_of old input left given found.file found.file_read in
+        record {
+          file = found.file;
+          last = read.0;
+          bytes = made.0;
+          dropped = made.1;
+          file_read = found.file_read;
+          last_read = read.1;
+          converts = made.2;
+          front = λ is told. by (read.2 told ∙ ap Some is) (is_empty told) made.0 made.1 made.2 (stays told);
+          kept = λ told. elim (stays told) [ inl same ↦ inl same | inr held ↦ inr held.1 ];
+          others = others;
+        }
       where
-        left_is : left ≡ Some found.file
-        left_is = given.2 ∙ sym given.1 ∙ found.file_stands
+        own : left ≡ Some found.file → empty ≡ Some [] → streams.ConvertsFront (Some found.file) (around_of outline) form (Some []) written
+        own left_is none = subst (λ o. streams.ConvertsFront o (around_of outline) form (Some []) written) left_is (subst (λ o. streams.ConvertsFront left (around_of outline) form o written) none front)
 
-        own : streams.ConvertsFront (Some found.file) (around_of outline) form (Some []) written
-        own = subst (λ o. streams.ConvertsFront o (around_of outline) form (Some []) written) left_is (subst (λ o. streams.ConvertsFront left (around_of outline) form o written) is_empty front)
+        prefix : (bytes : List ℕ) (w : Option (List ℕ)) → new.file output ≡ w → AppendsFront (Some []) w bytes → HadNone output old → HoldsPrefix output old new bytes
+        prefix bytes None is h had_none = absurd h.3
+        prefix bytes (Some w) is h had_none = record { prefix = h.0; rest = h.1; parts = h.2; stands = is ∙ ap Some h.3; had_none = had_none }
 
-        by : {bytes : List ℕ} (w : Option (List ℕ)) → new output ≡ w → AppendsFront (Some []) w bytes → (front : List ℕ) × (back : List ℕ) × (bytes ≡ front ++ back) × (new output ≡ Some front)
-        by None is h = absurd h.3
-        by (Some w) is h = (h.0, h.1, h.2, is ∙ ap Some h.3)
+        by : left ≡ Some found.file → empty ≡ Some [] → (bytes : List ℕ) (dropped : ℕ) → Converts found.file form bytes dropped → IsGivenUp output old new written → (new.file output ≡ old.file output) ⊎ HoldsPrefix output old new bytes
+        by left_is none bytes dropped converts (inl same) = inl same
+        by left_is none bytes dropped converts (inr (stands, had_none)) = inr (prefix bytes written stands (own left_is none found.is_outline.around bytes dropped converts) had_none)
 
 -- ---- a file that was not read
-pub unconverted : (form : Form) (input output : List ℕ) (old new : Files) (fault : CommandFault) → new ≡ old → IsUnread fault → ConvertComesTo form input output old new (Err fault)
+pub unconverted : (form : Form) (input output : List ℕ) (old new : View) (fault : CommandFault) → new ≡ old → IsUnread fault → ConvertComesTo form input output old new (Err fault)
 unconverted form input output old new (faults.Call Memory) same is = inl same
 unconverted form input output old new faults.ReadFailed same is = inl same
 unconverted form input output old new fault same is = absurd is

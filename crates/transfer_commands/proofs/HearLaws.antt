@@ -1,7 +1,7 @@
 -- What is heard of files one by one, and of those of a project.
-use Rattle.std.proofs.Common.{◌≡◌, ℕ, ◌+◌, ◌<◌, List, [], ◌∷◌, ◌++◌, Result, Some, Err, IfErr, Global, Vec, inl, inr, get_or, length, map, take, refl, sym, ap, subst, ◌∙◌, arith}
+use Rattle.std.proofs.Common.{◌≡◌, ℕ, ◌+◌, ◌<◌, List, [], ◌∷◌, ◌++◌, Result, Err, IfErr, Global, Vec, inl, inr, get_or, length, map, take, refl, sym, ap, subst, ◌∙◌, arith}
 use Rattle.std.proofs.lemmas.Bool.{eq-eqb}
-use Rattle.std.proofs.lemmas.List.{length-append, length-map, length-take-le, map-append, take_more}
+use Rattle.std.proofs.lemmas.List.{length-append, length-take-le, take_more}
 use Rattle.splice_core.specs.Splices.{SpliceContent}
 use Rattle.form_core.specs.Steps.{Fails}
 use Rattle.cut_core.specs.declared.fault.CutFault.{CutFault}
@@ -10,9 +10,10 @@ use Rattle.cut_core.specs.Opening.{HearsTake, HearsTakes, take_in, takes_before,
 use Rattle.transfer_core.specs.declared.fault.Fault.{Fault}
 use Rattle.transfer_core.specs.declared.fault.Fault.TheVariants.{Memory}
 use Rattle.transfer_core.specs.Projects.{SaysSplice, splice_of, take_names_of}
-use Rattle.folder_core.specs.Files.{AreFiles, Files, IsReadFault}
+use Rattle.folder_core.specs.Files.{AreReadOf, IsReadFault, IsReadOf, View}
 use Rattle.folder_core.specs.declared.fault.FileFault.{FileFault}
 use Rattle.folder_core.specs.declared.fault.FileFault.TheVariants as files
+use Rattle.cut_core.proofs.ZipLaws.{zip_long, zip_more}
 use Rattle.transfer_commands.specs.declared.fault.CommandFault.{CommandFault}
 use Rattle.transfer_commands.specs.declared.fault.CommandFault.TheVariants as faults
 use Rattle.transfer_commands.specs.Faults.{of_file}
@@ -21,21 +22,20 @@ use Rattle.transfer_commands.specs.Outlining.{IsUnread}
 use Rattle.transfer_commands.specs.Sources.{IsUnnamed, SourcesUnread}
 
 -- ---- files one by one
-pub as_many : (old : Files) (names files : List (List ℕ)) → AreFiles old names files → length files ≡ length names
-as_many old names files stand = sym (length-map files (λ (bytes : List ℕ). Some bytes)) ∙ sym (ap length stand) ∙ length-map names old
+pub as_many : (old : View) (names files : List (List ℕ)) → AreReadOf old names files → length files ≡ length names
+as_many old names files read = zip_long (IsReadOf old) names files read
 
-module _ (old : Files) (splice : SpliceContent) (names : List (List ℕ)) (n : ℕ) (there : n < length names) where
+module _ (old : View) (splice : SpliceContent) (names : List (List ℕ)) (n : ℕ) (there : n < length names) where
   pub files_more : (heard made : Result (Vec Heard Global) CutFault) (next : Result Heard CutFault) → HearsFiles old splice (take n names) heard → HearsFile old splice n (get_or names n []) next
       → ((files : List (List ℕ)) (file : List ℕ) → HearsTakes splice heard (takes_before files (length files)) → HearsTake splice (length files) next (take_in (length files) file) → HearsTakes splice made (takes_before (files ++ file ∷ []) (length files + 1)))
       → HearsFiles old splice (take (n + 1) names) made
   files_more heard made next before one pushed =
-      let Bytes : Type 0 = List ℕ in
-      let many : length before.files ≡ n = as_many old (take n names) before.files before.stand ∙ length-take-le n names (omega arith) in
+      let many : length before.files ≡ n = as_many old (take n names) before.files before.read ∙ length-take-le n names (omega arith) in
       let more : length (before.files ++ one.file ∷ []) ≡ length before.files + 1 = length-append before.files (one.file ∷ []) in
       let hears = pushed before.files one.file before.hears (subst (λ k. HearsTake splice k next (take_in k one.file)) (sym many) one.hears) in
       record {
         files = before.files ++ one.file ∷ [];
-        stand = ap (map old) (take_more names n [] there) ∙ map-append old (take n names) (get_or names n [] ∷ []) ∙ (λ j. before.stand j ++ one.file_stands j ∷ []) ∙ sym (map-append (λ (bytes : List ℕ). Some bytes) before.files (one.file ∷ []));
+        read = subst (λ (ns : List (List ℕ)). AreReadOf old ns (before.files ++ one.file ∷ [])) (sym (take_more names n [] there)) (zip_more (IsReadOf old) (take n names) before.files (get_or names n []) one.file before.read one.file_read);
         hears = subst (λ k. HearsTakes splice made (takes_before (before.files ++ one.file ∷ []) k)) (sym more) hears;
       }
 
@@ -44,18 +44,18 @@ pub all_takes : (splice : SpliceContent) (files : List (List ℕ)) → length fi
 unfolding takes_of
 all_takes splice files many = rw (eq-eqb _ _ many) refl
 
-pub sources_heard : (name : List ℕ) (old read : Files) (project : List ℕ) (splice : SpliceContent) (heard : Result (Vec Heard Global) CutFault) → read ≡ old → old name ≡ Some project → SaysSplice project splice → HearsFiles read splice splice.takes heard → HearsSources name old splice heard
-sources_heard name old read project splice heard same stands says h = record {
+pub sources_heard : (name : List ℕ) (old read : View) (project : List ℕ) (splice : SpliceContent) (heard : Result (Vec Heard Global) CutFault) → read ≡ old → IsReadOf old name project → SaysSplice project splice → HearsFiles read splice splice.takes heard → HearsSources name old splice heard
+sources_heard name old read project splice heard same project_read says h = record {
   project = project;
   takes = h.files;
   sources = record {
     names = splice.takes;
-    project_stands = stands;
+    project_read = project_read;
     names_said = record { splice = splice; says = says; names_are = refl };
-    takes_stand = subst (λ (f : Files). AreFiles f splice.takes h.files) same h.stand;
+    takes_read = subst (λ (v : View). AreReadOf v splice.takes h.files) same h.read;
   };
   project_says = says;
-  hears = rw (all_takes splice h.files (as_many read splice.takes h.files h.stand)) h.hears;
+  hears = rw (all_takes splice h.files (as_many read splice.takes h.files h.read)) h.hears;
 }
 
 -- a project without a splice names no takes
@@ -64,10 +64,10 @@ unfolding take_names_of
 named_by project fault (inl memory) = inl memory
 named_by project fault (inr refused) = inr (rw refused refl)
 
-pub unnamed : (name : List ℕ) (old : Files) (project : List ℕ) (fault : Fault) → old name ≡ Some project → Fails Memory fault (splice_of project) → IsUnnamed name old fault
-unnamed name old project fault stands fails = record { project = project; project_stands = stands; first = named_by project fault fails }
+pub unnamed : (name : List ℕ) (old : View) (project : List ℕ) (fault : Fault) → IsReadOf old name project → Fails Memory fault (splice_of project) → IsUnnamed name old fault
+unnamed name old project fault read fails = record { project = project; project_read = read; first = named_by project fault fails }
 
-pub unread : (name : List ℕ) (old new : Files) (fault : CommandFault) → new ≡ old → IsUnread fault → SourcesUnread name old new fault
+pub unread : (name : List ℕ) (old new : View) (fault : CommandFault) → new ≡ old → IsUnread fault → SourcesUnread name old new fault
 unread name old new (faults.Call Memory) same is = (same, inl refl)
 unread name old new faults.ReadFailed same is = same
 unread name old new fault same is = absurd is

@@ -1,5 +1,5 @@
 -- What is heard of a file that was read in one pass.
-use Rattle.std.proofs.Common.{◌≡◌, ℕ, List, None, Ok, Option, Some, refl, sym, subst}
+use Rattle.std.proofs.Common.{◌≡◌, ℕ, Err, IfOk, List, None, Ok, Option, Result, Some, refl, sym, subst}
 use Rattle.std.specs.Prelude.{IfSome}
 use Rattle.dsd_bits.specs.declared.stretches.BitRange.{BitRange}
 use Rattle.dsd_bits.specs.Shape.{HasShape}
@@ -7,14 +7,16 @@ use Rattle.splice_core.specs.Splices.{SpliceContent}
 use Rattle.form_core.specs.Laws.{HeldIsOpened}
 use Rattle.cut_core.specs.declared.heard.Heard.{Heard}
 use Rattle.cut_core.specs.Hearing.{ranges_of}
-use Rattle.cut_core.specs.Opening.{HearsTake, IsOfTake, take_in}
+use Rattle.cut_core.specs.Opening.{HearsTake, take_in}
 use Rattle.sound_core.specs.Keeping.{IsKeptOf, KeepsFile, stretches_in}
 use Rattle.sound_core.specs.Outlines.{AreTold, around_of}
 use Rattle.sound_core.specs.declared.keeping.Kept.{Kept}
-use Rattle.folder_core.specs.Files.{Files}
-use Rattle.transfer_commands.specs.Hearing.{HearsFile, HearsHeld, StreamsFile}
+use Rattle.folder_core.specs.Files.{IsGiven, IsReadOf, View}
+use Rattle.transfer_commands.specs.Hearing.{HearsFile, HearsHeld, IsHeardIn, IsHeardInSome, StreamsFile, StreamsRead}
 use Rattle.transfer_commands.specs.Outlining.{form_in}
+use Rattle.transfer_commands.specs.declared.fault.CommandFault.{CommandFault}
 use Rattle.sound_core.proofs.HeldLaws.{held, held_count, held_shape, held_silent}
+use Rattle.transfer_commands.proofs.ReadLaws.{known_or_some}
 use Rattle.transfer_commands.proofs.TellLaws.{holds_as}
 
 -- what is heard by what was kept of a file is what is heard of its recording
@@ -53,15 +55,28 @@ left_heard kept splice number heard ranges own hears (Some file) is =
 -- of whichever bytes were read
 pub given_heard : (kept : Kept) (splice : SpliceContent) (number : ℕ) (heard : Heard) (ranges : List BitRange) → ranges ≡ ranges_of splice number
     → ((s : SpliceContent) (n : ℕ) (file : List ℕ) → AreTold (around_of kept.outline) → IsKeptOf (around_of kept.outline) (ranges_of s n) (stretches_in kept) file → HearsHeld s n file heard)
-    → AreTold (around_of kept.outline) → (read : List ℕ) → IsKeptOf (around_of kept.outline) ranges (stretches_in kept) read → IsOfTake splice number (Ok heard)
+    → AreTold (around_of kept.outline) → (read : List ℕ) → IsKeptOf (around_of kept.outline) ranges (stretches_in kept) read → HearsHeld splice number read heard
 given_heard kept splice number heard ranges own hears told read is =
-    let h = hears splice number read told (subst (λ (r : List BitRange). IsKeptOf (around_of kept.outline) r (stretches_in kept) read) own is) in
-    (h.recording, h.shape, h.is_heard)
+    hears splice number read told (subst (λ (r : List BitRange). IsKeptOf (around_of kept.outline) r (stretches_in kept) read) own is)
+
+-- the file of a name was heard, or nothing, whether the folder tells its bytes or not
+pub streams_file : (view : View) (splice : SpliceContent) (number : ℕ) (name : List ℕ) (left : Option (List ℕ)) → IsGiven view name left → (found : Option Heard) → IfSome left (λ file. IsHeardIn splice number file found) → IsHeardInSome splice number found → StreamsFile view splice number name found
+streams_file view splice number name left given (Some heard) known some =
+    let read = known_or_some view name left (λ file. HearsHeld splice number file heard) given known some in
+    record { file = read.0; file_read = read.1; is_heard = read.2 }
+streams_file view splice number name left given None known some = λ told.
+    let h = given told in
+    (h.0, h.1, subst (λ o. IfSome o (λ file. IsHeardIn splice number file None)) h.2 known)
 
 -- of the file of a name
-pub streamed_hears : HeldIsOpened → (old mid : Files) (splice : SpliceContent) (number : ℕ) (name : List ℕ) (heard : Heard) → mid ≡ old → StreamsFile mid splice number name (Some heard) → HearsFile old splice number name (Ok heard)
+pub streamed_hears : HeldIsOpened → (old mid : View) (splice : SpliceContent) (number : ℕ) (name : List ℕ) (heard : Heard) → mid ≡ old → StreamsRead mid splice number name heard → HearsFile old splice number name (Ok heard)
 streamed_hears law old mid splice number name heard same found = record {
   file = found.file;
-  file_stands = subst (λ (f : Files). f name ≡ Some found.file) same found.file_stands;
+  file_read = subst (λ (v : View). IsReadOf v name found.file) same found.file_read;
   hears = held_hears law splice number found.file heard found.is_heard;
 }
+
+-- the same of an answer
+pub streams_found : (view : View) (splice : SpliceContent) (number : ℕ) (name : List ℕ) (left : Option (List ℕ)) → IsGiven view name left → (r : Result (Option Heard) CommandFault) → IfOk r (λ found. IfSome left (λ file. IsHeardIn splice number file found)) → IfOk r (IsHeardInSome splice number) → IfOk r (StreamsFile view splice number name)
+streams_found view splice number name left given (Ok found) known some = streams_file view splice number name left given found known some
+streams_found view splice number name left given (Err fault) known some = tt

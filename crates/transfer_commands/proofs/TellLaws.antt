@@ -1,5 +1,5 @@
 -- What is told of a file by its outline.
-use Rattle.std.proofs.Common.{◌≡◌, ℕ, List, [], Some, Result, Ok, Err, IfOk, IfErr, inr, length, sym, ap, ◌∙◌, refl, subst}
+use Rattle.std.proofs.Common.{◌≡◌, ℕ, List, [], Result, Ok, Err, IfOk, IfErr, inr, length, sym, ap, ◌∙◌, refl, subst}
 use Rattle.std.proofs.lemmas.List.{length-replicate}
 use Rattle.dsd_bits.specs.declared.blocks.BitOrder.TheVariants.{LeastFirst, MostFirst}
 use Rattle.dsd_bits.specs.declared.interleaving.Interleaving.{Interleaving}
@@ -10,9 +10,9 @@ use Rattle.form_core.specs.Forms.{HoldsAs}
 use Rattle.sound_core.specs.Outlines.{HoldsIn, around_of, with_sound}
 use Rattle.sound_core.specs.declared.outline.Outline.{Outline}
 use Rattle.sound_core.proofs.HeldLaws.{channels_count, channels_number}
-use Rattle.folder_core.specs.Files.{Files}
+use Rattle.folder_core.specs.Files.{IsReadOf, View}
 use Rattle.info_core.specs.declared.told.Told.{Told}
-use Rattle.transfer_commands.specs.Outlining.{IsOutlined, OutlinesFile, form_in}
+use Rattle.transfer_commands.specs.Outlining.{IsOutlined, OutlinesRead, form_in}
 use Rattle.transfer_commands.specs.Telling.{IsToldOf, IsUntoldOf, TellComesTo, TellsFile}
 use Rattle.transfer_commands.specs.declared.fault.CommandFault.{CommandFault}
 use Rattle.transfer_commands.specs.declared.fault.CommandFault.TheVariants.{Call, ReadFailed, WriteFailed}
@@ -45,17 +45,17 @@ told_by_outline outline file is =
     }
 
 -- a file that was outlined is told
-pub outline_tells : (file_name : List ℕ) (old mid new : Files) (outline : Outline) (told : Told) → mid ≡ old → new ≡ mid → OutlinesFile file_name mid (Some outline) → ((file : List ℕ) → IsOutlined file outline → IsToldOf file told) → TellsFile file_name old new told
+pub outline_tells : (file_name : List ℕ) (old mid new : View) (outline : Outline) (told : Told) → mid ≡ old → new ≡ mid → OutlinesRead file_name mid outline → ((file : List ℕ) → IsOutlined file outline → IsToldOf file told) → TellsFile file_name old new told
 outline_tells file_name old mid new outline told same again found tells = record {
   file = found.file;
-  file_stands = subst (λ (f : Files). f file_name ≡ Some found.file) same found.file_stands;
+  file_read = subst (λ (v : View). IsReadOf v file_name found.file) same found.file_read;
   is_told = tells found.file found.is_outline;
   same = again ∙ same;
 }
 
 -- a file that was read whole comes to what is told of its bytes
-pub whole_told : (file_name : List ℕ) (old new : Files) (file : List ℕ) (r : Result Told CommandFault) → IfOk r (IsToldOf file) → IfErr r (IsUntoldOf file) → new ≡ old → old file_name ≡ Some file → TellComesTo file_name old new r
-whole_told file_name old new file (Ok told) is not same stands = record { file = file; file_stands = stands; is_told = is; same = same }
-whole_told file_name old new file (Err (Call fault)) is not same stands = (same, inr (record { file = file; file_stands = stands; unopened = not }))
-whole_told file_name old new file (Err ReadFailed) is not same stands = absurd not
-whole_told file_name old new file (Err WriteFailed) is not same stands = absurd not
+pub whole_told : (file_name : List ℕ) (old new : View) (file : List ℕ) (r : Result Told CommandFault) → IfOk r (IsToldOf file) → IfErr r (IsUntoldOf file) → new ≡ old → IsReadOf old file_name file → TellComesTo file_name old new r
+whole_told file_name old new file (Ok told) is not same read = record { file = file; file_read = read; is_told = is; same = same }
+whole_told file_name old new file (Err (Call fault)) is not same read = (same, inr (record { file = file; file_read = read; unopened = not }))
+whole_told file_name old new file (Err ReadFailed) is not same read = absurd not
+whole_told file_name old new file (Err WriteFailed) is not same read = absurd not

@@ -1,5 +1,5 @@
 -- What a splice hears of the files of its takes, under their names.
-use Rattle.std.specs.Prelude.{◌≡◌, ℕ, List, Option, Result, Some, None, Vec, length}
+use Rattle.std.specs.Prelude.{◌≡◌, ℕ, List, IsTrue, Option, Result, Some, None, Vec, ⊤, length}
 use Rattle.std.specs.declared.alloc.Global.{Global}
 use Rattle.dsd_bits.specs.Contents.{Content}
 use Rattle.dsd_bits.specs.Shape.{HasShape}
@@ -11,7 +11,7 @@ use Rattle.cut_core.specs.Hearing.{heard_content, heard_of}
 use Rattle.cut_core.specs.Opening.{HearsTake, HearsTakes, take_in, takes_before, takes_of}
 use Rattle.sound_core.specs.Files.{IsRefused}
 use Rattle.transfer_core.specs.Projects.{SaysSplice}
-use Rattle.folder_core.specs.Files.{AreFiles, Files}
+use Rattle.folder_core.specs.Files.{AreReadOf, Gives, IsReadOf, View}
 use Rattle.transfer_commands.specs.Sources.{AreSources}
 
 -- the file holds a recording, the take of a number, and this is what a splice hears of it
@@ -26,26 +26,36 @@ abbrev pub IsHeardIn : SpliceContent → ℕ → List ℕ → Option Heard → T
 IsHeardIn splice number file (Some heard) = HearsHeld splice number file heard
 IsHeardIn splice number file None = IsRefused file
 
--- the same of the file of a name
-pub record StreamsFile (old : Files) (splice : SpliceContent) (number : ℕ) (name : List ℕ) (found : Option Heard) : Type 0 where
-  pub file : List ℕ
-  pub file_stands : old name ≡ Some file
-  pub is_heard : IsHeardIn splice number file found
+-- some bytes hold what was heard
+abbrev pub IsHeardInSome : SpliceContent → ℕ → Option Heard → Type 0
+IsHeardInSome splice number (Some heard) = (file : List ℕ) × HearsHeld splice number file heard
+IsHeardInSome splice number None = ⊤
 
--- this was heard of the file of a name, the take of a number, or is its fault
-pub record HearsFile (old : Files) (splice : SpliceContent) (number : ℕ) (name : List ℕ) (heard : Result Heard CutFault) : Type 0 where
+-- this was heard of bytes that were read of a name, in one pass
+pub record StreamsRead (old : View) (splice : SpliceContent) (number : ℕ) (name : List ℕ) (heard : Heard) : Type 0 where
   pub file : List ℕ
-  pub file_stands : old name ≡ Some file
+  pub file_read : IsReadOf old name file
+  pub is_heard : HearsHeld splice number file heard
+
+-- the same, or nothing: where the folder tells its bytes, an opening of the name gives no recording
+abbrev pub StreamsFile : View → SpliceContent → ℕ → List ℕ → Option Heard → Type 0
+StreamsFile old splice number name (Some heard) = StreamsRead old splice number name heard
+StreamsFile old splice number name None = IsTrue old.is_told → (file : List ℕ) × Gives old name file × IsRefused file
+
+-- this was heard of bytes that were read of a name, the take of a number, or is their fault
+pub record HearsFile (old : View) (splice : SpliceContent) (number : ℕ) (name : List ℕ) (heard : Result Heard CutFault) : Type 0 where
+  pub file : List ℕ
+  pub file_read : IsReadOf old name file
   pub hears : HearsTake splice number heard (take_in number file)
 
--- this was heard of the files of these names, the first takes, or is the first fault of what they hold
-pub record HearsFiles (old : Files) (splice : SpliceContent) (names : List (List ℕ)) (heard : Result (Vec Heard Global) CutFault) : Type 0 where
+-- this was heard of bytes that were read of these names, the first takes, or is the first fault of what they hold
+pub record HearsFiles (old : View) (splice : SpliceContent) (names : List (List ℕ)) (heard : Result (Vec Heard Global) CutFault) : Type 0 where
   pub files : List (List ℕ)
-  pub stand : AreFiles old names files
+  pub read : AreReadOf old names files
   pub hears : HearsTakes splice heard (takes_before files (length files))
 
--- the project says this splice, and this was heard of the files of the takes that it names, or is the first fault of what they hold
-pub record HearsSources (project_name : List ℕ) (old : Files) (splice : SpliceContent) (heard : Result (Vec Heard Global) CutFault) : Type 0 where
+-- a text that was read of the project says this splice, and this was heard of bytes that were read of the takes that it names, or is the first fault of what they hold
+pub record HearsSources (project_name : List ℕ) (old : View) (splice : SpliceContent) (heard : Result (Vec Heard Global) CutFault) : Type 0 where
   pub project : List ℕ
   pub takes : List (List ℕ)
   pub sources : AreSources project_name old project takes

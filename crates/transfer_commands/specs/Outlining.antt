@@ -1,5 +1,5 @@
 -- What is known of a file of a folder without its sound.
-use Rattle.std.specs.Prelude.{◌≡◌, ℕ, List, Option, Some, None, ⊤}
+use Rattle.std.specs.Prelude.{ℕ, List, IsTrue, Option, Some, None, ⊤}
 use Rattle.dsd_bits.specs.declared.blocks.BitOrder.TheVariants.{LeastFirst, MostFirst}
 use Rattle.dsd_bits.specs.declared.interleaving.Interleaving.{Interleaving}
 use Rattle.dsd_bits.specs.declared.interleaving.Interleaving.TheVariants.{Bytes, Blocks}
@@ -9,7 +9,7 @@ use Rattle.sound_core.specs.declared.outline.Outline.{Outline}
 use Rattle.transfer_core.specs.declared.fault.Fault.TheVariants.{Memory}
 use Rattle.form_core.specs.declared.form.Form.{Form}
 use Rattle.form_core.specs.declared.form.Form.TheVariants.{Dsdiff, Dsf, Dsf8}
-use Rattle.folder_core.specs.Files.{Files}
+use Rattle.folder_core.specs.Files.{Gives, IsReadOf, View}
 use Rattle.transfer_commands.specs.declared.fault.CommandFault.{CommandFault}
 use Rattle.transfer_commands.specs.declared.fault.CommandFault.TheVariants.{Call, ReadFailed}
 
@@ -18,16 +18,16 @@ pub record IsOutlined (file : List ℕ) (outline : Outline) : Type 0 where
   pub told : AreTold (around_of outline)
   pub around : AreAround (around_of outline) file
 
--- an outline is that of the file, or there is none and the file holds no recording
-abbrev pub IsOutlineOf : List ℕ → Option Outline → Type 0
-IsOutlineOf file (Some outline) = IsOutlined file outline
-IsOutlineOf file None = IsRefused file
-
--- the same of a file under its name
-pub record OutlinesFile (file_name : List ℕ) (old : Files) (found : Option Outline) : Type 0 where
+-- the outline is that of bytes that were read of a name
+pub record OutlinesRead (file_name : List ℕ) (old : View) (outline : Outline) : Type 0 where
   pub file : List ℕ
-  pub file_stands : old file_name ≡ Some file
-  pub is_outline : IsOutlineOf file found
+  pub file_read : IsReadOf old file_name file
+  pub is_outline : IsOutlined file outline
+
+-- the same, or there is none: where the folder tells its bytes, an opening of the name gives no recording
+abbrev pub OutlinesFile : List ℕ → View → Option Outline → Type 0
+OutlinesFile file_name old (Some outline) = OutlinesRead file_name old outline
+OutlinesFile file_name old None = IsTrue old.is_told → (file : List ℕ) × Gives old file_name file × IsRefused file
 
 -- the form of a file whose sound is interleaved so
 abbrev pub form_in : Interleaving → Form

@@ -1,5 +1,5 @@
--- What is told of a file of a folder that tells its files.
-use Rattle.std.specs.Prelude.{◌≡◌, ℕ, List, Some, ◌⊎◌, Result, Ok, Err}
+-- What is told of a file of a folder.
+use Rattle.std.specs.Prelude.{◌≡◌, ℕ, List, ◌⊎◌, Result, Ok, Err}
 use Rattle.transfer_core.specs.declared.fault.Fault as calls
 use Rattle.transfer_core.specs.declared.fault.Fault.TheVariants.{Memory}
 use Rattle.transfer_core.specs.Faults.{fault_of_file}
@@ -7,7 +7,7 @@ use Rattle.dsd_bits.specs.Contents.{Content}
 use Rattle.form_core.specs.Forms.{HoldsAs}
 use Rattle.form_core.specs.Opening.{Opens, opened_of}
 use Rattle.form_core.specs.declared.fault.ReadFault.{ReadFault}
-use Rattle.folder_core.specs.Files.{Files}
+use Rattle.folder_core.specs.Files.{IsReadOf, View}
 use Rattle.info_core.specs.Tellings.{Tells}
 use Rattle.info_core.specs.declared.told.Told.{Told}
 use Rattle.transfer_commands.specs.declared.fault.CommandFault.{CommandFault}
@@ -19,10 +19,10 @@ pub record IsToldOf (file : List ℕ) (told : Told) : Type 0 where
   pub holds : HoldsAs file told.form recording
   pub tells : Tells told recording
 
--- the file holds what is told, and no file changed
-pub record TellsFile (file_name : List ℕ) (old new : Files) (told : Told) : Type 0 where
+-- bytes that were read of the file hold what is told, and nothing changed
+pub record TellsFile (file_name : List ℕ) (old new : View) (told : Told) : Type 0 where
   pub file : List ℕ
-  pub file_stands : old file_name ≡ Some file
+  pub file_read : IsReadOf old file_name file
   pub is_told : IsToldOf file told
   pub same : new ≡ old
 
@@ -37,14 +37,14 @@ abbrev pub IsUntoldOf : List ℕ → CommandFault → Type 0
 IsUntoldOf file (Call fault) = IsUnopened file fault
 IsUntoldOf file _ = ⊥
 
--- the file is not read as a recording for this fault
-pub record IsUntold (file_name : List ℕ) (old : Files) (fault : calls.Fault) : Type 0 where
+-- bytes that were read of the file are no recording for this fault
+pub record IsUntold (file_name : List ℕ) (old : View) (fault : calls.Fault) : Type 0 where
   pub file : List ℕ
-  pub file_stands : old file_name ≡ Some file
+  pub file_read : IsReadOf old file_name file
   pub unopened : IsUnopened file fault
 
--- the files before and after the file was told of came to this
-abbrev pub TellComesTo : List ℕ → Files → Files → Result Told CommandFault → Type 0
+-- the folder before and after the file was told of came to this
+abbrev pub TellComesTo : List ℕ → View → View → Result Told CommandFault → Type 0
 TellComesTo file old new (Ok told) = TellsFile file old new told
 TellComesTo file old new (Err (Call fault)) = (new ≡ old) × ((fault ≡ Memory) ⊎ IsUntold file old fault)
 TellComesTo file old new (Err ReadFailed) = new ≡ old

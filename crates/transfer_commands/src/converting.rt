@@ -1,11 +1,13 @@
 //! Converting a file of a folder to another.
 
-ghost use Rattle.std.specs.Prelude.{◌≡◌, ◌↔◌, List, ℕ, Some, IfErr, IfOk, IsTrue, OnErr};
+ghost use Rattle.std.specs.Prelude.{◌↔◌, List, ℕ, IfErr, IfOk, IsTrue, OnErr};
+ghost use Rattle.folder_core.specs.Files.{IsReadOf};
 ghost use Rattle.form_core.specs.Parts.{FitsIn};
 ghost use Rattle.sound_core.specs.Outlines.{AreTold, around_of};
+ghost use Rattle.transfer_core.specs.Converting.{Converts};
 ghost use Rattle.transfer_core.specs.Conversions.{ConversionStands, ConvertsFile, ConvertsFront};
 ghost use Rattle.transfer_commands.specs.Converting.{ConvertComesTo};
-ghost use Rattle.transfer_commands.specs.Outlining.{OutlinesFile};
+ghost use Rattle.transfer_commands.specs.Outlining.{OutlinesRead};
 
 use crate::fault::CommandFault;
 use crate::outlining::outline_file;
@@ -22,8 +24,9 @@ use transfer_core::{Fault, convert, convert_stream};
 /// A file of fewer than `most` bytes is read whole and converted in memory, and only then the other file is created. Any
 /// other is opened again and read in one pass, in which its sound isn't held; only where it holds no recording it is
 /// opened a third time and read whole, for the fault to be named. Else it is opened once more, the other file is created,
-/// and the one is converted to the other block by block: after a fault of that the other file may hold a front of
-/// what was due. A file that was changed between its readings is `ReadFailed`.
+/// and the one is converted to the other block by block. After a fault of that the other file may hold a prefix of what
+/// was due, but an old one is kept by a folder that keeps old files. A file that was changed around its sound between
+/// its readings is `ReadFailed`; of its sound the last reading counts.
 pub fn convert_file<F: Folder>(
     alloc: Global,
     folder: &mut F,
@@ -32,8 +35,7 @@ pub fn convert_file<F: Folder>(
     output: &str,
     most: usize,
 ) -> Result<u64, CommandFault>
-    ensures { IsTrue (F.is_told folder.old)
-        → ConvertComesTo form input.now output.now (F.file folder.old) (F.file folder.new) result }
+    ensures { ConvertComesTo form input.now output.now (F.view folder.old) (F.view folder.new) result }
 {
     if let Some(file) = read_short(alloc, folder, input, most)? {
         return convert_whole(alloc, folder, form, &file, output);
@@ -53,8 +55,9 @@ fn convert_whole<F: Folder>(
     file: &[u8],
     output: &str,
 ) -> Result<u64, CommandFault>
-    ensures { IsTrue (F.is_told folder.old) → (input : List ℕ) → F.file folder.old input ≡ Some file.now
-        → ConvertComesTo form input output.now (F.file folder.old) (F.file folder.new) result }
+    // Of whichever name it was read.
+    ensures { (input : List ℕ) → IsReadOf (F.view folder.old) input file.now
+        → ConvertComesTo form input output.now (F.view folder.old) (F.view folder.new) result }
 {
     let converted = convert(alloc, file, form)?;
     write_file(folder, output, &converted.bytes)?;
@@ -72,8 +75,8 @@ fn convert_outlined<F: Folder>(
     output: &str,
 ) -> Result<u64, CommandFault>
     requires told { AreTold (around_of outline.now) }
-    ensures { IsTrue (F.is_told folder.old) → OutlinesFile input.now (F.file folder.old) (Some outline.now)
-        → ConvertComesTo form input.now output.now (F.file folder.old) (F.file folder.new) result }
+    ensures { OutlinesRead input.now (F.view folder.old) outline.now
+        → ConvertComesTo form input.now output.now (F.view folder.old) (F.view folder.new) result }
 {
     held_is_opened();
     written_in_parts();
@@ -113,6 +116,8 @@ fn convert_between<R: Read + Drop, W: Write>(
 ) -> (Result<u64, Fault>, W)
     requires told { AreTold (around_of outline.now) }
     ensures ok { IfOk result.0 (ConvertsFile (R.remaining file) form (W.contents made) (W.contents result.1)) }
+    // The same of some bytes that were read, where the reader doesn't tell its own.
+    ensures any_reader { IfOk result.0 (λ dropped. (read : List ℕ) × (bytes : List ℕ) × Converts read form bytes dropped) }
     ensures front { OnErr result.0 (ConvertsFront (R.remaining file) (around_of outline.now) form (W.contents made)
         (W.contents result.1)) }
     ensures refused { IfErr result.0 (ConversionStands (R.remaining file) (around_of outline.now) form) }

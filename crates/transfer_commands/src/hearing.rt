@@ -1,12 +1,12 @@
 //! What a splice hears of the files of its takes.
 
-ghost use Rattle.std.specs.Prelude.{◌≡◌, ◌<◌, [], ℕ, List, IfErr, IfOk, IfSome, IsTrue, Ok, length, slice_index_or};
+ghost use Rattle.std.specs.Prelude.{◌≡◌, ◌<◌, [], ℕ, List, IfErr, IfOk, IfSome, Ok, length, slice_index_or};
 ghost use Rattle.splice_core.specs.Splices.{SpliceContent, splice_content};
 ghost use Rattle.cut_core.specs.Hearing.{ranges_of};
 ghost use Rattle.cut_core.specs.Opening.{IsOfTake, IsOfTakes};
 ghost use Rattle.sound_core.specs.Keeping.{IsKeptOf, stretches_in};
 ghost use Rattle.sound_core.specs.Outlines.{AreTold, around_of};
-ghost use Rattle.transfer_commands.specs.Hearing.{HearsFile, HearsFiles, HearsHeld, IsHeardIn, StreamsFile};
+ghost use Rattle.transfer_commands.specs.Hearing.{HearsFile, HearsFiles, HearsHeld, IsHeardIn, IsHeardInSome, StreamsFile};
 ghost use Rattle.transfer_commands.specs.Outlining.{IsUnread};
 
 use crate::fault::CommandFault;
@@ -33,10 +33,9 @@ pub(crate) fn hear_files<F: Folder>(
     splice: &Splice,
     most: usize,
 ) -> Result<Result<Vec<Heard>, CutFault>, CommandFault>
-    ensures same { F.file folder.new ≡ F.file folder.old }
-    ensures told { F.is_told folder.new ≡ F.is_told folder.old }
-    ensures heard { IfOk result (λ heard. IsTrue (F.is_told folder.old)
-        → HearsFiles (F.file folder.old) (splice_content splice.now) (splice_content splice.now).takes heard) }
+    ensures same { F.view folder.new ≡ F.view folder.old }
+    ensures heard { IfOk result (HearsFiles (F.view folder.old) (splice_content splice.now)
+        (splice_content splice.now).takes) }
     ensures of { IfOk result (IsOfTakes (splice_content splice.now) (length (splice_content splice.now).takes)) }
     ensures fault { IfErr result IsUnread }
 {
@@ -57,11 +56,9 @@ fn hear_named<F: Folder>(
     most: usize,
 ) -> Result<Result<Heard, CutFault>, CommandFault>
     requires { number < length (splice_content splice.now).takes }
-    ensures same { F.file folder.new ≡ F.file folder.old }
-    ensures told { F.is_told folder.new ≡ F.is_told folder.old }
-    ensures heard { IfOk result (λ heard. IsTrue (F.is_told folder.old)
-        → HearsFile (F.file folder.old) (splice_content splice.now) number
-        (slice_index_or (splice_content splice.now).takes number []) heard) }
+    ensures same { F.view folder.new ≡ F.view folder.old }
+    ensures heard { IfOk result (HearsFile (F.view folder.old) (splice_content splice.now) number
+        (slice_index_or (splice_content splice.now).takes number [])) }
     ensures of { IfOk result (IsOfTake (splice_content splice.now) number) }
     ensures fault { IfErr result IsUnread }
 {
@@ -86,10 +83,8 @@ fn hear_streamed<F: Folder>(
     number: usize,
     name: &str,
 ) -> Result<Option<Heard>, CommandFault>
-    ensures same { F.file folder.new ≡ F.file folder.old }
-    ensures told { F.is_told folder.new ≡ F.is_told folder.old }
-    ensures heard { IfOk result (λ found. IsTrue (F.is_told folder.old)
-        → StreamsFile (F.file folder.old) (splice_content splice.now) number name.now found) }
+    ensures same { F.view folder.new ≡ F.view folder.old }
+    ensures heard { IfOk result (StreamsFile (F.view folder.old) (splice_content splice.now) number name.now) }
     ensures of { IfOk result (λ found. IfSome found (λ heard. IsOfTake (splice_content splice.now) number (Ok heard))) }
     ensures fault { IfErr result IsUnread }
 {
@@ -108,6 +103,8 @@ fn hear_reader<R: Read + Drop>(
 ) -> Result<Option<Heard>, CommandFault>
     ensures heard { IfOk result (λ found. IfSome (R.remaining file) (λ left. IsHeardIn
         (splice_content splice.now) number left found)) }
+    // Some bytes that were read hold what is heard, where the reader doesn't tell its own.
+    ensures any_reader { IfOk result (IsHeardInSome (splice_content splice.now) number) }
     ensures of { IfOk result (λ found. IfSome found (λ heard. IsOfTake (splice_content splice.now) number (Ok heard))) }
     ensures fault { IfErr result IsUnread }
 {

@@ -1,6 +1,6 @@
 //! What a file of a folder holds beside its sound.
 
-ghost use Rattle.std.specs.Prelude.{◌≡◌, IfErr, IfOk, IfSome, IsTrue};
+ghost use Rattle.std.specs.Prelude.{◌≡◌, IfErr, IfOk, IfSome};
 ghost use Rattle.sound_core.specs.Outlines.{AreTold, around_of};
 ghost use Rattle.transfer_commands.specs.Outlining.{IsUnread, OutlinesFile};
 
@@ -22,11 +22,9 @@ pub(crate) fn outline_file<F: Folder>(
     folder: &mut F,
     name: &str,
 ) -> Result<Option<Outline>, CommandFault>
-    ensures same { F.file folder.new ≡ F.file folder.old }
-    ensures told { F.is_told folder.new ≡ F.is_told folder.old }
+    ensures same { F.view folder.new ≡ F.view folder.old }
     ensures around { IfOk result (λ found. IfSome found (λ outline. AreTold (around_of outline))) }
-    ensures found { IfOk result (λ found. IsTrue (F.is_told folder.old)
-        → OutlinesFile name.now (F.file folder.old) found) }
+    ensures found { IfOk result (OutlinesFile name.now (F.view folder.old)) }
     ensures fault { IfErr result IsUnread }
 {
     let Ok(file) = folder.open(name) else {

@@ -1,6 +1,7 @@
 //! Playing a file of a folder to another.
 
-ghost use Rattle.std.specs.Prelude.{IsTrue};
+ghost use Rattle.std.specs.Prelude.{◌≡◌, ℕ, List, [], IsTrue, Some};
+ghost use Rattle.folder_core.specs.Files.{IsGiven};
 ghost use Rattle.transfer_commands.specs.Playing.{PlayComesTo, PlayedComesTo};
 
 use crate::fault::CommandFault;
@@ -10,7 +11,8 @@ use std::alloc::Global;
 use transfer_core::play_stream;
 
 /// Reads the project, opens the recording, creates the WAVE file and plays the one to the other: how many bytes the WAVE
-/// file has. After a fault of the playing the WAVE file is there and may hold a front.
+/// file has. After a fault of the playing the WAVE file may hold a prefix of what was due, but an old one is kept by a folder
+/// that keeps old files.
 pub fn play_file<F: Folder>(
     alloc: Global,
     folder: &mut F,
@@ -18,8 +20,7 @@ pub fn play_file<F: Folder>(
     input: &str,
     output: &str,
 ) -> Result<u64, CommandFault>
-    ensures { IsTrue (F.is_told folder.old)
-        → PlayComesTo project.now input.now output.now (F.file folder.old) (F.file folder.new) result }
+    ensures { PlayComesTo project.now input.now output.now (F.view folder.old) (F.view folder.new) result }
 {
     let project = read_file(alloc, folder, project)?;
     let Ok(file) = folder.open(input) else {
@@ -40,9 +41,9 @@ fn play_to<F: Folder>(
     output: &str,
     wave: F::Out,
 ) -> Result<u64, CommandFault>
-    ensures { IsTrue (F.is_told folder.old)
-        → PlayedComesTo project.now (F.In.remaining file) (F.Out.contents wave) output.now (F.file folder.old)
-        (F.file folder.new) result }
+    ensures { (input : List ℕ) → IsGiven (F.view folder.old) input (F.In.remaining file)
+        → (IsTrue (F.view folder.old).is_told → F.Out.contents wave ≡ Some [])
+        → PlayedComesTo project.now input output.now (F.view folder.old) (F.view folder.new) result }
 {
     let mut inlet = Inlet::new(file);
     let mut outlet = Outlet::new(wave);

@@ -1,6 +1,6 @@
 //! Reading a project and the takes that it names.
 
-ghost use Rattle.std.specs.Prelude.{◌≡◌, IfErr, IfOk, IsTrue, length};
+ghost use Rattle.std.specs.Prelude.{◌≡◌, IfErr, IfOk, length};
 ghost use Rattle.splice_core.specs.Splices.{splice_content};
 ghost use Rattle.cut_core.specs.Opening.{IsOfTakes};
 ghost use Rattle.transfer_commands.specs.Hearing.{HearsSources};
@@ -32,14 +32,12 @@ pub fn hear_sources<F: Folder>(
     project: &str,
     most: usize,
 ) -> Result<Sources, CommandFault>
-    ensures same { F.file folder.new ≡ F.file folder.old }
-    ensures told { F.is_told folder.new ≡ F.is_told folder.old }
-    ensures heard { IfOk result (λ found. IsTrue (F.is_told folder.old)
-        → HearsSources project.now (F.file folder.old) (splice_content found.splice) found.takes) }
+    ensures same { F.view folder.new ≡ F.view folder.old }
+    ensures heard { IfOk result (λ found. HearsSources project.now (F.view folder.old)
+        (splice_content found.splice) found.takes) }
     ensures of { IfOk result (λ found. IsOfTakes (splice_content found.splice)
         (length (splice_content found.splice).takes) found.takes) }
-    ensures fault { IfErr result (λ fault. IsTrue (F.is_told folder.old)
-        → SourcesUnread project.now (F.file folder.old) (F.file folder.new) fault) }
+    ensures fault { IfErr result (SourcesUnread project.now (F.view folder.old) (F.view folder.new)) }
 {
     let project = read_file(alloc, folder, project)?;
     let splice = splice_of(alloc, &project)?;

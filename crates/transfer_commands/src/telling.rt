@@ -1,6 +1,6 @@
 //! Reading a file of a folder to tell of it.
 
-ghost use Rattle.std.specs.Prelude.{◌≡◌, IfErr, IfOk, IsTrue};
+ghost use Rattle.std.specs.Prelude.{◌≡◌, IfErr, IfOk};
 ghost use Rattle.dsd_bits.specs.Channels.{count_of};
 ghost use Rattle.transfer_commands.specs.Outlining as outlining;
 ghost use Rattle.transfer_commands.specs.Outlining.{IsOutlined};
@@ -25,7 +25,7 @@ pub fn open_file<F: Folder>(
     file: &str,
     most: usize,
 ) -> Result<Told, CommandFault>
-    ensures { IsTrue (F.is_told folder.old) → TellComesTo file.now (F.file folder.old) (F.file folder.new) result }
+    ensures { TellComesTo file.now (F.view folder.old) (F.view folder.new) result }
 {
     if let Some(bytes) = read_short(alloc, folder, file, most)? {
         return told_of(alloc, &bytes);

@@ -4,6 +4,5 @@ use Rattle.command_core.proofs.ending.fault_behind.Goals as goal
 pub returns-then-reads_through-2 : goal.returns-then-reads_through-2
 returns-then-reads_through-2 g c = record {
   same = c.reads_through-then-reads_through.ensures.same ∙ c.reads_through.ensures.same;
-  told = c.reads_through-then-reads_through.ensures.told ∙ c.reads_through.ensures.told;
   fault = inr refl;
 }

@@ -4,8 +4,7 @@ use Rattle.command_core.proofs.masters.find_master.Goals as goal
 pub returns-in-Ok : goal.returns-in-Ok
 returns-in-Ok g c = record {
   same = c.open.ensures.same;
-  told = c.open.ensures.told;
-  found = found_there (g.F.Folder.file c.args.folder.now) c.args.cut.now c.args.name.now (g.F.Folder.is_told c.args.folder.now) (g.F.In.Read.remaining c.in-Ok.file) c.in-Ok.ensures.bytes c.find_in.result c.find_in.ensures.found;
+  found = found_there (g.F.Folder.view c.args.folder.now) c.args.cut.now c.args.name.now (g.F.In.Read.remaining c.in-Ok.file) c.in-Ok.ensures.bytes c.find_in.result c.find_in.ensures.found c.find_in.ensures.any_reader;
   of = c.find_in.ensures.of;
   fault = c.find_in.ensures.fault;
 }

@@ -1,16 +1,16 @@
 use Rattle.command_core.proofs.performing.perform.Goals as goal
 
 pub returns-in-Play : goal.returns-in-Play
-returns-in-Play g c = λ told. rw c.in-Play.is (c.play_file.result, c.played.ensures, c.play_file.ensures told)
+returns-in-Play g c = rw c.in-Play.is (c.play_file.result, c.played.ensures, c.play_file.ensures)
 
 pub returns-in-Convert : goal.returns-in-Convert
-returns-in-Convert g c = λ told. rw c.in-Convert.is (c.convert_file.result, c.converted.ensures, c.convert_file.ensures told)
+returns-in-Convert g c = rw c.in-Convert.is (c.convert_file.result, c.converted.ensures, c.convert_file.ensures)
 
 pub returns-in-Edit : goal.returns-in-Edit
-returns-in-Edit g c = λ told. rw c.in-Edit.is (c.edit_files.result, c.edited.ensures, c.edit_files.ensures told)
+returns-in-Edit g c = rw c.in-Edit.is (c.edit_files.result, c.edited.ensures, c.edit_files.ensures)
 
 pub returns-in-Check : goal.returns-in-Check
-returns-in-Check g c = λ told. rw c.in-Check.is (c.check_files.result, c.judged.ensures, c.check_files.ensures told)
+returns-in-Check g c = rw c.in-Check.is (c.check_files.result, c.judged.ensures, c.check_files.ensures)
 
 pub returns-in-Info : goal.returns-in-Info
-returns-in-Info g c = λ told. rw c.in-Info.is (c.open_file.result, c.told.ensures, c.open_file.ensures told)
+returns-in-Info g c = rw c.in-Info.is (c.open_file.result, c.told.ensures, c.open_file.ensures)

@@ -1,34 +1,26 @@
 use Rattle.std.proofs.Common.{◌≡◌, ◌∙◌, [], IsTrue, Some, ap, arith, inl, refl, subst}
-use Rattle.std.specs.Prelude.{OnErr, ◌⊎◌, IsErr}
+use Rattle.std.specs.Prelude.{OnErr, OnOk, ◌⊎◌, IsErr}
 use Rattle.device_core.specs.Outlets.{outlet_writer}
-use Rattle.folder_core.specs.Files.{Files}
-use Rattle.command_core.proofs.WritingLaws.{cert_front, cert_whole}
+use Rattle.folder_core.specs.Files.{HadNone, KeepsOthers, View}
+use Rattle.command_core.proofs.WritingLaws.{cert_front, cert_whole, unchanged}
 use Rattle.command_core.proofs.writing.write_certificate.Goals as goal
-use Rattle.command_core.proofs.writing.write_certificate.Goals.{After-hand_back}
-use Rattle.command_core.proofs.writing.write_certificate.Given.{Over}
-
--- the file was created without bytes
-empty : (g : Over) (c : After-hand_back g) → IsTrue (g.F.Folder.is_told c.args.folder.now) → g.F.Out.Write.contents (outlet_writer c.new.result) ≡ Some []
-empty g c = λ told. ap g.F.Out.Write.contents c.new.ensures.writer ∙ c.in-Ok.ensures.empty told
 
 pub returns : goal.returns
 returns g c =
     let name = c.args.name.now in
     let contents = g.F.Out.Write.contents in
-    let made = contents (outlet_writer c.new.result) in
-    let written = contents (outlet_writer c.write_certificate-came.result.1) in
-    let given = contents c.into_inner.result in
-    let old = g.F.Folder.file c.args.folder.now name in
-    let new = g.F.Folder.file c.hand_back.new.folder name in
-    let none = empty g (goal.at.returns g c).After-hand_back in
-    let left = subst (λ (f : Files). OnErr c.hand_back.result (IsTrue (g.F.Folder.is_told c.create.new.self) → (new ≡ f name) ⊎ (IsErr c.write_certificate-came.result.0 × (new ≡ given)))) c.create.ensures.same c.hand_back.ensures.refused in
+    let a = contents (outlet_writer c.new.result) in
+    let b = contents (outlet_writer c.write_certificate-came.result.1) in
+    let made = contents c.into_inner.result in
+    let old = g.F.Folder.view c.args.folder.now in
+    let new = g.F.Folder.view c.hand_back.new.folder in
+    let same = c.create.ensures.same in
+    let others = subst (λ (v : View). KeepsOthers name v new) same c.hand_back.ensures.others in
+    let empty : IsTrue old.is_told → a ≡ Some [] = λ told. ap contents c.new.ensures.writer ∙ c.in-Ok.ensures.empty told in
     record {
-      others = λ other differs. c.hand_back.ensures.others other differs ∙ ap (λ (f : Files). f other) c.create.ensures.same;
-      told = c.hand_back.ensures.told ∙ c.create.ensures.told;
-      bytes = cert_whole c.args.planned made written given old new (g.F.Folder.is_told c.args.folder.now) (g.F.Folder.is_told c.create.new.self) c.create.ensures.told (ap contents c.into_inner.ensures) none
-          c.hand_back.result c.write_certificate-came.result.0 c.write_certificate-came.ensures.ok c.hand_back.ensures.whole c.hand_back.ensures.bytes;
-      refused = cert_front c.args.planned made written given old new (g.F.Folder.is_told c.args.folder.now) (g.F.Folder.is_told c.create.new.self) c.create.ensures.told (ap contents c.into_inner.ensures) none
-          c.hand_back.result c.write_certificate-came.result.0 c.is_certifiable.ensures c.write_certificate-came.ensures.err left;
+      others = others;
+      bytes = cert_whole name old new others a b made (ap contents c.into_inner.ensures) empty c.args.planned c.hand_back.result c.write_certificate-came.result.0 c.write_certificate-came.ensures.ok c.hand_back.ensures.whole (subst (λ (v : View). OnOk c.hand_back.result (IsTrue v.is_told → new.file name ≡ made)) same c.hand_back.ensures.bytes);
+      refused = cert_front name old new others a b made (ap contents c.into_inner.ensures) empty c.args.planned c.hand_back.result c.write_certificate-came.result.0 c.is_certifiable.ensures c.write_certificate-came.ensures.err (subst (λ (v : View). OnErr c.hand_back.result (IsTrue v.is_told → (new.file name ≡ v.file name) ⊎ (IsErr c.write_certificate-came.result.0 × (new.file name ≡ made) × HadNone name v))) same c.hand_back.ensures.refused);
       fault = c.hand_back.ensures.fault;
     }
 
@@ -39,9 +31,8 @@ pub returns-in_default : goal.returns-in_default
 returns-in_default g c =
     let cert = c.is_certifiable.ensures in
     record {
-      others = λ other differs. ap (λ (f : Files). f other) c.create.ensures.same;
-      told = c.create.ensures.told;
+      others = unchanged c.args.name.now (g.F.Folder.view c.args.folder.now) (g.F.Folder.view c.create.new.self) c.create.ensures.same;
       bytes = tt;
-      refused = λ told. (cert.0, cert.1, inl (ap (λ (f : Files). f c.args.name.now) c.create.ensures.same));
+      refused = (cert.0, cert.1, λ told. inl (ap (λ (v : View). v.file c.args.name.now) c.create.ensures.same));
       fault = refl;
     }

@@ -1,55 +1,62 @@
-use Rattle.std.proofs.Common.{◌∙◌, Err, IsTrue, Some, ap, subst, sym}
+use Rattle.std.proofs.Common.{◌∙◌, Err, ap, subst, sym}
 use Rattle.std.specs.Prelude.{IfSome}
 use Rattle.std.proofs.lemmas.Result.{err_from_is_err_and}
-use Rattle.folder_core.specs.Files.{Files}
-use Rattle.folder_core.specs.ShortFiles.{IsShort}
+use Rattle.folder_core.specs.Files.{IsReadOf, View}
+use Rattle.folder_core.specs.ShortFiles.{IsShortOf}
 use Rattle.sound_core.specs.Outlines.{AreTold, around_of}
 use Rattle.transfer_commands.specs.Converting.{ConvertComesTo}
-use Rattle.transfer_commands.specs.Outlining.{OutlinesFile}
+use Rattle.transfer_commands.specs.Outlining.{OutlinesFile, OutlinesRead}
 use Rattle.transfer_commands.proofs.ConvertLaws.{unconverted}
 use Rattle.transfer_commands.proofs.HearLaws.{unread_of}
+use Rattle.transfer_commands.proofs.ReadLaws.{short_read}
 use Rattle.transfer_commands.proofs.converting.convert_file.Goals as goal
 
 pub returns-in_err-file : goal.returns-in_err-file
-returns-in_err-file g c = λ told.
+returns-in_err-file g c =
+    let view = g.F.Folder.view in
     let e = err_from_is_err_and c.from_residual.result c.from_residual.ensures.1 in
-    subst (ConvertComesTo c.args.form c.args.input.now c.args.output.now (g.F.Folder.file c.args.folder.now) (g.F.Folder.file c.read_short.new.folder)) (sym (e.1 ∙ ap Err e.2)) (unconverted c.args.form c.args.input.now c.args.output.now (g.F.Folder.file c.args.folder.now) (g.F.Folder.file c.read_short.new.folder) _ c.read_short.ensures.same (unread_of c.in_err-file.field-0.0 c.in_err-file.ensures.fault))
+    subst (ConvertComesTo c.args.form c.args.input.now c.args.output.now (view c.args.folder.now) (view c.read_short.new.folder)) (sym (e.1 ∙ ap Err e.2)) (unconverted c.args.form c.args.input.now c.args.output.now (view c.args.folder.now) (view c.read_short.new.folder) _ c.read_short.ensures.same (unread_of c.in_err-file.field-0.0 c.in_err-file.ensures.fault))
 
 pub returns-in-Some : goal.returns-in-Some
-returns-in-Some g c = λ told.
+returns-in-Some g c =
+    let view = g.F.Folder.view in
     let input = c.args.input.now in
     let same = c.read_short.ensures.same in
-    let short = subst (λ o. IsShort c.args.most (g.F.Folder.file c.args.folder.now input) o) c.in-Some.is (c.in_ok-file.ensures.bytes told) in
-    subst (λ (f : Files). ConvertComesTo c.args.form input c.args.output.now f (g.F.Folder.file c.convert_whole.new.folder) c.convert_whole.result) same
-    (c.convert_whole.ensures (subst IsTrue (sym c.read_short.ensures.told) told) input (ap (λ (f : Files). f input) same ∙ short.0 ∙ ap Some (sym c.deref.ensures.value)))
+    let short = short_read c.args.most (view c.args.folder.now) input c.in-Some.file (subst (IsShortOf c.args.most (view c.args.folder.now) input) c.in-Some.is c.in_ok-file.ensures.bytes) in
+    let read = subst (IsReadOf (view c.args.folder.now) input) (sym c.deref.ensures.value) short in
+    subst (λ (v : View). ConvertComesTo c.args.form input c.args.output.now v (view c.convert_whole.new.folder) c.convert_whole.result) same
+    (c.convert_whole.ensures input (subst (λ (v : View). IsReadOf v input c.deref.result.now) (sym same) read))
 
 pub returns-in-Some-2 : goal.returns-in-Some-2
-returns-in-Some-2 g c = λ told.
+returns-in-Some-2 g c =
+    let view = g.F.Folder.view in
     let input = c.args.input.now in
     let output = c.args.output.now in
-    let told_short = subst IsTrue (sym c.read_short.ensures.told) told in
     let same = c.outline_file.ensures.same ∙ c.read_short.ensures.same in
-    let found = subst (λ o. OutlinesFile input (g.F.Folder.file c.read_short.new.folder) o) c.in-Some-2.is (c.in_ok-outline.ensures.found told_short) in
-    subst (λ (f : Files). ConvertComesTo c.args.form input output f (g.F.Folder.file c.convert_outlined.new.folder) c.convert_outlined.result) same
-    (c.convert_outlined.ensures (subst IsTrue (sym c.outline_file.ensures.told) told_short) (subst (λ (f : Files). OutlinesFile input f (Some c.in-Some-2.outline)) (sym c.outline_file.ensures.same) found))
+    let found = subst (OutlinesFile input (view c.read_short.new.folder)) c.in-Some-2.is c.in_ok-outline.ensures.found in
+    subst (λ (v : View). ConvertComesTo c.args.form input output v (view c.convert_outlined.new.folder) c.convert_outlined.result) same
+    (c.convert_outlined.ensures (subst (λ (v : View). OutlinesRead input v c.in-Some-2.outline) (sym c.outline_file.ensures.same) found))
 
 pub returns : goal.returns
-returns g c = λ told.
+returns g c =
+    let view = g.F.Folder.view in
     let input = c.args.input.now in
-    let told_outline = subst IsTrue (sym (c.outline_file.ensures.told ∙ c.read_short.ensures.told)) told in
     let same = c.read_file.ensures.same ∙ c.outline_file.ensures.same ∙ c.read_short.ensures.same in
-    subst (λ (f : Files). ConvertComesTo c.args.form input c.args.output.now f (g.F.Folder.file c.convert_whole-2.new.folder) c.convert_whole-2.result) same
-    (c.convert_whole-2.ensures (subst IsTrue (sym c.read_file.ensures.told) told_outline) input (ap (λ (f : Files). f input) c.read_file.ensures.same ∙ c.in_ok-file-2.ensures.bytes told_outline ∙ ap Some (sym c.deref-2.ensures.value)))
+    let read = subst (λ (v : View). IsReadOf v input c.in_ok-file-2.file.items) (sym c.read_file.ensures.same) c.in_ok-file-2.ensures.bytes in
+    subst (λ (v : View). ConvertComesTo c.args.form input c.args.output.now v (view c.convert_whole-2.new.folder) c.convert_whole-2.result) same
+    (c.convert_whole-2.ensures input (subst (IsReadOf (view c.read_file.new.folder) input) (sym c.deref-2.ensures.value) read))
 
 pub returns-in_err-outline : goal.returns-in_err-outline
-returns-in_err-outline g c = λ told.
+returns-in_err-outline g c =
+    let view = g.F.Folder.view in
     let e = err_from_is_err_and c.from_residual-in_err-outline.result c.from_residual-in_err-outline.ensures.1 in
-    subst (ConvertComesTo c.args.form c.args.input.now c.args.output.now (g.F.Folder.file c.args.folder.now) (g.F.Folder.file c.outline_file.new.folder)) (sym (e.1 ∙ ap Err e.2)) (unconverted c.args.form c.args.input.now c.args.output.now (g.F.Folder.file c.args.folder.now) (g.F.Folder.file c.outline_file.new.folder) c.in_err-outline.field-0.0 (c.outline_file.ensures.same ∙ c.read_short.ensures.same) c.in_err-outline.ensures.fault)
+    subst (ConvertComesTo c.args.form c.args.input.now c.args.output.now (view c.args.folder.now) (view c.outline_file.new.folder)) (sym (e.1 ∙ ap Err e.2)) (unconverted c.args.form c.args.input.now c.args.output.now (view c.args.folder.now) (view c.outline_file.new.folder) c.in_err-outline.field-0.0 (c.outline_file.ensures.same ∙ c.read_short.ensures.same) c.in_err-outline.ensures.fault)
 
 pub returns-in_err-file-2 : goal.returns-in_err-file-2
-returns-in_err-file-2 g c = λ told.
+returns-in_err-file-2 g c =
+    let view = g.F.Folder.view in
     let e = err_from_is_err_and c.from_residual-in_err-file-2.result c.from_residual-in_err-file-2.ensures.1 in
-    subst (ConvertComesTo c.args.form c.args.input.now c.args.output.now (g.F.Folder.file c.args.folder.now) (g.F.Folder.file c.read_file.new.folder)) (sym (e.1 ∙ ap Err e.2)) (unconverted c.args.form c.args.input.now c.args.output.now (g.F.Folder.file c.args.folder.now) (g.F.Folder.file c.read_file.new.folder) _ (c.read_file.ensures.same ∙ c.outline_file.ensures.same ∙ c.read_short.ensures.same) (unread_of c.in_err-file-2.field-0.0 c.in_err-file-2.ensures.fault))
+    subst (ConvertComesTo c.args.form c.args.input.now c.args.output.now (view c.args.folder.now) (view c.read_file.new.folder)) (sym (e.1 ∙ ap Err e.2)) (unconverted c.args.form c.args.input.now c.args.output.now (view c.args.folder.now) (view c.read_file.new.folder) _ (c.read_file.ensures.same ∙ c.outline_file.ensures.same ∙ c.read_short.ensures.same) (unread_of c.in_err-file-2.field-0.0 c.in_err-file-2.ensures.fault))
 
 pub convert_outlined-requires : goal.convert_outlined-requires
 convert_outlined-requires g c = record { told = subst (λ o. IfSome o (λ outline. AreTold (around_of outline))) c.in-Some-2.is c.in_ok-outline.ensures.around }

@@ -1,4 +1,4 @@
-use Rattle.std.proofs.Common.{◌≡◌, ◌<◌, ◌∙◌, [], Err, IsTrue, ap, get_or, length, map, refl, subst, sym, arith}
+use Rattle.std.proofs.Common.{◌≡◌, ◌<◌, ◌∙◌, [], Err, ap, get_or, length, map, refl, subst, sym, arith}
 use Rattle.std.specs.Prelude.{string_bytes}
 use Rattle.std.proofs.lemmas.List.{length-map, take_all}
 use Rattle.std.proofs.lemmas.Result.{err_from_is_err_and}
@@ -6,7 +6,7 @@ use Rattle.dsd_bits.proofs.ExitLaws.{no_value}
 use Rattle.splice_core.specs.Splices.{splice_content}
 use Rattle.cut_core.specs.Hearing.{AreHeard, heard_content}
 use Rattle.cut_core.specs.Opening.{IsOfTakes}
-use Rattle.folder_core.specs.Files.{Files}
+use Rattle.folder_core.specs.Files.{View}
 use Rattle.transfer_commands.specs.Hearing.{HearsFile, HearsFiles}
 use Rattle.transfer_commands.specs.Outlining.{IsUnread}
 use Rattle.transfer_commands.proofs.HearLaws.{err_says, files_more}
@@ -14,7 +14,7 @@ use Rattle.transfer_commands.proofs.hearing.hear_files.Goals as goal
 
 pub loop-number-preserved : goal.loop-number-preserved
 loop-number-preserved g c =
-    let old = g.F.Folder.file c.args.folder.now in
+    let old = g.F.Folder.view c.args.folder.now in
     let splice = splice_content c.args.splice.now in
     let so_far = c.loop-number.invariant in
     let n = c.loop-number.number in
@@ -22,10 +22,7 @@ loop-number-preserved g c =
     let there : n < length splice.takes = omega (arith, c.loop-number-test.true, c.len-number-end.ensures, length-map c.args.splice.now.takes.items string_bytes) in
     record {
       same = c.hear_named.ensures.same ∙ so_far.same;
-      told = c.hear_named.ensures.told ∙ so_far.told;
-      heard = λ told.
-          let one = read.heard (subst IsTrue (sym so_far.told) told) in
-          files_more old splice splice.takes n there c.loop-number.heard c.push_heard-heard.result c.in_ok-next.next (so_far.heard told) (subst (λ (f : Files). HearsFile f splice n (get_or splice.takes n []) c.in_ok-next.next) so_far.same one) (c.push_heard-heard.ensures.heard splice);
+      heard = files_more old splice splice.takes n there c.loop-number.heard c.push_heard-heard.result c.in_ok-next.next so_far.heard (subst (λ (v : View). HearsFile v splice n (get_or splice.takes n []) c.in_ok-next.next) so_far.same read.heard) (c.push_heard-heard.ensures.heard splice);
       of = c.push_heard-heard.ensures.of splice n so_far.of read.of;
     }
 
@@ -34,8 +31,7 @@ loop-number-init g c =
     let none : AreHeard (splice_content c.args.splice.now) [] c.new.result.items = record { shaped = λ i d there. absurd (omega (arith, there)); heard = ap (map heard_content) c.new.ensures.items } in
     record {
       same = refl;
-      told = refl;
-      heard = λ told. record { files = []; stand = refl {a = []}; hears = ([], refl, none) };
+      heard = record { files = []; read = tt; hears = ([], refl, none) };
       of = ([], none, refl);
     }
 
@@ -46,7 +42,6 @@ returns-in_err-next g c =
     let e = err_from_is_err_and r c.from_residual.ensures.1 in
     record {
       same = c.hear_named.ensures.same ∙ so_far.same;
-      told = c.hear_named.ensures.told ∙ so_far.told;
       heard = no_value _ _ r c.from_residual.ensures.1;
       of = no_value _ _ r c.from_residual.ensures.1;
       fault = err_says r _ IsUnread (e.1 ∙ ap Err e.2) (c.in_err-next.ensures.fault);
@@ -60,8 +55,7 @@ returns g c =
     let many : n ≡ length splice.takes = omega (arith, c.loop-number-test.false, c.loop-number.auto.number-end, c.len-number-end.ensures, length-map c.args.splice.now.takes.items string_bytes) in
     record {
       same = so_far.same;
-      told = so_far.told;
-      heard = λ told. subst (λ names. HearsFiles (g.F.Folder.file c.args.folder.now) splice names c.loop-number.heard) (take_all n splice.takes (omega (arith, many))) (so_far.heard told);
+      heard = subst (λ names. HearsFiles (g.F.Folder.view c.args.folder.now) splice names c.loop-number.heard) (take_all n splice.takes (omega (arith, many))) so_far.heard;
       of = subst (λ k. IsOfTakes splice k c.loop-number.heard) many so_far.of;
       fault = tt;
     }

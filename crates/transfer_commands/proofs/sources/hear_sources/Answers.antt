@@ -1,4 +1,4 @@
-use Rattle.std.proofs.Common.{◌∙◌, Err, IsTrue, ap, inr, subst, sym}
+use Rattle.std.proofs.Common.{◌∙◌, Err, ap, inr}
 use Rattle.std.proofs.lemmas.Result.{err_from_is_err_and}
 use Rattle.dsd_bits.proofs.ExitLaws.{no_value}
 use Rattle.splice_core.specs.Splices.{splice_content}
@@ -8,10 +8,9 @@ use Rattle.transfer_commands.proofs.sources.hear_sources.Goals as goal
 pub returns : goal.returns
 returns g c = record {
   same = c.hear_files.ensures.same ∙ c.read_file.ensures.same;
-  told = c.hear_files.ensures.told ∙ c.read_file.ensures.told;
-  heard = λ told.
-      sources_heard c.args.project.now (g.F.Folder.file c.args.folder.now) (g.F.Folder.file c.read_file.new.folder) c.in_ok-project.project.items (splice_content c.in_ok-splice.splice) c.in_ok-takes.takes
-      c.read_file.ensures.same (c.in_ok-project.ensures.bytes told) (rw c.deref.ensures.value at c.in_ok-splice.ensures.found) (c.in_ok-takes.ensures.heard (subst IsTrue (sym c.read_file.ensures.told) told));
+  heard =
+      sources_heard c.args.project.now (g.F.Folder.view c.args.folder.now) (g.F.Folder.view c.read_file.new.folder) c.in_ok-project.project.items (splice_content c.in_ok-splice.splice) c.in_ok-takes.takes
+      c.read_file.ensures.same c.in_ok-project.ensures.bytes (rw c.deref.ensures.value at c.in_ok-splice.ensures.found) c.in_ok-takes.ensures.heard;
   of = c.in_ok-takes.ensures.of;
   fault = tt;
 }
@@ -23,10 +22,9 @@ returns-in_err-project g c =
     let same = c.read_file.ensures.same in
     record {
       same = same;
-      told = c.read_file.ensures.told;
       heard = no_value _ _ r c.from_residual.ensures.1;
       of = no_value _ _ r c.from_residual.ensures.1;
-      fault = err_says r _ _ (p.1 ∙ ap Err p.2) (λ told. unread c.args.project.now (g.F.Folder.file c.args.folder.now) (g.F.Folder.file c.read_file.new.folder) _ same (unread_of c.in_err-project.field-0.0 c.in_err-project.ensures.fault));
+      fault = err_says r _ _ (p.1 ∙ ap Err p.2) (unread c.args.project.now (g.F.Folder.view c.args.folder.now) (g.F.Folder.view c.read_file.new.folder) _ same (unread_of c.in_err-project.field-0.0 c.in_err-project.ensures.fault));
     }
 
 pub returns-in_err-splice : goal.returns-in_err-splice
@@ -36,10 +34,9 @@ returns-in_err-splice g c =
     let same = c.read_file.ensures.same in
     record {
       same = same;
-      told = c.read_file.ensures.told;
       heard = no_value _ _ r c.from_residual-in_err-splice.ensures.1;
       of = no_value _ _ r c.from_residual-in_err-splice.ensures.1;
-      fault = err_says r _ _ (p.1 ∙ ap Err p.2) (λ told. (same, inr (unnamed c.args.project.now (g.F.Folder.file c.args.folder.now) c.in_ok-project.project.items c.in_err-splice.field-0.0 (c.in_ok-project.ensures.bytes told) (rw c.deref.ensures.value at c.in_err-splice.ensures.exact))));
+      fault = err_says r _ _ (p.1 ∙ ap Err p.2) (same, inr (unnamed c.args.project.now (g.F.Folder.view c.args.folder.now) c.in_ok-project.project.items c.in_err-splice.field-0.0 c.in_ok-project.ensures.bytes (rw c.deref.ensures.value at c.in_err-splice.ensures.exact)));
     }
 
 pub returns-in_err-takes : goal.returns-in_err-takes
@@ -49,8 +46,7 @@ returns-in_err-takes g c =
     let same = c.hear_files.ensures.same ∙ c.read_file.ensures.same in
     record {
       same = same;
-      told = c.hear_files.ensures.told ∙ c.read_file.ensures.told;
       heard = no_value _ _ r c.from_residual-in_err-takes.ensures.1;
       of = no_value _ _ r c.from_residual-in_err-takes.ensures.1;
-      fault = err_says r _ _ (p.1 ∙ ap Err p.2) (λ told. unread c.args.project.now (g.F.Folder.file c.args.folder.now) (g.F.Folder.file c.hear_files.new.folder) c.in_err-takes.field-0.0 same c.in_err-takes.ensures.fault);
+      fault = err_says r _ _ (p.1 ∙ ap Err p.2) (unread c.args.project.now (g.F.Folder.view c.args.folder.now) (g.F.Folder.view c.hear_files.new.folder) c.in_err-takes.field-0.0 same c.in_err-takes.ensures.fault);
     }

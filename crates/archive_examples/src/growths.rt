@@ -1,7 +1,7 @@
 //! Each call of whole files, and of what commands do with them, for `tools/growths`, which refuses their growths in turn: what
 //! was refused is handed out as it was answered. The commands themselves it asks of the built program.
 
-ghost use Rattle.std.specs.Prelude.{None, false};
+ghost use Rattle.folder_core.specs.Files.{untold};
 
 use crate::builders::{
     CUES, Sources, commented, file_in, sources_of, splice, stereo_sources, tagged, titled,

@@ -1,6 +1,6 @@
 //! A folder in memory that notes what is asked of it, and fails, changes or is slow where a test says.
 
-ghost use Rattle.std.specs.Prelude.{None, false};
+ghost use Rattle.folder_core.specs.Files.{untold};
 
 use command_core::{Folder, FolderFault, MemoryFolder};
 use std::alloc::Global;

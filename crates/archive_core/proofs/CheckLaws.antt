@@ -145,7 +145,7 @@ module _ (project : List ℕ) (files : List (List ℕ)) (master : List ℕ) (cut
   judged_least (Rejected reason) h = tt
 
   pub judged_joint : (v : Verdict) → AtCost v (IsLeastFile cut master) → IfAccepted (Ok v) (CostsLeast project files master)
-  judged_joint (Accepted cost) h = record { cut = cut; says = says; form = h.form; recording = h.recording; file_holds = h.file_holds; least = h.joint }
+  judged_joint (Accepted cost) h = record { cut = cut; says = says; form = h.form; recording = h.recording; file_holds = h.file_holds; made = h.made; least = h.joint }
   judged_joint (Rejected reason) h = tt
 
   -- the same of a certificate that is read

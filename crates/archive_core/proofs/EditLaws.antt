@@ -101,12 +101,13 @@ module _ (project : List ℕ) (files : List (List ℕ)) (cut : CutContent) (says
     cost_is = is_cost ∙ ap (windows_total cut) (sym sound.same_channels);
   }
 
-  pub file_least : (cost : ℕ) → CostLeast cut r.channels cost → CostsLeast project files file cost
-  file_least cost least = record {
+  pub file_least : AreMasterChannels cut r.channels → (cost : ℕ) → CostLeast cut r.channels cost → CostsLeast project files file cost
+  file_least made cost least = record {
     cut = cut;
     says = says;
     form = form;
     recording = sound.again;
     file_holds = sound.holds;
+    made = subst (AreMasterChannels cut) (sym sound.same_channels) made;
     least = subst (λ (zs : List (List Bool)). CostLeast cut zs cost) (sym sound.same_channels) least;
   }

@@ -1,3 +1,4 @@
+pub mod AcceptedLaws
 pub mod CheckLaws
 pub mod CuttingLaws
 pub mod EditLaws

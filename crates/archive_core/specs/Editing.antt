@@ -44,13 +44,14 @@ pub record CostsWindows (project : List ℕ) (files : List (List ℕ)) (file : L
   pub file_holds : HoldsAs file form recording
   pub cost_is : cost ≡ windows_total cut recording.channels
 
--- of all masters of a project and takes none costs less: the file holds one whose channels, read whole, cost so much, and those of no other cost less
+-- of all masters of a project and takes none costs less: the channels that the file holds are those of one, read whole they cost this much, and those of no other cost less
 pub record CostsLeast (project : List ℕ) (files : List (List ℕ)) (file : List ℕ) (cost : ℕ) : Type 0 where
   pub cut : CutContent
   pub says : SaysCut project files None cut
   pub form : Form
   pub recording : Content
   pub file_holds : HoldsAs file form recording
+  pub made : AreMasterChannels cut recording.channels
   pub least : CostLeast cut recording.channels cost
 
 -- this master and this cost were answered, want of memory aside

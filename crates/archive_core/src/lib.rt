@@ -22,7 +22,8 @@
 //!
 //! Beside `Converts`, `Plays`, `SaysTakes` and `SaysCut` stands a reading in the order of the refusals, to what is
 //! answered or the first fault: `converted_of`, `played_of`, `take_names_of`, `said_cut`. A call gives what its reading
-//! comes to, or is refused as it is, want of memory aside, and the law on [`read_in_order`] joins relation and reading.
+//! comes to, or is refused as it is, want of memory aside, and the law on [`read_in_order`] joins relation and reading. What
+//! follows from `Accepts`, whoever made master and certificate, is the law on [`accepted_is_least`].
 //!
 //! ```text
 //! let converted = convert(alloc, &file, Form::Dsf)?;
@@ -43,7 +44,7 @@ pub use cut_core::CutFault;
 pub use cutting::cut_heard;
 pub use editing::{Edited, edit, edit_heard};
 pub use form_core::{Form, Opened, ReadFault, read_any};
-pub use laws::read_in_order;
+pub use laws::{accepted_is_least, read_in_order};
 pub use master_core::{CuedPlace, Found, Reason, Verdict};
 pub use planning::{PlannedMaster, plan_master};
 pub use sound_core::StreamFault;

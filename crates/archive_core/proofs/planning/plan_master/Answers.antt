@@ -60,7 +60,7 @@ returns-clause-found c = λ project files are.
       accepted = λ cert certifies.
           file_is_accepted project files cut says form recording told.master told.file told.read_again cert total (cert_stands cut c.in_ok-bridges.field-0.bridges told.channels cert told.shows certifies)
           told.cost_is;
-      joint = file_least project files cut says form recording told.master told.file told.read_again total told.joint;
+      joint = file_least project files cut says form recording told.master told.file told.read_again told.whole total told.joint;
       windows = file_costs project files cut says form recording told.master told.file told.read_again total told.windows;
     }
 

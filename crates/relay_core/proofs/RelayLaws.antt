@@ -1,11 +1,13 @@
 -- A file of a known outline, part by part.
-use Rattle.std.proofs.Common.{◌≡◌, ℕ, ◌+◌, ◌%◌, ◌<◌, ◌≤◌, ◌⊎◌, inl, inr, true, false, List, [], ◌++◌, length, take, drop, Option, None, Some, Err, refl, sym, subst, ap, ap₂, ◌∙◌, arith, append_assoc, append-nil, length-append, length-take, length-drop, take-append-drop}
+use Rattle.std.proofs.Common.{◌≡◌, ℕ, ◌+◌, ◌%◌, ◌^◌, ◌<◌, ◌≤◌, ◌⊎◌, inl, inr, true, false, List, [], ◌++◌, length, take, drop, Option, None, Some, Err, refl, sym, subst, ap, ap₂, ◌∙◌, arith, append_assoc, append-nil, length-append, length-take, length-drop, take-append-drop}
 use Rattle.std.proofs.lemmas.List.{append_cancel_left, nil_from_length}
 use Rattle.std.specs.Io.KnownBytes.{Appends, Consumes, IsAtEnd}
 use Rattle.std.proofs.KnownBytes.{Appends-nil, Appends-trans, Consumes-nil, Consumes-trans}
+use Rattle.std.specs.Io.Iter.{u64_saturate}
+use Rattle.device_core.specs.Inlets.{inlet_given, inlet_reader}
 use Rattle.device_core.specs.Outlets.{AppendsFront}
+use Rattle.device_core.specs.declared.inlet.Inlet.{Inlet}
 use Rattle.dsd_bits.specs.declared.interleaving.Interleaving.{Interleaving}
-use Rattle.dsd_bits.specs.declared.interleaving.Interleaving.TheVariants.{Bytes, Blocks}
 use Rattle.dsd_bits.specs.declared.sound.Sound.{Sound}
 use Rattle.dsd_bits.specs.Sounds.{IsSound, sound_size}
 use Rattle.relace_core.proofs.GroupLaws.{size_on}
@@ -15,6 +17,7 @@ use Rattle.sound_core.specs.Outlines.{StandsIn, Surroundings}
 use Rattle.sound_core.specs.declared.fault.StreamFault.{StreamFault}
 use Rattle.sound_core.specs.declared.fault.StreamFault.TheVariants.{FileRefused, RateNotDivided, TooLarge, ReadFailed, WriteFailed, TurnLimit, Memory}
 use Rattle.sound_core.proofs.FaultLaws.{by_writing}
+use Rattle.sound_core.proofs.KeeperLaws.{no_size}
 use Rattle.relay_core.specs.Comparing.{ConsumesMany, IsExpectFault, IsFillFault, IsMoreFault, IsRefusal}
 use Rattle.relay_core.specs.Relays.{IsPartFault, IsRelayFault, IsRestFault, PartFront, PassesRest, Relays, RelaysFront, RelaysGiven, RelaysPart, relaced_sound, relayed}
 use Rattle.relay_core.specs.declared.relaying.Target.{Target}
@@ -41,23 +44,23 @@ stretch_front s to bits (Some xs) new a b read consumed long out = λ part rest 
     let ys = left_is (Some xs) new read xs consumed refl in
     subst (λ zs. AppendsFront a b (relaced s.interleaving to s.channels bits zs)) (same_front read part ys.0 rest (sym ys.2 ∙ is) (long ∙ sym size)) out
 
+-- nothing of a sound counts nothing
+pub none_given : (s : Sound) (given n : ℕ) → given < 2 ^ 64 → n ≡ 0 → given ≡ u64_saturate (given + sound_size s.interleaving s.channels n)
+none_given s given n fits none = omega (arith, ap (sound_size s.interleaving s.channels) none, no_size s.interleaving s.channels)
+
 -- nothing of a sound is nothing of another
 pub part_none : (law : GroupsJoin) (s : Sound) (to : Interleaving) (left a : Option (List ℕ)) → RelaysPart left left s to 0 a a
 part_none law s to left a = record {
   part = [];
   consumed = Consumes-nil left;
-  long = sym (none s.interleaving);
+  long = sym (no_size s.interleaving s.channels);
   written = subst (Appends a a) (sym nothing) (Appends-nil a);
 }
   where
-    none : (interleaving : Interleaving) → sound_size interleaving s.channels 0 ≡ 0
-    none Bytes = omega arith
-    none (Blocks order) = omega arith
-
     nothing : relaced s.interleaving to s.channels 0 [] ≡ []
     nothing =
         let made = relaced s.interleaving to s.channels 0 [] in
-        let twice : made ≡ made ++ made = law s.interleaving to s.channels 0 0 [] [] refl (sym (none s.interleaving)) (sym (none s.interleaving)) in
+        let twice : made ≡ made ++ made = law s.interleaving to s.channels 0 0 [] [] refl (sym (no_size s.interleaving s.channels)) (sym (no_size s.interleaving s.channels)) in
         nil_from_length made (omega (arith, ap length twice, length-append made made))
 
 module _ (law : GroupsJoin) (s : Sound) (to : Interleaving) (left now a b : Option (List ℕ)) (done : ℕ) (so_far : RelaysPart left now s to done a b) (whole : done % 32768 ≡ 0) where
@@ -138,6 +141,10 @@ module _ (law : GroupsJoin) (s : Sound) (to : Interleaving) (left now a b : Opti
   part_fault bits rest TurnLimit last h = absurd h
   part_fault bits rest Memory last h = tt
 
+-- what one stretch more counted
+pub given_on : (a b c m n k : ℕ) → b ≡ u64_saturate (a + m) → c ≡ u64_saturate (b + n) → k ≡ m + n → c ≡ u64_saturate (a + k)
+given_on a b c m n k p q sum = omega (arith, p, q, sum)
+
 -- ---- behind the sound
 module _ (o : Surroundings) (left : Option (List ℕ)) where
   pub gap_fault : (f : StreamFault) → IsFillFault left o.gap f → IsRestFault left o f
@@ -190,6 +197,10 @@ module _ (o : Surroundings) (left : Option (List ℕ)) where
       }
 
 -- ---- the whole file
+-- what three readings counted, one after the other
+counted : (a b c d m n k : ℕ) → b ≡ u64_saturate (a + m) → c ≡ u64_saturate (b + n) → d ≡ u64_saturate (c + k) → d ≡ u64_saturate (a + (m + (n + k)))
+counted a b c d m n k p q r = omega (arith, p, q, r)
+
 module _ (t : Target) (o : Surroundings) (sized : IsSound o.sound) (l0 a0 : Option (List ℕ)) where
   abbrev others : List ℕ → List ℕ
   others sound = relaced_sound o.sound t.interleaving sound
@@ -293,23 +304,28 @@ module _ (t : Target) (o : Surroundings) (sized : IsSound o.sound) (l0 a0 : Opti
           long : length played.part ≡ o.sound.size
           long = played.long ∙ sym sized.size
 
-          pub relays_given : RelaysGiven l0 l3 t o a0 a3
-          relays_given =
-              let behind = rest.gap ++ o.back in
-              let file = o.head ++ (played.part ++ behind) in (
-                file,
-                played.part,
-                Consumes-trans l0 l1 l3 o.head (played.part ++ behind) head_in (Consumes-trans l1 l2 l3 played.part behind played.consumed rest.consumed),
-                record {
-                  gap = rest.gap;
-                  rest = [];
-                  file_is = ap (λ zs. o.head ++ (played.part ++ (rest.gap ++ zs))) (sym (append-nil o.back));
-                  sound_long = long;
-                  gap_long = rest.long;
-                  ended = λ _. refl;
-                },
-                written,
-              )
+          module _ {R : Type 0} (left : R → Option (List ℕ)) (i j : Inlet R) (old : left (inlet_reader i) ≡ l0) (new : left (inlet_reader j) ≡ l3) where
+            pub relays_given : (g1 g2 : ℕ) → g1 ≡ u64_saturate (inlet_given i + length o.head) → g2 ≡ u64_saturate (g1 + sound_size o.sound.interleaving o.sound.channels o.sound.count) → inlet_given j ≡ u64_saturate (g2 + (o.gap + length o.back)) → RelaysGiven left i j t o a0 a3
+            relays_given g1 g2 first second third =
+                let behind = rest.gap ++ o.back in
+                let file = o.head ++ (played.part ++ behind) in
+                let all : length file ≡ length o.head + (length played.part + (o.gap + length o.back)) = omega (arith, length-append o.head (played.part ++ behind), length-append played.part behind, length-append rest.gap o.back, rest.long) in (
+                  file,
+                  played.part,
+                  record {
+                    consumed = rw (old, new) (Consumes-trans l0 l1 l3 o.head (played.part ++ behind) head_in (Consumes-trans l1 l2 l3 played.part behind played.consumed rest.consumed));
+                    given = rw (all, played.long) (counted _ g1 g2 _ _ _ _ first second third);
+                  },
+                  record {
+                    gap = rest.gap;
+                    rest = [];
+                    file_is = ap (λ zs. o.head ++ (played.part ++ (rest.gap ++ zs))) (sym (append-nil o.back));
+                    sound_long = long;
+                    gap_long = rest.long;
+                    ended = λ _. refl;
+                  },
+                  written,
+                )
 
           pub relays : Relays l0 t o a0 a3
           relays = by l0 refl

@@ -2,12 +2,14 @@
 use Rattle.std.specs.Prelude.{◌≡◌, ◌⊎◌, ℕ, ◌%◌, ◌<◌, ◌≤◌, true, List, [], ◌++◌, length, Option, IfSome, ⊤}
 use Rattle.std.specs.Io.KnownBytes.{Appends, Consumes, IsAtEnd}
 use Rattle.device_core.specs.Outlets.{AppendsFront}
+use Rattle.device_core.specs.declared.inlet.Inlet.{Inlet}
 use Rattle.dsd_bits.specs.declared.interleaving.Interleaving.{Interleaving}
 use Rattle.dsd_bits.specs.declared.interleaving.Interleaving.TheVariants.{Bytes}
 use Rattle.dsd_bits.specs.declared.sound.Sound.{Sound}
 use Rattle.dsd_bits.specs.Sounds.{IsSound, sound_size}
 use Rattle.relace_core.specs.Relacing.{relaced}
 use Rattle.sound_core.specs.Outlines.{AreAround, StandsIn, Surroundings}
+use Rattle.sound_core.specs.Reads.{ReadsCapped}
 use Rattle.sound_core.specs.declared.fault.StreamFault.{StreamFault}
 use Rattle.sound_core.specs.declared.fault.StreamFault.TheVariants.{FileRefused, ReadFailed, WriteFailed, Memory}
 use Rattle.relay_core.specs.Comparing.{IsRefusal}
@@ -27,9 +29,9 @@ relayed target s sound = target.head.now ++ (relaced_sound s target.interleaving
 abbrev pub Relays : Option (List ℕ) → Target → Surroundings → Option (List ℕ) → Option (List ℕ) → Type 0
 Relays left target o held_old held_new = IfSome left (λ file. (sound : List ℕ) × StandsIn o file sound × Appends held_old held_new (relayed target o.sound sound))
 
--- a reader that does not tell its bytes gave some, which are some sound in the outline, and what is made of that sound was written
-abbrev pub RelaysGiven : Option (List ℕ) → Option (List ℕ) → Target → Surroundings → Option (List ℕ) → Option (List ℕ) → Type 0
-RelaysGiven left_old left_new target o held_old held_new = (read : List ℕ) × (sound : List ℕ) × Consumes left_old left_new read × StandsIn o read sound × Appends held_old held_new (relayed target o.sound sound)
+-- a reader that does not tell its bytes gave some, as many as were counted, which are some sound in the outline, and what is made of that sound was written
+abbrev pub RelaysGiven : {R : Type 0} → (R → Option (List ℕ)) → Inlet R → Inlet R → Target → Surroundings → Option (List ℕ) → Option (List ℕ) → Type 0
+RelaysGiven left old new target o held_old held_new = (read : List ℕ) × (sound : List ℕ) × ReadsCapped left old new read × StandsIn o read sound × Appends held_old held_new (relayed target o.sound sound)
 
 -- whatever sound in the outline the file is, a front of what is made of it was written
 abbrev pub RelaysFront : Option (List ℕ) → Target → Surroundings → Option (List ℕ) → Option (List ℕ) → Type 0

@@ -2,7 +2,8 @@
 
 ghost use Rattle.std.specs.Prelude.{◌≡◌, ◌+◌, ◌-◌, ◌<◌, ◌≤◌, ◌^◌, [], IfErr, OnOk, length, take};
 ghost use Rattle.std.specs.Io.KnownBytes.{Consumes, IsAtEnd};
-ghost use Rattle.device_core.specs.Inlets.{inlet_failures, inlet_reader};
+ghost use Rattle.std.specs.Io.Iter.{u64_saturate};
+ghost use Rattle.device_core.specs.Inlets.{inlet_failures, inlet_given, inlet_reader};
 ghost use Rattle.sound_core.specs.Faults.{failed_reads};
 ghost use Rattle.relay_core.specs.Comparing.{ConsumesMany, IsExpectFault, IsFillFault, IsMoreFault};
 
@@ -26,6 +27,7 @@ pub(crate) fn fill<R: Read>(
     ensures size { length block.new.items ≡ length block.old.items }
     ensures read { OnOk result (Consumes (R.remaining (inlet_reader inlet.old)) (R.remaining (inlet_reader inlet.new))
         (take size block.new.items)) }
+    ensures given { OnOk result (inlet_given inlet.new ≡ u64_saturate (inlet_given inlet.old + size)) }
     ensures failures { inlet_failures inlet.new ≡ inlet_failures inlet.old + failed_reads result }
     ensures fault { IfErr result (IsFillFault (R.remaining (inlet_reader inlet.old)) size) }
 {
@@ -50,9 +52,12 @@ pub(crate) fn expect<R: Read>(
     ensures size { length block.new.items ≡ 65536 }
     ensures read { OnOk result (Consumes (R.remaining (inlet_reader inlet.old))
         (R.remaining (inlet_reader inlet.new)) bytes.now) }
+    ensures given { OnOk result (inlet_given inlet.new ≡ u64_saturate (inlet_given inlet.old + length bytes.now)) }
     ensures failures { inlet_failures inlet.new ≡ inlet_failures inlet.old + failed_reads result }
     ensures fault { IfErr result (IsExpectFault (R.remaining (inlet_reader inlet.old)) bytes.now) }
 {
+    // Read, so that the count is known to fit its type.
+    let _fits = inlet.given();
     let mut left = bytes;
     while !left.is_empty() {
         let (part, rest) = left.split_at(left.len().min(BLOCK));
@@ -74,6 +79,7 @@ fn expect_part<R: Read>(
     ensures size { length block.new.items ≡ 65536 }
     ensures read { OnOk result (Consumes (R.remaining (inlet_reader inlet.old))
         (R.remaining (inlet_reader inlet.new)) part.now) }
+    ensures given { OnOk result (inlet_given inlet.new ≡ u64_saturate (inlet_given inlet.old + length part.now)) }
     ensures failures { inlet_failures inlet.new ≡ inlet_failures inlet.old + failed_reads result }
     ensures fault { IfErr result (IsExpectFault (R.remaining (inlet_reader inlet.old)) part.now) }
 {
@@ -98,9 +104,12 @@ pub(crate) fn pass<R: Read>(
     ensures size { length block.new.items ≡ 65536 }
     ensures read { OnOk result (ConsumesMany (R.remaining (inlet_reader inlet.old))
         (R.remaining (inlet_reader inlet.new)) wanted) }
+    ensures given { OnOk result (inlet_given inlet.new ≡ u64_saturate (inlet_given inlet.old + wanted)) }
     ensures failures { inlet_failures inlet.new ≡ inlet_failures inlet.old + failed_reads result }
     ensures fault { IfErr result (IsFillFault (R.remaining (inlet_reader inlet.old)) wanted) }
 {
+    // Read, so that the count is known to fit its type.
+    let _fits = inlet.given();
     let mut left = wanted;
     while left > 0 {
         let size = left.min(BLOCK as u64);
@@ -121,6 +130,7 @@ pub(crate) fn expect_end<R: Read>(
     requires size { length block.old.items ≡ 65536 }
     ensures read { OnOk result (Consumes (R.remaining (inlet_reader inlet.old))
         (R.remaining (inlet_reader inlet.new)) [] × IsAtEnd (R.remaining (inlet_reader inlet.new))) }
+    ensures given { OnOk result (inlet_given inlet.new ≡ u64_saturate (inlet_given inlet.old + 0)) }
     ensures failures { inlet_failures inlet.new ≡ inlet_failures inlet.old + failed_reads result }
     ensures fault { IfErr result (IsMoreFault (R.remaining (inlet_reader inlet.old))) }
 {

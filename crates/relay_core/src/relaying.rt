@@ -1,8 +1,10 @@
 //! A file of a known outline, its sound handed on in another interleaving.
 
 ghost use Rattle.std.specs.Prelude.{◌≡◌, ◌+◌, ◌*◌, ◌/◌, ◌%◌, ◌-◌, ◌<◌, ◌≤◌, ◌^◌, ◌++◌, IfErr, IfOk, OnErr, OnOk, length};
-ghost use Rattle.device_core.specs.Inlets.{inlet_failures, inlet_reader};
+ghost use Rattle.std.specs.Io.Iter.{u64_saturate};
+ghost use Rattle.device_core.specs.Inlets.{inlet_failures, inlet_given, inlet_reader};
 ghost use Rattle.device_core.specs.Outlets.{outlet_failures, outlet_writer};
+ghost use Rattle.dsd_bits.specs.Sounds.{sound_size};
 ghost use Rattle.sound_core.specs.Faults.{failed_reads, failed_writes};
 ghost use Rattle.sound_core.specs.Outlines.{AreTold, around_of};
 ghost use Rattle.relay_core.specs.Relays.{IsPart, IsPartFault, IsRelacing, IsRelayFault, IsRestFault, PartFront, PassesRest, Relays, RelaysFront, RelaysGiven, RelaysPart};
@@ -52,9 +54,8 @@ pub fn relay<R: Read, W: Write>(
     // The reader's file is some sound in the outline, and what is made of it was written.
     ensures ok { OnOk result (Relays (R.remaining (inlet_reader inlet.old)) target.now (around_of outline.now)
         (W.contents (outlet_writer outlet.old)) (W.contents (outlet_writer outlet.new))) }
-    // The same of what was read, where the reader doesn't tell its bytes.
-    ensures any_reader { OnOk result (RelaysGiven (R.remaining (inlet_reader inlet.old))
-        (R.remaining (inlet_reader inlet.new)) target.now (around_of outline.now)
+    // The same of what was read, as many bytes as were counted, where the reader doesn't tell its bytes.
+    ensures any_reader { OnOk result (RelaysGiven R.remaining inlet.old inlet.new target.now (around_of outline.now)
         (W.contents (outlet_writer outlet.old)) (W.contents (outlet_writer outlet.new))) }
     ensures front { OnErr result (RelaysFront (R.remaining (inlet_reader inlet.old)) target.now (around_of outline.now)
         (W.contents (outlet_writer outlet.old)) (W.contents (outlet_writer outlet.new))) }
@@ -101,6 +102,8 @@ fn expect_rest<R: Read>(
     requires size { length block.old.items ≡ 65536 }
     ensures ok { OnOk result (PassesRest (R.remaining (inlet_reader inlet.old)) (R.remaining (inlet_reader inlet.new))
         (around_of outline.now)) }
+    ensures given { OnOk result (inlet_given inlet.new
+        ≡ u64_saturate (inlet_given inlet.old + (outline.now.gap + length outline.now.back.items))) }
     ensures fault { IfErr result (IsRestFault (R.remaining (inlet_reader inlet.old)) (around_of outline.now)) }
     ensures failures { inlet_failures inlet.new ≡ inlet_failures inlet.old + failed_reads result }
 {
@@ -128,6 +131,8 @@ fn relay_sound<R: Read, W: Write>(
     ensures ok { OnOk result (RelaysPart (R.remaining (inlet_reader inlet.old))
         (R.remaining (inlet_reader inlet.new)) relacing.now.sound relacing.now.to relacing.now.sound.count
         (W.contents (outlet_writer outlet.old)) (W.contents (outlet_writer outlet.new))) }
+    ensures given { OnOk result (inlet_given inlet.new ≡ u64_saturate (inlet_given inlet.old
+        + sound_size relacing.now.sound.interleaving relacing.now.sound.channels relacing.now.sound.count)) }
     ensures front { OnErr result (PartFront (R.remaining (inlet_reader inlet.old)) relacing.now.sound relacing.now.to
         relacing.now.sound.count (W.contents (outlet_writer outlet.old)) (W.contents (outlet_writer outlet.new))) }
     ensures fault { IfErr result (IsPartFault
@@ -136,6 +141,8 @@ fn relay_sound<R: Read, W: Write>(
     ensures write_failed { outlet_failures outlet.new ≡ outlet_failures outlet.old + failed_writes result }
 {
     groups_join();
+    // Read, so that the count is known to fit its type.
+    let _fits = inlet.given();
     let most = stretch_bits(relacing.sound.channels);
     let mut left = relacing.sound.count;
     while left > 0 {
@@ -166,6 +173,8 @@ fn relay_part<R: Read, W: Write>(
     ensures ok { OnOk result (RelaysPart (R.remaining (inlet_reader inlet.old))
         (R.remaining (inlet_reader inlet.new)) part.relacing.sound part.relacing.to part.bits
         (W.contents (outlet_writer outlet.old)) (W.contents (outlet_writer outlet.new))) }
+    ensures given { OnOk result (inlet_given inlet.new ≡ u64_saturate (inlet_given inlet.old
+        + sound_size part.relacing.sound.interleaving part.relacing.sound.channels part.bits)) }
     ensures front { OnErr result (PartFront (R.remaining (inlet_reader inlet.old)) part.relacing.sound part.relacing.to
         part.bits (W.contents (outlet_writer outlet.old)) (W.contents (outlet_writer outlet.new))) }
     ensures fault { IfErr result (IsPartFault (R.remaining (inlet_reader inlet.old)) part.relacing.sound part.bits) }

@@ -23,7 +23,7 @@ use Rattle.dsf_core.specs.Fronts as dsf
 use Rattle.dsf_core.proofs.FrontLaws.{found_leads}
 use Rattle.sound_core.specs.Closing.{EndsAt}
 use Rattle.sound_core.specs.Files.{HoldsRecording, IsRefused, TellsSound}
-use Rattle.sound_core.specs.Outlines.{AreAround, AreTold, HoldsIn, IsOutlineFault, IsRestFault, IsTagFault, ReadsTag, StandsIn, Surroundings, Surrounds, SurroundsFile, with_sound}
+use Rattle.sound_core.specs.Outlines.{AreAround, AreTold, HoldsIn, IsOutlineFault, IsRestFault, IsTagFault, ReadsTag, StandsIn, Surroundings, Surrounds, SurroundsFile, SurroundsGiven, with_sound}
 use Rattle.sound_core.specs.Readers.{IsPassFault, Passes}
 use Rattle.sound_core.specs.Reads.{Reads}
 use Rattle.sound_core.specs.declared.fault.StreamFault.{StreamFault}
@@ -322,6 +322,9 @@ module _ {R : Type 0} (left : R → Option (List ℕ)) (i j : Inlet R) (front he
         reads_on left i j l front (passes.read ++ surrounds.read) reads (reads_on left j k l passes.read surrounds.read passes.reads surrounds.reads),
         subst (λ f. StandsIn o f passes.passed) (ap (λ xs. xs ++ (passes.passed ++ (back ++ surrounds.read))) own_head ∙ sym (read_is surrounds.read)) (surrounds.given passes.passed long),
       )
+
+      pub surrounds_given : SurroundsGiven left i l o
+      surrounds_given = (front ++ (passes.read ++ surrounds.read), given_stands.0, (passes.passed, given_stands.1))
 
       -- and so is the file
       pub file_stands : (xs : List ℕ) → left (inlet_reader i) ≡ Some xs → StandsIn o xs passes.passed

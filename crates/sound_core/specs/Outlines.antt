@@ -113,6 +113,10 @@ IsRestFault left_old s head back _ = ⊥
 abbrev pub SurroundsFile : Option (List ℕ) → Surroundings → Type 0
 SurroundsFile left_old o = AreTold o × IfSome left_old (AreAround o)
 
+-- a reader that does not tell its bytes gave some, as many as were counted, which are some sound in the surroundings
+abbrev pub SurroundsGiven : {R : Type 0} → (R → Option (List ℕ)) → Inlet R → Inlet R → Surroundings → Type 0
+SurroundsGiven left old new o = (read : List ℕ) × Reads left old new read × AreAround o read
+
 -- a fault of this: the file holds no recording, or one of reading
 abbrev pub IsOutlineFault : Option (List ℕ) → StreamFault → Type 0
 IsOutlineFault left_old FileRefused = IfSome left_old IsRefused

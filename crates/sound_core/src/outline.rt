@@ -5,7 +5,7 @@ ghost use Rattle.device_core.specs.Inlets.{inlet_failures, inlet_given, inlet_re
 ghost use Rattle.dsd_bits.specs.Sounds.{IsSound, has_blocks};
 ghost use Rattle.sound_core.specs.Closing.{EndsAt};
 ghost use Rattle.sound_core.specs.Faults.{failed_reads};
-ghost use Rattle.sound_core.specs.Outlines.{IsOutlineFault, IsRestFault, IsTagFault, ReadsTag, Surrounds, SurroundsFile, around_of, with_ends};
+ghost use Rattle.sound_core.specs.Outlines.{IsOutlineFault, IsRestFault, IsTagFault, ReadsTag, Surrounds, SurroundsFile, SurroundsGiven, around_of, with_ends};
 ghost use Rattle.sound_core.specs.Readers.{Counts, IsAtStart, IsReading, IsSame};
 
 use crate::fault::StreamFault;
@@ -49,6 +49,8 @@ pub fn read_outline<R: Read>(alloc: Global, inlet: &mut Inlet<R>) -> Result<Outl
     requires given_low { inlet_given inlet.old < 2 ^ 63 }
     // The reader's file is some sound in the outline, and every such file holds what the outline tells.
     ensures ok { IfOk result (λ o. SurroundsFile (R.remaining (inlet_reader inlet.old)) (around_of o)) }
+    // The same of what was read, as many bytes as were counted, where the reader doesn't tell its bytes.
+    ensures any_reader { IfOk result (λ o. SurroundsGiven R.remaining inlet.old inlet.new (around_of o)) }
     ensures fault { IfErr result (IsOutlineFault (R.remaining (inlet_reader inlet.old))) }
     ensures read_failed { inlet_failures inlet.new ≡ inlet_failures inlet.old + failed_reads result }
     // Whatever is answered, there were at most 2^40 reads.
@@ -68,6 +70,8 @@ fn outline_of<R: Read>(
     requires { IsAtStart reader.old }
     ensures same { IsSame reader.old reader.new }
     ensures ok { IfOk result (λ o. SurroundsFile (R.remaining (inlet_reader reader.old.inlet.now)) (around_of o)) }
+    ensures any_reader { IfOk result (λ o. SurroundsGiven
+        R.remaining reader.old.inlet.now reader.new.inlet.now (around_of o)) }
     ensures counts { Counts reader.old reader.new result }
     ensures fault { IfErr result (IsOutlineFault (R.remaining (inlet_reader reader.old.inlet.now))) }
 {

@@ -3,6 +3,7 @@ use Rattle.std.proofs.Common.{◌≡◌, ℕ, ◌%◌, ◌≤◌, List, [], ◌+
 use Rattle.std.proofs.lemmas.List.{length-replicate}
 use Rattle.std.proofs.lemmas.List.FromFn.{length-map-range_with_len}
 use Rattle.device_core.specs.Outlets.{AppendsFront}
+use Rattle.device_core.specs.declared.inlet.Inlet.{Inlet}
 use Rattle.dsd_bits.specs.declared.interleaving.Interleaving.{Interleaving}
 use Rattle.dsd_bits.specs.declared.interleaving.Interleaving.TheVariants.{Bytes, Blocks}
 use Rattle.dsd_bits.specs.Blocks.{unblocked}
@@ -96,8 +97,8 @@ module _ (laws : WrittenInParts) (o : Surroundings) (told : AreTold o) (form : F
   converts_file None a b h = tt
   converts_file (Some file) a b h = (relayed target o.sound h.0, converts file h.0 h.1, h.2)
 
-  pub converts_given : (left_old left_new a b : Option (List ℕ)) → RelaysGiven left_old left_new target o a b → ConvertsGiven left_old left_new form a b (dropped_in form o.recording)
-  converts_given left_old left_new a b h = (h.0, relayed target o.sound h.1, h.2, converts h.0 h.1 h.3, h.4)
+  pub converts_given : {R : Type 0} (left : R → Option (List ℕ)) (i j : Inlet R) (a b : Option (List ℕ)) → RelaysGiven left i j target o a b → ConvertsGiven left i j form a b (dropped_in form o.recording)
+  converts_given left i j a b h = (h.0, relayed target o.sound h.1, h.2, converts h.0 h.1 h.3, h.4)
 
   pub converts_front : (left a b : Option (List ℕ)) → RelaysFront left target o a b → ConvertsFront left o form a b
   converts_front None a b h = tt

@@ -1,8 +1,10 @@
 -- What is converted from a reader to a writer, and which faults stand.
 use Rattle.std.specs.Prelude.{ℕ, List, Option, IfSome}
-use Rattle.std.specs.Io.KnownBytes.{Appends, Consumes}
+use Rattle.std.specs.Io.KnownBytes.{Appends}
 use Rattle.device_core.specs.Outlets.{AppendsFront}
+use Rattle.device_core.specs.declared.inlet.Inlet.{Inlet}
 use Rattle.sound_core.specs.Outlines.{AreAround, Surroundings}
+use Rattle.sound_core.specs.Reads.{ReadsCapped}
 use Rattle.form_core.specs.declared.form.Form.{Form}
 use Rattle.form_core.specs.Parts.{FitsIn}
 use Rattle.relay_core.specs.Relays.{IsRelayFault}
@@ -15,9 +17,9 @@ use Rattle.transfer_core.specs.Faults.{OfStream}
 abbrev pub ConvertsFile : Option (List ℕ) → Form → Option (List ℕ) → Option (List ℕ) → ℕ → Type 0
 ConvertsFile left form held_old held_new dropped = IfSome left (λ file. (bytes : List ℕ) × Converts file form bytes dropped × Appends held_old held_new bytes)
 
--- a reader that does not tell its bytes gave some, and what they are converted to was written
-abbrev pub ConvertsGiven : Option (List ℕ) → Option (List ℕ) → Form → Option (List ℕ) → Option (List ℕ) → ℕ → Type 0
-ConvertsGiven left_old left_new form held_old held_new dropped = (read : List ℕ) × (bytes : List ℕ) × Consumes left_old left_new read × Converts read form bytes dropped × Appends held_old held_new bytes
+-- a reader that does not tell its bytes gave some, as many as were counted, and what they are converted to was written
+abbrev pub ConvertsGiven : {R : Type 0} → (R → Option (List ℕ)) → Inlet R → Inlet R → Form → Option (List ℕ) → Option (List ℕ) → ℕ → Type 0
+ConvertsGiven left old new form held_old held_new dropped = (read : List ℕ) × (bytes : List ℕ) × ReadsCapped left old new read × Converts read form bytes dropped × Appends held_old held_new bytes
 
 -- whatever a file of these surroundings is converted to, a front of it was written
 abbrev pub ConvertsFront : Option (List ℕ) → Surroundings → Form → Option (List ℕ) → Option (List ℕ) → Type 0

@@ -69,10 +69,9 @@ pub fn convert_stream<R: Read, W: Write>(
     // What the reader's file is converted to was written, however the reads are cut.
     ensures ok { IfOk result (ConvertsFile (R.remaining (inlet_reader inlet.old)) form
         (W.contents (outlet_writer outlet.old)) (W.contents (outlet_writer outlet.new))) }
-    // The same of what was read, where the reader doesn't tell its bytes.
-    ensures any_reader { IfOk result (ConvertsGiven (R.remaining (inlet_reader inlet.old))
-        (R.remaining (inlet_reader inlet.new)) form (W.contents (outlet_writer outlet.old))
-        (W.contents (outlet_writer outlet.new))) }
+    // The same of what was read, as many bytes as were counted, where the reader doesn't tell its bytes.
+    ensures any_reader { IfOk result (ConvertsGiven R.remaining inlet.old inlet.new form
+        (W.contents (outlet_writer outlet.old)) (W.contents (outlet_writer outlet.new))) }
     // Of what is refused a front was written.
     ensures front { OnErr result (ConvertsFront (R.remaining (inlet_reader inlet.old)) (around_of outline.now) form
         (W.contents (outlet_writer outlet.old)) (W.contents (outlet_writer outlet.new))) }

@@ -1,4 +1,4 @@
-use Rattle.std.proofs.Common.{◌++◌, arith}
+use Rattle.std.proofs.Common.{◌++◌, arith, length-append}
 use Rattle.device_core.specs.Inlets.{inlet_reader}
 use Rattle.relay_core.proofs.ComparingLaws.{expect_fault, expect_on, fault_is, halves}
 use Rattle.relay_core.proofs.comparing.expect.Goals as goal
@@ -19,4 +19,5 @@ loop-left-preserved g c =
       on.1,
       c.expect_part.ensures.size,
       omega (arith, so_far.4, c.in_ok-expect_part.ensures.failures),
+      omega (arith, so_far.5, c.in_ok-expect_part.ensures.given, length-append so_far.0 c.split_at.result.0.now),
     )

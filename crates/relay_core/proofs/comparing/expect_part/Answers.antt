@@ -21,6 +21,7 @@ returns-in_err-fill g c =
     rw (fault_is c.from_residual.result _ c.from_residual.ensures.1) (record {
       size = c.fill.ensures.size ∙ c.requires.size;
       read = tt;
+      given = tt;
       failures = c.in_err-fill.ensures.failures;
       fault = fewer_differ (g.R.Read.remaining (inlet_reader c.args.inlet.now)) c.args.part.now c.in_err-fill.field-0.0 c.in_err-fill.ensures.fault;
     })

@@ -17,6 +17,7 @@ loop-left-preserved g c =
       omega (arith, so_far.1),
       omega (arith, c.fill.ensures.size, so_far.2),
       omega (arith, so_far.3, c.in_ok-fill.ensures.failures),
+      omega (arith, so_far.1, so_far.4, few, c.in_ok-fill.ensures.given),
     )
 
 pub returns-in_err-fill : goal.returns-in_err-fill
@@ -26,6 +27,7 @@ returns-in_err-fill g c =
     rw (fault_is c.from_residual.result _ c.from_residual.ensures.1) (record {
       size = c.fill.ensures.size ∙ so_far.2;
       read = tt;
+      given = tt;
       failures = c.in_err-fill.ensures.failures ∙ ap (λ n. n + failed_reads {X = Unit {0}} (Err c.in_err-fill.field-0.0)) so_far.3;
       fault = fewer_at_first (g.R.Read.remaining (inlet_reader c.args.inlet.now)) (g.R.Read.remaining (inlet_reader c.loop-left.inlet)) _ c.min-size.result c.args.wanted c.in_err-fill.field-0.0 so_far.0 within c.in_err-fill.ensures.fault;
     })

@@ -1,7 +1,8 @@
-use Rattle.std.proofs.Common.{◌≡◌, ◌+◌, Err, add-zero, arith, subst, sym}
+use Rattle.std.proofs.Common.{◌≡◌, ◌+◌, ◌∙◌, Err, add-zero, ap, arith, length, refl, subst, sym}
+use Rattle.std.specs.Io.Iter.{u64_saturate}
 use Rattle.std.specs.Io.KnownBytes.{Consumes}
 use Rattle.std.proofs.lemmas.Result.{IfErr-weaker, on_err_weaker, on_ok_weaker}
-use Rattle.device_core.specs.Inlets.{inlet_failures, inlet_reader}
+use Rattle.device_core.specs.Inlets.{inlet_failures, inlet_given, inlet_reader}
 use Rattle.device_core.specs.Outlets.{outlet_writer}
 use Rattle.sound_core.specs.Outlines.{around_of}
 use Rattle.relay_core.specs.Comparing.{IsExpectFault}
@@ -113,7 +114,8 @@ returns g c =
     let head = head_in g at.In_ok-expect in
     record {
       ok = on_ok_weaker c.put-2.result (λ out. relays c.args.target.now (around_of c.args.outline.now) c.requires.told.is_sound left a b c.in_ok-put.ensures.ok read head now d c.in_ok-relay_sound.ensures.ok rest last c.in_ok-expect_rest.ensures.ok out) c.put-2.ensures.ok;
-      any_reader = on_ok_weaker c.put-2.result (λ out. relays_given c.args.target.now (around_of c.args.outline.now) c.requires.told.is_sound left a b c.in_ok-put.ensures.ok read head now d c.in_ok-relay_sound.ensures.ok rest last c.in_ok-expect_rest.ensures.ok out) c.put-2.ensures.ok;
+      any_reader = on_ok_weaker c.put-2.result (λ out. relays_given c.args.target.now (around_of c.args.outline.now) c.requires.told.is_sound left a b c.in_ok-put.ensures.ok read head now d c.in_ok-relay_sound.ensures.ok rest last c.in_ok-expect_rest.ensures.ok out g.R.Read.remaining c.args.inlet.now c.expect_rest.new.inlet refl refl _ _
+          (c.in_ok-expect.ensures.given ∙ ap (λ xs. u64_saturate (inlet_given c.args.inlet.now + length xs)) c.deref.ensures.value) c.in_ok-relay_sound.ensures.given c.in_ok-expect_rest.ensures.given) c.put-2.ensures.ok;
       front = on_err_weaker c.put-2.result (λ out. tail_part c.args.target.now (around_of c.args.outline.now) c.requires.told.is_sound left a b c.in_ok-put.ensures.ok read head now d c.in_ok-relay_sound.ensures.ok last out) c.put-2.ensures.err;
       fault = IfErr-weaker c.put-2.result _ _ (λ f h. writing_stands left (around_of c.args.outline.now) f h) c.put-2.ensures.fault;
       read_failed = no_more _ _ _ (none_before _ _ _ _ (no_failure g at.In_ok-relay_sound) c.in_ok-expect_rest.ensures.failures) (unread c.put-2.result c.put-2.ensures.fault);

@@ -65,6 +65,7 @@ returns-in_err-fill g c =
     rw (fault_is c.from_residual.result _ c.from_residual.ensures.1) (record {
       size = c.fill.ensures.size ∙ c.requires.size;
       ok = tt;
+      given = tt;
       front = none_of_part left s c.args.part.relacing.to c.args.part.bits (g.W.Write.contents (outlet_writer c.args.outlet.now));
       fault = filling_in_part left s c.args.part.bits _ f c.stretch_size-size.ensures c.in_err-fill.ensures.fault;
       read_failed = c.in_err-fill.ensures.failures;
@@ -77,6 +78,7 @@ returns-in_err-push_relaced g c =
     rw (fault_is c.from_residual-in_err-push_relaced.result _ c.from_residual-in_err-push_relaced.ensures.1) (record {
       size = c.fill.ensures.size ∙ c.requires.size;
       ok = tt;
+      given = tt;
       front = none_of_part left c.args.part.relacing.sound c.args.part.relacing.to c.args.part.bits (g.W.Write.contents (outlet_writer c.args.outlet.now));
       fault = tt;
       read_failed = c.in_ok-fill.ensures.failures;

@@ -1,11 +1,12 @@
-use Rattle.std.proofs.Common.{◌≡◌, ◌+◌, ◌-◌, ◌≤◌, inl, inr, arith, subst}
+use Rattle.std.proofs.Common.{◌≡◌, ◌+◌, ◌-◌, ◌≤◌, ◌∙◌, inl, inr, ap, arith, subst, sym}
 use Rattle.dsd_bits.proofs.ExitLaws.{any_err}
 use Rattle.device_core.specs.Inlets.{inlet_reader}
 use Rattle.device_core.specs.Outlets.{outlet_writer}
 use Rattle.relay_core.specs.Relays.{IsPartFault, PartFront, RelaysPart}
-use Rattle.relace_core.proofs.GroupLaws.{size_fits, whole_on, last_groups}
+use Rattle.dsd_bits.specs.Sounds.{sound_size}
+use Rattle.relace_core.proofs.GroupLaws.{size_fits, size_on, whole_on, last_groups}
 use Rattle.relay_core.proofs.ComparingLaws.{fault_is}
-use Rattle.relay_core.proofs.RelayLaws.{part_fault, part_front, part_none, part_on}
+use Rattle.relay_core.proofs.RelayLaws.{given_on, none_given, part_fault, part_front, part_none, part_on}
 use Rattle.relay_core.proofs.relaying.relay_sound.Goals as goal
 
 pub loop-left-init : goal.loop-left-init
@@ -20,6 +21,7 @@ loop-left-init g c =
       c.requires.size,
       omega arith,
       omega arith,
+      none_given s _ _ (omega (arith, c.given-fits.type_inv, c.given-fits.ensures)) (sym none),
     )
 
 pub relay_part-requires-clause-part : goal.relay_part-requires-clause-part
@@ -88,6 +90,7 @@ loop-left-preserved g c =
       c.relay_part.ensures.size,
       omega (arith, so_far.4, c.in_ok-relay_part.ensures.read_failed),
       omega (arith, so_far.5, c.in_ok-relay_part.ensures.write_failed),
+      given_on _ _ _ _ _ _ so_far.6 c.in_ok-relay_part.ensures.given (ap (sound_size s.interleaving s.channels) (sym sum) ∙ size_on s.interleaving s.channels done bits whole),
     )
 
 pub returns-clause-ok : goal.returns-clause-ok

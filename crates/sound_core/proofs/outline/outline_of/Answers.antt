@@ -3,7 +3,7 @@ use Rattle.std.proofs.lemmas.Result.{IfErr-weaker, IfOk-weaker}
 use Rattle.device_core.specs.Inlets.{inlet_failures, inlet_reader}
 use Rattle.sound_core.specs.Outlines.{around_of}
 use Rattle.sound_core.specs.Reads.{Reads}
-use Rattle.sound_core.proofs.BehindLaws.{at_sound, given_is, pass_stands, rest_stands, surrounds_file}
+use Rattle.sound_core.proofs.BehindLaws.{at_sound, given_is, pass_stands, rest_stands, surrounds_file, surrounds_given}
 use Rattle.sound_core.proofs.FaultLaws.{fault_is, front_in_outline}
 use Rattle.sound_core.proofs.ReaderLaws.{counts_from, counts_later, counts_memory, same_counts, same_on}
 use Rattle.sound_core.proofs.outline.outline_of.Given.{Over}
@@ -20,6 +20,7 @@ returns-in_err-pass g c =
     rw (fault_is c.from_residual-in_err-pass.result _ c.from_residual-in_err-pass.ensures.1) (record {
       same = same_on c.args.reader.now c.take_head.new.self c.pass.new.self (same_on c.args.reader.now c.read_front.new.reader c.take_head.new.self c.read_front.ensures.same c.take_head.ensures.same) c.pass.ensures.same;
       ok = tt;
+      any_reader = tt;
       counts = counts_later c.args.reader.now c.take_head.new.self c.pass.new.self c.in_err-pass.field-0.0 (c.take_head.ensures.same.limit ∙ c.read_front.ensures.same.limit) (ap inlet_failures c.take_head.ensures.untouched ∙ omega (arith, c.in_ok-sound.ensures.counts.failures)) c.in_err-pass.ensures.counts;
       fault = pass_stands g.R.Read.remaining _ _ _ _ _ c.in_ok-sound.sound (reads_is g k) c.in_ok-sound.ensures.tells c.in_ok-head.ensures.head c.in_ok-head.ensures.rest c.in_err-pass.field-0.0 c.in_err-pass.ensures.fault;
     })
@@ -46,6 +47,7 @@ returns g c =
     record {
       same = same_on c.args.reader.now c.pass.new.self c.read_rest.new.reader (same_on c.args.reader.now c.take_head.new.self c.pass.new.self (same_on c.args.reader.now c.read_front.new.reader c.take_head.new.self c.read_front.ensures.same c.take_head.ensures.same) c.pass.ensures.same) c.read_rest.ensures.same;
       ok = IfOk-weaker c.read_rest.result _ _ (λ o told. surrounds_file g.R.Read.remaining _ _ _ _ _ c.in_ok-sound.sound (reads_is g k) c.in_ok-sound.ensures.tells c.in_ok-head.ensures.head c.in_ok-head.ensures.rest _ _ c.in_ok-pass.ensures.ok _ (around_of o) told.0 told.1 told.2) c.read_rest.ensures.ok;
+      any_reader = IfOk-weaker c.read_rest.result _ _ (λ o told. surrounds_given g.R.Read.remaining _ _ _ _ _ c.in_ok-sound.sound (reads_is g k) c.in_ok-sound.ensures.tells c.in_ok-head.ensures.head c.in_ok-head.ensures.rest _ _ c.in_ok-pass.ensures.ok _ (around_of o) told.0 told.1 told.2) c.read_rest.ensures.ok;
       counts = counts_from _ _ _ c.read_rest.result (c.pass.ensures.same.limit ∙ c.take_head.ensures.same.limit ∙ c.read_front.ensures.same.limit) (omega (arith, c.in_ok-pass.ensures.counts.failures, ap inlet_failures c.take_head.ensures.untouched, c.in_ok-sound.ensures.counts.failures)) c.read_rest.ensures.counts;
       fault = IfErr-weaker c.read_rest.result _ _ (λ f stands. rest_stands g.R.Read.remaining _ _ _ _ _ c.in_ok-sound.sound (reads_is g k) c.in_ok-sound.ensures.tells c.in_ok-head.ensures.head c.in_ok-head.ensures.rest _ _ c.in_ok-pass.ensures.ok f stands) c.read_rest.ensures.fault;
     }
@@ -55,6 +57,7 @@ returns-in_err-sound g c =
     rw (fault_is c.from_residual.result _ c.from_residual.ensures.1) (record {
       same = c.read_front.ensures.same;
       ok = tt;
+      any_reader = tt;
       counts = same_counts c.args.reader.now c.read_front.new.reader c.in_err-sound.field-0.0 c.in_err-sound.ensures.counts;
       fault = front_in_outline (g.R.Read.remaining (inlet_reader c.args.reader.now.inlet.now)) c.in_err-sound.field-0.0 c.in_err-sound.ensures.fault;
     })
@@ -64,6 +67,7 @@ returns-in_err-head g c =
     rw (fault_is c.from_residual-in_err-head.result _ c.from_residual-in_err-head.ensures.1) (record {
       same = same_on c.args.reader.now c.read_front.new.reader c.take_head.new.self c.read_front.ensures.same c.take_head.ensures.same;
       ok = tt;
+      any_reader = tt;
       counts = rw c.in_err-head.ensures.fault (counts_memory c.args.reader.now c.read_front.new.reader c.take_head.new.self c.in_ok-sound.sound c.take_head.ensures.untouched c.in_ok-sound.ensures.counts);
       fault = rw c.in_err-head.ensures.fault tt;
     })

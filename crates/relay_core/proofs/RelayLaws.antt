@@ -1,11 +1,11 @@
 -- A file of a known outline, part by part.
-use Rattle.std.proofs.Common.{◌≡◌, ℕ, ◌+◌, ◌%◌, ◌^◌, ◌<◌, ◌≤◌, ◌⊎◌, inl, inr, true, false, List, [], ◌++◌, length, take, drop, Option, None, Some, Err, refl, sym, subst, ap, ap₂, ◌∙◌, arith, append_assoc, append-nil, length-append, length-take, length-drop, take-append-drop}
+use Rattle.std.proofs.Common.{◌≡◌, ◌≢◌, ℕ, ◌+◌, ◌%◌, ◌^◌, ◌<◌, ◌≤◌, ◌⊎◌, inl, inr, true, false, List, [], ◌++◌, length, take, drop, Option, None, Some, Err, refl, sym, subst, ap, ap₂, ◌∙◌, arith, append_assoc, append-nil, length-append, length-take, length-drop, take-append-drop}
 use Rattle.std.proofs.lemmas.List.{append_cancel_left, nil_from_length}
 use Rattle.std.specs.Io.KnownBytes.{Appends, Consumes, IsAtEnd}
 use Rattle.std.proofs.KnownBytes.{Appends-nil, Appends-trans, Consumes-nil, Consumes-trans}
 use Rattle.std.specs.Io.Iter.{u64_saturate}
 use Rattle.device_core.specs.Inlets.{inlet_given, inlet_reader}
-use Rattle.device_core.specs.Outlets.{AppendsFront}
+use Rattle.device_core.specs.Outlets.{AppendsPart}
 use Rattle.device_core.specs.declared.inlet.Inlet.{Inlet}
 use Rattle.dsd_bits.specs.declared.interleaving.Interleaving.{Interleaving}
 use Rattle.dsd_bits.specs.declared.sound.Sound.{Sound}
@@ -19,30 +19,43 @@ use Rattle.sound_core.specs.declared.fault.StreamFault.TheVariants.{FileRefused,
 use Rattle.sound_core.proofs.FaultLaws.{by_writing}
 use Rattle.sound_core.proofs.KeeperLaws.{no_size}
 use Rattle.relay_core.specs.Comparing.{ConsumesMany, IsExpectFault, IsFillFault, IsMoreFault, IsRefusal}
-use Rattle.relay_core.specs.Relays.{IsPartFault, IsRelayFault, IsRestFault, PartFront, PassesRest, Relays, RelaysFront, RelaysGiven, RelaysPart, relaced_sound, relayed}
+use Rattle.relay_core.specs.Relays.{AppendsUntil, IsPartFault, IsRelayFault, IsRestFault, PartFront, PassesRest, Relays, RelaysFront, RelaysGiven, RelaysPart, relaced_sound, relayed}
 use Rattle.relay_core.specs.declared.relaying.Target.{Target}
 use Rattle.relay_core.proofs.ComparingLaws.{by_refusal, left_is, same_front, same_rest}
 
--- ---- fronts of what is written
-pub front_nil : (a : Option (List ℕ)) (all : List ℕ) → AppendsFront a a all
-front_nil a all = ([], all, refl, Appends-nil a)
+-- ---- prefixes of what is written
+pub until_nil : (a : Option (List ℕ)) (all : List ℕ) (f : StreamFault) → f ≢ WriteFailed → AppendsUntil a a all f
+until_nil a all f calm = ([], all, refl, λ failed. absurd (calm failed), Appends-nil a)
 
-pub front_more : (a b : Option (List ℕ)) (xs ys : List ℕ) → AppendsFront a b xs → AppendsFront a b (xs ++ ys)
-front_more a b xs ys f = (f.0, f.1 ++ ys, ap (λ zs. zs ++ ys) f.2 ∙ append_assoc f.0 f.1 ys, f.3)
+pub until_part : (a b : Option (List ℕ)) (all : List ℕ) (f : StreamFault) → AppendsPart a b all → AppendsUntil a b all f
+until_part a b all f out = (out.0, out.1, out.2, λ failed. out.3, out.4)
 
-pub front_on : (a b c : Option (List ℕ)) (xs ys : List ℕ) → Appends a b xs → AppendsFront b c ys → AppendsFront a c (xs ++ ys)
-front_on a b c xs ys p q = (xs ++ q.0, q.1, ap (λ zs. xs ++ zs) q.2 ∙ sym (append_assoc xs q.0 q.1), Appends-trans a b c xs q.0 p q.3)
+until_whole : (a b : Option (List ℕ)) (all : List ℕ) (f : StreamFault) → f ≢ WriteFailed → Appends a b all → AppendsUntil a b all f
+until_whole a b all f calm out = (all, [], sym (append-nil all), λ failed. absurd (calm failed), out)
 
-pub whole_front : (a b : Option (List ℕ)) (all : List ℕ) → Appends a b all → AppendsFront a b all
-whole_front a b all out = (all, [], sym (append-nil all), out)
+until_more : (a b : Option (List ℕ)) (xs ys : List ℕ) (f : StreamFault) → AppendsUntil a b xs f → AppendsUntil a b (xs ++ ys) f
+until_more a b xs ys f out = (
+  out.0,
+  out.1 ++ ys,
+  ap (λ zs. zs ++ ys) out.2 ∙ append_assoc out.0 out.1 ys,
+  λ failed. omega (arith, out.3 failed, length-append out.1 ys),
+  out.4,
+)
+
+until_on : (a b c : Option (List ℕ)) (xs ys : List ℕ) (f : StreamFault) → Appends a b xs → AppendsUntil b c ys f → AppendsUntil a c (xs ++ ys) f
+until_on a b c xs ys f p q = (xs ++ q.0, q.1, ap (λ zs. xs ++ zs) q.2 ∙ sym (append_assoc xs q.0 q.1), q.3, Appends-trans a b c xs q.0 p q.4)
+
+-- a fault of reading is none of writing
+pub not_writing : (P : Type 0) (f : StreamFault) → IsRefusal P f → f ≢ WriteFailed
+not_writing P f h = by_refusal P (λ g. g ≢ WriteFailed) (λ refused same. cc) (λ same. cc) f h
 
 -- ---- stretches
--- a front of what a stretch is was written
-pub stretch_front : (s : Sound) (to : Interleaving) (bits : ℕ) (left new a b : Option (List ℕ)) (read : List ℕ) → Consumes left new read → length read ≡ sound_size s.interleaving s.channels bits → AppendsFront a b (relaced s.interleaving to s.channels bits read) → PartFront left s to bits a b
-stretch_front s to bits None new a b read consumed long out = tt
-stretch_front s to bits (Some xs) new a b read consumed long out = λ part rest is size.
+-- a prefix of what a stretch is was written
+pub stretch_front : (s : Sound) (to : Interleaving) (bits : ℕ) (left new a b : Option (List ℕ)) (read : List ℕ) (f : StreamFault) → Consumes left new read → length read ≡ sound_size s.interleaving s.channels bits → AppendsUntil a b (relaced s.interleaving to s.channels bits read) f → PartFront left s to bits a b f
+stretch_front s to bits None new a b read f consumed long out = tt
+stretch_front s to bits (Some xs) new a b read f consumed long out = λ part rest is size.
     let ys = left_is (Some xs) new read xs consumed refl in
-    subst (λ zs. AppendsFront a b (relaced s.interleaving to s.channels bits zs)) (same_front read part ys.0 rest (sym ys.2 ∙ is) (long ∙ sym size)) out
+    subst (λ zs. AppendsUntil a b (relaced s.interleaving to s.channels bits zs) f) (same_front read part ys.0 rest (sym ys.2 ∙ is) (long ∙ sym size)) out
 
 -- nothing of a sound counts nothing
 pub none_given : (s : Sound) (given n : ℕ) → given < 2 ^ 64 → n ≡ 0 → given ≡ u64_saturate (given + sound_size s.interleaving s.channels n)
@@ -96,12 +109,12 @@ module _ (law : GroupsJoin) (s : Sound) (to : Interleaving) (left now a b : Opti
         ys.1 ∙ ap (λ zs. Some zs) (sym (same_rest first so_far.part (behind ++ more) ys.0 whole_is first_long)),
       )
 
-  -- a front of a stretch is one of all that is left
-  ahead : (bits rest : ℕ) (c : Option (List ℕ)) → (bits % 32768 ≡ 0) ⊎ (rest ≡ 0) → (bytes more : List ℕ) → length bytes ≡ size (bits + rest) → PartFront (Some (bytes ++ more)) s to bits b c → AppendsFront b c (made (bits + rest) bytes)
-  ahead bits rest c (inr none) bytes more long front =
+  -- a prefix of a stretch is one of all that is left
+  ahead : (bits rest : ℕ) (c : Option (List ℕ)) (f : StreamFault) → (bits % 32768 ≡ 0) ⊎ (rest ≡ 0) → (bytes more : List ℕ) → length bytes ≡ size (bits + rest) → PartFront (Some (bytes ++ more)) s to bits b c f → AppendsUntil b c (made (bits + rest) bytes) f
+  ahead bits rest c f (inr none) bytes more long front =
       let same : bits + rest ≡ bits = omega (arith, none) in
-      subst (λ n. AppendsFront b c (made n bytes)) (sym same) (front bytes more refl (long ∙ ap size same))
-  ahead bits rest c (inl groups) bytes more long front =
+      subst (λ n. AppendsUntil b c (made n bytes) f) (sym same) (front bytes more refl (long ∙ ap size same))
+  ahead bits rest c f (inl groups) bytes more long front =
       let first = take (size bits) bytes in
       let behind = drop (size bits) bytes in
       let total : length bytes ≡ size bits + size rest = long ∙ size_on s.interleaving s.channels bits rest groups in
@@ -109,17 +122,17 @@ module _ (law : GroupsJoin) (s : Sound) (to : Interleaving) (left now a b : Opti
       let first_long : length first ≡ size bits = omega (arith, length-take (size bits) bytes, total) in
       let behind_long : length behind ≡ size rest = omega (arith, length-drop (size bits) bytes, total) in
       let is : made (bits + rest) bytes ≡ made bits first ++ made rest behind = ap (made (bits + rest)) split ∙ law s.interleaving to s.channels bits rest first behind groups first_long behind_long in
-      subst (AppendsFront b c) (sym is) (front_more b c (made bits first) (made rest behind) (front first (behind ++ more) (ap (λ zs. zs ++ more) split ∙ append_assoc first behind more) first_long))
+      subst (λ zs. AppendsUntil b c zs f) (sym is) (until_more b c (made bits first) (made rest behind) f (front first (behind ++ more) (ap (λ zs. zs ++ more) split ∙ append_assoc first behind more) first_long))
 
-  pub part_front : (bits rest : ℕ) (c : Option (List ℕ)) → (bits % 32768 ≡ 0) ⊎ (rest ≡ 0) → PartFront now s to bits b c → PartFront left s to (done + (bits + rest)) a c
-  part_front bits rest c last front = by left refl
+  pub part_front : (bits rest : ℕ) (c : Option (List ℕ)) (f : StreamFault) → (bits % 32768 ≡ 0) ⊎ (rest ≡ 0) → PartFront now s to bits b c f → PartFront left s to (done + (bits + rest)) a c f
+  part_front bits rest c f last front = by left refl
     where
-      by : (o : Option (List ℕ)) → left ≡ o → PartFront o s to (done + (bits + rest)) a c
+      by : (o : Option (List ℕ)) → left ≡ o → PartFront o s to (done + (bits + rest)) a c f
       by None known = tt
       by (Some xs) known = λ part more is long.
           let n = next xs part more (bits + rest) known is long in
           let joined : made (done + (bits + rest)) part ≡ made done so_far.part ++ made (bits + rest) n.0 = ap (made (done + (bits + rest))) n.1 ∙ law s.interleaving to s.channels done (bits + rest) so_far.part n.0 whole so_far.long n.2 in
-          subst (AppendsFront a c) (sym joined) (front_on a b c (made done so_far.part) (made (bits + rest) n.0) so_far.written (ahead bits rest c last n.0 more n.2 (subst (λ o. PartFront o s to bits b c) n.3 front)))
+          subst (λ zs. AppendsUntil a c zs f) (sym joined) (until_on a b c (made done so_far.part) (made (bits + rest) n.0) f so_far.written (ahead bits rest c f last n.0 more n.2 (subst (λ o. PartFront o s to bits b c f) n.3 front)))
 
   pub part_fault : (bits rest : ℕ) (f : StreamFault) → (bits % 32768 ≡ 0) ⊎ (rest ≡ 0) → IsPartFault now s bits f → IsPartFault left s (done + (bits + rest)) f
   part_fault bits rest FileRefused last h = by left refl
@@ -213,23 +226,16 @@ module _ (t : Target) (o : Surroundings) (sized : IsSound o.sound) (l0 a0 : Opti
       by None differs = tt
       by (Some xs) differs = λ around. differs (around.0 ++ (around.1.gap ++ (o.back ++ around.1.rest))) around.1.file_is
 
-  pub nothing_out : RelaysFront l0 t o a0 a0
-  nothing_out = by l0
+  pub head_part : (a1 : Option (List ℕ)) (f : StreamFault) → AppendsUntil a0 a1 t.head.now f → RelaysFront l0 t o a0 a1 f
+  head_part a1 f out = by l0
     where
-      by : (l : Option (List ℕ)) → RelaysFront l t o a0 a0
+      by : (l : Option (List ℕ)) → RelaysFront l t o a0 a1 f
       by None = tt
-      by (Some xs) = λ sound stands. front_nil a0 (relayed t o.sound sound)
-
-  pub head_part : (a1 : Option (List ℕ)) → AppendsFront a0 a1 t.head.now → RelaysFront l0 t o a0 a1
-  head_part a1 out = by l0
-    where
-      by : (l : Option (List ℕ)) → RelaysFront l t o a0 a1
-      by None = tt
-      by (Some xs) = λ sound stands. front_more a0 a1 t.head.now (others sound ++ t.tail.now) out
+      by (Some xs) = λ sound stands. until_more a0 a1 t.head.now (others sound ++ t.tail.now) f out
 
   module _ (a1 : Option (List ℕ)) (head_out : Appends a0 a1 t.head.now) where
-    pub head_whole : RelaysFront l0 t o a0 a1
-    head_whole = head_part a1 (whole_front a0 a1 t.head.now head_out)
+    pub head_whole : (f : StreamFault) → f ≢ WriteFailed → RelaysFront l0 t o a0 a1 f
+    head_whole f calm = head_part a1 f (until_whole a0 a1 t.head.now f calm head_out)
 
     module _ (l1 : Option (List ℕ)) (head_in : Consumes l0 l1 o.head) where
       -- what comes behind the head
@@ -255,15 +261,15 @@ module _ (t : Target) (o : Surroundings) (sized : IsSound o.sound) (l0 a0 : Opti
       sound_fault TurnLimit h = absurd h
       sound_fault Memory h = tt
 
-      pub sound_part : (a2 : Option (List ℕ)) → PartFront l1 o.sound t.interleaving o.sound.count a1 a2 → RelaysFront l0 t o a0 a2
-      sound_part a2 front = by l0 refl
+      pub sound_part : (a2 : Option (List ℕ)) (f : StreamFault) → PartFront l1 o.sound t.interleaving o.sound.count a1 a2 f → RelaysFront l0 t o a0 a2 f
+      sound_part a2 f front = by l0 refl
         where
-          by : (l : Option (List ℕ)) → l0 ≡ l → RelaysFront l t o a0 a2
+          by : (l : Option (List ℕ)) → l0 ≡ l → RelaysFront l t o a0 a2 f
           by None known = tt
           by (Some xs) known = λ sound stands.
               let behind = stands.gap ++ (o.back ++ stands.rest) in
-              let out = subst (λ l. PartFront l o.sound t.interleaving o.sound.count a1 a2) (from_sound xs sound stands known) front sound behind refl (stands.sound_long ∙ sized.size) in
-              front_on a0 a1 a2 t.head.now (others sound ++ t.tail.now) head_out (front_more a1 a2 (others sound) t.tail.now out)
+              let out = subst (λ l. PartFront l o.sound t.interleaving o.sound.count a1 a2 f) (from_sound xs sound stands known) front sound behind refl (stands.sound_long ∙ sized.size) in
+              until_on a0 a1 a2 t.head.now (others sound ++ t.tail.now) f head_out (until_more a1 a2 (others sound) t.tail.now f out)
 
       module _ (l2 a2 : Option (List ℕ)) (played : RelaysPart l1 l2 o.sound t.interleaving o.sound.count a1 a2) where
         -- what was read is the sound, and what comes behind it
@@ -283,19 +289,19 @@ module _ (t : Target) (o : Surroundings) (sized : IsSound o.sound) (l0 a0 : Opti
             by None known differs = tt
             by (Some xs) known differs = λ around. (let same = same_sound xs around.0 around.1 known in subst (λ l. IsRestFault l o FileRefused) same.1 differs around.1.gap around.1.rest refl around.1.gap_long around.1.ended)
 
-        -- what was written so far, and then a front of the tail
-        pub tail_part : (a3 : Option (List ℕ)) → AppendsFront a2 a3 t.tail.now → RelaysFront l0 t o a0 a3
-        tail_part a3 out = by l0 refl
+        -- what was written so far, and then a prefix of the tail
+        pub tail_part : (a3 : Option (List ℕ)) (f : StreamFault) → AppendsUntil a2 a3 t.tail.now f → RelaysFront l0 t o a0 a3 f
+        tail_part a3 f out = by l0 refl
           where
-            by : (l : Option (List ℕ)) → l0 ≡ l → RelaysFront l t o a0 a3
+            by : (l : Option (List ℕ)) → l0 ≡ l → RelaysFront l t o a0 a3 f
             by None known = tt
             by (Some xs) known = λ sound stands.
                 let same = same_sound xs sound stands known in
                 let written : Appends a1 a2 (others sound) = subst (λ ys. Appends a1 a2 (others ys)) same.0 played.written in
-                front_on a0 a1 a3 t.head.now (others sound ++ t.tail.now) head_out (front_on a1 a2 a3 (others sound) t.tail.now written out)
+                until_on a0 a1 a3 t.head.now (others sound ++ t.tail.now) f head_out (until_on a1 a2 a3 (others sound) t.tail.now f written out)
 
-        pub sound_whole : RelaysFront l0 t o a0 a2
-        sound_whole = tail_part a2 (front_nil a2 t.tail.now)
+        pub sound_whole : (f : StreamFault) → f ≢ WriteFailed → RelaysFront l0 t o a0 a2 f
+        sound_whole f calm = tail_part a2 f (until_nil a2 t.tail.now f calm)
 
         module _ (l3 a3 : Option (List ℕ)) (rest : PassesRest l2 l3 o) (tail_out : Appends a2 a3 t.tail.now) where
           written : Appends a0 a3 (relayed t o.sound played.part)
@@ -376,9 +382,9 @@ filling_in_part l s bits size f e h = by_refusal (IsFillFault l size FileRefused
 pub writing_in_part : (l : Option (List ℕ)) (s : Sound) (bits : ℕ) (f : StreamFault) → IsWritingFault f → IsPartFault l s bits f
 writing_in_part l s bits f h = by_writing (IsPartFault l s bits) tt tt f h
 
-pub none_of_part : (l : Option (List ℕ)) (s : Sound) (to : Interleaving) (bits : ℕ) (a : Option (List ℕ)) → PartFront l s to bits a a
-none_of_part None s to bits a = tt
-none_of_part (Some xs) s to bits a = λ part rest e long. front_nil a (relaced s.interleaving to s.channels bits part)
+pub none_of_part : (l : Option (List ℕ)) (s : Sound) (to : Interleaving) (bits : ℕ) (a : Option (List ℕ)) (f : StreamFault) → f ≢ WriteFailed → PartFront l s to bits a a f
+none_of_part None s to bits a f calm = tt
+none_of_part (Some xs) s to bits a f calm = λ part rest e long. until_nil a (relaced s.interleaving to s.channels bits part) f calm
 
 -- whole bytes of each channel in a part, where the sound has them
 pub whole_part : (bits count : ℕ) (P : Type 0) → (bits % 8 ≡ 0) ⊎ (bits % 8 ≡ count % 8) → (P → count % 8 ≡ 0) → P → bits % 8 ≡ 0

@@ -1,7 +1,6 @@
 -- What is written of a file whose outline is known, and which faults stand.
 use Rattle.std.specs.Prelude.{◌≡◌, ◌⊎◌, ℕ, ◌%◌, ◌<◌, ◌≤◌, true, List, [], ◌++◌, length, Option, IfSome, ⊤}
 use Rattle.std.specs.Io.KnownBytes.{Appends, Consumes, IsAtEnd}
-use Rattle.device_core.specs.Outlets.{AppendsFront}
 use Rattle.device_core.specs.declared.inlet.Inlet.{Inlet}
 use Rattle.dsd_bits.specs.declared.interleaving.Interleaving.{Interleaving}
 use Rattle.dsd_bits.specs.declared.interleaving.Interleaving.TheVariants.{Bytes}
@@ -33,9 +32,13 @@ Relays left target o held_old held_new = IfSome left (λ file. (sound : List ℕ
 abbrev pub RelaysGiven : {R : Type 0} → (R → Option (List ℕ)) → Inlet R → Inlet R → Target → Surroundings → Option (List ℕ) → Option (List ℕ) → Type 0
 RelaysGiven left old new target o held_old held_new = (read : List ℕ) × (sound : List ℕ) × ReadsCapped left old new read × StandsIn o read sound × Appends held_old held_new (relayed target o.sound sound)
 
--- whatever sound in the outline the file is, a front of what is made of it was written
-abbrev pub RelaysFront : Option (List ℕ) → Target → Surroundings → Option (List ℕ) → Option (List ℕ) → Type 0
-RelaysFront left target o held_old held_new = IfSome left (λ file. (sound : List ℕ) → StandsIn o file sound → AppendsFront held_old held_new (relayed target o.sound sound))
+-- known bytes grow by a prefix of these, and after a failed write not by all of them
+abbrev pub AppendsUntil : Option (List ℕ) → Option (List ℕ) → List ℕ → StreamFault → Type 0
+AppendsUntil held_old held_new all fault = (front : List ℕ) × (back : List ℕ) × (all ≡ front ++ back) × (fault ≡ WriteFailed → 0 < length back) × Appends held_old held_new front
+
+-- whatever sound in the outline the file is, a prefix of what is made of it was written, and after a failed write not all of it
+abbrev pub RelaysFront : Option (List ℕ) → Target → Surroundings → Option (List ℕ) → Option (List ℕ) → StreamFault → Type 0
+RelaysFront left target o held_old held_new fault = IfSome left (λ file. (sound : List ℕ) → StandsIn o file sound → AppendsUntil held_old held_new (relayed target o.sound sound) fault)
 
 -- this fault stands: the file is no sound in the outline, or it is one of a device or memory
 abbrev pub IsRelayFault : Option (List ℕ) → Surroundings → StreamFault → Type 0
@@ -78,9 +81,9 @@ pub record RelaysPart (left_old left_new : Option (List ℕ)) (s : Sound) (to : 
   pub long : length part ≡ sound_size s.interleaving s.channels bits
   pub written : Appends held_old held_new (relaced s.interleaving to s.channels bits part)
 
--- whatever bytes of so many bits of each channel come next, a front of what they are interleaved otherwise was written
-abbrev pub PartFront : Option (List ℕ) → Sound → Interleaving → ℕ → Option (List ℕ) → Option (List ℕ) → Type 0
-PartFront left s to bits held_old held_new = IfSome left (λ left. (part rest : List ℕ) → left ≡ part ++ rest → length part ≡ sound_size s.interleaving s.channels bits → AppendsFront held_old held_new (relaced s.interleaving to s.channels bits part))
+-- whatever bytes of so many bits of each channel come next, a prefix of what they are interleaved otherwise was written, and after a failed write not all of it
+abbrev pub PartFront : Option (List ℕ) → Sound → Interleaving → ℕ → Option (List ℕ) → Option (List ℕ) → StreamFault → Type 0
+PartFront left s to bits held_old held_new fault = IfSome left (λ left. (part rest : List ℕ) → left ≡ part ++ rest → length part ≡ sound_size s.interleaving s.channels bits → AppendsUntil held_old held_new (relaced s.interleaving to s.channels bits part) fault)
 
 -- a fault of this: there are fewer bytes left, or one of a device or memory
 abbrev pub IsPartFault : Option (List ℕ) → Sound → ℕ → StreamFault → Type 0

@@ -10,7 +10,8 @@
 //! - `relayed target outline sound` are the bytes that are written: head, sound, tail.
 //! - `Relays left target outline old new` says that the reader's file is some sound in the outline, and that what was
 //!   written is made of that sound.
-//! - `RelaysFront left target outline old new` says that a front of it was written, if the file is one.
+//! - `RelaysFront left target outline old new fault` says that a prefix of it was written, if the file is one, and after
+//!   a failed write not all of it.
 //!
 //! ```text
 //! let target = Target { interleaving: Interleaving::Bytes, head: &head, tail: &tail };

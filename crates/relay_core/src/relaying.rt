@@ -1,6 +1,6 @@
 //! A file of a known outline, its sound handed on in another interleaving.
 
-ghost use Rattle.std.specs.Prelude.{◌≡◌, ◌+◌, ◌*◌, ◌/◌, ◌%◌, ◌-◌, ◌<◌, ◌≤◌, ◌^◌, ◌++◌, IfErr, IfOk, OnErr, OnOk, length};
+ghost use Rattle.std.specs.Prelude.{◌≡◌, ◌+◌, ◌*◌, ◌/◌, ◌%◌, ◌-◌, ◌<◌, ◌≤◌, ◌^◌, ◌++◌, IfErr, IfOk, OnOk, length};
 ghost use Rattle.std.specs.Io.Iter.{u64_saturate};
 ghost use Rattle.device_core.specs.Inlets.{inlet_failures, inlet_given, inlet_reader};
 ghost use Rattle.device_core.specs.Outlets.{outlet_failures, outlet_writer};
@@ -38,8 +38,8 @@ struct Buffers {
 /// Reads a file of this outline, and writes the target's head, the file's sound interleaved as the target says, and
 /// the target's tail.
 ///
-/// Refusals: `FileRefused` where the file isn't a sound in the outline; `ReadFailed`, `WriteFailed`, `Memory`. A front
-/// was written then.
+/// Refusals: `FileRefused` where the file isn't a sound in the outline; `ReadFailed`, `WriteFailed`, `Memory`. A prefix
+/// was written then; after `WriteFailed` not all of it was.
 pub fn relay<R: Read, W: Write>(
     alloc: Global,
     outline: &Outline,
@@ -57,7 +57,8 @@ pub fn relay<R: Read, W: Write>(
     // The same of what was read, as many bytes as were counted, where the reader doesn't tell its bytes.
     ensures any_reader { OnOk result (RelaysGiven R.remaining inlet.old inlet.new target.now (around_of outline.now)
         (W.contents (outlet_writer outlet.old)) (W.contents (outlet_writer outlet.new))) }
-    ensures front { OnErr result (RelaysFront (R.remaining (inlet_reader inlet.old)) target.now (around_of outline.now)
+    // Of what is refused a prefix was written, and after `WriteFailed` not all of it.
+    ensures front { IfErr result (RelaysFront (R.remaining (inlet_reader inlet.old)) target.now (around_of outline.now)
         (W.contents (outlet_writer outlet.old)) (W.contents (outlet_writer outlet.new))) }
     ensures fault { IfErr result (IsRelayFault (R.remaining (inlet_reader inlet.old)) (around_of outline.now)) }
     ensures read_failed { inlet_failures inlet.new ≡ inlet_failures inlet.old + failed_reads result }
@@ -133,7 +134,7 @@ fn relay_sound<R: Read, W: Write>(
         (W.contents (outlet_writer outlet.old)) (W.contents (outlet_writer outlet.new))) }
     ensures given { OnOk result (inlet_given inlet.new ≡ u64_saturate (inlet_given inlet.old
         + sound_size relacing.now.sound.interleaving relacing.now.sound.channels relacing.now.sound.count)) }
-    ensures front { OnErr result (PartFront (R.remaining (inlet_reader inlet.old)) relacing.now.sound relacing.now.to
+    ensures front { IfErr result (PartFront (R.remaining (inlet_reader inlet.old)) relacing.now.sound relacing.now.to
         relacing.now.sound.count (W.contents (outlet_writer outlet.old)) (W.contents (outlet_writer outlet.new))) }
     ensures fault { IfErr result (IsPartFault
         (R.remaining (inlet_reader inlet.old)) relacing.now.sound relacing.now.sound.count) }
@@ -175,7 +176,7 @@ fn relay_part<R: Read, W: Write>(
         (W.contents (outlet_writer outlet.old)) (W.contents (outlet_writer outlet.new))) }
     ensures given { OnOk result (inlet_given inlet.new ≡ u64_saturate (inlet_given inlet.old
         + sound_size part.relacing.sound.interleaving part.relacing.sound.channels part.bits)) }
-    ensures front { OnErr result (PartFront (R.remaining (inlet_reader inlet.old)) part.relacing.sound part.relacing.to
+    ensures front { IfErr result (PartFront (R.remaining (inlet_reader inlet.old)) part.relacing.sound part.relacing.to
         part.bits (W.contents (outlet_writer outlet.old)) (W.contents (outlet_writer outlet.new))) }
     ensures fault { IfErr result (IsPartFault (R.remaining (inlet_reader inlet.old)) part.relacing.sound part.bits) }
     ensures read_failed { inlet_failures inlet.new ≡ inlet_failures inlet.old + failed_reads result }

@@ -3,7 +3,7 @@ use Rattle.std.proofs.Common.{◌≡◌, ℕ, ◌+◌, ◌-◌, ◌≤◌, min, 
 use Rattle.std.specs.Io.KnownBytes.{Appends, Consumes}
 use Rattle.std.proofs.KnownBytes.{Appends-nil}
 use Rattle.std.proofs.lemmas.List.{drop-take, drop_min, nil_from_length, take-append-le, take_min}
-use Rattle.device_core.specs.Outlets.{AppendsFront}
+use Rattle.device_core.specs.Outlets.{AppendsFront, AppendsPart}
 use Rattle.device_core.specs.declared.inlet.Inlet.{Inlet}
 use Rattle.sound_core.specs.Reads.{Reads}
 use Rattle.sound_core.specs.declared.fault.StreamFault.{StreamFault}
@@ -21,6 +21,9 @@ front_nil a all = ([], all, refl, Appends-nil a)
 
 pub front_more : (a b : Option (List ℕ)) (xs ys : List ℕ) → AppendsFront a b xs → AppendsFront a b (xs ++ ys)
 front_more a b xs ys f = (f.0, f.1 ++ ys, ap (λ zs. zs ++ ys) f.2 ∙ append_assoc f.0 f.1 ys, f.3)
+
+pub part_is_front : (a b : Option (List ℕ)) (all : List ℕ) → AppendsPart a b all → AppendsFront a b all
+part_is_front a b all out = (out.0, out.1, out.2, out.4)
 
 pub whole_front : (a b : Option (List ℕ)) (all : List ℕ) → Appends a b all → AppendsFront a b all
 whole_front a b all out = (all, [], sym (append-nil all), out)

@@ -100,9 +100,11 @@ module _ (laws : WrittenInParts) (o : Surroundings) (told : AreTold o) (form : F
   pub converts_given : {R : Type 0} (left : R → Option (List ℕ)) (i j : Inlet R) (a b : Option (List ℕ)) → RelaysGiven left i j target o a b → ConvertsGiven left i j form a b (dropped_in form o.recording)
   converts_given left i j a b h = (h.0, relayed target o.sound h.1, h.2, converts h.0 h.1 h.3, h.4)
 
-  pub converts_front : (left a b : Option (List ℕ)) → RelaysFront left target o a b → ConvertsFront left o form a b
-  converts_front None a b h = tt
-  converts_front (Some file) a b h = λ around bytes dropped is. subst (λ xs. AppendsFront a b xs) (one_text file (relayed target o.sound around.0) bytes form (dropped_in form o.recording) dropped (converts file around.0 around.1) is) (h around.0 around.1)
+  pub converts_front : (left a b : Option (List ℕ)) (f : StreamFault) → RelaysFront left target o a b f → ConvertsFront left o form a b
+  converts_front None a b f h = tt
+  converts_front (Some file) a b f h = λ around bytes dropped is.
+      let out = h around.0 around.1 in
+      subst (λ xs. AppendsFront a b xs) (one_text file (relayed target o.sound around.0) bytes form (dropped_in form o.recording) dropped (converts file around.0 around.1) is) (out.0, out.1, out.2, out.4)
 
 pub nothing_converted : (left : Option (List ℕ)) (o : Surroundings) (form : Form) (a : Option (List ℕ)) → ConvertsFront left o form a a
 nothing_converted None o form a = tt

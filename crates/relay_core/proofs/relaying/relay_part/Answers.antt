@@ -1,13 +1,14 @@
 use Rattle.std.proofs.Common.{◌≡◌, ◌+◌, ◌∙◌, ◌++◌, add-zero, ap, arith, length, length-take, subst, sym, take}
-use Rattle.std.proofs.lemmas.Result.{IfErr-weaker, on_err_weaker, on_ok_weaker}
+use Rattle.std.proofs.lemmas.Result.{IfErr-weaker, on_ok_weaker}
 use Rattle.std.specs.Io.KnownBytes.{Appends}
 use Rattle.device_core.specs.Inlets.{inlet_failures, inlet_reader}
-use Rattle.device_core.specs.Outlets.{AppendsFront, outlet_writer}
+use Rattle.device_core.specs.Outlets.{AppendsPart, outlet_writer}
 use Rattle.dsd_bits.specs.Sounds.{sound_size}
 use Rattle.relace_core.specs.Relacing.{relaced}
+use Rattle.sound_core.specs.declared.fault.StreamFault.TheVariants.{Memory}
 use Rattle.sound_core.proofs.FaultLaws.{unread}
 use Rattle.relay_core.proofs.ComparingLaws.{fault_is}
-use Rattle.relay_core.proofs.RelayLaws.{filling_in_part, none_counted, none_of_part, stretch_front, unwritten, whole_part, writing_in_part}
+use Rattle.relay_core.proofs.RelayLaws.{filling_in_part, none_counted, none_of_part, not_writing, stretch_front, until_part, unwritten, whole_part, writing_in_part}
 use Rattle.relay_core.proofs.relaying.relay_part.Goals as goal
 use Rattle.relay_core.proofs.relaying.relay_part.Goals.{After-deref-2}
 use Rattle.relay_core.proofs.relaying.relay_part.Given.{Over}
@@ -29,7 +30,7 @@ returns-clause-front g c =
     let here = (goal.at.returns-clause-front g c).After-deref-2 in
     let a = g.W.Write.contents (outlet_writer c.args.outlet.now) in
     let b = g.W.Write.contents (outlet_writer c.put.new.outlet) in
-    on_err_weaker c.put.result (λ front. stretch_front s to c.args.part.bits (g.R.Read.remaining (inlet_reader c.args.inlet.now)) (g.R.Read.remaining (inlet_reader c.fill.new.inlet)) a b read c.in_ok-fill.ensures.read (omega (arith, length-take n c.fill.new.block.items, c.stretch_size-size.ensures, c.requires.part.fits, c.requires.size, c.fill.ensures.size)) (subst (AppendsFront a b) (made g here) front)) c.put.ensures.err
+    IfErr-weaker c.put.result _ _ (λ f front. stretch_front s to c.args.part.bits (g.R.Read.remaining (inlet_reader c.args.inlet.now)) (g.R.Read.remaining (inlet_reader c.fill.new.inlet)) a b read f c.in_ok-fill.ensures.read (omega (arith, length-take n c.fill.new.block.items, c.stretch_size-size.ensures, c.requires.part.fits, c.requires.size, c.fill.ensures.size)) (until_part a b _ f (subst (AppendsPart a b) (made g here) front))) c.put.ensures.err
 
 pub returns-clause-ok : goal.returns-clause-ok
 returns-clause-ok g c =
@@ -66,7 +67,7 @@ returns-in_err-fill g c =
       size = c.fill.ensures.size ∙ c.requires.size;
       ok = tt;
       given = tt;
-      front = none_of_part left s c.args.part.relacing.to c.args.part.bits (g.W.Write.contents (outlet_writer c.args.outlet.now));
+      front = none_of_part left s c.args.part.relacing.to c.args.part.bits (g.W.Write.contents (outlet_writer c.args.outlet.now)) f (not_writing _ f c.in_err-fill.ensures.fault);
       fault = filling_in_part left s c.args.part.bits _ f c.stretch_size-size.ensures c.in_err-fill.ensures.fault;
       read_failed = c.in_err-fill.ensures.failures;
       write_failed = none_counted _ _ (unwritten _ f c.in_err-fill.ensures.fault);
@@ -79,7 +80,7 @@ returns-in_err-push_relaced g c =
       size = c.fill.ensures.size ∙ c.requires.size;
       ok = tt;
       given = tt;
-      front = none_of_part left c.args.part.relacing.sound c.args.part.relacing.to c.args.part.bits (g.W.Write.contents (outlet_writer c.args.outlet.now));
+      front = none_of_part left c.args.part.relacing.sound c.args.part.relacing.to c.args.part.bits (g.W.Write.contents (outlet_writer c.args.outlet.now)) Memory (λ same. cc);
       fault = tt;
       read_failed = c.in_ok-fill.ensures.failures;
       write_failed = sym (add-zero _);

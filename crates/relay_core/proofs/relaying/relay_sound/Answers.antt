@@ -1,5 +1,4 @@
 use Rattle.std.proofs.Common.{◌≡◌, ◌+◌, ◌-◌, ◌≤◌, ◌∙◌, inl, inr, ap, arith, subst, sym}
-use Rattle.dsd_bits.proofs.ExitLaws.{any_err}
 use Rattle.device_core.specs.Inlets.{inlet_reader}
 use Rattle.device_core.specs.Outlets.{outlet_writer}
 use Rattle.relay_core.specs.Relays.{IsPartFault, PartFront, RelaysPart}
@@ -51,8 +50,9 @@ returns-in_err-relay_part-clause-front g c =
     let a2 = g.W.Write.contents (outlet_writer c.relay_part.new.outlet) in
     let all : done + (bits + (c.loop-left.left - bits)) ≡ s.count = omega (arith, so_far.1, c.min-bits.ensures) in
     let last = last_groups c.loop-left.left c.stretch_bits-most.result bits c.stretch_bits-most.ensures.groups c.min-bits.ensures in
-    any_err c.from_residual.result (subst (λ n. PartFront l0 s to n a0 a2) all
-    (part_front c.groups_join.ensures s to l0 (g.R.Read.remaining (inlet_reader c.loop-left.inlet)) a0 (g.W.Write.contents (outlet_writer c.loop-left.outlet)) done so_far.0 (so_far.2 (omega (arith, c.loop-left-test.true))) bits (c.loop-left.left - bits) a2 last c.in_err-relay_part.ensures.front))
+    let f = c.in_err-relay_part.field-0.0 in
+    rw (fault_is c.from_residual.result _ c.from_residual.ensures.1) (subst (λ n. PartFront l0 s to n a0 a2 f) all
+    (part_front c.groups_join.ensures s to l0 (g.R.Read.remaining (inlet_reader c.loop-left.inlet)) a0 (g.W.Write.contents (outlet_writer c.loop-left.outlet)) done so_far.0 (so_far.2 (omega (arith, c.loop-left-test.true))) bits (c.loop-left.left - bits) a2 f last c.in_err-relay_part.ensures.front))
 
 pub returns-in_err-relay_part-clause-fault : goal.returns-in_err-relay_part-clause-fault
 returns-in_err-relay_part-clause-fault g c =

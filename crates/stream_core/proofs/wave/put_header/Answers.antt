@@ -7,7 +7,7 @@ use Rattle.wave_core.specs.declared.spec.WaveSpec.{WaveSpec}
 use Rattle.sound_core.proofs.FaultLaws.{by_writing}
 use Rattle.stream_core.specs.Wave.{IsOpeningFault, header_of}
 use Rattle.stream_core.proofs.FaultLaws.{writing_later}
-use Rattle.stream_core.proofs.PieceLaws.{front_nil}
+use Rattle.stream_core.proofs.PieceLaws.{front_nil, part_is_front}
 use Rattle.stream_core.proofs.WaveLaws.{header_is, opens_wave}
 use Rattle.stream_core.proofs.wave.put_header.Goals as goal
 
@@ -30,7 +30,7 @@ returns-in-Ok g c =
     let is = c.as_slice.ensures.value ∙ header_is d s c.spec_of.result c.total_frames.result c.clear.new.self.items c.push_header.new.out.items c.spec_of.ensures.spec c.total_frames.ensures c.clear.ensures.items c.in-Ok.ensures.ok in
     record {
       ok = on_ok_weaker c.put.result (opens_wave d s c.spec_of.result c.total_frames.result c.clear.new.self.items c.push_header.new.out.items c.spec_of.ensures.spec c.total_frames.ensures c.clear.ensures.items c.as_slice.result.now a b (c.rate_fits.ensures.0 c.if-not-rate_fits.false) c.in-Ok.ensures.fits is) c.put.ensures.ok;
-      err = on_err_weaker c.put.result (subst (AppendsFront a b) is) c.put.ensures.err;
+      err = on_err_weaker c.put.result (λ out. subst (AppendsFront a b) is (part_is_front a b _ out)) c.put.ensures.err;
       least = on_ok_weaker c.put.result (λ put. c.spec_of.ensures.factor) c.put.ensures.ok;
       fault = IfErr-weaker c.put.result _ _ (λ f h. by_writing (IsOpeningFault d s) tt tt f h) c.put.ensures.fault;
       unwritten = IfErr-weaker c.put.result _ _ (λ f h early. absurd (writing_later f h early)) c.put.ensures.fault;

@@ -4,7 +4,7 @@ use Rattle.std.proofs.lemmas.Result.{on_err_weaker, on_ok_weaker}
 use Rattle.dsd_bits.proofs.ExitLaws.{any_err}
 use Rattle.device_core.specs.Outlets.{AppendsFront, outlet_writer}
 use Rattle.stream_core.specs.Wave.{pad_of}
-use Rattle.stream_core.proofs.PieceLaws.{front_nil}
+use Rattle.stream_core.proofs.PieceLaws.{front_nil, part_is_front}
 use Rattle.stream_core.proofs.WaveLaws.{pad_is}
 use Rattle.stream_core.proofs.wave.put_pad.Goals as goal
 
@@ -19,4 +19,6 @@ returns-clause-ok g c =
 pub returns-clause-err : goal.returns-clause-err
 returns-clause-err g c =
     let is = c.as_slice.ensures.value ∙ pad_is c.args.taps.now c.args.sound.now c.spec_of.result c.total_frames.result c.clear.new.self.items c.push_pad.new.out.items c.spec_of.ensures.spec c.total_frames.ensures c.clear.ensures.items c.in_ok-push_pad.ensures.ok in
-    on_err_weaker c.put.result (subst (AppendsFront (g.W.Write.contents (outlet_writer c.args.outlet.now)) (g.W.Write.contents (outlet_writer c.put.new.outlet))) is) c.put.ensures.err
+    let a = g.W.Write.contents (outlet_writer c.args.outlet.now) in
+    let b = g.W.Write.contents (outlet_writer c.put.new.outlet) in
+    on_err_weaker c.put.result (λ out. subst (AppendsFront a b) is (part_is_front a b _ out)) c.put.ensures.err

@@ -44,7 +44,7 @@ returns-in_err-relay g c =
     rw (fault_is c.from_residual-in_err-relay.result _ c.from_residual-in_err-relay.ensures.1) (record {
       ok = tt;
       any_reader = tt;
-      front = converts_front c.written_in_parts.ensures around c.requires.told c.args.form c.in_ok-ends.ensures.fits (record { interleaving = c.interleaving_in.result; head = c.deref.result; tail = c.deref-2.result }) c.interleaving_in.ensures (head_is g at.After-relay) (tail_is g at.After-relay) left before (g.W.Write.contents (outlet_writer c.relay.new.outlet)) c.in_err-relay.ensures.front;
+      front = converts_front c.written_in_parts.ensures around c.requires.told c.args.form c.in_ok-ends.ensures.fits (record { interleaving = c.interleaving_in.result; head = c.deref.result; tail = c.deref-2.result }) c.interleaving_in.ensures (head_is g at.After-relay) (tail_is g at.After-relay) left before (g.W.Write.contents (outlet_writer c.relay.new.outlet)) f c.in_err-relay.ensures.front;
       refused = relay_stands left around c.args.form f c.in_err-relay.ensures.fault;
       not_whole_bytes = λ is. absurd (is c.in_ok-ends.ensures.fits);
       read_failed = rw (same_stream f) c.in_err-relay.ensures.read_failed;

@@ -4,7 +4,7 @@ ghost use Rattle.std.specs.Prelude.{◌≡◌, ◌+◌, ◌-◌, ◌<◌, ◌^�
 ghost use Rattle.std.specs.Io.KnownBytes.{Appends};
 ghost use Rattle.archive_core.specs.Cutting.{AreTakes, said_cut};
 ghost use Rattle.archive_core.specs.Editing.{Edits};
-ghost use Rattle.archive_core.specs.Planning.{AnswersPlanned, IsPlanned, Plans};
+ghost use Rattle.archive_core.specs.Planning.{AnswersPlanned, IsFileOf, IsPlanned, Plans};
 ghost use Rattle.cut_core.specs.Hearing.{AreOfTakes};
 ghost use Rattle.device_core.specs.Outlets.{AppendsPart, outlet_failures, outlet_writer};
 ghost use Rattle.form_core.specs.Steps.{Fails};
@@ -48,6 +48,8 @@ pub fn plan_master(
 ) -> Result<PlannedMaster, Fault>
     requires { AreOfTakes (splice_content splice) takes.items }
     ensures planned { IfOk result IsPlanned }
+    // It is the plan of a file.
+    ensures file { IfOk result (λ planned. (file : List ℕ) × IsFileOf planned file) }
     // Of whichever project and files it was heard, it is their master, whose certificate shows it to be least.
     ensures found { (project : List ℕ) (files : List (List ℕ))
         → AreTakes project files (splice_content splice) takes.items → IfOk result (Plans project files form) }
@@ -76,7 +78,7 @@ pub fn plan_master(
 }
 
 impl PlannedMaster {
-    ghost use Rattle.archive_core.specs.Planning.{CertifiesPlanned, IsFileOf, IsSamePlan, planned_total};
+    ghost use Rattle.archive_core.specs.Planning.{CertifiesPlanned, IsSamePlan, planned_total};
 
     /// What the bridges of the master cost: the sum over all bridges of all channels.
     pub fn total(&self) -> u128

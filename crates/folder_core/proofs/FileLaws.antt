@@ -1,9 +1,9 @@
--- Files that are read one after the other.
-use Rattle.std.proofs.Common.{◌≡◌, ℕ, ◌+◌, ◌<◌, ◌++◌, ◌∷◌, ◌∙◌, [], List, Vec, Global, String, ap, get_or, length, map, subst, sym, take}
+-- Files that are read one after the other, and files that were given up.
+use Rattle.std.proofs.Common.{◌≡◌, ℕ, Bool, Err, IsTrue, Ok, Option, Result, false, inl, inr, true, ◌+◌, ◌<◌, ◌++◌, ◌∷◌, ◌∙◌, [], List, Vec, Global, String, ap, get_or, length, map, subst, sym, take}
 use Rattle.std.specs.List.{AllZip}
-use Rattle.std.specs.Prelude.{string_bytes}
+use Rattle.std.specs.Prelude.{OnErr, OnOk, string_bytes}
 use Rattle.std.proofs.lemmas.List.{map-append, take_more}
-use Rattle.folder_core.specs.Files.{AreReadOf, IsReadOf, View}
+use Rattle.folder_core.specs.Files.{AreReadOf, IsEnded, IsGivenUp, IsReadOf, View}
 
 pub zip_more : {A B : Type 0} (R : A → B → Type 0) (xs : List A) (ys : List B) (x : A) (y : B) → AllZip R xs ys → R x y → AllZip R (xs ++ x ∷ []) (ys ++ y ∷ [])
 zip_more R [] [] x y before one = (one, tt)
@@ -19,3 +19,14 @@ one_file_more view names i name files more file lt is before given next =
     let grown = zip_more (IsReadOf view) (map string_bytes (take i names)) (map (λ (file : Vec ℕ Global). file.items) files) (string_bytes name) file before given in
     subst (λ (ns : List (List ℕ)). AreReadOf view ns (map (λ (file : Vec ℕ Global). file.items) more)) (sym named)
     (subst (λ (fs : List (List ℕ)). AreReadOf view (map string_bytes (take i names) ++ string_bytes name ∷ []) fs) (sym next) grown)
+
+-- a created file that was not written whole was given up
+pub given_up : (name : List ℕ) (old new : View) (is_whole : Bool) (held : Option (List ℕ)) {T E : Type 0} (r : Result T E) → is_whole ≡ false → OnOk r (IsTrue is_whole) → OnErr r (IsEnded name old new is_whole held) → IsTrue old.is_told → IsGivenUp name old new held
+given_up name old new is_whole held (Ok x) part whole refused told = let e : false ≡ true = sym part ∙ whole in absurd cc
+given_up name old new is_whole held (Err e) part whole (inl same) told = inl same
+given_up name old new is_whole held (Err e) part whole (inr ended) told = ended.1 told
+
+-- one that was written whole and not kept left what was there
+pub not_kept : (name : List ℕ) (old new : View) (is_whole : Bool) (held : Option (List ℕ)) → is_whole ≡ true → IsEnded name old new is_whole held → new.file name ≡ old.file name
+not_kept name old new is_whole held all (inl same) = same
+not_kept name old new is_whole held all (inr ended) = let e : false ≡ true = sym ended.0 ∙ all in absurd cc

@@ -57,6 +57,10 @@ HadNone name old = IsTrue old.keeps_old → old.file name ≡ None
 abbrev pub IsGivenUp : List ℕ → View → View → Option (List ℕ) → Type 0
 IsGivenUp name old new held = (new.file name ≡ old.file name) ⊎ ((new.file name ≡ held) × HadNone name old)
 
+-- a created file was not kept: under its name is what was there, or it was not written whole, and was given up
+abbrev pub IsEnded : List ℕ → View → View → Bool → Option (List ℕ) → Type 0
+IsEnded name old new is_whole held = (new.file name ≡ old.file name) ⊎ ((is_whole ≡ false) × (IsTrue old.is_told → IsGivenUp name old new held))
+
 -- a file holds a prefix of some bytes now, and no old file had to be kept
 pub record HoldsPrefix (name : List ℕ) (old new : View) (bytes : List ℕ) : Type 0 where
   pub prefix : List ℕ

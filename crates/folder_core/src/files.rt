@@ -1,12 +1,12 @@
 //! Files of a folder, read and written whole.
 
-ghost use Rattle.std.specs.Prelude.{◌≡◌, ◌⊎◌, ℕ, List, [], ◌∷◌, ◌++◌, IfErr, IfOk, IfSome, IsErr, IsOk, IsTrue, OnErr, OnOk, map, string_bytes};
-ghost use Rattle.folder_core.specs.Files.{AreReadOf, HadNone, IsFront, IsPut, IsReadFault, IsReadOf, KeepsOthers};
+ghost use Rattle.std.specs.Prelude.{◌≡◌, ℕ, List, [], ◌∷◌, ◌++◌, IfErr, IfOk, IfSome, IsTrue, OnErr, OnOk, map, string_bytes};
+ghost use Rattle.folder_core.specs.Files.{AreReadOf, IsEnded, IsFront, IsPut, IsReadFault, IsReadOf, KeepsOthers};
 ghost use Rattle.folder_core.specs.declared.fault.FileFault.TheVariants as faults;
 
 use crate::fault::FileFault;
 use crate::folder::Folder;
-use device_core::{Device, FusedInlet, MOST_READS, Outlet};
+use device_core::{FusedInlet, MOST_READS, Outlet};
 use std::alloc::Global;
 use std::io::Read;
 
@@ -94,29 +94,28 @@ pub fn write_file<F: Folder>(folder: &mut F, name: &str, bytes: &[u8]) -> Result
         return Err(FileFault::WriteFailed);
     };
     let mut outlet = Outlet::new(file);
-    let written = outlet.put_all(bytes);
-    hand_back(folder, name, written, outlet.into_inner())
+    let is_whole = outlet.put_all(bytes).is_ok();
+    hand_back(folder, name, is_whole, outlet.into_inner())
 }
 
-/// Hands a created file back that was written whole, and gives up one of which a write failed.
+/// Ends a created file: it is handed back where it was written whole, and else given up.
 ///
-/// Refusal: `WriteFailed` where a write failed, or the file can't be kept.
+/// Refusal: `WriteFailed` where it was not written whole, or can't be kept.
 pub fn hand_back<F: Folder>(
     folder: &mut F,
     name: &str,
-    written: Result<(), Device>,
+    is_whole: bool,
     made: F::Out,
 ) -> Result<(), FileFault>
     ensures others { KeepsOthers name.now (F.view folder.old) (F.view folder.new) }
-    ensures whole { OnOk result (IsOk written) }
-    ensures bytes { OnOk result (IsTrue (F.view folder.old).is_told → (F.view folder.new).file name.now ≡ F.Out.contents made) }
-    ensures refused { OnErr result (IsTrue (F.view folder.old).is_told
-        → ((F.view folder.new).file name.now ≡ (F.view folder.old).file name.now)
-        ⊎ (IsErr written × ((F.view folder.new).file name.now ≡ F.Out.contents made)
-        × HadNone name.now (F.view folder.old))) }
+    ensures whole { OnOk result (IsTrue is_whole) }
+    ensures bytes { OnOk result (IsTrue (F.view folder.old).is_told
+        → (F.view folder.new).file name.now ≡ F.Out.contents made) }
+    ensures refused { OnErr result (IsEnded name.now (F.view folder.old) (F.view folder.new) is_whole
+        (F.Out.contents made)) }
     ensures fault { IfErr result (λ fault. fault ≡ faults.WriteFailed) }
 {
-    if written.is_err() {
+    if !is_whole {
         folder.give_up(name, made);
         return Err(FileFault::WriteFailed);
     }

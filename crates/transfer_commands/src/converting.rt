@@ -12,7 +12,7 @@ ghost use Rattle.transfer_commands.specs.Outlining.{OutlinesRead};
 use crate::fault::CommandFault;
 use crate::outlining::outline_file;
 use device_core::{Inlet, Outlet};
-use folder_core::{Folder, read_file, read_short, write_file};
+use folder_core::{Folder, hand_back, read_file, read_short, write_file};
 use form_core::{Form, held_is_opened, written_in_parts};
 use sound_core::{Outline, StreamFault};
 use std::alloc::Global;
@@ -90,19 +90,15 @@ fn convert_outlined<F: Folder>(
         return Err(CommandFault::WriteFailed);
     };
     let (came, made) = convert_between(alloc, form, outline, file, made);
+    let handed = hand_back(folder, output, came.is_ok(), made);
     match came {
-        Ok(dropped) => match folder.keep(output, made) {
+        Ok(dropped) => match handed {
             Ok(()) => Ok(dropped),
             Err(_) => Err(CommandFault::WriteFailed),
         },
-        Err(fault) => {
-            folder.give_up(output, made);
-            match fault {
-                Fault::Stream(StreamFault::WriteFailed) => Err(CommandFault::WriteFailed),
-                Fault::Memory => Err(CommandFault::Call(Fault::Memory)),
-                _ => Err(CommandFault::ReadFailed),
-            }
-        }
+        Err(Fault::Stream(StreamFault::WriteFailed)) => Err(CommandFault::WriteFailed),
+        Err(Fault::Memory) => Err(CommandFault::Call(Fault::Memory)),
+        Err(_) => Err(CommandFault::ReadFailed),
     }
 }
 

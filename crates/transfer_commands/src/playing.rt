@@ -6,7 +6,7 @@ ghost use Rattle.transfer_commands.specs.Playing.{PlayComesTo, PlayedComesTo};
 
 use crate::fault::CommandFault;
 use device_core::{Inlet, Outlet};
-use folder_core::{Folder, read_file};
+use folder_core::{Folder, hand_back, read_file};
 use std::alloc::Global;
 use transfer_core::play_stream;
 
@@ -48,15 +48,12 @@ fn play_to<F: Folder>(
     let mut inlet = Inlet::new(file);
     let mut outlet = Outlet::new(wave);
     let played = play_stream(alloc, project, &mut inlet, &mut outlet);
-    let wave = outlet.into_inner();
+    let handed = hand_back(folder, output, played.is_ok(), outlet.into_inner());
     match played {
-        Ok(count) => match folder.keep(output, wave) {
+        Ok(count) => match handed {
             Ok(()) => Ok(count),
             Err(_) => Err(CommandFault::WriteFailed),
         },
-        Err(fault) => {
-            folder.give_up(output, wave);
-            Err(CommandFault::Call(fault))
-        }
+        Err(fault) => Err(CommandFault::Call(fault)),
     }
 }

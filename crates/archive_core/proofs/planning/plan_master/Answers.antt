@@ -64,6 +64,11 @@ returns-clause-found c = λ project files are.
       windows = file_costs project files cut says form recording told.master told.file told.read_again total told.windows;
     }
 
+pub returns-clause-file : goal.returns-clause-file
+returns-clause-file c =
+    let told = c.in_ok-bridges.ensures.master in
+    (told.file, record { channels = told.channels; best = told.best; text = told.text })
+
 pub returns-clause-planned : goal.returns-clause-planned
 returns-clause-planned c =
     let made = c.in_ok-bridges.ensures in

@@ -1,7 +1,7 @@
 use Rattle.std.proofs.Common.{◌≡◌, ◌∙◌, [], IsTrue, Some, ap, arith, inl, refl, subst}
-use Rattle.std.specs.Prelude.{OnErr, OnOk, ◌⊎◌, IsErr}
+use Rattle.std.specs.Prelude.{OnErr, OnOk}
 use Rattle.device_core.specs.Outlets.{outlet_writer}
-use Rattle.folder_core.specs.Files.{HadNone, KeepsOthers, View}
+use Rattle.folder_core.specs.Files.{IsEnded, KeepsOthers, View}
 use Rattle.command_core.proofs.WritingLaws.{cert_front, cert_whole, unchanged}
 use Rattle.command_core.proofs.writing.write_certificate.Goals as goal
 
@@ -17,10 +17,11 @@ returns g c =
     let same = c.create.ensures.same in
     let others = subst (λ (v : View). KeepsOthers name v new) same c.hand_back.ensures.others in
     let empty : IsTrue old.is_told → a ≡ Some [] = λ told. ap contents c.new.ensures.writer ∙ c.in-Ok.ensures.empty told in
+    let whole_is = c.is_ok.ensures.value in
     record {
       others = others;
-      bytes = cert_whole name old new others a b made (ap contents c.into_inner.ensures) empty c.args.planned c.hand_back.result c.write_certificate-came.result.0 c.write_certificate-came.ensures.ok c.hand_back.ensures.whole (subst (λ (v : View). OnOk c.hand_back.result (IsTrue v.is_told → new.file name ≡ made)) same c.hand_back.ensures.bytes);
-      refused = cert_front name old new others a b made (ap contents c.into_inner.ensures) empty c.args.planned c.hand_back.result c.write_certificate-came.result.0 c.is_certifiable.ensures c.write_certificate-came.ensures.err (subst (λ (v : View). OnErr c.hand_back.result (IsTrue v.is_told → (new.file name ≡ v.file name) ⊎ (IsErr c.write_certificate-came.result.0 × (new.file name ≡ made) × HadNone name v))) same c.hand_back.ensures.refused);
+      bytes = cert_whole name old new others a b made (ap contents c.into_inner.ensures) empty c.write_certificate-came.result.0 c.is_ok.result whole_is c.args.planned c.hand_back.result c.write_certificate-came.ensures.ok c.hand_back.ensures.whole (subst (λ (v : View). OnOk c.hand_back.result (IsTrue v.is_told → new.file name ≡ made)) same c.hand_back.ensures.bytes);
+      refused = cert_front name old new others a b made (ap contents c.into_inner.ensures) empty c.write_certificate-came.result.0 c.is_ok.result whole_is c.args.planned c.hand_back.result c.is_certifiable.ensures c.write_certificate-came.ensures.err (subst (λ (v : View). OnErr c.hand_back.result (IsEnded name v new c.is_ok.result made)) same c.hand_back.ensures.refused);
       fault = c.hand_back.ensures.fault;
     }
 

@@ -1,11 +1,17 @@
-use Rattle.std.proofs.Common.{false, true, ◌≡◌, ◌∙◌, IsTrue, Some, [], refl, subst, sym, inl, inr}
+use Rattle.std.proofs.Common.{false, true, ◌≡◌, ◌∙◌, IsTrue, Some, [], ap, refl, subst, inl, inr}
+use Rattle.std.specs.Prelude.{is_ok}
 use Rattle.folder_core.specs.Files.{IsGiven, IsGivenUp, KeepsOthers, View}
+use Rattle.folder_core.proofs.FileLaws.{given_up, not_kept}
+use Rattle.sound_core.specs.Outlines.{around_of}
+use Rattle.transfer_core.specs.Conversions as streams
+use Rattle.transfer_core.specs.declared.fault.Fault.{Fault}
+use Rattle.std.proofs.Common.{Err}
 use Rattle.transfer_commands.specs.Converting.{ConvertsFront}
 use Rattle.transfer_commands.specs.Outlining.{OutlinesRead}
 use Rattle.transfer_commands.proofs.ConvertLaws.{converts_all, converts_front, converts_none, outlined_unconverted}
 use Rattle.transfer_commands.proofs.converting.convert_outlined.Given.{Over}
 use Rattle.transfer_commands.proofs.converting.convert_outlined.Goals as goal
-use Rattle.transfer_commands.proofs.converting.convert_outlined.Goals.{After-give_up, In-Ok-create}
+use Rattle.transfer_commands.proofs.converting.convert_outlined.Goals.{After-hand_back-handed, In-Ok-create}
 
 pub returns-then-not-fits_in : goal.returns-then-not-fits_in
 returns-then-not-fits_in g c = λ found. (
@@ -41,41 +47,52 @@ module _ (g : Over) (c : In-Ok-create g) where
   empty : IsTrue old.is_told → g.F.Out.Write.contents c.in-Ok-create.made ≡ Some []
   empty = subst (λ (v : View). IsTrue v.is_told → g.F.Out.Write.contents c.in-Ok-create.made ≡ Some []) c.open.ensures.same c.in-Ok-create.ensures.empty
 
--- after a fault a prefix was written, or what was there is there still
-front : (g : Over) (c : After-give_up g) → OutlinesRead c.args.input.now (g.F.Folder.view c.args.folder.now) c.args.outline.now → ConvertsFront c.args.form c.args.input.now c.args.output.now (g.F.Folder.view c.args.folder.now) (g.F.Folder.view c.give_up.new.self)
-front g c found =
-    let k = (goal.at-After-give_up g c).In-Ok-create in
-    let new = g.F.Folder.view c.give_up.new.self in
-    let written = g.F.Out.Write.contents c.convert_between-came.result.1 in
-    converts_front c.args.form c.args.input.now c.args.output.now (old g k) new (subst (λ (v : View). KeepsOthers c.args.output.now v new) (same g k) c.give_up.ensures.others)
-    c.args.outline.now found c.written_in_parts.ensures (c.if-not-fits_in.ensures.0 refl)
-    (g.F.In.Read.remaining c.in-Ok.file) (g.F.Out.Write.contents c.in-Ok-create.made) written
-    (given g k) (empty g k) (subst (λ (v : View). IsTrue v.is_told → IsGivenUp c.args.output.now v new written) (same g k) c.give_up.ensures.left) (rw c.in-Err.is at c.convert_between-came.ensures.front)
+-- it was handed back, or given up
+module _ (g : Over) (c : After-hand_back-handed g) where
+  abbrev k : In-Ok-create g
+  k = (goal.at-After-hand_back-handed g c).In-Ok-create
 
-pub returns-in-Ok-keep : goal.returns-in-Ok-keep
-returns-in-Ok-keep g c = λ found.
-    let k = (goal.at.returns-in-Ok-keep g c).In-Ok-create in
-    let new = g.F.Folder.view c.keep.new.self in
+  abbrev new : View
+  new = g.F.Folder.view c.hand_back-handed.new.folder
+
+  others : KeepsOthers c.args.output.now (old g k) new
+  others = subst (λ (v : View). KeepsOthers c.args.output.now v new) (same g k) c.hand_back-handed.ensures.others
+
+  -- after a fault a prefix was written, or what was there is there still
+  front : (fault : Fault) → c.convert_between-came.result.0 ≡ Err fault → OutlinesRead c.args.input.now (old g k) c.args.outline.now → ConvertsFront c.args.form c.args.input.now c.args.output.now (old g k) new
+  front fault is found =
+      let written = g.F.Out.Write.contents c.convert_between-came.result.1 in
+      let no : c.is_ok.result ≡ false = c.is_ok.ensures.value ∙ ap is_ok is in
+      let stays = given_up c.args.output.now (g.F.Folder.view c.create.new.self) new c.is_ok.result written c.hand_back-handed.result no c.hand_back-handed.ensures.whole c.hand_back-handed.ensures.refused in
+      let before : streams.ConvertsFront (g.F.In.Read.remaining c.in-Ok.file) (around_of c.args.outline.now) c.args.form (g.F.Out.Write.contents c.in-Ok-create.made) written = rw is at c.convert_between-came.ensures.front in
+      converts_front c.args.form c.args.input.now c.args.output.now (old g k) new others
+      c.args.outline.now found c.written_in_parts.ensures (c.if-not-fits_in.ensures.0 refl)
+      (g.F.In.Read.remaining c.in-Ok.file) (g.F.Out.Write.contents c.in-Ok-create.made) written
+      (given g k) (empty g k) (subst (λ (v : View). IsTrue v.is_told → IsGivenUp c.args.output.now v new written) (same g k) stays) before
+
+pub returns-in-Ok-handed : goal.returns-in-Ok-handed
+returns-in-Ok-handed g c = λ found.
+    let h = (goal.at.returns-in-Ok-handed g c).After-hand_back-handed in
+    let made = k g h in
     let written = g.F.Out.Write.contents c.convert_between-came.result.1 in
-    converts_all c.args.form c.args.input.now c.args.output.now (old g k) new (subst (λ (v : View). KeepsOthers c.args.output.now v new) (same g k) c.keep.ensures.others)
+    converts_all c.args.form c.args.input.now c.args.output.now (old g made) (new g h) (others g h)
     (g.F.In.Read.remaining c.in-Ok.file) (g.F.Out.Write.contents c.in-Ok-create.made) written c.in-Ok-came.dropped
-    (given g k) (empty g k) (subst (λ (v : View). IsTrue v.is_told → new.file c.args.output.now ≡ written) (same g k) c.in-Ok-keep.ensures.bytes) (rw c.in-Ok-came.is at c.convert_between-came.ensures.ok) (rw c.in-Ok-came.is at c.convert_between-came.ensures.any_reader)
+    (given g made) (empty g made) (subst (λ (v : View). IsTrue v.is_told → (new g h).file c.args.output.now ≡ written) (same g made) c.in-Ok-handed.ensures.bytes) (rw c.in-Ok-came.is at c.convert_between-came.ensures.ok) (rw c.in-Ok-came.is at c.convert_between-came.ensures.any_reader)
 
-pub returns-in-Err-keep : goal.returns-in-Err-keep
-returns-in-Err-keep g c = λ found.
-    let k = (goal.at.returns-in-Err-keep g c).In-Ok-create in
-    let new = g.F.Folder.view c.keep.new.self in
-    converts_none c.args.form c.args.input.now c.args.output.now (old g k) new (subst (λ (v : View). KeepsOthers c.args.output.now v new) (same g k) c.keep.ensures.others)
-    c.args.outline.now found c.written_in_parts.ensures (c.if-not-fits_in.ensures.0 refl) (subst (λ (v : View). new.file c.args.output.now ≡ v.file c.args.output.now) (same g k) c.in-Err-keep.ensures.refused)
+pub returns-in-Err-handed : goal.returns-in-Err-handed
+returns-in-Err-handed g c = λ found.
+    let h = (goal.at.returns-in-Err-handed g c).After-hand_back-handed in
+    let made = k g h in
+    let yes : c.is_ok.result ≡ true = c.is_ok.ensures.value ∙ ap is_ok c.in-Ok-came.is in
+    let same_file = not_kept c.args.output.now (g.F.Folder.view c.create.new.self) (new g h) c.is_ok.result (g.F.Out.Write.contents c.convert_between-came.result.1) yes c.in-Err-handed.ensures.refused in
+    converts_none c.args.form c.args.input.now c.args.output.now (old g made) (new g h) (others g h)
+    c.args.outline.now found c.written_in_parts.ensures (c.if-not-fits_in.ensures.0 refl) (subst (λ (v : View). (new g h).file c.args.output.now ≡ v.file c.args.output.now) (same g made) same_file)
 
-pub returns-in-Stream-WriteFailed : goal.returns-in-Stream-WriteFailed
-returns-in-Stream-WriteFailed g c = λ found. front g (goal.at.returns-in-Stream-WriteFailed g c).After-give_up found
+pub returns-in-Err-Stream-WriteFailed : goal.returns-in-Err-Stream-WriteFailed
+returns-in-Err-Stream-WriteFailed g c = λ found. front g (goal.at.returns-in-Err-Stream-WriteFailed g c).After-hand_back-handed _ c.in-Err-Stream-WriteFailed.is found
 
-pub returns-in-Memory : goal.returns-in-Memory
-returns-in-Memory g c = λ found. inr (front g (goal.at.returns-in-Memory g c).After-give_up found)
+pub returns-in-Err-Memory : goal.returns-in-Err-Memory
+returns-in-Err-Memory g c = λ found. inr (front g (goal.at.returns-in-Err-Memory g c).After-hand_back-handed _ c.in-Err-Memory.is found)
 
-pub returns-in_default-fault : goal.returns-in_default-fault
-returns-in_default-fault g c = λ found. inr (front g (goal.at.returns-in_default-fault g c).After-give_up found)
-
-pub returns-in_default-fault-2 : goal.returns-in_default-fault-2
-returns-in_default-fault-2 g c = λ found. inr (front g (goal.at.returns-in_default-fault-2 g c).After-give_up found)
+pub returns-in-Err : goal.returns-in-Err
+returns-in-Err g c = λ found. inr (front g (goal.at.returns-in-Err g c).After-hand_back-handed _ c.in-Err.is found)

@@ -1,24 +1,32 @@
-use Rattle.std.proofs.Common.{◌≡◌, ◌∙◌, IsTrue, subst, ap}
+use Rattle.std.proofs.Common.{◌≡◌, ◌∙◌, IsTrue, ap, false, subst, true}
+use Rattle.std.specs.Prelude.{is_ok}
 use Rattle.folder_core.specs.Files.{IsGivenUp}
+use Rattle.folder_core.proofs.FileLaws.{given_up, not_kept}
 use Rattle.transfer_core.specs.Playing.{Plays}
-use Rattle.stream_core.specs.Playing.{PlaysFile, WritesFront}
-use Rattle.transfer_core.specs.Streaming.{OnlyFromOutside, StreamStands}
+use Rattle.stream_core.specs.Playing.{PlaysFile, PlaysGiven, WritesFront}
+use Rattle.transfer_core.specs.Streaming.{IsBeforeWriting, OnlyFromOutside, StreamStands}
 use Rattle.device_core.specs.Inlets.{inlet_reader}
 use Rattle.device_core.specs.Outlets.{outlet_writer}
 use Rattle.transfer_commands.proofs.PlayLaws.{ended, played}
 use Rattle.transfer_commands.proofs.playing.play_to.Goals as goal
 
-pub returns-in-Ok-keep : goal.returns-in-Ok-keep
-returns-in-Ok-keep g c = λ input given empty.
+pub returns-in-Ok-handed : goal.returns-in-Ok-handed
+returns-in-Ok-handed g c = λ input given empty.
     let project = c.args.project.now in
     let view = g.F.Folder.view in
     let written = g.F.Out.Write.contents (outlet_writer c.play_stream-played.new.outlet) in
     let left = ap g.F.In.Read.remaining c.new-inlet.ensures.reader in
     let held = ap g.F.Out.Write.contents c.new-outlet.ensures.writer in
-    let plays = subst (λ o. PlaysFile o (Plays project) (g.F.Out.Write.contents c.args.wave) written c.in-Ok.count) left (subst (λ o. PlaysFile (g.F.In.Read.remaining (inlet_reader c.new-inlet.result)) (Plays project) o written c.in-Ok.count) held c.in-Ok.ensures.ok) in
-    let some = c.in-Ok.ensures.any_reader in
-    let stands = subst (λ w. IsTrue (view c.args.folder.now).is_told → (view c.keep.new.self).file c.args.output.now ≡ g.F.Out.Write.contents w) c.into_inner-wave.ensures c.in-Ok-keep.ensures.bytes in
-    played project input c.args.output.now (view c.args.folder.now) (view c.keep.new.self) (g.F.In.Read.remaining c.args.file) (g.F.Out.Write.contents c.args.wave) written given empty c.keep.ensures.others stands c.in-Ok.count plays (some.0, some.1, some.3, some.4)
+    let ok : PlaysFile (g.F.In.Read.remaining (inlet_reader c.new-inlet.result)) (Plays project) (g.F.Out.Write.contents (outlet_writer c.new-outlet.result)) written c.in-Ok.count = rw c.in-Ok.is at c.play_stream-played.ensures.ok in
+    let plays = subst (λ o. PlaysFile o (Plays project) (g.F.Out.Write.contents c.args.wave) written c.in-Ok.count) left (subst (λ o. PlaysFile (g.F.In.Read.remaining (inlet_reader c.new-inlet.result)) (Plays project) o written c.in-Ok.count) held ok) in
+    let some : PlaysGiven g.F.In.Read.remaining c.new-inlet.result c.play_stream-played.new.inlet (Plays project) (g.F.Out.Write.contents (outlet_writer c.new-outlet.result)) written c.in-Ok.count = rw c.in-Ok.is at c.play_stream-played.ensures.any_reader in
+    let stands = subst (λ w. IsTrue (view c.args.folder.now).is_told → (view c.hand_back-handed.new.folder).file c.args.output.now ≡ g.F.Out.Write.contents w) c.into_inner.ensures c.in-Ok-handed.ensures.bytes in
+    played project input c.args.output.now (view c.args.folder.now) (view c.hand_back-handed.new.folder) (g.F.In.Read.remaining c.args.file) (g.F.Out.Write.contents c.args.wave) written given empty c.hand_back-handed.ensures.others stands c.in-Ok.count plays (some.0, some.1, some.3, some.4)
+
+pub returns-in-Ok : goal.returns-in-Ok
+returns-in-Ok g c = λ input given empty.
+    let yes : c.is_ok.result ≡ true = c.is_ok.ensures.value ∙ ap is_ok c.in-Ok.is in
+    (c.hand_back-handed.ensures.others, not_kept c.args.output.now (g.F.Folder.view c.args.folder.now) (g.F.Folder.view c.hand_back-handed.new.folder) c.is_ok.result (g.F.Out.Write.contents c.into_inner.result) yes c.in-Err-handed.ensures.refused)
 
 pub returns : goal.returns
 returns g c = λ input given empty.
@@ -28,19 +36,26 @@ returns g c = λ input given empty.
     let left = ap g.F.In.Read.remaining c.new-inlet.ensures.reader in
     let held = ap g.F.Out.Write.contents c.new-outlet.ensures.writer in
     let old = g.F.Folder.view c.args.folder.now in
-    let new = g.F.Folder.view c.give_up.new.self in
-    let front = subst (λ o. WritesFront o (Plays project) (g.F.Out.Write.contents c.args.wave) written) left (subst (λ o. WritesFront (g.F.In.Read.remaining (inlet_reader c.new-inlet.result)) (Plays project) o written) held c.in-Err.ensures.front) in
+    let new = g.F.Folder.view c.hand_back-handed.new.folder in
+    let no : c.is_ok.result ≡ false = c.is_ok.ensures.value ∙ ap is_ok c.in-Err.is in
+    let stream = c.play_stream-played.ensures in
+    let unread = g.F.In.Read.remaining (inlet_reader c.new-inlet.result) in
+    let own : WritesFront unread (Plays project) (g.F.Out.Write.contents (outlet_writer c.new-outlet.result)) written = rw c.in-Err.is at stream.front in
+    let stands : StreamStands unread project fault = rw c.in-Err.is at stream.refused in
+    let cause : OnlyFromOutside unread project fault = rw c.in-Err.is at stream.cause in
+    let unwritten : IsBeforeWriting fault → outlet_writer c.play_stream-played.new.outlet ≡ outlet_writer c.new-outlet.result = rw c.in-Err.is at stream.unwritten in
+    let front = subst (λ o. WritesFront o (Plays project) (g.F.Out.Write.contents c.args.wave) written) left (subst (λ o. WritesFront unread (Plays project) o written) held own) in
     (
       (λ told.
           let file = given told in
-          let stays = subst (λ w. IsGivenUp c.args.output.now old new (g.F.Out.Write.contents w)) c.into_inner-wave.ensures (c.give_up.ensures.left told) in
+          let stays = subst (λ w. IsGivenUp c.args.output.now old new (g.F.Out.Write.contents w)) c.into_inner.ensures (given_up c.args.output.now old new c.is_ok.result (g.F.Out.Write.contents c.into_inner.result) c.hand_back-handed.result no c.hand_back-handed.ensures.whole c.hand_back-handed.ensures.refused told) in
           (
             file.0,
             file.1,
             ended project c.args.output.now old new (g.F.In.Read.remaining c.args.file) (g.F.Out.Write.contents c.args.wave) written stays
-            fault (subst (λ o. StreamStands o project fault) left c.in-Err.ensures.refused) (subst (λ o. OnlyFromOutside o project fault) left c.in-Err.ensures.cause) front
-            (λ before. ap g.F.Out.Write.contents (c.in-Err.ensures.unwritten before) ∙ held)
+            fault (subst (λ o. StreamStands o project fault) left stands) (subst (λ o. OnlyFromOutside o project fault) left cause) front
+            (λ before. ap g.F.Out.Write.contents (unwritten before) ∙ held)
             file.0 file.2 (empty told),
           )),
-      c.give_up.ensures.others,
+      c.hand_back-handed.ensures.others,
     )

@@ -47,11 +47,12 @@ use Rattle.master_core.proofs.JudgeLaws.{channels_least, channels_made, have_sha
 use Rattle.master_core.proofs.LeastLaws.{cost_least}
 use Rattle.master_core.proofs.TotalLaws.{own_long, windows_are_total}
 use Rattle.archive_core.specs.Checking.{Accepts}
+use Rattle.archive_core.specs.Cutting.{SaysCut}
 use Rattle.archive_core.specs.Laws.{AcceptedCostsLeast, AcceptedCostsWindows, AcceptedIsLeast, AcceptedIsMaster}
 
 -- ---- recordings
 -- a recording without marks, kept chunks and tag, on which no bridge depends
-abbrev plain : Content → Content
+abbrev pub plain : Content → Content
 plain r = record r { marks = []; others = []; tag = [] }
 
 dsf_shape : (file : List ℕ) (r : Content) (order : BitOrder) → IsDsf file r order → HasShape (plain r)
@@ -63,7 +64,7 @@ dsf_shape file r order is =
     (subst IsLevel (sym is.channels_read) (unblocked_level order sound number count is.some_channel)) (omega (arith, ap count_of is.channels_read, unblocked_count order sound number count is.some_channel, is.not_long)) is.ids_read is.layout_read
 
 -- what a file holds keeps the rules of recordings
-plain_shape : (file : List ℕ) (form : Form) (r : Content) → HoldsAs file form r → HasShape (plain r)
+pub plain_shape : (file : List ℕ) (form : Form) (r : Content) → HoldsAs file form r → HasShape (plain r)
 plain_shape file forms.Dsdiff r is =
     let tells = is.tells in
     dsdiff.shape_is r.rate is.number r.layout r.channels r.ids is.sound.content [] [] [] [] [] [] tells.rate_low tells.rate_high tells.some_channel tells.six_channels
@@ -80,7 +81,7 @@ splicing s (Some d) (Some x) h e = let same : x ≡ s = cc in subst (λ (k : Spl
 
 -- ---- a cut of files
 -- a cut whose first take is plain: it has the same cues and bridges
-abbrev plain_cut : CutContent → CutContent
+abbrev pub plain_cut : CutContent → CutContent
 plain_cut cut = record cut { first = plain cut.first }
 
 module _ (splice : SpliceContent) (files : List (List ℕ)) (cut : CutContent) (fine : IsSplicing splice.weights (length splice.takes) splice.cues) (opens : OpensCut splice files None cut) where
@@ -131,7 +132,7 @@ module _ (splice : SpliceContent) (files : List (List ℕ)) (cut : CutContent) (
     windows = each_below (length splice.cues - 1) (λ i. each_below (length (plain_take 0 j).channels) (λ c. fades.bridging splice i (get_or (plain_take (fades.cue_at splice i).take j).channels c []) (get_or (plain_take (fades.cue_at splice (i + 1)).take j).channels c [])));
   }
 
-  pub can : CanCut (plain_cut cut)
+  can : CanCut (plain_cut cut)
   can = subst (λ k. CanCut (plain_cut k)) (sym opens.cut_is) (subst CanCut same_cut (can_cut splice plains fine fit shaped fades_join))
 
   -- ---- the window of each bridge is within its limits
@@ -155,12 +156,23 @@ module _ (splice : SpliceContent) (files : List (List ℕ)) (cut : CutContent) (
       subst IsBridging (sym is) (bridging_limits splice fine i (source splice takes c i) (fades.cue_at splice i).stop (source splice takes c (i + 1)) (fades.cue_at splice (i + 1)).start (omega arith)
       (omega (arith, cue.long_enough)) (source_long c i there (omega arith)) (omega (arith, next.long_enough, source_long c (i + 1) there lt)))
 
-  pub within : (c i : ℕ) → c < channel_number cut → i + 1 < length cut.splice.cues → IsBridging (window cut c i)
+  within : (c i : ℕ) → c < channel_number cut → i + 1 < length cut.splice.cues → IsBridging (window cut c i)
   within = subst (λ (k : CutContent). (c i : ℕ) → c < channel_number k → i + 1 < length k.splice.cues → IsBridging (window k c i)) (sym opens.cut_is)
       (λ c i there lt. window_in c i (omega (arith, there, length-replicate {A = List Bool} (length (take_at takes 0).channels) [])) lt)
 
+-- what a project and files say
+module _ (project : List ℕ) (files : List (List ℕ)) (cut : CutContent) (says : SaysCut project files None cut) where
+  fine : IsSplicing says.splice.weights (length says.splice.takes) says.splice.cues
+  fine = let said = says.project_says in splicing says.splice _ said.project.splice said.says.2.splice said.has
+
+  pub cut_can : CanCut (plain_cut cut)
+  cut_can = can says.splice files cut fine says.opens
+
+  pub window_within : (c i : ℕ) → c < channel_number cut → i + 1 < length cut.splice.cues → IsBridging (window cut c i)
+  window_within = within says.splice files cut fine says.opens
+
 -- ---- the places of a cut
-places_from : (cut : CutContent) (n a : ℕ) → a + n ≤ length cut.splice.cues - 1 → All (IsPlace cut) (flat_map (places_behind cut) (range_with_len a n))
+pub places_from : (cut : CutContent) (n a : ℕ) → a + n ≤ length cut.splice.cues - 1 → All (IsPlace cut) (flat_map (places_behind cut) (range_with_len a n))
 places_from cut zero a le = All-nil (IsPlace cut)
 places_from cut (suc n) a le =
     let here : All (IsPlace cut) (places_behind cut a) = elim (cases_lt 0 (cue_at cut a).bridge) [
@@ -192,11 +204,8 @@ module _ (project : List ℕ) (files : List (List ℕ)) (master cert : List ℕ)
   abbrev zs : List (List Bool)
   zs = is.recording.channels
 
-  fine : IsSplicing is.says.splice.weights (length is.says.splice.takes) is.says.splice.cues
-  fine = let says = is.says.project_says in splicing is.says.splice _ says.project.splice says.says.2.splice says.has
-
   can_be : CanCut (plain_cut cut)
-  can_be = can is.says.splice files cut fine is.says.opens
+  can_be = cut_can project files cut is.says
 
   own : IsMasterOf (plain_cut cut) forms.Dsf (plain is.recording)
   own =
@@ -215,7 +224,7 @@ module _ (project : List ℕ) (files : List (List ℕ)) (master cert : List ℕ)
       let there = place.channel_there in
       let held = have_shape (plain_cut cut) can_be forms.Dsf (plain is.recording) own shape in
       let long = own_long (plain_cut cut) zs held p.channel p.cue (omega (arith, held.as_many, there)) lt in
-      (within is.says.splice files cut fine is.says.opens p.channel p.cue there lt, long ∙ sym (can_be.windowed p.channel p.cue there lt).levels)) (bridges cut) (places_from cut (length cut.splice.cues - 1) 0 (omega arith)))
+      (window_within project files cut is.says p.channel p.cue there lt, long ∙ sym (can_be.windowed p.channel p.cue there lt).levels)) (bridges cut) (places_from cut (length cut.splice.cues - 1) 0 (omega arith)))
 
   bridges_least : AreLeastBridges cut zs
   bridges_least = shown_least (claims cut zs) is.shown.1 is.shown.2 fitting

@@ -81,11 +81,11 @@ opened_only cut form r (Some cert) (Ok (Rejected reason)) h only = λ shown. abs
 opened_only cut form r (Some cert) (Err fault) h only = λ shown. tt
 
 -- ---- the verdict on a file by what was found of it
-abbrev opened_as : Form → Content → Opened
+abbrev pub opened_as : Form → Content → Opened
 opened_as form r = record { form = form; recording = r }
 
 -- a file holds one recording in one form
-one_held : (file : List ℕ) (form other : Form) (r s : Content) → HoldsAs file form r → HoldsAs file other s → opened_as form r ≡ opened_as other s
+pub one_held : (file : List ℕ) (form other : Form) (r s : Content) → HoldsAs file form r → HoldsAs file other s → opened_as form r ≡ opened_as other s
 one_held file form other r s a b = let both : Ok (opened_as form r) ≡ Ok (opened_as other s) = sym (held_is_opened file form r a) ∙ held_is_opened file other s b in cc
 
 module _ (project : List ℕ) (files : List (List ℕ)) (cut : CutContent) (found : Found) (master : List ℕ) (is : IsFoundIn project files cut found master) where

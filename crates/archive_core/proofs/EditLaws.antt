@@ -12,12 +12,13 @@ use Rattle.form_core.specs.Parts.{FitsIn}
 use Rattle.form_core.specs.Writing.{HoldsSound}
 use Rattle.cut_core.specs.Cuts.{CutContent, master_length}
 use Rattle.cut_core.specs.Opening.{IsWhole}
+use Rattle.master_core.specs.Certificates.{cert_of}
 use Rattle.master_core.specs.Checking.{HoldCues, IsMasterOf}
 use Rattle.master_core.specs.Claims.{IsCertOf, windows_total}
 use Rattle.master_core.specs.Masters.{AreBestChannels, AreMasterChannels, CostLeast, IsBestMaster, channel_numbers, master_of, total_cost}
 use Rattle.master_core.proofs.MasterLaws.{one_master}
 use Rattle.archive_core.specs.Checking.{Accepts}
-use Rattle.archive_core.specs.Editing.{CostsLeast, CostsWindows, IsMaster}
+use Rattle.archive_core.specs.Editing.{CostsLeast, CostsWindows, IsCertificate, IsMaster}
 use Rattle.archive_core.specs.Cutting.{SaysCut}
 
 -- no form is none that is asked for
@@ -89,6 +90,16 @@ module _ (project : List ℕ) (files : List (List ℕ)) (cut : CutContent) (says
     is_master = again;
     shown = subst (λ (zs : List (List Bool)). IsCertOf cut zs cert) (sym sound.same_channels) shown;
     cost_is = is_cost ∙ ap (total_cost cut) (sym sound.same_channels);
+  }
+
+  pub file_certificate : (cert : List ℕ) → cert ≡ cert_of cut r.channels → IsCertificate project files file cert
+  file_certificate cert is_text = record {
+    cut = cut;
+    says = says;
+    form = form;
+    recording = sound.again;
+    file_holds = sound.holds;
+    text = is_text ∙ ap (cert_of cut) (sym sound.same_channels);
   }
 
   pub file_costs : (cost : ℕ) → cost ≡ windows_total cut r.channels → CostsWindows project files file cost

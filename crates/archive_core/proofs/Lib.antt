@@ -1,4 +1,5 @@
 pub mod AcceptedLaws
+pub mod CertificateLaws
 pub mod CheckLaws
 pub mod CuttingLaws
 pub mod EditLaws

@@ -4,6 +4,7 @@ use Rattle.dsd_bits.specs.Contents.{Content}
 use Rattle.form_core.specs.declared.form.Form.{Form}
 use Rattle.form_core.specs.Forms.{HoldsAs, text_in}
 use Rattle.cut_core.specs.Cuts.{CutContent}
+use Rattle.master_core.specs.Certificates.{cert_of}
 use Rattle.master_core.specs.Checking.{IsTitled}
 use Rattle.master_core.specs.Claims.{windows_total}
 use Rattle.master_core.specs.Masters.{AreMasterChannels, CostLeast, IsBestMaster}
@@ -53,6 +54,15 @@ pub record CostsLeast (project : List ℕ) (files : List (List ℕ)) (file : Lis
   pub file_holds : HoldsAs file form recording
   pub made : AreMasterChannels cut recording.channels
   pub least : CostLeast cut recording.channels cost
+
+-- the bytes are the certificate of a master of a project and takes, the text that these and the bits of its bridges come to
+pub record IsCertificate (project : List ℕ) (files : List (List ℕ)) (file cert : List ℕ) : Type 0 where
+  pub cut : CutContent
+  pub says : SaysCut project files None cut
+  pub form : Form
+  pub recording : Content
+  pub file_holds : HoldsAs file form recording
+  pub text : cert ≡ cert_of cut recording.channels
 
 -- this master and this cost were answered, want of memory aside
 abbrev pub AnswersEdited : Result Edited Fault → List ℕ → ℕ → Type 0

@@ -4,7 +4,7 @@ use Rattle.form_core.specs.declared.form.Form.{Form}
 use Rattle.cut_core.specs.Cuts.{CutContent}
 use Rattle.archive_core.specs.Checking.{Accepts, IsLeastMaster}
 use Rattle.archive_core.specs.Cutting.{SaysCut, said_cut}
-use Rattle.archive_core.specs.Editing.{CostsLeast, CostsWindows, IsMaster}
+use Rattle.archive_core.specs.Editing.{CostsLeast, CostsWindows, IsCertificate, IsMaster}
 
 -- which cut a project and files come to
 abbrev pub SaysCutInOrder : Type 0
@@ -25,3 +25,12 @@ AcceptedCostsLeast = (project : List ℕ) (files : List (List ℕ)) (master cert
 -- the cost that a master is accepted at is the sum over all bridges of what their bits cost over their windows
 abbrev pub AcceptedCostsWindows : Type 0
 AcceptedCostsWindows = (project : List ℕ) (files : List (List ℕ)) (master cert : List ℕ) (cost : ℕ) → Accepts project files master cert cost → CostsWindows project files master cost
+
+-- a master has one certificate that is written of it
+abbrev pub OneCertificate : Type 0
+OneCertificate = (project : List ℕ) (files : List (List ℕ)) (master one other : List ℕ) → IsCertificate project files master one → IsCertificate project files master other → one ≡ other
+
+-- a master no bridge of which could cost less is accepted with that certificate, whoever made it
+abbrev pub LeastIsAccepted : Type 0
+LeastIsAccepted =
+    (project : List ℕ) (files : List (List ℕ)) (master cert : List ℕ) → IsMaster project files master → IsLeastMaster project files master → IsCertificate project files master cert → (cost : ℕ) × Accepts project files master cert cost

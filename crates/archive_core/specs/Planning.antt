@@ -10,7 +10,7 @@ use Rattle.master_core.specs.Writing.{IsRoomFor}
 use Rattle.transfer_core.specs.declared.fault.Fault.{Fault}
 use Rattle.transfer_core.specs.declared.fault.Fault.TheVariants.{Memory}
 use Rattle.archive_core.specs.Checking.{Accepts}
-use Rattle.archive_core.specs.Editing.{CostsLeast, CostsWindows, Edits, IsMaster}
+use Rattle.archive_core.specs.Editing.{CostsLeast, CostsWindows, Edits, IsCertificate, IsMaster}
 use Rattle.archive_core.specs.declared.planning.PlannedMaster.{PlannedMaster}
 
 -- the bytes are the master's file: the text of the best channels of its cut
@@ -23,7 +23,7 @@ pub record IsFileOf (planned : PlannedMaster) (file : List ℕ) : Type 0 where
 abbrev pub planned_total : PlannedMaster → ℕ
 planned_total planned = planned.bridges.total
 
--- the bytes are a certificate that shows each of its bridges to be least
+-- the bytes are the certificate that shows each of its bridges to be least
 abbrev pub CertifiesPlanned : PlannedMaster → List ℕ → Type 0
 CertifiesPlanned planned cert = Certifies planned.cut planned.bridges cert
 
@@ -38,13 +38,14 @@ pub record IsPlanned (planned : PlannedMaster) : Type 0 where
 abbrev pub IsSamePlan : PlannedMaster → PlannedMaster → Type 0
 IsSamePlan old new = new ≡ record old { room = new.room }
 
--- the plan has one file, and no other: it is the master of the project and the takes with the first least bridges, and with each certificate of the plan it is accepted; of all masters none costs less
+-- the plan has one file, and no other: it is the master of the project and the takes with the first least bridges, the plan's certificate is that master's, and with it it is accepted; of all masters none costs less
 pub record Plans (project : List ℕ) (files : List (List ℕ)) (form : Form) (planned : PlannedMaster) : Type 0 where
   pub file : List ℕ
   pub is_file : IsFileOf planned file
   pub only : (other : List ℕ) → IsFileOf planned other → other ≡ file
   pub edits : Edits project files form file (planned_total planned)
   pub is_master : IsMaster project files file
+  pub certificate : (cert : List ℕ) → CertifiesPlanned planned cert → IsCertificate project files file cert
   pub accepted : (cert : List ℕ) → CertifiesPlanned planned cert → Accepts project files file cert (planned_total planned)
   pub joint : CostsLeast project files file (planned_total planned)
   pub windows : CostsWindows project files file (planned_total planned)

@@ -2,7 +2,7 @@
 
 ghost use Rattle.std.specs.Prelude.{◌≡◌, IfErr, IfOk, List, Some, ℕ};
 ghost use Rattle.archive_core.specs.Checking.{Accepts};
-ghost use Rattle.archive_core.specs.Editing.{AnswersEdited, CostsLeast, CostsWindows, Edits, IsEdited, IsMaster};
+ghost use Rattle.archive_core.specs.Editing.{AnswersEdited, CostsLeast, CostsWindows, Edits, IsCertificate, IsEdited, IsMaster};
 ghost use Rattle.archive_core.specs.Planning.{CertifiesPlanned, IsFileOf, IsPlanned, IsSamePlan};
 ghost use Rattle.cut_core.specs.Hearing.{AreOfTakes};
 ghost use Rattle.archive_core.specs.Cutting.{AreTakes, said_cut};
@@ -47,6 +47,9 @@ pub fn edit(alloc: Global, project: &[u8], takes: &[Vec<u8>], form: Form) -> Res
     ensures found { IfOk result (IsEdited project.now (file_bytes takes.now) form) }
     // The file is a master of the project and the takes.
     ensures master { IfOk result (λ made. IsMaster project.now (file_bytes takes.now) made.master.items) }
+    // The certificate is one text, which project, takes and the bits of the master decide.
+    ensures certificate { IfOk result (λ made. IsCertificate project.now
+        (file_bytes takes.now) made.master.items made.cert.items) }
     // The certificate shows each bridge of the master to be least, and so much do they cost.
     ensures accepted { IfOk result (λ made. Accepts project.now
         (file_bytes takes.now) made.master.items made.cert.items made.total) }
@@ -83,6 +86,9 @@ pub fn edit_heard(
     ensures master { (project : List ℕ) (files : List (List ℕ))
         → AreTakes project files (splice_content splice) takes.items
         → IfOk result (λ made. IsMaster project files made.master.items) }
+    ensures certificate { (project : List ℕ) (files : List (List ℕ))
+        → AreTakes project files (splice_content splice) takes.items
+        → IfOk result (λ made. IsCertificate project files made.master.items made.cert.items) }
     ensures accepted { (project : List ℕ) (files : List (List ℕ))
         → AreTakes project files (splice_content splice) takes.items
         → IfOk result (λ made. Accepts project files made.master.items made.cert.items made.total) }

@@ -1,7 +1,7 @@
 //! What the words of the contracts have to do with each other. The functions do nothing: a caller's
 //! proof cites what they ensure.
 
-ghost use Rattle.archive_core.specs.Laws.{AcceptedCostsLeast, AcceptedCostsWindows, AcceptedIsLeast, AcceptedIsMaster, SaysCutInOrder};
+ghost use Rattle.archive_core.specs.Laws.{AcceptedCostsLeast, AcceptedCostsWindows, AcceptedIsLeast, AcceptedIsMaster, LeastIsAccepted, OneCertificate, SaysCutInOrder};
 ghost use Rattle.transfer_core.specs.Laws.{ConvertsInOrder, PlaysInOrder, SaysTakesInOrder};
 
 /// What a file converts to, what project and file play, which takes a text cuts and which cut it comes to is what
@@ -21,4 +21,11 @@ pub fn accepted_is_least()
     ensures least { AcceptedIsLeast }
     ensures joint { AcceptedCostsLeast }
     ensures windows { AcceptedCostsWindows }
+{}
+
+/// The certificate that is written of a master is a function of the project, the takes and the master's bits. With it a
+/// master no bridge of which could cost less is accepted.
+pub fn least_is_accepted()
+    ensures one { OneCertificate }
+    ensures accepted { LeastIsAccepted }
 {}

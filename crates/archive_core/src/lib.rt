@@ -16,14 +16,16 @@
 //!   takes a text cuts.
 //! - `SaysCut project files form cut` says that project and files come to this cut (`specs/Cutting.antt`).
 //! - `Edits project files form master cost` says that these bytes are the file of the master with the first least
-//!   bridges, which cost so much; `IsMaster project files file` that a file is a master, whatever its bridges
+//!   bridges, which cost so much; `IsMaster project files file` that a file is a master, whatever its bridges;
+//!   `IsCertificate project files file cert` that these bytes are its certificate, of which there is one
 //!   (`specs/Editing.antt`); `Accepts project files master cert cost` that it is, and that the certificate shows each
 //!   bridge to be least (`specs/Checking.antt`).
 //!
 //! Beside `Converts`, `Plays`, `SaysTakes` and `SaysCut` stands a reading in the order of the refusals, to what is
 //! answered or the first fault: `converted_of`, `played_of`, `take_names_of`, `said_cut`. A call gives what its reading
 //! comes to, or is refused as it is, want of memory aside, and the law on [`read_in_order`] joins relation and reading. What
-//! follows from `Accepts`, whoever made master and certificate, is the law on [`accepted_is_least`].
+//! follows from `Accepts`, whoever made master and certificate, is the law on [`accepted_is_least`]; that a least master is
+//! accepted with its certificate, that on [`least_is_accepted`].
 //!
 //! ```text
 //! let converted = convert(alloc, &file, Form::Dsf)?;
@@ -44,7 +46,7 @@ pub use cut_core::CutFault;
 pub use cutting::cut_heard;
 pub use editing::{Edited, edit, edit_heard};
 pub use form_core::{Form, Opened, ReadFault, read_any};
-pub use laws::{accepted_is_least, read_in_order};
+pub use laws::{accepted_is_least, least_is_accepted, read_in_order};
 pub use master_core::{CuedPlace, Found, Reason, Verdict};
 pub use planning::{PlannedMaster, plan_master};
 pub use sound_core::StreamFault;

@@ -16,7 +16,7 @@ use cut_core::{Cut, Heard};
 use device_core::{Device, Outlet};
 use form_core::{Ends, Form};
 use master_core::{
-    CertifyingRoom, ChosenBridges, MasterRoom, Planned, can_certify, certify, plan, write_master,
+    CertifyingRoom, ChosenBridges, MasterRoom, Planned, certify, plan, write_master,
 };
 use splice_core::Splice;
 use std::alloc::Global;
@@ -120,14 +120,12 @@ impl PlannedMaster {
     pub fn is_certifiable(&self)
         requires { IsPlanned self.now }
         ensures { (cert : List ℕ) × CertifiesPlanned self.now cert }
-    {
-        can_certify(&self.cut, &self.bridges);
-    }
+    {}
 
-    /// Writes the certificate of the master to an outlet, which is handed back. The rows of each bridge are made while they
-    /// are written; no memory is asked for.
+    /// Writes the certificate of the master to an outlet, which is handed back: which text it is, project, takes and the bits
+    /// of the bridges decide. The rows of each bridge are made while they are written; no memory is asked for.
     ///
-    /// Refusal: `Device` where a write fails, and a front of the certificate went out.
+    /// Refusal: `Device` where a write fails, and a prefix of the certificate went out.
     pub fn write_certificate<W: Write>(self, outlet: Outlet<W>) -> (Result<(), Device>, Outlet<W>)
         requires planned { IsPlanned self }
         requires ready { outlet_failures outlet < 2 ^ 64 - 1 }

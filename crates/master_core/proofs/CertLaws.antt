@@ -1,4 +1,4 @@
--- Certificates of chosen bridges: their entries one after the other, and fronts of them.
+-- The certificate of claims: its parts in turn and prefixes of them, and that it shows what is claimed.
 use Rattle.std.proofs.Common.{◌≡◌, ℕ, suc, ◌+◌, ◌<◌, Bool, true, false, List, [], ◌∷◌, ◌++◌, Option, Err, length, get_or, map, flat_map, take, drop, append_assoc, take-append-drop, refl, sym, ap, subst, ◌∙◌, arith}
 use Rattle.std.specs.Prelude.{◌↔◌, IsErrOf}
 use Rattle.std.specs.Int.{w64, to_be_bytes}
@@ -6,30 +6,26 @@ use Rattle.std.specs.Io.KnownBytes.{Appends}
 use Rattle.std.specs.List.{All}
 use Rattle.std.proofs.KnownBytes.{Appends-trans}
 use Rattle.std.proofs.lemmas.Grind.{flat_map-append}
-use Rattle.std.proofs.lemmas.List.{append-nil, take_more}
-use Rattle.std.proofs.lemmas.List.Elements.{All-drop}
+use Rattle.std.proofs.lemmas.List.{append-nil, length-map, take_more}
 use Rattle.std.proofs.lemmas.List.Folds.{flat_map-map}
 use Rattle.cost_core.specs.Bridges.{Bridging, IsLeastBridge, bridge_cost}
 use Rattle.cost_core.specs.Limits.{IsBridging}
 use Rattle.cost_core.specs.StateCosts.{trellis_of}
-use Rattle.cost_core.specs.Tables.{IsTable, value_in}
-use Rattle.cost_core.specs.Validity.{IsValid}
-use Rattle.cost_core.proofs.Limits.{costs_in_bounds}
-use Rattle.trellis_core.specs.Best.{best_rows}
-use Rattle.trellis_core.specs.Handing.{CutRowsAreValid, HandsOverAll, HandsOverUpTo, cut_at, cut_spelling}
-use Rattle.trellis_core.specs.LeastSums.{BestRows}
-use Rattle.trellis_core.proofs.LeastSums.{all_rows}
-use Rattle.cert_core.specs.Certificates.{AreEntries, Claim, IsCert}
-use Rattle.cert_core.specs.Composing.{ReadIsCert}
+use Rattle.trellis_core.specs.Handing.{HandsOverAll, HandsOverUpTo, cut_at, cut_spelling}
+use Rattle.trellis_core.specs.LeastSums.{BestRows, least_rows}
+use Rattle.trellis_core.proofs.CutLaws.{cut_rows_are_valid}
+use Rattle.trellis_core.proofs.LeastRows.{best_are_least, least_are_best}
+use Rattle.cert_core.specs.Certificates.{Claim, IsCert, Shows, ShowsAll}
 use Rattle.cert_core.specs.Spelling.{row_text}
 use Rattle.cert_core.specs.Text.{cert_entry, cert_head, entry_start}
 use Rattle.cert_core.specs.declared.version.Version.TheVariants.{Two}
 use Rattle.device_core.specs.Outlets.{AppendsFront, AppendsPart}
 use Rattle.device_core.specs.declared.fused_outlet.FusedFault.{FusedFault}
 use Rattle.device_core.specs.declared.fused_outlet.FusedFault.TheVariants.{Device, Failed}
+use Rattle.master_core.specs.Certificates.{CertificatesShow, claim_entry, claims_text, entry_text}
 use Rattle.master_core.specs.Certifying.{AppendsEntries, AppendsSomeEntries}
 
--- ---- fronts
+-- ---- prefixes
 pub part_is_front : (a b : Option (List ℕ)) (xs : List ℕ) → AppendsPart a b xs → AppendsFront a b xs
 part_is_front a b xs (front, back, is, some, grown) = (front, back, is, grown)
 
@@ -44,13 +40,8 @@ pub failed_write : {T P : Type 0} (fault : FusedFault) (before : Bool) → befor
 failed_write Device before fine failed found = found refl
 failed_write Failed before fine failed found = let both : true ≡ false = sym (failed.0 refl) ∙ fine in absurd cc
 
--- ---- entries, one after the other
-pub entries_append : (cs ds : List Claim) (a b : List ℕ) → AreEntries Two cs a → AreEntries Two ds b → AreEntries Two (cs ++ ds) (a ++ b)
-entries_append [] ds a b h k = rw h k
-entries_append (c ∷ cs) ds a b (entry, rest, is, one, more) k = (entry, rest ++ b, ap (λ l. l ++ b) is ∙ append_assoc entry rest b, one, entries_append cs ds rest b more k)
-
 -- ---- the entry of a bridge, whose rows are best sums that are cut at its cost
-module _ (law : CutRowsAreValid) (d : Bridging) (limits : IsBridging d) (cue channel : ℕ) (x : List Bool) (least : IsLeastBridge d x) (cost : ℕ) (is_cost : cost ≡ bridge_cost d x) where
+module _ (d : Bridging) (cue channel : ℕ) (x : List Bool) (cost : ℕ) (is_cost : cost ≡ bridge_cost d x) where
   abbrev pub claimed : Claim
   claimed = record { cue = cue; channel = channel; bridging = d; bits = x }
 
@@ -66,91 +57,91 @@ module _ (law : CutRowsAreValid) (d : Bridging) (limits : IsBridging d) (cue cha
   abbrev entry : List (List ℕ) → List ℕ
   entry rows = start ++ (flat_map spell rows ++ stop)
 
-  is_entry : (rows : List (List ℕ)) → BestRows (trellis_of d) rows → AreEntries Two (claimed ∷ []) (entry rows)
-  is_entry rows best =
-      let valid = law d rows x limits best least in
-      let cut : List (List ℕ) = map (cut_at cost) rows in
-      let table : IsTable (trellis_of d) cut = subst (λ k. IsTable (trellis_of d) (map (cut_at k) rows)) (sym is_cost) valid.0 in
-      let bounds : IsValid (trellis_of d) (value_in cut) cost x = subst (λ k. IsValid (trellis_of d) (value_in (map (cut_at k) rows)) k x) (sym is_cost) valid.1 in
-      let text : entry rows ≡ cert_entry Two (record { cue = cue; channel = channel; levels = d.levels; rows = cut; cost = cost }) = ap (λ l. start ++ (l ++ stop)) (sym (flat_map-map (row_text Two) (cut_at cost) rows)) in
-      (entry rows, [], sym (append-nil (entry rows)), (cut, cost, table, bounds, text), refl)
+  -- there is one such table, and so one such entry
+  entry_is : (rows : List (List ℕ)) → BestRows (trellis_of d) rows → entry rows ≡ entry_text claimed
+  entry_is rows best =
+      let table = best_are_least (trellis_of d) rows best in
+      ap (λ l. start ++ (l ++ stop)) (sym (flat_map-map (row_text Two) (cut_at cost) rows))
+      ∙ (λ j. entry_start cue channel d.levels ++ (flat_map (row_text Two) (map (cut_at (is_cost j)) (table j)) ++ to_be_bytes w64 (is_cost j)))
 
   abbrev table : List (List ℕ)
-  table = best_rows (trellis_of d) (d.levels + 1)
+  table = least_rows (trellis_of d)
 
-  there : AreEntries Two (claimed ∷ []) (entry table)
-  there = is_entry table (all_rows (trellis_of d) (costs_in_bounds d limits))
+  pub entry_whole : (a b c e : Option (List ℕ)) → Appends a b start → HandsOverAll (trellis_of d) spell b c → Appends c e stop → Appends a e (entry_text claimed)
+  entry_whole a b c e first (rows, best, handed) last = subst (Appends a e) (entry_is rows best) (Appends-trans a b e start (flat_map spell rows ++ stop) first (Appends-trans b c e (flat_map spell rows) stop handed last))
 
-  pub entry_exists : (text : List ℕ) × AreEntries Two (claimed ∷ []) text
-  entry_exists = (entry table, there)
+  pub cut_in_start : (a b : Option (List ℕ)) → AppendsFront a b start → AppendsFront a b (entry_text claimed)
+  cut_in_start a b part = subst (AppendsFront a b) (entry_is table (least_are_best (trellis_of d))) (front_of_more a b start (flat_map spell table ++ stop) part)
 
-  pub entry_whole : (a b c e : Option (List ℕ)) → Appends a b start → HandsOverAll (trellis_of d) spell b c → Appends c e stop → AppendsEntries (claimed ∷ []) a e
-  entry_whole a b c e first (rows, best, handed) last =
-      (entry rows, is_entry rows best, Appends-trans a b e start (flat_map spell rows ++ stop) first (Appends-trans b c e (flat_map spell rows) stop handed last))
-
-  pub cut_in_start : (a b : Option (List ℕ)) → AppendsFront a b start → AppendsSomeEntries (claimed ∷ []) a b
-  cut_in_start a b part = (entry table, there, front_of_more a b start (flat_map spell table ++ stop) part)
-
-  pub cut_in_rows : (a b c : Option (List ℕ)) → Appends a b start → HandsOverUpTo (trellis_of d) spell b c → AppendsSomeEntries (claimed ∷ []) a c
+  pub cut_in_rows : (a b c : Option (List ℕ)) → Appends a b start → HandsOverUpTo (trellis_of d) spell b c → AppendsFront a c (entry_text claimed)
   cut_in_rows a b c first (rows, row, more, best, (front, back, is, grown)) =
       let all : List (List ℕ) = rows ++ (row ∷ more) in
       let done = flat_map spell rows in
       let behind = flat_map spell more in
       let text : flat_map spell all ≡ (done ++ front) ++ (back ++ behind) =
       flat_map-append spell rows (row ∷ more) ∙ ap (λ l. done ++ (l ++ behind)) is ∙ ap (λ l. done ++ l) (append_assoc front back behind) ∙ sym (append_assoc done front (back ++ behind)) in
-      (entry all, is_entry all best, front_after a b c start (flat_map spell all ++ stop) first (front_of_more b c (flat_map spell all) stop (done ++ front, back ++ behind, text, grown)))
+      subst (AppendsFront a c) (entry_is all best) (front_after a b c start (flat_map spell all ++ stop) first (front_of_more b c (flat_map spell all) stop (done ++ front, back ++ behind, text, grown)))
 
-  pub cut_in_cost : (a b c e : Option (List ℕ)) → Appends a b start → HandsOverAll (trellis_of d) spell b c → AppendsFront c e stop → AppendsSomeEntries (claimed ∷ []) a e
+  pub cut_in_cost : (a b c e : Option (List ℕ)) → Appends a b start → HandsOverAll (trellis_of d) spell b c → AppendsFront c e stop → AppendsFront a e (entry_text claimed)
   cut_in_cost a b c e first (rows, best, handed) part =
-      (entry rows, is_entry rows best, front_after a b e start (flat_map spell rows ++ stop) first (front_after b c e (flat_map spell rows) stop handed part))
+      subst (AppendsFront a e) (entry_is rows best) (front_after a b e start (flat_map spell rows ++ stop) first (front_after b c e (flat_map spell rows) stop handed part))
 
--- ---- entries of claims that can be shown
-abbrev pub IsShowable : Claim → Type 0
-IsShowable claim = IsBridging claim.bridging × IsLeastBridge claim.bridging claim.bits
-
-entries_exist : CutRowsAreValid → (cs : List Claim) → All IsShowable cs → (text : List ℕ) × AreEntries Two cs text
-entries_exist law [] each = ([], refl)
-entries_exist law (claim ∷ cs) each =
-    let one : IsShowable claim = each 0 claim (omega arith) in
-    let first = entry_exists law claim.bridging one.0 claim.cue claim.channel claim.bits one.1 (bridge_cost claim.bridging claim.bits) refl in
-    let rest = entries_exist law cs (λ k e lt. each (suc k) e (omega arith)) in
-    (first.0 ++ rest.0, entries_append (claim ∷ []) cs first.0 rest.0 first.1 rest.1)
-
--- one claim more
+-- ---- one claim more
 module _ (cs : List Claim) (k : ℕ) (claim : Claim) (lt : k < length cs) (is : get_or cs k claim ≡ claim) where
-  next : take (k + 1) cs ≡ take k cs ++ claim ∷ []
-  next = take_more cs k claim lt ∙ ap (λ (c : Claim). take k cs ++ c ∷ []) is
+  next : flat_map entry_text (take (k + 1) cs) ≡ flat_map entry_text (take k cs) ++ entry_text claim
+  next =
+      ap (flat_map entry_text) (take_more cs k claim lt ∙ ap (λ (c : Claim). take k cs ++ c ∷ []) is) ∙ flat_map-append entry_text (take k cs) (claim ∷ [])
+      ∙ ap (λ l. flat_map entry_text (take k cs) ++ l) (append-nil (entry_text claim))
 
-  pub entry_more : (a b c : Option (List ℕ)) → AppendsEntries (take k cs) a b → AppendsEntries (claim ∷ []) b c → AppendsEntries (take (k + 1) cs) a c
-  entry_more a b c (before, shown, grown) (entry, one, more) =
-      subst (λ (l : List Claim). AppendsEntries l a c) (sym next) (before ++ entry, entries_append (take k cs) (claim ∷ []) before entry shown one, Appends-trans a b c before entry grown more)
+  pub entry_more : (a b c : Option (List ℕ)) → AppendsEntries (take k cs) a b → Appends b c (entry_text claim) → AppendsEntries (take (k + 1) cs) a c
+  entry_more a b c before more = subst (Appends a c) (sym next) (Appends-trans a b c (flat_map entry_text (take k cs)) (entry_text claim) before more)
 
-  pub cut_short : CutRowsAreValid → All IsShowable cs → (a b c : Option (List ℕ)) → AppendsEntries (take k cs) a b → AppendsSomeEntries (claim ∷ []) b c → AppendsSomeEntries cs a c
-  cut_short law each a b c (before, shown, grown) (entry, one, part) =
-      let behind = drop (k + 1) cs in
-      let rest = entries_exist law behind (All-drop IsShowable (k + 1) cs each) in
-      let all : (take k cs ++ claim ∷ []) ++ behind ≡ cs = ap (λ (l : List Claim). l ++ behind) (sym next) ∙ take-append-drop (k + 1) cs in
-      let text = before ++ entry in
-      subst (λ (l : List Claim). AppendsSomeEntries l a c) all
-      (text ++ rest.0, entries_append (take k cs ++ claim ∷ []) behind text rest.0 (entries_append (take k cs) (claim ∷ []) before entry shown one) rest.1, front_of_more a c text rest.0 (front_after a b c before entry grown part))
+  pub cut_short : (a b c : Option (List ℕ)) → AppendsEntries (take k cs) a b → AppendsFront b c (entry_text claim) → AppendsSomeEntries cs a c
+  cut_short a b c before part =
+      let done = flat_map entry_text (take k cs) in
+      let behind = flat_map entry_text (drop (k + 1) cs) in
+      let all : (done ++ entry_text claim) ++ behind ≡ flat_map entry_text cs =
+      ap (λ l. l ++ behind) (sym next) ∙ sym (flat_map-append entry_text (take (k + 1) cs) (drop (k + 1) cs)) ∙ ap (flat_map entry_text) (take-append-drop (k + 1) cs) in
+      subst (AppendsFront a c) all (front_of_more a c (done ++ entry_text claim) behind (front_after a b c done (entry_text claim) before part))
 
 -- ---- a head and the entries that it announces
-module _ (read : ReadIsCert) (weights n : ℕ) (cs : List Claim) (long : n ≡ length cs) where
+module _ (weights n : ℕ) (cs : List Claim) (long : n ≡ length cs) where
   abbrev head : List ℕ
   head = cert_head Two weights n
 
-  is_cert : (entries : List ℕ) → AreEntries Two cs entries → IsCert weights cs (head ++ entries)
-  is_cert entries shown = subst (λ m. IsCert weights cs (cert_head Two weights m ++ entries)) (sym long) (read Two weights cs entries shown)
+  whole_is : head ++ flat_map entry_text cs ≡ claims_text weights cs
+  whole_is = ap (λ m. cert_head Two weights m ++ flat_map entry_text cs) long
 
-  pub cert_whole : (a b c : Option (List ℕ)) → Appends a b head → AppendsEntries cs b c → (cert : List ℕ) × IsCert weights cs cert × Appends a c cert
-  cert_whole a b c first (entries, shown, grown) = (head ++ entries, is_cert entries shown, Appends-trans a b c head entries first grown)
+  pub cert_whole : (a b c : Option (List ℕ)) → Appends a b head → AppendsEntries cs b c → (cert : List ℕ) × (cert ≡ claims_text weights cs) × Appends a c cert
+  cert_whole a b c first grown = (head ++ flat_map entry_text cs, whole_is, Appends-trans a b c head (flat_map entry_text cs) first grown)
 
-  pub cert_cut : (a b c : Option (List ℕ)) → Appends a b head → AppendsSomeEntries cs b c → (cert : List ℕ) × IsCert weights cs cert × AppendsFront a c cert
-  cert_cut a b c first (entries, shown, part) = (head ++ entries, is_cert entries shown, front_after a b c head entries first part)
+  pub cert_cut : (a b c : Option (List ℕ)) → Appends a b head → AppendsSomeEntries cs b c → (cert : List ℕ) × (cert ≡ claims_text weights cs) × AppendsFront a c cert
+  cert_cut a b c first part = (head ++ flat_map entry_text cs, whole_is, front_after a b c head (flat_map entry_text cs) first part)
 
-  module _ (law : CutRowsAreValid) (each : All IsShowable cs) where
-    pub head_cut : (a b : Option (List ℕ)) → AppendsFront a b head → (cert : List ℕ) × IsCert weights cs cert × AppendsFront a b cert
-    head_cut a b part = let rest = entries_exist law cs each in (head ++ rest.0, is_cert rest.0 rest.1, front_of_more a b head rest.0 part)
+  pub head_cut : (a b : Option (List ℕ)) → AppendsFront a b head → (cert : List ℕ) × (cert ≡ claims_text weights cs) × AppendsFront a b cert
+  head_cut a b part = (head ++ flat_map entry_text cs, whole_is, front_of_more a b head (flat_map entry_text cs) part)
 
-    pub cert_exists : (cert : List ℕ) × IsCert weights cs cert
-    cert_exists = let rest = entries_exist law cs each in (head ++ rest.0, is_cert rest.0 rest.1)
+-- ---- claims that can be shown
+abbrev pub IsShowable : Claim → Type 0
+IsShowable claim = IsBridging claim.bridging × IsLeastBridge claim.bridging claim.bits
+
+shows : (claim : Claim) → IsShowable claim → Shows claim (claim_entry claim)
+shows claim is =
+    let t = trellis_of claim.bridging in
+    let valid = cut_rows_are_valid claim.bridging (least_rows t) claim.bits is.0 (least_are_best t) is.1 in
+    record { cue = refl; channel = refl; levels = refl; table = valid.0; valid = valid.1 }
+
+shows_all : (cs : List Claim) → All IsShowable cs → ShowsAll cs (map claim_entry cs)
+shows_all [] each = tt
+shows_all (claim ∷ cs) each =
+    let one : IsShowable claim = each 0 claim (omega arith) in
+    (shows claim one, shows_all cs (λ k e lt. each (suc k) e (omega arith)))
+
+pub text_is_cert : (weights : ℕ) (cs : List Claim) → All IsShowable cs → IsCert weights cs (claims_text weights cs)
+text_is_cert weights cs each =
+    let many = length-map cs claim_entry in
+    let texts = flat_map-map (cert_entry Two) claim_entry cs in
+    (Two, map claim_entry cs, shows_all cs each, sym (λ j. cert_head Two weights (many j) ++ texts j))
+
+pub certificates_show : CertificatesShow
+certificates_show = λ weights cs within least. text_is_cert weights cs (λ k e lt. (within k e lt, least k e lt))

@@ -13,12 +13,13 @@ use Rattle.cut_core.specs.Cuts.{CutContent, window}
 use Rattle.cut_core.specs.Keeping.{CanCut}
 use Rattle.cut_core.specs.declared.bridges.BridgePlace.{BridgePlace}
 use Rattle.cut_core.proofs.ZipLaws.{zip_at, zip_long, zip_more, zip_number}
+use Rattle.master_core.specs.Certificates.{cert_of, claims_text}
 use Rattle.master_core.specs.Certifying.{Certifies}
 use Rattle.master_core.specs.Choosing.{AreBridgesOf, AreChosen, IsChosen, IsChosenAt, chosen_claims, chosen_cost, window_at}
 use Rattle.master_core.specs.declared.choosing.ChosenBridges.{ChosenBridges}
 use Rattle.master_core.specs.Claims.{IsCertOf, bridge_bits, claim_at, claim_cost, claim_of, claims, windows_total}
 use Rattle.master_core.specs.Masters.{AreBestChannels, IsBestChannel, IsFirstLeastPart, part_at, parts_of}
-use Rattle.master_core.proofs.CertLaws.{IsShowable}
+use Rattle.master_core.proofs.CertLaws.{IsShowable, text_is_cert}
 use Rattle.master_core.proofs.ChannelLaws.{best_lengths, bridge_in_channel, part_is, part_number}
 use Rattle.master_core.proofs.MasterLaws.{one_first_least}
 
@@ -146,6 +147,13 @@ module _ (cut : CutContent) (zs : List (List Bool)) where
       pub costs_stand : chosen_cost xs ≡ windows_total cut zs
       costs_stand = costs_are (bridges cut) xs (all_stand (bridges cut) xs each chosen) chosen
 
--- a certificate of chosen bits that stand in a master is one of that
-pub cert_stands : (cut : CutContent) (made : ChosenBridges) (zs : List (List Bool)) (cert : List ℕ) → chosen_claims cut made.places.items made.chosen.items ≡ claims cut zs → Certifies cut made cert → IsCertOf cut zs cert
-cert_stands cut made zs cert e shown = subst (λ (cs : List Claim). IsCert (length cut.splice.weights) cs cert) e shown
+-- the certificate of chosen bits that stand in a master is that of the master, and shows its bridges to be least
+module _ (cut : CutContent) (made : ChosenBridges) (zs : List (List Bool)) (cert : List ℕ) (stands : chosen_claims cut made.places.items made.chosen.items ≡ claims cut zs) (certifies : Certifies cut made cert) where
+  pub cert_stands : AreBridgesOf cut made → IsCertOf cut zs cert
+  cert_stands are =
+      let weights = length cut.splice.weights in
+      let mine = chosen_claims cut made.places.items made.chosen.items in
+      subst (λ (cs : List Claim). IsCert weights cs cert) stands (subst (IsCert weights mine) (sym certifies) (text_is_cert weights mine (showable cut made are)))
+
+  pub cert_is : cert ≡ cert_of cut zs
+  cert_is = certifies ∙ ap (claims_text (length cut.splice.weights)) stands

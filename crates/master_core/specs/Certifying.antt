@@ -1,14 +1,15 @@
 -- The certificate of chosen bridges, whole and in the making.
-use Rattle.std.specs.Prelude.{◌≡◌, ℕ, ◌-◌, ◌^◌, true, false, List, Option, length}
+use Rattle.std.specs.Prelude.{◌≡◌, ℕ, ◌-◌, ◌^◌, true, false, List, Option, flat_map, length}
 use Rattle.std.specs.Io.KnownBytes.{Appends}
 use Rattle.device_core.specs.Outlets.{AppendsFront}
 use Rattle.trellis_core.specs.Passes.{HasBuffers}
-use Rattle.cert_core.specs.Certificates.{AreEntries, Claim, IsCert}
+use Rattle.cert_core.specs.Certificates.{Claim}
 use Rattle.cert_core.specs.Rooms.{room_weights}
 use Rattle.cert_core.specs.Writers.{cert_version, cert_weights, has_failed, has_head, is_open}
 use Rattle.cert_core.specs.declared.version.Version.TheVariants.{Two}
 use Rattle.cert_core.specs.declared.writer.CertWriter.{CertWriter}
 use Rattle.cut_core.specs.Cuts.{CutContent}
+use Rattle.master_core.specs.Certificates.{claims_text, entry_text}
 use Rattle.master_core.specs.Choosing.{chosen_claims}
 use Rattle.master_core.specs.declared.certifying.CertifyingRoom.{CertifyingRoom}
 use Rattle.master_core.specs.declared.choosing.ChosenBridges.{ChosenBridges}
@@ -18,25 +19,29 @@ pub record IsRoomOf (cut : CutContent) (room : CertifyingRoom) : Type 0 where
   pub pass_fits : HasBuffers (2 ^ (length cut.splice.weights - 1)) room.pass
   pub row_fits : room_weights room.row ≡ length cut.splice.weights
 
--- the bytes are a certificate that shows the chosen bits of each bridge to be least
-abbrev pub Certifies : CutContent → ChosenBridges → List ℕ → Type 0
-Certifies cut made cert = IsCert (length cut.splice.weights) (chosen_claims cut made.places.items made.chosen.items) cert
+-- the certificate of chosen bridges
+abbrev pub chosen_cert : CutContent → ChosenBridges → List ℕ
+chosen_cert cut made = claims_text (length cut.splice.weights) (chosen_claims cut made.places.items made.chosen.items)
 
--- known bytes grew by such a certificate
+-- the bytes are the certificate that shows the chosen bits of each bridge to be least
+abbrev pub Certifies : CutContent → ChosenBridges → List ℕ → Type 0
+Certifies cut made cert = cert ≡ chosen_cert cut made
+
+-- known bytes grew by this certificate
 abbrev pub AppendsCert : CutContent → ChosenBridges → Option (List ℕ) → Option (List ℕ) → Type 0
 AppendsCert cut made old new = (cert : List ℕ) × Certifies cut made cert × Appends old new cert
 
--- or by a front of one
+-- or by a prefix of it
 abbrev pub AppendsCertFront : CutContent → ChosenBridges → Option (List ℕ) → Option (List ℕ) → Type 0
 AppendsCertFront cut made old new = (cert : List ℕ) × Certifies cut made cert × AppendsFront old new cert
 
--- known bytes grew by entries of the second version that show these claims
+-- known bytes grew by the entries of these claims
 abbrev pub AppendsEntries : List Claim → Option (List ℕ) → Option (List ℕ) → Type 0
-AppendsEntries claims old new = (entries : List ℕ) × AreEntries Two claims entries × Appends old new entries
+AppendsEntries claims old new = Appends old new (flat_map entry_text claims)
 
--- or by a front of such entries
+-- or by a prefix of them
 abbrev pub AppendsSomeEntries : List Claim → Option (List ℕ) → Option (List ℕ) → Type 0
-AppendsSomeEntries claims old new = (entries : List ℕ) × AreEntries Two claims entries × AppendsFront old new entries
+AppendsSomeEntries claims old new = AppendsFront old new (flat_map entry_text claims)
 
 -- the writer, by the second version, has written nothing
 pub record IsFresh {W : Type 0} (weights : ℕ) (writer : CertWriter W) : Type 0 where

@@ -1,3 +1,4 @@
+pub mod Certificates
 pub mod Certifying
 pub mod Checking
 pub mod Choosing

@@ -1,21 +1,23 @@
 //! The certificate of chosen bridges, written entry by entry to an outlet in room that was made before.
 
-ghost use Rattle.std.specs.Prelude.{◌≡◌, ◌+◌, ◌-◌, ◌<◌, ◌≤◌, ◌^◌, [], ◌∷◌, IfOk, List, MatchResult, OnErr, OnOk, false, is_ok, length, not, ℕ};
+ghost use Rattle.std.specs.Prelude.{◌≡◌, ◌+◌, ◌-◌, ◌<◌, ◌≤◌, ◌^◌, IfOk, MatchResult, OnErr, OnOk, is_ok, length, not};
+ghost use Rattle.std.specs.Io.KnownBytes.{Appends};
 ghost use Rattle.cert_core.specs.Writers.{cert_outlet, entries_left, failures_before, has_failed};
 ghost use Rattle.cut_core.specs.Cuts.{CutContent};
-ghost use Rattle.device_core.specs.Outlets.{outlet_failures, outlet_writer};
-ghost use Rattle.master_core.specs.Certifying.{AppendsCert, AppendsCertFront, AppendsEntries, AppendsSomeEntries, Certifies, IsFresh, IsReady, IsRoomOf};
+ghost use Rattle.device_core.specs.Outlets.{AppendsFront, outlet_failures, outlet_writer};
+ghost use Rattle.master_core.specs.Certificates.{CertificatesShow, entry_text};
+ghost use Rattle.master_core.specs.Certifying.{AppendsCert, AppendsCertFront, AppendsEntries, AppendsSomeEntries, IsFresh, IsReady, IsRoomOf};
 ghost use Rattle.master_core.specs.Choosing.{AreBridgesOf, IsChosen, chosen_claims};
 ghost use Rattle.trellis_core.specs.Passes.{HasBuffers};
 
 use crate::choosing::ChosenBridges;
-use cert_core::{CertRoom, CertWriter, Version, read_is_cert};
+use cert_core::{CertRoom, CertWriter, Version};
 use cost_core::Window;
 use cut_core::{BridgePlace, Cut};
 use device_core::{Device, Outlet};
 use std::alloc::{AllocError, Global};
 use std::io::Write;
-use trellis_core::{Chosen, PassRoom, cut_rows_are_valid, hand_cut};
+use trellis_core::{Chosen, PassRoom, hand_cut};
 
 /// All memory that the certificate of a cut needs while it is written: room for a pass over the levels of a bridge, and
 /// for the bytes of a row.
@@ -37,10 +39,11 @@ impl CertifyingRoom {
     }
 }
 
-/// Writes the certificate, of the second version, that shows the chosen bits of each bridge of a cut to be least. The rows
-/// of each bridge are made while they are written; no memory is asked for. The outlet is handed back.
+/// Writes the certificate, of the second version, that shows the chosen bits of each bridge of a cut to be least: which
+/// text it is, cut and bits decide. The rows of each bridge are made while they are written; no memory is asked for. The
+/// outlet is handed back.
 ///
-/// Refusal: `Device` where a write fails, and a front of the certificate went out.
+/// Refusal: `Device` where a write fails, and a prefix of the certificate went out.
 pub fn certify<W: Write>(
     cut: &Cut,
     bridges: &ChosenBridges,
@@ -63,16 +66,10 @@ pub fn certify<W: Write>(
     (came, writer.finish())
 }
 
-/// There is a certificate that shows the chosen bits to be least. It does nothing.
-pub fn can_certify(cut: &Cut, bridges: &ChosenBridges)
-    requires { AreBridgesOf cut.now bridges.now }
-    ensures { (cert : List ℕ) × Certifies cut.now bridges.now cert }
-{
-    cut_rows_are_valid();
-    read_is_cert();
-    let _ = cut.weight_number();
-    let _ = bridges.places.len();
-}
+/// The certificate of bits that are least shows them to be least, whoever chose them. It does nothing.
+pub fn certificates_show()
+    ensures { CertificatesShow }
+{}
 
 // Writes the head and then all entries.
 fn write_cert<W: Write>(
@@ -91,8 +88,6 @@ fn write_cert<W: Write>(
     ensures failed { has_failed writer.new ≡ not (is_ok result) }
     ensures before { failures_before writer.new ≡ failures_before writer.old }
 {
-    cut_rows_are_valid();
-    read_is_cert();
     let Ok(()) = writer.begin(bridges.places.len() as u32) else {
         return Err(Device);
     };
@@ -119,7 +114,6 @@ fn write_entries<W: Write>(
     ensures before { failures_before writer.new ≡ failures_before writer.old }
 {
     cut.can_cut();
-    cut_rows_are_valid();
     for k in 0..bridges.places.len() {
         let window = &bridges.windows[k];
         write_entry(bridges.places[k], window, &bridges.chosen[k], pass, writer)?;
@@ -141,19 +135,18 @@ fn write_entry<W: Write>(
     requires room { HasBuffers (2 ^ (length window.now.weights - 1)) pass.old }
     requires ready { IsReady (length window.now.weights) writer.old }
     requires entries { 0 < entries_left writer.old }
-    ensures ok { OnOk result (AppendsEntries
-        (record { cue = place.cue; channel = place.channel; bridging = window.now; bits = chosen.now.bits } ∷ [])
-        (W.contents (outlet_writer (cert_outlet writer.old))) (W.contents (outlet_writer (cert_outlet writer.new)))) }
-    ensures err { OnErr result (AppendsSomeEntries
-        (record { cue = place.cue; channel = place.channel; bridging = window.now; bits = chosen.now.bits } ∷ [])
-        (W.contents (outlet_writer (cert_outlet writer.old))) (W.contents (outlet_writer (cert_outlet writer.new)))) }
+    ensures ok { OnOk result (Appends (W.contents (outlet_writer (cert_outlet writer.old)))
+        (W.contents (outlet_writer (cert_outlet writer.new)))
+        (entry_text (record { cue = place.cue; channel = place.channel; bridging = window.now; bits = chosen.now.bits }))) }
+    ensures err { OnErr result (AppendsFront (W.contents (outlet_writer (cert_outlet writer.old)))
+        (W.contents (outlet_writer (cert_outlet writer.new)))
+        (entry_text (record { cue = place.cue; channel = place.channel; bridging = window.now; bits = chosen.now.bits }))) }
     ensures ready { OnOk result (IsReady (length window.now.weights) writer.new) }
     ensures left { OnOk result (entries_left writer.new + 1 ≡ entries_left writer.old) }
     ensures room { OnOk result (HasBuffers (2 ^ (length window.now.weights - 1)) pass.new) }
     ensures failed { has_failed writer.new ≡ not (is_ok result) }
     ensures before { failures_before writer.new ≡ failures_before writer.old }
 {
-    cut_rows_are_valid();
     let BridgePlace { cue, channel } = place;
     let length = window.length();
     let Ok(()) = writer.begin_bridge(cue as u16, channel as u16, length as u16) else {

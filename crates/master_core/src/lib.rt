@@ -20,8 +20,10 @@
 //!   `IsMasterOf cut form recording`: a master, whatever its bridges (`specs/Masters.antt`, `specs/Checking.antt`).
 //! - `PlansMaster cut form bridges`: there is one list of best channels, what they cost, what is shown of them, and their
 //!   file (`specs/Planning.antt`).
-//! - `AreBridgesOf cut bridges`: the bridges of a cut with the first least bits of each; `Certifies cut bridges cert`: a
-//!   certificate that shows them to be least (`specs/Choosing.antt`, `specs/Certifying.antt`).
+//! - `AreBridgesOf cut bridges`: the bridges of a cut with the first least bits of each; `Certifies cut bridges cert`: the
+//!   certificate of them (`specs/Choosing.antt`, `specs/Certifying.antt`).
+//! - `cert_of cut channels`: the certificate of a master, one text for each list of channels (`specs/Certificates.antt`);
+//!   [`certificates_show`] is the law that it shows least bits to be least.
 //! - `claims cut channels`: what a certificate is to show of these channels, bridge by bridge; `IsCertOf` that it
 //!   does; `windows_total` the sum over the bridges, `total_cost` the sum over whole channels (`specs/Claims.antt`).
 //! - `JudgesMaster cut form recording cert verdict`: what a verdict says (`specs/Judging.antt`).
@@ -51,7 +53,7 @@ mod standing;
 mod verdict;
 mod writing;
 
-pub use certifying::{CertifyingRoom, can_certify, certify};
+pub use certifying::{CertifyingRoom, certificates_show, certify};
 pub use choosing::ChosenBridges;
 pub use cueing::first_off_so_far;
 pub use filing::{master_ends, write_master};

@@ -5,6 +5,7 @@ pub mod Decisions
 pub mod Few
 pub mod Finals
 pub mod HandedOver
+pub mod LeastRows
 pub mod LeastSums
 pub mod Levels
 pub mod RowLaws

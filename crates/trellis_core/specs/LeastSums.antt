@@ -1,5 +1,6 @@
 -- Least sums of steps by level and state, over all lists of bits, and tables of them.
-use Rattle.std.specs.Prelude.{◌≡◌, ℕ, ◌^◌, ◌<◌, ◌≤◌, ◌⊎◌, Bool, List, length}
+use Rattle.std.specs.Prelude.{◌≡◌, ◌↔◌, ℕ, zero, suc, ◌+◌, ◌==◌, ◌^◌, ◌<◌, ◌≤◌, ◌⊎◌, min, Bool, false, true, List, [], ◌∷◌, ◌++◌, filter, fold, length, map}
+use Rattle.std.specs.List.{range_with_len}
 use Rattle.cost_core.specs.Trellis.{Trellis, states, state_after, steps}
 use Rattle.cost_core.specs.Tables.{IsTable, value_in}
 use Rattle.cost_core.specs.Bridges.{Bridging, bridge_cost, IsLeastBridge}
@@ -31,3 +32,28 @@ abbrev pub BestRowsAreValid : Type 0
 BestRowsAreValid =
     (d : Bridging) (rows : List (List ℕ)) (x : List Bool) → IsBridging d → BestRows (trellis_of d) rows → IsLeastBridge d x
     → IsValid (trellis_of d) (value_in rows) (bridge_cost d x) x
+
+-- all lists of n bits
+unfoldable pub bit_lists : ℕ → List (List Bool)
+bit_lists zero = [] ∷ []
+bit_lists (suc n) = map (λ x. false ∷ x) (bit_lists n) ++ map (λ x. true ∷ x) (bit_lists n)
+
+-- whether some bits lead from the start to a state
+abbrev pub leads_to : Trellis → ℕ → List Bool → Bool
+leads_to t q x = state_after t.width t.start x == q
+
+-- the lesser of 2 ^ 63 and the least sum of steps over all lists of `level` bits that lead from the start to a state
+unfoldable pub least_sum : Trellis → ℕ → ℕ → ℕ
+least_sum t level q = fold min (2 ^ 63) (map (sum_of_steps t) (filter (leads_to t q) (bit_lists level)))
+
+-- the row of a level: these sums by rising state
+unfoldable pub least_row : Trellis → ℕ → List ℕ
+least_row t level = map (least_sum t level) (range_with_len 0 (states t))
+
+-- the rows of all levels, level 0 first
+unfoldable pub least_rows : Trellis → List (List ℕ)
+least_rows t = map (least_row t) (range_with_len 0 (t.levels + 1))
+
+-- there is one table of best sums: that of the least sums over all lists
+abbrev pub BestRowsAreLeast : Type 0
+BestRowsAreLeast = (t : Trellis) (rows : List (List ℕ)) → BestRows t rows ↔ (rows ≡ least_rows t)

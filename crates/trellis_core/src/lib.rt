@@ -21,7 +21,8 @@
 //! The words of the contracts are those of `cost_core`, `IsFirstLeastBridge` and `bridge_cost`, and
 //!
 //! - `IsBest t level q v`: `v` is the lesser of `2^63` and the least sum of steps over all lists of so many
-//!   bits that lead to state `q`; `BestRows t rows`: a row of these for each level.
+//!   bits that lead to state `q`; `BestRows t rows`: a row of these for each level. There is one such table, `least_rows t`
+//!   ([`best_rows_are_least`]).
 //! - `HandsOverAll t spelling old new`: a sink's text grew by the rows of all levels, `HandsOverSome` by
 //!   those of the first ones, `HandsOverUpTo` by those and a front of the next; `cut_spelling cost spelling` is
 //!   the spelling of rows that are cut at a cost.
@@ -52,5 +53,5 @@ mod unheard;
 pub use bridging::{Chosen, bridge, bridge_cut_into, bridge_into};
 pub use cutting::hand_cut;
 pub use fault::BridgeFault;
-pub use laws::{best_rows_are_valid, cut_rows_are_valid};
+pub use laws::{best_rows_are_least, best_rows_are_valid, cut_rows_are_valid};
 pub use rows::PassRoom;

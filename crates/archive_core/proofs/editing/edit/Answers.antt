@@ -18,6 +18,7 @@ returns-in_err-splice c =
     rw (p.1, p.2) (record {
       found = tt;
       master = tt;
+      certificate = tt;
       accepted = tt;
       joint = tt;
       windows = tt;
@@ -32,6 +33,7 @@ returns-in_err-takes c =
     rw (p.1, p.2) (record {
       found = tt;
       master = tt;
+      certificate = tt;
       accepted = tt;
       joint = tt;
       windows = tt;
@@ -60,6 +62,7 @@ returns c =
     record {
       found = h.found project files here;
       master = h.master project files here;
+      certificate = h.certificate project files here;
       accepted = h.accepted project files here;
       joint = h.joint project files here;
       windows = h.windows project files here;

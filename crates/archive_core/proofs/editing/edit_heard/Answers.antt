@@ -12,6 +12,7 @@ returns-in_err-planned c =
     rw (p.1, p.2) (record {
       found = λ project files are. tt;
       master = λ project files are. tt;
+      certificate = λ project files are. tt;
       accepted = λ project files are. tt;
       joint = λ project files are. tt;
       windows = λ project files are. tt;
@@ -25,6 +26,7 @@ returns-in_err-master c =
     rw (p.1, p.2) (record {
       found = λ project files are. tt;
       master = λ project files are. tt;
+      certificate = λ project files are. tt;
       accepted = λ project files are. tt;
       joint = λ project files are. tt;
       windows = λ project files are. tt;
@@ -38,6 +40,7 @@ returns-in_err-cert c =
     rw (p.1, p.2) (record {
       found = λ project files are. tt;
       master = λ project files are. tt;
+      certificate = λ project files are. tt;
       accepted = λ project files are. tt;
       joint = λ project files are. tt;
       windows = λ project files are. tt;
@@ -59,6 +62,7 @@ returns c =
     record {
       found = λ project files are. let p = plans project files are in rw (written p.file p.is_file, total) p.edits;
       master = λ project files are. let p = plans project files are in rw (written p.file p.is_file) p.is_master;
+      certificate = λ project files are. let p = plans project files are in rw (written p.file p.is_file) (p.certificate c.in_ok-cert.cert.items whole);
       accepted = λ project files are. let p = plans project files are in rw (written p.file p.is_file, total) (p.accepted c.in_ok-cert.cert.items whole);
       joint = λ project files are. let p = plans project files are in rw (written p.file p.is_file, total) p.joint;
       windows = λ project files are. let p = plans project files are in rw (written p.file p.is_file, total) p.windows;

@@ -6,11 +6,11 @@ use Rattle.splice_core.specs.Splices.{splice_content}
 use Rattle.cut_core.specs.Cuts.{CutContent, master_length}
 use Rattle.transfer_core.specs.declared.fault.Fault.TheVariants.{Memory}
 use Rattle.master_core.specs.Masters.{IsBestMaster, master_of}
-use Rattle.master_core.proofs.ChoiceLaws.{cert_stands}
+use Rattle.master_core.proofs.ChoiceLaws.{cert_is, cert_stands}
 use Rattle.archive_core.specs.Cutting.{AreTakes, SaysCut}
 use Rattle.transfer_core.specs.Faults.{fault_of_writing}
 use Rattle.archive_core.proofs.CuttingLaws.{one_cut, only_memory}
-use Rattle.archive_core.proofs.EditLaws.{any_form, file_costs, file_is_accepted, file_is_master, file_least, one_answer, one_file, plan_only_memory}
+use Rattle.archive_core.proofs.EditLaws.{any_form, file_certificate, file_costs, file_is_accepted, file_is_master, file_least, one_answer, one_file, plan_only_memory}
 use Rattle.archive_core.proofs.planning.plan_master.Goals as goal
 use Rattle.archive_core.proofs.planning.plan_master.Goals.{In_err-bridges, In_ok-cut}
 
@@ -57,8 +57,9 @@ returns-clause-found c = λ project files are.
       only = λ other is. one_file cut form is.channels told.channels other told.file is.best told.best is.text told.text;
       edits = record { cut = cut; says = c.in_ok-cut.ensures.found project files are; recording = recording; best = best; text = told.text };
       is_master = file_is_master project files cut says form recording told.master told.file told.read_again told.whole;
+      certificate = λ cert certifies. file_certificate project files cut says form recording told.master told.file told.read_again cert (cert_is cut c.in_ok-bridges.field-0.bridges told.channels cert told.shows certifies);
       accepted = λ cert certifies.
-          file_is_accepted project files cut says form recording told.master told.file told.read_again cert total (cert_stands cut c.in_ok-bridges.field-0.bridges told.channels cert told.shows certifies)
+          file_is_accepted project files cut says form recording told.master told.file told.read_again cert total (cert_stands cut c.in_ok-bridges.field-0.bridges told.channels cert told.shows certifies c.in_ok-bridges.ensures.bridges)
           told.cost_is;
       joint = file_least project files cut says form recording told.master told.file told.read_again told.whole total told.joint;
       windows = file_costs project files cut says form recording told.master told.file told.read_again total told.windows;

@@ -8,7 +8,7 @@ use Rattle.cert_core.specs.declared.version.Version.TheVariants.{Two}
 use Rattle.device_core.specs.Outlets.{AppendsPart, outlet_writer}
 use Rattle.master_core.specs.Choosing.{chosen_claims}
 use Rattle.master_core.proofs.CertLaws.{cert_cut, cert_whole, failed_write, head_cut, part_is_front}
-use Rattle.master_core.proofs.ChoiceLaws.{claim_number, showable}
+use Rattle.master_core.proofs.ChoiceLaws.{claim_number}
 use Rattle.master_core.proofs.certifying.write_cert.Given.{Over}
 use Rattle.master_core.proofs.certifying.write_cert.Goals as goal
 use Rattle.master_core.proofs.certifying.write_cert.Goals.{After-len, In-Ok}
@@ -28,20 +28,19 @@ begun g c =
 pub returns-in_default-clause-err : goal.returns-in_default-clause-err
 returns-in_default-clause-err g c =
     let cut = c.args.cut.now in
-    let made = c.args.bridges.now in
     let a = g.W.Write.contents (outlet_writer (cert_outlet c.args.writer.now)) in
     let b = g.W.Write.contents (outlet_writer (cert_outlet c.begin.new.self)) in
     failed_write c.in_default.field-0 (has_failed c.args.writer.now) c.requires.fresh.fine c.in_default.ensures.failed (λ e.
     let told = subst (λ (v : Version). AppendsPart a b (cert_head v (cert_weights c.args.writer.now) c.len.result)) c.requires.fresh.version_is (c.in_default.ensures.device e) in
     let part = subst (λ n. AppendsPart a b (cert_head Two n c.len.result)) c.requires.fresh.weights_are told in
-    head_cut c.read_is_cert.ensures.read (length cut.splice.weights) c.len.result _ (announced g (goal.at.returns-in_default-clause-err g c).After-len) c.cut_rows_are_valid.ensures (showable cut made c.requires.bridges) a b (part_is_front a b _ part))
+    head_cut (length cut.splice.weights) c.len.result _ (announced g (goal.at.returns-in_default-clause-err g c).After-len) a b (part_is_front a b _ part))
 
 pub returns : goal.returns
 returns g c =
     let at = goal.at.returns g c in
     record {
-      ok = on_ok_weaker c.write_entries.result (λ rest. cert_whole c.read_is_cert.ensures.read _ c.len.result _ (announced g at.After-len) _ _ _ (begun g at.In-Ok) rest) c.write_entries.ensures.ok;
-      err = on_err_weaker c.write_entries.result (λ rest. cert_cut c.read_is_cert.ensures.read _ c.len.result _ (announced g at.After-len) _ _ _ (begun g at.In-Ok) rest) c.write_entries.ensures.err;
+      ok = on_ok_weaker c.write_entries.result (λ rest. cert_whole _ c.len.result _ (announced g at.After-len) _ _ _ (begun g at.In-Ok) rest) c.write_entries.ensures.ok;
+      err = on_err_weaker c.write_entries.result (λ rest. cert_cut _ c.len.result _ (announced g at.After-len) _ _ _ (begun g at.In-Ok) rest) c.write_entries.ensures.err;
       failed = c.write_entries.ensures.failed;
       before = search rules;
     }

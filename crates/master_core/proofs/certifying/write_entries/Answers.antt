@@ -1,4 +1,4 @@
-use Rattle.std.proofs.Common.{◌≡◌, ◌-◌, ◌<◌, ◌^◌, List, [], length, get_or, take, refl, subst, sym, arith, ◌∙◌}
+use Rattle.std.proofs.Common.{◌≡◌, ◌-◌, ◌<◌, ◌^◌, List, length, get_or, take, refl, subst, sym, arith, ◌∙◌}
 use Rattle.std.proofs.lemmas.List.{take_all}
 use Rattle.std.proofs.KnownBytes.{Appends-nil}
 use Rattle.std.proofs.lemmas.Result.{err_from_is_err_and}
@@ -11,7 +11,7 @@ use Rattle.trellis_core.specs.Passes.{HasBuffers}
 use Rattle.master_core.specs.Certifying.{AppendsEntries, IsReady}
 use Rattle.master_core.specs.Choosing.{chosen_claims}
 use Rattle.master_core.proofs.CertLaws.{cut_short, entry_more}
-use Rattle.master_core.proofs.ChoiceLaws.{as_many, as_many_windows, chosen_is, claim_is, claim_number, showable, weights_are}
+use Rattle.master_core.proofs.ChoiceLaws.{as_many, as_many_windows, chosen_is, claim_is, claim_number, weights_are}
 use Rattle.master_core.proofs.certifying.write_entries.Goals as goal
 use Rattle.master_core.proofs.certifying.write_entries.Goals.{After-index-in-loop-k}
 use Rattle.master_core.proofs.certifying.write_entries.Given.{Over}
@@ -70,7 +70,7 @@ returns-in_err-write_entry g c = record {
       let a = g.W.Write.contents (outlet_writer (cert_outlet c.args.writer.now)) in
       let b = g.W.Write.contents (outlet_writer (cert_outlet c.loop-k.writer)) in
       let e = g.W.Write.contents (outlet_writer (cert_outlet c.write_entry.new.writer)) in
-      rw p.1 (cut_short (claims g here) c.loop-k.k (claim g here) (claim_there g here) (is g here) c.cut_rows_are_valid.ensures (showable c.args.cut.now c.args.bridges.now c.requires.bridges) a b e c.loop-k.invariant.written c.in_err-write_entry.ensures.err);
+      rw p.1 (cut_short (claims g here) c.loop-k.k (claim g here) (claim_there g here) (is g here) a b e c.loop-k.invariant.written c.in_err-write_entry.ensures.err);
   failed = let e = err_from_is_err_and c.from_residual.result c.from_residual.ensures.1 in rw e.1 c.in_err-write_entry.ensures.failed;
   before = c.write_entry.ensures.before ∙ c.loop-k.invariant.before;
 }
@@ -106,7 +106,7 @@ pub write_entry-requires-clause-entries : goal.write_entry-requires-clause-entri
 write_entry-requires-clause-entries g c = omega (arith, c.loop-k.invariant.left, there g (goal.at.write_entry-requires-clause-entries g c).After-index-in-loop-k)
 
 pub loop-k-init : goal.loop-k-init
-loop-k-init g c = record { written = ([], refl, Appends-nil (g.W.Write.contents (outlet_writer (cert_outlet c.args.writer.now)))); ready = c.requires.ready; left = omega (arith, c.requires.entries); before = refl; room = c.requires.room }
+loop-k-init g c = record { written = Appends-nil (g.W.Write.contents (outlet_writer (cert_outlet c.args.writer.now))); ready = c.requires.ready; left = omega (arith, c.requires.entries); before = refl; room = c.requires.room }
 
 pub index-window-requires : goal.index-window-requires
 index-window-requires g c =

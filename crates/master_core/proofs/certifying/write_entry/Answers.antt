@@ -45,7 +45,7 @@ returns-in_default g c = record {
       let b = g.W.Write.contents (outlet_writer (cert_outlet c.begin_bridge.new.self)) in
       failed_write c.in_default.field-0 (has_failed c.args.writer.now) c.requires.ready.fine c.in_default.ensures.failed (λ e.
       let part = subst (λ n. AppendsPart a b (entry_start c.args.place.cue c.args.place.channel n)) c.length-length.ensures.value (c.in_default.ensures.device e) in
-      cut_in_start c.cut_rows_are_valid.ensures c.args.window.now c.length-length.ensures.limits c.args.place.cue c.args.place.channel x.bits c.requires.chosen.first_least.is_least x.cost c.requires.chosen.cost_is a b (part_is_front a b _ part));
+      cut_in_start c.args.window.now c.args.place.cue c.args.place.channel x.bits x.cost c.requires.chosen.cost_is a b (part_is_front a b _ part));
   ready = tt;
   left = tt;
   room = tt;
@@ -61,7 +61,7 @@ returns-in_default-hand_cut g c = record {
       let e = g.W.Write.contents (outlet_writer (cert_outlet c.hand_cut.new.sink)) in
       let begun = (goal.at.returns-in_default-hand_cut g c).In-Ok in
       let rows = subst (λ (v : Version). HandsOverUpTo (trellis_of c.args.window.now) (cut_spelling x.cost (row_text (version_of (version_number v)))) b e) (version_is g begun) c.in_default-hand_cut.ensures.err in
-      cut_in_rows c.cut_rows_are_valid.ensures c.args.window.now c.length-length.ensures.limits c.args.place.cue c.args.place.channel x.bits c.requires.chosen.first_least.is_least x.cost c.requires.chosen.cost_is _ b e (started g begun) rows;
+      cut_in_rows c.args.window.now c.args.place.cue c.args.place.channel x.bits x.cost c.requires.chosen.cost_is _ b e (started g begun) rows;
   ready = tt;
   left = tt;
   room = tt;
@@ -77,7 +77,7 @@ returns-in_default-end_bridge g c = record {
       let f = g.W.Write.contents (outlet_writer (cert_outlet c.end_bridge.new.self)) in
       let at = goal.at.returns-in_default-end_bridge g c in
       failed_write c.in_default-end_bridge.field-0 (has_failed c.hand_cut.new.sink) c.in-Ok-hand_cut.ensures.refused c.in_default-end_bridge.ensures.failed (λ w.
-      cut_in_cost c.cut_rows_are_valid.ensures c.args.window.now c.length-length.ensures.limits c.args.place.cue c.args.place.channel x.bits c.requires.chosen.first_least.is_least x.cost c.requires.chosen.cost_is _ _ e f
+      cut_in_cost c.args.window.now c.args.place.cue c.args.place.channel x.bits x.cost c.requires.chosen.cost_is _ _ e f
       (started g at.In-Ok) (rows_written g at.In-Ok-hand_cut (version_is g at.In-Ok)) (part_is_front e f _ (c.in_default-end_bridge.ensures.device w)));
   ready = tt;
   left = tt;
@@ -92,7 +92,7 @@ returns g c =
     record {
       ok = let x = c.args.chosen.now in
           let at = goal.at.returns g c in
-          entry_whole c.cut_rows_are_valid.ensures c.args.window.now c.length-length.ensures.limits c.args.place.cue c.args.place.channel x.bits c.requires.chosen.first_least.is_least x.cost c.requires.chosen.cost_is _ _ _ _
+          entry_whole c.args.window.now c.args.place.cue c.args.place.channel x.bits x.cost c.requires.chosen.cost_is _ _ _ _
           (started g at.In-Ok) (rows_written g at.In-Ok-hand_cut (version_is g at.In-Ok)) c.in-Ok-end_bridge.ensures.ok;
       err = tt;
       ready = record {

@@ -1,8 +1,9 @@
-use Rattle.std.proofs.Common.{false, ◌≡◌, ◌-◌, ◌^◌, ◌∙◌, ap, arith, length, subst, sym}
+use Rattle.std.proofs.Common.{false, ◌≡◌, ℕ, List, Option, ◌-◌, ◌^◌, ◌∙◌, ap, arith, length, subst, sym}
 use Rattle.std.specs.Io.KnownBytes.{Appends}
 use Rattle.cost_core.specs.Bridges.{Bridging}
 use Rattle.cost_core.specs.Limits.{IsBridging}
 use Rattle.cost_core.specs.StateCosts.{trellis_of}
+use Rattle.cost_core.specs.Trellis.{Trellis}
 use Rattle.cert_core.specs.Spelling.{row_text, version_number, version_of}
 use Rattle.cert_core.specs.Text.{entry_start}
 use Rattle.cert_core.specs.Writers.{Stage, cert_outlet, has_failed, stage}
@@ -14,7 +15,7 @@ use Rattle.trellis_core.specs.Passes.{HasBuffers}
 use Rattle.master_core.proofs.CertLaws.{cut_in_cost, cut_in_rows, cut_in_start, entry_whole, failed_write, part_is_front}
 use Rattle.master_core.proofs.certifying.write_entry.Given.{Over}
 use Rattle.master_core.proofs.certifying.write_entry.Goals as goal
-use Rattle.master_core.proofs.certifying.write_entry.Goals.{In-Ok, In-Ok-hand_cut}
+use Rattle.master_core.proofs.certifying.write_entry.Goals.{In-Ok}
 
 width_is : (d : Bridging) → IsBridging d → length d.weights - 1 ≡ length d.preceding
 width_is d limits = omega (arith, limits.before)
@@ -30,12 +31,9 @@ started g c =
 version_is : (g : Over) (c : In-Ok g) → (stage c.begin_bridge.new.self).version ≡ Two
 version_is g c = ap (λ (s : Stage). s.version) c.in-Ok.ensures.begun ∙ c.requires.ready.version_is
 
--- and they were written
-rows_written : (g : Over) (c : In-Ok-hand_cut g) → (stage c.begin_bridge.new.self).version ≡ Two → HandsOverAll (trellis_of c.args.window.now) (cut_spelling c.args.chosen.now.cost (row_text Two)) (g.W.Write.contents (outlet_writer (cert_outlet c.begin_bridge.new.self))) (g.W.Write.contents (outlet_writer (cert_outlet c.hand_cut.new.sink)))
-rows_written g c version =
-    let b = g.W.Write.contents (outlet_writer (cert_outlet c.begin_bridge.new.self)) in
-    let e = g.W.Write.contents (outlet_writer (cert_outlet c.hand_cut.new.sink)) in
-    subst (λ (v : Version). HandsOverAll (trellis_of c.args.window.now) (cut_spelling c.args.chosen.now.cost (row_text (version_of (version_number v)))) b e) version c.in-Ok-hand_cut.ensures.ok
+-- and those that were handed over are written in it
+rows_written : (t : Trellis) (cost : ℕ) (b e : Option (List ℕ)) (v : Version) → v ≡ Two → HandsOverAll t (cut_spelling cost (row_text (version_of (version_number v)))) b e → HandsOverAll t (cut_spelling cost (row_text Two)) b e
+rows_written t cost b e v version handed = subst (λ (v : Version). HandsOverAll t (cut_spelling cost (row_text (version_of (version_number v)))) b e) version handed
 
 pub returns-in_default : goal.returns-in_default
 returns-in_default g c = record {
@@ -78,7 +76,7 @@ returns-in_default-end_bridge g c = record {
       let at = goal.at.returns-in_default-end_bridge g c in
       failed_write c.in_default-end_bridge.field-0 (has_failed c.hand_cut.new.sink) c.in-Ok-hand_cut.ensures.refused c.in_default-end_bridge.ensures.failed (λ w.
       cut_in_cost c.args.window.now c.args.place.cue c.args.place.channel x.bits x.cost c.requires.chosen.cost_is _ _ e f
-      (started g at.In-Ok) (rows_written g at.In-Ok-hand_cut (version_is g at.In-Ok)) (part_is_front e f _ (c.in_default-end_bridge.ensures.device w)));
+      (started g at.In-Ok) (rows_written (trellis_of c.args.window.now) x.cost _ _ (stage c.begin_bridge.new.self).version (version_is g at.In-Ok) c.in-Ok-hand_cut.ensures.ok) (part_is_front e f _ (c.in_default-end_bridge.ensures.device w)));
   ready = tt;
   left = tt;
   room = tt;
@@ -93,7 +91,7 @@ returns g c =
       ok = let x = c.args.chosen.now in
           let at = goal.at.returns g c in
           entry_whole c.args.window.now c.args.place.cue c.args.place.channel x.bits x.cost c.requires.chosen.cost_is _ _ _ _
-          (started g at.In-Ok) (rows_written g at.In-Ok-hand_cut (version_is g at.In-Ok)) c.in-Ok-end_bridge.ensures.ok;
+          (started g at.In-Ok) (rows_written (trellis_of c.args.window.now) x.cost _ _ (stage c.begin_bridge.new.self).version (version_is g at.In-Ok) c.in-Ok-hand_cut.ensures.ok) c.in-Ok-end_bridge.ensures.ok;
       err = tt;
       ready = record {
         version_is = ap (λ (s : Stage). s.version) s ∙ c.requires.ready.version_is;

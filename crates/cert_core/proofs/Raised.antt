@@ -91,25 +91,41 @@ none_reached v k (suc n) a h =
     let e : a + cond (leb (256 ^ k) v) 1 0 ≡ a = rw (lt-leb (256 ^ k) v h) (omega arith) in
     ap (λ m. fold (counted v) m (steps (suc k) n)) e ∙ none_reached v (suc k) n a (omega arith)
 
-reached : (v k n a : ℕ) → v < 256 ^ (k + n) → (j : ℕ) × (fold (counted v) a (steps k n) ≡ a + j) × (v < 256 ^ (k + j)) × (j ≤ n)
-reached v k zero a h = (0, omega arith, h, omega arith)
+-- of so many powers the first j are reached, and no more
+reached : (v k n a : ℕ) → v < 256 ^ (k + n) → (j : ℕ) × (fold (counted v) a (steps k n) ≡ a + j) × (v < 256 ^ (k + j)) × (j ≤ n) × ((i : ℕ) → i < j → 256 ^ (k + i) ≤ v)
+reached v k zero a h = (0, omega arith, h, omega arith, λ i less. absurd (omega arith))
 reached v k (suc n) a h = elim (cases_lt v (256 ^ k)) [
   | inl lt ↦
       let e : k + 0 ≡ k = omega arith in
-      (0, none_reached v k (suc n) a lt ∙ omega arith, subst (λ m. v < 256 ^ m) (sym e) lt, omega arith)
+      (0, none_reached v k (suc n) a lt ∙ omega arith, subst (λ m. v < 256 ^ m) (sym e) lt, omega arith, λ i less. absurd (omega arith))
   | inr ge ↦
       let e : k + suc n ≡ suc k + n = omega arith in
       let one : a + cond (leb (256 ^ k) v) 1 0 ≡ a + 1 = rw (le-leb (256 ^ k) v ge) refl in
-      let (j, is, below, few) = reached v (suc k) n (a + 1) (subst (λ m. v < 256 ^ m) e h) in
+      let (j, is, below, few, each) = reached v (suc k) n (a + 1) (subst (λ m. v < 256 ^ m) e h) in
       let e2 : suc k + j ≡ k + suc j = omega arith in
-      (suc j, ap (λ m. fold (counted v) m (steps (suc k) n)) one ∙ is ∙ omega arith, subst (λ m. v < 256 ^ m) e2 below, omega arith)
+      let at : (i : ℕ) → i < suc j → 256 ^ (k + i) ≤ v = reach k v j ge each in
+      (suc j, ap (λ m. fold (counted v) m (steps (suc k) n)) one ∙ is ∙ omega arith, subst (λ m. v < 256 ^ m) e2 below, omega arith, at)
 ]
+  where
+    reach : (k v j : ℕ) → 256 ^ k ≤ v → ((i : ℕ) → i < j → 256 ^ (suc k + i) ≤ v) → (i : ℕ) → i < suc j → 256 ^ (k + i) ≤ v
+    reach k v j ge each zero less = let e : k ≡ k + 0 = omega arith in subst (λ m. 256 ^ m ≤ v) e ge
+    reach k v j ge each (suc i) less = let e : suc k + i ≡ k + suc i = omega arith in subst (λ m. 256 ^ m ≤ v) e (each i (omega arith))
 
 pub width_fits : (v : ℕ) → v < 2 ^ 64 → (v < 256 ^ byte_width v) × (byte_width v ≤ 8)
 width_fits v h =
-    let (j, is, below, few) = reached v 0 8 0 h in
+    let (j, is, below, few, each) = reached v 0 8 0 h in
     let e : byte_width v ≡ 0 + j = is in
     (subst (λ m. v < 256 ^ m) (sym e) below, omega (arith, e, few))
+
+-- in no fewer
+pub width_least : (v : ℕ) → v < 2 ^ 64 → (w : ℕ) → v < 256 ^ w → byte_width v ≤ w
+width_least v h w fits =
+    let (j, is, below, few, each) = reached v 0 8 0 h in
+    let e : byte_width v ≡ 0 + j = is in
+    elim (cases_lt w j) [
+      | inl less ↦ (let same : 0 + w ≡ w = omega arith in absurd (omega (arith, fits, subst (λ m. 256 ^ m ≤ v) same (each w less))))
+      | inr most ↦ omega (arith, e, most)
+    ]
 
 -- what is taken off and added again
 taken_off : (least : ℕ) (over : List ℕ) → map (λ v. v - least) (map (λ v. least + v) over) ≡ over

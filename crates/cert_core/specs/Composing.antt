@@ -1,5 +1,5 @@
 -- How the parts of a certificate make the whole.
-use Rattle.std.specs.Prelude.{◌≡◌, ℕ, ◌^◌, ◌<◌, Bool, List, [], ◌∷◌, ◌++◌, length, flat_map, Option}
+use Rattle.std.specs.Prelude.{◌≡◌, ℕ, ◌^◌, ◌<◌, ◌≤◌, Bool, List, [], ◌∷◌, ◌++◌, length, flat_map, Option}
 use Rattle.std.specs.Int.{w64, to_be_bytes}
 use Rattle.std.specs.Io.KnownBytes.{Appends}
 use Rattle.cost_core.specs.Bridges.{Bridging, IsLeastBridge}
@@ -9,7 +9,7 @@ use Rattle.cert_core.specs.declared.verdict.CertReason.{CertReason}
 use Rattle.cert_core.specs.Certificates.{Claim, Shows, IsCert, IsEntryOf, AreEntries}
 use Rattle.cert_core.specs.Entries.{IsEntry, BeginsValid}
 use Rattle.cert_core.specs.Reasons.{FirstReason}
-use Rattle.cert_core.specs.Spelling.{row_text}
+use Rattle.cert_core.specs.Spelling.{byte_width, row_text}
 use Rattle.cert_core.specs.Text.{Entry, entry_start, cert_entry, cert_head, cert_text}
 use Rattle.cert_core.specs.declared.version.Version.{Version}
 
@@ -65,3 +65,7 @@ ShownIsLeast = (v : Version) (d : Bridging) (cue channel : ℕ) (x : List Bool) 
 abbrev pub OneReason : Type 0
 OneReason = (v : Version) (d : Bridging) (cue channel found : ℕ) (bytes : List ℕ) (a b : CertReason) → IsBridging d → cue < 2 ^ 16 → channel < 2 ^ 16
     → FirstReason v (trellis_of d) cue channel found bytes a → FirstReason v (trellis_of d) cue channel found bytes b → a ≡ b
+
+-- a number of eight bytes fits in as many bytes as its width says, and in no fewer
+abbrev pub ByteWidthIsLeast : Type 0
+ByteWidthIsLeast = (v : ℕ) → v < 256 ^ 8 → (v < 256 ^ byte_width v) × ((w : ℕ) → v < 256 ^ w → byte_width v ≤ w)

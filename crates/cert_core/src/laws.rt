@@ -1,6 +1,6 @@
 //! How the parts of a certificate make the whole: functions that do nothing and carry laws.
 
-ghost use Rattle.cert_core.specs.Composing.{PartsAreEntry, EntriesJoin, HeadAndEntries, ShownIsRead, ReadIsCert, CertHasHead, CertIsRead, ReadMore, NextIsRead, NothingFollows, ShownIsLeast, OneReason};
+ghost use Rattle.cert_core.specs.Composing.{PartsAreEntry, EntriesJoin, HeadAndEntries, ShownIsRead, ReadIsCert, CertHasHead, CertIsRead, ReadMore, NextIsRead, NothingFollows, ShownIsLeast, OneReason, ByteWidthIsLeast};
 
 /// The parts that a writer writes in order are the text of the certificate.
 pub fn parts_join()
@@ -38,4 +38,9 @@ pub fn shown_is_least()
 /// Bytes have one first reason at most, so the answer of a rejection is determined.
 pub fn one_reason()
     ensures { OneReason }
+{}
+
+/// The width in which a row spells its values is the least that holds the greatest of them.
+pub fn byte_width_is_least()
+    ensures { ByteWidthIsLeast }
 {}

@@ -31,7 +31,7 @@
 //! first reason, or `Device` exactly where a read failed, or want of memory. Each part of a certificate
 //! that is written is just its part of the text. Functions that do nothing carry the laws that callers
 //! prove with (`specs/Composing.antt`): [`parts_join`], [`shown_is_read`], [`read_is_cert`],
-//! [`cert_goes_on`], [`shown_is_least`], [`one_reason`].
+//! [`cert_goes_on`], [`shown_is_least`], [`one_reason`], [`byte_width_is_least`].
 //!
 //! ```text
 //! // The bridge of one bit by the weights 1, 0 from ones to zeros: both bits cost 4.
@@ -66,7 +66,10 @@ mod version;
 mod writer;
 
 pub use device_core::FusedFault as CertFault;
-pub use laws::{cert_goes_on, one_reason, parts_join, read_is_cert, shown_is_least, shown_is_read};
+pub use laws::{
+    byte_width_is_least, cert_goes_on, one_reason, parts_join, read_is_cert, shown_is_least,
+    shown_is_read,
+};
 pub use reader::CertReader;
 pub use room::CertRoom;
 pub use verdict::{CertReason, CertVerdict, CheckFault};

@@ -1,6 +1,6 @@
 //! A reader whose failures, reads and bytes are counted.
 
-ghost use Rattle.std.specs.Prelude.{◌≡◌, ◌+◌, ◌-◌, ◌<◌, ◌≤◌, ◌^◌, length, take, MatchResult, IfOk};
+ghost use Rattle.std.specs.Prelude.{◌≡◌, ◌+◌, ◌-◌, ◌<◌, ◌≤◌, ◌^◌, min, length, take, MatchResult, IfOk, OnErr};
 ghost use Rattle.std.specs.Io.KnownBytes.{Consumes, IsAtEnd, ReadConsumes};
 ghost use Rattle.std.specs.Io.Iter.{u64_saturate};
 
@@ -18,7 +18,7 @@ pub struct Inlet<R> {
 }
 
 impl<R: Read> Inlet<R> {
-    ghost use Rattle.device_core.specs.Inlets.{inlet_reader, inlet_failures, inlet_reads, inlet_given, PullsBehind};
+    ghost use Rattle.device_core.specs.Inlets.{inlet_reader, inlet_failures, inlet_reads, inlet_given, CountsReads, FailsFilling, PullsBehind};
 
     /// An inlet over this reader, whose counts are 0.
     pub fn new(reader: R) -> Inlet<R>
@@ -70,7 +70,7 @@ impl<R: Read> Inlet<R> {
 
     /// Reads until the buffer is full or nothing is left, in as many reads as it takes. Its answer is how
     /// many bytes they gave, which stand at the buffer's front. After `Device`, and behind the bytes that
-    /// were given, what the buffer holds is open.
+    /// were given, what the buffer holds is open; the bytes that came before a failed read are counted.
     ///
     /// Refusal: `Device` at the first read that answers an error, whichever it is.
     pub fn fill(&mut self, buffer: &mut [u8]) -> Result<usize, Device>
@@ -83,6 +83,11 @@ impl<R: Read> Inlet<R> {
             (λ _. inlet_failures self.new ≡ inlet_failures self.old)
             (λ _. inlet_failures self.new ≡ inlet_failures self.old + 1) }
         ensures given { IfOk result (λ n. inlet_given self.new ≡ u64_saturate (inlet_given self.old + n)) }
+        // One read more than those that gave bytes, where the buffer isn't full.
+        ensures reads { IfOk result (λ n. CountsReads (inlet_reads self.old) (inlet_reads self.new) n
+            (min 1 (length buffer.new - n))) }
+        // What was read before a read failed is counted too.
+        ensures err { OnErr result (FailsFilling R.remaining self.old self.new (length buffer.new)) }
     {
         let mut filled = 0;
         while filled < buffer.len() {
@@ -104,7 +109,10 @@ impl<R: Read> Inlet<R> {
         ensures failures { MatchResult result
             (λ _. inlet_failures self.new ≡ inlet_failures self.old)
             (λ _. inlet_failures self.new ≡ inlet_failures self.old + 1) }
-        ensures given { IfOk result (λ n. inlet_given self.new ≡ u64_saturate (inlet_given self.old + n)) }
+        ensures reads { inlet_reads self.new ≡ u64_saturate (inlet_reads self.old + 1) }
+        ensures given { MatchResult result
+            (λ n. inlet_given self.new ≡ u64_saturate (inlet_given self.old + n))
+            (λ _. inlet_given self.new ≡ inlet_given self.old) }
     {
         self.pull(&mut buffer[filled..])
     }

@@ -18,6 +18,8 @@
 //!   and `outlet_failures` (`specs/Outlets.antt`): what an inlet and an outlet hold. Which bytes a reader
 //!   has left and a writer holds is std's `Read::remaining` and `Write::contents`: known over memory,
 //!   unknown over files.
+//! - `CountsReads`, `FailsFilling` (`specs/Inlets.antt`): how many reads filling a buffer took; what was read and counted
+//!   before a read failed.
 //! - `AppendsFront`, `AppendsPart` (`specs/Outlets.antt`): a front of some bytes went out; that, and not all.
 //! - `fused_reader`, `fused_most`, `HasFailed` (`specs/FusedInlets.antt`): the reader of a fused inlet, how many
 //!   reads it has, and that it is read no more.

@@ -33,8 +33,9 @@ const KEYS: [Key; 2] = [Key::Decimate, Key::Splice];
 /// 4. If `splice` is there: `WrongKind(splice)` if it's no table, `UnknownKey` inside it; then for
 ///    `weights`, `takes` and `cue` in turn `MissingKey`, `WrongKind`, `OutOfLimit`.
 /// 5. Each cue in turn, counted from 0: `WrongKind(cue)` if it's no table, `UnknownKey` inside it; then for
-///    `take`, `start`, `stop`, `bridge`, `target` and `title` in turn `MissingKey`, `WrongKind`,
+///    `take`, `start`, `stop`, `bridge`, `target`, `line` and `title` in turn `MissingKey`, `WrongKind`,
 ///    `OutOfLimit`, or `NoTake` for a take's number that isn't below the number of takes; then `ShortCue`.
+///    Where the target is a fade, any `line` is `OutOfLimit(line)`.
 /// 6. `LastBridge`: the last cue's bridge isn't 0.
 ///
 /// An array with one element of another kind is `WrongKind`, an empty one is `OutOfLimit`. `Memory` may

@@ -1,4 +1,4 @@
-use Rattle.std.proofs.Common.{◌≡◌, ℕ, ◌-◌, List, ◌++◌, length, take, drop, sym, ap, ◌∙◌, append_assoc, take-append-drop}
+use Rattle.std.proofs.Common.{◌≡◌, ℕ, ◌+◌, ◌-◌, List, ◌++◌, length, take, drop, sym, ap, ◌∙◌, append_assoc, take-append-drop}
 use Rattle.std.proofs.lemmas.List.{take_rest}
 use Rattle.std.proofs.KnownBytes.{Appends-trans}
 use Rattle.device_core.proofs.outlet.Outlet.put_all.Goals as goal
@@ -13,3 +13,9 @@ loop-rest-preserved g c =
     let (done, split, appended, calm) = c.loop-rest.invariant in
     let n = c.in-Ok.count in
     (done ++ take n c.loop-rest.rest.now, moves_front _ done c.loop-rest.rest.now n split, Appends-trans _ _ _ _ _ appended c.in-Ok.ensures.bytes, calm)
+
+pub returns-clause-err : goal.returns-clause-err
+returns-clause-err g c = tt
+
+pub returns-in_default-clause-failures : goal.returns-in_default-clause-failures
+returns-in_default-clause-failures g c = ap (λ n. n + 1) c.loop-rest.invariant.3

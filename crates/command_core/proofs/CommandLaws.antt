@@ -1,7 +1,7 @@
 -- What becomes of the files of a master and its certificate that could not be written, and of those that are judged.
 use Rattle.std.proofs.Common.{◌≡◌, ◌≢◌, ◌⊎◌, ℕ, inl, inr, IfErr, IfOk, IfSome, IsTrue, List, None, Option, Some, Ok, Err, Result, ap, refl, subst, sym, ◌∙◌}
 use Rattle.archive_core.specs.Checking.{Accepts}
-use Rattle.archive_core.specs.Editing.{Edits}
+use Rattle.archive_core.specs.Editing.{Edits, IsCertificate}
 use Rattle.folder_core.specs.Files.{Gives, HadNone, HoldsPrefix, IsFront, IsGiven, IsPut, IsReadOf, KeepsOthers, View}
 use Rattle.folder_core.specs.declared.fault.FileFault.{FileFault}
 use Rattle.folder_core.specs.declared.fault.FileFault.TheVariants as files
@@ -71,8 +71,8 @@ module _ (cut : Cut) (old written new : View) (project master : List ℕ) (takes
       ]
 
   -- its certificate could not be
-  pub cert_unwritten : (cert : List ℕ) (fault : FileFault) → IsFront cut.cert_name written new cert → Accepts project takes master cert total → fault ≡ files.WriteFailed → EditComesTo cut old new (Err (of_file fault))
-  cert_unwritten cert fault front accepted is =
+  pub cert_unwritten : (cert : List ℕ) (fault : FileFault) → IsFront cut.cert_name written new cert → IsCertificate project takes master cert → Accepts project takes master cert total → fault ≡ files.WriteFailed → EditComesTo cut old new (Err (of_file fault))
+  cert_unwritten cert fault front certificate accepted is =
       subst (λ (f : FileFault). EditComesTo cut old new (Err (of_file f))) (sym is) (inr (record {
         project = project;
         takes = takes;
@@ -81,18 +81,20 @@ module _ (cut : Cut) (old written new : View) (project master : List ℕ) (takes
         total = total;
         cuts = cuts_still;
         front = λ (differs : cut.cert_name ≢ cut.master_name). front_before cert differs front;
+        certificate = certificate;
         accepted = accepted;
       }))
 
   -- and its certificate is
-  pub both_written : (cert : List ℕ) → IsPut new cut.cert_name cert → Accepts project takes master cert total → CostsAtLeast project takes master total → EditsFiles cut old new total
-  both_written cert cert_put accepted least = record {
+  pub both_written : (cert : List ℕ) → IsPut new cut.cert_name cert → IsCertificate project takes master cert → Accepts project takes master cert total → CostsAtLeast project takes master total → EditsFiles cut old new total
+  both_written cert cert_put certificate accepted least = record {
     project = project;
     takes = takes;
     master = master;
     cert = cert;
     cuts = cuts_still;
     cert_put = cert_put;
+    certificate = certificate;
     accepted = accepted;
     least = least;
   }

@@ -8,7 +8,7 @@ use Rattle.master_core.specs.declared.verdict.Verdict.TheVariants as verdicts
 use Rattle.archive_core.specs.Checking.{Accepts, IsLeastMaster, RejectsFirst}
 use Rattle.archive_core.specs.Cutting.{said_cut}
 use Rattle.form_core.specs.Steps.{Fails}
-use Rattle.archive_core.specs.Editing.{CostsLeast, CostsWindows, Edits, IsMaster}
+use Rattle.archive_core.specs.Editing.{CostsLeast, CostsWindows, Edits, IsCertificate, IsMaster}
 use Rattle.folder_core.specs.Files.{Gives, IsFront, IsPut, IsReadOf, KeepsAllBut, KeepsOthers, View}
 use Rattle.transfer_commands.specs.Converting.{ConvertComesTo}
 use Rattle.transfer_commands.specs.Playing.{PlayComesTo}
@@ -42,7 +42,7 @@ pub record CostsAtLeast (project : List ℕ) (takes : List (List ℕ)) (master :
   pub joint : CostsLeast project takes master total
   pub windows : CostsWindows project takes master total
 
--- a master was cut at this cost, than which none costs less, and the certificate's file holds now a certificate with which it is accepted at this cost
+-- a master was cut at this cost, than which none costs less, and the certificate's file holds now its certificate, with which it is accepted at this cost
 pub record EditsFiles (cut : Cut) (old new : View) (total : ℕ) : Type 0 where
   pub project : List ℕ
   pub takes : List (List ℕ)
@@ -50,6 +50,7 @@ pub record EditsFiles (cut : Cut) (old new : View) (total : ℕ) : Type 0 where
   pub cert : List ℕ
   pub cuts : CutsFile cut old new project takes master total
   pub cert_put : IsPut new cut.cert_name cert
+  pub certificate : IsCertificate project takes master cert
   pub accepted : Accepts project takes master cert total
   pub least : CostsAtLeast project takes master total
 
@@ -64,7 +65,7 @@ pub record CutsFront (cut : Cut) (old new : View) : Type 0 where
   pub others : KeepsOthers cut.master_name old new
   pub edits : Edits project takes cut.form master total
 
--- a master was cut, and the certificate's file is as it was, or holds a prefix of a certificate with which it is accepted
+-- a master was cut, and the certificate's file is as it was, or holds a prefix of its certificate, with which it is accepted
 pub record LeavesMaster (cut : Cut) (old new : View) : Type 0 where
   pub project : List ℕ
   pub takes : List (List ℕ)
@@ -73,6 +74,7 @@ pub record LeavesMaster (cut : Cut) (old new : View) : Type 0 where
   pub total : ℕ
   pub cuts : CutsFile cut old new project takes master total
   pub front : cut.cert_name ≢ cut.master_name → IsFront cut.cert_name old new cert
+  pub certificate : IsCertificate project takes master cert
   pub accepted : Accepts project takes master cert total
 
 -- where a verdict accepts a master, it is a master of the project and takes, no bits of any bridge cost less, and of all their masters none costs less

@@ -41,6 +41,7 @@ returns-in_err-write_certificate g c =
     let plans = c.in_ok-planned.ensures.found h.project h.takes (record { project_says = h.project_says; hears = h.hears }) in
     let same = c.hear_sources.ensures.same in
     let left = c.in_err-write_certificate.ensures.refused in
+    let certifies = still_certifies c.in_ok-planned.planned c.write_master.new.planned left.0 c.write_master.ensures.same left.1 in
     let p = err_from_is_err_and c.from_residual-in_err-write_certificate.result c.from_residual-in_err-write_certificate.ensures.1 in
     subst (EditComesTo cut old new) (sym (p.1 ∙ ap Err p.2)) (cert_unwritten cut old written new h.project plans.file h.takes (planned_total c.in_ok-planned.planned)
     h.sources plans.edits
@@ -48,7 +49,7 @@ returns-in_err-write_certificate g c =
     (c.in_ok-write_master.ensures.bytes plans.file plans.is_file)
     c.in_err-write_certificate.ensures.others
     left.0 c.in_err-write_certificate.field-0.0 left.2
-    (plans.accepted left.0 (still_certifies c.in_ok-planned.planned c.write_master.new.planned left.0 c.write_master.ensures.same left.1))
+    (plans.certificate left.0 certifies) (plans.accepted left.0 certifies)
     c.in_err-write_certificate.ensures.fault)
 
 pub returns : goal.returns
@@ -62,13 +63,13 @@ returns g c =
     let plans = c.in_ok-planned.ensures.found h.project h.takes (record { project_says = h.project_says; hears = h.hears }) in
     let same = c.hear_sources.ensures.same in
     let whole = c.in_ok-write_certificate.ensures.bytes in
+    let certifies = still_certifies c.in_ok-planned.planned c.write_master.new.planned whole.0 c.write_master.ensures.same whole.1 in
     subst (λ n. EditComesTo cut old new (Ok n)) (sym c.total-total.ensures) (both_written cut old written new h.project plans.file h.takes (planned_total c.in_ok-planned.planned)
     h.sources plans.edits
     (subst (λ (v : View). KeepsOthers c.args.master.now v written) same c.in_ok-write_master.ensures.others)
     (c.in_ok-write_master.ensures.bytes plans.file plans.is_file)
     c.in_ok-write_certificate.ensures.others
-    whole.0 whole.2
-    (plans.accepted whole.0 (still_certifies c.in_ok-planned.planned c.write_master.new.planned whole.0 c.write_master.ensures.same whole.1))
+    whole.0 whole.2 (plans.certificate whole.0 certifies) (plans.accepted whole.0 certifies)
     (record { is_master = plans.is_master; joint = plans.joint; windows = plans.windows }))
 
 pub returns-in_err-sources : goal.returns-in_err-sources

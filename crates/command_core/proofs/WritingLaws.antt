@@ -1,6 +1,6 @@
 -- What the files of a master come to that were handed back or given up.
 use Rattle.std.proofs.Common.{◌≡◌, ℕ, inl, inr, ◌⊎◌, List, [], ◌++◌, true, false, IsTrue, Option, None, Some, Result, Ok, Err, ap, subst, sym, ◌∙◌}
-use Rattle.std.specs.Prelude.{Bool, OnErr, OnOk, is_ok}
+use Rattle.std.specs.Prelude.{IsOk, OnErr, OnOk, is_ok}
 use Rattle.std.specs.Io.KnownBytes.{Appends}
 use Rattle.device_core.specs.Outlets.{AppendsPart}
 use Rattle.folder_core.specs.Files.{HoldsPrefix, IsEnded, IsFront, IsGivenUp, IsPut, KeepsOthers, View}
@@ -45,31 +45,31 @@ module _ (name : List ℕ) (old new : View) (others : KeepsOthers name old new) 
   prefix_left bytes front back parts appended told (inr (stands, had_none)) = inr (record { prefix = front; rest = back; parts = parts; stands = stands ∙ is ∙ grown a b front (empty told) appended; had_none = had_none })
 
   -- whether all was written
-  module _ {T F : Type 0} (came : Result T F) (is_whole : Bool) (whole_is : is_whole ≡ is_ok came) where
+  module _ {T F : Type 0} (came : Result T F) where
     -- ---- the master
     module _ (file : List ℕ) where
-      pub file_whole : {S E : Type 0} (r : Result S E) → OnOk came (Appends a b file) → OnOk r (IsTrue is_whole) → OnOk r (IsTrue old.is_told → new.file name ≡ made) → OnOk r (IsPut new name file)
+      pub file_whole : {S E : Type 0} (r : Result S E) → OnOk came (Appends a b file) → OnOk r (IsOk came) → OnOk r (IsTrue old.is_told → new.file name ≡ made) → OnOk r (IsPut new name file)
       file_whole (Err e) written whole stands = tt
-      file_whole (Ok x) written whole stands = put_all file (of_ok came (sym whole_is ∙ whole) written) stands
+      file_whole (Ok x) written whole stands = put_all file (of_ok came whole written) stands
 
-      pub file_front : {S E : Type 0} (r : Result S E) → OnErr came (AppendsPart a b file) → OnErr r (IsEnded name old new is_whole made) → OnErr r (IsFront name old new file)
+      pub file_front : {S E : Type 0} (r : Result S E) → OnErr came (AppendsPart a b file) → OnErr r (IsEnded name old new (is_ok came) made) → OnErr r (IsFront name old new file)
       file_front (Ok x) written ended = tt
       file_front (Err e) written (inl same) = λ told. inl same
       file_front (Err e) written (inr (part, up)) = λ told.
-          let w = of_err came (sym whole_is ∙ part) written in
+          let w = of_err came part written in
           prefix_left file w.0 w.1 w.2 w.4 told (up told)
 
     -- ---- its certificate
     module _ (planned : PlannedMaster) where
-      pub cert_whole : {S E : Type 0} (r : Result S E) → OnOk came (AppendsCert planned.cut planned.bridges a b) → OnOk r (IsTrue is_whole) → OnOk r (IsTrue old.is_told → new.file name ≡ made) → OnOk r (CertifiesWhole planned name new)
+      pub cert_whole : {S E : Type 0} (r : Result S E) → OnOk came (AppendsCert planned.cut planned.bridges a b) → OnOk r (IsOk came) → OnOk r (IsTrue old.is_told → new.file name ≡ made) → OnOk r (CertifiesWhole planned name new)
       cert_whole (Err e) written whole stands = tt
-      cert_whole (Ok x) written whole stands = let w = of_ok came (sym whole_is ∙ whole) written in (w.0, w.1, put_all w.0 w.2 stands)
+      cert_whole (Ok x) written whole stands = let w = of_ok came whole written in (w.0, w.1, put_all w.0 w.2 stands)
 
-      pub cert_front : {S E : Type 0} (r : Result S E) → (cert : List ℕ) × CertifiesPlanned planned cert → OnErr came (AppendsCertFront planned.cut planned.bridges a b) → OnErr r (IsEnded name old new is_whole made) → OnErr r (CertifiesFront planned name old new)
+      pub cert_front : {S E : Type 0} (r : Result S E) → (cert : List ℕ) × CertifiesPlanned planned cert → OnErr came (AppendsCertFront planned.cut planned.bridges a b) → OnErr r (IsEnded name old new (is_ok came) made) → OnErr r (CertifiesFront planned name old new)
       cert_front (Ok x) some written ended = tt
       cert_front (Err e) some written (inl same) = (some.0, some.1, λ told. inl same)
       cert_front (Err e) some written (inr (part, up)) =
-          let w = of_err came (sym whole_is ∙ part) written in
+          let w = of_err came part written in
           (w.0, w.1, λ told. prefix_left w.0 w.2.0 w.2.1 w.2.2 w.2.3 told (up told))
 
 -- it is of the plan as it was before the master was written

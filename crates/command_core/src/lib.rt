@@ -4,9 +4,9 @@
 //!
 //! The words of the contracts:
 //!
-//! - `TaskComesTo task old new outcome` says what the files of a folder that tells them came to by a command, `old`
-//!   before and `new` after it; `ComesTo old new outcome` the same of words, which may ask for nothing
-//!   (`specs/Commands.antt`).
+//! - `TaskComesTo task old new outcome` says what a folder came to by a command, of which is known `old` before and `new`
+//!   after it: what is told is so of bytes that were read, and where the folder tells its bytes, of those that openings of
+//!   the names gave; `ComesTo old new outcome` the same of words, which may ask for nothing (`specs/Commands.antt`).
 //! - `ShowsDone outcome line` is the line of a command that was done, `status_of` the status that the program ends with
 //!   (`specs/Outcomes.antt`).
 #![tactic(auto)]

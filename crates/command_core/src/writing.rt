@@ -35,8 +35,8 @@ pub(crate) fn write_master<F: Folder>(
         return Err(FileFault::WriteFailed);
     };
     let mut outlet = Outlet::new(made);
-    let is_whole = planned.write_master(&mut outlet).is_ok();
-    hand_back(folder, name, is_whole, outlet.into_inner())
+    let written = planned.write_master(&mut outlet);
+    hand_back(folder, name, &written, outlet.into_inner())
 }
 
 /// Creates a file, makes the certificate of the planned master in it and hands it back, or gives it up after a write that
@@ -59,8 +59,8 @@ pub(crate) fn write_certificate<F: Folder>(
     let Ok(made) = folder.create(name) else {
         return Err(FileFault::WriteFailed);
     };
-    let (came, outlet) = planned.write_certificate(Outlet::new(made));
-    hand_back(folder, name, came.is_ok(), outlet.into_inner())
+    let (written, outlet) = planned.write_certificate(Outlet::new(made));
+    hand_back(folder, name, &written, outlet.into_inner())
 }
 
 // Creates a file once the memory is held that it takes to create the next.

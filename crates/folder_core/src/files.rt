@@ -1,6 +1,6 @@
 //! Files of a folder, read and written whole.
 
-ghost use Rattle.std.specs.Prelude.{◌≡◌, ℕ, List, [], ◌∷◌, ◌++◌, IfErr, IfOk, IfSome, IsTrue, OnErr, OnOk, map, string_bytes};
+ghost use Rattle.std.specs.Prelude.{◌≡◌, ℕ, List, [], ◌∷◌, ◌++◌, IfErr, IfOk, IfSome, IsOk, IsTrue, OnErr, OnOk, is_ok, map, string_bytes};
 ghost use Rattle.folder_core.specs.Files.{AreReadOf, IsEnded, IsFront, IsPut, IsReadFault, IsReadOf, KeepsOthers};
 ghost use Rattle.folder_core.specs.declared.fault.FileFault.TheVariants as faults;
 
@@ -94,28 +94,28 @@ pub fn write_file<F: Folder>(folder: &mut F, name: &str, bytes: &[u8]) -> Result
         return Err(FileFault::WriteFailed);
     };
     let mut outlet = Outlet::new(file);
-    let is_whole = outlet.put_all(bytes).is_ok();
-    hand_back(folder, name, is_whole, outlet.into_inner())
+    let written = outlet.put_all(bytes);
+    hand_back(folder, name, &written, outlet.into_inner())
 }
 
-/// Ends a created file: it is handed back where it was written whole, and else given up.
+/// Ends a created file: it is handed back where what was written to it came to its end, and else given up.
 ///
-/// Refusal: `WriteFailed` where it was not written whole, or can't be kept.
-pub fn hand_back<F: Folder>(
+/// Refusal: `WriteFailed` where that came to a fault, or the file can't be kept.
+pub fn hand_back<F: Folder, T, E>(
     folder: &mut F,
     name: &str,
-    is_whole: bool,
+    written: &Result<T, E>,
     made: F::Out,
 ) -> Result<(), FileFault>
     ensures others { KeepsOthers name.now (F.view folder.old) (F.view folder.new) }
-    ensures whole { OnOk result (IsTrue is_whole) }
+    ensures whole { OnOk result (IsOk written.now) }
     ensures bytes { OnOk result (IsTrue (F.view folder.old).is_told
         → (F.view folder.new).file name.now ≡ F.Out.contents made) }
-    ensures refused { OnErr result (IsEnded name.now (F.view folder.old) (F.view folder.new) is_whole
+    ensures refused { OnErr result (IsEnded name.now (F.view folder.old) (F.view folder.new) (is_ok written.now)
         (F.Out.contents made)) }
     ensures fault { IfErr result (λ fault. fault ≡ faults.WriteFailed) }
 {
-    if !is_whole {
+    if written.is_err() {
         folder.give_up(name, made);
         return Err(FileFault::WriteFailed);
     }

@@ -90,7 +90,7 @@ fn convert_outlined<F: Folder>(
         return Err(CommandFault::WriteFailed);
     };
     let (came, made) = convert_between(alloc, form, outline, file, made);
-    let handed = hand_back(folder, output, came.is_ok(), made);
+    let handed = hand_back(folder, output, &came, made);
     match came {
         Ok(dropped) => match handed {
             Ok(()) => Ok(dropped),

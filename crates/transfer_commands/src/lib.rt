@@ -7,12 +7,13 @@
 //! splice hears. These three read a short file whole, and another one in one pass. The calls are `transfer_core`'s, the
 //! files `folder_core`'s. The first fault is what a command comes to.
 //!
-//! The words of the contracts, over the files of a folder that tells them, `old` before and `new` after:
+//! The words of the contracts, over any folder, of which is known `old` before and `new` after:
 //!
 //! - `PlayComesTo`, `ConvertComesTo` and `TellComesTo` say what became of the files by a command and what it answered,
-//!   whether it was done or refused (`specs/Playing.antt`, `specs/Converting.antt`, `specs/Telling.antt`).
-//! - `AreSources` says that a project and its takes stand there, `SourcesUnread` why they weren't read (`specs/Sources.antt`);
-//!   `HearsSources` what was heard of them (`specs/Hearing.antt`).
+//!   whether it was done or refused, by bytes that were read of them (`specs/Playing.antt`, `specs/Converting.antt`,
+//!   `specs/Telling.antt`).
+//! - `AreSources` says which bytes were read of a project and its takes, `SourcesUnread` why they weren't
+//!   (`specs/Sources.antt`); `HearsSources` what was heard of them (`specs/Hearing.antt`).
 #![tactic(auto)]
 
 mod converting;

@@ -48,7 +48,7 @@ fn play_to<F: Folder>(
     let mut inlet = Inlet::new(file);
     let mut outlet = Outlet::new(wave);
     let played = play_stream(alloc, project, &mut inlet, &mut outlet);
-    let handed = hand_back(folder, output, played.is_ok(), outlet.into_inner());
+    let handed = hand_back(folder, output, &played, outlet.into_inner());
     match played {
         Ok(count) => match handed {
             Ok(()) => Ok(count),

@@ -62,8 +62,8 @@ module _ (g : Over) (c : After-hand_back-handed g) where
   front : (fault : Fault) → c.convert_between-came.result.0 ≡ Err fault → OutlinesRead c.args.input.now (old g k) c.args.outline.now → ConvertsFront c.args.form c.args.input.now c.args.output.now (old g k) new
   front fault is found =
       let written = g.F.Out.Write.contents c.convert_between-came.result.1 in
-      let no : c.is_ok.result ≡ false = c.is_ok.ensures.value ∙ ap is_ok is in
-      let stays = given_up c.args.output.now (g.F.Folder.view c.create.new.self) new c.is_ok.result written c.hand_back-handed.result no c.hand_back-handed.ensures.whole c.hand_back-handed.ensures.refused in
+      let part : is_ok c.convert_between-came.result.0 ≡ false = ap is_ok is in
+      let stays = given_up c.args.output.now (g.F.Folder.view c.create.new.self) new (is_ok c.convert_between-came.result.0) written c.hand_back-handed.result part c.hand_back-handed.ensures.whole c.hand_back-handed.ensures.refused in
       let before : streams.ConvertsFront (g.F.In.Read.remaining c.in-Ok.file) (around_of c.args.outline.now) c.args.form (g.F.Out.Write.contents c.in-Ok-create.made) written = rw is at c.convert_between-came.ensures.front in
       converts_front c.args.form c.args.input.now c.args.output.now (old g k) new others
       c.args.outline.now found c.written_in_parts.ensures (c.if-not-fits_in.ensures.0 refl)
@@ -83,8 +83,8 @@ pub returns-in-Err-handed : goal.returns-in-Err-handed
 returns-in-Err-handed g c = λ found.
     let h = (goal.at.returns-in-Err-handed g c).After-hand_back-handed in
     let made = k g h in
-    let yes : c.is_ok.result ≡ true = c.is_ok.ensures.value ∙ ap is_ok c.in-Ok-came.is in
-    let same_file = not_kept c.args.output.now (g.F.Folder.view c.create.new.self) (new g h) c.is_ok.result (g.F.Out.Write.contents c.convert_between-came.result.1) yes c.in-Err-handed.ensures.refused in
+    let whole : is_ok c.convert_between-came.result.0 ≡ true = ap is_ok c.in-Ok-came.is in
+    let same_file = not_kept c.args.output.now (g.F.Folder.view c.create.new.self) (new g h) (is_ok c.convert_between-came.result.0) (g.F.Out.Write.contents c.convert_between-came.result.1) whole c.in-Err-handed.ensures.refused in
     converts_none c.args.form c.args.input.now c.args.output.now (old g made) (new g h) (others g h)
     c.args.outline.now found c.written_in_parts.ensures (c.if-not-fits_in.ensures.0 refl) (subst (λ (v : View). (new g h).file c.args.output.now ≡ v.file c.args.output.now) (same g made) same_file)
 

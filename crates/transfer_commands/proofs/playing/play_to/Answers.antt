@@ -25,8 +25,8 @@ returns-in-Ok-handed g c = λ input given empty.
 
 pub returns-in-Ok : goal.returns-in-Ok
 returns-in-Ok g c = λ input given empty.
-    let yes : c.is_ok.result ≡ true = c.is_ok.ensures.value ∙ ap is_ok c.in-Ok.is in
-    (c.hand_back-handed.ensures.others, not_kept c.args.output.now (g.F.Folder.view c.args.folder.now) (g.F.Folder.view c.hand_back-handed.new.folder) c.is_ok.result (g.F.Out.Write.contents c.into_inner.result) yes c.in-Err-handed.ensures.refused)
+    let whole : is_ok c.play_stream-played.result ≡ true = ap is_ok c.in-Ok.is in
+    (c.hand_back-handed.ensures.others, not_kept c.args.output.now (g.F.Folder.view c.args.folder.now) (g.F.Folder.view c.hand_back-handed.new.folder) (is_ok c.play_stream-played.result) (g.F.Out.Write.contents c.into_inner.result) whole c.in-Err-handed.ensures.refused)
 
 pub returns : goal.returns
 returns g c = λ input given empty.
@@ -37,7 +37,7 @@ returns g c = λ input given empty.
     let held = ap g.F.Out.Write.contents c.new-outlet.ensures.writer in
     let old = g.F.Folder.view c.args.folder.now in
     let new = g.F.Folder.view c.hand_back-handed.new.folder in
-    let no : c.is_ok.result ≡ false = c.is_ok.ensures.value ∙ ap is_ok c.in-Err.is in
+    let part : is_ok c.play_stream-played.result ≡ false = ap is_ok c.in-Err.is in
     let stream = c.play_stream-played.ensures in
     let unread = g.F.In.Read.remaining (inlet_reader c.new-inlet.result) in
     let own : WritesFront unread (Plays project) (g.F.Out.Write.contents (outlet_writer c.new-outlet.result)) written = rw c.in-Err.is at stream.front in
@@ -48,7 +48,7 @@ returns g c = λ input given empty.
     (
       (λ told.
           let file = given told in
-          let stays = subst (λ w. IsGivenUp c.args.output.now old new (g.F.Out.Write.contents w)) c.into_inner.ensures (given_up c.args.output.now old new c.is_ok.result (g.F.Out.Write.contents c.into_inner.result) c.hand_back-handed.result no c.hand_back-handed.ensures.whole c.hand_back-handed.ensures.refused told) in
+          let stays = subst (λ w. IsGivenUp c.args.output.now old new (g.F.Out.Write.contents w)) c.into_inner.ensures (given_up c.args.output.now old new (is_ok c.play_stream-played.result) (g.F.Out.Write.contents c.into_inner.result) c.hand_back-handed.result part c.hand_back-handed.ensures.whole c.hand_back-handed.ensures.refused told) in
           (
             file.0,
             file.1,

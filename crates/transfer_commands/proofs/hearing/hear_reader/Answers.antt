@@ -13,7 +13,7 @@ returns-in-Ok-read_stretches g c =
     let left_is = ap g.R.Read.remaining c.new-inlet.ensures.reader in
     let own = c.deref.ensures.value ∙ c.in-Ok.ensures in
     let some = given_heard c.in-Ok-read_stretches.kept splice c.args.number c.heard_by.result c.deref.result.now own c.heard_by.ensures
-        read.ok.0 read.any_reader.0 read.any_reader.2 in
+    read.ok.0 read.any_reader.0 read.any_reader.2 in
     record {
       heard = subst (λ (o : Option (List ℕ)). IfSome o (λ file. HearsHeld splice c.args.number file c.heard_by.result)) left_is (left_heard c.in-Ok-read_stretches.kept splice c.args.number c.heard_by.result c.deref.result.now own c.heard_by.ensures _ read.ok);
       any_reader = (read.any_reader.0, some);

@@ -37,3 +37,6 @@ no_fault x fault is = absurd cc
 
 pub returns-in-Ok-clause-turn_limit : goal.returns-in-Ok-clause-turn_limit
 returns-in-Ok-clause-turn_limit g c = no_fault _ _
+
+pub returns-clause-read_failed : goal.returns-clause-read_failed
+returns-clause-read_failed g c = c.in-Err.ensures.read_failed

@@ -12,9 +12,10 @@ import struct
 import subprocess
 import sys
 
-import room
-from dsdiffs import chunk, dsdiff, mark
-from program import PROGRAM
+sys.path.insert(0, os.path.join(os.path.dirname(os.path.dirname(os.path.realpath(__file__))), "scripts/common"))
+import room  # noqa: E402
+from dsdiffs import chunk, dsdiff, mark  # noqa: E402
+from program import PROGRAM  # noqa: E402
 
 RATES = [2_822_400, 2_822_400, 5_644_800, 3_072_000, 11_289_600, 6_144_000]
 NAMES = ["{nr:02} track.dff", "{nr:02} - Größe & Maß.dff", "{nr:02} it's \"quoted\".DFF", "{nr:02} [live] {{take}}.dff",

@@ -9,12 +9,13 @@ import subprocess
 import sys
 import tomllib
 
-import channels
-import restore
-import room
-import waves
-from names import KINDS, SETTINGS, TABLE, keep, load, remove, result, shown, sum_line, sum_of
-from program import PROGRAM
+sys.path.insert(0, os.path.join(os.path.dirname(os.path.dirname(os.path.realpath(__file__))), "scripts/common"))
+import channels  # noqa: E402
+import restore  # noqa: E402
+import room  # noqa: E402
+import waves  # noqa: E402
+from names import KINDS, SETTINGS, TABLE, keep, load, remove, result, shown, sum_line, sum_of  # noqa: E402
+from program import PROGRAM  # noqa: E402
 
 ENDINGS = {"dsdiff": "dff", "dsf": "dsf", "dsf8": "dsf"}
 

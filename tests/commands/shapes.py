@@ -1,6 +1,6 @@
 """Recordings of one to six channels in each form, three takes, and each number of weights: each command does what it
 does of one channel. Files are made here of the bytes of each channel; samples, masters and certificates come from the
-second reading of the documents in tools/fuzz."""
+second reading of the documents in tests/fuzz."""
 import itertools
 import random
 

@@ -5,7 +5,7 @@ import subprocess
 from outputs import Refused
 
 # The folder of workflows/, filters/ and examples/: the top of a clone, or share/dsdarc of an installation.
-ROOT = os.path.dirname(os.path.dirname(os.path.abspath(__file__)))
+ROOT = os.path.dirname(os.path.dirname(os.path.dirname(os.path.abspath(__file__))))
 
 
 def found():

@@ -55,16 +55,25 @@ class Slurm:
 
     def start(self, *words):
         with open(f"{self.folder}/{words[0]}.said", "wb") as said:
-            self.started.append(subprocess.Popen(
-                [shutil.which(words[0], path=SEARCHED), *words[1:]], stdin=subprocess.DEVNULL, stdout=said, stderr=said,
-                env=os.environ | self.environment))
+            self.started.append(
+                subprocess.Popen(
+                    [shutil.which(words[0], path=SEARCHED), *words[1:]],
+                    stdin=subprocess.DEVNULL,
+                    stdout=said,
+                    stderr=said,
+                    env=os.environ | self.environment,
+                )
+            )
 
     def write_config(self):
         host = socket.gethostname().partition(".")[0]
         memory = os.sysconf("SC_PAGE_SIZE") * os.sysconf("SC_PHYS_PAGES") // 2**20 // 2
         with open(f"{self.folder}/slurm.conf", "w") as file:
-            file.write(CONFIG.format(
-                host=host, folder=self.folder, ports=free_ports(2), processors=os.cpu_count(), memory=memory))
+            file.write(
+                CONFIG.format(
+                    host=host, folder=self.folder, ports=free_ports(2), processors=os.cpu_count(), memory=memory
+                )
+            )
 
     def wait_until_ready(self):
         for _ in range(60):
@@ -82,9 +91,15 @@ class Slurm:
             os.fchmod(file.fileno(), 0o400)
             file.write(os.urandom(128))
         self.write_config()
-        self.start("munged", "--foreground", f"--key-file={self.folder}/munge.key", f"--socket={self.folder}/munge.socket",
-                   f"--pid-file={self.folder}/munged.pid", f"--log-file={self.folder}/munged.log",
-                   f"--seed-file={self.folder}/munged.seed")
+        self.start(
+            "munged",
+            "--foreground",
+            f"--key-file={self.folder}/munge.key",
+            f"--socket={self.folder}/munge.socket",
+            f"--pid-file={self.folder}/munged.pid",
+            f"--log-file={self.folder}/munged.log",
+            f"--seed-file={self.folder}/munged.seed",
+        )
         time.sleep(1)
         self.start("slurmctld", "-D")
         self.start("slurmd", "-D")

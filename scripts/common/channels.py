@@ -25,6 +25,7 @@ class Unread(Refused):
 @dataclasses.dataclass
 class Sound:
     """What a file's sound is and where it stands: `width` bits per sample in blocks, or `None` in DSDIFF."""
+
     rate: int
     count: int
     bits: int

@@ -6,8 +6,28 @@ from bases import Cue
 from bridging import verdict
 from dsdiffs import dsdiff
 from small_files import (
-    BACK, BOTH, BOTH_FREE, CERT, CUES, CUT_OFF, FILE, FIRST, FREE, MASTER, NAMED_CUES, RATE, THERE_AND_BACK, TITLED,
-    WIDE, changed, mono, splice, stereo, to_check, to_cut, to_cut_both,
+    BACK,
+    BOTH,
+    BOTH_FREE,
+    CERT,
+    CUES,
+    CUT_OFF,
+    FILE,
+    FIRST,
+    FREE,
+    MASTER,
+    NAMED_CUES,
+    RATE,
+    THERE_AND_BACK,
+    TITLED,
+    WIDE,
+    changed,
+    mono,
+    splice,
+    stereo,
+    to_check,
+    to_cut,
+    to_cut_both,
 )
 
 # Bytes of the certificate of the first version: the head has the version at 4 to 5; the entry has its cue at 12 to 13, its

@@ -99,7 +99,8 @@ def wave_of(channels, decimate):
     frames = -(-count // decimate["factor"])
     every = (
         reading.sample({"samples": count}, lambda c, place: bits[c][place], decimate, channel, number)
-        for number in range(frames) for channel in range(len(bits))
+        for number in range(frames)
+        for channel in range(len(bits))
     )
     samples = b"".join(it.to_bytes(width // 8, "little", signed=True) for it in every)
     return waves.head_of(RATE // decimate["factor"], len(bits), width, frames) + samples + bytes(len(samples) % 2)

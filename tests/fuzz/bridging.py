@@ -25,7 +25,9 @@ def line_targets(weights, ends, length):
 def fade_targets(weights, before, stop, after, start, length):
     """The targets of the places 1, 2 and so on of a fade, from the end of a cue to the start of the next."""
     for i in range(1, length + 1):
-        yield (length + 1 - i) * weighted(weights, before, stop + i - 1) + i * weighted(weights, after, start - length + i - 1)
+        yield (length + 1 - i) * weighted(weights, before, stop + i - 1) + i * weighted(
+            weights, after, start - length + i - 1
+        )
     for i in range(length + 1, length + len(weights)):
         yield (length + 1) * weighted(weights, after, start + i - length - 1)
 

@@ -187,7 +187,9 @@ def judge_bits(case, info, bit_at, name):
     count = info["samples"]
     for channel in range(info["channels"] if count else 0):
         for place in {0, count - 1, *(case.rng.randrange(count) for _ in range(20))}:
-            demand(bit_at(channel, place) == other(channel, place), f"another bit of channel {channel} at place {place}")
+            demand(
+                bit_at(channel, place) == other(channel, place), f"another bit of channel {channel} at place {place}"
+            )
 
 
 def judge_samples(case, info, bit_at, decimate, wave):
@@ -241,7 +243,9 @@ def a_long_recording(case):
     if rng.random() < 0.5:
         return bases.dsdiff(rng, "long", count, frames, is_rich=rng.random() < 0.5)
     tag, rest = rng.choice((b"", b"ID3")), rng.choice((0, 8))
-    return bases.dsf(rng, "long", count, 8 * frames + rng.randrange(8), per_sample=rng.choice((1, 8)), tag=tag, rest=rest)
+    return bases.dsf(
+        rng, "long", count, 8 * frames + rng.randrange(8), per_sample=rng.choice((1, 8)), tag=tag, rest=rest
+    )
 
 
 def long_case(case):
@@ -398,7 +402,10 @@ def judge_cut(case, data, form, run, room):
     demand(checked.out.decode() == f"accepted total {total}\n", "the own master isn't accepted")
     if case.rng.random() < 0.2:
         case.run(["edit", form, "project", "master", "cert"], made=["master", "cert"], more=room)
-        demand(case.get("master") == case.files["master"] and case.get("cert") == case.files["cert"], "cut again it is another")
+        demand(
+            case.get("master") == case.files["master"] and case.get("cert") == case.files["cert"],
+            "cut again it is another",
+        )
 
 
 def splice_of(case, data):

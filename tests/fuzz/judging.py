@@ -14,7 +14,9 @@ FAULTS["check"] |= {"NoRoomBefore", "NoRoomAfter"}
 FAULTS["edit"] = FAULTS["check"] | {"NotWholeBytes", "WriteFailed"}
 
 PLACED = r" \d+"
-DSDIFF = r"Dsdiff (FormCut|Chunk (HeadCut|DataCut) \d+|NoVersion|BadVersion|Twice [0-9a-f]{8}|NoProperty|NoRate|NoChannels"
+DSDIFF = (
+    r"Dsdiff (FormCut|Chunk (HeadCut|DataCut) \d+|NoVersion|BadVersion|Twice [0-9a-f]{8}|NoProperty|NoRate|NoChannels"
+)
 DSDIFF += r"|NoCompression|Compressed|BadRate|BadChannelNumber|NoSound|SoundBeforeProperty|PartFrame|TooLong|BadMark)"
 DSF = r"Dsf (HeadCut|BadFormat|BadVersion|BadChannelNumber|BadRate|BadBits|BadBlock|TooLong|DataCut|BadPointer)"
 UNREAD = rf" (UnknownForm|{DSDIFF}|{DSF})"
@@ -68,9 +70,13 @@ def judge_run(run, is_scarce=False):
     out, err = run.out.decode(), run.err.decode()
     command = run.words[0] if run.words else ""
     if run.status == 0:
-        demand(command in DONE and re.fullmatch(DONE[command], out) and not err, "done, but the lines aren't those of it")
+        demand(
+            command in DONE and re.fullmatch(DONE[command], out) and not err, "done, but the lines aren't those of it"
+        )
     elif run.status == 1:
-        demand(command == "check" and re.fullmatch(REJECTED, out) and not err, "rejected, but the line isn't that of it")
+        demand(
+            command == "check" and re.fullmatch(REJECTED, out) and not err, "rejected, but the line isn't that of it"
+        )
     else:
         demand(not out, "a fault, but something on standard output")
         judge_fault(command, run.status, err, is_scarce)

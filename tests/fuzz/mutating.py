@@ -5,12 +5,46 @@ import re
 import forging
 from bases import chunk_bytes
 
-SIZES = (0, 1, 2, 3, 4, 11, 12, 28, 52, 255, 2**16 - 1, 2**20, 2**24, 2**28, 2**31 - 1, 2**31, 2**32 - 1, 2**32)
+SIZES = (
+    0,
+    1,
+    2,
+    3,
+    4,
+    11,
+    12,
+    28,
+    52,
+    255,
+    2**16 - 1,
+    2**20,
+    2**24,
+    2**28,
+    2**31 - 1,
+    2**31,
+    2**32 - 1,
+    2**32,
+)
 SIZES += (2**36, 2**36 + 1, 2**40, 2**63 - 1, 2**63, 2**63 + 1, 2**64 - 13, 2**64 - 12, 2**64 - 1)
 CHUNK_IDS = (b"FRM8", b"FVER", b"PROP", b"FS  ", b"CHNL", b"CMPR", b"DSD ", b"DIIN", b"MARK", b"COMT", b"fmt ", b"data")
 TYPES = (b"SND ", b"DSD ", b"DST ", b"")
 # The places of a DSF file's numbers, and how many bytes each has.
-DSF_FIELDS = ((4, 8), (12, 8), (20, 8), (32, 8), (40, 4), (44, 4), (48, 4), (52, 4), (56, 4), (60, 4), (64, 8), (72, 4), (76, 4), (84, 8))
+DSF_FIELDS = (
+    (4, 8),
+    (12, 8),
+    (20, 8),
+    (32, 8),
+    (40, 4),
+    (44, 4),
+    (48, 4),
+    (52, 4),
+    (56, 4),
+    (60, 4),
+    (64, 8),
+    (72, 4),
+    (76, 4),
+    (84, 8),
+)
 
 
 # Of any bytes.
@@ -80,7 +114,9 @@ def put_number(data, at, size, value, order):
 
 
 def size_near(rng, value):
-    return rng.choice((*SIZES, value + 1, value - 1, value + 2, value - 2, value * 2, value // 2, value + 12, value - 12))
+    return rng.choice(
+        (*SIZES, value + 1, value - 1, value + 2, value - 2, value * 2, value // 2, value + 12, value - 12)
+    )
 
 
 ANY_BYTES = (cut, cut_little, extend, flip_bits, flip_bits, set_bytes, remove, repeat, move, set_number)
@@ -240,22 +276,98 @@ def mutate_certificate(rng, weights, entries):
 
 NUMBERS = [
     *("-1", "0", "1", "2", "7", "8", "12", "16", "24", "31", "1024", "4095", "4096", "4097", "-4096", "-4097"),
-    *("2147483647", "2147483648", "-2147483648", "-2147483649", "4294967295", "4294967296", "68719476736", "68719476737"),
-    *("9223372036854775807", "9223372036854775808", "-9223372036854775808", "-9223372036854775809", "18446744073709551616"),
-    *("0x7fffffffffffffff", "0x8000000000000000", "0o17", "0b1", "+3", "1_000", "1__0", "08", "1e3", "1.5", "inf", "-nan", "-0"),
+    *(
+        "2147483647",
+        "2147483648",
+        "-2147483648",
+        "-2147483649",
+        "4294967295",
+        "4294967296",
+        "68719476736",
+        "68719476737",
+    ),
+    *(
+        "9223372036854775807",
+        "9223372036854775808",
+        "-9223372036854775808",
+        "-9223372036854775809",
+        "18446744073709551616",
+    ),
+    *(
+        "0x7fffffffffffffff",
+        "0x8000000000000000",
+        "0o17",
+        "0b1",
+        "+3",
+        "1_000",
+        "1__0",
+        "08",
+        "1e3",
+        "1.5",
+        "inf",
+        "-nan",
+        "-0",
+    ),
     "1" + "0" * 400,
 ]
 VALUES = [
-    *('""', '"fade"', '"line"', "true", "false", "[]", "[1]", "[1, 2]", '["a.dff"]', "{}", "{ a = 1 }", "1979-05-27", "07:32:00"),
-    *("[[1]]", '[1, "a"]', "[1, 2,]", "[1,,2]", "'''x'''", '"""x\n"""', '"\\u0041"', '"\\uD800"', '"\\x41"', '"\u00e9"', "nothing"),
+    *(
+        '""',
+        '"fade"',
+        '"line"',
+        "true",
+        "false",
+        "[]",
+        "[1]",
+        "[1, 2]",
+        '["a.dff"]',
+        "{}",
+        "{ a = 1 }",
+        "1979-05-27",
+        "07:32:00",
+    ),
+    *(
+        "[[1]]",
+        '[1, "a"]',
+        "[1, 2,]",
+        "[1,,2]",
+        "'''x'''",
+        '"""x\n"""',
+        '"\\u0041"',
+        '"\\uD800"',
+        '"\\x41"',
+        '"\u00e9"',
+        "nothing",
+    ),
 ]
 KEYS = ["taps", "factor", "delay", "shift", "width", "weights", "takes", "cue"]
 KEYS += ["take", "start", "stop", "bridge", "target", "title", "line", "x"]
 LINES = [
-    *("[decimate]", "[splice]", "[[splice.cue]]", "[splice.cue]", "[[splice]]", "[x]", "x = 1", "=", "# \u00e9", "\0", "[", "]", '"'),
+    *(
+        "[decimate]",
+        "[splice]",
+        "[[splice.cue]]",
+        "[splice.cue]",
+        "[[splice]]",
+        "[x]",
+        "x = 1",
+        "=",
+        "# \u00e9",
+        "\0",
+        "[",
+        "]",
+        '"',
+    ),
     *("decimate = 1", "splice = []", "splice.cue = []", "bridge = 4096", "bridge = 0"),
-    *('target = "fade"', 'target = "line"', *[f'target = "line"\nline = [{ends}]' for ends in ("1, -1", "-4096, 4096", "0, 4097")]),
-    *(f"line = [{ends}]" for ends in ("", "1", "1, 2", "1, 2, 3", "4096, -4096", "4097, 0", "0, -4097", "1, 1.0", "2147483648, 0")),
+    *(
+        'target = "fade"',
+        'target = "line"',
+        *[f'target = "line"\nline = [{ends}]' for ends in ("1, -1", "-4096, 4096", "0, 4097")],
+    ),
+    *(
+        f"line = [{ends}]"
+        for ends in ("", "1", "1, 2", "1, 2, 3", "4096, -4096", "4097, 0", "0, -4097", "1, 1.0", "2147483648, 0")
+    ),
     *("line = 1", 'line = "fade"', "line = { a = 1 }", "line = [-9223372036854775808, 9223372036854775807]"),
     *(f'title = "{text}"' for text in ("", "t" * 255, "t" * 256, "\u00e9" * 128, "\u00e9" * 127 + "t")),
     *("taps = [" + "1, " * number + "]" for number in (4096, 4097)),
@@ -327,7 +439,9 @@ def change_number(rng, data):
         return data
     it = rng.choice(places)
     value = int(it.group())
-    near = rng.choice((*NUMBERS, *map(str, (value + 1, value - 1, value + 8, value - 8, -value, value * 2, value // 2))))
+    near = rng.choice(
+        (*NUMBERS, *map(str, (value + 1, value - 1, value + 8, value - 8, -value, value * 2, value // 2)))
+    )
     return data[: it.start()] + near.encode() + data[it.end() :]
 
 
@@ -357,7 +471,19 @@ def other_start(rng, data):
 
 SMALL_CHANGES = (change_number, change_number, change_number)
 PROJECT_BYTES = (*SMALL_CHANGES, change_number, change_value, change_key, drop_line, repeat_line, add_line, swap_lines)
-PROJECT_BYTES += (replace_line, replace_line, repeat_cue, other_ends, other_start, cut, flip_bits, set_bytes, remove, repeat, move)
+PROJECT_BYTES += (
+    replace_line,
+    replace_line,
+    repeat_cue,
+    other_ends,
+    other_start,
+    cut,
+    flip_bits,
+    set_bytes,
+    remove,
+    repeat,
+    move,
+)
 
 
 def mutate_project(rng, data):

@@ -138,7 +138,6 @@ def read_dsf(data):
     refuse(pointer and not stop <= pointer <= len(data), "Dsf BadPointer")
     ids = [b"SLFT", b"SRGT"] if channels == 2 else [b"C%03d" % c for c in range(channels)]
 
-
     def bit_at(channel, place):
         byte = data[behind + 12 + (place // 32768 * channels + channel) * 4096 + place % 32768 // 8]
         return byte >> (place % 8 if per_sample == 1 else 7 - place % 8) & 1

@@ -17,7 +17,6 @@ sys.path.insert(0, os.path.join(os.path.dirname(os.path.dirname(os.path.realpath
 import channels  # noqa: E402
 import names  # noqa: E402
 import room  # noqa: E402
-from sums import sum_of  # noqa: E402
 
 PIECE = 1 << 20
 # Where the head of a DSF file has its bits per sample.
@@ -117,7 +116,7 @@ def sum_of_pieces(data):
 
 
 def is_made(path, total):
-    return os.path.isfile(path) and not os.path.islink(path) and sum_of(path) == total
+    return os.path.isfile(path) and not os.path.islink(path) and names.sum_of(path) == total
 
 
 def restore(out, name, found, part, folder):
@@ -129,7 +128,7 @@ def restore(out, name, found, part, folder):
         return
     kept = {os.path.splitext(path)[1]: os.path.join(out, path) for path in found["kept"]}
     write(part, made_again(os.path.join(out, found["converted"]), kept))
-    if sum_of(part) != found["sha256"]:
+    if names.sum_of(part) != found["sha256"]:
         raise channels.Unread("it would have another sum")
     os.makedirs(os.path.dirname(path), exist_ok=True)
     os.replace(part, path)

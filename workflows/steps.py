@@ -14,9 +14,8 @@ import channels  # noqa: E402
 import restore  # noqa: E402
 import room  # noqa: E402
 import waves  # noqa: E402
-from names import KINDS, SETTINGS, TABLE, keep, load, remove, result  # noqa: E402
+from names import KINDS, SETTINGS, TABLE, keep, load, remove, result, shown, sum_line, sum_of  # noqa: E402
 from program import PROGRAM  # noqa: E402
-from sums import shown, sum_line, sum_of  # noqa: E402
 
 ENDINGS = {"dsdiff": "dff", "dsf": "dsf", "dsf8": "dsf"}
 

@@ -40,6 +40,16 @@ def is_text(name):
     return not any("\udc80" <= letter <= "\udcff" for letter in name)
 
 
+def shown(name):
+    """A name on one line, as sha256sum writes it."""
+    return name.replace("\\", "\\\\").replace("\n", "\\n").replace("\r", "\\r")
+
+
+def sum_line(total, name):
+    """A line of sums, as sha256sum writes it."""
+    return f"{chr(92) if shown(name) != name else ''}{total}  {shown(name)}\n"
+
+
 def keep(name, data):
     """Writes a text or an object as JSON, whole or not at all."""
     part = name + ".part"
@@ -69,6 +79,11 @@ def keep_if_other(name, data):
     except (OSError, ValueError):
         pass
     keep(name, data)
+
+
+def sum_of(name):
+    with open(name, "rb") as file:
+        return hashlib.file_digest(file, "sha256").hexdigest()
 
 
 def remove(*names):

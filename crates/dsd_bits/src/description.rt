@@ -76,13 +76,9 @@ impl Description {
         requires in_limit { count ≤ most_bits }
         ensures { result ≡ record self { count = count } }
     {
-        Description {
-            rate: self.rate,
-            count,
-            ids: self.ids,
-            layout: self.layout,
-            metadata: self.metadata,
-        }
+        let mut description = self;
+        description.count = count;
+        description
     }
 
     /// Bits a second of each channel, in hertz.

@@ -141,7 +141,7 @@ pub struct Place {
 }
 
 /// Reads an entry of a version, whose table has to be valid for the bits. The answer is what they cost.
-pub fn read_entry<R: Read>(
+pub(crate) fn read_entry<R: Read>(
     alloc: Global,
     inlet: &mut Inlet<R>,
     version: Version,

@@ -11,7 +11,7 @@ use device_core::Inlet;
 use std::io::Read;
 
 /// Fills a buffer with the next bytes. Reason: `Cut` where there are fewer.
-pub fn fill<R: Read>(inlet: &mut Inlet<R>, buffer: &mut [u8]) -> Result<(), Stop>
+pub(crate) fn fill<R: Read>(inlet: &mut Inlet<R>, buffer: &mut [u8]) -> Result<(), Stop>
     requires { inlet_failures inlet.old < 2 ^ 64 - 1 }
     ensures ok { OnOk result (Consumes (R.remaining (inlet_reader inlet.old))
         (R.remaining (inlet_reader inlet.new)) buffer.new) }

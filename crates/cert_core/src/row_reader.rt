@@ -164,7 +164,7 @@ fn read_raised<R: Read>(
 
 /// Reads the row of a level, of as many values as the old one has, through a buffer for its bytes. It has to be
 /// spelled as the version spells it, and none of its values is above `2^63`.
-pub fn read_row<R: Read>(
+pub(crate) fn read_row<R: Read>(
     inlet: &mut Inlet<R>,
     version: Version,
     level: usize,

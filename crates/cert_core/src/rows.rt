@@ -26,7 +26,7 @@ fn are_above(values: &[u64; 8]) -> bool
 }
 
 /// Whether a value is above the greatest bound.
-pub fn is_above(row: &[u64]) -> bool
+pub(crate) fn is_above(row: &[u64]) -> bool
     ensures above { IsTrue result → (q : ℕ) × (q < length row.now) × (2 ^ 63 < slice_index row.now q) }
     ensures within { result ≡ false → (q : ℕ) → q < length row.now → slice_index row.now q ≤ 2 ^ 63 }
 {
@@ -148,7 +148,7 @@ fn exceeding(
 
 /// What is wrong first with the row of a level, none of whose values is above the greatest bound; `previous` is the
 /// row before it, and `steps` is overwritten.
-pub fn row_reason(
+pub(crate) fn row_reason(
     window: &Window,
     level: usize,
     previous: &[u64],
@@ -215,7 +215,7 @@ fn all_reach(last: &[u64], tails: &[u64], stated: u64) -> bool
 
 /// The lowest state of the last row whose value plus the cost of ending there is below `stated`. `tails` is
 /// overwritten.
-pub fn low_end(window: &Window, last: &[u64], stated: u64, tails: &mut [u64]) -> Option<usize>
+pub(crate) fn low_end(window: &Window, last: &[u64], stated: u64, tails: &mut [u64]) -> Option<usize>
     requires bounded { IsBounded (trellis_of window.now) }
     requires last { length last.now ≡ states (trellis_of window.now) }
     requires limit { RowBounded (trellis_of window.now) last.now }

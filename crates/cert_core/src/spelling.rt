@@ -19,7 +19,7 @@ const STEPS: [u64; 8] = [
 ];
 
 /// How many bytes a number needs.
-pub fn width_of(number: u64) -> usize
+pub(crate) fn width_of(number: u64) -> usize
     ensures width { result ≡ byte_width number }
     ensures few { result ≤ 8 }
 {
@@ -33,7 +33,7 @@ pub fn width_of(number: u64) -> usize
 }
 
 /// The least and the greatest value of a row.
-pub fn bounds_of(row: &[u64]) -> (u64, u64)
+pub(crate) fn bounds_of(row: &[u64]) -> (u64, u64)
     requires { 0 < length row.now }
     ensures least { result.0 ≡ floor row.now }
     ensures greatest { result.1 ≡ peak row.now }
@@ -111,7 +111,7 @@ fn put_narrow(row: &[u64], buffer: &mut [u8]) -> usize
 
 /// Writes a row by a version to the front of a buffer that has room for any row. The answer is how many bytes it
 /// has.
-pub fn put_row(version: Version, row: &[u64], buffer: &mut [u8]) -> usize
+pub(crate) fn put_row(version: Version, row: &[u64], buffer: &mut [u8]) -> usize
     requires some { 0 < length row.now }
     requires room { length buffer.old ≡ 17 + 8 * length row.now }
     ensures room { length buffer.new ≡ length buffer.old }

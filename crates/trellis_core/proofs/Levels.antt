@@ -2,13 +2,13 @@
 use Rattle.std.proofs.Common.{◌≡◌, ℕ, ◌+◌, ◌*◌, ◌/◌, ◌^◌, ◌<◌, ◌≤◌, false, cond, ltb, min, List, take, drop, length, get_or, refl, sym, ap, ◌∙◌, inl, inr, arith}
 use Rattle.std.proofs.lemmas.Bool.{cases_Bool, ltb-true, ltb-false}
 use Rattle.std.proofs.lemmas.List.{ext_get_or, get_or-take, get_or-drop, length-take-le, length-drop}
-use Rattle.std.proofs.lemmas.Simd.{Each1-from_get_or, length-zip2}
-use Rattle.std.specs.Simd.Lanes.{Each1}
+use Rattle.std.proofs.lemmas.Simd.{length-zip2}
 use Rattle.cost_core.specs.Trellis.{Trellis, states, newest, digit, IsBounded}
 use Rattle.cost_core.specs.Bridges.{Bridging}
 use Rattle.cost_core.specs.StateCosts.{step_of, step_row, trellis_of}
 use Rattle.trellis_core.specs.Best.{by_0, by_1, best, best_row}
 use Rattle.trellis_core.specs.Decisions.{decision}
+use Rattle.trellis_core.specs.Ways.{AreWays}
 use Rattle.cost_core.specs.Rows.{seconds, least, twice, lower, upper}
 use Rattle.trellis_core.proofs.Bests.{best_le}
 use Rattle.trellis_core.proofs.Decisions.{cond_digit}
@@ -111,7 +111,7 @@ module _ (d : Bridging) (i n : ℕ) (row steps : List ℕ) (fine : IsBounded (tr
   some_states : 0 < n
   some_states = omega (arith, halves, fine.start_in)
 
-  pub lens : (length lows ≡ length row) × (length highs ≡ length row)
+  lens : (length lows ≡ length row) × (length highs ≡ length row)
   lens = (lows_long some_states ∙ sym row_long, highs_long some_states ∙ sym row_long)
 
   pub next_is : least (lower row lows) (upper row highs) ≡ best_row t (i + 1)
@@ -121,11 +121,16 @@ module _ (d : Bridging) (i n : ℕ) (row steps : List ℕ) (fine : IsBounded (tr
       ext_get_or 0 (least (lower row lows) (upper row highs)) (best_row t (i + 1)) (l.0 ∙ low_long ∙ en ∙ sym m)
       (λ q h. let hq : q < n = omega (arith, l.0, low_long) in least_at q hq ∙ sym (row_at t (i + 1) q (inside q hq)))
 
-  pub row_small : Each1 (λ x. x ≤ 2 ^ 63) row
-  row_small = Each1-from_get_or (λ x. x ≤ 2 ^ 63) row 0 (λ q h. omega (arith, ap (λ l. get_or l q 0) er, row_at t i q (omega (arith, row_long)), best_le t fine.some_state i q))
+  row_small : (q : ℕ) → q < length row → get_or row q 0 ≤ 2 ^ 63
+  row_small q h = omega (arith, ap (λ l. get_or l q 0) er, row_at t i q (omega (arith, row_long)), best_le t fine.some_state i q)
 
-  pub lows_small : Each1 (λ x. x < 2 ^ 63) lows
-  lows_small = Each1-from_get_or (λ x. x < 2 ^ 63) lows 0 (λ q h. low_small q (omega (arith, lows_long some_states)))
-
-  pub highs_small : Each1 (λ x. x < 2 ^ 63) highs
-  highs_small = Each1-from_get_or (λ x. x < 2 ^ 63) highs 0 (λ q h. high_small q (omega (arith, highs_long some_states)))
+  -- the halves of the steps are the ways from the row
+  pub are_ways : (low high : List ℕ) → low ≡ lows → high ≡ highs → AreWays row low high
+  are_ways low high low_is high_is = record {
+    even = states_even t.width (length row) fine.some_state (row_long ∙ en);
+    lows_len = ap length low_is ∙ lens.0;
+    highs_len = ap length high_is ∙ lens.1;
+    old_small = row_small;
+    lows_small = rw low_is (λ q h. low_small q (omega (arith, lows_long some_states)));
+    highs_small = rw high_is (λ q h. high_small q (omega (arith, highs_long some_states)));
+  }

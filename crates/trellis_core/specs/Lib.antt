@@ -3,3 +3,4 @@ pub mod Decisions
 pub mod Handing
 pub mod LeastSums
 pub mod Passes
+pub mod Ways

@@ -4,11 +4,11 @@ ghost use Rattle.std.specs.Prelude.{◌≡◌, ℕ, ◌+◌, ◌-◌, ◌*◌, �
 ghost use Rattle.std.specs.Simd.Lanes.{Each1};
 ghost use Rattle.cost_core.specs.Trellis.{states, IsBounded};
 ghost use Rattle.cost_core.specs.StateCosts.{trellis_of};
-ghost use Rattle.cert_core.specs.Within.{WithinBoth};
+ghost use Rattle.cert_core.specs.Within.{AreRows, IsFirstBelow, WithinBoth};
 ghost use Rattle.cert_core.specs.Reasons.{RowBounded, Exceeds, RowClean, RowReason};
 
 use crate::verdict::CertReason;
-use cost_core::{Window, sums_into};
+use cost_core::{Ways, Window, sums_into};
 use std::simd::prelude::*;
 
 /// The greatest bound.
@@ -44,33 +44,36 @@ pub(crate) fn is_above(row: &[u64]) -> bool
     false
 }
 
+// Two rows of a window, one behind the other: those of `level` and of the level after it. No value of the first is
+// above the greatest bound.
+#[derive(Clone, Copy)]
+struct Rows<'a> {
+    window: &'a Window,
+    level: usize,
+    previous: &'a [u64],
+    row: &'a [u64],
+    ghost rows: { AreRows (trellis_of window.now) level previous.now row.now },
+}
+
 // The bound that a state of the row before sets with a step of `bit`.
-fn reached(window: &Window, level: usize, previous: &[u64], from: usize, bit: bool) -> u64
-    requires bounded { IsBounded (trellis_of window.now) }
-    requires level { level < (trellis_of window.now).levels }
-    requires previous { length previous.now ≡ states (trellis_of window.now) }
-    requires limit { RowBounded (trellis_of window.now) previous.now }
-    requires from { from < states (trellis_of window.now) }
-    ensures { result ≡ slice_index previous.now from + (trellis_of window.now).step level from bit }
+fn reached(rows: &Rows<'_>, from: usize, bit: bool) -> u64
+    requires from { from < states (trellis_of rows.now.window.now) }
+    ensures { result ≡ slice_index rows.now.previous.now from
+        + (trellis_of rows.now.window.now).step rows.now.level from bit }
 {
-    previous[from] + window.step_cost(level, from, bit)
+    rows.previous[from] + rows.window.step_cost(rows.level, from, bit)
 }
 
 // Whether the value of a state exceeds what either state before it sets.
-fn exceeds(window: &Window, level: usize, previous: &[u64], row: &[u64], state: usize) -> bool
-    requires bounded { IsBounded (trellis_of window.now) }
-    requires level { level < (trellis_of window.now).levels }
-    requires previous { length previous.now ≡ states (trellis_of window.now) }
-    requires row { length row.now ≡ states (trellis_of window.now) }
-    requires limit { RowBounded (trellis_of window.now) previous.now }
-    requires state { state < states (trellis_of window.now) }
-    ensures { IsTrue result ↔ Exceeds (trellis_of window.now) level previous.now row.now state }
+fn exceeds(rows: &Rows<'_>, state: usize) -> bool
+    requires state { state < states (trellis_of rows.now.window.now) }
+    ensures { IsTrue result ↔ Exceeds (trellis_of rows.now.window.now) rows.now.level rows.now.previous.now rows.now.row.now state }
 {
     let bit = state % 2 == 1;
     let low = state / 2;
-    let high = low + window.states() / 2;
-    reached(window, level, previous, low, bit) < row[state]
-        || reached(window, level, previous, high, bit) < row[state]
+    let high = low + rows.window.states() / 2;
+    let value = rows.row[state];
+    reached(rows, low, bit) < value || reached(rows, high, bit) < value
 }
 
 // Whether no value of eight states exceeds what either state before it sets.
@@ -84,23 +87,17 @@ fn are_within(row: &[u64; 8], by_0: &[u64; 8], by_1: &[u64; 8]) -> bool
     row.simd_gt(by_0).to_bitmask() == 0 && row.simd_gt(by_1).to_bitmask() == 0
 }
 
-// Whether no value of a row exceeds what either state before it sets. The row has sixteen states or a multiple
-// of them; `lows` and `highs` are the steps into each.
-fn is_within(previous: &[u64], lows: &[u64], highs: &[u64], row: &[u64]) -> bool
-    requires whole { length previous.now % 16 ≡ 0 }
-    requires lows_len { length lows.now ≡ length previous.now }
-    requires highs_len { length highs.now ≡ length previous.now }
-    requires row_len { length row.now ≡ length previous.now }
-    requires previous { Each1 (λ x. x ≤ 2 ^ 63) previous.now }
-    requires lows { Each1 (λ x. x < 2 ^ 63) lows.now }
-    requires highs { Each1 (λ x. x < 2 ^ 63) highs.now }
-    ensures { IsTrue result → WithinBoth (length previous.now) previous.now lows.now highs.now row.now }
+// Whether no value of a row of sixteen states or a multiple of them exceeds what either way into its state sets.
+fn is_within(ways: &Ways<'_>, row: &[u64]) -> bool
+    requires whole { length ways.now.old.now % 16 ≡ 0 }
+    requires row_len { length row.now ≡ length ways.now.old.now }
+    ensures { IsTrue result → WithinBoth (length ways.now.old.now) ways.now.old.now ways.now.lows.now ways.now.highs.now row.now }
 {
-    let (low, high) = previous.split_at(previous.len() / 2);
+    let (low, high) = ways.old.split_at(ways.old.len() / 2);
     let (rows, _) = row.as_chunks::<8>();
     for i in 0..low.len() / 8 {
-        let (low_front, low_back) = sums_into(low, lows, i);
-        let (high_front, high_back) = sums_into(high, highs, i);
+        let (low_front, low_back) = sums_into(low, ways.lows, i);
+        let (high_front, high_back) = sums_into(high, ways.highs, i);
         let front = are_within(&rows[2 * i], &low_front, &high_front);
         let back = are_within(&rows[2 * i + 1], &low_back, &high_back);
         if !front || !back {
@@ -111,35 +108,27 @@ fn is_within(previous: &[u64], lows: &[u64], highs: &[u64], row: &[u64]) -> bool
 }
 
 // The lowest state whose value exceeds what a state before it sets. `steps` is overwritten.
-fn exceeding(
-    window: &Window,
-    level: usize,
-    previous: &[u64],
-    row: &[u64],
-    steps: &mut [u64],
-) -> Option<usize>
-    requires bounded { IsBounded (trellis_of window.now) }
-    requires level { level < (trellis_of window.now).levels }
-    requires previous { length previous.now ≡ states (trellis_of window.now) }
-    requires row { length row.now ≡ states (trellis_of window.now) }
-    requires limit { RowBounded (trellis_of window.now) previous.now }
-    requires steps { length steps.old ≡ 2 * states (trellis_of window.now) }
+fn exceeding(rows: &Rows<'_>, steps: &mut [u64]) -> Option<usize>
+    requires steps { length steps.old ≡ 2 * states (trellis_of rows.now.window.now) }
     ensures steps { length steps.new ≡ length steps.old }
-    ensures found { MatchOption result
-        ((q : ℕ) → q < states (trellis_of window.now) → Exceeds (trellis_of window.now) level previous.now row.now q → ⊥)
-        (λ q. (q < states (trellis_of window.now)) × Exceeds (trellis_of window.now) level previous.now row.now q
-        × ((k : ℕ) → k < q → Exceeds (trellis_of window.now) level previous.now row.now k → ⊥)) }
+    ensures found { IsFirstBelow (states (trellis_of rows.now.window.now))
+        (Exceeds (trellis_of rows.now.window.now) rows.now.level rows.now.previous.now rows.now.row.now) result }
 {
-    let states = window.states();
+    let states = rows.window.states();
     if states > 8 {
-        window.step_costs(level, steps);
+        rows.window.step_costs(rows.level, steps);
         let (lows, highs) = steps.split_at(states);
-        if is_within(previous, lows, highs, row) {
+        let ways = Ways {
+            old: rows.previous,
+            lows,
+            highs,
+        };
+        if is_within(&ways, rows.row) {
             return None;
         }
     }
     for state in 0..states {
-        if exceeds(window, level, previous, row, state) {
+        if exceeds(rows, state) {
             return Some(state);
         }
     }
@@ -174,7 +163,13 @@ pub(crate) fn row_reason(
             Some(CertReason::Start)
         };
     }
-    match exceeding(window, level - 1, previous, row, steps) {
+    let rows = Rows {
+        window,
+        level: level - 1,
+        previous,
+        row,
+    };
+    match exceeding(&rows, steps) {
         Some(state) => Some(CertReason::Step(level, state)),
         None => None,
     }

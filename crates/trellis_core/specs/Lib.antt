@@ -3,4 +3,3 @@ pub mod Decisions
 pub mod Handing
 pub mod LeastSums
 pub mod Passes
-pub mod Ways

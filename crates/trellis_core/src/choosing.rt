@@ -3,9 +3,9 @@
 ghost use Rattle.std.specs.Prelude.{◌≡◌, ◌*◌, ◌%◌, ◌<◌, ◌≤◌, length};
 ghost use Rattle.std.specs.Simd.Lanes.{mask_l};
 ghost use Rattle.cost_core.specs.Rows.{seconds, least};
-ghost use Rattle.trellis_core.specs.Ways.{AreChosen, AreWays, are_upper, following};
+ghost use Rattle.cost_core.specs.Ways.{AreChosen, AreWays, are_upper, following};
 
-use cost_core::sums_into;
+use cost_core::{Ways, sums_into};
 use std::simd::prelude::*;
 
 /// The sum of a state that no bits lead to, and the greatest sum that is kept.
@@ -23,19 +23,6 @@ fn choose_eight(first: &[u64; 8], second: &[u64; 8]) -> ([u64; 8], u8)
         .select(second, first)
         .simd_min(u64x8::splat(NO_WAY));
     (least.to_array(), is_second.to_bitmask() as u8)
-}
-
-/// The ways into the states of a row: the states 2p and 2p + 1 come from the states p and p + half of `old`, which has
-/// an even number of states, by the steps `lows` and `highs` into each state.
-#[derive(Clone, Copy)]
-pub(crate) struct Ways<'a> {
-    /// The sums of the states before, at most `2^63`.
-    pub(crate) old: &'a [u64],
-    /// The steps from the lower half into each state, below `2^63`.
-    pub(crate) lows: &'a [u64],
-    /// The steps from the upper half into each state, below `2^63`.
-    pub(crate) highs: &'a [u64],
-    pub(crate) ghost ways: { AreWays old.now lows.now highs.now },
 }
 
 // The next row where it has sixteen states or a multiple of them.

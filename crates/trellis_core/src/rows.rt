@@ -8,10 +8,10 @@ ghost use Rattle.trellis_core.specs.Decisions.{AreAllDecisions, AreDecisions, de
 ghost use Rattle.trellis_core.specs.Passes.{HasBuffers};
 ghost use Rattle.trellis_core.specs.Handing.{HandsOverAll, HandsOverSome, HandsOverUpTo};
 
-use crate::choosing::{NO_WAY, Ways, choose};
+use crate::choosing::{NO_WAY, choose};
 use crate::ends::write_totals;
 use crate::fault::BridgeFault;
-use cost_core::{LevelSink, Window};
+use cost_core::{LevelSink, Ways, Window};
 use std::alloc::{AllocError, Global};
 
 /// Room for a pass over the levels of a window with so many states: the steps of a level, two rows, and the decisions of

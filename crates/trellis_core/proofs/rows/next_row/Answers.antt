@@ -1,7 +1,7 @@
 use Rattle.std.proofs.Common.{◌∙◌, ap, sym, subst, cond, false, get_or, length, ◌<◌, arith}
 use Rattle.cost_core.specs.StateCosts.{trellis_of}
 use Rattle.cost_core.specs.Rows.{seconds, least, lower, upper}
-use Rattle.trellis_core.proofs.Levels.{are_ways, next_is, decided, row_long}
+use Rattle.trellis_core.proofs.Levels.{ways, next_is, decided, row_long}
 use Rattle.cost_core.proofs.StepRows.{states_whole}
 use Rattle.trellis_core.proofs.rows.next_row.Goals as goal
 
@@ -17,7 +17,7 @@ pub choose-requires-clause-choices_len : goal.choose-requires-clause-choices_len
 choose-requires-clause-choices_len c = omega (arith, row_long c.args.window.now c.args.level c.states.result c.args.row.now c.step_costs.new.row c.states.ensures.bounded c.requires.level c.states.ensures.value c.requires.row c.step_costs.ensures, c.states.ensures.value, c.requires.decisions)
 
 pub invariant_of-ways : goal.invariant_of-ways
-invariant_of-ways c = record { ways = are_ways c.args.window.now c.args.level c.states.result c.args.row.now c.step_costs.new.row c.states.ensures.bounded c.requires.level c.states.ensures.value c.requires.row c.step_costs.ensures _ _ c.split_at.ensures.front c.split_at.ensures.back }
+invariant_of-ways c = record { ways = ways c.args.window.now c.args.level c.states.result c.args.row.now c.step_costs.new.row c.states.ensures.bounded c.requires.level c.states.ensures.value c.requires.row c.step_costs.ensures _ _ c.split_at.ensures.front c.split_at.ensures.back }
 
 pub returns-clause-following : goal.returns-clause-following
 returns-clause-following c =

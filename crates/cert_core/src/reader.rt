@@ -1,8 +1,8 @@
 //! The reader of certificates.
 
 ghost use Rattle.std.specs.Prelude.{◌≡◌, ◌+◌, ◌-◌, ◌^◌, ◌<◌, ◌≤◌, ◌++◌, List, ℕ, length, true, false, IfSome, IsErrOf};
-ghost use Rattle.std.specs.Io.KnownBytes.{Consumes, IsAtEnd};
-ghost use Rattle.device_core.specs.Inlets.{inlet_reader, inlet_failures};
+ghost use Rattle.std.specs.Io.KnownBytes.{IsAtEnd};
+ghost use Rattle.device_core.specs.Inlets.{Gives, inlet_failures, inlet_reader};
 ghost use Rattle.cost_core.specs.StateCosts.{trellis_of};
 ghost use Rattle.cost_core.specs.Bridges.{bridge_cost, IsLeastBridge};
 ghost use Rattle.cert_core.specs.Text.{cert_head};
@@ -68,8 +68,7 @@ impl<R: Read> CertReader<R> {
     ) -> Result<Option<CertReason>, CheckFault>
         requires ready { inlet_failures (cert_inlet self.old) < 2 ^ 64 - 1 }
         requires weights { weights ≤ 12 }
-        ensures none { IsWell result → Consumes (R.remaining (inlet_reader (cert_inlet self.old)))
-            (R.remaining (inlet_reader (cert_inlet self.new))) (cert_head (read_version self.new) weights entries) }
+        ensures none { IsWell result → Gives R.remaining (cert_inlet self.old) (cert_inlet self.new) (cert_head (read_version self.new) weights entries) }
         ensures read { IsWell result → has_read_head self.new ≡ true }
 
         // Known bytes have this reason first, and don't begin with the head.

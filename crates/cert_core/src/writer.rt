@@ -2,9 +2,8 @@
 
 ghost use Rattle.std.specs.Prelude.{◌≡◌, true, false, ◌+◌, ◌*◌, ◌-◌, ◌<◌, ◌≤◌, ◌^◌, length, not, is_ok, ◌↔◌, IsErrOf, OnOk, OnErr, IfOk, IfErr};
 ghost use Rattle.std.specs.Int.{w64, to_be_bytes};
-ghost use Rattle.std.specs.Io.KnownBytes.{Appends};
 ghost use Rattle.device_core.specs.FusedOutlets.{failed_parts};
-ghost use Rattle.device_core.specs.Outlets.{outlet_writer, outlet_failures, AppendsPart};
+ghost use Rattle.device_core.specs.Outlets.{Puts, PutsPart, outlet_failures};
 ghost use Rattle.cert_core.specs.Counting.{IsCounted};
 ghost use Rattle.cert_core.specs.Rooms.{room_weights};
 ghost use Rattle.cert_core.specs.Spelling.{row_text};
@@ -107,12 +106,10 @@ impl<W: Write> CertWriter<W> {
     /// in the order is asked only of a writer that hasn't failed.
     pub fn begin(&mut self, entries: u32) -> Result<(), CertFault>
         requires head { has_failed self.old ≡ false → has_head self.old ≡ false }
-        ensures ok { OnOk result (Appends (W.contents (outlet_writer (cert_outlet self.old)))
-            (W.contents (outlet_writer (cert_outlet self.new)))
+        ensures ok { OnOk result (Puts W.contents (cert_outlet self.old) (cert_outlet self.new)
             (cert_head (cert_version self.old) (cert_weights self.old) entries)) }
         ensures device { IsErrOf result CertFault.Device
-            → AppendsPart (W.contents (outlet_writer (cert_outlet self.old)))
-            (W.contents (outlet_writer (cert_outlet self.new)))
+            → PutsPart W.contents (cert_outlet self.old) (cert_outlet self.new)
             (cert_head (cert_version self.old) (cert_weights self.old) entries) }
         ensures failed { IsErrOf result CertFault.Failed ↔ (has_failed self.old ≡ true) }
         ensures unchanged { IsErrOf result CertFault.Failed → self.new ≡ self.old }
@@ -137,11 +134,9 @@ impl<W: Write> CertWriter<W> {
         requires head { has_failed self.old ≡ false → has_head self.old ≡ true }
         requires entries { has_failed self.old ≡ false → 0 < entries_left self.old }
         requires open { has_failed self.old ≡ false → is_open self.old ≡ false }
-        ensures ok { OnOk result (Appends (W.contents (outlet_writer (cert_outlet self.old)))
-            (W.contents (outlet_writer (cert_outlet self.new))) (entry_start cue channel length)) }
+        ensures ok { OnOk result (Puts W.contents (cert_outlet self.old) (cert_outlet self.new) (entry_start cue channel length)) }
         ensures device { IsErrOf result CertFault.Device
-            → AppendsPart (W.contents (outlet_writer (cert_outlet self.old)))
-            (W.contents (outlet_writer (cert_outlet self.new))) (entry_start cue channel length) }
+            → PutsPart W.contents (cert_outlet self.old) (cert_outlet self.new) (entry_start cue channel length) }
         ensures failed { IsErrOf result CertFault.Failed ↔ (has_failed self.old ≡ true) }
         ensures unchanged { IsErrOf result CertFault.Failed → self.new ≡ self.old }
         ensures failures { outlet_failures (cert_outlet self.new)
@@ -164,11 +159,9 @@ impl<W: Write> CertWriter<W> {
     pub fn level(&mut self, row: &[u64]) -> Result<(), CertFault>
         requires rows { has_failed self.old ≡ false → 0 < rows_left self.old }
         requires row { length row.now ≡ row_length self.old }
-        ensures ok { OnOk result (Appends (W.contents (outlet_writer (cert_outlet self.old)))
-            (W.contents (outlet_writer (cert_outlet self.new))) (row_text (cert_version self.old) row.now)) }
+        ensures ok { OnOk result (Puts W.contents (cert_outlet self.old) (cert_outlet self.new) (row_text (cert_version self.old) row.now)) }
         ensures device { IsErrOf result CertFault.Device
-            → AppendsPart (W.contents (outlet_writer (cert_outlet self.old)))
-            (W.contents (outlet_writer (cert_outlet self.new))) (row_text (cert_version self.old) row.now) }
+            → PutsPart W.contents (cert_outlet self.old) (cert_outlet self.new) (row_text (cert_version self.old) row.now) }
         ensures failed { IsErrOf result CertFault.Failed ↔ (has_failed self.old ≡ true) }
         ensures unchanged { IsErrOf result CertFault.Failed → self.new ≡ self.old }
         ensures failures { outlet_failures (cert_outlet self.new)
@@ -191,11 +184,9 @@ impl<W: Write> CertWriter<W> {
     pub fn end_bridge(&mut self, cost: u64) -> Result<(), CertFault>
         requires open { has_failed self.old ≡ false → is_open self.old ≡ true }
         requires rows { has_failed self.old ≡ false → rows_left self.old ≡ 0 }
-        ensures ok { OnOk result (Appends (W.contents (outlet_writer (cert_outlet self.old)))
-            (W.contents (outlet_writer (cert_outlet self.new))) (to_be_bytes w64 cost)) }
+        ensures ok { OnOk result (Puts W.contents (cert_outlet self.old) (cert_outlet self.new) (to_be_bytes w64 cost)) }
         ensures device { IsErrOf result CertFault.Device
-            → AppendsPart (W.contents (outlet_writer (cert_outlet self.old)))
-            (W.contents (outlet_writer (cert_outlet self.new))) (to_be_bytes w64 cost) }
+            → PutsPart W.contents (cert_outlet self.old) (cert_outlet self.new) (to_be_bytes w64 cost) }
         ensures failed { IsErrOf result CertFault.Failed ↔ (has_failed self.old ≡ true) }
         ensures unchanged { IsErrOf result CertFault.Failed → self.new ≡ self.old }
         ensures failures { outlet_failures (cert_outlet self.new)

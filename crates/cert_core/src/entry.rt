@@ -9,7 +9,7 @@ ghost use Rattle.cost_core.specs.Limits.{IsBridging};
 ghost use Rattle.cert_core.specs.Text.{entry_start};
 ghost use Rattle.cert_core.specs.Entries.{ReadsEntry};
 ghost use Rattle.cert_core.specs.Reasons.{RowBounded};
-ghost use Rattle.cert_core.specs.Stops.{OnReason, failed_stops, CutBelow, InStart, InRows, InEnd, InEntry, ReadsRows};
+ghost use Rattle.cert_core.specs.Stops.{OnLeft, OnReason, failed_stops, CutBelow, InStart, InRows, InEnd, InEntry, ReadsRows};
 
 use crate::filling::fill;
 use crate::numbers::{make_buffer, number_in, start_numbers};
@@ -81,7 +81,7 @@ fn read_rows<R: Read>(
     ensures steps { length steps.new ≡ length steps.old }
     ensures ok { IfOk result (λ last. ReadsRows version (trellis_of window.now) (R.remaining (inlet_reader inlet.old))
         (R.remaining (inlet_reader inlet.new)) last.items) }
-    ensures reason { OnReason result (InRows version (trellis_of window.now) (R.remaining (inlet_reader inlet.old))) }
+    ensures reason { OnLeft R.remaining inlet.old result (InRows version (trellis_of window.now)) }
     ensures failures { inlet_failures inlet.new ≡ inlet_failures inlet.old + failed_stops result }
 {
     let states = window.states();
@@ -116,8 +116,7 @@ fn read_end<R: Read>(
     ensures cost { IfOk result (λ cost. cost ≡ found) }
     ensures ends { IfOk result (λ cost. (q : ℕ) → q < states (trellis_of window.now)
         → cost ≤ slice_index_or last.now q 0 + (trellis_of window.now).tail q) }
-    ensures reason { OnReason result (InEnd (trellis_of window.now) last.now found
-        (R.remaining (inlet_reader inlet.old))) }
+    ensures reason { OnLeft R.remaining inlet.old result (InEnd (trellis_of window.now) last.now found) }
     ensures failures { inlet_failures inlet.new ≡ inlet_failures inlet.old + failed_stops result }
 {
     let stated = read_number(inlet)?;
@@ -152,8 +151,7 @@ pub(crate) fn read_entry<R: Read>(
     ensures entry { IfOk result (λ cost. ReadsEntry version (trellis_of window.now) place.cue place.channel bits.now
         (R.remaining (inlet_reader inlet.old)) (R.remaining (inlet_reader inlet.new))) }
     ensures cost { IfOk result (λ found. found ≡ cost (trellis_of window.now) bits.now) }
-    ensures reason { OnReason result (InEntry version (trellis_of window.now) place.cue place.channel
-        (cost (trellis_of window.now) bits.now) (R.remaining (inlet_reader inlet.old))) }
+    ensures reason { OnLeft R.remaining inlet.old result (InEntry version (trellis_of window.now) place.cue place.channel (cost (trellis_of window.now) bits.now)) }
     ensures failures { inlet_failures inlet.new ≡ inlet_failures inlet.old + failed_stops result }
 {
     read_start(inlet, place.cue, place.channel, window.length())?;

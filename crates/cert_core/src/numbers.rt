@@ -19,7 +19,7 @@ fn number_of(version: Version) -> u16
 }
 
 /// The head of a certificate.
-pub fn head_bytes(version: Version, weights: usize, entries: u32) -> [u8; 12]
+pub(crate) fn head_bytes(version: Version, weights: usize, entries: u32) -> [u8; 12]
     requires { weights ≤ 12 }
     ensures { result ≡ cert_head version weights entries }
 {
@@ -33,7 +33,7 @@ pub fn head_bytes(version: Version, weights: usize, entries: u32) -> [u8; 12]
 }
 
 /// The version of which these twelve bytes are the head.
-pub fn version_in(bytes: &[u8; 12], weights: usize, entries: u32) -> Option<Version>
+pub(crate) fn version_in(bytes: &[u8; 12], weights: usize, entries: u32) -> Option<Version>
     requires { weights ≤ 12 }
     ensures { MatchOption result
         ((v : Version) → bytes.now ≢ cert_head v weights entries)
@@ -49,7 +49,7 @@ pub fn version_in(bytes: &[u8; 12], weights: usize, entries: u32) -> Option<Vers
 }
 
 /// The start of an entry.
-pub fn start_bytes(cue: u16, channel: u16, length: u16) -> [u8; 6]
+pub(crate) fn start_bytes(cue: u16, channel: u16, length: u16) -> [u8; 6]
     ensures { result ≡ entry_start cue channel length }
 {
     let cue = cue.to_be_bytes();
@@ -59,7 +59,7 @@ pub fn start_bytes(cue: u16, channel: u16, length: u16) -> [u8; 6]
 }
 
 /// The cue, the channel and the bridge's length in the start of an entry.
-pub fn start_numbers(bytes: [u8; 6]) -> (u16, u16, u16)
+pub(crate) fn start_numbers(bytes: [u8; 6]) -> (u16, u16, u16)
     ensures { bytes ≡ entry_start result.0 result.1 result.2 }
 {
     (
@@ -77,7 +77,7 @@ fn half_in(bytes: [u8; 4]) -> u32
 }
 
 /// The number in eight bytes.
-pub fn number_in(bytes: [u8; 8]) -> u64
+pub(crate) fn number_in(bytes: [u8; 8]) -> u64
     ensures { bytes ≡ to_be_bytes w64 result }
 {
     let high = half_in([bytes[0], bytes[1], bytes[2], bytes[3]]);
@@ -86,7 +86,7 @@ pub fn number_in(bytes: [u8; 8]) -> u64
 }
 
 /// Takes the numbers of a row out of their bytes.
-pub fn take_row(bytes: &[u8], row: &mut [u64])
+pub(crate) fn take_row(bytes: &[u8], row: &mut [u64])
     requires { length bytes.now ≡ 8 * length row.old }
     ensures { bytes.now ≡ row_text Version.One row.new }
 {
@@ -97,7 +97,7 @@ pub fn take_row(bytes: &[u8], row: &mut [u64])
 }
 
 /// A buffer of so many bytes.
-pub fn make_buffer(alloc: Global, count: usize) -> Result<Vec<u8>, AllocError>
+pub(crate) fn make_buffer(alloc: Global, count: usize) -> Result<Vec<u8>, AllocError>
     ensures { IfOk result (λ buffer. length buffer.items ≡ count) }
 {
     vec![in alloc; 0; count]

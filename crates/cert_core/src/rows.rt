@@ -4,11 +4,13 @@ ghost use Rattle.std.specs.Prelude.{◌≡◌, ℕ, ◌+◌, ◌-◌, ◌*◌, �
 ghost use Rattle.std.specs.Simd.Lanes.{Each1};
 ghost use Rattle.cost_core.specs.Trellis.{states, IsBounded};
 ghost use Rattle.cost_core.specs.StateCosts.{trellis_of};
-ghost use Rattle.cert_core.specs.Within.{WithinBoth};
-ghost use Rattle.cert_core.specs.Reasons.{RowBounded, Exceeds, RowClean, RowReason};
+ghost use Rattle.cert_core.specs.TwoRows.{AllReach, ExceedsAt, IsLowEnd, WithinWays, reached_by, states_of};
+ghost use Rattle.cert_core.specs.Within.{IsFirstBelow};
+ghost use Rattle.cert_core.specs.Reasons.{RowBounded, RowClean, RowReason};
 
+use crate::two_rows::TwoRows;
 use crate::verdict::CertReason;
-use cost_core::{Window, sums_into};
+use cost_core::{Ways, Window, sums_into};
 use std::simd::prelude::*;
 
 /// The greatest bound.
@@ -26,7 +28,7 @@ fn are_above(values: &[u64; 8]) -> bool
 }
 
 /// Whether a value is above the greatest bound.
-pub fn is_above(row: &[u64]) -> bool
+pub(crate) fn is_above(row: &[u64]) -> bool
     ensures above { IsTrue result → (q : ℕ) × (q < length row.now) × (2 ^ 63 < slice_index row.now q) }
     ensures within { result ≡ false → (q : ℕ) → q < length row.now → slice_index row.now q ≤ 2 ^ 63 }
 {
@@ -45,32 +47,23 @@ pub fn is_above(row: &[u64]) -> bool
 }
 
 // The bound that a state of the row before sets with a step of `bit`.
-fn reached(window: &Window, level: usize, previous: &[u64], from: usize, bit: bool) -> u64
-    requires bounded { IsBounded (trellis_of window.now) }
-    requires level { level < (trellis_of window.now).levels }
-    requires previous { length previous.now ≡ states (trellis_of window.now) }
-    requires limit { RowBounded (trellis_of window.now) previous.now }
-    requires from { from < states (trellis_of window.now) }
-    ensures { result ≡ slice_index previous.now from + (trellis_of window.now).step level from bit }
+fn reached(rows: &TwoRows<'_>, from: usize, bit: bool) -> u64
+    requires { from < states_of rows.now }
+    ensures { result ≡ reached_by rows.now from bit }
 {
-    previous[from] + window.step_cost(level, from, bit)
+    rows.previous[from] + rows.window.step_cost(rows.level, from, bit)
 }
 
 // Whether the value of a state exceeds what either state before it sets.
-fn exceeds(window: &Window, level: usize, previous: &[u64], row: &[u64], state: usize) -> bool
-    requires bounded { IsBounded (trellis_of window.now) }
-    requires level { level < (trellis_of window.now).levels }
-    requires previous { length previous.now ≡ states (trellis_of window.now) }
-    requires row { length row.now ≡ states (trellis_of window.now) }
-    requires limit { RowBounded (trellis_of window.now) previous.now }
-    requires state { state < states (trellis_of window.now) }
-    ensures { IsTrue result ↔ Exceeds (trellis_of window.now) level previous.now row.now state }
+fn exceeds(rows: &TwoRows<'_>, state: usize) -> bool
+    requires { state < states_of rows.now }
+    ensures { IsTrue result ↔ ExceedsAt rows.now state }
 {
     let bit = state % 2 == 1;
     let low = state / 2;
-    let high = low + window.states() / 2;
-    reached(window, level, previous, low, bit) < row[state]
-        || reached(window, level, previous, high, bit) < row[state]
+    let high = low + rows.window.states() / 2;
+    let value = rows.row[state];
+    reached(rows, low, bit) < value || reached(rows, high, bit) < value
 }
 
 // Whether no value of eight states exceeds what either state before it sets.
@@ -84,23 +77,17 @@ fn are_within(row: &[u64; 8], by_0: &[u64; 8], by_1: &[u64; 8]) -> bool
     row.simd_gt(by_0).to_bitmask() == 0 && row.simd_gt(by_1).to_bitmask() == 0
 }
 
-// Whether no value of a row exceeds what either state before it sets. The row has sixteen states or a multiple
-// of them; `lows` and `highs` are the steps into each.
-fn is_within(previous: &[u64], lows: &[u64], highs: &[u64], row: &[u64]) -> bool
-    requires whole { length previous.now % 16 ≡ 0 }
-    requires lows_len { length lows.now ≡ length previous.now }
-    requires highs_len { length highs.now ≡ length previous.now }
-    requires row_len { length row.now ≡ length previous.now }
-    requires previous { Each1 (λ x. x ≤ 2 ^ 63) previous.now }
-    requires lows { Each1 (λ x. x < 2 ^ 63) lows.now }
-    requires highs { Each1 (λ x. x < 2 ^ 63) highs.now }
-    ensures { IsTrue result → WithinBoth (length previous.now) previous.now lows.now highs.now row.now }
+// Whether no value of a row of sixteen states or a multiple of them exceeds what either way into its state sets.
+fn is_within(ways: &Ways<'_>, row: &[u64]) -> bool
+    requires whole { length ways.now.old.now % 16 ≡ 0 }
+    requires row_len { length row.now ≡ length ways.now.old.now }
+    ensures { IsTrue result → WithinWays ways.now row.now }
 {
-    let (low, high) = previous.split_at(previous.len() / 2);
+    let (low, high) = ways.old.split_at(ways.old.len() / 2);
     let (rows, _) = row.as_chunks::<8>();
     for i in 0..low.len() / 8 {
-        let (low_front, low_back) = sums_into(low, lows, i);
-        let (high_front, high_back) = sums_into(high, highs, i);
+        let (low_front, low_back) = sums_into(low, ways.lows, i);
+        let (high_front, high_back) = sums_into(high, ways.highs, i);
         let front = are_within(&rows[2 * i], &low_front, &high_front);
         let back = are_within(&rows[2 * i + 1], &low_back, &high_back);
         if !front || !back {
@@ -111,35 +98,26 @@ fn is_within(previous: &[u64], lows: &[u64], highs: &[u64], row: &[u64]) -> bool
 }
 
 // The lowest state whose value exceeds what a state before it sets. `steps` is overwritten.
-fn exceeding(
-    window: &Window,
-    level: usize,
-    previous: &[u64],
-    row: &[u64],
-    steps: &mut [u64],
-) -> Option<usize>
-    requires bounded { IsBounded (trellis_of window.now) }
-    requires level { level < (trellis_of window.now).levels }
-    requires previous { length previous.now ≡ states (trellis_of window.now) }
-    requires row { length row.now ≡ states (trellis_of window.now) }
-    requires limit { RowBounded (trellis_of window.now) previous.now }
-    requires steps { length steps.old ≡ 2 * states (trellis_of window.now) }
+fn exceeding(rows: &TwoRows<'_>, steps: &mut [u64]) -> Option<usize>
+    requires { length steps.old ≡ 2 * states_of rows.now }
     ensures steps { length steps.new ≡ length steps.old }
-    ensures found { MatchOption result
-        ((q : ℕ) → q < states (trellis_of window.now) → Exceeds (trellis_of window.now) level previous.now row.now q → ⊥)
-        (λ q. (q < states (trellis_of window.now)) × Exceeds (trellis_of window.now) level previous.now row.now q
-        × ((k : ℕ) → k < q → Exceeds (trellis_of window.now) level previous.now row.now k → ⊥)) }
+    ensures found { IsFirstBelow (states_of rows.now) (ExceedsAt rows.now) result }
 {
-    let states = window.states();
+    let states = rows.window.states();
     if states > 8 {
-        window.step_costs(level, steps);
+        rows.window.step_costs(rows.level, steps);
         let (lows, highs) = steps.split_at(states);
-        if is_within(previous, lows, highs, row) {
+        let ways = Ways {
+            old: rows.previous,
+            lows,
+            highs,
+        };
+        if is_within(&ways, rows.row) {
             return None;
         }
     }
     for state in 0..states {
-        if exceeds(window, level, previous, row, state) {
+        if exceeds(rows, state) {
             return Some(state);
         }
     }
@@ -148,7 +126,7 @@ fn exceeding(
 
 /// What is wrong first with the row of a level, none of whose values is above the greatest bound; `previous` is the
 /// row before it, and `steps` is overwritten.
-pub fn row_reason(
+pub(crate) fn row_reason(
     window: &Window,
     level: usize,
     previous: &[u64],
@@ -174,7 +152,13 @@ pub fn row_reason(
             Some(CertReason::Start)
         };
     }
-    match exceeding(window, level - 1, previous, row, steps) {
+    let rows = TwoRows {
+        window,
+        level: level - 1,
+        previous,
+        row,
+    };
+    match exceeding(&rows, steps) {
         Some(state) => Some(CertReason::Step(level, state)),
         None => None,
     }
@@ -195,8 +179,7 @@ fn all_reach(last: &[u64], tails: &[u64], stated: u64) -> bool
     requires as_many { length tails.now ≡ length last.now }
     requires last { Each1 (λ x. x ≤ 2 ^ 63) last.now }
     requires tails { Each1 (λ x. x < 2 ^ 63) tails.now }
-    ensures { IsTrue result → (q : ℕ) → q < length last.now
-        → stated ≤ slice_index last.now q + slice_index tails.now q }
+    ensures { IsTrue result → AllReach last.now tails.now stated }
 {
     let (eights, rest) = last.as_chunks::<8>();
     let (eight_tails, rest_tails) = tails.as_chunks::<8>();
@@ -215,15 +198,17 @@ fn all_reach(last: &[u64], tails: &[u64], stated: u64) -> bool
 
 /// The lowest state of the last row whose value plus the cost of ending there is below `stated`. `tails` is
 /// overwritten.
-pub fn low_end(window: &Window, last: &[u64], stated: u64, tails: &mut [u64]) -> Option<usize>
+pub(crate) fn low_end(
+    window: &Window,
+    last: &[u64],
+    stated: u64,
+    tails: &mut [u64],
+) -> Option<usize>
     requires bounded { IsBounded (trellis_of window.now) }
     requires last { length last.now ≡ states (trellis_of window.now) }
     requires limit { RowBounded (trellis_of window.now) last.now }
     requires tails { length tails.old ≡ states (trellis_of window.now) }
-    ensures { MatchOption result
-        ((q : ℕ) → q < states (trellis_of window.now) → stated ≤ slice_index last.now q + (trellis_of window.now).tail q)
-        (λ q. (q < states (trellis_of window.now)) × (slice_index last.now q + (trellis_of window.now).tail q < stated)
-        × ((k : ℕ) → k < q → stated ≤ slice_index last.now k + (trellis_of window.now).tail k)) }
+    ensures { IsLowEnd (trellis_of window.now) last.now stated result }
 {
     window.tail_costs(tails);
     if all_reach(last, tails, stated) {

@@ -2,7 +2,7 @@
 
 ghost use Rattle.std.specs.Prelude.{◌≡◌, ℕ, ◌+◌, ◌-◌, ◌*◌, ◌^◌, ◌<◌, ◌≤◌, length, map, take, flat_map, slice_index, length};
 ghost use Rattle.std.specs.Int.{bytes_high_first};
-ghost use Rattle.cert_core.specs.Spelling.{byte_width, floor, peak, row_text};
+ghost use Rattle.cert_core.specs.Spelling.{byte_width, excess_text, floor, peak, row_text};
 
 use crate::version::Version;
 
@@ -19,7 +19,7 @@ const STEPS: [u64; 8] = [
 ];
 
 /// How many bytes a number needs.
-pub fn width_of(number: u64) -> usize
+pub(crate) fn width_of(number: u64) -> usize
     ensures width { result ≡ byte_width number }
     ensures few { result ≤ 8 }
 {
@@ -33,7 +33,7 @@ pub fn width_of(number: u64) -> usize
 }
 
 /// The least and the greatest value of a row.
-pub fn bounds_of(row: &[u64]) -> (u64, u64)
+pub(crate) fn bounds_of(row: &[u64]) -> (u64, u64)
     requires { 0 < length row.now }
     ensures least { result.0 ≡ floor row.now }
     ensures greatest { result.1 ≡ peak row.now }
@@ -67,8 +67,7 @@ fn put_some(row: &[u64], least: u64, width: usize, buffer: &mut [u8])
     requires fits { (q : ℕ) → q < length row.now → slice_index row.now q - least < 256 ^ width }
     requires room { width * length row.now + 8 ≤ length buffer.old }
     ensures room { length buffer.new ≡ length buffer.old }
-    ensures text { take (width * length row.now) buffer.new
-        ≡ flat_map (bytes_high_first width) (map (λ v. v - least) row.now) }
+    ensures text { take (width * length row.now) buffer.new ≡ excess_text width least row.now }
 {
     let spare = 64 - 8 * width as u32;
     for place in 0..row.len() {
@@ -84,8 +83,7 @@ fn put_excesses(row: &[u64], least: u64, width: usize, buffer: &mut [u8])
     requires fits { (q : ℕ) → q < length row.now → slice_index row.now q - least < 256 ^ width }
     requires room { width * length row.now + 8 ≤ length buffer.old }
     ensures room { length buffer.new ≡ length buffer.old }
-    ensures text { take (width * length row.now) buffer.new
-        ≡ flat_map (bytes_high_first width) (map (λ v. v - least) row.now) }
+    ensures text { take (width * length row.now) buffer.new ≡ excess_text width least row.now }
 {
     if width > 0 {
         put_some(row, least, width, buffer);
@@ -111,7 +109,7 @@ fn put_narrow(row: &[u64], buffer: &mut [u8]) -> usize
 
 /// Writes a row by a version to the front of a buffer that has room for any row. The answer is how many bytes it
 /// has.
-pub fn put_row(version: Version, row: &[u64], buffer: &mut [u8]) -> usize
+pub(crate) fn put_row(version: Version, row: &[u64], buffer: &mut [u8]) -> usize
     requires some { 0 < length row.now }
     requires room { length buffer.old ≡ 17 + 8 * length row.now }
     ensures room { length buffer.new ≡ length buffer.old }

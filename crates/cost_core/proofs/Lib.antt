@@ -3,11 +3,11 @@ pub mod Channels
 pub mod Chunks
 pub mod Fades
 pub mod Hearing
-pub mod Lines
 pub mod Joining
 pub mod Lanes
 pub mod Leasts
 pub mod Limits
+pub mod Lines
 pub mod Numbers
 pub mod Places
 pub mod Reading
@@ -19,4 +19,5 @@ pub mod Tails
 pub mod TargetLaws
 pub mod Twice
 pub mod Walks
+pub mod WayLaws
 pub mod Windows

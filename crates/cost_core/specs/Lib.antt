@@ -13,5 +13,6 @@ pub mod Targets
 pub mod Trellis
 pub mod Validity
 pub mod View
+pub mod Ways
 pub mod Weighted
 pub mod Windows

@@ -38,7 +38,7 @@ fn fade_at(
 
 /// The targets of all places of a fade, from the end `stop` of a cue in its own take to the start of the next cue in
 /// the next take.
-pub fn fade_targets(
+pub(crate) fn fade_targets(
     alloc: Global,
     weights: &[i32],
     own: &Bits,

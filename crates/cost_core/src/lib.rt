@@ -64,6 +64,6 @@ pub use laws::{
     places_are_windows, steps_are_cost,
 };
 pub use room::{has_room, reach_at};
-pub use rows::sums_into;
+pub use rows::{Ways, sums_into};
 pub use sink::{LevelSink, SinkFault};
 pub use window::Window;

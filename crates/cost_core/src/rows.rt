@@ -3,8 +3,22 @@
 ghost use Rattle.std.specs.Prelude.{◌≡◌, ◌+◌, ◌*◌, ◌/◌, ◌^◌, ◌<◌, ◌≤◌, length, take, drop};
 ghost use Rattle.std.specs.Simd.Lanes.{Each1};
 ghost use Rattle.cost_core.specs.Rows.{sums, twice};
+ghost use Rattle.cost_core.specs.Ways.{AreWays};
 
 use std::simd::prelude::*;
+
+/// The ways into the states of a row: the states 2p and 2p + 1 come from the states p and p + half of `old`, which has
+/// an even number of states, by the steps `lows` and `highs` into each state.
+#[derive(Clone, Copy)]
+pub struct Ways<'a> {
+    /// The sums of the states before, at most `2^63`.
+    pub old: &'a [u64],
+    /// The steps from the lower half into each state, below `2^63`.
+    pub lows: &'a [u64],
+    /// The steps from the upper half into each state, below `2^63`.
+    pub highs: &'a [u64],
+    pub ghost ways: { AreWays old.now lows.now highs.now },
+}
 
 // The values of eight states, each for the two states that it leads to.
 fn doubled(values: &[u64; 8]) -> ([u64; 8], [u64; 8])

@@ -33,7 +33,7 @@ fn weigh(weights: &[i32], code: usize) -> i32
 }
 
 /// The weighted sum of the bits up to a place, the newest first.
-pub fn weighted_at(weights: &[i32], bits: &Bits, place: usize) -> i32
+pub(crate) fn weighted_at(weights: &[i32], bits: &Bits, place: usize) -> i32
     requires weights { AreWeights weights.now }
     requires enough { length weights.now ≤ place + 1 }
     requires inside { place < length bits.now }
@@ -48,7 +48,7 @@ pub fn weighted_at(weights: &[i32], bits: &Bits, place: usize) -> i32
 }
 
 /// A weighted sum times one more than the number of levels.
-pub fn scale(levels: usize, sum: i32) -> i32
+pub(crate) fn scale(levels: usize, sum: i32) -> i32
     requires levels { levels ≤ 4096 }
     requires sum { unsigned_abs sum ≤ 4096 }
     ensures value { result ≡ pos (levels + 1) *ℤ sum }
@@ -58,7 +58,7 @@ pub fn scale(levels: usize, sum: i32) -> i32
 }
 
 /// Between two weighted sums, in parts of one more than the levels.
-pub fn blend(before: usize, first: i32, after: usize, last: i32) -> i32
+pub(crate) fn blend(before: usize, first: i32, after: usize, last: i32) -> i32
     requires parts { before + after ≤ 4097 }
     requires first { unsigned_abs first ≤ 4096 }
     requires last { unsigned_abs last ≤ 4096 }
@@ -68,7 +68,7 @@ pub fn blend(before: usize, first: i32, after: usize, last: i32) -> i32
 }
 
 /// The square of the difference of two scaled sums: below `2^51`.
-pub fn squared_difference(sum: i32, other: i32) -> u64
+pub(crate) fn squared_difference(sum: i32, other: i32) -> u64
     requires sum { unsigned_abs sum ≤ greatest_sum }
     requires other { unsigned_abs other ≤ greatest_sum }
     ensures value { result ≡ square (sum -ℤ other) }
@@ -81,7 +81,7 @@ pub fn squared_difference(sum: i32, other: i32) -> u64
 
 /// Writes the squares of the differences of some scaled sums and another one. (A plain loop over two slices,
 /// which the compiler turns into lanes.)
-pub fn squared_differences(sums: &[i32], other: i32, squares: &mut [u64])
+pub(crate) fn squared_differences(sums: &[i32], other: i32, squares: &mut [u64])
     requires sums { (k : ℕ) → k < length sums.now → unsigned_abs (slice_index_or sums.now k (pos 0)) ≤ greatest_sum }
     requires other { unsigned_abs other ≤ greatest_sum }
     requires as_many { length squares.old ≡ length sums.now }
@@ -95,7 +95,7 @@ pub fn squared_differences(sums: &[i32], other: i32, squares: &mut [u64])
 
 /// Adds to each number of a row the square of the difference of a scaled sum and another one: to number `k`
 /// that of the sum at `first` plus `k * 2^shift`, round the table of sums.
-pub fn add_squared_differences(
+pub(crate) fn add_squared_differences(
     sums: &[i32],
     first: usize,
     shift: usize,
@@ -120,7 +120,7 @@ pub fn add_squared_differences(
 }
 
 /// The scaled weighted sums of all numbers of as many binary digits as there are weights.
-pub fn scaled_sums(alloc: Global, weights: &[i32], levels: usize) -> Result<Vec<i32>, AllocError>
+pub(crate) fn scaled_sums(alloc: Global, weights: &[i32], levels: usize) -> Result<Vec<i32>, AllocError>
     requires weights { AreWeights weights.now }
     requires levels { levels ≤ 4096 }
     ensures { IfOk result (λ made. made.items
@@ -133,7 +133,7 @@ pub fn scaled_sums(alloc: Global, weights: &[i32], levels: usize) -> Result<Vec<
 }
 
 /// The state that bits lead to from state 0: they are its binary digits, the newest the lowest.
-pub fn read_state(bits: &Bits) -> usize
+pub(crate) fn read_state(bits: &Bits) -> usize
     requires { length bits.now ≤ 11 }
     ensures { result ≡ state_after (length bits.now) 0 bits.now }
 {

@@ -13,7 +13,7 @@ use std::alloc::{AllocError, Global};
 
 /// The targets of all places of the bridge after cue `cue`, which ends at the place `stop` of the bits `own`, where the
 /// next one begins at the place `start` of the bits `next`. Err is want of memory.
-pub fn targets_after(
+pub(crate) fn targets_after(
     alloc: Global,
     splice: &Splice,
     cue: usize,

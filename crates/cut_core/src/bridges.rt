@@ -18,7 +18,7 @@ pub struct BridgePlace {
 
 /// The places of all bridges, by rising cue and then by rising channel. A plain cut is no bridge. Err is want of
 /// memory.
-pub fn bridge_places(alloc: Global, cut: &Cut) -> Result<Vec<BridgePlace>, AllocError>
+pub(crate) fn bridge_places(alloc: Global, cut: &Cut) -> Result<Vec<BridgePlace>, AllocError>
     ensures places { IfOk result (λ made. made.items ≡ specs.bridges cut.now) }
     ensures each { IfOk result (λ made. All (IsPlace cut.now) made.items) }
     ensures few { IfOk result (λ made. length made.items ≤ 1536) }

@@ -12,7 +12,7 @@ use dsd_bits::Bits;
 use splice_core::{Cue, Splice};
 
 /// How many cues a splice has.
-pub fn cue_number(splice: &Splice) -> usize
+pub(crate) fn cue_number(splice: &Splice) -> usize
     ensures value { result ≡ length (splice_content splice.now).cues }
     ensures some { 1 ≤ result }
     ensures few { result ≤ 256 }
@@ -21,7 +21,7 @@ pub fn cue_number(splice: &Splice) -> usize
 }
 
 /// The cue of a number of a splice.
-pub fn cue_at(splice: &Splice, number: usize) -> &Cue
+pub(crate) fn cue_at(splice: &Splice, number: usize) -> &Cue
     requires { number < length (splice_content splice.now).cues }
     ensures value { cue_content result.now ≡ fades.cue_at (splice_content splice.now) number }
     ensures fits { IsCueWithin (length (splice_content splice.now).weights) (length (splice_content splice.now).takes)
@@ -31,7 +31,7 @@ pub fn cue_at(splice: &Splice, number: usize) -> &Cue
 }
 
 /// How many bits of the master the cue of a number and the bridge behind it take.
-pub fn span_at(splice: &Splice, number: usize) -> usize
+pub(crate) fn span_at(splice: &Splice, number: usize) -> usize
     requires { number < length (splice_content splice.now).cues }
     ensures value { result ≡ span (fades.cue_at (splice_content splice.now) number) }
     ensures bound { result ≤ 2 ^ 36 + 4096 }
@@ -41,7 +41,7 @@ pub fn span_at(splice: &Splice, number: usize) -> usize
 }
 
 /// What was heard of the take that a cue is cut from.
-pub fn take_of<'a>(splice: &Splice, takes: &'a [Heard], cue: usize) -> &'a Heard
+pub(crate) fn take_of<'a>(splice: &Splice, takes: &'a [Heard], cue: usize) -> &'a Heard
     requires cue { cue < length (splice_content splice.now).cues }
     requires takes { length takes.now ≡ length (splice_content splice.now).takes }
     ensures heard { heard_content result.now
@@ -53,7 +53,7 @@ pub fn take_of<'a>(splice: &Splice, takes: &'a [Heard], cue: usize) -> &'a Heard
 }
 
 /// The bits that are heard for a cue in a channel.
-pub fn stretch<'a>(splice: &Splice, takes: &'a [Heard], channel: usize, cue: usize) -> &'a Bits
+pub(crate) fn stretch<'a>(splice: &Splice, takes: &'a [Heard], channel: usize, cue: usize) -> &'a Bits
     requires cue { cue < length (splice_content splice.now).cues }
     requires takes { length takes.now ≡ length (splice_content splice.now).takes }
     requires there { HasStretch (splice_content splice.now) (map heard_content takes.now) channel cue }

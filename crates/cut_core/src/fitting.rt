@@ -24,7 +24,7 @@ use splice_core::Splice;
 /// channel, `NotWholeBytes` where the form is DSDIFF and the master's channels would end inside a byte, then by rising
 /// cue `NoRoomBefore` and `NoRoomAfter`.
 #[tactic(auto, unfolding(crate::specs::Opening::fitting))]
-pub fn fits(splice: &Splice, takes: &[Heard], form: Option<Form>) -> Result<(), CutFault>
+pub(crate) fn fits(splice: &Splice, takes: &[Heard], form: Option<Form>) -> Result<(), CutFault>
     requires { length takes.now ≡ length (splice_content splice.now).takes }
     ensures { result ≡ fitting form (splice_content splice.now) (heard_shapes takes.now) }
 {
@@ -93,7 +93,7 @@ fn inside_at(splice: &Splice, takes: &[Heard], i: usize) -> Result<(), CutFault>
 }
 
 /// How many bits each channel of the master has.
-pub fn master_length(splice: &Splice) -> usize
+pub(crate) fn master_length(splice: &Splice) -> usize
     ensures { result ≡ cuts.master_length (splice_content splice.now).cues }
 {
     let mut length = 0;

@@ -37,7 +37,7 @@ const KEYS: [Key; 7] = [
 
 /// The cue that a value is, under its number, with so many weights and takes.
 #[tactic(auto, unfolding(crate::specs::ReadingCue::cue_of))]
-pub fn cue_of(
+pub(crate) fn cue_of(
     alloc: Global,
     value: &Value,
     number: usize,

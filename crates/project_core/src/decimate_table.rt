@@ -15,7 +15,7 @@ const KEYS: [Key; 5] = [Key::Taps, Key::Factor, Key::Delay, Key::Shift, Key::Wid
 
 /// The decimator of the value at `decimate`.
 #[tactic(auto, unfolding(crate::specs::ReadingDecimate::decimate_of))]
-pub fn decimate_of(alloc: Global, value: &Value) -> Result<Taps, ProjectFault>
+pub(crate) fn decimate_of(alloc: Global, value: &Value) -> Result<Taps, ProjectFault>
     ensures { Gives (λ d. d) result (decimate_of (view value.now)) }
 {
     let table = table_of(value, Key::Decimate, &KEYS)?;

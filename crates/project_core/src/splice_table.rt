@@ -21,7 +21,7 @@ const KEYS: [Key; 3] = [Key::Weights, Key::Takes, Key::Cue];
 
 /// The splice of the value at `splice`.
 #[tactic(auto, unfolding(crate::specs::ReadingSplice::splice_of))]
-pub fn splice_of(alloc: Global, value: &Value) -> Result<Splice, ProjectFault>
+pub(crate) fn splice_of(alloc: Global, value: &Value) -> Result<Splice, ProjectFault>
     ensures { Gives splice_content result (splice_of (view value.now)) }
 {
     let table = table_of(value, Key::Splice, &KEYS)?;

@@ -14,7 +14,7 @@ use std::alloc::Global;
 use toml::{Table, Value};
 
 /// The value at a key, if there is one.
-pub fn find(table: &Table, key: Key) -> Option<&Value>
+pub(crate) fn find(table: &Table, key: Key) -> Option<&Value>
     ensures { option_map (λ v. view v.now) result ≡ get_member (name_of key) (table_view table.now) }
 {
     table.get(key.name())
@@ -22,21 +22,21 @@ pub fn find(table: &Table, key: Key) -> Option<&Value>
 
 /// The value at a key that has to be there.
 #[tactic(auto, unfolding(crate::specs::Reading::value_at))]
-pub fn value_at(table: &Table, key: Key) -> Result<&Value, ProjectFault>
+pub(crate) fn value_at(table: &Table, key: Key) -> Result<&Value, ProjectFault>
     ensures { Gives (λ v. view v.now) result (value_at key (table_view table.now)) }
 {
     find(table, key).ok_or(ProjectFault::MissingKey(key))
 }
 
 /// The integer that the value at a key is.
-pub fn integer_of(value: &Value, key: Key) -> Result<i64, ProjectFault>
+pub(crate) fn integer_of(value: &Value, key: Key) -> Result<i64, ProjectFault>
     ensures { Gives (λ z. z) result (integer_of key (view value.now)) }
 {
     value.as_integer().ok_or(ProjectFault::WrongKind(key))
 }
 
 /// The text that the value at a key is.
-pub fn text_of(value: &Value, key: Key) -> Result<&str, ProjectFault>
+pub(crate) fn text_of(value: &Value, key: Key) -> Result<&str, ProjectFault>
     ensures { Gives (λ t. t.now) result (text_of key (view value.now)) }
 {
     value.as_str().ok_or(ProjectFault::WrongKind(key))
@@ -44,7 +44,7 @@ pub fn text_of(value: &Value, key: Key) -> Result<&str, ProjectFault>
 
 /// The table that the value at a key is, if it has no keys but these.
 #[tactic(auto, unfolding(crate::specs::Reading::table_of))]
-pub fn table_of<'a>(value: &'a Value, key: Key, keys: &[Key]) -> Result<&'a Table, ProjectFault>
+pub(crate) fn table_of<'a>(value: &'a Value, key: Key, keys: &[Key]) -> Result<&'a Table, ProjectFault>
     ensures { Gives (λ t. table_view t.now) result (table_of key keys.now (view value.now)) }
 {
     let table = value.as_table().ok_or(ProjectFault::WrongKind(key))?;
@@ -55,7 +55,7 @@ pub fn table_of<'a>(value: &'a Value, key: Key, keys: &[Key]) -> Result<&'a Tabl
 }
 
 /// Whether a table has no keys but these.
-pub fn has_only(table: &Table, keys: &[Key]) -> bool
+pub(crate) fn has_only(table: &Table, keys: &[Key]) -> bool
     ensures { result ≡ has_only keys.now (table_view table.now) }
 {
     for (name, _) in table {
@@ -68,7 +68,7 @@ pub fn has_only(table: &Table, keys: &[Key]) -> bool
 
 /// The number of 32 bits with no sign at a key.
 #[tactic(auto, unfolding(crate::specs::Reading::unsigned_at))]
-pub fn unsigned_at(table: &Table, key: Key) -> Result<u32, ProjectFault>
+pub(crate) fn unsigned_at(table: &Table, key: Key) -> Result<u32, ProjectFault>
     ensures { Gives (λ n. n) result (unsigned_at key (table_view table.now)) }
 {
     let integer = integer_of(value_at(table, key)?, key)?;
@@ -80,7 +80,7 @@ pub fn unsigned_at(table: &Table, key: Key) -> Result<u32, ProjectFault>
 
 /// The number at a key, from 0 to a limit.
 #[tactic(auto, unfolding(crate::specs::Reading::limited_at))]
-pub fn limited_at(table: &Table, key: Key, limit: usize) -> Result<usize, ProjectFault>
+pub(crate) fn limited_at(table: &Table, key: Key, limit: usize) -> Result<usize, ProjectFault>
     requires { limit < 2 ^ 63 }
     ensures exact { Gives (λ n. n) result (limited_at key limit (table_view table.now)) }
     ensures within { IfOk result (λ n. n ≤ limit) }
@@ -90,7 +90,7 @@ pub fn limited_at(table: &Table, key: Key, limit: usize) -> Result<usize, Projec
 }
 
 /// A number that isn't negative and lies below a bound.
-pub fn below(integer: i64, bound: usize) -> Option<usize>
+pub(crate) fn below(integer: i64, bound: usize) -> Option<usize>
     ensures { result ≡ below bound integer }
 {
     match usize::try_from(integer) {
@@ -101,7 +101,7 @@ pub fn below(integer: i64, bound: usize) -> Option<usize>
 
 /// The integers of the array at a key: first all are integers, and then all fit 32 bits.
 #[tactic(auto, unfolding(crate::specs::Reading::integers_at))]
-pub fn integers_at(alloc: Global, table: &Table, key: Key) -> Result<Vec<i32>, ProjectFault>
+pub(crate) fn integers_at(alloc: Global, table: &Table, key: Key) -> Result<Vec<i32>, ProjectFault>
     ensures { Gives (λ v. v.items) result (integers_at key (table_view table.now)) }
 {
     let value = value_at(table, key)?;
@@ -112,7 +112,7 @@ pub fn integers_at(alloc: Global, table: &Table, key: Key) -> Result<Vec<i32>, P
 
 /// The texts of the array at a key.
 #[tactic(auto, unfolding(crate::specs::Reading::texts_at))]
-pub fn texts_at(alloc: Global, table: &Table, key: Key) -> Result<Vec<String>, ProjectFault>
+pub(crate) fn texts_at(alloc: Global, table: &Table, key: Key) -> Result<Vec<String>, ProjectFault>
     ensures { Gives (λ v. map string_bytes v.items) result (texts_at key (table_view table.now)) }
 {
     let value = value_at(table, key)?;

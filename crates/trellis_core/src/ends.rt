@@ -8,7 +8,7 @@ ghost use Rattle.trellis_core.specs.Best.{best_row, total_row, final};
 use cost_core::Window;
 
 /// Writes the least costs of the bits that end in each state, from the least sums of the last level.
-pub fn write_totals(window: &Window, last: &[u64], totals: &mut [u64])
+pub(crate) fn write_totals(window: &Window, last: &[u64], totals: &mut [u64])
     requires bounded { IsBounded (trellis_of window.now) }
     requires last { last.now ≡ best_row (trellis_of window.now) (trellis_of window.now).levels }
     requires totals { length totals.old ≡ states (trellis_of window.now) }
@@ -22,7 +22,7 @@ pub fn write_totals(window: &Window, last: &[u64], totals: &mut [u64])
 
 /// Of the states whose bits but for the `rest` oldest are `low`, the one of the least total. On a tie 0
 /// at the newest bit that differs wins.
-pub fn end_state(window: &Window, totals: &[u64], rest: usize, low: usize) -> usize
+pub(crate) fn end_state(window: &Window, totals: &[u64], rest: usize, low: usize) -> usize
     requires bounded { IsBounded (trellis_of window.now) }
     requires totals { totals.now ≡ total_row (trellis_of window.now) }
     requires rest { rest ≤ (trellis_of window.now).width }

@@ -11,7 +11,7 @@ ghost use Rattle.trellis_core.specs.Handing.{HandsOverAll, HandsOverSome, HandsO
 use crate::choosing::{NO_WAY, choose};
 use crate::ends::write_totals;
 use crate::fault::BridgeFault;
-use cost_core::{LevelSink, Window};
+use cost_core::{LevelSink, Ways, Window};
 use std::alloc::{AllocError, Global};
 
 /// Room for a pass over the levels of a window with so many states: the steps of a level, two rows, and the decisions of
@@ -60,7 +60,7 @@ fn first_sum(window: &Window, state: usize) -> u64
 }
 
 /// Writes the least sums of level 0.
-pub fn write_first_row(window: &Window, row: &mut [u64])
+pub(crate) fn write_first_row(window: &Window, row: &mut [u64])
     requires { length row.old ≡ states (trellis_of window.now) }
     ensures { row.new ≡ best_row (trellis_of window.now) 0 }
 {
@@ -71,7 +71,7 @@ pub fn write_first_row(window: &Window, row: &mut [u64])
 
 /// Writes the least sums of the level after `level`, whose own are `row`, and the decisions of `level`;
 /// `steps` is overwritten.
-pub fn next_row(
+pub(crate) fn next_row(
     window: &Window,
     level: usize,
     row: &[u64],
@@ -91,7 +91,12 @@ pub fn next_row(
 {
     window.step_costs(level, steps);
     let (lows, highs) = steps.split_at(window.states());
-    choose(row, lows, highs, following, decisions);
+    let ways = Ways {
+        old: row,
+        lows,
+        highs,
+    };
+    choose(ways, following, decisions);
 }
 
 // Room for a search of a window.
@@ -161,7 +166,7 @@ fn search<S: LevelSink>(
 
 /// Searches all levels. Each row is handed over when it is made; two rows are held, and nothing is allocated
 /// from the first level on.
-pub fn forward<S: LevelSink>(
+pub(crate) fn forward<S: LevelSink>(
     alloc: Global,
     window: &Window,
     sink: &mut S,

@@ -28,7 +28,7 @@ fn before(window: &Window, decisions: &[u8], level: usize, state: usize) -> usiz
 }
 
 /// The bits on the way back from a state of the last level, the newest first.
-pub fn trace(
+pub(crate) fn trace(
     alloc: Global,
     window: &Window,
     decisions: &[u8],
@@ -50,7 +50,7 @@ pub fn trace(
 }
 
 /// The bits packed, the last of them first.
-pub fn reversed(alloc: Global, newest_first: &[bool]) -> Result<Bits, AllocError>
+pub(crate) fn reversed(alloc: Global, newest_first: &[bool]) -> Result<Bits, AllocError>
     requires { length newest_first.now ≤ 2 ^ 36 }
     ensures { IfOk result (λ bits. bits ≡ reverse newest_first.now) }
 {

@@ -15,7 +15,7 @@ pub struct Unheard {
 
 impl Unheard {
     /// For the rows of a window.
-    pub fn new(window: &Window) -> Unheard
+    pub(crate) fn new(window: &Window) -> Unheard
         ensures left { result.left ≡ window.now.levels + 1 }
         ensures width { result.width ≡ states (trellis_of window.now) }
     {

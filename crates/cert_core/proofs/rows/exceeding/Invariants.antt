@@ -5,4 +5,4 @@ use Rattle.cert_core.specs.Reasons.{Exceeds}
 use Rattle.cert_core.proofs.rows.exceeding.Given as goal
 
 abbrev pub invariant-loop-state : goal.invariant-loop-state
-invariant-loop-state l = (k : ℕ) → k < l.state → Exceeds (trellis_of l.window) l.level l.previous l.row k → ⊥
+invariant-loop-state l = (k : ℕ) → k < l.state → Exceeds (trellis_of l.rows.window.now) l.rows.level l.rows.previous.now l.rows.row.now k → ⊥

@@ -1,4 +1,5 @@
-use Rattle.std.proofs.Common.{refl, ℕ, ◌+◌, ◌*◌, ◌≤◌, ◌^◌, arith, get_or}
+use Rattle.std.proofs.Common.{refl, ℕ, ◌+◌, ◌*◌, ◌<◌, ◌≤◌, ◌^◌, arith, get_or}
+use Rattle.std.proofs.lemmas.Simd.{Each1-from_get_or}
 use Rattle.cost_core.specs.Rows.{lower, upper}
 use Rattle.cost_core.proofs.Chunks.{at_chunk}
 use Rattle.cost_core.proofs.Twice.{each_first, each_last}
@@ -7,16 +8,22 @@ use Rattle.cert_core.proofs.Within.{eight_within}
 use Rattle.cert_core.proofs.rows.is_within.Goals as goal
 
 pub sums_into-requires-clause-values : goal.sums_into-requires-clause-values
-sums_into-requires-clause-values c = each_first (λ x. x ≤ 2 ^ 63) _ c.split_at.result.0.now c.args.previous.now c.split_at.ensures.front c.requires.previous
+sums_into-requires-clause-values c = each_first (λ x. x ≤ 2 ^ 63) _ c.split_at.result.0.now c.args.ways.now.old.now c.split_at.ensures.front (Each1-from_get_or (λ x. x ≤ 2 ^ 63) c.args.ways.now.old.now 0 c.args.ways.now.ways.old_small)
 
 pub sums_into-requires-in-loop-i-clause-values : goal.sums_into-requires-in-loop-i-clause-values
-sums_into-requires-in-loop-i-clause-values c = each_last (λ x. x ≤ 2 ^ 63) _ c.split_at.result.1.now c.args.previous.now c.split_at.ensures.back c.requires.previous
+sums_into-requires-in-loop-i-clause-values c = each_last (λ x. x ≤ 2 ^ 63) _ c.split_at.result.1.now c.args.ways.now.old.now c.split_at.ensures.back (Each1-from_get_or (λ x. x ≤ 2 ^ 63) c.args.ways.now.old.now 0 c.args.ways.now.ways.old_small)
+
+pub sums_into-requires-clause-steps : goal.sums_into-requires-clause-steps
+sums_into-requires-clause-steps c = Each1-from_get_or (λ x. x < 2 ^ 63) c.args.ways.now.lows.now 0 c.args.ways.now.ways.lows_small
+
+pub sums_into-requires-in-loop-i-clause-steps : goal.sums_into-requires-in-loop-i-clause-steps
+sums_into-requires-in-loop-i-clause-steps c = Each1-from_get_or (λ x. x < 2 ^ 63) c.args.ways.now.highs.now 0 c.args.ways.now.ways.highs_small
 
 pub loop-i-preserved : goal.loop-i-preserved
 loop-i-preserved c = λ k lt.
     let row = c.args.row.now in
-    let first = lower c.args.previous.now c.args.lows.now in
-    let second = upper c.args.previous.now c.args.highs.now in
+    let first = lower c.args.ways.now.old.now c.args.ways.now.lows.now in
+    let second = upper c.args.ways.now.old.now c.args.ways.now.highs.now in
     let j : ℕ = 2 * c.loop-i.i in
     let P = λ (q : ℕ). (get_or row q 0 ≤ get_or first q 0) × (get_or row q 0 ≤ get_or second q 0) in
     let low_front = rw c.split_at.ensures.front at c.sums_into.ensures.front in

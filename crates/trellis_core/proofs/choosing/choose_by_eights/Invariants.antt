@@ -5,6 +5,6 @@ use Rattle.trellis_core.proofs.choosing.choose_by_eights.Given as goal
 
 abbrev pub invariant-loop-i : goal.invariant-loop-i
 invariant-loop-i l = record {
-  row : take (8 * (2 * l.i)) l.row ≡ take (8 * (2 * l.i)) (least (lower l.old l.lows) (upper l.old l.highs));
-  choices : (k : ℕ) → k < 8 * (2 * l.i) → bit_at (get_or l.choices (k / 8) 0) (k % 8) ≡ cond (get_or (seconds (lower l.old l.lows) (upper l.old l.highs)) k false) 1 0;
+  row : take (8 * (2 * l.i)) l.row ≡ take (8 * (2 * l.i)) (least (lower l.ways.old.now l.ways.lows.now) (upper l.ways.old.now l.ways.highs.now));
+  choices : (k : ℕ) → k < 8 * (2 * l.i) → bit_at (get_or l.choices (k / 8) 0) (k % 8) ≡ cond (get_or (seconds (lower l.ways.old.now l.ways.lows.now) (upper l.ways.old.now l.ways.highs.now)) k false) 1 0;
 }

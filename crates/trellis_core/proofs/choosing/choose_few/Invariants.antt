@@ -6,6 +6,6 @@ use Rattle.trellis_core.proofs.choosing.choose_few.Given as goal
 
 abbrev pub invariant-loop-k : goal.invariant-loop-k
 invariant-loop-k l = record {
-  row : take l.k l.row ≡ take l.k (least (lower l.old l.lows) (upper l.old l.highs));
-  choices : l.choices ≡ mask_l (take l.k (seconds (lower l.old l.lows) (upper l.old l.highs)));
+  row : take l.k l.row ≡ take l.k (least (lower l.ways.old.now l.ways.lows.now) (upper l.ways.old.now l.ways.highs.now));
+  choices : l.choices ≡ mask_l (take l.k (seconds (lower l.ways.old.now l.ways.lows.now) (upper l.ways.old.now l.ways.highs.now)));
 }

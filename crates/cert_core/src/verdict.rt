@@ -4,7 +4,7 @@ use std::alloc::AllocError;
 use std::{error, fmt};
 use thiserror::Error;
 
-/// Why a certificate is rejected. A reason's text is its name, and after a space each what it tells.
+/// Why a certificate is rejected. A reason's text is its name, followed by each number that it has after a space.
 #[derive(Clone, Copy, Debug, PartialEq, Eq)]
 pub enum CertReason {
     /// The bytes end too early.
@@ -58,7 +58,7 @@ pub enum CertVerdict {
 pub enum CheckFault {
     /// A read failed.
     Device,
-    /// Want of memory.
+    /// Out of memory.
     Memory,
 }
 

@@ -8,9 +8,9 @@ use thiserror::Error;
 pub enum WordsFault {
     /// The words are no command.
     WrongWords,
-    /// A form is named that isn't known.
+    /// The form that is named isn't known.
     UnknownFormName,
-    /// Want of memory.
+    /// Out of memory.
     Memory,
 }
 

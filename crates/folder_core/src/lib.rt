@@ -19,8 +19,8 @@
 //!   bytes were put there.
 //! - `KeepsOthers name old new` says that only the file of this name may have changed. `IsFront name old new bytes`
 //!   says that the file is as it was, or holds a prefix of these bytes, and this only if no old file had to be kept.
-//! - `IsShortOf most view name answer` says that an answer has the bytes of a file with fewer than `most`
-//!   (`specs/ShortFiles.antt`).
+//! - `IsShortOf most view name answer` says that an answer is the bytes of a file with fewer than `most`, or None for a
+//!   file with `most` or more (`specs/ShortFiles.antt`).
 //! - `watched_folder` and `watched_file` are what is watched (`specs/WatchedFolders.antt`).
 //!
 //! What it promises, over a folder whose bytes are known: what is read is what an opening of that name gives, and what

@@ -21,8 +21,8 @@
 //! the named files gave, and no other file changed.
 //!
 //! ```text
-//! play_file(alloc, &mut folder, "filter.toml", "in.dsf", "out.wav")?                // the bytes of out.wav
-//! convert_file(alloc, &mut folder, Form::Dsdiff, "in.dsf", "out.dff", MOST_KEPT)?   // 0 parts dropped
+//! play_file(alloc, &mut folder, "filter.toml", "in.dsf", "out.wav")?                // how many bytes out.wav has
+//! convert_file(alloc, &mut folder, Form::Dsdiff, "in.dsf", "out.dff", MOST_KEPT)?   // how many parts are dropped
 //! ```
 #![tactic(auto)]
 

@@ -14,7 +14,7 @@ pub fn shown_is_read()
     ensures { ShownIsRead }
 {}
 
-/// A head, then for each claim an entry that shows it, and then nothing: exactly these are the certificates.
+/// A header, then for each claim an entry that shows it, and then nothing: exactly these are the certificates.
 pub fn read_is_cert()
     ensures read { ReadIsCert }
     ensures head { CertHasHead }

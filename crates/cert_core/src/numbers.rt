@@ -18,7 +18,7 @@ fn number_of(version: Version) -> u16
     }
 }
 
-/// The head of a certificate.
+/// The header of a certificate.
 pub(crate) fn head_bytes(version: Version, weights: usize, entries: u32) -> [u8; 12]
     requires { weights ≤ 12 }
     ensures { result ≡ cert_head version weights entries }
@@ -32,7 +32,7 @@ pub(crate) fn head_bytes(version: Version, weights: usize, entries: u32) -> [u8;
     ]
 }
 
-/// The version whose head these twelve bytes are, if there is one.
+/// The version whose header these twelve bytes are, if there is one.
 pub(crate) fn version_in(bytes: &[u8; 12], weights: usize, entries: u32) -> Option<Version>
     requires { weights ≤ 12 }
     ensures { MatchOption result

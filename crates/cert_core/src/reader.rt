@@ -57,7 +57,7 @@ impl<R: Read> CertReader<R> {
         inlet
     }
 
-    /// Reads the head, which must be that of `weights` weights and `entries` entries, in either version. None means
+    /// Reads the header, which must be that of `weights` weights and `entries` entries, in either version. None means
     /// that it is.
     ///
     /// Reasons, in this order: `Cut` if fewer than 12 bytes are left, `Head`. Refusal: `Device` if a read fails. It
@@ -73,7 +73,7 @@ impl<R: Read> CertReader<R> {
             (R.remaining (inlet_reader (cert_inlet self.new))) (cert_head (read_version self.new) weights entries) }
         ensures read { IsWell result → has_read_head self.new ≡ true }
 
-        // If the bytes are known, this is their first reason, and they don't begin with the head.
+        // If the bytes are known, this is their first reason, and they don't begin with the header.
         ensures reason { IfReason result (InHead weights entries (R.remaining (inlet_reader (cert_inlet self.old)))) }
         ensures only { IfReason result (λ _. IfSome (R.remaining (inlet_reader (cert_inlet self.old)))
             (λ bytes. (v : Version) → (rest : List ℕ) → bytes ≡ cert_head v weights entries ++ rest → ⊥)) }
@@ -98,8 +98,8 @@ impl<R: Read> CertReader<R> {
         Ok(None)
     }
 
-    /// Reads the next entry, in the version that the head names, and judges by it the bits of the bridge after `cue` in
-    /// `channel`. `Accepted` says that the entry's table is valid for these bits, so no bits of the bridge's length
+    /// Reads the next entry, in the version that the header names, and judges by it the bits of the bridge after `cue`
+    /// in `channel`. `Accepted` says that the entry's table is valid for these bits, so no bits of the bridge's length
     /// cost less.
     ///
     /// Reasons, in this order:
@@ -142,7 +142,7 @@ impl<R: Read> CertReader<R> {
         ensures failures { inlet_failures (cert_inlet self.new)
             ≡ inlet_failures (cert_inlet self.old) + failed_checks result }
 
-        // What was read of the head is unchanged.
+        // What was read of the header is unchanged.
         ensures read { has_read_head self.new ≡ has_read_head self.old }
         ensures version { read_version self.new ≡ read_version self.old }
     {

@@ -1,4 +1,4 @@
-//! What a reader of certificates answers.
+//! What a reader of certificates returns.
 
 use std::alloc::AllocError;
 use std::{error, fmt};
@@ -9,7 +9,7 @@ use thiserror::Error;
 pub enum CertReason {
     /// The bytes end too early.
     Cut,
-    /// The head isn't the expected one, or an entry is of another cue or channel.
+    /// The header isn't the expected one, or an entry is of another cue or channel.
     Head,
     /// The entry is of a bridge of another length.
     Length,
@@ -44,7 +44,7 @@ impl fmt::Display for CertReason {
 
 impl error::Error for CertReason {}
 
-/// Whether an entry shows the bits of a bridge to be least.
+/// Whether an entry shows that the bits of a bridge are least.
 #[derive(Clone, Copy, PartialEq, Eq)]
 pub enum CertVerdict {
     /// It does: no bits of the bridge's length cost less than these, and this is what they cost.

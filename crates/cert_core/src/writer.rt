@@ -24,7 +24,7 @@ use std::io::Write;
 /// [`end_bridge`](CertWriter::end_bridge); last [`finish`](CertWriter::finish). It holds the bytes of one row, and
 /// takes no memory once it is made.
 ///
-/// After `Device` every call but `finish` may be made in any order. It answers `Failed`, writes nothing and leaves the
+/// After `Device` every call but `finish` may be made in any order. It returns `Failed`, writes nothing and leaves the
 /// writer as it is.
 #[derive(Drop)]
 pub struct CertWriter<W> {
@@ -100,7 +100,7 @@ impl<W: Write> CertWriter<W> {
         }
     }
 
-    /// Writes the head, which announces `entries` entries.
+    /// Writes the header, which announces `entries` entries.
     ///
     /// Refusals of this and of each later call that writes: `Device` if a write fails, and then a prefix of the part
     /// was written, but not all of it; `Failed` after a `Device`, and then nothing is written. Only a writer that

@@ -1,4 +1,4 @@
-//! What takes the rows of a table of bounds, one level at a time.
+//! A sink for the rows of a table of bounds, one level at a time.
 
 ghost use Rattle.std.specs.Prelude.{◌≡◌, ℕ, ◌+◌, ◌<◌, Bool, true, false, Option, List, length, IsSome, OnOk, OnErr, MatchResult};
 ghost use Rattle.std.specs.Io.KnownBytes.{Appends};
@@ -11,7 +11,7 @@ use thiserror::Error;
 #[error("SinkFault")]
 pub struct SinkFault;
 
-/// What takes rows of numbers, one at a time, and may write them as a text.
+/// Takes rows of numbers, one at a time, and may write them as a text.
 pub trait LevelSink {
     /// How many rows it still takes.
     ghost rows_left: { Self → ℕ };

@@ -81,8 +81,8 @@ fn tells_a_failed_read(alloc: Global, cert: &[u8], most: usize, read: u64) -> bo
     checked(alloc, newest(alloc), 0x00, reader) == Err(CheckFault::Device)
 }
 
-// First the head, the entry's start, two rows, the cost and the end are each one read. Then each byte is one read, and
-// the end another.
+// First the header, the entry's start, two rows, the cost and the end are each one read. Then each byte is one read,
+// and the end another.
 #[test]
 fn a_failed_read_is_no_reason(rt: HostRuntime) {
     for read in 1..7 {

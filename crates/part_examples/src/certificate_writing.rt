@@ -16,7 +16,7 @@ use std::test::Fail;
 const NEVER: u64 = u64::MAX;
 
 // A certificate of one entry of two rows. `parts` has the first and the last byte, counted from 1, of what each call
-// writes of it: its head, the start of the entry, both rows, the cost.
+// writes of it: its header, the start of the entry, both rows, the cost.
 struct Worked {
     version: Version,
     first: [u64; 2],

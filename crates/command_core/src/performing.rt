@@ -22,14 +22,14 @@ use words_core::Task;
 
 /// Does a command over the files of a folder, and returns its outcome: the first fault, if there is one.
 ///
-/// Files are opened in the order in which the command names them, and a project's takes after it by their numbers. A
-/// file is created only once the call has an answer, except as follows:
+/// Files are opened in the order in which the command names them, and a project's takes after it by their numbers. Each
+/// is read whole before the next is opened, and a file is created only once the call has an answer, except as follows:
 ///
 /// - `Edit`: The master is made while it is written. All memory that this needs is reserved before the master is
 ///   created. Its certificate is created once the master is complete.
 /// - `Play`: The recording is opened and the WAVE file created. Then the one is read and the other written, piece by
 ///   piece.
-/// - `Convert`, of 2 MiB or more: see below.
+/// - `Check`, and recordings and takes of 2 MiB or more: see below.
 ///
 /// `Check` reads a master once, and its certificate while the master is judged. Both are read to their ends, whatever
 /// the verdict is. Of the master only a few blocks and the bits of its bridges are held, of the certificate two rows

@@ -8,7 +8,7 @@
 //!
 //! ```text
 //! let mut disk = Disk::new(rt, process);
-//! let mut file = disk.create("out.dsf")?;      // is written as .out.dsf.dsdarc-PROCESS-0
+//! let file = disk.create("out.dsf")?;          // is written as .out.dsf.dsdarc-PROCESS-0
 //! disk.keep("out.dsf", file)?;                 // is out.dsf now
 //! ```
 #![tactic(auto)]

@@ -108,8 +108,9 @@ impl<R: Read> CertReader<R> {
     ///    state.
     /// 3. `Cut`, `Cost`, and `End` for the lowest such state.
     ///
-    /// In a row of the second version, `Cut` and `Bound` of step 2 are: `Cut` if its first 9 bytes aren't there, `Row`
-    /// for a width above 8, `Cut`, `Bound`, and `Row` if no excess is 0 or the width isn't the least.
+    /// For a row of the second version, step 2 has these in place of `Cut` and `Bound`: `Cut` if its first 9 bytes
+    /// aren't there, `Row` for a width above 8, `Cut`, `Bound`, and `Row` if no excess is 0 or the width isn't the
+    /// least.
     ///
     /// Refusals: `Device` if a read fails, `Memory`. It holds two rows of the table at a time, and the bytes of one
     /// row, which are read whole.

@@ -8,5 +8,6 @@ pub mod Rooms
 pub mod Spelling
 pub mod Stops
 pub mod Text
+pub mod TwoRows
 pub mod Within
 pub mod Writers

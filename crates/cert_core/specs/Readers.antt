@@ -1,5 +1,6 @@
 -- What contracts see of a reader of certificates and of its answers.
 use Rattle.std.specs.Prelude.{◌≡◌, ◌<◌, ℕ, Bool, List, length, Option, None, Some, Result, Ok, Err, ⊤, IfSome}
+use Rattle.device_core.specs.Inlets.{inlet_failures, inlet_reader}
 use Rattle.device_core.specs.declared.inlet.Inlet.{Inlet}
 use Rattle.cert_core.specs.declared.reader.CertReader.{CertReader}
 use Rattle.cert_core.specs.declared.verdict.CertReason.{CertReason}
@@ -14,6 +15,14 @@ use Rattle.cert_core.specs.declared.version.Version.{Version}
 -- the inlet, as it stands
 abbrev pub cert_inlet : {R : Type 0} → CertReader R → Inlet R
 cert_inlet reader = reader.inlet
+
+-- how many reads failed
+abbrev pub check_failures : {R : Type 0} → CertReader R → ℕ
+check_failures reader = inlet_failures (cert_inlet reader)
+
+-- P of the bytes that are left, where they are known
+abbrev pub IfLeft : {R : Type 0} → (R → Option (List ℕ)) → CertReader R → (List ℕ → Type 0) → Type 0
+IfLeft left reader P = IfSome (left (inlet_reader (cert_inlet reader))) P
 
 -- whether a head was read
 abbrev pub has_read_head : {R : Type 0} → CertReader R → Bool

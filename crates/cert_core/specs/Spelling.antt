@@ -61,3 +61,7 @@ IsCutRow Two m bytes = (length bytes < 9)
 abbrev pub IsTooWide : Version → List ℕ → Type 0
 IsTooWide One bytes = ⊥
 IsTooWide Two bytes = (front : List ℕ) × (width : ℕ) × (after : List ℕ) × (bytes ≡ front ++ (width ∷ after)) × (length front ≡ 8) × (8 < width)
+
+-- what the values of a row exceed another by, in so many bytes each
+abbrev pub excess_text : ℕ → ℕ → List ℕ → List ℕ
+excess_text width least row = flat_map (bytes_high_first width) (map (λ v. v - least) row)

@@ -1,6 +1,8 @@
 -- Why a reading stops before its end.
 use Rattle.std.specs.Prelude.{◌≡◌, ◌≢◌, ℕ, ◌+◌, ◌^◌, ◌<◌, ◌⊎◌, List, length, map, flat_map, slice_index_or, Option, Result, Ok, Err, ⊤, IfSome}
 use Rattle.std.specs.Io.KnownBytes.{Consumes}
+use Rattle.device_core.specs.Inlets.{inlet_reader}
+use Rattle.device_core.specs.declared.inlet.Inlet.{Inlet}
 use Rattle.cost_core.specs.Trellis.{Trellis}
 use Rattle.cert_core.specs.declared.verdict.CertReason.{CertReason}
 use Rattle.cert_core.specs.declared.verdict.CertReason.TheVariants.{Cut, Bound, Row}
@@ -18,6 +20,10 @@ OnReason (Err (Reason reason)) P = P reason
 OnReason (Err Device) P = ⊤
 OnReason (Err Memory) P = ⊤
 OnReason (Ok x) P = ⊤
+
+-- P of the bytes that an inlet has left, known or not, and of the reason, where there is one
+abbrev pub OnLeft : {R T : Type 0} → (R → Option (List ℕ)) → Inlet R → Result T Stop → (Option (List ℕ) → CertReason → Type 0) → Type 0
+OnLeft left inlet r P = OnReason r (P (left (inlet_reader inlet)))
 
 -- one where a device failed
 abbrev pub failed_stops : {T : Type 0} → Result T Stop → ℕ

@@ -1,13 +1,27 @@
 -- What contracts see of a writer of certificates.
-use Rattle.std.specs.Prelude.{ℕ, ◌-◌, ◌^◌, Bool, if◌then◌else◌}
+use Rattle.std.specs.Prelude.{ℕ, ◌-◌, ◌^◌, Bool, true, false, List, Option, if◌then◌else◌}
 use Rattle.device_core.specs.declared.outlet.Outlet.{Outlet}
+use Rattle.device_core.specs.Outlets.{Puts, PutsPart, outlet_failures}
 use Rattle.cert_core.specs.declared.writer.CertWriter.{CertWriter}
 use Rattle.device_core.specs.FusedOutlets.{fused_outlet, fused_failed}
+use Rattle.cert_core.specs.Text.{cert_head}
 use Rattle.cert_core.specs.declared.version.Version.{Version}
 
 -- the outlet, as it stands
 abbrev pub cert_outlet : {W : Type 0} → CertWriter W → Outlet W
 cert_outlet writer = fused_outlet writer.outlet
+
+-- these bytes were written
+abbrev pub Writes : {W : Type 0} → (W → Option (List ℕ)) → CertWriter W → CertWriter W → List ℕ → Type 0
+Writes contents old new bytes = Puts contents (cert_outlet old) (cert_outlet new) bytes
+
+-- a front of these was written, and not all of them
+abbrev pub WritesPart : {W : Type 0} → (W → Option (List ℕ)) → CertWriter W → CertWriter W → List ℕ → Type 0
+WritesPart contents old new bytes = PutsPart contents (cert_outlet old) (cert_outlet new) bytes
+
+-- how many writes failed
+abbrev pub cert_failures : {W : Type 0} → CertWriter W → ℕ
+cert_failures writer = outlet_failures (cert_outlet writer)
 
 -- whether a write failed
 abbrev pub has_failed : {W : Type 0} → CertWriter W → Bool
@@ -42,6 +56,14 @@ pub record Stage : Type 0 where
   pub is_open : Bool
   pub failures : ℕ
 
+-- the stage before the head
+abbrev pub before_head : Version → ℕ → ℕ → Stage
+before_head version weights failures = record { version = version; weights = weights; has_head = false; entries_left = 0; is_open = false; failures = failures }
+
+-- the stage once the next entry was begun
+abbrev pub entry_begun : Stage → Stage
+entry_begun s = record s { entries_left = s.entries_left - 1; is_open = true }
+
 -- where a writer stands
 abbrev pub stage : {W : Type 0} → CertWriter W → Stage
 stage writer = record { version = writer.version; weights = writer.weights; has_head = writer.has_head; entries_left = writer.entries_left; is_open = writer.is_open; failures = writer.failures }
@@ -61,3 +83,7 @@ entries_left writer = writer.entries_left
 -- whether an entry was begun and not ended
 abbrev pub is_open : {W : Type 0} → CertWriter W → Bool
 is_open writer = writer.is_open
+
+-- the head of its certificate, with so many entries
+abbrev pub head_of : {W : Type 0} → CertWriter W → ℕ → List ℕ
+head_of writer entries = cert_head (cert_version writer) (cert_weights writer) entries

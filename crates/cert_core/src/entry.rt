@@ -2,15 +2,14 @@
 
 ghost use Rattle.std.specs.Prelude.{◌≡◌, ℕ, ◌+◌, ◌*◌, ◌-◌, ◌^◌, ◌<◌, ◌≤◌, length, slice_index_or, IfOk, OnOk};
 ghost use Rattle.std.specs.Int.{w64, to_be_bytes};
-ghost use Rattle.std.specs.Io.KnownBytes.{Consumes};
-ghost use Rattle.device_core.specs.Inlets.{inlet_reader, inlet_failures};
+ghost use Rattle.device_core.specs.Inlets.{Gives, inlet_failures, inlet_reader};
 ghost use Rattle.cost_core.specs.Trellis.{states, cost, IsBounded};
 ghost use Rattle.cost_core.specs.StateCosts.{trellis_of};
 ghost use Rattle.cost_core.specs.Limits.{IsBridging};
 ghost use Rattle.cert_core.specs.Text.{entry_start};
 ghost use Rattle.cert_core.specs.Entries.{ReadsEntry};
 ghost use Rattle.cert_core.specs.Reasons.{RowBounded};
-ghost use Rattle.cert_core.specs.Stops.{OnReason, failed_stops, CutBelow, InStart, InRows, InEnd, InEntry, ReadsRows};
+ghost use Rattle.cert_core.specs.Stops.{OnLeft, OnReason, failed_stops, CutBelow, InStart, InRows, InEnd, InEntry, ReadsRows};
 
 use crate::filling::fill;
 use crate::numbers::{make_buffer, number_in, start_numbers};
@@ -28,8 +27,7 @@ use std::io::Read;
 // Reads a number of eight bytes.
 fn read_number<R: Read>(inlet: &mut Inlet<R>) -> Result<u64, Stop>
     requires { inlet_failures inlet.old < 2 ^ 64 - 1 }
-    ensures ok { IfOk result (λ value. Consumes (R.remaining (inlet_reader inlet.old))
-        (R.remaining (inlet_reader inlet.new)) (to_be_bytes w64 value)) }
+    ensures ok { IfOk result (λ value. Gives R.remaining inlet.old inlet.new (to_be_bytes w64 value)) }
     ensures cut { OnReason result (CutBelow (R.remaining (inlet_reader inlet.old)) 8) }
     ensures failures { inlet_failures inlet.new ≡ inlet_failures inlet.old + failed_stops result }
 {
@@ -46,7 +44,7 @@ fn read_start<R: Read>(
     length: usize,
 ) -> Result<(), Stop>
     requires ready { inlet_failures inlet.old < 2 ^ 64 - 1 }
-    ensures ok { OnOk result (Consumes (R.remaining (inlet_reader inlet.old)) (R.remaining (inlet_reader inlet.new))
+    ensures ok { OnOk result (Gives R.remaining inlet.old inlet.new
         (entry_start cue channel length)) }
     ensures reason { OnReason result (InStart (R.remaining (inlet_reader inlet.old)) cue channel length) }
     ensures failures { inlet_failures inlet.new ≡ inlet_failures inlet.old + failed_stops result }
@@ -83,7 +81,7 @@ fn read_rows<R: Read>(
     ensures steps { length steps.new ≡ length steps.old }
     ensures ok { IfOk result (λ last. ReadsRows version (trellis_of window.now) (R.remaining (inlet_reader inlet.old))
         (R.remaining (inlet_reader inlet.new)) last.items) }
-    ensures reason { OnReason result (InRows version (trellis_of window.now) (R.remaining (inlet_reader inlet.old))) }
+    ensures reason { OnLeft R.remaining inlet.old result (InRows version (trellis_of window.now)) }
     ensures failures { inlet_failures inlet.new ≡ inlet_failures inlet.old + failed_stops result }
 {
     let states = window.states();
@@ -114,13 +112,11 @@ fn read_end<R: Read>(
     requires last { length last.now ≡ states (trellis_of window.now) }
     requires limit { RowBounded (trellis_of window.now) last.now }
     requires tails { length tails.old ≡ states (trellis_of window.now) }
-    ensures ok { IfOk result (λ cost. Consumes (R.remaining (inlet_reader inlet.old))
-        (R.remaining (inlet_reader inlet.new)) (to_be_bytes w64 cost)) }
+    ensures ok { IfOk result (λ cost. Gives R.remaining inlet.old inlet.new (to_be_bytes w64 cost)) }
     ensures cost { IfOk result (λ cost. cost ≡ found) }
     ensures ends { IfOk result (λ cost. (q : ℕ) → q < states (trellis_of window.now)
         → cost ≤ slice_index_or last.now q 0 + (trellis_of window.now).tail q) }
-    ensures reason { OnReason result (InEnd (trellis_of window.now) last.now found
-        (R.remaining (inlet_reader inlet.old))) }
+    ensures reason { OnLeft R.remaining inlet.old result (InEnd (trellis_of window.now) last.now found) }
     ensures failures { inlet_failures inlet.new ≡ inlet_failures inlet.old + failed_stops result }
 {
     let stated = read_number(inlet)?;
@@ -155,8 +151,7 @@ pub(crate) fn read_entry<R: Read>(
     ensures entry { IfOk result (λ cost. ReadsEntry version (trellis_of window.now) place.cue place.channel bits.now
         (R.remaining (inlet_reader inlet.old)) (R.remaining (inlet_reader inlet.new))) }
     ensures cost { IfOk result (λ found. found ≡ cost (trellis_of window.now) bits.now) }
-    ensures reason { OnReason result (InEntry version (trellis_of window.now) place.cue place.channel
-        (cost (trellis_of window.now) bits.now) (R.remaining (inlet_reader inlet.old))) }
+    ensures reason { OnLeft R.remaining inlet.old result (InEntry version (trellis_of window.now) place.cue place.channel (cost (trellis_of window.now) bits.now)) }
     ensures failures { inlet_failures inlet.new ≡ inlet_failures inlet.old + failed_stops result }
 {
     read_start(inlet, place.cue, place.channel, window.length())?;

@@ -64,6 +64,7 @@ mod rows;
 mod sink;
 mod spelling;
 mod stop;
+mod two_rows;
 mod verdict;
 mod version;
 mod writer;

@@ -1,8 +1,8 @@
 //! The reader of certificates.
 
 ghost use Rattle.std.specs.Prelude.{◌≡◌, ◌+◌, ◌-◌, ◌^◌, ◌<◌, ◌≤◌, ◌++◌, List, ℕ, length, true, false, IfSome, IsErrOf};
-ghost use Rattle.std.specs.Io.KnownBytes.{Consumes, IsAtEnd};
-ghost use Rattle.device_core.specs.Inlets.{inlet_reader, inlet_failures};
+ghost use Rattle.std.specs.Io.KnownBytes.{IsAtEnd};
+ghost use Rattle.device_core.specs.Inlets.{Gives, inlet_failures, inlet_reader};
 ghost use Rattle.cost_core.specs.StateCosts.{trellis_of};
 ghost use Rattle.cost_core.specs.Bridges.{bridge_cost, IsLeastBridge};
 ghost use Rattle.cert_core.specs.Text.{cert_head};
@@ -31,7 +31,7 @@ pub struct CertReader<R> {
 }
 
 impl<R: Read> CertReader<R> {
-    ghost use Rattle.cert_core.specs.Readers.{cert_inlet, has_read_head, read_version, IfAccepted, IfRejected, failed_checks, IsWell, IfReason, InHead, InRest};
+    ghost use Rattle.cert_core.specs.Readers.{IfLeft, cert_inlet, check_failures, has_read_head, read_version, IfAccepted, IfRejected, failed_checks, IsWell, IfReason, InHead, InRest};
 
     /// A reader that starts where the inlet is.
     pub fn new(inlet: Inlet<R>) -> CertReader<R>
@@ -67,20 +67,19 @@ impl<R: Read> CertReader<R> {
         weights: usize,
         entries: u32,
     ) -> Result<Option<CertReason>, CheckFault>
-        requires ready { inlet_failures (cert_inlet self.old) < 2 ^ 64 - 1 }
+        requires ready { check_failures self.old < 2 ^ 64 - 1 }
         requires weights { weights ≤ 12 }
-        ensures none { IsWell result → Consumes (R.remaining (inlet_reader (cert_inlet self.old)))
-            (R.remaining (inlet_reader (cert_inlet self.new))) (cert_head (read_version self.new) weights entries) }
+        ensures none { IsWell result → Gives R.remaining (cert_inlet self.old) (cert_inlet self.new) (cert_head (read_version self.new) weights entries) }
         ensures read { IsWell result → has_read_head self.new ≡ true }
 
         // If the bytes are known, this is their first reason, and they don't begin with the header.
         ensures reason { IfReason result (InHead weights entries (R.remaining (inlet_reader (cert_inlet self.old)))) }
-        ensures only { IfReason result (λ _. IfSome (R.remaining (inlet_reader (cert_inlet self.old)))
+        ensures only { IfReason result (λ _. IfLeft R.remaining self.old
             (λ bytes. (v : Version) → (rest : List ℕ) → bytes ≡ cert_head v weights entries ++ rest → ⊥)) }
 
         // The answer is `Device` exactly if a read failed, and never `Memory`.
-        ensures failures { inlet_failures (cert_inlet self.new)
-            ≡ inlet_failures (cert_inlet self.old) + failed_checks result }
+        ensures failures { check_failures self.new
+            ≡ check_failures self.old + failed_checks result }
         ensures memory { IsErrOf result CheckFault.Memory → ⊥ }
     {
         let mut bytes = [0u8; 12];
@@ -122,7 +121,7 @@ impl<R: Read> CertReader<R> {
         window: &Window,
         bits: &Bits,
     ) -> Result<CertVerdict, CheckFault>
-        requires ready { inlet_failures (cert_inlet self.old) < 2 ^ 64 - 1 }
+        requires ready { check_failures self.old < 2 ^ 64 - 1 }
         requires head { has_read_head self.old ≡ true }
         requires bits { length bits.now ≡ window.now.levels }
 
@@ -136,12 +135,12 @@ impl<R: Read> CertReader<R> {
         // If the bytes are known, this is their first reason, and they begin with no such entry.
         ensures reason { IfRejected result (InEntry (read_version self.old) (trellis_of window.now) cue channel
             (bridge_cost window.now bits.now) (R.remaining (inlet_reader (cert_inlet self.old)))) }
-        ensures only { IfRejected result (λ _. IfSome (R.remaining (inlet_reader (cert_inlet self.old)))
+        ensures only { IfRejected result (λ _. IfLeft R.remaining self.old
             (λ bytes. BeginsValid (read_version self.old) (trellis_of window.now) cue channel bits.now bytes → ⊥)) }
 
         // The answer is `Device` exactly if a read failed.
-        ensures failures { inlet_failures (cert_inlet self.new)
-            ≡ inlet_failures (cert_inlet self.old) + failed_checks result }
+        ensures failures { check_failures self.new
+            ≡ check_failures self.old + failed_checks result }
 
         // What was read of the header is unchanged.
         ensures read { has_read_head self.new ≡ has_read_head self.old }
@@ -166,13 +165,13 @@ impl<R: Read> CertReader<R> {
     ///
     /// Reason: `Extra`. Refusal: `Device` if a read fails. It takes no memory.
     pub fn at_end(&mut self) -> Result<Option<CertReason>, CheckFault>
-        requires { inlet_failures (cert_inlet self.old) < 2 ^ 64 - 1 }
+        requires { check_failures self.old < 2 ^ 64 - 1 }
         ensures none { IsWell result → IsAtEnd (R.remaining (inlet_reader (cert_inlet self.old))) }
         ensures reason { IfReason result (InRest (R.remaining (inlet_reader (cert_inlet self.old)))) }
 
         // The answer is `Device` exactly if a read failed, and never `Memory`.
-        ensures failures { inlet_failures (cert_inlet self.new)
-            ≡ inlet_failures (cert_inlet self.old) + failed_checks result }
+        ensures failures { check_failures self.new
+            ≡ check_failures self.old + failed_checks result }
         ensures memory { IsErrOf result CheckFault.Memory → ⊥ }
     {
         let mut bytes = [0u8; 1];

@@ -2,11 +2,10 @@
 
 ghost use Rattle.std.specs.Prelude.{◌≡◌, ℕ, ◌+◌, ◌*◌, ◌-◌, ◌^◌, ◌<◌, ◌≤◌, [], length, map, take, drop, flat_map, slice_index, slice_index_or, IfOk, IfErr, OnOk};
 ghost use Rattle.std.specs.Int.{w64, to_be_bytes, bytes_high_first};
-ghost use Rattle.std.specs.Io.KnownBytes.{Consumes};
-ghost use Rattle.device_core.specs.Inlets.{inlet_reader, inlet_failures};
+ghost use Rattle.device_core.specs.Inlets.{Gives, inlet_failures, inlet_reader};
 ghost use Rattle.cert_core.specs.Reasons.{Bounded};
 ghost use Rattle.cert_core.specs.Spelling.{raised_text, row_text};
-ghost use Rattle.cert_core.specs.Stops.{OnReason, failed_stops, InForm, InSpelling, RaisedReason};
+ghost use Rattle.cert_core.specs.Stops.{OnLeft, OnReason, failed_stops, InForm, InSpelling, RaisedReason};
 
 use crate::filling::fill;
 use crate::numbers::{number_in, take_row};
@@ -100,10 +99,9 @@ fn read_values<R: Read>(
     ensures len { length row.new ≡ length row.old }
     ensures buffer { length buffer.new ≡ length buffer.old }
     ensures bounded { OnOk result (Bounded (length row.new) row.new) }
-    ensures ok { OnOk result (Consumes (R.remaining (inlet_reader inlet.old)) (R.remaining (inlet_reader inlet.new))
+    ensures ok { OnOk result (Gives R.remaining inlet.old inlet.new
         (row_text Version.One row.new)) }
-    ensures reason { OnReason result (InSpelling Version.One (length row.old) level
-        (R.remaining (inlet_reader inlet.old))) }
+    ensures reason { OnLeft R.remaining inlet.old result (InSpelling Version.One (length row.old) level) }
     ensures failures { inlet_failures inlet.new ≡ inlet_failures inlet.old + failed_stops result }
 {
     let size = 8 * row.len();
@@ -118,10 +116,9 @@ fn read_values<R: Read>(
 // Reads what a row of the second version begins with: its least value, and how many bytes each excess has.
 fn read_form<R: Read>(inlet: &mut Inlet<R>, level: usize) -> Result<(u64, usize), Stop>
     requires ready { inlet_failures inlet.old < 2 ^ 64 - 1 }
-    ensures ok { IfOk result (λ form. Consumes (R.remaining (inlet_reader inlet.old))
-        (R.remaining (inlet_reader inlet.new)) (raised_text form.0 form.1 [])) }
+    ensures ok { IfOk result (λ form. Gives R.remaining inlet.old inlet.new (raised_text form.0 form.1 [])) }
     ensures few { IfOk result (λ form. form.1 ≤ 8) }
-    ensures reason { OnReason result (InForm level (R.remaining (inlet_reader inlet.old))) }
+    ensures reason { OnLeft R.remaining inlet.old result (InForm level) }
     ensures failures { inlet_failures inlet.new ≡ inlet_failures inlet.old + failed_stops result }
 {
     let mut form = [0u8; 9];
@@ -146,10 +143,9 @@ fn read_raised<R: Read>(
     ensures len { length row.new ≡ length row.old }
     ensures buffer { length buffer.new ≡ length buffer.old }
     ensures bounded { OnOk result (Bounded (length row.new) row.new) }
-    ensures ok { OnOk result (Consumes (R.remaining (inlet_reader inlet.old)) (R.remaining (inlet_reader inlet.new))
+    ensures ok { OnOk result (Gives R.remaining inlet.old inlet.new
         (row_text Version.Two row.new)) }
-    ensures reason { OnReason result (InSpelling Version.Two (length row.old) level
-        (R.remaining (inlet_reader inlet.old))) }
+    ensures reason { OnLeft R.remaining inlet.old result (InSpelling Version.Two (length row.old) level) }
     ensures failures { inlet_failures inlet.new ≡ inlet_failures inlet.old + failed_stops result }
 {
     let (least, width) = read_form(inlet, level)?;
@@ -177,10 +173,9 @@ pub(crate) fn read_row<R: Read>(
     ensures len { length row.new ≡ length row.old }
     ensures buffer { length buffer.new ≡ length buffer.old }
     ensures bounded { OnOk result (Bounded (length row.new) row.new) }
-    ensures ok { OnOk result (Consumes (R.remaining (inlet_reader inlet.old)) (R.remaining (inlet_reader inlet.new))
+    ensures ok { OnOk result (Gives R.remaining inlet.old inlet.new
         (row_text version row.new)) }
-    ensures reason { OnReason result (InSpelling version (length row.old) level
-        (R.remaining (inlet_reader inlet.old))) }
+    ensures reason { OnLeft R.remaining inlet.old result (InSpelling version (length row.old) level) }
     ensures failures { inlet_failures inlet.new ≡ inlet_failures inlet.old + failed_stops result }
 {
     match version {

@@ -4,9 +4,11 @@ ghost use Rattle.std.specs.Prelude.{◌≡◌, ℕ, ◌+◌, ◌-◌, ◌*◌, �
 ghost use Rattle.std.specs.Simd.Lanes.{Each1};
 ghost use Rattle.cost_core.specs.Trellis.{states, IsBounded};
 ghost use Rattle.cost_core.specs.StateCosts.{trellis_of};
-ghost use Rattle.cert_core.specs.Within.{AreRows, IsFirstBelow, WithinBoth};
-ghost use Rattle.cert_core.specs.Reasons.{RowBounded, Exceeds, RowClean, RowReason};
+ghost use Rattle.cert_core.specs.TwoRows.{AllReach, ExceedsAt, IsLowEnd, WithinWays, reached_by, states_of};
+ghost use Rattle.cert_core.specs.Within.{IsFirstBelow};
+ghost use Rattle.cert_core.specs.Reasons.{RowBounded, RowClean, RowReason};
 
+use crate::two_rows::TwoRows;
 use crate::verdict::CertReason;
 use cost_core::{Ways, Window, sums_into};
 use std::simd::prelude::*;
@@ -44,30 +46,18 @@ pub(crate) fn is_above(row: &[u64]) -> bool
     false
 }
 
-// Two rows of a window in turn: that of `level` and that of the level after it. No value of the first is above the
-// greatest bound.
-#[derive(Clone, Copy)]
-struct Rows<'a> {
-    window: &'a Window,
-    level: usize,
-    previous: &'a [u64],
-    row: &'a [u64],
-    ghost rows: { AreRows (trellis_of window.now) level previous.now row.now },
-}
-
 // The bound that a state of the row before sets with a step of `bit`.
-fn reached(rows: &Rows<'_>, from: usize, bit: bool) -> u64
-    requires from { from < states (trellis_of rows.now.window.now) }
-    ensures { result ≡ slice_index rows.now.previous.now from
-        + (trellis_of rows.now.window.now).step rows.now.level from bit }
+fn reached(rows: &TwoRows<'_>, from: usize, bit: bool) -> u64
+    requires { from < states_of rows.now }
+    ensures { result ≡ reached_by rows.now from bit }
 {
     rows.previous[from] + rows.window.step_cost(rows.level, from, bit)
 }
 
 // Whether the value of a state exceeds what either state before it sets.
-fn exceeds(rows: &Rows<'_>, state: usize) -> bool
-    requires state { state < states (trellis_of rows.now.window.now) }
-    ensures { IsTrue result ↔ Exceeds (trellis_of rows.now.window.now) rows.now.level rows.now.previous.now rows.now.row.now state }
+fn exceeds(rows: &TwoRows<'_>, state: usize) -> bool
+    requires { state < states_of rows.now }
+    ensures { IsTrue result ↔ ExceedsAt rows.now state }
 {
     let bit = state % 2 == 1;
     let low = state / 2;
@@ -92,7 +82,7 @@ fn are_within(row: &[u64; 8], by_0: &[u64; 8], by_1: &[u64; 8]) -> bool
 fn is_within(ways: &Ways<'_>, row: &[u64]) -> bool
     requires whole { length ways.now.old.now % 16 ≡ 0 }
     requires row_len { length row.now ≡ length ways.now.old.now }
-    ensures { IsTrue result → WithinBoth (length ways.now.old.now) ways.now.old.now ways.now.lows.now ways.now.highs.now row.now }
+    ensures { IsTrue result → WithinWays ways.now row.now }
 {
     let (low, high) = ways.old.split_at(ways.old.len() / 2);
     let (rows, _) = row.as_chunks::<8>();
@@ -109,11 +99,10 @@ fn is_within(ways: &Ways<'_>, row: &[u64]) -> bool
 }
 
 // The lowest state whose value exceeds what a state before it sets. `steps` is overwritten.
-fn exceeding(rows: &Rows<'_>, steps: &mut [u64]) -> Option<usize>
-    requires steps { length steps.old ≡ 2 * states (trellis_of rows.now.window.now) }
+fn exceeding(rows: &TwoRows<'_>, steps: &mut [u64]) -> Option<usize>
+    requires { length steps.old ≡ 2 * states_of rows.now }
     ensures steps { length steps.new ≡ length steps.old }
-    ensures found { IsFirstBelow (states (trellis_of rows.now.window.now))
-        (Exceeds (trellis_of rows.now.window.now) rows.now.level rows.now.previous.now rows.now.row.now) result }
+    ensures found { IsFirstBelow (states_of rows.now) (ExceedsAt rows.now) result }
 {
     let states = rows.window.states();
     if states > 8 {
@@ -164,7 +153,7 @@ pub(crate) fn row_reason(
             Some(CertReason::Start)
         };
     }
-    let rows = Rows {
+    let rows = TwoRows {
         window,
         level: level - 1,
         previous,
@@ -191,8 +180,7 @@ fn all_reach(last: &[u64], tails: &[u64], stated: u64) -> bool
     requires as_many { length tails.now ≡ length last.now }
     requires last { Each1 (λ x. x ≤ 2 ^ 63) last.now }
     requires tails { Each1 (λ x. x < 2 ^ 63) tails.now }
-    ensures { IsTrue result → (q : ℕ) → q < length last.now
-        → stated ≤ slice_index last.now q + slice_index tails.now q }
+    ensures { IsTrue result → AllReach last.now tails.now stated }
 {
     let (eights, rest) = last.as_chunks::<8>();
     let (eight_tails, rest_tails) = tails.as_chunks::<8>();
@@ -211,15 +199,17 @@ fn all_reach(last: &[u64], tails: &[u64], stated: u64) -> bool
 
 /// The lowest state of the last row whose value plus the cost of ending there is below `stated`. `tails` is
 /// overwritten.
-pub(crate) fn low_end(window: &Window, last: &[u64], stated: u64, tails: &mut [u64]) -> Option<usize>
+pub(crate) fn low_end(
+    window: &Window,
+    last: &[u64],
+    stated: u64,
+    tails: &mut [u64],
+) -> Option<usize>
     requires bounded { IsBounded (trellis_of window.now) }
     requires last { length last.now ≡ states (trellis_of window.now) }
     requires limit { RowBounded (trellis_of window.now) last.now }
     requires tails { length tails.old ≡ states (trellis_of window.now) }
-    ensures { MatchOption result
-        ((q : ℕ) → q < states (trellis_of window.now) → stated ≤ slice_index last.now q + (trellis_of window.now).tail q)
-        (λ q. (q < states (trellis_of window.now)) × (slice_index last.now q + (trellis_of window.now).tail q < stated)
-        × ((k : ℕ) → k < q → stated ≤ slice_index last.now k + (trellis_of window.now).tail k)) }
+    ensures { IsLowEnd (trellis_of window.now) last.now stated result }
 {
     window.tail_costs(tails);
     if all_reach(last, tails, stated) {

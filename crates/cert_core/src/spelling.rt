@@ -2,7 +2,7 @@
 
 ghost use Rattle.std.specs.Prelude.{◌≡◌, ℕ, ◌+◌, ◌-◌, ◌*◌, ◌^◌, ◌<◌, ◌≤◌, length, map, take, flat_map, slice_index, length};
 ghost use Rattle.std.specs.Int.{bytes_high_first};
-ghost use Rattle.cert_core.specs.Spelling.{byte_width, floor, peak, row_text};
+ghost use Rattle.cert_core.specs.Spelling.{byte_width, excess_text, floor, peak, row_text};
 
 use crate::version::Version;
 
@@ -67,8 +67,7 @@ fn put_some(row: &[u64], least: u64, width: usize, buffer: &mut [u8])
     requires fits { (q : ℕ) → q < length row.now → slice_index row.now q - least < 256 ^ width }
     requires room { width * length row.now + 8 ≤ length buffer.old }
     ensures room { length buffer.new ≡ length buffer.old }
-    ensures text { take (width * length row.now) buffer.new
-        ≡ flat_map (bytes_high_first width) (map (λ v. v - least) row.now) }
+    ensures text { take (width * length row.now) buffer.new ≡ excess_text width least row.now }
 {
     let spare = 64 - 8 * width as u32;
     for place in 0..row.len() {
@@ -84,8 +83,7 @@ fn put_excesses(row: &[u64], least: u64, width: usize, buffer: &mut [u8])
     requires fits { (q : ℕ) → q < length row.now → slice_index row.now q - least < 256 ^ width }
     requires room { width * length row.now + 8 ≤ length buffer.old }
     ensures room { length buffer.new ≡ length buffer.old }
-    ensures text { take (width * length row.now) buffer.new
-        ≡ flat_map (bytes_high_first width) (map (λ v. v - least) row.now) }
+    ensures text { take (width * length row.now) buffer.new ≡ excess_text width least row.now }
 {
     if width > 0 {
         put_some(row, least, width, buffer);

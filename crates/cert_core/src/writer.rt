@@ -2,9 +2,8 @@
 
 ghost use Rattle.std.specs.Prelude.{◌≡◌, true, false, ◌+◌, ◌*◌, ◌-◌, ◌<◌, ◌≤◌, ◌^◌, length, not, is_ok, ◌↔◌, IsErrOf, OnOk, OnErr, IfOk, IfErr};
 ghost use Rattle.std.specs.Int.{w64, to_be_bytes};
-ghost use Rattle.std.specs.Io.KnownBytes.{Appends};
 ghost use Rattle.device_core.specs.FusedOutlets.{failed_parts};
-ghost use Rattle.device_core.specs.Outlets.{outlet_writer, outlet_failures, AppendsPart};
+ghost use Rattle.device_core.specs.Outlets.{outlet_failures};
 ghost use Rattle.cert_core.specs.Counting.{IsCounted};
 ghost use Rattle.cert_core.specs.Rooms.{room_weights};
 ghost use Rattle.cert_core.specs.Spelling.{row_text};
@@ -44,7 +43,7 @@ pub struct CertWriter<W> {
 }
 
 impl<W: Write> CertWriter<W> {
-    ghost use Rattle.cert_core.specs.Writers.{Stage, cert_outlet, has_failed, cert_version, cert_weights, row_length, rows_left, stage, has_head, entries_left, is_open};
+    ghost use Rattle.cert_core.specs.Writers.{Stage, Writes, WritesPart, before_head, cert_failures, cert_outlet, entry_begun, head_of, has_failed, cert_version, cert_weights, row_length, rows_left, stage, has_head, entries_left, is_open};
 
     /// A writer of this version for bridges by `weights` weights, which has written nothing. Err is out of memory, and
     /// gives the outlet back.
@@ -59,7 +58,7 @@ impl<W: Write> CertWriter<W> {
         requires few { weights ≤ 12 }
         ensures outlet { IfOk result (λ writer. cert_outlet writer ≡ outlet) }
         ensures failed { IfOk result (λ writer. has_failed writer ≡ false) }
-        ensures stage { IfOk result (λ writer. stage writer ≡ record { version = version; weights = weights; has_head = false; entries_left = 0; is_open = false; failures = outlet_failures outlet }) }
+        ensures stage { IfOk result (λ writer. stage writer ≡ before_head version weights (outlet_failures outlet)) }
         ensures rows { IfOk result (λ writer. rows_left writer ≡ 0) }
         ensures back { IfErr result (λ given. given ≡ outlet) }
     {
@@ -107,17 +106,15 @@ impl<W: Write> CertWriter<W> {
     /// hasn't failed requires the order of calls.
     pub fn begin(&mut self, entries: u32) -> Result<(), CertFault>
         requires head { has_failed self.old ≡ false → has_head self.old ≡ false }
-        ensures ok { OnOk result (Appends (W.contents (outlet_writer (cert_outlet self.old)))
-            (W.contents (outlet_writer (cert_outlet self.new)))
-            (cert_head (cert_version self.old) (cert_weights self.old) entries)) }
+        ensures ok { OnOk result (Writes W.contents self.old self.new
+            (head_of self.old entries)) }
         ensures device { IsErrOf result CertFault.Device
-            → AppendsPart (W.contents (outlet_writer (cert_outlet self.old)))
-            (W.contents (outlet_writer (cert_outlet self.new)))
-            (cert_head (cert_version self.old) (cert_weights self.old) entries) }
+            → WritesPart W.contents self.old self.new
+            (head_of self.old entries) }
         ensures failed { IsErrOf result CertFault.Failed ↔ (has_failed self.old ≡ true) }
         ensures unchanged { IsErrOf result CertFault.Failed → self.new ≡ self.old }
-        ensures failures { outlet_failures (cert_outlet self.new)
-            ≡ outlet_failures (cert_outlet self.old) + failed_parts result }
+        ensures failures { cert_failures self.new
+            ≡ cert_failures self.old + failed_parts result }
         ensures refused { has_failed self.new ≡ not (is_ok result) }
         ensures begun { OnOk result (stage self.new
             ≡ record (stage self.old) { has_head = true; entries_left = entries }) }
@@ -137,18 +134,16 @@ impl<W: Write> CertWriter<W> {
         requires head { has_failed self.old ≡ false → has_head self.old ≡ true }
         requires entries { has_failed self.old ≡ false → 0 < entries_left self.old }
         requires open { has_failed self.old ≡ false → is_open self.old ≡ false }
-        ensures ok { OnOk result (Appends (W.contents (outlet_writer (cert_outlet self.old)))
-            (W.contents (outlet_writer (cert_outlet self.new))) (entry_start cue channel length)) }
+        ensures ok { OnOk result (Writes W.contents self.old self.new (entry_start cue channel length)) }
         ensures device { IsErrOf result CertFault.Device
-            → AppendsPart (W.contents (outlet_writer (cert_outlet self.old)))
-            (W.contents (outlet_writer (cert_outlet self.new))) (entry_start cue channel length) }
+            → WritesPart W.contents self.old self.new (entry_start cue channel length) }
         ensures failed { IsErrOf result CertFault.Failed ↔ (has_failed self.old ≡ true) }
         ensures unchanged { IsErrOf result CertFault.Failed → self.new ≡ self.old }
-        ensures failures { outlet_failures (cert_outlet self.new)
-            ≡ outlet_failures (cert_outlet self.old) + failed_parts result }
+        ensures failures { cert_failures self.new
+            ≡ cert_failures self.old + failed_parts result }
         ensures refused { has_failed self.new ≡ not (is_ok result) }
         ensures begun { OnOk result (stage self.new
-            ≡ record (stage self.old) { entries_left = entries_left self.old - 1; is_open = true }) }
+            ≡ entry_begun (stage self.old)) }
         ensures kept { OnErr result (stage self.new ≡ stage self.old) }
         ensures rows { OnOk result (rows_left self.new ≡ length + 1) }
         ensures rows_kept { OnErr result (rows_left self.new ≡ rows_left self.old) }
@@ -164,15 +159,13 @@ impl<W: Write> CertWriter<W> {
     pub fn level(&mut self, row: &[u64]) -> Result<(), CertFault>
         requires rows { has_failed self.old ≡ false → 0 < rows_left self.old }
         requires row { length row.now ≡ row_length self.old }
-        ensures ok { OnOk result (Appends (W.contents (outlet_writer (cert_outlet self.old)))
-            (W.contents (outlet_writer (cert_outlet self.new))) (row_text (cert_version self.old) row.now)) }
+        ensures ok { OnOk result (Writes W.contents self.old self.new (row_text (cert_version self.old) row.now)) }
         ensures device { IsErrOf result CertFault.Device
-            → AppendsPart (W.contents (outlet_writer (cert_outlet self.old)))
-            (W.contents (outlet_writer (cert_outlet self.new))) (row_text (cert_version self.old) row.now) }
+            → WritesPart W.contents self.old self.new (row_text (cert_version self.old) row.now) }
         ensures failed { IsErrOf result CertFault.Failed ↔ (has_failed self.old ≡ true) }
         ensures unchanged { IsErrOf result CertFault.Failed → self.new ≡ self.old }
-        ensures failures { outlet_failures (cert_outlet self.new)
-            ≡ outlet_failures (cert_outlet self.old) + failed_parts result }
+        ensures failures { cert_failures self.new
+            ≡ cert_failures self.old + failed_parts result }
         ensures refused { has_failed self.new ≡ not (is_ok result) }
         ensures kept { stage self.new ≡ stage self.old }
         ensures rows { OnOk result (rows_left self.new + 1 ≡ rows_left self.old) }
@@ -191,15 +184,13 @@ impl<W: Write> CertWriter<W> {
     pub fn end_bridge(&mut self, cost: u64) -> Result<(), CertFault>
         requires open { has_failed self.old ≡ false → is_open self.old ≡ true }
         requires rows { has_failed self.old ≡ false → rows_left self.old ≡ 0 }
-        ensures ok { OnOk result (Appends (W.contents (outlet_writer (cert_outlet self.old)))
-            (W.contents (outlet_writer (cert_outlet self.new))) (to_be_bytes w64 cost)) }
+        ensures ok { OnOk result (Writes W.contents self.old self.new (to_be_bytes w64 cost)) }
         ensures device { IsErrOf result CertFault.Device
-            → AppendsPart (W.contents (outlet_writer (cert_outlet self.old)))
-            (W.contents (outlet_writer (cert_outlet self.new))) (to_be_bytes w64 cost) }
+            → WritesPart W.contents self.old self.new (to_be_bytes w64 cost) }
         ensures failed { IsErrOf result CertFault.Failed ↔ (has_failed self.old ≡ true) }
         ensures unchanged { IsErrOf result CertFault.Failed → self.new ≡ self.old }
-        ensures failures { outlet_failures (cert_outlet self.new)
-            ≡ outlet_failures (cert_outlet self.old) + failed_parts result }
+        ensures failures { cert_failures self.new
+            ≡ cert_failures self.old + failed_parts result }
         ensures refused { has_failed self.new ≡ not (is_ok result) }
         ensures ended { OnOk result (stage self.new ≡ record (stage self.old) { is_open = false }) }
         ensures kept { OnErr result (stage self.new ≡ stage self.old) }

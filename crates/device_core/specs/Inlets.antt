@@ -8,6 +8,10 @@ use Rattle.device_core.specs.declared.inlet.Inlet.{Inlet}
 abbrev pub inlet_reader : {R : Type 0} → Inlet R → R
 inlet_reader inlet = inlet.reader
 
+-- these bytes were read
+abbrev pub Gives : {R : Type 0} → (R → Option (List ℕ)) → Inlet R → Inlet R → List ℕ → Type 0
+Gives left old new bytes = Consumes (left (inlet_reader old)) (left (inlet_reader new)) bytes
+
 -- how many reads failed
 abbrev pub inlet_failures : {R : Type 0} → Inlet R → ℕ
 inlet_failures inlet = inlet.failures

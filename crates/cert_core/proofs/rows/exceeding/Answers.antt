@@ -20,8 +20,10 @@ pub is_within-requires-clause-whole : goal.is_within-requires-clause-whole
 is_within-requires-clause-whole c = states_whole (trellis_of c.args.rows.now.window.now).width (length c.args.rows.now.previous.now) c.args.rows.now.rows.previous_len (omega (arith, c.args.rows.now.rows.previous_len, c.states-states.ensures.value))
 
 pub invariant_of-ways : goal.invariant_of-ways
-invariant_of-ways c = record { ways = are_ways c.args.rows.now.window.now c.args.rows.now.level c.states-states.result c.args.rows.now.previous.now c.step_costs.new.row c.states-states.ensures.bounded c.args.rows.now.rows.inside c.states-states.ensures.value (omega (arith, c.args.rows.now.rows.previous_len, c.states-states.ensures.value)) c.step_costs.ensures
-  (λ q h. c.args.rows.now.rows.limit q (omega (arith, h, c.args.rows.now.rows.previous_len))) _ _ c.split_at.ensures.front c.split_at.ensures.back }
+invariant_of-ways c = record {
+  ways = are_ways c.args.rows.now.window.now c.args.rows.now.level c.states-states.result c.args.rows.now.previous.now c.step_costs.new.row c.states-states.ensures.bounded c.args.rows.now.rows.inside c.states-states.ensures.value (omega (arith, c.args.rows.now.rows.previous_len, c.states-states.ensures.value)) c.step_costs.ensures
+      (λ q h. c.args.rows.now.rows.limit q (omega (arith, h, c.args.rows.now.rows.previous_len))) _ _ c.split_at.ensures.front c.split_at.ensures.back;
+}
 
 pub returns-then-is_within-clause-found : goal.returns-then-is_within-clause-found
 returns-then-is_within-clause-found c =

@@ -1,4 +1,4 @@
-//! The files, cuts and certificates that several examples are built of.
+//! The files, cuts and certificates that several examples are built from.
 
 use archive_core::{Edited, Fault, Form, edit};
 use chunk_core::push_chunk;
@@ -9,8 +9,8 @@ use fixtures::projects::SPLICE;
 use std::alloc::{AllocError, Global};
 use std::fmt::Write;
 
-/// The recording of `FILE` as it stands in a file of a form. DSF fills a block of 4096 bytes, and the
-/// earliest bit of a byte is its lowest where it has 1 bit per sample.
+/// The recording of `FILE` as a file of a form. DSF fills a block of 4096 bytes, and with 1 bit per sample the earliest
+/// bit of a byte is its lowest.
 pub(crate) fn file_in(alloc: Global, form: Form) -> Result<Vec<u8>, AllocError> {
     match form {
         Form::Dsdiff => Vec::from_slice(alloc, &FILE),
@@ -19,7 +19,7 @@ pub(crate) fn file_in(alloc: Global, form: Form) -> Result<Vec<u8>, AllocError> 
     }
 }
 
-/// The file of one byte of sound with a mark, and a comment chunk of no comments, behind it.
+/// The file of one byte of sound, followed by a mark and a comment chunk without comments.
 pub(crate) fn commented(alloc: Global) -> Result<Vec<u8>, AllocError> {
     let mut rest = marked(alloc, 22)?;
     push_chunk(&mut rest, *b"COMT", &[0, 0])?;
@@ -56,8 +56,8 @@ pub(crate) const ZEROS: [u8; 128] = *b"FRM8\0\0\0\0\0\0\0\x74DSD \
     CMPR\0\0\0\0\0\0\0\x13DSD \x0enot compressed\0\
     DSD \0\0\0\0\0\0\0\x02\0\0";
 
-/// A DSDIFF file of zeros whose sound has fewer bytes than its chunk tells: the size of the chunk `DSD ` at
-/// 114 ends at 125.
+/// A DSDIFF file of zeros whose sound has fewer bytes than its chunk states. The chunk `DSD ` is at byte 114, and its
+/// size ends at 125.
 pub(crate) const CUT_OFF: [u8; 128] = *b"FRM8\0\0\0\0\0\0\0\x74DSD \
     FVER\0\0\0\0\0\0\0\x04\x01\x05\0\0\
     PROP\0\0\0\0\0\0\0\x46SND \
@@ -66,22 +66,22 @@ pub(crate) const CUT_OFF: [u8; 128] = *b"FRM8\0\0\0\0\0\0\0\x74DSD \
     CMPR\0\0\0\0\0\0\0\x13DSD \x0enot compressed\0\
     DSD \0\0\0\0\0\0\0\x64\0\0";
 
-/// The DSDIFF file of the bits that `SPLICE` cuts of ones and zeros, with its mark at sample 9 with the text
-/// `one`.
+/// The DSDIFF file of the bits that `SPLICE` cuts from ones and zeros, with its mark at sample 9 with the text `one`.
 pub(crate) fn titled(alloc: Global) -> Result<Vec<u8>, AllocError> {
     let fields = *b"\0\0\0\0\0\0\0\x09\0\0\0\0\0\0\0\0\0\0\0\0\0\x03one";
     let master = marked_with(alloc, &fields)?;
     file_of(alloc, &[&RATE, &MONO, &RAW], &[0xff, 0], &master)
 }
 
-/// A cue: its take, its first bit, the place behind its last, and the bridge behind it.
+/// A cue: its take, its first bit, the place after its last, and the bridge after it.
 pub(crate) type CueNumbers = (usize, usize, usize, usize);
 
-/// The cue of the first 8 bits of take 0 and the cue of take 1 behind it, with a bridge of one bit.
+/// A cue of the first 8 bits of take 0, and then a cue of take 1, with a bridge of one bit between them.
 pub(crate) const CUES: [CueNumbers; 2] = [(0, 0, 8, 1), (1, 2, 9, 0)];
 
-/// The certificate of the bridge of `CUES` by the weights 1 and 0: two weights, one entry; cue 0, channel 0, one bit; level
-/// 0 is 0, one byte an excess, 4 and 0; level 1 is 4, and no byte an excess; the cost.
+/// The certificate of the bridge of `CUES` by the weights 1 and 0: two weights, one entry; cue 0, channel 0, one bit;
+/// level 0, with the least value 0, one byte per excess, 4 and 0; level 1, with the least value 4 and no byte per
+/// excess; the cost.
 pub(crate) const CERT: [u8; 46] = *b"DSPC\0\x02\0\x02\0\0\0\x01\0\0\0\0\0\x01\
     \0\0\0\0\0\0\0\0\x01\x04\0\
     \0\0\0\0\0\0\0\x04\0\
@@ -108,7 +108,7 @@ pub(crate) fn splice(
     Ok(text)
 }
 
-// Puts a cue behind a project's text.
+// Appends a cue to a project's text.
 fn push_cue(text: &mut String, (take, start, stop, bridge): CueNumbers) -> Result<(), AllocError> {
     write!(
         text,
@@ -125,7 +125,7 @@ pub(crate) struct Sources {
 }
 
 impl Sources {
-    /// What is cut in this form.
+    /// What is cut from them in this form.
     pub(crate) fn edit(&self, alloc: Global, form: Form) -> Result<Edited, Fault> {
         edit(alloc, self.text.as_bytes(), &self.takes, form)
     }
@@ -143,7 +143,7 @@ pub(crate) fn sources_with(
     sources_of(text, first, second)
 }
 
-/// The same of files that were built.
+/// The same for files that were built.
 pub(crate) fn sources_of(
     text: Result<String, AllocError>,
     first: Result<Vec<u8>, AllocError>,

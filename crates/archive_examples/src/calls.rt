@@ -1,5 +1,6 @@
-//! Faults of calls that no command tells: those of playing a file that is held, for the command reads its file piece by
-//! piece and has one fault for every file that it refuses; and another number of takes than a project names.
+//! Faults of calls that no command reports. Some are of playing a file that is held whole: the command reads its file
+//! piece by piece, and has one fault for every file that it refuses. The other is a number of takes that isn't the
+//! project's.
 
 use crate::builders::ONES;
 use crate::outcomes::prints;
@@ -22,8 +23,8 @@ fn is_refused(
     }
 }
 
-// Of `FILE` cut off at a length or with another byte at a place: the sound's size ends at 125, and the four letters of the
-// compression stand at 94.
+// `FILE` cut off at a length or with another byte at a place, and the line for it. The sound's size ends at 125, and
+// the four letters of the compression are at 94.
 const CHANGED: [(usize, usize, u8, &str); 5] = [
     (126, 0, b'F', "fault: FileUnread Dsdiff FormCut"),
     (15, 0, b'F', "fault: FileUnread UnknownForm"),
@@ -45,12 +46,12 @@ fn names_the_fault_of_a_changed_file(rt: HostRuntime) {
     }
 }
 
-// A project whose factor doesn't divide the rate of a file, which is read before.
+// A project whose factor doesn't divide the rate of a file. The file is read before that is found.
 const UNDIVIDED: &str =
     "[decimate]\ntaps = [1, 2, 3, 4]\nfactor = 1024\ndelay = 3\nshift = 0\nwidth = 16\n";
 
-// Two rates; a mark of fewer than 22 bytes; 2 bits per sample; blocks of fewer bytes than 4096; a DSF file of its first four
-// bytes; and no file.
+// Two rates; a mark of fewer than 22 bytes; 2 bits per sample; blocks of fewer than 4096 bytes; the first four bytes of
+// a DSF file; and an empty file.
 #[test]
 fn names_the_fault_of_a_built_file(rt: HostRuntime) {
     let alloc = rt.alloc();

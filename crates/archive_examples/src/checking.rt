@@ -1,5 +1,5 @@
-//! Masters accepted with their certificates, and the longest bridge, whose certificate no table holds. Of small masters
-//! `tools/try_commands` asks the command.
+//! Masters that are accepted with their certificates, and the longest bridge, whose certificate is too long for a table
+//! of examples. For small masters `tests/try_commands` runs the command.
 
 use crate::builders::{CueNumbers, Sources, sources_of, splice};
 use archive_core::{Edited, Fault, Form, Verdict, check};
@@ -32,7 +32,7 @@ fn is_accepted(
     }
 }
 
-// The number in so many bytes from a place on, the highest first.
+// The number in `count` bytes from a place on, highest byte first.
 fn number_at(bytes: &[u8], place: usize, count: usize) -> u64 {
     let mut number: u64 = 0;
     for i in 0..count {
@@ -42,7 +42,7 @@ fn number_at(bytes: &[u8], place: usize, count: usize) -> u64 {
     number
 }
 
-// A certificate of one entry of so many rows by the first version, with the bounds that it has by the second.
+// The first version of a certificate of one entry of `rows` rows, with the bounds of the second version.
 fn widened(alloc: Global, cert: &[u8], rows: usize, states: usize) -> Result<Vec<u8>, AllocError> {
     let mut made = Vec::from_slice(alloc, b"DSPC\0\x01")?;
     made.extend_from_slice(cert.get(6..18).unwrap_or(&[]))?;
@@ -61,8 +61,8 @@ fn widened(alloc: Global, cert: &[u8], rows: usize, states: usize) -> Result<Vec
     Ok(made)
 }
 
-// Whether what is cut is accepted with its own certificate and with that of the first version, which has so many rows of so
-// many states; and master, certificate and that of the first version have so many bytes.
+// Whether what is cut is accepted with its own certificate and with that of the first version, which has `rows` rows of
+// `states` states. Master, certificate and that of the first version must have these sizes.
 fn both_versions(
     alloc: Global,
     sources: Result<Sources, AllocError>,
@@ -77,11 +77,11 @@ fn both_versions(
     Ok(sized && own && is_accepted(alloc, &sources, &made, &first)?)
 }
 
-// A bridge of 4096 bits from ones to zeros by twelve weights, whose sum is 4096.
+// A bridge of 4096 bits from ones to zeros, by twelve weights whose sum is 4096.
 const LONGEST: [CueNumbers; 2] = [(0, 0, 4096, 4096), (1, 4107, 4123, 0)];
 
-// A master of 8208 bits; 4097 rows of 2048 numbers in its certificate, which has as many bytes by a program in C
-// (`bench/edit_peer.c`). By the first version it has 18 bytes, the rows by 8 bytes a number, and 8 bytes.
+// A master of 8208 bits. Its certificate has 4097 rows of 2048 numbers; a program in C (`bench/edit_peer.c`) makes one
+// of the same size. The first version has 18 bytes, the rows at 8 bytes a number, and 8 bytes.
 #[test]
 fn accepts_the_longest_bridge(rt: HostRuntime) {
     let alloc = rt.alloc();

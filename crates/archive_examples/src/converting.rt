@@ -1,5 +1,5 @@
-//! Converting from a reader to a writer: what is written is what is made in memory, and a front of it where a device
-//! fails; and files that are no sound in the outline that was read before.
+//! Converts from a reader to a writer: what is written is what is made in memory, or a prefix of it if a device fails.
+//! Also files that are no sound in the outline that was read before.
 
 ghost use Rattle.std.specs.Prelude.{◌<◌, IfOk};
 ghost use Rattle.sound_core.specs.Outlines.{AreTold, around_of};
@@ -16,14 +16,14 @@ use std::process::Abort;
 use std::test::Fail;
 use transfer_core::{Converted, Fault, convert, convert_stream};
 
-// What a file tells beside its sound.
+// The outline of a file.
 fn outline_of(alloc: Global, file: &[u8]) -> Result<Outline, StreamFault>
     ensures { IfOk result (λ outline. AreTold (around_of outline)) }
 {
     read_outline(alloc, &mut Inlet::new(drip(file, 4096, NEVER)))
 }
 
-// What comes of a reader to a writer, by an outline.
+// Converts from a reader to a writer by an outline.
 fn convert_from(
     alloc: Global,
     outline: &Outline,
@@ -44,7 +44,7 @@ fn convert_from(
     }
 }
 
-// What comes of a file that is read so many bytes at a time.
+// Converts a file that is read at most `most` bytes at a time.
 fn convert_by(alloc: Global, outline: &Outline, form: Form, file: &[u8], most: usize) -> Streamed
     requires { AreTold (around_of outline.now) }
 {
@@ -52,7 +52,7 @@ fn convert_by(alloc: Global, outline: &Outline, form: Form, file: &[u8], most: u
     convert_from(alloc, outline, form, reader, sip(alloc, NEVER, NEVER))
 }
 
-// Whether a file is converted to this, read by 1, by 7, by 4096 and by 65,536 bytes.
+// Whether a file is converted to this if it is read by 1, by 7, by 4096 and by 65,536 bytes.
 fn gives(alloc: Global, outline: &Outline, form: Form, file: &[u8], made: &Converted) -> bool
     requires { AreTold (around_of outline.now) }
 {
@@ -64,7 +64,7 @@ fn gives(alloc: Global, outline: &Outline, form: Form, file: &[u8], made: &Conve
     true
 }
 
-// Whether the channels of a file end inside a byte, and nothing was read and written.
+// Whether the answer is that the channels of a file end inside a byte, and nothing was read or written.
 fn ends_inside_a_byte(alloc: Global, outline: &Outline, form: Form, file: &[u8]) -> bool
     requires { AreTold (around_of outline.now) }
 {
@@ -96,7 +96,7 @@ fn converts_same(alloc: Global, file: &[u8]) -> bool {
     }
 }
 
-// The same of a file that was built.
+// The same for a file that was built.
 fn are_same(alloc: Global, file: Result<Vec<u8>, AllocError>) -> bool {
     match file {
         Ok(file) => converts_same(alloc, &file),
@@ -104,7 +104,7 @@ fn are_same(alloc: Global, file: Result<Vec<u8>, AllocError>) -> bool {
     }
 }
 
-// Bytes behind the form, a mark behind the sound, and a sound of three bytes, which has a pad.
+// Among them are bytes after the form, a mark after the sound, and a sound of three bytes, which has a pad.
 #[test]
 fn converts_small_forms_as_in_memory(rt: HostRuntime) {
     let alloc = rt.alloc();
@@ -114,7 +114,7 @@ fn converts_small_forms_as_in_memory(rt: HostRuntime) {
     assert!(rt; are_same(alloc, three(alloc, b"abc")));
 }
 
-// A file is converted to these bytes, or to a front of them where memory is refused, which is handed out.
+// Asserts that a file is converted to these bytes, or, if memory runs out, to a prefix of them. A refusal is returned.
 fn check_converted(
     rt: &impl Abort,
     alloc: Global,
@@ -127,7 +127,7 @@ fn check_converted(
     check_streamed(rt, &streamed, made.dropped, &made.bytes)
 }
 
-// A form with a mark and other chunks, which have no place in what is written.
+// A form with a mark, which has no place in what is written.
 #[test]
 fn drops_what_has_no_place(rt: HostRuntime) -> Result<(), Fail> {
     let file = noted(rt.alloc(), 200)?;
@@ -135,8 +135,8 @@ fn drops_what_has_no_place(rt: HostRuntime) -> Result<(), Fail> {
     check_converted(&rt, rt.alloc(), &file, &made)
 }
 
-// Two groups of blocks, of which the second has one byte, or ends inside one; two groups of 8 bits per sample, and
-// bytes behind them; no bit; and five groups of six channels, two of which fit a block of reading.
+// Two groups of blocks, whose second has one byte, or ends inside a byte; two groups of 8 bits per sample, followed by
+// other bytes; no bit; and five groups of six channels, two of which fit into one block that is read.
 const BLOCKS: [((u32, u32, u64), usize); 5] = [
     ((2, 1, 32_776), 16_384),
     ((1, 1, 65_535), 8192),
@@ -154,14 +154,14 @@ fn converts_blocks_as_in_memory(rt: HostRuntime) {
     }
 }
 
-// Three blocks of reading, of which the last is not full.
+// A sound of three blocks that are read. The last is not full.
 #[test]
 fn converts_laced_bytes_as_in_memory(rt: HostRuntime) {
     let alloc = rt.alloc();
     assert!(rt; are_same(alloc, laced(alloc, &STEREO, 140_002)));
 }
 
-// Whether 40 ones, which are converted to the same file, leave a front of it where a reader of one byte at a time fails
+// Whether converting 40 ones, which gives the same file, leaves a prefix of it if a reader of one byte at a time fails
 // at a read.
 fn stops_reading(alloc: Global, ones: &Outline, read: u64) -> bool
     requires { AreTold (around_of ones.now) }
@@ -179,7 +179,7 @@ fn check_reads(rt: &impl Abort, alloc: Global, ones: &Outline)
     }
 }
 
-// Whether a writer leaves just so many bytes of the file.
+// Whether this writer ends with exactly `count` bytes of the file.
 fn stops_writing(alloc: Global, ones: &Outline, writer: Sipping, count: usize) -> bool
     requires { AreTold (around_of ones.now) }
 {
@@ -188,7 +188,7 @@ fn stops_writing(alloc: Global, ones: &Outline, writer: Sipping, count: usize) -
     convert_from(alloc, ones, Form::Dsdiff, reader, writer).stops_writing(front)
 }
 
-// A byte is taken by each write; a writer that is full from the first write on takes nothing.
+// Each write takes one byte. A writer that is full from the first write on takes nothing.
 fn check_writes(rt: &impl Abort, alloc: Global, ones: &Outline)
     requires { AreTold (around_of ones.now) }
 {
@@ -217,14 +217,14 @@ fn is_other_converted(alloc: Global, form: Form, other: &[u8]) -> Result<bool, S
     Ok(is_same(alloc, &outline, form, other))
 }
 
-// The bits of a sound are no part of an outline.
+// The bits of a sound are not part of an outline.
 #[test]
 fn another_sound_is_converted(rt: HostRuntime) {
     let same = is_other_converted(rt.alloc(), Form::Dsf8, &with_sound(0x35));
     assert!(rt; same.unwrap_or(false));
 }
 
-// Whether nothing comes of another file by an outline, but for a front of these bytes.
+// Whether another file is refused by an outline, after at most a prefix of these bytes was written.
 fn is_refused(alloc: Global, outline: &Outline, form: Form, other: &[u8], made: &[u8]) -> bool
     requires { AreTold (around_of outline.now) }
 {
@@ -240,8 +240,8 @@ fn changed_at(place: usize) -> [u8; 128]
     file
 }
 
-// `FILE` is refused where a byte of its head is another, or its last bytes are missing, but for a front of what is made
-// of it.
+// Asserts that `FILE` is refused if a byte of its header is changed, or its last bytes are missing, after at most a
+// prefix of what is made of it was written.
 fn check_changes(rt: &impl Abort, alloc: Global) -> Result<(), Fault> {
     let outline = outline_of(alloc, &FILE)?;
     let made = convert(alloc, &FILE, Form::Dsf)?;
@@ -261,7 +261,7 @@ fn a_changed_form_is_refused(rt: HostRuntime) {
     assert!(rt; check_changes(&rt, rt.alloc()).is_ok());
 }
 
-// Whether a file is refused by its outline without so many bytes of its end, and with these behind it.
+// Whether a file is refused by its outline if `cut` bytes of its end are missing, and these follow.
 fn is_end_refused(
     alloc: Global,
     outline: &Outline,
@@ -276,7 +276,7 @@ fn is_end_refused(
     Ok(is_refused(alloc, outline, Form::Dsf8, &other, made))
 }
 
-// A byte of a file's tag is missing, or another, or there is one more.
+// A byte of a file's tag is missing, or is changed, or there is one more.
 const ENDS: [(usize, &[u8]); 3] = [(1, b""), (1, b"b"), (0, b"b")];
 
 fn check_ends(rt: &impl Abort, alloc: Global) -> Result<(), Fault> {
@@ -290,7 +290,7 @@ fn check_ends(rt: &impl Abort, alloc: Global) -> Result<(), Fault> {
     Ok(())
 }
 
-// The tag of a DSF file is all that stands to its end.
+// The tag of a DSF file is everything up to its end.
 #[test]
 fn a_changed_tag_is_refused(rt: HostRuntime) {
     assert!(rt; check_ends(&rt, rt.alloc()).is_ok());

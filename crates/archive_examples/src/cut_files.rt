@@ -1,10 +1,11 @@
-//! A DSF file cut at each of its lengths: why it holds no recording. Of a DSDIFF file `tools/try_commands` asks the command.
+//! A DSF file cut at each of its lengths: why it holds no recording. For a DSDIFF file `tests/try_commands` runs the
+//! command.
 
 use archive_core::read_any;
 use fixtures::files::one_bit;
 use std::alloc::{AllocError, Global};
 
-// Whether a file is not read for this fault.
+// Whether a file is refused with this fault.
 fn is_unread(alloc: Global, file: &[u8], expected: &str) -> Result<bool, AllocError> {
     match read_any(alloc, file) {
         Ok(_) => Ok(false),
@@ -12,14 +13,14 @@ fn is_unread(alloc: Global, file: &[u8], expected: &str) -> Result<bool, AllocEr
     }
 }
 
-// Lengths, from the first to before the second, and the fault of the file of 4188 bytes that is cut so.
+// A range of lengths, up to but not including the second, and the fault of the file of 4188 bytes if it is cut there.
 const CUTS: [(usize, usize, &str); 3] = [
     (0, 4, "UnknownForm"),
     (4, 92, "Dsf HeadCut"),
     (92, 4188, "Dsf DataCut"),
 ];
 
-// Whether a file is read whole, and cut at none of its lengths.
+// Whether a file is read if it is whole, and refused if it is cut at any length.
 fn is_read_whole_alone(alloc: Global, file: &[u8]) -> Result<bool, AllocError> {
     for (first, end, expected) in &CUTS {
         for length in *first..*end {

@@ -1,4 +1,4 @@
-//! Readers and writers that fail: the fault is named, and what was written is a front of the WAVE file.
+//! Readers and writers that fail: the fault is named, and what was written is a prefix of the WAVE file.
 
 use crate::played::{ONES, play_from, two_groups};
 use crate::streamed::{NEVER, Streamed, is_named};
@@ -10,7 +10,7 @@ use fixtures::projects::DECIMATE;
 use std::alloc::Global;
 use std::process::Abort;
 
-// What comes of 40 ones and 33 taps from a reader that gives one byte at a time, and fails at a read.
+// Plays 40 ones by 33 taps from a reader that gives one byte at a time, and fails at a read.
 fn read_failing(alloc: Global, read: u64) -> Streamed {
     let reader = drip(&ONES_FILE, 1, read);
     play_from(
@@ -21,24 +21,24 @@ fn read_failing(alloc: Global, read: u64) -> Streamed {
     )
 }
 
-// The same to a writer that takes one byte at a time.
+// The same to this writer, from a reader that doesn't fail.
 fn write_failing(alloc: Global, writer: Sipping) -> Streamed {
     let reader = drip(&ONES_FILE, 1, NEVER);
     play_from(alloc, projects::ONES.as_bytes(), reader, writer)
 }
 
-// Whether a failed read stops playing behind a front.
+// Whether playing stops after a prefix if a read fails.
 fn stops_reading(alloc: Global, read: u64) -> bool {
     read_failing(alloc, read).stops_reading(&ONES)
 }
 
-// Whether a writer is left with so many bytes.
+// Whether this writer ends with exactly `count` bytes of the WAVE file.
 fn stops_writing(alloc: Global, writer: Sipping, count: usize) -> bool {
     let (front, _) = ONES.split_at(count.min(54));
     write_failing(alloc, writer).stops_writing(front)
 }
 
-// Behind 128 bytes, two of the sound's, no sample is due: the first needs the bit 32.
+// After 128 bytes, which are two of the sound, no sample is due: the first needs bit 32.
 #[test]
 fn a_failed_read_leaves_the_header(rt: HostRuntime) {
     let played = read_failing(rt.alloc(), 129);
@@ -46,7 +46,7 @@ fn a_failed_read_leaves_the_header(rt: HostRuntime) {
     assert!(rt; is_so && played.bytes.len() == 44);
 }
 
-// The form has 132 bytes, one a read, and none is asked for behind it.
+// The form has 132 bytes, one per read, and no byte after it is read.
 #[test]
 fn a_failed_read_leaves_a_front(rt: HostRuntime) {
     for read in 1..=132 {
@@ -54,7 +54,7 @@ fn a_failed_read_leaves_a_front(rt: HostRuntime) {
     }
 }
 
-// A byte is taken by each write; a writer that is full from the first write on takes nothing.
+// Each write takes one byte. A writer that is full from the first write on takes nothing.
 #[test]
 fn a_failed_write_leaves_a_front(rt: HostRuntime) {
     let alloc = rt.alloc();
@@ -67,7 +67,7 @@ fn a_failed_write_leaves_a_front(rt: HostRuntime) {
     }
 }
 
-// No read is asked for behind the form, and no write behind the end.
+// There is no read after the form, and no write after the end.
 #[test]
 fn nothing_behind_the_end_fails(rt: HostRuntime) {
     let alloc = rt.alloc();
@@ -76,7 +76,7 @@ fn nothing_behind_the_end_fails(rt: HostRuntime) {
     assert!(rt; write_failing(alloc, sip(alloc, 55, 55)).plays(&ONES));
 }
 
-// What `DECIMATE` makes of a reader that gives 7 bytes at a time, and fails at a read.
+// Plays by `DECIMATE` from a reader that gives 7 bytes at a time, and fails at a read.
 fn read_blocks(alloc: Global, file: &[u8], read: u64) -> Streamed {
     play_from(
         alloc,
@@ -86,7 +86,7 @@ fn read_blocks(alloc: Global, file: &[u8], read: u64) -> Streamed {
     )
 }
 
-// Whether a failed read leaves a front of these bytes.
+// Whether a failed read leaves a prefix of these bytes.
 fn stops_at(alloc: Global, file: &[u8], wave: &[u8], read: u64) -> bool {
     read_blocks(alloc, file, read).stops_reading(wave)
 }
@@ -97,7 +97,7 @@ fn plays_blocks(alloc: Global, file: &[u8], wave: &[u8]) -> bool {
     whole.plays(wave) && whole.reads == 2356
 }
 
-// The file is played, and a failed read leaves a front, wherever it comes.
+// Asserts that the file is played, and that a failed read leaves a prefix, wherever it is.
 fn check_blocks(rt: &impl Abort, alloc: Global) -> Result<(), Fault> {
     let file = two_groups(alloc)?;
     let wave = play(alloc, DECIMATE.as_bytes(), &file)?;
@@ -109,8 +109,8 @@ fn check_blocks(rt: &impl Abort, alloc: Global) -> Result<(), Fault> {
     Ok(())
 }
 
-// The DSF file of two groups of blocks is 16,481 bytes: 2355 reads, of which the 14th reaches the sound, the 1184th
-// the second group, and the last the file's end. Behind them one read more gives nothing.
+// The DSF file of two groups of blocks has 16,481 bytes. These are 2355 reads: the 14th reaches the sound, the 1184th
+// the second group, and the last the file's end. One more read gives nothing.
 #[test]
 fn a_failed_read_of_blocks_leaves_a_front(rt: HostRuntime) {
     assert!(rt; check_blocks(&rt, rt.alloc()).is_ok());

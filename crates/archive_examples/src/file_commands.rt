@@ -1,4 +1,4 @@
-//! `play` over folders in memory: which files it asks for, also where a call fails.
+//! `play` over folders in memory: which files it asks for, also if a call fails.
 
 use crate::folders::{asks, comes_to_watched, folder_of, holds};
 use crate::watched_folder::{Asked, NOTHING, WatchedFolder};
@@ -81,7 +81,7 @@ fn asks_for_files_in_order(rt: HostRuntime) {
     }
 }
 
-// Whether the file is kept as the front of so many bytes where there is no room for more.
+// Whether the file holds its first `room` bytes if there is no room for more.
 fn keeps_front(alloc: Global, room: usize) -> Result<bool, AllocError> {
     let mut folder = WatchedFolder::over(alloc, folder(alloc)?, ("write", "out", room));
     let failed = comes_to_watched(alloc, &mut folder, PLAY, 2, "fault: WriteFailed")?;

@@ -1,4 +1,4 @@
-//! What a command comes to in a folder, and what it asks the folder for.
+//! The outcome of a command in a folder, and what it asks the folder for.
 
 use crate::outcomes::prints;
 use crate::watched_folder::{Asked, WatchedFolder};
@@ -17,12 +17,12 @@ pub(crate) fn folder_of(
     Ok(folder)
 }
 
-/// What a task comes to in the folder.
+/// The outcome of a task in the folder.
 pub(crate) fn outcome_of(alloc: Global, folder: &mut MemoryFolder, task: Task) -> Outcome {
     perform(alloc, task, folder)
 }
 
-/// Whether a task comes to this status and this line in the folder.
+/// Whether a task ends with this status and this line in the folder.
 pub(crate) fn comes_to(
     alloc: Global,
     folder: &mut MemoryFolder,
@@ -44,7 +44,7 @@ pub(crate) fn comes_to_watched(
     prints(alloc, perform(alloc, task, folder), number, line)
 }
 
-/// Whether a file of these bytes stands in the folder.
+/// Whether the folder has a file with this name and these bytes.
 pub(crate) fn holds(folder: &MemoryFolder, name: &str, bytes: &[u8]) -> bool {
     match folder.get(name) {
         Some(found) => found == bytes,
@@ -52,7 +52,7 @@ pub(crate) fn holds(folder: &MemoryFolder, name: &str, bytes: &[u8]) -> bool {
     }
 }
 
-/// Whether a task comes to the status 2 and this line in the folder, and creates nothing.
+/// Whether a task ends with the status 2 and this line in the folder, and creates nothing.
 pub(crate) fn is_refused(
     alloc: Global,
     folder: Result<MemoryFolder, AllocError>,
@@ -65,7 +65,7 @@ pub(crate) fn is_refused(
     Ok(refused && folder.count() == count)
 }
 
-/// Whether a task in the folder comes to the line of a case, and asks for its calls and no more.
+/// Whether a task in the folder ends with the line of a case, and makes exactly its calls.
 pub(crate) fn asks(
     alloc: Global,
     folder: Result<MemoryFolder, AllocError>,

@@ -1,5 +1,6 @@
-//! Each call of whole files, and of what commands do with them, for `tools/growths`, which refuses their growths in turn: what
-//! was refused is handed out as it was answered. The commands themselves it asks of the built program.
+//! Each call over whole files, and each that commands make of them, for `tests/growths`. It refuses each growth, a
+//! request for memory, in turn. A test returns a refusal as it got it. The commands themselves are tried with the built
+//! program.
 
 ghost use Rattle.folder_core.specs.Files.{untold};
 
@@ -24,7 +25,7 @@ use std::io::{ErrorKind, Read, Write};
 use std::test::Fail;
 use transfer_commands::{convert_file, hear_sources, open_file};
 
-// A writer that takes just these bytes, in their order, and no memory: what was written is a front of them.
+// A writer that takes exactly these bytes, in order, and needs no memory. So what was written is a prefix of them.
 #[derive(Drop)]
 struct Awaited<'a> {
     left: &'a [u8],
@@ -45,7 +46,8 @@ impl Write for Awaited<'_> {
     }
 }
 
-// Files that are read, and written, as they stand. It takes no memory, so what is refused is the command's.
+// A folder whose files are read, and written with just the bytes that they have. It needs no memory, so every refusal
+// is the command's.
 #[derive(Drop)]
 struct Shelf<'a> {
     files: &'a [(&'a str, &'a [u8])],
@@ -54,7 +56,7 @@ struct Shelf<'a> {
 }
 
 impl<'a> Shelf<'a> {
-    // The bytes of a name.
+    // The bytes of the file with this name.
     fn bytes(&self, name: &str) -> Result<&'a [u8], FolderFault> {
         for (other, bytes) in self.files {
             if *other == name {
@@ -92,7 +94,7 @@ impl<'a> Folder for Shelf<'a> {
     fn give_up(&mut self, _name: &str, _out: Awaited<'a>) {}
 }
 
-// These files, before any is written.
+// A folder of these files, before any is written.
 fn shelf_of<'a>(files: &'a [(&'a str, &'a [u8])]) -> Shelf<'a> {
     Shelf { files, written: 0 }
 }
@@ -106,7 +108,7 @@ fn fault_of(outcome: Outcome) -> Fault {
     }
 }
 
-// How many parts a file has beside its sound.
+// How many marks and chunks, and bytes of a tag, a file has besides its sound.
 fn parts(alloc: Global, file: Result<Vec<u8>, AllocError>) -> Result<usize, Fail> {
     let opened = read_any(alloc, &file?)?;
     let recording = &opened.recording;
@@ -121,7 +123,7 @@ fn a_file_is_read(rt: HostRuntime) -> Result<(), Fail> {
     Ok(())
 }
 
-// Whether names are those of the splice.
+// Whether names are those of the takes of `SPLICE`.
 fn are_of_splice(names: &[String]) -> bool {
     match names {
         [first, second] => first.as_str() == "a.dff" && second.as_str() == "b.dff",
@@ -174,7 +176,7 @@ fn a_file_is_played(rt: HostRuntime) -> Result<(), Fail> {
     Ok(())
 }
 
-// Whether a reader's file is played to this WAVE file, of which a front was written where it isn't.
+// Whether a reader's file is played to this WAVE file. If it isn't, a prefix of that was written.
 fn streams(alloc: Global, file: &[u8], wave: &[u8]) -> Result<bool, Fault> {
     let mut inlet = Inlet::new(file);
     let mut outlet = Outlet::new(Awaited { left: wave });
@@ -254,7 +256,7 @@ fn a_file_is_converted_in_blocks(rt: HostRuntime) -> Result<(), Fail> {
     Ok(())
 }
 
-// How many bits a channel of a file has, which isn't held.
+// How many bits a channel of a file has. The file isn't held.
 fn count_told(alloc: Global, file: &[u8]) -> Result<usize, Fault> {
     let files: [(&str, &[u8]); 1] = [("in", file)];
     let mut shelf = shelf_of(&files);
@@ -272,7 +274,7 @@ fn a_file_is_told_of_in_one_pass(rt: HostRuntime) -> Result<(), Fail> {
     Ok(())
 }
 
-// How many takes are heard of files that aren't held.
+// How many takes are read from files that aren't held.
 fn takes_heard(alloc: Global, sources: &Sources) -> Result<usize, Fault> {
     let [first, second] = &sources.takes;
     let files: [(&str, &[u8]); 3] = [
@@ -287,7 +289,7 @@ fn takes_heard(alloc: Global, sources: &Sources) -> Result<usize, Fault> {
     }
 }
 
-// One in frames and one in blocks.
+// One is in frames and one in blocks.
 #[test]
 fn takes_are_heard_in_one_pass(rt: HostRuntime) -> Result<(), Fail> {
     let alloc = rt.alloc();
@@ -301,7 +303,7 @@ fn takes_are_heard_in_one_pass(rt: HostRuntime) -> Result<(), Fail> {
     Ok(())
 }
 
-// How many files are read of those that `SPLICE` names.
+// How many of the files that `SPLICE` names are read.
 fn number_read(alloc: Global, files: &[(&str, &[u8])]) -> Result<usize, Fail> {
     let names = take_names(alloc, SPLICE.as_bytes())?;
     Ok(read_files(alloc, &mut shelf_of(files), &names)?.len())
@@ -316,14 +318,14 @@ fn files_are_read_whole(rt: HostRuntime) -> Result<(), Fail> {
     Ok(())
 }
 
-// Puts the file `a`, and keeps a file `b` of no bytes.
+// Puts a file `a`, and keeps an empty file `b`.
 fn fill(alloc: Global, folder: &mut MemoryFolder) -> Result<(), AllocError> {
     folder.put("a", &FILE)?;
     folder.keep("b", Vec::new(alloc)).map_err(|_| AllocError)
 }
 
-// How many bytes are read of the file `a` of a folder and how many files it has. A folder in memory where the file is
-// fails for want of memory alone, and has one fault for everything.
+// How many bytes are read of the file `a` of a folder, and how many files the folder has. A folder in memory that has
+// the file fails only if memory runs out. It has one fault for everything.
 fn held(alloc: Global) -> Result<(usize, usize), Fail> {
     let mut folder = MemoryFolder::new(alloc);
     fill(alloc, &mut folder)?;

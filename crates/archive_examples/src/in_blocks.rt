@@ -1,4 +1,4 @@
-//! `convert` and `info` where they don't hold the file: here every file is taken for a large one.
+//! `convert` and `info` when they don't hold the file: here every file is treated as a large one.
 
 use crate::builders::{CUT_OFF, commented, file_in, tagged};
 use crate::folders::folder_of;
@@ -9,12 +9,12 @@ use fixtures::files::{FILE, dsf_of, stereo};
 use std::alloc::{AllocError, Global};
 use transfer_commands::{convert_file, open_file};
 
-// A file of fewer bytes is held whole: any of these, or none.
+// Files of fewer bytes are held whole: all of these, or none.
 const ALL: usize = 1 << 16;
 
 const NONE: usize = 0;
 
-// What converting `in` to `out` in a folder comes to, as it is printed.
+// The outcome of converting `in` to `out` in a folder, as it is printed.
 fn converted<F: Folder>(
     alloc: Global,
     folder: &mut F,
@@ -28,7 +28,7 @@ fn converted<F: Folder>(
     outcome_line(alloc, &outcome)
 }
 
-// What is told of `in` in a folder.
+// What is reported of `in` in a folder, as it is printed.
 fn told<F: Folder>(alloc: Global, folder: &mut F, most: usize) -> Result<String, AllocError> {
     let outcome = match open_file(alloc, folder, "in", most) {
         Ok(told) => Outcome::Info(told),
@@ -37,7 +37,7 @@ fn told<F: Folder>(alloc: Global, folder: &mut F, most: usize) -> Result<String,
     outcome_line(alloc, &outcome)
 }
 
-// What is told of `in` in a folder in memory, or, with a form, what converting it comes to.
+// What is reported of `in` in a folder in memory, or, with a form, the outcome of converting it.
 fn said(
     alloc: Global,
     folder: &mut MemoryFolder,
@@ -50,7 +50,7 @@ fn said(
     }
 }
 
-// Whether the same stands in both folders.
+// Whether both folders have the same file `out`, or none.
 fn are_alike(first: &MemoryFolder, second: &MemoryFolder) -> bool {
     match (first.get("out"), second.get("out")) {
         (Some(one), Some(other)) => one == other,
@@ -59,7 +59,7 @@ fn are_alike(first: &MemoryFolder, second: &MemoryFolder) -> bool {
     }
 }
 
-// Whether a file is told of, or converted to a form, alike, held and not.
+// Whether the result is the same if the file is held and if it isn't. The file is reported, or converted to a form.
 fn is_done_alike(alloc: Global, file: &[u8], form: Option<Form>) -> Result<bool, AllocError> {
     let mut held = folder_of(alloc, &[("in", file)])?;
     let mut read = folder_of(alloc, &[("in", file)])?;
@@ -68,10 +68,10 @@ fn is_done_alike(alloc: Global, file: &[u8], form: Option<Form>) -> Result<bool,
     Ok(again == line && are_alike(&held, &read))
 }
 
-// What is done with a file: it is told of, and converted to each form.
+// What is done with a file: it is reported, and converted to each form.
 const DONE: [Option<Form>; 4] = [None, Some(Form::Dsdiff), Some(Form::Dsf), Some(Form::Dsf8)];
 
-// Whether all is done alike with a file, held and not.
+// Whether each of these has the same result if the file is held and if it isn't.
 fn is_alike(alloc: Global, file: &[u8]) -> Result<bool, AllocError> {
     for form in &DONE {
         if !is_done_alike(alloc, file, *form)? {
@@ -81,7 +81,7 @@ fn is_alike(alloc: Global, file: &[u8]) -> Result<bool, AllocError> {
     Ok(true)
 }
 
-// The same of a file that was built.
+// The same for a file that was built.
 fn is_built_alike(alloc: Global, file: Result<Vec<u8>, AllocError>) -> bool {
     match file {
         Ok(file) => is_alike(alloc, &file).unwrap_or(false),
@@ -89,7 +89,7 @@ fn is_built_alike(alloc: Global, file: Result<Vec<u8>, AllocError>) -> bool {
     }
 }
 
-// Each form, two channels, and what only one of the forms has a place for.
+// Each form, two channels, and what has a place in only one of the forms.
 #[test]
 fn converts_and_tells_alike(rt: HostRuntime) {
     let alloc = rt.alloc();
@@ -101,8 +101,8 @@ fn converts_and_tells_alike(rt: HostRuntime) {
     assert!(rt; is_built_alike(alloc, tagged(alloc, 1, 0x0f)));
 }
 
-// A DSF file of two channels of 32,769 bits, one more than a block holds; a sound that is cut off; no file at all; and
-// a text.
+// A DSF file of two channels of 32,769 bits, one more than a block holds; a sound that is cut off; an empty file; and a
+// text.
 #[test]
 fn refuses_alike(rt: HostRuntime) {
     let alloc = rt.alloc();
@@ -112,8 +112,8 @@ fn refuses_alike(rt: HostRuntime) {
     assert!(rt; is_alike(alloc, b"[decimate]\nfactor = 8\n").unwrap_or(false));
 }
 
-// What fails, what is printed, and what the folder is asked for, and no more. What was created is kept, or given
-// up after a fault.
+// What fails, what is printed, and exactly what the folder is asked for. What was created is kept, or given up after a
+// fault.
 const CALLS: [(Failure, &str, &str); 5] = [
     (
         NOTHING,
@@ -138,7 +138,7 @@ const CALLS: [(Failure, &str, &str); 5] = [
     ),
 ];
 
-// Whether converting in these files, where this fails, comes to this line, and to these calls.
+// Whether converting with these files, when this fails, ends with this line and makes exactly these calls.
 fn asks(
     alloc: Global,
     files: Result<MemoryFolder, AllocError>,
@@ -158,7 +158,7 @@ fn asks_for_files_in_order(rt: HostRuntime) {
     }
 }
 
-// Whether converting `FILE` comes to this line where it is this file once it was opened so often.
+// Whether converting `FILE` ends with this line if it becomes the file `changed` after it was opened `often` times.
 fn converts_changed(
     alloc: Global,
     often: usize,
@@ -170,7 +170,8 @@ fn converts_changed(
     Ok(converted(alloc, &mut folder, Form::Dsf, NONE)?.as_str() == line)
 }
 
-// Another number of channels is seen at the last reading; before that, the file is what it became.
+// A change in the number of channels is noticed at the last reading. A file that changes before that is converted as
+// what it became.
 #[test]
 fn refuses_a_file_that_changes(rt: HostRuntime) {
     let alloc = rt.alloc();

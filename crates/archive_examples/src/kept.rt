@@ -1,4 +1,4 @@
-//! Stretches of a sound that are kept while its file is read: the bits that stand there, however the file is read.
+//! Stretches of a sound that are kept while its file is read: they are the bits there, however the file is read.
 
 use crate::long_sounds::{blocks, laced};
 use crate::played::two_groups;
@@ -18,7 +18,7 @@ fn range(start: usize, stop: usize) -> BitRange {
     BitRange { start, stop }
 }
 
-// Whether the bits 4 to 11, those from 12 on, and none are kept of two channels, f0 aa and 0f 55.
+// Whether the bits 4 to 11, those from 12 on, and none are kept of the two channels f0 aa and 0f 55.
 fn are_stereo(kept: &Kept) -> bool {
     is_stereo(kept, 0, &[&[0x0a], &[0xf5]], 8)
         && is_stereo(kept, 1, &[&[0xa0], &[0x50]], 4)
@@ -27,7 +27,7 @@ fn are_stereo(kept: &Kept) -> bool {
         && kept.outline.sound.count == 16
 }
 
-// The same of a file that was built.
+// The same for a file that was built.
 fn keeps_stereo(alloc: Global) -> Result<bool, StreamFault> {
     let file = stereo(alloc, &[0xf0, 0x0f, 0xaa, 0x55])?;
     let mut inlet = Inlet::new(drip(&file, 7, NEVER));
@@ -35,7 +35,7 @@ fn keeps_stereo(alloc: Global) -> Result<bool, StreamFault> {
     Ok(are_stereo(&read_stretches(alloc, &mut inlet, &ranges)?))
 }
 
-// Whether of two groups of blocks all bits but the first byte's are kept, and the tag.
+// Whether all bits of two groups of blocks, except those of the first byte, are kept, and the tag.
 fn keeps_blocks(alloc: Global) -> Result<bool, StreamFault> {
     let file = two_groups(alloc)?;
     let mut inlet = Inlet::new(drip(&file, 100, NEVER));
@@ -61,7 +61,7 @@ fn keeps_bits_of_each_channel(rt: HostRuntime) -> Result<(), Fail> {
     Ok(())
 }
 
-// Whether a stretch has two channels of so many bits, packed as these.
+// Whether a stretch has two channels of `count` bits, packed as these bytes.
 fn is_stereo(kept: &Kept, at: usize, packed: &[&[u8]; 2], count: usize) -> bool {
     match kept.stretches.as_slice().get(at) {
         Some(stretch) => match stretch.as_slice() {
@@ -78,7 +78,7 @@ fn is_packed(bits: &Bits, packed: &[u8], count: usize) -> bool {
     bits.len() == count && bits.as_bytes() == packed
 }
 
-// Whether a stretch has just the bits of a channel in a range, as far as there are.
+// Whether a stretch is exactly the bits of a channel in a range, as far as the channel reaches.
 fn is_part(stretch: &Bits, channel: &Bits, range: BitRange) -> bool {
     let stop = range.stop.min(channel.len());
     if stretch.len() != stop.saturating_sub(range.start) {
@@ -92,7 +92,7 @@ fn is_part(stretch: &Bits, channel: &Bits, range: BitRange) -> bool {
     true
 }
 
-// Whether a stretch has just the bits of each channel in a range.
+// Whether a stretch has exactly the bits of each channel in a range.
 fn is_stretch(stretch: &[Bits], channels: &[Bits], range: BitRange) -> bool {
     for (part, channel) in stretch.iter().zip(channels) {
         if !is_part(part, channel, range) {
@@ -102,7 +102,7 @@ fn is_stretch(stretch: &[Bits], channels: &[Bits], range: BitRange) -> bool {
     stretch.len() == channels.len()
 }
 
-// Whether stretches have just the bits in these ranges.
+// Whether stretches have exactly the bits in these ranges.
 fn are_stretches(stretches: &[Vec<Bits>], channels: &[Bits], ranges: &[BitRange]) -> bool {
     for (stretch, range) in stretches.iter().zip(ranges) {
         if !is_stretch(stretch, channels, *range) {
@@ -112,7 +112,8 @@ fn are_stretches(stretches: &[Vec<Bits>], channels: &[Bits], ranges: &[BitRange]
     stretches.len() == ranges.len()
 }
 
-// Whether just the bits of these channels in these ranges are kept of a file that is read so many bytes at a time.
+// Whether exactly the bits of these channels in these ranges are kept of a file that is read at most `most` bytes at a
+// time.
 fn are_kept(
     alloc: Global,
     file: &[u8],
@@ -126,7 +127,7 @@ fn are_kept(
     }
 }
 
-// The same of the channels that are read in memory, and of a file that is read by 1, by 4096 and by 65,536 bytes.
+// The same for the channels that are read in memory, and for a file that is read by 1, by 4096 and by 65,536 bytes.
 fn keeps(alloc: Global, file: &[u8], ranges: &[BitRange]) -> bool {
     match read_any(alloc, file) {
         Ok(opened) => {
@@ -139,7 +140,7 @@ fn keeps(alloc: Global, file: &[u8], ranges: &[BitRange]) -> bool {
     }
 }
 
-// The same of a file that was built.
+// The same for a file that was built.
 fn is_same(alloc: Global, file: Result<Vec<u8>, AllocError>, ranges: &[BitRange]) -> bool {
     match file {
         Ok(file) => keeps(alloc, &file, ranges),
@@ -147,7 +148,7 @@ fn is_same(alloc: Global, file: Result<Vec<u8>, AllocError>, ranges: &[BitRange]
     }
 }
 
-// Ranges in any order that overlap, that begin and end inside a byte, and that reach behind the end.
+// Ranges in any order that overlap, that begin and end inside a byte, and that reach past the end.
 #[test]
 fn keeps_what_stands_in_short_sounds(rt: HostRuntime) {
     let alloc = rt.alloc();
@@ -163,7 +164,7 @@ fn keeps_what_stands_in_short_sounds(rt: HostRuntime) {
     assert!(rt; is_same(alloc, one_bit(alloc, b"a tag"), &ranges));
 }
 
-// Two groups of blocks, of which the second ends inside a byte; two of 8 bits per sample; and six channels, of which two
+// Two groups of blocks, whose second ends inside a byte; two of 8 bits per sample; and six channels, of which two
 // groups are taken at a time.
 const BLOCKS: [((u32, u32, u64), usize); 3] = [
     ((1, 1, 65_535), 8192),
@@ -171,7 +172,7 @@ const BLOCKS: [((u32, u32, u64), usize); 3] = [
     ((6, 1, 140_000), 122_880),
 ];
 
-// Ranges at the seams of groups, of those blocks and of frames of three reads.
+// Ranges at the boundaries of groups, of those blocks and of frames of three reads.
 #[test]
 fn keeps_what_stands_across_groups(rt: HostRuntime) {
     let alloc = rt.alloc();
@@ -188,7 +189,7 @@ fn keeps_what_stands_across_groups(rt: HostRuntime) {
     assert!(rt; frames, "frames");
 }
 
-// How many bytes of `FILE` there are, the read that fails of a reader that gives one byte at a time, the fault, how many
+// How many bytes of `FILE` there are, which read of a reader that gives one byte at a time fails, the fault, how many
 // reads there are, and how many of them fail.
 const FAULTS: [(usize, u64, StreamFault, (u64, u64)); 4] = [
     (128, 1, StreamFault::ReadFailed, (1, 1)),
@@ -197,7 +198,7 @@ const FAULTS: [(usize, u64, StreamFault, (u64, u64)); 4] = [
     (126, NEVER, StreamFault::FileRefused, (127, 0)),
 ];
 
-// Whether reading is answered so.
+// Whether reading has this result.
 fn fails(
     alloc: Global,
     (length, read, fault, counts): (usize, u64, StreamFault, (u64, u64)),

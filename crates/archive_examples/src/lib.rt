@@ -1,4 +1,7 @@
-//! Worked examples of whole files: of calls over them, of streams from a reader to a writer, and of commands over folders.
+//! Worked examples of whole files, as tests: calls over them, streams from a reader to a writer, and commands over
+//! folders.
+//!
+//! What they share is in `fixtures`. The parts of which files and masters are made are in `part_examples`.
 #![tactic(auto)]
 
 #[cfg(test)]

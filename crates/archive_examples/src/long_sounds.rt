@@ -8,7 +8,7 @@ use fixtures::files::{MONO, RATE, RAW, STEREO, dsf_of, file_of, mono};
 use fixtures::projects::{DECIMATE, Numbers, project, with_ones};
 use std::alloc::{AllocError, Global};
 
-/// So many bytes, in no order.
+/// `size` bytes in no order.
 pub(crate) fn noise(alloc: Global, size: usize) -> Result<Vec<u8>, AllocError> {
     let mut bytes = vec![in alloc; 0u8; size]?;
     let mut state = 1u32;
@@ -19,7 +19,7 @@ pub(crate) fn noise(alloc: Global, size: usize) -> Result<Vec<u8>, AllocError> {
     Ok(bytes)
 }
 
-// Whether a project plays a file to a writer as in memory, read by 1, by 7, by 4096 and by 65,536 bytes.
+// Whether a project plays a file to a writer as in memory, if it is read by 1, by 7, by 4096 and by 65,536 bytes.
 fn plays_same(alloc: Global, text: &str, file: &[u8]) -> bool {
     match play(alloc, text.as_bytes(), file) {
         Ok(wave) => {
@@ -30,7 +30,7 @@ fn plays_same(alloc: Global, text: &str, file: &[u8]) -> bool {
     }
 }
 
-// The same of a project and a file that were built.
+// The same for a project and a file that were built.
 fn is_same(
     alloc: Global,
     text: Result<String, AllocError>,
@@ -39,14 +39,14 @@ fn is_same(
     Ok(plays_same(alloc, &text?, &file?))
 }
 
-/// A DSDIFF file of one or of two channels with so many sound bytes.
+/// A DSDIFF file of one or two channels with `size` bytes of sound.
 pub(crate) fn laced(alloc: Global, channels: &[u8], size: usize) -> Result<Vec<u8>, AllocError> {
     let sound = noise(alloc, size)?;
     file_of(alloc, &[&RATE, channels, &RAW], &sound, &[])
 }
 
-/// A DSF file of so many channels, bits per sample and bits a channel, with so many bytes of blocks, more than it
-/// needs.
+/// A DSF file with these numbers of channels, bits per sample and bits per channel, and with `size` bytes of blocks,
+/// which may be more than it needs.
 pub(crate) fn blocks(
     alloc: Global,
     numbers: (u32, u32, u64),
@@ -75,7 +75,7 @@ fn is_same_by(
     is_same(alloc, project(alloc, taps, numbers), file)
 }
 
-// Sounds of one and of two channels, and one of two blocks: the first block of 65,536 bytes holds the first 65,410
+// Sounds of one and of two channels, and one of two blocks. Its first block of 65,536 bytes holds the first 65,410
 // bytes of the sound, and the second the rest.
 const LACED: [(&[u8], usize); 3] = [(&MONO, 4099), (&STEREO, 8198), (&MONO, 65_411)];
 
@@ -90,8 +90,8 @@ fn plays_laced_bytes_as_in_memory(rt: HostRuntime) {
     }
 }
 
-// Two groups of blocks, of which the second has one bit, or all but one; two groups of 8 bits per sample, and
-// bytes behind them; and no bit.
+// Two groups of blocks, whose second has one bit, or all but one; two groups of 8 bits per sample, followed by other
+// bytes; and no bit.
 const BLOCKS: [((u32, u32, u64), usize); 4] = [
     ((2, 1, 32_769), 16_384),
     ((1, 1, 65_535), 8192),
@@ -119,8 +119,8 @@ fn plays_4096_taps_as_in_memory(rt: HostRuntime) {
     );
 }
 
-// Whether a file is played to so many bytes in memory, and a reader of so many bytes at a time that fails at a read
-// leaves a front of them, which has at least so many.
+// Whether a file is played to `whole` bytes in memory, and a reader of `most` bytes at a time that fails at a read
+// leaves a prefix of them, which has at least `least` bytes.
 fn keeps_up(
     alloc: Global,
     file: &[u8],
@@ -137,7 +137,7 @@ fn keeps_up(
     }
 }
 
-// The same of a file that was built.
+// The same for a file that was built.
 fn keeps_up_with(
     alloc: Global,
     file: Result<Vec<u8>, AllocError>,
@@ -153,8 +153,8 @@ fn all_ones(alloc: Global) -> Result<Vec<u8>, AllocError> {
     mono(alloc, &sound)
 }
 
-// A reader of 32,789 bytes at a time fails behind 196,734 of 262,270 bytes: 196,608 of them are of the sound. What was
-// written lags behind by at most 131,072 bytes of the sound, each of which makes a sample of two bytes.
+// A reader of 32,789 bytes at a time fails after 196,734 of 262,270 bytes, of which 196,608 are sound. What was written
+// lags by at most 131,072 bytes of the sound. Each byte of sound makes a sample of two bytes.
 #[test]
 fn writes_before_all_is_read(rt: HostRuntime) {
     let alloc = rt.alloc();
@@ -162,9 +162,9 @@ fn writes_before_all_is_read(rt: HostRuntime) {
     assert!(rt; keeps_up.unwrap_or(false));
 }
 
-// Ten groups of six blocks are 245,760 bytes behind a head of 92. A reader of 40,000 bytes at a time fails behind
-// 200,000: 199,908 of them are of the sound, and the first 68,836 hold two whole groups, 65,536 bits of each channel.
-// They make 8192 frames of six samples of two bytes.
+// Ten groups of six blocks are 245,760 bytes after a header of 92. A reader of 40,000 bytes at a time fails after
+// 200,000 bytes, of which 199,908 are sound. The first 68,836 of these hold two whole groups, which are 65,536 bits of
+// each channel. They make 8192 frames of six samples of two bytes.
 #[test]
 fn writes_blocks_before_all_is_read(rt: HostRuntime) {
     let alloc = rt.alloc();

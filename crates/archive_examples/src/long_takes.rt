@@ -1,4 +1,5 @@
-//! `edit` and `check` where they don't hold their takes: takes of more than 2 MiB, and short ones that are taken for such.
+//! `edit` and `check` when they don't hold their takes: takes of more than 2 MiB, and short ones that are treated as
+//! such.
 
 use crate::builders::{CUT_OFF, CueNumbers, ONES, Sources, ZEROS, sources_of, splice};
 use crate::folders;
@@ -13,7 +14,7 @@ use fixtures::projects::SPLICE;
 use std::alloc::{AllocError, Global};
 use transfer_commands::{CommandFault, Sources as Heard, hear_sources};
 
-// Cues that begin and end inside bytes, to the last bits of each take: 128 bits in all, with their bridges.
+// Cues that begin and end inside bytes, up to the last bits of each take: 128 bits in all, with their bridges.
 const LONG_CUES: [CueNumbers; 4] = [
     (0, 100_003, 100_040, 3),
     (1, 8_399_940, 8_399_997, 2),
@@ -21,11 +22,11 @@ const LONG_CUES: [CueNumbers; 4] = [
     (0, 8_388_604, 8_388_616, 0),
 ];
 
-// Cues of which the master is longer than 2 MiB: 8,488,600 bits a channel.
+// Cues whose master is longer than 2 MiB: 8,488,600 bits per channel.
 const LONG_MASTER: [CueNumbers; 2] = [(0, 3, 8_388_600, 3), (1, 1_005, 101_005, 0)];
 
-// A project of these cues, and its takes of two channels: a DSDIFF file of 8,388,616 bits a channel, and a DSF file of
-// 8,400,001.
+// A project of these cues, and its takes of two channels: a DSDIFF file of 8,388,616 bits per channel, and a DSF file
+// of 8,400,001.
 fn sources_by(alloc: Global, cues: &[CueNumbers]) -> Result<Sources, AllocError> {
     let sound = noise(alloc, 2_097_154)?;
     let first = stereo(alloc, &sound);
@@ -41,7 +42,7 @@ fn folder_of(alloc: Global, sources: &Sources) -> Result<MemoryFolder, AllocErro
     folders::folder_of(alloc, &files)
 }
 
-// Whether a task comes to a line that tells this cost behind a word.
+// Whether a task ends with the line of this word and this cost.
 fn costs(
     alloc: Global,
     folder: &mut MemoryFolder,
@@ -61,7 +62,7 @@ fn cuts_to(alloc: Global, folder: &mut MemoryFolder, edited: &Edited) -> Result<
     Ok(cut && accepted && alike)
 }
 
-// Whether those that are cut in a folder are those that are cut in memory.
+// Whether a folder gets the same master and certificate as are cut in memory.
 fn cuts_alike(alloc: Global, cues: &[CueNumbers]) -> Result<bool, Fault> {
     let sources = sources_by(alloc, cues)?;
     let edited = sources.edit(alloc, Form::Dsdiff)?;
@@ -75,7 +76,7 @@ fn cuts_long_takes_as_in_memory(rt: HostRuntime) {
     assert!(rt; cuts_alike(alloc, &LONG_CUES).unwrap_or(false));
 }
 
-// Turns the last bit of the file of a name.
+// Inverts the last bit of the file with this name.
 fn turns_last(
     alloc: Global,
     folder: &mut MemoryFolder,
@@ -87,7 +88,7 @@ fn turns_last(
     folder.put(name, &turned)
 }
 
-// Whether a long master is rejected whose last bit is another, that of the last cue in the last channel.
+// Whether a long master is rejected if its last bit is inverted. This is a bit of the last cue in the last channel.
 fn rejects_the_last_bit(alloc: Global) -> Result<bool, AllocError> {
     let mut folder = folder_of(alloc, &sources_by(alloc, &LONG_MASTER)?)?;
     let cut = status(&outcome_of(alloc, &mut folder, CUT)) == 0;
@@ -103,7 +104,7 @@ fn checks_a_long_master(rt: HostRuntime) {
     assert!(rt; rejects_the_last_bit(alloc).unwrap_or(false));
 }
 
-// The long takes, of which that of a number has so many bytes.
+// The long takes, but the one with this number has only `size` bytes.
 fn shortened(alloc: Global, number: usize, size: usize) -> Result<Sources, AllocError> {
     let mut sources = sources_by(alloc, &LONG_CUES)?;
     if let Some(take) = sources.takes.get_mut(number) {
@@ -112,7 +113,7 @@ fn shortened(alloc: Global, number: usize, size: usize) -> Result<Sources, Alloc
     Ok(sources)
 }
 
-// What cutting in memory is refused for, as it is printed.
+// The fault for which cutting in memory is refused, as it is printed.
 fn refusal(alloc: Global, sources: &Sources) -> Result<String, AllocError> {
     match sources.edit(alloc, Form::Dsdiff) {
         Ok(_) => Ok(String::new(alloc)),
@@ -120,7 +121,7 @@ fn refusal(alloc: Global, sources: &Sources) -> Result<String, AllocError> {
     }
 }
 
-// Whether cutting in a folder is refused alike.
+// Whether cutting in a folder is refused with the same fault.
 fn is_refused_alike(
     alloc: Global,
     sources: Result<Sources, AllocError>,
@@ -137,18 +138,18 @@ fn refuses_long_takes_that_are_cut_off_as_in_memory(rt: HostRuntime) {
     assert!(rt; is_refused_alike(alloc, shortened(alloc, 1, 2_105_000)).unwrap_or(false));
 }
 
-// How many takes were heard, or the first fault of what they hold.
+// How many takes were read, or the first fault in what they hold.
 fn number_of(sources: Heard) -> Result<usize, Fault> {
     Ok(sources.takes?.len())
 }
 
-// How many takes are heard in a folder where each is taken for a long one.
+// How many takes are read in a folder if each is treated as a long one.
 fn number_heard(alloc: Global, folder: &mut WatchedFolder) -> Result<usize, CommandFault> {
     let sources = hear_sources(alloc, folder, "e.toml", 0)?;
     Ok(number_of(sources)?)
 }
 
-// Whether this is their number, or the fault, as it is printed.
+// Whether this line is their number, or the fault as it is printed.
 fn is_heard(alloc: Global, folder: &mut WatchedFolder, line: &str) -> Result<bool, AllocError> {
     let said = match number_heard(alloc, folder) {
         Ok(number) => format!(in alloc; "takes {number}"),
@@ -157,7 +158,7 @@ fn is_heard(alloc: Global, folder: &mut WatchedFolder, line: &str) -> Result<boo
     Ok(said?.as_str() == line)
 }
 
-// The folder of `SPLICE` with a take of ones, this second take, and another file.
+// A folder of `SPLICE` with a take of ones, this second take, and another file.
 fn folder_with<'a>(
     alloc: Global,
     second: &'a [u8],
@@ -175,7 +176,7 @@ fn folder_with<'a>(
 
 const UNREAD: &str = "fault: TakeUnread 1 Dsdiff Chunk DataCut 114";
 
-// What fails, what is said, and what the folder is asked for, and no more.
+// What fails, the line, and exactly what the folder is asked for.
 type Case = (Failure, &'static str, &'static str);
 
 // A take is opened twice.
@@ -209,7 +210,7 @@ const THRICE: Case = (
     "open e.toml\nopen a.dff\nopen a.dff\nopen b.dff\nopen b.dff\nopen b.dff\n",
 );
 
-// Whether hearing takes of which this is the second comes to what a case says.
+// Whether reading the takes, of which this is the second, ends as a case says.
 fn asks(alloc: Global, second: &[u8], (failure, line, calls): &Case) -> Result<bool, AllocError> {
     let mut folder = WatchedFolder::over(alloc, folder_with(alloc, second, b"")?, *failure);
     let said = is_heard(alloc, &mut folder, line)?;
@@ -225,14 +226,15 @@ fn opens_takes_again(rt: HostRuntime) {
     assert!(rt; asks(alloc, &CUT_OFF, &THRICE).unwrap_or(false));
 }
 
-// Whether this is heard where the second take is a whole one once files were opened so often, and cut off before.
+// Whether reading ends with this line if the second take is cut off at first, and whole after files were opened `often`
+// times.
 fn is_heard_changed(alloc: Global, often: usize, line: &str) -> Result<bool, AllocError> {
     let files = folder_with(alloc, &CUT_OFF, &ZEROS)?;
     let mut folder = WatchedFolder::over(alloc, files, ("change", "", often));
     is_heard(alloc, &mut folder, line)
 }
 
-// It may be whole at its third opening, for which it is still heard, or at none.
+// If it is whole at its third opening, it is still read. Otherwise it is not.
 #[test]
 fn hears_a_take_that_is_whole_in_the_end(rt: HostRuntime) {
     assert!(rt; is_heard_changed(rt.alloc(), 5, "takes 2").unwrap_or(false));

@@ -1,4 +1,4 @@
-//! Files whose sizes and numbers lie, whole and cut at each length, and how far a reader is read.
+//! Files with false sizes and numbers, whole and cut at each length, and how far a reader is read.
 
 use crate::played::play_by;
 use crate::refused::{is_no_file, one_bit_with};
@@ -10,8 +10,8 @@ use fixtures::projects::DECIMATE;
 use fixtures::waves::sample;
 use std::alloc::{AllocError, Global};
 
-// Whether a file that is cut at each length up to so many bytes is refused, all at one read. Shorter than `bare` nothing
-// is written, and else a front of these bytes.
+// Whether a file is refused if it is cut at any length below `end`, and read by 4096 bytes. If it is shorter than
+// `bare`, nothing may be written, else a prefix of these bytes.
 fn are_cut(alloc: Global, file: &[u8], (bare, end): (usize, usize), wave: &[u8]) -> bool {
     for length in 0..end.min(file.len()) {
         let front = if length < bare { b"" } else { wave };
@@ -23,12 +23,12 @@ fn are_cut(alloc: Global, file: &[u8], (bare, end): (usize, usize), wave: &[u8])
     true
 }
 
-// The same, and whole.
+// The same, and whether the whole file is refused.
 fn are_no_files(alloc: Global, file: &[u8], ends: (usize, usize), wave: &[u8]) -> bool {
     is_no_file(alloc, file, wave) && are_cut(alloc, file, ends, wave)
 }
 
-// A place of `FILE` and other bytes there: the form's size, that of the version, and the channel number.
+// A place of `FILE` and other bytes there: the size of the form, the size of the version, and the number of channels.
 const LIES: [(usize, &[u8]); 4] = [
     (4, &[0xff; 8]),
     (20, &[0xff; 8]),
@@ -36,8 +36,8 @@ const LIES: [(usize, &[u8]); 4] = [
     (76, &[0, 0]),
 ];
 
-// Whether `FILE` with other bytes at a place is refused. A form of `2^64-1` bytes has a sound, whose end is missing: a
-// front of the file it would be is written.
+// Whether `FILE` with other bytes at a place is refused. A form of `2^64-1` bytes has a sound, but its end is missing.
+// So a prefix of its WAVE file is written.
 fn is_lie_refused(alloc: Global, (place, bytes): (usize, &[u8])) -> Result<bool, AllocError> {
     let file = changed(alloc, &FILE, place, bytes)?;
     let wave = if place == 4 { WAVE.as_slice() } else { b"" };
@@ -55,7 +55,7 @@ fn forms_that_lie_are_refused(rt: HostRuntime) {
     }
 }
 
-// A mark of 22 bytes which tells of a text of `2^32-1`.
+// A mark of 22 bytes that states a text of `2^32-1` bytes.
 const LONG_TEXT: [u8; 22] = *b"\0\0\0\0\0\0\0\0\0\0\0\0\0\0\0\0\0\0\xff\xff\xff\xff";
 
 // A file with that mark.
@@ -64,7 +64,7 @@ fn long_text(alloc: Global) -> Result<Vec<u8>, AllocError> {
     file_of(alloc, &[&RATE, &MONO, &RAW], &[0xf0], &mark)
 }
 
-// Whether its 174 bytes are refused.
+// Whether this file of 174 bytes is refused.
 fn is_mark_refused(alloc: Global) -> Result<bool, AllocError> {
     let file = long_text(alloc)?;
     Ok(file.len() == 174 && are_no_files(alloc, &file, (126, 174), &WAVE))
@@ -75,8 +75,9 @@ fn a_mark_that_lies_is_refused(rt: HostRuntime) {
     assert!(rt; is_mark_refused(rt.alloc()).unwrap_or(false));
 }
 
-// A place of a DSF file of one bit and eight other bytes there: the size of the second chunk, that of the third, which
-// is 11, the number of bits, which is `2^64-1` and `2^36`, and the pointer to a tag, a byte behind the file's end.
+// A place of a DSF file of one bit, and eight other bytes there: the size of the second chunk; the size of the third,
+// which becomes 11; the number of bits, which becomes `2^64-1` and `2^36`; and the pointer to a tag, one byte past the
+// file's end.
 const BLOCK_LIES: [(usize, [u8; 8]); 5] = [
     (32, [0xff; 8]),
     (84, [11, 0, 0, 0, 0, 0, 0, 0]),
@@ -104,7 +105,7 @@ fn blocks_that_lie_are_refused(rt: HostRuntime) {
     }
 }
 
-// The file that tells no lie is played to these bytes, and refused at each lesser length.
+// Whether the file without false bytes is played to these bytes, and is refused at any lesser length.
 fn is_played_whole(alloc: Global, wave: &[u8]) -> Result<bool, AllocError> {
     let file = one_bit(alloc, b"")?;
     let whole = play_by(alloc, DECIMATE.as_bytes(), &file, 4096).plays(wave);
@@ -116,10 +117,10 @@ fn blocks_that_are_cut_are_refused(rt: HostRuntime) {
     assert!(rt; is_played_whole(rt.alloc(), &sample([4, 0])).unwrap_or(false));
 }
 
-// How a file begins, of which as many bytes follow as make 100,000, and by how many reads of one byte, of 7 and of
-// 4096 playing comes to its answer: a form is told apart by 16 bytes; one whose rate, 44,100 hertz, is refused where
-// the head of its sound stands; a DSF file whose first chunk has another size, by 80 bytes; and `FILE` is played, and
-// nothing read behind it.
+// How a file of 100,000 bytes begins, after how many reads of one byte, of 7 and of 4096 bytes playing has its answer,
+// and whether it is played. Other forms are refused after 16 bytes. A form whose rate is 44,100 hertz is refused at the
+// header of its sound. A DSF file whose first chunk has another size is refused after 80 bytes. `FILE` is played, and
+// nothing after it is read.
 const READS: [(&[u8], [u64; 3], bool); 4] = [
     (b"RIFF", [16, 3, 1], false),
     (SLOW, [126, 18, 1], false),
@@ -127,7 +128,7 @@ const READS: [(&[u8], [u64; 3], bool); 4] = [
     (&FILE, [128, 19, 1], true),
 ];
 
-// The front of `FILE` with another rate.
+// `FILE` with another rate.
 const SLOW: &[u8] = b"FRM8\0\0\0\0\0\0\0\x74DSD \
     FVER\0\0\0\0\0\0\0\x04\x01\x05\0\0\
     PROP\0\0\0\0\0\0\0\x46SND \
@@ -136,7 +137,7 @@ const SLOW: &[u8] = b"FRM8\0\0\0\0\0\0\0\x74DSD \
     CMPR\0\0\0\0\0\0\0\x13DSD \x0enot compressed\0\
     DSD \0\0\0\0\0\0\0\x01\xf0\0";
 
-// Whether a file is played, or refused with nothing written, in so many reads of so many bytes.
+// Whether a file is played, or refused with nothing written, in `reads` reads of at most `most` bytes.
 fn ends_in(alloc: Global, file: &[u8], (most, reads): (usize, u64), plays: bool) -> bool {
     let played = play_by(alloc, DECIMATE.as_bytes(), file, most);
     let ends = if plays {
@@ -147,7 +148,7 @@ fn ends_in(alloc: Global, file: &[u8], (most, reads): (usize, u64), plays: bool)
     ends && played.reads == reads
 }
 
-// Whether a file of 100,000 bytes that begins so is, by reads of one byte, of 7 and of 4096.
+// The same for a file of 100,000 bytes that begins like this, by reads of one byte, of 7 and of 4096 bytes.
 fn is_read(
     alloc: Global,
     (front, [by_1, by_7, by_4096], plays): (&[u8], [u64; 3], bool),

@@ -1,4 +1,4 @@
-//! `edit` over folders in memory: which files it asks for, also where a call fails.
+//! `edit` over folders in memory: which files it asks for, also if a call fails.
 
 use crate::builders::{CERT, CUES, CueNumbers, ONES, ZEROS, splice};
 use crate::folders::{asks, comes_to_watched, folder_of, holds};
@@ -9,7 +9,7 @@ use fixtures::files::with_sounds;
 use fixtures::projects::SPLICE;
 use std::alloc::{AllocError, Global};
 
-/// Cutting the master of `e.toml` to `m.dff` and `c.cert`.
+/// The task that cuts the master of `e.toml` to `m.dff` and `c.cert`.
 pub(crate) const CUT: Task = Task::Edit {
     form: Form::Dsdiff,
     project: "e.toml",
@@ -17,7 +17,7 @@ pub(crate) const CUT: Task = Task::Edit {
     cert: "c.cert",
 };
 
-/// Checking it.
+/// The task that checks this master.
 pub(crate) const CHECK: Task = Task::Check {
     project: "e.toml",
     master: "m.dff",
@@ -40,7 +40,7 @@ pub(crate) fn folder_by(
     folder_with(alloc, &splice(alloc, weights, cues)?)
 }
 
-// Takes are asked for by their numbers, and the certificate is created once the master is written and kept.
+// Takes are opened by their numbers, and the certificate is created once the master is written and kept.
 const CUTS: [Asked; 7] = [
     (
         "nothing",
@@ -95,7 +95,8 @@ fn asks_for_takes_by_number(rt: HostRuntime) {
     }
 }
 
-// Whether the cut of `CUES` fails where the certificate has room for so many of its bytes, with a whole master and these.
+// Whether cutting `CUES` fails if the certificate has room for only `room` bytes, and leaves a whole master and these
+// bytes.
 fn leaves_a_front(alloc: Global, cert: &[u8], room: usize) -> Result<bool, AllocError> {
     let folder = folder_by(alloc, "1, 0", &CUES)?;
     let mut watched = WatchedFolder::over(alloc, folder, ("write", "c.cert", room));

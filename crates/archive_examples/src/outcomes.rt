@@ -1,5 +1,5 @@
-//! The lines and the statuses of what a command can come to, where no command over small files comes to it: all others are
-//! asked of the built program, by `tools/try_commands`.
+//! The lines and the statuses of those outcomes that no command over small files has. For all others
+//! `tests/try_commands` runs the built program.
 
 use archive_core::{CutFault, Fault, StreamFault};
 use command_core::{Outcome, outcome_line, status};

@@ -1,4 +1,4 @@
-//! What a project makes of a reader's file at a writer, and files that several examples play.
+//! Plays a reader's file to a writer, and files that several examples play.
 
 ghost use Rattle.std.specs.Prelude.{◌-◌, ◌<◌, ◌^◌};
 ghost use Rattle.device_core.specs.Inlets.{inlet_failures, inlet_given, inlet_reads};
@@ -14,17 +14,17 @@ use std::alloc::{AllocError, Global};
 use std::process::Abort;
 use std::test::Fail;
 
-/// What 33 taps of 1 make of 40 ones. They see the bits 0 to 32 at the first sample, at the second 8 to 39, the last
-/// one, and from then on 8 fewer each time: 33, 32, 24, 16, 8.
+/// What 33 taps of 1 make of 40 ones. The first sample reads the bits 0 to 32, the second the bits 8 to 39, which is
+/// the last, and each after that 8 bits fewer: 33, 32, 24, 16, 8.
 pub(crate) const ONES: [u8; 54] =
     *b"RIFF\x2e\0\0\0WAVEfmt \x10\0\0\0\x01\0\x01\0\x20\x62\x05\0\x40\xc4\x0a\0\x02\0\x10\0data\x0a\0\0\0\x21\0\x20\0\x18\0\x10\0\x08\0";
 
-/// A DSF file of two groups of blocks, of which the second has one bit.
+/// A DSF file of two groups of blocks, whose second has one bit.
 pub(crate) fn two_groups(alloc: Global) -> Result<Vec<u8>, AllocError> {
     dsf_of(alloc, (2, 1, 32_769), b"some bits", 16_384, b"a tag")
 }
 
-/// What a project makes of a file that an inlet gives from here on.
+/// Plays by a project what an inlet gives from here on.
 pub(crate) fn play_on(
     alloc: Global,
     text: &[u8],
@@ -45,7 +45,7 @@ pub(crate) fn play_on(
     }
 }
 
-/// What a project makes of a reader's file.
+/// Plays a reader's file by a project.
 pub(crate) fn play_from(
     alloc: Global,
     text: &[u8],
@@ -55,7 +55,7 @@ pub(crate) fn play_from(
     play_on(alloc, text, Inlet::new(reader), writer)
 }
 
-/// What a project makes of a file that is read so many bytes at a time.
+/// Plays by a project a file that is read at most `most` bytes at a time.
 pub(crate) fn play_by(alloc: Global, text: &[u8], file: &[u8], most: usize) -> Streamed {
     play_from(
         alloc,
@@ -65,7 +65,7 @@ pub(crate) fn play_by(alloc: Global, text: &[u8], file: &[u8], most: usize) -> S
     )
 }
 
-/// Whether a file is played to these bytes, in memory, and read by 1, by 7 and by 4096 bytes.
+/// Whether a file is played to these bytes, in memory and if it is read by 1, by 7 and by 4096 bytes.
 pub(crate) fn plays(alloc: Global, text: &str, file: &[u8], wave: &[u8]) -> bool {
     for most in [1, 7, 4096] {
         if !play_by(alloc, text.as_bytes(), file, most).plays(wave) {
@@ -86,8 +86,8 @@ pub(crate) fn plays_built(alloc: Global, file: Result<Vec<u8>, AllocError>, wave
     }
 }
 
-/// A project makes this WAVE file of a file that is read so many bytes at a time, or a front of it where memory is
-/// refused, which is handed out.
+/// Asserts that a project plays a file, read at most `most` bytes at a time, to this WAVE file, or, if memory runs out,
+/// to a prefix of it. A refusal is returned.
 pub(crate) fn check_played(
     rt: &impl Abort,
     alloc: Global,

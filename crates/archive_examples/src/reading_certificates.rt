@@ -1,5 +1,5 @@
-//! A certificate is read while a master is judged by it, and to its end whatever comes of that: a read that fails there is
-//! told before any reason against the master.
+//! A certificate is read while a master is judged by it, and to its end whatever the verdict is. A read that fails
+//! there is reported before any reason against the master.
 
 use crate::builders::{CERT, CUES};
 use crate::folders::comes_to_watched;
@@ -8,9 +8,9 @@ use crate::watched_folder::WatchedFolder;
 use fixtures::files::{changed, with_sounds};
 use std::alloc::{AllocError, Global};
 
-// What is unusual, the master's sound, the byte of the certificate that is changed, how many of its 46 bytes come before a
-// read fails, and what the check comes to; seven bytes come a read. Its byte 5 is its version, 2; its byte 36 the bound of level
-// 1, 4.
+// What is unusual, the master's sound, the byte of the certificate that is changed, how many of its 46 bytes come
+// before a read fails, and how the check ends. A read gives seven bytes. Byte 5 of the certificate is its version, 2;
+// byte 36 is the bound of level 1, 4.
 type Case = (
     &'static str,
     [u8; 2],
@@ -67,7 +67,7 @@ const CASES: [Case; 9] = [
     ),
 ];
 
-// Whether the check of a case comes to what it says.
+// Whether the check of a case ends as the case says.
 fn is_read(
     alloc: Global,
     (_, sound, (place, byte), left, (number, line)): &Case,

@@ -1,4 +1,4 @@
-//! Files read whole: one, several in turn, and with a limit to the reads.
+//! Reads whole files: one, several in turn, and with a limit of reads.
 
 use crate::folders::folder_of;
 use crate::watched_folder::{NOTHING, WatchedFolder};
@@ -9,7 +9,7 @@ use std::alloc::{AllocError, Global};
 use std::io;
 use std::io::Read;
 
-// A reader that gives one byte a read, and has no end.
+// A reader that gives one byte per read, and has no end.
 #[derive(Drop)]
 struct Endless;
 
@@ -33,7 +33,7 @@ fn gives_up_a_file_that_has_no_end(rt: HostRuntime) {
     assert!(rt; matches!(&many, Err(FileFault::ReadFailed)));
 }
 
-// A folder with the file `a` of three bytes and the file `b` of none.
+// A folder with the file `a` of three bytes and the empty file `b`.
 fn folder(alloc: Global) -> Result<WatchedFolder, AllocError> {
     let files: [(&str, &[u8]); 2] = [("a", b"one"), ("b", b"")];
     Ok(WatchedFolder::over(alloc, folder_of(alloc, &files)?, NOTHING))
@@ -48,7 +48,7 @@ fn names_of(alloc: Global, texts: &[&str; 3]) -> Result<Vec<String>, AllocError>
     Ok(names)
 }
 
-// Whether files are one of three bytes between two of none.
+// Whether files are one of three bytes between two empty ones.
 fn are_one_of_three(files: &[Vec<u8>]) -> bool {
     match files {
         [first, second, third] => { first.is_empty() && equal(second, b"one") && third.is_empty() }
@@ -70,7 +70,7 @@ fn reads_files_in_turn(rt: HostRuntime) {
     assert!(rt; are_read(rt.alloc()).unwrap_or(false));
 }
 
-// Whether of names of which the second is missing the third is not opened.
+// Whether a third file is not opened if the second is missing.
 fn stops_at_missing(alloc: Global) -> Result<bool, AllocError> {
     let names = names_of(alloc, &["a", "c", "a"])?;
     let mut folder = folder(alloc)?;

@@ -1,4 +1,4 @@
-//! What is refused before anything is read, before anything is written, and for the file's sake.
+//! What is refused before anything is read, before anything is written, and because of the file.
 
 use crate::played::{play_by, plays_built};
 use crate::streamed::is_named;
@@ -8,7 +8,7 @@ use fixtures::projects::{DECIMATE, Numbers, SPLICE, project};
 use fixtures::waves::sample;
 use std::alloc::{AllocError, Global};
 
-// Whether a project is refused for this fault, and nothing was read or written.
+// Whether a project is refused with this fault, and nothing was read or written.
 fn is_unread(alloc: Global, text: &[u8], expected: &str) -> Result<bool, AllocError> {
     let played = play_by(alloc, text, &FILE, 1);
     match played.answer {
@@ -19,7 +19,7 @@ fn is_unread(alloc: Global, text: &[u8], expected: &str) -> Result<bool, AllocEr
     }
 }
 
-// Texts of projects, and the first fault of each.
+// Project texts, and the first fault of each.
 const UNREAD: [(&[u8], &str); 4] = [
     (b"", "NoDecimation"),
     (b"\xff", "Project NotToml"),
@@ -42,8 +42,8 @@ fn a_project_is_refused_before_the_first_read(rt: HostRuntime) {
     );
 }
 
-// Whether a file is refused for this fault, read by 1, by 7 and by 4096 bytes, and what was written is a front of
-// these bytes.
+// Whether a file is refused with this fault if it is read by 1, by 7 and by 4096 bytes, and what was written is a
+// prefix of these bytes.
 fn is_refused(alloc: Global, text: &str, file: &[u8], fault: StreamFault, wave: &[u8]) -> bool {
     for most in [1, 7, 4096] {
         if !play_by(alloc, text.as_bytes(), file, most).is_refused(fault, wave) {
@@ -53,11 +53,11 @@ fn is_refused(alloc: Global, text: &str, file: &[u8], fault: StreamFault, wave: 
     true
 }
 
-// A project by 1024, which doesn't divide 2,822,400.
+// A project with the factor 1024, which doesn't divide 2,822,400.
 const BY_1024: &str =
     "[decimate]\ntaps = [1, 2, 3, 4]\nfactor = 1024\ndelay = 3\nshift = 0\nwidth = 16\n";
 
-// Whether that rate is refused.
+// Whether the rate of a file is refused for that factor.
 fn is_rate_refused(alloc: Global, file: &[u8]) -> bool {
     is_refused(alloc, BY_1024, file, StreamFault::RateNotDivided, &[])
 }
@@ -69,7 +69,8 @@ fn a_rate_is_refused_before_the_first_write(rt: HostRuntime) {
     assert!(rt; is_rate_refused(alloc, &FILE[..126]), "no sound");
 }
 
-// The head of a DSF file without its sound: so many channels, so many bits each, and the size of the chunk `data`.
+// The header of a DSF file without its sound: the number of channels, the bits of each, and the size of the chunk
+// `data`.
 fn head_of(alloc: Global, (number, count, size): Claim) -> Result<Vec<u8>, AllocError> {
     let front = DSF_FRONT.as_slice();
     let number = number.to_le_bytes();
@@ -85,17 +86,17 @@ fn head_of(alloc: Global, (number, count, size): Claim) -> Result<Vec<u8>, Alloc
     .concat(alloc)
 }
 
-// What a head claims.
+// What a header claims: the number of channels, the bits of each, and the size of the chunk `data`.
 type Claim = (u32, u64, u64);
 
 // The header of 2,147,483,629 frames of 16 bits of one channel at 352,800 hertz.
 const HEADER: &[u8] =
     b"RIFF\xfe\xff\xff\xffWAVEfmt \x10\0\0\0\x01\0\x01\0\x20\x62\x05\0\x40\xc4\x0a\0\x02\0\x10\0data\xda\xff\xff\xff";
 
-// What a head claims, the numbers of a project, the fault, and what may be written. A group of blocks has
-// 32,768 bits of each channel in 4096 bytes. `2^36` bits in 6 channels are `2^33` frames of 18 bytes. In one channel
-// of 16 bits 2,147,483,629 frames are `2^32-38` bytes, which with 36 bytes around them are just fewer than `2^32`: the
-// header goes out before the sound is missed. With a bit more there is a frame more.
+// What a header claims, the numbers of a project, the fault, and what may be written. A group of blocks has 32,768 bits
+// of each channel in 4096 bytes. `2^36` bits in 6 channels are `2^33` frames of 18 bytes. With one channel of 16 bits,
+// 2,147,483,629 frames are `2^32-38` bytes, which with 36 bytes around them are just below `2^32`. So the header is
+// written before the sound is found to be missing. One more bit makes one more frame.
 const CLAIMS: [(Claim, Numbers, StreamFault, &[u8]); 4] = [
     (
         (6, 1 << 36, 51_539_607_564),
@@ -123,7 +124,7 @@ const CLAIMS: [(Claim, Numbers, StreamFault, &[u8]); 4] = [
     ),
 ];
 
-// Whether such a head is refused.
+// Whether such a header is refused.
 fn is_claim_refused(
     alloc: Global,
     (claim, numbers, fault, wave): (Claim, Numbers, StreamFault, &[u8]),
@@ -145,12 +146,12 @@ fn a_size_is_refused_before_the_first_write(rt: HostRuntime) {
     }
 }
 
-/// Whether `DECIMATE` doesn't play a file, for its own sake, and writes a front of these bytes.
+/// Whether `DECIMATE` doesn't play a file because of the file, and writes a prefix of these bytes.
 pub(crate) fn is_no_file(alloc: Global, file: &[u8], wave: &[u8]) -> bool {
     is_refused(alloc, DECIMATE, file, StreamFault::FileRefused, wave)
 }
 
-// The same of a file that was built.
+// The same for a file that was built.
 fn is_none_built(alloc: Global, file: Result<Vec<u8>, AllocError>, wave: &[u8]) -> bool {
     match file {
         Ok(file) => is_no_file(alloc, &file, wave),
@@ -158,19 +159,20 @@ fn is_none_built(alloc: Global, file: Result<Vec<u8>, AllocError>, wave: &[u8]) 
     }
 }
 
-// The front of `FILE`: nothing, a form's head cut, chunks' heads and data cut, the sound's head cut, and no sound.
+// Prefixes of `FILE`: nothing; the form's header cut; chunks' headers and data cut; the sound's header cut; and no
+// sound.
 #[test]
 fn a_cut_file_is_refused(rt: HostRuntime) {
     for end in 0..127 {
-        // The header may stand where the sound's head does.
+        // The WAVE header may be written once the sound's header is read.
         let wave = if end < 126 { b"" } else { &WAVE[..44] };
         assert!(rt; is_no_file(rt.alloc(), &FILE[..end], wave), "{end} bytes");
     }
 }
 
-// A place of `FILE`, other bytes there, and what may be written: another ID of the form; another type; a
-// version 2; a property that is no sound's; a rate below 1,000,000 hertz; no channel; a compression; a sound of 100
-// bytes; a form that ends in the sound's head; a form that is longer than the file, which its end shows.
+// A place of `FILE`, other bytes there, and what may be written: another ID of the form; another type; version 2; a
+// property that isn't of a sound; a rate below 1,000,000 hertz; no channel; a compression; a sound of 100 bytes; a form
+// that ends inside the sound's header; a form that is longer than the file, which is only known at the end.
 const CHANGES: [(usize, &[u8], &[u8]); 10] = [
     (0, b"FORM", b""),
     (12, b"AIFF", b""),
@@ -201,12 +203,12 @@ fn a_changed_file_is_refused(rt: HostRuntime) {
     }
 }
 
-// A DSDIFF file with these chunks in its sound property, and these behind its sound of one byte.
+// A DSDIFF file with these chunks in its sound property, and these after its sound of one byte.
 fn built(alloc: Global, parts: &[&[u8]], rest: &[u8]) -> Result<Vec<u8>, AllocError> {
     file_of(alloc, parts, &[0xf0], rest)
 }
 
-// Whether a file with this sound property, or with these chunks behind its sound, is refused.
+// Whether a file with this sound property, or with these chunks after its sound (the function below), is refused.
 fn is_property_refused(alloc: Global, parts: &[&[u8]]) -> bool {
     is_none_built(alloc, built(alloc, parts, b""), &[])
 }
@@ -224,7 +226,7 @@ fn a_file_of_another_property_is_refused(rt: HostRuntime) {
     assert!(rt; no_channels, "no channels");
 }
 
-// A mark of 21 bytes, one of a text that goes past its end, another sound, and a chunk's head cut.
+// A mark of 21 bytes, one with a text that goes past its end, another sound, and a chunk's header cut.
 const RESTS: [(&[u8], &str); 4] = [
     (SHORT_MARK, "a short mark"),
     (LONG_TEXT, "a long text"),
@@ -242,14 +244,14 @@ fn a_file_of_other_chunks_is_refused(rt: HostRuntime) {
 // A chunk of a sound of one byte.
 const SOUND: [u8; 14] = *b"DSD \0\0\0\0\0\0\0\x01\xf0\0";
 
-// A mark of 21 bytes, and one that tells of a text of one byte, and ends before it.
+// A mark of 21 bytes, and one that states a text of one byte and ends before it.
 const SHORT_MARK: &[u8] = b"DIIN\0\0\0\0\0\0\0\x22\
     MARK\0\0\0\0\0\0\0\x15\0\0\0\0\0\0\0\0\0\0\0\0\0\0\0\0\0\0\0\0\0\0";
 
 const LONG_TEXT: &[u8] = b"DIIN\0\0\0\0\0\0\0\x22\
     MARK\0\0\0\0\0\0\0\x16\0\0\0\0\0\0\0\0\0\0\0\0\0\0\0\0\0\0\0\0\0\x01";
 
-/// The DSF file of 4188 bytes with one bit, and eight other bytes at a place.
+/// The DSF file of 4188 bytes with one bit, with eight other bytes at a place.
 pub(crate) fn one_bit_with(
     alloc: Global,
     (place, bytes): (usize, [u8; 8]),
@@ -257,13 +259,13 @@ pub(crate) fn one_bit_with(
     changed(alloc, &one_bit(alloc, b"")?, place, &bytes)
 }
 
-// Whether that file is refused with this pointer to a tag, but for a front of what it is played to.
+// Whether that file is refused with this pointer to a tag, after at most a prefix of what it is played to was written.
 fn is_pointed_refused(alloc: Global, pointer: u64) -> bool {
     let file = one_bit_with(alloc, (20, pointer.to_le_bytes()));
     is_none_built(alloc, file, &sample([4, 0]))
 }
 
-// A tag begins behind the sound, at the file's end at the latest.
+// A tag begins after the sound, at the file's end at the latest.
 #[test]
 fn a_dsf_file_without_its_whole_is_refused(rt: HostRuntime) {
     for pointer in [1, 4187, 4189, u64::MAX] {

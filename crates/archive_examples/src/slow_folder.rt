@@ -1,11 +1,11 @@
-//! A file that takes more reads than a limit of some thousand or million would let: it is read to its end.
+//! A file that needs more reads than a limit of a thousand or a million would allow is read to its end.
 
 use crate::watched_folder::WatchedFolder;
 use command_core::MemoryFolder;
 use folder_core::read_file;
 use std::alloc::{AllocError, Global};
 
-// A folder of one file of so many bytes, which gives one byte a read.
+// A folder of one file of `size` bytes, which gives one byte per read.
 fn slow_folder(alloc: Global, size: usize) -> Result<WatchedFolder, AllocError> {
     let bytes = vec![in alloc; 7; size]?;
     let mut files = MemoryFolder::new(alloc);
@@ -13,7 +13,7 @@ fn slow_folder(alloc: Global, size: usize) -> Result<WatchedFolder, AllocError> 
     Ok(WatchedFolder::over(alloc, files, ("drip", "", 0)))
 }
 
-// Whether a file of so many bytes is read whole.
+// Whether a file of `size` bytes is read whole.
 fn is_read(alloc: Global, size: usize) -> Result<bool, AllocError> {
     let mut folder = slow_folder(alloc, size)?;
     match read_file(alloc, &mut folder, "a") {

@@ -1,5 +1,5 @@
-//! Small files played in memory, and from a reader that gives 1, 7 or 4096 bytes at a time: what is written doesn't hang
-//! on how the reads are cut.
+//! Small files played in memory, and from a reader that gives 1, 7 or 4096 bytes at a time. What is written doesn't
+//! depend on how the file is split into reads.
 
 use crate::played::{ONES, check_played, play_on, plays, plays_built, two_groups};
 use crate::streamed::NEVER;
@@ -34,7 +34,7 @@ fn plays_one_sample(rt: HostRuntime) {
     }
 }
 
-// The form's size ends at 11 and the sound's at 125, as the RIFF's begins at 4 and the data's at 40.
+// The form's size ends at 11 and the sound's at 125. The size of RIFF begins at 4 and that of the data at 40.
 #[test]
 fn plays_no_sound(rt: HostRuntime) {
     let mut file = FILE;
@@ -46,19 +46,19 @@ fn plays_no_sound(rt: HostRuntime) {
     assert!(rt; plays(rt.alloc(), DECIMATE, &file[..126], &wave[..44]));
 }
 
-// Chunks of channels, a byte of each, and what `DECIMATE` plays them to.
+// Channel chunks, a byte of each channel, and what `DECIMATE` plays them to.
 const FRAMES: [(&[u8], &[u8], &[u8]); 2] = [
     (&STEREO, &[0xf0, 0x0f], &TWO_CHANNELS),
     (&THREE, &[0xf0, 0x0f, 0xf0], &THREE_CHANNELS),
 ];
 
-// Whether it does.
+// Whether it does so.
 fn plays_frame(alloc: Global, (channels, sound, wave): (&[u8], &[u8], &[u8])) -> bool {
     let file = file_of(alloc, &[&RATE, channels, &RAW], sound, &[]);
     plays_built(alloc, file, wave)
 }
 
-// Of the DSF file's first byte the first bit alone counts, which the fourth tap reads.
+// Only the first bit of the DSF file's first byte counts, and the fourth tap reads it.
 #[test]
 fn plays_several_channels_and_dsf(rt: HostRuntime) {
     let alloc = rt.alloc();
@@ -82,8 +82,8 @@ fn plays_24_bits(rt: HostRuntime) {
     assert!(rt; plays(rt.alloc(), WIDER, &FILE, &WIDE));
 }
 
-// The pad counted in the size of the chunk `CMPR`, no pad behind the last chunk, bytes behind the form, and a mark
-// behind the sound.
+// The pad counted in the size of the chunk `CMPR`, no pad after the last chunk, bytes after the form, and a mark after
+// the sound.
 #[test]
 fn plays_files_of_usual_writers(rt: HostRuntime) {
     let alloc = rt.alloc();
@@ -106,7 +106,7 @@ fn plays_the_edges_of_33_taps(rt: HostRuntime) -> Result<(), Fail> {
     Ok(())
 }
 
-// A mark behind the sound, and a tag behind two groups of blocks.
+// A mark after the sound, and a tag after two groups of blocks.
 #[test]
 fn keeps_what_stands_behind_the_sound(rt: HostRuntime) -> Result<(), Fail> {
     let alloc = rt.alloc();
@@ -117,7 +117,7 @@ fn keeps_what_stands_behind_the_sound(rt: HostRuntime) -> Result<(), Fail> {
     check_played(&rt, alloc, (DECIMATE, &blocks, 100), &wave)
 }
 
-// Whether what stands behind three bytes is played to these from an inlet that gave the three before.
+// Whether what follows three bytes is played to these, from an inlet that already gave the three.
 fn plays_behind(alloc: Global, bytes: &[u8], wave: &[u8]) -> bool {
     let mut inlet = Inlet::new(drip(bytes, 100, NEVER));
     let pulled = inlet.pull(&mut [0; 3]);
@@ -125,7 +125,7 @@ fn plays_behind(alloc: Global, bytes: &[u8], wave: &[u8]) -> bool {
     matches!(pulled, Ok(3)) && played.plays(wave)
 }
 
-// Whether a file behind three others is.
+// The same for a file after three other bytes.
 fn plays_behind_others(
     alloc: Global,
     file: Result<Vec<u8>, AllocError>,
@@ -136,7 +136,7 @@ fn plays_behind_others(
     Ok(plays_behind(alloc, &bytes, wave))
 }
 
-// What the inlet counted before is none of the file's.
+// What the inlet counted before doesn't count for the file.
 #[test]
 fn plays_files_behind_other_bytes(rt: HostRuntime) {
     let alloc = rt.alloc();

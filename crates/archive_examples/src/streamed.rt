@@ -1,4 +1,4 @@
-//! What came of a reader's file that was played or converted to a writer.
+//! The result of playing or converting a reader's file to a writer.
 
 use archive_core::{Fault, StreamFault};
 use fixtures::devices::{Sipping, sip};
@@ -6,7 +6,7 @@ use std::alloc::{AllocError, Global};
 use std::process::Abort;
 use std::test::Fail;
 
-/// A read or write that never comes.
+/// The number of a read or write that never comes.
 pub(crate) const NEVER: u64 = u64::MAX;
 
 /// The answer, how many reads there were, how many reads and how many writes failed, and what was written.
@@ -19,36 +19,38 @@ pub(crate) struct Streamed {
 }
 
 impl Streamed {
-    /// Whether this was answered, no read or write failed, and these bytes were written.
+    /// Whether this was returned, no read or write failed, and these bytes were written.
     pub(crate) fn gives(&self, answer: u64, bytes: &[u8]) -> bool {
         matches!(self.answer, Ok(number) if number == answer)
             && self.failures == (0, 0)
             && self.bytes.as_slice() == bytes
     }
 
-    /// Whether these bytes were written, and their number is the answer.
+    /// Whether these bytes were written, their number is the answer, and nothing failed.
     pub(crate) fn plays(&self, wave: &[u8]) -> bool {
         self.gives(wave.len() as u64, wave)
     }
 
-    // Whether this fault was answered, so many reads and writes failed, and what was written is a front of these bytes.
+    // Whether this fault was returned, this many reads and writes failed, and what was written is a prefix of these
+    // bytes.
     fn stops(&self, fault: StreamFault, failures: (u64, u64), bytes: &[u8]) -> bool {
         matches!(self.answer, Err(Fault::Stream(found)) if found == fault)
             && self.failures == failures
             && bytes.starts_with(&self.bytes)
     }
 
-    /// Whether it was refused for this fault, no read or write failed, and what was written is a front of these bytes.
+    /// Whether it was refused with this fault, no read or write failed, and what was written is a prefix of these
+    /// bytes.
     pub(crate) fn is_refused(&self, fault: StreamFault, bytes: &[u8]) -> bool {
         self.stops(fault, (0, 0), bytes)
     }
 
-    /// Whether a read failed, and what was written is a front of these bytes.
+    /// Whether a read failed, and what was written is a prefix of these bytes.
     pub(crate) fn stops_reading(&self, bytes: &[u8]) -> bool {
         self.stops(StreamFault::ReadFailed, (1, 0), bytes)
     }
 
-    /// Whether a write failed, and just these bytes were written.
+    /// Whether a write failed, and exactly these bytes were written.
     pub(crate) fn stops_writing(&self, bytes: &[u8]) -> bool {
         self.stops(StreamFault::WriteFailed, (0, 1), bytes) && self.bytes.len() == bytes.len()
     }
@@ -59,14 +61,15 @@ pub(crate) fn is_named(alloc: Global, fault: Fault, name: &str) -> Result<bool, 
     Ok(fault.to_string(alloc)?.as_str() == name)
 }
 
-/// A writer that takes so many bytes without a growth: of one that is refused it would say that the write failed.
+/// A writer that takes `size` bytes without a growth, because it would report a refused growth as a failed write.
 pub(crate) fn roomy(alloc: Global, size: usize) -> Result<Sipping, AllocError> {
     let mut writer = sip(alloc, NEVER, NEVER);
     writer.bytes.reserve(size)?;
     Ok(writer)
 }
 
-/// These bytes were written and this was answered, or a front of them; what was refused is handed out.
+/// Asserts that these bytes were written and this was returned, or that a prefix of them was written. A refusal is
+/// returned.
 pub(crate) fn check_streamed(
     rt: &impl Abort,
     streamed: &Streamed,

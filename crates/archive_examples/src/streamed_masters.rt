@@ -1,5 +1,5 @@
-//! `check` of masters that it reads once, and doesn't hold: which files it asks for, also where a call fails. What it says
-//! of small masters is asked of the command, by `tools/try_commands`.
+//! `check` of masters that it reads once and doesn't hold: which files it asks for, also if a call fails. For its
+//! verdicts on small masters `tests/try_commands` runs the command.
 
 use crate::builders::{CERT, CUES, FREE, ONES, Sources, ZEROS, fast, sources_with, splice};
 use crate::folders;
@@ -70,7 +70,7 @@ const CALLS: [Asked; 6] = [
     ),
 ];
 
-// The folder of what is cut.
+// A folder with a master that was cut, and its certificate.
 fn cut(alloc: Global) -> Result<MemoryFolder, AllocError> {
     let text = splice(alloc, "1, 1", &CUES);
     let sources = sources_with(alloc, text, &ONES, &ZEROS)?;
@@ -86,8 +86,8 @@ fn asks_for_files_in_order(rt: HostRuntime) {
     }
 }
 
-// Takes of two rates: master and certificate are read through before that is told, and nothing is where one can't be. The
-// certificate has 46 bytes.
+// Takes of two rates. Master and certificate are read through before that is reported, and it isn't reported if one of
+// them can't be read. The certificate has 46 bytes.
 const UNCUT: [Asked; 4] = [
     ("nothing", NOTHING, "fault: TakeMismatch 1", TO_CERT),
     OPENING_MASTER,

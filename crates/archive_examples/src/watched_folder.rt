@@ -1,4 +1,4 @@
-//! A folder in memory that notes what is asked of it, and fails, changes or is slow where a test says.
+//! A folder in memory that records its calls, and fails, changes or is slow as a test says.
 
 ghost use Rattle.folder_core.specs.Files.{untold};
 
@@ -8,26 +8,26 @@ use std::fmt::Write as _;
 use std::io;
 use std::io::{Cursor, ErrorKind, Read, Write};
 
-/// What fails: to `open`, `create` or `keep` the file of a name, or to `read` or `write` it after so many bytes; where it
-/// is read, files give seven bytes a read. Or what is unusual: files `drip`, one byte a read; or they `change`, each to the
-/// one that is named `changed`, once files were opened so often.
+/// What fails: to `open`, `create` or `keep` the file with a name, or to `read` or `write` it after a number of bytes.
+/// If reading fails, files give seven bytes per read. Or what is unusual: files `drip`, one byte per read; or they
+/// `change`, each to the one that is named `changed`, after files were opened a number of times.
 pub(crate) type Failure = (&'static str, &'static str, usize);
 
-/// What fails in words and as a failure, what is printed then, and what the folder is asked for, and no more.
+/// What fails, in words and as a failure, what is printed then, and exactly what the folder is asked for.
 pub(crate) type Asked = (&'static str, Failure, &'static str, &'static str);
 
 /// Nothing fails.
 pub(crate) const NOTHING: Failure = ("", "", 0);
 
-/// Files in memory, of which it tells nothing.
+/// Files in memory, of whose bytes nothing is known.
 #[derive(Drop)]
 pub(crate) struct WatchedFolder {
     /// The files.
     pub(crate) files: MemoryFolder,
-    /// The calls, a line each.
+    /// The calls, one per line.
     pub(crate) calls: String,
     failure: Failure,
-    // How often files are opened before they change.
+    // How many times files are opened before they change.
     steady: usize,
     // How many bytes a read gives at most.
     most: usize,
@@ -58,7 +58,7 @@ impl WatchedFolder {
         }
     }
 
-    // Notes a call, and says whether it is done.
+    // Records a call, and returns whether it is done.
     fn note(&mut self, call: &str, name: &str) -> bool {
         writeln!(self.calls, "{call} {name}").is_ok() && !self.fails(call, name)
     }
@@ -69,7 +69,7 @@ impl WatchedFolder {
         failing == call && at == name
     }
 
-    // How many bytes the file of a name gives, or has room for, before the call fails.
+    // How many bytes the file with this name gives, or has room for, before the call fails.
     fn room(&self, call: &str, name: &str) -> usize {
         if self.fails(call, name) {
             self.failure.2
@@ -79,7 +79,7 @@ impl WatchedFolder {
     }
 }
 
-/// A file that gives so many bytes a read at most, and so many before a read fails.
+/// A file that gives at most `most` bytes per read, and `left` bytes before a read fails.
 #[derive(Drop)]
 pub(crate) struct WatchedInput {
     bytes: Cursor<Vec<u8>>,
@@ -101,7 +101,7 @@ impl Read for WatchedInput {
     }
 }
 
-/// A file that has room for so many bytes.
+/// A file that has room for `room` bytes.
 pub(crate) struct WatchedOutput {
     bytes: Vec<u8>,
     room: usize,

@@ -1,4 +1,4 @@
-//! The reading of an entry, a row at a time.
+//! Reads an entry, a row at a time.
 
 ghost use Rattle.std.specs.Prelude.{◌≡◌, ℕ, ◌+◌, ◌*◌, ◌-◌, ◌^◌, ◌<◌, ◌≤◌, length, slice_index_or, IfOk, OnOk};
 ghost use Rattle.std.specs.Int.{w64, to_be_bytes};
@@ -24,7 +24,7 @@ use dsd_bits::Bits;
 use std::alloc::{AllocError, Global};
 use std::io::Read;
 
-// A number of eight bytes.
+// Reads a number of eight bytes.
 fn read_number<R: Read>(inlet: &mut Inlet<R>) -> Result<u64, Stop>
     requires { inlet_failures inlet.old < 2 ^ 64 - 1 }
     ensures ok { IfOk result (λ value. Gives R.remaining inlet.old inlet.new (to_be_bytes w64 value)) }
@@ -36,7 +36,7 @@ fn read_number<R: Read>(inlet: &mut Inlet<R>) -> Result<u64, Stop>
     Ok(number_in(bytes))
 }
 
-// The start of an entry, which has to be of this cue, this channel and a bridge of this length.
+// Reads the start of an entry, which must be of this cue, this channel and a bridge of this length.
 fn read_start<R: Read>(
     inlet: &mut Inlet<R>,
     cue: u16,
@@ -61,14 +61,14 @@ fn read_start<R: Read>(
     Ok(())
 }
 
-// A row of so many zeros.
+// A row of `count` zeros.
 fn make_row(alloc: Global, count: usize) -> Result<Vec<u64>, AllocError>
     ensures { IfOk result (λ row. length row.items ≡ count) }
 {
     vec![in alloc; 0; count]
 }
 
-// The last row, after the rows of all levels. Two rows, the steps of one level and the bytes of a row are held.
+// Reads the rows of all levels and returns the last. It holds two rows, the steps of one level and the bytes of a row.
 fn read_rows<R: Read>(
     alloc: Global,
     inlet: &mut Inlet<R>,
@@ -98,7 +98,7 @@ fn read_rows<R: Read>(
     Ok(previous)
 }
 
-// The cost, which has to be `found`, that of the bits, and no more than any end of the last row. `tails` is
+// Reads the cost. It must be `found`, the cost of the bits, and no more than any end of the last row. `tails` is
 // overwritten.
 fn read_end<R: Read>(
     inlet: &mut Inlet<R>,
@@ -129,14 +129,14 @@ fn read_end<R: Read>(
     }
 }
 
-/// Which bridge an entry is of: the one after a cue, in a channel.
+/// Which bridge an entry is of: the one after this cue, in this channel.
 #[derive(Clone, Copy)]
 pub struct Place {
     pub cue: u16,
     pub channel: u16,
 }
 
-/// Reads an entry of a version, whose table has to be valid for the bits. The answer is what they cost.
+/// Reads an entry of a version, whose table must be valid for the bits, and returns what they cost.
 pub(crate) fn read_entry<R: Read>(
     alloc: Global,
     inlet: &mut Inlet<R>,

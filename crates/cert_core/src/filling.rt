@@ -1,4 +1,4 @@
-//! The reading of bytes that have to be there.
+//! Reads bytes that must be there.
 
 ghost use Rattle.std.specs.Prelude.{◌≡◌, ◌+◌, ◌-◌, ◌<◌, ◌^◌, length, OnOk};
 ghost use Rattle.device_core.specs.Inlets.{Gives, inlet_failures, inlet_reader};
@@ -9,7 +9,7 @@ use crate::verdict::CertReason;
 use device_core::Inlet;
 use std::io::Read;
 
-/// Fills a buffer with the next bytes. Reason: `Cut` where there are fewer.
+/// Fills a buffer with the next bytes. Reason: `Cut` if there are fewer.
 pub(crate) fn fill<R: Read>(inlet: &mut Inlet<R>, buffer: &mut [u8]) -> Result<(), Stop>
     requires { inlet_failures inlet.old < 2 ^ 64 - 1 }
     ensures ok { OnOk result (Gives R.remaining inlet.old inlet.new buffer.new) }

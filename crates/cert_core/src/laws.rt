@@ -2,7 +2,7 @@
 
 ghost use Rattle.cert_core.specs.Composing.{PartsAreEntry, EntriesJoin, HeadAndEntries, ShownIsRead, ReadIsCert, CertHasHead, CertIsRead, ReadMore, NextIsRead, NothingFollows, ShownIsLeast, OneReason, ByteWidthIsLeast};
 
-/// The parts that a writer writes in order are the text of the certificate.
+/// The parts that a writer writes, in order, are the text of the certificate.
 pub fn parts_join()
     ensures entry { PartsAreEntry }
     ensures entries { EntriesJoin }
@@ -14,8 +14,7 @@ pub fn shown_is_read()
     ensures { ShownIsRead }
 {}
 
-/// A head, then an entry for each claim, each of which shows it, and then nothing: these are just the
-/// certificates.
+/// A header, then for each claim an entry that shows it, and then nothing: exactly these are the certificates.
 pub fn read_is_cert()
     ensures read { ReadIsCert }
     ensures head { CertHasHead }
@@ -23,24 +22,24 @@ pub fn read_is_cert()
     ensures more { ReadMore }
 {}
 
-/// Where entries were read for the first claims, the next bytes of a certificate are the entry of the
-/// next claim, and after all claims there are none.
+/// If entries were read for the first claims, the next bytes of a certificate are the entry of the next claim. After
+/// all claims no bytes are left.
 pub fn cert_goes_on()
     ensures next { NextIsRead }
     ensures end { NothingFollows }
 {}
 
-/// Bits that an entry shows to be least are least.
+/// Bits that an entry shows to cost least do cost least.
 pub fn shown_is_least()
     ensures { ShownIsLeast }
 {}
 
-/// Bytes have one first reason at most, so the answer of a rejection is determined.
+/// Bytes have at most one first reason, so they determine the answer of a rejection.
 pub fn one_reason()
     ensures { OneReason }
 {}
 
-/// The width in which a row spells its values is the least that holds the greatest of them.
+/// The width in which a row spells its excesses is the least that holds the greatest of them.
 pub fn byte_width_is_least()
     ensures { ByteWidthIsLeast }
 {}

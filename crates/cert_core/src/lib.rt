@@ -1,37 +1,40 @@
-//! Certificates: tables of bounds that show the bits of bridges to be least.
+//! Certificates: tables of bounds which show that the bits of bridges cost least.
 //!
-//! A bridge of `L` bits between two cues is one of `2^L` lists. That none of them costs less than the one
-//! chosen is shown by a table: for each level from 0 to `L` and each state of a trellis a number below
-//! which no bits lead there. Whoever has such a table, the takes and the bits checks it step by step, and
-//! needs neither the search that chose the bits nor trust in who wrote the table. `docs/CERTIFICATES.md`
-//! says why, and has the format and an example by hand.
+//! A bridge of `L` bits between two cues is one of `2^L` lists. A table shows that none of them costs less than the
+//! chosen one. For each level from 0 to `L` and each state of a trellis it has a number, and no bits that lead there
+//! cost less than this number. Whoever has such a table, the takes and the bits can check it step by step. That needs
+//! neither the search that chose the bits nor trust in whoever wrote the table. `docs/CERTIFICATES.md` says why, and
+//! has the format and an example worked out by hand.
 //!
-//! A [`CertWriter`] writes a certificate of either [`Version`] to an outlet, part by part, within a [`CertRoom`] that is
-//! made with it or before it; as a `LevelSink` it takes the rows of a search. A [`CertReader`] reads one of either version from an inlet, two rows at a time (`row_reader`), and
-//! [`check_bridge`](CertReader::check_bridge) judges the bits of a bridge by the next entry: bounds, steps and
-//! ends eight states at a time, and one at a time what is left, and where something is wrong (`rows`). This
-//! crate knows nothing of the search.
+//! A [`CertWriter`] writes a certificate of either [`Version`] to an outlet, part by part. Its memory is a
+//! [`CertRoom`], which is made with it or before it. As a `LevelSink` it takes the rows of a search.
+//!
+//! A [`CertReader`] reads a certificate of either version from an inlet and holds two rows at a time (`row_reader`).
+//! Its [`check_bridge`](CertReader::check_bridge) judges the bits of a bridge by the next entry. It checks bounds,
+//! steps and ends for eight states at a time; it goes state by state for the rest, and where something is wrong
+//! (`rows`). This crate knows nothing of the search.
 //!
 //! The words of its contracts, all over lists and numbers without bounds:
 //!
-//! - `cert_text version weights entries` is the whole text, of `cert_head` and of a `cert_entry` for each `Entry`
-//!   (`specs/Text.antt`); `row_text version row` is that of a row, and `Holds version m bytes row rest` says that bytes
-//!   hold a row of `m` values in its form, whether or not they are its text (`specs/Spelling.antt`). A third version
-//!   would be one more case of each. The validity of a table is `IsValid` of `cost_core`: five plain facts.
-//! - `IsEntry version t cue channel x bytes`: the bytes are an entry with a table that is valid for the bits `x`;
-//!   `BeginsValid`: they begin with one (`specs/Entries.antt`).
-//! - `FirstReason version t cue channel found bytes reason`: the first reason, in the stated order, why they don't
+//! - `cert_text version weights entries` is the whole text: a `cert_head`, and a `cert_entry` for each `Entry`
+//!   (`specs/Text.antt`). `row_text version row` is the text of a row. `Holds version m bytes row rest` says that bytes
+//!   hold a row of `m` values in the form of the version, whether or not they are its text (`specs/Spelling.antt`). A
+//!   third version would be one more case of each. The validity of a table is `IsValid` of `cost_core`: five plain
+//!   facts.
+//! - `IsEntry version t cue channel x bytes` says that the bytes are an entry with a table that is valid for the bits
+//!   `x`, `BeginsValid` that they begin with one (`specs/Entries.antt`).
+//! - `FirstReason version t cue channel found bytes reason` is the first reason, in the stated order, why they don't
 //!   (`specs/Reasons.antt`).
-//! - `Claim` is what an entry is to show, and `IsCert weights claims bytes` says that the bytes are the
-//!   certificate, of either version, of entries that show all claims (`specs/Certificates.antt`).
-//! - `stage` is where a writer stands: `has_head`, `entries_left`, `is_open`; and `rows_left`
-//!   (`specs/Writers.antt`).
+//! - `Claim` is what an entry has to show. `IsCert weights claims bytes` says that the bytes are a certificate, of
+//!   either version, whose entries show all claims (`specs/Certificates.antt`).
+//! - `stage` says how far a writer has come: `has_head`, `entries_left` and `is_open`. `rows_left` is how many rows it
+//!   still takes (`specs/Writers.antt`).
 //!
-//! What it promises: `Accepted` exactly for a valid entry of these bits, which are then least; else the
-//! first reason, or `Device` exactly where a read failed, or want of memory. Each part of a certificate
-//! that is written is just its part of the text. Functions that do nothing carry the laws that callers
-//! prove with (`specs/Composing.antt`): [`parts_join`], [`shown_is_read`], [`read_is_cert`],
-//! [`cert_goes_on`], [`shown_is_least`], [`one_reason`], [`byte_width_is_least`].
+//! What it promises: the answer is `Accepted` exactly for a valid entry of these bits, and then no bits cost less.
+//! Otherwise it is the first reason, or `Device` exactly if a read failed, or `Memory`. Each part of a certificate that
+//! is written is exactly its part of the text. Functions that do nothing carry the laws that callers prove with
+//! (`specs/Composing.antt`): [`parts_join`], [`shown_is_read`], [`read_is_cert`], [`cert_goes_on`], [`shown_is_least`],
+//! [`one_reason`], [`byte_width_is_least`].
 //!
 //! ```text
 //! // The bridge of one bit by the weights 1, 0 from ones to zeros: both bits cost 4.

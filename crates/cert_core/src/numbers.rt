@@ -1,4 +1,4 @@
-//! Numbers as bytes, the highest byte first.
+//! Numbers as bytes, highest byte first.
 
 ghost use Rattle.std.specs.Prelude.{◌≡◌, ◌≢◌, ◌*◌, ◌≤◌, length, IfOk, MatchOption};
 ghost use Rattle.std.specs.Int.{w32, w64, to_be_bytes};
@@ -18,7 +18,7 @@ fn number_of(version: Version) -> u16
     }
 }
 
-/// The head of a certificate.
+/// The header of a certificate.
 pub(crate) fn head_bytes(version: Version, weights: usize, entries: u32) -> [u8; 12]
     requires { weights ≤ 12 }
     ensures { result ≡ cert_head version weights entries }
@@ -32,7 +32,7 @@ pub(crate) fn head_bytes(version: Version, weights: usize, entries: u32) -> [u8;
     ]
 }
 
-/// The version of which these twelve bytes are the head.
+/// The version whose header these twelve bytes are, if there is one.
 pub(crate) fn version_in(bytes: &[u8; 12], weights: usize, entries: u32) -> Option<Version>
     requires { weights ≤ 12 }
     ensures { MatchOption result
@@ -85,7 +85,7 @@ pub(crate) fn number_in(bytes: [u8; 8]) -> u64
     u64::from(high) * 4294967296 + u64::from(low)
 }
 
-/// Takes the numbers of a row out of their bytes.
+/// Decodes the numbers of a row from their bytes.
 pub(crate) fn take_row(bytes: &[u8], row: &mut [u64])
     requires { length bytes.now ≡ 8 * length row.old }
     ensures { bytes.now ≡ row_text Version.One row.new }
@@ -96,7 +96,7 @@ pub(crate) fn take_row(bytes: &[u8], row: &mut [u64])
     }
 }
 
-/// A buffer of so many bytes.
+/// A buffer of `count` bytes.
 pub(crate) fn make_buffer(alloc: Global, count: usize) -> Result<Vec<u8>, AllocError>
     ensures { IfOk result (λ buffer. length buffer.items ≡ count) }
 {

@@ -20,9 +20,9 @@ use dsd_bits::Bits;
 use std::alloc::Global;
 use std::io::Read;
 
-/// A reader of a certificate: [`read_head`](CertReader::read_head), then
-/// [`check_bridge`](CertReader::check_bridge) for each entry, then [`at_end`](CertReader::at_end). After
-/// a rejection, `Device` or `Memory` its place is open, and nothing more is asked of it.
+/// A reader of a certificate: [`read_head`](CertReader::read_head), then [`check_bridge`](CertReader::check_bridge) for
+/// each entry, then [`at_end`](CertReader::at_end). After a rejection, `Device` or `Memory` its position is
+/// unspecified, so don't call it again.
 #[derive(Drop)]
 pub struct CertReader<R> {
     inlet: Inlet<R>,
@@ -33,7 +33,7 @@ pub struct CertReader<R> {
 impl<R: Read> CertReader<R> {
     ghost use Rattle.cert_core.specs.Readers.{IfLeft, cert_inlet, check_failures, has_read_head, read_version, IfAccepted, IfRejected, failed_checks, IsWell, IfReason, InHead, InRest};
 
-    /// A reader at the inlet's place.
+    /// A reader that starts where the inlet is.
     pub fn new(inlet: Inlet<R>) -> CertReader<R>
         ensures inlet { cert_inlet result ≡ inlet }
         ensures head { has_read_head result ≡ false }
@@ -45,7 +45,7 @@ impl<R: Read> CertReader<R> {
         }
     }
 
-    /// The inlet, as it stands.
+    /// The inlet, at its present position.
     pub fn into_inlet(self) -> Inlet<R>
         ensures { result ≡ cert_inlet self }
     {
@@ -57,10 +57,11 @@ impl<R: Read> CertReader<R> {
         inlet
     }
 
-    /// Reads the head, which has to be that of so many weights and entries in either version. None means that it is.
+    /// Reads the header, which must be that of `weights` weights and `entries` entries, in either version. None means
+    /// that it is.
     ///
-    /// Reasons, in this order: `Cut` where fewer than 12 bytes are left, `Head`. Refusal: `Device` where
-    /// a read fails. It takes no memory.
+    /// Reasons, in this order: `Cut` if fewer than 12 bytes are left, `Head`. Refusal: `Device` if a read fails. It
+    /// takes no memory.
     pub fn read_head(
         &mut self,
         weights: usize,
@@ -71,12 +72,12 @@ impl<R: Read> CertReader<R> {
         ensures none { IsWell result → Gives R.remaining (cert_inlet self.old) (cert_inlet self.new) (cert_head (read_version self.new) weights entries) }
         ensures read { IsWell result → has_read_head self.new ≡ true }
 
-        // Known bytes have this reason first, and don't begin with the head.
+        // If the bytes are known, this is their first reason, and they don't begin with the header.
         ensures reason { IfReason result (InHead weights entries (R.remaining (inlet_reader (cert_inlet self.old)))) }
         ensures only { IfReason result (λ _. IfLeft R.remaining self.old
             (λ bytes. (v : Version) → (rest : List ℕ) → bytes ≡ cert_head v weights entries ++ rest → ⊥)) }
 
-        // The answer is `Device` exactly where a read failed, and never `Memory`.
+        // The answer is `Device` exactly if a read failed, and never `Memory`.
         ensures failures { check_failures self.new
             ≡ check_failures self.old + failed_checks result }
         ensures memory { IsErrOf result CheckFault.Memory → ⊥ }
@@ -96,16 +97,22 @@ impl<R: Read> CertReader<R> {
         Ok(None)
     }
 
-    /// Reads the next entry, in the version that the head told, and judges by it the bits of the bridge after `cue` in `channel`. `Accepted`
-    /// says that the entry's table is valid for them, and so no bits of the bridge's length cost less.
+    /// Reads the next entry, in the version that the header names, and judges by it the bits of the bridge after `cue`
+    /// in `channel`. `Accepted` says that the entry's table is valid for these bits, so no bits of the bridge's length
+    /// cost less.
     ///
-    /// Reasons, in this order: `Cut` where the 6 bytes of its start aren't there, `Head` for another cue
-    /// or channel, `Length`; for each level in turn `Cut`, `Bound`, at level 0 `Start`, at the others
-    /// `Step` for the lowest such state; then `Cut`, `Cost`, and `End` for the lowest such state. Of a row of the
-    /// second version they are `Cut` where its first 9 bytes aren't there, `Row` for a width above 8, `Cut`, `Bound`,
-    /// and `Row` where no excess is 0 or the width isn't the least.
-    /// Refusals: `Device` where a read fails, `Memory`. Two rows of the table are held at a time, and the
-    /// bytes of one, which are read whole.
+    /// Reasons, in this order:
+    /// 1. `Cut` if the 6 bytes of the entry's start aren't there, `Head` for another cue or channel, `Length`.
+    /// 2. For each level in turn `Cut`, `Bound`, and then at level 0 `Start`, at the others `Step` for the lowest such
+    ///    state.
+    /// 3. `Cut`, `Cost`, and `End` for the lowest such state.
+    ///
+    /// For a row of the second version, step 2 has these in place of `Cut` and `Bound`: `Cut` if its first 9 bytes
+    /// aren't there, `Row` for a width above 8, `Cut`, `Bound`, and `Row` if no excess is 0 or the width isn't the
+    /// least.
+    ///
+    /// Refusals: `Device` if a read fails, `Memory`. It holds two rows of the table at a time, and the bytes of one
+    /// row, which are read whole.
     pub fn check_bridge(
         &mut self,
         alloc: Global,
@@ -118,24 +125,24 @@ impl<R: Read> CertReader<R> {
         requires head { has_read_head self.old ≡ true }
         requires bits { length bits.now ≡ window.now.levels }
 
-        // Just one entry was read, whose table is valid for the bits.
+        // Exactly one entry was read, whose table is valid for the bits.
         ensures entry { IfAccepted result (λ _. ReadsEntry (read_version self.old)
             (trellis_of window.now) cue channel bits.now (R.remaining (inlet_reader (cert_inlet self.old)))
             (R.remaining (inlet_reader (cert_inlet self.new)))) }
         ensures cost { IfAccepted result (λ cost. cost ≡ bridge_cost window.now bits.now) }
         ensures least { IfAccepted result (λ _. IsLeastBridge window.now bits.now) }
 
-        // Known bytes have this reason first, and begin with no such entry.
+        // If the bytes are known, this is their first reason, and they begin with no such entry.
         ensures reason { IfRejected result (InEntry (read_version self.old) (trellis_of window.now) cue channel
             (bridge_cost window.now bits.now) (R.remaining (inlet_reader (cert_inlet self.old)))) }
         ensures only { IfRejected result (λ _. IfLeft R.remaining self.old
             (λ bytes. BeginsValid (read_version self.old) (trellis_of window.now) cue channel bits.now bytes → ⊥)) }
 
-        // The answer is `Device` exactly where a read failed.
+        // The answer is `Device` exactly if a read failed.
         ensures failures { check_failures self.new
             ≡ check_failures self.old + failed_checks result }
 
-        // What was read of the head stays.
+        // What was read of the header is unchanged.
         ensures read { has_read_head self.new ≡ has_read_head self.old }
         ensures version { read_version self.new ≡ read_version self.old }
     {
@@ -154,15 +161,15 @@ impl<R: Read> CertReader<R> {
         }
     }
 
-    /// Whether the certificate ends here. None means that it does.
+    /// Whether the certificate ends here: None means that it does.
     ///
-    /// Reason: `Extra`. Refusal: `Device` where a read fails. It takes no memory.
+    /// Reason: `Extra`. Refusal: `Device` if a read fails. It takes no memory.
     pub fn at_end(&mut self) -> Result<Option<CertReason>, CheckFault>
         requires { check_failures self.old < 2 ^ 64 - 1 }
         ensures none { IsWell result → IsAtEnd (R.remaining (inlet_reader (cert_inlet self.old))) }
         ensures reason { IfReason result (InRest (R.remaining (inlet_reader (cert_inlet self.old)))) }
 
-        // The answer is `Device` exactly where a read failed, and never `Memory`.
+        // The answer is `Device` exactly if a read failed, and never `Memory`.
         ensures failures { check_failures self.new
             ≡ check_failures self.old + failed_checks result }
         ensures memory { IsErrOf result CheckFault.Memory → ⊥ }

@@ -1,11 +1,12 @@
-//! Room for a writer of certificates.
+//! Memory for a writer of certificates.
 
 ghost use Rattle.std.specs.Prelude.{◌≡◌, ◌+◌, ◌*◌, ◌-◌, ◌^◌, ◌≤◌, length, IfOk};
 
 use crate::numbers::make_buffer;
 use std::alloc::{AllocError, Global};
 
-/// Room for the bytes of a row: all memory that a certificate of bridges for so many weights needs while it is written.
+/// Memory for the bytes of a row. A certificate of bridges by `weights` weights needs no other memory while it is
+/// written.
 #[derive(Drop)]
 pub struct CertRoom {
     pub(crate) buffer: Vec<u8>,
@@ -17,7 +18,7 @@ pub struct CertRoom {
 impl CertRoom {
     ghost use Rattle.cert_core.specs.Rooms.{room_weights};
 
-    /// Room for bridges of so many weights. Err is want of memory.
+    /// Memory for bridges by `weights` weights. Err is out of memory.
     pub fn new(alloc: Global, weights: usize) -> Result<CertRoom, AllocError>
         requires two { 2 ≤ weights }
         requires few { weights ≤ 12 }

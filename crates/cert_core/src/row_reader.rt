@@ -1,4 +1,4 @@
-//! The reading of a row by either version.
+//! Reads a row of either version.
 
 ghost use Rattle.std.specs.Prelude.{◌≡◌, ℕ, ◌+◌, ◌*◌, ◌-◌, ◌^◌, ◌<◌, ◌≤◌, [], length, map, take, drop, flat_map, slice_index, slice_index_or, IfOk, IfErr, OnOk};
 ghost use Rattle.std.specs.Int.{w64, to_be_bytes, bytes_high_first};
@@ -17,7 +17,7 @@ use crate::version::Version;
 use device_core::Inlet;
 use std::io::Read;
 
-// The number in the eight bytes from a place on.
+// The number in the eight bytes at `place`.
 fn number_at(bytes: &[u8], place: usize) -> u64
     requires { place + 8 ≤ length bytes.now }
     ensures { take 8 (drop place bytes.now) ≡ to_be_bytes w64 result }
@@ -26,7 +26,7 @@ fn number_at(bytes: &[u8], place: usize) -> u64
     number_in(numbers[0])
 }
 
-// Takes numbers of so many bytes each out of their bytes, behind which eight more stand.
+// Decodes numbers of `width` bytes each. Eight more bytes follow theirs.
 fn take_narrow(bytes: &[u8], width: usize, row: &mut [u64])
     requires some { 0 < width }
     requires few { width ≤ 8 }
@@ -41,7 +41,7 @@ fn take_narrow(bytes: &[u8], width: usize, row: &mut [u64])
     }
 }
 
-// The same, where they may have no bytes at all.
+// The same, where the width may also be 0.
 fn take_excesses(bytes: &[u8], width: usize, row: &mut [u64])
     requires few { width ≤ 8 }
     requires room { width * length row.old + 8 ≤ length bytes.now }
@@ -66,8 +66,8 @@ fn add_to_each(row: &mut [u64], least: u64)
     }
 }
 
-// Makes the values of excesses that were read in so many bytes each. Reasons, in this order: `Bound`, and `Row`
-// where no excess is 0 or fewer bytes would do; the row stays then as it is.
+// Turns the excesses in a row, which were read in `width` bytes each, into values. Reasons, in this order: `Bound`;
+// `Row` if no excess is 0 or fewer bytes would do. In both cases the row is unchanged.
 fn raise(least: u64, width: usize, level: usize, row: &mut [u64]) -> Result<(), CertReason>
     requires some { 0 < length row.old }
     ensures len { length row.new ≡ length row.old }
@@ -87,7 +87,7 @@ fn raise(least: u64, width: usize, level: usize, row: &mut [u64]) -> Result<(), 
     Ok(())
 }
 
-// The values of a row by the first version.
+// Reads the values of a row of the first version.
 fn read_values<R: Read>(
     inlet: &mut Inlet<R>,
     level: usize,
@@ -113,7 +113,7 @@ fn read_values<R: Read>(
     Ok(())
 }
 
-// What a row of the second version begins with: its least value, and how many bytes each excess has.
+// Reads what a row of the second version begins with: its least value, and how many bytes each excess has.
 fn read_form<R: Read>(inlet: &mut Inlet<R>, level: usize) -> Result<(u64, usize), Stop>
     requires ready { inlet_failures inlet.old < 2 ^ 64 - 1 }
     ensures ok { IfOk result (λ form. Gives R.remaining inlet.old inlet.new (raised_text form.0 form.1 [])) }
@@ -130,7 +130,7 @@ fn read_form<R: Read>(inlet: &mut Inlet<R>, level: usize) -> Result<(u64, usize)
     Ok((number_at(&form, 0), width))
 }
 
-// The values of a row by the second version.
+// Reads the values of a row of the second version.
 fn read_raised<R: Read>(
     inlet: &mut Inlet<R>,
     level: usize,
@@ -158,8 +158,8 @@ fn read_raised<R: Read>(
     }
 }
 
-/// Reads the row of a level, of as many values as the old one has, through a buffer for its bytes. It has to be
-/// spelled as the version spells it, and none of its values is above `2^63`.
+/// Reads the row of a level, which has as many values as the old one, through a buffer for its bytes. It must be
+/// spelled as the version spells it, and none of its values may be above `2^63`.
 pub(crate) fn read_row<R: Read>(
     inlet: &mut Inlet<R>,
     version: Version,

@@ -77,7 +77,8 @@ fn are_within(row: &[u64; 8], by_0: &[u64; 8], by_1: &[u64; 8]) -> bool
     row.simd_gt(by_0).to_bitmask() == 0 && row.simd_gt(by_1).to_bitmask() == 0
 }
 
-// Whether no value of a row of sixteen states or a multiple of them exceeds what either way into its state sets.
+// Whether no value of a row exceeds what either way into its state sets. The row has sixteen states or a multiple of
+// that.
 fn is_within(ways: &Ways<'_>, row: &[u64]) -> bool
     requires whole { length ways.now.old.now % 16 ≡ 0 }
     requires row_len { length row.now ≡ length ways.now.old.now }
@@ -124,8 +125,8 @@ fn exceeding(rows: &TwoRows<'_>, steps: &mut [u64]) -> Option<usize>
     None
 }
 
-/// What is wrong first with the row of a level, none of whose values is above the greatest bound; `previous` is the
-/// row before it, and `steps` is overwritten.
+/// The first thing that is wrong with the row of a level, none of whose values is above the greatest bound. `previous`
+/// is the row before it, and `steps` is overwritten.
 pub(crate) fn row_reason(
     window: &Window,
     level: usize,

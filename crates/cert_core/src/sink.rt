@@ -1,12 +1,12 @@
-//! A writer of certificates takes the rows of a search.
+//! A writer of certificates as a sink for the rows of a search.
 
 use crate::writer::CertWriter;
 use cost_core::{LevelSink, SinkFault};
 use std::io::Write;
 
-/// Its kind is the number of its certificate's version, its text is what its writer holds, and a row has the
-/// spelling of that version. A row is refused where a write fails, or
-/// failed before; a writer that failed may be asked for as many rows as an entry can have.
+/// Its kind is the number of its certificate's version, its text is what its outlet's writer holds, and a row has the
+/// spelling of that version. A row is refused if a write fails or failed before. A writer that failed still takes, and
+/// refuses, as many rows as an entry can have.
 impl<W: Write> LevelSink for CertWriter<W> {
     ghost use Rattle.std.specs.Prelude.{ℕ};
     ghost use Rattle.device_core.specs.Outlets.{outlet_writer};

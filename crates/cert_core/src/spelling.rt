@@ -1,4 +1,4 @@
-//! The bytes of a row, by either version.
+//! The bytes of a row, in either version.
 
 ghost use Rattle.std.specs.Prelude.{◌≡◌, ℕ, ◌+◌, ◌-◌, ◌*◌, ◌^◌, ◌<◌, ◌≤◌, length, map, take, flat_map, slice_index, length};
 ghost use Rattle.std.specs.Int.{bytes_high_first};
@@ -58,8 +58,8 @@ fn put_values(row: &[u64], buffer: &mut [u8])
     }
 }
 
-// Writes what each value of a row exceeds another by, in so many bytes each. What stands in the eight bytes behind them
-// is open.
+// Writes by how much each value of a row exceeds `least`, in `width` bytes each. The eight bytes after them may hold
+// anything then.
 fn put_some(row: &[u64], least: u64, width: usize, buffer: &mut [u8])
     requires some { 0 < width }
     requires few { width ≤ 8 }
@@ -76,7 +76,7 @@ fn put_some(row: &[u64], least: u64, width: usize, buffer: &mut [u8])
     }
 }
 
-// The same, where they may have no bytes at all.
+// The same, where the width may also be 0.
 fn put_excesses(row: &[u64], least: u64, width: usize, buffer: &mut [u8])
     requires few { width ≤ 8 }
     requires below { (q : ℕ) → q < length row.now → least ≤ slice_index row.now q }
@@ -90,7 +90,7 @@ fn put_excesses(row: &[u64], least: u64, width: usize, buffer: &mut [u8])
     }
 }
 
-// Writes a row by the second version to the front of a buffer. The answer is how many bytes it has.
+// Writes a row of the second version at the start of a buffer, and returns how many bytes it has.
 fn put_narrow(row: &[u64], buffer: &mut [u8]) -> usize
     requires some { 0 < length row.now }
     requires room { length buffer.old ≡ 17 + 8 * length row.now }
@@ -107,7 +107,7 @@ fn put_narrow(row: &[u64], buffer: &mut [u8]) -> usize
     9 + count
 }
 
-/// Writes a row by a version to the front of a buffer that has room for any row. The answer is how many bytes it
+/// Writes a row of either version at the start of a buffer that has room for any row, and returns how many bytes it
 /// has.
 pub(crate) fn put_row(version: Version, row: &[u64], buffer: &mut [u8]) -> usize
     requires some { 0 < length row.now }

@@ -4,7 +4,7 @@ use crate::verdict::CertReason;
 use device_core::Device;
 use std::alloc::AllocError;
 
-/// A reason for a rejection, a read that failed, or want of memory.
+/// A reason for a rejection, a read that failed, or out of memory.
 #[derive(Clone, Copy)]
 pub enum Stop {
     Reason(CertReason),

@@ -1,15 +1,15 @@
-//! What a reader of certificates answers.
+//! What a reader of certificates returns.
 
 use std::alloc::AllocError;
 use std::{error, fmt};
 use thiserror::Error;
 
-/// Why a certificate is rejected. A reason's text is its name, and after a space each what it tells.
+/// Why a certificate is rejected. A reason's text is its name, followed by each number that it has after a space.
 #[derive(Clone, Copy, Debug, PartialEq, Eq)]
 pub enum CertReason {
     /// The bytes end too early.
     Cut,
-    /// The head isn't the expected one, or an entry is of another cue or channel.
+    /// The header isn't the expected one, or an entry is of another cue or channel.
     Head,
     /// The entry is of a bridge of another length.
     Length,
@@ -44,7 +44,7 @@ impl fmt::Display for CertReason {
 
 impl error::Error for CertReason {}
 
-/// Whether an entry shows the bits of a bridge to be least.
+/// Whether an entry shows that the bits of a bridge are least.
 #[derive(Clone, Copy, PartialEq, Eq)]
 pub enum CertVerdict {
     /// It does: no bits of the bridge's length cost less than these, and this is what they cost.
@@ -58,7 +58,7 @@ pub enum CertVerdict {
 pub enum CheckFault {
     /// A read failed.
     Device,
-    /// Want of memory.
+    /// Out of memory.
     Memory,
 }
 

@@ -3,8 +3,8 @@
 /// How a certificate spells its rows.
 #[derive(Clone, Copy)]
 pub enum Version {
-    /// Each value whole, eight bytes each.
+    /// Each value whole, in eight bytes.
     One,
-    /// The least value, how many bytes an excess over it has, and the excesses.
+    /// The least value, how many bytes each excess over it has, and the excesses.
     Two,
 }

@@ -18,13 +18,13 @@ use device_core::{FusedOutlet, Outlet};
 use std::alloc::Global;
 use std::io::Write;
 
-/// A certificate that is written to an outlet: [`begin`](CertWriter::begin), then for each entry
+/// Writes a certificate to an outlet: [`begin`](CertWriter::begin), then for each entry
 /// [`begin_bridge`](CertWriter::begin_bridge), [`level`](CertWriter::level) for each row, and
-/// [`end_bridge`](CertWriter::end_bridge); last [`finish`](CertWriter::finish). It holds the bytes of one row, and takes no
-/// memory once it is made.
+/// [`end_bridge`](CertWriter::end_bridge); last [`finish`](CertWriter::finish). It holds the bytes of one row, and
+/// takes no memory once it is made.
 ///
-/// After `Device` each call but `finish` may be made in whatever order: it answers `Failed`, writes nothing
-/// and leaves the writer as it is.
+/// After `Device` every call but `finish` may be made in any order. It returns `Failed`, writes nothing and leaves the
+/// writer as it is.
 #[derive(Drop)]
 pub struct CertWriter<W> {
     outlet: FusedOutlet<W>,
@@ -45,8 +45,8 @@ pub struct CertWriter<W> {
 impl<W: Write> CertWriter<W> {
     ghost use Rattle.cert_core.specs.Writers.{Stage, Writes, WritesPart, before_head, cert_failures, cert_outlet, entry_begun, head_of, has_failed, cert_version, cert_weights, row_length, rows_left, stage, has_head, entries_left, is_open};
 
-    /// A writer by a version for bridges of so many weights, which has written nothing. Err is want of memory,
-    /// and gives the outlet back.
+    /// A writer of this version for bridges by `weights` weights, which has written nothing. Err is out of memory, and
+    /// gives the outlet back.
     pub fn new(
         alloc: Global,
         outlet: Outlet<W>,
@@ -68,7 +68,7 @@ impl<W: Write> CertWriter<W> {
         }
     }
 
-    /// The same in room that was made before, for bridges of as many weights as that. It takes no memory.
+    /// The same in memory that was reserved before, for bridges by as many weights. It takes no memory.
     pub fn in_room(outlet: Outlet<W>, room: CertRoom, version: Version) -> CertWriter<W>
         requires ready { outlet_failures outlet < 2 ^ 64 - 1 }
         ensures outlet { cert_outlet result ≡ outlet }
@@ -99,11 +99,11 @@ impl<W: Write> CertWriter<W> {
         }
     }
 
-    /// Writes the head, which announces so many entries.
+    /// Writes the header, which announces `entries` entries.
     ///
-    /// Refusals of this and each later call that writes: `Device` where a write fails, and a front of the
-    /// part went out, not all of it; `Failed` after a `Device`, and nothing is written. Where a call stands
-    /// in the order is asked only of a writer that hasn't failed.
+    /// Refusals of this and of each later call that writes: `Device` if a write fails, and then a prefix of the part
+    /// was written, but not all of it; `Failed` after a `Device`, and then nothing is written. Only a writer that
+    /// hasn't failed requires the order of calls.
     pub fn begin(&mut self, entries: u32) -> Result<(), CertFault>
         requires head { has_failed self.old ≡ false → has_head self.old ≡ false }
         ensures ok { OnOk result (Writes W.contents self.old self.new
@@ -155,7 +155,7 @@ impl<W: Write> CertWriter<W> {
         Ok(())
     }
 
-    /// Writes the row of the next level: `2^(K-1)` values by rising state, `K` being the number of weights.
+    /// Writes the row of the next level: `2^(K-1)` values by rising state, where `K` is the number of weights.
     pub fn level(&mut self, row: &[u64]) -> Result<(), CertFault>
         requires rows { has_failed self.old ≡ false → 0 < rows_left self.old }
         requires row { length row.now ≡ row_length self.old }
@@ -208,7 +208,7 @@ impl<W: Write> CertWriter<W> {
         self.outlet.has_failed()
     }
 
-    /// The outlet, as it stands.
+    /// The outlet, as it is now.
     pub fn finish(self) -> Outlet<W>
         ensures { result ≡ cert_outlet self }
     {

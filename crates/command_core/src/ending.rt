@@ -1,4 +1,4 @@
-//! Files read to their ends, of which nothing is kept.
+//! Reads files to their ends and keeps nothing of them.
 
 ghost use Rattle.std.specs.Prelude.{◌≡◌, ◌⊎◌, true};
 ghost use Rattle.std.specs.Io.KnownBytes.{IsAtEnd};
@@ -11,7 +11,8 @@ use folder_core::Folder;
 use std::io::Read;
 use transfer_commands::CommandFault;
 
-/// Reads what is left and keeps none of it: whether that came to the end. After a read that failed nothing is read.
+/// Reads what is left and keeps none of it. Returns whether it reached the end. After a read that failed it reads
+/// nothing.
 pub(crate) fn reads_to_end<R: Read>(inlet: &mut Inlet<R>) -> bool
     ensures { result ≡ true → IsAtEnd (R.remaining (inlet_reader inlet.new)) }
 {
@@ -29,7 +30,8 @@ pub(crate) fn reads_to_end<R: Read>(inlet: &mut Inlet<R>) -> bool
     false
 }
 
-/// A fault of the call, which is told only where a master and its certificate can be read: both are read to their ends.
+/// A fault of the call, which is returned only if a master and its certificate can be read. Both are read to their
+/// ends.
 pub(crate) fn fault_behind<F: Folder>(
     folder: &mut F,
     master: &str,
@@ -46,7 +48,7 @@ pub(crate) fn fault_behind<F: Folder>(
     }
 }
 
-// Opens a file and reads it: whether that came to its end.
+// Opens a file and reads it. Returns whether it reached the end.
 fn reads_through<F: Folder>(folder: &mut F, name: &str) -> bool
     ensures same { F.view folder.new ≡ F.view folder.old }
 {

@@ -1,4 +1,4 @@
-//! A master judged by a certificate that is opened, and read to its end.
+//! Judges a master by a certificate that is opened and read to its end.
 
 ghost use Rattle.std.specs.Prelude.{◌≡◌, ◌-◌, ◌<◌, ◌^◌, ◌⊎◌, IfErr, IfOk, IfSome, List, None, ℕ};
 ghost use Rattle.device_core.specs.Inlets.{inlet_failures, inlet_reader};
@@ -21,10 +21,10 @@ use transfer_commands::CommandFault;
 /// How many bytes one read asks for.
 const BLOCK: usize = 65_536;
 
-/// Judges a master by what was found of it and by a certificate that was opened, of which two rows and a block are
-/// held at a time. Whatever it comes to, the certificate is read to its end before that is answered.
+/// Judges a master by what was found in it and by a certificate that was opened. It holds two rows and a block of the
+/// certificate at a time. Whatever the verdict is, the certificate is read to its end before the verdict is returned.
 ///
-/// Refusals: `ReadFailed` where a read fails, or the certificate isn't at its end after `2^40` reads; `Memory`.
+/// Refusals: `ReadFailed` if a read fails, or the certificate isn't at its end after `2^40` reads; `Memory`.
 pub(crate) fn judge_opened<R: Read + Drop>(
     alloc: Global,
     cut: &Cut,
@@ -32,7 +32,7 @@ pub(crate) fn judge_opened<R: Read + Drop>(
     cert: R,
 ) -> Result<Verdict, CommandFault>
     requires { IsOfSome cut.now found.now }
-    // Of whichever project and files it is the cut, and of whichever file it was found, what is accepted is least.
+    // Whichever project and files it is the cut of, and whichever file it was found in, what is accepted is least.
     ensures least { (project : List ℕ) (files : List (List ℕ)) (file : List ℕ) → SaysCut project files None cut.now
         → IfSome found.now (FindsHeld cut.now file) → IfOk result (IsLeastIfAccepted project files file) }
     ensures judged { (project : List ℕ) (files : List (List ℕ)) (file : List ℕ) → SaysCut project files None cut.now
@@ -55,7 +55,7 @@ pub(crate) fn judge_opened<R: Read + Drop>(
     }
 }
 
-// Judges a master by what was found of it and by its certificate.
+// Judges a master by what was found in it and by its certificate.
 fn judge_by<R: Read>(
     alloc: Global,
     cut: &Cut,

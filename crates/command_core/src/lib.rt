@@ -1,14 +1,28 @@
-//! Commands over the files of a folder, what is said of them, and the program: [`perform`] does a [`Task`] over a
-//! [`Folder`], [`outcome_line`] and [`status`] say what it came to, and [`run`] does what the words of a command line
-//! ask for. [`run_program`] is the whole of it on a runtime's words, its disk and its output.
+//! Commands over the files of a folder, what is reported of them, and the program.
+//!
+//! [`perform`] does a [`Task`] over a [`Folder`]. [`outcome_line`] and [`status`] are the line and the status for its
+//! outcome. [`run`] does what the words of a command line ask for. [`run_program`] is the whole program, with a
+//! runtime's words, its disk and its output.
 //!
 //! The words of the contracts:
 //!
-//! - `TaskComesTo task old new outcome` says what a folder came to by a command, of which is known `old` before and `new`
-//!   after it: what is told is so of bytes that were read, and where the folder tells its bytes, of those that openings of
-//!   the names gave; `ComesTo old new outcome` the same of words, which may ask for nothing (`specs/Commands.antt`).
-//! - `ShowsDone outcome line` is the line of a command that was done, `status_of` the status that the program ends with
-//!   (`specs/Outcomes.antt`).
+//! - `TaskComesTo task old new outcome` says what a command did to a folder, of which `old` is known before and `new`
+//!   after it. What is reported is true of bytes that were read. If the folder's bytes are known, they are those that
+//!   openings of the names gave. `ComesTo old new outcome` says the same of words, which may be no command
+//!   (`specs/Commands.antt`).
+//! - `ShowsDone outcome line` is the line of a command that was done, `status_of` the status with which the program
+//!   ends (`specs/Outcomes.antt`).
+//!
+//! What it promises: an outcome reports what came about. What `edit` cut and what `check` accepts is a master, and none
+//! costs less. [`run`] does some command with some file names, or none, and then nothing changed. Which words ask for
+//! which command is tested. [`run_program`] has no clause.
+//!
+//! ```text
+//! let task = Task::Convert { form: Form::Dsf, input: "in.dff", output: "out.dsf" };
+//! let outcome = perform(alloc, task, &mut folder);
+//! outcome_line(alloc, &outcome)?      // converted dropped 0
+//! status(&outcome)                    // 0
+//! ```
 #![tactic(auto)]
 
 mod ending;

@@ -1,4 +1,4 @@
-//! A master's file, read to be judged.
+//! Reads a master's file to judge it.
 
 ghost use Rattle.std.specs.Prelude.{◌≡◌, ◌-◌, ◌<◌, ◌^◌, IfErr, IfOk, IfSome};
 ghost use Rattle.device_core.specs.Inlets.{inlet_failures, inlet_given, inlet_reader, inlet_reads};
@@ -18,10 +18,10 @@ use std::alloc::Global;
 use std::io::Read;
 use transfer_commands::{CommandFault, form_in};
 
-/// What is found of a master that is to be judged by a cut, or none of a file that holds no recording. It is read
-/// once and to its end, and its sound isn't held.
+/// What is found in a master that is to be judged by a cut, or None for a file that holds no recording. The file is
+/// read once, to its end, and its sound isn't held.
 ///
-/// Refusals: `ReadFailed` where it can't be opened, a read fails, or it isn't at its end after `2^40` reads; `Memory`.
+/// Refusals: `ReadFailed` if it can't be opened, a read fails, or it isn't at its end after `2^40` reads; `Memory`.
 pub(crate) fn find_master<F: Folder>(
     alloc: Global,
     folder: &mut F,
@@ -39,10 +39,10 @@ pub(crate) fn find_master<F: Folder>(
     }
 }
 
-// The same of the file that a reader has.
+// The same for the file that a reader has.
 fn find_in<R: Read + Drop>(alloc: Global, cut: &Cut, file: R) -> Result<Option<Found>, CommandFault>
     ensures found { IfOk result (λ found. IfSome (R.remaining file) (λ left. IsFoundHeld cut.now left found)) }
-    // It was found of some bytes that were read, where the reader doesn't tell its own.
+    // If the reader's bytes aren't known, it was found in some bytes that were read.
     ensures any_reader { IfOk result (IsFoundInSome cut.now) }
     ensures of { IfOk result (IsOfSome cut.now) }
     ensures fault { IfErr result IsUnread }
@@ -55,7 +55,7 @@ fn find_in<R: Read + Drop>(alloc: Global, cut: &Cut, file: R) -> Result<Option<F
     Ok(found)
 }
 
-// The same, read as far as it matters.
+// The same, but the file is read only as far as needed.
 fn find_by<R: Read>(
     alloc: Global,
     cut: &Cut,
@@ -78,7 +78,7 @@ fn find_by<R: Read>(
     }
 }
 
-// What was found of a file, in the form that it has.
+// What was found in a file, with the form that the file has.
 fn found_by(audited: Audited) -> Found
     ensures { result ≡ found_in (outlining.form_in audited.outline.sound.interleaving) audited }
 {

@@ -1,4 +1,4 @@
-//! What a command came to: the line that is printed and the status that the program ends with.
+//! The outcome of a command, the line that is printed, and the status with which the program ends.
 
 ghost use Rattle.std.specs.Prelude.{◌≡◌, IfOk, string_bytes};
 ghost use Rattle.command_core.specs.Outcomes.{ShowsDone, of_command, of_words, status_of};
@@ -10,20 +10,20 @@ use std::alloc::{AllocError, Global};
 use transfer_commands::CommandFault;
 use words_core::WordsFault;
 
-/// What a command came to.
+/// The outcome of a command.
 #[derive(Drop)]
 pub enum Outcome {
-    /// A file was played; its WAVE file has so many bytes.
+    /// A file was played; its WAVE file has this many bytes.
     Played(u64),
-    /// A file was converted; so many parts of its recording have no place in the other form.
+    /// A file was converted; this many parts of its recording have no place in the other form.
     Converted(u64),
-    /// A master was cut; so much do the bridges of all its channels cost.
+    /// A master was cut; this is the cost of the bridges of all its channels.
     Edited(u128),
-    /// A master was accepted; so much do the bridges of all its channels cost.
+    /// A master was accepted; this is the cost of the bridges of all its channels.
     Accepted(u128),
     /// A master was rejected for this reason.
     Rejected(Reason),
-    /// A file was read, and its form and its recording are told of.
+    /// A file was read; this is what is reported of it, its form and its recording.
     Info(Told),
     /// The call was refused.
     Fault(Fault),
@@ -33,7 +33,7 @@ pub enum Outcome {
     WriteFailed,
     /// The words are no command.
     WrongWords,
-    /// A form is named that isn't known.
+    /// The form that is named isn't known.
     UnknownFormName,
 }
 
@@ -69,8 +69,7 @@ impl From<WordsFault> for Outcome {
     }
 }
 
-/// The line or lines that are printed, without the end of the last. It is refused only for want of
-/// memory.
+/// The line or lines that are printed, without the end of the last. Err is out of memory.
 pub fn outcome_line(alloc: Global, outcome: &Outcome) -> Result<String, AllocError>
     ensures { IfOk result (λ line. ShowsDone outcome.now (string_bytes line)) }
 {
@@ -89,8 +88,8 @@ pub fn outcome_line(alloc: Global, outcome: &Outcome) -> Result<String, AllocErr
     }
 }
 
-/// The program's exit status: 0 where the command was done, 1 for a master that is rejected, 2 for a fault,
-/// 3 for words that are no command or name no form.
+/// The program's exit status: 0 if the command was done, 1 for a master that is rejected, 2 for a fault, 3 for words
+/// that are no command or name no form.
 pub fn status(outcome: &Outcome) -> u8
     ensures { result ≡ status_of outcome.now }
 {

@@ -20,22 +20,28 @@ use transfer_commands::{
 };
 use words_core::Task;
 
-/// Does a command. Each file is opened and read whole in the order in which the command names it, and a
-/// project's takes behind it by their numbers; the call of `archive_core` comes next, and only where it
-/// answers is a file created. What is cut is made while it is written: all memory that this needs is held before the
-/// master is created, and its certificate is created once the master stands.
+/// Does a command over the files of a folder, and returns its outcome: the first fault, if there is one.
 ///
-/// A master that is judged is read once, and its certificate while it is judged, whatever it comes to to its end: of
-/// the one no more is held than a few blocks and the bits of its bridges, of the other than two rows and a block.
+/// Files are opened in the order in which the command names them, and a project's takes after it by their numbers. Each
+/// is read whole before the next is opened, and a file is created only once the call has an answer, except as follows:
 ///
-/// And the recording that is played is opened, the WAVE file created, and the one then read and the other written piece
-/// by piece. A recording that is converted or told of, and a take, is read whole only where it has fewer than 2 MiB. Else
-/// it is opened again and read in one pass without its sound, of a take with the bits that are heard; where it holds no
-/// recording it is opened a third time and read whole, for the fault to be named; and what is converted is opened once
-/// more, the other file created, and the one read and the other written block by block. After a fault of this the file
-/// that was created may hold a prefix of what was due, but never in the place of an old file where the folder keeps those.
+/// - `Edit`: The master is made while it is written. All memory that this needs is reserved before the master is
+///   created. Its certificate is created once the master is complete.
+/// - `Play`: The recording is opened and the WAVE file created. Then the one is read and the other written, piece by
+///   piece.
+/// - `Check`, and recordings and takes of 2 MiB or more: see below.
 ///
-/// The first fault is what the command comes to.
+/// `Check` reads a master once, and its certificate while the master is judged. Both are read to their ends, whatever
+/// the verdict is. Of the master only a few blocks and the bits of its bridges are held, of the certificate two rows
+/// and a block.
+///
+/// A recording for `Convert` or `Info`, and a take, is read whole only if it has fewer than 2 MiB. A larger one is
+/// opened again and read in one pass without its sound; of a take the bits that cues and bridges read are kept. If it
+/// holds no recording, it is opened a third time and read whole, so that the fault can be named. To convert it, it is
+/// opened once more, the other file is created, and the one is read and the other written block by block.
+///
+/// After a fault of playing, or of such a conversion, the file that was created may hold a prefix of what was due. It
+/// never replaces an old file if the folder keeps old files.
 pub fn perform<F: Folder>(alloc: Global, task: Task, folder: &mut F) -> Outcome
     ensures { TaskComesTo task.entry (F.view folder.old) (F.view folder.new) result }
 {
@@ -65,8 +71,8 @@ pub fn perform<F: Folder>(alloc: Global, task: Task, folder: &mut F) -> Outcome
     }
 }
 
-// Reads the project and its takes, plans the master with all memory that both its files need, and only then creates its
-// file; that of its certificate is created once the master is written and kept.
+// Reads the project and its takes, and plans the master with all memory that both files need. Only then is the file of
+// the master created, and that of the certificate once the master is written and kept.
 fn edit_files<F: Folder>(
     alloc: Global,
     folder: &mut F,
@@ -85,8 +91,8 @@ fn edit_files<F: Folder>(
     Ok(total)
 }
 
-// Reads the project and its takes, then a master, and judges it by its certificate while that is read. Each is read to
-// its end before a fault of what the takes hold, or a reason against the master, is told.
+// Reads the project and its takes, then a master, and judges it by its certificate while that is read. Both are read to
+// their ends before a fault in the takes, or a reason against the master, is returned.
 fn check_files<F: Folder>(
     alloc: Global,
     folder: &mut F,
@@ -108,7 +114,7 @@ fn check_files<F: Folder>(
     judge_opened(alloc, &cut, &found, file)
 }
 
-// What a command that played came to.
+// The outcome of a command that played.
 fn played(came: Result<u64, CommandFault>) -> Outcome
     ensures { result ≡ outcome_of outcomes.Played came }
 {
@@ -118,7 +124,7 @@ fn played(came: Result<u64, CommandFault>) -> Outcome
     }
 }
 
-// What a command that converted came to.
+// The outcome of a command that converted.
 fn converted(came: Result<u64, CommandFault>) -> Outcome
     ensures { result ≡ outcome_of outcomes.Converted came }
 {
@@ -128,7 +134,7 @@ fn converted(came: Result<u64, CommandFault>) -> Outcome
     }
 }
 
-// What a command that cut came to.
+// The outcome of a command that cut.
 fn edited(came: Result<u128, CommandFault>) -> Outcome
     ensures { result ≡ outcome_of outcomes.Edited came }
 {
@@ -138,7 +144,7 @@ fn edited(came: Result<u128, CommandFault>) -> Outcome
     }
 }
 
-// What a command that judged came to.
+// The outcome of a command that judged.
 fn judged(came: Result<Verdict, CommandFault>) -> Outcome
     ensures { result ≡ outcome_of verdict_of came }
 {
@@ -149,7 +155,7 @@ fn judged(came: Result<Verdict, CommandFault>) -> Outcome
     }
 }
 
-// What a command that told of a file came to.
+// The outcome of a command that reported what a file holds.
 fn told(came: Result<Told, CommandFault>) -> Outcome
     ensures { result ≡ outcome_of outcomes.Info came }
 {

@@ -1,4 +1,4 @@
-//! The program: what its words ask for, done over its files and told of.
+//! The program: does what its words ask for over its files, and prints the outcome.
 
 ghost use Rattle.command_core.specs.Commands.{ComesTo};
 
@@ -15,11 +15,12 @@ use std::process::ExitCode;
 use std::rt::{Clock, Env, Files};
 use words_core::task_of;
 
-/// Does what the words of a runtime ask for on its disk, tells it on its output, and answers the status that the
-/// program ends with. What was done or judged goes to standard output, a fault to standard error. Where standard output is
-/// a file that was written, what was done goes to standard error, and where that is the same file it isn't told. The
-/// process is named by its number; where it is watched, standard error shows how far a file is read that takes more than
-/// a second.
+/// Does what the words of a runtime ask for on its disk, prints the outcome on its output, and returns the status with
+/// which the program ends.
+///
+/// What was done or judged goes to standard output, a fault to standard error. If standard output is a file that was
+/// written, what was done goes to standard error; if that is the same file, it isn't printed. `process` is the number
+/// of the process. If `is_watched` is set, standard error shows how far a file is read that takes more than a second.
 pub fn run_program<R: Env + Files + Clock + Input + Print + Eprint + AllocGlobal>(
     rt: &R,
     process: u32,
@@ -44,11 +45,11 @@ enum Answers {
     ToOutput,
     // Standard output is a file that was written.
     ToError,
-    // Standard error is that file too, and no terminal.
+    // Standard error is that file, too, and no terminal.
     Nowhere,
 }
 
-// A file that was not opened or created for want of memory is told as that.
+// If a file was not opened or created because memory ran out, the outcome is `Memory`.
 fn run_on_disk<R: Files + Clock + Input + Print + Eprint + AllocGlobal>(
     rt: &R,
     words: &[String],
@@ -72,8 +73,8 @@ where
     (outcome, answers)
 }
 
-/// Does the command that the words ask for, the program's name first, by [`perform`]. The first fault is what the
-/// command comes to.
+/// Does the command that the words ask for, by [`perform`]. The first word is the program's name. The outcome is the
+/// first fault, if there is one.
 pub fn run<F: Folder>(alloc: Global, words: &[String], folder: &mut F) -> Outcome
     ensures { ComesTo (F.view folder.old) (F.view folder.new) result }
 {
@@ -88,9 +89,9 @@ fn given_words<R: Env + AllocGlobal>(rt: &R) -> io::Result<Vec<String>> {
     Ok(words)
 }
 
-// What a command came to once it is told of: an outcome whose line there is no room for is want of memory, and an
-// answer that standard output doesn't take is a failed write. The fault itself, and an answer that goes to standard error,
-// need no one to read them.
+// Prints an outcome, and returns the outcome of that. If there is no memory for its line, this is out of memory; if
+// standard output doesn't take the line, it is a failed write. A line on standard error, a fault or what was done, may
+// fail to be written.
 fn tell<R: Print + Eprint + AllocGlobal>(rt: &R, outcome: Outcome, answers: Answers) -> Outcome {
     let Ok(line) = outcome_line(rt.alloc(), &outcome) else {
         return untold(rt, Fault::Memory.into());
@@ -114,7 +115,7 @@ fn is_answer(outcome: &Outcome) -> bool {
     status(outcome) < 2
 }
 
-// The fault that nothing was told, told of where there is room for its line.
+// Prints the fault that the outcome was not printed, if there is memory for its line.
 fn untold<R: Eprint + AllocGlobal>(rt: &R, fault: Outcome) -> Outcome {
     if let Ok(line) = outcome_line(rt.alloc(), &fault) {
         let _ = eprintln!(rt; "{line}");

@@ -1,4 +1,4 @@
-//! Masters planned, and cuts to judge by, of what was heard of a project's takes.
+//! Plans masters, and makes the cuts to judge by, from what a project reads of its takes.
 
 ghost use Rattle.std.specs.Prelude.{List, ℕ, IfErr, IfOk, None, Some, length};
 ghost use Rattle.splice_core.specs.Splices.{splice_content};
@@ -13,16 +13,16 @@ use cut_core::Cut;
 use std::alloc::Global;
 use transfer_commands::Sources;
 
-/// The master of what was heard, planned.
+/// Plans the master of a project and what it reads of its takes.
 ///
-/// Refusals: the first fault of what the takes' files hold; those of [`plan_master`].
+/// Refusals: the first fault in the takes' files; those of [`plan_master`].
 pub(crate) fn cut_sources(
     alloc: Global,
     sources: Sources,
     form: Form,
 ) -> Result<PlannedMaster, Fault>
     requires { IsOfTakes (splice_content sources.splice) (length (splice_content sources.splice).takes) sources.takes }
-    // Of whichever project and files it was heard, it is cut of them, or refused as they are.
+    // Whichever project and files it was read from, the master is cut from them, or refused as they are.
     ensures found { (project : List ℕ) (files : List (List ℕ)) → AreHeardOf project files sources
         → IfOk result (Plans project files form) }
     ensures planned { IfOk result IsPlanned }
@@ -33,12 +33,12 @@ pub(crate) fn cut_sources(
     plan_master(alloc, splice, takes?, form)
 }
 
-/// The cut of what was heard, by which a master is judged.
+/// The cut of a project and what it reads of its takes, by which a master is judged.
 ///
-/// Refusals: the first fault of what the takes' files hold; those of [`cut_heard`].
+/// Refusals: the first fault in the takes' files; those of [`cut_heard`].
 pub(crate) fn cut_of(sources: Sources) -> Result<Cut, Fault>
     requires { IsOfTakes (splice_content sources.splice) (length (splice_content sources.splice).takes) sources.takes }
-    // Of whichever project and files it was heard, it is their cut, or refused as they are.
+    // Whichever project and files it was read from, this is their cut, or it is refused as they are.
     ensures found { (project : List ℕ) (files : List (List ℕ)) → AreHeardOf project files sources
         → IfOk result (SaysCut project files None) }
     ensures refused { (project : List ℕ) (files : List (List ℕ)) → AreHeardOf project files sources

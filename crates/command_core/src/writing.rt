@@ -1,4 +1,4 @@
-//! The files of a master that is planned, each created when it is written.
+//! Writes the files of a planned master. Each is created only when it is written.
 
 ghost use Rattle.std.specs.Prelude.{◌≡◌, [], IfErr, IfOk, IsTrue, List, OnErr, OnOk, Some, ℕ};
 ghost use Rattle.archive_core.specs.Planning.{IsFileOf, IsPlanned, IsSamePlan};
@@ -10,11 +10,11 @@ use archive_core::PlannedMaster;
 use device_core::Outlet;
 use folder_core::{FileFault, Folder, FolderFault, hand_back};
 
-/// Creates a file, writes the planned master to it and hands it back, or gives it up after a write that failed. What it
-/// takes to create the file of its certificate is held before.
+/// Creates a file, writes the planned master to it and keeps it, or gives it up if a write failed. Before that, it
+/// reserves the memory to create the file of the certificate.
 ///
-/// Refusal: `WriteFailed` where that can't be held, or the file can't be created, written or kept; it may hold a prefix
-/// of the master then, but never in the place of an old file where the folder keeps those.
+/// Refusal: `WriteFailed` if that memory can't be reserved, or the file can't be created, written or kept. It may hold
+/// a prefix of the master then, but never replaces an old file if the folder keeps old files.
 pub(crate) fn write_master<F: Folder>(
     folder: &mut F,
     planned: &mut PlannedMaster,
@@ -39,11 +39,10 @@ pub(crate) fn write_master<F: Folder>(
     hand_back(folder, name, &written, outlet.into_inner())
 }
 
-/// Creates a file, makes the certificate of the planned master in it and hands it back, or gives it up after a write that
-/// failed.
+/// Creates a file, makes the certificate of the planned master in it and keeps it, or gives it up if a write failed.
 ///
-/// Refusal: `WriteFailed` where it can't be created, written or kept; it may hold a prefix of a certificate then,
-/// but never in the place of an old file where the folder keeps those.
+/// Refusal: `WriteFailed` if it can't be created, written or kept. It may hold a prefix of a certificate then, but
+/// never replaces an old file if the folder keeps old files.
 pub(crate) fn write_certificate<F: Folder>(
     folder: &mut F,
     planned: PlannedMaster,
@@ -63,7 +62,7 @@ pub(crate) fn write_certificate<F: Folder>(
     hand_back(folder, name, &written, outlet.into_inner())
 }
 
-// Creates a file once the memory is held that it takes to create the next.
+// Creates a file, after it reserved the memory to create the next.
 fn create_before<F: Folder>(folder: &mut F, name: &str, next: &str) -> Result<F::Out, FolderFault>
     ensures same { F.view folder.new ≡ F.view folder.old }
     ensures empty { IfOk result (λ made. IsTrue (F.view folder.old).is_told → F.Out.contents made ≡ Some []) }

@@ -8,8 +8,8 @@ use crate::sums::{blend, scale, weighted_at};
 use dsd_bits::Bits;
 use std::alloc::{AllocError, Global};
 
-// The target of place `i` of a fade of `levels` bits, from the end `stop` of a cue in the take `a` to
-// the start of a cue in the take `b`.
+// The target of place `i` of a fade of `levels` bits, from the end `stop` of a cue in the take `a` to the start `start`
+// of a cue in the take `b`.
 fn fade_at(
     weights: &[i32],
     a: &Bits,
@@ -36,8 +36,8 @@ fn fade_at(
     }
 }
 
-/// The targets of all places of a fade, from the end `stop` of a cue in its own take to the start of the next cue in
-/// the next take.
+/// The targets of all places of a fade, from the end `stop` of a cue in its own take to the start `start` of the next
+/// cue in the next take. Err is out of memory.
 pub(crate) fn fade_targets(
     alloc: Global,
     weights: &[i32],

@@ -8,7 +8,7 @@ use std::alloc::AllocError;
 use std::fmt;
 use thiserror::Error;
 
-/// Which room a bridge wants, in the order in which it is looked for. A fault's text is its name.
+/// Which room a bridge lacks, in the order in which it is checked. A fault's text is its name.
 #[derive(Clone, Copy, Debug, PartialEq, Eq, Error)]
 pub enum RoomFault {
     /// The next cue starts so early in its take that the target would read bits before it.
@@ -23,14 +23,14 @@ impl fmt::Display for RoomFault {
     }
 }
 
-/// Why a bridge has no window, in the order in which it is looked for. A fault's text is its name.
+/// Why a bridge has no window, in the order in which it is checked. A fault's text is its name.
 #[derive(Clone, Copy, Debug, PartialEq, Eq, Error)]
 pub enum WindowFault {
     /// The next cue starts so early in its take that the target would read bits before it.
     NoRoomBefore,
     /// The cue stops so late in its take that the target would read bits past its end.
     NoRoomAfter,
-    /// Want of memory.
+    /// Out of memory.
     Memory,
 }
 

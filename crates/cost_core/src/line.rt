@@ -20,7 +20,7 @@ fn line_at(a: i32, b: i32, levels: usize, i: usize) -> i32
     }
 }
 
-/// The targets of all places of a line from one weighted sum to another, where there are so many weights.
+/// The targets of all places of a line from one weighted sum to another, for `weights` weights. Err is out of memory.
 pub(crate) fn line_targets(
     alloc: Global,
     first: i32,

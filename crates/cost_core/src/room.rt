@@ -8,21 +8,19 @@ ghost use Rattle.cost_core.specs.Targets.{reach_of};
 use crate::fault::RoomFault;
 use splice_core::{Splice, Target};
 
-/// Whether the bridge after cue `cue` has room, where each channel of that cue's take has `count` bits: a
-/// fade of `L` bits by `K` weights reads `L + K - 1` bits before the next cue and `L` bits after its own, a line
-/// none.
+/// Whether the bridge after cue `cue` has room, if each channel of that cue's take has `count` bits. A fade of `L` bits
+/// by `K` weights reads `L + K - 1` bits before the next cue and `L` bits after its own, a line none.
 ///
-/// Refusals, in this order: `NoRoomBefore` where the next cue starts too early in its take for what the
-/// target reads before it, `NoRoomAfter` where cue `cue` stops too late in its own for what it reads after
-/// it.
+/// Refusals, in this order: `NoRoomBefore` if the next cue starts too early in its take for what the target reads
+/// before it, `NoRoomAfter` if cue `cue` stops too late in its own for what the target reads after it.
 pub fn has_room(splice: &Splice, cue: usize, count: usize) -> Result<(), RoomFault>
     requires { cue + 1 < length (splice_content splice.now).cues }
 
-    // There is none exactly where it is refused.
+    // It is refused exactly if there is no room.
     ensures found { OnOk result (HasRoom (splice_content splice.now) cue count) }
     ensures only { HasRoom (splice_content splice.now) cue count → IsOk result }
 
-    // Which fault it is: the first want of room.
+    // Which fault it is: the first room that is lacking.
     ensures order { MatchResult result (λ _. first_fault (splice_content splice.now) cue count ≡ None)
         (λ fault. first_fault (splice_content splice.now) cue count ≡ Some fault) }
 {
@@ -49,8 +47,8 @@ pub fn reach_at(splice: &Splice, cue: usize) -> (usize, usize)
     reach_of(here.target, splice.weights.len(), here.bridge)
 }
 
-// How many bits beyond its cues the target of a bridge of `levels` bits reads, by so many weights: before the next cue,
-// and after its own.
+// How many bits beyond its cues the target of a bridge of `levels` bits by `weights` weights reads: before the next
+// cue, and after its own.
 fn reach_of(target: Target, weights: usize, levels: usize) -> (usize, usize)
     requires weights { (1 ≤ weights) × (weights ≤ 12) }
     requires levels { levels ≤ 4096 }

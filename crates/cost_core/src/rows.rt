@@ -7,8 +7,8 @@ ghost use Rattle.cost_core.specs.Ways.{AreWays};
 
 use std::simd::prelude::*;
 
-/// The ways into the states of a row: the states 2p and 2p + 1 come from the states p and p + half of `old`, which has
-/// an even number of states, by the steps `lows` and `highs` into each state.
+/// The ways into the states of a row. The states 2p and 2p + 1 come from the states p and p + half of `old`, which has
+/// an even number of states. `lows` and `highs` are the steps into each state.
 #[derive(Clone, Copy)]
 pub struct Ways<'a> {
     /// The sums of the states before, at most `2^63`.
@@ -30,8 +30,8 @@ fn doubled(values: &[u64; 8]) -> ([u64; 8], [u64; 8])
     (front.to_array(), back.to_array())
 }
 
-/// The sums by one way into sixteen states, eight and eight more: those that a chunk of eight states leads to, each to
-/// two. `values` are those of the states before, and `steps` has the step into each state.
+/// The sums by one way into sixteen states, eight and eight more. These are the states that a chunk of eight states
+/// leads to, two from each. `values` are those of the states before, and `steps` has the step into each state.
 #[inline(always)]
 pub fn sums_into(values: &[u64], steps: &[u64], chunk: usize) -> ([u64; 8], [u64; 8])
     requires inside { chunk < length values.now / 8 }

@@ -1,4 +1,4 @@
-//! What takes the rows of a table of bounds, one level at a time.
+//! A sink for the rows of a table of bounds, one level at a time.
 
 ghost use Rattle.std.specs.Prelude.{◌≡◌, ℕ, ◌+◌, ◌<◌, Bool, true, false, Option, List, length, IsSome, OnOk, OnErr, MatchResult};
 ghost use Rattle.std.specs.Io.KnownBytes.{Appends};
@@ -11,7 +11,7 @@ use thiserror::Error;
 #[error("SinkFault")]
 pub struct SinkFault;
 
-/// What takes rows of numbers, one at a time, and may write them as a text.
+/// Takes rows of numbers, one at a time, and may write them as a text.
 pub trait LevelSink {
     /// How many rows it still takes.
     ghost rows_left: { Self → ℕ };
@@ -22,7 +22,7 @@ pub trait LevelSink {
     /// The kind of its text: which spelling its rows have.
     ghost kind: { Self → ℕ };
 
-    /// The bytes of its text so far, where it tells them.
+    /// The bytes of its text so far, if they are known.
     ghost text: { Self → Option (List ℕ) };
 
     /// The bytes of a row in a text of a kind.
@@ -31,13 +31,13 @@ pub trait LevelSink {
     /// Whether a row was refused.
     ghost has_refused: { Self → Bool };
 
-    /// What else its owner knows of it, which no row changes.
+    /// What else its owner knows of it, and no row changes.
     ghost Kept: { Type 0 } = { Unit {0} };
 
     ghost kept: { Self → Self.Kept };
 
-    /// Takes a row of `row_length` numbers, where rows are still to come: its spelling is appended to
-    /// the text. Where the row is refused, it may stand in the text in part.
+    /// Takes a row of `row_length` numbers, if it still takes rows, and appends the spelling to the text. If the row is
+    /// refused, the text may end with a prefix of it.
     fn level(&mut self, row: &[u64]) -> Result<(), SinkFault>
         requires rows { 0 < rows_left self.old }
         requires row { length row.now ≡ row_length self.old }

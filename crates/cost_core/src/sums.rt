@@ -32,7 +32,7 @@ fn weigh(weights: &[i32], code: usize) -> i32
     sum
 }
 
-/// The weighted sum of the bits up to a place, the newest first.
+/// The weighted sum of the bits up to a place, newest first.
 pub(crate) fn weighted_at(weights: &[i32], bits: &Bits, place: usize) -> i32
     requires weights { AreWeights weights.now }
     requires enough { length weights.now ≤ place + 1 }
@@ -57,7 +57,7 @@ pub(crate) fn scale(levels: usize, sum: i32) -> i32
     (levels as i32 + 1) * sum
 }
 
-/// Between two weighted sums, in parts of one more than the levels.
+/// A value between two weighted sums, in parts of one more than the levels.
 pub(crate) fn blend(before: usize, first: i32, after: usize, last: i32) -> i32
     requires parts { before + after ≤ 4097 }
     requires first { unsigned_abs first ≤ 4096 }
@@ -74,13 +74,13 @@ pub(crate) fn squared_difference(sum: i32, other: i32) -> u64
     ensures value { result ≡ square (sum -ℤ other) }
     ensures bound { result ≤ greatest_step }
 {
-    // Squared with its sign: lanes multiply signed numbers, so no size is taken first.
+    // Squared with its sign: lanes multiply signed numbers, so no absolute value is needed.
     let difference = i64::from(sum - other);
     (difference * difference) as u64
 }
 
-/// Writes the squares of the differences of some scaled sums and another one. (A plain loop over two slices,
-/// which the compiler turns into lanes.)
+/// Writes the squares of the differences between some scaled sums and another one. (A plain loop over two slices, which
+/// the compiler turns into lanes.)
 pub(crate) fn squared_differences(sums: &[i32], other: i32, squares: &mut [u64])
     requires sums { (k : ℕ) → k < length sums.now → unsigned_abs (slice_index_or sums.now k (pos 0)) ≤ greatest_sum }
     requires other { unsigned_abs other ≤ greatest_sum }
@@ -93,8 +93,8 @@ pub(crate) fn squared_differences(sums: &[i32], other: i32, squares: &mut [u64])
     }
 }
 
-/// Adds to each number of a row the square of the difference of a scaled sum and another one: to number `k`
-/// that of the sum at `first` plus `k * 2^shift`, round the table of sums.
+/// Adds to each number of a row the square of the difference between a scaled sum and another one. For number `k` this
+/// is the sum at `first` plus `k * 2^shift`; the index wraps round the table of sums.
 pub(crate) fn add_squared_differences(
     sums: &[i32],
     first: usize,
@@ -119,7 +119,7 @@ pub(crate) fn add_squared_differences(
     }
 }
 
-/// The scaled weighted sums of all numbers of as many binary digits as there are weights.
+/// The scaled weighted sums of all numbers that have as many binary digits as there are weights. Err is out of memory.
 pub(crate) fn scaled_sums(alloc: Global, weights: &[i32], levels: usize) -> Result<Vec<i32>, AllocError>
     requires weights { AreWeights weights.now }
     requires levels { levels ≤ 4096 }
@@ -132,7 +132,7 @@ pub(crate) fn scaled_sums(alloc: Global, weights: &[i32], levels: usize) -> Resu
         .collect(alloc)
 }
 
-/// The state that bits lead to from state 0: they are its binary digits, the newest the lowest.
+/// The state that bits lead to from state 0. They are its binary digits, and the newest is the lowest.
 pub(crate) fn read_state(bits: &Bits) -> usize
     requires { length bits.now ≤ 11 }
     ensures { result ≡ state_after (length bits.now) 0 bits.now }

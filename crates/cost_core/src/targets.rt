@@ -11,8 +11,8 @@ use dsd_bits::Bits;
 use splice_core::{Splice, Target};
 use std::alloc::{AllocError, Global};
 
-/// The targets of all places of the bridge after cue `cue`, which ends at the place `stop` of the bits `own`, where the
-/// next one begins at the place `start` of the bits `next`. Err is want of memory.
+/// The targets of all places of the bridge after cue `cue`. This cue ends at place `stop` of the bits `own`, and the
+/// next one begins at place `start` of the bits `next`. Err is out of memory.
 pub(crate) fn targets_after(
     alloc: Global,
     splice: &Splice,

@@ -20,8 +20,8 @@ use splice_core::Splice;
 use std::alloc::{AllocError, Global};
 use std::marker::Model;
 
-/// What decides the cost of a bridge's bits in one channel: the weights, the bits round the bridge that
-/// a weight reads, and the target of each place.
+/// What decides the cost of a bridge's bits in one channel: the weights, the bits around the bridge that a weight
+/// reads, and the target of each place.
 #[derive(Drop)]
 pub struct Window {
     weights: Vec<i32>,
@@ -30,7 +30,7 @@ pub struct Window {
     preceding: Bits,
     following: Bits,
     targets: Vec<i32>,
-    // By the bits up to a place as a number: their weighted sum times one more than the levels.
+    // Indexed by the bits up to a place as a number: their weighted sum times one more than the levels.
     scaled: Vec<i32>,
 }
 
@@ -49,9 +49,9 @@ impl Window {
     /// The window of the bridge after cue `cue`, whose target leads from the channel `own` of its take to the
     /// channel `next` of the next cue's take.
     ///
-    /// Refusals, in this order: `NoRoomBefore` where the next cue starts too early in its take for what the
-    /// target reads before it, `NoRoomAfter` where the cue stops too late in its own for what it reads after
-    /// it ([`has_room`]), `Memory`.
+    /// Refusals, in this order: `NoRoomBefore` if the next cue starts too early in its take for what the target reads
+    /// before it, `NoRoomAfter` if the cue stops too late in its own for what the target reads after it ([`has_room`]),
+    /// `Memory`.
     pub fn new(
         alloc: Global,
         splice: &Splice,
@@ -65,11 +65,11 @@ impl Window {
         requires after { (cue_at (splice_content splice.now) (cue + 1)).stop ≤ length next.now }
         ensures ok { IfOk result (λ window. window ≡ bridging (splice_content splice.now) cue own.now next.now) }
 
-        // It is made exactly where there is room, want of memory aside.
+        // It is made exactly if there is room, unless memory runs out.
         ensures found { OnOk result (HasRoom (splice_content splice.now) cue (length own.now)) }
         ensures only { HasRoom (splice_content splice.now) cue (length own.now) → IsOkUnless result WindowFault.Memory }
 
-        // Which fault it is: the first want of room.
+        // Which fault it is: the first room that is lacking.
         ensures order { MatchResult result (λ _. first_fault (splice_content splice.now) cue (length own.now) ≡ None)
             (λ fault. first_fault (splice_content splice.now) cue (length own.now) ≡ named fault) }
     {
@@ -79,8 +79,8 @@ impl Window {
         Ok(Window::between(alloc, splice, cue, own, stop, next, start)?)
     }
 
-    /// The same where only parts of the takes are there: cue `cue` ends at the place `stop` of the bits `own`, and the next one
-    /// begins at the place `start` of the bits `next`. Err is want of memory.
+    /// The same for parts of the takes: cue `cue` ends at place `stop` of the bits `own`, and the next one begins at
+    /// place `start` of the bits `next`. Err is out of memory.
     pub fn between(
         alloc: Global,
         splice: &Splice,
@@ -117,7 +117,7 @@ impl Window {
         })
     }
 
-    /// How many bits a state holds: one fewer than there are weights.
+    /// How many bits a state holds: one less than the number of weights.
     pub fn width(&self) -> usize
         ensures value { result ≡ length self.now.preceding }
         ensures limits { IsBridging self.now }
@@ -150,8 +150,8 @@ impl Window {
         self.start
     }
 
-    /// The squared deviation from the target at place `level + 1`, where the bits of `state` stand
-    /// before it and `bit` at it.
+    /// The squared deviation from the target at place `level + 1`, with the bits of `state` before this place and `bit`
+    /// at it.
     pub fn step_cost(&self, level: usize, state: usize, bit: bool) -> u64
         requires level { level < self.now.levels }
         requires state { state < states (trellis_of self.now) }
@@ -191,8 +191,8 @@ impl Window {
         total + self.tail_cost(state)
     }
 
-    /// Writes the step costs of a level, by the state that a step leads to: first those from the states
-    /// whose oldest bit is 0, then those from the states whose oldest bit is 1.
+    /// Writes the step costs of a level, ordered by the state that a step leads to: first those from states whose
+    /// oldest bit is 0, then those from states whose oldest bit is 1.
     pub fn step_costs(&self, level: usize, row: &mut [u64])
         requires level { level < self.now.levels }
         requires row { length row.old ≡ 2 * states (trellis_of self.now) }
@@ -202,7 +202,7 @@ impl Window {
         squared_differences(&self.scaled, target, row);
     }
 
-    /// Writes the tail costs of all states, state 0 first: the places after a bridge one by one, each over the
+    /// Writes the tail costs of all states, state 0 first. It takes the places after a bridge one by one, each over the
     /// whole row.
     pub fn tail_costs(&self, row: &mut [u64])
         requires { length row.old ≡ states (trellis_of self.now) }
@@ -219,7 +219,7 @@ impl Window {
         }
     }
 
-    // The squared deviation at the place after `level`, also after the bridge.
+    // The squared deviation at place `level + 1`, which may be after the bridge.
     fn deviation(&self, level: usize, state: usize, bit: bool) -> u64
         requires level { level < self.now.levels + length self.now.following }
         requires state { state < 2 ^ length self.now.preceding }

@@ -1,19 +1,20 @@
-//! A writer to what is written directly, as a pipe.
+//! A writer to something that is written directly, such as a pipe.
 
 ghost use Rattle.std.specs.Io.{WritesAtMost};
 
 use std::io;
 use std::io::Write;
 
-/// A writer that keeps the last byte back until more comes. So the byte that pads a file goes out in one write with the
-/// byte before it: a reader that needs no pad may go once it has all it needs, and the pad is then already in the pipe.
+/// A writer that holds back the last byte until more comes. So the pad byte of a file is written together with the byte
+/// before it. A reader that needs no pad may close the pipe once it has all it needs, and the pad is then already in
+/// the pipe.
 #[derive(Drop)]
 pub(crate) struct Direct<W> {
     to: W,
     kept: Kept,
 }
 
-// The bytes that were taken, and are to be written next.
+// The bytes that were taken and have yet to be written.
 #[derive(Clone, Copy)]
 enum Kept {
     None,
@@ -29,14 +30,14 @@ impl<W> Direct<W> {
         }
     }
 
-    /// What is written to.
+    /// The writer to which the bytes go.
     pub(crate) fn get_ref(&self) -> &W {
         &self.to
     }
 }
 
 impl<W: Write> Direct<W> {
-    /// Takes bytes, of which it keeps the last back.
+    /// Takes bytes, and holds back the last.
     pub(crate) fn write(&mut self, buf: &[u8]) -> io::Result<usize>
         ensures bound { WritesAtMost result buf.now }
     {
@@ -58,7 +59,7 @@ impl<W: Write> Direct<W> {
         Ok(buf.len())
     }
 
-    // Keeps one byte more.
+    // Holds back one more byte.
     fn keep(&mut self, byte: u8) -> io::Result<()> {
         if let Kept::Two(_, _) = self.kept {
             self.flush()?;
@@ -70,7 +71,7 @@ impl<W: Write> Direct<W> {
         Ok(())
     }
 
-    /// Writes what was kept back, in one write where the system takes it so.
+    /// Writes what was held back, in one write if the system takes it whole.
     pub(crate) fn flush(&mut self) -> io::Result<()> {
         let kept = self.kept;
         self.kept = Kept::None;

@@ -13,20 +13,20 @@ use std::os::fd::AsFd;
 use std::rt::Files;
 use std::{fs, io};
 
-/// The files of the operating system, whose names are paths from the current folder. It tells nothing of
-/// them. The name `-` is standard input where a file is opened, and standard output where one is created.
+/// The files of the operating system. Their names are paths from the current folder, and nothing is known of their
+/// bytes. The name `-` is standard input when a file is opened, and standard output when one is created.
 ///
-/// A file that is created is written beside its name, as `.NAME.dsdarc-PROCESS-N`, and has its name once it is
-/// kept and its bytes are on the device: until then, and after a stop, what stood there stands there whole. So
-/// a file that is read may be written, under any of its names. Links are followed; an old file's permissions
-/// are kept, and its owner and group where the system lets them. What processes that no longer exist left over
-/// of the same name is removed.
+/// A file that is created is written in the folder of its name, as `.NAME.dsdarc-PROCESS-N`. It gets its name once it
+/// is kept and its bytes are on the device. Until then, and if the program is stopped, the old file stays there whole.
+/// So a file that is read may be written, under any of its names. Links are followed. An old file's permissions are
+/// kept, and so are its owner and group if the system allows it. What processes that no longer exist left of the same
+/// name is removed.
 ///
-/// What is no file of a folder (a pipe, a device, an open file as `/dev/stdout`), and a file beside which none can be
-/// made, is written as it stands: standard output through its own descriptor, whatever name it has. A file that was opened
-/// to be read is never written so: creating it is refused.
+/// Some files are written directly: what is no file of a folder (a pipe, a device, an open file such as `/dev/stdout`),
+/// and a file in whose folder no file can be made. Standard output is written through its own descriptor, whatever name
+/// it has. A file that was opened to be read is never written directly: creating it is refused.
 ///
-/// Not kept is a file one of whose writes failed, nor, after a fault, any in the place of another.
+/// A file is not kept if one of its writes failed. After a fault no file replaces another.
 #[derive(Drop)]
 pub struct Disk<'a, R: Files> {
     rt: &'a R,
@@ -45,7 +45,8 @@ struct Held {
 }
 
 impl<'a, R: Files + AllocGlobal> Disk<'a, R> {
-    /// The files that this runtime reaches. The process is named by its number where files are left over.
+    /// The files that this runtime reaches. `process` is the number of the process, which names the files that it
+    /// leaves.
     pub fn new(rt: &'a R, process: u32) -> Self {
         Disk {
             rt,
@@ -59,12 +60,12 @@ impl<'a, R: Files + AllocGlobal> Disk<'a, R> {
 }
 
 impl<'a, R: Files> Disk<'a, R> {
-    /// Whether a file was not opened or created for want of memory.
+    /// Whether a file was not opened or created because memory ran out.
     pub fn has_wanted_memory(&self) -> bool {
         self.wanted_memory
     }
 
-    /// Whether a file that was created is standard output, whatever its name, the null device aside.
+    /// Whether a file that was created is standard output, under whatever name, and not the null device.
     pub fn has_used_output(&self) -> bool {
         self.has_used_output
     }
@@ -74,7 +75,7 @@ impl<'a, R: Files> Disk<'a, R> {
         self.opened.is_shared()
     }
 
-    // The fault of an error, of which is remembered whether it is want of memory.
+    // The fault of an error. It is remembered if the error is out of memory.
     fn fault_of(&mut self, error: Error) -> FolderFault {
         self.wanted_memory |= error.kind() == ErrorKind::OutOfMemory;
         FolderFault
@@ -103,7 +104,7 @@ where
         Ok(Held { name, place })
     }
 
-    // The place that is held for a name, or else is made for it.
+    // The place that is held for a name, or else a new one.
     fn place_of(&mut self, name: &str) -> io::Result<Place> {
         match self.held.take_if(|held| held.name.as_str() == name) {
             Some(held) => Ok(held.place),
@@ -135,7 +136,8 @@ where
         }
     }
 
-    // Of one name at a time. It fails too where the file is one that is read, and could only be written as it stands.
+    // It holds the place of one name at a time. It also fails if the file is being read and could only be written
+    // directly.
     fn hold(&mut self, name: &str) -> Result<(), FolderFault> {
         match self.held_of(name) {
             Ok(held) => {
@@ -162,7 +164,7 @@ where
         out.put_in_place(self.rt).map_err(|_| FolderFault)
     }
 
-    // An old file stays; where none stands the new one is put in its place.
+    // An old file stays. If there is none, the new one gets the name.
     fn give_up(&mut self, name: &str, out: DiskFile<R::File, Printer<'a, R>>) {
         let _ = name;
         out.give_up(self.rt);

@@ -9,8 +9,8 @@ use std::io::{ErrorKind, Write};
 use std::rt::Files;
 use std::{fs, io};
 
-/// A file of a [`Disk`](crate::Disk) that is being written. It is let go only by
-/// [`keep`](folder_core::Folder::keep) and [`give_up`](folder_core::Folder::give_up).
+/// A file of a [`Disk`](crate::Disk) that is being written. It ends only with [`keep`](folder_core::Folder::keep) or
+/// [`give_up`](folder_core::Folder::give_up).
 pub struct DiskFile<F, O> {
     destination: Destination<F, O>,
     has_failed: bool,
@@ -19,7 +19,7 @@ pub struct DiskFile<F, O> {
 // Where the bytes go.
 #[derive(Drop)]
 enum Destination<F, O> {
-    // To a file beside the one that it is to replace.
+    // To a new file in the folder of the one that it will replace.
     Beside(F, Beside),
     // To the file itself.
     InPlace(InPlace<F>),
@@ -27,14 +27,14 @@ enum Destination<F, O> {
     Output(Direct<O>),
 }
 
-// A path beside that of a file, and where it is to go.
+// The path of the new file, and the target that it will replace.
 #[derive(Drop)]
 struct Beside {
     leftover: String,
     target: Target,
 }
 
-// A file that is written as it stands. What it held goes at the first write, or when it is kept.
+// A file that is written directly. What it held is removed at the first write, or when it is kept.
 #[derive(Drop)]
 struct InPlace<F> {
     file: Direct<F>,
@@ -42,13 +42,13 @@ struct InPlace<F> {
 }
 
 impl<F, O> DiskFile<F, O> {
-    // A file that is written as it stands, with what it held before or without.
+    // A file that is written directly. `holds_old` says that it still holds what it held before.
     pub(crate) fn in_place(file: F, holds_old: bool) -> Self {
         let file = Direct::new(file);
         Self::to(Destination::InPlace(InPlace { file, holds_old }))
     }
 
-    // A file that is written under another name, and then put in its place.
+    // A file that is written under another name, and then gets its own.
     pub(crate) fn beside(file: F, leftover: String, target: Target) -> Self {
         Self::to(Destination::Beside(file, Beside { leftover, target }))
     }
@@ -67,7 +67,7 @@ impl<F, O> DiskFile<F, O> {
 }
 
 impl<F: Write + OpenFile + Drop, O: Write + Drop> DiskFile<F, O> {
-    // Gives the file its name once its bytes are on the device, and else removes what was written.
+    // Gives the file its name once its bytes are on the device, or else removes what was written.
     pub(crate) fn put_in_place<R: Files>(self, rt: &R) -> io::Result<()> {
         let DiskFile {
             destination,
@@ -80,7 +80,7 @@ impl<F: Write + OpenFile + Drop, O: Write + Drop> DiskFile<F, O> {
         }
     }
 
-    // Gives the file its name where no other has it, and else removes what was written.
+    // Gives the file its name if no other has it, or else removes what was written.
     pub(crate) fn give_up<R: Files>(self, rt: &R) {
         let DiskFile {
             destination,
@@ -98,7 +98,7 @@ impl<F: Write + OpenFile + Drop, O: Write + Drop> DiskFile<F, O> {
 }
 
 impl Beside {
-    // Puts what was written in the place of its target, or removes it where a write failed or it can't be put there.
+    // Puts what was written in the place of its target, or removes it if a write failed or it can't be put there.
     fn end<R: Files>(&self, rt: &R, file: &impl OpenFile, has_failed: bool) -> io::Result<()> {
         let put = if has_failed {
             Err(io::Error::from(ErrorKind::WriteZero))
@@ -111,7 +111,7 @@ impl Beside {
         put
     }
 
-    // The new name is on the device too where the folder can be opened.
+    // If the folder can be opened, the new name is on the device, too.
     fn replace<R: Files>(&self, rt: &R, file: &impl OpenFile) -> io::Result<()> {
         file.sync_data()?;
         fs::rename(rt, self.leftover.as_str(), self.target.path())?;
@@ -123,7 +123,7 @@ impl Beside {
 }
 
 impl<F: Write + OpenFile> InPlace<F> {
-    // Takes away what the file held before.
+    // Removes what the file held before.
     fn empty(&mut self) -> io::Result<()> {
         if self.holds_old {
             self.file.get_ref().set_len(0)?;
@@ -132,7 +132,7 @@ impl<F: Write + OpenFile> InPlace<F> {
         Ok(())
     }
 
-    // Writes what was kept back. A file to which nothing was written is empty.
+    // Writes what was held back. A file to which nothing was written becomes empty.
     fn end(&mut self) -> io::Result<()> {
         self.empty()?;
         self.file.flush()

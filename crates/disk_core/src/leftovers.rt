@@ -1,4 +1,4 @@
-//! Files that are being written beside others, as `.NAME.dsdarc-PROCESS-N`.
+//! New files that are written in the folder of their target, as `.NAME.dsdarc-PROCESS-N`.
 
 use std::alloc::AllocError;
 use std::fmt::Write;
@@ -9,21 +9,22 @@ use std::os::unix::fs::{MetadataExt, OpenOptionsExt, PermissionsExt, fchown};
 use std::rt::Files;
 use std::{fs, io};
 
-// How many names are tried.
+// How many names are tried at most.
 const MOST_LEFTOVERS: u32 = 1000;
 
-// Longer names don't stand in a leftover's, for a name has 255 bytes at most.
+// A leftover's name doesn't contain longer names, because a name has at most 255 bytes.
 const MOST_NAME_BYTES: usize = 200;
 
-/// How many bytes a leftover's path has at most beside the file's own: `.`, `.dsdarc-`, ten digits, `-`, three digits.
+/// By how many bytes a leftover's path is at most longer than the file's own: `.`, `.dsdarc-`, ten digits, `-`, three
+/// digits.
 pub(crate) const MOST_ADDED_BYTES: usize = 23;
 
-// How much of a folder is read at once, and how often.
+// How many bytes of a folder are read at once, and how many times at most.
 const BLOCK: usize = 8192;
 
 const MOST_BLOCKS: u64 = 1 << 40;
 
-/// The folder of a path, with its last slash where it has one.
+/// The folder of a path, with its last slash; `./` if the path names none.
 pub(crate) fn folder_of(path: &str) -> &str {
     match path.strip_suffix(name_of(path)) {
         Some("") | None => "./",
@@ -38,7 +39,7 @@ fn name_of(path: &str) -> &str {
     }
 }
 
-// A file's name as it stands in a leftover's.
+// A file's name as a leftover's name contains it.
 fn named(path: &str) -> &str {
     let name = name_of(path);
     if name.len() > MOST_NAME_BYTES {
@@ -48,7 +49,8 @@ fn named(path: &str) -> &str {
     }
 }
 
-/// A new file beside a path, which others may read as they may read the old one there. The text becomes its path.
+/// Makes a new file in the folder of a path. Others may read it as they may read the old file there. `leftover` becomes
+/// its path.
 pub(crate) fn create_beside<R: Files>(
     rt: &R,
     path: &str,
@@ -80,7 +82,7 @@ where
     Err(Error::from(ErrorKind::AlreadyExists))
 }
 
-// Makes the text the path of a leftover. It takes memory only where the text has no room.
+// Makes the text the path of a leftover. It allocates only if the text has no room.
 fn write_leftover(
     leftover: &mut String,
     path: &str,
@@ -93,7 +95,7 @@ fn write_leftover(
     write!(leftover, "{folder}.{name}.dsdarc-{process}-{number}")
 }
 
-// Gives a new file the owner and the group of an old one, as far as the system lets us, and what each may do with it.
+// Gives a new file the owner and the group of an old one, as far as the system allows, and its permissions.
 fn hand_down<F: OpenFile + AsFd>(old: &Metadata, file: &F) {
     if let Ok(new) = file.metadata() {
         if new.gid() != old.gid() {
@@ -106,8 +108,8 @@ fn hand_down<F: OpenFile + AsFd>(old: &Metadata, file: &F) {
     let _ = file.set_permissions(Permissions::from_mode(old.mode() & 0o777));
 }
 
-/// Removes what processes that no longer exist left beside a path. Where the system doesn't say which exist, nothing
-/// is removed. The text is used for paths.
+/// Removes what processes that no longer exist left in the folder of a path for the same name. If the system doesn't
+/// say which exist, nothing is removed. The text is used for paths.
 pub(crate) fn remove_abandoned<R: Files>(rt: &R, path: &str, text: &mut String) {
     let Ok(mine) = fs::metadata(rt, "/proc/self") else {
         return;
@@ -148,7 +150,7 @@ fn numbers_in(leftover: &[u8], name: &str) -> Option<(u32, u32)> {
 }
 
 // Removes a leftover whose process no longer exists. A process of another user may be hidden, so only root removes
-// what isn't its own.
+// files of other users.
 fn remove_if_abandoned<R: Files>(
     rt: &R,
     path: &str,

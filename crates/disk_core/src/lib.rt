@@ -1,8 +1,16 @@
 //! The folder of the operating system: files under paths, each put in place whole.
 //!
-//! A [`Disk`] is a [`Folder`](folder_core::Folder) whose names are paths, and `-` for the standard streams. What it opens
-//! is a [`DiskInput`], what it creates a [`DiskFile`], which has its name only once it is kept, whole. It tells nothing of
-//! what stands in it, so its calls have no clauses of their own beside those that hold of any folder and of any writer.
+//! A [`Disk`] is a [`Folder`](folder_core::Folder) whose names are paths, and `-` for the standard streams. What it
+//! opens is a [`DiskInput`]. What it creates is a [`DiskFile`], which gets its name only once it is kept, whole.
+//!
+//! There are no words of contracts of its own. What it promises is what holds of any folder and of any writer: nothing
+//! is known of the bytes of its files, so its calls have no other clauses. What is on the disk is tested.
+//!
+//! ```text
+//! let mut disk = Disk::new(rt, process);
+//! let file = disk.create("out.dsf")?;          // is written as .out.dsf.dsdarc-PROCESS-0
+//! disk.keep("out.dsf", file)?;                 // is out.dsf now
+//! ```
 #![tactic(auto)]
 
 mod direct;

@@ -1,4 +1,4 @@
-//! What the process has open: its standard output, and the files that it reads.
+//! What the process has open: its standard output and the files that it reads.
 
 use std::alloc::AllocError;
 use std::fs;
@@ -6,7 +6,7 @@ use std::fs::Metadata;
 use std::os::unix::fs::{FileTypeExt, MetadataExt};
 use std::rt::Files;
 
-/// The name of standard input where a file is read, and of standard output where one is written.
+/// The name of standard input when a file is read, and of standard output when one is written.
 pub(crate) const STANDARD: &str = "-";
 
 const INPUT: &str = "/proc/self/fd/0";
@@ -32,7 +32,7 @@ impl FileId {
         }
     }
 
-    // The file of a path, each link followed; none where the system doesn't say.
+    // The file of a path, with each link followed; none if the system doesn't say.
     fn at<R: Files>(rt: &R, path: &str) -> Option<FileId> {
         let found = fs::metadata(rt, path).ok()?;
         Some(FileId::of(&found))
@@ -42,7 +42,7 @@ impl FileId {
 /// What the process has open.
 #[derive(Drop)]
 pub(crate) struct Opened {
-    // Standard output; none where it is the null device, or the system doesn't say.
+    // Standard output; none if it is the null device, or the system doesn't say.
     output: Option<FileId>,
     // Whether standard output is the null device.
     is_null: bool,
@@ -75,7 +75,7 @@ impl Opened {
         self.is_shared
     }
 
-    /// Whether a name is that of standard output, by whatever path.
+    /// Whether a name is that of standard output, under whatever path.
     pub(crate) fn is_output<R: Files>(&self, rt: &R, name: &str) -> bool {
         name == STANDARD || (self.output.is_some() && self.output == FileId::at(rt, name))
     }
@@ -110,7 +110,7 @@ impl Opened {
     }
 }
 
-// Whether a write changes what a file holds, and doesn't only pass it on, as through a pipe.
+// Whether a write changes what a file holds. A pipe, for instance, only passes it on.
 fn keeps_bytes(found: &Metadata) -> bool {
     found.is_file() || found.file_type().is_block_device()
 }

@@ -11,20 +11,21 @@ use std::path::PathBuf;
 use std::rt::Files;
 use std::{fs, io};
 
-// How many links are followed; Linux follows as many.
+// How many links are followed at most; Linux follows as many.
 const MOST_LINKS: u32 = 40;
 
 // Where the file of a name goes.
 #[derive(Drop)]
 pub(crate) enum Place {
-    // To a path, each link followed, once it is written beside it; the text has room for its name there.
+    // To a path, with each link followed, after it was written in the same folder. The text has room for its path
+    // there.
     Path(PathBuf, String),
-    // Where it stands, for it is no file of a folder, or cannot be asked about.
+    // To the file itself: it is no file of a folder, or the system doesn't say what it is.
     AsItStands,
 }
 
 impl Place {
-    // The place of a name, and all memory that it takes to create its file. It fails only for want of that.
+    // The place of a name, with all memory that is needed to create its file. It fails only if memory runs out.
     pub(crate) fn of<R: Files + AllocGlobal>(rt: &R, name: &str) -> io::Result<Place> {
         if name == STANDARD {
             return Ok(Place::AsItStands);
@@ -40,7 +41,7 @@ impl Place {
         }
     }
 
-    // A file beside the one of this name, or that one where none can be made beside it.
+    // A new file in the folder of the one of this name, or that one itself if none can be made there.
     pub(crate) fn create<'a, R: Files + Print>(
         self,
         rt: &'a R,
@@ -59,7 +60,7 @@ impl Place {
         }
     }
 
-    // Fails where a file that is read has this name and could only be written as it stands.
+    // Fails if a file that is being read has this name and could only be written directly.
     pub(crate) fn check<R: Files>(
         &mut self,
         rt: &R,
@@ -86,7 +87,7 @@ impl Place {
     }
 }
 
-// What a file is refused for that is read, and is to be written as it stands.
+// The error for a file that is being read and would be written directly.
 fn refused() -> Error {
     Error::from(ErrorKind::ResourceBusy)
 }
@@ -110,8 +111,8 @@ where
     }
 }
 
-// A file that is written as it stands, and is left as it is until then: standard output itself, whatever its name, or any
-// other that isn't read.
+// A file that is written directly, and stays as it is until then: standard output itself, whatever its name, or any
+// other file that isn't read.
 fn as_it_stands<'a, R: Files + Print>(
     rt: &'a R,
     path: &str,
@@ -131,7 +132,7 @@ fn as_it_stands<'a, R: Files + Print>(
     Ok(DiskFile::in_place(file, found.is_file()))
 }
 
-// Where a file is to stand, and what is known of the one that stands there.
+// Where a file will go, and what is known of the one that is there.
 #[derive(Drop)]
 pub(crate) struct Target {
     path: PathBuf,
@@ -154,12 +155,12 @@ impl Target {
         self.path.as_str()
     }
 
-    // What is known of the file that stands there.
+    // What is known of the file that is there.
     fn old(&self) -> Option<&Metadata> {
         self.old.as_ref()
     }
 
-    // Whether a file stands there.
+    // Whether a file is there.
     pub(crate) fn is_there(&self) -> bool {
         self.old.is_some()
     }
@@ -169,7 +170,7 @@ impl Target {
         folder_of(self.path())
     }
 
-    // Fails where a file stands there that may not be written.
+    // Fails if a file is there that may not be written.
     fn check_writable<R: Files>(&self, rt: &R) -> io::Result<()> {
         if self.is_there() {
             OpenOptions::new().write(true).open(rt, self.path())?;
@@ -178,7 +179,7 @@ impl Target {
     }
 }
 
-// Whether no file may be made beside one, which may still be written as it stands.
+// Whether the error says that no file may be made in a folder. The file there may still be written directly.
 fn is_refused_beside(error: &Error) -> bool {
     matches!(
         error.kind(),
@@ -186,8 +187,8 @@ fn is_refused_beside(error: &Error) -> bool {
     )
 }
 
-// Where a file of this name goes, each link followed. It fails for want of memory, and where what stands there, or
-// cannot be asked about, is to be written as it stands.
+// Where a file of this name goes, with each link followed. It fails if memory runs out, and if the file has to be
+// written directly because of what it is, or because the system doesn't say what it is.
 fn path_of<R: Files + AllocGlobal>(rt: &R, name: &str) -> io::Result<PathBuf> {
     let mut path = PathBuf::from_str(rt.alloc(), name)?;
     for _ in 0..=MOST_LINKS {
@@ -209,8 +210,8 @@ fn is_name(path: &str) -> bool {
     !path.is_empty() && !path.ends_with('/')
 }
 
-// Puts what a link names in its place. A link of the system's own, under `/proc`, stands for an open file, whatever it
-// names.
+// Replaces a link by what it names. A link of the system's own, under `/proc`, is an open file, whatever it names, and
+// is refused.
 fn follow<R: Files + AllocGlobal>(rt: &R, path: &mut PathBuf, link: &Metadata) -> io::Result<()> {
     let is_open_file = match fs::metadata(rt, "/proc") {
         Ok(found) => found.dev() == link.dev(),

@@ -10,7 +10,7 @@ pub enum FileFault {
     ReadFailed,
     /// The file could not be created, written or kept.
     WriteFailed,
-    /// Want of memory.
+    /// Out of memory.
     Memory,
 }
 

@@ -1,4 +1,4 @@
-//! Files of a folder, read and written whole.
+//! Reads and writes whole files of a folder.
 
 ghost use Rattle.std.specs.Prelude.{◌≡◌, ℕ, List, [], ◌∷◌, ◌++◌, IfErr, IfOk, IfSome, IsOk, IsTrue, OnErr, OnOk, is_ok, map, string_bytes};
 ghost use Rattle.folder_core.specs.Files.{AreReadOf, IsEnded, IsFront, IsPut, IsReadFault, IsReadOf, KeepsOthers};
@@ -12,8 +12,7 @@ use std::io::Read;
 
 /// The bytes of a file, opened and read to its end.
 ///
-/// Refusals: `ReadFailed` where it can't be opened, a read fails, or it isn't at its end after `2^40` reads;
-/// `Memory`.
+/// Refusals: `ReadFailed` if it can't be opened, a read fails, or it isn't at its end after `2^40` reads; `Memory`.
 pub fn read_file<F: Folder>(alloc: Global, folder: &mut F, name: &str) -> Result<Vec<u8>, FileFault>
     ensures same { F.view folder.new ≡ F.view folder.old }
     ensures bytes { IfOk result (λ bytes. IsReadOf (F.view folder.old) name.now bytes.items) }
@@ -27,7 +26,7 @@ pub fn read_file<F: Folder>(alloc: Global, folder: &mut F, name: &str) -> Result
 
 /// The bytes of the files of these names, each opened and read to its end before the next is opened.
 ///
-/// Refusals: as of [`read_file`], at the first file that isn't read.
+/// Refusals: those of [`read_file`], for the first file that isn't read.
 pub fn read_files<F: Folder>(
     alloc: Global,
     folder: &mut F,
@@ -45,7 +44,7 @@ pub fn read_files<F: Folder>(
     Ok(files)
 }
 
-// Reads one file more.
+// Reads one more file.
 fn push_file<F: Folder>(
     alloc: Global,
     folder: &mut F,
@@ -64,9 +63,9 @@ fn push_file<F: Folder>(
     }
 }
 
-/// What a reader has left, read to its end.
+/// The bytes that a reader has left, read to its end.
 ///
-/// Refusals: `ReadFailed` where a read fails, or so many reads don't come to the end; `Memory`.
+/// Refusals: `ReadFailed` if a read fails, or `most` reads don't reach the end; `Memory`.
 pub fn read_whole<R: Read + Drop>(alloc: Global, reader: R, most: u64) -> Result<Vec<u8>, FileFault>
     ensures bytes { IfOk result (λ bytes. IfSome (R.remaining reader) (λ left. bytes.items ≡ left)) }
     ensures fault { IfErr result IsReadFault }
@@ -80,10 +79,10 @@ pub fn read_whole<R: Read + Drop>(alloc: Global, reader: R, most: u64) -> Result
     }
 }
 
-/// Creates a file, writes these bytes to it and hands it back, or gives it up after a write that failed.
+/// Creates a file, writes these bytes to it and keeps it, or gives it up if a write failed.
 ///
-/// Refusal: `WriteFailed` where it can't be created, written or kept; it may hold a prefix of the bytes then, but never
-/// instead of an old file where the folder keeps those.
+/// Refusal: `WriteFailed` if it can't be created, written or kept. It may hold a prefix of the bytes then, but never
+/// replaces an old file if the folder keeps old files.
 pub fn write_file<F: Folder>(folder: &mut F, name: &str, bytes: &[u8]) -> Result<(), FileFault>
     ensures others { KeepsOthers name.now (F.view folder.old) (F.view folder.new) }
     ensures bytes { OnOk result (IsPut (F.view folder.new) name.now bytes.now) }
@@ -98,9 +97,9 @@ pub fn write_file<F: Folder>(folder: &mut F, name: &str, bytes: &[u8]) -> Result
     hand_back(folder, name, &written, outlet.into_inner())
 }
 
-/// Ends a created file: it is handed back where what was written to it came to its end, and else given up.
+/// Ends a created file: keeps it if it was written to the end, or else gives it up.
 ///
-/// Refusal: `WriteFailed` where that came to a fault, or the file can't be kept.
+/// Refusal: `WriteFailed` if writing it failed, or the file can't be kept.
 pub fn hand_back<F: Folder, T, E>(
     folder: &mut F,
     name: &str,

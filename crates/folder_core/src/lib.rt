@@ -1,29 +1,31 @@
 //! Files under names: a folder of them, and files of it read and written whole.
 //!
-//! A [`Folder`] opens files, creates them and takes back what was created. [`MemoryFolder`] is one in memory, which tells
-//! what stands in it; `disk_core` has that of the operating system. [`read_file`] reads a file to its end, [`read_files`]
-//! several in turn, [`read_short`] only one that is short, [`write_file`] creates one and writes it, [`hand_back`] ends one
-//! that was written; [`read_whole`] reads what any reader has left.
+//! A [`Folder`] opens files, creates them and puts what was created under its name. [`MemoryFolder`] is one in memory,
+//! whose bytes are known. The folder of the operating system is in `disk_core`.
 //!
-//! The words of the contracts, of `specs/Files.antt` but for the last three:
+//! - [`read_file`] reads a file to its end, [`read_files`] several in turn, [`read_short`] only one that is short,
+//!   [`read_whole`] what any reader has left.
+//! - [`write_file`] creates a file and writes it, [`hand_back`] ends one that was written.
+//! - A [`WatchedFolder`] shows on a terminal how far the files of another folder are read, in per cent if their
+//!   [`KnownLength`] is known.
 //!
-//! - `F.view` is what is known of a folder, a `View`: whether the bytes of its readers and writers are, what an opening of
-//!   each name gives, at one time and another, what was put under each name last, and whether giving a file up leaves an
-//!   old one as it was.
-//! - `IsReadOf view name bytes` says that bytes were read of a name: an opening of it gives them, where the folder tells its
-//!   bytes. `AreReadOf view names files` says the same of several, and `IsPut view name bytes` that bytes were put there.
-//! - `KeepsOthers name old new` says that only the file of this name may have changed, `IsFront name old new bytes` that it
-//!   is as it was or holds a prefix of these bytes, and that only where no old file had to be kept.
-//! - `IsShortOf most view name answer` says that an answer has the bytes of a file that is shorter
-//!   (`specs/ShortFiles.antt`).
+//! The words of the contracts, from `specs/Files.antt` but for the last two:
+//!
+//! - `F.view` is what is known of a folder, a `View`: whether the bytes of its readers and writers are known, what an
+//!   opening of each name gives, at one time and another, what was put under each name last, and whether giving a file
+//!   up leaves an old one as it was.
+//! - `IsReadOf view name bytes` says that bytes were read under a name: an opening of it gives them, if the folder's
+//!   bytes are known. `AreReadOf view names files` says the same of several names, and `IsPut view name bytes` that
+//!   bytes were put there.
+//! - `KeepsOthers name old new` says that only the file of this name may have changed. `IsFront name old new bytes`
+//!   says that the file is as it was, or holds a prefix of these bytes, and this only if no old file had to be kept.
+//! - `IsShortOf most view name answer` says that an answer is the bytes of a file with fewer than `most`, or None for a
+//!   file with `most` or more (`specs/ShortFiles.antt`).
 //! - `watched_folder` and `watched_file` are what is watched (`specs/WatchedFolders.antt`).
 //!
-//! A [`WatchedFolder`] shows on a terminal how far the files of another folder are read, in per cent where their
-//! [`KnownLength`] is told.
-//!
-//! What it promises: over a folder that tells its files, what is read is what an opening of that name gives, and what was
-//! written is what is put under a name; a write that failed leaves the old file, or a prefix where there was none, and no
-//! other file is touched. Every reader comes to an end: one that goes on for ever is given up.
+//! What it promises, over a folder whose bytes are known: what is read is what an opening of that name gives, and what
+//! was written is what is put under a name. A write that failed leaves the old file, or a prefix if there was none, and
+//! no other file is touched. Every reading ends: a reader that goes on for ever is given up.
 //!
 //! ```text
 //! let project = read_file(alloc, &mut folder, "project.toml")?;

@@ -10,7 +10,7 @@ use std::alloc::{AllocError, Global};
 use std::collections::BTreeMap;
 use std::io::Cursor;
 
-/// Files in memory. It tells them, and keeps an old file where a new one is given up.
+/// Files in memory. Their bytes are known, and an old file is kept if a new one is given up.
 #[derive(Drop)]
 pub struct MemoryFolder {
     alloc: Global,
@@ -28,7 +28,7 @@ impl MemoryFolder {
         }
     }
 
-    /// Puts a file of these bytes under a name. It is refused only for want of memory.
+    /// Puts a file of these bytes under a name. Err is out of memory.
     pub fn put(&mut self, name: &str, bytes: &[u8]) -> Result<(), AllocError>
         ensures others { KeepsOthers name.now (view_of self.old) (view_of self.new) }
         ensures bytes { OnOk result (files_of self.new name.now ≡ Some bytes.now) }

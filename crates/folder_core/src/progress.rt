@@ -1,4 +1,4 @@
-//! How far something has come, as a line on a terminal.
+//! Shows on a terminal, as a line, how far something has come.
 
 ghost use Rattle.std.specs.Prelude.{◌≤◌};
 
@@ -6,24 +6,24 @@ use std::io::Eprint;
 use std::rt::Clock;
 use std::time::{Duration, Instant};
 
-// How long nothing is shown.
+// How long nothing is shown at the start.
 const QUIET_SECONDS: u64 = 1;
 
-// How long a line stands at least.
+// How long a line is shown at least.
 const STANDING_MILLISECONDS: u64 = 100;
 
 const MEGABYTE: u64 = 1_000_000;
 
-// A line on standard error that is written again and again, and gone when it is let go.
+// A line on standard error that is written again and again, and cleared when this value is dropped.
 pub(crate) struct ProgressLine<'a, R: Clock + Eprint> {
     rt: &'a R,
-    // When it may be written next; none where it never is.
+    // When it may be written next; none if it is never written.
     next: Option<Instant>,
     is_shown: bool,
 }
 
 impl<'a, R: Clock + Eprint> ProgressLine<'a, R> {
-    // The line of what began at this time; without one it is never written.
+    // The line of something that began at this time. Without a time it is never written.
     pub(crate) fn new(rt: &'a R, start: Option<Instant>) -> Self {
         ProgressLine {
             rt,
@@ -32,7 +32,8 @@ impl<'a, R: Clock + Eprint> ProgressLine<'a, R> {
         }
     }
 
-    // Writes how many bytes were given of how many, where it is time; of an unknown length, 0, how many.
+    // If it is time, writes how many of `length` bytes were read, in per cent. If the length is unknown, 0, it writes
+    // how many megabytes.
     pub(crate) fn show(&mut self, given: u64, length: u64) {
         let Some(next) = self.next else {
             return;

@@ -1,4 +1,4 @@
-//! Files of a folder that are read whole only where they are short.
+//! Reads a file of a folder whole only if it is short.
 
 ghost use Rattle.std.specs.Prelude.{◌≡◌, IfErr, IfOk, IfSome};
 ghost use Rattle.folder_core.specs.Files.{IsReadFault};
@@ -10,9 +10,10 @@ use device_core::Inlet;
 use std::alloc::Global;
 use std::io::Read;
 
-/// The bytes of a file that has fewer than `most`, or none of a file that has more: of that no more are read.
+/// The bytes of a file that has fewer than `most`. The answer is None for a file of `most` bytes or more, of which no
+/// more than these are read.
 ///
-/// Refusals: `ReadFailed` where it can't be opened, or a read fails; `Memory` where there is none for `most` bytes.
+/// Refusals: `ReadFailed` if it can't be opened, or a read fails; `Memory` if there is none for `most` bytes.
 pub fn read_short<F: Folder>(
     alloc: Global,
     folder: &mut F,
@@ -29,7 +30,7 @@ pub fn read_short<F: Folder>(
     }
 }
 
-// What a reader has left where that is less than so many bytes, or none.
+// What a reader has left if that is fewer than `most` bytes, or None.
 fn short_of<R: Read + Drop>(
     alloc: Global,
     reader: R,

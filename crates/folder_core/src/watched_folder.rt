@@ -1,4 +1,4 @@
-//! A folder whose user sees how far its files are read.
+//! A folder that shows how far its files are read.
 
 ghost use Rattle.std.specs.Prelude.{◌≡◌};
 ghost use Rattle.folder_core.specs.WatchedFolders.{watched_file, watched_folder};
@@ -10,9 +10,9 @@ use std::io::{Eprint, Read};
 use std::rt::Clock;
 use std::time::Instant;
 
-/// A folder over another, that shows how far each file is read: a line on standard error, written again at most
-/// ten times a second and gone when the file is let go. Nothing is shown in the first second after the folder was made. It
-/// tells what the other tells.
+/// A folder over another that shows how far each file is read. It writes a line to standard error, at most ten times a
+/// second, and clears it when the file is dropped. Nothing is shown in the first second after the folder was made. The
+/// same is known of it as of the other folder.
 #[derive(Drop)]
 pub struct WatchedFolder<'a, F, R> {
     folder: F,
@@ -22,7 +22,7 @@ pub struct WatchedFolder<'a, F, R> {
 
 /// Something whose length may be known before it is read.
 pub trait KnownLength {
-    /// How many bytes it has; none where that isn't known, as of a pipe.
+    /// How many bytes it has; none if that isn't known, as for a pipe.
     fn known_length(&self) -> Option<u64>;
 }
 
@@ -36,7 +36,7 @@ pub struct WatchedFile<'a, I, R: Clock + Eprint> {
 }
 
 impl<'a, F: Folder, R: Clock> WatchedFolder<'a, F, R> {
-    /// This folder, shown to someone or to no one.
+    /// Watches this folder. `is_shown` says whether anything is shown.
     pub fn new(rt: &'a R, folder: F, is_shown: bool) -> Self
         ensures { watched_folder result ≡ folder }
     {

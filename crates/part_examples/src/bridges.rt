@@ -10,7 +10,7 @@ use std::process::Abort;
 use std::test::Fail;
 use trellis_core::{BridgeFault, bridge};
 
-// The byte of the bits that are chosen, and their cost.
+// The byte that holds the chosen bits, and their cost.
 fn chosen(alloc: Global, window: &Window) -> Result<Option<(u8, u64)>, BridgeFault> {
     let chosen = bridge(alloc, window)?;
     match chosen.bits.as_bytes() {
@@ -19,7 +19,7 @@ fn chosen(alloc: Global, window: &Window) -> Result<Option<(u8, u64)>, BridgeFau
     }
 }
 
-// The same of a window that may be refused.
+// The same for a window that may be refused.
 fn chosen_in(
     alloc: Global,
     window: Result<Window, WindowFault>,
@@ -35,7 +35,7 @@ fn chooses_one_bit(rt: HostRuntime) -> Result<(), Fail> {
     // Both bits cost 4.
     let newest = by_newest(alloc, ones(0, 8), 1, zeros(2, 9));
     assert!(rt; chosen_in(alloc, newest)? == Some((0x00, 4)));
-    // At its own place either bit costs 4, and behind it 0 costs 16 and 1 nothing.
+    // At its own place either bit costs 4. At the place after it, 0 costs 16 and 1 nothing.
     let older = by_older(alloc, zeros(0, 8), 1, ones(2, 9));
     assert!(rt; chosen_in(alloc, older)? == Some((0x80, 4)));
     Ok(())
@@ -59,8 +59,8 @@ fn cost_of(alloc: Global, window: &Window, byte: u8) -> Option<u64> {
     Some(window.cost_of(&bits))
 }
 
-// The first of the least lists of at most 8 bits, read from the last bit to the first, and what it
-// costs, by all of them in this order.
+// The first list of at most 8 bits that costs least, read from the last bit to the first, and its cost. All lists are
+// tried in this order.
 fn first_of_all(alloc: Global, window: &Window) -> Option<(u8, u64)> {
     let mut least = (0, u64::MAX);
     for number in 0..1_u16 << window.length().min(8) {
@@ -73,13 +73,13 @@ fn first_of_all(alloc: Global, window: &Window) -> Option<(u8, u64)> {
     Some(least)
 }
 
-// Whether the first of all is chosen.
+// Whether the first of the least lists is chosen.
 fn chooses_first_of_all(alloc: Global, window: &Window) -> bool {
     let first = first_of_all(alloc, window);
     first.is_some() && chosen(alloc, window) == Ok(first)
 }
 
-// Whether a bridge of so many bits between takes of mixed bits is the first of all.
+// Whether a bridge of `length` bits between takes of mixed bits is the first of the least lists.
 fn chooses_the_first(alloc: Global, weights: &[i32], length: usize) -> bool
     requires weights { AreWeights weights.now }
     requires length { (1 ≤ length) × (length ≤ 8) }

@@ -20,7 +20,7 @@ fn newest(alloc: Global) -> Result<Window, WindowFault> {
     by_newest(alloc, ones(0, 8), 1, zeros(2, 9))
 }
 
-// What is said of a certificate of one entry, of the bridge after cue 0 in channel 0.
+// The verdict on a certificate of one entry, of the bridge after cue 0 in channel 0.
 fn verdict<R: Read>(
     alloc: Global,
     reader: &mut CertReader<R>,
@@ -43,7 +43,7 @@ fn verdict<R: Read>(
     }
 }
 
-// What is said of a certificate for the first bit of a byte as the bridge of a window.
+// The verdict on a certificate for the first bit of a byte as the bridge of a window.
 fn checked<R: Read + Drop>(
     alloc: Global,
     window: Result<Window, WindowFault>,
@@ -60,7 +60,7 @@ fn checked<R: Read + Drop>(
     verdict(alloc, &mut reader, &window, &bits)
 }
 
-// The worked certificate by either version.
+// The worked certificate in both versions.
 const CERTIFICATES: [&[u8]; 2] = [&WORKED, &NARROW];
 
 const FOUR: CertVerdict = CertVerdict::Accepted { cost: 4 };
@@ -75,13 +75,14 @@ fn reads_of_one_byte_are_enough(rt: HostRuntime) -> Result<(), Fail> {
     Ok(())
 }
 
-// Whether the failure of a read, of so many bytes at most, is told as one of the device.
+// Whether the failure of a read is returned as `Device`. Each read gives at most `most` bytes.
 fn tells_a_failed_read(alloc: Global, cert: &[u8], most: usize, read: u64) -> bool {
     let reader = drip(cert, most, read);
     checked(alloc, newest(alloc), 0x00, reader) == Err(CheckFault::Device)
 }
 
-// The head, the entry's start, two rows, the cost, and the end; and each byte by a read of its own, and the end.
+// First the header, the entry's start, two rows, the cost and the end are each one read. Then each byte is one read,
+// and the end another.
 #[test]
 fn a_failed_read_is_no_reason(rt: HostRuntime) {
     for read in 1..7 {

@@ -15,8 +15,8 @@ use std::test::Fail;
 
 const NEVER: u64 = u64::MAX;
 
-// A certificate of one entry of two rows, and the first and the last byte of what each call writes of it, counted from
-// 1: its head, the start of the entry, both rows, the cost.
+// A certificate of one entry of two rows. `parts` has the first and the last byte, counted from 1, of what each call
+// writes of it: its header, the start of the entry, both rows, the cost.
 struct Worked {
     version: Version,
     first: [u64; 2],
@@ -42,7 +42,7 @@ const CERTIFICATES: &[Worked] = &[
     },
 ];
 
-// What the calls for the certificate of one entry of two rows answer, each made whatever the ones before it answered.
+// What the calls for a certificate of one entry of two rows return. Each is made whatever the ones before it returned.
 fn answers<W: Write>(
     writer: &mut CertWriter<W>,
     first: &[u64],
@@ -69,12 +69,12 @@ fn answers<W: Write>(
 struct Outcome<W> {
     answers: [Result<(), CertFault>; 5],
     is_refused: bool,
-    // Whether a row more is refused as it is by a sink.
+    // Whether one more row is refused, too, when the writer is used as a sink.
     refuses_rows: bool,
     outlet: Outlet<W>,
 }
 
-// The outlet, after as much of a certificate as could be written to it.
+// The outcome after as much of a certificate as could be written to an outlet. Err is out of memory.
 fn written<W: Write + Drop>(
     alloc: Global,
     outlet: Outlet<W>,
@@ -96,7 +96,7 @@ fn written<W: Write + Drop>(
     })
 }
 
-// What the call for a part answers where the write at a place fails.
+// What the call for a part returns if the write of byte `write` fails.
 fn answer((first, last): (usize, usize), write: usize) -> Result<(), CertFault> {
     if write < first {
         Err(CertFault::Failed)
@@ -107,7 +107,7 @@ fn answer((first, last): (usize, usize), write: usize) -> Result<(), CertFault> 
     }
 }
 
-// Whether the answers are those where the write at a place fails.
+// Whether these are the answers if the write of byte `write` fails.
 fn are_answers(answers: &[Result<(), CertFault>], worked: &Worked, write: usize) -> bool {
     answers
         .iter()
@@ -115,8 +115,8 @@ fn are_answers(answers: &[Result<(), CertFault>], worked: &Worked, write: usize)
         .all(|(given, part)| *given == answer(part, write))
 }
 
-// Whether a certificate is written whole, every call succeeds, and no row is refused. There is room for its bytes: of a
-// growth that is refused the outlet would say that a write failed.
+// Whether a certificate is written whole, every call succeeds, and no row is refused. Memory for its bytes is reserved
+// before, because the outlet would report a refused growth as a failed write.
 fn is_written(alloc: Global, worked: &Worked) -> Result<bool, AllocError> {
     let room = Vec::with_capacity(alloc, worked.bytes.len())?;
     let written = written(alloc, Outlet::new(room), worked)?;
@@ -137,8 +137,8 @@ fn the_worked_certificates_are_written(rt: HostRuntime) -> Result<(), Fail> {
     Ok(())
 }
 
-// Whether a writer that fails at a write, or is full from it on, leaves the bytes before it alone, is asked no
-// more, and lets each later call fail and rows be refused.
+// Tests a writer that fails at a write, or is full from that write on: whether it holds just the bytes before it, isn't
+// called again, and each later call fails and rows are refused.
 fn leaves(
     alloc: Global,
     worked: &Worked,
@@ -157,7 +157,7 @@ fn leaves(
     Ok(is_told && is_once && is_front && device.writes == write as u64)
 }
 
-// Whether it is so of both. A byte is taken by each write.
+// Whether this holds for both writers. Each write takes one byte.
 fn leaves_a_front(alloc: Global, worked: &Worked, write: usize) -> Result<bool, AllocError>
     requires { 1 ≤ write }
 {

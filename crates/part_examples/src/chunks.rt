@@ -27,7 +27,7 @@ fn are_whole(spans: &[Span]) -> bool {
     }
 }
 
-// Whether they are found up to a place.
+// Whether that chunk is found in the bytes up to a place.
 fn walked(alloc: Global, end: usize) -> Result<bool, ChunkFault>
     requires { end ≤ 13 }
 {
@@ -45,7 +45,7 @@ fn walks(rt: HostRuntime) -> Result<(), Fail> {
     Ok(())
 }
 
-// The size that the head at a place of `ONE_CHUNK` tells, if one of the ID `AAAA` stands there.
+// The size in the header at a place of `ONE_CHUNK`, if there is one with the ID `AAAA`.
 fn size_at(order: Order, place: usize) -> Option<u64> {
     let found = head(order, ONE_CHUNK, place)?;
     let Head { id, size } = found;
@@ -64,7 +64,7 @@ fn reads_no_head_without_room_for_it(rt: HostRuntime) {
     assert!(rt; head(Order::Big, ONE_CHUNK, usize::MAX).is_none());
 }
 
-// How many bytes a number has, 14 for a chunk, and these behind a byte 7.
+// How many bytes a number has (14 is a chunk), and its bytes after a byte 7.
 const PUSHED: [(usize, &[u8]); 4] = [
     (2, b"\x07\0\x01"),
     (4, b"\x07\x20\x62\x05\0"),
@@ -72,7 +72,7 @@ const PUSHED: [(usize, &[u8]); 4] = [
     (14, b"\x07AAAA\0\0\0\0\0\0\0\x01\xff\0"),
 ];
 
-// Whether they are appended so.
+// Whether the number or the chunk is appended like this.
 fn appends(alloc: Global, (size, bytes): (usize, &[u8])) -> Result<bool, AllocError> {
     let mut out = [7].to_vec(alloc)?;
     match size {
@@ -92,7 +92,7 @@ fn pushes(rt: HostRuntime) -> Result<(), Fail> {
     Ok(())
 }
 
-// Faults and what they are printed as.
+// Faults and the text of each.
 const NAMES: &[(ChunkFault, &str)] = &[
     (ChunkFault::HeadCut(0), "HeadCut 0"),
     (ChunkFault::DataCut(114), "DataCut 114"),

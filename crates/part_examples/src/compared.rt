@@ -9,7 +9,7 @@ fn prints<T: Display>(alloc: Global, value: &T, text: &str) -> Result<bool, Allo
     Ok(format!(in alloc; "{value}")?.as_str() == text)
 }
 
-/// Each value is printed as the text that stands beside it.
+/// Asserts that each value is printed as the text beside it.
 pub(crate) fn check_printed<T: Display>(rt: &impl Abort, alloc: Global, cases: &[(T, &str)]) {
     for (value, text) in cases {
         assert!(rt; prints(alloc, value, text).unwrap_or(false), "{text}");

@@ -30,7 +30,8 @@ const TURNED: &[i32] = &[-1, -2, -3, -4];
 
 const LOUD: &[i32] = &[32_768];
 
-// What is told, a decimator, a channel and its samples.
+// What is shown, the taps, delay and shift of a decimator, the bytes and the number of bits of a channel, and its
+// samples.
 type Played = (
     &'static str,
     (&'static [i32], u32, u32),
@@ -38,7 +39,7 @@ type Played = (
     &'static [i32],
 );
 
-// What lies outside the recording counts 0, also the spare bits of its last byte.
+// What lies outside the recording counts 0, and so do the spare bits of its last byte.
 const CHANNELS: &[Played] = &[
     ("the sum", (RAMP, 3, 0), (&[0xf0], 8), &[10]),
     ("a part of it", (RAMP, 1, 0), (&[0xf0], 8), &[3]),
@@ -58,7 +59,7 @@ const CHANNELS: &[Played] = &[
     ("none", (RAMP, 3, 0), (&[], 0), &[]),
 ];
 
-// Whether a channel of the first bits of some bytes has its samples, by a factor of 8 at 16 bits.
+// Whether a channel, which is the first bits of some bytes, has its samples, by a factor of 8 at 16 bits.
 fn is_played(alloc: Global, played: &Played) -> Result<bool, Fail> {
     let (_, (taps, delay, shift), (bytes, count), samples) = *played;
     let taps = Taps::new(alloc, taps, 8, delay, shift, 16)?;
@@ -74,7 +75,7 @@ fn plays_small_channels(rt: HostRuntime) -> Result<(), Fail> {
     Ok(())
 }
 
-// The first sample of 4096 ones by 4096 taps of 1, by a kernel.
+// The first sample of 4096 ones and 4096 taps of 1, made by a kernel.
 fn sample_of_most_taps(alloc: Global, kernel: Kernel) -> Result<Option<i32>, Fail> {
     let taps = Taps::new(alloc, &[1; 4096], 8, 4095, 0, 16)?;
     let bits = Bits::from_packed(alloc, &[0xff; 512], 4096)?;
@@ -89,7 +90,7 @@ fn plays_the_most_taps_by_each_kernel(rt: HostRuntime) -> Result<(), Fail> {
     Ok(())
 }
 
-// What is there, and behind it the samples 1 to 3 of a channel that has so many.
+// The samples in `there`, followed by the samples 1 to 3 of a channel, if it has those.
 fn with_a_part(
     alloc: Global,
     taps: &Taps,
@@ -104,7 +105,7 @@ fn with_a_part(
     Ok(samples)
 }
 
-// Whether 40 ones give these samples.
+// Whether 40 ones give these samples after a 7.
 fn gives_part(alloc: Global, taps: &Taps, samples: &[i32]) -> Result<bool, Fail> {
     let bits = Bits::from_packed(alloc, &[0xff; 5], 40)?;
     let made = with_a_part(alloc, taps, &bits, &[7])?;
@@ -118,7 +119,7 @@ fn appends_a_part(rt: HostRuntime) -> Result<(), Fail> {
     Ok(())
 }
 
-// The sums at the places 3 and 4, and sample 0 where there is one.
+// The sums at the places 3 and 4, and sample 0, if there is one.
 fn single_samples(taps: &Taps, bits: &Bits) -> (i32, i32, Option<i32>) {
     let first = if bits.len() > 0 {
         Some(sample(taps, bits, 0))
@@ -128,12 +129,12 @@ fn single_samples(taps: &Taps, bits: &Bits) -> (i32, i32, Option<i32>) {
     (sum_at(taps, bits, 3), sum_at(taps, bits, 4), first)
 }
 
-// A decimator by 16 to 24 bits.
+// A decimator by a factor of 16, to samples of 24 bits.
 fn by_sixteen(alloc: Global) -> Result<Taps, TapsFault> {
     Taps::new(alloc, &[1, 2, 3, 4], 16, 3, 0, 24)
 }
 
-// Its factor and its width, and which of two rates it divides.
+// The factor and the width of this decimator, and which of two rates it divides.
 fn told(alloc: Global) -> Result<(u32, u32, [bool; 2]), TapsFault> {
     let taps = by_sixteen(alloc)?;
     let rates = [taps.rate_fits(2_822_400), taps.rate_fits(2_822_408)];
@@ -145,7 +146,7 @@ fn tells_of_a_decimator(rt: HostRuntime) {
     assert!(rt; told(rt.alloc()) == Ok((16, 24, [true, false])));
 }
 
-// What its samples are of a byte of bits.
+// The sums and the sample that this decimator gives for one byte of bits.
 fn samples_of(alloc: Global, byte: u8) -> Result<(i32, i32, Option<i32>), Fail> {
     let taps = by_sixteen(alloc)?;
     let bits = Bits::from_packed(alloc, &[byte], 8)?;

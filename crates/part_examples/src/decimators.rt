@@ -1,4 +1,4 @@
-//! The limits of a decimator's numbers, and which broken one is told.
+//! The limits of a decimator's numbers, and which broken limit is reported.
 
 use fir_core::{Taps, TapsFault};
 use std::alloc::Global;
@@ -7,7 +7,7 @@ const RAMP: &[i32] = &[1, 2, 3, 4];
 
 const LARGE: &[i32] = &[1 << 30, 1 << 30];
 
-// Taps, the factor, the delay, the shift and the width, the first limit that is broken, and which are.
+// Taps; the factor, the delay, the shift and the width; the first limit that is broken; and in words which ones are.
 type Broken = (
     &'static [i32],
     (u32, u32, u32, u32),
@@ -54,7 +54,7 @@ const BROKEN: &[Broken] = &[
     ),
 ];
 
-// Whether just that limit is told.
+// Whether exactly that limit is reported.
 fn is_told(alloc: Global, broken: &Broken) -> bool {
     let (taps, (factor, delay, shift, width), fault, _) = *broken;
     Taps::new(alloc, taps, factor, delay, shift, width).err() == Some(fault)

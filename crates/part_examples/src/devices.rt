@@ -1,4 +1,4 @@
-//! What inlets and outlets, plain and fused, make of readers and writers that do little at a time and fail.
+//! What inlets and outlets, plain and fused, do with readers and writers that do little at a time and fail.
 
 ghost use Rattle.std.specs.Prelude.{◌<◌, ◌≤◌, ◌+◌, ◌-◌, ◌^◌};
 ghost use Rattle.device_core.specs.Inlets.{inlet_failures};
@@ -12,7 +12,7 @@ use std::io::Read;
 
 const NEVER: u64 = 100;
 
-// What a pull gives, and then what is counted: failures, reads and bytes that were given.
+// What a pull gives, and then the counts: failures, reads and bytes that were given.
 type Pulled = (Result<usize, Device>, u64, u64, u64);
 
 fn pulled(inlet: &mut Inlet<Dripping<'_>>, buffer: &mut [u8]) -> Pulled
@@ -23,8 +23,8 @@ fn pulled(inlet: &mut Inlet<Dripping<'_>>, buffer: &mut [u8]) -> Pulled
     (answer, inlet.failures(), inlet.reads(), inlet.given())
 }
 
-// What each of three pulls comes to of a reader of `abc` that gives so many bytes at a time and fails at one read, into
-// one buffer after the other; and what is left.
+// What each of three pulls gives, into one buffer after the other, and what is left. The reader has `abc`, gives so
+// many bytes at a time and fails at one read.
 fn three_pulls(
     most: usize,
     fails_at: u64,
@@ -57,13 +57,13 @@ fn the_end_is_no_failure(rt: HostRuntime) {
     assert!(rt; equal(&front, b"ab\0\0\0\0\0\0") && equal(&behind, b"c\0\0\0\0\0\0\0"));
 }
 
-// When a writer fails, from when on it takes nothing, and what it is given.
+// The write at which a writer fails, the write from which on it takes nothing, and what it is given.
 type Given = (u64, u64, &'static str);
 
-// A writer, whether it answers that the device failed, what it takes, and in how many writes.
+// A writer, whether the outlet reports that the device failed, what the writer takes, and in how many writes.
 type Writer = (Given, bool, &'static str, u64);
 
-// Whether a writer answers and takes so.
+// Whether a writer and its outlet do this.
 fn takes(alloc: Global, writer: &Writer) -> bool {
     let ((fails_at, full_from, bytes), fails, taken, writes) = *writer;
     let mut outlet = Outlet::new(sip(alloc, fails_at, full_from));
@@ -76,7 +76,7 @@ fn takes(alloc: Global, writer: &Writer) -> bool {
         && equal(&writer.bytes, taken.as_bytes())
 }
 
-// No bytes take no write.
+// No bytes need no write.
 const WRITERS: &[Writer] = &[
     ((NEVER, NEVER, "abcd"), false, "abcd", 4),
     ((1, NEVER, "abcd"), true, "", 1),
@@ -94,8 +94,7 @@ fn a_writer_is_given_all_bytes_up_to_a_failure(rt: HostRuntime) {
     }
 }
 
-// What three reads give of a reader that gives a byte at a time, fails at one of them, and is read so many times at
-// most.
+// What three reads give. The reader gives one byte at a time, fails at one read, and is read at most `most` times.
 fn three_reads(fails_at: u64, most: u64) -> [Option<usize>; 3] {
     let mut reader = FusedInlet::new(drip(b"abcd", 1, fails_at), most);
     let mut buffer = [0; 8];
@@ -111,8 +110,8 @@ fn a_fused_inlet_is_read_no_more(rt: HostRuntime) {
     assert!(rt; three_reads(2, 3) == [Some(1), None, None]);
 }
 
-// What three writes of two bytes come to where the third byte fails, whether that is told, and whether the writer took
-// two bytes of three.
+// What three writes of two bytes return if the third byte fails, whether the outlet reports the failure, and whether
+// the writer took two bytes in three writes.
 fn three_writes(alloc: Global) -> ([Option<FusedFault>; 3], bool, bool) {
     let mut outlet = FusedOutlet::new(Outlet::new(sip(alloc, 3, NEVER)));
     let first = outlet.put_all(b"ab").err();

@@ -1,4 +1,4 @@
-//! What the front of a DSDIFF 1.5 file tells of its sound, and which ends close such a file.
+//! What the header of a DSDIFF 1.5 file states about its sound, and which ends close such a file.
 
 use crate::dsdiff_writing::WITH_PARTS;
 use dsd_bits::{Interleaving, Sound, SoundAt};
@@ -22,7 +22,7 @@ fn finds_the_sound(rt: HostRuntime) -> Result<(), Fail> {
     Ok(())
 }
 
-// A place of the front of `FILE`, other bytes there, and the fault of each file that begins so.
+// A place in the header of `FILE`, other bytes there, and the fault of each file that begins like this.
 const CHANGES: [(usize, &[u8], &str); 25] = [
     (0, b"FORM", "NotDsdiff, no form"),
     (12, b"AIFF", "NotDsdiff, another type"),
@@ -51,13 +51,13 @@ const CHANGES: [(usize, &[u8], &str); 25] = [
     (60, &[2, 0xfa, 0xf0, 0x81], "BadRate, 50,000,001"),
 ];
 
-// What is told of the front of `FILE` with other bytes from a place on.
+// What the header of `FILE` states with other bytes from a place on.
 fn told_with(alloc: Global, at: usize, bytes: &[u8]) -> Result<SoundAt, AllocError> {
     let front = changed(alloc, &FILE[..126], at, bytes)?;
     sound_at(alloc, &front)
 }
 
-// Whether a front is refused, and not for want of memory.
+// Whether a header is refused, and not because memory ran out.
 fn is_refused(told: Result<SoundAt, AllocError>) -> bool {
     matches!(told, Ok(SoundAt::Refused))
 }
@@ -70,7 +70,7 @@ fn refuses_changed_fronts(rt: HostRuntime) {
     }
 }
 
-/// A version, and one of 3 bytes.
+/// A version chunk. The one below it has 3 bytes.
 pub(crate) const VERSION: &[u8] = b"FVER\0\0\0\0\0\0\0\x04\x01\x05\0\0";
 
 const SHORT_VERSION: &[u8] = b"FVER\0\0\0\0\0\0\0\x03\x01\x05\0\0";
@@ -81,7 +81,7 @@ pub(crate) const MONO: &[u8] = b"PROP\0\0\0\0\0\0\0\x46SND \
     CHNL\0\0\0\0\0\0\0\x06\0\x01C000\
     CMPR\0\0\0\0\0\0\0\x13DSD \x0enot compressed\0";
 
-// The same of two, of seven and of no channels.
+// The same for two, for seven and for no channels.
 const STEREO: &[u8] = b"PROP\0\0\0\0\0\0\0\x4aSND \
     FS  \0\0\0\0\0\0\0\x04\0\x2b\x11\0\
     CHNL\0\0\0\0\0\0\0\x0a\0\x02SLFTSRGT\
@@ -97,7 +97,7 @@ const NONE: &[u8] = b"PROP\0\0\0\0\0\0\0\x42SND \
     CHNL\0\0\0\0\0\0\0\x02\0\0\
     CMPR\0\0\0\0\0\0\0\x13DSD \x0enot compressed\0";
 
-// Channels of one byte, and a compression of 3.
+// A property whose channel chunk has one byte, and one whose compression chunk has 3.
 const SHORT_NAMES: &[u8] = b"PROP\0\0\0\0\0\0\0\x42SND \
     FS  \0\0\0\0\0\0\0\x04\0\x2b\x11\0\
     CHNL\0\0\0\0\0\0\0\x01\0\0\
@@ -108,7 +108,7 @@ const SHORT_KIND: &[u8] = b"PROP\0\0\0\0\0\0\0\x36SND \
     CHNL\0\0\0\0\0\0\0\x06\0\x01C000\
     CMPR\0\0\0\0\0\0\0\x03DSD\0";
 
-/// The front of a file with these chunks before a sound of this size, behind which the form has so many bytes.
+/// The header of a file with these chunks before a sound of this size, after which the form has `left` bytes.
 pub(crate) fn front_of(
     alloc: Global,
     chunks: &[&[u8]],
@@ -141,7 +141,7 @@ const FRONTS: [(&[&[u8]], u64, &str); 11] = [
     (&[VERSION, MONO], 8_589_934_593, "TooLong"),
 ];
 
-// What is told of such a front.
+// What such a header states.
 fn told_of(alloc: Global, chunks: &[&[u8]], size: u64) -> Result<SoundAt, AllocError> {
     let front = front_of(alloc, chunks, size, 1)?;
     sound_at(alloc, &front)
@@ -161,7 +161,7 @@ fn finds_the_longest_sound(rt: HostRuntime) {
     assert!(rt; matches!(longest, Ok(SoundAt::Found(sound)) if sound.count == 1 << 36));
 }
 
-// Whether these bytes close the file whose front leads up to its sound, None where it doesn't.
+// Whether these bytes close the file with this header. None if the header doesn't lead up to a sound.
 fn closes_behind(alloc: Global, front: &[u8], back: &[u8]) -> Result<Option<bool>, AllocError> {
     match sound_at(alloc, front)? {
         SoundAt::Found(sound) if sound.start == front.len() => {
@@ -171,15 +171,15 @@ fn closes_behind(alloc: Global, front: &[u8], back: &[u8]) -> Result<Option<bool
     }
 }
 
-// Whether a file is closed, or isn't, as it should be; no fault is told as want of memory.
+// Whether a file is closed, or isn't, as it should be. Out of memory never counts as a file that isn't closed.
 fn is_told(closed: Result<Option<bool>, AllocError>, expected: bool) -> bool {
     closed == Ok(Some(expected))
 }
 
-// What may stand behind the sound of `FILE`: nothing, its pad, and bytes behind the form.
+// What may follow the sound of `FILE`: nothing, its pad, and bytes after the form.
 const ENDS: [&[u8]; 3] = [&[], &[0], &[0, 1, 2, 3, 4, 5]];
 
-// Behind the one byte of `WITH_PARTS` a mark and kept chunks stand.
+// In `WITH_PARTS` a mark and kept chunks follow the one byte of sound.
 #[test]
 fn closes_behind_the_sound(rt: HostRuntime) -> Result<(), Fail> {
     for back in &ENDS {
@@ -191,8 +191,8 @@ fn closes_behind_the_sound(rt: HostRuntime) -> Result<(), Fail> {
     Ok(())
 }
 
-// Edited masters: one whose mark is whole, with 22 bytes; then a chunk's head cut, its data cut, a mark of 21 bytes,
-// and one of a text of one byte that is not there.
+// Edited masters. The first has a whole mark of 22 bytes. In the others a chunk's header is cut, its data is cut, a
+// mark has 21 bytes, and a mark lacks its text of one byte.
 const MARKED: &[u8] = b"DIIN\0\0\0\0\0\0\0\x22\
     MARK\0\0\0\0\0\0\0\x16\0\0\0\0\0\0\0\0\0\0\0\0\0\0\0\0\0\0\0\0\0\0";
 
@@ -206,8 +206,8 @@ const SHORT_MARK: &[u8] = b"DIIN\0\0\0\0\0\0\0\x22\
 const LONG_TEXT: &[u8] = b"DIIN\0\0\0\0\0\0\0\x22\
     MARK\0\0\0\0\0\0\0\x16\0\0\0\0\0\0\0\0\0\0\0\0\0\0\0\0\0\0\0\0\0\x01";
 
-// What stands before the sound beside version and property, what stands behind the sound's pad, how many bytes more the
-// form has, whether this closes the file, and the fault.
+// What precedes the sound besides version and property, what follows the sound's pad, how many more bytes the form has,
+// whether this closes the file, and the fault.
 const BACKS: [(&[u8], &[u8], u64, bool, &str); 15] = [
     (b"", b"", 0, true, "none"),
     (MARKED, MARKED, 0, true, "none, two marks"),

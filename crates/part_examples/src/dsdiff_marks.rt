@@ -1,4 +1,4 @@
-//! Marks of DSDIFF 1.5 edited masters: their fields, and the places that they mark, worked out by hand.
+//! Marks of DSDIFF 1.5 edited masters: their fields and the places that they mark, worked out by hand.
 
 use dsd_bits::{Mark, Recording};
 use dsdiff_core::{DsdiffFault, mark_at, place, read};
@@ -28,7 +28,7 @@ fn with_mark(alloc: Global, fields: &[u8]) -> Result<Recording, DsdiffFault> {
     read(alloc, &file)
 }
 
-// Whether a mark of these bytes is read, each of whose numbers is another one.
+// Whether a mark of these bytes is read, in which each number is different.
 fn has_each_number(alloc: Global, fields: &[u8]) -> Result<bool, DsdiffFault> {
     let recording = with_mark(alloc, fields)?;
     match recording.marks() {
@@ -44,7 +44,7 @@ fn reads_marks(rt: HostRuntime) -> Result<(), Fail> {
     Ok(())
 }
 
-// The place of a mark of so many hours, minutes and seconds each, five samples, and an offset.
+// The place of a mark with `hours` hours, minutes and seconds each, five samples, and an offset.
 fn place_of(alloc: Global, hours: u8, offset: i32) -> i64 {
     let mark = Mark {
         hours: hours as u16,
@@ -67,7 +67,7 @@ fn finds_places(rt: HostRuntime) {
     }
 }
 
-// Whether the mark of a title at a place of this time is so, and where it is.
+// Whether the mark of a title has the right fields, and the place that it marks.
 fn title_mark(alloc: Global) -> Result<(bool, i64), AllocError> {
     let mark = mark_at(alloc, 10332806405, 2822400, b"x")?;
     let is_so = is_mark(&mark, (1, 1, 1), (5, 0), (0, 0, 0), b"x");

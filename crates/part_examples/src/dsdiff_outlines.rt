@@ -1,5 +1,4 @@
-//! What the bytes around the sound of a DSDIFF 1.5 file tell beside its bits, and the file that is written around it
-//! again.
+//! What the bytes around the sound of a DSDIFF 1.5 file state, and the file that is written around the sound from that.
 
 use crate::dsdiff_fronts::{MONO, VERSION, front_of};
 use crate::dsdiff_writing::WITH_PARTS;
@@ -9,8 +8,8 @@ use fixtures::compared::equal;
 use std::alloc::{AllocError, Global};
 use std::test::Fail;
 
-// What a file tells that is `front`, which ends where its sound starts, the sound, and `back`. A front that ends
-// elsewhere is told as want of memory.
+// The outline of a file that is `front`, the sound and `back`. If `front` doesn't end where the sound starts, the
+// answer is `AllocError`.
 fn outlined(alloc: Global, front: &[u8], back: &[u8]) -> Result<Option<Recording>, AllocError> {
     match sound_at(alloc, front)? {
         SoundAt::Found(sound) if sound.start == front.len() => outline(alloc, front, back),
@@ -18,7 +17,7 @@ fn outlined(alloc: Global, front: &[u8], back: &[u8]) -> Result<Option<Recording
     }
 }
 
-// `WITH_PARTS`, written again by what stands around its one byte of sound; nothing where that tells nothing.
+// `WITH_PARTS`, written again from what is around its one byte of sound; nothing if that is no outline.
 fn written_again(alloc: Global) -> Result<Vec<u8>, AllocError> {
     let (front, rest) = WITH_PARTS.split_at(140);
     match outlined(alloc, front, &rest[1..])? {
@@ -49,7 +48,7 @@ const LATE: &[u8] = b"\0DIIN\0\0\0\0\0\0\0\x22\
     MARK\0\0\0\0\0\0\0\x16\0\x02\0\0\0\0\0\0\0\0\0\0\0\0\0\0\0\0\0\0\0\0\
     COMT\0\0\0\0\0\0\0\x02\0\x02";
 
-// What these bytes tell around a sound of one byte.
+// The outline of a file with these bytes around a sound of one byte.
 fn outlined_around(
     alloc: Global,
     before: &[u8],
@@ -67,14 +66,14 @@ fn keeps(others: &[Other], early: &[u8], late: &[u8]) -> bool {
     }
 }
 
-// Whether one channel of no bits is told, and what stands before the sound first.
+// Whether an outline has one channel of no bits, and first what precedes the sound.
 fn is_in_order(told: &Recording) -> bool {
     (told.channels().len(), told.count()) == (1, 0)
         && matches!(told.marks(), [first, second] if (first.hours, second.hours) == (1, 2))
         && keeps(told.others(), &[0, 1], &[0, 2])
 }
 
-// Whether it is so of a file of both.
+// Whether the outline of a file with both is in this order.
 fn tells_in_order(alloc: Global) -> Result<bool, AllocError> {
     match outlined_around(alloc, EARLY, LATE)? {
         Some(told) => Ok(is_in_order(&told)),
@@ -88,10 +87,10 @@ fn tells_what_stands_before_the_sound_first(rt: HostRuntime) -> Result<(), Fail>
     Ok(())
 }
 
-// A second version behind the sound and its pad.
+// A second version after the sound and its pad.
 const VERSION_AGAIN: &[u8] = b"\0FVER\0\0\0\0\0\0\0\x04\x01\x05\0\0";
 
-// Whether anything is told of such a file.
+// Whether there is an outline of such a file.
 fn tells_of_two_versions(alloc: Global) -> Result<bool, AllocError> {
     Ok(outlined_around(alloc, EARLY, VERSION_AGAIN)?.is_some())
 }

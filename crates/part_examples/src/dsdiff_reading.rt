@@ -1,4 +1,4 @@
-//! DSDIFF 1.5 files with what they hold: channels, and chunks that are kept as they are.
+//! DSDIFF 1.5 files and what they hold: channels, and chunks that are kept as they are.
 
 use crate::told::{Numbers, has_ids, has_sounds, numbers_of};
 use dsd_bits::{Place, Recording};
@@ -11,7 +11,7 @@ use std::test::Fail;
 // A chunk of no compression whose name has no letters.
 const NAMELESS: [u8; 18] = *b"CMPR\0\0\0\0\0\0\0\x05DSD \0\0";
 
-// What a file of these parts holds.
+// What a file with these parts holds.
 fn holding(
     alloc: Global,
     parts: &[&[u8]],
@@ -22,7 +22,7 @@ fn holding(
     read(alloc, &file)
 }
 
-// What a file holds at 2,822,400 hertz beside no marks, no other chunks and no tag.
+// What a file at 2,822,400 hertz holds that has no marks, no other chunks and no tag.
 struct Held {
     layout: u32,
     bits: usize,
@@ -96,7 +96,7 @@ fn reads_six_channels(rt: HostRuntime) {
     assert!(rt; is_held(&SIX, read));
 }
 
-// Chunks behind a sound: two edited masters, the second with a mark, and two others.
+// Chunks after a sound: two edited masters, the second with a mark, and two others.
 const BEHIND: &[u8; 114] = b"DIIN\0\0\0\0\0\0\0\x0e\
     EMID\0\0\0\0\0\0\0\x01\x02\0\
     COMT\0\0\0\0\0\0\0\x01\x04\0\
@@ -105,7 +105,7 @@ const BEHIND: &[u8; 114] = b"DIIN\0\0\0\0\0\0\0\x0e\
     DIAR\0\0\0\0\0\0\0\x01\x03\0\
     MANF\0\0\0\0\0\0\0\x02\x05\x06";
 
-// What a file with chunks at each place holds that are kept as they are.
+// What a file holds that has chunks at each place which are kept as they are.
 fn with_others(alloc: Global) -> Result<Recording, DsdiffFault> {
     let loudspeakers = b"LSCO\0\0\0\0\0\0\0\x02\0\0";
     let start = b"ABSS\0\0\0\0\0\0\0\x01\x01\0";
@@ -113,7 +113,7 @@ fn with_others(alloc: Global) -> Result<Recording, DsdiffFault> {
     holding(alloc, &parts, &[0xf0], BEHIND)
 }
 
-// Whether the chunk of this number is kept at this place, of this ID and these bytes.
+// Whether the chunk with this number is kept at this place, with this ID and these bytes.
 fn keeps(recording: &Recording, i: usize, (place, id): (Place, [u8; 4]), bytes: &[u8]) -> bool {
     match recording.others().get(i) {
         Some(other) => other.place == place && other.id == id && equal(&other.bytes, bytes),
@@ -143,7 +143,7 @@ fn kept_in_order(recording: &Recording) -> usize {
     kept
 }
 
-// How many marks and other chunks the file has, and how many of these are kept as they stand here.
+// How many marks and other chunks the file has, and how many of `KEPT` are kept in order.
 fn kept(alloc: Global) -> Result<[usize; 3], DsdiffFault> {
     let recording = with_others(alloc)?;
     let marks = recording.marks().len();

@@ -1,4 +1,4 @@
-//! Recordings with the DSDIFF 1.5 files that they are written to, byte by byte, and why one is not written.
+//! Recordings and the DSDIFF 1.5 files that are written for them, byte by byte, and why one is not written.
 
 ghost use Rattle.std.specs.Prelude.{◌≡◌, ◌<◌, ◌≤◌, ◌^◌, ◌∷◌, [], length, IfOk};
 
@@ -10,7 +10,7 @@ use fixtures::files::FILE;
 use std::alloc::{AllocError, Global};
 use std::test::Fail;
 
-/// The file of one channel of the byte f0 with a mark, and with a kept chunk at each place.
+/// The file of one channel with the byte f0, with a mark and a kept chunk at each place.
 pub(crate) const WITH_PARTS: &[u8; 228] = b"FRM8\0\0\0\0\0\0\0\xd8DSD \
     FVER\0\0\0\0\0\0\0\x04\x01\x05\0\0\
     PROP\0\0\0\0\0\0\0\x54SND \
@@ -61,7 +61,7 @@ fn writes_one_byte(rt: HostRuntime) {
     assert!(rt; writes(alloc, one_channel(alloc, 0xf0, 8), &FILE).unwrap_or(false));
 }
 
-// Faults and what they are printed as.
+// Faults and the text of each.
 const NAMES: &[(WriteFault, &str)] = &[
     (WriteFault::NotWholeBytes, "NotWholeBytes"),
     (WriteFault::Memory, "Memory"),
@@ -79,7 +79,7 @@ fn names_faults(rt: HostRuntime) {
     check_printed(&rt, rt.alloc(), NAMES);
 }
 
-// The recording of one byte with a mark of this text, and with a kept chunk of these bytes at each place.
+// The recording of one byte with a mark of this text, and a kept chunk of these bytes at each place.
 fn with_parts(
     alloc: Global,
     text: Vec<u8>,

@@ -1,4 +1,4 @@
-//! What the front of a DSF 1.01 file tells of its sound, and at which length such a file ends.
+//! What the header of a DSF 1.01 file states about its sound, and at which length such a file ends.
 
 use dsd_bits::{BitOrder, Interleaving, Sound, SoundAt};
 use dsf_core::{closes, sound_at};
@@ -19,7 +19,7 @@ fn finds_the_sound(rt: HostRuntime) {
     assert!(rt; sound_at(b"RIFF") == SoundAt::Refused);
 }
 
-// Whether a file of so many bytes is accepted whose front leads up to its sound, None where it doesn't.
+// Whether a file of `total` bytes with this header is accepted. None if the header doesn't lead up to a sound.
 fn closes_at(front: &[u8], total: u64) -> Option<bool> {
     match sound_at(front) {
         SoundAt::Found(sound) if sound.start == front.len() && front.len() as u64 <= total => {

@@ -1,4 +1,4 @@
-//! What DSF 1.01 files tell beside their bits, and the heads of files that are written from that.
+//! What DSF 1.01 files state besides their bits, and the headers of files that are written from that.
 
 use crate::told::{Numbers, has_ids, numbers_of};
 use dsd_bits::{BitOrder, Recording, SoundAt};
@@ -8,8 +8,8 @@ use fixtures::files::DSF_FRONT;
 use std::alloc::{AllocError, Global};
 use std::test::Fail;
 
-// The outline of a file of so many bytes that begins with a front up to its sound, and has this tag. A front that ends
-// elsewhere is told as want of memory.
+// The outline of a file of `total` bytes that has this header and this tag. If the header doesn't end where the sound
+// starts, the answer is `AllocError`.
 fn outline_of(
     alloc: Global,
     front: &[u8],
@@ -24,7 +24,7 @@ fn outline_of(
     }
 }
 
-// The place of the tag, None where a front doesn't end at its sound.
+// The place of the tag. None if the header doesn't end where the sound starts.
 fn tag_place(front: &[u8]) -> Option<u64> {
     match sound_at(front) {
         SoundAt::Found(sound) if sound.start == front.len() => Some(tag_at(front)),
@@ -42,7 +42,7 @@ const NUMBERS: Numbers = Numbers {
     tag: 0,
 };
 
-// Whether all but its bit is told of the file with one bit.
+// Whether the outline of the file with one bit has everything but the bit.
 fn tells_all(alloc: Global) -> Result<bool, AllocError> {
     match outline_of(alloc, &DSF_FRONT[..92], 4188, &[])? {
         Some(told) => Ok(numbers_of(&told) == NUMBERS && has_ids(&told, &[*b"C000"])),
@@ -56,13 +56,13 @@ fn tells_all_but_the_bits(rt: HostRuntime) {
     assert!(rt; tag_place(&DSF_FRONT[..92]) == Some(0));
 }
 
-// `DSF_FRONT` up to its sound, of a file whose tag stands at 4188, behind the block.
+// `DSF_FRONT` up to its sound, for a file whose tag is at byte 4188, after the block.
 const WITH_TAG: &[u8; 92] = b"DSD \x1c\0\0\0\0\0\0\0\x5c\x10\0\0\0\0\0\0\x5c\x10\0\0\0\0\0\0\
     fmt \x34\0\0\0\0\0\0\0\x01\0\0\0\0\0\0\0\x01\0\0\0\x01\0\0\0\0\x11\x2b\0\x01\0\0\0\
     \x01\0\0\0\0\0\0\0\0\x10\0\0\0\0\0\0\
     data\x0c\x10\0\0\0\0\0\0";
 
-// Whether this tag is told of such a file.
+// Whether the outline of such a file has this tag.
 fn tells_tag(alloc: Global, tag: &[u8]) -> Result<bool, AllocError> {
     match outline_of(alloc, WITH_TAG, 4191, tag)? {
         Some(told) => Ok(equal(told.tag(), tag)),
@@ -77,7 +77,7 @@ fn tells_where_the_tag_stands(rt: HostRuntime) -> Result<(), Fail> {
     Ok(())
 }
 
-// Whether such a file of so many bytes, without its tag, is told.
+// Whether there is an outline of such a file of `total` bytes, without its tag.
 fn is_told(alloc: Global, total: u64) -> Result<bool, AllocError> {
     Ok(outline_of(alloc, WITH_TAG, total, &[])?.is_some())
 }
@@ -88,7 +88,7 @@ fn tells_nothing_of_a_file_that_is_cut(rt: HostRuntime) {
     assert!(rt; is_told(rt.alloc(), 4187) == Ok(false));
 }
 
-// Whether this is the head that is written in this order of bits from the outline of the file with one bit.
+// Whether this is the header that is written in this bit order from the outline of the file with one bit.
 fn is_head(alloc: Global, front: &[u8], order: BitOrder) -> Result<bool, AllocError> {
     match outline_of(alloc, &DSF_FRONT[..92], 4188, &[])? {
         Some(told) => Ok(equal(&head(alloc, &told, 1, order)?, front)),

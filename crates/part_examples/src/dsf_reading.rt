@@ -1,4 +1,4 @@
-//! A DSF 1.01 file with what it holds.
+//! A DSF 1.01 file and what it holds.
 
 use crate::told::{Numbers, has_ids, has_sounds, numbers_of};
 use dsd_bits::{BitOrder, Recording};
@@ -24,7 +24,7 @@ fn is_one_bit(recording: &Recording) -> bool {
         && has_ids(recording, &[*b"C000"])
 }
 
-// Whether the file of `DSF_FRONT` holds it, the earliest bit of a byte being its lowest.
+// Whether the file of `DSF_FRONT` holds that bit, with the earliest bit of a byte as its lowest.
 fn holds_one_bit(alloc: Global) -> Result<bool, DsfFault> {
     let file = filled(alloc, &DSF_FRONT, 4188)?;
     let (recording, order) = read(alloc, &file)?;

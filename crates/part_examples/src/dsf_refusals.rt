@@ -1,9 +1,9 @@
-//! What no command tells of DSF 1.01 files that are refused, and the texts of these refusals.
+//! What no command reports of DSF 1.01 files that are refused, and the texts of these refusals.
 
 use crate::compared::check_printed;
 use dsf_core::{DsfFault, read};
 
-// Faults and what they are printed as.
+// Faults and the text of each.
 const NAMES: &[(DsfFault, &str)] = &[(DsfFault::NotDsf, "NotDsf"), (DsfFault::Memory, "Memory")];
 
 #[test]

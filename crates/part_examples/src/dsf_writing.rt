@@ -1,4 +1,4 @@
-//! Recordings with the DSF 1.01 files that they are written to, and read again.
+//! Recordings, the DSF 1.01 files that are written for them, and what is read of these again.
 
 ghost use Rattle.std.specs.Prelude.{◌≡◌, length, IfOk};
 
@@ -10,14 +10,14 @@ use fixtures::files::{DSF_FRONT, dsf_of, filled};
 use std::alloc::{AllocError, Global};
 use std::test::Fail;
 
-// So many bytes of one value, and a last one.
+// `number` bytes of one value, and a last one.
 fn ending_in(alloc: Global, byte: u8, number: usize, last: u8) -> Result<Vec<u8>, AllocError> {
     let mut made = vec![in alloc; byte; number]?;
     made.push(last)?;
     Ok(made)
 }
 
-// 32769 bits, so many of the bytes 35 with one bit behind them.
+// 32,769 bits: 4096 bytes of 35, and the first bit of another byte.
 fn channel(alloc: Global, last: u8) -> Result<Bits, AllocError>
     ensures { IfOk result (λ bits. length bits ≡ 32769) }
 {
@@ -28,7 +28,7 @@ fn channel(alloc: Global, last: u8) -> Result<Bits, AllocError>
     }
 }
 
-// A recording of two channels with 32769 bits, of which the last is 1 in the first channel alone.
+// A recording of two channels with 32,769 bits. The last bit is 1 only in the first channel.
 fn two_channels(alloc: Global) -> Result<Recording, AllocError> {
     let left = channel(alloc, 0xff)?;
     let right = channel(alloc, 0x35)?;
@@ -43,8 +43,8 @@ fn two_channels(alloc: Global) -> Result<Recording, AllocError> {
     ))
 }
 
-// Whether a file has two groups of a block for each channel: with so many bits per sample, with this first byte
-// of both blocks of the first group, and of the second group's with this one and 0.
+// Whether a file has two groups of one block per channel, and this number of bits per sample. `first` is the first byte
+// of both blocks of the first group. In the second group the first bytes are `last` and 0.
 fn has_groups(file: &[u8], (bits, first, last): (u8, u8, u8)) -> bool {
     file.len() == 16479
         && byte(file, 60) == bits
@@ -54,12 +54,12 @@ fn has_groups(file: &[u8], (bits, first, last): (u8, u8, u8)) -> bool {
         && byte(file, 12380) == 0
 }
 
-// The byte at a place, 0xee where there is none.
+// The byte at a place, 0xee if there is none.
 fn byte(file: &[u8], place: usize) -> u8 {
     file.get(place).copied().unwrap_or(0xee)
 }
 
-// What two channels have.
+// The numbers of the recording of two channels.
 const TWO_CHANNELS: Numbers = Numbers {
     rate: 5644800,
     layout: 2,
@@ -70,8 +70,8 @@ const TWO_CHANNELS: Numbers = Numbers {
     tag: 3,
 };
 
-// Whether a recording is read as this one of two channels that was written, but for the IDs, which DSF has for two
-// channels.
+// Whether the recording that was read is the one of two channels that was written. Only the IDs differ: they are those
+// of DSF for two channels.
 fn is_same(read: &Recording, written: &Recording) -> bool {
     numbers_of(written) == TWO_CHANNELS
         && numbers_of(read) == TWO_CHANNELS
@@ -81,7 +81,7 @@ fn is_same(read: &Recording, written: &Recording) -> bool {
         && has_sound(read, 1, sound_of(written, 1))
 }
 
-// Whether a file in this order of bits is read as this recording, in the same order.
+// Whether a file in this bit order is read as this recording, in the same order.
 fn is_read(
     alloc: Global,
     file: &[u8],
@@ -92,7 +92,7 @@ fn is_read(
     Ok(order_read == order && is_same(&again, written))
 }
 
-// Whether two channels are written so in this order of bits, and read as the same, in the same order.
+// Whether two channels are written with these parts in this bit order, and read as the same, in the same order.
 fn is_written(alloc: Global, order: BitOrder, parts: (u8, u8, u8)) -> Result<bool, DsfFault> {
     let written = two_channels(alloc)?;
     let file = write(alloc, &written, order)?;
@@ -108,7 +108,7 @@ fn writes_two_groups_of_blocks_and_reads_them(rt: HostRuntime) {
     assert!(rt; most.unwrap_or(false), "8 bits per sample");
 }
 
-// The file of a recording of the file that is read.
+// The file that is written for the recording that a file holds.
 fn written_again(alloc: Global, file: &[u8]) -> Result<Vec<u8>, DsfFault> {
     let (recording, order) = read(alloc, file)?;
     Ok(write(alloc, &recording, order)?)
@@ -121,12 +121,12 @@ fn is_written_again(alloc: Global, expected: &[u8]) -> Result<bool, DsfFault> {
     Ok(equal(&again, expected))
 }
 
-// The same of a file that was built.
+// The same for a file that was built.
 fn is_written_as(alloc: Global, expected: Result<Vec<u8>, AllocError>) -> Result<bool, DsfFault> {
     is_written_again(alloc, &expected?)
 }
 
-// The bits of the byte 0f behind the first are no sound: zeros stand there.
+// The bits of the byte 0f after the first are no sound, and are written as zeros.
 #[test]
 fn writes_the_one_bit_that_it_read(rt: HostRuntime) -> Result<(), Fail> {
     let expected = dsf_of(rt.alloc(), (1, 1, 1), &[0x01], 4096, &[]);

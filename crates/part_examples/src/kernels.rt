@@ -1,10 +1,10 @@
-//! The same samples by each kernel.
+//! Each kernel gives the same samples.
 
 use dsd_bits::Bits;
 use fir_core::{Kernel, Taps, decimate_with};
 use std::alloc::{AllocError, Global};
 
-// Whether tables and lanes give the samples of these bits that the plain sum gives.
+// Whether tables and lanes give the same samples of these bits as the plain sum.
 fn kernels_agree(alloc: Global, taps: &Taps, bits: &Bits) -> Result<bool, AllocError> {
     let plain = decimate_with(alloc, taps, bits, Kernel::Plain)?;
     for kernel in &[Kernel::Table, Kernel::Lanes] {
@@ -15,7 +15,7 @@ fn kernels_agree(alloc: Global, taps: &Taps, bits: &Bits) -> Result<bool, AllocE
     Ok(true)
 }
 
-// The same of the first `count` bits of some bytes.
+// The same for the first `count` bits of some bytes.
 fn agree_on(alloc: Global, taps: &Taps, bytes: &[u8], count: u16) -> Result<bool, AllocError> {
     match Bits::from_packed(alloc, bytes, usize::from(count)) {
         Ok(bits) => kernels_agree(alloc, taps, &bits),
@@ -23,7 +23,7 @@ fn agree_on(alloc: Global, taps: &Taps, bytes: &[u8], count: u16) -> Result<bool
     }
 }
 
-// So many taps.
+// `number` taps.
 fn taps_of(alloc: Global, number: u16) -> Result<Vec<i32>, AllocError> {
     let mut taps = Vec::new(alloc);
     for i in 0..number {
@@ -32,7 +32,7 @@ fn taps_of(alloc: Global, number: u16) -> Result<Vec<i32>, AllocError> {
     Ok(taps)
 }
 
-// Whether it is so of a text, by so many taps.
+// The same for the first `count` bits of a text, by `number` taps.
 fn agree_at(alloc: Global, number: u16, delay: u32, count: u16) -> Result<bool, AllocError> {
     let taps = taps_of(alloc, number)?;
     let factor = 8 + 8 * (u32::from(number) % 3);
@@ -56,8 +56,8 @@ fn plays_the_same_at_each_delay(rt: HostRuntime) {
     }
 }
 
-// How many bytes make a sample, and counts of taps and of bits: windows of a part of a step, of a whole
-// number of steps and of more, and recordings that end with a step, inside one, and inside a byte.
+// How many bytes make a sample, and numbers of taps and of bits. Windows have less than a step, a whole number of
+// steps, or more. Recordings end with a step, inside a step, and inside a byte.
 const STEPS: [u8; 8] = [1, 2, 3, 4, 8, 16, 33, 128];
 
 const NUMBERS: [u16; 3] = [3, 129, 700];
@@ -83,7 +83,7 @@ fn bytes_of(alloc: Global) -> Result<Vec<u8>, AllocError> {
     Ok(bytes)
 }
 
-// Whether they agree on those by so many taps, where so many bytes make a sample.
+// Whether all kernels agree on those bytes by `number` taps, if `step` bytes make a sample.
 fn agree_by(alloc: Global, number: u16, step: u8) -> Result<bool, AllocError> {
     let bytes = bytes_of(alloc)?;
     let taps = taps_of(alloc, number)?;

@@ -1,5 +1,5 @@
-//! The sound bytes of DSF 1.01: a block of 4096 bytes of each channel in turn, the earliest bit of a byte at the
-//! one end or the other. All values are worked out by hand.
+//! The sound bytes of DSF 1.01: a block of 4096 bytes of each channel in turn. The earliest bit of a byte is its lowest
+//! or its highest. All values are worked out by hand.
 
 use crate::told::has_bits;
 use dsd_bits::{BitOrder, Bits, LaceFault, lace_blocks, push_blocks, unlace_blocks, unlace_bytes};
@@ -13,14 +13,14 @@ fn are_apart(channels: &[Bits]) -> bool {
     channels.len() == 2 && has_bits(channels, 0, &[0x80], 1) && has_bits(channels, 1, &[0], 1)
 }
 
-// An order of bits, and a byte whose earliest bit alone is 1.
+// A bit order, and a byte in which only the earliest bit is 1.
 type Earliest = (BitOrder, u8);
 
 const LEAST: Earliest = (BitOrder::LeastFirst, 0x01);
 
 const MOST: Earliest = (BitOrder::MostFirst, 0x80);
 
-// Whether they are taken out of blocks that begin with such a byte.
+// Whether these channels are read from blocks that begin with such a byte.
 fn takes_apart(alloc: Global, (order, byte): Earliest) -> Result<bool, LaceFault> {
     let blocks = filled(alloc, &[byte], 8192)?;
     let channels = unlace_blocks(alloc, &blocks, 2, 1, order)?;
@@ -36,7 +36,7 @@ fn takes_whole_blocks_apart(rt: HostRuntime) -> Result<(), Fail> {
     Ok(())
 }
 
-// Whether what was made is these first bytes and zeros behind them, so many in all.
+// Whether what was made is `front` followed by zeros, `size` bytes in all.
 fn is_filled(
     alloc: Global,
     made: Result<Vec<u8>, LaceFault>,
@@ -48,7 +48,7 @@ fn is_filled(
     Ok(equal(&made, &expected))
 }
 
-// The blocks in an order of bits of those that begin with the byte 1, the earliest bit being the lowest.
+// Reads blocks that begin with the byte 1, with the earliest bit lowest, and makes blocks in another bit order of them.
 fn laced(alloc: Global, order: BitOrder) -> Result<Vec<u8>, LaceFault> {
     let blocks = filled(alloc, &[1], 8192)?;
     let channels = unlace_blocks(alloc, &blocks, 2, 1, BitOrder::LeastFirst)?;
@@ -67,7 +67,7 @@ fn puts_them_together_in_each_order(rt: HostRuntime) -> Result<(), Fail> {
     Ok(())
 }
 
-// A byte, and a block of a channel behind it.
+// A byte, followed by a block of a channel.
 fn pushed(alloc: Global) -> Result<Vec<u8>, LaceFault> {
     let channels = unlace_bytes(alloc, &[1], 1)?;
     let mut out = [1].to_vec(alloc)?;

@@ -9,14 +9,14 @@ use std::test::Fail;
 
 const LACED: [u8; 4] = [0xf0, 0x0f, 0xaa, 0x55];
 
-// Whether these are the two channels of the bytes.
+// Whether these are the two channels in the bytes.
 fn are_apart(channels: &[Bits]) -> bool {
     channels.len() == 2
         && has_bits(channels, 0, &[0xf0, 0xaa], 16)
         && has_bits(channels, 1, &[0x0f, 0x55], 16)
 }
 
-// Whether the bytes are taken apart into them, and are these where the channels are laced.
+// Whether the bytes are split into these channels, and are made again when the channels are interleaved.
 fn laces_again(alloc: Global) -> Result<bool, LaceFault> {
     let channels = unlace_bytes(alloc, &LACED, 2)?;
     let laced = lace_bytes(alloc, &channels)?;
@@ -34,7 +34,7 @@ fn laces_what_it_took_apart(rt: HostRuntime) -> Result<(), Fail> {
     Ok(())
 }
 
-// Three channels, one and two behind what is there.
+// Interleaves three channels, one, and two, each after what is there.
 fn lace_each(alloc: Global, out: &mut Vec<u8>) -> Result<(), LaceFault> {
     push_laced(out, &unlace_bytes(alloc, &[1, 2, 3], 3)?)?;
     push_laced(out, &unlace_bytes(alloc, &[0xf0, 0x0f], 1)?)?;
@@ -50,7 +50,7 @@ fn laces_behind_what_is_there(rt: HostRuntime) -> Result<(), Fail> {
     Ok(())
 }
 
-// Faults and what they are printed as.
+// Faults and the text of each.
 const NAMES: &[(LaceFault, &str)] = &[
     (LaceFault::PartFrame, "PartFrame"),
     (LaceFault::TooFewBytes, "TooFewBytes"),

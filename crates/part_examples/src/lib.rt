@@ -1,6 +1,8 @@
-//! Worked examples of the parts that files and masters are made of: bits, chunks, devices, both formats, WAVE files and
-//! projects; decimation, frames, the costs and the bits of bridges, certificates, and sound bytes that are interleaved
-//! otherwise.
+//! Worked examples of the parts of which files and masters are made, as tests: bits, chunks, devices, both formats,
+//! WAVE files and projects; decimation and frames; costs, bits and certificates of bridges; and re-interleaved sound
+//! bytes.
+//!
+//! What they share is in `fixtures`. Whole files and commands are in `archive_examples`.
 #![tactic(auto)]
 
 #[cfg(test)]

@@ -1,4 +1,4 @@
-//! The names by which faults are told, and the one reason of a certificate that `check` has another name for.
+//! The names of faults, and the one reason of a certificate for which `check` has another name.
 
 use cert_core::{CertFault, CertReason, CheckFault};
 use cost_core::{RoomFault, SinkFault, WindowFault};
@@ -8,12 +8,12 @@ use std::fmt::{Debug, Display};
 use std::process::Abort;
 use trellis_core::BridgeFault;
 
-// Whether a value is printed for debugging as this text.
+// Whether the debug form of a value is this text.
 fn is_shown<T: Debug>(alloc: Global, value: &T, text: &str) -> Result<bool, AllocError> {
     Ok(format!(in alloc; "{value:?}")?.as_str() == text)
 }
 
-// Each value is, as the text that stands beside it.
+// Asserts that each value is printed as the text beside it.
 fn check_shown<T: Debug>(rt: &impl Abort, alloc: Global, cases: &[(T, &str)]) {
     for (value, text) in cases {
         assert!(rt; is_shown(alloc, value, text).unwrap_or(false), "{text}");
@@ -25,7 +25,7 @@ fn is_told<T: Display>(alloc: Global, value: &T, text: &str) -> Result<bool, All
     Ok(format!(in alloc; "{value}")?.as_str() == text)
 }
 
-// Each value is, as the text that stands beside it.
+// Asserts that each value is printed as the text beside it.
 fn check_told<T: Display>(rt: &impl Abort, alloc: Global, cases: &[(T, &str)]) {
     for (value, text) in cases {
         assert!(rt; is_told(alloc, value, text).unwrap_or(false), "{text}");

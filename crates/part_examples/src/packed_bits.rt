@@ -1,5 +1,5 @@
-//! Bits packed eight to a byte: the first bits of some bytes, bits put behind others, and bytes turned round.
-//! All values are worked out by hand.
+//! Bits packed eight to a byte: the first bits of some bytes, bits appended to others, and bytes with their bits
+//! reversed. All values are worked out by hand.
 
 use crate::compared::check_printed;
 use dsd_bits::{BitRoom, Bits, BitsFault, turn, turn_byte};
@@ -7,12 +7,12 @@ use fixtures::compared::equal;
 use std::alloc::{AllocError, Global};
 use std::test::Fail;
 
-// Whether bits are these bytes of so many bits.
+// Whether bits are the first `count` bits of these bytes.
 fn are(bits: &Bits, bytes: &[u8], count: usize) -> bool {
     equal(bits.as_bytes(), bytes) && bits.len() == count
 }
 
-// The bit of a number, None where there is no such.
+// The bit with a number, None if there is none.
 fn bit(bits: &Bits, i: usize) -> Option<bool> {
     if i < bits.len() {
         Some(bits.get(i))
@@ -21,7 +21,7 @@ fn bit(bits: &Bits, i: usize) -> Option<bool> {
     }
 }
 
-// Whether twelve bits of two bytes are so, and three of them.
+// Whether twelve bits of two bytes are packed as they should be, and three of these bits.
 fn twelve_bits(alloc: Global) -> Result<(bool, [Option<bool>; 3]), BitsFault> {
     let bits = Bits::from_packed(alloc, &[0xf0, 0xff], 12)?;
     let each = [bit(&bits, 0), bit(&bits, 4), bit(&bits, 8)];
@@ -35,7 +35,7 @@ fn packs_the_first_bits(rt: HostRuntime) -> Result<(), Fail> {
     Ok(())
 }
 
-// Faults and what they are printed as.
+// Faults and the text of each.
 const NAMES: &[(BitsFault, &str)] = &[
     (BitsFault::TooFewBytes, "TooFewBytes"),
     (BitsFault::Memory, "Memory"),
@@ -52,7 +52,7 @@ fn names_faults(rt: HostRuntime) {
     check_printed(&rt, rt.alloc(), NAMES);
 }
 
-// Puts the bits `start` to `stop - 1` of others behind some; Ok(false) where there are no such.
+// Appends the bits `start` to `stop - 1` of others. Ok(false) if there are no such bits.
 fn add(bits: &mut Bits, source: &Bits, (start, stop): (usize, usize)) -> Result<bool, AllocError> {
     if start <= stop && stop <= source.len() && source.len() <= 64 && bits.len() < 64 {
         bits.push_range(source, start, stop)?;
@@ -61,17 +61,17 @@ fn add(bits: &mut Bits, source: &Bits, (start, stop): (usize, usize)) -> Result<
     Ok(false)
 }
 
-// First bits, how many they are, a range, and what both make together.
+// The first bits, their number, a range, and what both make together.
 type Added = (&'static [u8], usize, usize, usize, &'static [u8], usize);
 
-// Whether such bits of a source make these bytes of so many bits.
+// Whether the range of a source, appended to the first bits, makes these bytes.
 fn adds_from(bits: &mut Bits, source: &Bits, case: &Added) -> Result<bool, AllocError> {
     let (_, count, start, stop, made, length) = *case;
     let is_added = bits.len() == count && add(bits, source, (start, stop))?;
     Ok(is_added && are(bits, made, length))
 }
 
-// Whether it is so of 12 34 56 78.
+// The same for the source 12 34 56 78.
 fn adds(alloc: Global, case: &Added) -> Result<bool, BitsFault> {
     let source = Bits::from_packed(alloc, &[0x12, 0x34, 0x56, 0x78], 32)?;
     let mut bits = Bits::from_packed(alloc, case.0, case.1.min(64))?;
@@ -79,9 +79,9 @@ fn adds(alloc: Global, case: &Added) -> Result<bool, BitsFault> {
 }
 
 const RANGES: [Added; 8] = [
-    // whole bytes behind whole bytes
+    // whole bytes after whole bytes
     (&[0xff], 8, 8, 24, &[0xff, 0x34, 0x56], 24),
-    // from half a byte, to half a byte, and both
+    // from inside a byte, twice; to half a byte; and both
     (&[], 0, 4, 28, &[0x23, 0x45, 0x67], 24),
     (&[], 0, 2, 10, &[0x48], 8),
     (&[0xa0], 4, 0, 32, &[0xa1, 0x23, 0x45, 0x67, 0x80], 36),
@@ -102,14 +102,14 @@ fn adds_ranges_at_every_kind_of_place(rt: HostRuntime) -> Result<(), Fail> {
     Ok(())
 }
 
-// Whether a bit behind eight others makes these bytes.
+// Whether a bit after eight others makes the right bytes.
 fn adds_a_bit(alloc: Global) -> Result<bool, BitsFault> {
     let mut bits = Bits::from_packed(alloc, &[0xc3], 8)?;
     bits.push_bit(true)?;
     Ok(are(&bits, &[0xc3, 0x80], 9))
 }
 
-// How many bits two ranges make in held room, and how many are left when it is cleared.
+// How many bits two ranges make in reserved memory, and how many are left when it is cleared.
 fn adds_to_room(alloc: Global) -> Result<(usize, usize), BitsFault> {
     let source = Bits::from_packed(alloc, &[0x12, 0x34, 0x56], 24)?;
     let mut room = BitRoom::new(alloc, 16)?;

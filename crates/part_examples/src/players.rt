@@ -30,7 +30,7 @@ const BLOCKED: Sound = Sound {
     interleaving: Interleaving::Blocks(BitOrder::LeastFirst),
 };
 
-// Feeds a player ones to the left and zeros to the right; how many bytes of frames it gave after nine of the
+// Feeds a player ones on the left and zeros on the right. Returns how many bytes of frames it gave after nine of the
 // ten bytes, and after the tenth.
 fn feed_laced(player: &mut Player, out: &mut Vec<u8>) -> Result<(usize, usize), AllocError>
     requires ready { IsPlayer player.old }
@@ -46,7 +46,7 @@ fn feed_laced(player: &mut Player, out: &mut Vec<u8>) -> Result<(usize, usize), 
     Ok((early, late))
 }
 
-// The same of a new player, by 33 taps of 1.
+// The same for a new player, by 33 taps of 1.
 fn laced(alloc: Global, out: &mut Vec<u8>) -> Result<(usize, usize), Fail> {
     let taps = Taps::new(alloc, &[1; 33], 8, 32, 0, 16)?;
     let mut player = Player::new(alloc, &taps, LACED)?;
@@ -70,7 +70,7 @@ fn plays_a_byte_of_each_channel_in_turn(rt: HostRuntime) -> Result<(), Fail> {
     Ok(())
 }
 
-// Feeds a player a block; how many bytes of frames it gave before its last byte.
+// Feeds a player a block. Returns how many bytes of frames it gave before the last byte.
 fn feed_block(player: &mut Player, out: &mut Vec<u8>) -> Result<usize, AllocError>
     requires ready { IsPlayer player.old }
     requires fed { fed_of player.old ≡ 0 }
@@ -83,7 +83,7 @@ fn feed_block(player: &mut Player, out: &mut Vec<u8>) -> Result<usize, AllocErro
     Ok(early)
 }
 
-// The same of a new player, by the taps 1, 2, 3 and 4.
+// The same for a new player, by the taps 1, 2, 3 and 4.
 fn blocked(alloc: Global, out: &mut Vec<u8>) -> Result<usize, Fail> {
     let taps = Taps::new(alloc, &[1, 2, 3, 4], 8, 3, 0, 24)?;
     let mut player = Player::new(alloc, &taps, BLOCKED)?;

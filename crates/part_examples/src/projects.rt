@@ -1,4 +1,4 @@
-//! Projects' texts with what they say.
+//! Project texts and what they state.
 
 use project_core::{Cue, Project, ProjectFault, Splice, Target, read};
 use std::alloc::Global;
@@ -73,7 +73,7 @@ fn has_takes(splice: &Splice, weights: &[i32]) -> bool {
     }
 }
 
-// Whether the cue of this number has these numbers and this title.
+// Whether the cue with this number has these numbers and this title.
 fn has_cue(
     splice: &Splice,
     i: usize,
@@ -94,7 +94,7 @@ fn is_example(splice: &Splice) -> bool {
         && has_cue(splice, 1, (1, 2, 9, 0, Target::Fade), Some("one"))
 }
 
-// Whether a project has it, and the decimator of the example.
+// Whether a project has this splice, and the decimator of the example.
 fn has_example(project: &Project) -> bool {
     match &project.splice {
         Some(splice) => decimator_of(project) == Some((8, 16)) && is_example(splice),
@@ -102,7 +102,7 @@ fn has_example(project: &Project) -> bool {
     }
 }
 
-// Whether they are read.
+// Whether the example is read as these.
 fn reads_example(alloc: Global) -> Result<bool, ProjectFault> {
     Ok(has_example(&read(alloc, EXAMPLE.as_bytes())?))
 }

@@ -1,4 +1,4 @@
-//! Sound bytes written in another interleaving, beside those of whole channels.
+//! Sound bytes written in another interleaving, compared with those of whole channels.
 
 ghost use Rattle.std.specs.Prelude.{◌≡◌, ◌≤◌, ◌^◌, length, true};
 ghost use Rattle.dsd_bits.specs.Sounds.{sound_size};
@@ -16,7 +16,8 @@ const LEAST: Interleaving = Interleaving::Blocks(BitOrder::LeastFirst);
 
 const MOST: Interleaving = Interleaving::Blocks(BitOrder::MostFirst);
 
-// Interleavings, and the bits of each channel: within the second group, and within a byte where both have blocks.
+// Two interleavings, and the number of bits of each channel. It ends within the second group, and within a byte if both
+// have blocks.
 const CASES: &[(Interleaving, Interleaving, usize)] = &[
     (FRAMES, FRAMES, 32808),
     (FRAMES, LEAST, 32808),
@@ -29,7 +30,7 @@ const CASES: &[(Interleaving, Interleaving, usize)] = &[
     (MOST, MOST, 32805),
 ];
 
-// So many bytes, each another than those beside it; behind the bits of a stretch too.
+// `size` bytes, each different from its neighbours, also after the bits of a stretch.
 fn bytes_of(alloc: Global, size: usize) -> Result<Vec<u8>, AllocError> {
     let mut made = Vec::new(alloc);
     let mut byte: u8 = 1;
@@ -40,7 +41,7 @@ fn bytes_of(alloc: Global, size: usize) -> Result<Vec<u8>, AllocError> {
     Ok(made)
 }
 
-// Whether a stretch within the limits takes just these bytes.
+// Whether a stretch within the limits takes exactly these bytes.
 fn takes(bytes: &[u8], stretch: Stretch, from: Interleaving) -> bool
     requires channels { stretch.channels ≤ 6 }
     requires in_limit { stretch.count ≤ 2 ^ 36 }
@@ -52,8 +53,8 @@ fn takes(bytes: &[u8], stretch: Stretch, from: Interleaving) -> bool
     }
 }
 
-// Appends a stretch within the limits that takes just these bytes, of whole bytes of each channel where that is wanted;
-// another stretch is told as want of memory.
+// Appends a stretch that is within the limits and takes exactly these bytes. It must have whole bytes of each channel
+// unless both interleavings have blocks. For any other stretch the answer is `AllocError`.
 fn push(
     alloc: Global,
     out: &mut Vec<u8>,
@@ -74,7 +75,7 @@ fn push(
     push_relaced(alloc, out, bytes, stretch, from, to)
 }
 
-// The channels that stand in sound bytes.
+// The channels in sound bytes.
 fn channels_in(
     alloc: Global,
     bytes: &[u8],
@@ -89,7 +90,7 @@ fn channels_in(
     }
 }
 
-// Whether these are the bytes with nothing but zeros behind them.
+// Whether these bytes are `front` followed by nothing but zeros.
 fn is_filled(bytes: &[u8], front: &[u8]) -> bool {
     if bytes.len() < front.len() {
         return false;
@@ -98,7 +99,7 @@ fn is_filled(bytes: &[u8], front: &[u8]) -> bool {
     own == front && fill.iter().all(|byte| *byte == 0)
 }
 
-// Whether these channels are the others, but for zeros behind them.
+// Whether these channels are the others, each followed by nothing but zeros.
 fn are_filled(channels: &[Bits], others: &[Bits]) -> bool {
     channels.len() == 3
         && others.len() == 3
@@ -108,7 +109,7 @@ fn are_filled(channels: &[Bits], others: &[Bits]) -> bool {
         ))
 }
 
-// Whether three channels of so many bits stand in the bytes that are written, with zeros behind them.
+// Whether the bytes that are written hold three channels of `count` bits, followed by zeros.
 fn holds_channels(
     alloc: Global,
     from: Interleaving,

@@ -1,4 +1,4 @@
-//! The rows that a search hands over.
+//! The rows that a search passes to a sink.
 
 ghost use Rattle.std.specs.Prelude.{◌≡◌, ◌+◌, Some, false, IfOk};
 ghost use Rattle.cost_core.specs.Trellis.{states};
@@ -10,7 +10,7 @@ use std::alloc::{AllocError, Global};
 use std::test::Fail;
 use trellis_core::{BridgeFault, Chosen, bridge_cut_into, bridge_into};
 
-// The numbers of the rows before one that is refused.
+// A sink with the numbers of the rows before one that is refused.
 #[derive(Drop)]
 struct Numbers {
     numbers: Vec<u64>,
@@ -50,8 +50,8 @@ impl LevelSink for Numbers {
     }
 }
 
-// A sink for the rows of a window, which refuses the one after which `refused_left` are to come. It has room for six
-// numbers.
+// A sink for the rows of a window. It refuses the row at which `refused_left` rows are still to come. It has room for
+// six numbers.
 fn sink_for(alloc: Global, window: &Window, refused_left: usize) -> Result<Numbers, AllocError>
     ensures left { IfOk result (λ sink. sink.left ≡ window.now.levels + 1) }
     ensures width { IfOk result (λ sink. sink.width ≡ states (trellis_of window.now)) }
@@ -80,7 +80,7 @@ fn told(chosen: Result<Chosen, BridgeFault>) -> Told {
     }
 }
 
-// What a search comes to that hands over its rows, cut at the cost or not.
+// What a search returns that passes on its rows, cut at the cost or not.
 fn searched(alloc: Global, window: &Window, sink: &mut Numbers, is_cut: bool) -> Told
     requires left { sink.old.left ≡ window.now.levels + 1 }
     requires width { sink.old.width ≡ states (trellis_of window.now) }
@@ -93,11 +93,11 @@ fn searched(alloc: Global, window: &Window, sink: &mut Numbers, is_cut: bool) ->
     }
 }
 
-// A search of two bits: whether rows are cut, after which row one is refused, the numbers of the rows before it, and
-// what it comes to.
+// A search for two bits: whether rows are cut, how many rows are still to come when one is refused, the numbers of the
+// rows before that, and what the search returns.
 type Search = (bool, usize, &'static [u64], Told);
 
-// Whether a search comes to this, and a row is refused just where that is told. Err is want of memory.
+// Whether a search returns this, and a row is refused exactly if that is returned. Err is out of memory.
 fn is_so(alloc: Global, window: &Window, search: &Search) -> Result<bool, AllocError> {
     let (is_cut, refused_left, numbers, expected) = *search;
     let mut sink = sink_for(alloc, window, refused_left)?;
@@ -118,8 +118,8 @@ fn hands_over(alloc: Global, search: &Search) -> Result<bool, Fail> {
     Ok(is_so(alloc, &window, search)?)
 }
 
-// The rows as they are, and where the first, the second and the last row are refused; and the same where they are cut at
-// the cost, which is 8: each number above it is 8.
+// The rows as they are, and with the first, the second and the last row refused. Then the same rows cut at the cost,
+// which is 8: each number above it is 8.
 const SEARCHES: &[Search] = &[
     (false, 0, &[1 << 63, 0, 16, 4, 8, 20], Ok((0x80, 8))),
     (false, 3, &[], Err(BridgeFault::Sink)),

@@ -13,13 +13,13 @@ fn ten_taps(alloc: Global) -> Result<Taps, Fail> {
     Ok(Taps::new(alloc, &[5, -7, 11, 2, 9, 4, -1, 8, 6, 3], 8, 4, 1, 16)?)
 }
 
-// The samples of the whole channel: 17, one for each 8 bits that it begins.
+// The samples of the whole channel: 17, one for each 8 bits or part of them.
 fn whole(alloc: Global, taps: &Taps) -> Result<Vec<i32>, Fail> {
     let bits = Bits::from_packed(alloc, b"a channel of bits", 132)?;
     Ok(decimate(alloc, taps, &bits)?)
 }
 
-// Feeds a stream 17 bytes piece by piece; how many samples it gave after the first, and after nine.
+// Feeds a stream 17 bytes piece by piece. Returns how many samples it gave after the first byte, and after nine.
 fn feed_pieces(stream: &mut Stream, made: &mut Vec<i32>) -> Result<(usize, usize), AllocError>
     requires ready { IsStream stream.old }
     requires fed { (state_of stream.old).fed ≡ 0 }
@@ -35,7 +35,7 @@ fn feed_pieces(stream: &mut Stream, made: &mut Vec<i32>) -> Result<(usize, usize
     Ok((early, late))
 }
 
-// The same of a new stream of 132 bits.
+// The same for a new stream of 132 bits.
 fn stream_pieces(
     alloc: Global,
     taps: &Taps,
@@ -56,7 +56,8 @@ fn streams(
     Ok((early, late, made.as_slice() == samples))
 }
 
-// What a stream answers to all its bytes; where memory is refused they are fed again, and its refusal then is Err.
+// What a stream returns for all its bytes. If memory runs out, they are fed again, and if that fails, the answer is
+// Err.
 fn feed_again(
     stream: &mut Stream,
     made: &mut Vec<i32>,
@@ -78,7 +79,7 @@ fn feed_again(
     }
 }
 
-// What a stream answers at its end; where memory is refused it is finished again, and its refusal then is Err.
+// What a stream returns at its end. If memory runs out, it is finished again, and if that fails, the answer is Err.
 fn finish_again(
     stream: &mut Stream,
     made: &mut Vec<i32>,
@@ -96,7 +97,7 @@ fn finish_again(
     }
 }
 
-// The first refusal of a new stream that goes on after it.
+// The first refusal of a new stream, which goes on after it.
 fn stream_whole(
     alloc: Global,
     taps: &Taps,
@@ -118,7 +119,7 @@ fn goes_on(
     Ok((made.as_slice() == samples, result))
 }
 
-// The places of the samples are 4, 12, 20 ..: one lies below 8, and nine below 72. After a refusal a stream goes on.
+// The places of the samples are 4, 12, 20 ..: one is below 8, and nine are below 72. After a refusal a stream goes on.
 #[test]
 fn streams_the_same_samples(rt: HostRuntime) -> Result<(), Fail> {
     let alloc = rt.alloc();
@@ -130,7 +131,7 @@ fn streams_the_same_samples(rt: HostRuntime) -> Result<(), Fail> {
     Ok(result?)
 }
 
-// Feeds a stream its one byte, f0; how many samples it gave before it was ended.
+// Feeds a stream its one byte, f0. Returns how many samples it gave before it was finished.
 fn feed_byte(stream: &mut Stream, made: &mut Vec<i32>) -> Result<usize, AllocError>
     requires ready { IsStream stream.old }
     requires fed { (state_of stream.old).fed ≡ 0 }
@@ -142,7 +143,7 @@ fn feed_byte(stream: &mut Stream, made: &mut Vec<i32>) -> Result<usize, AllocErr
     Ok(early)
 }
 
-// Whether a stream of one byte by these taps gives these samples, so many of them before it is ended.
+// Whether a stream of one byte by these taps gives these samples, `early` of them before it is finished.
 fn streams_byte(
     alloc: Global,
     taps: &[i32],
@@ -155,7 +156,7 @@ fn streams_byte(
     }
 }
 
-// The same by a decimator that there is.
+// The same by a decimator.
 fn streams_byte_by(
     alloc: Global,
     taps: &Taps,
@@ -173,8 +174,8 @@ fn feed_byte_to(alloc: Global, taps: &Taps, made: &mut Vec<i32>) -> Result<usize
     feed_byte(&mut stream, made)
 }
 
-// At the delay 3 the four ones of f0 have come with the byte: 1 + 2 + 3 + 4. At the delay 8 all eight bits and one
-// behind them are read, which sum to 0, once it is known that none comes.
+// At the delay 3 the four ones of f0 have come with the byte: 1 + 2 + 3 + 4. At the delay 8 the sample reads all eight
+// bits, which sum to 0, and the place after them. It is given once it is known that no bit comes there.
 #[test]
 fn streams_one_byte(rt: HostRuntime) {
     assert!(rt; streams_byte(rt.alloc(), &[1, 2, 3, 4], 3, (1, &[10])).unwrap_or(false));

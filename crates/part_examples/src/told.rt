@@ -1,4 +1,4 @@
-//! What the examples tell of recordings and their channels.
+//! What the examples compare of recordings and their channels.
 
 use dsd_bits::{Bits, Recording};
 use fixtures::compared::equal;
@@ -31,7 +31,7 @@ pub(crate) fn numbers_of(recording: &Recording) -> Numbers {
     }
 }
 
-/// The bytes of a channel, none where there is no such channel.
+/// The bytes of a channel, none if there is no such channel.
 pub(crate) fn sound_of(recording: &Recording, channel: usize) -> &[u8] {
     match recording.channels().get(channel) {
         Some(bits) => bits.as_bytes(),
@@ -47,7 +47,7 @@ pub(crate) fn has_sound(recording: &Recording, channel: usize, bytes: &[u8]) -> 
     }
 }
 
-/// Whether the channels have these bytes, and there is one for each.
+/// Whether the channels have these bytes, one channel for each.
 pub(crate) fn has_sounds(recording: &Recording, sounds: &[&[u8]]) -> bool {
     for (channel, bytes) in sounds.iter().enumerate() {
         if !has_sound(recording, channel, bytes) {
@@ -62,7 +62,7 @@ pub(crate) fn has_ids(recording: &Recording, ids: &[[u8; 4]]) -> bool {
     recording.ids() == ids
 }
 
-/// Whether of some channels one has these bytes and so many bits.
+/// Whether the channel with this number has these bytes and `count` bits.
 pub(crate) fn has_bits(channels: &[Bits], channel: usize, bytes: &[u8], count: usize) -> bool {
     match channels.get(channel) {
         Some(bits) => equal(bits.as_bytes(), bytes) && bits.len() == count,

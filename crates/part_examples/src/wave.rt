@@ -1,4 +1,4 @@
-//! RIFF WAVE files byte by byte, and the edges of sizes and widths.
+//! RIFF WAVE files byte by byte, and the limits of sizes and widths.
 
 ghost use Rattle.wave_core.specs.Contents.{IsPcm, IsWidth, pcm_of};
 
@@ -16,7 +16,7 @@ fn writes(alloc: Global, pcm: Result<Pcm, AllocError>, file: &[u8]) -> Result<bo
     Ok(equal(&written, file))
 }
 
-// So many channels of these samples.
+// `channels` channels of these samples.
 fn pcm(alloc: Global, channels: u16, width: u32, samples: &[i32]) -> Result<Pcm, AllocError>
     requires { IsPcm (pcm_of channels 352800 width samples.now) }
 {
@@ -44,7 +44,7 @@ fn writes_several_channels(rt: HostRuntime) {
     );
 }
 
-// Six channels of 24 bits: 18 bytes a frame and, at one frame a second, 18 a second.
+// Six channels of 24 bits: 18 bytes a frame, and at one frame a second 18 bytes a second.
 #[test]
 fn writes_no_frames(rt: HostRuntime) {
     let none = Pcm::new(6, 1, 24, Vec::new(rt.alloc()));
@@ -55,7 +55,7 @@ fn writes_no_frames(rt: HostRuntime) {
     assert!(rt; writes(rt.alloc(), Ok(none), expected).unwrap_or(false));
 }
 
-// What a header of one channel comes to, and how many bytes there are then.
+// What writing a header of one channel returns, and how many bytes there are then.
 fn header(out: &mut Vec<u8>, width: u32, frames: u64) -> (Result<(), WaveFault>, usize)
     requires { IsWidth width }
 {
@@ -77,7 +77,7 @@ fn fills_a_riff_chunk(rt: HostRuntime) -> Result<(), Fail> {
     Ok(())
 }
 
-// The second form has 24 bytes more: its greatest file has fewer frames.
+// The second form has 24 more bytes, so its longest file has fewer frames.
 #[test]
 fn fills_a_riff_chunk_of_24_bits(rt: HostRuntime) {
     let mut out = Vec::new(rt.alloc());
@@ -87,14 +87,14 @@ fn fills_a_riff_chunk_of_24_bits(rt: HostRuntime) {
     assert!(rt; header(&mut out, 24, 1_431_655_745) == (too_large, 68));
 }
 
-// Pushes three samples of 16 bits.
+// Appends three samples of 16 bits.
 fn push_narrow(out: &mut Vec<u8>) -> Result<(), AllocError> {
     push_sample(out, 16, -2)?;
     push_sample(out, 16, 32_767)?;
     push_sample(out, 16, -32_768)
 }
 
-// Pushes three samples of 24 bits.
+// Appends three samples of 24 bits.
 fn push_wide(out: &mut Vec<u8>) -> Result<(), AllocError> {
     push_sample(out, 24, -2)?;
     push_sample(out, 24, 8_388_607)?;
@@ -133,7 +133,7 @@ fn takes_samples_channel_by_channel(rt: HostRuntime) -> Result<(), Fail> {
     Ok(())
 }
 
-// Pushes a frame of three channels behind a byte, and then two of one channel.
+// Appends a frame of three channels after a byte, and then two frames of one channel.
 fn push_behind(out: &mut Vec<u8>) -> Result<(), AllocError> {
     out.push(9)?;
     push_frames(out, 16, &[5, -6, 7], 1)?;
@@ -148,7 +148,7 @@ fn appends_frames_to_those_before(rt: HostRuntime) -> Result<(), Fail> {
     Ok(())
 }
 
-// Whether this is the pad behind so many frames.
+// Whether this is the pad after `frames` frames.
 fn pads(
     alloc: Global,
     channels: u16,
@@ -161,7 +161,7 @@ fn pads(
     Ok(equal(&out, pad))
 }
 
-// Channels, the bits of a sample, frames, and the pad behind them.
+// Channels, the bits of a sample, frames, and the pad after them.
 const PADS: [(u16, u32, u64, &[u8]); 5] = [
     (1, 24, 1, &[0]),
     (1, 16, 1, &[]),
@@ -179,7 +179,7 @@ fn pads_odd_samples(rt: HostRuntime) -> Result<(), Fail> {
     Ok(())
 }
 
-// Faults and what they are printed as.
+// Faults and the text of each.
 const NAMES: &[(WaveFault, &str)] = &[
     (WaveFault::TooLarge, "TooLarge"),
     (WaveFault::Memory, "Memory"),

@@ -7,7 +7,7 @@ use cost_core::{Window, WindowFault};
 use fixtures::windows::{bits_of, by_equal, by_line, by_newest, by_older, ones, zeros};
 use std::alloc::Global;
 
-// The bits of a state, the states, the bits of the bridge, and the state before it.
+// The bits of a state, the number of states, the bits of the bridge, and the state before it.
 fn shape(window: &Window) -> [usize; 4] {
     [
         window.width(),
@@ -17,8 +17,8 @@ fn shape(window: &Window) -> [usize; 4] {
     ]
 }
 
-// The costs of a level's steps, from state 0 by the bits 0 and 1 and from state 1: one by one, and as a
-// row. None where there is no such level, or where there are other states.
+// The costs of a level's steps, from state 0 by the bits 0 and 1, and from state 1: one by one, and as a row. None if
+// there is no such level, or if there are other states.
 type Steps = Option<([u64; 4], [u64; 4])>;
 
 fn steps(window: &Window, level: usize) -> Steps {
@@ -36,7 +36,7 @@ fn steps(window: &Window, level: usize) -> Steps {
     Some((single, row))
 }
 
-// What the bits behind the bridge cost after state 0 and after state 1: one by one, and as a row. None where there are
+// What the bits after the bridge cost after state 0 and after state 1: one by one, and as a row. None if there are
 // other states.
 type Tails = Option<([u64; 2], [u64; 2])>;
 
@@ -49,7 +49,7 @@ fn tails(window: &Window) -> Tails {
     Some(([window.tail_cost(0), window.tail_cost(1)], row))
 }
 
-// What is told of a window: its shape, its steps at the levels 0 and 1, and the bits behind it.
+// What is compared of a window: its shape, its steps at the levels 0 and 1, and the costs after it.
 type Told = ([usize; 4], Steps, Steps, Tails);
 
 fn told(window: Result<Window, WindowFault>) -> Option<Told> {
@@ -65,7 +65,7 @@ fn steps_of_a_bridge_of_one_bit(rt: HostRuntime) {
     assert!(rt; told(by_equal(rt.alloc(), ones(0, 8), 1, zeros(2, 9))) == Some(expected));
 }
 
-// The state counts nothing.
+// The state makes no difference, because only the newest bit has a weight.
 #[test]
 fn steps_of_a_bridge_of_two_bits(rt: HostRuntime) {
     let first = Some(([16, 4, 16, 4], [16, 4, 16, 4]));
@@ -80,7 +80,7 @@ fn cost_in(alloc: Global, window: &Window, byte: u8) -> Option<u64> {
     Some(window.cost_of(&bits))
 }
 
-// The same of a window that may be refused.
+// The same for a window that may be refused.
 fn cost(alloc: Global, window: Result<Window, WindowFault>, byte: u8) -> Option<u64> {
     match window {
         Ok(window) => cost_in(alloc, &window, byte),
@@ -114,9 +114,9 @@ fn line_costs(alloc: Global, ends: (i32, i32)) -> [Option<u64>; 2]
     both_costs(alloc, by_line(alloc, ones(0, 8), 1, zeros(0, 7), ends))
 }
 
-// All numbers are times 2. A line from 2 to -2 is 0 at the bridge's place and -4 behind it: the bit 0 meets both, the bit
-// 1 is 4 off at both. Silence is 0 at both places: the bit 0 is 4 off behind the bridge, the bit 1 at it. From -1 to 1 the
-// targets are 0 and 2: the bit 0 is 6 off behind the bridge, the bit 1 is 4 off at it and 2 behind it.
+// All numbers are times 2. A line from 2 to -2 has the targets 0 at the bridge's place and -4 after it: the bit 0 meets
+// both, the bit 1 is 4 off at both. Silence is 0 at both places: the bit 0 is 4 off after the bridge, the bit 1 at it.
+// From -1 to 1 the targets are 0 and 2: the bit 0 is 6 off after the bridge, the bit 1 is 4 off at it and 2 after it.
 #[test]
 fn costs_of_lines(rt: HostRuntime) {
     let alloc = rt.alloc();
@@ -126,8 +126,8 @@ fn costs_of_lines(rt: HostRuntime) {
 }
 
 // By the weights 0 and 1 a bridge of one bit from zeros to ones has the targets 0 and 2. At its own place the zero
-// before it counts, which is 2 off whichever the bit is: that costs 4. Behind it the bit itself counts: a 1 meets the
-// target, a 0 is 4 off.
+// before it counts. This is 2 off whatever the bit is, and costs 4. At the place after it the bit itself counts: a 1
+// meets the target, a 0 is 4 off.
 #[test]
 fn a_bit_costs_at_the_place_behind_it(rt: HostRuntime) {
     let older = by_older(rt.alloc(), zeros(0, 8), 1, ones(2, 9));
@@ -143,7 +143,7 @@ fn bridges_to_a_cue_of_one_bit_and_back(rt: HostRuntime) {
     assert!(rt; cost(alloc, back, 0x80) == Some(0), "back");
 }
 
-// Why there is no window of a bridge of one bit, from ones up to `stop` to zeros.
+// Why there is no window of a bridge of one bit, from ones up to `stop` to zeros from `start` on.
 fn refusal(alloc: Global, stop: usize, start: usize, last: usize) -> Option<WindowFault>
     requires stop { (1 ≤ stop) × (stop ≤ 32) }
     requires last { (start + 1 ≤ last) × (last ≤ 32) }

@@ -1,4 +1,4 @@
-//! Reading a table of the array `cue`.
+//! Reads a table of the array `cue`.
 
 ghost use Rattle.std.specs.Prelude.{◌≡◌, ◌≤◌, option_map, string_bytes};
 ghost use Rattle.toml.specs.View.{view, table_view};
@@ -13,7 +13,7 @@ use splice_core::{Cue, Target};
 use std::alloc::Global;
 use toml::{Table, Value};
 
-// The most bits that a channel of a take has.
+// The most bits that a channel of a take may have.
 const MAX_PLACE: usize = 1 << 36;
 
 // The longest bridge, in bits.
@@ -35,7 +35,7 @@ const KEYS: [Key; 7] = [
     Key::Title,
 ];
 
-/// The cue that a value is, under its number, with so many weights and takes.
+/// The cue that a value states. `number` is its number, and the project has `weights` weights and `takes` takes.
 #[tactic(auto, unfolding(crate::specs::ReadingCue::cue_of))]
 pub(crate) fn cue_of(
     alloc: Global,
@@ -76,7 +76,7 @@ fn take_at(table: &Table, number: usize, takes: usize) -> Result<usize, ProjectF
     below(integer, takes).ok_or(ProjectFault::NoTake(number))
 }
 
-// The length of the cue's bridge, 0 where it isn't told.
+// The length of the cue's bridge, 0 if it is left out.
 #[tactic(auto, unfolding(crate::specs::ReadingCue::bridge_at))]
 fn bridge_at(table: &Table) -> Result<usize, ProjectFault>
     ensures { Gives (λ n. n) result (bridge_at (table_view table.now)) }
@@ -100,7 +100,7 @@ fn target_at(alloc: Global, table: &Table) -> Result<Target, ProjectFault>
     }
 }
 
-// The name of the cue's target, that of the fade where it isn't told.
+// The name of the cue's target, that of the fade if it is left out.
 #[tactic(auto, unfolding(crate::specs::ReadingCue::target_name_at))]
 fn target_name_at(table: &Table) -> Result<&str, ProjectFault>
     ensures { Gives (λ t. t.now) result (target_name_at (table_view table.now)) }
@@ -122,7 +122,7 @@ fn fade_at(table: &Table) -> Result<Target, ProjectFault>
     }
 }
 
-// The line whose ends are told: two numbers within the limits.
+// The line whose ends are given: two numbers within the limits.
 #[tactic(auto, unfolding(crate::specs::ReadingCue::line_at))]
 fn line_at(alloc: Global, table: &Table) -> Result<Target, ProjectFault>
     ensures { Gives (λ t. t) result (line_at (table_view table.now)) }
@@ -158,7 +158,7 @@ fn title_at(alloc: Global, table: &Table) -> Result<Option<String>, ProjectFault
     Ok(Some(String::from_str(alloc, title)?))
 }
 
-// A title that isn't too long.
+// The title that a value states, which must not be too long.
 fn title_of(value: &Value) -> Result<&str, ProjectFault>
     ensures { Gives (λ t. t.now) result (title_of (view value.now)) }
 {

@@ -1,4 +1,4 @@
-//! Reading the table `decimate`.
+//! Reads the table `decimate`.
 
 ghost use Rattle.toml.specs.View.{view};
 ghost use Rattle.project_core.specs.Steps.{Gives};

@@ -10,20 +10,20 @@ use thiserror::Error;
 
 /// Why a project text is not read: the first fault in the order of reading.
 ///
-/// A fault's text is its name, and after one space the key as it stands in the text, or the number of
-/// the cue, counted from 0.
+/// A fault's text is its name. If it has a key, or the number of a cue counted from 0, this follows after one space. A
+/// key is spelled as in the project text.
 #[derive(Clone, Copy, Debug, PartialEq, Eq, Error)]
 pub enum ProjectFault {
     /// The bytes are no TOML document.
     #[error("NotToml")]
     NotToml,
-    /// A table has a key that isn't one of its own.
+    /// A table has a key that is none of its keys.
     #[error("UnknownKey")]
     UnknownKey,
     /// A table lacks this key.
     #[error("MissingKey {0}")]
     MissingKey(Key),
-    /// The value at this key isn't of its kind.
+    /// The value at this key isn't of the right kind.
     #[error("WrongKind {0}")]
     WrongKind(Key),
     /// The value at this key is outside its limits.
@@ -32,13 +32,13 @@ pub enum ProjectFault {
     /// This cue names a take that isn't there.
     #[error("NoTake {0}")]
     NoTake(usize),
-    /// This cue is more than one bit shorter than there are weights.
+    /// This cue is more than one bit shorter than the number of weights.
     #[error("ShortCue {0}")]
     ShortCue(usize),
     /// The last cue has a bridge.
     #[error("LastBridge")]
     LastBridge,
-    /// Want of memory.
+    /// Out of memory.
     #[error("Memory")]
     Memory,
 }

@@ -5,7 +5,7 @@ ghost use Rattle.project_core.specs.Keys.{name_of};
 
 use std::fmt;
 
-/// A key of a project text. Its text is the key as it stands there.
+/// A key of a project text. It is printed as it is spelled there.
 #[derive(Clone, Copy, Debug, PartialEq, Eq)]
 pub enum Key {
     /// The table of a decimator.
@@ -24,7 +24,7 @@ pub enum Key {
     Splice,
     /// The weights by which bridges are judged.
     Weights,
-    /// The takes' names.
+    /// The names of the takes.
     Takes,
     /// The array of cues.
     Cue,
@@ -38,14 +38,14 @@ pub enum Key {
     Bridge,
     /// What that bridge should sound like.
     Target,
-    /// The two ends of a line as such a target.
+    /// The two ends of a line, if that is the target.
     Line,
     /// A cue's title.
     Title,
 }
 
 impl Key {
-    /// The key as it stands in a text.
+    /// The key as it is spelled in a text.
     #[tactic(auto, unfolding(crate::specs::Keys::name_of))]
     pub fn name(self) -> &'static str
         ensures { result.now ≡ name_of self }

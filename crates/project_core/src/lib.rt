@@ -1,6 +1,6 @@
 //! Project texts: how a recording is played, and how takes are cut together.
 //!
-//! A project text is a TOML document of at most two tables, each of them optional:
+//! A project text is a TOML document. It has at most two tables, and each is optional:
 //!
 //! ```text
 //! [decimate]                      # a decimator, see `fir_core`
@@ -27,27 +27,27 @@
 //! title = "one"                   # at most 255 bytes; none if left out
 //! ```
 //!
-//! A cue is at most one bit shorter than there are weights. Tables have no other keys. Booleans, floats and dates are no integers.
+//! A cue has at least as many bits as there are weights, or one less. Tables have no other keys. Booleans, floats and
+//! dates are no integers.
 //!
-//! [`read`] takes a text to the [`Project`] that it says, or to its first fault ([`ProjectFault`]).
+//! [`read`] returns the [`Project`] that a text states, or its first fault ([`ProjectFault`]).
 //!
 //! The words of its contracts:
-//! - `IsProject bytes p` (`specs/Meaning.antt`): the bytes are a text that says the project `p`. It is
-//!   said in what the tables have (`IsDecimate`, `IsSplice`, `IsCue`), and nothing in it reads.
-//! - `IsWithinLimits` (`fir_core`), `IsSplicing`, `AreWeights` and `IsCueWithin` (`splice_core`): the limits. Each
-//!   [`Splice`] keeps its own.
-//! - `project_at bytes` (`specs/ReadingProject.antt`): the reading in a fixed order, to the project or
-//!   the first fault; its steps are `decimate_of` (`specs/ReadingDecimate.antt`), `splice_of`
-//!   (`specs/ReadingSplice.antt`), `cue_of` (`specs/ReadingCue.antt`), and single keys
-//!   (`specs/Reading.antt`).
+//! - `IsProject bytes p` (`specs/Meaning.antt`): the bytes are a text that states the project `p`. It is defined by
+//!   what the tables contain (`IsDecimate`, `IsSplice`, `IsCue`), without any reading.
+//! - `IsWithinLimits` (`fir_core`), `IsSplicing`, `AreWeights` and `IsCueWithin` (`splice_core`): the limits. Every
+//!   [`Splice`] is within its own.
+//! - `project_at bytes` (`specs/ReadingProject.antt`): the reading in a fixed order, which ends with the project or the
+//!   first fault. Its steps are `decimate_of` (`specs/ReadingDecimate.antt`), `splice_of` (`specs/ReadingSplice.antt`),
+//!   `cue_of` (`specs/ReadingCue.antt`), and single keys (`specs/Reading.antt`).
 //! - `project_content` (`specs/Projects.antt`), `splice_content` and `cue_content` (`splice_core`): what is held, as
 //!   lists and numbers.
-//! - `Gives` (`specs/Steps.antt`): what a function gives of a reading when memory may run out.
+//! - `Gives` (`specs/Steps.antt`): a function returns what a reading ends with, or `Memory`.
 //!
-//! What it promises: what is read is what the text says; whatever a text says is read; any other text is
-//! refused with the first fault of the stated order. `Memory` alone may come in place of each of these.
-//! A text says one project at most ([`one_project`]), and reading in order comes to a project exactly
-//! where the text says it ([`read_as_said`]).
+//! What it promises: what is read is what the text states. Whatever a text states is read. Any other text is refused
+//! with the first fault in the stated order. Only `Memory` may be returned instead of any of these. A text states at
+//! most one project ([`one_project`]), and reading in order ends with a project exactly if the text states it
+//! ([`read_as_said`]).
 //!
 //! ```text
 //! let project = read(alloc, text)?;

@@ -3,7 +3,7 @@
 use fir_core::Taps;
 use splice_core::Splice;
 
-/// What a project text says.
+/// What a project text states.
 #[derive(Drop)]
 pub struct Project {
     /// How a recording is played.

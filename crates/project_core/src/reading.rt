@@ -1,4 +1,4 @@
-//! Reading a whole project text.
+//! Reads a whole project text.
 
 ghost use Rattle.std.specs.Prelude.{IfOk, Ok, option_map};
 ghost use Rattle.toml.specs.View.{table_view};
@@ -21,29 +21,29 @@ use toml::Table;
 
 const KEYS: [Key; 2] = [Key::Decimate, Key::Splice];
 
-/// The project that a text says.
+/// The project that a text states.
 ///
-/// Refusals, in this order; the first that applies is answered:
+/// Refusals, in this order; the first that applies is returned:
 /// 1. `NotToml`: the bytes are no TOML document.
-/// 2. `UnknownKey`: the document has another key than `decimate` and `splice`.
-/// 3. If `decimate` is there: `WrongKind(decimate)` if it's no table, `UnknownKey` inside it; then for
-///    `taps`, `factor`, `delay`, `shift` and `width` in turn `MissingKey`, `WrongKind`, and `OutOfLimit`
-///    where an integer doesn't fit 32 bits, with a sign for the taps and without for the others; then
-///    `OutOfLimit` for the first of them outside the limits of a decimator.
+/// 2. `UnknownKey`: the document has a key other than `decimate` and `splice`.
+/// 3. If `decimate` is there: `WrongKind(decimate)` if it's no table, `UnknownKey` inside it; then for `taps`,
+///    `factor`, `delay`, `shift` and `width` in turn `MissingKey`, `WrongKind`, and `OutOfLimit` if an integer doesn't
+///    fit 32 bits, with a sign for the taps and without for the others; then `OutOfLimit` for the first of them outside
+///    the limits of a decimator.
 /// 4. If `splice` is there: `WrongKind(splice)` if it's no table, `UnknownKey` inside it; then for
 ///    `weights`, `takes` and `cue` in turn `MissingKey`, `WrongKind`, `OutOfLimit`.
-/// 5. Each cue in turn, counted from 0: `WrongKind(cue)` if it's no table, `UnknownKey` inside it; then for
-///    `take`, `start`, `stop`, `bridge`, `target`, `line` and `title` in turn `MissingKey`, `WrongKind`,
-///    `OutOfLimit`, or `NoTake` for a take's number that isn't below the number of takes; then `ShortCue`.
-///    Where the target is a fade, any `line` is `OutOfLimit(line)`.
+/// 5. Each cue in turn, counted from 0: `WrongKind(cue)` if it's no table, `UnknownKey` inside it; then for `take`,
+///    `start`, `stop`, `bridge`, `target`, `line` and `title` in turn `MissingKey`, `WrongKind`, `OutOfLimit`, or
+///    `NoTake` for a take's number that isn't below the number of takes; then `ShortCue`. If the target is a fade, any
+///    `line` is `OutOfLimit(line)`.
 /// 6. `LastBridge`: the last cue's bridge isn't 0.
 ///
-/// An array with one element of another kind is `WrongKind`, an empty one is `OutOfLimit`. `Memory` may
-/// come in place of any of them.
+/// An array with an element of another kind is `WrongKind`, an empty one is `OutOfLimit`. `Memory` may be returned
+/// instead of any of these.
 pub fn read(alloc: Global, bytes: &[u8]) -> Result<Project, ProjectFault>
-    // What is read is what the text says.
+    // What is read is what the text states.
     ensures found { IfOk result (λ p. IsProject bytes.now (project_content p)) }
-    // What a text says is read, unless memory runs out.
+    // What a text states is read, unless memory runs out.
     ensures only { (p : ProjectContent) → IsProject bytes.now p → Gives project_content result (Ok p) }
     // The fault is the first one.
     ensures exact { Gives project_content result (project_at bytes.now) }
@@ -51,7 +51,7 @@ pub fn read(alloc: Global, bytes: &[u8]) -> Result<Project, ProjectFault>
     read_in_order(alloc, bytes)
 }
 
-// The same, by the order of refusals alone.
+// The same, with the order of refusals as its only clause.
 #[tactic(auto, unfolding(crate::specs::ReadingProject::project_at))]
 fn read_in_order(alloc: Global, bytes: &[u8]) -> Result<Project, ProjectFault>
     ensures { Gives project_content result (project_at bytes.now) }
@@ -60,7 +60,7 @@ fn read_in_order(alloc: Global, bytes: &[u8]) -> Result<Project, ProjectFault>
     project_of(alloc, &table)
 }
 
-// The document that the bytes are in TOML.
+// The TOML document that the bytes are.
 #[tactic(auto, unfolding(crate::specs::ReadingProject::document))]
 fn document(alloc: Global, bytes: &[u8]) -> Result<Table, ProjectFault>
     ensures { Gives (λ t. table_view t) result (document bytes.now) }

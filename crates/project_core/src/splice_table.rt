@@ -1,4 +1,4 @@
-//! Reading the table `splice`.
+//! Reads the table `splice`.
 
 ghost use Rattle.std.specs.Prelude.{◌≡◌, ◌≤◌, length, map, string_bytes, unsigned_abs};
 ghost use Rattle.std.specs.List.{sum_by};
@@ -62,7 +62,7 @@ fn takes_at(alloc: Global, table: &Table) -> Result<Vec<String>, ProjectFault>
     Ok(takes)
 }
 
-// 1 to 256 cues, with so many weights and takes.
+// 1 to 256 cues of a project with `weights` weights and `takes` takes.
 #[tactic(auto, using(crate::proofs::Each::list_of_length), unfolding(crate::specs::ReadingSplice::cues_at))]
 fn cues_at(
     alloc: Global,
@@ -81,7 +81,7 @@ fn cues_at(
     cues_of(alloc, values, weights, takes)
 }
 
-// The cues that all of the values are.
+// The cues that the values state, one each.
 #[tactic(auto, unfolding(crate::specs::ReadingSplice::cues_of))]
 fn cues_of(
     alloc: Global,

@@ -1,4 +1,4 @@
-//! The members of a TOML table, read at their keys.
+//! Reads the members of a TOML table by their keys.
 
 ghost use Rattle.std.specs.Prelude.{◌≡◌, ◌≤◌, ◌<◌, ◌^◌, IfOk, option_map, map, string_bytes};
 ghost use Rattle.toml.specs.Data.{get_member};
@@ -20,7 +20,7 @@ pub(crate) fn find(table: &Table, key: Key) -> Option<&Value>
     table.get(key.name())
 }
 
-/// The value at a key that has to be there.
+/// The value at a key that must be there.
 #[tactic(auto, unfolding(crate::specs::Reading::value_at))]
 pub(crate) fn value_at(table: &Table, key: Key) -> Result<&Value, ProjectFault>
     ensures { Gives (λ v. view v.now) result (value_at key (table_view table.now)) }
@@ -42,7 +42,7 @@ pub(crate) fn text_of(value: &Value, key: Key) -> Result<&str, ProjectFault>
     value.as_str().ok_or(ProjectFault::WrongKind(key))
 }
 
-/// The table that the value at a key is, if it has no keys but these.
+/// The table that the value at a key is. It must have no keys but these.
 #[tactic(auto, unfolding(crate::specs::Reading::table_of))]
 pub(crate) fn table_of<'a>(value: &'a Value, key: Key, keys: &[Key]) -> Result<&'a Table, ProjectFault>
     ensures { Gives (λ t. table_view t.now) result (table_of key keys.now (view value.now)) }
@@ -66,7 +66,7 @@ pub(crate) fn has_only(table: &Table, keys: &[Key]) -> bool
     true
 }
 
-/// The number of 32 bits with no sign at a key.
+/// The unsigned number of 32 bits at a key.
 #[tactic(auto, unfolding(crate::specs::Reading::unsigned_at))]
 pub(crate) fn unsigned_at(table: &Table, key: Key) -> Result<u32, ProjectFault>
     ensures { Gives (λ n. n) result (unsigned_at key (table_view table.now)) }
@@ -89,7 +89,7 @@ pub(crate) fn limited_at(table: &Table, key: Key, limit: usize) -> Result<usize,
     below(integer, limit + 1).ok_or(ProjectFault::OutOfLimit(key))
 }
 
-/// A number that isn't negative and lies below a bound.
+/// The number, if it isn't negative and is below a bound.
 pub(crate) fn below(integer: i64, bound: usize) -> Option<usize>
     ensures { result ≡ below bound integer }
 {
@@ -99,7 +99,7 @@ pub(crate) fn below(integer: i64, bound: usize) -> Option<usize>
     }
 }
 
-/// The integers of the array at a key: first all are integers, and then all fit 32 bits.
+/// The integers of the array at a key. First all must be integers, and then all must fit 32 bits.
 #[tactic(auto, unfolding(crate::specs::Reading::integers_at))]
 pub(crate) fn integers_at(alloc: Global, table: &Table, key: Key) -> Result<Vec<i32>, ProjectFault>
     ensures { Gives (λ v. v.items) result (integers_at key (table_view table.now)) }
@@ -120,7 +120,7 @@ pub(crate) fn texts_at(alloc: Global, table: &Table, key: Key) -> Result<Vec<Str
     texts_of(alloc, array, key)
 }
 
-// Whether a name is that of one of the keys.
+// Whether a name is that of one of these keys.
 #[tactic(auto, unfolding(crate::specs::Tables::is_among))]
 fn is_among(keys: &[Key], name: &str) -> bool
     ensures { result ≡ is_among keys.now name.now }
@@ -128,7 +128,7 @@ fn is_among(keys: &[Key], name: &str) -> bool
     keys.iter().any(|key| key.name() == name)
 }
 
-// The integers that all of the values are.
+// The integers that the values are. All must be integers.
 #[tactic(auto, unfolding(crate::specs::Reading::integers_of))]
 fn integers_of(alloc: Global, values: &[Value], key: Key) -> Result<Vec<i64>, ProjectFault>
     ensures { Gives (λ v. v.items) result (integers_of key (list_of (items_view values.now))) }
@@ -141,7 +141,7 @@ fn integers_of(alloc: Global, values: &[Value], key: Key) -> Result<Vec<i64>, Pr
     Ok(integers)
 }
 
-// The number, if it fits 32 bits.
+// The number, which must fit 32 bits.
 fn signed_of(integer: i64, key: Key) -> Result<i32, ProjectFault>
     ensures { Gives (λ z. z) result (signed_of key integer) }
 {
@@ -151,7 +151,7 @@ fn signed_of(integer: i64, key: Key) -> Result<i32, ProjectFault>
     }
 }
 
-// The numbers, if all of them fit 32 bits.
+// The numbers, all of which must fit 32 bits.
 #[tactic(auto, unfolding(crate::specs::Reading::narrow))]
 fn narrow(alloc: Global, integers: &[i64], key: Key) -> Result<Vec<i32>, ProjectFault>
     ensures { Gives (λ v. v.items) result (narrow key integers.now) }
@@ -164,7 +164,7 @@ fn narrow(alloc: Global, integers: &[i64], key: Key) -> Result<Vec<i32>, Project
     Ok(numbers)
 }
 
-// The texts that all of the values are.
+// The texts that the values are. All must be texts.
 #[tactic(auto, unfolding(crate::specs::Reading::texts_of))]
 fn texts_of(alloc: Global, values: &[Value], key: Key) -> Result<Vec<String>, ProjectFault>
     ensures { Gives (λ v. map string_bytes v.items) result (texts_of key (list_of (items_view values.now))) }

@@ -1,12 +1,12 @@
 //! Cues.
 
-/// What the sound of a bridge should be like.
+/// What a bridge should sound like.
 #[derive(Clone, Copy, PartialEq, Eq)]
 pub enum Target {
     /// A linear fade from the take before the bridge to the take after it.
     Fade,
     /// A straight line of weighted sums, whatever the takes hold there: from `a` before the bridge to `b` after it,
-    /// each from -4096 to 4096. Both 0 is silence.
+    /// each from -4096 to 4096. If both are 0, it is silence.
     Line { a: i32, b: i32 },
 }
 

@@ -1,16 +1,15 @@
-//! What a splice is: takes, the cues that are cut from them, and how the bridges between them are judged.
+//! What a splice is: takes, the cues that are cut from them, and how the bridges between the cues are judged.
 //!
-//! Places and lengths are in bits of a channel. A [`Splice`] has 2 to 12 weights, 1 to 16 takes and 1 to 256
-//! cues, and keeps these limits, each cue's own and that the last cue has no bridge for as long as it lives, so
-//! whoever is handed one need not ask again. Nothing is read here: `project_core` reads one from a text, and
-//! whoever makes one by hand shows the limits.
+//! Places and lengths are in bits of a channel. A [`Splice`] has 2 to 12 weights, 1 to 16 takes and 1 to 256 cues. As
+//! long as it lives it keeps these limits, those of each cue, and that the last cue has no bridge. So whoever gets a
+//! [`Splice`] need not check them again. Nothing is read here: `project_core` reads a splice from a text, and whoever
+//! makes one by hand proves the limits.
 //!
 //! The words of its contracts:
-//! - `splice_content` and `cue_content` (`specs/Splices.antt`, `specs/Cues.antt`): what is held, as lists and
-//!   numbers.
+//! - `splice_content` and `cue_content` (`specs/Splices.antt`, `specs/Cues.antt`): what is held, as lists and numbers.
 //! - `IsSplicing`, `AreWeights`, `IsCueWithin` and `IsTarget` (`specs/Cues.antt`): the limits.
 //!
-//! What it promises: each [`Splice`] is within its limits. It has no calls.
+//! What it promises: every [`Splice`] is within its limits. The crate has no functions.
 //!
 //! ```text
 //! let Splice { weights, takes, cues, .. } = splice;

@@ -9,8 +9,8 @@ use crate::cue::Cue;
 /// limits. The last cue has no bridge.
 #[derive(Drop)]
 pub struct Splice {
-    /// What the newest bit, the one before it and so on count in a sum over bits: 2 to 12 weights with
-    /// absolute values that add up to at most 4096.
+    /// What the newest bit, the one before it and so on count in a sum over bits: 2 to 12 weights, whose absolute
+    /// values add up to at most 4096.
     pub weights: Vec<i32>,
     /// The names of the takes: 1 to 16.
     pub takes: Vec<String>,

@@ -1,4 +1,4 @@
-//! Converting a file of a folder to another.
+//! Converts a file of a folder to another.
 
 ghost use Rattle.std.specs.Prelude.{◌↔◌, List, ℕ, IfErr, IfOk, IsTrue, OnErr};
 ghost use Rattle.folder_core.specs.Files.{IsReadOf};
@@ -19,14 +19,16 @@ use std::alloc::Global;
 use std::io::{Read, Write};
 use transfer_core::{Fault, convert, convert_stream};
 
-/// Converts a file to the other form: how many parts of its recording have no place in it.
+/// Converts a file to the other form. Returns how many parts of its recording have no place in it.
 ///
-/// A file of fewer than `most` bytes is read whole and converted in memory, and only then the other file is created. Any
-/// other is opened again and read in one pass, in which its sound isn't held; only where it holds no recording it is
-/// opened a third time and read whole, for the fault to be named. Else it is opened once more, the other file is created,
-/// and the one is converted to the other block by block. After a fault of that the other file may hold a prefix of what
-/// was due, but an old one is kept by a folder that keeps old files. A file that was changed around its sound between
-/// its readings is `ReadFailed`; of its sound the last reading counts.
+/// A file of fewer than `most` bytes is read whole and converted in memory, and only then the other file is created.
+/// Any other file is opened again and read in one pass, which doesn't hold its sound. If it holds no recording, it is
+/// opened a third time and read whole, so that the fault can be named. Otherwise it is opened once more, the other file
+/// is created, and the one is converted to the other block by block. After a fault of that the other file may hold a
+/// prefix of what was due, but a folder that keeps old files keeps an old one.
+///
+/// If a file was changed around its sound between its readings, the answer is `ReadFailed`. If its sound was changed,
+/// the last reading counts.
 pub fn convert_file<F: Folder>(
     alloc: Global,
     folder: &mut F,
@@ -55,7 +57,7 @@ fn convert_whole<F: Folder>(
     file: &[u8],
     output: &str,
 ) -> Result<u64, CommandFault>
-    // Of whichever name it was read.
+    // Whichever name it was read under.
     ensures { (input : List ℕ) → IsReadOf (F.view folder.old) input file.now
         → ConvertComesTo form input output.now (F.view folder.old) (F.view folder.new) result }
 {
@@ -64,7 +66,7 @@ fn convert_whole<F: Folder>(
     Ok(converted.dropped)
 }
 
-// Opens a file of this outline once more, creates the other, converts the one to the other, and hands this back, or
+// Opens a file of this outline once more, creates the other, and converts the one to the other. It keeps this one, or
 // gives it up after a fault.
 fn convert_outlined<F: Folder>(
     alloc: Global,
@@ -102,7 +104,7 @@ fn convert_outlined<F: Folder>(
     }
 }
 
-// Converts a file of this outline to one that was created, which is handed out.
+// Converts a file of this outline to one that was created, and returns that one.
 fn convert_between<R: Read + Drop, W: Write>(
     alloc: Global,
     form: Form,
@@ -112,7 +114,7 @@ fn convert_between<R: Read + Drop, W: Write>(
 ) -> (Result<u64, Fault>, W)
     requires told { AreTold (around_of outline.now) }
     ensures ok { IfOk result.0 (ConvertsFile (R.remaining file) form (W.contents made) (W.contents result.1)) }
-    // The same of some bytes that were read, where the reader doesn't tell its own.
+    // If the reader's bytes aren't known, the same holds of some bytes that were read.
     ensures any_reader { IfOk result.0 (λ dropped. (read : List ℕ) × (bytes : List ℕ) × Converts read form bytes dropped) }
     ensures front { OnErr result.0 (ConvertsFront (R.remaining file) (around_of outline.now) form (W.contents made)
         (W.contents result.1)) }
@@ -124,7 +126,7 @@ fn convert_between<R: Read + Drop, W: Write>(
     (came, outlet.into_inner())
 }
 
-// Whether a form has a place for channels of so many bits.
+// Whether a form has a place for channels of `count` bits.
 fn fits_in(form: Form, count: usize) -> bool
     ensures { IsTrue result ↔ FitsIn form count }
 {

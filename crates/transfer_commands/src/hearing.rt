@@ -1,4 +1,4 @@
-//! What a splice hears of the files of its takes.
+//! Reads what a splice needs of the files of its takes.
 
 ghost use Rattle.std.specs.Prelude.{◌≡◌, ◌<◌, [], ℕ, List, IfErr, IfOk, IfSome, Ok, length, slice_index_or};
 ghost use Rattle.splice_core.specs.Splices.{SpliceContent, splice_content};
@@ -20,13 +20,13 @@ use std::alloc::Global;
 use std::io::Read;
 use transfer_core::Fault;
 
-/// What a splice hears of the files of its takes, each read before the next is opened: of each no more is kept than is
-/// heard. The first fault of what they hold is answered only when all of them were read.
+/// What a splice reads of the files of its takes. Each is read before the next is opened, and only the bits that the
+/// splice reads are kept. The first fault in what they hold is returned only after all of them were read.
 ///
-/// A file of fewer than `most` bytes is read whole. Any other is opened again and read in one pass, in which its sound
-/// isn't held; and only where it holds no recording it is opened a third time and read whole, for the fault to be named.
+/// A file of fewer than `most` bytes is read whole. Any other file is opened again and read in one pass, which doesn't
+/// hold its sound. If it holds no recording, it is opened a third time and read whole, so that the fault can be named.
 ///
-/// Refusals: `ReadFailed` of the first file that can't be opened or read; `Memory`.
+/// Refusals: `ReadFailed` for the first file that can't be opened or read; `Memory`.
 pub(crate) fn hear_files<F: Folder>(
     alloc: Global,
     folder: &mut F,
@@ -47,7 +47,7 @@ pub(crate) fn hear_files<F: Folder>(
     Ok(heard)
 }
 
-// What a splice hears of the file of the take of a number.
+// What a splice reads of the file of the take with this number.
 fn hear_named<F: Folder>(
     alloc: Global,
     folder: &mut F,
@@ -74,7 +74,7 @@ fn hear_named<F: Folder>(
     Ok(hear_file(alloc, splice, number, &file))
 }
 
-// What a splice hears of the file of a name, the take of a number, read in one pass, or none of a file that holds no
+// What a splice reads of the file of this name, the take with this number, in one pass; None for a file that holds no
 // recording.
 fn hear_streamed<F: Folder>(
     alloc: Global,
@@ -94,7 +94,7 @@ fn hear_streamed<F: Folder>(
     }
 }
 
-// The same of the file that a reader has.
+// The same for the file that a reader has.
 fn hear_reader<R: Read + Drop>(
     alloc: Global,
     splice: &Splice,
@@ -103,7 +103,7 @@ fn hear_reader<R: Read + Drop>(
 ) -> Result<Option<Heard>, CommandFault>
     ensures heard { IfOk result (λ found. IfSome (R.remaining file) (λ left. IsHeardIn
         (splice_content splice.now) number left found)) }
-    // Some bytes that were read hold what is heard, where the reader doesn't tell its own.
+    // If the reader's bytes aren't known, some bytes that were read hold what the splice reads.
     ensures any_reader { IfOk result (IsHeardInSome (splice_content splice.now) number) }
     ensures of { IfOk result (λ found. IfSome found (λ heard. IsOfTake (splice_content splice.now) number (Ok heard))) }
     ensures fault { IfErr result IsUnread }
@@ -120,7 +120,7 @@ fn hear_reader<R: Read + Drop>(
     }
 }
 
-// What is heard by what was kept of a file.
+// What a splice reads, from what was kept of a file.
 fn heard_by(kept: Kept) -> Heard
     ensures { (splice : SpliceContent) (number : ℕ) (file : List ℕ) → AreTold (around_of kept.outline)
         → IsKeptOf (around_of kept.outline) (ranges_of splice number) (stretches_in kept) file

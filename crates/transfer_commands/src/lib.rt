@@ -1,19 +1,29 @@
-//! Commands over a folder that need no cut: one recording is played, converted or told of; and what every cut begins with
-//! is read, its project and the files of its takes.
+//! Commands over a folder that need no cut: one recording is played, converted or reported. Every cut begins with
+//! reading a project and the files of its takes, and this is here, too.
 //!
-//! [`play_file`] reads a project, opens a recording, and writes its WAVE file piece by piece; [`convert_file`] reads a
-//! recording through, and only then creates the file in the other form; [`open_file`] reads one to be told of.
-//! [`hear_sources`] reads a project and then its takes by their numbers, of which it keeps what the
-//! splice hears. These three read a short file whole, and another one in one pass. The calls are `transfer_core`'s, the
-//! files `folder_core`'s. The first fault is what a command comes to.
+//! - [`play_file`] reads a project, opens a recording, and writes its WAVE file piece by piece.
+//! - [`convert_file`] reads a recording through, and only then creates the file in the other form.
+//! - [`open_file`] reads a recording to report what it holds.
+//! - [`hear_sources`] reads a project and then its takes by their numbers, and keeps of them what the splice reads.
 //!
-//! The words of the contracts, over any folder, of which is known `old` before and `new` after:
+//! The last three read a short file whole, and any other in one pass. The calls are those of `transfer_core`, the files
+//! those of `folder_core`. A command returns its first fault.
 //!
-//! - `PlayComesTo`, `ConvertComesTo` and `TellComesTo` say what became of the files by a command and what it answered,
+//! The words of the contracts, over any folder, of which `old` is known before and `new` after:
+//!
+//! - `PlayComesTo`, `ConvertComesTo` and `TellComesTo` say what became of the files by a command and what it returned,
 //!   whether it was done or refused, by bytes that were read of them (`specs/Playing.antt`, `specs/Converting.antt`,
 //!   `specs/Telling.antt`).
 //! - `AreSources` says which bytes were read of a project and its takes, `SourcesUnread` why they weren't
-//!   (`specs/Sources.antt`); `HearsSources` what was heard of them (`specs/Hearing.antt`).
+//!   (`specs/Sources.antt`), and `HearsSources` what the splice reads of them (`specs/Hearing.antt`).
+//!
+//! What it promises: an answer is true of bytes that were read. In a folder with known bytes these are the bytes that
+//! the named files gave, and no other file changed.
+//!
+//! ```text
+//! play_file(alloc, &mut folder, "filter.toml", "in.dsf", "out.wav")?                // how many bytes out.wav has
+//! convert_file(alloc, &mut folder, Form::Dsdiff, "in.dsf", "out.dff", MOST_KEPT)?   // how many parts are dropped
+//! ```
 #![tactic(auto)]
 
 mod converting;

@@ -1,4 +1,4 @@
-//! What a file of a folder holds beside its sound.
+//! Reads what a file of a folder holds besides its sound.
 
 ghost use Rattle.std.specs.Prelude.{◌≡◌, IfErr, IfOk, IfSome};
 ghost use Rattle.sound_core.specs.Outlines.{AreTold, around_of};
@@ -11,12 +11,12 @@ use sound_core::{Outline, StreamFault, read_outline};
 use std::alloc::Global;
 use transfer_core::Fault;
 
-/// Files of fewer bytes are held whole, 2 MiB.
+/// Files of fewer bytes are held whole: 2 MiB.
 pub const MOST_KEPT: usize = 1 << 21;
 
-/// What a file holds beside its sound, read in one pass, or none of a file that holds no recording.
+/// What a file holds besides its sound, read in one pass; None for a file that holds no recording.
 ///
-/// Refusals: `ReadFailed` where it can't be opened, a read fails, or it isn't at its end after `2^40` reads; `Memory`.
+/// Refusals: `ReadFailed` if it can't be opened, a read fails, or it isn't at its end after `2^40` reads; `Memory`.
 pub(crate) fn outline_file<F: Folder>(
     alloc: Global,
     folder: &mut F,

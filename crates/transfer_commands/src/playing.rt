@@ -1,4 +1,4 @@
-//! Playing a file of a folder to another.
+//! Plays a file of a folder to another.
 
 ghost use Rattle.std.specs.Prelude.{◌≡◌, ℕ, List, [], IsTrue, Some};
 ghost use Rattle.folder_core.specs.Files.{IsGiven};
@@ -10,9 +10,9 @@ use folder_core::{Folder, hand_back, read_file};
 use std::alloc::Global;
 use transfer_core::play_stream;
 
-/// Reads the project, opens the recording, creates the WAVE file and plays the one to the other: how many bytes the WAVE
-/// file has. After a fault of the playing the WAVE file may hold a prefix of what was due, but an old one is kept by a folder
-/// that keeps old files.
+/// Reads the project, opens the recording, creates the WAVE file and plays the one to the other. Returns how many bytes
+/// the WAVE file has. After a fault of playing the WAVE file may hold a prefix of what was due, but a folder that keeps
+/// old files keeps an old one.
 pub fn play_file<F: Folder>(
     alloc: Global,
     folder: &mut F,
@@ -32,7 +32,7 @@ pub fn play_file<F: Folder>(
     play_to(alloc, folder, &project, file, output, wave)
 }
 
-// Plays a file to one that was created, and hands this back, or gives it up after a fault.
+// Plays a file to one that was created, and keeps this one, or gives it up after a fault.
 fn play_to<F: Folder>(
     alloc: Global,
     folder: &mut F,

@@ -1,4 +1,4 @@
-//! Reading a project and the takes that it names.
+//! Reads a project and the takes that it names.
 
 ghost use Rattle.std.specs.Prelude.{◌≡◌, IfErr, IfOk, length};
 ghost use Rattle.splice_core.specs.Splices.{splice_content};
@@ -14,18 +14,18 @@ use splice_core::Splice;
 use std::alloc::Global;
 use transfer_core::splice_of;
 
-/// The splice of a project, and what it hears of the takes that it names.
+/// The splice of a project, and what it reads of the takes that it names.
 #[derive(Drop)]
 pub struct Sources {
     /// The splice.
     pub splice: Splice,
-    /// What it hears of its takes, by their numbers, or the first fault of what their files hold.
+    /// What it reads of its takes, by their numbers, or the first fault in what their files hold.
     pub takes: Result<Vec<Heard>, CutFault>,
 }
 
-/// Reads the project, then the takes that it names, of which it keeps what the splice hears. A take's file of fewer than
-/// `most` bytes is read whole. Any other is opened again and read in one pass, in which its sound isn't held; and only
-/// where it holds no recording it is opened a third time and read whole, for the fault to be named.
+/// Reads the project, then the takes that it names, and keeps of them what the splice reads. A take's file of fewer
+/// than `most` bytes is read whole. Any other file is opened again and read in one pass, which doesn't hold its sound.
+/// If it holds no recording, it is opened a third time and read whole, so that the fault can be named.
 pub fn hear_sources<F: Folder>(
     alloc: Global,
     folder: &mut F,

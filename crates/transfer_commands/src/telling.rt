@@ -1,4 +1,4 @@
-//! Reading a file of a folder to tell of it.
+//! Reads a file of a folder to report what it holds.
 
 ghost use Rattle.std.specs.Prelude.{◌≡◌, IfErr, IfOk};
 ghost use Rattle.dsd_bits.specs.Channels.{count_of};
@@ -16,9 +16,9 @@ use sound_core::Outline;
 use std::alloc::Global;
 use transfer_core::Fault;
 
-/// What a file holds, told without its bits. A file of fewer than `most` bytes is read whole. Any other is opened again
-/// and read in one pass, in which its sound isn't held; and only where it holds no recording it is opened a third time and
-/// read whole, for the fault to be named.
+/// What a file holds, without its bits. A file of fewer than `most` bytes is read whole. Any other file is opened again
+/// and read in one pass, which doesn't hold its sound. If it holds no recording, it is opened a third time and read
+/// whole, so that the fault can be named.
 pub fn open_file<F: Folder>(
     alloc: Global,
     folder: &mut F,
@@ -37,7 +37,7 @@ pub fn open_file<F: Folder>(
     told_of(alloc, &bytes)
 }
 
-// What is told of a file that was read whole.
+// What is reported of a file that was read whole.
 fn told_of(alloc: Global, file: &[u8]) -> Result<Told, CommandFault>
     ensures told { IfOk result (IsToldOf file.now) }
     ensures fault { IfErr result (IsUntoldOf file.now) }
@@ -48,7 +48,7 @@ fn told_of(alloc: Global, file: &[u8]) -> Result<Told, CommandFault>
     }
 }
 
-// What is told of a file by its outline.
+// What is reported of a file by its outline.
 fn told_by(outline: Outline) -> Told
     ensures { (file : _) → IsOutlined file outline → IsToldOf file result }
 {
@@ -61,7 +61,7 @@ fn told_by(outline: Outline) -> Told
     }
 }
 
-/// The form of a file whose sound is interleaved so.
+/// The form of a file whose sound has this interleaving.
 pub fn form_in(interleaving: Interleaving) -> Form
     ensures { result ≡ outlining.form_in interleaving }
 {

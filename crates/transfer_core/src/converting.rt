@@ -1,4 +1,4 @@
-//! A recording from one form to another: in memory, or from a reader to a writer.
+//! Converts a recording from one form to another: in memory, or from a reader to a writer.
 
 ghost use Rattle.std.specs.Prelude.{◌≡◌, ◌+◌, ◌-◌, ◌<◌, ◌^◌, Err, IfErr, IfOk, IsErrOf, OnErr};
 ghost use Rattle.device_core.specs.Inlets.{inlet_failures, inlet_reader, inlet_reads};
@@ -24,23 +24,23 @@ use std::io::{Read, Write};
 pub struct Converted {
     /// The bytes of the file.
     pub bytes: Vec<u8>,
-    /// How many parts of the recording they have no place for: marks and kept chunks in a DSF file, a tag
-    /// in a DSDIFF file.
+    /// How many parts of the recording have no place in the form: marks and kept chunks in a DSF file, a tag in a
+    /// DSDIFF file.
     pub dropped: u64,
 }
 
-/// The recording of a DSDIFF or DSF file as a file of the form: with every bit of every channel, at the
-/// same rate. A file of the form that it has already is written anew.
+/// The recording of a DSDIFF or DSF file as a file of the form, with every bit of every channel, at the same rate. A
+/// file that already has the form is written anew.
 ///
-/// Refusals, in this order: `FileUnread`; `NotWholeBytes` where `form` is DSDIFF and the number of each
-/// channel's bits isn't a multiple of 8. Every want of memory is `Memory`.
+/// Refusals, in this order: `FileUnread`; `NotWholeBytes` if `form` is DSDIFF and the number of bits of each channel
+/// isn't a multiple of 8. Out of memory is always `Memory`.
 #[tactic(auto, unfolding(crate::specs::Converting::converted_of))]
 pub fn convert(alloc: Global, file: &[u8], form: Form) -> Result<Converted, Fault>
-    // What is answered is the text of the file's recording in the form.
+    // What is returned is the text of the file's recording in the form.
     ensures found { IfOk result (IsConverted file.now form) }
     // It holds the same sound again.
     ensures kept { IfOk result (IsKept file.now form) }
-    // What is answered or refused is what reading in order comes to, want of memory aside.
+    // The answer or the fault is what reading in order ends with, unless memory runs out.
     ensures exact { Gives Fault.Memory contents result (converted_of file.now form) }
 {
     let opened = read_any(alloc, file)?;
@@ -49,13 +49,15 @@ pub fn convert(alloc: Global, file: &[u8], form: Form) -> Result<Converted, Faul
     Ok(Converted { bytes, dropped })
 }
 
-/// Reads a file of this outline again, and writes the file of the form that holds its recording, with every bit of every
-/// channel: those bytes that [`convert`] answers for it. It answers how many parts of the recording they have no place
-/// for. Of the sound whole groups of the channels' blocks are held, at most 65,536 bytes, and what is made of them.
+/// Reads a file of this outline again, and writes the file of the form that holds its recording, with every bit of
+/// every channel. These are the bytes that [`convert`] returns for it. Returns how many parts of the recording have no
+/// place in them. It holds whole groups of the channels' blocks, at most 65,536 bytes of sound, and what is made of
+/// them.
 ///
-/// Refusals: `NotWholeBytes` where `form` is DSDIFF and the number of each channel's bits isn't a multiple of 8, before
-/// the first read and the first write; `FileRefused` where the file is no sound in the outline, as one that was changed
-/// since; `ReadFailed`, `WriteFailed`, `Memory`. Of what a file of the outline is converted to a front was then written.
+/// Refusals: `NotWholeBytes` if `form` is DSDIFF and the number of bits of each channel isn't a multiple of 8, before
+/// the first read and the first write; `FileRefused` if the file is no sound in the outline, for example because it was
+/// changed since; `ReadFailed`, `WriteFailed`, `Memory`. What was written then is a prefix of what a file of the
+/// outline is converted to.
 pub fn convert_stream<R: Read, W: Write>(
     alloc: Global,
     outline: &Outline,
@@ -66,23 +68,23 @@ pub fn convert_stream<R: Read, W: Write>(
     requires told { AreTold (around_of outline.now) }
     requires inlet_ready { inlet_failures inlet.old < 2 ^ 64 - 1 }
     requires outlet_ready { outlet_failures outlet.old < 2 ^ 64 - 1 }
-    // What the reader's file is converted to was written, however the reads are cut.
+    // What the reader's file is converted to was written, however its bytes are split into reads.
     ensures ok { IfOk result (ConvertsFile (R.remaining (inlet_reader inlet.old)) form
         (W.contents (outlet_writer outlet.old)) (W.contents (outlet_writer outlet.new))) }
-    // The same of what was read, as many bytes as were counted, where the reader doesn't tell its bytes.
+    // If the reader's bytes aren't known, the same holds of what was read, as many bytes as were counted.
     ensures any_reader { IfOk result (ConvertsGiven R.remaining inlet.old inlet.new form
         (W.contents (outlet_writer outlet.old)) (W.contents (outlet_writer outlet.new))) }
-    // Of what is refused a front was written.
+    // If it is refused, a prefix was written.
     ensures front { OnErr result (ConvertsFront (R.remaining (inlet_reader inlet.old)) (around_of outline.now) form
         (W.contents (outlet_writer outlet.old)) (W.contents (outlet_writer outlet.new))) }
-    // A fault stands that is named.
+    // A fault that is returned is true.
     ensures refused { IfErr result (ConversionStands (R.remaining (inlet_reader inlet.old))
         (around_of outline.now) form) }
     ensures not_whole_bytes { (FitsIn form outline.now.sound.count → ⊥) → result ≡ Err Fault.NotWholeBytes }
     ensures read_failed { inlet_failures inlet.new ≡ inlet_failures inlet.old + failed_reads (as_stream result) }
     ensures write_failed { outlet_failures outlet.new
         ≡ outlet_failures outlet.old + failed_writes (as_stream result) }
-    // What comes before the first read and the first write.
+    // What is refused before the first read and the first write.
     ensures unread { IsErrOf result Fault.NotWholeBytes → inlet_reads inlet.new ≡ inlet_reads inlet.old }
     ensures unwritten { IsErrOf result Fault.NotWholeBytes → outlet_writer outlet.new ≡ outlet_writer outlet.old }
 {

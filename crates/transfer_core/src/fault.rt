@@ -12,15 +12,15 @@ use std::alloc::AllocError;
 use thiserror::Error;
 use wave_core::WaveFault;
 
-/// Why a call is refused: the first fault that stands, in the order that the call states.
+/// Why a call is refused: the first fault, in the order that the call states.
 ///
-/// No fault has two spellings. Every want of memory is `Memory`, and a DSDIFF file whose channels would end inside a
-/// byte is `NotWholeBytes`, whether it is cut or converted: neither stands in another variant. A rate that isn't
-/// divided, a WAVE file that would be too large, and a read or write that failed are `Stream`, also where a file is
-/// played in memory or a certificate read.
+/// No fault has two spellings. Out of memory is always `Memory`. A DSDIFF file whose channels would end inside a byte
+/// is `NotWholeBytes`, whether it is cut or converted. Neither is found inside another variant. A rate that isn't
+/// divided, a WAVE file that would be too large, and a read or write that failed are `Stream`, even if a file is played
+/// in memory or a certificate is read.
 #[derive(Clone, Copy, Debug, PartialEq, Eq, Error)]
 pub enum Fault {
-    /// The project text is not read.
+    /// The project text can't be read.
     #[error("Project {0}")]
     Project(ProjectFault),
     /// The project text has no decimator.
@@ -29,19 +29,19 @@ pub enum Fault {
     /// The project text has no splice.
     #[error("NoSplice")]
     NoSplice,
-    /// The file is not read as a recording.
+    /// The file can't be read as a recording.
     #[error("FileUnread {0}")]
     FileUnread(ReadFault),
-    /// The splice can't be cut from the files of its takes. It has this fault's text.
+    /// The splice can't be cut from the files of its takes. Its text is that of this fault.
     #[error("{0}")]
     Cut(CutFault),
-    /// A file is not read, played or written to its end. It has this fault's text.
+    /// A file is not read, played or written to its end. Its text is that of this fault.
     #[error("{0}")]
     Stream(StreamFault),
-    /// A DSDIFF file holds whole bytes of each channel, and the channels end inside one.
+    /// A DSDIFF file holds whole bytes of each channel, but the channels end inside a byte.
     #[error("NotWholeBytes")]
     NotWholeBytes,
-    /// Want of memory.
+    /// Out of memory.
     #[error("Memory")]
     Memory,
 }

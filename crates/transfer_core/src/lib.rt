@@ -1,23 +1,23 @@
-//! What is done with one recording, from the bytes of a file to the bytes of a file: it is converted to another form
-//! ([`convert`], and [`convert_stream`] from a reader to a writer) or played by what a project text says ([`play`],
-//! [`play_stream`]).
+//! The calls over one recording, from the bytes of a file to the bytes of a file. [`convert`] writes it in another
+//! form, and [`convert_stream`] does so from a reader to a writer. [`play`] plays it by a project text, and
+//! [`play_stream`] does so from a reader to a writer.
 //!
-//! Here is also what the calls of `archive_core` share: why a call is refused ([`Fault`]), and what a project text has
-//! ([`take_names`], [`splice_of`]). Nothing here knows of cuts but for the name of their faults.
+//! This crate also has what the calls of `archive_core` share: why a call is refused ([`Fault`]), and what a project
+//! text contains ([`take_names`], [`splice_of`]). It knows nothing of cuts but the name of their faults.
 //!
 //! The words of the contracts:
 //!
 //! - `Converts file form bytes dropped` says that these bytes are the file of the form that is written for the file's
-//!   recording (`specs/Converting.antt`); `Plays project file bytes` that these bytes are the WAVE text of the samples
-//!   of the file's recording (`specs/Playing.antt`); `specs/Conversions.antt` and `specs/Streaming.antt` say it of a reader
-//!   and a writer.
+//!   recording (`specs/Converting.antt`). `Plays project file bytes` says that these bytes are the WAVE text of the
+//!   samples of the file's recording (`specs/Playing.antt`). `specs/Conversions.antt` and `specs/Streaming.antt` say
+//!   the same of a reader and a writer.
 //! - `SaysTakes text names` says that a project text cuts the takes of these names, `SaysSplice text splice` and
-//!   `SaysDecimator text decimator` that it has these (`specs/Projects.antt`).
-//! - `converted_of`, `played_of`, `take_names_of`, `splice_of`, `decimator_of`: reading in the order of the refusals, to
-//!   what is answered or the first fault.
+//!   `SaysDecimator text decimator` that it has this splice or this decimator (`specs/Projects.antt`).
+//! - `converted_of`, `played_of`, `take_names_of`, `splice_of` and `decimator_of` are the readings in the order of the
+//!   refusals. Each ends with an answer or the first fault.
 //!
-//! What it promises: a call gives what its reading comes to, or is refused as it is, want of memory aside. The law on
-//! `archive_core::read_in_order` joins relation and reading.
+//! What it promises: a call returns what its reading ends with, an answer or a fault, unless memory runs out. The law
+//! on `archive_core::read_in_order` joins the relations and the readings.
 //!
 //! ```text
 //! let converted = convert(alloc, &file, Form::Dsf)?;

@@ -1,4 +1,4 @@
-//! From a project and a file to a WAVE file: in memory, or from a reader to a writer.
+//! Makes a WAVE file of a project and a file: in memory, or from a reader to a writer.
 
 ghost use Rattle.std.specs.Prelude.{◌≡◌, ℕ, ◌+◌, ◌-◌, ◌<◌, ◌≤◌, ◌^◌, List, IfErr, IfOk, IsErrOf, OnErr};
 ghost use Rattle.device_core.specs.Inlets.{inlet_failures, inlet_given, inlet_reader, inlet_reads};
@@ -19,17 +19,16 @@ use sound_core::{StreamFault, accepted_files_tell_one_sound};
 use std::alloc::Global;
 use std::io::{Read, Write};
 
-/// The WAVE file of a recording: in each frame, for each channel in order, the whole-number convolution
-/// of the channel's stored bits with the project's taps, rounded and clipped by the project's shift and
-/// width.
+/// The WAVE file of a recording. Each frame has, for each channel in order, the whole-number convolution of the
+/// channel's stored bits with the project's taps, rounded and clipped by the project's shift and width.
 ///
-/// `project` is a project text, `file` a DSDIFF or DSF file of 1 to 6 channels. Refusals, in this order:
-/// `Project`, `NoDecimation`, `FileUnread`, `RateNotDivided`, `TooLarge`; every want of memory is `Memory`.
+/// `project` is a project text, `file` a DSDIFF or DSF file of 1 to 6 channels. Refusals, in this order: `Project`,
+/// `NoDecimation`, `FileUnread`, `RateNotDivided`, `TooLarge`. Out of memory is always `Memory`.
 #[tactic(auto, unfolding(crate::specs::Playing::played_of))]
 pub fn play(alloc: Global, project: &[u8], file: &[u8]) -> Result<Vec<u8>, Fault>
-    // What is answered is the WAVE text of the samples of the stored bits.
+    // What is returned is the WAVE text of the samples of the stored bits.
     ensures found { IfOk result (λ bytes. Plays project.now file.now bytes.items) }
-    // What is answered or refused is what reading in order comes to, want of memory aside.
+    // The answer or the fault is what reading in order ends with, unless memory runs out.
     ensures exact { Gives Fault.Memory (λ bytes. bytes.items) result (played_of project.now file.now) }
 {
     let taps = decimator_of(alloc, project)?;
@@ -40,21 +39,27 @@ pub fn play(alloc: Global, project: &[u8], file: &[u8]) -> Result<Vec<u8>, Fault
     Ok(wave_of(alloc, &taps, &recording)?)
 }
 
-/// Plays a reader's file to a writer, and answers the number of bytes that were written: those that [`play`]
-/// answers for the file, however its reads are cut. Of the sound at most one block of 65,536 bytes and one group of
-/// the channels' blocks is held; what stands before the sound is held whole, and so is what a DSDIFF form has behind
-/// it. The reading may stop at a DSDIFF form's end.
+/// Plays a reader's file to a writer, and returns the number of bytes that were written. They are those that [`play`]
+/// returns for the file, however its bytes are split into reads. Of the sound it holds at most one block of 65,536
+/// bytes and one group of the channels' blocks. What precedes the sound is held whole, and so is what follows it in a
+/// DSDIFF form. The reading may stop at a DSDIFF form's end.
 ///
-/// The inlet counts fewer than `2^63` reads and bytes at entry.
+/// At entry the inlet must have counted fewer than `2^63` reads and bytes.
 ///
-/// Refusals: `Project`, `NoDecimation`, before the first read; `FileRefused` where the bytes are neither a DSDIFF nor
-/// a DSF file that holds a recording; `RateNotDivided`, `TooLarge`, before the first write; `ReadFailed`,
-/// `WriteFailed`; `TurnLimit` after `2^40` reads, and whatever is answered there were no more; `Memory`. Where several
-/// stand, which of them is named is open, but for a file that [`play`] plays it is none of the file.
+/// Refusals:
 ///
-/// Of a file that [`play`] plays a front of its WAVE file was then written. After `ReadFailed` and `TurnLimit`, where
-/// more than 131,072 bytes of the sound were given, it holds the header and each frame whose place stands, for every
-/// channel, in all but the last 131,072 of them.
+/// - `Project`, `NoDecimation`, before the first read;
+/// - `FileRefused` if the bytes are neither a DSDIFF nor a DSF file that holds a recording;
+/// - `RateNotDivided`, `TooLarge`, before the first write;
+/// - `ReadFailed`, `WriteFailed`;
+/// - `TurnLimit` after `2^40` reads; there are never more, whatever is returned;
+/// - `Memory`.
+///
+/// If several apply, any of them may be returned. A file that [`play`] plays is never refused because of the file.
+///
+/// If a file that [`play`] plays is refused, what was written is a prefix of its WAVE file. After `ReadFailed` and
+/// `TurnLimit`, if more than 131,072 bytes of the sound were read, this prefix holds the header and each frame whose
+/// place lies, for every channel, in all but the last 131,072 of them.
 pub fn play_stream<R: Read, W: Write>(
     alloc: Global,
     project: &[u8],
@@ -65,30 +70,30 @@ pub fn play_stream<R: Read, W: Write>(
     requires outlet_ready { outlet_failures outlet.old < 2 ^ 64 - 1 }
     requires reads_low { inlet_reads inlet.old < 2 ^ 63 }
     requires given_low { inlet_given inlet.old < 2 ^ 63 }
-    // What project and file play was written, however the reads are cut.
+    // What project and file play to was written, however its bytes are split into reads.
     ensures ok { IfOk result (PlaysFile (R.remaining (inlet_reader inlet.old)) (Plays project.now)
         (W.contents (outlet_writer outlet.old)) (W.contents (outlet_writer outlet.new))) }
-    // The same of what was read, where the reader doesn't tell its bytes.
+    // If the reader's bytes aren't known, the same holds of what was read.
     ensures any_reader { IfOk result (PlaysGiven R.remaining inlet.old inlet.new (Plays project.now)
         (W.contents (outlet_writer outlet.old)) (W.contents (outlet_writer outlet.new))) }
-    // What is played is refused from outside alone, and a front of it was written.
+    // What can be played is refused only because of a device, the limit of reads or memory, and a prefix of it was
+    // written.
     ensures cause { IfErr result (OnlyFromOutside (R.remaining (inlet_reader inlet.old)) project.now) }
     ensures front { OnErr result (WritesFront (R.remaining (inlet_reader inlet.old)) (Plays project.now)
         (W.contents (outlet_writer outlet.old)) (W.contents (outlet_writer outlet.new))) }
-    // Where the reading stops, what was written lags behind by at most 131,072 bytes of the one sound that the
-    // file tells of.
+    // If the reading stops, what was written lags by at most 131,072 bytes of the one sound that the file states.
     ensures keeps_up { IfErr result (λ fault. OfStream StopsReading fault
         → KeepsUp (R.remaining (inlet_reader inlet.old)) project.now (inlet_given inlet.new - inlet_given inlet.old)
         (W.contents (outlet_writer outlet.old)) (W.contents (outlet_writer outlet.new))) }
-    // A fault stands that is named.
+    // A fault that is returned is true.
     ensures refused { IfErr result (StreamStands (R.remaining (inlet_reader inlet.old)) project.now) }
     ensures read_failed { inlet_failures inlet.new ≡ inlet_failures inlet.old + failed_reads (as_stream result) }
     ensures write_failed { outlet_failures outlet.new ≡ outlet_failures outlet.old + failed_writes (as_stream result) }
-    // Whatever is answered, there were at most 2^40 reads.
+    // Whatever is returned, there were at most 2^40 reads.
     ensures reads { inlet_reads inlet.new ≤ inlet_reads inlet.old + 2 ^ 40 }
     ensures turn_limit { IsErrOf result (Fault.Stream StreamFault.TurnLimit)
         → inlet_reads inlet.new ≡ inlet_reads inlet.old + 2 ^ 40 }
-    // What comes before the first read, and before the first write.
+    // What is refused before the first read, and before the first write.
     ensures unread { SaysNone project.now → inlet_reads inlet.new ≡ inlet_reads inlet.old }
     ensures unwritten { IfErr result (λ fault. IsBeforeWriting fault
         → outlet_writer outlet.new ≡ outlet_writer outlet.old) }

@@ -1,4 +1,4 @@
-//! What a project text says that a call needs.
+//! What a call needs of a project text.
 
 ghost use Rattle.std.specs.Prelude.{IfErr, IfOk};
 ghost use Rattle.splice_core.specs.Splices.{splice_content};
@@ -11,15 +11,14 @@ use fir_core::Taps;
 use project_core::{Project, Splice};
 use std::alloc::Global;
 
-/// The names of the takes that a project text cuts, in their order.
+/// The names of the takes that a project text cuts, in order.
 ///
-/// Refusals, in this order: `Project`, `NoSplice` where the text has no splice. Every want of memory is
-/// `Memory`.
+/// Refusals, in this order: `Project`, `NoSplice` if the text has no splice. Out of memory is always `Memory`.
 #[tactic(auto, unfolding(crate::specs::Projects::take_names_of))]
 pub fn take_names(alloc: Global, project: &[u8]) -> Result<Vec<String>, Fault>
-    // What is answered is what the text says.
+    // What is returned is what the text states.
     ensures found { IfOk result (λ names. SaysTakes project.now (names_of names)) }
-    // What is answered or refused is what reading in order comes to, want of memory aside.
+    // The answer or the fault is what reading in order ends with, unless memory runs out.
     ensures exact { Gives Fault.Memory names_of result (take_names_of project.now) }
 {
     let splice = splice_of(alloc, project)?;
@@ -29,8 +28,7 @@ pub fn take_names(alloc: Global, project: &[u8]) -> Result<Vec<String>, Fault>
 
 /// The splice that a project text has.
 ///
-/// Refusals, in this order: `Project`, `NoSplice` where the text has no splice. Every want of memory is
-/// `Memory`.
+/// Refusals, in this order: `Project`, `NoSplice` if the text has no splice. Out of memory is always `Memory`.
 #[tactic(auto, unfolding(crate::specs::Projects::splice_of))]
 pub fn splice_of(alloc: Global, project: &[u8]) -> Result<Splice, Fault>
     ensures found { IfOk result (λ s. SaysSplice project.now (splice_content s)) }

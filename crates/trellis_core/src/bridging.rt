@@ -1,4 +1,4 @@
-//! The choice of a bridge's bits.
+//! Chooses the bits of a bridge.
 
 ghost use Rattle.std.specs.Prelude.{◌≡◌, ◌+◌, ◌*◌, ◌<◌, ◌≤◌, ◌↔◌, true, false, IfOk, OnOk, IsErrOf};
 ghost use Rattle.cost_core.specs.Trellis.{states};
@@ -21,14 +21,14 @@ use std::alloc::{AllocError, Global};
 /// The bits of a bridge and what they cost.
 #[derive(Drop)]
 pub struct Chosen {
-    /// The bits, the earliest first: as many as the window has levels.
+    /// The bits, earliest first: as many as the window has levels.
     pub bits: Bits,
     /// The sum of the squared deviations over the places of the window.
     pub cost: u64,
 }
 
-/// The bits of a bridge that cost least in its window, and of several the first, read from the last bit
-/// to the first, 0 before 1. Err is want of memory.
+/// The bits of a bridge that cost least in its window. Of several such lists it returns the first, read from the last
+/// bit to the first, 0 before 1. Err is out of memory.
 pub fn bridge(alloc: Global, window: &Window) -> Result<Chosen, AllocError>
     ensures first_least { IfOk result (λ chosen. IsFirstLeastBridge window.now chosen.bits) }
     ensures cost { IfOk result (λ chosen. chosen.cost ≡ bridge_cost window.now chosen.bits) }
@@ -40,11 +40,11 @@ pub fn bridge(alloc: Global, window: &Window) -> Result<Chosen, AllocError>
     }
 }
 
-/// The same bits, and a row of numbers for each level handed to the sink, level 0 first: by rising
-/// state the lesser of `2^63` and the least sum of steps from the start to the state.
+/// Returns the same bits, and passes a row of numbers for each level to the sink, level 0 first. By rising state, a
+/// number is the lesser of `2^63` and the least sum of steps from the start to the state.
 ///
-/// Refusals: `Memory`, after which the rows of the first levels were handed over; `Sink` where the sink
-/// refused a row, after those of the levels before it.
+/// Refusals: `Memory`, and then the sink got the rows of the first levels; `Sink` if the sink refused a row, and then
+/// it got those of the levels before it.
 pub fn bridge_into<S: LevelSink>(
     alloc: Global,
     window: &Window,
@@ -56,7 +56,7 @@ pub fn bridge_into<S: LevelSink>(
     ensures first_least { IfOk result (λ chosen. IsFirstLeastBridge window.now chosen.bits) }
     ensures cost { IfOk result (λ chosen. chosen.cost ≡ bridge_cost window.now chosen.bits) }
 
-    // The rows that were handed over.
+    // The rows that the sink got.
     ensures rows { OnOk result (HandsOverAll (trellis_of window.now) (S.spelling (S.kind sink.old)) (S.text sink.old)
         (S.text sink.new)) }
     ensures memory { IsErrOf result BridgeFault.Memory
@@ -64,7 +64,7 @@ pub fn bridge_into<S: LevelSink>(
     ensures sink { IsErrOf result BridgeFault.Sink
         → HandsOverUpTo (trellis_of window.now) (S.spelling (S.kind sink.old)) (S.text sink.old) (S.text sink.new) }
 
-    // What the sink is afterwards.
+    // The state of the sink afterwards.
     ensures refused { IsErrOf result BridgeFault.Sink ↔ (S.has_refused sink.new ≡ true) }
     ensures rows_left { OnOk result (S.rows_left sink.new + (window.now.levels + 1) ≡ S.rows_left sink.old) }
     ensures row_length { S.row_length sink.new ≡ S.row_length sink.old }
@@ -75,11 +75,11 @@ pub fn bridge_into<S: LevelSink>(
     Ok(choose(alloc, window, &searched)?)
 }
 
-/// The same bits, and the same rows handed to the sink, but each number above the cost as the cost. It goes through the
-/// levels twice; nothing is allocated from the first row on that is handed over.
+/// Returns the same bits, and passes the same rows to the sink, but each number above the cost as the cost. It goes
+/// through the levels twice, and allocates nothing once the first row was passed on.
 ///
-/// Refusals: `Memory`, before a row was handed over; `Sink` where the sink refused a row, after those of the levels
-/// before it.
+/// Refusals: `Memory`, and then the sink got no row; `Sink` if the sink refused a row, and then it got those of the
+/// levels before it.
 pub fn bridge_cut_into<S: LevelSink>(
     alloc: Global,
     window: &Window,
@@ -91,14 +91,14 @@ pub fn bridge_cut_into<S: LevelSink>(
     ensures first_least { IfOk result (λ chosen. IsFirstLeastBridge window.now chosen.bits) }
     ensures cost { IfOk result (λ chosen. chosen.cost ≡ bridge_cost window.now chosen.bits) }
 
-    // The rows that were handed over.
+    // The rows that the sink got.
     ensures rows { IfOk result (λ chosen. HandsOverAll (trellis_of window.now)
         (cut_spelling chosen.cost (S.spelling (S.kind sink.old))) (S.text sink.old) (S.text sink.new)) }
     ensures memory { IsErrOf result BridgeFault.Memory → S.text sink.new ≡ S.text sink.old }
     ensures sink { IsErrOf result BridgeFault.Sink
         → HandsOverCutUpTo window.now (S.spelling (S.kind sink.old)) (S.text sink.old) (S.text sink.new) }
 
-    // What the sink is afterwards.
+    // The state of the sink afterwards.
     ensures refused { IsErrOf result BridgeFault.Sink ↔ (S.has_refused sink.new ≡ true) }
     ensures rows_left { OnOk result (S.rows_left sink.new + (window.now.levels + 1) ≡ S.rows_left sink.old) }
     ensures row_length { S.row_length sink.new ≡ S.row_length sink.old }

@@ -8,10 +8,10 @@ ghost use Rattle.cost_core.specs.Ways.{AreChosen, AreWays, are_upper, following}
 use cost_core::{Ways, sums_into};
 use std::simd::prelude::*;
 
-/// The sum of a state that no bits lead to, and the greatest sum that is kept.
+/// The sum of a state that no bits lead to. It is also the greatest sum that is kept.
 pub const NO_WAY: u64 = 1 << 63;
 
-// The lesser of the sums by two ways into each of eight states, and a bit for each where the second is less.
+// The lesser of the sums by two ways into each of eight states, and a bit for each state, set if the second is less.
 fn choose_eight(first: &[u64; 8], second: &[u64; 8]) -> ([u64; 8], u8)
     ensures row { result.0 ≡ least first.now second.now }
     ensures choices { result.1 ≡ mask_l (seconds first.now second.now) }
@@ -25,7 +25,7 @@ fn choose_eight(first: &[u64; 8], second: &[u64; 8]) -> ([u64; 8], u8)
     (least.to_array(), is_second.to_bitmask() as u8)
 }
 
-// The next row where it has sixteen states or a multiple of them.
+// Writes the next row if it has sixteen states or a multiple of that.
 fn choose_by_eights(ways: Ways<'_>, row: &mut [u64], choices: &mut [u8])
     requires whole { length ways.old.now % 16 ≡ 0 }
     requires row_len { length row.old ≡ length ways.old.now }
@@ -47,7 +47,7 @@ fn choose_by_eights(ways: Ways<'_>, row: &mut [u64], choices: &mut [u8])
     }
 }
 
-// The next row, of eight states at most, and a bit for each where the second way is less.
+// Writes the next row if it has at most eight states, and returns a bit for each, set if the second way is less.
 fn choose_few(ways: Ways<'_>, row: &mut [u64]) -> u8
     requires short { length ways.old.now ≤ 8 }
     requires row_len { length row.old ≡ length ways.old.now }
@@ -69,7 +69,7 @@ fn choose_few(ways: Ways<'_>, row: &mut [u64]) -> u8
     choices
 }
 
-/// Writes the next row, and into `choices` a bit for each of its states where the way by p + half is less.
+/// Writes the next row, and into `choices` a bit for each of its states, set if the way by p + half is less.
 pub(crate) fn choose(ways: Ways<'_>, row: &mut [u64], choices: &mut [u8])
     requires many { 8 < length ways.old.now → length ways.old.now % 16 ≡ 0 }
     requires row_len { length row.old ≡ length ways.old.now }

@@ -1,4 +1,4 @@
-//! A second pass over the levels, whose rows are handed over cut at the cost.
+//! A second pass over the levels, which passes on their rows cut at the cost.
 
 ghost use Rattle.std.specs.Prelude.{◌≡◌, ℕ, ◌+◌, ◌<◌, ◌≤◌, min, true, false, length, slice_index, OnOk, OnErr, MatchResult};
 ghost use Rattle.cost_core.specs.Trellis.{states};
@@ -9,8 +9,8 @@ ghost use Rattle.trellis_core.specs.Passes.{HasBuffers};
 use crate::rows::{PassRoom, next_row, write_first_row};
 use cost_core::{LevelSink, SinkFault, Window};
 
-// Writes the values of a row, each above the cost as the cost. (A plain loop over two slices, which the compiler turns
-// into lanes.)
+// Writes the values of a row, with each value above the cost as the cost. (A plain loop over two slices, which the
+// compiler turns into lanes.)
 fn cut_row(row: &[u64], cost: u64, cut: &mut [u64])
     requires { length cut.old ≡ length row.now }
     ensures { (k : ℕ) → k < length row.now → slice_index cut.new k ≡ min (slice_index row.now k) cost }
@@ -20,11 +20,11 @@ fn cut_row(row: &[u64], cost: u64, cut: &mut [u64])
     }
 }
 
-/// Makes the rows of all levels in the room for a pass, and hands each over when it is made, each number above the cost
-/// as the cost. Nothing is chosen and nothing is allocated, so a bridge whose bits are known is certified with room that
-/// was made before.
+/// Makes the rows of all levels in the memory for a pass. It passes each row to the sink when it is made, with each
+/// number above the cost as the cost. Nothing is chosen and nothing is allocated, so a bridge whose bits are known is
+/// certified in memory that was reserved before.
 ///
-/// Refusal: `SinkFault` where the sink refuses a row, after those of the levels before it.
+/// Refusal: `SinkFault` if the sink refuses a row, and then it got those of the levels before it.
 pub fn hand_cut<S: LevelSink>(
     window: &Window,
     room: &mut PassRoom,
@@ -37,13 +37,13 @@ pub fn hand_cut<S: LevelSink>(
     requires ready { S.has_refused sink.old ≡ false }
     ensures buffers { OnOk result (HasBuffers (states (trellis_of window.now)) room.new) }
 
-    // The rows that were handed over.
+    // The rows that the sink got.
     ensures ok { OnOk result (HandsOverAll (trellis_of window.now) (cut_spelling cost (S.spelling (S.kind sink.old)))
         (S.text sink.old) (S.text sink.new)) }
     ensures err { OnErr result (HandsOverUpTo (trellis_of window.now) (cut_spelling cost (S.spelling (S.kind sink.old)))
         (S.text sink.old) (S.text sink.new)) }
 
-    // What the sink is afterwards.
+    // The state of the sink afterwards.
     ensures refused { MatchResult result (λ _. S.has_refused sink.new ≡ false) (λ _. S.has_refused sink.new ≡ true) }
     ensures rows_left { OnOk result (S.rows_left sink.new + (window.now.levels + 1) ≡ S.rows_left sink.old) }
     ensures row_length { S.row_length sink.new ≡ S.row_length sink.old }

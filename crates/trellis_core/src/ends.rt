@@ -1,4 +1,4 @@
-//! The state that the chosen bits end in.
+//! The state in which the chosen bits end.
 
 ghost use Rattle.std.specs.Prelude.{◌≡◌, ◌-◌, ◌^◌, ◌<◌, ◌≤◌, length};
 ghost use Rattle.cost_core.specs.Trellis.{states, IsBounded};
@@ -7,7 +7,7 @@ ghost use Rattle.trellis_core.specs.Best.{best_row, total_row, final};
 
 use cost_core::Window;
 
-/// Writes the least costs of the bits that end in each state, from the least sums of the last level.
+/// Writes the least cost of the bits that end in each state, from the least sums of the last level.
 pub(crate) fn write_totals(window: &Window, last: &[u64], totals: &mut [u64])
     requires bounded { IsBounded (trellis_of window.now) }
     requires last { last.now ≡ best_row (trellis_of window.now) (trellis_of window.now).levels }
@@ -20,8 +20,8 @@ pub(crate) fn write_totals(window: &Window, last: &[u64], totals: &mut [u64])
     }
 }
 
-/// Of the states whose bits but for the `rest` oldest are `low`, the one of the least total. On a tie 0
-/// at the newest bit that differs wins.
+/// Of the states whose bits, except the `rest` oldest, are `low`, the one with the least total. On a tie the state wins
+/// that has 0 at the newest bit that differs.
 pub(crate) fn end_state(window: &Window, totals: &[u64], rest: usize, low: usize) -> usize
     requires bounded { IsBounded (trellis_of window.now) }
     requires totals { totals.now ≡ total_row (trellis_of window.now) }

@@ -11,7 +11,7 @@ use thiserror::Error;
 /// Why no bridge was found. A fault's text is its name.
 #[derive(Clone, Copy, Debug, PartialEq, Eq, Error)]
 pub enum BridgeFault {
-    /// Want of memory.
+    /// Out of memory.
     Memory,
     /// The sink refused a row.
     Sink,

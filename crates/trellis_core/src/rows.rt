@@ -14,19 +14,19 @@ use crate::fault::BridgeFault;
 use cost_core::{LevelSink, Ways, Window};
 use std::alloc::{AllocError, Global};
 
-/// Room for a pass over the levels of a window with so many states: the steps of a level, two rows, and the decisions of
-/// a level. It serves for one pass after another.
+/// Memory for a pass over the levels of a window: the steps of a level, two rows, and the decisions of a level. It
+/// serves for one pass after another, over windows of as many states.
 #[derive(Drop)]
 pub struct PassRoom {
     pub(crate) steps: Vec<u64>,
     pub(crate) row: Vec<u64>,
-    // The second row. A search leaves in it by state the least cost of the bits that end there.
+    // The second row. A search leaves in it, by state, the least cost of the bits that end there.
     pub(crate) totals: Vec<u64>,
     pub(crate) decided: Vec<u8>,
 }
 
 impl PassRoom {
-    /// Room for windows with so many states. Err is want of memory.
+    /// Memory for windows with `states` states. Err is out of memory.
     pub fn new(alloc: Global, states: usize) -> Result<PassRoom, AllocError>
         requires { states ≤ 2 ^ 11 }
         ensures { IfOk result (HasBuffers states) }
@@ -44,7 +44,7 @@ impl PassRoom {
     }
 }
 
-/// What a search leaves: the room of its pass, with the least costs, and the decisions of all levels.
+/// What a search leaves: the memory of its pass, with the least costs, and the decisions of all levels.
 #[derive(Drop)]
 pub struct Searched {
     pub room: PassRoom,
@@ -69,8 +69,8 @@ pub(crate) fn write_first_row(window: &Window, row: &mut [u64])
     }
 }
 
-/// Writes the least sums of the level after `level`, whose own are `row`, and the decisions of `level`;
-/// `steps` is overwritten.
+/// Writes the least sums of the level after `level`, and the decisions of `level`. `row` is the least sums of `level`,
+/// and `steps` is overwritten.
 pub(crate) fn next_row(
     window: &Window,
     level: usize,
@@ -99,7 +99,7 @@ pub(crate) fn next_row(
     choose(ways, following, decisions);
 }
 
-// Room for a search of a window.
+// Memory for a search of a window. Err is out of memory.
 fn make_room(alloc: Global, window: &Window) -> Result<Searched, AllocError>
     ensures bounded { IsBounded (trellis_of window.now) }
     ensures buffers { IfOk result (λ room. HasBuffers (states (trellis_of window.now)) room.room) }
@@ -110,14 +110,14 @@ fn make_room(alloc: Global, window: &Window) -> Result<Searched, AllocError>
     Ok(Searched { room, decisions })
 }
 
-// A row of so many zeros.
+// A row of `count` zeros.
 fn make_row(alloc: Global, count: usize) -> Result<Vec<u64>, AllocError>
     ensures { IfOk result (λ row. length row.items ≡ count) }
 {
     vec![in alloc; 0; count]
 }
 
-// Searches all levels in the room for it, which is lent here, so that no exit has to let go of it.
+// Searches all levels in memory for it, which is borrowed here, so that no exit has to free it.
 fn search<S: LevelSink>(
     window: &Window,
     room: &mut PassRoom,
@@ -164,8 +164,8 @@ fn search<S: LevelSink>(
     Ok(())
 }
 
-/// Searches all levels. Each row is handed over when it is made; two rows are held, and nothing is allocated
-/// from the first level on.
+/// Searches all levels. It passes each row to the sink when it is made. It holds two rows, and allocates nothing from
+/// the first level on.
 pub(crate) fn forward<S: LevelSink>(
     alloc: Global,
     window: &Window,

@@ -10,7 +10,7 @@ use cost_core::Window;
 use dsd_bits::Bits;
 use std::alloc::{AllocError, Global};
 
-// The state before `state` of the level after `level`, as it was decided.
+// The state at `level` from which `state` is reached at the next level, as it was decided.
 fn before(window: &Window, decisions: &[u8], level: usize, state: usize) -> usize
     requires decisions { AreAllDecisions (trellis_of window.now) (trellis_of window.now).levels decisions.now }
     requires level { level < (trellis_of window.now).levels }
@@ -27,7 +27,7 @@ fn before(window: &Window, decisions: &[u8], level: usize, state: usize) -> usiz
     }
 }
 
-/// The bits on the way back from a state of the last level, the newest first.
+/// The bits on the way back from a state of the last level, newest first. Err is out of memory.
 pub(crate) fn trace(
     alloc: Global,
     window: &Window,
@@ -49,7 +49,7 @@ pub(crate) fn trace(
     Ok(bits)
 }
 
-/// The bits packed, the last of them first.
+/// The bits packed in reverse, so that the last comes first. Err is out of memory.
 pub(crate) fn reversed(alloc: Global, newest_first: &[bool]) -> Result<Bits, AllocError>
     requires { length newest_first.now ≤ 2 ^ 36 }
     ensures { IfOk result (λ bits. bits ≡ reverse newest_first.now) }

@@ -1,4 +1,4 @@
-//! A sink for searches whose rows nobody wants.
+//! A sink for searches whose rows nobody needs.
 
 ghost use Rattle.std.specs.Prelude.{◌≡◌, ◌+◌, None, [], false};
 ghost use Rattle.cost_core.specs.Trellis.{states};
@@ -6,7 +6,7 @@ ghost use Rattle.cost_core.specs.StateCosts.{trellis_of};
 
 use cost_core::{LevelSink, SinkFault, Window};
 
-/// Takes the rows of one window and forgets them.
+/// Takes the rows of one window and drops them.
 #[derive(Drop)]
 pub struct Unheard {
     left: usize,
@@ -14,7 +14,7 @@ pub struct Unheard {
 }
 
 impl Unheard {
-    /// For the rows of a window.
+    /// A sink for the rows of a window.
     pub(crate) fn new(window: &Window) -> Unheard
         ensures left { result.left ≡ window.now.levels + 1 }
         ensures width { result.width ≡ states (trellis_of window.now) }

@@ -1,16 +1,16 @@
-//! Why words ask for nothing.
+//! Why the words of a command line are refused.
 
 use std::fmt;
 use thiserror::Error;
 
-/// Why words ask for nothing. A fault's text is its name.
+/// Why the words of a command line are refused. A fault's text is its name.
 #[derive(Clone, Copy, Debug, PartialEq, Eq, Error)]
 pub enum WordsFault {
     /// The words are no command.
     WrongWords,
-    /// A form is named that isn't known.
+    /// The form that is named isn't known.
     UnknownFormName,
-    /// Want of memory.
+    /// Out of memory.
     Memory,
 }
 

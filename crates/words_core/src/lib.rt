@@ -1,5 +1,8 @@
 //! The words of a command line: [`task_of`] reads which [`Task`] they ask for, with the names of its files.
 //!
+//! What it promises: only that it is safe. It has no words of contracts. `tests/try_commands` tests which words ask for
+//! what.
+//!
 //! ```text
 //! match task_of(alloc, &words) {
 //!     Ok(Task::Info { file }) => ..

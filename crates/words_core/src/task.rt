@@ -1,4 +1,4 @@
-//! What a command is asked to do.
+//! What a command line asks for.
 
 use form_core::Form;
 

@@ -11,7 +11,7 @@ use form_core::Form;
 use info_core::form_named;
 use std::alloc::{AllocError, Global};
 
-// The commands, each with the names of its words in their order.
+// The commands, each with the names of its words in order.
 const COMMANDS: [(&str, &[&str]); 5] = [
     ("info", &["FILE"]),
     ("convert", &["FORM", "IN", "OUT"]),
@@ -20,8 +20,10 @@ const COMMANDS: [(&str, &[&str]); 5] = [
     ("check", &["PROJECT", "MASTER", "CERT"]),
 ];
 
-/// What the words ask for, the program's name first. Other words than those of a command are
-/// `WrongWords`, and another form than `dsdiff`, `dsf` or `dsf8` is `UnknownFormName`.
+/// What the words ask for. The first word is the program's name.
+///
+/// Refusals: `WrongWords` if the words are no command, `UnknownFormName` if the form isn't `dsdiff`, `dsf` or `dsf8`,
+/// `Memory`.
 pub fn task_of<'a>(alloc: Global, words: &'a [String]) -> Result<Task<'a>, WordsFault> {
     match matches_of(alloc, words) {
         Ok(matches) => task_in(&matches),
@@ -30,7 +32,7 @@ pub fn task_of<'a>(alloc: Global, words: &'a [String]) -> Result<Task<'a>, Words
     }
 }
 
-// What was read asks for. It is borrowed here, so that no exit has to let go of it.
+// The task that the matches ask for. They are borrowed here, so that no exit has to free them.
 fn task_in<'a>(matches: &ArgMatches<'a>) -> Result<Task<'a>, WordsFault> {
     match matches.subcommand() {
         Some(("info", info)) => info_task(info),
@@ -118,8 +120,8 @@ fn subcommand<'a>(
     command
 }
 
-// A command with one subcommand more. The results go in and out as they are: each `?` in a caller would be
-// an exit at which every command that it holds is let go of, and the check pays for each.
+// A command with one more subcommand. Results are passed in and out as they are. Each `?` in a caller would be an exit
+// that frees every command it holds, and each such exit makes the check dearer.
 fn with<'a>(
     root: Result<Command<'a>, AllocError>,
     part: Result<Command<'a>, AllocError>,
@@ -127,7 +129,7 @@ fn with<'a>(
     root?.subcommand(part?)
 }
 
-// A command with one name more.
+// A command with one more name.
 fn naming<'a>(
     alloc: Global,
     command: Result<Command<'a>, AllocError>,

@@ -46,24 +46,26 @@
 #![tactic(auto)]
 
 mod chunks;
+mod describing;
 mod fault;
 mod fields;
 mod format;
 mod front;
 mod laws;
+mod locating;
 mod outlines;
 mod reading;
-mod sound;
 mod writing;
 mod writing_laws;
 
+pub use describing::{closes, describe, tag_at};
 pub use fault::DsfFault;
-pub use front::{closes, sound_at};
 pub use laws::{
     accepted_files_have_a_head, accepted_files_tell_their_sound, bytes_of_sound_do_not_matter,
     front_ends_at_sound, one_recording, what_is_told_is_found,
 };
-pub use outlines::{outline, tag_at};
+pub use locating::{Located, locate, sound_at};
+pub use outlines::outline;
 pub use reading::read;
 pub use writing::{head, write};
 pub use writing_laws::written_is_read_again;

@@ -1,6 +1,7 @@
 //! From a recording to the bytes of a file.
 
 ghost use Rattle.std.specs.Prelude.{◌≡◌, ◌≤◌, ◌+◌, ◌++◌, IfOk, OnOk, if◌then◌else◌, nat_eq};
+ghost use Rattle.dsd_bits.specs.Limits.{most_bits};
 ghost use Rattle.dsf_core.specs.Files.{IsDsf, bits_of};
 ghost use Rattle.dsf_core.specs.ReadAgain.{as_told};
 ghost use Rattle.dsf_core.specs.Writing.{data_text, dsf_text, first_text, format_text, head_text};
@@ -34,7 +35,7 @@ pub fn write(alloc: Global, recording: &Recording, order: BitOrder) -> Result<Ve
     let tag = description.tag();
     let size = blocks_size(channels.len(), recording.count());
     let mut out = Vec::with_capacity(alloc, FRONT_SIZE + size + tag.len())?;
-    push_head(&mut out, description, order)?;
+    push_head(&mut out, description, recording.count(), order)?;
     push_blocks(&mut out, channels, order)?;
     out.extend_from_slice(tag)?;
     written_is_read_again();
@@ -50,21 +51,36 @@ pub fn head(
 ) -> Result<Vec<u8>, AllocError>
     ensures text { IfOk result (λ head. head.items ≡ head_text description.now order) }
 {
+    head_counted(alloc, description, description.count(), order)
+}
+
+/// The same for another number of bits in each channel, at most `2^36`.
+pub fn head_counted(
+    alloc: Global,
+    description: &Description,
+    count: usize,
+    order: BitOrder,
+) -> Result<Vec<u8>, AllocError>
+    requires in_limit { count ≤ most_bits }
+    ensures text { IfOk result (λ head. head.items ≡ head_text (record description.now { count = count }) order) }
+{
     let mut out = Vec::with_capacity(alloc, FRONT_SIZE)?;
-    push_head(&mut out, description, order)?;
+    push_head(&mut out, description, count, order)?;
     Ok(out)
 }
 
-// Appends the bytes before the sound.
+// Appends the bytes before the sound of so many bits a channel.
 fn push_head(
     out: &mut Vec<u8>,
     description: &Description,
+    count: usize,
     order: BitOrder,
 ) -> Result<(), AllocError>
-    ensures { OnOk result (out.new.items ≡ out.old.items ++ head_text description.now order) }
+    requires in_limit { count ≤ most_bits }
+    ensures { OnOk result (out.new.items
+        ≡ out.old.items ++ head_text (record description.now { count = count }) order) }
 {
     let number = description.ids().len();
-    let count = description.count();
     let size = blocks_size(number, count) as u64;
     let tag_size = description.tag().len() as u64;
     push_first(

@@ -7,7 +7,9 @@ use Rattle.std.proofs.lemmas.List.Elements.{All-append, All-cons, All-get_or, Al
 use Rattle.std.proofs.lemmas.List.FromFn.{length-map-range_with_len}
 use Rattle.toml.specs.Data.{Data}
 use Rattle.dsd_bits.specs.Channels.{IsLevel, count_of}
+use Rattle.dsd_bits.specs.Blocks.{unblocked}
 use Rattle.dsd_bits.specs.Contents.{Content}
+use Rattle.dsd_bits.specs.Layouts.{layout_channels}
 use Rattle.dsd_bits.specs.Shape.{HasShape}
 use Rattle.dsd_bits.specs.Stretches.{silent}
 use Rattle.dsd_bits.specs.declared.blocks.BitOrder.{BitOrder}
@@ -16,6 +18,8 @@ use Rattle.dsd_bits.proofs.BlockLemmas.{unblocked_count, unblocked_level}
 use Rattle.dsdiff_core.proofs.ShapeLaws as dsdiff
 use Rattle.dsf_core.specs.Fields as fields
 use Rattle.dsf_core.specs.Files.{IsDsf}
+use Rattle.dsf_core.specs.Reading.{front_told}
+use Rattle.dsf_core.proofs.FileLaws.{is_sound, leads_of}
 use Rattle.dsf_core.proofs.ShapeLaws as dsf
 use Rattle.splice_core.specs.Cues.{IsSplicing}
 use Rattle.splice_core.specs.Splices.{SpliceContent}
@@ -60,8 +64,21 @@ dsf_shape file r order is =
     let number = fields.channel_number file in
     let sound = drop (fields.sound_place file) file in
     let count = fields.count file in
-    dsf.shape_is r.rate number (fields.channel_type file) r.layout r.channels r.ids [] sound order count (omega (arith, is.rate_read, is.rate_low)) (omega (arith, is.rate_read, is.rate_high)) is.some_channel is.six_channels is.channels_read
-    (subst IsLevel (sym is.channels_read) (unblocked_level order sound number count is.some_channel)) (omega (arith, ap count_of is.channels_read, unblocked_count order sound number count is.some_channel, is.not_long)) is.ids_read is.layout_read
+    let d = dsf.shape_is (front_told file order) [] (is_sound file _ (leads_of file r order is)) in
+    let long : length r.channels ≡ number = ap length is.channels_read ∙ length-map-range_with_len (unblocked order sound number count) 0 number in
+    record {
+      rate_low = omega (arith, is.rate_read, is.rate_low);
+      rate_high = omega (arith, is.rate_read, is.rate_high);
+      some_channel = omega (arith, long, is.some_channel);
+      six_channels = omega (arith, long, is.six_channels);
+      level = subst IsLevel (sym is.channels_read) (unblocked_level order sound number count is.some_channel);
+      in_limit = omega (arith, ap count_of is.channels_read, unblocked_count order sound number count is.some_channel, is.not_long);
+      id_for_each = ap length is.ids_read ∙ dsf.id_for_each number ∙ sym long;
+      layout_fits = ap layout_channels is.layout_read ∙ d.layout_fits ∙ dsf.id_for_each number ∙ sym long;
+      short_texts = d.short_texts;
+      in_order = refl;
+      no_parts = d.no_parts;
+    }
 
 -- what a file holds keeps the rules of recordings
 pub plain_shape : (file : List ℕ) (form : Form) (r : Content) → HoldsAs file form r → HasShape (plain r)

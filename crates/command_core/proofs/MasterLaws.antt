@@ -10,7 +10,7 @@ use Rattle.sound_core.specs.Files.{IsRefused}
 use Rattle.sound_core.specs.Outlines.{AreTold, around_of, with_sound}
 use Rattle.audit_core.specs.Auditing.{AuditsFile, AuditsGiven, found_in}
 use Rattle.audit_core.specs.declared.auditing.Audited.{Audited}
-use Rattle.transfer_commands.specs.Outlining.{form_in}
+use Rattle.form_core.specs.Forms.{form_in}
 use Rattle.transfer_commands.proofs.ReadLaws.{known_or_some, untold}
 use Rattle.transfer_commands.proofs.TellLaws.{holds_as}
 use Rattle.archive_core.specs.Checking.{HoldsNothing}

@@ -2,7 +2,7 @@
 use Rattle.std.specs.Prelude.{◌≡◌, ℕ, List, ◌++◌, codes, Result, Ok, Err}
 use Rattle.std.specs.Fmt.{decimal}
 use Rattle.command_core.specs.declared.outcome.Outcome.{Outcome}
-use Rattle.info_core.specs.Infos.{info_text}
+use Rattle.form_core.specs.Infos.{info_text}
 use Rattle.master_core.specs.declared.verdict.Verdict.{Verdict}
 use Rattle.master_core.specs.declared.verdict.Verdict.TheVariants as verdicts
 use Rattle.transfer_commands.specs.declared.fault.CommandFault.{CommandFault}
@@ -18,7 +18,7 @@ ShowsDone (Played n) line = line ≡ codes "played " ++ decimal n ++ codes " byt
 ShowsDone (Converted n) line = line ≡ codes "converted dropped " ++ decimal n
 ShowsDone (Edited n) line = line ≡ codes "edited total " ++ decimal n
 ShowsDone (Accepted n) line = line ≡ codes "accepted total " ++ decimal n
-ShowsDone (Info told) line = line ≡ info_text told.form told.recording told.count
+ShowsDone (Info told) line = line ≡ info_text told.form told.description
 ShowsDone _ line = Unit {0}
 
 -- done: 0; a master that is rejected: 1; a fault: 2; words that are no command or name no form: 3

@@ -35,8 +35,9 @@ mod sources;
 mod writing;
 
 pub use folder_core::{Folder, FolderFault, MemoryFolder, read_files, read_whole};
-pub use info_core::{Told, form_named, name_of};
+pub use form_core::{form_named, name_of};
 pub use outcome::{Outcome, outcome_line, status};
 pub use performing::perform;
 pub use program::{run, run_program};
+pub use transfer_commands::Told;
 pub use words_core::Task;

@@ -3,7 +3,7 @@
 ghost use Rattle.std.specs.Prelude.{◌≡◌, ◌-◌, ◌<◌, ◌^◌, IfErr, IfOk, IfSome};
 ghost use Rattle.device_core.specs.Inlets.{inlet_failures, inlet_given, inlet_reader, inlet_reads};
 ghost use Rattle.audit_core.specs.Auditing.{found_in};
-ghost use Rattle.transfer_commands.specs.Outlining as outlining;
+ghost use Rattle.form_core.specs.Forms as forms;
 ghost use Rattle.transfer_commands.specs.Outlining.{IsUnread};
 ghost use Rattle.command_core.specs.Masters.{FindsMaster, IsFoundHeld, IsFoundInSome, IsOfSome};
 
@@ -13,10 +13,11 @@ use audit_core::{Audited, audit};
 use cut_core::Cut;
 use device_core::Inlet;
 use folder_core::Folder;
+use form_core::form_in;
 use sound_core::StreamFault;
 use std::alloc::Global;
 use std::io::Read;
-use transfer_commands::{CommandFault, form_in};
+use transfer_commands::CommandFault;
 
 /// What is found in a master that is to be judged by a cut, or None for a file that holds no recording. The file is
 /// read once, to its end, and its sound isn't held.
@@ -80,7 +81,7 @@ fn find_by<R: Read>(
 
 // What was found in a file, with the form that the file has.
 fn found_by(audited: Audited) -> Found
-    ensures { result ≡ found_in (outlining.form_in audited.outline.sound.interleaving) audited }
+    ensures { result ≡ found_in (forms.form_in audited.outline.sound.interleaving) audited }
 {
     let Audited {
         outline,

@@ -5,9 +5,9 @@ ghost use Rattle.command_core.specs.Outcomes.{ShowsDone, of_command, of_words, s
 ghost use Rattle.command_core.specs.declared.outcome.Outcome.TheVariants as outcomes;
 
 use archive_core::{Fault, Reason};
-use info_core::{Told, info_lines};
+use form_core::info_lines;
 use std::alloc::{AllocError, Global};
-use transfer_commands::CommandFault;
+use transfer_commands::{CommandFault, Told};
 use words_core::WordsFault;
 
 /// The outcome of a command.
@@ -79,7 +79,7 @@ pub fn outcome_line(alloc: Global, outcome: &Outcome) -> Result<String, AllocErr
         Outcome::Edited(total) => format!(in alloc; "edited total {total}"),
         Outcome::Accepted(total) => format!(in alloc; "accepted total {total}"),
         Outcome::Rejected(reason) => format!(in alloc; "rejected {reason}"),
-        Outcome::Info(told) => info_lines(alloc, told),
+        Outcome::Info(told) => info_lines(alloc, told.form, &told.description),
         Outcome::Fault(fault) => format!(in alloc; "fault: {fault}"),
         Outcome::ReadFailed => format!(in alloc; "fault: ReadFailed"),
         Outcome::WriteFailed => format!(in alloc; "fault: WriteFailed"),

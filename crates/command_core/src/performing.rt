@@ -13,10 +13,9 @@ use crate::sources::{cut_of, cut_sources};
 use crate::writing::{write_certificate, write_master};
 use archive_core::{Form, Verdict};
 use folder_core::Folder;
-use info_core::Told;
 use std::alloc::Global;
 use transfer_commands::{
-    CommandFault, MOST_KEPT, convert_file, hear_sources, open_file, play_file,
+    CommandFault, MOST_KEPT, Told, convert_file, hear_sources, open_file, play_file,
 };
 use words_core::Task;
 

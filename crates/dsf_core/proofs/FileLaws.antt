@@ -1,19 +1,23 @@
 -- Reading and the relation, in both directions.
-use Rattle.std.proofs.Common.{◌≡◌, ap₂, ◌<◌, ℕ, ◌+◌, ◌-◌, ◌^◌, ◌≤◌, ◌⊎◌, inl, inr, Bool, true, false, cond, eqb, ltb, not, ◌&&◌, List, [], length, drop, Result, Ok, Err, refl, sym, ap, subst, ◌∙◌, arith, ne_eqb, eq-eqb}
+use Rattle.std.proofs.Common.{◌≡◌, ◌<◌, ℕ, ◌+◌, ◌-◌, ◌^◌, ◌≤◌, ◌⊎◌, inl, inr, Bool, true, false, cond, eqb, ltb, not, ◌&&◌, List, length, drop, Result, Ok, Err, refl, sym, ap, subst, ◌∙◌, arith, ne_eqb, eq-eqb}
 use Rattle.std.proofs.lemmas.Bool.{ltb-false, le-ltb, lt-ltb, eqb-true, cases_eq, not_from_true}
 use Rattle.std.proofs.lemmas.Slice.Eq.{bytes_eq-Decides}
 use Rattle.chunk_core.proofs.Steps.{bind_then, guard_ok, chosen}
+use Rattle.chunk_core.specs.Numbers.{id_at}
 use Rattle.dsd_bits.specs.declared.blocks.BitOrder.{BitOrder}
 use Rattle.dsd_bits.specs.declared.blocks.BitOrder.TheVariants.{LeastFirst, MostFirst}
-use Rattle.dsd_bits.specs.Contents.{Content}
+use Rattle.dsd_bits.specs.declared.sound.Sound.{Sound}
+use Rattle.dsd_bits.specs.Blocks.{blocks_size}
+use Rattle.dsd_bits.specs.Contents.{Content, with_channels}
 use Rattle.dsd_bits.specs.Ids.{same_id, DSD}
+use Rattle.dsd_bits.specs.Sounds.{IsSound}
 use Rattle.dsf_core.specs.declared.fault.DsfFault.{DsfFault}
-use Rattle.dsf_core.specs.declared.fault.DsfFault.TheVariants.{BadPointer, DataCut}
-use Rattle.chunk_core.specs.Numbers.{id_at}
-use Rattle.dsf_core.specs.Fields.{FMT, DATA, first_size, pointer, format_size, version, format, channel_number, rate, bits_per_sample, count, block_size, data_place, data_size, needed, sound_end, tag_told}
+use Rattle.dsf_core.specs.declared.fault.DsfFault.TheVariants.{DataCut}
+use Rattle.dsf_core.specs.declared.front.Front.{Front}
+use Rattle.dsf_core.specs.Fields.{FMT, DATA, first_size, format_size, version, format, channel_number, rate, bits_per_sample, count, block_size, data_place, data_size, needed, tag_from}
 use Rattle.dsf_core.specs.Files.{bits_of, IsDsf}
 use Rattle.dsf_core.specs.Fronts.{HoldsHead}
-use Rattle.dsf_core.specs.Reading.{chunks_of, order_of, order_told, sound_of, tag_of, told, recording_of}
+use Rattle.dsf_core.specs.Reading.{channels_by, chunks_of, described_by, end_of, ends_of, front_of, front_told, order_of, order_told, recording_of, sound_told}
 
 not_false : (b : Bool) → not b ≡ false → b ≡ true
 not_false true e = refl
@@ -94,7 +98,7 @@ pub record Limits (file : List ℕ) (order : BitOrder) : Type 0 where
   pub not_long : count file ≤ 2 ^ 36
 
 pub order_ok : (file : List ℕ) (order : BitOrder) → order_of file ≡ Ok order → Limits file order
-unfolding order_of order_told told_order
+unfolding order_told told_order
 order_ok file order e =
     let a = guard_ok _ _ _ _ e in
     let b = guard_ok _ _ _ _ a.1 in
@@ -121,97 +125,114 @@ bits_again bits LeastFirst e = rw e (refl, refl)
 bits_again bits MostFirst e = rw e (refl, refl)
 
 pub order_again : (file : List ℕ) (order : BitOrder) → Limits file order → order_of file ≡ Ok order
-unfolding order_of order_told
+unfolding order_told
 order_again file order h =
     let bits = bits_again (bits_per_sample file) order h.order_is in
     rw (eq-eqb (version file) 1 h.version_is, le-ltb (channel_number file) 1 h.some_channel, le-ltb 6 (channel_number file) h.six_channels, le-ltb (rate file) 1000000 h.rate_low, le-ltb 50000000 (rate file) h.rate_high, bits.0, eq-eqb (block_size file) 4096 h.block_is, le-ltb (2 ^ 36) (count file) h.not_long, bits.1) refl
 
--- ---- the sound and the tag
+-- ---- the front
 
-sound_ok : (file : List ℕ) (n : ℕ) → sound_of file ≡ Ok n → (needed file ≤ data_size file - 12) × (sound_end file ≤ length file)
-unfolding sound_of
-sound_ok file n e =
+-- what a front that leads to a sound holds
+pub record Leads (file : List ℕ) (s : Sound) : Type 0 where
+  pub order : BitOrder
+  pub heads : Heads file
+  pub limits : Limits file order
+  pub fits : needed file ≤ data_size file - 12
+  pub holds : HoldsHead file
+  pub told : s ≡ sound_told file order
+
+abbrev pub front_done : Front → Result Front DsfFault
+front_done front = Ok front
+
+pub front_ok : (file : List ℕ) (front : Front) → front_of file ≡ Ok front → (l : Leads file front.sound) × (front ≡ front_told file l.order)
+unfolding front_of
+front_ok file front e =
+    bind_then (chunks_of file) _ front e (λ place e1 h1.
+    bind_then (order_of file) _ front h1 (λ order e2 h2.
+    let g = guard_ok (ltb (data_size file) (needed file + 12)) DataCut (Ok (front_told file order)) front h2 in
+    let same : front ≡ front_told file order = cc (g.1) in
+    let chunks = chunks_ok file place e1 in
+    let fits : needed file + 12 ≤ data_size file = ltb-false _ _ g.0 in (
+      record {
+        order = order;
+        heads = chunks.0;
+        limits = order_ok file order e2;
+        fits = omega (arith, fits);
+        holds = chunks.1;
+        told = ap (λ (f : Front). f.sound) same;
+      },
+      same,
+    )))
+
+module _ (file : List ℕ) (data_at : ℕ) (order : BitOrder) (chunks : chunks_of file ≡ Ok data_at) (fields : order_of file ≡ Ok order) where
+  pub front_cut : data_size file < needed file + 12 → front_of file ≡ Err DataCut
+  unfolding front_of
+  front_cut cut = rw (chunks, fields, lt-ltb (data_size file) (needed file + 12) cut) refl
+
+  pub front_is : needed file + 12 ≤ data_size file → front_of file ≡ Ok (front_told file order)
+  unfolding front_of
+  front_is fits = rw (chunks, fields, le-ltb (data_size file) (needed file + 12) fits) refl
+
+pub front_again : (file : List ℕ) (order : BitOrder) → Heads file → Limits file order → HoldsHead file → needed file ≤ data_size file - 12 → front_of file ≡ Ok (front_told file order)
+front_again file order heads limits holds fits = front_is file (data_place file) order (chunks_again file heads holds.head) (order_again file order limits) (omega (arith, fits, heads.third_long))
+
+-- the sound lies in its limits
+pub is_sound : (file : List ℕ) (s : Sound) → Leads file s → IsSound s
+is_sound file s l = subst IsSound (sym l.told) (record {
+  rate_low = l.limits.rate_low;
+  rate_high = l.limits.rate_high;
+  some_channel = l.limits.some_channel;
+  six_channels = l.limits.six_channels;
+  in_limit = l.limits.not_long;
+  size = refl;
+})
+
+-- ---- the ends
+
+-- the sound ends in a file of so many bytes, and the tag stands behind it
+pub record Ends (front : Front) (total : ℕ) : Type 0 where
+  pub enough : end_of front ≤ total
+  pub tag : (front.tag_at ≡ 0) ⊎ ((end_of front ≤ front.tag_at) × (front.tag_at ≤ total))
+
+pub ends_ok : (front : Front) (total : ℕ) (x : Unit {0}) → ends_of front total ≡ Ok x → Ends front total
+unfolding ends_of
+ends_ok front total x e =
     let a = guard_ok _ _ _ _ e in
-    let b = guard_ok _ _ _ _ a.1 in
-    (ltb-false _ _ a.0, ltb-false _ _ b.0)
+    record {
+      enough = ltb-false _ _ a.0;
+      tag = elim (chosen (eqb front.tag_at 0) _ _ _ a.1) [
+        | inl none ↦ inl (eqb-true _ _ none.0)
+        | inr some ↦ (let b = guard_ok _ _ _ _ some.1 in let c = guard_ok _ _ _ _ b.1 in inr (ltb-false _ _ b.0, ltb-false _ _ c.0))
+      ];
+    }
 
--- where it ends, by what is told of the data chunk and of the file
-module _ (file : List ℕ) (data_at given wanted : ℕ) (place_is : data_at ≡ data_place file) (given_is : given ≡ data_size file - 12) (wanted_is : wanted ≡ needed file) where
-  pub end_is : (data_at + 12) + wanted ≡ sound_end file
-  end_is = ap₂ (λ (m n : ℕ). (m + 12) + n) place_is wanted_is
-
-  fits_in_chunk : wanted ≤ given → needed file ≤ data_size file - 12
-  fits_in_chunk h = subst (λ n. needed file ≤ n) given_is (subst (λ n. n ≤ given) wanted_is h)
-
-  pub chunk_cut : given < wanted → sound_of file ≡ Err DataCut
-  unfolding sound_of
-  chunk_cut cut =
-      let h : data_size file - 12 < needed file = subst (λ n. n < needed file) given_is (subst (λ n. given < n) wanted_is cut) in
-      rw (lt-ltb (data_size file - 12) (needed file) h) refl
-
-  pub file_cut : wanted ≤ given → (length file - data_at) - 12 < wanted → data_at + 12 ≤ length file → sound_of file ≡ Err DataCut
-  unfolding sound_of
-  file_cut fits cut inside =
-      let past : length file < (data_at + 12) + wanted = omega (arith, cut, inside) in
-      let h : length file < sound_end file = subst (λ n. length file < n) end_is past in
-      rw (le-ltb (data_size file - 12) (needed file) (fits_in_chunk fits), lt-ltb (length file) (sound_end file) h) refl
-
-  pub sound_ends : wanted ≤ given → wanted ≤ (length file - data_at) - 12 → data_at + 12 ≤ length file → sound_of file ≡ Ok ((data_at + 12) + wanted)
-  unfolding sound_of
-  sound_ends fits held inside =
-      let within : (data_at + 12) + wanted ≤ length file = omega (arith, held, inside) in
-      let h : sound_end file ≤ length file = subst (λ n. n ≤ length file) end_is within in
-      rw (le-ltb (data_size file - 12) (needed file) (fits_in_chunk fits), le-ltb (length file) (sound_end file) h) (ap Ok (sym end_is))
-
-sound_again : (file : List ℕ) (r : Content) (order : BitOrder) → IsDsf file r order → sound_of file ≡ Ok (sound_end file)
-unfolding sound_of
-sound_again file r order h =
-    rw (le-ltb (data_size file - 12) (needed file) h.in_chunk, le-ltb (length file) (sound_end file) h.in_file) refl
-
-abbrev pub Behind : List ℕ → Type 0
-Behind file = (pointer file ≡ 0) ⊎ ((sound_end file ≤ pointer file) × (pointer file ≤ length file))
-
-tag_ok : (file tag : List ℕ) → tag_of file ≡ Ok tag → Behind file × (tag ≡ tag_told file)
-unfolding tag_of
-tag_ok file tag e = elim (chosen (eqb (pointer file) 0) (Ok []) (cond (ltb (pointer file) (sound_end file)) (Err BadPointer) (cond (ltb (length file) (pointer file)) (Err BadPointer) (Ok (drop (pointer file) file)))) (Ok tag) e) [
-  | inl none ↦
-      let same : [] ≡ tag = cc (none.1) in
-      (inl (eqb-true _ _ none.0), rw none.0 (sym same))
-  | inr some ↦
-      let a = guard_ok _ _ _ _ some.1 in
-      let b = guard_ok _ _ _ _ a.1 in
-      let same : drop (pointer file) file ≡ tag = cc (b.1) in
-      (inr (ltb-false _ _ a.0, ltb-false _ _ b.0), rw some.0 (sym same))
-]
-
--- which tag it is, or why there is none, by the pointer and by where the sound ends
-module _ (file : List ℕ) (place end : ℕ) (place_is : place ≡ pointer file) (ends : end ≡ sound_end file) where
-  pub no_tag : place ≡ 0 → tag_of file ≡ Ok []
-  unfolding tag_of
-  no_tag none = rw (eq-eqb (pointer file) 0 (sym place_is ∙ none)) refl
-
-  module _ (some : place ≡ 0 → ⊥) where
-    pub tag_refused : (place < end) ⊎ ((end ≤ place) × (length file < place)) → tag_of file ≡ Err BadPointer
-    unfolding tag_of
-    tag_refused (inl before) =
-        rw (ne_eqb (pointer file) 0 (λ e. some (place_is ∙ e)), lt-ltb (pointer file) (sound_end file) (subst (λ n. n < sound_end file) place_is (subst (λ n. place < n) ends before))) refl
-    tag_refused (inr past) =
-        rw (ne_eqb (pointer file) 0 (λ e. some (place_is ∙ e)), le-ltb (pointer file) (sound_end file) (subst (λ n. sound_end file ≤ n) place_is (subst (λ n. n ≤ place) ends past.0)), lt-ltb (length file) (pointer file) (subst (λ n. length file < n) place_is past.1)) refl
-
-    pub tag_found : end ≤ place → place ≤ length file → tag_of file ≡ Ok (drop place file)
-    unfolding tag_of
-    tag_found behind within =
-        rw (ne_eqb (pointer file) 0 (λ e. some (place_is ∙ e)), le-ltb (pointer file) (sound_end file) (subst (λ n. sound_end file ≤ n) place_is (subst (λ n. n ≤ place) ends behind)), le-ltb (length file) (pointer file) (subst (λ n. n ≤ length file) place_is within)) (ap (λ n. Ok (drop n file)) (sym place_is))
-
-tag_again : (file : List ℕ) → Behind file → tag_of file ≡ Ok (tag_told file)
-unfolding tag_of
-tag_again file behind = elim (cases_eq (pointer file) 0) [
-  | inl none ↦ rw (eq-eqb (pointer file) 0 none) refl
-  | inr some ↦ elim behind [
+pub ends_again : (front : Front) (total : ℕ) → Ends front total → ends_of front total ≡ Ok tt
+unfolding ends_of
+ends_again front total h = elim (cases_eq front.tag_at 0) [
+  | inl none ↦ rw (le-ltb total (end_of front) h.enough, eq-eqb front.tag_at 0 none) refl
+  | inr some ↦ elim h.tag [
     | inl none ↦ absurd (some none)
-    | inr inside ↦ rw (ne_eqb (pointer file) 0 some, le-ltb (pointer file) (sound_end file) inside.0, le-ltb (length file) (pointer file) inside.1) refl
+    | inr inside ↦ rw (le-ltb total (end_of front) h.enough, ne_eqb front.tag_at 0 some, le-ltb front.tag_at (end_of front) inside.0, le-ltb total front.tag_at inside.1) refl
   ]
 ]
+
+-- what a front and ends without a fault say of a file
+pub record InFile (file : List ℕ) (front : Front) : Type 0 where
+  pub sound : IsSound front.sound
+  pub size : front.sound.size ≡ blocks_size front.sound.channels front.sound.count
+  pub whole : front.sound.start + front.sound.size ≤ length file
+  pub tag : front.tag_at ≤ length file
+
+pub in_file : (file : List ℕ) (front : Front) (u : Unit {0}) → Ok front ≡ front_of file → Ok u ≡ ends_of front (length file) → InFile file front
+in_file file front u reads ended =
+    let l = front_ok file front (sym reads) in
+    let ends = ends_ok front (length file) u (sym ended) in
+    record {
+      sound = is_sound file front.sound l.0;
+      size = subst (λ (f : Front). f.sound.size ≡ blocks_size f.sound.channels f.sound.count) (sym l.1) refl;
+      whole = ends.enough;
+      tag = elim ends.tag [ inl none ↦ omega (arith, none) | inr there ↦ there.1 ];
+    }
 
 -- ---- a whole file
 
@@ -227,27 +248,31 @@ same_reading r s order other e =
     let both = ok_is (s, other) (r, order) (sym e) in
     (ap (λ (x : Content × BitOrder). x.0) both, ap (λ (x : Content × BitOrder). x.1) both)
 
+-- what a file tells whose front leads to this
+abbrev pub told : List ℕ → Front → Content
+told file front = with_channels (described_by front (tag_from front.tag_at file)) (channels_by front (drop front.sound.start file))
+
 -- a file of these chunks and fields, whose sound and tag stand in it, holds what it tells
-pub is_file : (file : List ℕ) (order : BitOrder) → Heads file → Limits file order → needed file ≤ data_size file - 12 → sound_end file ≤ length file → Behind file → IsDsf file (told file order (tag_told file)) order
-is_file file order heads limits in_chunk in_file behind = record {
-  first = heads.first;
-  first_is = heads.first_is;
-  second = heads.second;
-  second_long = heads.second_long;
-  third = heads.third;
-  third_long = heads.third_long;
-  version_is = limits.version_is;
-  format_is = heads.format_is;
-  some_channel = limits.some_channel;
-  six_channels = limits.six_channels;
-  rate_low = limits.rate_low;
-  rate_high = limits.rate_high;
-  order_is = limits.order_is;
-  block_is = limits.block_is;
-  not_long = limits.not_long;
-  in_chunk = in_chunk;
-  in_file = in_file;
-  behind = behind;
+pub is_file : (file : List ℕ) (s : Sound) (l : Leads file s) → Ends (front_told file l.order) (length file) → IsDsf file (told file (front_told file l.order)) l.order
+is_file file s l ends = record {
+  first = l.heads.first;
+  first_is = l.heads.first_is;
+  second = l.heads.second;
+  second_long = l.heads.second_long;
+  third = l.heads.third;
+  third_long = l.heads.third_long;
+  version_is = l.limits.version_is;
+  format_is = l.heads.format_is;
+  some_channel = l.limits.some_channel;
+  six_channels = l.limits.six_channels;
+  rate_low = l.limits.rate_low;
+  rate_high = l.limits.rate_high;
+  order_is = l.limits.order_is;
+  block_is = l.limits.block_is;
+  not_long = l.limits.not_long;
+  in_chunk = l.fits;
+  in_file = ends.enough;
+  behind = ends.tag;
   rate_read = refl;
   channels_read = refl;
   ids_read = refl;
@@ -260,28 +285,32 @@ is_file file order heads limits in_chunk in_file behind = record {
 pub is_dsf : (file : List ℕ) (x : Content × BitOrder) → recording_of file ≡ Ok x → IsDsf file x.0 x.1
 unfolding recording_of
 is_dsf file x e =
-    bind_then (chunks_of file) _ x e (λ place e1 h1.
-    bind_then (order_of file) _ x h1 (λ order e2 h2.
-    bind_then (sound_of file) _ x h2 (λ end e3 h3.
-    bind_then (tag_of file) _ x h3 (λ tag e4 h4.
-    let sound = sound_ok file end e3 in
-    let tags = tag_ok file tag e4 in
-    let made : (told file order tag, order) ≡ x = sym (ok_is (told file order tag, order) x h4) in
-    let content : (told file order (tag_told file), order) ≡ x = ap (λ (t : List ℕ). (told file order t, order)) (sym tags.1) ∙ made in
+    bind_then (front_of file) _ x e (λ front e1 h1.
+    bind_then (ends_of front (length file)) _ x h1 (λ unit e2 h2.
+    let leads = front_ok file front e1 in
+    let made : (told file front, front.order) ≡ x = sym (ok_is (told file front, front.order) x h2) in
+    let again : (told file (front_told file leads.0.order), leads.0.order) ≡ x = ap (λ (f : Front). (told file f, f.order)) (sym leads.1) ∙ made in
     let P : Content × BitOrder → Type 0 = λ y. IsDsf file y.0 y.1 in
-    subst P content (is_file file order (chunks_ok file place e1).0 (order_ok file order e2) sound.0 sound.1 tags.0)))))
+    subst P again (is_file file front.sound leads.0 (subst (λ (f : Front). Ends f (length file)) leads.1 (ends_ok front (length file) unit e2)))))
 
--- the chunks and the fields of such a file
-pub heads_of : (file : List ℕ) (r : Content) (order : BitOrder) → IsDsf file r order → Heads file
-heads_of file r order h = record { first = h.first; first_is = h.first_is; second = h.second; second_long = h.second_long; third = h.third; third_long = h.third_long; format_is = h.format_is }
+-- the front of such a file leads to its sound
+abbrev pub leads_of : (file : List ℕ) (r : Content) (order : BitOrder) → IsDsf file r order → Leads file (sound_told file order)
+leads_of file r order h = record {
+  order = order;
+  heads = record { first = h.first; first_is = h.first_is; second = h.second; second_long = h.second_long; third = h.third; third_long = h.third_long; format_is = h.format_is };
+  limits = record { version_is = h.version_is; some_channel = h.some_channel; six_channels = h.six_channels; rate_low = h.rate_low; rate_high = h.rate_high; order_is = h.order_is; block_is = h.block_is; not_long = h.not_long };
+  fits = h.in_chunk;
+  holds = record { fields = omega (arith, h.second_long, h.in_file); head = omega (arith, h.in_file) };
+  told = refl;
+}
 
-pub limits_of : (file : List ℕ) (r : Content) (order : BitOrder) → IsDsf file r order → Limits file order
-limits_of file r order h = record { version_is = h.version_is; some_channel = h.some_channel; six_channels = h.six_channels; rate_low = h.rate_low; rate_high = h.rate_high; order_is = h.order_is; block_is = h.block_is; not_long = h.not_long }
+pub front_read : (file : List ℕ) (r : Content) (order : BitOrder) → IsDsf file r order → front_of file ≡ Ok (front_told file order)
+front_read file r order h = let l = leads_of file r order h in front_again file order l.heads l.limits l.holds l.fits
 
 pub dsf_is_read : (file : List ℕ) (r : Content) (order : BitOrder) → IsDsf file r order → recording_of file ≡ Ok (r, order)
 unfolding recording_of
 dsf_is_read file r order h =
-    let made : told file order (tag_told file) ≡ r = λ i. record {
+    let made : told file (front_told file order) ≡ r = λ i. record {
       rate = sym h.rate_read i;
       channels = sym h.channels_read i;
       ids = sym h.ids_read i;
@@ -290,4 +319,4 @@ dsf_is_read file r order h =
       others = sym h.no_others i;
       tag = sym h.tag_read i;
     } in
-    rw (chunks_again file (heads_of file r order h) (omega (arith, h.in_file)), order_again file order (limits_of file r order h), sound_again file r order h, tag_again file h.behind) (ap (λ (c : Content). done (c, order)) made)
+    rw (front_read file r order h, ends_again (front_told file order) (length file) (record { enough = h.in_file; tag = h.behind })) (ap (λ (c : Content). done (c, order)) made)

@@ -1,28 +1,35 @@
 -- Steps that may fail.
-use Rattle.std.proofs.Common.{◌≡◌, Result, Err, refl, ap}
-use Rattle.chunk_core.specs.Steps.{◌>>=◌}
+use Rattle.std.proofs.Common.{◌≡◌, Result, Ok, Err, refl}
 use Rattle.dsf_core.specs.declared.fault.DsfFault.{DsfFault}
 use Rattle.dsf_core.specs.declared.fault.DsfFault.TheVariants as faults
 use Rattle.dsf_core.specs.Steps.{Fails}
 
--- a fault of the first step is that of both
-pub step_fails : {A B : Type 0} (e : DsfFault) (r : Result A DsfFault) (f : A → Result B DsfFault) → Fails e r → Fails e (r >>= f)
-step_fails faults.Memory r f h = tt
-step_fails faults.NotDsf r f h = rw h refl
-step_fails faults.HeadCut r f h = rw h refl
-step_fails faults.BadFormat r f h = rw h refl
-step_fails faults.BadVersion r f h = rw h refl
-step_fails faults.BadChannelNumber r f h = rw h refl
-step_fails faults.BadRate r f h = rw h refl
-step_fails faults.BadBits r f h = rw h refl
-step_fails faults.BadBlock r f h = rw h refl
-step_fails faults.TooLong r f h = rw h refl
-step_fails faults.DataCut r f h = rw h refl
-step_fails faults.BadPointer r f h = rw h refl
+-- a reading fails by the fault that it has
+pub fails : {A : Type 0} (e : DsfFault) (r : Result A DsfFault) → r ≡ Err e → Fails e r
+fails faults.Memory r h = tt
+fails faults.NotDsf r h = h
+fails faults.HeadCut r h = h
+fails faults.BadFormat r h = h
+fails faults.BadVersion r h = h
+fails faults.BadChannelNumber r h = h
+fails faults.BadRate r h = h
+fails faults.BadBits r h = h
+fails faults.BadBlock r h = h
+fails faults.TooLong r h = h
+fails faults.DataCut r h = h
+fails faults.BadPointer r h = h
 
-abbrev failed : (A : Type 0) → DsfFault → Result A DsfFault
-failed A e = Err e
-
--- which fault it is does not hang on what would have been read
-pub other_fault : (A B : Type 0) (e f : DsfFault) → (failed A e ≡ failed A f → ⊥) → failed B e ≡ failed B f → ⊥
-other_fault A B e f h same = let is : e ≡ f = cc in h (ap (failed A) is)
+-- what does not fail fails by want of memory alone
+pub fails_for_memory : {A : Type 0} (e : DsfFault) (x : A) (r : Result A DsfFault) → r ≡ Ok x → Fails e r → e ≡ faults.Memory
+fails_for_memory faults.Memory x r is h = refl
+fails_for_memory faults.NotDsf x r is h = absurd cc
+fails_for_memory faults.HeadCut x r is h = absurd cc
+fails_for_memory faults.BadFormat x r is h = absurd cc
+fails_for_memory faults.BadVersion x r is h = absurd cc
+fails_for_memory faults.BadChannelNumber x r is h = absurd cc
+fails_for_memory faults.BadRate x r is h = absurd cc
+fails_for_memory faults.BadBits x r is h = absurd cc
+fails_for_memory faults.BadBlock x r is h = absurd cc
+fails_for_memory faults.TooLong x r is h = absurd cc
+fails_for_memory faults.DataCut x r is h = absurd cc
+fails_for_memory faults.BadPointer x r is h = absurd cc

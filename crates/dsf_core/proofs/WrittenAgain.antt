@@ -10,6 +10,7 @@ use Rattle.dsd_bits.specs.declared.blocks.BitOrder.{BitOrder}
 use Rattle.dsd_bits.specs.declared.blocks.BitOrder.TheVariants.{LeastFirst, MostFirst}
 use Rattle.dsd_bits.specs.Blocks.{BlocksReadAgain, block_byte, blocked, blocks_size, unblocked_all}
 use Rattle.dsd_bits.specs.Channels.{count_of}
+use Rattle.dsd_bits.specs.Contents.{described}
 use Rattle.dsd_bits.specs.Layouts.{layout_channels}
 use Rattle.dsf_core.specs.Fields.{pointer, data_size, channel_type, channel_number, rate, bits_per_sample, count, needed, sound_end, dsf_ids, tag_told}
 use Rattle.dsf_core.specs.Files.{bits_of}
@@ -81,20 +82,22 @@ tag_there file front tag end some e size p = elim (pointer_of tag end) [
 
 pub written_again : BlocksReadAgain → WrittenReadAgain
 written_again again r order h short =
-    let n = length r.channels in
+    let d = described r in
+    let n = length r.ids in
+    let same : n ≡ length r.channels = h.id_for_each in
     let c = count_of r.channels in
-    let g = sound_size r c in
+    let g = sound_size d in
     let sound = blocked order r.channels in
     let file = dsf_text r order in
-    let groups = mul-le (div_ceil c 32768) n (2 ^ 21) 6 (omega (arith, h.in_limit)) h.six_channels in
+    let groups = mul-le (div_ceil c 32768) n (2 ^ 21) 6 (omega (arith, h.in_limit)) (omega (arith, h.six_channels, same)) in
     let small : g ≤ 12582912 * 4096 = omega (arith, groups) in
-    let size : length sound ≡ g = length-map-range_with_len (block_byte order r.channels) 0 g in
-    let front_long : length (head_text r c order ++ sound) ≡ 92 + g = length-append (head_text r c order) sound ∙ ap (λ (m : ℕ). 92 + m) size in
-    let apart : file ≡ (head_text r c order ++ sound) ++ r.tag = sym (append_assoc (head_text r c order) sound r.tag) in
-    let long : length file ≡ 92 + g + length r.tag = ap length apart ∙ length-append (head_text r c order ++ sound) r.tag ∙ ap (λ (m : ℕ). m + length r.tag) front_long in
+    let size : length sound ≡ g = length-map-range_with_len (block_byte order r.channels) 0 (blocks_size (length r.channels) c) ∙ ap (λ (m : ℕ). blocks_size m c) (sym same) in
+    let front_long : length (head_text d order ++ sound) ≡ 92 + g = length-append (head_text d order) sound ∙ ap (λ (m : ℕ). 92 + m) size in
+    let apart : file ≡ (head_text d order ++ sound) ++ r.tag = sym (append_assoc (head_text d order) sound r.tag) in
+    let long : length file ≡ 92 + g + length r.tag = ap length apart ∙ length-append (head_text d order ++ sound) r.tag ∙ ap (λ (m : ℕ). m + length r.tag) front_long in
     let there = pointer_of r.tag (92 + g) in
-    let low : tag_place r c < 256 ^ 8 = elim there [ inl none ↦ omega (arith, none.1) | inr some ↦ omega (arith, some, small) ] in
-    let reads = head_reads (92 + g + length r.tag) (tag_place r c) r.layout n r.rate (bits_of order) c (12 + g) (sound ++ r.tag) low (omega (arith, layout_small r.layout n h.some_channel h.layout_fits)) (omega (arith, h.six_channels)) (omega (arith, h.rate_high)) (bits_small order) (omega (arith, h.in_limit)) (omega (arith, small)) in
+    let low : tag_place d < 256 ^ 8 = elim there [ inl none ↦ omega (arith, none.1) | inr some ↦ omega (arith, some, small) ] in
+    let reads = head_reads (92 + g + length r.tag) (tag_place d) r.layout n r.rate (bits_of order) c (12 + g) (sound ++ r.tag) low (omega (arith, layout_small r.layout (length r.channels) h.some_channel h.layout_fits)) (omega (arith, h.six_channels, same)) (omega (arith, h.rate_high)) (bits_small order) (omega (arith, h.in_limit)) (omega (arith, small)) in
     let needed_is : needed file ≡ g = ap (λ (m : ℕ). blocks_size m (count file)) reads.at_number ∙ ap (λ (m : ℕ). blocks_size n m) reads.at_count in
     let end_is : sound_end file ≡ 92 + g = ap (λ (m : ℕ). 92 + m) needed_is in
     record {
@@ -106,8 +109,8 @@ written_again again r order h short =
       third_long = omega (arith, reads.at_size);
       version_is = refl;
       format_is = refl;
-      some_channel = omega (arith, reads.at_number, h.some_channel);
-      six_channels = omega (arith, reads.at_number, h.six_channels);
+      some_channel = omega (arith, reads.at_number, h.some_channel, same);
+      six_channels = omega (arith, reads.at_number, h.six_channels, same);
       rate_low = omega (arith, reads.at_rate, h.rate_low);
       rate_high = omega (arith, reads.at_rate, h.rate_high);
       order_is = reads.at_bits;
@@ -120,10 +123,10 @@ written_again again r order h short =
         | inr some ↦ inr (omega (arith, end_is, reads.at_pointer, some), omega (arith, long, reads.at_pointer, some))
       ];
       rate_read = sym reads.at_rate;
-      channels_read = sym (ap (λ (m : ℕ). unblocked_all order (sound ++ r.tag) m (count file)) reads.at_number ∙ ap (λ (m : ℕ). unblocked_all order (sound ++ r.tag) n m) reads.at_count ∙ again order r.channels r.tag h.level h.some_channel);
-      ids_read = ap dsf_ids (sym reads.at_number);
-      layout_read = rw (reads.at_type, reads.at_number, eq-eqb (layout_channels r.layout) n h.layout_fits) refl;
+      channels_read = sym (ap (λ (m : ℕ). unblocked_all order (sound ++ r.tag) m (count file)) reads.at_number ∙ ap (λ (m : ℕ). unblocked_all order (sound ++ r.tag) n m) reads.at_count ∙ ap (λ (m : ℕ). unblocked_all order (sound ++ r.tag) m c) same ∙ again order r.channels r.tag h.level h.some_channel);
+      ids_read = ap dsf_ids (sym (reads.at_number ∙ same));
+      layout_read = rw (reads.at_type, reads.at_number, eq-eqb (layout_channels r.layout) n (h.layout_fits ∙ sym same)) refl;
       no_marks = refl;
       no_others = refl;
-      tag_read = tag_there file (head_text r c order ++ sound) r.tag (92 + g) (omega arith) apart front_long reads.at_pointer;
+      tag_read = tag_there file (head_text d order ++ sound) r.tag (92 + g) (omega arith) apart front_long reads.at_pointer;
     }

@@ -104,6 +104,10 @@ dsf_ids number =
     if nat_eq number 2 then codes "SLFT" ∷ codes "SRGT" ∷ []
     else map (λ c. codes "C00" ++ (48 + c) ∷ []) (range_with_len 0 number)
 
+-- the bytes from a place on, and none for 0
+abbrev pub tag_from : ℕ → List ℕ → List ℕ
+tag_from place file = if nat_eq place 0 then [] else drop place file
+
 -- the tag: the bytes from the pointer on
 abbrev pub tag_told : List ℕ → List ℕ
-tag_told file = if nat_eq (pointer file) 0 then [] else drop (pointer file) file
+tag_told file = tag_from (pointer file) file

@@ -1,21 +1,24 @@
 -- Where the sound of a file stands, as the front of the file tells, and which ends make a file of it.
-use Rattle.std.specs.Prelude.{◌≡◌, ◌≤◌, ℕ, ◌+◌, ◌-◌, ◌⊎◌, List, [], ◌++◌, length, drop, replicate, Option, None, Some, Result, Ok, Err, nat_eq, nat_lt, if◌then◌else◌}
+use Rattle.std.specs.Prelude.{◌≡◌, ◌≤◌, ℕ, ◌+◌, ◌-◌, ◌⊎◌, Bool, true, false, List, [], ◌++◌, length, drop, replicate, Option, None, Some, Result, Ok, Err, nat_eq, nat_lt, if◌then◌else◌}
 use Rattle.chunk_core.specs.Numbers.{id_at}
-use Rattle.chunk_core.specs.Steps.{◌>>=◌}
 use Rattle.dsd_bits.specs.declared.blocks.BitOrder.{BitOrder}
 use Rattle.dsd_bits.specs.declared.interleaving.Interleaving.TheVariants.{Blocks}
 use Rattle.dsd_bits.specs.declared.sound.Sound.{Sound}
 use Rattle.dsd_bits.specs.declared.sound.SoundAt.{SoundAt}
 use Rattle.dsd_bits.specs.declared.sound.SoundAt.TheVariants.{More, Refused, Found}
-use Rattle.dsd_bits.specs.Contents.{Content}
+use Rattle.dsd_bits.specs.Contents.{Content, Described, with_channels}
 use Rattle.dsd_bits.specs.Ids.{DSD}
 use Rattle.dsd_bits.specs.Sounds.{sound_bytes, sound_channels}
 use Rattle.dsd_bits.specs.Limits.{most_bits, least_rate, greatest_rate, block_bytes}
 use Rattle.dsf_core.specs.declared.fault.DsfFault.{DsfFault}
-use Rattle.dsf_core.specs.declared.fault.DsfFault.TheVariants.{HeadCut, DataCut}
+use Rattle.dsf_core.specs.declared.fault.DsfFault.TheVariants.{HeadCut, NotDsf}
 use Rattle.dsf_core.specs.Fields.{FMT, DATA, first_size, format_size, version, format, channel_number, rate, bits_per_sample, count, block_size, data_place, data_size, sound_place, needed, tag_told}
 use Rattle.dsf_core.specs.Files.{IsDsf, bits_of}
-use Rattle.dsf_core.specs.Reading.{chunks_of, order_of}
+use Rattle.dsf_core.specs.Reading.{front_of, recording_of, sound_told}
+use Rattle.dsf_core.specs.Steps.{Fails}
+use Rattle.dsf_core.specs.declared.front.Front.{Front}
+use Rattle.dsf_core.specs.declared.locating.Located.{Located}
+use Rattle.dsf_core.specs.declared.locating.Located.TheVariants as answers
 
 -- the file holds some recording
 abbrev pub IsAccepted : List ℕ → Type 0
@@ -25,17 +28,6 @@ IsAccepted file = (r : Content) × (order : BitOrder) × IsDsf file r order
 pub record HoldsHead (front : List ℕ) : Type 0 where
   pub fields : 80 ≤ length front
   pub head : sound_place front ≤ length front
-
--- the sound that the fields tell, the needed sound bytes, its bits in this order
-abbrev pub sound_told : List ℕ → BitOrder → Sound
-sound_told front order = record {
-  rate = rate front;
-  channels = channel_number front;
-  count = count front;
-  start = sound_place front;
-  size = needed front;
-  interleaving = Blocks order;
-}
 
 -- the front of a file tells of this sound: it holds the heads of three chunks and all fields of the second, in the limits
 pub record TellsSound (front : List ℕ) (s : Sound) : Type 0 where
@@ -64,22 +56,35 @@ pub record TellsSound (front : List ℕ) (s : Sound) : Type 0 where
 
 -- ---- the reading of a front in order
 
--- the sound that the front of a file leads to, or the first fault
-unfoldable pub sound_in : List ℕ → Result Sound DsfFault
-sound_in front = do
-  data_at ← chunks_of front
-  order ← order_of front
-  if nat_lt (data_size front - 12) (needed front) then Err DataCut else Ok (sound_told front order)
+-- the fault says that a head is cut
+abbrev pub is_cut : DsfFault → Bool
+is_cut HeadCut = true
+is_cut _ = false
 
 -- a sound is found; where a head is cut more bytes are wanted
-abbrev pub answer_of : Result Sound DsfFault → SoundAt
-answer_of (Ok s) = Found s
-answer_of (Err HeadCut) = More
-answer_of (Err e) = Refused
+abbrev pub answer_of : Result Front DsfFault → Located
+answer_of (Ok front) = answers.Found front.sound
+answer_of (Err e) = if is_cut e then answers.More e else answers.Refused e
+
+-- what the first bytes of a file tell of its sound
+unfoldable pub located : List ℕ → Located
+located front = if nat_lt (length front) 4 then answers.More NotDsf else answer_of (front_of front)
+
+-- the same without the faults
+abbrev pub without_fault : Located → SoundAt
+without_fault (answers.Found s) = Found s
+without_fault (answers.More e) = More
+without_fault (answers.Refused e) = Refused
 
 -- what the front of a file tells of its sound
 unfoldable pub sound_at : List ℕ → SoundAt
-sound_at front = if nat_lt (length front) 4 then More else answer_of (sound_in front)
+sound_at front = without_fault (located front)
+
+-- every file that begins so is read to this: it has this sound, or this fault; more bytes are wanted where the head is cut, and a file that ends here has this fault
+abbrev pub IsLocated : List ℕ → Located → Type 0
+IsLocated front (answers.Found s) = sound_at front ≡ Found s
+IsLocated front (answers.More e) = (HoldsHead front → ⊥) × (recording_of front ≡ Err e)
+IsLocated front (answers.Refused e) = (rest : List ℕ) → recording_of (front ++ rest) ≡ Err e
 
 -- the front of a file tells of its sound, and ends where that starts
 abbrev pub EndsAtSound : List ℕ → Type 0
@@ -91,6 +96,18 @@ EndsAtSound front = (s : Sound) × (sound_at front ≡ Found s) × (s.start ≡ 
 pub record IsTagPlace (front : List ℕ) (place : ℕ) : Type 0 where
   pub tag : (rest : List ℕ) → tag_told (front ++ rest) ≡ (if nat_eq place 0 then [] else drop place (front ++ rest))
   pub behind : (rest : List ℕ) → IsAccepted (front ++ rest) → (place ≡ 0) ⊎ ((length front + needed front ≤ place) × (place ≤ length (front ++ rest)))
+
+-- what every file of so many bytes is read to that begins with this front and has this tag: its description, with the channels of its sound, or its first fault, whatever the tag. Want of memory says nothing
+abbrev pub Describes : List ℕ → ℕ → List ℕ → Result Described DsfFault → Type 0
+Describes front total tag (Ok d) = (rest : List ℕ) (s : Sound) (order : BitOrder) → length (front ++ rest) ≡ total → tag ≡ tag_told (front ++ rest) → sound_at front ≡ Found s → s.interleaving ≡ Blocks order
+    → recording_of (front ++ rest) ≡ Ok (with_channels d (sound_channels s.interleaving s.channels s.count (sound_bytes (front ++ rest) s)), order)
+Describes front total tag (Err e) = (rest : List ℕ) → length (front ++ rest) ≡ total → Fails e (recording_of (front ++ rest))
+
+-- the description is of recordings with this sound
+pub record DescribesSound (s : Sound) (d : Described) : Type 0 where
+  pub rate : d.rate ≡ s.rate
+  pub number : length d.ids ≡ s.channels
+  pub count : d.count ≡ s.count
 
 -- what a file of so many bytes that begins with this front, and has this tag, tells beside its bits: with the channels of the sound behind the front in the place of those of no bits it is the recording
 pub record IsOutline (front : List ℕ) (total : ℕ) (tag : List ℕ) (outline : Content) : Type 0 where

@@ -1,16 +1,19 @@
 -- Reading a file in a fixed order, to a recording or the first fault.
-use Rattle.std.specs.Prelude.{ℕ, ◌+◌, ◌-◌, ◌&&◌, not, List, [], length, drop, Result, Ok, Err, nat_eq, nat_lt, if◌then◌else◌}
+use Rattle.std.specs.Prelude.{ℕ, ◌+◌, ◌&&◌, not, Bool, List, [], length, drop, Result, Ok, Err, nat_eq, nat_lt, if◌then◌else◌}
 use Rattle.chunk_core.specs.Numbers.{id_at}
 use Rattle.chunk_core.specs.Steps.{◌>>=◌}
 use Rattle.dsd_bits.specs.declared.blocks.BitOrder.{BitOrder}
 use Rattle.dsd_bits.specs.declared.blocks.BitOrder.TheVariants.{LeastFirst, MostFirst}
 use Rattle.dsd_bits.specs.Blocks.{unblocked_all}
-use Rattle.dsd_bits.specs.Contents.{Content}
+use Rattle.dsd_bits.specs.declared.interleaving.Interleaving.TheVariants.{Blocks}
+use Rattle.dsd_bits.specs.declared.sound.Sound.{Sound}
+use Rattle.dsd_bits.specs.Contents.{Content, Described, with_channels}
 use Rattle.dsd_bits.specs.Ids.{same_id, DSD}
 use Rattle.dsd_bits.specs.Limits.{most_bits, least_rate, greatest_rate, block_bytes}
 use Rattle.dsf_core.specs.declared.fault.DsfFault.{DsfFault}
 use Rattle.dsf_core.specs.declared.fault.DsfFault.TheVariants.{NotDsf, HeadCut, BadFormat, BadVersion, BadChannelNumber, BadRate, BadBits, BadBlock, TooLong, DataCut, BadPointer}
-use Rattle.dsf_core.specs.Fields.{FMT, DATA, first_size, pointer, format_size, version, format, channel_type, channel_number, rate, bits_per_sample, count, block_size, data_place, data_size, sound_place, needed, sound_end, layout_told, dsf_ids}
+use Rattle.dsf_core.specs.declared.front.Front.{Front}
+use Rattle.dsf_core.specs.Fields.{FMT, DATA, first_size, pointer, format_size, version, format, channel_type, channel_number, rate, bits_per_sample, count, block_size, data_place, data_size, sound_place, needed, layout_told, dsf_ids, tag_from}
 
 -- where the data chunk stands, behind the other two
 unfoldable pub chunks_of : List ℕ → Result ℕ DsfFault
@@ -41,41 +44,63 @@ order_told version number rate bits block count =
     else Ok (if nat_eq bits 1 then LeastFirst else MostFirst)
 
 -- the order of the bits, where the fields lie in their limits
-unfoldable pub order_of : List ℕ → Result BitOrder DsfFault
+abbrev pub order_of : List ℕ → Result BitOrder DsfFault
 order_of file = order_told (version file) (channel_number file) (rate file) (bits_per_sample file) (block_size file) (count file)
 
--- where the needed sound bytes end
-unfoldable pub sound_of : List ℕ → Result ℕ DsfFault
-sound_of file =
-    if nat_lt (data_size file - 12) (needed file) then Err DataCut
-    else if nat_lt (length file) (sound_end file) then Err DataCut
-    else Ok (sound_end file)
-
--- the bytes from the pointer on
-unfoldable pub tag_of : List ℕ → Result (List ℕ) DsfFault
-tag_of file =
-    if nat_eq (pointer file) 0 then Ok []
-    else if nat_lt (pointer file) (sound_end file) then Err BadPointer
-    else if nat_lt (length file) (pointer file) then Err BadPointer
-    else Ok (drop (pointer file) file)
-
--- what the fields tell, with a tag
-abbrev pub told : List ℕ → BitOrder → List ℕ → Content
-told file order tag = record {
+-- the sound that the fields tell, the needed sound bytes, its bits in this order
+abbrev pub sound_told : List ℕ → BitOrder → Sound
+sound_told file order = record {
   rate = rate file;
-  channels = unblocked_all order (drop (sound_place file) file) (channel_number file) (count file);
-  ids = dsf_ids (channel_number file);
-  layout = layout_told (channel_type file) (channel_number file);
+  channels = channel_number file;
+  count = count file;
+  start = sound_place file;
+  size = needed file;
+  interleaving = Blocks order;
+}
+
+-- what the fields tell of a file with its bits in this order
+abbrev pub front_told : List ℕ → BitOrder → Front
+front_told file order = record { sound = sound_told file order; order = order; kind = channel_type file; tag_at = pointer file }
+
+-- what the front of a file tells, if it leads to a sound, whose needed bytes stand in the data chunk
+unfoldable pub front_of : List ℕ → Result Front DsfFault
+front_of file = do
+  data_at ← chunks_of file
+  order ← order_of file
+  if nat_lt (data_size file) (needed file + 12) then Err DataCut else Ok (front_told file order)
+
+-- where the sound ends
+abbrev pub end_of : Front → ℕ
+end_of front = front.sound.start + front.sound.size
+
+-- whether the sound ends in a file of so many bytes, and the tag stands behind it in the file
+unfoldable pub ends_of : Front → ℕ → Result (Unit {0}) DsfFault
+ends_of front total =
+    if nat_lt total (end_of front) then Err DataCut
+    else if nat_eq front.tag_at 0 then Ok tt
+    else if nat_lt front.tag_at (end_of front) then Err BadPointer
+    else if nat_lt total front.tag_at then Err BadPointer
+    else Ok tt
+
+-- the description of a file with this front and this tag
+abbrev pub described_by : Front → List ℕ → Described
+described_by front tag = record {
+  rate = front.sound.rate;
+  count = front.sound.count;
+  ids = dsf_ids front.sound.channels;
+  layout = layout_told front.kind front.sound.channels;
   marks = [];
   others = [];
   tag = tag;
 }
 
+-- the channels in the bytes from the sound on
+abbrev pub channels_by : Front → List ℕ → List (List Bool)
+channels_by front bytes = unblocked_all front.order bytes front.sound.channels front.sound.count
+
 -- the recording in a file and the order of its bits, or the first fault
 unfoldable pub recording_of : List ℕ → Result (Content × BitOrder) DsfFault
 recording_of file = do
-  data_at ← chunks_of file
-  order ← order_of file
-  stop ← sound_of file
-  tag ← tag_of file
-  Ok (told file order tag, order)
+  front ← front_of file
+  ends ← ends_of front (length file)
+  Ok (with_channels (described_by front (tag_from front.tag_at file)) (channels_by front (drop front.sound.start file)), front.order)

@@ -3,20 +3,19 @@ use Rattle.std.specs.Prelude.{ℕ, ◌+◌, List, ◌++◌, length, nat_eq, if�
 use Rattle.byteorder.specs.Endian.{little_bytes}
 use Rattle.dsd_bits.specs.declared.blocks.BitOrder.{BitOrder}
 use Rattle.dsd_bits.specs.Blocks.{blocked, blocks_size}
-use Rattle.dsd_bits.specs.Channels.{count_of}
-use Rattle.dsd_bits.specs.Contents.{Content}
+use Rattle.dsd_bits.specs.Contents.{Content, Described, described}
 use Rattle.dsd_bits.specs.Ids.{DSD}
 use Rattle.dsd_bits.specs.Limits.{block_bytes}
 use Rattle.dsf_core.specs.Fields.{FMT, DATA}
 use Rattle.dsf_core.specs.Files.{bits_of}
 
--- how many sound bytes there are for so many bits a channel
-abbrev pub sound_size : Content → ℕ → ℕ
-sound_size r count = blocks_size (length r.channels) count
+-- how many sound bytes there are
+abbrev pub sound_size : Described → ℕ
+sound_size d = blocks_size (length d.ids) d.count
 
 -- where the tag stands: behind the sound, and 0 for none
-abbrev pub tag_place : Content → ℕ → ℕ
-tag_place r count = if nat_eq (length r.tag) 0 then 0 else 92 + sound_size r count
+abbrev pub tag_place : Described → ℕ
+tag_place d = if nat_eq (length d.tag) 0 then 0 else 92 + sound_size d
 
 -- the first chunk: its size, the file's, and where the tag stands
 abbrev pub first_text : ℕ → ℕ → List ℕ
@@ -33,12 +32,12 @@ format_text layout number rate bits count =
 abbrev pub data_text : ℕ → List ℕ
 data_text size = DATA ++ little_bytes 8 size
 
--- the 92 bytes before the sound of so many bits a channel
-abbrev pub head_text : Content → ℕ → BitOrder → List ℕ
-head_text r count order =
-    first_text (92 + sound_size r count + length r.tag) (tag_place r count)
-    ++ (format_text r.layout (length r.channels) r.rate (bits_of order) count ++ data_text (12 + sound_size r count))
+-- the 92 bytes before the sound
+abbrev pub head_text : Described → BitOrder → List ℕ
+head_text d order =
+    first_text (92 + sound_size d + length d.tag) (tag_place d)
+    ++ (format_text d.layout (length d.ids) d.rate (bits_of order) d.count ++ data_text (12 + sound_size d))
 
 -- the whole file: the head, the sound and the tag
 abbrev pub dsf_text : Content → BitOrder → List ℕ
-dsf_text r order = head_text r (count_of r.channels) order ++ (blocked order r.channels ++ r.tag)
+dsf_text r order = head_text (described r) order ++ (blocked order r.channels ++ r.tag)

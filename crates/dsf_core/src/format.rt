@@ -1,41 +1,20 @@
 //! The fields of the format chunk: their limits and what they mean.
 
-ghost use Rattle.std.specs.Prelude.{◌≡◌, ◌≢◌, ◌≤◌, length, IfOk};
-ghost use Rattle.dsd_bits.specs.Limits.{IsRate, most_bits};
-ghost use Rattle.dsf_core.specs.Fields.{channel_number, count, dsf_ids, layout_told, rate};
-ghost use Rattle.dsf_core.specs.Reading.{order_of, order_told};
-ghost use Rattle.dsf_core.specs.Steps.{Gives};
+ghost use Rattle.std.specs.Prelude.{◌≡◌, ◌≤◌, IfOk};
+ghost use Rattle.dsd_bits.specs.Limits.{most_bits};
+ghost use Rattle.dsf_core.specs.Fields.{dsf_ids, layout_told};
+ghost use Rattle.dsf_core.specs.Reading.{order_told};
 
 use crate::fault::DsfFault;
-use crate::fields::{VERSION, bits_per_sample, block_size, channel_number, count, rate, version};
+use crate::fields::VERSION;
 use dsd_bits::{
     BLOCK_BYTES, BitOrder, GREATEST_RATE, LEAST_RATE, MOST_BITS, layout_channels, usual_layout,
 };
 use std::alloc::{AllocError, Global};
 
-/// The order of the bits in a byte, where the fields lie in their limits.
-#[tactic(auto, unfolding(crate::specs::Reading::order_of))]
-pub(crate) fn read_order(file: &[u8]) -> Result<BitOrder, DsfFault>
-    requires { 80 ≤ length file.now }
-    ensures exact { Gives (λ x. x) result (order_of file.now) }
-    ensures channels { IfOk result (λ _. (1 ≤ channel_number file.now) × (channel_number file.now ≤ 6)) }
-    ensures rate { IfOk result (λ _. IsRate (rate file.now)) }
-    ensures short { IfOk result (λ _. count file.now ≤ most_bits) }
-    ensures no_memory { result ≢ Err DsfFault.Memory }
-{
-    order_told(
-        version(file),
-        channel_number(file),
-        rate(file),
-        bits_per_sample(file),
-        block_size(file),
-        count(file),
-    )
-}
-
-// The order of the bits in a byte, where these numbers lie in their limits.
+/// The order of the bits in a byte, where these numbers lie in their limits.
 #[tactic(auto, unfolding(crate::specs::Reading::order_told))]
-fn order_told(
+pub(crate) fn order_told(
     version: u32,
     number: u32,
     rate: u32,
@@ -43,11 +22,9 @@ fn order_told(
     block: u32,
     count: u64,
 ) -> Result<BitOrder, DsfFault>
-    ensures exact { Gives (λ x. x) result (order_told version number rate bits block count) }
-    ensures channels { IfOk result (λ _. (1 ≤ number) × (number ≤ 6)) }
-    ensures rate { IfOk result (λ _. IsRate rate) }
+    ensures exact { result ≡ order_told version number rate bits block count }
+    ensures channels { IfOk result (λ _. number ≤ 6) }
     ensures short { IfOk result (λ _. count ≤ most_bits) }
-    ensures no_memory { result ≢ Err DsfFault.Memory }
 {
     if version != VERSION {
         return Err(DsfFault::BadVersion);
@@ -85,7 +62,7 @@ pub(crate) fn layout(kind: u32, number: u32) -> u32
 }
 
 /// The IDs of so many channels: `SLFT` and `SRGT` for two, else `C000`, `C001` and so on.
-pub(crate) fn channel_ids(alloc: Global, number: u32) -> Result<Vec<[u8; 4]>, AllocError>
+pub(crate) fn channel_ids(alloc: Global, number: usize) -> Result<Vec<[u8; 4]>, AllocError>
     requires { number ≤ 6 }
     ensures { IfOk result (λ ids. ids.items ≡ dsf_ids number) }
 {

@@ -1,108 +1,83 @@
-//! Where the sound of a file stands, as its front tells, and at which length such a file ends.
+//! The front of a file, which leads to its sound, and the ends of what it tells of.
 
-ghost use Rattle.std.specs.Prelude.{◌≡◌, ◌≢◌, ◌≤◌, ◌+◌, ◌-◌, ◌++◌, ◌↔◌, List, ℕ, length, replicate, true};
-ghost use Rattle.dsd_bits.specs.declared.blocks.BitOrder.{BitOrder};
-ghost use Rattle.dsd_bits.specs.Contents.{Content};
-ghost use Rattle.dsd_bits.specs.Limits.{most_bits};
-ghost use Rattle.dsd_bits.specs.Sounds.{HasSound, IfFound, IfMore, IfRefused, IsSound, has_blocks};
-ghost use Rattle.dsf_core.specs.Files.{IsDsf};
-ghost use Rattle.dsf_core.specs.Fields.{channel_number, count, data_place};
-ghost use Rattle.dsf_core.specs.Fronts.{EndsAtSound, HoldsHead, IsAccepted, sound_at, sound_in, sound_told};
-ghost use Rattle.dsf_core.specs.Steps.{Gives};
+ghost use Rattle.std.specs.Prelude.{◌≡◌};
+ghost use Rattle.dsf_core.specs.Reading.{ends_of, front_of};
 
 use crate::chunks::find_data;
 use crate::fault::DsfFault;
-use crate::fields::{HEAD_SIZE, channel_number, count, pointer, rate};
-use crate::format::read_order;
-use crate::sound::{data_bytes, needed_bytes};
-use dsd_bits::{BitOrder, Interleaving, Sound, SoundAt};
+use crate::fields::{
+    BITS_AT, BLOCK_AT, CHANNEL_NUMBER_AT, CHANNEL_TYPE_AT, COUNT_AT, HEAD_SIZE, POINTER_AT,
+    RATE_AT, VERSION_AT, long_at, short_at,
+};
+use crate::format::order_told;
+use dsd_bits::{BitOrder, Interleaving, Sound, blocks_size};
 
-/// Where the sound of a DSF 1.01 file stands, and what it is, told by the front of the file alone:
-/// - `More`: the front does not hold the whole head of the data chunk.
-/// - `Refused`: no file that begins so is accepted by [`crate::read`].
-/// - `Found`: every file that begins so and is accepted has this sound: its rate, its channels, its count
-///   and the order of its bits, and the blocks that the channels need stand at `start`, `size` bytes.
-///
-/// It takes no memory.
-pub fn sound_at(front: &[u8]) -> SoundAt
-    ensures found { IfFound result (λ s. (rest : List ℕ) (r : Content) (order : BitOrder)
-        → IsDsf (front.now ++ rest) r order
-        → HasSound (front.now ++ rest) r s × (s.interleaving ≡ Interleaving.Blocks order)) }
-    ensures limits { IfFound result IsSound }
-    ensures within { IfFound result (λ s. s.start ≤ length front.now) }
-    ensures interleaving { IfFound result (λ s. has_blocks s.interleaving ≡ true) }
-    ensures refused { IfRefused result ((rest : List ℕ) → IsAccepted (front.now ++ rest) → ⊥) }
-    ensures more { IfMore result (HoldsHead front.now → ⊥) }
-    // By the order of refusals.
-    ensures exact { result ≡ sound_at front.now }
-{
-    answer(front)
+/// What the front of a file tells of it.
+#[derive(Clone, Copy)]
+pub(crate) struct Front {
+    /// Its sound: the blocks that its channels need.
+    pub sound: Sound,
+    /// The order of the bits in its bytes.
+    pub order: BitOrder,
+    /// The channel type.
+    pub kind: u32,
+    /// Where its tag stands, and 0 for none.
+    pub tag_at: u64,
 }
 
-// The same, by the order of refusals alone.
-#[tactic(auto, unfolding(crate::specs::Fronts::sound_at))]
-fn answer(front: &[u8]) -> SoundAt
-    ensures { result ≡ sound_at front.now }
+/// What the front of a file tells, or the first fault of a file that is no longer.
+#[tactic(auto, unfolding(crate::specs::Reading::front_of))]
+pub(crate) fn read_front(file: &[u8]) -> Result<Front, DsfFault>
+    ensures { result ≡ front_of file.now }
 {
-    if front.len() < 4 {
-        return SoundAt::More;
-    }
-    match find_sound(front) {
-        Ok(sound) => SoundAt::Found(sound),
-        Err(DsfFault::HeadCut) => SoundAt::More,
-        Err(_) => SoundAt::Refused,
-    }
-}
-
-// The sound that the front of a file leads to.
-#[tactic(auto, unfolding(crate::specs::Fronts::sound_in))]
-fn find_sound(front: &[u8]) -> Result<Sound, DsfFault>
-    ensures exact { Gives (λ s. s) result (sound_in front.now) }
-    ensures no_memory { result ≢ Err DsfFault.Memory }
-{
-    let data_at = find_data(front)?;
-    let order = read_order(front)?;
-    if data_bytes(front, data_at) < needed_bytes(front) {
+    let data_at = find_data(file)?;
+    let rate = short_at(file, RATE_AT);
+    let channels = short_at(file, CHANNEL_NUMBER_AT);
+    let count = long_at(file, COUNT_AT);
+    let order = order_told(
+        short_at(file, VERSION_AT),
+        channels,
+        rate,
+        short_at(file, BITS_AT),
+        short_at(file, BLOCK_AT),
+        count,
+    )?;
+    let size = blocks_size(channels as usize, count as usize);
+    if long_at(file, data_at + 4) < size as u64 + HEAD_SIZE as u64 {
         return Err(DsfFault::DataCut);
     }
-    Ok(sound_told(front, data_at, order))
-}
-
-// The sound that the fields tell, its bits in this order.
-fn sound_told(front: &[u8], data_at: usize, order: BitOrder) -> Sound
-    requires long { 80 ≤ length front.now }
-    requires place { data_at ≡ data_place front.now }
-    requires inside { data_at + 12 ≤ length front.now }
-    requires channels { channel_number front.now ≤ 6 }
-    requires short { count front.now ≤ most_bits }
-    ensures { result ≡ sound_told front.now order }
-{
-    Sound {
-        rate: rate(front),
-        channels: channel_number(front) as usize,
-        count: count(front) as usize,
+    let sound = Sound {
+        rate,
+        channels: channels as usize,
+        count: count as usize,
         start: data_at + HEAD_SIZE,
-        size: needed_bytes(front) as usize,
+        size,
         interleaving: Interleaving::Blocks(order),
-    }
+    };
+    Ok(Front {
+        sound,
+        order,
+        kind: short_at(file, CHANNEL_TYPE_AT),
+        tag_at: long_at(file, POINTER_AT),
+    })
 }
 
-/// Whether a file of `total` bytes is accepted that begins with `front`, which ends where the sound starts:
-/// whether the file that goes on with zeros is. The needed blocks end in the file, and the pointer to
-/// the tag is 0 or leads behind them into the file. Which bytes stand behind `front` does not matter
-/// ([`crate::bytes_of_sound_do_not_matter`]).
-///
-/// It takes no memory.
-pub fn closes(front: &[u8], total: u64) -> bool
-    requires at_sound { EndsAtSound front.now }
-    requires not_cut { length front.now ≤ total }
-    ensures { (result ≡ true) ↔ IsAccepted (front.now ++ replicate (total - length front.now) 0) }
+/// The first fault of a file of so many bytes behind its front: its sound ends in it, and its tag stands behind the
+/// sound in it.
+#[tactic(auto, unfolding(crate::specs::Reading::ends_of))]
+pub(crate) fn check_ends(front: &Front, total: u64) -> Result<(), DsfFault>
+    ensures { result ≡ ends_of front.now total }
 {
-    let start = front.len() as u64;
-    let size = needed_bytes(front);
-    if total - start < size {
-        return false;
+    let start = front.sound.start as u64;
+    let size = front.sound.size as u64;
+    if total < start || total - start < size {
+        return Err(DsfFault::DataCut);
     }
-    let pointer = pointer(front);
-    pointer == 0 || start + size <= pointer && pointer <= total
+    if front.tag_at == 0 {
+        return Ok(());
+    }
+    if front.tag_at < start + size || total < front.tag_at {
+        return Err(DsfFault::BadPointer);
+    }
+    Ok(())
 }

@@ -14,9 +14,10 @@
 //!
 //! [`write`] gives the bytes of the file that holds a recording, all of them or none, in either order.
 //!
-//! A file can be read with its sound bytes passed by: [`sound_at`] finds the sound from the front of the file,
-//! [`tag_at`] where the tag stands, and [`outline`] gives from both the recording without its bits, which
-//! [`head`] takes to what stands before the sound bytes of the file that is written.
+//! [`read`] is three steps, which can be taken without holding the sound: [`locate`] finds the sound from the first bytes
+//! of a file, [`describe`] gives the recording without its bits from these, the file's length and its tag, which is at
+//! [`tag_at`], and the sound bytes between hold the channels. Each fault is the one that [`read`] gives. [`head`] takes a
+//! description to what stands before the sound bytes of the file that is written.
 //!
 //! The words of its contracts:
 //! - `IsDsf file r order` (`specs/Files.antt`): the file holds the recording `r` in this order. It names
@@ -25,9 +26,9 @@
 //!   first fault.
 //! - `Gives` (`specs/Steps.antt`): what a function gives of a reading when memory may run out.
 //! - `dsf_text r order` (`specs/Writing.antt`): the bytes of the file of a recording.
-//! - `head_text r count order`: those before the sound, of so many bits a channel.
-//! - `TellsOutline front total tag` (`specs/Fronts.antt`): the outline of the files that begin so, or that none of
-//!   them is accepted. `IsTagPlace front place`: where their tag stands.
+//! - `head_text d order`: those before the sound, of a description.
+//! - `IsLocated front answer`, `Describes front total tag answer` (`specs/Fronts.antt`): what every file that begins so,
+//!   or that has this length and tag too, is read to. `IsTagPlace front place`: where their tag stands.
 //! - `as_told r` (`specs/ReadAgain.antt`): the recording without what a file does not tell: with the IDs of
 //!   a file that was read, and with no marks and kept chunks.
 //!
@@ -46,24 +47,26 @@
 #![tactic(auto)]
 
 mod chunks;
+mod describing;
 mod fault;
 mod fields;
 mod format;
 mod front;
 mod laws;
+mod locating;
 mod outlines;
 mod reading;
-mod sound;
 mod writing;
 mod writing_laws;
 
+pub use describing::{closes, describe, tag_at};
 pub use fault::DsfFault;
-pub use front::{closes, sound_at};
 pub use laws::{
     accepted_files_have_a_head, accepted_files_tell_their_sound, bytes_of_sound_do_not_matter,
     front_ends_at_sound, one_recording, what_is_told_is_found,
 };
-pub use outlines::{outline, tag_at};
+pub use locating::{Located, locate, sound_at};
+pub use outlines::outline;
 pub use reading::read;
-pub use writing::{head, write};
+pub use writing::{head, head_counted, write};
 pub use writing_laws::written_is_read_again;

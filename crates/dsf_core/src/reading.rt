@@ -1,19 +1,21 @@
 //! A whole file.
 
-ghost use Rattle.std.specs.Prelude.{◌≡◌, List, ℕ, IfOk, Ok};
+ghost use Rattle.std.specs.Prelude.{◌≡◌, ◌≤◌, ◌+◌, List, ℕ, IfOk, Ok, length};
 ghost use Rattle.dsd_bits.specs.declared.blocks.BitOrder.{BitOrder};
+ghost use Rattle.dsd_bits.specs.Blocks.{blocks_size};
+ghost use Rattle.dsd_bits.specs.Channels.{IsLevel, count_of};
 ghost use Rattle.dsd_bits.specs.Contents.{Content};
+ghost use Rattle.dsd_bits.specs.Sounds.{IsSound};
+ghost use Rattle.dsf_core.specs.Fields.{tag_from};
 ghost use Rattle.dsf_core.specs.Files.{IsDsf};
-ghost use Rattle.dsf_core.specs.Reading.{recording_of};
+ghost use Rattle.dsf_core.specs.Reading.{channels_by, recording_of};
 ghost use Rattle.dsf_core.specs.Steps.{Gives};
 
-use crate::chunks::find_data;
+use crate::describing::description_of;
 use crate::fault::DsfFault;
-use crate::fields::{HEAD_SIZE, channel_number, channel_type, count, rate};
-use crate::format::{channel_ids, layout, read_order};
-use crate::sound::{channels_of, find_sound_end, find_tag};
-use dsd_bits::{BitOrder, Recording};
-use std::alloc::Global;
+use crate::front::{Front, check_ends, read_front};
+use dsd_bits::{BitOrder, Bits, LaceFault, Recording, unlace_blocks};
+use std::alloc::{AllocError, Global};
 
 /// The recording that a DSF 1.01 file holds, and the order of the bits in its bytes: its rate in hertz,
 /// a list of bits for each channel, and the tag, which is all that stands from the pointer to the
@@ -50,24 +52,39 @@ pub fn read(alloc: Global, file: &[u8]) -> Result<(Recording, BitOrder), DsfFaul
 fn read_in_order(alloc: Global, file: &[u8]) -> Result<(Recording, BitOrder), DsfFault>
     ensures { Gives (λ x. x) result (recording_of file.now) }
 {
-    let data_at = find_data(file)?;
-    let order = read_order(file)?;
-    let end = find_sound_end(file, data_at)?;
-    let tag = find_tag(file, end)?;
-    let number = channel_number(file);
-    let count = count(file) as usize;
-    let (_, sound) = file.split_at(data_at + HEAD_SIZE);
-    let channels = channels_of(alloc, sound, number as usize, count, order)?;
-    let ids = channel_ids(alloc, number)?;
-    let tag = Vec::from_slice(alloc, tag)?;
-    let recording = Recording::new(
-        rate(file),
-        channels,
-        ids,
-        layout(channel_type(file), number),
-        Vec::new(alloc),
-        Vec::new(alloc),
-        tag,
-    );
-    Ok((recording, order))
+    let front = read_front(file)?;
+    check_ends(&front, file.len() as u64)?;
+    let tag = Vec::from_slice(alloc, tag_in(file, front.tag_at))?;
+    let description = description_of(alloc, &front, tag)?;
+    let (_, sound) = file.split_at(front.sound.start);
+    let channels = channels_in(alloc, &front, sound)?;
+    Ok((Recording::of(description, channels), front.order))
+}
+
+// The bytes from a place on, and none for 0.
+fn tag_in(file: &[u8], place: u64) -> &[u8]
+    requires { place ≤ length file.now }
+    ensures { result.now ≡ tag_from place file.now }
+{
+    if place == 0 {
+        let (_, none) = file.split_at(file.len());
+        return none;
+    }
+    let (_, tag) = file.split_at(place as usize);
+    tag
+}
+
+// The channels in the bytes from the sound on, in which it stands whole.
+fn channels_in(alloc: Global, front: &Front, bytes: &[u8]) -> Result<Vec<Bits>, AllocError>
+    requires in_limits { IsSound front.now.sound }
+    requires enough { blocks_size front.now.sound.channels front.now.sound.count ≤ length bytes.now }
+    ensures bits { IfOk result (λ made. made.items ≡ channels_by front.now bytes.now) }
+    ensures shape { IfOk result (λ made. IsLevel made.items × (count_of made.items ≡ front.now.sound.count)) }
+{
+    let sound = front.sound;
+    match unlace_blocks(alloc, bytes, sound.channels, sound.count, front.order) {
+        Ok(channels) => Ok(channels),
+        Err(LaceFault::Memory) => Err(AllocError),
+        Err(LaceFault::PartFrame | LaceFault::TooFewBytes) => unreachable!(),
+    }
 }

@@ -9,7 +9,7 @@ ghost use Rattle.dsf_core.specs.Writing.{data_text, dsf_text, first_text, format
 use crate::fields::{FIRST_SIZE, FORMAT_SIZE, HEAD_SIZE, RAW_DSD, VERSION};
 use crate::writing_laws::written_is_read_again;
 use chunk_core::{Order, push_u32, push_u64};
-use dsd_bits::{BLOCK_BYTES, BitOrder, Recording, blocks_size, push_blocks};
+use dsd_bits::{BLOCK_BYTES, BitOrder, Description, Recording, blocks_size, push_blocks};
 use std::alloc::{AllocError, Global};
 
 // How many bytes stand before the sound: two chunks, and the head of the third.
@@ -30,49 +30,59 @@ pub fn write(alloc: Global, recording: &Recording, order: BitOrder) -> Result<Ve
     // What is read from it is the recording, but for what a file does not tell.
     ensures read_again { IfOk result (λ file. IsDsf file.items (as_told recording.now) order) }
 {
+    let description = recording.description();
     let channels = recording.channels();
-    let tag = recording.tag();
-    let count = recording.count();
-    let size = blocks_size(channels.len(), count);
+    let tag = description.tag();
+    let size = blocks_size(channels.len(), recording.count());
     let mut out = Vec::with_capacity(alloc, FRONT_SIZE + size + tag.len())?;
-    push_head(&mut out, recording, count, order)?;
+    push_head(&mut out, description, recording.count(), order)?;
     push_blocks(&mut out, channels, order)?;
     out.extend_from_slice(tag)?;
     written_is_read_again();
     Ok(out)
 }
 
-/// The 92 bytes before the sound of the DSF 1.01 file that holds the recording with `count` bits, at most
-/// `2^36`, in each channel. The bits of its channels are not looked at, only their number: so the head of a
-/// file is written from its outline, before its sound is read. [`write`] begins with it, and goes on with the
-/// sound bytes and the tag.
+/// The 92 bytes before the sound of the DSF 1.01 file that holds a recording of this description: so the head of a
+/// file is written before its sound is read. [`write`] begins with it, and goes on with the sound bytes and the tag.
 pub fn head(
     alloc: Global,
-    recording: &Recording,
+    description: &Description,
+    order: BitOrder,
+) -> Result<Vec<u8>, AllocError>
+    ensures text { IfOk result (λ head. head.items ≡ head_text description.now order) }
+{
+    head_counted(alloc, description, description.count(), order)
+}
+
+/// The same for another number of bits in each channel, at most `2^36`.
+pub fn head_counted(
+    alloc: Global,
+    description: &Description,
     count: usize,
     order: BitOrder,
 ) -> Result<Vec<u8>, AllocError>
     requires in_limit { count ≤ most_bits }
-    ensures text { IfOk result (λ head. head.items ≡ head_text recording.now count order) }
+    ensures text { IfOk result (λ head. head.items ≡ head_text (record description.now { count = count }) order) }
 {
     let mut out = Vec::with_capacity(alloc, FRONT_SIZE)?;
-    push_head(&mut out, recording, count, order)?;
+    push_head(&mut out, description, count, order)?;
     Ok(out)
 }
 
 // Appends the bytes before the sound of so many bits a channel.
 fn push_head(
     out: &mut Vec<u8>,
-    recording: &Recording,
+    description: &Description,
     count: usize,
     order: BitOrder,
 ) -> Result<(), AllocError>
     requires in_limit { count ≤ most_bits }
-    ensures { OnOk result (out.new.items ≡ out.old.items ++ head_text recording.now count order) }
+    ensures { OnOk result (out.new.items
+        ≡ out.old.items ++ head_text (record description.now { count = count }) order) }
 {
-    let number = recording.channels().len();
+    let number = description.ids().len();
     let size = blocks_size(number, count) as u64;
-    let tag_size = recording.tag().len() as u64;
+    let tag_size = description.tag().len() as u64;
     push_first(
         out,
         FRONT_SIZE as u64 + size + tag_size,
@@ -80,9 +90,9 @@ fn push_head(
     )?;
     push_format(
         out,
-        recording.layout(),
+        description.layout(),
         number as u32,
-        recording.rate(),
+        description.rate(),
         bits_per_sample(order),
         count as u64,
     )?;

@@ -3,6 +3,7 @@ use Rattle.std.proofs.Common.{◌≡◌, ℕ, Bool, true, false, cond, ◌≤◌
 use Rattle.std.proofs.lemmas.Bool.{le-ltb}
 use Rattle.dsd_bits.specs.declared.blocks.BitOrder.{BitOrder}
 use Rattle.dsd_bits.specs.declared.blocks.BitOrder.TheVariants.{LeastFirst, MostFirst}
+use Rattle.dsd_bits.specs.declared.interleaving.Interleaving.TheVariants.{Blocks}
 use Rattle.dsd_bits.specs.Contents.{Content}
 use Rattle.dsdiff_core.specs.declared.fault.DsdiffFault.{DsdiffFault}
 use Rattle.dsdiff_core.specs.declared.fault.DsdiffFault.TheVariants as dsdiffs
@@ -19,7 +20,7 @@ use Rattle.form_core.specs.declared.form.Form.TheVariants as forms
 use Rattle.form_core.specs.declared.opening.Opened.{Opened}
 use Rattle.form_core.specs.declared.fault.ReadFault.{ReadFault}
 use Rattle.form_core.specs.Faults.{dsdiff_fault}
-use Rattle.form_core.specs.Forms.{HoldsAs, form_of}
+use Rattle.form_core.specs.Forms.{HoldsAs, form_in}
 use Rattle.form_core.specs.Opening.{IsOpened, Opens, from_dsdiff, from_dsf, is_other, opened_of}
 
 -- ---- a DSF file is no DSDIFF file
@@ -30,11 +31,11 @@ no_dsdiff file r order h =
     rw (le-ltb (length file) 16 long, h.first) refl
 
 -- ---- what a file holds is what reading comes to
-pub holds_dsf : (file : List ℕ) (r : Content) (order : BitOrder) → IsDsf file r order → HoldsAs file (form_of order) r
+pub holds_dsf : (file : List ℕ) (r : Content) (order : BitOrder) → IsDsf file r order → HoldsAs file (form_in (Blocks order)) r
 holds_dsf file r LeastFirst h = h
 holds_dsf file r MostFirst h = h
 
-opened_dsf : (file : List ℕ) (r : Content) (order : BitOrder) → IsDsf file r order → opened_of file ≡ Ok (record { form = form_of order; recording = r })
+opened_dsf : (file : List ℕ) (r : Content) (order : BitOrder) → IsDsf file r order → opened_of file ≡ Ok (record { form = form_in (Blocks order); recording = r })
 unfolding opened_of
 opened_dsf file r order h = rw (no_dsdiff file r order h, dsf_is_read file r order h) refl
 
@@ -49,7 +50,7 @@ unfolding opened_of
 opened_is_held file x e = by_dsdiff (dsdiff.recording_of file) (λ r h. is_dsdiff file r (parts_ok file r h)) e
   where
     by_dsf : (reading : Result (Content × BitOrder) DsfFault) → ((y : Content × BitOrder) → reading ≡ Ok y → IsDsf file y.0 y.1) → from_dsf reading ≡ Ok x → IsOpened file x
-    by_dsf (Ok y) is e = let same : record { form = form_of y.1; recording = y.0 } ≡ x = cc in rw (← same) (holds_dsf file y.0 y.1 (is y refl))
+    by_dsf (Ok y) is e = let same : record { form = form_in (Blocks y.1); recording = y.0 } ≡ x = cc in rw (← same) (holds_dsf file y.0 y.1 (is y refl))
     by_dsf (Err f) is e = absurd cc
 
     by_other : (other : Bool) (fault : ReadFault) → cond other (from_dsf (dsf.recording_of file)) (Err fault) ≡ Ok x → IsOpened file x

@@ -5,7 +5,7 @@ use Rattle.dsd_bits.specs.declared.blocks.BitOrder.{BitOrder}
 use Rattle.dsd_bits.specs.declared.blocks.BitOrder.TheVariants.{LeastFirst, MostFirst}
 use Rattle.dsd_bits.specs.Blocks.{blocked}
 use Rattle.dsd_bits.specs.Channels.{count_of}
-use Rattle.dsd_bits.specs.Contents.{Content}
+use Rattle.dsd_bits.specs.Contents.{Content, described}
 use Rattle.dsd_bits.specs.Lacing.{laced, laced_byte}
 use Rattle.dsdiff_core.specs.ReadAgain as dsdiff
 use Rattle.dsf_core.specs.Writing.{dsf_text, head_text}
@@ -14,8 +14,8 @@ use Rattle.form_core.specs.Parts.{WrittenInParts}
 
 module _ (r : Content) (channels : List (List Bool)) (number : length r.channels ≡ length channels) where
   -- the file of blocks
-  blocks : (order : BitOrder) → dsf_text (record r { channels = channels }) order ≡ head_text r (count_of channels) order ++ (blocked order channels ++ r.tag)
-  blocks order = rw number refl
+  blocks : (order : BitOrder) → dsf_text (record r { channels = channels }) order ≡ head_text (record (described r) { count = count_of channels }) order ++ (blocked order channels ++ r.tag)
+  blocks order = refl
 
 pub in_parts : dsdiff.WrittenInParts → WrittenInParts
 in_parts frames forms.Dsdiff r channels number fits =

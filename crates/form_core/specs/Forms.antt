@@ -1,7 +1,8 @@
 -- The forms that a recording is kept in.
 use Rattle.std.specs.Prelude.{ℕ, List, Option, Some, ◌+◌, length, nat_eq, if◌then◌else◌}
-use Rattle.dsd_bits.specs.declared.blocks.BitOrder.{BitOrder}
 use Rattle.dsd_bits.specs.declared.blocks.BitOrder.TheVariants.{LeastFirst, MostFirst}
+use Rattle.dsd_bits.specs.declared.interleaving.Interleaving.{Interleaving}
+use Rattle.dsd_bits.specs.declared.interleaving.Interleaving.TheVariants.{Bytes, Blocks}
 use Rattle.dsd_bits.specs.Contents.{Content}
 use Rattle.dsdiff_core.specs.Files.{IsDsdiff}
 use Rattle.dsdiff_core.specs.Writing.{dsdiff_text}
@@ -21,10 +22,11 @@ pub record HoldsSome (file : List ℕ) (recording : Content) : Type 0 where
   pub form : Form
   pub holds : HoldsAs file form recording
 
--- the form of a DSF file whose bits stand in this order
-abbrev pub form_of : BitOrder → Form
-form_of LeastFirst = Dsf
-form_of MostFirst = Dsf8
+-- the form of a file whose sound is interleaved so
+abbrev pub form_in : Interleaving → Form
+form_in Bytes = Dsdiff
+form_in (Blocks LeastFirst) = Dsf
+form_in (Blocks MostFirst) = Dsf8
 
 -- the file of this form that is written for a recording; DSDIFF has none for part of a byte
 abbrev pub text_in : Form → Content → Option (List ℕ)

@@ -1,5 +1,7 @@
 pub mod Faults
+pub mod FormNames
 pub mod Forms
+pub mod Infos
 pub mod Laws
 pub mod Opening
 pub mod Parts

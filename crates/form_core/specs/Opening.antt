@@ -1,6 +1,7 @@
 -- The recording that a file holds, whatever its form.
 use Rattle.std.specs.Prelude.{◌≡◌, ℕ, Bool, true, false, List, Result, Ok, Err, if◌then◌else◌, ⊤}
 use Rattle.dsd_bits.specs.declared.blocks.BitOrder.{BitOrder}
+use Rattle.dsd_bits.specs.declared.interleaving.Interleaving.TheVariants.{Blocks}
 use Rattle.dsd_bits.specs.Contents.{Content}
 use Rattle.dsdiff_core.specs.declared.fault.DsdiffFault.{DsdiffFault}
 use Rattle.dsdiff_core.specs.declared.fault.DsdiffFault.TheVariants.{NotDsdiff}
@@ -12,11 +13,11 @@ use Rattle.form_core.specs.declared.fault.ReadFault.TheVariants.{UnknownForm, Ds
 use Rattle.form_core.specs.declared.form.Form.TheVariants as forms
 use Rattle.form_core.specs.declared.opening.Opened.{Opened}
 use Rattle.form_core.specs.Faults.{dsdiff_fault, dsf_fault}
-use Rattle.form_core.specs.Forms.{HoldsAs, form_of}
+use Rattle.form_core.specs.Forms.{HoldsAs, form_in}
 
 -- a reading of DSF as a reading of any form
 abbrev pub from_dsf : Result (Content × BitOrder) DsfFault → Result Opened ReadFault
-from_dsf (Ok x) = Ok (record { form = form_of x.1; recording = x.0 })
+from_dsf (Ok x) = Ok (record { form = form_in (Blocks x.1); recording = x.0 })
 from_dsf (Err fault) = Err (dsf_fault fault)
 
 -- a refusal says that the file is no DSDIFF file at all

@@ -4,7 +4,7 @@ use Rattle.dsd_bits.specs.declared.blocks.BitOrder.TheVariants.{LeastFirst, Most
 use Rattle.dsd_bits.specs.declared.interleaving.Interleaving.{Interleaving}
 use Rattle.dsd_bits.specs.declared.interleaving.Interleaving.TheVariants.{Bytes, Blocks}
 use Rattle.dsd_bits.specs.Channels.{count_of}
-use Rattle.dsd_bits.specs.Contents.{Content}
+use Rattle.dsd_bits.specs.Contents.{Content, described}
 use Rattle.dsdiff_core.specs.Writing as dsdiff
 use Rattle.dsf_core.specs.Writing as dsf
 use Rattle.relace_core.specs.Relacing.{laced_in}
@@ -25,8 +25,8 @@ FitsIn form count = interleaving_in form ≡ Bytes → count % 8 ≡ 0
 -- the bytes before the sound of a file that is written for a recording with so many bits in each channel
 abbrev pub head_in : Form → Content → ℕ → List ℕ
 head_in Dsdiff r count = dsdiff.head_text r (count / 8 * length r.channels)
-head_in Dsf r count = dsf.head_text r count LeastFirst
-head_in Dsf8 r count = dsf.head_text r count MostFirst
+head_in Dsf r count = dsf.head_text (record (described r) { count = count }) LeastFirst
+head_in Dsf8 r count = dsf.head_text (record (described r) { count = count }) MostFirst
 
 -- the bytes behind it
 abbrev pub tail_in : Form → Content → ℕ → List ℕ

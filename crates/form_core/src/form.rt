@@ -1,4 +1,10 @@
-//! The forms that a recording is kept in.
+//! The forms that a recording is kept in, and how the sound of each is interleaved.
+
+ghost use Rattle.std.specs.Prelude.{◌≡◌};
+ghost use Rattle.form_core.specs.Forms as forms;
+ghost use Rattle.form_core.specs.Parts as parts;
+
+use dsd_bits::{BitOrder, Interleaving};
 
 /// A form of file that holds a one-bit recording.
 #[derive(Clone, Copy, PartialEq, Eq)]
@@ -9,4 +15,26 @@ pub enum Form {
     Dsf,
     /// DSF 1.01 with eight bits per sample: the earliest bit of a byte is the most significant.
     Dsf8,
+}
+
+/// How the sound of a file of the form is interleaved.
+pub fn interleaving_in(form: Form) -> Interleaving
+    ensures { result ≡ parts.interleaving_in form }
+{
+    match form {
+        Form::Dsdiff => Interleaving::Bytes,
+        Form::Dsf => Interleaving::Blocks(BitOrder::LeastFirst),
+        Form::Dsf8 => Interleaving::Blocks(BitOrder::MostFirst),
+    }
+}
+
+/// The form of a file whose sound is interleaved so.
+pub fn form_in(interleaving: Interleaving) -> Form
+    ensures { result ≡ forms.form_in interleaving }
+{
+    match interleaving {
+        Interleaving::Bytes => Form::Dsdiff,
+        Interleaving::Blocks(BitOrder::LeastFirst) => Form::Dsf,
+        Interleaving::Blocks(BitOrder::MostFirst) => Form::Dsf8,
+    }
 }

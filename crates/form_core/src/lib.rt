@@ -2,7 +2,11 @@
 //!
 //! [`read_any`] reads a DSDIFF 1.5 or DSF 1.01 file, and [`write_in`] makes the file of a [`Form`] that holds
 //! a recording; [`dropped_in`] counts what such a file has no place for. [`ends_in`] makes what stands around the sound
-//! of that file from a recording without its bits, and [`interleaving_in`] says how the sound between is interleaved.
+//! of that file from a recording without its bits, and [`interleaving_in`] says how the sound between is interleaved;
+//! [`form_in`] goes back from that to the form.
+//!
+//! [`name_of`] and [`form_named`] go from a form to its name and back, the same in what is asked for and in what is
+//! printed. [`info_lines`] gives the lines that tell of a file, by its form and the description of its recording.
 //!
 //! The words of its contracts:
 //!
@@ -14,6 +18,8 @@
 //!   reading it comes to is the law on [`held_is_opened`].
 //! - `head_in form r count` and `tail_in form r count` are what stands before and behind the sound of so many bits a
 //!   channel (`specs/Parts.antt`). That `text_in` is both around the sound bytes is the law on [`written_in_parts`].
+//! - `info_text form d` are the lines that are told of a form and a description (`specs/Infos.antt`); `name_of` and
+//!   `form_named` are in `specs/FormNames.antt`.
 //! - `HoldsSound form r bytes` says that the bytes are a file of the form with the recording's sound
 //!   (`specs/Writing.antt`). That what is written for any recording does is the law on [`written_is_read`].
 //!
@@ -30,6 +36,8 @@
 
 mod fault;
 mod form;
+mod form_names;
+mod info;
 mod laws;
 mod opening;
 mod parts;
@@ -38,9 +46,11 @@ mod writing;
 
 pub use dsdiff_core::{WriteFault, fields_fit};
 pub use fault::ReadFault;
-pub use form::Form;
+pub use form::{Form, form_in, interleaving_in};
+pub use form_names::{form_named, name_of};
+pub use info::info_lines;
 pub use laws::{held_is_opened, written_in_parts, written_is_read};
 pub use opening::{Opened, read_any};
-pub use parts::{Ends, ends_in, interleaving_in};
+pub use parts::{Ends, ends_in};
 pub use shape::has_shape;
 pub use writing::{dropped_in, write_in};

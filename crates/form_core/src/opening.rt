@@ -4,14 +4,13 @@ ghost use Rattle.std.specs.Prelude.{◌≡◌, IfOk, Ok};
 ghost use Rattle.dsd_bits.specs.Contents.{Content};
 ghost use Rattle.dsf_core.specs.Reading.{recording_of};
 ghost use Rattle.form_core.specs.declared.form.Form.{Form};
-ghost use Rattle.form_core.specs.Forms as forms;
 ghost use Rattle.form_core.specs.Forms.{HoldsAs};
 ghost use Rattle.form_core.specs.Opening as openings;
 ghost use Rattle.form_core.specs.Opening.{IsOpened, Opens, from_dsf, opened_of};
 
 use crate::fault::ReadFault;
-use crate::form::Form;
-use dsd_bits::{BitOrder, Recording};
+use crate::form::{Form, form_in};
+use dsd_bits::{Interleaving, Recording};
 use dsdiff_core::DsdiffFault;
 use std::alloc::Global;
 
@@ -76,17 +75,7 @@ fn read_dsf(alloc: Global, file: &[u8]) -> Result<Opened, ReadFault>
 {
     let (recording, order) = dsf_core::read(alloc, file)?;
     Ok(Opened {
-        form: form_of(order),
+        form: form_in(Interleaving::Blocks(order)),
         recording,
     })
-}
-
-// The form of a DSF file whose bits stand in this order.
-fn form_of(order: BitOrder) -> Form
-    ensures { result ≡ forms.form_of order }
-{
-    match order {
-        BitOrder::LeastFirst => Form::Dsf,
-        BitOrder::MostFirst => Form::Dsf8,
-    }
 }

@@ -1,15 +1,15 @@
 //! What stands around the sound in a file of a form.
 
 ghost use Rattle.std.specs.Prelude.{◌≡◌, ◌↔◌, ◌≤◌, ◌*◌, ◌/◌, ◌%◌, Err, IfOk};
+ghost use Rattle.dsd_bits.specs.Contents.{described};
 ghost use Rattle.dsd_bits.specs.Limits.{most_bits};
 ghost use Rattle.dsdiff_core.specs.Writing as dsdiff;
 ghost use Rattle.dsf_core.specs.Writing as dsf;
-ghost use Rattle.form_core.specs.Parts as parts;
 ghost use Rattle.form_core.specs.Parts.{FitsIn, head_in, tail_in};
 
 use crate::form::Form;
 use crate::shape::has_shape;
-use dsd_bits::{BitOrder, Interleaving, Recording};
+use dsd_bits::{BitOrder, Recording};
 use dsdiff_core::WriteFault;
 use std::alloc::{AllocError, Global};
 
@@ -20,17 +20,6 @@ pub struct Ends {
     pub head: Vec<u8>,
     /// The bytes behind it.
     pub tail: Vec<u8>,
-}
-
-/// How the sound of a file of the form is interleaved.
-pub fn interleaving_in(form: Form) -> Interleaving
-    ensures { result ≡ parts.interleaving_in form }
-{
-    match form {
-        Form::Dsdiff => Interleaving::Bytes,
-        Form::Dsf => Interleaving::Blocks(BitOrder::LeastFirst),
-        Form::Dsf8 => Interleaving::Blocks(BitOrder::MostFirst),
-    }
 }
 
 /// What stands around the sound in the file of the form that holds the recording with `count` bits, at most `2^36`,
@@ -85,10 +74,11 @@ fn around_blocks(
     count: usize,
 ) -> Result<Ends, AllocError>
     requires in_limit { count ≤ most_bits }
-    ensures head { IfOk result (λ ends. ends.head.items ≡ dsf.head_text recording.now count order) }
+    ensures head { IfOk result (λ ends. ends.head.items
+        ≡ dsf.head_text (record (described recording.now) { count = count }) order) }
     ensures tail { IfOk result (λ ends. ends.tail.items ≡ recording.now.tag) }
 {
-    let head = dsf_core::head(alloc, recording, count, order)?;
+    let head = dsf_core::head_counted(alloc, recording.description(), count, order)?;
     let tail = Vec::from_slice(alloc, recording.tag())?;
     Ok(Ends { head, tail })
 }

@@ -1,22 +1,91 @@
-//! What the header of a DSF 1.01 file states about its sound, and at which length such a file ends.
+//! What the first bytes of a DSF 1.01 file tell of its sound, the faults that they show, and at which length such a file
+//! ends.
 
 use dsd_bits::{BitOrder, Interleaving, Sound, SoundAt};
-use dsf_core::{closes, sound_at};
+use dsf_core::{DsfFault, Located, closes, locate, sound_at};
 use fixtures::files::DSF_FRONT;
+
+const ONE_BIT: Sound = Sound {
+    rate: 2_822_400,
+    channels: 1,
+    count: 1,
+    start: 92,
+    size: 4096,
+    interleaving: Interleaving::Blocks(BitOrder::LeastFirst),
+};
 
 #[test]
 fn finds_the_sound(rt: HostRuntime) {
-    let sound = Sound {
-        rate: 2_822_400,
-        channels: 1,
-        count: 1,
-        start: 92,
-        size: 4096,
-        interleaving: Interleaving::Blocks(BitOrder::LeastFirst),
-    };
     assert!(rt; sound_at(&DSF_FRONT[..91]) == SoundAt::More);
-    assert!(rt; sound_at(&DSF_FRONT[..92]) == SoundAt::Found(sound));
+    assert!(rt; sound_at(&DSF_FRONT[..92]) == SoundAt::Found(ONE_BIT));
     assert!(rt; sound_at(b"RIFF") == SoundAt::Refused);
+    assert!(rt; locate(&DSF_FRONT[..92]) == Located::Found(ONE_BIT));
+}
+
+#[test]
+fn names_the_fault_of_a_file_that_ends(rt: HostRuntime) {
+    assert!(rt; locate(b"") == Located::More(DsfFault::NotDsf));
+    assert!(rt; locate(b"DSD") == Located::More(DsfFault::NotDsf));
+    assert!(rt; locate(b"RIFF") == Located::Refused(DsfFault::NotDsf));
+    assert!(rt; locate(&DSF_FRONT[..4]) == Located::More(DsfFault::HeadCut));
+    assert!(rt; locate(&DSF_FRONT[..79]) == Located::More(DsfFault::HeadCut));
+    assert!(rt; locate(&DSF_FRONT[..91]) == Located::More(DsfFault::HeadCut));
+}
+
+// Fields that are written over, by their place and their lowest byte, and the fault that is named: the first of two.
+const FAULTS: &[(usize, u8, DsfFault)] = &[
+    (0, b'd', DsfFault::NotDsf),
+    (4, 29, DsfFault::BadFormat),
+    (28, b'F', DsfFault::BadFormat),
+    (32, 51, DsfFault::BadFormat),
+    (80, b'D', DsfFault::BadFormat),
+    (44, 1, DsfFault::BadFormat),
+    (40, 2, DsfFault::BadVersion),
+    (52, 0, DsfFault::BadChannelNumber),
+    (52, 7, DsfFault::BadChannelNumber),
+    (58, 0x0f, DsfFault::BadRate),
+    (59, 3, DsfFault::BadRate),
+    (60, 2, DsfFault::BadBits),
+    (73, 0x20, DsfFault::BadBlock),
+    (68, 0x10, DsfFault::TooLong),
+    (84, 0x0b, DsfFault::DataCut),
+];
+
+// `DSF_FRONT` with another byte at a place.
+fn changed(place: usize, byte: u8) -> [u8; 93] {
+    let mut front = DSF_FRONT;
+    if let Some(field) = front.get_mut(place) {
+        *field = byte;
+    }
+    front
+}
+
+#[test]
+fn names_the_faults_of_fields(rt: HostRuntime) {
+    for (place, byte, fault) in FAULTS {
+        assert!(rt;
+            locate(&changed(*place, *byte)) == Located::Refused(*fault),
+            "{} at {}",
+            byte,
+            place
+        );
+    }
+}
+
+// A size of 52 + 256: the head of the data chunk stands further on.
+#[test]
+fn wants_a_longer_format_chunk(rt: HostRuntime) {
+    assert!(rt; locate(&changed(33, 1)) == Located::More(DsfFault::HeadCut));
+}
+
+#[test]
+fn names_the_first_fault(rt: HostRuntime) {
+    let mut front = changed(52, 7);
+    assert!(rt; locate(&front) == Located::Refused(DsfFault::BadChannelNumber));
+    front[40] = 2;
+    assert!(rt; locate(&front) == Located::Refused(DsfFault::BadVersion), "version and channels");
+    front[4] = 29;
+    assert!(rt; locate(&front) == Located::Refused(DsfFault::BadFormat), "a size too");
 }
 
 // Whether a file of `total` bytes with this header is accepted. None if the header doesn't lead up to a sound.

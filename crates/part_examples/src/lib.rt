@@ -36,9 +36,9 @@ mod dsdiff_refusals;
 #[cfg(test)]
 mod dsdiff_writing;
 #[cfg(test)]
-mod dsf_fronts;
+mod dsf_describing;
 #[cfg(test)]
-mod dsf_outlines;
+mod dsf_fronts;
 #[cfg(test)]
 mod dsf_reading;
 #[cfg(test)]

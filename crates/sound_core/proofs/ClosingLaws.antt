@@ -24,7 +24,8 @@ use Rattle.dsdiff_core.proofs.LeadLaws.{number_front}
 use Rattle.dsdiff_core.proofs.OtherSound.{other_sound}
 use Rattle.dsf_core.specs.Fronts as dsf
 use Rattle.dsf_core.proofs.FrontLaws as blocks
-use Rattle.dsf_core.proofs.FrontLaws.{found_leads, other_bytes}
+use Rattle.dsf_core.proofs.DescribingLaws.{other_bytes}
+use Rattle.dsf_core.proofs.FrontLaws.{found_leads}
 use Rattle.sound_core.specs.Closing.{Closes, EndsAt}
 use Rattle.sound_core.specs.Files.{HoldsRecording, IsAccepted, LeadsTo, TellsSound}
 use Rattle.sound_core.specs.Reads.{Reads}

@@ -104,18 +104,18 @@ dsf_once : (front rest : List ℕ) (s t : Sound) → dsf.sound_at front ≡ Foun
 dsf_once front rest s t e f =
     let file = front ++ rest in
     let l = blocks.found_leads front s e in
-    let same = blocks.same_fields front rest l.holds in
+    let size = blocks.size_is front rest l.holds in
     let place_s = (dsf_start front s e).0 in
-    let start : t.start ≡ s.start = omega (arith, (dsf_start file t f).0, place_s, same.second_is) in
+    let start : t.start ≡ s.start = omega (arith, (dsf_start file t f).0, place_s, size) in
     let short : take t.start file ≡ take s.start front = ap (λ n. take n file) start ∙ take-append-le s.start front rest (omega (arith, place_s, l.holds.head)) in
     same_sound t s (sym (blocks.ends_front file t f) ∙ ap dsf.sound_at short ∙ blocks.ends_front front s e)
 
 dsf_head : (front more : List ℕ) (s : Sound) → dsf.sound_at front ≡ Found s → dsf.HoldsHead (front ++ more)
 dsf_head front more s e =
     let l = blocks.found_leads front s e in
-    let same = blocks.same_fields front more l.holds in
+    let size = blocks.size_is front more l.holds in
     let long = length-append front more in
-    record { fields = omega (arith, l.holds.fields, long); head = omega (arith, l.holds.head, long, same.second_is) }
+    record { fields = omega (arith, l.holds.fields, long); head = omega (arith, l.holds.head, long, size) }
 
 dsf_later : (front rest : List ℕ) (t : Sound) → (dsf.HoldsHead front → ⊥) → dsf.sound_at (front ++ rest) ≡ Found t → length front ≤ t.start
 dsf_later front rest t none f = elim (cases_lt t.start (length front)) [

@@ -4,7 +4,7 @@ use Rattle.std.proofs.lemmas.Bool.Decides.{nat_tests}
 use Rattle.dsd_bits.specs.Channels.{count_of}
 use Rattle.dsd_bits.specs.Contents.{Content}
 use Rattle.device_core.specs.Outlets.{AppendsFront}
-use Rattle.form_core.specs.Forms.{HoldsAs, dropped_in, text_in}
+use Rattle.form_core.specs.Forms.{HoldsAs, dropped_in, form_in, text_in}
 use Rattle.form_core.specs.Laws.{HeldIsOpened}
 use Rattle.form_core.specs.Parts.{FitsIn, WrittenInParts}
 use Rattle.form_core.specs.Steps.{Fails}
@@ -22,7 +22,7 @@ use Rattle.transfer_commands.specs.declared.fault.CommandFault.{CommandFault}
 use Rattle.transfer_commands.specs.declared.fault.CommandFault.TheVariants as faults
 use Rattle.transfer_commands.specs.Converting.{ConvertComesTo, ConvertsFile, ConvertsFront, KeepsOld}
 use Rattle.transfer_commands.specs.Faults.{of_file}
-use Rattle.transfer_commands.specs.Outlining.{IsOutlined, IsUnread, OutlinesRead, form_in}
+use Rattle.transfer_commands.specs.Outlining.{IsOutlined, IsUnread, OutlinesRead}
 use Rattle.sound_core.proofs.HeldLaws.{channels_count}
 use Rattle.transfer_commands.proofs.ReadLaws.{last_of, untold}
 use Rattle.transfer_commands.proofs.TellLaws.{holds_as, told_number}

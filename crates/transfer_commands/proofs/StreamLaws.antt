@@ -13,7 +13,7 @@ use Rattle.sound_core.specs.Outlines.{AreTold, around_of}
 use Rattle.sound_core.specs.declared.keeping.Kept.{Kept}
 use Rattle.folder_core.specs.Files.{IsGiven, IsReadOf, View}
 use Rattle.transfer_commands.specs.Hearing.{HearsFile, HearsHeld, IsHeardIn, IsHeardInSome, StreamsFile, StreamsRead}
-use Rattle.transfer_commands.specs.Outlining.{form_in}
+use Rattle.form_core.specs.Forms.{form_in}
 use Rattle.transfer_commands.specs.declared.fault.CommandFault.{CommandFault}
 use Rattle.sound_core.proofs.HeldLaws.{held, held_count, held_shape, held_silent}
 use Rattle.transfer_commands.proofs.ReadLaws.{known_or_some}

@@ -4,15 +4,15 @@ use Rattle.std.proofs.lemmas.List.{length-replicate}
 use Rattle.dsd_bits.specs.declared.blocks.BitOrder.TheVariants.{LeastFirst, MostFirst}
 use Rattle.dsd_bits.specs.declared.interleaving.Interleaving.{Interleaving}
 use Rattle.dsd_bits.specs.declared.interleaving.Interleaving.TheVariants.{Bytes, Blocks}
-use Rattle.dsd_bits.specs.Contents.{Content}
+use Rattle.dsd_bits.specs.Contents.{Content, described}
 use Rattle.dsd_bits.specs.Sounds.{sound_channels}
-use Rattle.form_core.specs.Forms.{HoldsAs}
+use Rattle.form_core.specs.Forms.{HoldsAs, form_in}
 use Rattle.sound_core.specs.Outlines.{HoldsIn, around_of, with_sound}
 use Rattle.sound_core.specs.declared.outline.Outline.{Outline}
 use Rattle.sound_core.proofs.HeldLaws.{channels_count, channels_number}
 use Rattle.folder_core.specs.Files.{IsReadOf, View}
-use Rattle.info_core.specs.declared.told.Told.{Told}
-use Rattle.transfer_commands.specs.Outlining.{IsOutlined, OutlinesRead, form_in}
+use Rattle.transfer_commands.specs.declared.telling.Told.{Told}
+use Rattle.transfer_commands.specs.Outlining.{IsOutlined, OutlinesRead}
 use Rattle.transfer_commands.specs.Telling.{IsToldOf, IsUntoldOf, TellComesTo, TellsFile}
 use Rattle.transfer_commands.specs.declared.fault.CommandFault.{CommandFault}
 use Rattle.transfer_commands.specs.declared.fault.CommandFault.TheVariants.{Call, ReadFailed, WriteFailed}
@@ -30,18 +30,14 @@ told_number outline file is =
     ap length is.told.silent ∙ length-replicate s.channels [] ∙ sym (channels_number s.interleaving s.channels s.count is.around.0)
 
 -- what is told by an outline is what the file holds
-pub told_by_outline : (outline : Outline) (file : List ℕ) → IsOutlined file outline → IsToldOf file (record { form = form_in outline.sound.interleaving; recording = outline.recording; count = outline.sound.count })
+pub told_by_outline : (outline : Outline) (file : List ℕ) → IsOutlined file outline → IsToldOf file (record { form = form_in outline.sound.interleaving; description = record (described outline.recording) { count = outline.sound.count } })
 told_by_outline outline file is =
     let o = around_of outline in
     let sound = is.around.0 in
     record {
       recording = with_sound o.recording o.sound sound;
       holds = holds_as o.sound.interleaving file (with_sound o.recording o.sound sound) (is.told.holds file sound is.around.1);
-      tells = record {
-        parts = refl;
-        number = told_number outline file is;
-        count = sym (channels_count o.sound.interleaving o.sound.channels o.sound.count sound is.told.is_sound.some_channel is.told.whole (is.around.1.sound_long ∙ is.told.is_sound.size));
-      };
+      tells = ap (λ (n : ℕ). record (described o.recording) { count = n }) (sym (channels_count o.sound.interleaving o.sound.channels o.sound.count sound is.told.is_sound.some_channel is.told.whole (is.around.1.sound_long ∙ is.told.is_sound.size)));
     }
 
 -- a file that was outlined is told

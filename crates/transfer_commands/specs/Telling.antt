@@ -3,13 +3,12 @@ use Rattle.std.specs.Prelude.{◌≡◌, ℕ, List, ◌⊎◌, Result, Ok, Err}
 use Rattle.transfer_core.specs.declared.fault.Fault as calls
 use Rattle.transfer_core.specs.declared.fault.Fault.TheVariants.{Memory}
 use Rattle.transfer_core.specs.Faults.{fault_of_file}
-use Rattle.dsd_bits.specs.Contents.{Content}
+use Rattle.dsd_bits.specs.Contents.{Content, described}
 use Rattle.form_core.specs.Forms.{HoldsAs}
 use Rattle.form_core.specs.Opening.{Opens, opened_of}
 use Rattle.form_core.specs.declared.fault.ReadFault.{ReadFault}
 use Rattle.folder_core.specs.Files.{IsReadOf, View}
-use Rattle.info_core.specs.Tellings.{Tells}
-use Rattle.info_core.specs.declared.told.Told.{Told}
+use Rattle.transfer_commands.specs.declared.telling.Told.{Told}
 use Rattle.transfer_commands.specs.declared.fault.CommandFault.{CommandFault}
 use Rattle.transfer_commands.specs.declared.fault.CommandFault.TheVariants.{Call, ReadFailed, WriteFailed}
 
@@ -17,7 +16,7 @@ use Rattle.transfer_commands.specs.declared.fault.CommandFault.TheVariants.{Call
 pub record IsToldOf (file : List ℕ) (told : Told) : Type 0 where
   pub recording : Content
   pub holds : HoldsAs file told.form recording
-  pub tells : Tells told recording
+  pub tells : told.description ≡ described recording
 
 -- bytes that were read of the file hold what is told, and nothing changed
 pub record TellsFile (file_name : List ℕ) (old new : View) (told : Told) : Type 0 where

@@ -1,20 +1,28 @@
 //! Reads a file of a folder to report what it holds.
 
-ghost use Rattle.std.specs.Prelude.{◌≡◌, IfErr, IfOk};
-ghost use Rattle.dsd_bits.specs.Channels.{count_of};
-ghost use Rattle.transfer_commands.specs.Outlining as outlining;
+ghost use Rattle.std.specs.Prelude.{◌≡◌, ◌≤◌, IfErr, IfOk};
+ghost use Rattle.dsd_bits.specs.Contents.{described};
+ghost use Rattle.dsd_bits.specs.Limits.{most_bits};
 ghost use Rattle.transfer_commands.specs.Outlining.{IsOutlined};
 ghost use Rattle.transfer_commands.specs.Telling.{IsToldOf, IsUntoldOf, TellComesTo};
 
 use crate::fault::CommandFault;
 use crate::outlining::outline_file;
-use dsd_bits::{BitOrder, Interleaving};
+use dsd_bits::Description;
 use folder_core::{Folder, read_file, read_short};
-use form_core::{Form, read_any};
-use info_core::Told;
+use form_core::{Form, Opened, form_in, read_any};
 use sound_core::Outline;
 use std::alloc::Global;
 use transfer_core::Fault;
+
+/// What a file holds, but for the bits of its sound.
+#[derive(Drop)]
+pub struct Told {
+    /// The file's form.
+    pub form: Form,
+    /// The recording that it holds, without its bits.
+    pub description: Description,
+}
 
 /// What a file holds, without its bits. A file of fewer than `most` bytes is read whole. Any other file is opened again
 /// and read in one pass, which doesn't hold its sound. If it holds no recording, it is opened a third time and read
@@ -43,31 +51,32 @@ fn told_of(alloc: Global, file: &[u8]) -> Result<Told, CommandFault>
     ensures fault { IfErr result (IsUntoldOf file.now) }
 {
     match read_any(alloc, file) {
-        Ok(opened) => Ok(Told::of(opened)),
+        Ok(opened) => Ok(told_of_all(opened)),
         Err(fault) => Err(CommandFault::Call(Fault::from(fault))),
+    }
+}
+
+// What is reported of a recording that was read.
+fn told_of_all(opened: Opened) -> Told
+    ensures form { result.form ≡ opened.form }
+    ensures description { result.description ≡ described opened.recording }
+{
+    let Opened { form, recording } = opened;
+    Told {
+        form,
+        description: recording.into_description(),
     }
 }
 
 // What is reported of a file by its outline.
 fn told_by(outline: Outline) -> Told
+    requires { outline.sound.count ≤ most_bits }
     ensures { (file : _) → IsOutlined file outline → IsToldOf file result }
 {
     let form = form_in(outline.sound.interleaving);
     let count = outline.sound.count;
     Told {
         form,
-        recording: outline.recording,
-        count,
-    }
-}
-
-/// The form of a file whose sound has this interleaving.
-pub fn form_in(interleaving: Interleaving) -> Form
-    ensures { result ≡ outlining.form_in interleaving }
-{
-    match interleaving {
-        Interleaving::Bytes => Form::Dsdiff,
-        Interleaving::Blocks(BitOrder::LeastFirst) => Form::Dsf,
-        Interleaving::Blocks(BitOrder::MostFirst) => Form::Dsf8,
+        description: outline.recording.into_description().with_count(count),
     }
 }

@@ -26,7 +26,7 @@ use Rattle.form_core.specs.declared.fault.ReadFault.{ReadFault}
 use Rattle.form_core.specs.declared.form.Form.{Form}
 use Rattle.form_core.specs.declared.form.Form.TheVariants as forms
 use Rattle.form_core.specs.declared.opening.Opened.{Opened}
-use Rattle.form_core.specs.Forms.{HoldsAs, dropped_in, form_of, text_in}
+use Rattle.form_core.specs.Forms.{HoldsAs, dropped_in, form_in, text_in}
 use Rattle.form_core.specs.Opening.{opened_of}
 use Rattle.form_core.specs.Parts.{FitsIn, WrittenInParts, head_in, interleaving_in, tail_in}
 use Rattle.form_core.proofs.OpeningLaws.{held_is_opened, holds_dsf}
@@ -46,11 +46,7 @@ channel_count Bytes channels count bytes some whole size = unlaced_count bytes c
 channel_count (Blocks order) channels count bytes some whole size = unblocked_count order bytes channels count some
 
 -- ---- the form of a file
-abbrev source_of : Interleaving → Form
-source_of Bytes = forms.Dsdiff
-source_of (Blocks order) = form_of order
-
-held : (interleaving : Interleaving) (file : List ℕ) (r : Content) → HoldsIn interleaving file r → HoldsAs file (source_of interleaving) r
+held : (interleaving : Interleaving) (file : List ℕ) (r : Content) → HoldsIn interleaving file r → HoldsAs file (form_in interleaving) r
 held Bytes file r is = is
 held (Blocks order) file r is = holds_dsf file r order is
 
@@ -86,7 +82,7 @@ module _ (laws : WrittenInParts) (o : Surroundings) (told : AreTold o) (form : F
 
   converts : (file sound : List ℕ) → StandsIn o file sound → Converts file form (relayed target o.sound sound) (dropped_in form o.recording)
   converts file sound stands = record {
-    source = source_of o.sound.interleaving;
+    source = form_in o.sound.interleaving;
     recording = with_sound o.recording o.sound sound;
     file_holds = held o.sound.interleaving file (with_sound o.recording o.sound sound) (told.holds file sound stands);
     text = text sound stands.sound_long;

@@ -2,6 +2,7 @@
 use Rattle.std.proofs.Common.{◌≡◌, ◌⊎◌, ◌-◌, ℕ, inl, inr, List, [], Option, None, Some, IfSome, IsErrAnd, IsErrOf, Result, Ok, Err, refl, sym, ap, ◌∙◌, subst}
 use Rattle.device_core.specs.declared.inlet.Inlet.{Inlet}
 use Rattle.dsd_bits.specs.declared.blocks.BitOrder.TheVariants.{LeastFirst, MostFirst}
+use Rattle.dsd_bits.specs.declared.interleaving.Interleaving.TheVariants.{Blocks}
 use Rattle.dsd_bits.specs.Contents.{Content}
 use Rattle.fir_core.specs.Decimator.{Decimator}
 use Rattle.sound_core.specs.Faults as reading
@@ -14,7 +15,7 @@ use Rattle.sound_core.specs.declared.fault.StreamFault.{StreamFault}
 use Rattle.sound_core.specs.declared.fault.StreamFault.TheVariants as faults
 use Rattle.form_core.specs.declared.form.Form.{Form}
 use Rattle.form_core.specs.declared.form.Form.TheVariants as forms
-use Rattle.form_core.specs.Forms.{HoldsAs, form_of}
+use Rattle.form_core.specs.Forms.{HoldsAs, form_in}
 use Rattle.form_core.proofs.OpeningLaws.{holds_dsf}
 use Rattle.transfer_core.specs.declared.fault.Fault.{Fault}
 use Rattle.transfer_core.specs.declared.fault.Fault.TheVariants as fault
@@ -32,7 +33,7 @@ fault_is (Err g) f h = rw h
 -- ---- the form of a file
 form_held : (file : List ℕ) (r : Content) → HoldsRecording file r → (form : Form) × HoldsAs file form r
 form_held file r (inl is) = (forms.Dsdiff, is)
-form_held file r (inr held) = (form_of held.0, holds_dsf file r held.0 held.1)
+form_held file r (inr held) = (form_in (Blocks held.0), holds_dsf file r held.0 held.1)
 
 recording_held : (file : List ℕ) (form : Form) (r : Content) → HoldsAs file form r → HoldsRecording file r
 recording_held file forms.Dsdiff r is = inl is

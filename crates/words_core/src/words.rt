@@ -7,8 +7,7 @@ use crate::fault::WordsFault;
 use crate::task::Task;
 use clap::error::ErrorKind;
 use clap::{Arg, ArgAction, ArgMatches, Command, Error};
-use form_core::Form;
-use info_core::form_named;
+use form_core::{Form, form_named};
 use std::alloc::{AllocError, Global};
 
 // The commands, each with the names of its words in order.

@@ -1,4 +1,4 @@
-use Rattle.dsf_core.proofs.FrontLaws.{other_bytes}
+use Rattle.dsf_core.proofs.DescribingLaws.{other_bytes}
 use Rattle.dsf_core.proofs.laws.bytes_of_sound_do_not_matter.Goals as goal
 
 pub returns : goal.returns

@@ -1,0 +1,84 @@
+//! What a file tells beside its bits, where its sound is not held, and at which length it ends.
+
+ghost use Rattle.std.specs.Prelude.{◌≡◌, ◌≤◌, ◌-◌, ◌++◌, ◌↔◌, IfOk, length, replicate, true};
+ghost use Rattle.dsd_bits.specs.declared.sound.Sound.{Sound};
+ghost use Rattle.dsd_bits.specs.declared.sound.SoundAt.TheVariants.{Found};
+ghost use Rattle.dsd_bits.specs.Sounds.{IsSound};
+ghost use Rattle.dsf_core.specs.Fronts.{Describes, DescribesSound, EndsAtSound, IsAccepted, IsTagPlace, sound_at};
+ghost use Rattle.dsf_core.specs.Reading.{described_by};
+
+use crate::fault::DsfFault;
+use crate::fields::{POINTER_AT, long_at};
+use crate::format::{channel_ids, layout};
+use crate::front::{Front, check_ends, read_front};
+use dsd_bits::{Description, Metadata};
+use std::alloc::{AllocError, Global};
+
+/// Where the tag stands in a file that begins with `front`, which ends where the sound starts: the tag is all that
+/// stands from there to the file's end. 0 where there is none. In a file that is accepted it stands behind the
+/// blocks that the channels need.
+///
+/// It takes no memory.
+pub fn tag_at(front: &[u8]) -> u64
+    requires at_sound { EndsAtSound front.now }
+    ensures place { IsTagPlace front.now result }
+{
+    long_at(front, POINTER_AT)
+}
+
+/// Whether a file of `total` bytes is accepted that begins with `front`, which ends where the sound starts:
+/// whether the file that goes on with zeros is. The needed blocks end in the file, and the pointer to
+/// the tag is 0 or leads behind them into the file. Which bytes stand behind `front` does not matter
+/// ([`crate::bytes_of_sound_do_not_matter`]).
+///
+/// It takes no memory.
+pub fn closes(front: &[u8], total: u64) -> bool
+    requires at_sound { EndsAtSound front.now }
+    requires not_cut { length front.now ≤ total }
+    ensures { (result ≡ true) ↔ IsAccepted (front.now ++ replicate (total - length front.now) 0) }
+{
+    match read_front(front) {
+        Ok(front) => check_ends(&front, total).is_ok(),
+        Err(_) => false,
+    }
+}
+
+/// The description of the recording that a file holds, told without its sound: the file has `total` bytes, begins with
+/// `front`, which ends where the sound starts, and has this tag ([`tag_at`]). Which bytes stand elsewhere does not
+/// matter: with the channels in its sound bytes the description makes the recording that [`crate::read`] gives.
+///
+/// Refusals, the first that applies, whatever the tag: `DataCut`, `BadPointer`. `Memory` may come in place of each.
+pub fn describe(
+    alloc: Global,
+    front: &[u8],
+    total: u64,
+    tag: Vec<u8>,
+) -> Result<Description, DsfFault>
+    requires at_sound { EndsAtSound front.now }
+    ensures told { Describes front.now total tag.items result }
+    ensures sound { IfOk result (λ made. (s : Sound) → sound_at front.now ≡ Found s → DescribesSound s made) }
+{
+    let front = read_front(front)?;
+    check_ends(&front, total)?;
+    Ok(description_of(alloc, &front, tag)?)
+}
+
+/// The description of a file with this front and this tag.
+pub(crate) fn description_of(
+    alloc: Global,
+    front: &Front,
+    tag: Vec<u8>,
+) -> Result<Description, AllocError>
+    requires in_limits { IsSound front.now.sound }
+    ensures { IfOk result (λ made. made ≡ described_by front.now tag.items) }
+{
+    let sound = front.sound;
+    let ids = channel_ids(alloc, sound.channels)?;
+    let layout = layout(front.kind, sound.channels as u32);
+    let metadata = Metadata {
+        marks: Vec::new(alloc),
+        others: Vec::new(alloc),
+        tag,
+    };
+    Ok(Description::new(sound.rate, sound.count, ids, layout, metadata))
+}

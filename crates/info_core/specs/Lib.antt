@@ -1,3 +1,0 @@
-pub mod FormNames
-pub mod Infos
-pub mod Tellings

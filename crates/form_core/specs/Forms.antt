@@ -3,7 +3,7 @@ use Rattle.std.specs.Prelude.{ℕ, List, Option, Some, ◌+◌, length, nat_eq, 
 use Rattle.dsd_bits.specs.declared.blocks.BitOrder.TheVariants.{LeastFirst, MostFirst}
 use Rattle.dsd_bits.specs.declared.interleaving.Interleaving.{Interleaving}
 use Rattle.dsd_bits.specs.declared.interleaving.Interleaving.TheVariants.{Bytes, Blocks}
-use Rattle.dsd_bits.specs.Contents.{Content}
+use Rattle.dsd_bits.specs.Contents.{Content, Described}
 use Rattle.dsdiff_core.specs.Files.{IsDsdiff}
 use Rattle.dsdiff_core.specs.Writing.{dsdiff_text}
 use Rattle.dsf_core.specs.Files.{IsDsf}
@@ -34,8 +34,8 @@ text_in Dsdiff r = dsdiff_text r
 text_in Dsf r = Some (dsf_text r LeastFirst)
 text_in Dsf8 r = Some (dsf_text r MostFirst)
 
--- how many parts of a recording a file of this form has no place for: a tag, or each mark and each kept chunk
-abbrev pub dropped_in : Form → Content → ℕ
-dropped_in Dsdiff r = if nat_eq (length r.tag) 0 then 0 else 1
-dropped_in Dsf r = length r.marks + length r.others
-dropped_in Dsf8 r = length r.marks + length r.others
+-- how many parts beside the sound a file of this form has no place for: a tag, or each mark and each kept chunk
+abbrev pub dropped_in : Form → Described → ℕ
+dropped_in Dsdiff d = if nat_eq (length d.tag) 0 then 0 else 1
+dropped_in Dsf d = length d.marks + length d.others
+dropped_in Dsf8 d = length d.marks + length d.others

@@ -6,7 +6,7 @@ ghost use Rattle.form_core.specs.Forms.{text_in};
 ghost use Rattle.form_core.specs.Writing.{HoldsSound, IsWriteFault};
 
 use crate::form::Form;
-use dsd_bits::{BitOrder, Recording};
+use dsd_bits::{BitOrder, Description, Recording};
 use dsdiff_core::WriteFault;
 use std::alloc::Global;
 
@@ -28,13 +28,13 @@ pub fn write_in(alloc: Global, recording: &Recording, form: Form) -> Result<Vec<
     }
 }
 
-/// How many parts of the recording a file of the form has no place for: marks and kept chunks in a DSF
+/// How many parts of a recording a file of the form has no place for: marks and kept chunks in a DSF
 /// file, a tag in a DSDIFF file.
-pub fn dropped_in(recording: &Recording, form: Form) -> u64
-    ensures { result ≡ forms.dropped_in form recording.now }
+pub fn dropped_in(description: &Description, form: Form) -> u64
+    ensures { result ≡ forms.dropped_in form description.now }
 {
     match form {
-        Form::Dsdiff => u64::from(!recording.tag().is_empty()),
-        Form::Dsf | Form::Dsf8 => (recording.marks().len() + recording.others().len()) as u64,
+        Form::Dsdiff => u64::from(!description.tag().is_empty()),
+        Form::Dsf | Form::Dsf8 => (description.marks().len() + description.others().len()) as u64,
     }
 }

@@ -2,7 +2,7 @@
 use Rattle.std.proofs.Common.{arith, ◌≡◌, ℕ, ◌%◌, ◌⊎◌, ◌==◌, if◌then◌else◌, inl, inr, List, [], ◌++◌, Bool, IsTrue, Option, None, Some, Err, false, true, refl, subst, sym, ap, ◌∙◌}
 use Rattle.std.proofs.lemmas.Bool.Decides.{nat_tests}
 use Rattle.dsd_bits.specs.Channels.{count_of}
-use Rattle.dsd_bits.specs.Contents.{Content}
+use Rattle.dsd_bits.specs.Contents.{Content, described}
 use Rattle.device_core.specs.Outlets.{AppendsFront}
 use Rattle.form_core.specs.Forms.{HoldsAs, dropped_in, form_in, text_in}
 use Rattle.form_core.specs.Laws.{HeldIsOpened}
@@ -78,7 +78,7 @@ module _ (outline : Outline) (file : List ℕ) (form : Form) (is : IsOutlined fi
   pub outlined_converts : WrittenInParts → FitsIn form outline.sound.count → (bytes : List ℕ) × (dropped : ℕ) × Converts file form bytes dropped
   outlined_converts in_parts fits = (
     _,
-    dropped_in form recorded,
+    dropped_in form (described recorded),
     record {
       source = form_in outline.sound.interleaving;
       recording = recorded;

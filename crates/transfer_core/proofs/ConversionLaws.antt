@@ -8,7 +8,7 @@ use Rattle.dsd_bits.specs.declared.interleaving.Interleaving.{Interleaving}
 use Rattle.dsd_bits.specs.declared.interleaving.Interleaving.TheVariants.{Bytes, Blocks}
 use Rattle.dsd_bits.specs.Blocks.{unblocked}
 use Rattle.dsd_bits.specs.Channels.{count_of}
-use Rattle.dsd_bits.specs.Contents.{Content}
+use Rattle.dsd_bits.specs.Contents.{Content, described}
 use Rattle.dsd_bits.specs.Lacing.{unlaced}
 use Rattle.dsd_bits.specs.Sounds.{sound_channels, sound_size}
 use Rattle.dsd_bits.proofs.BlockLemmas.{unblocked_count}
@@ -51,7 +51,7 @@ held Bytes file r is = is
 held (Blocks order) file r is = holds_dsf file r order is
 
 -- ---- what is dropped stands beside the channels
-dropped_beside : (form : Form) (o : Surroundings) (sound : List ℕ) → dropped_in form o.recording ≡ dropped_in form (with_sound o.recording o.sound sound)
+dropped_beside : (form : Form) (o : Surroundings) (sound : List ℕ) → dropped_in form (described o.recording) ≡ dropped_in form (described (with_sound o.recording o.sound sound))
 dropped_beside forms.Dsdiff o sound = refl
 dropped_beside forms.Dsf o sound = refl
 dropped_beside forms.Dsf8 o sound = refl
@@ -80,7 +80,7 @@ module _ (laws : WrittenInParts) (o : Surroundings) (told : AreTold o) (form : F
       let parts = subst (λ n. text_in form (with_sound o.recording s sound) ≡ Some (head_in form o.recording n ++ (laced_in (interleaving_in form) channels ++ tail_in form o.recording n))) count (laws form o.recording channels number (subst (FitsIn form) (sym count) fits)) in
       rw (interleaving, head, tail) parts
 
-  converts : (file sound : List ℕ) → StandsIn o file sound → Converts file form (relayed target o.sound sound) (dropped_in form o.recording)
+  converts : (file sound : List ℕ) → StandsIn o file sound → Converts file form (relayed target o.sound sound) (dropped_in form (described o.recording))
   converts file sound stands = record {
     source = form_in o.sound.interleaving;
     recording = with_sound o.recording o.sound sound;
@@ -89,18 +89,18 @@ module _ (laws : WrittenInParts) (o : Surroundings) (told : AreTold o) (form : F
     dropped_is = dropped_beside form o sound;
   }
 
-  pub converts_file : (left a b : Option (List ℕ)) → Relays left target o a b → ConvertsFile left form a b (dropped_in form o.recording)
+  pub converts_file : (left a b : Option (List ℕ)) → Relays left target o a b → ConvertsFile left form a b (dropped_in form (described o.recording))
   converts_file None a b h = tt
   converts_file (Some file) a b h = (relayed target o.sound h.0, converts file h.0 h.1, h.2)
 
-  pub converts_given : {R : Type 0} (left : R → Option (List ℕ)) (i j : Inlet R) (a b : Option (List ℕ)) → RelaysGiven left i j target o a b → ConvertsGiven left i j form a b (dropped_in form o.recording)
+  pub converts_given : {R : Type 0} (left : R → Option (List ℕ)) (i j : Inlet R) (a b : Option (List ℕ)) → RelaysGiven left i j target o a b → ConvertsGiven left i j form a b (dropped_in form (described o.recording))
   converts_given left i j a b h = (h.0, relayed target o.sound h.1, h.2, converts h.0 h.1 h.3, h.4)
 
   pub converts_front : (left a b : Option (List ℕ)) (f : StreamFault) → RelaysFront left target o a b f → ConvertsFront left o form a b
   converts_front None a b f h = tt
   converts_front (Some file) a b f h = λ around bytes dropped is.
       let out = h around.0 around.1 in
-      subst (λ xs. AppendsFront a b xs) (one_text file (relayed target o.sound around.0) bytes form (dropped_in form o.recording) dropped (converts file around.0 around.1) is) (out.0, out.1, out.2, out.4)
+      subst (λ xs. AppendsFront a b xs) (one_text file (relayed target o.sound around.0) bytes form (dropped_in form (described o.recording)) dropped (converts file around.0 around.1) is) (out.0, out.1, out.2, out.4)
 
 pub nothing_converted : (left : Option (List ℕ)) (o : Surroundings) (form : Form) (a : Option (List ℕ)) → ConvertsFront left o form a a
 nothing_converted None o form a = tt

@@ -16,6 +16,7 @@ use Rattle.player_core.specs.Samples.{pcm}
 use Rattle.dsdiff_core.specs.declared.write_fault.WriteFault.{WriteFault}
 use Rattle.dsdiff_core.specs.declared.write_fault.WriteFault.TheVariants as writes
 use Rattle.form_core.specs.declared.form.Form.{Form}
+use Rattle.dsd_bits.specs.Contents.{described}
 use Rattle.form_core.specs.Forms.{dropped_in, text_in}
 use Rattle.form_core.specs.Writing.{IsWriteFault}
 use Rattle.form_core.specs.declared.fault.ReadFault.{ReadFault}
@@ -73,7 +74,7 @@ module _ (file : List ℕ) (form : Form) where
     file_unwritten writes.NotWholeBytes is = inr (rw (holds, is) refl)
     file_unwritten writes.Memory is = inl refl
 
-    pub text_converted : (bytes : List ℕ) (dropped : ℕ) → text_in form o.recording ≡ Some bytes → dropped ≡ dropped_in form o.recording → converted_of file form ≡ Ok (bytes, dropped)
+    pub text_converted : (bytes : List ℕ) (dropped : ℕ) → text_in form o.recording ≡ Some bytes → dropped ≡ dropped_in form (described o.recording) → converted_of file form ≡ Ok (bytes, dropped)
     unfolding converted_of
     text_converted bytes dropped is dropped_is = rw (holds, is, dropped_is) refl
 

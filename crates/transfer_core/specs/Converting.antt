@@ -2,7 +2,7 @@
 use Rattle.std.specs.Prelude.{◌≡◌, ℕ, List, Some, Result, Ok}
 use Rattle.std.specs.Option.{ok_or}
 use Rattle.chunk_core.specs.Steps.{◌>>=◌}
-use Rattle.dsd_bits.specs.Contents.{Content}
+use Rattle.dsd_bits.specs.Contents.{Content, described}
 use Rattle.form_core.specs.declared.form.Form.{Form}
 use Rattle.form_core.specs.Forms.{HoldsAs, dropped_in, text_in}
 use Rattle.form_core.specs.Opening.{opened_of}
@@ -18,7 +18,7 @@ pub record Converts (file : List ℕ) (form : Form) (bytes : List ℕ) (dropped 
   pub recording : Content
   pub file_holds : HoldsAs file source recording
   pub text : text_in form recording ≡ Some bytes
-  pub dropped_is : dropped ≡ dropped_in form recording
+  pub dropped_is : dropped ≡ dropped_in form (described recording)
 
 -- the same of an answer
 abbrev pub IsConverted : List ℕ → Form → Converted → Type 0
@@ -47,4 +47,4 @@ unfoldable pub converted_of : List ℕ → Form → Result (List ℕ × ℕ) Fau
 converted_of file form = do
   opened ← map_err fault_of_file (opened_of file)
   bytes ← ok_or (text_in form opened.recording) NotWholeBytes
-  Ok (bytes, dropped_in form opened.recording)
+  Ok (bytes, dropped_in form (described opened.recording))

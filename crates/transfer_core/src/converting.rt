@@ -45,7 +45,7 @@ pub fn convert(alloc: Global, file: &[u8], form: Form) -> Result<Converted, Faul
 {
     let opened = read_any(alloc, file)?;
     let bytes = write_in(alloc, &opened.recording, form)?;
-    let dropped = dropped_in(&opened.recording, form);
+    let dropped = dropped_in(opened.recording.description(), form);
     Ok(Converted { bytes, dropped })
 }
 
@@ -96,5 +96,5 @@ pub fn convert_stream<R: Read, W: Write>(
         tail: &ends.tail,
     };
     relay(alloc, outline, &target, inlet, outlet)?;
-    Ok(dropped_in(&outline.recording, form))
+    Ok(dropped_in(outline.recording.description(), form))
 }

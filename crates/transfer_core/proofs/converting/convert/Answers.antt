@@ -1,4 +1,6 @@
+use Rattle.std.proofs.Common.{◌∙◌, ap}
 use Rattle.dsd_bits.proofs.ExitLaws.{no_value}
+use Rattle.form_core.specs.Forms.{dropped_in}
 use Rattle.transfer_core.proofs.StreamLaws.{fault_is}
 use Rattle.transfer_core.proofs.ReadingLaws.{file_unread, file_unwritten, text_converted}
 use Rattle.transfer_core.proofs.converting.convert.Goals as goal
@@ -42,8 +44,8 @@ returns-clause-found c = record {
   recording = c.in_ok-opened.opened.recording;
   file_holds = c.in_ok-opened.ensures.found;
   text = c.in_ok-bytes.ensures.text;
-  dropped_is = c.dropped_in-dropped.ensures;
+  dropped_is = c.dropped_in-dropped.ensures ∙ ap (dropped_in c.args.form) c.description.ensures;
 }
 
 pub returns-clause-exact : goal.returns-clause-exact
-returns-clause-exact c = text_converted c.args.file.now c.args.form c.in_ok-opened.opened c.in_ok-opened.ensures.exact c.in_ok-bytes.bytes.items c.dropped_in-dropped.result c.in_ok-bytes.ensures.text c.dropped_in-dropped.ensures
+returns-clause-exact c = text_converted c.args.file.now c.args.form c.in_ok-opened.opened c.in_ok-opened.ensures.exact c.in_ok-bytes.bytes.items c.dropped_in-dropped.result c.in_ok-bytes.ensures.text (c.dropped_in-dropped.ensures ∙ ap (dropped_in c.args.form) c.description.ensures)

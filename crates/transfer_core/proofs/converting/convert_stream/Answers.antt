@@ -61,8 +61,8 @@ returns g c =
     let before = g.W.Write.contents (outlet_writer c.args.outlet.now) in
     let after = g.W.Write.contents (outlet_writer c.relay.new.outlet) in
     record {
-      ok = rw c.dropped_in.ensures (converts_file c.written_in_parts.ensures around c.requires.told c.args.form c.in_ok-ends.ensures.fits (record { interleaving = c.interleaving_in.result; head = c.deref.result; tail = c.deref-2.result }) c.interleaving_in.ensures (head_is g at.After-relay) (tail_is g at.After-relay) left before after c.in_ok-relay.ensures.ok);
-      any_reader = rw c.dropped_in.ensures (converts_given c.written_in_parts.ensures around c.requires.told c.args.form c.in_ok-ends.ensures.fits (record { interleaving = c.interleaving_in.result; head = c.deref.result; tail = c.deref-2.result }) c.interleaving_in.ensures (head_is g at.After-relay) (tail_is g at.After-relay) g.R.Read.remaining c.args.inlet.now c.relay.new.inlet before after c.in_ok-relay.ensures.any_reader);
+      ok = rw (c.dropped_in.ensures, c.description.ensures) (converts_file c.written_in_parts.ensures around c.requires.told c.args.form c.in_ok-ends.ensures.fits (record { interleaving = c.interleaving_in.result; head = c.deref.result; tail = c.deref-2.result }) c.interleaving_in.ensures (head_is g at.After-relay) (tail_is g at.After-relay) left before after c.in_ok-relay.ensures.ok);
+      any_reader = rw (c.dropped_in.ensures, c.description.ensures) (converts_given c.written_in_parts.ensures around c.requires.told c.args.form c.in_ok-ends.ensures.fits (record { interleaving = c.interleaving_in.result; head = c.deref.result; tail = c.deref-2.result }) c.interleaving_in.ensures (head_is g at.After-relay) (tail_is g at.After-relay) g.R.Read.remaining c.args.inlet.now c.relay.new.inlet before after c.in_ok-relay.ensures.any_reader);
       front = tt;
       refused = tt;
       not_whole_bytes = λ is. absurd (is c.in_ok-ends.ensures.fits);

@@ -29,7 +29,7 @@ pub record IsForm (file : List ℕ) : Type 0 where
   pub holds_type : 4 ≤ form_size file
   pub in_file : 12 + form_size file ≤ length file + 1
 
-end_ok : (file : List ℕ) (n : ℕ) → end_of file ≡ Ok n → IsForm file × (form_end file ≡ n)
+pub end_ok : (file : List ℕ) (n : ℕ) → end_of file ≡ Ok n → IsForm file × (form_end file ≡ n)
 unfolding end_of
 end_ok file n e =
     let a = guard_ok _ _ _ _ e in

@@ -30,14 +30,14 @@ use Rattle.dsdiff_core.proofs.Steps.{walked_ok}
 -- ---- spans that hold the same chunks in two files
 
 -- the spans hold the same chunks in both
-abbrev Same : List ℕ → List ℕ → List Span → Type 0
+abbrev pub Same : List ℕ → List ℕ → List Span → Type 0
 Same short front ss = map (span_chunk short) ss ≡ map (span_chunk front) ss
 
-firsts : (c d : Chunk) (cs ds : List Chunk) → c ∷ cs ≡ d ∷ ds → (c ≡ d) × (cs ≡ ds)
+pub firsts : (c d : Chunk) (cs ds : List Chunk) → c ∷ cs ≡ d ∷ ds → (c ≡ d) × (cs ≡ ds)
 firsts c d cs ds e = (cc (e), cc (e))
 
 -- the spans of the same bytes are the same, and hold the same chunks
-same_spans : (short front : List ℕ) (start stop : ℕ) (ss : List Span) → slice_range short start stop ≡ slice_range front start stop → spans_in front start stop ≡ Ok ss → (spans_in short start stop ≡ Ok ss) × Same short front ss
+pub same_spans : (short front : List ℕ) (start stop : ℕ) (ss : List Span) → slice_range short start stop ≡ slice_range front start stop → spans_in front start stop ≡ Ok ss → (spans_in short start stop ≡ Ok ss) × Same short front ss
 same_spans short front start stop ss same e =
     let cs : List Chunk = map (span_chunk front) ss in
     let found = spans_found front start stop ss e in
@@ -68,7 +68,7 @@ same_chunk short front test (s ∷ ss) p e f =
     ]
 
 -- the first with an ID has the same data
-same_data : (short front id : List ℕ) (ss : List Span) → Same short front ss → data_with short id ss ≡ data_with front id ss
+pub same_data : (short front id : List ℕ) (ss : List Span) → Same short front ss → data_with short id ss ≡ data_with front id ss
 same_data short front id [] e = refl
 same_data short front id (s ∷ ss) e =
     let h = firsts (span_chunk short s) (span_chunk front s) (map (span_chunk short) ss) (map (span_chunk front) ss) e in

@@ -4,6 +4,9 @@ pub mod FrontEnds
 pub mod ToldLaws
 pub mod FormEnds
 pub mod OtherSound
+pub mod WalkLaws
+pub mod Alike
+pub mod AnySound
 pub mod ClosingLaws
 pub mod OutlineLaws
 pub mod SeekLoop

@@ -17,3 +17,5 @@ pub mod Reading
 pub mod Writing
 pub mod ReadAgain
 pub mod Laws
+pub mod Located
+pub mod SoundBytes

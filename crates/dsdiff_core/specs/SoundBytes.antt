@@ -1,0 +1,18 @@
+-- The sound bytes and the rest of a file.
+use Rattle.std.specs.Prelude.{◌≡◌, ℕ, List, ◌++◌, length, Result, Ok, Err}
+use Rattle.dsd_bits.specs.Contents.{Content}
+use Rattle.dsd_bits.specs.Lacing.{unlaced_all}
+use Rattle.dsdiff_core.specs.declared.fault.DsdiffFault.{DsdiffFault}
+use Rattle.dsdiff_core.specs.Located.{EndsAtHead, sound_size}
+use Rattle.dsdiff_core.specs.Reading.{recording_of}
+
+-- what was read of a file, with these sound bytes
+abbrev pub with_sound : List ℕ → Result Content DsdiffFault → Result Content DsdiffFault
+with_sound sound (Ok r) = Ok (record r { channels = unlaced_all sound (length r.ids) })
+with_sound sound (Err e) = Err e
+
+-- other sound bytes, as many of them, change nothing of what is read but the channels
+abbrev pub SoundIsFree : Type 0
+SoundIsFree =
+    (front sound other back : List ℕ) → EndsAtHead front → length sound ≡ sound_size front → length other ≡ sound_size front
+    → recording_of (front ++ (other ++ back)) ≡ with_sound other (recording_of (front ++ (sound ++ back)))

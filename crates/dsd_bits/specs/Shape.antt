@@ -4,7 +4,7 @@ use Rattle.std.specs.List.{starts_with}
 use Rattle.dsd_bits.specs.declared.marks.Place.{Place}
 use Rattle.dsd_bits.specs.declared.marks.Place.TheVariants.{Property, Master, Form}
 use Rattle.dsd_bits.specs.Channels.{IsLevel, count_of}
-use Rattle.dsd_bits.specs.Contents.{Content, OtherContent}
+use Rattle.dsd_bits.specs.Contents.{Content, Described, OtherContent}
 use Rattle.dsd_bits.specs.Ids.{same_id, FVER, PROP, SND, FS, CHNL, CMPR, DSD, DIIN, MARK}
 use Rattle.dsd_bits.specs.Layouts.{layout_channels}
 use Rattle.dsd_bits.specs.Limits.{most_bits, least_rate, greatest_rate}
@@ -39,3 +39,21 @@ pub record HasShape (r : Content) : Type 0 where
   pub short_texts : All (λ mark. length mark.text < 2 ^ 32) r.marks
   pub in_order : r.others ≡ at_place Property r.others ++ (at_place Master r.others ++ at_place Form r.others)
   pub no_parts : All (λ o. has_part o.place o.id o.bytes ≡ false) r.others
+
+-- what the parts of a description keep to
+pub record IsDescription (d : Described) : Type 0 where
+  pub rate_low : least_rate ≤ d.rate
+  pub rate_high : d.rate ≤ greatest_rate
+  pub some_channel : 1 ≤ length d.ids
+  pub six_channels : length d.ids ≤ 6
+  pub in_limit : d.count ≤ most_bits
+  pub layout_fits : layout_channels d.layout ≡ length d.ids
+  pub short_texts : All (λ mark. length mark.text < 2 ^ 32) d.marks
+  pub in_order : d.others ≡ at_place Property d.others ++ (at_place Master d.others ++ at_place Form d.others)
+  pub no_parts : All (λ o. has_part o.place o.id o.bytes ≡ false) d.others
+
+-- the channels are as many as the description says, and as long
+pub record AreDescribed (d : Described) (channels : List (List Bool)) : Type 0 where
+  pub number : length channels ≡ length d.ids
+  pub level : IsLevel channels
+  pub count : count_of channels ≡ d.count

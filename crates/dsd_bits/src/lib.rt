@@ -16,7 +16,8 @@
 //! bytes where room is held, without memory and without a way to fail.
 //!
 //! A [`Recording`] is one record of lists and numbers: its rate, its channels, their IDs and layout,
-//! its marks, the chunks that it keeps as they are, and its tag. A [`Sound`] says what the sound of a file is, how its
+//! its marks, the chunks that it keeps as they are, and its tag. A [`Description`] is a recording without its bits: it
+//! says how many there are. A [`Sound`] says what the sound of a file is, how its
 //! channels are interleaved ([`Interleaving`]) and where its bytes stand, and [`SoundAt`] what the front of the file
 //! tells of it.
 //!
@@ -37,6 +38,8 @@
 //! - `IsLevel channels` says that channels are equally long, `count_of` how long.
 //! - `Content` is what a recording holds, `HasShape` names the rules that it keeps, `layout_channels`
 //!   is the table of layouts.
+//! - `Described` is what a description says, `IsDescription` names the rules that it keeps; `described r` is that of a
+//!   recording, and `with_channels d channels` the recording that a description and channels make.
 //! - `stretches_of channels ranges` are the bits of the channels in each range ([`BitRange`]), `silent r` a recording
 //!   without its bits.
 //! - `IsSound s` names the limits of a sound, `HasSound file r s` says that the bytes of the sound in a
@@ -56,6 +59,7 @@
 
 mod bits;
 mod blocks;
+mod description;
 mod fault;
 mod interleaving;
 mod lacing;
@@ -77,6 +81,7 @@ pub use blocks::{
     BitOrder, blocks_size, lace_blocks, laced_blocks_are_read_again, push_blocks, put_in_order,
     unlace_blocks,
 };
+pub use description::{Description, Metadata};
 pub use fault::{BitsFault, LaceFault};
 pub use interleaving::Interleaving;
 pub use lacing::{lace_bytes, laced_channels_are_read_again, push_laced, unlace_bytes};

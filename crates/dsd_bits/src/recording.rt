@@ -1,13 +1,14 @@
-//! A recording: its sound, and what is told of it.
+//! A recording: its description, and its channels.
 
-ghost use Rattle.std.specs.Prelude.{◌≡◌, ◌≤◌, IfOk, map};
+ghost use Rattle.std.specs.Prelude.{◌≡◌, ◌≤◌, [], IfOk, length, map, replicate};
 ghost use Rattle.dsd_bits.specs.Channels.{count_of};
-ghost use Rattle.dsd_bits.specs.Contents.{content_of, mark_content, other_content};
+ghost use Rattle.dsd_bits.specs.Contents.{content_of, described, mark_content, other_content, with_channels};
 ghost use Rattle.dsd_bits.specs.Limits.{IsRate, most_bits};
-ghost use Rattle.dsd_bits.specs.Shape.{HasShape};
+ghost use Rattle.dsd_bits.specs.Shape.{AreDescribed, HasShape};
 ghost use Rattle.dsd_bits.specs.Stretches.{silent};
 
 use crate::bits::Bits;
+use crate::description::{Description, Metadata};
 use crate::marks::{Mark, Other};
 use crate::stretches::silent_channels;
 use std::alloc::{AllocError, Global};
@@ -17,26 +18,19 @@ use std::marker::Model;
 /// numbers, `Content`, which keeps to the rules of `HasShape`.
 #[derive(Drop)]
 pub struct Recording {
-    rate: u32,
+    description: Description,
     channels: Vec<Bits>,
-    ids: Vec<[u8; 4]>,
-    layout: u32,
-    marks: Vec<Mark>,
-    others: Vec<Other>,
-    tag: Vec<u8>,
 }
 
 impl Model for Recording {
-    ghost use Rattle.dsd_bits.specs.Contents.{Content, content_of};
-    ghost use Rattle.dsd_bits.specs.Shape.{HasShape};
+    ghost use Rattle.dsd_bits.specs.Contents.{Content, with_channels};
+    ghost use Rattle.dsd_bits.specs.Shape.{AreDescribed};
 
     ghost Value = { Content };
 
-    ghost view = { λ a. content_of a.rate a.channels.items a.ids.items a.layout
-        a.marks.items a.others.items a.tag.items };
+    ghost view = { λ a. with_channels a.description a.channels.items };
 
-    ghost invariant = { λ a. HasShape (content_of a.rate a.channels.items a.ids.items a.layout
-        a.marks.items a.others.items a.tag.items) };
+    ghost invariant = { λ a. AreDescribed a.description a.channels.items };
 }
 
 impl Recording {
@@ -44,7 +38,7 @@ impl Recording {
     ///
     /// The rate is in hertz, 1,000,000 to 50,000,000. There are one to six channels of equal length, at
     /// most `2^36` bits, an ID for each, and a layout of DSF 1.01 (`specs/Layouts.antt`) for that many. The
-    /// others stand in the order of [`crate::Place`], and none is a chunk that has a part of its own here.
+    /// others are in the order of [`crate::Place`], and none is a chunk that has a part of its own here.
     /// A mark's text has fewer than `2^32` bytes.
     pub fn new(
         rate: u32,
@@ -60,24 +54,57 @@ impl Recording {
         ensures { result ≡ content_of rate channels.items ids.items layout
             marks.items others.items tag.items }
     {
+        let metadata = Metadata { marks, others, tag };
+        let description = Description::new(rate, channels[0].len(), ids, layout, metadata);
         Recording {
-            rate,
+            description,
             channels,
-            ids,
-            layout,
-            marks,
-            others,
-            tag,
         }
     }
 
-    /// The same recording without its bits: its channels have none. Err is want of memory.
+    /// The recording of this description with these channels, which are moved into it; it takes no memory.
+    pub fn of(description: Description, channels: Vec<Bits>) -> Recording
+        requires { AreDescribed description channels.items }
+        ensures { result ≡ with_channels description channels.items }
+    {
+        Recording {
+            description,
+            channels,
+        }
+    }
+
+    /// The recording without its bits.
+    pub fn description(&self) -> &Description
+        ensures { result.now ≡ described self.now }
+    {
+        let description = &self.description;
+        description
+    }
+
+    /// The recording without its bits, which are let go.
+    pub fn into_description(self) -> Description
+        ensures { result ≡ described self }
+    {
+        self.description
+    }
+
+    /// The same recording without its bits: its channels have none. Err is out of memory.
     pub fn into_silent(self, alloc: Global) -> Result<Recording, AllocError>
         ensures { IfOk result (λ r. r ≡ silent self) }
     {
-        let mut silent = self;
-        silent.channels = silent_channels(alloc, silent.channels.len())?;
-        Ok(silent)
+        Recording::silent(alloc, self.description)
+    }
+
+    /// A recording of this description, but that its channels have no bits. Err is out of memory.
+    pub fn silent(alloc: Global, description: Description) -> Result<Recording, AllocError>
+        ensures { IfOk result (λ r. r ≡ with_channels description (replicate (length description.ids) [])) }
+    {
+        let channels = silent_channels(alloc, description.ids().len())?;
+        let description = description.with_count(0);
+        Ok(Recording {
+            description,
+            channels,
+        })
     }
 
     /// Bits a second of each channel, in hertz.
@@ -85,7 +112,7 @@ impl Recording {
         ensures value { result ≡ self.now.rate }
         ensures in_limits { IsRate result }
     {
-        self.rate
+        self.description.rate()
     }
 
     /// The channels, in the order of their IDs.
@@ -93,6 +120,8 @@ impl Recording {
         ensures value { result.now ≡ self.now.channels }
         ensures shape { HasShape self.now }
     {
+        // Read, so that the description's own shape is known.
+        let _shape = self.description.ids();
         let channels = self.channels.as_slice();
         channels
     }
@@ -102,45 +131,41 @@ impl Recording {
         ensures value { result ≡ count_of self.now.channels }
         ensures in_limit { result ≤ most_bits }
     {
-        self.channels[0].len()
+        self.description.count()
     }
 
     /// The ID of each channel, as of DSDIFF 1.5.
     pub fn ids(&self) -> &[[u8; 4]]
         ensures { result.now ≡ self.now.ids }
     {
-        let ids = self.ids.as_slice();
-        ids
+        self.description.ids()
     }
 
     /// The layout of the channels, a channel type of DSF 1.01.
     pub fn layout(&self) -> u32
         ensures { result ≡ self.now.layout }
     {
-        self.layout
+        self.description.layout()
     }
 
     /// The marks, in the order of the file.
     pub fn marks(&self) -> &[Mark]
         ensures { map mark_content result.now ≡ self.now.marks }
     {
-        let marks = self.marks.as_slice();
-        marks
+        self.description.marks()
     }
 
     /// The chunks that are kept as their bytes, in the order of [`crate::Place`].
     pub fn others(&self) -> &[Other]
         ensures { map other_content result.now ≡ self.now.others }
     {
-        let others = self.others.as_slice();
-        others
+        self.description.others()
     }
 
-    /// What stands behind the sound of a DSF 1.01 file, such as an ID3 tag.
+    /// The bytes after the sound of a DSF 1.01 file, such as an ID3 tag.
     pub fn tag(&self) -> &[u8]
         ensures { result.now ≡ self.now.tag }
     {
-        let tag = self.tag.as_slice();
-        tag
+        self.description.tag()
     }
 }

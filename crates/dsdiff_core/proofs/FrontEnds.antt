@@ -13,7 +13,7 @@ use Rattle.dsd_bits.specs.declared.sound.Sound.{Sound}
 use Rattle.dsd_bits.specs.Ids.{FS, CHNL, CMPR, DSD}
 use Rattle.dsdiff_core.specs.Fields.{form_size}
 use Rattle.dsdiff_core.specs.Forms.{version_of}
-use Rattle.dsdiff_core.specs.Fronts.{answer_of, form_of, frames_of, leading_of, seek, size_at, sound_behind, sound_in}
+use Rattle.dsdiff_core.specs.Fronts.{answer_of, form_of, frames_of, leading_of, located, seek, size_at, sound_behind, sound_in}
 use Rattle.dsdiff_core.specs.Kinds.{is_property}
 use Rattle.dsdiff_core.specs.Laws.{SoundEndsFront}
 use Rattle.dsdiff_core.specs.Properties.{Told, property_of}
@@ -143,7 +143,7 @@ found_again front rest at whole s =
     seek_again (length front) 16 (form_size front) front at s.before (subst (λ (bs : List ℕ). chunks bs s.before) range s.are_before) s.no_gap s.none id whole s.onward (omega (arith, s.fits, here, size)) (omega arith)
 
 ends_at : (front rest : List ℕ) (at : ℕ) (s : Sound) → at + 12 ≤ length front → form_of (front ++ rest) ≡ Ok tt → Sought (front ++ rest) 16 (form_size (front ++ rest)) at → sound_behind (front ++ rest) at ≡ Ok s → sound_in front ≡ Ok (Some s)
-unfolding sound_in
+unfolding sound_in located
 ends_at front rest at s whole form sought is =
     let form_here : form_of front ≡ Ok tt = sym (form_front front rest (omega (arith, sought.onward))) ∙ form in
     let range : slice_range front 16 at ≡ slice_range (front ++ rest) 16 at = sym (part_front (at - 16) 16 front rest (omega (arith, sought.onward))) in

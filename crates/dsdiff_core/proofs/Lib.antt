@@ -7,8 +7,8 @@ pub mod OtherSound
 pub mod WalkLaws
 pub mod Alike
 pub mod AnySound
-pub mod ClosingLaws
-pub mod OutlineLaws
+pub mod HeadLaws
+pub mod HeldLaws
 pub mod SeekLoop
 pub mod FrontSteps
 pub mod RefuseLoop

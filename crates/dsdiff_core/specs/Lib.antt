@@ -13,6 +13,7 @@ pub mod Sounds
 pub mod Masters
 pub mod Fronts
 pub mod Outlines
+pub mod Held
 pub mod Reading
 pub mod Writing
 pub mod ReadAgain

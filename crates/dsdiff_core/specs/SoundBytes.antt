@@ -1,6 +1,7 @@
 -- The sound bytes and the rest of a file.
 use Rattle.std.specs.Prelude.{◌≡◌, ℕ, List, ◌++◌, length, Result, Ok, Err}
-use Rattle.dsd_bits.specs.Contents.{Content}
+use Rattle.chunk_core.specs.Steps.{◌>>=◌}
+use Rattle.dsd_bits.specs.Contents.{Content, Described, described}
 use Rattle.dsd_bits.specs.Lacing.{unlaced_all}
 use Rattle.dsdiff_core.specs.declared.fault.DsdiffFault.{DsdiffFault}
 use Rattle.dsdiff_core.specs.Located.{EndsAtHead, sound_size}
@@ -10,6 +11,10 @@ use Rattle.dsdiff_core.specs.Reading.{recording_of}
 abbrev pub with_sound : List ℕ → Result Content DsdiffFault → Result Content DsdiffFault
 with_sound sound (Ok r) = Ok (record r { channels = unlaced_all sound (length r.ids) })
 with_sound sound (Err e) = Err e
+
+-- what a file tells beside the bits of its sound, or the first fault
+abbrev pub description_of : List ℕ → Result Described DsdiffFault
+description_of file = recording_of file >>= λ r. Ok (described r)
 
 -- other sound bytes, as many of them, change nothing of what is read but the channels
 abbrev pub SoundIsFree : Type 0

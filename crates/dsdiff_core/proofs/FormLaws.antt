@@ -101,6 +101,11 @@ unfolding top_of
 top_again file top t =
     rw (end_again file t.form, t.spans, version_again (map (span_chunk file) top) t.version, once_again (top_kinds file) [] top t.once) refl
 
+-- a form that is there
+pub form_there : (file : List ℕ) → 16 ≤ length file → not (same_id (take 4 file) FRM8) ≡ false → not (same_id (take 4 (drop 12 file)) DSD) ≡ false → 4 ≤ form_size file → 12 + form_size file ≤ length file + 1 → end_of file ≡ Ok (form_end file)
+unfolding end_of
+form_there file long id kind holds fits = rw (le-ltb (length file) 16 long, id, kind, le-ltb (form_size file) 4 holds, le-ltb (length file + 1) (12 + form_size file) fits) refl
+
 -- a form whose size is too small, or goes past the file's end
 pub form_cut : (file : List ℕ) → 16 ≤ length file → not (same_id (take 4 file) FRM8) ≡ false → not (same_id (take 4 (drop 12 file)) DSD) ≡ false
     → (form_size file < 4) ⊎ (length file + 1 < 12 + form_size file) → end_of file ≡ Err faults.FormCut

@@ -2,7 +2,7 @@
 use Rattle.std.proofs.Common.{◌≡◌, ℕ, ◌+◌, ◌-◌, ◌%◌, ◌≤◌, ◌<◌, ◌^◌, ◌⊎◌, inl, inr, min, Bool, true, false, not, List, [], ◌∷◌, ◌++◌, length, map, take, drop, replicate, Result, Ok, Err, refl, sym, ap, ap₂, subst, ◌∙◌, arith}
 use Rattle.std.specs.Prelude.{All, slice_range}
 use Rattle.std.proofs.lemmas.Bool.{cases_lt}
-use Rattle.std.proofs.lemmas.List.{append-nil, drop-append-le, drop_at, length-append, length-replicate, take-append-le}
+use Rattle.std.proofs.lemmas.List.{append-nil, drop-append-le, drop_at, length-append, length-drop, length-replicate, length-take, nil_from_length, take-append-le, take_all}
 use Rattle.std.proofs.lemmas.List.Elements.{All-append, All-weaker}
 use Rattle.chunk_core.specs.declared.fault.ChunkFault.{ChunkFault}
 use Rattle.chunk_core.specs.declared.fault.ChunkFault.TheVariants.{HeadCut, DataCut, Memory}
@@ -11,6 +11,7 @@ use Rattle.chunk_core.specs.Chunks.{chunks}
 use Rattle.chunk_core.specs.Places.{LiesIn, places, span_chunk}
 use Rattle.chunk_core.specs.Reading.{spans_at, spans_in}
 use Rattle.chunk_core.specs.Steps.{Fails as WalkFails}
+use Rattle.chunk_core.proofs.Ranges.{range_after}
 use Rattle.chunk_core.proofs.PlaceLaws.{spans_again}
 use Rattle.chunk_core.proofs.ReadingLaws.{walk_end}
 use Rattle.dsd_bits.specs.declared.marks.Place.{Place}
@@ -20,16 +21,16 @@ use Rattle.dsd_bits.specs.Shape.{has_part}
 use Rattle.dsdiff_core.specs.declared.fault.DsdiffFault.{DsdiffFault}
 use Rattle.dsdiff_core.specs.declared.held.Held.{Held}
 use Rattle.dsdiff_core.specs.Fields.{form_end}
+use Rattle.dsdiff_core.specs.Fronts.{size_at}
 use Rattle.dsdiff_core.specs.Held.{IsAround, IsHeld, MayStand, StandsFor, StandsIn, held}
 use Rattle.dsdiff_core.specs.Located.{sound_size}
 use Rattle.dsdiff_core.specs.Spans.{span_has}
-use Rattle.dsdiff_core.specs.Steps.{Fails, chunk_fault}
+use Rattle.dsdiff_core.specs.Steps.{Fails, chunk_fault, walked}
 use Rattle.dsdiff_core.proofs.AnySound.{end_fits}
-use Rattle.dsdiff_core.proofs.FileLaws.{behind_type}
+use Rattle.dsdiff_core.proofs.Alike.{spans_same}
 use Rattle.dsdiff_core.proofs.KindLaws.{bool_cases}
-use Rattle.dsdiff_core.proofs.LeadLaws.{part_front}
-use Rattle.dsdiff_core.proofs.MasterLaws.{whole_range}
-use Rattle.dsdiff_core.proofs.WalkLaws.{after, sound_span, walk_across}
+use Rattle.dsdiff_core.proofs.LeadLaws.{number_front, part_front}
+use Rattle.dsdiff_core.proofs.WalkLaws.{after, long, sound_span, walk_across}
 use Rattle.dsdiff_core.proofs.OtherSound.{sound_not_kept, tail_is}
 
 pub held_long : (f : Held) → length (held f) ≡ length f.front.now + f.hole + length f.back.now
@@ -90,12 +91,48 @@ pub range_spans : (bytes part : List ℕ) (start stop : ℕ) → slice_range byt
 unfolding spans_in
 range_spans bytes part start stop e = ap (spans_at start) (sym e)
 
--- the data behind the type of a property, and those of a master
-pub behind_spans : (f : Held) (s : Span) (inner : List ℕ) → inner ≡ drop 4 (span_chunk (held f) s).content → spans_at (s.start + 4) inner ≡ spans_in (held f) (s.start + 4) (s.start + s.size)
-behind_spans f s inner e = range_spans (held f) inner (s.start + 4) (s.start + s.size) (behind_type (held f) s ∙ sym e)
+-- the data of a chunk from a place on
+pub inside_spans : (f : Held) (s : Span) (start : ℕ) (part : List ℕ) → s.start ≤ start → part ≡ (span_chunk (held f) s).content → spans_at start (slice_range part (start - s.start) (length part)) ≡ spans_in (held f) start (s.start + s.size)
+inside_spans f s start part low is =
+    let k : ℕ = start - s.start in
+    let size : s.start + s.size - s.start ≡ s.size = omega arith in
+    let content : part ≡ take (s.start + s.size - s.start) (drop s.start (held f)) = is ∙ ap (λ n. take n (drop s.start (held f))) (sym size) in
+    let place : s.start + k ≡ start = omega (arith, low) in
+    let rest : take (length part - k) (drop k part) ≡ drop k part = take_all (length part - k) (drop k part) (omega (arith, length-drop k part)) in
+    range_spans (held f) (slice_range part k (length part)) start (s.start + s.size) (sym (rest ∙ ap (drop k) content ∙ range_after (held f) s.start (s.start + s.size) k ∙ ap (λ n. slice_range (held f) n (s.start + s.size)) place))
 
-pub master_spans : (f : Held) (s : Span) (inner : List ℕ) → inner ≡ (span_chunk (held f) s).content → spans_at s.start inner ≡ spans_in (held f) s.start (s.start + s.size)
-master_spans f s inner e = range_spans (held f) inner s.start (s.start + s.size) (whole_range (held f) s ∙ sym e)
+-- the data of a chunk are as long as it says
+pub may_long : (f : Held) (s : Span) → MayStand f s → length (span_chunk (held f) s).content ≡ s.size
+may_long f s may = omega (arith, length-take s.size (drop s.start (held f)), length-drop s.start (held f), by may)
+  where
+    by : MayStand f s → s.start + s.size ≤ length (held f)
+    by (inr sound) = sound.1
+    by (inl here) = elim here.side [
+      | inl front ↦ omega (arith, front, held_long f)
+      | inr back ↦ omega (arith, back.1, held_long f)
+    ]
+
+-- the chunks and sizes in the front
+pub front_spans : (f : Held) (at : ℕ) → 16 ≤ at → at ≤ length f.front.now → spans_in (held f) 16 at ≡ spans_in f.front.now 16 at
+front_spans f at low high = spans_same (held f) f.front.now 16 at (front_part f 16 (at - 16) (omega (arith, low, high)))
+
+pub lead_may : (f : Held) (at : ℕ) (ss : List Span) → at < 2 ^ 64 → at ≤ length f.front.now → All (LiesIn 16 at) ss → All (MayStand f) ss
+lead_may f at ss few le all = All-weaker (LiesIn 16 at) (MayStand f) (λ s lies. inl (record { short = omega (arith, lies.ends, few); side = inl (omega (arith, lies.ends, le)) })) ss all
+
+pub size_held : (f : Held) (at : ℕ) → at + 12 ≤ length f.front.now → size_at (held f) at ≡ size_at f.front.now at
+size_held f at le = number_front 8 (at + 4) f.front.now (replicate f.hole 0 ++ f.back.now) (omega arith)
+
+-- a file of a form's head has it in its front
+pub front_long : (f : Held) → IsHeld f → 16 ≤ length (held f) → 16 ≤ length f.front.now
+front_long f (inl whole) le = omega (arith, le, ap length (held_front f whole.0 whole.1))
+front_long f (inr a) le = omega (arith, long f.front.now a.0)
+
+pub whole_held : (f : Held) → IsHeld f → f.hole ≡ 0 → length f.back.now ≡ 0 → held f ≡ f.front.now
+whole_held f h none end = held_front f none (nil_from_length f.back.now end)
+
+pub is_around : (f : Held) → IsHeld f → (f.hole ≡ 0 → f.back.now ≡ [] → ⊥) → IsAround f
+is_around f (inl whole) some = absurd (some whole.0 whole.1)
+is_around f (inr a) some = a
 
 -- ---- around a sound
 no_bytes : (bytes : List ℕ) (from stop : ℕ) → stop ≤ from → slice_range bytes from stop ≡ []
@@ -111,7 +148,7 @@ module _ (f : Held) (a : IsAround f) (stop : ℕ) (is : stop ≡ form_end (held 
   abbrev pad : ℕ
   pad = min (f.hole % 2) (stop - behind)
 
-  zeros_long : length (replicate f.hole 0) ≡ sound_size f.front.now
+  zeros_long : length {A = ℕ} (replicate f.hole 0) ≡ sound_size f.front.now
   zeros_long = length-replicate {A = ℕ} f.hole 0 ∙ a.1
 
   pub around_end : (length f.front.now + f.hole ≤ stop) × (stop ≤ length f.front.now + f.hole + length f.back.now)
@@ -160,6 +197,23 @@ module _ (f : Held) (a : IsAround f) (stop : ℕ) (is : stop ≡ form_end (held 
 
   pub sound_may : MayStand f (record { id = DSD; start = length f.front.now; size = f.hole })
   sound_may = inr (refl, omega (arith, held_long f))
+
+-- the place of a sound
+abbrev pub span_at : ℕ → ℕ → Span
+span_at start size = record { id = DSD; start = start; size = size }
+
+-- the chunks behind a pad of so many bytes
+abbrev pub later_at : Held → ℕ → ℕ → Result (List Span) ChunkFault
+later_at f pad stop = spans_at (length f.front.now + f.hole + pad) (slice_range f.back.now pad (stop - (length f.front.now + f.hole)))
+
+pub same_spans : (x y : List Span) → (let r : Result (List Span) ChunkFault = Ok x in r) ≡ Ok y → x ≡ y
+same_spans x y e = cc
+
+-- a fault behind chunks that were found
+pub after_fails : (e : ChunkFault) (front : List Span) (r : Result (List Span) ChunkFault) → WalkFails e r → Fails (chunk_fault e) (walked (after front r))
+after_fails Memory front r h = tt
+after_fails (HeadCut at) front r h = rw h refl
+after_fails (DataCut at) front r h = rw h refl
 
 -- no fault comes of chunks that are found
 pub none_fails : {A B : Type 0} (e : ChunkFault) (r : Result A ChunkFault) (x : A) (reading : Result B DsdiffFault) → r ≡ Ok x → WalkFails e r → Fails (chunk_fault e) reading

@@ -68,7 +68,7 @@ fn form_end(file: Held) -> Result<usize, DsdiffFault>
     if form.size < 4 || ((size - 11) as u64) < form.size {
         return Err(DsdiffFault::FormCut);
     }
-    Ok((12 + form.size as usize).min(size))
+    Ok((form.size as usize).min(size - 12) + 12)
 }
 
 // Refuses another first chunk than a version 1.

@@ -3,12 +3,13 @@
 ghost use Rattle.std.specs.Prelude.{◌≡◌, ◌≤◌, ◌+◌, ◌<◌, ◌^◌, [], All, IfOk, length};
 ghost use Rattle.chunk_core.specs.Places.{span_chunk};
 ghost use Rattle.chunk_core.specs.Reading.{spans_in};
+ghost use Rattle.chunk_core.specs.Steps.{Gives as WalkGives};
 ghost use Rattle.dsdiff_core.specs.Fields.{form_end};
 ghost use Rattle.dsdiff_core.specs.Steps.{Gives, walked};
 ghost use Rattle.dsdiff_core.specs.Held.{IsAround, IsHeld, MayStand, StandsIn, held};
 
 use crate::fault::DsdiffFault;
-use chunk_core::{Span, walk, walk_at};
+use chunk_core::{ChunkFault, Span, walk, walk_at};
 use std::alloc::Global;
 
 /// A file of which the bytes of the sound aren't held: what stands before them, how many they are, and what stands
@@ -54,6 +55,22 @@ pub(crate) fn data_of(file: Held, span: Span) -> &[u8]
         let at = span.start - file.front.len() - file.hole;
         &file.back[at..at + size]
     }
+}
+
+/// The chunks in the data of a chunk, from a place on.
+pub(crate) fn walk_inside(
+    alloc: Global,
+    file: Held,
+    span: Span,
+    start: usize,
+) -> Result<Vec<Span>, ChunkFault>
+    requires stands { StandsIn file span }
+    requires start { (span.start ≤ start) × (start ≤ span.start + span.size) }
+    ensures exact { WalkGives (λ spans. spans.items) result (spans_in (held file.entry) start (span.start + span.size)) }
+    ensures inside { IfOk result (λ spans. All (StandsIn file.entry) spans.items) }
+{
+    let data = data_of(file, span);
+    walk_at(alloc, &data[start - span.start..], start)
 }
 
 /// The chunks of the form, which ends at a place.

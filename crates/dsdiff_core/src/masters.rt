@@ -7,9 +7,9 @@ ghost use Rattle.dsdiff_core.specs.Held.{MayStand, StandsIn, held};
 ghost use Rattle.dsdiff_core.specs.Steps.{Gives};
 
 use crate::fault::DsdiffFault;
-use crate::held::{Held, data_of};
+use crate::held::{Held, data_of, walk_inside};
 use crate::marks::{MARK_FIELDS, text_size};
-use chunk_core::{Span, walk_at};
+use chunk_core::Span;
 use std::alloc::Global;
 
 /// The chunks of each edited master among the form's chunks, one master after the other.
@@ -40,7 +40,7 @@ fn read_master(alloc: Global, file: Held, span: Span) -> Result<Vec<Span>, Dsdif
     ensures inside { IfOk result (λ v. All (StandsIn file.entry) v.items) }
     ensures whole { IfOk result (λ v. has_no_cut_mark (map (span_chunk (held file.entry)) v.items) ≡ true) }
 {
-    let inner = walk_at(alloc, data_of(file, span), span.start)?;
+    let inner = walk_inside(alloc, file, span, span.start)?;
     if !no_mark_is_cut(file, &inner) {
         return Err(DsdiffFault::BadMark);
     }

@@ -8,10 +8,10 @@ ghost use Rattle.dsdiff_core.specs.Held.{MayStand, StandsIn, held};
 ghost use Rattle.dsdiff_core.specs.Steps.{Gives};
 
 use crate::fault::DsdiffFault;
-use crate::held::{Held, data_of};
+use crate::held::{Held, walk_inside};
 use crate::once::refuse_second_in_property;
 use crate::spans::{data_with, first_sound_property};
-use chunk_core::{Order, Span, id_at, u16_at, u32_at, walk_at};
+use chunk_core::{Order, Span, id_at, u16_at, u32_at};
 use dsd_bits::{GREATEST_RATE, LEAST_RATE};
 use std::alloc::Global;
 
@@ -42,8 +42,7 @@ pub(crate) fn read_property(
     let Some(property) = first_sound_property(file, top) else {
         return Err(DsdiffFault::NoProperty);
     };
-    let (_, inner) = data_of(file, property).split_at(4);
-    let parts = walk_at(alloc, inner, property.start + 4)?;
+    let parts = walk_inside(alloc, file, property, property.start + 4)?;
     refuse_second_in_property(&parts)?;
     let (rate, ids) = read_fields(
         alloc,

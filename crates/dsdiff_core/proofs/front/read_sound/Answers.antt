@@ -5,6 +5,7 @@ use Rattle.dsdiff_core.specs.declared.fault.DsdiffFault.{DsdiffFault}
 use Rattle.dsdiff_core.specs.Fronts.{frames_of, size_at, sound_behind, sound_told}
 use Rattle.dsdiff_core.specs.Properties.{property_of, told_of}
 use Rattle.dsdiff_core.specs.Steps.{Fails}
+use Rattle.dsdiff_core.proofs.HeldLaws.{size_held}
 use Rattle.dsdiff_core.proofs.JoinedSteps.{fails_then, step_then}
 use Rattle.dsdiff_core.proofs.Steps.{step_fails}
 use Rattle.dsdiff_core.proofs.ExitLaws.{fault_at}
@@ -36,12 +37,12 @@ pub returns-in_err-check_frames : goal.returns-in_err-check_frames
 unfolding sound_behind
 returns-in_err-check_frames c =
     let long = c.len-number.ensures ∙ c.in_ok-told.told.ids.ok.0 in
-    fault_at _ _ c.from_residual-in_err-check_frames.result _ c.from_residual-in_err-check_frames.ensures.1 (fails_then _ _ _ _ c.in_ok-top.ensures.exact (fails_then _ _ _ _ (subst (λ top. property_of (held c.args.front) top ≡ Ok (told_of c.in_ok-told.told)) c.deref.ensures.value c.in_ok-told.ensures.exact) (step_fails c.in_err-check_frames.field-0.0 _ _ (subst (λ n. Fails c.in_err-check_frames.field-0.0 (frames_of (size_at (held c.args.front) c.args.at) n)) long (subst (λ n. Fails c.in_err-check_frames.field-0.0 (frames_of n c.len-number.result)) c.in-Some.ensures.size c.in_err-check_frames.ensures)))))
+    fault_at _ _ c.from_residual-in_err-check_frames.result _ c.from_residual-in_err-check_frames.ensures.1 (fails_then _ _ _ _ c.in_ok-top.ensures.exact (fails_then _ _ _ _ (subst (λ top. property_of (held c.args.front) top ≡ Ok (told_of c.in_ok-told.told)) c.deref.ensures.value c.in_ok-told.ensures.exact) (step_fails c.in_err-check_frames.field-0.0 _ _ (subst (λ n. Fails c.in_err-check_frames.field-0.0 (frames_of (size_at (held c.args.front) c.args.at) n)) long (subst (λ n. Fails c.in_err-check_frames.field-0.0 (frames_of n c.len-number.result)) (c.in-Some.ensures.size ∙ sym (size_held c.args.front c.args.at c.requires.whole)) c.in_err-check_frames.ensures)))))
 
 pub returns : goal.returns
 unfolding sound_behind
 returns c =
     let told = c.in_ok-told.told in
     let long = c.len-number.ensures ∙ told.ids.ok.0 in
-    let frames = subst (λ n. frames_of (size_at (held c.args.front) c.args.at) n ≡ Ok tt) long (subst (λ n. frames_of n c.len-number.result ≡ Ok tt) c.in-Some.ensures.size c.in_ok-check_frames.ensures) in
-    step_then _ _ _ _ c.in_ok-top.ensures.exact (step_then _ _ _ _ (subst (λ top. property_of (held c.args.front) top ≡ Ok (told_of told)) c.deref.ensures.value c.in_ok-told.ensures.exact) (step_then _ _ _ _ frames (ap₂ (λ (n size : ℕ). let r : Result Sound DsdiffFault = Ok (sound_told told.rate n c.args.at size) in r) (sym long) (sym c.in-Some.ensures.size))))
+    let frames = subst (λ n. frames_of (size_at (held c.args.front) c.args.at) n ≡ Ok tt) long (subst (λ n. frames_of n c.len-number.result ≡ Ok tt) (c.in-Some.ensures.size ∙ sym (size_held c.args.front c.args.at c.requires.whole)) c.in_ok-check_frames.ensures) in
+    step_then _ _ _ _ c.in_ok-top.ensures.exact (step_then _ _ _ _ (subst (λ top. property_of (held c.args.front) top ≡ Ok (told_of told)) c.deref.ensures.value c.in_ok-told.ensures.exact) (step_then _ _ _ _ frames (ap₂ (λ (n size : ℕ). let r : Result Sound DsdiffFault = Ok (sound_told told.rate n c.args.at size) in r) (sym long) (sym (c.in-Some.ensures.size ∙ sym (size_held c.args.front c.args.at c.requires.whole))))))

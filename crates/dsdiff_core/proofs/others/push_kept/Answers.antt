@@ -19,7 +19,7 @@ pub is_read-requires : goal.is_read-requires
 is_read-requires c = c.requires c.loop-span.span-index no_span c.loop-span-test.true
 
 pub data_of-requires : goal.data_of-requires
-data_of-requires c = kept_stands c.args.place c.args.file _ (c.requires c.loop-span.span-index no_span c.loop-span-test.true) ?
+data_of-requires c = kept_stands c.args.place c.args.file _ (c.requires c.loop-span.span-index no_span c.loop-span-test.true) (sym c.is_read.ensures ∙ c.if-not-is_read.true)
 
 pub loop-span-preserved : goal.loop-span-preserved
 loop-span-preserved c =

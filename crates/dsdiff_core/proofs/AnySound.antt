@@ -32,7 +32,9 @@ use Rattle.dsdiff_core.specs.Sounds.{sound_leads, sound_of}
 use Rattle.dsdiff_core.specs.Spans.{data_with, once_each, span_has, top_kinds}
 use Rattle.dsdiff_core.specs.Steps.{walked}
 use Rattle.dsdiff_core.proofs.Alike.{Alike, alike_join, bind_same, inner_same, kept_alike, leads_alike, masters_same, once_alike, parts_same, property_same, same_alike, spans_same, version_alike}
+use Rattle.dsdiff_core.proofs.FileLaws.{parts_ok}
 use Rattle.dsdiff_core.proofs.FormLaws.{end_ok}
+use Rattle.dsdiff_core.proofs.SoundLaws.{sound_ok}
 use Rattle.dsdiff_core.proofs.FrontEnds.{same_spans}
 use Rattle.dsdiff_core.proofs.KindLaws.{bool_cases}
 use Rattle.dsdiff_core.proofs.LeadLaws.{none_first, number_front, part_front}
@@ -192,6 +194,17 @@ module _ (front back : List ℕ) (h : EndsAtHead front) where
         rw (leads_alike F G top t.alike, bytes_of other top size_o t, bytes_of sound top size_s t)
         (taken_alike (sound_leads (map (span_chunk G) top)) sound other (length told.ids) (λ bytes. masters_of F top >>= λ inner. made F top told bytes inner) (λ bytes. masters_of G top >>= λ inner. made G top told bytes inner) (size_o ∙ sym size_s)
         (with_step other (masters_of F top) (masters_of G top) _ _ (masters_same F G top t.alike) (λ inner e3. same_made top inner told t e2 e3)))))
+
+    -- the sound of what is read is whole, and not too long
+    pub sound_fits : (r : Content) → recording_of G ≡ Ok r → (length sound % length r.ids ≡ 0) × (8 * (length sound / length r.ids) ≤ 2 ^ 36)
+    sound_fits r e =
+        let p = parts_ok G r e in
+        let leads : Bool = sound_leads (map (span_chunk G) p.top) in
+        let taken = subst (λ (o : Option (List ℕ)). sound_of leads o (length p.told.ids) ≡ Ok p.sound) (bytes_of sound p.top size_s (top_is p.top p.at_top)) p.at_sound in
+        let s = sound_ok leads (Some sound) (length p.told.ids) p.sound taken in
+        let same : p.sound ≡ sound = cc (s.0) in
+        let ids : length p.told.ids ≡ length r.ids = ap (λ (x : Content). length x.ids) p.made in
+        (ap₂ (λ (k n : ℕ). k % n) (sym (ap length same)) (sym ids) ∙ s.1.whole, subst (λ (n : ℕ). 8 * (length sound / n) ≤ 2 ^ 36) ids (subst (λ (bs : List ℕ). 8 * (length bs / length p.told.ids) ≤ 2 ^ 36) same s.1.not_long))
 
 -- the law
 pub sound_is_free : SoundIsFree

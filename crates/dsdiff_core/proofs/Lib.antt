@@ -9,6 +9,7 @@ pub mod Alike
 pub mod AnySound
 pub mod HeadLaws
 pub mod HeldLaws
+pub mod DescribedLaws
 pub mod SeekLoop
 pub mod FrontSteps
 pub mod RefuseLoop

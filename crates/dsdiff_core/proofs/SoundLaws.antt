@@ -36,15 +36,15 @@ sound_again leads bytes n s = rw (s.behind, s.whole, le-ltb (2 ^ 36) (8 * (lengt
 abbrev counts : ℕ → Result ℕ DsdiffFault
 counts n = Ok n
 
-counted : (bytes : List ℕ) (size n : ℕ) → length bytes ≡ size → (sound_of false (Some bytes) n >>= λ sound. counts (8 * (length sound / n))) ≡ (frames_of size n >>= λ u. counts (8 * (size / n)))
+counted : (bytes : List ℕ) (size n : ℕ) → length bytes ≡ size → (sound_of false (Some bytes) n >>= λ (sound : List ℕ). counts (8 * (length sound / n))) ≡ (frames_of size n >>= λ (u : Unit {0}). counts (8 * (size / n)))
 counted bytes size n e =
-    subst (λ (k : ℕ). (sound_of false (Some bytes) n >>= λ sound. counts (8 * (length sound / n))) ≡ (frames_of k n >>= λ u. counts (8 * (k / n)))) e (by (not (eqb (length bytes % n) 0)) (ltb (2 ^ 36) (8 * (length bytes / n))))
+    subst (λ (k : ℕ). (sound_of false (Some bytes) n >>= λ (sound : List ℕ). counts (8 * (length sound / n))) ≡ (frames_of k n >>= λ (u : Unit {0}). counts (8 * (k / n)))) e (by (not (eqb (length bytes % n) 0)) (ltb (2 ^ 36) (8 * (length bytes / n))))
   where
-    by : (a b : Bool) → (cond a (Err faults.PartFrame) (cond b (Err faults.TooLong) (Ok bytes)) >>= λ sound. counts (8 * (length sound / n))) ≡ (cond a (Err faults.PartFrame) (cond b (Err faults.TooLong) (Ok tt)) >>= λ u. counts (8 * (length bytes / n)))
+    by : (a b : Bool) → (cond a (Err faults.PartFrame) (cond b (Err faults.TooLong) (Ok bytes)) >>= λ (sound : List ℕ). counts (8 * (length sound / n))) ≡ (cond a (Err faults.PartFrame) (cond b (Err faults.TooLong) (Ok tt)) >>= λ (u : Unit {0}). counts (8 * (length bytes / n)))
     by true b = refl
     by false true = refl
     by false false = refl
 
 pub count_is : (file : List ℕ) (top : List Span) (n : ℕ) (s : Span) → find (span_has DSD) top ≡ Some s → sound_leads (map (span_chunk file) top) ≡ false → length (span_chunk file s).content ≡ s.size
-    → count_told file top n ≡ (frames_of s.size n >>= λ u. counts (8 * (s.size / n)))
+    → count_told file top n ≡ (frames_of s.size n >>= λ (u : Unit {0}). counts (8 * (s.size / n)))
 count_is file top n s found behind size = rw (found, behind) (counted (span_chunk file s).content s.size n size)

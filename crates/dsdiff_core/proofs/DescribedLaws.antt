@@ -1,7 +1,7 @@
 -- What a file tells beside its bits, step by step, and the recording of it.
-use Rattle.std.proofs.Common.{◌≡◌, ℕ, ◌+◌, ◌*◌, ◌/◌, ◌%◌, ◌^◌, ◌≤◌, inl, inr, Bool, List, [], ◌++◌, length, map, take, drop, replicate, Option, Some, None, Result, Ok, Err, refl, sym, ap, ap₂, subst, ◌∙◌, arith}
+use Rattle.std.proofs.Common.{◌≡◌, ℕ, ◌+◌, ◌*◌, ◌/◌, ◌%◌, ◌^◌, ◌≤◌, ◌<◌, ◌-◌, inl, inr, Bool, List, [], ◌++◌, length, map, take, drop, replicate, Option, Some, None, Result, Ok, Err, refl, sym, ap, ap₂, subst, ◌∙◌, arith}
 use Rattle.std.proofs.lemmas.Bool.{le-ltb}
-use Rattle.std.proofs.lemmas.List.{append-nil, length-append, length-replicate, nil_from_length}
+use Rattle.std.proofs.lemmas.List.{append-nil, length-append, length-drop, length-replicate, length-take-le, nil_from_length, take-append-drop}
 use Rattle.std.proofs.lemmas.List.FromFn.{length-map-range_with_len}
 use Rattle.byteorder.specs.Endian.{big_number}
 use Rattle.chunk_core.specs.declared.layout.Span.{Span}
@@ -31,7 +31,9 @@ use Rattle.dsdiff_core.proofs.AnySound.{sound_fits, sound_is_free}
 use Rattle.dsdiff_core.proofs.FileLaws.{is_dsdiff, parts_again, parts_from, parts_ok}
 use Rattle.dsdiff_core.proofs.FrontLaws.{found_leads, sound_is_at}
 use Rattle.dsdiff_core.proofs.FrontSteps.{long_front}
-use Rattle.dsdiff_core.proofs.HeldLaws.{held_front}
+use Rattle.dsdiff_core.proofs.HeadLaws.{head_cut}
+use Rattle.dsdiff_core.proofs.HeldLaws.{held_front, held_long}
+use Rattle.dsdiff_core.proofs.LeadLaws.{number_front}
 use Rattle.dsdiff_core.proofs.PropertyLaws.{property_ok}
 use Rattle.dsdiff_core.proofs.ShapeLaws.{count_is, level_is}
 use Rattle.dsdiff_core.proofs.ToldLaws.{found_is_told, sound_is_told}
@@ -211,3 +213,30 @@ accepted_located file accepted =
 
 pub located_ok : (file : List ℕ) (at : ℕ) → 16 ≤ length file → located file ≡ Ok (Some at) → (form_of file ≡ Ok tt) × (seek file ≡ Ok (Some at))
 located_ok file at long e = bind_then (form_of file) (λ form. seek file) (Some at) (sym (long_front file long) ∙ e) (λ u e1 h. (e1, h))
+
+-- a file that is held whole, where no sound is found
+pub unlocated : (file : List ℕ) (f : Held) → held f ≡ file → IsHeld f → f.front.now ≡ file → (IsAccepted file → ⊥) → IsParted file f []
+unlocated file f is h front none =
+    let long : length f.front.now + f.hole + length f.back.now ≡ length f.front.now = sym (held_long f) ∙ ap length (is ∙ sym front) in
+    let end : f.back.now ≡ [] = nil_from_length f.back.now (omega (arith, long)) in
+    record { is_held = h; is = sym front ∙ sym (rw end (append-nil f.front.now)); long = omega (arith, long); located = λ accepted. absurd (none accepted) }
+
+-- a file whose sound isn't found, or isn't whole, is not accepted
+pub not_located : (file : List ℕ) (r : Result (Option ℕ) DsdiffFault) → located file ≡ r → ((at : ℕ) → r ≡ Ok (Some at) → at + 12 + size_at file at ≤ length file → ⊥) → IsAccepted file → ⊥
+not_located file r is never accepted = let l = accepted_located file accepted in never l.0 (sym is ∙ l.1) l.2
+
+-- a file around the sound that is found
+pub parted_at : (file : List ℕ) (at : ℕ) (f : Held) (rest sound : List ℕ) → located file ≡ Ok (Some at) → 16 ≤ at → at + 12 ≤ length file → length file < 2 ^ 64 → f.hole ≡ size_at file at → at + 12 + f.hole ≤ length file
+    → f.front.now ≡ take (at + 12) file → rest ≡ drop (at + 12) file → sound ≡ take f.hole rest → f.back.now ≡ drop f.hole rest → IsParted file f sound
+parted_at file at f rest sound found low high few hole inside front rest_is sound_is back =
+    let l = located_ok file at (omega (arith, low, high)) found in
+    let head : EndsAtHead f.front.now = subst EndsAtHead (sym front) (head_cut file at l.0 l.1) in
+    let front_long : length f.front.now ≡ at + 12 = ap length front ∙ length-take-le (at + 12) file high in
+    let whole : file ≡ f.front.now ++ rest = sym (take-append-drop (at + 12) file) ∙ ap₂ (λ (xs ys : List ℕ). xs ++ ys) (sym front) (sym rest_is) in
+    let split : rest ≡ sound ++ f.back.now = sym (take-append-drop f.hole rest) ∙ ap₂ (λ (xs ys : List ℕ). xs ++ ys) (sym sound_is) (sym back) in
+    let rest_long : length rest ≡ length file - (at + 12) = ap length rest_is ∙ length-drop (at + 12) file in
+    let long : length sound ≡ f.hole = ap length sound_is ∙ length-take-le f.hole rest (omega (arith, rest_long, inside)) in
+    let place : length f.front.now - 12 ≡ at = omega (arith, front_long) in
+    let size : f.hole ≡ sound_size f.front.now = hole ∙ (ap (λ (xs : List ℕ). size_at xs at) whole ∙ number_front 8 (at + 4) f.front.now rest (omega (arith, front_long)) ∙ ap (size_at f.front.now) (sym place)) in
+    let total : length f.front.now + f.hole + length f.back.now < 2 ^ 64 = omega (arith, front_long, inside, few, rest_long, ap length split, length-append sound f.back.now, long) in
+    record { is_held = inr (head, size, total); is = whole ∙ ap (λ xs. f.front.now ++ xs) split; long = long; located = λ accepted. (head, size) }

@@ -4,7 +4,7 @@ use Rattle.chunk_core.specs.declared.fault.ChunkFault.{ChunkFault}
 use Rattle.chunk_core.specs.declared.fault.ChunkFault.TheVariants.{Memory, HeadCut, DataCut}
 use Rattle.chunk_core.specs.Steps.{◌>>=◌, Fails as WalkFails}
 use Rattle.dsdiff_core.specs.declared.fault.DsdiffFault.{DsdiffFault}
-use Rattle.dsdiff_core.specs.Steps.{Fails, Gives, chunk_fault, walked}
+use Rattle.dsdiff_core.specs.Steps.{Fails, chunk_fault, walked}
 
 -- what comes behind a step that went well
 pub step_then : {A B : Type 0} (r : Result A DsdiffFault) (x : A) (f : A → Result B DsdiffFault) (z : Result B DsdiffFault) → r ≡ Ok x → f x ≡ z → (r >>= f) ≡ z
@@ -19,7 +19,3 @@ pub walk_fails : {A : Type 0} (f : ChunkFault) (r : Result A ChunkFault) → Wal
 walk_fails Memory r h = tt
 walk_fails (HeadCut at) r h = rw h refl
 walk_fails (DataCut at) r h = rw h refl
-
--- what a function gives of a reading behind a step that went well
-pub step_gives : {A X Y : Type 0} (view : X → Y) (result : Result X DsdiffFault) (r : Result A DsdiffFault) (x : A) (f : A → Result Y DsdiffFault) → r ≡ Ok x → Gives view result (f x) → Gives view result (r >>= f)
-step_gives view result r x f h k = rw h k

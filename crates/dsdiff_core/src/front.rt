@@ -16,7 +16,7 @@ use crate::form::leading_chunks;
 use crate::held::{Held, whole};
 use crate::property::read_property;
 use crate::sound::check_frames;
-use chunk_core::{ChunkFault, Order, head, id_at};
+use chunk_core::{ChunkFault, Order, head, id_at, u64_at};
 use dsd_bits::{Interleaving, Sound, SoundAt};
 use std::alloc::{AllocError, Global};
 
@@ -68,40 +68,36 @@ fn read_front(alloc: Global, front: &[u8]) -> Result<Option<Sound>, DsdiffFault>
 /// Where the head of the sound of a file stands, told by the front of the file alone; none where more bytes are wanted.
 /// A fault says that no file that begins so has a sound that can be read.
 pub(crate) fn locate(front: &[u8]) -> Result<Option<usize>, DsdiffFault>
-    ensures exact { Gives (λ x. x) result (located front.now) }
+    ensures exact { located front.now ≡ result }
     ensures whole { IfOk result (λ x. IfSome x (λ at. (16 ≤ at) × (at + 12 ≤ length front.now))) }
 {
     if front.len() < 16 {
         return Ok(None);
     }
-    let size = form_size(front)?;
-    find_head(front, size)
+    check_form(front)?;
+    find_head(front, u64_at(Order::Big, front, 4))
 }
 
-// The size of the form that begins.
+// Refuses a front in which no form begins.
 #[tactic(auto, unfolding(crate::specs::Fronts::form_of))]
-fn form_size(front: &[u8]) -> Result<u64, DsdiffFault>
+fn check_form(front: &[u8]) -> Result<(), DsdiffFault>
     requires { 16 ≤ length front.now }
-    ensures exact { Gives (λ _. tt) result (form_of front.now) }
-    ensures size { IfOk result (λ n. n ≡ form_size front.now) }
+    ensures { form_of front.now ≡ result }
 {
-    let Some(form) = head(Order::Big, front, 0) else {
-        return Err(DsdiffFault::NotDsdiff);
-    };
-    if form.id != *b"FRM8" || id_at(front, 12) != *b"DSD " {
+    if id_at(front, 0) != *b"FRM8" || id_at(front, 12) != *b"DSD " {
         return Err(DsdiffFault::NotDsdiff);
     }
-    if form.size < 4 {
+    if u64_at(Order::Big, front, 4) < 4 {
         return Err(DsdiffFault::FormCut);
     }
-    Ok(form.size)
+    Ok(())
 }
 
 // Where the head of the sound stands in a form of this size, and none where more bytes are wanted.
 fn find_head(front: &[u8], size: u64) -> Result<Option<usize>, DsdiffFault>
     requires long { 16 ≤ length front.now }
     requires size { size ≡ form_size front.now }
-    ensures exact { Gives (λ x. x) result (seek front.now) }
+    ensures exact { seek front.now ≡ result }
     ensures whole { IfOk result (λ x. IfSome x (λ at. (16 ≤ at) × (at + 12 ≤ length front.now))) }
 {
     let mut at = 16;

@@ -1,8 +1,9 @@
 //! A whole file.
 
-ghost use Rattle.std.specs.Prelude.{◌≡◌, List, ℕ, IfOk, Ok};
+ghost use Rattle.std.specs.Prelude.{◌≡◌, ◌≤◌, ◌+◌, List, ℕ, IfOk, Ok, Some, length};
 ghost use Rattle.dsd_bits.specs.Contents.{Content};
 ghost use Rattle.dsdiff_core.specs.Files.{IsDsdiff};
+ghost use Rattle.dsdiff_core.specs.Fronts.{located};
 ghost use Rattle.dsdiff_core.specs.Held.{IsParted};
 ghost use Rattle.dsdiff_core.specs.Reading.{recording_of};
 ghost use Rattle.dsdiff_core.specs.Steps.{Gives};
@@ -54,7 +55,7 @@ pub fn read(alloc: Global, file: &[u8]) -> Result<Recording, DsdiffFault>
 fn read_in_order(alloc: Global, file: &[u8]) -> Result<Recording, DsdiffFault>
     ensures { Gives (λ r. r) result (recording_of file.now) }
 {
-    let (held, sound) = part(file)?;
+    let (held, sound) = part(file);
     let description = describe_held(alloc, held)?;
     let number = description.ids().len();
     let channels = channels_of(alloc, sound, number)?;
@@ -62,21 +63,28 @@ fn read_in_order(alloc: Global, file: &[u8]) -> Result<Recording, DsdiffFault>
 }
 
 // The file around its sound, and the bytes of that. Where no sound is found, the file is held whole, and it is refused.
-fn part(file: &[u8]) -> Result<(Held, &[u8]), DsdiffFault>
-    ensures part { IfOk result (λ p. IsParted file.now p.0 p.1.now) }
-    ensures only { (e : DsdiffFault) → result ≡ Err e → e ≡ DsdiffFault.Memory }
+fn part(file: &[u8]) -> (Held, &[u8])
+    ensures { IsParted file.now result.0 result.1.now }
 {
-    let at = match locate(file) {
-        Ok(Some(at)) => at,
-        Err(DsdiffFault::Memory) => return Err(DsdiffFault::Memory),
-        _ => return Ok((whole(file), &[])),
-    };
+    match locate(file) {
+        Ok(Some(at)) => part_at(file, at),
+        Ok(None) => (whole(file), &[]),
+        Err(_) => (whole(file), &[]),
+    }
+}
+
+// The same by the place of the head of the sound.
+fn part_at(file: &[u8], at: usize) -> (Held, &[u8])
+    requires located { located file.now ≡ Ok (Some at) }
+    requires inside { (16 ≤ at) × (at + 12 ≤ length file.now) }
+    ensures { IsParted file.now result.0 result.1.now }
+{
     let size = u64_at(Order::Big, file, at + 4);
     if ((file.len() - at - 12) as u64) < size {
-        return Ok((whole(file), &[]));
+        return (whole(file), &[]);
     }
     let hole = size as usize;
     let (front, rest) = file.split_at(at + 12);
     let (sound, back) = rest.split_at(hole);
-    Ok((Held { front, hole, back }, sound))
+    (Held { front, hole, back }, sound)
 }

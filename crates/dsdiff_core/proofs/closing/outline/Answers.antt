@@ -1,3 +1,6 @@
+use Rattle.std.proofs.Common.{◌≡◌, ℕ, Ok, Err, replicate, ap, sym, subst, ◌∙◌}
+use Rattle.std.proofs.lemmas.List.{length-replicate}
+use Rattle.dsdiff_core.proofs.DescribedLaws.{accepts, refuses}
 use Rattle.dsdiff_core.proofs.HeadLaws.{ends_at_head}
 use Rattle.dsdiff_core.proofs.closing.outline.Goals as goal
 

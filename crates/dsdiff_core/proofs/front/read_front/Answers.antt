@@ -3,12 +3,12 @@ use Rattle.dsdiff_core.specs.Fronts.{sound_behind, sound_in}
 use Rattle.dsdiff_core.specs.Steps.{Fails}
 use Rattle.dsdiff_core.proofs.ExitLaws.{fault_at}
 use Rattle.dsdiff_core.proofs.JoinedSteps.{fails_then, step_then}
-use Rattle.dsdiff_core.proofs.Steps.{step_fails}
+use Rattle.dsdiff_core.proofs.Steps.{is_fault, step_fails}
 use Rattle.dsdiff_core.proofs.front.read_front.Goals as goal
 
 pub returns-in_err-at : goal.returns-in_err-at
 unfolding sound_in
-returns-in_err-at c = fault_at _ _ c.from_residual.result _ c.from_residual.ensures.1 (step_fails c.in_err-at.field-0.0 _ _ c.in_err-at.ensures.exact)
+returns-in_err-at c = fault_at _ _ c.from_residual.result _ c.from_residual.ensures.1 (step_fails c.in_err-at.field-0.0 _ _ (is_fault c.in_err-at.field-0.0 _ c.in_err-at.ensures.exact))
 
 pub returns-in_default : goal.returns-in_default
 unfolding sound_in

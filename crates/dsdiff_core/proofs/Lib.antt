@@ -10,6 +10,7 @@ pub mod AnySound
 pub mod HeadLaws
 pub mod HeldLaws
 pub mod DescribedLaws
+pub mod ClosingLaws
 pub mod SeekLoop
 pub mod FrontSteps
 pub mod RefuseLoop

@@ -1,5 +1,5 @@
 -- The sound bytes and the rest of a file.
-use Rattle.std.specs.Prelude.{◌≡◌, ℕ, List, ◌++◌, length, Result, Ok, Err}
+use Rattle.std.specs.Prelude.{◌≡◌, ℕ, List, ◌++◌, length, replicate, Result, Ok, Err}
 use Rattle.chunk_core.specs.Steps.{◌>>=◌}
 use Rattle.dsd_bits.specs.Contents.{Content, Described, described}
 use Rattle.dsd_bits.specs.Lacing.{unlaced_all}
@@ -15,6 +15,10 @@ with_sound sound (Err e) = Err e
 -- what a file tells beside the bits of its sound, or the first fault
 abbrev pub description_of : List ℕ → Result Described DsdiffFault
 description_of file = recording_of file >>= λ r. Ok (described r)
+
+-- the file around a sound of zeros
+abbrev pub with_zeros : List ℕ → List ℕ → List ℕ
+with_zeros front back = front ++ (replicate (sound_size front) 0 ++ back)
 
 -- other sound bytes, as many of them, change nothing of what is read but the channels
 abbrev pub SoundIsFree : Type 0

@@ -1,15 +1,17 @@
 //! What the bytes around the sound of a file say of it.
 
 ghost use Rattle.std.specs.Prelude.{◌≡◌, ◌≤◌, ◌+◌, ◌-◌, ◌++◌, ◌↔◌, IfOk, length, replicate, true};
+ghost use Rattle.std.specs.Result.{result_ok};
 ghost use Rattle.dsd_bits.specs.declared.sound.Sound.{Sound};
 ghost use Rattle.dsdiff_core.specs.Fronts.{EndsAt, EndsAtSound, IsAccepted, left_behind, size_at};
 ghost use Rattle.dsdiff_core.specs.Located.{EndsAtHead, sound_size};
 ghost use Rattle.dsdiff_core.specs.Outlines.{TellsOutline};
+ghost use Rattle.dsdiff_core.specs.SoundBytes.{description_of, with_zeros};
 
-use crate::describing::describe;
+use crate::describing::describe_around;
 use crate::fault::DsdiffFault;
 use chunk_core::{Order, u64_at};
-use dsd_bits::Recording;
+use dsd_bits::{Description, Recording};
 use std::alloc::{AllocError, Global};
 
 /// How many bytes of the form stand behind the sound of a file that begins with `front`, which ends where the
@@ -43,11 +45,7 @@ pub fn closes(alloc: Global, front: &[u8], back: &[u8]) -> Result<bool, AllocErr
     ensures { (s : Sound) → EndsAt front.now s → IfOk result (λ b. (b ≡ true)
         ↔ IsAccepted (front.now ++ (replicate s.size 0 ++ back.now))) }
 {
-    match describe(alloc, front, back) {
-        Ok(_) => Ok(true),
-        Err(DsdiffFault::Memory) => Err(AllocError),
-        Err(_) => Ok(false),
-    }
+    Ok(told_around(alloc, front, back)?.is_some())
 }
 
 /// What a file tells beside its bits that is `front`, which ends where the sound starts, as many bytes as the
@@ -59,8 +57,23 @@ pub fn outline(alloc: Global, front: &[u8], back: &[u8]) -> Result<Option<Record
     requires { EndsAtSound front.now }
     ensures { (s : Sound) → EndsAt front.now s → IfOk result (TellsOutline front.now s back.now) }
 {
-    match describe(alloc, front, back) {
-        Ok(description) => Ok(Some(Recording::silent(alloc, description)?)),
+    let Some(description) = told_around(alloc, front, back)? else {
+        return Ok(None);
+    };
+    Ok(Some(Recording::silent(alloc, description)?))
+}
+
+// What is described, where it is accepted.
+fn told_around(
+    alloc: Global,
+    front: &[u8],
+    back: &[u8],
+) -> Result<Option<Description>, AllocError>
+    requires { EndsAtHead front.now }
+    ensures { IfOk result (λ o. o ≡ result_ok (description_of (with_zeros front.now back.now))) }
+{
+    match describe_around(alloc, front, back) {
+        Ok(description) => Ok(Some(description)),
         Err(DsdiffFault::Memory) => Err(AllocError),
         Err(_) => Ok(None),
     }

@@ -3,7 +3,7 @@
 ghost use Rattle.std.specs.Prelude.{◌≡◌, ◌++◌, List, ℕ, length};
 ghost use Rattle.dsdiff_core.specs.Held.{IsHeld, held};
 ghost use Rattle.dsdiff_core.specs.Located.{EndsAtHead, sound_size};
-ghost use Rattle.dsdiff_core.specs.SoundBytes.{description_of};
+ghost use Rattle.dsdiff_core.specs.SoundBytes.{description_of, with_zeros};
 ghost use Rattle.dsdiff_core.specs.Steps.{Gives};
 
 use crate::fault::DsdiffFault;
@@ -28,8 +28,22 @@ pub fn describe(alloc: Global, front: &[u8], back: &[u8]) -> Result<Description,
     ensures { (sound : List ℕ) → length sound ≡ sound_size front.now
         → Gives (λ d. d) result (description_of (front.now ++ (sound ++ back.now))) }
 {
+    describe_around(alloc, front, back)
+}
+
+/// The same with zeros for the sound.
+pub(crate) fn describe_around(
+    alloc: Global,
+    front: &[u8],
+    back: &[u8],
+) -> Result<Description, DsdiffFault>
+    requires { EndsAtHead front.now }
+    ensures { Gives (λ d. d) result (description_of (with_zeros front.now back.now)) }
+{
     let size = u64_at(Order::Big, front, front.len() - 8);
-    if u64::MAX - size < front.len() as u64 || u64::MAX - size - (front.len() as u64) < back.len() as u64 {
+    if u64::MAX - size < front.len() as u64
+        || u64::MAX - size - (front.len() as u64) < back.len() as u64
+    {
         return Err(DsdiffFault::Memory);
     }
     let hole = size as usize;

@@ -1,18 +1,18 @@
 -- The walk as a loop does it.
-use Rattle.std.proofs.Common.{◌≡◌, ℕ, ◌+◌, ◌-◌, ◌%◌, ◌≤◌, ◌<◌, List, [], ◌∷◌, ◌++◌, length, map, drop, Result, Ok, Err, refl, sym, ap, subst, ◌∙◌, append_assoc, arith}
-use Rattle.std.specs.Prelude.{slice_range, All}
-use Rattle.std.proofs.lemmas.List.{append-nil, length-take, length-drop, map_push}
+use Rattle.std.proofs.Common.{◌≡◌, ℕ, ◌+◌, ◌-◌, ◌%◌, ◌≤◌, ◌<◌, List, [], ◌∷◌, ◌++◌, length, map, replicate, take, drop, Result, Ok, Err, refl, sym, ap, subst, ◌∙◌, append_assoc, arith}
+use Rattle.std.specs.Prelude.{slice_range, All, IfOk}
+use Rattle.std.proofs.lemmas.List.{append-nil, drop-drop, drop_at, length-append, length-drop, length-replicate, length-take, map_push, take_all}
 use Rattle.std.proofs.lemmas.List.Elements.{All-push}
 use Rattle.chunk_core.specs.declared.layout.Span.{Span}
 use Rattle.chunk_core.specs.declared.fault.ChunkFault.{ChunkFault}
 use Rattle.chunk_core.specs.declared.fault.ChunkFault.TheVariants.{HeadCut, DataCut, Memory}
 use Rattle.chunk_core.specs.Chunks.{Chunk, chunks, width}
 use Rattle.chunk_core.specs.Places.{LiesIn, places, span_chunk}
-use Rattle.chunk_core.specs.Reading.{first_of, spans_in, walk_of}
+use Rattle.chunk_core.specs.Reading.{chunk_of, first_of, spans_at, spans_in, walk_of}
 use Rattle.chunk_core.specs.Steps.{◌>>=◌, Fails, Gives}
 use Rattle.chunk_core.proofs.ReadingLaws.{walk_step, walk_end}
-use Rattle.chunk_core.proofs.PlaceLaws.{end_of, end_push, places_push, span_long, spans_again}
-use Rattle.chunk_core.proofs.Ranges.{range_after}
+use Rattle.chunk_core.proofs.PlaceLaws.{end_of, end_push, places_push, span_long, spans_again, spans_found}
+use Rattle.chunk_core.proofs.Ranges.{range_after, range_inner}
 
 -- what was found before, and what is still found
 abbrev pub with_front : List Chunk → Result (List Chunk) ChunkFault → Result (List Chunk) ChunkFault
@@ -116,3 +116,42 @@ module _ (xs : List ℕ) (start at stop : ℕ) (spans : List Span) (w : IsWalked
 pub only_these : {X : Type 0} (view : X → List Span) (r : Result X ChunkFault) (xs : List ℕ) (start stop : ℕ) → Gives view r (spans_in xs start stop)
     → (cs : List Chunk) → chunks (slice_range xs start stop) cs → Gives view r (Ok (places start cs))
 only_these view r xs start stop h cs k = subst (λ (found : Result (List Span) ChunkFault). Gives view r found) (spans_again xs start stop cs k).0 h
+
+-- what is found are the chunks of the range, at their places
+pub found_all : {X : Type 0} (view : X → List Span) (r : Result X ChunkFault) (xs : List ℕ) (start stop : ℕ) → Gives view r (spans_in xs start stop)
+    → IfOk r (λ x. chunks (slice_range xs start stop) (map (span_chunk xs) (view x))) × IfOk r (λ x. view x ≡ places start (map (span_chunk xs) (view x)))
+found_all view (Ok x) xs start stop h = spans_found xs start stop (view x) h
+found_all view (Err e) xs start stop h = (tt, tt)
+
+-- ---- bytes that stand at a place
+
+-- a file that has them there
+abbrev pub set_at : ℕ → List ℕ → List ℕ
+set_at at bytes = replicate at 0 ++ bytes
+
+module _ (at : ℕ) (bytes : List ℕ) where
+  behind : (k : ℕ) → drop (at + k) (set_at at bytes) ≡ drop k bytes
+  behind k = sym (drop-drop k at (set_at at bytes)) ∙ ap (drop k) (drop_at (replicate at 0) bytes at (length-replicate {A = ℕ} at 0))
+
+  pub left : (done : ℕ) → slice_range (set_at at bytes) (at + done) (at + length bytes) ≡ slice_range bytes done (length bytes)
+  left done =
+      let few : at + length bytes - (at + done) ≡ length bytes - done = omega arith in
+      ap (take (at + length bytes - (at + done))) (behind done) ∙ ap (λ n. take n (drop done bytes)) few
+
+  pub whole : slice_range (set_at at bytes) at (at + length bytes) ≡ bytes
+  whole =
+      let here : at + 0 ≡ at = omega arith in
+      subst (λ (n : ℕ). slice_range (set_at at bytes) n (at + length bytes) ≡ bytes) here (left 0 ∙ take_all (length bytes - 0) bytes (omega arith))
+
+  pub set_long : length (set_at at bytes) ≡ at + length bytes
+  set_long = omega (arith, length-append (replicate at 0) bytes, length-replicate {A = ℕ} at 0)
+
+  -- its spans are theirs
+  pub set_spans : spans_in (set_at at bytes) at (at + length bytes) ≡ spans_at at bytes
+  unfolding spans_in
+  set_spans = ap (spans_at at) whole
+
+  pub set_chunk : (done : ℕ) (s : Span) → 12 + s.size ≤ length bytes - done → s.start ≡ at + done + 12 → chunk_of s.id s.size (slice_range bytes done (length bytes)) ≡ span_chunk (set_at at bytes) s
+  set_chunk done s fits e =
+      let place : s.start ≡ at + (done + 12) = omega (arith, e) in
+      ap (λ (xs : List ℕ). record { id = s.id; content = xs }) (range_inner bytes done (length bytes) 12 s.size fits ∙ ap (take s.size) (sym (behind (done + 12)) ∙ ap (λ n. drop n (set_at at bytes)) (sym place)))

@@ -12,6 +12,10 @@ use Rattle.chunk_core.specs.Steps.{◌>>=◌}
 abbrev pub size_of : List ℕ → ℕ
 size_of bytes = big_number 8 (drop 4 bytes)
 
+-- the chunk of this ID and size at the front of some bytes
+abbrev pub chunk_of : List ℕ → ℕ → List ℕ → Chunk
+chunk_of id size bytes = record { id = id; content = take size (drop 12 bytes) }
+
 -- the chunk at the front of bytes that stand at a place
 unfoldable pub first_of : ℕ → List ℕ → Result Chunk ChunkFault
 first_of at bytes =
@@ -31,8 +35,10 @@ walk_for (suc steps) at bytes = if length bytes == 0 then Ok [] else do
 unfoldable pub walk_of : ℕ → List ℕ → Result (List Chunk) ChunkFault
 walk_of at bytes = walk_for (length bytes) at bytes
 
+-- the spans of the chunks of bytes that stand at a place
+abbrev pub spans_at : ℕ → List ℕ → Result (List Span) ChunkFault
+spans_at at bytes = walk_of at bytes >>= λ cs. Ok (places at cs)
+
 -- the spans of the chunks of a range
 unfoldable pub spans_in : List ℕ → ℕ → ℕ → Result (List Span) ChunkFault
-spans_in bytes start stop = do
-  cs ← walk_of start (slice_range bytes start stop)
-  Ok (places start cs)
+spans_in bytes start stop = spans_at start (slice_range bytes start stop)

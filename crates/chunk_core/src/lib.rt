@@ -5,7 +5,8 @@
 //! DSF 1.01 ([`Order`]). In DSDIFF, as in IFF, one pad byte follows odd data. The size counts neither
 //! the head nor the pad.
 //!
-//! [`head`] reads one head, [`walk`] finds the DSDIFF chunks that a range of bytes is made of, and
+//! [`head`] reads one head, [`walk`] finds the DSDIFF chunks that a range of bytes is made of, [`walk_at`] those of
+//! bytes that stand at a place of a file, and
 //! [`u16_at`], [`u32_at`], [`u64_at`] and [`id_at`] read what stands at a place. [`push_chunk`],
 //! [`push_u16`], [`push_u32`] and [`push_u64`] write chunks and numbers at the end of some bytes. What is read is
 //! never trusted for its size: a size goes up to `2^64-1`, and nothing is allocated for data that were only
@@ -18,7 +19,7 @@
 //! - `places start cs` (`specs/Places.antt`): the spans of chunks that stand from `start` on, and
 //!   `span_chunk bytes` the way back, from a span to the chunk whose data stand there.
 //! - `spans_in bytes start stop` (`specs/Reading.antt`): the spans of a range or the first fault in
-//!   it, chunk by chunk.
+//!   it, chunk by chunk; `spans_at at bytes` is that of bytes which stand at a place.
 //! - `number_at`, `bytes_of`, `id_at` (`specs/Numbers.antt`) and `IsHeadAt` (`specs/Heads.antt`): numbers
 //!   and heads in either order, and IDs.
 //! - `>>=`, `Gives` (`specs/Steps.antt`): steps that may fail, and what a function gives of them when
@@ -53,4 +54,4 @@ pub use laws::{one_list, spans_again, spans_found, spelled_again};
 pub use layout::{Head, Span};
 pub use numbers::{Order, id_at, push_u16, push_u32, push_u64, u16_at, u32_at, u64_at, u64_bytes};
 pub use spelling::push_chunk;
-pub use walking::walk;
+pub use walking::{walk, walk_at};

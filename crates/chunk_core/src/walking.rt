@@ -1,9 +1,9 @@
 //! From chunk to chunk through a range.
 
-ghost use Rattle.std.specs.Prelude.{◌≡◌, ◌≤◌, ◌+◌, List, length, map, slice_range, All, IfOk, Ok};
+ghost use Rattle.std.specs.Prelude.{◌≡◌, ◌≤◌, ◌+◌, ◌<◌, ◌^◌, List, length, map, slice_range, All, IfOk, Ok};
 ghost use Rattle.chunk_core.specs.Chunks.{Chunk, chunks};
 ghost use Rattle.chunk_core.specs.Places.{LiesIn, places, span_chunk};
-ghost use Rattle.chunk_core.specs.Reading.{first_of, spans_in};
+ghost use Rattle.chunk_core.specs.Reading.{chunk_of, first_of, spans_at, spans_in};
 ghost use Rattle.chunk_core.specs.Steps.{Gives};
 
 use crate::fault::ChunkFault;
@@ -33,24 +33,34 @@ pub fn walk(alloc: Global, bytes: &[u8], start: usize, stop: usize) -> Result<Ve
 
     ensures inside { IfOk result (λ spans. All (LiesIn start stop) spans.items) }
 {
+    walk_at(alloc, &bytes[start..stop], start)
+}
+
+/// The DSDIFF chunks that some bytes are made of, by their places in a file where these bytes stand at `at`: what
+/// [`walk`] finds there. The faults are the same.
+pub fn walk_at(alloc: Global, bytes: &[u8], at: usize) -> Result<Vec<Span>, ChunkFault>
+    requires { at + length bytes.now < 2 ^ 64 }
+    ensures exact { Gives (λ spans. spans.items) result (spans_at at bytes.now) }
+    ensures inside { IfOk result (λ spans. All (LiesIn at (at + length bytes.now)) spans.items) }
+{
     let mut spans = Vec::new(alloc);
-    let mut at = start;
-    while at < stop {
-        let span = span_at(bytes, at, stop)?;
-        at = span.start + span.size + span.size % 2;
+    let mut done = 0;
+    while done < bytes.len() {
+        let span = span_at(&bytes[done..], at + done)?;
+        done += 12 + span.size + span.size % 2;
         spans.push(span)?;
     }
     Ok(spans)
 }
 
-// The chunk whose head stands at a place.
-fn span_at(bytes: &[u8], at: usize, stop: usize) -> Result<Span, ChunkFault>
-    requires { (at ≤ stop) × (stop ≤ length bytes.now) }
-    ensures exact { Gives (span_chunk bytes.now) result (first_of at (slice_range bytes.now at stop)) }
+// The chunk at the front of bytes that stand at a place.
+#[tactic(auto, unfolding(crate::specs::Reading::first_of))]
+fn span_at(here: &[u8], at: usize) -> Result<Span, ChunkFault>
+    requires { at + length here.now < 2 ^ 64 }
+    ensures exact { Gives (λ s. chunk_of s.id s.size here.now) result (first_of at here.now) }
     ensures start { IfOk result (λ span. span.start ≡ at + 12) }
-    ensures inside { IfOk result (λ span. span.start + span.size ≤ stop) }
+    ensures inside { IfOk result (λ span. 12 + span.size ≤ length here.now) }
 {
-    let here = &bytes[at..stop];
     let Some(found) = head(Order::Big, here, 0) else {
         return Err(ChunkFault::HeadCut(at));
     };

@@ -7,3 +7,8 @@ use Rattle.dsdiff_core.specs.Steps.{Fails, Gives}
 pub fault_at : {X Y : Type 0} (view : X → Y) (e : DsdiffFault) (r : Result X DsdiffFault) (reading : Result Y DsdiffFault) → IsErrAnd r (λ f. f ≡ e) → Fails e reading → Gives view r reading
 fault_at view e (Ok x) reading h k = absurd h
 fault_at view e (Err f) reading h k = rw h k
+
+-- the same where memory can't be wanted
+pub exact_at : {X : Type 0} (e : DsdiffFault) (r reading : Result X DsdiffFault) → IsErrAnd r (λ f. f ≡ e) → reading ≡ Err e → reading ≡ r
+exact_at e (Ok x) reading h k = absurd h
+exact_at e (Err f) reading h k = rw h k

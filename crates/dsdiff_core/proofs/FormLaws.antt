@@ -29,7 +29,7 @@ pub record IsForm (file : List ℕ) : Type 0 where
   pub holds_type : 4 ≤ form_size file
   pub in_file : 12 + form_size file ≤ length file + 1
 
-end_ok : (file : List ℕ) (n : ℕ) → end_of file ≡ Ok n → IsForm file × (form_end file ≡ n)
+pub end_ok : (file : List ℕ) (n : ℕ) → end_of file ≡ Ok n → IsForm file × (form_end file ≡ n)
 unfolding end_of
 end_ok file n e =
     let a = guard_ok _ _ _ _ e in
@@ -100,6 +100,11 @@ pub top_again : (file : List ℕ) (top : List Span) → IsTop file top → top_o
 unfolding top_of
 top_again file top t =
     rw (end_again file t.form, t.spans, version_again (map (span_chunk file) top) t.version, once_again (top_kinds file) [] top t.once) refl
+
+-- a form that is there
+pub form_there : (file : List ℕ) → 16 ≤ length file → not (same_id (take 4 file) FRM8) ≡ false → not (same_id (take 4 (drop 12 file)) DSD) ≡ false → 4 ≤ form_size file → 12 + form_size file ≤ length file + 1 → end_of file ≡ Ok (form_end file)
+unfolding end_of
+form_there file long id kind holds fits = rw (le-ltb (length file) 16 long, id, kind, le-ltb (form_size file) 4 holds, le-ltb (length file + 1) (12 + form_size file) fits) refl
 
 -- a form whose size is too small, or goes past the file's end
 pub form_cut : (file : List ℕ) → 16 ≤ length file → not (same_id (take 4 file) FRM8) ≡ false → not (same_id (take 4 (drop 12 file)) DSD) ≡ false

@@ -13,7 +13,7 @@ use Rattle.dsd_bits.specs.declared.sound.Sound.{Sound}
 use Rattle.dsd_bits.specs.Ids.{FS, CHNL, CMPR, DSD}
 use Rattle.dsdiff_core.specs.Fields.{form_size}
 use Rattle.dsdiff_core.specs.Forms.{version_of}
-use Rattle.dsdiff_core.specs.Fronts.{answer_of, form_of, frames_of, leading_of, seek, size_at, sound_behind, sound_in}
+use Rattle.dsdiff_core.specs.Fronts.{answer_of, form_of, frames_of, leading_of, located, seek, size_at, sound_behind, sound_in}
 use Rattle.dsdiff_core.specs.Kinds.{is_property}
 use Rattle.dsdiff_core.specs.Laws.{SoundEndsFront}
 use Rattle.dsdiff_core.specs.Properties.{Told, property_of}
@@ -30,14 +30,14 @@ use Rattle.dsdiff_core.proofs.Steps.{walked_ok}
 -- ---- spans that hold the same chunks in two files
 
 -- the spans hold the same chunks in both
-abbrev Same : List ℕ → List ℕ → List Span → Type 0
+abbrev pub Same : List ℕ → List ℕ → List Span → Type 0
 Same short front ss = map (span_chunk short) ss ≡ map (span_chunk front) ss
 
-firsts : (c d : Chunk) (cs ds : List Chunk) → c ∷ cs ≡ d ∷ ds → (c ≡ d) × (cs ≡ ds)
+pub firsts : (c d : Chunk) (cs ds : List Chunk) → c ∷ cs ≡ d ∷ ds → (c ≡ d) × (cs ≡ ds)
 firsts c d cs ds e = (cc (e), cc (e))
 
 -- the spans of the same bytes are the same, and hold the same chunks
-same_spans : (short front : List ℕ) (start stop : ℕ) (ss : List Span) → slice_range short start stop ≡ slice_range front start stop → spans_in front start stop ≡ Ok ss → (spans_in short start stop ≡ Ok ss) × Same short front ss
+pub same_spans : (short front : List ℕ) (start stop : ℕ) (ss : List Span) → slice_range short start stop ≡ slice_range front start stop → spans_in front start stop ≡ Ok ss → (spans_in short start stop ≡ Ok ss) × Same short front ss
 same_spans short front start stop ss same e =
     let cs : List Chunk = map (span_chunk front) ss in
     let found = spans_found front start stop ss e in
@@ -68,7 +68,7 @@ same_chunk short front test (s ∷ ss) p e f =
     ]
 
 -- the first with an ID has the same data
-same_data : (short front id : List ℕ) (ss : List Span) → Same short front ss → data_with short id ss ≡ data_with front id ss
+pub same_data : (short front id : List ℕ) (ss : List Span) → Same short front ss → data_with short id ss ≡ data_with front id ss
 same_data short front id [] e = refl
 same_data short front id (s ∷ ss) e =
     let h = firsts (span_chunk short s) (span_chunk front s) (map (span_chunk short) ss) (map (span_chunk front) ss) e in
@@ -143,7 +143,7 @@ found_again front rest at whole s =
     seek_again (length front) 16 (form_size front) front at s.before (subst (λ (bs : List ℕ). chunks bs s.before) range s.are_before) s.no_gap s.none id whole s.onward (omega (arith, s.fits, here, size)) (omega arith)
 
 ends_at : (front rest : List ℕ) (at : ℕ) (s : Sound) → at + 12 ≤ length front → form_of (front ++ rest) ≡ Ok tt → Sought (front ++ rest) 16 (form_size (front ++ rest)) at → sound_behind (front ++ rest) at ≡ Ok s → sound_in front ≡ Ok (Some s)
-unfolding sound_in
+unfolding sound_in located
 ends_at front rest at s whole form sought is =
     let form_here : form_of front ≡ Ok tt = sym (form_front front rest (omega (arith, sought.onward))) ∙ form in
     let range : slice_range front 16 at ≡ slice_range (front ++ rest) 16 at = sym (part_front (at - 16) 16 front rest (omega (arith, sought.onward))) in

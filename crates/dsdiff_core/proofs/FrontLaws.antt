@@ -26,7 +26,7 @@ use Rattle.dsdiff_core.specs.declared.fault.DsdiffFault.{DsdiffFault}
 use Rattle.dsdiff_core.specs.declared.fault.DsdiffFault.TheVariants as faults
 use Rattle.dsdiff_core.specs.Fields.{form_end, form_size}
 use Rattle.dsdiff_core.specs.Files.{IsDsdiff}
-use Rattle.dsdiff_core.specs.Fronts.{HoldsHead, IsAccepted, answer_of, form_of, frames_of, leading_of, seek, size_at, sound_at, sound_behind, sound_from, sound_in, sound_told}
+use Rattle.dsdiff_core.specs.Fronts.{HoldsHead, IsAccepted, answer_of, form_of, frames_of, leading_of, located, seek, size_at, sound_at, sound_behind, sound_from, sound_in, sound_told}
 use Rattle.dsdiff_core.specs.Kinds.{FRM8, has_id, is_property}
 use Rattle.dsdiff_core.specs.Properties.{property_of}
 use Rattle.dsdiff_core.specs.Spans.{span_has, top_kinds}
@@ -162,7 +162,7 @@ done s = Ok s
 
 -- the front of an accepted file tells of its sound, or more of it is wanted
 pub front_tells : (front rest : List ℕ) (r : Content) → IsDsdiff (front ++ rest) r → ((s : Sound) × (sound_in front ≡ Ok (Some s)) × HasSound (front ++ rest) r s) ⊎ (sound_in front ≡ Ok None)
-unfolding sound_in form_of seek
+unfolding sound_in located form_of seek
 front_tells front rest r h = elim (cases_lt (length front) 16) [
   | inl short ↦ inr (rw (lt-ltb (length front) 16 short) refl)
   | inr long ↦
@@ -233,12 +233,12 @@ pub record Leads (front : List ℕ) (s : Sound) : Type 0 where
   pub is : sound_behind front at ≡ Ok s
 
 sound_ok : (front : List ℕ) (s : Sound) → sound_in front ≡ Ok (Some s) → Leads front s
-unfolding sound_in
+unfolding sound_in located
 sound_ok front s e = elim (cases_lt (length front) 16) [
   | inl short ↦ absurd (none_some s (rw (lt-ltb (length front) 16 short) at e))
   | inr long ↦
-      bind_then (form_of front) _ (Some s) (rw (le-ltb (length front) 16 long) at e) (λ u e1 h1.
-      bind_then (seek front) _ (Some s) h1 (λ place e2 h2.
+      bind_then (form_of front >>= λ form. seek front) _ (Some s) (rw (le-ltb (length front) 16 long) at e) (λ place e0 h2.
+      bind_then (form_of front) _ place e0 (λ u e1 e2.
       let f = from_ok front place s h2 in
       record { long = long; at = f.0; form = e1; sought = e2 ∙ ap (λ (x : Option ℕ). Ok x) f.1; is = f.2 }))
 ]
@@ -328,11 +328,11 @@ head_there front None h e f = seek_ends (length front) 16 (form_size front) fron
 head_there front (Some at) h e f = not_wanted (sound_behind front at) f
 
 more_wanted : (front : List ℕ) → HoldsHead front → sound_in front ≡ Ok None → ⊥
-unfolding sound_in
+unfolding sound_in located
 more_wanted front h e =
     let long : 16 ≤ length front = omega (arith, behind_on 16 h.before, h.no_gap, h.whole) in
-    bind_then (form_of front) _ None (rw (le-ltb (length front) 16 long) at e) (λ u e1 h1.
-    bind_then (seek front) _ None h1 (λ place e2 h2. head_there front place h e2 h2))
+    bind_then (form_of front >>= λ form. seek front) _ None (rw (le-ltb (length front) 16 long) at e) (λ place e0 h2.
+    bind_then (form_of front) _ place e0 (λ u e1 e2. head_there front place h e2 h2))
 
 pub if_more : (front : List ℕ) (x : SoundAt) → x ≡ sound_at front → IfMore x (HoldsHead front → ⊥)
 if_more front More e = λ h. more_wanted front h (more_of (sound_in front) (sym e))

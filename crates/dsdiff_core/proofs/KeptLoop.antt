@@ -10,9 +10,7 @@ use Rattle.dsd_bits.specs.declared.marks.Place.{Place}
 use Rattle.dsd_bits.specs.declared.marks.Place.TheVariants.{Property, Master, Form}
 use Rattle.dsd_bits.specs.Contents.{OtherContent}
 use Rattle.dsd_bits.specs.Shape.{has_part}
-use Rattle.dsdiff_core.specs.Fronts.{Around}
 use Rattle.dsdiff_core.specs.Others.{kept, other_in}
-use Rattle.dsdiff_core.specs.Outlines.{inner_around, others_around}
 
 -- those of the first chunks that pass a test, changed
 abbrev pub passed : {X : Type 0} → (Chunk → X) → (Chunk → Bool) → List ℕ → List Span → List X
@@ -42,26 +40,3 @@ passed_more f test file ss i d lt e = step f test file ss i d lt ∙ rw e refl
 pub passed_by : {X : Type 0} (f : Chunk → X) (test : Chunk → Bool) (file : List ℕ) (ss : List Span) (i : ℕ) (d : Span) → i < length ss → test (span_chunk file (get_or ss i d)) ≡ false
     → passed f test file (take (i + 1) ss) ≡ passed f test file (take i ss)
 passed_by f test file ss i d lt e = step f test file ss i d lt ∙ rw e (append-nil (passed f test file (take i ss)))
-
--- what is kept of two lists of chunks is what is kept of each
-kept_both : (place : Place) (cs ds : List Chunk) → kept place (cs ++ ds) ≡ kept place cs ++ kept place ds
-kept_both place cs ds =
-    ap (map (other_in place)) (filter-append (λ c. not (has_part place c.id c.content)) cs ds)
-    ∙ map-append (other_in place) (filter (λ c. not (has_part place c.id c.content)) cs) (filter (λ c. not (has_part place c.id c.content)) ds)
-
--- what is kept of the chunks around a sound, list by list
-pub kept_around : (front back : List ℕ) (parts : List Span) (a : Around) (o-0 o-1 o-2 o-3 o-4 o-5 : List OtherContent) → o-0 ≡ [] → o-1 ≡ o-0 ++ kept Property (map (span_chunk front) parts)
-    → o-2 ≡ o-1 ++ kept Master (map (span_chunk front) a.early) → o-3 ≡ o-2 ++ kept Master (map (span_chunk back) a.late)
-    → o-4 ≡ o-3 ++ kept Form (map (span_chunk front) a.before) → o-5 ≡ o-4 ++ kept Form (map (span_chunk back) a.later) → o-5 ≡ others_around front back parts a
-kept_around front back parts a o-0 o-1 o-2 o-3 o-4 o-5 e-0 e-1 e-2 e-3 e-4 e-5 =
-    let p = kept Property (map (span_chunk front) parts) in
-    let early = kept Master (map (span_chunk front) a.early) in
-    let late = kept Master (map (span_chunk back) a.late) in
-    let before = kept Form (map (span_chunk front) a.before) in
-    let later = kept Form (map (span_chunk back) a.later) in
-    let all : o-5 ≡ (((p ++ early) ++ late) ++ before) ++ later =
-    e-5 ∙ ap (λ x. x ++ later) (e-4 ∙ ap (λ x. x ++ before) (e-3 ∙ ap (λ x. x ++ late) (e-2 ∙ ap (λ x. x ++ early) (e-1 ∙ ap (λ x. x ++ p) e-0)))) in
-    let apart : (((p ++ early) ++ late) ++ before) ++ later ≡ p ++ ((early ++ late) ++ (before ++ later)) = simp append_assoc in
-    all ∙ apart
-    ∙ ap (λ x. p ++ (x ++ (before ++ later))) (sym (kept_both Master (map (span_chunk front) a.early) (map (span_chunk back) a.late)))
-    ∙ ap (λ x. p ++ (kept Master (inner_around front back a) ++ x)) (sym (kept_both Form (map (span_chunk front) a.before) (map (span_chunk back) a.later)))

@@ -185,7 +185,7 @@ some_none at e = cc
 nothing_first : (c : Chunk) (cs : List Chunk) → c ∷ cs ≡ [] → ⊥
 nothing_first c cs e = cc
 
-none_first : (c : Chunk) (cs : List Chunk) → filter (has_id DSD) (c ∷ cs) ≡ [] → (has_id DSD c ≡ false) × (filter (has_id DSD) cs ≡ [])
+pub none_first : (c : Chunk) (cs : List Chunk) → filter (has_id DSD) (c ∷ cs) ≡ [] → (has_id DSD c ≡ false) × (filter (has_id DSD) cs ≡ [])
 none_first c cs e = elim (bool_cases (has_id DSD c)) [
   | inl y ↦ absurd (nothing_first c (filter (has_id DSD) cs) (rw y at e))
   | inr other ↦ (other, rw other at e)

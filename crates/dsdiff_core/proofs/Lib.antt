@@ -4,8 +4,13 @@ pub mod FrontEnds
 pub mod ToldLaws
 pub mod FormEnds
 pub mod OtherSound
+pub mod WalkLaws
+pub mod Alike
+pub mod AnySound
+pub mod HeadLaws
+pub mod HeldLaws
+pub mod DescribedLaws
 pub mod ClosingLaws
-pub mod OutlineLaws
 pub mod SeekLoop
 pub mod FrontSteps
 pub mod RefuseLoop

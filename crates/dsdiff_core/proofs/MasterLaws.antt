@@ -31,7 +31,7 @@ pub record AreMasters (file : List ℕ) (top spans : List Span) : Type 0 where
   pub inner : joined masters ≡ map (span_chunk file) spans
   pub none_is_cut : has_no_cut_mark (map (span_chunk file) spans) ≡ true
 
-whole_range : (file : List ℕ) (s : Span) → slice_range file s.start (s.start + s.size) ≡ (span_chunk file s).content
+pub whole_range : (file : List ℕ) (s : Span) → slice_range file s.start (s.start + s.size) ≡ (span_chunk file s).content
 whole_range file s = let size : s.start + s.size - s.start ≡ s.size = omega arith in ap (λ (n : ℕ). take n (drop s.start file)) size
 
 master_ok : (file : List ℕ) (s : Span) (inner : List Span) → master_of file s ≡ Ok inner → chunks (span_chunk file s).content (map (span_chunk file) inner) × (has_no_cut_mark (map (span_chunk file) inner) ≡ true)

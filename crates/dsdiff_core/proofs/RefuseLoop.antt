@@ -1,11 +1,9 @@
 -- The loops that look for a chunk of some kind.
-use Rattle.std.proofs.Common.{◌≡◌, ℕ, ◌+◌, ◌<◌, Bool, true, false, not, List, length, get_or, map, drop, Err, refl, sym, ◌∙◌}
+use Rattle.std.proofs.Common.{◌≡◌, ℕ, ◌+◌, ◌<◌, Bool, true, false, not, List, length, get_or, map, drop, refl, sym, ◌∙◌}
 use Rattle.std.proofs.lemmas.List.{at_drop_more}
 use Rattle.chunk_core.specs.declared.layout.Span.{Span}
 use Rattle.chunk_core.specs.Places.{span_chunk}
 use Rattle.dsd_bits.specs.Ids.{DSD}
-use Rattle.dsdiff_core.specs.declared.fault.DsdiffFault.TheVariants.{Twice}
-use Rattle.dsdiff_core.specs.Fronts.{is_known, none_known}
 use Rattle.dsdiff_core.specs.Kinds.{has_id, is_property}
 use Rattle.dsdiff_core.specs.Masters.{has_no_cut_mark, is_no_cut_mark}
 use Rattle.dsdiff_core.specs.Sounds.{sound_leads}
@@ -22,13 +20,6 @@ module _ (file : List ℕ) (ss : List Span) (i : ℕ) (d : Span) (lt : i < lengt
 
   pub cut_here : not (is_no_cut_mark (span_chunk file (get_or ss i d))) ≡ true → false ≡ has_no_cut_mark (map (span_chunk file) (drop i ss))
   cut_here e = sym (at_drop_more (λ (xs : List Span). has_no_cut_mark (map (span_chunk file) xs)) ss i d lt ∙ rw (not_true _ e) refl)
-
-  -- chunks that stand once before the end of the sound
-  pub known_on : is_known (span_chunk file (get_or ss i d)) ≡ false → none_known (map (span_chunk file) (drop (i + 1) ss)) ≡ none_known (map (span_chunk file) (drop i ss))
-  known_on e = sym (at_drop_more (λ (xs : List Span). none_known (map (span_chunk file) xs)) ss i d lt ∙ rw e refl)
-
-  pub known_here : is_known (span_chunk file (get_or ss i d)) ≡ true → none_known (map (span_chunk file) (drop i ss)) ≡ Err (Twice (get_or ss i d).id)
-  known_here e = at_drop_more (λ (xs : List Span). none_known (map (span_chunk file) xs)) ss i d lt ∙ rw e refl
 
   -- what stands first, a property of the sound or a sound
   pub leads_on : is_property (span_chunk file (get_or ss i d)) ≡ false → has_id DSD (span_chunk file (get_or ss i d)) ≡ false → sound_leads (map (span_chunk file) (drop (i + 1) ss)) ≡ sound_leads (map (span_chunk file) (drop i ss))

@@ -13,7 +13,7 @@ use Rattle.dsd_bits.specs.Channels.{IsLevel, count_of}
 use Rattle.dsd_bits.specs.Contents.{Content, MarkContent, OtherContent}
 use Rattle.dsd_bits.specs.Lacing.{laced_bit, unlaced, unlaced_all}
 use Rattle.dsd_bits.specs.Layouts.{layout_channels, usual_layout}
-use Rattle.dsd_bits.specs.Shape.{HasShape, at_place, has_part, same_place}
+use Rattle.dsd_bits.specs.Shape.{HasShape, IsDescription, at_place, has_part, same_place}
 use Rattle.dsd_bits.proofs.LayoutLaws.{usual_layout_fits}
 use Rattle.dsdiff_core.specs.Others.{kept, other_in}
 
@@ -26,10 +26,10 @@ passed p cs = filter (λ c. not (has_part p c.id c.content)) cs
 channel_long : (sound : List ℕ) (n c : ℕ) → length (unlaced sound n c) ≡ 8 * (length sound / n)
 channel_long sound n c = length-map-range_with_len (laced_bit sound n c) 0 (8 * (length sound / n))
 
-count_is : (sound : List ℕ) (n : ℕ) → 1 ≤ n → count_of (unlaced_all sound n) ≡ 8 * (length sound / n)
+pub count_is : (sound : List ℕ) (n : ℕ) → 1 ≤ n → count_of (unlaced_all sound n) ≡ 8 * (length sound / n)
 count_is sound n some = ap length (get_or-map-range_with_len (unlaced sound n) 0 n 0 0 [] (omega arith) refl) ∙ channel_long sound n 0
 
-level_is : (sound : List ℕ) (n : ℕ) → 1 ≤ n → IsLevel (unlaced_all sound n)
+pub level_is : (sound : List ℕ) (n : ℕ) → 1 ≤ n → IsLevel (unlaced_all sound n)
 level_is sound n some = record {
   same = All-map (λ (channel : List Bool). length channel ≡ count_of (unlaced_all sound n)) (unlaced sound n) (range_with_len 0 n) (λ k d lt. channel_long sound n (get_or (range_with_len 0 n) k d) ∙ sym (count_is sound n some));
 }
@@ -113,6 +113,21 @@ shape_is rate number layout channels ids sound tag marks others a b c low high s
       in_order = rw kept_are (in_order a b c);
       no_parts = rw kept_are (All-append NoPart (kept Property a) (kept Master b ++ kept Form c) (no_part Property a) (All-append NoPart (kept Master b) (kept Form c) (no_part Master b) (no_part Form c)));
     }
+
+pub description_is : (rate count layout : ℕ) (ids : List (List ℕ)) (tag : List ℕ) (marks : List MarkContent) (others : List OtherContent) (a b c : List Chunk)
+    → 1000000 ≤ rate → rate ≤ 50000000 → 1 ≤ length ids → length ids ≤ 6 → count ≤ 2 ^ 36 → layout ≡ usual_layout (length ids) → All (λ mark. length mark.text < 2 ^ 32) marks → others ≡ all_kept a b c
+    → IsDescription (record { rate = rate; count = count; ids = ids; layout = layout; marks = marks; others = others; tag = tag })
+description_is rate count layout ids tag marks others a b c low high some six few usual texts kept_are = record {
+  rate_low = low;
+  rate_high = high;
+  some_channel = some;
+  six_channels = six;
+  in_limit = few;
+  layout_fits = ap layout_channels usual ∙ usual_layout_fits (length ids) six;
+  short_texts = texts;
+  in_order = rw kept_are (in_order a b c);
+  no_parts = rw kept_are (All-append NoPart (kept Property a) (kept Master b ++ kept Form c) (no_part Property a) (All-append NoPart (kept Master b) (kept Form c) (no_part Master b) (no_part Form c)));
+}
 
 -- contents of equal parts, and of no tag
 pub same_content : (rate : ℕ) (ids : List (List ℕ)) (channels channels' : List (List Bool)) (layout layout' : ℕ) (marks marks' : List MarkContent) (others others' : List OtherContent) (tag : List ℕ)

@@ -1,8 +1,17 @@
 -- The sound, in both directions.
-use Rattle.std.proofs.Common.{◌≡◌, ℕ, ◌*◌, ◌/◌, ◌%◌, ◌^◌, ◌≤◌, Bool, false, List, length, Option, Some, None, Ok, refl, subst}
+use Rattle.std.proofs.Common.{◌≡◌, ℕ, ◌*◌, ◌/◌, ◌%◌, ◌^◌, ◌≤◌, Bool, true, false, cond, eqb, ltb, not, List, length, map, Option, Some, None, Result, Ok, Err, refl, subst}
 use Rattle.std.proofs.lemmas.Bool.{ltb-false, le-ltb, eqb-true}
+use Rattle.std.specs.Prelude.{find}
+use Rattle.chunk_core.specs.declared.layout.Span.{Span}
+use Rattle.chunk_core.specs.Places.{span_chunk}
+use Rattle.chunk_core.specs.Steps.{◌>>=◌}
 use Rattle.chunk_core.proofs.Steps.{guard_ok}
-use Rattle.dsdiff_core.specs.Sounds.{sound_of}
+use Rattle.dsd_bits.specs.Ids.{DSD}
+use Rattle.dsdiff_core.specs.declared.fault.DsdiffFault.{DsdiffFault}
+use Rattle.dsdiff_core.specs.declared.fault.DsdiffFault.TheVariants as faults
+use Rattle.dsdiff_core.specs.Fronts.{frames_of}
+use Rattle.dsdiff_core.specs.Sounds.{count_told, sound_leads, sound_of}
+use Rattle.dsdiff_core.specs.Spans.{span_has}
 use Rattle.dsdiff_core.proofs.Steps.{not_false}
 
 -- whole frames of sound behind the property
@@ -22,3 +31,20 @@ sound_ok leads (Some bytes) n x e =
 
 pub sound_again : (leads : Bool) (bytes : List ℕ) (n : ℕ) → IsSound leads bytes n → sound_of leads (Some bytes) n ≡ Ok bytes
 sound_again leads bytes n s = rw (s.behind, s.whole, le-ltb (2 ^ 36) (8 * (length bytes / n)) s.not_long) refl
+
+-- the count of the sound that is found behind the property
+abbrev counts : ℕ → Result ℕ DsdiffFault
+counts n = Ok n
+
+counted : (bytes : List ℕ) (size n : ℕ) → length bytes ≡ size → (sound_of false (Some bytes) n >>= λ (sound : List ℕ). counts (8 * (length sound / n))) ≡ (frames_of size n >>= λ (u : Unit {0}). counts (8 * (size / n)))
+counted bytes size n e =
+    subst (λ (k : ℕ). (sound_of false (Some bytes) n >>= λ (sound : List ℕ). counts (8 * (length sound / n))) ≡ (frames_of k n >>= λ (u : Unit {0}). counts (8 * (k / n)))) e (by (not (eqb (length bytes % n) 0)) (ltb (2 ^ 36) (8 * (length bytes / n))))
+  where
+    by : (a b : Bool) → (cond a (Err faults.PartFrame) (cond b (Err faults.TooLong) (Ok bytes)) >>= λ (sound : List ℕ). counts (8 * (length sound / n))) ≡ (cond a (Err faults.PartFrame) (cond b (Err faults.TooLong) (Ok tt)) >>= λ (u : Unit {0}). counts (8 * (length bytes / n)))
+    by true b = refl
+    by false true = refl
+    by false false = refl
+
+pub count_is : (file : List ℕ) (top : List Span) (n : ℕ) (s : Span) → find (span_has DSD) top ≡ Some s → sound_leads (map (span_chunk file) top) ≡ false → length (span_chunk file s).content ≡ s.size
+    → count_told file top n ≡ (frames_of s.size n >>= λ (u : Unit {0}). counts (8 * (s.size / n)))
+count_is file top n s found behind size = rw (found, behind) (counted (span_chunk file s).content s.size n size)

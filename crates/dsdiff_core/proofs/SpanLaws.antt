@@ -3,9 +3,7 @@ use Rattle.std.proofs.Common.{◌≡◌, ℕ, ◌≤◌, Bool, length, List, [],
 use Rattle.std.specs.Prelude.{All, find}
 use Rattle.std.proofs.lemmas.List.Elements.{All-head, All-tail, All-weaker}
 use Rattle.chunk_core.specs.declared.layout.Span.{Span}
-use Rattle.chunk_core.specs.Places.{LiesIn}
 use Rattle.chunk_core.proofs.Steps.{chosen}
-use Rattle.dsdiff_core.specs.Spans.{StandsIn}
 
 abbrev there : Span → Option Span
 there s = Some s
@@ -21,7 +19,3 @@ found_holds P test (x ∷ ss) s h e =
       | inl a ↦ subst P (some_same x s a.1) (All-head P x ss h)
       | inr a ↦ found_holds P test ss s (All-tail P x ss h) a.1
     ]
-
--- the chunks of a part of a file stand in it
-pub lie_inside : (file : List ℕ) (start stop : ℕ) (ss : List Span) → stop ≤ length file → All (LiesIn start stop) ss → All (StandsIn file) ss
-lie_inside file start stop ss h all = All-weaker (LiesIn start stop) (StandsIn file) (λ s lies. omega (arith, lies.ends)) ss all

@@ -8,24 +8,12 @@ use Rattle.dsdiff_core.specs.Steps.{Fails, some_or, walked}
 -- a fault of the first step is that of both
 pub step_fails : {A B : Type 0} (e : DsdiffFault) (r : Result A DsdiffFault) (f : A → Result B DsdiffFault) → Fails e r → Fails e (r >>= f)
 step_fails faults.Memory r f h = tt
-step_fails faults.NotDsdiff r f h = rw h refl
-step_fails faults.FormCut r f h = rw h refl
-step_fails (faults.Chunk x) r f h = rw h refl
-step_fails faults.NoVersion r f h = rw h refl
-step_fails faults.BadVersion r f h = rw h refl
-step_fails (faults.Twice id) r f h = rw h refl
-step_fails faults.NoProperty r f h = rw h refl
-step_fails faults.NoRate r f h = rw h refl
-step_fails faults.NoChannels r f h = rw h refl
-step_fails faults.NoCompression r f h = rw h refl
-step_fails faults.Compressed r f h = rw h refl
-step_fails faults.BadRate r f h = rw h refl
-step_fails faults.BadChannelNumber r f h = rw h refl
-step_fails faults.NoSound r f h = rw h refl
-step_fails faults.SoundBeforeProperty r f h = rw h refl
-step_fails faults.PartFrame r f h = rw h refl
-step_fails faults.TooLong r f h = rw h refl
-step_fails faults.BadMark r f h = rw h refl
+step_fails e r f h = rw h refl
+
+-- a fault is that of a reading which has it
+pub is_fault : {A : Type 0} (e : DsdiffFault) (r : Result A DsdiffFault) → r ≡ Err e → Fails e r
+is_fault faults.Memory r h = tt
+is_fault e r h = h
 
 -- a walk that found its chunks
 pub walked_ok : {A : Type 0} (r : Result A _) (x : A) → walked r ≡ Ok x → r ≡ Ok x

@@ -20,7 +20,7 @@ use Rattle.dsdiff_core.specs.declared.fault.DsdiffFault.TheVariants as faults
 use Rattle.dsdiff_core.specs.Fields.{form_size, ids_in}
 use Rattle.dsdiff_core.specs.Files.{IsDsdiff}
 use Rattle.dsdiff_core.specs.Forms.{version_of}
-use Rattle.dsdiff_core.specs.Fronts.{TellsSound, answer_of, form_of, frames_of, leading_of, seek, size_at, sound_at, sound_behind, sound_in, sound_told}
+use Rattle.dsdiff_core.specs.Fronts.{TellsSound, answer_of, form_of, frames_of, leading_of, located, seek, size_at, sound_at, sound_behind, sound_in, sound_told}
 use Rattle.dsdiff_core.specs.Kinds.{FRM8, has_id, is_property}
 use Rattle.dsdiff_core.specs.Laws.{FoundIsTold, SoundIsTold}
 use Rattle.dsdiff_core.specs.Properties.{property_of}
@@ -166,7 +166,7 @@ unfolding seek
 seek_there front s t onward = seek_again (length front) 16 (form_size front) front t.at t.before t.are_before t.no_gap t.no_sound t.id t.whole_head onward t.in_form (omega arith)
 
 told_found : (front : List ℕ) (s : Sound) → TellsSound front s → sound_at front ≡ Found s
-unfolding sound_in
+unfolding sound_in located
 told_found front s t =
     let onward : 16 ≤ t.at = omega (arith, behind_on 16 t.before, t.no_gap) in
     let form = form_again front t.form t.kind (omega (arith, onward, t.in_form)) in

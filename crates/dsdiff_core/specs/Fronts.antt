@@ -104,6 +104,12 @@ form_of front =
     else if nat_lt (form_size front) 4 then Err FormCut
     else Ok tt
 
+-- the place of the head of the sound that the front of a file leads to; none where more bytes are wanted
+unfoldable pub located : List ℕ → Result (Option ℕ) DsdiffFault
+located front = if nat_lt (length front) 16 then Ok None else do
+  form ← form_of front
+  seek front
+
 -- the size is that of whole frames of so many channels, within the limit
 abbrev pub frames_of : ℕ → ℕ → Result (Unit {0}) DsdiffFault
 frames_of size number =
@@ -144,9 +150,8 @@ sound_from front None = Ok None
 sound_from front (Some at) = sound_behind front at >>= λ s. Ok (Some s)
 
 unfoldable pub sound_in : List ℕ → Result (Option Sound) DsdiffFault
-sound_in front = if nat_lt (length front) 16 then Ok None else do
-  form ← form_of front
-  place ← seek front
+sound_in front = do
+  place ← located front
   sound_from front place
 
 -- what is told of the sound
@@ -169,42 +174,6 @@ pub record EndsAt (front : List ℕ) (s : Sound) : Type 0 where
 -- how many bytes of the form stand behind a sound of this size, of which the last may be missing
 abbrev pub left_behind : List ℕ → ℕ → ℕ
 left_behind front size = 12 + form_size front - (length front + size)
-
--- where these end in the bytes behind the sound
-abbrev pub end_behind : List ℕ → ℕ → List ℕ → ℕ
-end_behind front size back = min (left_behind front size) (length back)
-
--- the chunk is of a kind that stands once, and before the end of the sound: a version, a property of the sound, a sound
-abbrev pub is_known : Chunk → Bool
-is_known c = has_id FVER c || (is_property c || has_id DSD c)
-
--- none of the chunks is, or the first that is one stands a second time
-abbrev pub none_known : List Chunk → Result (Unit {0}) DsdiffFault
-none_known [] = Ok tt
-none_known (c ∷ cs) = if is_known c then Err (Twice c.id) else none_known cs
-
--- the chunks behind a sound of this size, and behind its pad
-unfoldable pub later_of : List ℕ → ℕ → List ℕ → Result (List Span) DsdiffFault
-later_of front size back =
-    if nat_lt (length back + 1) (left_behind front size) then Err FormCut
-    else walked (spans_in back (min (size % 2) (end_behind front size back)) (end_behind front size back))
-
--- the places of the chunks around a sound: those of the form before it and of the edited masters among them, and the same behind it
-pub record Around : Type 0 where
-  pub before : List Span
-  pub early : List Span
-  pub later : List Span
-  pub late : List Span
-
--- the chunks around a sound of this size that the bytes behind it close, or the first fault
-unfoldable pub closing_of : List ℕ → ℕ → List ℕ → Result Around DsdiffFault
-closing_of front size back = do
-  later ← later_of front size back
-  before ← walked (spans_in front 16 (length front - 12))
-  early ← masters_of front before
-  late ← masters_of back later
-  none ← none_known (map (span_chunk back) later)
-  Ok (record { before = before; early = early; later = later; late = late })
 
 -- the front of a file ends where a sound starts that it tells of
 abbrev pub EndsAtSound : List ℕ → Type 0

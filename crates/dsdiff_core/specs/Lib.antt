@@ -13,7 +13,10 @@ pub mod Sounds
 pub mod Masters
 pub mod Fronts
 pub mod Outlines
+pub mod Held
 pub mod Reading
 pub mod Writing
 pub mod ReadAgain
 pub mod Laws
+pub mod Located
+pub mod SoundBytes

@@ -1,11 +1,15 @@
 -- The sound among the form's chunks.
-use Rattle.std.specs.Prelude.{ℕ, ◌*◌, ◌/◌, ◌%◌, Bool, true, false, not, List, [], ◌∷◌, length, Option, Some, None, Result, Ok, Err, nat_eq, nat_lt, if◌then◌else◌}
+use Rattle.std.specs.Prelude.{ℕ, ◌*◌, ◌/◌, ◌%◌, Bool, true, false, not, List, [], ◌∷◌, length, map, Option, Some, None, Result, Ok, Err, nat_eq, nat_lt, if◌then◌else◌}
+use Rattle.chunk_core.specs.declared.layout.Span.{Span}
 use Rattle.chunk_core.specs.Chunks.{Chunk}
+use Rattle.chunk_core.specs.Places.{span_chunk}
+use Rattle.chunk_core.specs.Steps.{◌>>=◌}
 use Rattle.dsd_bits.specs.Ids.{DSD}
 use Rattle.dsd_bits.specs.Limits.{most_bits}
 use Rattle.dsdiff_core.specs.declared.fault.DsdiffFault.{DsdiffFault}
 use Rattle.dsdiff_core.specs.declared.fault.DsdiffFault.TheVariants.{NoSound, SoundBeforeProperty, PartFrame, TooLong}
 use Rattle.dsdiff_core.specs.Kinds.{has_id, is_property}
+use Rattle.dsdiff_core.specs.Spans.{data_with}
 
 -- a sound stands before the first property of the sound
 abbrev pub sound_leads : List Chunk → Bool
@@ -20,3 +24,7 @@ sound_of leads (Some bytes) number =
     else if not (nat_eq (length bytes % number) 0) then Err PartFrame
     else if nat_lt most_bits (8 * (length bytes / number)) then Err TooLong
     else Ok bytes
+
+-- how many bits a channel of the sound among the chunks has
+abbrev pub count_told : List ℕ → List Span → ℕ → Result ℕ DsdiffFault
+count_told file top number = sound_of (sound_leads (map (span_chunk file) top)) (data_with file DSD top) number >>= λ sound. Ok (8 * (length sound / number))

@@ -7,10 +7,6 @@ use Rattle.dsdiff_core.specs.declared.fault.DsdiffFault.{DsdiffFault}
 use Rattle.dsdiff_core.specs.declared.fault.DsdiffFault.TheVariants.{Twice}
 use Rattle.dsdiff_core.specs.Kinds.{is_property}
 
--- the span's data stand in the file
-abbrev pub StandsIn : List ℕ → Span → Type 0
-StandsIn file s = s.start + s.size ≤ length file
-
 -- the span's chunk has this ID
 abbrev pub span_has : List ℕ → Span → Bool
 span_has id s = same_id s.id id

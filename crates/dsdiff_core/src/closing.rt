@@ -1,16 +1,17 @@
 //! What the bytes around the sound of a file say of it.
 
-ghost use Rattle.std.specs.Prelude.{◌≡◌, ◌≤◌, ◌+◌, ◌-◌, ◌++◌, ◌↔◌, IfOk, is_ok, length, replicate, true};
+ghost use Rattle.std.specs.Prelude.{◌≡◌, ◌≤◌, ◌+◌, ◌-◌, ◌++◌, ◌↔◌, IfOk, length, replicate, true};
 ghost use Rattle.std.specs.Result.{result_ok};
 ghost use Rattle.dsd_bits.specs.declared.sound.Sound.{Sound};
-ghost use Rattle.dsdiff_core.specs.Fields.{form_size};
-ghost use Rattle.dsdiff_core.specs.Fronts.{EndsAt, EndsAtSound, IsAccepted, closing_of, left_behind, size_at};
-ghost use Rattle.dsdiff_core.specs.Outlines.{TellsOutline, outline_of};
+ghost use Rattle.dsdiff_core.specs.Fronts.{EndsAt, EndsAtSound, IsAccepted, left_behind, size_at};
+ghost use Rattle.dsdiff_core.specs.Located.{EndsAtHead, sound_size};
+ghost use Rattle.dsdiff_core.specs.Outlines.{TellsOutline};
+ghost use Rattle.dsdiff_core.specs.SoundBytes.{description_of, with_zeros};
 
-use crate::around::{chunks_around, left_behind};
+use crate::describing::describe_around;
 use crate::fault::DsdiffFault;
-use crate::outlining::read_outline;
-use dsd_bits::Recording;
+use chunk_core::{Order, u64_at};
+use dsd_bits::{Description, Recording};
 use std::alloc::{AllocError, Global};
 
 /// How many bytes of the form stand behind the sound of a file that begins with `front`, which ends where the
@@ -18,10 +19,20 @@ use std::alloc::{AllocError, Global};
 ///
 /// It takes no memory.
 pub fn bytes_behind(front: &[u8]) -> u64
-    requires { EndsAtSound front.now }
-    ensures { (s : Sound) → EndsAt front.now s → result ≡ left_behind front.now s.size }
+    requires { EndsAtHead front.now }
+    ensures value { result ≡ left_behind front.now (sound_size front.now) }
+    ensures told { (s : Sound) → EndsAt front.now s → result ≡ left_behind front.now s.size }
 {
-    left_behind(front)
+    let at = front.len() - 12;
+    size_at(front, 0) - at as u64 - size_at(front, at)
+}
+
+// The size in the head at a place.
+fn size_at(front: &[u8], at: usize) -> u64
+    requires { at + 12 ≤ length front.now }
+    ensures { result ≡ size_at front.now at }
+{
+    u64_at(Order::Big, front, at + 4)
 }
 
 /// Whether a file is accepted that is `front`, which ends where the sound starts, so many zero bytes as the
@@ -34,20 +45,7 @@ pub fn closes(alloc: Global, front: &[u8], back: &[u8]) -> Result<bool, AllocErr
     ensures { (s : Sound) → EndsAt front.now s → IfOk result (λ b. (b ≡ true)
         ↔ IsAccepted (front.now ++ (replicate s.size 0 ++ back.now))) }
 {
-    answer(alloc, front, back)
-}
-
-// The same, by the order of refusals alone.
-fn answer(alloc: Global, front: &[u8], back: &[u8]) -> Result<bool, AllocError>
-    requires long { 28 ≤ length front.now }
-    requires fits { length front.now + size_at front.now (length front.now - 12) ≤ 12 + form_size front.now }
-    ensures { IfOk result (λ b. b ≡ is_ok (closing_of front.now (size_at front.now (length front.now - 12)) back.now)) }
-{
-    match chunks_around(alloc, front, back) {
-        Ok(_) => Ok(true),
-        Err(DsdiffFault::Memory) => Err(AllocError),
-        Err(_) => Ok(false),
-    }
+    Ok(told_around(alloc, front, back)?.is_some())
 }
 
 /// What a file tells beside its bits that is `front`, which ends where the sound starts, as many bytes as the
@@ -59,22 +57,23 @@ pub fn outline(alloc: Global, front: &[u8], back: &[u8]) -> Result<Option<Record
     requires { EndsAtSound front.now }
     ensures { (s : Sound) → EndsAt front.now s → IfOk result (TellsOutline front.now s back.now) }
 {
-    outline_in_order(alloc, front, back)
+    let Some(description) = told_around(alloc, front, back)? else {
+        return Ok(None);
+    };
+    Ok(Some(Recording::silent(alloc, description)?))
 }
 
-// The same, by the order of refusals alone.
-fn outline_in_order(
+// What is described, where it is accepted.
+fn told_around(
     alloc: Global,
     front: &[u8],
     back: &[u8],
-) -> Result<Option<Recording>, AllocError>
-    requires long { 28 ≤ length front.now }
-    requires fits { length front.now + size_at front.now (length front.now - 12) ≤ 12 + form_size front.now }
-    ensures { IfOk result (λ o. o ≡ result_ok
-        (outline_of front.now (size_at front.now (length front.now - 12)) back.now)) }
+) -> Result<Option<Description>, AllocError>
+    requires { EndsAtHead front.now }
+    ensures { IfOk result (λ o. o ≡ result_ok (description_of (with_zeros front.now back.now))) }
 {
-    match read_outline(alloc, front, back) {
-        Ok(recording) => Ok(Some(recording)),
+    match describe_around(alloc, front, back) {
+        Ok(description) => Ok(Some(description)),
         Err(DsdiffFault::Memory) => Err(AllocError),
         Err(_) => Ok(None),
     }

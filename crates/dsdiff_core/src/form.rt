@@ -2,26 +2,28 @@
 
 ghost use Rattle.std.specs.Prelude.{◌≡◌, ◌≤◌, All, IfOk, length, map};
 ghost use Rattle.chunk_core.specs.Places.{span_chunk};
+ghost use Rattle.dsdiff_core.specs.Fields.{form_end};
 ghost use Rattle.dsdiff_core.specs.Forms.{end_of, top_of, version_of};
 ghost use Rattle.dsdiff_core.specs.Fronts.{leading_of};
-ghost use Rattle.dsdiff_core.specs.Spans.{StandsIn};
+ghost use Rattle.dsdiff_core.specs.Held.{IsHeld, MayStand, held};
 ghost use Rattle.dsdiff_core.specs.Steps.{Gives};
 
 use crate::fault::DsdiffFault;
+use crate::held::{Held, data_of, len, walk_form};
 use crate::once::refuse_second_in_form;
-use crate::spans::data_of;
 use chunk_core::{Order, Span, head, id_at, walk};
 use std::alloc::Global;
 
 /// The chunks of the form: the first is a version 1, and none is a second version, sound property or
 /// sound.
 #[tactic(auto, unfolding(crate::specs::Forms::top_of))]
-pub(crate) fn form_chunks(alloc: Global, file: &[u8]) -> Result<Vec<Span>, DsdiffFault>
-    ensures exact { Gives (λ v. v.items) result (top_of file.now) }
-    ensures inside { IfOk result (λ v. All (StandsIn file.now) v.items) }
+pub(crate) fn form_chunks(alloc: Global, file: Held) -> Result<Vec<Span>, DsdiffFault>
+    requires { IsHeld file }
+    ensures exact { Gives (λ v. v.items) result (top_of (held file.entry)) }
+    ensures inside { IfOk result (λ v. All (MayStand file.entry) v.items) }
 {
     let end = form_end(file)?;
-    let top = walk(alloc, file, 16, end)?;
+    let top = walk_form(alloc, file, end)?;
     require_version(file, &top)?;
     refuse_second_in_form(file, &top)?;
     Ok(top)
@@ -32,14 +34,14 @@ pub(crate) fn form_chunks(alloc: Global, file: &[u8]) -> Result<Vec<Span>, Dsdif
 #[tactic(auto, unfolding(crate::specs::Fronts::leading_of))]
 pub(crate) fn leading_chunks(
     alloc: Global,
-    front: &[u8],
+    front: Held,
     at: usize,
 ) -> Result<Vec<Span>, DsdiffFault>
-    requires { (16 ≤ at) × (at ≤ length front.now) }
-    ensures exact { Gives (λ v. v.items) result (leading_of front.now at) }
-    ensures inside { IfOk result (λ v. All (StandsIn front.now) v.items) }
+    requires { (16 ≤ at) × (at ≤ length front.front.now) }
+    ensures exact { Gives (λ v. v.items) result (leading_of (held front.entry) at) }
+    ensures inside { IfOk result (λ v. All (MayStand front.entry) v.items) }
 {
-    let top = walk(alloc, front, 16, at)?;
+    let top = walk(alloc, front.front, 16, at)?;
     require_version(front, &top)?;
     refuse_second_in_form(front, &top)?;
     Ok(top)
@@ -47,30 +49,32 @@ pub(crate) fn leading_chunks(
 
 // Where the form ends. Its size counts from byte 12, and one byte may be missing: a last pad.
 #[tactic(auto, unfolding(crate::specs::Forms::end_of))]
-fn form_end(file: &[u8]) -> Result<usize, DsdiffFault>
-    ensures exact { Gives (λ n. n) result (end_of file.now) }
+fn form_end(file: Held) -> Result<usize, DsdiffFault>
+    requires { IsHeld file }
+    ensures exact { Gives (λ n. n) result (end_of (held file.entry)) }
     ensures from { IfOk result (λ n. 16 ≤ n) }
-    ensures within { IfOk result (λ n. n ≤ length file.now) }
+    ensures value { IfOk result (λ n. n ≡ form_end (held file.entry)) }
 {
-    if file.len() < 16 {
+    let size = len(file);
+    if size < 16 {
         return Err(DsdiffFault::NotDsdiff);
     }
-    let Some(form) = head(Order::Big, file, 0) else {
+    let Some(form) = head(Order::Big, file.front, 0) else {
         return Err(DsdiffFault::NotDsdiff);
     };
-    if form.id != *b"FRM8" || id_at(file, 12) != *b"DSD " {
+    if form.id != *b"FRM8" || id_at(file.front, 12) != *b"DSD " {
         return Err(DsdiffFault::NotDsdiff);
     }
-    if form.size < 4 || ((file.len() - 11) as u64) < form.size {
+    if form.size < 4 || ((size - 11) as u64) < form.size {
         return Err(DsdiffFault::FormCut);
     }
-    Ok((12 + form.size as usize).min(file.len()))
+    Ok((form.size as usize).min(size - 12) + 12)
 }
 
 // Refuses another first chunk than a version 1.
-fn require_version(file: &[u8], top: &[Span]) -> Result<(), DsdiffFault>
-    requires { All (StandsIn file.now) top.now }
-    ensures { Gives (λ _. tt) result (version_of (map (span_chunk file.now) top.now)) }
+fn require_version(file: Held, top: &[Span]) -> Result<(), DsdiffFault>
+    requires { All (MayStand file) top.now }
+    ensures { Gives (λ _. tt) result (version_of (map (span_chunk (held file.entry)) top.now)) }
 {
     let [first, ..] = top else {
         return Err(DsdiffFault::NoVersion);

@@ -7,14 +7,17 @@ ghost use Rattle.dsd_bits.specs.Contents.{Content};
 ghost use Rattle.dsd_bits.specs.Sounds.{HasSound, IfFound, IfMore, IfRefused, IsSound};
 ghost use Rattle.dsdiff_core.specs.Fields.{form_size};
 ghost use Rattle.dsdiff_core.specs.Files.{IsDsdiff};
-ghost use Rattle.dsdiff_core.specs.Fronts.{HoldsHead, IsAccepted, form_of, frames_of, seek, size_at, sound_at, sound_behind, sound_in};
+ghost use Rattle.dsdiff_core.specs.Fronts.{HoldsHead, IsAccepted, form_of, located, seek, size_at, sound_at, sound_behind, sound_in};
+ghost use Rattle.dsdiff_core.specs.Held.{held};
 ghost use Rattle.dsdiff_core.specs.Steps.{Gives};
 
 use crate::fault::DsdiffFault;
 use crate::form::leading_chunks;
+use crate::held::{Held, whole};
 use crate::property::read_property;
-use chunk_core::{ChunkFault, Order, head, id_at};
-use dsd_bits::{Interleaving, MOST_BITS, Sound, SoundAt};
+use crate::sound::check_frames;
+use chunk_core::{ChunkFault, Order, head, id_at, u64_at};
+use dsd_bits::{Interleaving, Sound, SoundAt};
 use std::alloc::{AllocError, Global};
 
 /// Where the sound of a DSDIFF 1.5 file stands, and what it is, told by the front of the file alone:
@@ -55,41 +58,46 @@ fn answer(alloc: Global, front: &[u8]) -> Result<SoundAt, AllocError>
 fn read_front(alloc: Global, front: &[u8]) -> Result<Option<Sound>, DsdiffFault>
     ensures { Gives (λ x. x) result (sound_in front.now) }
 {
-    if front.len() < 16 {
-        return Ok(None);
-    }
-    let size = form_size(front)?;
-    let Some(at) = find_head(front, size)? else {
+    let Some(at) = locate(front)? else {
         return Ok(None);
     };
-    let sound = read_sound(alloc, front, at)?;
+    let sound = read_sound(alloc, whole(front), at)?;
     Ok(Some(sound))
 }
 
-// The size of the form that begins.
-#[tactic(auto, unfolding(crate::specs::Fronts::form_of))]
-fn form_size(front: &[u8]) -> Result<u64, DsdiffFault>
-    requires { 16 ≤ length front.now }
-    ensures exact { Gives (λ _. tt) result (form_of front.now) }
-    ensures size { IfOk result (λ n. n ≡ form_size front.now) }
+/// Where the head of the sound of a file stands, told by the front of the file alone; none where more bytes are wanted.
+/// A fault says that no file that begins so has a sound that can be read.
+pub(crate) fn locate(front: &[u8]) -> Result<Option<usize>, DsdiffFault>
+    ensures exact { located front.now ≡ result }
+    ensures whole { IfOk result (λ x. IfSome x (λ at. (16 ≤ at) × (at + 12 ≤ length front.now))) }
 {
-    let Some(form) = head(Order::Big, front, 0) else {
-        return Err(DsdiffFault::NotDsdiff);
-    };
-    if form.id != *b"FRM8" || id_at(front, 12) != *b"DSD " {
+    if front.len() < 16 {
+        return Ok(None);
+    }
+    check_form(front)?;
+    find_head(front, u64_at(Order::Big, front, 4))
+}
+
+// Refuses a front in which no form begins.
+#[tactic(auto, unfolding(crate::specs::Fronts::form_of))]
+fn check_form(front: &[u8]) -> Result<(), DsdiffFault>
+    requires { 16 ≤ length front.now }
+    ensures { form_of front.now ≡ result }
+{
+    if id_at(front, 0) != *b"FRM8" || id_at(front, 12) != *b"DSD " {
         return Err(DsdiffFault::NotDsdiff);
     }
-    if form.size < 4 {
+    if u64_at(Order::Big, front, 4) < 4 {
         return Err(DsdiffFault::FormCut);
     }
-    Ok(form.size)
+    Ok(())
 }
 
 // Where the head of the sound stands in a form of this size, and none where more bytes are wanted.
 fn find_head(front: &[u8], size: u64) -> Result<Option<usize>, DsdiffFault>
     requires long { 16 ≤ length front.now }
     requires size { size ≡ form_size front.now }
-    ensures exact { Gives (λ x. x) result (seek front.now) }
+    ensures exact { seek front.now ≡ result }
     ensures whole { IfOk result (λ x. IfSome x (λ at. (16 ≤ at) × (at + 12 ≤ length front.now))) }
 {
     let mut at = 16;
@@ -113,15 +121,15 @@ fn find_head(front: &[u8], size: u64) -> Result<Option<usize>, DsdiffFault>
 
 // The sound whose head stands at a place.
 #[tactic(auto, unfolding(crate::specs::Fronts::sound_behind))]
-fn read_sound(alloc: Global, front: &[u8], at: usize) -> Result<Sound, DsdiffFault>
+fn read_sound(alloc: Global, front: Held, at: usize) -> Result<Sound, DsdiffFault>
     requires from { 16 ≤ at }
-    requires whole { at + 12 ≤ length front.now }
-    ensures { Gives (λ s. s) result (sound_behind front.now at) }
+    requires whole { at + 12 ≤ length front.front.now }
+    ensures { Gives (λ s. s) result (sound_behind (held front.entry) at) }
 {
     let top = leading_chunks(alloc, front, at)?;
     let told = read_property(alloc, front, &top)?;
     let number = told.ids.len();
-    let Some(chunk) = head(Order::Big, front, at) else {
+    let Some(chunk) = head(Order::Big, front.front, at) else {
         return Err(DsdiffFault::NoSound);
     };
     check_frames(chunk.size, number)?;
@@ -133,18 +141,4 @@ fn read_sound(alloc: Global, front: &[u8], at: usize) -> Result<Sound, DsdiffFau
         size: chunk.size as usize,
         interleaving: Interleaving::Bytes,
     })
-}
-
-// Refuses a size that is not that of whole frames of so many channels, within the limit.
-fn check_frames(size: u64, number: usize) -> Result<(), DsdiffFault>
-    requires { 1 ≤ number }
-    ensures { Gives (λ _. tt) result (frames_of size number) }
-{
-    if size % number as u64 != 0 {
-        return Err(DsdiffFault::PartFrame);
-    }
-    if size / number as u64 > (MOST_BITS / 8) as u64 {
-        return Err(DsdiffFault::TooLong);
-    }
-    Ok(())
 }

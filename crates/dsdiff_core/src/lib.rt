@@ -56,18 +56,18 @@
 //! ```
 #![tactic(auto)]
 
-mod around;
 mod closing;
+mod describing;
 mod fault;
 mod fields;
 mod form;
 mod front;
+mod held;
 mod laws;
 mod marks;
 mod masters;
 mod once;
 mod others;
-mod outlining;
 mod places;
 mod property;
 mod reading;
@@ -78,6 +78,7 @@ mod writing;
 mod writing_laws;
 
 pub use closing::{bytes_behind, closes, outline};
+pub use describing::describe;
 pub use fault::DsdiffFault;
 pub use fields::fields_fit;
 pub use front::sound_at;

@@ -3,25 +3,25 @@
 ghost use Rattle.std.specs.Prelude.{◌≡◌, All, IfOk, map, not, true};
 ghost use Rattle.chunk_core.specs.Places.{span_chunk};
 ghost use Rattle.dsdiff_core.specs.Masters.{has_no_cut_mark, is_no_cut_mark, master_of, masters_of};
-ghost use Rattle.dsdiff_core.specs.Spans.{StandsIn};
+ghost use Rattle.dsdiff_core.specs.Held.{MayStand, StandsIn, held};
 ghost use Rattle.dsdiff_core.specs.Steps.{Gives};
 
 use crate::fault::DsdiffFault;
+use crate::held::{Held, data_of, walk_inside};
 use crate::marks::{MARK_FIELDS, text_size};
-use crate::spans::data_of;
-use chunk_core::{Span, walk};
+use chunk_core::Span;
 use std::alloc::Global;
 
 /// The chunks of each edited master among the form's chunks, one master after the other.
 pub(crate) fn master_chunks(
     alloc: Global,
-    file: &[u8],
+    file: Held,
     top: &[Span],
 ) -> Result<Vec<Span>, DsdiffFault>
-    requires { All (StandsIn file.now) top.now }
-    ensures exact { Gives (λ v. v.items) result (masters_of file.now top.now) }
-    ensures inside { IfOk result (λ v. All (StandsIn file.now) v.items) }
-    ensures whole { IfOk result (λ v. has_no_cut_mark (map (span_chunk file.now) v.items) ≡ true) }
+    requires { All (MayStand file) top.now }
+    ensures exact { Gives (λ v. v.items) result (masters_of (held file.entry) top.now) }
+    ensures inside { IfOk result (λ v. All (StandsIn file.entry) v.items) }
+    ensures whole { IfOk result (λ v. has_no_cut_mark (map (span_chunk (held file.entry)) v.items) ≡ true) }
 {
     let mut found = Vec::new(alloc);
     for span in top {
@@ -34,22 +34,22 @@ pub(crate) fn master_chunks(
 }
 
 #[tactic(auto, unfolding(crate::specs::Masters::master_of))]
-fn read_master(alloc: Global, file: &[u8], span: Span) -> Result<Vec<Span>, DsdiffFault>
-    requires { StandsIn file.now span }
-    ensures exact { Gives (λ v. v.items) result (master_of file.now span) }
-    ensures inside { IfOk result (λ v. All (StandsIn file.now) v.items) }
-    ensures whole { IfOk result (λ v. has_no_cut_mark (map (span_chunk file.now) v.items) ≡ true) }
+fn read_master(alloc: Global, file: Held, span: Span) -> Result<Vec<Span>, DsdiffFault>
+    requires { StandsIn file span }
+    ensures exact { Gives (λ v. v.items) result (master_of (held file.entry) span) }
+    ensures inside { IfOk result (λ v. All (StandsIn file.entry) v.items) }
+    ensures whole { IfOk result (λ v. has_no_cut_mark (map (span_chunk (held file.entry)) v.items) ≡ true) }
 {
-    let inner = walk(alloc, file, span.start, span.start + span.size)?;
+    let inner = walk_inside(alloc, file, span, span.start)?;
     if !no_mark_is_cut(file, &inner) {
         return Err(DsdiffFault::BadMark);
     }
     Ok(inner)
 }
 
-fn no_mark_is_cut(file: &[u8], spans: &[Span]) -> bool
-    requires { All (StandsIn file.now) spans.now }
-    ensures { result ≡ has_no_cut_mark (map (span_chunk file.now) spans.now) }
+fn no_mark_is_cut(file: Held, spans: &[Span]) -> bool
+    requires { All (StandsIn file) spans.now }
+    ensures { result ≡ has_no_cut_mark (map (span_chunk (held file.entry)) spans.now) }
 {
     for span in spans {
         if is_cut_mark(file, *span) {
@@ -60,9 +60,9 @@ fn no_mark_is_cut(file: &[u8], spans: &[Span]) -> bool
 }
 
 // Whether the chunk is a mark of fewer bytes than its fields and their text.
-fn is_cut_mark(file: &[u8], span: Span) -> bool
-    requires { StandsIn file.now span }
-    ensures { result ≡ not (is_no_cut_mark (span_chunk file.now span)) }
+fn is_cut_mark(file: Held, span: Span) -> bool
+    requires { StandsIn file span }
+    ensures { result ≡ not (is_no_cut_mark (span_chunk (held file.entry) span)) }
 {
     if span.id != *b"MARK" {
         return false;

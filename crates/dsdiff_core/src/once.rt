@@ -1,17 +1,19 @@
 //! Chunks of kinds that may stand once.
 
 ghost use Rattle.std.specs.Prelude.{◌≡◌, ◌&&◌, [], All, find, is_some};
-ghost use Rattle.dsdiff_core.specs.Spans.{StandsIn, is_second, once_each, property_kinds, span_has, top_kinds};
+ghost use Rattle.dsdiff_core.specs.Held.{MayStand, held};
+ghost use Rattle.dsdiff_core.specs.Spans.{is_second, once_each, property_kinds, span_has, top_kinds};
 ghost use Rattle.dsdiff_core.specs.Steps.{Gives};
 
 use crate::fault::DsdiffFault;
+use crate::held::Held;
 use crate::spans::{first_sound_property, first_with, is_sound_property};
 use chunk_core::Span;
 
 /// Refuses a second version, sound property or sound among the form's chunks.
-pub(crate) fn refuse_second_in_form(file: &[u8], top: &[Span]) -> Result<(), DsdiffFault>
-    requires { All (StandsIn file.now) top.now }
-    ensures { Gives (λ _. tt) result (once_each (top_kinds file.now) [] top.now) }
+pub(crate) fn refuse_second_in_form(file: Held, top: &[Span]) -> Result<(), DsdiffFault>
+    requires { All (MayStand file) top.now }
+    ensures { Gives (λ _. tt) result (once_each (top_kinds (held file.entry)) [] top.now) }
 {
     for i in 0..top.len() {
         if is_second_in_form(file, &top[..i], top[i]) {
@@ -21,10 +23,10 @@ pub(crate) fn refuse_second_in_form(file: &[u8], top: &[Span]) -> Result<(), Dsd
     Ok(())
 }
 
-fn is_second_in_form(file: &[u8], before: &[Span], span: Span) -> bool
-    requires before { All (StandsIn file.now) before.now }
-    requires span { StandsIn file.now span }
-    ensures { result ≡ is_second (top_kinds file.now) before.now span }
+fn is_second_in_form(file: Held, before: &[Span], span: Span) -> bool
+    requires before { All (MayStand file) before.now }
+    requires span { MayStand file span }
+    ensures { result ≡ is_second (top_kinds (held file.entry)) before.now span }
 {
     repeats(before, span, *b"FVER")
         || is_sound_property(file, span) && first_sound_property(file, before).is_some()

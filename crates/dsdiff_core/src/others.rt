@@ -6,9 +6,10 @@ ghost use Rattle.dsd_bits.specs.Contents.{other_content};
 ghost use Rattle.dsd_bits.specs.Shape.{has_part};
 ghost use Rattle.dsdiff_core.specs.Others.{kept};
 ghost use Rattle.dsdiff_core.specs.Reading.{others_told};
-ghost use Rattle.dsdiff_core.specs.Spans.{StandsIn};
+ghost use Rattle.dsdiff_core.specs.Held.{MayStand, StandsFor, StandsIn, held};
 
-use crate::spans::{data_of, is_sound_property};
+use crate::held::{Held, data_of};
+use crate::spans::is_sound_property;
 use chunk_core::Span;
 use dsd_bits::{Other, Place};
 use std::alloc::{AllocError, Global};
@@ -16,15 +17,15 @@ use std::alloc::{AllocError, Global};
 /// What is kept of the chunks of the sound property, of the edited masters and of the form, in this order.
 pub(crate) fn kept_chunks(
     alloc: Global,
-    file: &[u8],
+    file: Held,
     parts: &[Span],
     inner: &[Span],
     top: &[Span],
 ) -> Result<Vec<Other>, AllocError>
-    requires parts { All (StandsIn file.now) parts.now }
-    requires inner { All (StandsIn file.now) inner.now }
-    requires top { All (StandsIn file.now) top.now }
-    ensures { IfOk result (λ v. map other_content v.items ≡ others_told file.now parts.now inner.now top.now) }
+    requires parts { All (StandsIn file) parts.now }
+    requires inner { All (StandsIn file) inner.now }
+    requires top { All (MayStand file) top.now }
+    ensures { IfOk result (λ v. map other_content v.items ≡ others_told (held file.entry) parts.now inner.now top.now) }
 {
     let mut others = Vec::new(alloc);
     push_kept(alloc, &mut others, Place::Property, file, parts)?;
@@ -33,17 +34,17 @@ pub(crate) fn kept_chunks(
     Ok(others)
 }
 
-/// Appends those of a place's chunks that are kept.
-pub(crate) fn push_kept(
+// Appends those of a place's chunks that are kept.
+fn push_kept(
     alloc: Global,
     others: &mut Vec<Other>,
     place: Place,
-    file: &[u8],
+    file: Held,
     spans: &[Span],
 ) -> Result<(), AllocError>
-    requires { All (StandsIn file.now) spans.now }
+    requires { All (StandsFor place file) spans.now }
     ensures { OnOk result (map other_content others.new.items
-        ≡ map other_content others.old.items ++ kept place (map (span_chunk file.now) spans.now)) }
+        ≡ map other_content others.old.items ++ kept place (map (span_chunk (held file.entry)) spans.now)) }
 {
     for span in spans {
         if !is_read(place, file, *span) {
@@ -56,9 +57,9 @@ pub(crate) fn push_kept(
 }
 
 // Whether a recording has a part of its own for a chunk of this place.
-fn is_read(place: Place, file: &[u8], span: Span) -> bool
-    requires { StandsIn file.now span }
-    ensures { result ≡ has_part place (span_chunk file.now span).id (span_chunk file.now span).content }
+fn is_read(place: Place, file: Held, span: Span) -> bool
+    requires { StandsFor place file span }
+    ensures { result ≡ has_part place (span_chunk (held file.entry) span).id (span_chunk (held file.entry) span).content }
 {
     match place {
         Place::Property => span.id == *b"FS  " || span.id == *b"CHNL" || span.id == *b"CMPR",

@@ -4,13 +4,14 @@ ghost use Rattle.std.specs.Prelude.{◌≡◌, ◌≤◌, ◌<◌, ◌*◌, All,
 ghost use Rattle.dsd_bits.specs.Limits.{IsRate};
 ghost use Rattle.dsdiff_core.specs.Fields.{ids_in};
 ghost use Rattle.dsdiff_core.specs.Properties.{fields_of, limits_of, names_of, property_of, rate_of, raw_of, told_of};
-ghost use Rattle.dsdiff_core.specs.Spans.{StandsIn};
+ghost use Rattle.dsdiff_core.specs.Held.{MayStand, StandsIn, held};
 ghost use Rattle.dsdiff_core.specs.Steps.{Gives};
 
 use crate::fault::DsdiffFault;
+use crate::held::{Held, walk_inside};
 use crate::once::refuse_second_in_property;
 use crate::spans::{data_with, first_sound_property};
-use chunk_core::{Order, Span, id_at, u16_at, u32_at, walk};
+use chunk_core::{Order, Span, id_at, u16_at, u32_at};
 use dsd_bits::{GREATEST_RATE, LEAST_RATE};
 use std::alloc::Global;
 
@@ -29,24 +30,19 @@ pub(crate) struct SoundProperty {
 #[tactic(auto, unfolding(crate::specs::Properties::property_of))]
 pub(crate) fn read_property(
     alloc: Global,
-    file: &[u8],
+    file: Held,
     top: &[Span],
 ) -> Result<SoundProperty, DsdiffFault>
-    requires { All (StandsIn file.now) top.now }
-    ensures exact { Gives told_of result (property_of file.now top.now) }
-    ensures inside { IfOk result (λ p. All (StandsIn file.now) p.parts.items) }
+    requires { All (MayStand file) top.now }
+    ensures exact { Gives told_of result (property_of (held file.entry) top.now) }
+    ensures inside { IfOk result (λ p. All (StandsIn file.entry) p.parts.items) }
     ensures rate { IfOk result (λ p. IsRate p.rate) }
     ensures number { IfOk result (λ p. (1 ≤ length p.ids.items) × (length p.ids.items ≤ 6)) }
 {
     let Some(property) = first_sound_property(file, top) else {
         return Err(DsdiffFault::NoProperty);
     };
-    let parts = walk(
-        alloc,
-        file,
-        property.start + 4,
-        property.start + property.size,
-    )?;
+    let parts = walk_inside(alloc, file, property, property.start + 4)?;
     refuse_second_in_property(&parts)?;
     let (rate, ids) = read_fields(
         alloc,

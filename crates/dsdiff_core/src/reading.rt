@@ -1,19 +1,20 @@
 //! A whole file.
 
-ghost use Rattle.std.specs.Prelude.{List, ℕ, IfOk, Ok};
+ghost use Rattle.std.specs.Prelude.{◌≡◌, ◌≤◌, ◌+◌, List, ℕ, IfOk, Ok, Some, length};
 ghost use Rattle.dsd_bits.specs.Contents.{Content};
 ghost use Rattle.dsdiff_core.specs.Files.{IsDsdiff};
+ghost use Rattle.dsdiff_core.specs.Fronts.{located};
+ghost use Rattle.dsdiff_core.specs.Held.{IsParted};
 ghost use Rattle.dsdiff_core.specs.Reading.{recording_of};
 ghost use Rattle.dsdiff_core.specs.Steps.{Gives};
 
+use crate::describing::describe_held;
 use crate::fault::DsdiffFault;
-use crate::form::form_chunks;
-use crate::marks::read_marks;
-use crate::masters::master_chunks;
-use crate::others::kept_chunks;
-use crate::property::read_property;
-use crate::sound::{channels_of, find_sound};
-use dsd_bits::{Recording, usual_layout};
+use crate::front::locate;
+use crate::held::{Held, whole};
+use crate::sound::channels_of;
+use chunk_core::{Order, u64_at};
+use dsd_bits::Recording;
 use std::alloc::Global;
 
 /// The recording that a DSDIFF 1.5 file holds: its rate in hertz, a list of bits for each channel, the
@@ -51,25 +52,39 @@ pub fn read(alloc: Global, file: &[u8]) -> Result<Recording, DsdiffFault>
 }
 
 // The same, by the order of refusals alone.
-#[tactic(auto, unfolding(crate::specs::Reading::recording_of))]
 fn read_in_order(alloc: Global, file: &[u8]) -> Result<Recording, DsdiffFault>
     ensures { Gives (λ r. r) result (recording_of file.now) }
 {
-    let top = form_chunks(alloc, file)?;
-    let told = read_property(alloc, file, &top)?;
-    let number = told.ids.len();
-    let sound = find_sound(file, &top, number)?;
-    let inner = master_chunks(alloc, file, &top)?;
+    let (held, sound) = part(file);
+    let description = describe_held(alloc, held)?;
+    let number = description.ids().len();
     let channels = channels_of(alloc, sound, number)?;
-    let marks = read_marks(alloc, file, &inner)?;
-    let others = kept_chunks(alloc, file, &told.parts, &inner, &top)?;
-    Ok(Recording::new(
-        told.rate,
-        channels,
-        told.ids,
-        usual_layout(number as u32),
-        marks,
-        others,
-        Vec::new(alloc),
-    ))
+    Ok(Recording::of(description, channels))
+}
+
+// The file around its sound, and the bytes of that. Where no sound is found, the file is held whole, and it is refused.
+fn part(file: &[u8]) -> (Held, &[u8])
+    ensures { IsParted file.now result.0 result.1.now }
+{
+    match locate(file) {
+        Ok(Some(at)) => part_at(file, at),
+        Ok(None) => (whole(file), &[]),
+        Err(_) => (whole(file), &[]),
+    }
+}
+
+// The same by the place of the head of the sound.
+fn part_at(file: &[u8], at: usize) -> (Held, &[u8])
+    requires located { located file.now ≡ Ok (Some at) }
+    requires inside { (16 ≤ at) × (at + 12 ≤ length file.now) }
+    ensures { IsParted file.now result.0 result.1.now }
+{
+    let size = u64_at(Order::Big, file, at + 4);
+    if ((file.len() - at - 12) as u64) < size {
+        return (whole(file), &[]);
+    }
+    let hole = size as usize;
+    let (front, rest) = file.split_at(at + 12);
+    let (sound, back) = rest.split_at(hole);
+    (Held { front, hole, back }, sound)
 }

@@ -1,46 +1,51 @@
 //! The sound: whole frames behind the sound property.
 
-ghost use Rattle.std.specs.Prelude.{◌≡◌, ◌≤◌, ◌*◌, ◌/◌, ◌%◌, [], All, IfOk, length, map, replicate};
+ghost use Rattle.std.specs.Prelude.{◌≡◌, ◌≤◌, ◌*◌, ◌/◌, ◌%◌, All, IfOk, length, map};
 ghost use Rattle.chunk_core.specs.Places.{span_chunk};
-ghost use Rattle.dsd_bits.specs.Ids.{DSD};
 ghost use Rattle.dsd_bits.specs.Lacing.{unlaced_all};
 ghost use Rattle.dsd_bits.specs.Limits.{most_bits};
-ghost use Rattle.dsdiff_core.specs.Sounds.{sound_leads, sound_of};
-ghost use Rattle.dsdiff_core.specs.Spans.{StandsIn, data_with};
+ghost use Rattle.dsdiff_core.specs.Fronts.{frames_of};
+ghost use Rattle.dsdiff_core.specs.Held.{MayStand, held};
+ghost use Rattle.dsdiff_core.specs.Sounds.{count_told, sound_leads};
 ghost use Rattle.dsdiff_core.specs.Steps.{Gives};
 
 use crate::fault::DsdiffFault;
-use crate::spans::{data_with, is_sound_property};
+use crate::held::Held;
+use crate::spans::{first_with, is_sound_property};
 use chunk_core::Span;
 use dsd_bits::{Bits, LaceFault, MOST_BITS, unlace_bytes};
 use std::alloc::{AllocError, Global};
 
-/// The sound bytes of so many channels, among the form's chunks.
-pub(crate) fn find_sound<'a>(
-    file: &'a [u8],
-    top: &[Span],
-    number: usize,
-) -> Result<&'a [u8], DsdiffFault>
-    requires inside { All (StandsIn file.now) top.now }
+/// How many bits a channel of the sound among the form's chunks has, where there are so many channels.
+#[tactic(auto, unfolding(crate::specs::Sounds::count_told))]
+pub(crate) fn count_sound(file: Held, top: &[Span], number: usize) -> Result<usize, DsdiffFault>
+    requires inside { All (MayStand file) top.now }
     requires some { 1 ≤ number }
-    ensures exact { Gives (λ x. x.now) result
-        (sound_of (sound_leads (map (span_chunk file.now) top.now)) (data_with file.now DSD top.now) number) }
-    ensures in_limit { IfOk result (λ x. 8 * (length x.now / number) ≤ most_bits) }
-    ensures whole { IfOk result (λ x. length x.now % number ≡ 0) }
+    ensures exact { Gives (λ count. count) result (count_told (held file.entry) top.now number) }
+    ensures in_limit { IfOk result (λ count. count ≤ most_bits) }
 {
-    let Some(bytes) = data_with(file, top, *b"DSD ") else {
+    let Some(span) = first_with(top, *b"DSD ") else {
         return Err(DsdiffFault::NoSound);
     };
     if leads(file, top) {
         return Err(DsdiffFault::SoundBeforeProperty);
     }
-    if bytes.len() % number != 0 {
+    check_frames(span.size as u64, number)?;
+    Ok(8 * (span.size / number))
+}
+
+/// Refuses a size that is not that of whole frames of so many channels, within the limit.
+pub(crate) fn check_frames(size: u64, number: usize) -> Result<(), DsdiffFault>
+    requires { 1 ≤ number }
+    ensures { Gives (λ _. tt) result (frames_of size number) }
+{
+    if size % number as u64 != 0 {
         return Err(DsdiffFault::PartFrame);
     }
-    if bytes.len() / number > MOST_BITS / 8 {
+    if size / number as u64 > (MOST_BITS / 8) as u64 {
         return Err(DsdiffFault::TooLong);
     }
-    Ok(bytes)
+    Ok(())
 }
 
 /// The channels of whole frames of sound.
@@ -61,18 +66,10 @@ pub(crate) fn channels_of(
     }
 }
 
-/// So many channels of no bits.
-pub(crate) fn silent_channels(alloc: Global, number: usize) -> Result<Vec<Bits>, AllocError>
-    requires { (1 ≤ number) × (number ≤ 6) }
-    ensures { IfOk result (λ made. made.items ≡ replicate number []) }
-{
-    channels_of(alloc, &[], number)
-}
-
 // Whether the sound stands before the sound property.
-fn leads(file: &[u8], top: &[Span]) -> bool
-    requires { All (StandsIn file.now) top.now }
-    ensures { result ≡ sound_leads (map (span_chunk file.now) top.now) }
+fn leads(file: Held, top: &[Span]) -> bool
+    requires { All (MayStand file) top.now }
+    ensures { result ≡ sound_leads (map (span_chunk (held file.entry)) top.now) }
 {
     for span in top {
         if is_sound_property(file, *span) {

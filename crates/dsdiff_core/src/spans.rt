@@ -2,25 +2,16 @@
 
 ghost use Rattle.std.specs.Prelude.{◌≡◌, ◌≤◌, All, IfSome, IsTrue, find, length, option_map};
 ghost use Rattle.chunk_core.specs.Places.{span_chunk};
-ghost use Rattle.dsdiff_core.specs.Spans.{StandsIn, data_with, holds_property, span_has};
+ghost use Rattle.dsdiff_core.specs.Held.{MayStand, StandsIn, held};
+ghost use Rattle.dsdiff_core.specs.Spans.{data_with, holds_property, span_has};
 
+use crate::held::{Held, data_of};
 use chunk_core::Span;
 
-/// A chunk's data.
-pub(crate) fn data_of(file: &[u8], span: Span) -> &[u8]
-    requires { StandsIn file.now span }
-    ensures value { result.now ≡ (span_chunk file.now span).content }
-    ensures len { length result.now ≡ span.size }
-{
-    let (_, from) = file.split_at(span.start);
-    let (data, _) = from.split_at(span.size);
-    data
-}
-
 /// Whether the chunk is a property of the sound.
-pub(crate) fn is_sound_property(file: &[u8], span: Span) -> bool
-    requires { StandsIn file.now span }
-    ensures value { result ≡ holds_property file.now span }
+pub(crate) fn is_sound_property(file: Held, span: Span) -> bool
+    requires { MayStand file span }
+    ensures value { result ≡ holds_property (held file.entry) span }
     ensures long { IsTrue result → 4 ≤ span.size }
 {
     span.id == *b"PROP" && data_of(file, span).starts_with(b"SND ")
@@ -39,10 +30,10 @@ pub(crate) fn first_with(spans: &[Span], id: [u8; 4]) -> Option<Span>
 }
 
 /// The first property of the sound.
-pub(crate) fn first_sound_property(file: &[u8], spans: &[Span]) -> Option<Span>
-    requires { All (StandsIn file.now) spans.now }
-    ensures value { result ≡ find (holds_property file.now) spans.now }
-    ensures inside { IfSome result (StandsIn file.now) }
+pub(crate) fn first_sound_property(file: Held, spans: &[Span]) -> Option<Span>
+    requires { All (MayStand file) spans.now }
+    ensures value { result ≡ find (holds_property (held file.entry)) spans.now }
+    ensures inside { IfSome result (StandsIn file.entry) }
     ensures long { IfSome result (λ s. 4 ≤ s.size) }
 {
     for span in spans {
@@ -54,9 +45,9 @@ pub(crate) fn first_sound_property(file: &[u8], spans: &[Span]) -> Option<Span>
 }
 
 /// The data of the first chunk with this ID.
-pub(crate) fn data_with<'a>(file: &'a [u8], spans: &[Span], id: [u8; 4]) -> Option<&'a [u8]>
-    requires { All (StandsIn file.now) spans.now }
-    ensures { option_map (λ x. x.now) result ≡ data_with file.now id spans.now }
+pub(crate) fn data_with<'a>(file: Held<'a>, spans: &[Span], id: [u8; 4]) -> Option<&'a [u8]>
+    requires { All (StandsIn file) spans.now }
+    ensures { option_map (λ x. x.now) result ≡ data_with (held file.entry) id spans.now }
 {
     match first_with(spans, id) {
         None => None,

@@ -1,13 +1,11 @@
-use Rattle.std.proofs.Common.{ap, ◌∙◌}
+use Rattle.std.proofs.Common.{ap, sym, ◌∙◌, arith}
 use Rattle.dsdiff_core.specs.Fronts.{left_behind}
-use Rattle.dsdiff_core.proofs.ClosingLaws.{before_end}
+use Rattle.dsdiff_core.proofs.HeadLaws.{ends_at_head}
+use Rattle.dsdiff_core.proofs.WalkLaws.{long}
 use Rattle.dsdiff_core.proofs.closing.bytes_behind.Goals as goal
 
-pub left_behind-requires-clause-long : goal.left_behind-requires-clause-long
-left_behind-requires-clause-long c = (before_end c.args.front.now c.requires.0 c.requires.1).0
+pub returns-clause-value : goal.returns-clause-value
+returns-clause-value c = omega (arith, long c.args.front.now c.requires, c.size_at.ensures, c.size_at-2.ensures, c.requires.in_form)
 
-pub left_behind-requires-clause-fits : goal.left_behind-requires-clause-fits
-left_behind-requires-clause-fits c = (before_end c.args.front.now c.requires.0 c.requires.1).1
-
-pub returns : goal.returns
-returns c = λ s e. c.left_behind.ensures ∙ ap (left_behind c.args.front.now) (before_end c.args.front.now s e).2
+pub returns-clause-told : goal.returns-clause-told
+returns-clause-told c = λ s e. returns-clause-value c ∙ ap (left_behind c.args.front.now) (sym (ends_at_head c.args.front.now s e).1)

@@ -1,18 +1,15 @@
-use Rattle.std.proofs.Common.{◌≡◌, ◌-◌, length}
-use Rattle.std.specs.Result.{result_ok}
-use Rattle.dsdiff_core.specs.Fronts.{size_at}
-use Rattle.dsdiff_core.specs.Outlines.{outline_of}
-use Rattle.dsdiff_core.proofs.ClosingLaws.{before_end}
-use Rattle.dsdiff_core.proofs.FrontLaws.{when_ok}
-use Rattle.dsdiff_core.proofs.OutlineLaws.{outlined}
+use Rattle.std.proofs.Common.{Some, None, subst, sym, ◌∙◌}
+use Rattle.dsd_bits.specs.Contents.{Content}
+use Rattle.dsdiff_core.specs.Outlines.{TellsOutline}
+use Rattle.dsdiff_core.proofs.ClosingLaws.{outlines}
+use Rattle.dsdiff_core.proofs.HeadLaws.{ends_at_head}
 use Rattle.dsdiff_core.proofs.closing.outline.Goals as goal
 
-pub outline_in_order-requires-clause-long : goal.outline_in_order-requires-clause-long
-outline_in_order-requires-clause-long c = (before_end c.args.front.now c.requires.0 c.requires.1).0
+pub told_around-requires : goal.told_around-requires
+told_around-requires c = (ends_at_head c.args.front.now c.requires.0 c.requires.1).0
 
-pub outline_in_order-requires-clause-fits : goal.outline_in_order-requires-clause-fits
-outline_in_order-requires-clause-fits c = (before_end c.args.front.now c.requires.0 c.requires.1).1
+pub returns-in_default : goal.returns-in_default
+returns-in_default c = λ s e. outlines c.args.front.now c.args.back.now s None e (sym c.in_default.is ∙ c.in_ok-description.ensures)
 
 pub returns : goal.returns
-returns c = λ s e.
-    when_ok (λ o. o ≡ result_ok (outline_of c.args.front.now (size_at c.args.front.now (length c.args.front.now - 12)) c.args.back.now)) _ c.outline_in_order.result (λ o is. outlined c.args.front.now c.args.back.now s o e is) c.outline_in_order.ensures
+returns c = λ s e. subst (λ (r : Content). TellsOutline c.args.front.now s c.args.back.now (Some r)) (sym c.in_ok-silent.ensures) (outlines c.args.front.now c.args.back.now s (Some c.in-Some.description) e (sym c.in-Some.is ∙ c.in_ok-description.ensures))

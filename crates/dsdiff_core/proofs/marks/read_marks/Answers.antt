@@ -10,38 +10,39 @@ use Rattle.dsdiff_core.specs.Reading.{marks_of}
 use Rattle.dsdiff_core.proofs.KeptLoop.{passed_more, passed_by}
 use Rattle.dsdiff_core.proofs.MarkLaws.{whole_at}
 use Rattle.dsdiff_core.proofs.OnceLoop.{no_span}
+use Rattle.dsdiff_core.specs.Held.{held}
 use Rattle.dsdiff_core.proofs.marks.read_marks.Goals as goal
 use Rattle.dsdiff_core.proofs.marks.read_marks.Goals.{then-eq+in_ok-read_mark+in_ok-push, else-eq}
 
 pub read_mark-requires-clause-fields : goal.read_mark-requires-clause-fields
 read_mark-requires-clause-fields c =
-    let w = whole_at c.args.file.now c.args.inner.now c.loop-span.span-index no_span (omega arith) c.requires.whole (sym c.eq.ensures ∙ c.if-eq.true) in
+    let w = whole_at (held c.args.file) c.args.inner.now c.loop-span.span-index no_span (omega arith) c.requires.whole (sym c.eq.ensures ∙ c.if-eq.true) in
     rw c.data_of.ensures.value w.fields
 
 pub read_mark-requires-clause-text : goal.read_mark-requires-clause-text
 read_mark-requires-clause-text c =
-    let w = whole_at c.args.file.now c.args.inner.now c.loop-span.span-index no_span (omega arith) c.requires.whole (sym c.eq.ensures ∙ c.if-eq.true) in
+    let w = whole_at (held c.args.file) c.args.inner.now c.loop-span.span-index no_span (omega arith) c.requires.whole (sym c.eq.ensures ∙ c.if-eq.true) in
     rw c.data_of.ensures.value w.text
 
 pub loop-span-preserved : goal.loop-span-preserved
 loop-span-preserved c =
     elim c.if-eq.branch [
       | then-eq+in_ok-read_mark+in_ok-push w ↦
-          let more = passed_more mark_in (has_id MARK) c.args.file.now c.args.inner.now c.loop-span.span-index no_span (omega arith) (sym w.if-eq.ensures) in
+          let more = passed_more mark_in (has_id MARK) (held c.args.file) c.args.inner.now c.loop-span.span-index no_span (omega arith) (sym w.if-eq.ensures) in
           rw (w.marks-is, w.in_ok-push.ensures.items) (record {
             marks = rw (map_push, more, c.loop-span.invariant.marks, w.in_ok-read_mark.ensures.mark, w.data_of.ensures.value) refl;
             short = All-push (λ (m : Mark). length m.text.items < 2 ^ 32) c.loop-span.marks.items _ c.loop-span.invariant.short w.in_ok-read_mark.ensures.short;
           })
       | else-eq w ↦
           rw w.marks-is (record {
-            marks = rw (passed_by mark_in (has_id MARK) c.args.file.now c.args.inner.now c.loop-span.span-index no_span (omega arith) (sym w.if-eq.ensures)) c.loop-span.invariant.marks;
+            marks = rw (passed_by mark_in (has_id MARK) (held c.args.file) c.args.inner.now c.loop-span.span-index no_span (omega arith) (sym w.if-eq.ensures)) c.loop-span.invariant.marks;
             short = c.loop-span.invariant.short;
           })
     ]
 
 pub returns-clause-marks : goal.returns-clause-marks
 returns-clause-marks c =
-    c.loop-span.invariant.marks ∙ ap (marks_of c.args.file.now) (take_all c.loop-span.span-index c.args.inner.now c.loop-span-test.false)
+    c.loop-span.invariant.marks ∙ ap (marks_of (held c.args.file)) (take_all c.loop-span.span-index c.args.inner.now c.loop-span-test.false)
 
 pub returns-in_err-read_mark-clause-marks : goal.returns-in_err-read_mark-clause-marks
 returns-in_err-read_mark-clause-marks c = no_value _ _ c.from_residual.result c.from_residual.ensures.1

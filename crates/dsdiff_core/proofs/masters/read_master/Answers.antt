@@ -2,7 +2,6 @@ use Rattle.dsd_bits.proofs.ExitLaws.{no_value}
 use Rattle.dsdiff_core.specs.Masters.{master_of}
 use Rattle.dsdiff_core.proofs.ExitLaws.{fault_at}
 use Rattle.dsdiff_core.proofs.JoinedSteps.{walk_fails}
-use Rattle.dsdiff_core.proofs.SpanLaws.{lie_inside}
 use Rattle.dsdiff_core.proofs.Steps.{step_fails}
 use Rattle.dsdiff_core.proofs.masters.read_master.Goals as goal
 
@@ -18,7 +17,7 @@ pub returns-in_err-inner-clause-whole : goal.returns-in_err-inner-clause-whole
 returns-in_err-inner-clause-whole c = no_value _ _ c.from_residual.result c.from_residual.ensures.1
 
 pub no_mark_is_cut-requires : goal.no_mark_is_cut-requires
-no_mark_is_cut-requires c = rw c.deref.ensures.value (lie_inside c.args.file.now _ _ _ c.requires c.in_ok-inner.ensures.inside)
+no_mark_is_cut-requires c = rw c.deref.ensures.value c.in_ok-inner.ensures.inside
 
 pub returns-clause-inside : goal.returns-clause-inside
-returns-clause-inside c = lie_inside c.args.file.now _ _ _ c.requires c.in_ok-inner.ensures.inside
+returns-clause-inside c = c.in_ok-inner.ensures.inside

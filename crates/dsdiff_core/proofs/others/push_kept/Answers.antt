@@ -6,7 +6,9 @@ use Rattle.dsd_bits.specs.Contents.{other_content}
 use Rattle.dsd_bits.specs.Shape.{has_part}
 use Rattle.dsdiff_core.specs.Others.{kept, other_in}
 use Rattle.dsdiff_core.proofs.KeptLoop.{passed_more, passed_by}
+use Rattle.dsdiff_core.proofs.HeldLaws.{kept_stands}
 use Rattle.dsdiff_core.proofs.OnceLoop.{no_span}
+use Rattle.dsdiff_core.specs.Held.{held}
 use Rattle.dsdiff_core.proofs.others.push_kept.Goals as goal
 use Rattle.dsdiff_core.proofs.others.push_kept.Goals.{then-not-is_read+in_ok-bytes+in_ok-push, else-not-is_read}
 
@@ -17,7 +19,7 @@ pub is_read-requires : goal.is_read-requires
 is_read-requires c = c.requires c.loop-span.span-index no_span c.loop-span-test.true
 
 pub data_of-requires : goal.data_of-requires
-data_of-requires c = c.requires c.loop-span.span-index no_span c.loop-span-test.true
+data_of-requires c = kept_stands c.args.place c.args.file _ (c.requires c.loop-span.span-index no_span c.loop-span-test.true) (sym c.is_read.ensures ∙ c.if-not-is_read.true)
 
 pub loop-span-preserved : goal.loop-span-preserved
 loop-span-preserved c =
@@ -25,13 +27,13 @@ loop-span-preserved c =
     let test = λ (ch : Chunk). not (has_part place ch.id ch.content) in
     elim c.if-not-is_read.branch [
       | then-not-is_read+in_ok-bytes+in_ok-push w ↦
-          let more = passed_more (other_in place) test c.args.file.now c.args.spans.now c.loop-span.span-index no_span c.loop-span-test.true (rw (← c.is_read.ensures, w.if-not-is_read.true) refl) in
+          let more = passed_more (other_in place) test (held c.args.file) c.args.spans.now c.loop-span.span-index no_span c.loop-span-test.true (rw (← c.is_read.ensures, w.if-not-is_read.true) refl) in
           rw (w.others-is, w.in_ok-push.ensures.items, map_push, more, c.loop-span.invariant, append_assoc, w.in_ok-bytes.ensures.items, w.data_of.ensures.value) refl
       | else-not-is_read w ↦
-          rw (w.others-is, passed_by (other_in place) test c.args.file.now c.args.spans.now c.loop-span.span-index no_span c.loop-span-test.true (rw (← c.is_read.ensures, w.if-not-is_read.false) refl)) c.loop-span.invariant
+          rw (w.others-is, passed_by (other_in place) test (held c.args.file) c.args.spans.now c.loop-span.span-index no_span c.loop-span-test.true (rw (← c.is_read.ensures, w.if-not-is_read.false) refl)) c.loop-span.invariant
     ]
 
 pub returns : goal.returns
 returns c =
     c.loop-span.invariant
-    ∙ ap (λ ss. map other_content c.args.others.now.items ++ kept c.args.place (map (span_chunk c.args.file.now) ss)) (take_all c.loop-span.span-index c.args.spans.now (omega arith))
+    ∙ ap (λ ss. map other_content c.args.others.now.items ++ kept c.args.place (map (span_chunk (held c.args.file)) ss)) (take_all c.loop-span.span-index c.args.spans.now (omega arith))

@@ -7,7 +7,7 @@ use Rattle.dsdiff_core.specs.Spans.{once_each, property_kinds}
 use Rattle.dsdiff_core.specs.Steps.{Fails, some_or, walked}
 use Rattle.dsdiff_core.proofs.JoinedSteps.{fails_then, step_then, walk_fails}
 use Rattle.dsdiff_core.proofs.PropertyLaws.{fields_with}
-use Rattle.dsdiff_core.proofs.SpanLaws.{lie_inside}
+use Rattle.dsdiff_core.specs.Held.{held}
 use Rattle.dsdiff_core.proofs.Steps.{step_fails}
 use Rattle.dsdiff_core.proofs.property.read_property.Goals as goal
 
@@ -45,9 +45,6 @@ pub returns-in_default-clause-exact : goal.returns-in_default-clause-exact
 unfolding property_of
 returns-in_default-clause-exact c = step_fails NoProperty _ _ (ap (some_or NoProperty) (sym c.in_default.ensures.value))
 
-pub walk-requires : goal.walk-requires
-walk-requires c = (omega (arith, c.in-Some.ensures.long), c.in-Some.ensures.inside)
-
 pub returns-in_err-parts-clause-exact : goal.returns-in_err-parts-clause-exact
 unfolding property_of
 returns-in_err-parts-clause-exact c =
@@ -59,23 +56,23 @@ returns-in_err-refuse_second_in_property-clause-exact c =
     fault_at _ _ c.from_residual-in_err-refuse_second_in_property.result _ c.from_residual-in_err-refuse_second_in_property.ensures.1 (fails_then _ _ _ _ (ap (some_or NoProperty) (sym c.in-Some.ensures.value)) (fails_then _ _ _ _ (ap walked c.in_ok-parts.ensures.exact) (step_fails c.in_err-refuse_second_in_property.field-0.0 _ _ (subst (λ ps. Fails c.in_err-refuse_second_in_property.field-0.0 (once_each property_kinds [] ps)) c.deref.ensures.value c.in_err-refuse_second_in_property.ensures))))
 
 pub data_with-requires : goal.data_with-requires
-data_with-requires c = rw c.deref-2.ensures.value (lie_inside c.args.file.now _ _ _ c.in-Some.ensures.inside c.in_ok-parts.ensures.inside)
+data_with-requires c = rw c.deref-2.ensures.value c.in_ok-parts.ensures.inside
 
 pub data_with-requires-2 : goal.data_with-requires-2
-data_with-requires-2 c = rw c.deref-3.ensures.value (lie_inside c.args.file.now _ _ _ c.in-Some.ensures.inside c.in_ok-parts.ensures.inside)
+data_with-requires-2 c = rw c.deref-3.ensures.value c.in_ok-parts.ensures.inside
 
 pub data_with-requires-3 : goal.data_with-requires-3
-data_with-requires-3 c = rw c.deref-4.ensures.value (lie_inside c.args.file.now _ _ _ c.in-Some.ensures.inside c.in_ok-parts.ensures.inside)
+data_with-requires-3 c = rw c.deref-4.ensures.value c.in_ok-parts.ensures.inside
 
 pub returns-in_err-rate-clause-exact : goal.returns-in_err-rate-clause-exact
 unfolding property_of
 returns-in_err-rate-clause-exact c =
-    fault_at _ _ c.from_residual-in_err-rate.result _ c.from_residual-in_err-rate.ensures.1 (fails_then _ _ _ _ (ap (some_or NoProperty) (sym c.in-Some.ensures.value)) (fails_then _ _ _ _ (ap walked c.in_ok-parts.ensures.exact) (fails_then _ _ _ _ (subst (λ ps. once_each property_kinds [] ps ≡ Ok tt) c.deref.ensures.value c.in_ok-refuse_second_in_property.ensures) (step_fails c.in_err-rate.field-0.0 _ _ (subst (λ r. Fails c.in_err-rate.field-0.0 r) (fields_with c.args.file.now c.in_ok-parts.parts.items _ _ _ _ _ _ c.deref-2.ensures.value c.deref-3.ensures.value c.deref-4.ensures.value c.data_with.ensures c.data_with-2.ensures c.data_with-3.ensures) c.in_err-rate.ensures.exact)))))
+    fault_at _ _ c.from_residual-in_err-rate.result _ c.from_residual-in_err-rate.ensures.1 (fails_then _ _ _ _ (ap (some_or NoProperty) (sym c.in-Some.ensures.value)) (fails_then _ _ _ _ (ap walked c.in_ok-parts.ensures.exact) (fails_then _ _ _ _ (subst (λ ps. once_each property_kinds [] ps ≡ Ok tt) c.deref.ensures.value c.in_ok-refuse_second_in_property.ensures) (step_fails c.in_err-rate.field-0.0 _ _ (subst (λ r. Fails c.in_err-rate.field-0.0 r) (fields_with (held c.args.file) c.in_ok-parts.parts.items _ _ _ _ _ _ c.deref-2.ensures.value c.deref-3.ensures.value c.deref-4.ensures.value c.data_with.ensures c.data_with-2.ensures c.data_with-3.ensures) c.in_err-rate.ensures.exact)))))
 
 pub returns-clause-exact : goal.returns-clause-exact
 unfolding property_of
 returns-clause-exact c =
-    step_then _ _ _ _ (ap (some_or NoProperty) (sym c.in-Some.ensures.value)) (step_then _ _ _ _ (ap walked c.in_ok-parts.ensures.exact) (step_then _ _ _ _ (subst (λ ps. once_each property_kinds [] ps ≡ Ok tt) c.deref.ensures.value c.in_ok-refuse_second_in_property.ensures) (step_then _ _ _ _ (sym (fields_with c.args.file.now c.in_ok-parts.parts.items _ _ _ _ _ _ c.deref-2.ensures.value c.deref-3.ensures.value c.deref-4.ensures.value c.data_with.ensures c.data_with-2.ensures c.data_with-3.ensures) ∙ c.in_ok-rate.ensures.exact) refl)))
+    step_then _ _ _ _ (ap (some_or NoProperty) (sym c.in-Some.ensures.value)) (step_then _ _ _ _ (ap walked c.in_ok-parts.ensures.exact) (step_then _ _ _ _ (subst (λ ps. once_each property_kinds [] ps ≡ Ok tt) c.deref.ensures.value c.in_ok-refuse_second_in_property.ensures) (step_then _ _ _ _ (sym (fields_with (held c.args.file) c.in_ok-parts.parts.items _ _ _ _ _ _ c.deref-2.ensures.value c.deref-3.ensures.value c.deref-4.ensures.value c.data_with.ensures c.data_with-2.ensures c.data_with-3.ensures) ∙ c.in_ok-rate.ensures.exact) refl)))
 
 pub returns-clause-inside : goal.returns-clause-inside
-returns-clause-inside c = lie_inside c.args.file.now _ _ _ c.in-Some.ensures.inside c.in_ok-parts.ensures.inside
+returns-clause-inside c = c.in_ok-parts.ensures.inside

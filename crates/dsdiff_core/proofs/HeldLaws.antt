@@ -1,0 +1,222 @@
+-- Files whose sound isn't held.
+use Rattle.std.proofs.Common.{◌≡◌, ℕ, ◌+◌, ◌-◌, ◌%◌, ◌≤◌, ◌<◌, ◌^◌, ◌⊎◌, inl, inr, min, Bool, true, false, not, List, [], ◌∷◌, ◌++◌, length, map, take, drop, replicate, Result, Ok, Err, refl, sym, ap, ap₂, subst, ◌∙◌, arith}
+use Rattle.std.specs.Prelude.{All, slice_range}
+use Rattle.std.proofs.lemmas.Bool.{cases_lt}
+use Rattle.std.proofs.lemmas.List.{append-nil, drop-append-le, drop_at, length-append, length-drop, length-replicate, length-take, nil_from_length, take-append-le, take_all}
+use Rattle.std.proofs.lemmas.List.Elements.{All-append, All-weaker}
+use Rattle.chunk_core.specs.declared.fault.ChunkFault.{ChunkFault}
+use Rattle.chunk_core.specs.declared.fault.ChunkFault.TheVariants.{HeadCut, DataCut, Memory}
+use Rattle.chunk_core.specs.declared.layout.Span.{Span}
+use Rattle.chunk_core.specs.Chunks.{chunks}
+use Rattle.chunk_core.specs.Places.{LiesIn, places, span_chunk}
+use Rattle.chunk_core.specs.Reading.{spans_at, spans_in}
+use Rattle.chunk_core.specs.Steps.{Fails as WalkFails}
+use Rattle.chunk_core.proofs.Ranges.{range_after}
+use Rattle.chunk_core.proofs.PlaceLaws.{spans_again}
+use Rattle.chunk_core.proofs.ReadingLaws.{walk_end}
+use Rattle.dsd_bits.specs.declared.marks.Place.{Place}
+use Rattle.dsd_bits.specs.declared.marks.Place.TheVariants.{Property, Master, Form}
+use Rattle.dsd_bits.specs.Ids.{same_id, DSD}
+use Rattle.dsd_bits.specs.Shape.{has_part}
+use Rattle.dsdiff_core.specs.declared.fault.DsdiffFault.{DsdiffFault}
+use Rattle.dsdiff_core.specs.declared.held.Held.{Held}
+use Rattle.dsdiff_core.specs.Fields.{form_end}
+use Rattle.dsdiff_core.specs.Fronts.{size_at}
+use Rattle.dsdiff_core.specs.Held.{IsAround, IsHeld, MayStand, StandsFor, StandsIn, held}
+use Rattle.dsdiff_core.specs.Located.{sound_size}
+use Rattle.dsdiff_core.specs.Spans.{span_has}
+use Rattle.dsdiff_core.specs.Steps.{Fails, chunk_fault, walked}
+use Rattle.dsdiff_core.proofs.AnySound.{end_fits}
+use Rattle.dsdiff_core.proofs.Alike.{spans_same}
+use Rattle.dsdiff_core.proofs.KindLaws.{bool_cases}
+use Rattle.dsdiff_core.proofs.LeadLaws.{number_front, part_front}
+use Rattle.dsdiff_core.proofs.WalkLaws.{after, long, sound_span, walk_across}
+use Rattle.dsdiff_core.proofs.OtherSound.{sound_not_kept, tail_is}
+
+pub held_long : (f : Held) → length (held f) ≡ length f.front.now + f.hole + length f.back.now
+held_long f = omega (arith, length-append f.front.now (replicate f.hole 0 ++ f.back.now), length-append (replicate f.hole 0) f.back.now, length-replicate {A = ℕ} f.hole 0)
+
+-- a file that is held whole is its front
+pub held_front : (f : Held) → f.hole ≡ 0 → f.back.now ≡ [] → held f ≡ f.front.now
+held_front f none end = rw (none, end) (append-nil f.front.now)
+
+-- bytes of the front, and bytes behind the sound
+pub front_part : (f : Held) (at size : ℕ) → at + size ≤ length f.front.now → take size (drop at (held f)) ≡ take size (drop at f.front.now)
+front_part f at size le = part_front size at f.front.now (replicate f.hole 0 ++ f.back.now) le
+
+pub back_part : (f : Held) (at : ℕ) → length f.front.now + f.hole ≤ at → drop at (held f) ≡ drop (at - length f.front.now - f.hole) f.back.now
+back_part f at le =
+    let zeros : List ℕ = replicate f.hole 0 in
+    let here : at ≡ length f.front.now + length zeros + (at - length f.front.now - f.hole) = omega (arith, le, length-replicate {A = ℕ} f.hole 0) in
+    ap (λ n. drop n (held f)) here ∙ tail_is f.front.now zeros f.back.now (at - length f.front.now - f.hole)
+
+-- a chunk of another kind than a sound is held
+pub may_stand : (f : Held) (s : Span) → MayStand f s → span_has DSD s ≡ false → StandsIn f s
+may_stand f s (inl here) other = here
+may_stand f s (inr sound) other = (let both : true ≡ false = sym sound.0 ∙ other in absurd cc)
+
+-- chunks of another ID are no sounds
+pub other_id : (s : Span) (id : List ℕ) → same_id id DSD ≡ false → s.id ≡ id → span_has DSD s ≡ false
+other_id s id other is = ap (λ (x : List ℕ). same_id x DSD) is ∙ other
+
+pub held_by : (f : Held) (s : Span) (id : List ℕ) → same_id id DSD ≡ false → MayStand f s → s.id ≡ id → StandsIn f s
+held_by f s id other may is = may_stand f s may (other_id s id other is)
+
+-- what is kept of a place is held
+pub kept_stands : (p : Place) (f : Held) (s : Span) → StandsFor p f s → has_part p s.id (span_chunk (held f) s).content ≡ false → StandsIn f s
+kept_stands Property f s h e = h
+kept_stands Master f s h e = h
+kept_stands Form f s (inl h) e = h
+kept_stands Form f s (inr h) e = (let part : has_part Form s.id (span_chunk (held f) s).content ≡ true = not_true _ (sound_not_kept (span_chunk (held f) s) h.0) in let both : true ≡ false = sym part ∙ e in absurd cc)
+  where
+    not_true : (b : Bool) → not b ≡ false → b ≡ true
+    not_true true e = refl
+    not_true false e = absurd cc
+
+-- the chunks in the data of a chunk that is held are held
+pub inside_stand : (f : Held) (s : Span) (start stop : ℕ) (ss : List Span) → StandsIn f s → s.start ≤ start → stop ≤ s.start + s.size → All (LiesIn start stop) ss → All (StandsIn f) ss
+inside_stand f s start stop ss h low high all = All-weaker (LiesIn start stop) (StandsIn f) (λ x lies. record {
+  short = omega (arith, lies.ends, high, h.short);
+  side = elim h.side [
+    | inl front ↦ inl (omega (arith, lies.ends, high, front))
+    | inr back ↦ inr (omega (arith, lies.begins, low, back.0), omega (arith, lies.ends, high, back.1))
+  ];
+}) ss all
+
+pub all_may : (f : Held) (ss : List Span) → All (StandsIn f) ss → All (MayStand f) ss
+all_may f ss all = All-weaker (StandsIn f) (MayStand f) (λ s h. inl h) ss all
+
+-- the chunks of a range that is held
+pub range_spans : (bytes part : List ℕ) (start stop : ℕ) → slice_range bytes start stop ≡ part → spans_at start part ≡ spans_in bytes start stop
+unfolding spans_in
+range_spans bytes part start stop e = ap (spans_at start) (sym e)
+
+-- the data of a chunk from a place on
+pub inside_spans : (f : Held) (s : Span) (start : ℕ) (part : List ℕ) → s.start ≤ start → part ≡ (span_chunk (held f) s).content → spans_at start (slice_range part (start - s.start) (length part)) ≡ spans_in (held f) start (s.start + s.size)
+inside_spans f s start part low is =
+    let k : ℕ = start - s.start in
+    let size : s.start + s.size - s.start ≡ s.size = omega arith in
+    let content : part ≡ take (s.start + s.size - s.start) (drop s.start (held f)) = is ∙ ap (λ n. take n (drop s.start (held f))) (sym size) in
+    let place : s.start + k ≡ start = omega (arith, low) in
+    let rest : take (length part - k) (drop k part) ≡ drop k part = take_all (length part - k) (drop k part) (omega (arith, length-drop k part)) in
+    range_spans (held f) (slice_range part k (length part)) start (s.start + s.size) (sym (rest ∙ ap (drop k) content ∙ range_after (held f) s.start (s.start + s.size) k ∙ ap (λ n. slice_range (held f) n (s.start + s.size)) place))
+
+-- the data of a chunk are as long as it says
+pub may_long : (f : Held) (s : Span) → MayStand f s → length (span_chunk (held f) s).content ≡ s.size
+may_long f s may = omega (arith, length-take s.size (drop s.start (held f)), length-drop s.start (held f), by may)
+  where
+    by : MayStand f s → s.start + s.size ≤ length (held f)
+    by (inr sound) = sound.1
+    by (inl here) = elim here.side [
+      | inl front ↦ omega (arith, front, held_long f)
+      | inr back ↦ omega (arith, back.1, held_long f)
+    ]
+
+-- the chunks and sizes in the front
+pub front_spans : (f : Held) (at : ℕ) → 16 ≤ at → at ≤ length f.front.now → spans_in (held f) 16 at ≡ spans_in f.front.now 16 at
+front_spans f at low high = spans_same (held f) f.front.now 16 at (front_part f 16 (at - 16) (omega (arith, low, high)))
+
+pub lead_may : (f : Held) (at : ℕ) (ss : List Span) → at < 2 ^ 64 → at ≤ length f.front.now → All (LiesIn 16 at) ss → All (MayStand f) ss
+lead_may f at ss few le all = All-weaker (LiesIn 16 at) (MayStand f) (λ s lies. inl (record { short = omega (arith, lies.ends, few); side = inl (omega (arith, lies.ends, le)) })) ss all
+
+pub size_held : (f : Held) (at : ℕ) → at + 12 ≤ length f.front.now → size_at (held f) at ≡ size_at f.front.now at
+size_held f at le = number_front 8 (at + 4) f.front.now (replicate f.hole 0 ++ f.back.now) (omega arith)
+
+-- a file of a form's head has it in its front
+pub front_long : (f : Held) → IsHeld f → 16 ≤ length (held f) → 16 ≤ length f.front.now
+front_long f (inl whole) le = omega (arith, le, ap length (held_front f whole.0 whole.1))
+front_long f (inr a) le = omega (arith, long f.front.now a.0)
+
+pub whole_held : (f : Held) → IsHeld f → f.hole ≡ 0 → length f.back.now ≡ 0 → held f ≡ f.front.now
+whole_held f h none end = held_front f none (nil_from_length f.back.now end)
+
+pub is_around : (f : Held) → IsHeld f → (f.hole ≡ 0 → f.back.now ≡ [] → ⊥) → IsAround f
+is_around f (inl whole) some = absurd (some whole.0 whole.1)
+is_around f (inr a) some = a
+
+-- ---- around a sound
+no_bytes : (bytes : List ℕ) (from stop : ℕ) → stop ≤ from → slice_range bytes from stop ≡ []
+no_bytes bytes from stop le = (let none : stop - from ≡ 0 = omega arith in rw none refl)
+
+no_spans : (at : ℕ) → spans_at at [] ≡ Ok []
+no_spans at = rw (walk_end at [] refl) refl
+
+module _ (f : Held) (a : IsAround f) (stop : ℕ) (is : stop ≡ form_end (held f)) where
+  abbrev behind : ℕ
+  behind = length f.front.now + f.hole
+
+  abbrev pad : ℕ
+  pad = min (f.hole % 2) (stop - behind)
+
+  zeros_long : length {A = ℕ} (replicate f.hole 0) ≡ sound_size f.front.now
+  zeros_long = length-replicate {A = ℕ} f.hole 0 ∙ a.1
+
+  pub around_end : (length f.front.now + f.hole ≤ stop) × (stop ≤ length f.front.now + f.hole + length f.back.now)
+  around_end = (
+    omega (arith, end_fits f.front.now f.back.now a.0 (replicate f.hole 0) stop zeros_long (sym is), length-replicate {A = ℕ} f.hole 0),
+    omega (arith, is, held_long f),
+  )
+
+  pub lead_spans : spans_in f.front.now 16 (length f.front.now - 12) ≡ Ok (places 16 a.0.head.before)
+  lead_spans =
+      let here : a.0.head.at ≡ length f.front.now - 12 = omega (arith, a.0.ends) in
+      (spans_again f.front.now 16 (length f.front.now - 12) a.0.head.before (subst (λ (n : ℕ). chunks (slice_range f.front.now 16 n) a.0.head.before) here a.0.head.are_before)).0
+
+  -- the chunks behind the sound
+  later_spans : spans_in (held f) (behind + f.hole % 2) stop ≡ spans_at (behind + pad) (slice_range f.back.now pad (stop - behind))
+  later_spans = elim (cases_lt stop (behind + f.hole % 2)) [
+    | inl short ↦
+        let last : stop - behind ≤ pad = omega (arith, around_end.0) in
+        sym (range_spans (held f) [] (behind + f.hole % 2) stop (no_bytes (held f) (behind + f.hole % 2) stop (omega (arith, short))))
+        ∙ no_spans (behind + f.hole % 2) ∙ sym (no_spans (behind + pad)) ∙ ap (spans_at (behind + pad)) (sym (no_bytes f.back.now pad (stop - behind) last))
+    | inr enough ↦
+        let whole : pad ≡ f.hole % 2 = omega (arith, around_end.0, enough) in
+        let few : stop - (behind + f.hole % 2) ≡ stop - behind - pad = omega (arith, whole) in
+        let skip : behind + f.hole % 2 - length f.front.now - f.hole ≡ pad = omega (arith, whole) in
+        let next : behind + f.hole % 2 ≡ behind + pad = ap (λ n. behind + n) (sym whole) in
+        let same : slice_range (held f) (behind + f.hole % 2) stop ≡ slice_range f.back.now pad (stop - behind) = ap₂ (λ (n : ℕ) (bs : List ℕ). take n bs) few (back_part f (behind + f.hole % 2) (omega arith) ∙ ap (λ n. drop n f.back.now) skip) in
+        sym (range_spans (held f) (slice_range f.back.now pad (stop - behind)) (behind + f.hole % 2) stop same) ∙ ap (λ n. spans_at n (slice_range f.back.now pad (stop - behind))) next
+  ]
+
+  pub around_spans : spans_in (held f) 16 stop ≡ after (places 16 a.0.head.before ++ sound_span f.front.now a.0 ∷ []) (spans_at (behind + pad) (slice_range f.back.now pad (stop - behind)))
+  around_spans =
+      let from : length f.front.now + sound_size f.front.now + sound_size f.front.now % 2 ≡ behind + f.hole % 2 = ap (λ (n : ℕ). length f.front.now + n + n % 2) (sym a.1) in
+      let lead : List Span = places 16 a.0.head.before ++ sound_span f.front.now a.0 ∷ [] in
+      walk_across f.front.now a.0 (replicate f.hole 0) f.back.now zeros_long stop (omega (arith, around_end.0, length-replicate {A = ℕ} f.hole 0))
+      ∙ ap (λ (n : ℕ). after lead (spans_in (held f) n stop)) from ∙ ap (after lead) later_spans
+
+  -- chunks in the front, the sound, and chunks behind it
+  pub front_may : (ss : List Span) → All (LiesIn 16 (length f.front.now - 12)) ss → All (MayStand f) ss
+  front_may ss all = All-weaker (LiesIn 16 (length f.front.now - 12)) (MayStand f) (λ s lies. inl (record { short = omega (arith, lies.ends, a.2); side = inl (omega (arith, lies.ends)) })) ss all
+
+  pub later_may : (ss : List Span) (from : ℕ) (part : List ℕ) → behind ≤ from → from + length part ≤ stop → All (LiesIn from (from + length part)) ss → All (MayStand f) ss
+  later_may ss from part low high all = All-weaker (LiesIn from (from + length part)) (MayStand f) (λ s lies. inl (record {
+    short = omega (arith, lies.ends, high, around_end.1, a.2);
+    side = inr (omega (arith, lies.begins, low), omega (arith, lies.ends, high, around_end.1));
+  })) ss all
+
+  pub sound_may : MayStand f (record { id = DSD; start = length f.front.now; size = f.hole })
+  sound_may = inr (refl, omega (arith, held_long f))
+
+-- the place of a sound
+abbrev pub span_at : ℕ → ℕ → Span
+span_at start size = record { id = DSD; start = start; size = size }
+
+-- the chunks behind a pad of so many bytes
+abbrev pub later_at : Held → ℕ → ℕ → Result (List Span) ChunkFault
+later_at f pad stop = spans_at (length f.front.now + f.hole + pad) (slice_range f.back.now pad (stop - (length f.front.now + f.hole)))
+
+pub same_spans : (x y : List Span) → (let r : Result (List Span) ChunkFault = Ok x in r) ≡ Ok y → x ≡ y
+same_spans x y e = cc
+
+-- a fault behind chunks that were found
+pub after_fails : (e : ChunkFault) (front : List Span) (r : Result (List Span) ChunkFault) → WalkFails e r → Fails (chunk_fault e) (walked (after front r))
+after_fails Memory front r h = tt
+after_fails (HeadCut at) front r h = rw h refl
+after_fails (DataCut at) front r h = rw h refl
+
+-- no fault comes of chunks that are found
+pub none_fails : {A B : Type 0} (e : ChunkFault) (r : Result A ChunkFault) (x : A) (reading : Result B DsdiffFault) → r ≡ Ok x → WalkFails e r → Fails (chunk_fault e) reading
+none_fails Memory r x reading is h = tt
+none_fails (HeadCut at) r x reading is h = absurd cc
+none_fails (DataCut at) r x reading is h = absurd cc

@@ -1,0 +1,27 @@
+-- The sound bytes and the rest of a file.
+use Rattle.std.specs.Prelude.{◌≡◌, ℕ, List, ◌++◌, length, replicate, Result, Ok, Err}
+use Rattle.chunk_core.specs.Steps.{◌>>=◌}
+use Rattle.dsd_bits.specs.Contents.{Content, Described, described}
+use Rattle.dsd_bits.specs.Lacing.{unlaced_all}
+use Rattle.dsdiff_core.specs.declared.fault.DsdiffFault.{DsdiffFault}
+use Rattle.dsdiff_core.specs.Located.{EndsAtHead, sound_size}
+use Rattle.dsdiff_core.specs.Reading.{recording_of}
+
+-- what was read of a file, with these sound bytes
+abbrev pub with_sound : List ℕ → Result Content DsdiffFault → Result Content DsdiffFault
+with_sound sound (Ok r) = Ok (record r { channels = unlaced_all sound (length r.ids) })
+with_sound sound (Err e) = Err e
+
+-- what a file tells beside the bits of its sound, or the first fault
+abbrev pub description_of : List ℕ → Result Described DsdiffFault
+description_of file = recording_of file >>= λ r. Ok (described r)
+
+-- the file around a sound of zeros
+abbrev pub with_zeros : List ℕ → List ℕ → List ℕ
+with_zeros front back = front ++ (replicate (sound_size front) 0 ++ back)
+
+-- other sound bytes, as many of them, change nothing of what is read but the channels
+abbrev pub SoundIsFree : Type 0
+SoundIsFree =
+    (front sound other back : List ℕ) → EndsAtHead front → length sound ≡ sound_size front → length other ≡ sound_size front
+    → recording_of (front ++ (other ++ back)) ≡ with_sound other (recording_of (front ++ (sound ++ back)))

@@ -1,0 +1,110 @@
+//! A file whose sound isn't held.
+
+ghost use Rattle.std.specs.Prelude.{◌≡◌, ◌≤◌, ◌+◌, ◌<◌, ◌^◌, [], All, IfOk, length};
+ghost use Rattle.chunk_core.specs.Places.{span_chunk};
+ghost use Rattle.chunk_core.specs.Reading.{spans_in};
+ghost use Rattle.chunk_core.specs.Steps.{Gives as WalkGives};
+ghost use Rattle.dsdiff_core.specs.Fields.{form_end};
+ghost use Rattle.dsdiff_core.specs.Steps.{Gives, walked};
+ghost use Rattle.dsdiff_core.specs.Held.{IsAround, IsHeld, MayStand, StandsIn, held};
+
+use crate::fault::DsdiffFault;
+use chunk_core::{ChunkFault, Span, walk, walk_at};
+use std::alloc::Global;
+
+/// A file of which the bytes of the sound aren't held: what stands before them, how many they are, and what stands
+/// behind them. Places are those of the whole file.
+#[derive(Clone, Copy)]
+pub(crate) struct Held<'a> {
+    pub(crate) front: &'a [u8],
+    pub(crate) hole: usize,
+    pub(crate) back: &'a [u8],
+}
+
+/// A file that is held whole.
+pub(crate) fn whole(file: &[u8]) -> Held
+    ensures value { held result ≡ file.now }
+    ensures is_held { IsHeld result }
+    ensures front { result.front.now ≡ file.now }
+{
+    Held {
+        front: file,
+        hole: 0,
+        back: &[],
+    }
+}
+
+/// How many bytes the file has.
+pub(crate) fn len(file: Held) -> usize
+    requires { IsHeld file }
+    ensures { result ≡ length (held file.entry) }
+{
+    file.front.len() + file.hole + file.back.len()
+}
+
+/// A chunk's data.
+pub(crate) fn data_of(file: Held, span: Span) -> &[u8]
+    requires { StandsIn file span }
+    ensures value { result.now ≡ (span_chunk (held file.entry) span).content }
+    ensures len { length result.now ≡ span.size }
+{
+    let size = span.size;
+    if span.start + size <= file.front.len() {
+        &file.front[span.start..span.start + size]
+    } else {
+        let at = span.start - file.front.len() - file.hole;
+        &file.back[at..at + size]
+    }
+}
+
+/// The chunks in the data of a chunk, from a place on.
+pub(crate) fn walk_inside(
+    alloc: Global,
+    file: Held,
+    span: Span,
+    start: usize,
+) -> Result<Vec<Span>, ChunkFault>
+    requires stands { StandsIn file span }
+    requires start { (span.start ≤ start) × (start ≤ span.start + span.size) }
+    ensures exact { WalkGives (λ spans. spans.items) result (spans_in (held file.entry) start (span.start + span.size)) }
+    ensures inside { IfOk result (λ spans. All (StandsIn file.entry) spans.items) }
+{
+    let data = data_of(file, span);
+    walk_at(alloc, &data[start - span.start..], start)
+}
+
+/// The chunks of the form, which ends at a place.
+pub(crate) fn walk_form(alloc: Global, file: Held, end: usize) -> Result<Vec<Span>, DsdiffFault>
+    requires held { IsHeld file }
+    requires from { 16 ≤ end }
+    requires end { end ≡ form_end (held file) }
+    ensures exact { Gives (λ spans. spans.items) result (walked (spans_in (held file.entry) 16 end)) }
+    ensures inside { IfOk result (λ spans. All (MayStand file.entry) spans.items) }
+{
+    if file.hole == 0 && file.back.is_empty() {
+        return Ok(walk(alloc, file.front, 16, end)?);
+    }
+    walk_around(alloc, file, end)
+}
+
+// The same around a sound that isn't held.
+fn walk_around(alloc: Global, file: Held, end: usize) -> Result<Vec<Span>, DsdiffFault>
+    requires around { IsAround file }
+    requires end { end ≡ form_end (held file) }
+    ensures exact { Gives (λ spans. spans.items) result (walked (spans_in (held file.entry) 16 end)) }
+    ensures inside { IfOk result (λ spans. All (MayStand file.entry) spans.items) }
+{
+    let start = file.front.len();
+    let sound = Span {
+        id: *b"DSD ",
+        start,
+        size: file.hole,
+    };
+    let behind = start + file.hole;
+    let pad = (file.hole % 2).min(end - behind);
+    let mut top = walk(alloc, file.front, 16, start - 12)?;
+    let mut later = walk_at(alloc, &file.back[pad..end - behind], behind + pad)?;
+    top.push(sound)?;
+    top.append(&mut later)?;
+    Ok(top)
+}

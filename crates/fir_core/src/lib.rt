@@ -16,12 +16,14 @@
 //! ```
 #![tactic(auto)]
 
+mod blocks;
 mod convolution;
 mod decimator;
 mod fault;
 mod kernel;
 mod lanes;
 mod rounding;
+mod row_sums;
 mod rows;
 mod stream;
 mod tables;

@@ -12,7 +12,7 @@ ghost use Rattle.fir_core.specs.Windows.{aligned, window_size, window_sums};
 use crate::convolution::sum_over;
 use crate::lanes::dot_by_lanes;
 use crate::rounding::{clip, round};
-use crate::rows::Laid;
+use crate::rows::Rows;
 use crate::tables::Tables;
 use crate::taps::Taps;
 use crate::turns::sum_all;
@@ -31,12 +31,13 @@ fn sum_tile(tables: &Tables, bytes: &[u8], step: usize, sums: &mut [i32])
 {
     let taps = tables.taps.as_slice();
     if tables.step == step {
-        let rows = Laid {
+        let rows = Rows {
+            taps,
             entries: tables.rows.as_slice(),
             step,
             span: tables.span,
         };
-        sum_all(taps, rows, bytes, sums);
+        sum_all(rows, bytes, sums);
     } else {
         sum_windows(taps, bytes, step, sums);
     }

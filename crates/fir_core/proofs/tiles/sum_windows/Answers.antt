@@ -1,4 +1,5 @@
-use Rattle.std.proofs.Common.{ℕ, ◌*◌, ◌∙◌, ap, arith, get_or, length, length-drop, pos, refl}
+use Rattle.std.proofs.lemmas.Int.{to_z-of_z}
+use Rattle.std.proofs.Common.{w32, ℕ, ◌*◌, ◌∙◌, ap, arith, get_or, length, length-drop, pos, refl}
 use Rattle.std.proofs.lemmas.List.{take_rest}
 use Rattle.std.proofs.lemmas.List.FromFn.{fill_by_all}
 use Rattle.fir_core.specs.Signed.{bits_of, dot}
@@ -33,7 +34,7 @@ pub loop-i-preserved : goal.loop-i-preserved
 loop-i-preserved c =
     let done = λ (k : ℕ). window_sum c.args.taps.now c.args.bytes.now (k * c.args.step) in
     let is = c.dot_by_lanes.ensures ∙ ap (λ bs. dot c.args.taps.now (bits_of bs)) (take_rest c.args.bytes.now (c.loop-i.i * c.args.step)) in
-    one_more done (λ k. get_or c.loop-i.sums k (pos 0)) c.loop-i.sums c.loop-i.i c.dot_by_lanes.result (omega arith) (record { sfits = c.dot_by_lanes.type_inv }) is c.loop-i.invariant (λ k h l. refl)
+    one_more done (λ k. get_or c.loop-i.sums k (pos 0)) c.loop-i.sums c.loop-i.i c.dot_by_lanes.result (omega arith) (to_z-of_z w32 _ (record { sfits = c.dot_by_lanes.type_inv }) ∙ is) c.loop-i.invariant (λ k h l. refl)
 
 pub returns : goal.returns
 returns c =

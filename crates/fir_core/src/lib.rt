@@ -25,6 +25,7 @@ mod lanes;
 mod rounding;
 mod row_sums;
 mod rows;
+mod source;
 mod stream;
 mod tables;
 mod taps;

@@ -10,9 +10,6 @@ returns-in_err-extend_from_slice-clause-ok c = no_ok _ _ c.from_residual.result 
 pub push_samples-requires-clause-reach : goal.push_samples-requires-clause-reach
 push_samples-requires-clause-reach c = c.requires.reach
 
-pub push_samples-requires-clause-tables : goal.push_samples-requires-clause-tables
-push_samples-requires-clause-tables c = c.requires.tables
-
 pub push_samples-requires-clause-phase : goal.push_samples-requires-clause-phase
 push_samples-requires-clause-phase c = c.requires.phase
 

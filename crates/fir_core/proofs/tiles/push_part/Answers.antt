@@ -28,12 +28,6 @@ overflow_mul-first c = rw c.factor.ensures.value (omega (arith, reaches (goal.at
 pub overflow_add-first : goal.overflow_add-first
 overflow_add-first c = rw (c.factor.ensures.value, ap (λ f. f.delay) c.taps.view_is) (omega (arith, reaches (goal.at.overflow_add-first c).After-factor))
 
-pub push_samples-requires-clause-enough : goal.push_samples-requires-clause-enough
-push_samples-requires-clause-enough c = omega (arith, c.len-count.ensures.value)
-
-pub push_samples-requires-clause-tables : goal.push_samples-requires-clause-tables
-push_samples-requires-clause-tables c = c.requires.tables
-
 pub returns-in_err-push_samples : goal.returns-in_err-push_samples
 returns-in_err-push_samples c = record {
   ok = no_ok _ _ c.from_residual.result c.from_residual.ensures.1;

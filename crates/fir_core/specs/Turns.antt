@@ -3,6 +3,7 @@ use Rattle.std.specs.Prelude.{◌≡◌, ℕ, ◌+◌, ◌-◌, ◌*◌, ◌/◌
 use Rattle.std.specs.Int.{int_wrap, w32}
 use Rattle.dsd_bits.specs.Sums.{sum_below}
 use Rattle.fir_core.specs.Rows.{groups_at, last_group}
+use Rattle.fir_core.specs.Windows.{window_sum}
 use Rattle.fir_core.specs.declared.rows.Rows.{Rows}
 
 -- what the bytes of step u add, by what stands in a column of their rows
@@ -52,3 +53,7 @@ pub record IsAddedAt (near : List ℤ) (at : ℕ) (old new : List ℤ) : Type 0 
 pub record AreTurned (rows : Rows) (bytes : List ℕ) (eights s : ℕ) (old new : List ℤ) : Type 0 where
   pub len : length new ≡ length old
   pub added : (i : ℕ) → s ≤ i → i + 8 < s + 8 * (length old / 8) → (x : ℤ) → slice_index_or old i (pos 0) ≡ int_wrap w32 x → slice_index_or new i (pos 0) ≡ int_wrap w32 (x +ℤ turn_sum rows.taps.now bytes rows.step rows.span eights s i)
+
+-- the sum of each window stands seven places on, but for those of the last fifteen of whole eights
+abbrev pub AreSevenOn : Rows → List ℕ → List ℤ → Type 0
+AreSevenOn rows bytes sums = (j : ℕ) → j + 15 < 8 * (length sums / 8) → slice_index_or sums (j + 7) (pos 0) ≡ window_sum rows.taps.now bytes (j * rows.step)

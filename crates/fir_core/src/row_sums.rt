@@ -1,9 +1,9 @@
 //! The sums of windows that begin at each step's first byte, eight bytes at a time: a byte's row holds what the
 //! byte adds to each window that it stands in.
 
-ghost use Rattle.std.specs.Prelude.{◌≡◌, ◌+◌, ◌*◌, ◌/◌, ◌%◌, ◌<◌, ◌≤◌, EachIndex, length};
+ghost use Rattle.std.specs.Prelude.{◌≡◌, ◌+◌, ◌*◌, ◌/◌, ◌%◌, ◌<◌, ◌≤◌, length};
 ghost use Rattle.fir_core.specs.Blocks.{AreAdded, AreSummed, IsBehind, sum_within};
-ghost use Rattle.fir_core.specs.Windows.{window_sums};
+ghost use Rattle.fir_core.specs.Windows.{AreWithin, window_sums};
 
 use crate::blocks::{block_of, next, row_place};
 use crate::rows::{Block, Rows, Spot};
@@ -105,8 +105,7 @@ fn add_last<'a>(spot: Spot<'a>, sums: &mut [i32]) -> Spot<'a>
 /// The sums of windows that begin at each step's first byte.
 #[inline(always)]
 fn sum_steps(rows: Rows<'_>, bytes: &[u8], sums: &mut [i32])
-    requires some { 1 ≤ length sums.old }
-    requires within { EachIndex sums.old (λ j. j * rows.step + length rows.taps.now / 8 ≤ length bytes.now) }
+    requires { AreWithin (length rows.taps.now / 8) rows.step (length sums.old) bytes.now }
     ensures { sums.new ≡ window_sums rows.entry.taps.now bytes.now rows.entry.step (length sums.old) }
 {
     sums.fill(0);
@@ -132,8 +131,7 @@ fn sum_steps(rows: Rows<'_>, bytes: &[u8], sums: &mut [i32])
 /// The same, where short steps are told as numbers, so that the compiler knows where each byte stands in
 /// its own.
 pub(crate) fn sum_rows(rows: Rows<'_>, bytes: &[u8], sums: &mut [i32])
-    requires some { 1 ≤ length sums.old }
-    requires within { EachIndex sums.old (λ j. j * rows.step + length rows.taps.now / 8 ≤ length bytes.now) }
+    requires { AreWithin (length rows.taps.now / 8) rows.step (length sums.old) bytes.now }
     ensures { sums.new ≡ window_sums rows.entry.taps.now bytes.now rows.entry.step (length sums.old) }
 {
     let Rows {

@@ -7,7 +7,7 @@ ghost use Rattle.fir_core.specs.Decimator.{samples_of};
 ghost use Rattle.fir_core.specs.Places.{sample_of};
 ghost use Rattle.fir_core.specs.Rounding.{round_clip};
 ghost use Rattle.fir_core.specs.Sources.{samples_over};
-ghost use Rattle.fir_core.specs.Windows.{aligned, window_size, window_sums};
+ghost use Rattle.fir_core.specs.Windows.{AreWithin, aligned, window_size, window_sums};
 
 use crate::convolution::sum_over;
 use crate::lanes::dot_by_lanes;
@@ -26,8 +26,7 @@ const TILE: usize = 4096;
 /// The sums of windows that begin at each `step`-th byte: by rows, or one by one where the tables are
 /// those of another factor, which no stream has.
 fn sum_tile(tables: &Tables, bytes: &[u8], step: usize, sums: &mut [i32])
-    requires some { 1 ≤ length sums.old }
-    requires within { EachIndex sums.old (λ i. i * step + length tables.now / 8 ≤ length bytes.now) }
+    requires { AreWithin (length tables.now / 8) step (length sums.old) bytes.now }
     ensures { sums.new ≡ window_sums tables.now bytes.now step (length sums.old) }
 {
     if tables.step == step {
@@ -45,7 +44,7 @@ fn sum_tile(tables: &Tables, bytes: &[u8], step: usize, sums: &mut [i32])
 
 /// The sums of windows that begin at each `step`-th byte, one by one.
 fn sum_windows(tables: &Tables, bytes: &[u8], step: usize, sums: &mut [i32])
-    requires { EachIndex sums.old (λ i. i * step + length tables.now / 8 ≤ length bytes.now) }
+    requires { AreWithin (length tables.now / 8) step (length sums.old) bytes.now }
     ensures { sums.new ≡ window_sums tables.now bytes.now step (length sums.old) }
 {
     let taps = tables.taps.as_slice();

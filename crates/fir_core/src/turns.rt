@@ -3,8 +3,8 @@
 
 ghost use Rattle.std.specs.Prelude.{◌≡◌, ℕ, ◌+◌, ◌-◌, ◌*◌, ◌/◌, ◌<◌, ◌≤◌, ◌^◌, EachIndex, length, pos, slice_index_or, unsigned_abs};
 ghost use Rattle.std.specs.Int.{div_ceil};
-ghost use Rattle.fir_core.specs.Turns.{Adds, AreColumns, AreTurned, IsAddedAt, Moves, near_step};
-ghost use Rattle.fir_core.specs.Windows.{window_sum, window_sums};
+ghost use Rattle.fir_core.specs.Turns.{Adds, AreColumns, AreSevenOn, AreTurned, IsAddedAt, Moves, near_step};
+ghost use Rattle.fir_core.specs.Windows.{AreWithin, window_sums};
 
 use crate::row_sums::sum_rows;
 use crate::rows::Rows;
@@ -110,10 +110,9 @@ fn add_turn<const N: usize>(of: Near<'_, N>, bytes: &[u8], s: usize, sums: &mut 
 fn add_turns<const N: usize>(of: Near<'_, N>, bytes: &[u8], sums: &mut [i32])
     requires room { 8 ≤ length sums.old }
     requires enough { (8 * (length sums.old / 8 + N) - 16) * of.rows.step ≤ length bytes.now }
-    requires zeros { EachIndex sums.old (λ i. slice_index_or sums.old i (pos 0) ≡ pos 0) }
+    requires zeros { (i : ℕ) → i < length sums.old → slice_index_or sums.old i (pos 0) ≡ pos 0 }
     ensures len { length sums.new ≡ length sums.old }
-    ensures sums { (j : ℕ) → j + 15 < 8 * (length sums.old / 8)
-        → slice_index_or sums.new (j + 7) (pos 0) ≡ window_sum of.entry.rows.taps.now bytes.now (j * of.entry.rows.step) }
+    ensures sums { AreSevenOn of.entry.rows bytes.now sums.new }
 {
     for s in 0..8 {
         add_turn(of, bytes, s, sums);
@@ -158,8 +157,7 @@ fn sum_front<const N: usize>(of: Near<'_, N>, bytes: &[u8], sums: &mut [i32])
 /// them, and the rest eight bytes at a time.
 fn sum_near<const N: usize>(rows: Rows<'_>, bytes: &[u8], sums: &mut [i32])
     requires number { N ≡ div_ceil (div_ceil (length rows.taps.now / 8) rows.step) 8 }
-    requires some_sums { 1 ≤ length sums.old }
-    requires within { EachIndex sums.old (λ j. j * rows.step + length rows.taps.now / 8 ≤ length bytes.now) }
+    requires within { AreWithin (length rows.taps.now / 8) rows.step (length sums.old) bytes.now }
     ensures { sums.new ≡ window_sums rows.entry.taps.now bytes.now rows.entry.step (length sums.old) }
 {
     let steps = bytes.len() / rows.step;
@@ -179,8 +177,7 @@ fn sum_near<const N: usize>(rows: Rows<'_>, bytes: &[u8], sums: &mut [i32])
 /// their sums to stay in registers. Up to six vectors the compiler takes apart into numbers, but for six where each
 /// step is a byte: there eight bytes at a time are quicker.
 pub(crate) fn sum_all(rows: Rows<'_>, bytes: &[u8], sums: &mut [i32])
-    requires some { 1 ≤ length sums.old }
-    requires within { EachIndex sums.old (λ j. j * rows.step + length rows.taps.now / 8 ≤ length bytes.now) }
+    requires { AreWithin (length rows.taps.now / 8) rows.step (length sums.old) bytes.now }
     ensures { sums.new ≡ window_sums rows.entry.taps.now bytes.now rows.entry.step (length sums.old) }
 {
     match (rows.taps.len() / 8).div_ceil(rows.step).div_ceil(8) {

@@ -7,10 +7,10 @@ use Rattle.fir_core.proofs.TileLaws.{next_product}
 use Rattle.fir_core.proofs.row_sums.sum_steps.Goals as goal
 
 pub overflow_mul-reach : goal.overflow_mul-reach
-overflow_mul-reach c = omega (arith, c.requires.within (length c.fill.new.self - 1) (omega (arith, c.fill.ensures.len, c.requires.some)))
+overflow_mul-reach c = omega (arith, c.requires.each (length c.fill.new.self - 1) (omega (arith, c.fill.ensures.len, c.requires.some)))
 
 pub overflow_add-reach : goal.overflow_add-reach
-overflow_add-reach c = omega (arith, c.requires.within (length c.fill.new.self - 1) (omega (arith, c.fill.ensures.len, c.requires.some)))
+overflow_add-reach c = omega (arith, c.requires.each (length c.fill.new.self - 1) (omega (arith, c.fill.ensures.len, c.requires.some)))
 
 pub overflow_sub-reach : goal.overflow_sub-reach
 overflow_sub-reach c = omega (arith, c.fill.ensures.len, c.requires.some)

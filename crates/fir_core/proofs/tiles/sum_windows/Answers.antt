@@ -12,18 +12,18 @@ told : (c : After-as_slice-taps) → c.as_slice-taps.result.now ≡ c.args.table
 told c = c.as_slice-taps.ensures.value ∙ c.tables.view_is
 
 pub overflow_mul-i : goal.overflow_mul-i
-overflow_mul-i c = omega (arith, c.requires c.loop-i.i (omega (arith, c.loop-i.auto.sums)))
+overflow_mul-i c = omega (arith, c.requires.each c.loop-i.i (omega (arith, c.loop-i.auto.sums)))
 
 pub slice_bounds-dot_by_lanes-count : goal.slice_bounds-dot_by_lanes-count
-slice_bounds-dot_by_lanes-count c = omega (arith, c.requires c.loop-i.i (omega (arith, c.loop-i.auto.sums)))
+slice_bounds-dot_by_lanes-count c = omega (arith, c.requires.each c.loop-i.i (omega (arith, c.loop-i.auto.sums)))
 
 pub slice_bounds-dot_by_lanes-start : goal.slice_bounds-dot_by_lanes-start
-slice_bounds-dot_by_lanes-start c = omega (arith, c.requires c.loop-i.i (omega (arith, c.loop-i.auto.sums)))
+slice_bounds-dot_by_lanes-start c = omega (arith, c.requires.each c.loop-i.i (omega (arith, c.loop-i.auto.sums)))
 
 pub dot_by_lanes-requires-clause-enough : goal.dot_by_lanes-requires-clause-enough
 dot_by_lanes-requires-clause-enough c =
     let at = c.loop-i.i * c.args.step in
-    rw (take_rest c.args.bytes.now at) (omega (arith, length-drop at c.args.bytes.now, c.requires c.loop-i.i (omega (arith, c.loop-i.auto.sums)), c.tables.invariant.whole, ap length (told (goal.at.dot_by_lanes-requires-clause-enough c).After-as_slice-taps)))
+    rw (take_rest c.args.bytes.now at) (omega (arith, length-drop at c.args.bytes.now, c.requires.each c.loop-i.i (omega (arith, c.loop-i.auto.sums)), c.tables.invariant.whole, ap length (told (goal.at.dot_by_lanes-requires-clause-enough c).After-as_slice-taps)))
 
 pub dot_by_lanes-requires-clause-small : goal.dot_by_lanes-requires-clause-small
 dot_by_lanes-requires-clause-small c = subst (λ hs. sum_by unsigned_abs hs ≤ 2 ^ 30) (sym c.as_slice-taps.ensures.value) c.tables.invariant.small

@@ -1,4 +1,4 @@
-use Rattle.std.proofs.Common.{◌≡◌, ℕ, ◌+◌, ◌/◌, ◌∙◌, ap, arith, length, refl, sym, w32}
+use Rattle.std.proofs.Common.{◌≡◌, ℕ, ◌+◌, ◌*◌, ◌<◌, ◌/◌, ◌∙◌, ap, arith, length, refl, sym, w32}
 use Rattle.std.specs.Int.{int_wrap}
 use Rattle.dsd_bits.specs.Sums.{sum_below}
 use Rattle.fir_core.specs.Turns.{turn_sum}
@@ -24,7 +24,8 @@ loop-s-preserved g c =
 pub returns : goal.returns
 returns g c = record {
   len = c.loop-s.invariant.long;
-  sums = λ j below.
+  sums = λ j under.
+      let below : j + 15 < 8 * (length c.args.sums.now / 8) = rw (← c.loop-s.invariant.long) under in
       let hs = c.args.of.rows.taps.now in
       let bytes = c.args.bytes.now in
       let step = c.args.of.rows.step in

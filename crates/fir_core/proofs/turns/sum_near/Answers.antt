@@ -27,11 +27,15 @@ sum_front-requires g c = (
   ),
 )
 
-pub sum_rows-requires-then-back-gt0-clause-within : goal.sum_rows-requires-then-back-gt0-clause-within
-sum_rows-requires-then-back-gt0-clause-within g c = λ i h.
+pub sum_rows-requires-then-back-gt0 : goal.sum_rows-requires-then-back-gt0
+sum_rows-requires-then-back-gt0 g c =
     let at = c.min-many.result * c.args.rows.step in
-    let last = c.requires.within (i + c.min-many.result) (omega (arith, h, c.split_at_mut-front.ensures.back_len)) in
-    rw (take_rest c.args.bytes.now at) (omega (arith, length-drop at c.args.bytes.now, last))
+    record {
+      some = omega arith;
+      each = λ i h.
+          let last = c.requires.within.each (i + c.min-many.result) (omega (arith, h, c.split_at_mut-front.ensures.back_len)) in
+          rw (take_rest c.args.bytes.now at) (omega (arith, length-drop at c.args.bytes.now, last));
+    }
 
 pub nonzero_div-steps : goal.nonzero_div-steps
 nonzero_div-steps g c = omega (arith, c.args.rows.laid.least)
@@ -43,7 +47,7 @@ pub overflow_add-saturating_sub : goal.overflow_add-saturating_sub
 overflow_add-saturating_sub g c = omega (arith, (few_eights (length c.args.rows.taps.now / 8) c.args.rows.step g.row.N c.args.rows.laid.least (omega (arith, c.args.rows.laid.few)) c.requires.number))
 
 pub sum_rows-requires : goal.sum_rows-requires
-sum_rows-requires g c = record { some = c.requires.some_sums; within = c.requires.within }
+sum_rows-requires g c = c.requires.within
 
 pub returns-then-many-eq0 : goal.returns-then-many-eq0
 returns-then-many-eq0 g c = c.sum_rows.ensures
@@ -52,16 +56,13 @@ pub split_at_mut-front-requires : goal.split_at_mut-front-requires
 split_at_mut-front-requires g c = omega (arith, c.min.ensures, c.min-many.ensures)
 
 pub overflow_mul-many : goal.overflow_mul-many
-overflow_mul-many g c = omega (arith, c.requires.within c.min-many.result (omega (arith, c.split_at_mut-front.ensures.back_len)))
+overflow_mul-many g c = omega (arith, c.requires.within.each c.min-many.result (omega (arith, c.split_at_mut-front.ensures.back_len)))
 
 pub slice_bounds-sum_rows-count : goal.slice_bounds-sum_rows-count
-slice_bounds-sum_rows-count g c = omega (arith, c.requires.within c.min-many.result (omega (arith, c.split_at_mut-front.ensures.back_len)))
+slice_bounds-sum_rows-count g c = omega (arith, c.requires.within.each c.min-many.result (omega (arith, c.split_at_mut-front.ensures.back_len)))
 
 pub slice_bounds-sum_rows-start : goal.slice_bounds-sum_rows-start
-slice_bounds-sum_rows-start g c = omega (arith, c.requires.within c.min-many.result (omega (arith, c.split_at_mut-front.ensures.back_len)))
-
-pub sum_rows-requires-then-back-gt0-clause-some : goal.sum_rows-requires-then-back-gt0-clause-some
-sum_rows-requires-then-back-gt0-clause-some g c = omega arith
+slice_bounds-sum_rows-start g c = omega (arith, c.requires.within.each c.min-many.result (omega (arith, c.split_at_mut-front.ensures.back_len)))
 
 pub returns-else-back-gt0 : goal.returns-else-back-gt0
 returns-else-back-gt0 g c =

@@ -37,4 +37,4 @@ returns g c =
     ap (λ xs. get_or xs j (pos 0)) c.copy_from_slice.ensures.after
     ∙ get_or-take (7 + number - 7) (drop 7 used) j (pos 0) inside ∙ get_or-drop 7 used j (pos 0)
     ∙ ap (λ m. get_or used m (pos 0)) place
-    ∙ c.add_turns.ensures.sums j (omega (arith, h, c.split_at_mut-used.ensures.front_len)))
+    ∙ c.add_turns.ensures.sums j (omega (arith, h, c.add_turns.ensures.len, c.split_at_mut-used.ensures.front_len)))

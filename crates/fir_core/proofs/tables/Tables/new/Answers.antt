@@ -5,8 +5,8 @@ use Rattle.fir_core.proofs.RowLaws.{is_laid}
 use Rattle.fir_core.proofs.WindowLaws.{abs_sum_aligned, length-aligned}
 use Rattle.fir_core.proofs.tables.Tables.new.Goals as goal
 
-pub rows_of-requires-clause-small : goal.rows_of-requires-clause-small
-rows_of-requires-clause-small c =
+pub invariant_of-layout-clause-small : goal.invariant_of-layout-clause-small
+invariant_of-layout-clause-small c =
     rw (c.as_slice.ensures.value ∙ c.in_ok-aligned.ensures) (omega (arith, abs_sum_aligned c.args.taps.now.taps c.args.taps.now.delay, c.factor.ensures.limits.small_sum))
 
 pub invariant_of-result : goal.invariant_of-result
@@ -27,6 +27,6 @@ returns-in_err-aligned c = no_value _ _ c.from_residual.result c.from_residual.e
 pub returns-in_err-rows : goal.returns-in_err-rows
 returns-in_err-rows c = no_value _ _ c.from_residual-in_err-rows.result c.from_residual-in_err-rows.ensures.1
 
-pub rows_of-requires-clause-whole : goal.rows_of-requires-clause-whole
-rows_of-requires-clause-whole c =
+pub invariant_of-layout-clause-whole : goal.invariant_of-layout-clause-whole
+invariant_of-layout-clause-whole c =
     rw (c.as_slice.ensures.value ∙ c.in_ok-aligned.ensures) (omega (arith, length-aligned c.args.taps.now.taps c.args.taps.now.delay))

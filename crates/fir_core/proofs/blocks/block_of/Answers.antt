@@ -28,9 +28,6 @@ starts_below c =
 pub overflow_add-behind : goal.overflow_add-behind
 overflow_add-behind c = let last = c.spots_from-back.result.four in omega (arith, window_before _ _ _ _ last.spot, last.within)
 
-pub overflow_sub-number : goal.overflow_sub-number
-overflow_sub-number c = starts_below c
-
 pub places_of-requires-clause-first : goal.places_of-requires-clause-first
 places_of-requires-clause-first c = rw c.spots_from-front.ensures.first (is_reached 7 _ _ _ (eighth c) (omega arith) (omega (arith, c.saturating_sub-start.ensures)))
 
@@ -85,3 +82,6 @@ returns-clause-block c =
           let late : last.window < j = omega (arith, h, l, starts_below before, c.min.ensures) in
           omega (arith, begins_behind rows.step (c.args.spot.p + 7) last.window last.place j here late);
     }
+
+pub overflow_sub-number : goal.overflow_sub-number
+overflow_sub-number c = starts_below c

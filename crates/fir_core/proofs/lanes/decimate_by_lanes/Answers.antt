@@ -19,15 +19,6 @@ pub loop-j-preserved : goal.loop-j-preserved
 loop-j-preserved c =
     pushed (sample_at c.args.taps.now c.args.bits.now) _ _ c.loop-j.j c.sample_by_lanes.result (record { sfits = c.sample_by_lanes.type_inv }) c.loop-j.invariant c.sample_by_lanes.ensures c.in_ok-push.ensures.items
 
-pub returns-in_err-aligned : goal.returns-in_err-aligned
-returns-in_err-aligned c = no_value _ _ c.from_residual.result c.from_residual.ensures.1
-
-pub returns-in_err-made : goal.returns-in_err-made
-returns-in_err-made c = no_value _ _ c.from_residual-in_err-made.result c.from_residual-in_err-made.ensures.1
-
-pub returns-in_err-push : goal.returns-in_err-push
-returns-in_err-push c = no_value _ _ c.from_residual-in_err-push.result c.from_residual-in_err-push.ensures.1
-
 pub invariant_of-turned : goal.invariant_of-turned
 invariant_of-turned c =
     let d = c.args.taps.now in

@@ -26,14 +26,14 @@ all_done spot behind block number sums of next added k l =
       | inr past ↦ added.rest k past l ∙ not_begun block.rows.taps.now block.bytes.now block.rows.step (block.p + 0) (block.p + 8) k (omega (arith, begins past)) (begins past)
     ])
 
-pub add_eights-requires : goal.add_eights-requires
-add_eights-requires c = begun _ _ _ c.block_of.ensures.block c.requires.so_far
-
-pub returns-then-block-ne0-clause-sums : goal.returns-then-block-ne0-clause-sums
-returns-then-block-ne0-clause-sums c = all_done _ _ _ _ _ c.block_of.ensures.block c.block_of.ensures.next c.add_rest.ensures
-
 pub returns-else-block-ne0-clause-sums : goal.returns-else-block-ne0-clause-sums
 returns-else-block-ne0-clause-sums c =
     let block = c.block_of.result.0 in
     let whole : block.start + 8 * (block.number / 8) ≡ block.start + block.number = omega arith in
     all_done _ _ _ _ _ c.block_of.ensures.block c.block_of.ensures.next (subst (λ j. AreAdded block j c.add_eights.new.sums) whole c.add_eights.ensures)
+
+pub add_eights-requires : goal.add_eights-requires
+add_eights-requires c = begun _ _ _ c.block_of.ensures.block c.requires.so_far
+
+pub returns-then-block-ne0-clause-sums : goal.returns-then-block-ne0-clause-sums
+returns-then-block-ne0-clause-sums c = all_done _ _ _ _ _ c.block_of.ensures.block c.block_of.ensures.next c.add_rest.ensures

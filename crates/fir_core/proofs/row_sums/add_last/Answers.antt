@@ -12,9 +12,6 @@ reaches c =
     let spot = c.args.spot in
     window_reaches spot.rows.step spot.rows.span (length spot.rows.taps.now / 8) spot.p spot.window spot.place (length c.args.sums.now) spot.spot spot.rows.laid.wide c.requires.reached
 
-pub overflow_sub-number : goal.overflow_sub-number
-overflow_sub-number c = omega (arith, c.saturating_sub-start.ensures, c.min.ensures, reaches c)
-
 pub loop-k-init : goal.loop-k-init
 loop-k-init c =
     let spot = c.args.spot in
@@ -34,15 +31,6 @@ has c = c.row_place-at.ensures (c.min.result - c.saturating_sub-start.result) (o
 
 few : (c : In-loop-k) → length c.args.spot.rows.entries.now ≤ 2 ^ 26
 few c = let rows = c.args.spot.rows in few_entries rows.taps.now rows.entries.now rows.step rows.span rows.laid
-
-pub overflow_add-sums : goal.overflow_add-sums
-overflow_add-sums c = omega (arith, (has c).within, few c, c.loop-k-test.true)
-
-pub offset_bounds-spot-at : goal.offset_bounds-spot-at
-offset_bounds-spot-at c = omega (arith, (has c).within, few c, c.loop-k-test.true)
-
-pub bounds-spot-at : goal.bounds-spot-at
-bounds-spot-at c = omega (arith, (has c).within, c.loop-k-test.true)
 
 -- one of the sums so far
 was : (c : In-loop-k) → to_z w32 (of_z w32 (get_or c.loop-k.sums (c.saturating_sub-start.result + c.loop-k.k) (pos 0))) ≡ sum_before c.args.spot.rows.taps.now c.args.spot.bytes.now c.args.spot.rows.step c.args.spot.p (c.saturating_sub-start.result + c.loop-k.k)
@@ -87,3 +75,15 @@ returns-clause-sums c = λ k l.
           let begins = begins_behind step spot.p spot.window spot.place k spot.spot late in
           c.loop-k.invariant.rest k behind l ∙ not_begun spot.rows.taps.now spot.bytes.now step spot.p (spot.p + 1) k (omega (arith, begins)) (omega (arith, begins))
     ])
+
+pub overflow_sub-number : goal.overflow_sub-number
+overflow_sub-number c = omega (arith, c.saturating_sub-start.ensures, c.min.ensures, reaches c)
+
+pub overflow_add-sums : goal.overflow_add-sums
+overflow_add-sums c = omega (arith, (has c).within, few c, c.loop-k-test.true)
+
+pub offset_bounds-spot-at : goal.offset_bounds-spot-at
+offset_bounds-spot-at c = omega (arith, (has c).within, few c, c.loop-k-test.true)
+
+pub bounds-spot-at : goal.bounds-spot-at
+bounds-spot-at c = omega (arith, (has c).within, c.loop-k-test.true)

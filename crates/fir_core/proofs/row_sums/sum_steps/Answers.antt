@@ -12,9 +12,6 @@ overflow_mul-reach c = omega (arith, c.requires.each (length c.fill.new.self - 1
 pub overflow_add-reach : goal.overflow_add-reach
 overflow_add-reach c = omega (arith, c.requires.each (length c.fill.new.self - 1) (omega (arith, c.fill.ensures.len, c.requires.some)))
 
-pub overflow_sub-reach : goal.overflow_sub-reach
-overflow_sub-reach c = omega (arith, c.fill.ensures.len, c.requires.some)
-
 pub loop-block-init : goal.loop-block-init
 loop-block-init c = record {
   long = refl;

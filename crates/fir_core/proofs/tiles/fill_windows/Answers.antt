@@ -14,12 +14,6 @@ starts_within c =
     let first = c.requires.inside 0 c.requires.some in
     omega (arith, first, c.args.source.enough, c.tables.invariant.some, ap length c.as_slice-groups.ensures.value)
 
-pub slice_bounds-front-count : goal.slice_bounds-front-count
-slice_bounds-front-count c = starts_within c
-
-pub slice_bounds-front-start : goal.slice_bounds-front-start
-slice_bounds-front-start c = starts_within c
-
 pub sum_tile-requires : goal.sum_tile-requires
 sum_tile-requires c = record {
       some = c.requires.some;
@@ -58,6 +52,3 @@ returns c =
     ∙ ap (λ n. window_sums (aligned d.taps d.delay) front (n / 8) number) c.factor.ensures.value)
     ∙ run_by_windows d c.args.source.bytes.now front c.args.source.count c.args.first number c.factor.ensures.limits.whole_bytes c.requires.phase c.requires.begins c.requires.inside c.args.source.enough
     (take_rest c.args.source.bytes.now at ∙ ap (λ m. drop (c.args.first / 8 + 1 - m) c.args.source.bytes.now) (size before))
-
-pub overflow_sub-at : goal.overflow_sub-at
-overflow_sub-at c = rw (size c) c.requires.begins

@@ -11,15 +11,6 @@ use Rattle.fir_core.proofs.tiles.sum_windows.Goals.{After-as_slice-taps}
 told : (c : After-as_slice-taps) → c.as_slice-taps.result.now ≡ c.args.tables.now
 told c = c.as_slice-taps.ensures.value ∙ c.tables.view_is
 
-pub overflow_mul-i : goal.overflow_mul-i
-overflow_mul-i c = omega (arith, c.requires.each c.loop-i.i (omega (arith, c.loop-i.auto.sums)))
-
-pub slice_bounds-dot_by_lanes-count : goal.slice_bounds-dot_by_lanes-count
-slice_bounds-dot_by_lanes-count c = omega (arith, c.requires.each c.loop-i.i (omega (arith, c.loop-i.auto.sums)))
-
-pub slice_bounds-dot_by_lanes-start : goal.slice_bounds-dot_by_lanes-start
-slice_bounds-dot_by_lanes-start c = omega (arith, c.requires.each c.loop-i.i (omega (arith, c.loop-i.auto.sums)))
-
 pub dot_by_lanes-requires-clause-enough : goal.dot_by_lanes-requires-clause-enough
 dot_by_lanes-requires-clause-enough c =
     let at = c.loop-i.i * c.args.step in
@@ -27,12 +18,6 @@ dot_by_lanes-requires-clause-enough c =
 
 pub dot_by_lanes-requires-clause-small : goal.dot_by_lanes-requires-clause-small
 dot_by_lanes-requires-clause-small c = subst (λ hs. sum_by unsigned_abs hs ≤ 2 ^ 30) (sym c.as_slice-taps.ensures.value) c.tables.invariant.small
-
-pub bounds-sums-i : goal.bounds-sums-i
-bounds-sums-i c = omega arith
-
-pub loop-i-init : goal.loop-i-init
-loop-i-init c = λ k h. absurd (omega (arith, h))
 
 pub loop-i-preserved : goal.loop-i-preserved
 loop-i-preserved c =

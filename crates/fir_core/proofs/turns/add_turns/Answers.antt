@@ -5,9 +5,6 @@ use Rattle.fir_core.specs.Turns.{turn_sum}
 use Rattle.fir_core.proofs.TurnLaws.{all_turns_fit, reach_within, sum_next, wrapped_zero}
 use Rattle.fir_core.proofs.turns.add_turns.Goals as goal
 
-pub loop-s-init : goal.loop-s-init
-loop-s-init g c = record { long = refl; sums = λ j h. c.requires.zeros (j + 7) (omega (arith, h)) ∙ sym wrapped_zero }
-
 pub add_turn-requires : goal.add_turn-requires
 add_turn-requires g c = (omega arith, (omega arith, (omega (arith, c.loop-s.invariant.long, c.requires.room), rw c.loop-s.invariant.long c.requires.enough)))
 

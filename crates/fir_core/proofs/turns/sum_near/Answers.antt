@@ -37,23 +37,11 @@ sum_rows-requires-then-back-gt0 g c =
           rw (take_rest c.args.bytes.now at) (omega (arith, length-drop at c.args.bytes.now, last));
     }
 
-pub nonzero_div-steps : goal.nonzero_div-steps
-nonzero_div-steps g c = omega (arith, c.args.rows.laid.least)
-
 pub overflow_mul-saturating_sub : goal.overflow_mul-saturating_sub
 overflow_mul-saturating_sub g c = omega (arith, (few_eights (length c.args.rows.taps.now / 8) c.args.rows.step g.row.N c.args.rows.laid.least (omega (arith, c.args.rows.laid.few)) c.requires.number))
 
 pub overflow_add-saturating_sub : goal.overflow_add-saturating_sub
 overflow_add-saturating_sub g c = omega (arith, (few_eights (length c.args.rows.taps.now / 8) c.args.rows.step g.row.N c.args.rows.laid.least (omega (arith, c.args.rows.laid.few)) c.requires.number))
-
-pub sum_rows-requires : goal.sum_rows-requires
-sum_rows-requires g c = c.requires.within
-
-pub returns-then-many-eq0 : goal.returns-then-many-eq0
-returns-then-many-eq0 g c = c.sum_rows.ensures
-
-pub split_at_mut-front-requires : goal.split_at_mut-front-requires
-split_at_mut-front-requires g c = omega (arith, c.min.ensures, c.min-many.ensures)
 
 pub overflow_mul-many : goal.overflow_mul-many
 overflow_mul-many g c = omega (arith, c.requires.within.each c.min-many.result (omega (arith, c.split_at_mut-front.ensures.back_len)))

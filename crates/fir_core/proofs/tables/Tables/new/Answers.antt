@@ -21,12 +21,6 @@ invariant_of-result c =
     (omega (arith, c.factor.ensures.value, limits.least_factor)) (omega (arith, c.factor.ensures.value, limits.greatest_factor)) wide loose c.span_of-span.ensures.narrow c.span_of-span.ensures.eights
     (c.in_ok-rows.ensures ∙ ap (λ hs. rows hs step c.span_of-span.result) c.as_slice.ensures.value)
 
-pub returns-in_err-aligned : goal.returns-in_err-aligned
-returns-in_err-aligned c = no_value _ _ c.from_residual.result c.from_residual.ensures.1
-
-pub returns-in_err-rows : goal.returns-in_err-rows
-returns-in_err-rows c = no_value _ _ c.from_residual-in_err-rows.result c.from_residual-in_err-rows.ensures.1
-
 pub invariant_of-layout-clause-whole : goal.invariant_of-layout-clause-whole
 invariant_of-layout-clause-whole c =
     rw (c.as_slice.ensures.value ∙ c.in_ok-aligned.ensures) (omega (arith, length-aligned c.args.taps.now.taps c.args.taps.now.delay))

@@ -4,9 +4,6 @@ use Rattle.fir_core.specs.Windows.{aligned}
 use Rattle.fir_core.proofs.WindowLaws.{aligned_made}
 use Rattle.fir_core.proofs.tables.aligned_taps.Goals as goal
 
-pub returns-in_err-extend_from_slice : goal.returns-in_err-extend_from_slice
-returns-in_err-extend_from_slice c = no_value _ _ c.from_residual-in_err-extend_from_slice.result c.from_residual-in_err-extend_from_slice.ensures.1
-
 pub returns : goal.returns
 returns c =
     let a = c.taps.inside in

@@ -22,9 +22,6 @@ push_samples-requires-clause-phase c =
     let d = c.args.taps.now in
     rw (c.factor.ensures.value, ap (λ f. f.delay) c.taps.view_is) (omega (arith, whole_step c.args.start d.factor c.factor.ensures.limits.whole_bytes))
 
-pub overflow_add-first : goal.overflow_add-first
-overflow_add-first c = rw (c.factor.ensures.value, ap (λ f. f.delay) c.taps.view_is) (omega (arith, reaches (goal.at.overflow_add-first c).After-factor))
-
 pub returns-in_err-push_samples : goal.returns-in_err-push_samples
 returns-in_err-push_samples c = record {
   ok = no_ok _ _ c.from_residual.result c.from_residual.ensures.1;

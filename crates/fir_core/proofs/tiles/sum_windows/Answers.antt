@@ -16,9 +16,6 @@ dot_by_lanes-requires-clause-enough c =
     let at = c.loop-i.i * c.args.step in
     rw (take_rest c.args.bytes.now at) (omega (arith, length-drop at c.args.bytes.now, c.requires.each c.loop-i.i (omega (arith, c.loop-i.auto.sums)), c.tables.invariant.whole, ap length (told (goal.at.dot_by_lanes-requires-clause-enough c).After-as_slice-taps)))
 
-pub dot_by_lanes-requires-clause-small : goal.dot_by_lanes-requires-clause-small
-dot_by_lanes-requires-clause-small c = subst (λ hs. sum_by unsigned_abs hs ≤ 2 ^ 30) (sym c.as_slice-taps.ensures.value) c.tables.invariant.small
-
 pub loop-i-preserved : goal.loop-i-preserved
 loop-i-preserved c =
     let done = λ (k : ℕ). window_sum c.args.tables.now c.args.bytes.now (k * c.args.step) in

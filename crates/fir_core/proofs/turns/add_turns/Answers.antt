@@ -5,9 +5,6 @@ use Rattle.fir_core.specs.Turns.{turn_sum}
 use Rattle.fir_core.proofs.TurnLaws.{all_turns_fit, reach_within, sum_next, wrapped_zero}
 use Rattle.fir_core.proofs.turns.add_turns.Goals as goal
 
-pub add_turn-requires : goal.add_turn-requires
-add_turn-requires g c = (omega arith, (omega arith, (omega (arith, c.loop-s.invariant.long, c.requires.room), rw c.loop-s.invariant.long c.requires.enough)))
-
 pub loop-s-preserved : goal.loop-s-preserved
 loop-s-preserved g c =
     let turn = λ (i s : ℕ). turn_sum c.args.of.rows.taps.now c.args.bytes.now c.args.of.rows.step c.args.of.rows.span g.row.N s i in

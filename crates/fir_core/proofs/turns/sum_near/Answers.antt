@@ -37,21 +37,6 @@ sum_rows-requires-then-back-gt0 g c =
           rw (take_rest c.args.bytes.now at) (omega (arith, length-drop at c.args.bytes.now, last));
     }
 
-pub overflow_mul-saturating_sub : goal.overflow_mul-saturating_sub
-overflow_mul-saturating_sub g c = omega (arith, (few_eights (length c.args.rows.taps.now / 8) c.args.rows.step g.row.N c.args.rows.laid.least (omega (arith, c.args.rows.laid.few)) c.requires.number))
-
-pub overflow_add-saturating_sub : goal.overflow_add-saturating_sub
-overflow_add-saturating_sub g c = omega (arith, (few_eights (length c.args.rows.taps.now / 8) c.args.rows.step g.row.N c.args.rows.laid.least (omega (arith, c.args.rows.laid.few)) c.requires.number))
-
-pub overflow_mul-many : goal.overflow_mul-many
-overflow_mul-many g c = omega (arith, c.requires.within.each c.min-many.result (omega (arith, c.split_at_mut-front.ensures.back_len)))
-
-pub slice_bounds-sum_rows-count : goal.slice_bounds-sum_rows-count
-slice_bounds-sum_rows-count g c = omega (arith, c.requires.within.each c.min-many.result (omega (arith, c.split_at_mut-front.ensures.back_len)))
-
-pub slice_bounds-sum_rows-start : goal.slice_bounds-sum_rows-start
-slice_bounds-sum_rows-start g c = omega (arith, c.requires.within.each c.min-many.result (omega (arith, c.split_at_mut-front.ensures.back_len)))
-
 pub returns-else-back-gt0 : goal.returns-else-back-gt0
 returns-else-back-gt0 g c =
     let hs = c.args.rows.taps.now in

@@ -39,6 +39,11 @@ pub record IsBlockOf (spot : Spot) (limit : ℕ) (block : Block) : Type 0 where
   pub done : (j : ℕ) → j < block.start → length spot.rows.taps.now / 8 + j * spot.rows.step ≤ spot.p
   pub rest : (j : ℕ) → block.start + block.number ≤ j → j < limit → spot.p + 8 ≤ j * spot.rows.step
 
+-- so many windows from window j on are among those of a block
+pub record AreOf (block : Block) (j number : ℕ) : Type 0 where
+  pub from : block.start ≤ j
+  pub to : j + number ≤ block.start + block.number
+
 -- the sums of the windows over the bytes before a byte
 abbrev pub AreSummed : Spot → List ℤ → Type 0
 AreSummed spot sums = (j : ℕ) → j < length sums → slice_index_or sums j (pos 0) ≡ sum_before spot.rows.taps.now spot.bytes.now spot.rows.step spot.p j

@@ -12,6 +12,7 @@ struct Spots<'a> {
     two: Spot<'a>,
     three: Spot<'a>,
     four: Spot<'a>,
+    ghost follow: { AreFour one one two three four },
 }
 
 /// The byte so many behind one, in the same step.
@@ -87,7 +88,6 @@ pub(crate) fn row_place(spot: Spot<'_>, j: usize) -> usize
 /// Where they have what each of four bytes adds.
 #[inline(always)]
 fn places_of(spots: Spots<'_>, j: usize) -> [usize; 4]
-    requires follow { AreFour spots.one spots.one spots.two spots.three spots.four }
     requires within { spots.one.p + 4 ≤ length spots.one.bytes.now }
     requires first { IsReached spots.one j }
     requires last { IsReached spots.four j }

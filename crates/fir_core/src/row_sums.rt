@@ -2,7 +2,7 @@
 //! byte adds to each window that it stands in.
 
 ghost use Rattle.std.specs.Prelude.{◌≡◌, ◌+◌, ◌*◌, ◌/◌, ◌%◌, ◌<◌, ◌≤◌, length};
-ghost use Rattle.fir_core.specs.Blocks.{AreAdded, AreSummed, IsBehind, sum_within};
+ghost use Rattle.fir_core.specs.Blocks.{AreAdded, AreOf, AreSummed, IsBehind, sum_within};
 ghost use Rattle.fir_core.specs.Windows.{AreWithin, window_sums};
 
 use crate::blocks::{block_of, next, row_place};
@@ -11,8 +11,7 @@ use std::simd::prelude::*;
 
 /// Eight bytes in the sum of window `j`.
 fn add_one(block: Block<'_>, j: usize, sum: i32) -> i32
-    requires from { block.start ≤ j }
-    requires to { j < block.start + block.number }
+    requires inside { AreOf block j 1 }
     requires so_far { sum ≡ sum_within block 0 j }
     ensures { result ≡ sum_within block.entry 8 j }
 {
@@ -26,8 +25,7 @@ fn add_one(block: Block<'_>, j: usize, sum: i32) -> i32
 /// Eight bytes in the sums of eight windows from window `j` on, as one vector.
 #[inline(always)]
 fn add_eight(block: Block<'_>, j: usize, sums: &mut [i32])
-    requires from { block.start ≤ j }
-    requires to { j + 8 ≤ block.start + block.number }
+    requires inside { AreOf block j 8 }
     requires added { AreAdded block j sums.old }
     ensures { AreAdded block.entry (j + 8) sums.new }
 {

@@ -6,7 +6,7 @@ ghost use Rattle.dsd_bits.specs.Packing.{unpacked};
 ghost use Rattle.fir_core.specs.Decimator.{samples_of};
 ghost use Rattle.fir_core.specs.Places.{sample_of};
 ghost use Rattle.fir_core.specs.Rounding.{round_clip};
-ghost use Rattle.fir_core.specs.Sources.{samples_over};
+ghost use Rattle.fir_core.specs.Sources.{ArePlayable, samples_over};
 ghost use Rattle.fir_core.specs.Windows.{AreWithin, aligned, window_size, window_sums};
 
 use crate::convolution::sum_over;
@@ -107,8 +107,7 @@ fn fill_windows(source: Source<'_>, first: usize, samples: &mut [i32])
 /// The samples of a run of places: bit by bit where the window goes beyond the bytes, and by the
 /// tables between.
 fn fill_tile(source: Source<'_>, first: usize, samples: &mut [i32])
-    requires reach { length samples.old * source.taps.now.factor + first ≤ 2 ^ 37 }
-    requires phase { first % 8 ≡ source.taps.now.delay % 8 }
+    requires { ArePlayable source.taps.now first (length samples.old) }
     ensures { samples.new ≡ samples_over source.entry first (length samples.old) }
 {
     let tables = source.tables;
@@ -133,8 +132,7 @@ fn fill_tile(source: Source<'_>, first: usize, samples: &mut [i32])
 
 /// The samples of a run of places, tile by tile.
 pub(crate) fn fill_samples(source: Source<'_>, first: usize, samples: &mut [i32])
-    requires reach { length samples.old * source.taps.now.factor + first ≤ 2 ^ 37 }
-    requires phase { first % 8 ≡ source.taps.now.delay % 8 }
+    requires { ArePlayable source.taps.now first (length samples.old) }
     ensures { samples.new ≡ samples_over source.entry first (length samples.old) }
 {
     let factor = source.taps.factor() as usize;
@@ -153,8 +151,7 @@ pub(crate) fn push_samples(
     source: Source<'_>,
     first: usize,
 ) -> Result<(), AllocError>
-    requires reach { number * source.taps.now.factor + first ≤ 2 ^ 37 }
-    requires phase { first % 8 ≡ source.taps.now.delay % 8 }
+    requires { ArePlayable source.taps.now first number }
     ensures ok { OnOk result (out.new.items ≡ out.old.items ++ samples_over source.entry first number) }
     ensures err { OnErr result (out.new.items ≡ out.old.items) }
 {

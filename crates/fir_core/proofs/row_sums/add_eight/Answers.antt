@@ -7,10 +7,10 @@ use Rattle.fir_core.proofs.RowLaws.{lanes_added, sum_small}
 use Rattle.fir_core.proofs.row_sums.add_eight.Goals as goal
 
 pub loop-b-init : goal.loop-b-init
-loop-b-init c = lanes_from (sum_within c.args.block 0) c.args.j c.args.sums.now (omega (arith, c.requires.to, c.args.block.below, c.requires.added.long)) (λ k h l. c.requires.added.rest k h l)
+loop-b-init c = lanes_from (sum_within c.args.block 0) c.args.j c.args.sums.now (omega (arith, c.requires.inside.to, c.args.block.below, c.requires.added.long)) (λ k h l. c.requires.added.rest k h l)
 
 pub loop-b-preserved : goal.loop-b-preserved
-loop-b-preserved c = lanes_added c.args.block c.loop-b.b c.args.j c.loop-b.lanes c.loop-b-test.true c.requires.from c.requires.to c.loop-b.invariant
+loop-b-preserved c = lanes_added c.args.block c.loop-b.b c.args.j c.loop-b.lanes c.loop-b-test.true c.requires.inside.from c.requires.inside.to c.loop-b.invariant
 
 pub returns : goal.returns
 returns c =
@@ -22,7 +22,7 @@ returns c =
     let small = λ (k : ℕ). sum_small block.rows.taps.now block.bytes.now block.rows.step (block.p + 8) k block.rows.laid.small in
     let w = chunk_written (sum_within block 8) (sum_within block 0) block.limit c.args.j 8 c.args.sums.now lanes
         (length-map c.loop-b.lanes (to_z w32) ∙ done.long)
-        (omega (arith, c.requires.to, block.below))
+        (omega (arith, c.requires.inside.to, block.below))
         (lanes_read (sum_within block 8) c.args.j c.loop-b.lanes small done)
         (record { long = added.long; done = added.done; rest = λ k h l. added.rest k h (omega (arith, l, added.long)) }) in
     record { long = w.long; done = w.done; rest = λ k h l. w.rest k h (omega (arith, l, w.long)) }

@@ -9,7 +9,7 @@ overflow_add-all-in-loop-b c =
     let p = block.p + c.loop-b.b in
     let so_far : to_z w32 c.loop-b.all-bits ≡ sum_before block.rows.taps.now block.bytes.now block.rows.step p c.args.j = c.loop-b.invariant in
     let within : p < length block.bytes.now = omega (arith, block.block.within, c.loop-b-test.true) in
-    byte_fits block.rows.taps.now block.bytes.now block.rows.step p c.args.j block.rows.laid.small within _ _ (block_entry block c.loop-b.b c.args.j c.loop-b-test.true c.requires.from c.requires.to) so_far
+    byte_fits block.rows.taps.now block.bytes.now block.rows.step p c.args.j block.rows.laid.small within _ _ (block_entry block c.loop-b.b c.args.j c.loop-b-test.true c.requires.inside.from (omega (arith, c.requires.inside.to))) so_far
 
 pub loop-b-preserved : goal.loop-b-preserved
 loop-b-preserved c =
@@ -18,5 +18,5 @@ loop-b-preserved c =
     let so_far : to_z w32 c.loop-b.all-bits ≡ sum_before block.rows.taps.now block.bytes.now block.rows.step p c.args.j = c.loop-b.invariant in
     let within : p < length block.bytes.now = omega (arith, block.block.within, c.loop-b-test.true) in
     let next : p + 1 ≡ block.p + (c.loop-b.b + 1) = omega arith in
-    byte_is block.rows.taps.now block.bytes.now block.rows.step p c.args.j block.rows.laid.small within _ _ (block_entry block c.loop-b.b c.args.j c.loop-b-test.true c.requires.from c.requires.to) so_far
+    byte_is block.rows.taps.now block.bytes.now block.rows.step p c.args.j block.rows.laid.small within _ _ (block_entry block c.loop-b.b c.args.j c.loop-b-test.true c.requires.inside.from (omega (arith, c.requires.inside.to))) so_far
     ∙ ap (λ m. sum_before block.rows.taps.now block.bytes.now block.rows.step m c.args.j) next

@@ -1,5 +1,5 @@
 -- Sums of lanes that wrap: the sum of all lanes stays right at 32 bits.
-use Rattle.std.proofs.Common.{[], ◌∷◌, ◌≡◌, ◌+◌, ◌%◌, ◌<◌, ◌≤◌, ◌^◌, length, length-drop, get_or, take, drop, ap₂, unsigned_abs, ℕ, List, ℤ, pos, negsuc, suc, zero, true, false, ◌+ℤ◌, to_z, of_z, map, Bool, refl, ap, sym, ◌∙◌, arith, w32}
+use Rattle.std.proofs.Common.{[], ◌∷◌, ◌≡◌, ◌+◌, ◌%◌, ◌<◌, ◌≤◌, ◌^◌, length, length-drop, get_or, take, drop, unsigned_abs, ℕ, List, ℤ, pos, negsuc, suc, zero, true, false, ◌+ℤ◌, to_z, of_z, map, Bool, refl, ap, sym, ◌∙◌, arith, w32}
 use mir.Val.{SFits}
 use Rattle.std.proofs.Math.Facts.{sfits_to_z}
 use Rattle.std.specs.Int.{int_wrap}

@@ -1,5 +1,5 @@
 -- Sums from rows: a byte at a time, in each window that it stands in.
-use Rattle.std.proofs.Common.{[], ◌∷◌, ◌≡◌, ℕ, zero, suc, ◌+◌, ◌-◌, ◌*◌, ◌/◌, ◌%◌, ◌^◌, ◌<◌, ◌≤◌, ◌⊎◌, ℤ, pos, negsuc, ◌+ℤ◌, inl, inr, map, unsigned_abs, List, length, get_or, take, drop, sum_by, refl, sym, ap, ap₂, ◌∙◌, arith, subst, length-drop, FitsSigned, to_z, of_z, w32}
+use Rattle.std.proofs.Common.{[], ◌∷◌, ◌≡◌, ℕ, zero, suc, ◌+◌, ◌-◌, ◌*◌, ◌/◌, ◌%◌, ◌^◌, ◌<◌, ◌≤◌, ◌⊎◌, ℤ, pos, ◌+ℤ◌, inl, inr, map, unsigned_abs, List, length, get_or, take, drop, sum_by, refl, sym, ap, ap₂, ◌∙◌, arith, subst, length-drop, FitsSigned, to_z, of_z, w32}
 use Rattle.std.proofs.Math.Nat.{mul-le-mul_right}
 use Rattle.std.proofs.lemmas.Bool.{cases_lt}
 use Rattle.std.specs.Simd.Lanes.{zip2}

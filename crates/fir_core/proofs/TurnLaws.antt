@@ -111,9 +111,9 @@ columns_are rows place byte number inside small few =
     let row = 4 + (256 * place + byte) * (span + 8) in
     let at = row + (span - number) in
     let each : (c : ℕ) → c < number → get_or (take number (drop at entries)) c (pos 0) ≡ last_group hs (groups_at rows.step span place (span - number + c)) byte = λ c h.
-        let next : at + c ≡ row + (span - number + c) = omega arith in
-        get_or-take number (drop at entries) c (pos 0) h ∙ get_or-drop at entries c (pos 0) ∙ ap (λ m. get_or entries m (pos 0)) next
-        ∙ column_is hs entries rows.step span place byte rows.laid inside small (span - number + c) (omega arith) in
+    let next : at + c ≡ row + (span - number + c) = omega arith in
+    get_or-take number (drop at entries) c (pos 0) h ∙ get_or-drop at entries c (pos 0) ∙ ap (λ m. get_or entries m (pos 0)) next
+    ∙ column_is hs entries rows.step span place byte rows.laid inside small (span - number + c) (omega arith) in
     record {
       len = length-take-le number (drop at entries) (omega (arith, length-drop at entries, columns_within hs entries rows.step span place byte number rows.laid inside small few));
       each = each;

@@ -54,7 +54,10 @@ fn sample_by_lanes(turned: Turned<'_>, bits: &Bits, j: usize) -> i32
     let _count = bits.len();
     let taps = turned.taps;
     let n = j * taps.factor as usize + taps.delay as usize;
-    clip(round(sum_at_by_lanes(turned, bits, n), taps.shift), taps.width)
+    clip(
+        round(sum_at_by_lanes(turned, bits, n), taps.shift),
+        taps.width,
+    )
 }
 
 // The convolution at a place: in lanes where its window lies within the recording, else bit by bit.

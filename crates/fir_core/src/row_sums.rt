@@ -6,7 +6,7 @@ ghost use Rattle.fir_core.specs.Blocks.{AreAdded, AreOf, AreSummed, IsBehind, su
 ghost use Rattle.fir_core.specs.Windows.{AreWithin, window_sums};
 
 use crate::blocks::{block_of, next, row_place};
-use crate::rows::{Block, Rows, Spot};
+use crate::rows::{Block, Rows, Spot, with_step};
 use std::simd::prelude::*;
 
 /// Eight bytes in the sum of window `j`.
@@ -113,13 +113,25 @@ fn sum_steps(rows: Rows<'_>, bytes: &[u8], sums: &mut [i32])
     let mut place = 0;
     for block in 0..blocks {
         let p = 8 * block;
-        let spot = Spot { rows, bytes, p, window, place };
+        let spot = Spot {
+            rows,
+            bytes,
+            p,
+            window,
+            place,
+        };
         let behind = add_block(spot, sums);
         window = behind.window;
         place = behind.place;
     }
     for p in 8 * blocks..reach {
-        let spot = Spot { rows, bytes, p, window, place };
+        let spot = Spot {
+            rows,
+            bytes,
+            p,
+            window,
+            place,
+        };
         let behind = add_last(spot, sums);
         window = behind.window;
         place = behind.place;
@@ -132,16 +144,10 @@ pub(crate) fn sum_rows(rows: Rows<'_>, bytes: &[u8], sums: &mut [i32])
     requires { AreWithin (length rows.taps.now / 8) rows.step (length sums.old) bytes.now }
     ensures { sums.new ≡ window_sums rows.entry.taps.now bytes.now rows.entry.step (length sums.old) }
 {
-    let Rows {
-        taps,
-        entries,
-        step,
-        span,
-    } = rows;
-    match step {
-        1 => sum_steps(Rows { taps, entries, step: 1, span }, bytes, sums),
-        2 => sum_steps(Rows { taps, entries, step: 2, span }, bytes, sums),
-        4 => sum_steps(Rows { taps, entries, step: 4, span }, bytes, sums),
+    match rows.step {
+        1 => sum_steps(with_step(rows, 1), bytes, sums),
+        2 => sum_steps(with_step(rows, 2), bytes, sums),
+        4 => sum_steps(with_step(rows, 4), bytes, sums),
         _ => sum_steps(rows, bytes, sums),
     }
 }

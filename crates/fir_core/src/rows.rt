@@ -42,6 +42,22 @@ pub(crate) struct Block<'a> {
     pub(crate) ghost below: { start + number ≤ limit },
 }
 
+/// The same rows, where the step is told as a number.
+#[inline(always)]
+pub(crate) fn with_step<'a>(rows: Rows<'a>, step: usize) -> Rows<'a>
+    requires { step ≡ rows.step }
+    ensures taps { result.taps ≡ rows.entry.taps }
+    ensures step { result.step ≡ rows.entry.step }
+    ensures span { result.span ≡ rows.entry.span }
+{
+    Rows {
+        taps: rows.taps,
+        entries: rows.entries,
+        step,
+        span: rows.span,
+    }
+}
+
 /// How many windows of so many bytes eight bytes reach, rounded up to whole eights. Where steps are eights
 /// of bytes, eight bytes from a multiple of eight on lie in one.
 pub(crate) fn span_of(size: usize, step: usize) -> usize

@@ -7,7 +7,7 @@ ghost use Rattle.fir_core.specs.Turns.{Adds, AreColumns, AreSevenOn, AreTurned, 
 ghost use Rattle.fir_core.specs.Windows.{AreWithin, window_sums};
 
 use crate::row_sums::sum_rows;
-use crate::rows::Rows;
+use crate::rows::{Rows, with_step};
 use std::simd::prelude::*;
 
 /// Rows of which no byte reaches more than so many eights of windows.
@@ -55,7 +55,10 @@ fn add_step<const N: usize>(of: Near<'_, N>, bytes: &[u8], u: usize, near: &mut 
 {
     let first = u * of.rows.step;
     for place in 0..of.rows.step {
-        add_row(near, last_columns(of.rows, place, bytes[first + place], 8 * N));
+        add_row(
+            near,
+            last_columns(of.rows, place, bytes[first + place], 8 * N),
+        );
     }
 }
 
@@ -141,12 +144,7 @@ fn sum_front<const N: usize>(of: Near<'_, N>, bytes: &[u8], sums: &mut [i32])
     ensures { sums.new ≡ window_sums of.entry.rows.taps.now bytes.now of.entry.rows.step (length sums.old) }
 {
     if of.rows.step == 1 {
-        let rows = Rows {
-            taps: of.rows.taps,
-            entries: of.rows.entries,
-            step: 1,
-            span: of.rows.span,
-        };
+        let rows = with_step(of.rows, 1);
         sum_tile(Near::<N> { rows }, bytes, sums);
     } else {
         sum_tile(of, bytes, sums);

@@ -1,4 +1,4 @@
-use Rattle.std.proofs.Common.{◌+◌, ℕ, arith, refl}
+use Rattle.std.proofs.Common.{◌+◌, arith, refl}
 use Rattle.fir_core.specs.Rows.{AreEntries}
 use Rattle.fir_core.proofs.RowLaws.{by_four, entries_behind}
 use Rattle.fir_core.proofs.blocks.places_of.Goals as goal

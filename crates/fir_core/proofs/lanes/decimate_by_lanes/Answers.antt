@@ -5,7 +5,6 @@ use Rattle.fir_core.proofs.LaneLaws.{pushed}
 use Rattle.fir_core.proofs.TileLaws.{below_ceil}
 use Rattle.fir_core.proofs.WindowLaws.{abs_sum_aligned}
 use Rattle.std.specs.List.{range_with_len}
-use Rattle.dsd_bits.proofs.ExitLaws.{no_value}
 use Rattle.fir_core.proofs.lanes.decimate_by_lanes.Goals as goal
 
 pub sample_by_lanes-requires : goal.sample_by_lanes-requires

@@ -1,4 +1,4 @@
-use Rattle.std.proofs.Common.{◌≡◌, ℕ, ◌+◌, ◌-◌, ◌<◌, ◌∙◌, arith, get_or, length, map, pos, subst, to_z, w32}
+use Rattle.std.proofs.Common.{◌≡◌, ℕ, ◌+◌, ◌-◌, ◌∙◌, arith, map, subst, to_z, w32}
 use Rattle.std.proofs.lemmas.List.{length-map}
 use Rattle.fir_core.specs.Blocks.{sum_within}
 use Rattle.fir_core.proofs.InPlace.{chunk_written}
@@ -21,8 +21,8 @@ returns c =
     let done : AreLanes (sum_within block 8) c.args.j c.loop-b.lanes = subst (λ (m : ℕ). AreLanes (sum_within block m) c.args.j c.loop-b.lanes) all c.loop-b.invariant in
     let small = λ (k : ℕ). sum_small block.rows.taps.now block.bytes.now block.rows.step (block.p + 8) k block.rows.laid.small in
     let w = chunk_written (sum_within block 8) (sum_within block 0) block.limit c.args.j 8 c.args.sums.now lanes
-        (length-map c.loop-b.lanes (to_z w32) ∙ done.long)
-        (omega (arith, c.requires.inside.to, block.below))
-        (lanes_read (sum_within block 8) c.args.j c.loop-b.lanes small done)
-        (record { long = added.long; done = added.done; rest = λ k h l. added.rest k h (omega (arith, l, added.long)) }) in
+    (length-map c.loop-b.lanes (to_z w32) ∙ done.long)
+    (omega (arith, c.requires.inside.to, block.below))
+    (lanes_read (sum_within block 8) c.args.j c.loop-b.lanes small done)
+    (record { long = added.long; done = added.done; rest = λ k h l. added.rest k h (omega (arith, l, added.long)) }) in
     record { long = w.long; done = w.done; rest = λ k h l. w.rest k h (omega (arith, l, w.long)) }

@@ -1,4 +1,3 @@
-use Rattle.std.proofs.Common.{◌+◌}
 use Rattle.fir_core.specs.Blocks.{sum_within}
 use Rattle.fir_core.proofs.LaneSums.{AreLanes}
 use Rattle.fir_core.proofs.row_sums.add_eight.Given as goal

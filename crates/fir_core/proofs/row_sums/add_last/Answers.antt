@@ -1,4 +1,4 @@
-use Rattle.std.proofs.Common.{◌≡◌, ℕ, ℤ, ◌+◌, ◌-◌, ◌*◌, ◌/◌, ◌^◌, ◌+ℤ◌, ◌<◌, ◌≤◌, ◌∙◌, inl, inr, ap, arith, get_or, length, pos, refl, sym, w32, FitsSigned, to_z, of_z}
+use Rattle.std.proofs.Common.{◌≡◌, ℕ, ℤ, ◌+◌, ◌-◌, ◌*◌, ◌/◌, ◌^◌, ◌+ℤ◌, ◌<◌, ◌≤◌, ◌∙◌, inl, inr, arith, get_or, length, pos, w32, to_z, of_z}
 use Rattle.std.proofs.Math.Nat.{mul-le-mul_right}
 use Rattle.std.proofs.lemmas.Bool.{cases_lt}
 use Rattle.fir_core.specs.Rows.{AreEntries, sum_before}

@@ -3,7 +3,6 @@ use Rattle.std.proofs.Math.Nat.{mul-le-mul_right}
 use Rattle.std.proofs.lemmas.List.FromFn.{fill_by_all}
 use Rattle.fir_core.specs.Windows.{window_sum}
 use Rattle.fir_core.proofs.RowLaws.{none_before, whole_window}
-use Rattle.fir_core.proofs.TileLaws.{next_product}
 use Rattle.fir_core.proofs.row_sums.sum_steps.Goals as goal
 
 pub overflow_mul-reach : goal.overflow_mul-reach

@@ -1,5 +1,4 @@
 use Rattle.std.proofs.Common.{sym, arith}
-use Rattle.dsd_bits.proofs.ExitLaws.{no_ok}
 use Rattle.fir_core.proofs.ExitLaws.{there_err}
 use Rattle.fir_core.proofs.StreamLaws.{held_again}
 use Rattle.fir_core.proofs.stream.push_piece.Goals as goal

@@ -1,5 +1,4 @@
 use Rattle.std.proofs.Common.{◌+◌, ◌-◌, ◌*◌, ◌%◌, ◌∙◌, ap, arith, reverse}
-use Rattle.dsd_bits.proofs.ExitLaws.{no_value}
 use Rattle.fir_core.specs.Windows.{aligned}
 use Rattle.fir_core.proofs.WindowLaws.{aligned_made}
 use Rattle.fir_core.proofs.tables.aligned_taps.Goals as goal

@@ -16,21 +16,21 @@ starts_within c =
 
 pub sum_tile-requires : goal.sum_tile-requires
 sum_tile-requires c = record {
-      some = c.requires.some;
-      each = λ i h.
-          let groups = length c.as_slice-groups.result.now / 8 in
-          let at = c.args.first / 8 + 1 - groups in
-          let before = (goal.at.sum_tile-requires c).After-as_slice-groups in
-          let front = take_rest c.args.source.bytes.now at in
-          let begins : groups ≤ c.args.first / 8 + 1 = rw (size before) c.requires.begins in
-          rw (ap length front, c.factor.ensures.value)
-          (omega (
-            arith,
-            ap length (c.as_slice-groups.ensures.value ∙ c.tables.view_is),
-            length-drop at c.args.source.bytes.now,
-            window_within i c.args.source.taps.now.factor c.args.first c.args.source.count groups (length c.args.source.bytes.now) c.factor.ensures.limits.whole_bytes begins (c.requires.inside i h) c.args.source.enough,
-          ));
-    }
+  some = c.requires.some;
+  each = λ i h.
+      let groups = length c.as_slice-groups.result.now / 8 in
+      let at = c.args.first / 8 + 1 - groups in
+      let before = (goal.at.sum_tile-requires c).After-as_slice-groups in
+      let front = take_rest c.args.source.bytes.now at in
+      let begins : groups ≤ c.args.first / 8 + 1 = rw (size before) c.requires.begins in
+      rw (ap length front, c.factor.ensures.value)
+      (omega (
+        arith,
+        ap length (c.as_slice-groups.ensures.value ∙ c.tables.view_is),
+        length-drop at c.args.source.bytes.now,
+        window_within i c.args.source.taps.now.factor c.args.first c.args.source.count groups (length c.args.source.bytes.now) c.factor.ensures.limits.whole_bytes begins (c.requires.inside i h) c.args.source.enough,
+      ));
+}
 
 pub finish-requires : goal.finish-requires
 finish-requires c = λ i h.

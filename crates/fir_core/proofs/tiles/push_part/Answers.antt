@@ -31,7 +31,7 @@ returns c = record {
 
 pub push_samples-requires : goal.push_samples-requires
 push_samples-requires c = record {
-      reach = rw (c.factor.ensures.value, ap (λ f. f.delay) c.taps.view_is) (reaches (goal.at.push_samples-requires c).After-factor);
-      phase = let d = c.args.taps.now in
-    rw (c.factor.ensures.value, ap (λ f. f.delay) c.taps.view_is) (omega (arith, whole_step c.args.start d.factor c.factor.ensures.limits.whole_bytes));
-    }
+  reach = rw (c.factor.ensures.value, ap (λ f. f.delay) c.taps.view_is) (reaches (goal.at.push_samples-requires c).After-factor);
+  phase = let d = c.args.taps.now in
+      rw (c.factor.ensures.value, ap (λ f. f.delay) c.taps.view_is) (omega (arith, whole_step c.args.start d.factor c.factor.ensures.limits.whole_bytes));
+}

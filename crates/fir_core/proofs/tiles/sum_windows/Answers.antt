@@ -1,5 +1,5 @@
 use Rattle.std.proofs.lemmas.Int.{to_z-of_z}
-use Rattle.std.proofs.Common.{w32, ◌≡◌, ◌-◌, ◌^◌, ◌≤◌, drop, subst, sum_by, sym, take, unsigned_abs, ℕ, ◌*◌, ◌∙◌, ap, arith, get_or, length, length-drop, pos, refl}
+use Rattle.std.proofs.Common.{w32, ◌≡◌, ◌-◌, drop, take, ℕ, ◌*◌, ◌∙◌, ap, arith, get_or, length, length-drop, pos, refl}
 use Rattle.std.proofs.lemmas.List.{take_rest}
 use Rattle.std.proofs.lemmas.List.FromFn.{fill_by_all}
 use Rattle.fir_core.specs.Signed.{bits_of, dot}

@@ -1,5 +1,3 @@
-use Rattle.std.proofs.Common.{pos}
-use Rattle.std.proofs.lemmas.Simd.{get_or-put_chunk_below}
 use Rattle.fir_core.proofs.TurnLaws.{added_at}
 use Rattle.fir_core.proofs.turns.add_eight.Goals as goal
 

@@ -1,8 +1,8 @@
-use Rattle.std.proofs.Common.{◌≡◌, ℕ, ◌+◌, ◌*◌, ◌<◌, ◌/◌, ◌∙◌, ap, arith, length, refl, sym, w32}
+use Rattle.std.proofs.Common.{◌≡◌, ℕ, ◌+◌, ◌*◌, ◌<◌, ◌/◌, ◌∙◌, ap, arith, length, sym, w32}
 use Rattle.std.specs.Int.{int_wrap}
 use Rattle.dsd_bits.specs.Sums.{sum_below}
 use Rattle.fir_core.specs.Turns.{turn_sum}
-use Rattle.fir_core.proofs.TurnLaws.{all_turns_fit, reach_within, sum_next, wrapped_zero}
+use Rattle.fir_core.proofs.TurnLaws.{all_turns_fit, reach_within, sum_next}
 use Rattle.fir_core.proofs.turns.add_turns.Goals as goal
 
 pub loop-s-preserved : goal.loop-s-preserved

@@ -23,7 +23,7 @@ sum_front-requires g c = (
   (
     omega (arith, c.split_at_mut-front.ensures.front_len, c.min-many.ensures),
     steps_within (length c.split_at_mut-front.result.0.now) g.row.N (length c.args.bytes.now / c.args.rows.step) c.args.rows.step (length c.args.bytes.now) refl
-    (many_follow _ _ _ _ _ _ _ _ c.split_at_mut-front.ensures.front_len c.saturating_sub.ensures c.min.ensures c.min-many.ensures c.if-many-eq0.false),
+        (many_follow _ _ _ _ _ _ _ _ c.split_at_mut-front.ensures.front_len c.saturating_sub.ensures c.min.ensures c.min-many.ensures c.if-many-eq0.false),
   ),
 )
 

@@ -1,5 +1,4 @@
 use Rattle.std.proofs.Common.{◌≡◌, ◌+◌, ◌*◌, ◌/◌, ◌%◌, ◌<◌, ◌≤◌, ◌∙◌, ap, arith, length}
-use Rattle.dsd_bits.proofs.ExitLaws.{no_value}
 use Rattle.fir_core.specs.Rows.{rows}
 use Rattle.fir_core.proofs.RowLaws.{is_laid}
 use Rattle.fir_core.proofs.WindowLaws.{abs_sum_aligned, length-aligned}

@@ -1,2 +1,1 @@
-use Rattle.std.proofs.Common.{arith}
 use Rattle.fir_core.proofs.taps.Taps.rate_fits.Goals as goal

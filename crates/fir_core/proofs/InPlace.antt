@@ -1,5 +1,5 @@
 -- A list that is written from the front on.
-use Rattle.std.proofs.Common.{◌≡◌, ℕ, ◌+◌, ◌<◌, ◌≤◌, ◌≢◌, ◌^◌, ℤ, pos, unsigned_abs, List, map, length, get_or, sym, ap, ◌∙◌, ◌-◌, inl, inr, arith, below_more, get_or-set_other, get_or-set_same, FitsSigned, to_z, of_z, w32}
+use Rattle.std.proofs.Common.{◌≡◌, ℕ, ◌+◌, ◌<◌, ◌≤◌, ◌≢◌, ◌^◌, ℤ, pos, unsigned_abs, List, map, length, get_or, sym, ap, ◌∙◌, ◌-◌, inl, inr, arith, below_more, get_or-set_other, get_or-set_same, to_z, of_z, w32}
 use Rattle.std.proofs.Math.ListN.{set, length-set}
 use Rattle.std.proofs.lemmas.Int.{to_z-of_z, fits_signed_from_abs}
 use Rattle.std.specs.Simd.Lanes.{put_chunk}
@@ -7,13 +7,13 @@ use Rattle.std.proofs.lemmas.Bool.{cases_lt}
 use Rattle.std.proofs.lemmas.Simd.{get_or-put_chunk_above, get_or-put_chunk_at, get_or-put_chunk_below, length-put_chunk}
 use Rattle.std.proofs.lemmas.List.{ext_get_or, get_or-map, length-map}
 
--- the values below i are f's and the others g's; then f i is written at i
-module _ (f g : ℕ → ℤ) (xs : List ℤ) (i : ℕ) (r : ℤ) (within : i < length xs) (fits : FitsSigned w32 r) (is : r ≡ f i)
+-- the values below i are f's and the others g's; then a number is written at i that is read back as f i
+module _ (f g : ℕ → ℤ) (xs : List ℤ) (i : ℕ) (r : ℤ) (within : i < length xs) (is : to_z w32 (of_z w32 r) ≡ f i)
     (done : (k : ℕ) → k < i → get_or xs k (pos 0) ≡ f k) (rest : (k : ℕ) → i ≤ k → k < length xs → get_or xs k (pos 0) ≡ g k) where
   pub one_more : (k : ℕ) → k < i + 1 → get_or (set xs i (to_z w32 (of_z w32 r))) k (pos 0) ≡ f k
   one_more = below_more _ _
       (λ k h. let ne : k ≢ i = omega arith in rw get_or-set_other (done k h))
-      (rw get_or-set_same (to_z-of_z w32 r fits ∙ is))
+      (rw get_or-set_same is)
 
   pub one_less : (k : ℕ) → i + 1 ≤ k → k < length (set xs i (to_z w32 (of_z w32 r))) → get_or (set xs i (to_z w32 (of_z w32 r))) k (pos 0) ≡ g k
   one_less k h l = let ne : k ≢ i = omega arith in rw get_or-set_other (rest k (omega arith) (omega (arith, length-set {A = ℤ})))

@@ -1,19 +1,21 @@
 -- Sums from rows: a byte at a time, in each window that it stands in.
-use Rattle.std.proofs.Common.{◌≡◌, ℕ, zero, suc, ◌+◌, ◌-◌, ◌*◌, ◌/◌, ◌%◌, ◌^◌, ◌<◌, ◌≤◌, ◌⊎◌, ℤ, pos, negsuc, ◌+ℤ◌, inl, inr, map, unsigned_abs, List, length, get_or, take, drop, sum_by, refl, sym, ap, ap₂, ◌∙◌, arith, subst, length-drop, FitsSigned, to_z, of_z, w32}
+use Rattle.std.proofs.Common.{[], ◌∷◌, ◌≡◌, ℕ, zero, suc, ◌+◌, ◌-◌, ◌*◌, ◌/◌, ◌%◌, ◌^◌, ◌<◌, ◌≤◌, ◌⊎◌, ℤ, pos, ◌+ℤ◌, inl, inr, map, unsigned_abs, List, length, get_or, take, drop, sum_by, refl, sym, ap, ap₂, ◌∙◌, arith, subst, length-drop, FitsSigned, to_z, of_z, w32}
 use Rattle.std.proofs.Math.Nat.{mul-le-mul_right}
 use Rattle.std.proofs.lemmas.Bool.{cases_lt}
-use Rattle.std.specs.Int.{int_wrap}
 use Rattle.std.specs.Simd.Lanes.{zip2}
-use Rattle.std.proofs.lemmas.Int.{to_z-of_z, fits_signed_from_abs, int_wrap_fits, wrapping_add_onto}
-use Rattle.std.proofs.lemmas.Simd.{get_or-zip2, length-zip2}
-use Rattle.std.proofs.lemmas.List.{drop_all, get_or-drop, get_or-map, get_or-take, length-map, length-take-le, take_all}
+use Rattle.std.proofs.lemmas.List.{drop_all, get_or-drop, take_all}
 use Rattle.std.proofs.lemmas.List.FromFn.{get_or-map-range_with_len, length-map-range_with_len}
 use Rattle.std.proofs.lemmas.Nat.{div-mul-add, mod-mul-add, mul-le}
-use Rattle.fir_core.specs.Rows.{AreEntries, AreSums, IsLaid, IsSpot, entry_of, groups_at, last_group, row_entry, row_place, rows, sum_before}
+use Rattle.fir_core.specs.Blocks.{ArePlaces, HasEntries, IsBehind, IsReached, sum_within}
+use Rattle.fir_core.specs.Rows.{AreEntries, IsLaid, IsSpot, entry_of, groups_at, last_group, row_entry, row_place, rows, sum_before}
+use Rattle.fir_core.specs.declared.rows.Block.{Block}
+use Rattle.fir_core.specs.declared.rows.Spot.{Spot}
 use Rattle.fir_core.specs.Signed.{dot, bits_of, bits_of_byte}
 use Rattle.fir_core.specs.Windows.{aligned, window_sum}
-use Rattle.fir_core.proofs.Dot.{abs_sum_split, dot_bound, part_small, dot_group, dot_fits}
-use Rattle.fir_core.proofs.LaneSums.{wrap_add}
+use Rattle.fir_core.proofs.Dot.{abs_sum_split, dot_bound, part_small, dot_group}
+use Rattle.std.proofs.lemmas.Int.{fits_signed_from_abs}
+use Rattle.fir_core.proofs.InPlace.{read_back}
+use Rattle.fir_core.proofs.LaneSums.{AreLanes, lane_is, length-lanes, words_added, wrap_add}
 use Rattle.fir_core.proofs.TileLaws.{whole_step}
 use Rattle.fir_core.proofs.WindowLaws.{abs_sum_aligned, length-aligned}
 
@@ -71,48 +73,91 @@ length-rows hs step span = length-map-range_with_len (row_entry hs step span) 0 
 pub row_within : (step place byte : ℕ) → place < step → byte < 256 → 256 * place + byte < 256 * step
 row_within step place byte inside small = omega arith
 
--- a part of a byte's row
-module _ (hs entries : List ℤ) (step span p window place byte j : ℕ) (laid : IsLaid hs entries step span) (spot : IsSpot step p window place) (reached : window < j + span) (near : j ≤ window + 8) (small : byte < 256) where
-  entry_value : get_or entries (row_place span window place byte j) (pos 0) ≡ last_group hs (p + 1 - j * step) byte
-  entry_value =
+-- where a byte's row begins, and what stands in a column of it
+module _ (hs entries : List ℤ) (step span place byte : ℕ) (laid : IsLaid hs entries step span) (inside : place < step) (small : byte < 256) where
+  pub row_fits : 4 + (256 * place + byte) * (span + 8) + (span + 8) ≤ length entries
+  row_fits =
+      let long : length entries ≡ 256 * step * (span + 8) + 4 = ap length laid.laid ∙ length-rows hs step span in
+      let below : 256 * place + byte + 1 ≤ 256 * step = omega (arith, row_within step place byte inside small) in
+      let row : (256 * place + byte + 1) * (span + 8) ≤ (256 * step) * (span + 8) = mul-le-mul_right (span + 8) below in
+      omega arith
+
+  pub column_is : (column : ℕ) → column < span + 8 → get_or entries (4 + (256 * place + byte) * (span + 8) + column) (pos 0) ≡ last_group hs (groups_at step span place column) byte
+  column_is column below =
       let row = 256 * place + byte in
-      let column = j + span - (window + 1) in
       let at = row * (span + 8) + column in
-      let below : column < span + 8 = omega arith in
-      let r : row < 256 * step = row_within step place byte spot.inside small in
+      let r : row < 256 * step = row_within step place byte inside small in
       let q : row / 256 ≡ place = omega arith in
       let b : row % 256 ≡ byte = omega arith in
       let behind : (4 + row * (span + 8) + column) - 4 ≡ at = omega arith in
-      let inside : at < 256 * step * (span + 8) = in_rows row (256 * step) (span + 8) column r below in
+      let within : at < 256 * step * (span + 8) = in_rows row (256 * step) (span + 8) column r below in
       ap (λ t. get_or t (4 + row * (span + 8) + column) (pos 0)) laid.laid
       ∙ get_or-map-range_with_len (row_entry hs step span) 0 (256 * step * (span + 8) + 4) (4 + row * (span + 8) + column) (4 + row * (span + 8) + column) (pos 0) (omega arith) (omega arith)
       ∙ ap (λ i. last_group hs (groups_at step span (i / (span + 8) / 256) (i % (span + 8))) (i / (span + 8) % 256)) behind
       ∙ ap₂ (λ (m n : ℕ). last_group hs (groups_at step span (m / 256) n) (m % 256)) (div-mul-add row (span + 8) column below) (mod-mul-add row (span + 8) column below)
       ∙ ap₂ (λ (m n : ℕ). last_group hs (groups_at step span m column) n) q b
-      ∙ ap (λ (n : ℕ). last_group hs n byte) (ends_groups step span p window place j spot reached)
 
-pub part_within : (hs entries : List ℤ) (step span p window place byte j number : ℕ) → IsLaid hs entries step span → IsSpot step p window place → window < j + span → j + number ≤ window + 9 → byte < 256
-    → row_place span window place byte j + number ≤ length entries
-part_within hs entries step span p window place byte j number laid spot reached last small =
-    let long : length entries ≡ 256 * step * (span + 8) + 4 = ap length laid.laid ∙ length-rows hs step span in
-    let below : 256 * place + byte + 1 ≤ 256 * step = omega (arith, row_within step place byte spot.inside small) in
-    let row : (256 * place + byte + 1) * (span + 8) ≤ (256 * step) * (span + 8) = mul-le-mul_right (span + 8) below in
-    omega arith
+pub few_entries : (hs entries : List ℤ) (step span : ℕ) → IsLaid hs entries step span → length entries ≤ 2 ^ 26
+few_entries hs entries step span laid = omega (arith, ap length laid.laid ∙ length-rows hs step span, mul-le (256 * step) (span + 8) 32768 1032 (omega (arith, laid.most)) (omega (arith, laid.narrow)))
 
-pub part_is : (hs entries : List ℤ) (step span : ℕ) (bytes : List ℕ) (p window place j number : ℕ) → IsLaid hs entries step span → IsSpot step p window place → window < j + span → j + number ≤ window + 9 → get_or bytes p 0 < 256
-    → AreEntries hs bytes step p j number (take number (drop (row_place span window place (get_or bytes p 0) j) entries))
+-- what it has from the column of a window on
+pub place_has : (spot : Spot) (j byte : ℕ) → byte ≡ get_or spot.bytes.now spot.p 0 → byte < 256 → IsReached spot j → HasEntries spot j (row_place spot.rows.span spot.window spot.place byte j)
 unfolding entry_of
-part_is hs entries step span bytes p window place j number laid spot reached last small =
-    let byte = get_or bytes p 0 in
-    let at = row_place span window place byte j in
-    let within = part_within hs entries step span p window place byte j number laid spot reached last small in
+place_has spot j byte is small reached number last =
+    let rows = spot.rows in
+    let row = 4 + (256 * spot.place + byte) * (rows.span + 8) in
     record {
-      long = length-take-le number (drop at entries) (omega (arith, length-drop at entries));
+      within = omega (arith, row_fits rows.taps.now rows.entries.now rows.step rows.span spot.place byte rows.laid spot.spot.inside small, reached.begun, last);
       each = λ k h.
-          let next : at + k ≡ row_place span window place byte (j + k) = omega arith in
-          get_or-take number (drop at entries) k (pos 0) h ∙ get_or-drop at entries k (pos 0) ∙ ap (λ i. get_or entries i (pos 0)) next
-          ∙ entry_value hs entries step span p window place byte (j + k) laid spot (omega arith) (omega arith) small;
+          let next : row_place rows.span spot.window spot.place byte j + k ≡ row + (j + k + rows.span - (spot.window + 1)) = omega (arith, reached.begun) in
+          ap (λ i. get_or rows.entries.now i (pos 0)) next
+          ∙ column_is rows.taps.now rows.entries.now rows.step rows.span spot.place byte rows.laid spot.spot.inside small (j + k + rows.span - (spot.window + 1)) (omega (arith, reached.begun, h, last))
+          ∙ ap₂ (last_group rows.taps.now) (ends_groups rows.step rows.span spot.p spot.window spot.place (j + k) spot.spot (omega (arith, reached.begun))) is;
     }
+
+-- a window begins with each byte at most
+pub windows_rise : (step p d window place next behind : ℕ) → IsSpot step p window place → IsSpot step (p + d) next behind → (window ≤ next) × (next ≤ window + d)
+windows_rise step p d window place next behind spot then =
+    let most : d ≤ d * step = omega (arith, mul-le d 1 d step (omega arith) (omega (arith, spot.inside))) in (
+      elim (cases_lt next window) [
+        | inl less ↦ let e : (next + 1) * step ≤ window * step = mul-le-mul_right step (omega arith) in absurd (omega (arith, spot.at, then.at, then.inside))
+        | inr up ↦ up
+      ],
+      elim (cases_lt (window + d) next) [
+        | inl past ↦ let e : (window + d + 1) * step ≤ next * step = mul-le-mul_right step (omega arith) in absurd (omega (arith, spot.at, then.at, spot.inside, most))
+        | inr up ↦ up
+      ],
+    )
+
+-- a byte behind another, by its place from the first
+pub spot_of : (d : ℕ) (one two : Spot) → IsBehind d one two → IsSpot one.rows.step (one.p + d) two.window two.place
+spot_of d one two behind = rw (← behind.rows, ← behind.p) two.spot
+
+pub spots_rise : (d : ℕ) (one two : Spot) → IsBehind d one two → (one.window ≤ two.window) × (two.window ≤ one.window + d)
+spots_rise d one two behind = windows_rise one.rows.step one.p d one.window one.place two.window two.place one.spot (spot_of d one two behind)
+
+pub behind_more : (d e : ℕ) (one two three : Spot) → IsBehind d one two → IsBehind e two three → IsBehind (d + e) one three
+behind_more d e one two three first second = record { rows = second.rows ∙ first.rows; bytes = second.bytes ∙ first.bytes; p = omega (arith, first.p, second.p) }
+
+pub entries_behind : (d : ℕ) (one two : Spot) (j number at : ℕ) → IsBehind d one two → HasEntries two j at → j + number ≤ one.window + 9 → AreEntries one.rows.taps.now one.bytes.now one.rows.step one.rows.entries.now (one.p + d) j number at
+entries_behind d one two j number at behind has last = rw (← behind.rows, ← behind.bytes, ← behind.p) (has number (omega (arith, last, spots_rise d one two behind)))
+
+pub places_behind : (d : ℕ) (spot one : Spot) (j number : ℕ) (at : List ℕ) → IsBehind d spot one → ArePlaces one j at → j + number ≤ spot.window + 9
+    → (b : ℕ) → b < 4 → AreEntries spot.rows.taps.now spot.bytes.now spot.rows.step spot.rows.entries.now (spot.p + (d + b)) j number (get_or at b 0)
+places_behind d spot one j number at behind has last b h =
+    let place : one.p + b ≡ spot.p + (d + b) = omega (arith, behind.p) in
+    rw (← place, ← behind.rows, ← behind.bytes) (has b number h (omega (arith, last, spots_rise d spot one behind)))
+
+-- the windows of a byte's row, and those of a byte behind it
+pub is_reached : (k start : ℕ) (here last : Spot) → IsBehind k here last → k ≤ 7 → start ≡ last.window + 1 - here.rows.span → IsReached here start
+is_reached k start here last behind few is = record { begun = omega (arith, is, spots_rise k here last behind); near = omega (arith, is, few, spots_rise k here last behind) }
+
+pub by_four : (P : ℕ → ℕ → Type 0) (a b c d : ℕ) → P 0 a → P 1 b → P 2 c → P 3 d → (k : ℕ) → k < 4 → P k (get_or (a ∷ b ∷ c ∷ d ∷ []) k 0)
+by_four P a b c d p q r s zero h = p
+by_four P a b c d p q r s (suc zero) h = q
+by_four P a b c d p q r s (suc (suc zero)) h = r
+by_four P a b c d p q r s (suc (suc (suc zero))) h = s
+by_four P a b c d p q r s (suc (suc (suc (suc k)))) h = absurd (omega (arith, h))
 
 -- ---- the windows in which eight bytes stand
 -- where steps are eights of bytes, the last of eight has at least seven before it in its step
@@ -143,39 +188,6 @@ window_reaches step span size p window place limit spot wide reached = elim (cas
   | inr past ↦ let e : (limit + span) * step ≤ window * step = mul-le-mul_right step past in absurd (omega (arith, spot.at, spot.inside))
 ]
 
--- an entry in a sum
-module _ (hs : List ℤ) (bytes : List ℕ) (step p j : ℕ) (small : sum_by unsigned_abs hs ≤ 2 ^ 30) (within : p < length bytes) (entry s : ℤ) (is : entry ≡ entry_of hs bytes step p j) (so_far : s ≡ sum_before hs bytes step p j) where
-  entry_back : to_z w32 (of_z w32 entry) ≡ entry
-  unfolding entry_of
-  entry_back = to_z-of_z w32 entry (subst (FitsSigned w32) (sym is) (fits_signed_from_abs w32 _ (omega (arith, last_small hs (p + 1 - j * step) (get_or bytes p 0) small))))
-
-  sum_back : to_z w32 (of_z w32 s) ≡ s
-  unfolding sum_before
-  sum_back = to_z-of_z w32 s (subst (FitsSigned w32) (sym so_far) (dot_fits hs (bits_of (drop (j * step) bytes)) (8 * (p - j * step)) small))
-
-  both : to_z w32 (of_z w32 s) +ℤ to_z w32 (of_z w32 entry) ≡ sum_before hs bytes step (p + 1) j
-  unfolding sum_before entry_of
-  both = ap₂ ◌+ℤ◌ (sum_back ∙ so_far) (entry_back ∙ is) ∙ sym (one_more_byte hs bytes p (j * step) within)
-
-  pub byte_fits : FitsSigned w32 (to_z w32 (of_z w32 s) +ℤ to_z w32 (of_z w32 entry))
-  unfolding sum_before
-  byte_fits = subst (FitsSigned w32) (sym both) (dot_fits hs (bits_of (drop (j * step) bytes)) (8 * (p + 1 - j * step)) small)
-
-  pub byte_is : to_z w32 (of_z w32 (to_z w32 (of_z w32 s) +ℤ to_z w32 (of_z w32 entry))) ≡ sum_before hs bytes step (p + 1) j
-  byte_is = to_z-of_z w32 _ byte_fits ∙ both
-
--- ---- a row in eight sums
-of_z_small : (x : ℤ) → unsigned_abs x ≤ 2 ^ 30 → of_z w32 x < 2 ^ 32
-of_z_small (pos n) small = omega arith
-of_z_small (negsuc n) small = omega arith
-
--- two lanes whose sum is small
-lane_added : (x y : ℤ) → unsigned_abs x ≤ 2 ^ 30 → unsigned_abs y ≤ 2 ^ 30 → unsigned_abs (x +ℤ y) ≤ 2 ^ 30 → to_z w32 (wrap_add (of_z w32 x) (of_z w32 y)) ≡ x +ℤ y
-lane_added x y small_x small_y small =
-    wrapping_add_onto w32 (of_z w32 x) y (of_z_small x small_x) (fits_signed_from_abs w32 y (omega arith))
-    ∙ ap (λ z. int_wrap w32 (z +ℤ y)) (to_z-of_z w32 x (fits_signed_from_abs w32 x (omega arith)))
-    ∙ int_wrap_fits w32 (x +ℤ y) (fits_signed_from_abs w32 (x +ℤ y) (omega arith))
-
 pub entry_small : (hs : List ℤ) (bytes : List ℕ) (step p j : ℕ) → sum_by unsigned_abs hs ≤ 2 ^ 30 → unsigned_abs (entry_of hs bytes step p j) ≤ 2 ^ 30
 unfolding entry_of
 entry_small hs bytes step p j small = last_small hs (p + 1 - j * step) (get_or bytes p 0) small
@@ -189,48 +201,48 @@ pub next_sum : (hs : List ℤ) (bytes : List ℕ) (step p j : ℕ) → p < lengt
 unfolding sum_before entry_of
 next_sum hs bytes step p j within = sym (one_more_byte hs bytes p (j * step) within)
 
-pub row_added : (hs : List ℤ) (bytes : List ℕ) (step p j k : ℕ) (entries sums : List ℤ) → sum_by unsigned_abs hs ≤ 2 ^ 30 → p < length bytes → k + 8 ≤ length entries
-    → ((l : ℕ) → l < 8 → get_or entries (k + l) (pos 0) ≡ entry_of hs bytes step p (j + l)) → AreSums hs bytes step p j sums
-    → AreSums hs bytes step (p + 1) j (map (to_z w32) (zip2 wrap_add (map (of_z w32) sums) (map (of_z w32) (take 8 (drop k entries)))))
-row_added hs bytes step p j k entries sums small within inside each before =
-    let xs = map (of_z w32) sums in
-    let part = take 8 (drop k entries) in
-    let ys = map (of_z w32) part in
-    let long_part : length part ≡ 8 = length-take-le 8 (drop k entries) (omega (arith, length-drop k entries)) in
-    let long_xs : length xs ≡ 8 = length-map sums (of_z w32) ∙ before.long in
-    let long_ys : length ys ≡ 8 = length-map part (of_z w32) ∙ long_part in
-    let long : length (zip2 wrap_add xs ys) ≡ 8 = length-zip2 wrap_add xs ys (long_xs ∙ sym long_ys) ∙ long_xs in
-    record {
-      long = length-map (zip2 wrap_add xs ys) (to_z w32) ∙ long;
-      each = λ l h.
-          let x : get_or xs l 0 ≡ of_z w32 (sum_before hs bytes step p (j + l)) = get_or-map (of_z w32) sums l (pos 0) 0 (omega (arith, before.long)) ∙ ap (of_z w32) (before.each l h) in
-          let y : get_or ys l 0 ≡ of_z w32 (entry_of hs bytes step p (j + l)) =
-          get_or-map (of_z w32) part l (pos 0) 0 (omega (arith, long_part)) ∙ ap (of_z w32) (get_or-take 8 (drop k entries) l (pos 0) h ∙ get_or-drop k entries l (pos 0) ∙ each l h) in
-          get_or-map (to_z w32) (zip2 wrap_add xs ys) l 0 (pos 0) (omega (arith, long))
-          ∙ ap (to_z w32) (get_or-zip2 wrap_add xs ys l 0 0 0 (omega (arith, long_xs)) (omega (arith, long_ys)) ∙ ap₂ wrap_add x y)
-          ∙ lane_added (sum_before hs bytes step p (j + l)) (entry_of hs bytes step p (j + l)) (sum_small hs bytes step p (j + l) small) (entry_small hs bytes step p (j + l) small) (subst (λ z. unsigned_abs z ≤ 2 ^ 30) (sym (next_sum hs bytes step p (j + l) within)) (sum_small hs bytes step (p + 1) (j + l) small))
-          ∙ next_sum hs bytes step p (j + l) within;
-    }
+-- an entry in a sum
+module _ (hs : List ℤ) (bytes : List ℕ) (step p j : ℕ) (small : sum_by unsigned_abs hs ≤ 2 ^ 30) (within : p < length bytes) (entry s : ℤ) (is : entry ≡ entry_of hs bytes step p j) (so_far : s ≡ sum_before hs bytes step p j) where
+  both : s +ℤ to_z w32 (of_z w32 entry) ≡ sum_before hs bytes step (p + 1) j
+  both = ap₂ ◌+ℤ◌ so_far (read_back entry _ is (entry_small hs bytes step p j small)) ∙ next_sum hs bytes step p j within
 
--- the same sums as they are handed on, before the next byte
-pub sums_kept : (hs : List ℤ) (bytes : List ℕ) (step p q j : ℕ) (sums : List ℤ) → sum_by unsigned_abs hs ≤ 2 ^ 30 → p ≡ q → AreSums hs bytes step p j sums → AreSums hs bytes step q j (map (to_z w32) (map (of_z w32) sums))
-sums_kept hs bytes step p q j sums small next before =
-    let long : length (map (of_z w32) sums) ≡ 8 = length-map sums (of_z w32) ∙ before.long in
-    record {
-      long = length-map (map (of_z w32) sums) (to_z w32) ∙ long;
-      each = λ l h.
-          get_or-map (to_z w32) (map (of_z w32) sums) l 0 (pos 0) (omega (arith, long))
-          ∙ ap (to_z w32) (get_or-map (of_z w32) sums l (pos 0) 0 (omega (arith, before.long)) ∙ ap (of_z w32) (before.each l h))
-          ∙ to_z-of_z w32 (sum_before hs bytes step p (j + l)) (fits_signed_from_abs w32 (sum_before hs bytes step p (j + l)) (omega (arith, sum_small hs bytes step p (j + l) small)))
-          ∙ ap (λ n. sum_before hs bytes step n (j + l)) next;
-    }
+  pub byte_fits : FitsSigned w32 (s +ℤ to_z w32 (of_z w32 entry))
+  byte_fits = subst (FitsSigned w32) (sym both) (fits_signed_from_abs w32 _ (omega (arith, sum_small hs bytes step (p + 1) j small)))
 
--- eight sums of a list
-pub sums_from : (hs : List ℤ) (bytes : List ℕ) (step p j : ℕ) (sums : List ℤ) → j + 8 ≤ length sums → ((k : ℕ) → k < length sums → j ≤ k → get_or sums k (pos 0) ≡ sum_before hs bytes step p k) → AreSums hs bytes step p j (take 8 (drop j sums))
-sums_from hs bytes step p j sums within each = record {
-  long = length-take-le 8 (drop j sums) (omega (arith, length-drop j sums));
-  each = λ l h. get_or-take 8 (drop j sums) l (pos 0) h ∙ get_or-drop j sums l (pos 0) ∙ each (j + l) (omega arith) (omega arith);
-}
+  pub byte_is : to_z w32 (of_z w32 (s +ℤ to_z w32 (of_z w32 entry))) ≡ sum_before hs bytes step (p + 1) j
+  byte_is = read_back _ _ both (sum_small hs bytes step (p + 1) j small)
+
+-- the entry of a byte of a block for one of the block's windows
+pub block_entry : (block : Block) (b j : ℕ) → b < 8 → block.start ≤ j → j < block.start + block.number
+    → get_or block.rows.entries.now (get_or block.at b 0 + (j - block.start)) (pos 0) ≡ entry_of block.rows.taps.now block.bytes.now block.rows.step (block.p + b) j
+block_entry block b j below from to =
+    let window : block.start + (j - block.start) ≡ j = omega (arith, from) in
+    (block.block.each b below).each (j - block.start) (omega (arith, from, to)) ∙ ap (entry_of block.rows.taps.now block.bytes.now block.rows.step (block.p + b)) window
+
+-- lanes that hold eight sums, to which the entries of a byte are added
+pub lanes_added : (block : Block) (b j : ℕ) (lanes : List ℕ) → b < 8 → block.start ≤ j → j + 8 ≤ block.start + block.number → AreLanes (sum_within block b) j lanes
+    → AreLanes (sum_within block (b + 1)) j (zip2 wrap_add lanes (map (of_z w32) (take 8 (drop (get_or block.at b 0 + (j - block.start)) block.rows.entries.now))))
+lanes_added block b j lanes below from to before =
+    let hs = block.rows.taps.now in
+    let bytes = block.bytes.now in
+    let step = block.rows.step in
+    let entries = block.rows.entries.now in
+    let small = block.rows.laid.small in
+    let p = block.p + b in
+    let k = get_or block.at b 0 + (j - block.start) in
+    let within : p < length bytes = omega (arith, block.block.within, below) in
+    let room : k + 8 ≤ length entries = omega (arith, (block.block.each b below).within, from, to) in
+    record {
+      long = length-lanes lanes entries k before.long room;
+      each = λ l h.
+          let place : get_or block.at b 0 + (j + l - block.start) ≡ k + l = omega (arith, from) in
+          let next : p + 1 ≡ block.p + (b + 1) = omega arith in
+          let is : get_or entries (k + l) (pos 0) ≡ entry_of hs bytes step p (j + l) = ap (λ m. get_or entries m (pos 0)) (sym place) ∙ block_entry block b (j + l) below (omega (arith, from)) (omega (arith, to, h)) in
+          lane_is lanes entries k before.long room l h ∙ ap₂ (λ x y. wrap_add x (of_z w32 y)) (before.each l h) is
+          ∙ words_added (sum_before hs bytes step p (j + l)) (entry_of hs bytes step p (j + l)) (sum_small hs bytes step p (j + l) small) (entry_small hs bytes step p (j + l) small)
+          (subst (λ z. unsigned_abs z ≤ 2 ^ 30) (sym (next_sum hs bytes step p (j + l) within)) (sum_small hs bytes step (p + 1) (j + l) small))
+          ∙ ap (of_z w32) (next_sum hs bytes step p (j + l) within ∙ ap (λ m. sum_before hs bytes step m (j + l)) next);
+    }
 
 -- ---- the sums before and behind
 -- before the first byte

@@ -5,24 +5,25 @@ use Rattle.std.specs.Int.{div_ceil, int_wrap}
 use Rattle.std.proofs.lemmas.Grind.{div_ceil_times}
 use Rattle.std.specs.Simd.Lanes.{put_chunk, zip2}
 use Rattle.std.proofs.lemmas.Int.{ints, to_z-of_z, fits_signed_from_abs, int_wrap_fits, wrapping_add_onto, int_wrap-add_left, int_wrap-add_right, SFits-int_wrap}
-use Rattle.std.proofs.lemmas.Simd.{get_or-put_chunk_above, get_or-put_chunk_at, get_or-zip2, length-zip2}
-use Rattle.std.proofs.lemmas.List.{drop-drop, get_or-drop, get_or-map, get_or-take, get_or_append_left, length-map, length-take-le}
+use Rattle.std.proofs.lemmas.Simd.{get_or-put_chunk_above, get_or-put_chunk_at, get_or-put_chunk_below, length-put_chunk}
+use Rattle.std.proofs.lemmas.List.{drop-drop, get_or-drop, get_or-take, get_or_append_left, length-take-le}
 use Rattle.std.proofs.Math.Seq.{get_or-append_right}
 use Rattle.std.proofs.Common.{◌≢◌, ◌++◌, min, add-one, length-append, refl}
 use Rattle.std.proofs.Math.IntN.{+ℤ_assoc, +ℤ_comm}
 use Rattle.std.proofs.Math.Nat.{div-mul-le_self, mul-le-mul_right}
 use Rattle.std.proofs.lemmas.List.FromFn.{fill_by_all, get_or-map-range_with_len}
-use Rattle.std.proofs.lemmas.Nat.{div-mul-add, mod-mul-add}
+use Rattle.std.proofs.lemmas.Nat.{mul-le}
 use Rattle.std.proofs.lemmas.Simd.{get_or-replicate, length-replicate}
 use Rattle.std.specs.Prelude.{replicate}
 use Rattle.dsd_bits.specs.Sums.{sum_below}
-use Rattle.fir_core.specs.Rows.{IsLaid, IsSpot, entry_of, groups_at, last_group, row_entry, sum_before}
-use Rattle.fir_core.specs.Turns.{AreNear, step_at, steps_sum, turn_sum}
-use Rattle.fir_core.proofs.RowLaws.{ends_groups, in_rows, last_small, length-rows, next_sum, none_before, row_within, whole_window}
+use Rattle.fir_core.specs.Rows.{IsLaid, IsSpot, entry_of, groups_at, last_group, sum_before}
+use Rattle.fir_core.specs.declared.rows.Rows.{Rows}
+use Rattle.fir_core.specs.Turns.{AreColumns, AreNear, IsAddedAt, step_at, steps_sum, turn_sum}
+use Rattle.fir_core.proofs.RowLaws.{column_is, ends_groups, last_small, next_sum, none_before, row_fits, whole_window}
 use Rattle.fir_core.specs.Signed.{bits_of, dot}
 use Rattle.fir_core.specs.Windows.{window_sum, window_sums}
 use Rattle.fir_core.proofs.Dot.{dot_bound}
-use Rattle.fir_core.proofs.LaneSums.{wrap_add}
+use Rattle.fir_core.proofs.LaneSums.{length-numbers, number_is, wrap_add}
 use Rattle.fir_core.proofs.SumOrder.{sum_below_same}
 use Rattle.fir_core.proofs.TileLaws.{below_ceil, length-sums}
 
@@ -38,46 +39,17 @@ lane_added sum y small =
     ∙ ap (λ z. int_wrap w32 (z +ℤ y)) (to_z-of_z w32 (int_wrap w32 sum) fits)
     ∙ int_wrap-add_left w32 sum y
 
--- eight numbers of a list added to eight others
-module _ (f : ℕ → ℤ) (k : ℕ) (xs row : List ℤ) (eight : length xs ≡ 8) (each : (l : ℕ) → l < 8 → get_or xs l (pos 0) ≡ int_wrap w32 (f (8 * k + l)))
-    (within : 8 * k + 8 ≤ length row) (small : (c : ℕ) → c < 8 * k + 8 → unsigned_abs (get_or row c (pos 0)) ≤ 2 ^ 30) where
-  abbrev pub part : List ℤ
-  part = take 8 (drop (8 * k) row)
-
-  long_part : length part ≡ 8
-  long_part = length-take-le 8 (drop (8 * k) row) (omega (arith, length-drop (8 * k) row))
-
-  abbrev pub added : List ℕ
-  added = zip2 wrap_add (map (of_z w32) xs) (map (of_z w32) part)
-
-  long_added : length added ≡ 8
-  long_added =
-      let long_xs : length (map (of_z w32) xs) ≡ 8 = length-map xs (of_z w32) ∙ eight in
-      let long_ys : length (map (of_z w32) part) ≡ 8 = length-map part (of_z w32) ∙ long_part in
-      length-zip2 wrap_add (map (of_z w32) xs) (map (of_z w32) part) (long_xs ∙ sym long_ys) ∙ long_xs
-
-  pub eight_long : length (map (to_z w32) added) ≡ 8
-  eight_long = length-map added (to_z w32) ∙ long_added
-
-  pub eight_added : (l : ℕ) → l < 8 → get_or (map (to_z w32) added) l (pos 0) ≡ int_wrap w32 (f (8 * k + l) +ℤ get_or row (8 * k + l) (pos 0))
-  eight_added l h =
-      let long_xs : length (map (of_z w32) xs) ≡ 8 = length-map xs (of_z w32) ∙ eight in
-      let long_ys : length (map (of_z w32) part) ≡ 8 = length-map part (of_z w32) ∙ long_part in
-      let x : get_or (map (of_z w32) xs) l 0 ≡ of_z w32 (int_wrap w32 (f (8 * k + l))) = get_or-map (of_z w32) xs l (pos 0) 0 (omega (arith, eight)) ∙ ap (of_z w32) (each l h) in
-      let y : get_or (map (of_z w32) part) l 0 ≡ of_z w32 (get_or row (8 * k + l) (pos 0)) =
-      get_or-map (of_z w32) part l (pos 0) 0 (omega (arith, long_part)) ∙ ap (of_z w32) (get_or-take 8 (drop (8 * k) row) l (pos 0) h ∙ get_or-drop (8 * k) row l (pos 0)) in
-      get_or-map (to_z w32) added l 0 (pos 0) (omega (arith, long_added))
-      ∙ ap (to_z w32) (get_or-zip2 wrap_add (map (of_z w32) xs) (map (of_z w32) part) l 0 0 0 (omega (arith, long_xs)) (omega (arith, long_ys)) ∙ ap₂ wrap_add x y)
-      ∙ lane_added (f (8 * k + l)) (get_or row (8 * k + l) (pos 0)) (small (8 * k + l) (omega arith))
-
 -- so many eights of them
 pub near_added : (f : ℕ → ℤ) (number : ℕ) (old new : List (List ℤ)) (row : List ℤ) → length new ≡ number → 8 * number ≤ length row → ((c : ℕ) → c < 8 * number → unsigned_abs (get_or row c (pos 0)) ≤ 2 ^ 30)
     → ((k : ℕ) → k < number → get_or new k [] ≡ map (to_z w32) (zip2 wrap_add (map (of_z w32) (get_or old k [])) (map (of_z w32) (take 8 (drop (8 * k) row)))))
     → AreNear number f old → AreNear number (λ c. f c +ℤ get_or row c (pos 0)) new
 near_added f number old new row long within small is before = record {
   long = long;
-  eight = λ k h. ap length (is k h) ∙ eight_long f k (get_or old k []) row (before.eight k h) (λ l b. before.each k l h b) (omega (arith, h)) (λ c b. small c (omega (arith, h, b)));
-  each = λ k l h b. ap (λ xs. get_or xs l (pos 0)) (is k h) ∙ eight_added f k (get_or old k []) row (before.eight k h) (λ m d. before.each k m h d) (omega (arith, h)) (λ c d. small c (omega (arith, h, d))) l b;
+  eight = λ k h. ap length (is k h) ∙ length-numbers (get_or old k []) row (8 * k) (before.eight k h) (omega (arith, h, within));
+  each = λ k l h b.
+      ap (λ xs. get_or xs l (pos 0)) (is k h) ∙ number_is (get_or old k []) row (8 * k) (before.eight k h) (omega (arith, h, within)) l b
+      ∙ ap (λ z. to_z w32 (wrap_add (of_z w32 z) (of_z w32 (get_or row (8 * k + l) (pos 0))))) (before.each k l h b)
+      ∙ lane_added (f (8 * k + l)) (get_or row (8 * k + l) (pos 0)) (small (8 * k + l) (omega (arith, h, b)));
 }
 
 -- the same by other words
@@ -125,46 +97,28 @@ near_moved f number old new some long front last before none = record {
 pub sum_next : (m : ℕ) (f : ℕ → ℤ) → sum_below (m + 1) f ≡ sum_below m f +ℤ f m
 sum_next m f = ap (λ n. sum_below n f) (add-one m)
 
--- where a byte's row begins, and what stands in a column of it
-module _ (hs entries : List ℤ) (step span place byte : ℕ) (laid : IsLaid hs entries step span) (inside : place < step) (small : byte < 256) where
-  pub row_fits : 4 + (256 * place + byte) * (span + 8) + (span + 8) ≤ length entries
-  row_fits =
-      let long : length entries ≡ 256 * step * (span + 8) + 4 = ap length laid.laid ∙ length-rows hs step span in
-      let below : 256 * place + byte + 1 ≤ 256 * step = omega (arith, row_within step place byte inside small) in
-      let row : (256 * place + byte + 1) * (span + 8) ≤ (256 * step) * (span + 8) = mul-le-mul_right (span + 8) below in
-      omega arith
-
-  pub column_is : (column : ℕ) → column < span + 8 → get_or entries (4 + (256 * place + byte) * (span + 8) + column) (pos 0) ≡ last_group hs (groups_at step span place column) byte
-  column_is column below =
-      let row = 256 * place + byte in
-      let at = row * (span + 8) + column in
-      let r : row < 256 * step = row_within step place byte inside small in
-      let q : row / 256 ≡ place = omega arith in
-      let b : row % 256 ≡ byte = omega arith in
-      let behind : (4 + row * (span + 8) + column) - 4 ≡ at = omega arith in
-      let within : at < 256 * step * (span + 8) = in_rows row (256 * step) (span + 8) column r below in
-      ap (λ t. get_or t (4 + row * (span + 8) + column) (pos 0)) laid.laid
-      ∙ get_or-map-range_with_len (row_entry hs step span) 0 (256 * step * (span + 8) + 4) (4 + row * (span + 8) + column) (4 + row * (span + 8) + column) (pos 0) (omega arith) (omega arith)
-      ∙ ap (λ i. last_group hs (groups_at step span (i / (span + 8) / 256) (i % (span + 8))) (i / (span + 8) % 256)) behind
-      ∙ ap₂ (λ (m n : ℕ). last_group hs (groups_at step span (m / 256) n) (m % 256)) (div-mul-add row (span + 8) column below) (mod-mul-add row (span + 8) column below)
-      ∙ ap₂ (λ (m n : ℕ). last_group hs (groups_at step span m column) n) q b
-
--- the last of its columns
+-- the last columns of a row
 pub columns_within : (hs entries : List ℤ) (step span place byte number : ℕ) → IsLaid hs entries step span → place < step → byte < 256 → number ≤ span
     → 4 + (256 * place + byte) * (span + 8) + (span - number) + number ≤ length entries
 columns_within hs entries step span place byte number laid inside small few = let fits = row_fits hs entries step span place byte laid inside small in omega (arith, fits)
 
-pub columns_are : (hs entries : List ℤ) (step span place byte number at : ℕ) → IsLaid hs entries step span → place < step → byte < 256 → number ≤ span → at ≡ 4 + (256 * place + byte) * (span + 8) + (span - number)
-    → (c : ℕ) → c < number → get_or (take number (drop at entries)) c (pos 0) ≡ last_group hs (groups_at step span place (span - number + c)) byte
-columns_are hs entries step span place byte number at laid inside small few is c h =
-    let next : at + c ≡ 4 + (256 * place + byte) * (span + 8) + (span - number + c) = omega (arith, is) in
+pub columns_are : (rows : Rows) (place byte number : ℕ) → place < rows.step → byte < 256 → number ≤ rows.span
+    → AreColumns rows place byte number (take number (drop (4 + (256 * place + byte) * (rows.span + 8) + (rows.span - number)) rows.entries.now))
+columns_are rows place byte number inside small few =
+    let hs = rows.taps.now in
+    let entries = rows.entries.now in
+    let span = rows.span in
+    let row = 4 + (256 * place + byte) * (span + 8) in
+    let at = row + (span - number) in
+    let each : (c : ℕ) → c < number → get_or (take number (drop at entries)) c (pos 0) ≡ last_group hs (groups_at rows.step span place (span - number + c)) byte = λ c h.
+    let next : at + c ≡ row + (span - number + c) = omega arith in
     get_or-take number (drop at entries) c (pos 0) h ∙ get_or-drop at entries c (pos 0) ∙ ap (λ m. get_or entries m (pos 0)) next
-    ∙ column_is hs entries step span place byte laid inside small (span - number + c) (omega arith)
-
-pub columns_small : (hs entries : List ℤ) (step span place byte number at : ℕ) → IsLaid hs entries step span → place < step → byte < 256 → number ≤ span → at ≡ 4 + (256 * place + byte) * (span + 8) + (span - number)
-    → (c : ℕ) → c < number → unsigned_abs (get_or (take number (drop at entries)) c (pos 0)) ≤ 2 ^ 30
-columns_small hs entries step span place byte number at laid inside small few is c h =
-    subst (λ z. unsigned_abs z ≤ 2 ^ 30) (sym (columns_are hs entries step span place byte number at laid inside small few is c h)) (last_small hs (groups_at step span place (span - number + c)) byte laid.small)
+    ∙ column_is hs entries rows.step span place byte rows.laid inside small (span - number + c) (omega arith) in
+    record {
+      len = length-take-le number (drop at entries) (omega (arith, length-drop at entries, columns_within hs entries rows.step span place byte number rows.laid inside small few));
+      each = each;
+      small = λ c h. subst (λ z. unsigned_abs z ≤ 2 ^ 30) (sym (each c h)) (last_small hs (groups_at rows.step span place (span - number + c)) byte rows.laid.small);
+    }
 
 -- ---- the bytes of a step
 pub one_more_place : (a : ℤ) (m : ℕ) (g : ℕ → ℤ) (r : ℤ) → r ≡ g m → (a +ℤ sum_below m g) +ℤ r ≡ a +ℤ sum_below (m + 1) g
@@ -185,39 +139,18 @@ both_added x y =
     ∙ int_wrap-add_right w32 y x
     ∙ ap (int_wrap w32) (+ℤ_comm y x)
 
--- eight of them
-module _ (near sums : List ℤ) (at : ℕ) (eight : length near ≡ 8) (within : at + 8 ≤ length sums) where
-  abbrev pub pairs : List ℕ
-  pairs = zip2 wrap_add (map (of_z w32) near) (map (of_z w32) (take 8 (drop at sums)))
-
-  long_pairs : length pairs ≡ 8
-  long_pairs =
-      let long_xs : length (map (of_z w32) near) ≡ 8 = length-map near (of_z w32) ∙ eight in
-      let long_ys : length (map (of_z w32) (take 8 (drop at sums))) ≡ 8 = length-map (take 8 (drop at sums)) (of_z w32) ∙ length-take-le 8 (drop at sums) (omega (arith, length-drop at sums)) in
-      length-zip2 wrap_add (map (of_z w32) near) (map (of_z w32) (take 8 (drop at sums))) (long_xs ∙ sym long_ys) ∙ long_xs
-
-  pub long_written : length (map (to_z w32) pairs) ≡ 8
-  long_written = length-map pairs (to_z w32) ∙ long_pairs
-
-  pair_is : (l : ℕ) → l < 8 → (x y : ℤ) → get_or near l (pos 0) ≡ int_wrap w32 y → get_or sums (at + l) (pos 0) ≡ int_wrap w32 x → get_or (map (to_z w32) pairs) l (pos 0) ≡ int_wrap w32 (x +ℤ y)
-  pair_is l h x y is_near is_sum =
-      let part = take 8 (drop at sums) in
-      let long_part : length part ≡ 8 = length-take-le 8 (drop at sums) (omega (arith, length-drop at sums)) in
-      let long_xs : length (map (of_z w32) near) ≡ 8 = length-map near (of_z w32) ∙ eight in
-      let long_ys : length (map (of_z w32) part) ≡ 8 = length-map part (of_z w32) ∙ long_part in
-      let a : get_or (map (of_z w32) near) l 0 ≡ of_z w32 (int_wrap w32 y) = get_or-map (of_z w32) near l (pos 0) 0 (omega (arith, eight)) ∙ ap (of_z w32) is_near in
-      let b : get_or (map (of_z w32) part) l 0 ≡ of_z w32 (int_wrap w32 x) =
-      get_or-map (of_z w32) part l (pos 0) 0 (omega (arith, long_part)) ∙ ap (of_z w32) (get_or-take 8 (drop at sums) l (pos 0) h ∙ get_or-drop at sums l (pos 0) ∙ is_sum) in
-      get_or-map (to_z w32) pairs l 0 (pos 0) (omega (arith, long_pairs))
-      ∙ ap (to_z w32) (get_or-zip2 wrap_add (map (of_z w32) near) (map (of_z w32) part) l 0 0 0 (omega (arith, long_xs)) (omega (arith, long_ys)) ∙ ap₂ wrap_add a b)
-      ∙ both_added x y
-
-  pub written_is : (l : ℕ) → l < 8 → (x y : ℤ) → get_or near l (pos 0) ≡ int_wrap w32 y → get_or sums (at + l) (pos 0) ≡ int_wrap w32 x → get_or (put_chunk at sums (map (to_z w32) pairs)) (at + l) (pos 0) ≡ int_wrap w32 (x +ℤ y)
-  written_is l h x y is_near is_sum =
-      get_or-put_chunk_at at sums (map (to_z w32) pairs) l (pos 0) (omega (arith, long_written)) (omega (arith, long_written)) ∙ pair_is l h x y is_near is_sum
-
-  pub written_behind : (i : ℕ) → at + 8 ≤ i → get_or (put_chunk at sums (map (to_z w32) pairs)) i (pos 0) ≡ get_or sums i (pos 0)
-  written_behind i h = get_or-put_chunk_above at sums (map (to_z w32) pairs) i (pos 0) (omega (arith, long_written))
+pub added_at : (near sums : List ℤ) (at : ℕ) → length near ≡ 8 → at + 8 ≤ length sums → IsAddedAt near at sums (put_chunk at sums (map (to_z w32) (zip2 wrap_add (map (of_z w32) near) (map (of_z w32) (take 8 (drop at sums))))))
+added_at near sums at eight within =
+    let lanes = map (to_z w32) (zip2 wrap_add (map (of_z w32) near) (map (of_z w32) (take 8 (drop at sums)))) in
+    let long : length lanes ≡ 8 = length-numbers near sums at eight within in
+    record {
+      len = length-put_chunk at sums lanes;
+      added = λ l h x y is_near is_sum.
+          get_or-put_chunk_at at sums lanes l (pos 0) (omega (arith, h, long)) (omega (arith, long, within)) ∙ number_is near sums at eight within l h
+          ∙ ap₂ (λ a b. to_z w32 (wrap_add (of_z w32 a) (of_z w32 b))) is_near is_sum ∙ both_added x y;
+      before = λ i h. get_or-put_chunk_below at sums lanes i (pos 0) h;
+      behind = λ i h. get_or-put_chunk_above at sums lanes i (pos 0) (omega (arith, h, long));
+    }
 
 -- ---- every eighth step
 no_entry : (hs : List ℤ) (step span place column byte : ℕ) → place < step → span ≤ column → last_group hs (groups_at step span place column) byte ≡ pos 0
@@ -410,6 +343,13 @@ eights_fit size step span number some wide eights is =
     elim (cases_lt span (div_ceil size step)) [
       | inl less ↦ absurd (omega (arith, below_ceil span size step some less, wide))
       | inr enough ↦ omega (arith, is, eights, enough)
+    ]
+
+pub few_eights : (size step number : ℕ) → 1 ≤ step → size ≤ 513 → number ≡ div_ceil (div_ceil size step) 8 → number ≤ 128
+few_eights size step number some few is =
+    elim (cases_lt 513 (div_ceil size step)) [
+      | inl more ↦ absurd (omega (arith, below_ceil 513 size step some more, mul-le 513 1 513 step (omega arith) some, few))
+      | inr less ↦ omega (arith, is, less)
     ]
 
 pub some_eights : (size step number : ℕ) → 1 ≤ step → 1 ≤ size → number ≡ div_ceil (div_ceil size step) 8 → 1 ≤ number

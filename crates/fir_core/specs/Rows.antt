@@ -39,24 +39,15 @@ sum_before taps bytes step p j = window_sum (take (8 * (p - j * step)) taps) byt
 unfoldable pub entry_of : List ℤ → List ℕ → ℕ → ℕ → ℕ → ℤ
 entry_of taps bytes step p j = last_group taps (p + 1 - j * step) (slice_index bytes p)
 
--- what byte p adds to so many windows from window j on
-pub record AreEntries (taps : List ℤ) (bytes : List ℕ) (step p j number : ℕ) (entries : List ℤ) : Type 0 where
-  pub long : length entries ≡ number
-  pub each : (k : ℕ) → k < number → slice_index_or entries k (pos 0) ≡ entry_of taps bytes step p (j + k)
+-- the rows have at a place what byte p adds to so many windows from window j on
+pub record AreEntries (taps : List ℤ) (bytes : List ℕ) (step : ℕ) (entries : List ℤ) (p j number at : ℕ) : Type 0 where
+  pub within : at + number ≤ length entries
+  pub each : (k : ℕ) → k < number → slice_index_or entries (at + k) (pos 0) ≡ entry_of taps bytes step p (j + k)
 
--- what each of four bytes from p on adds to so many windows from window j on
-pub record IsBlock (taps : List ℤ) (bytes : List ℕ) (step p j number : ℕ) (a b c d : List ℤ) : Type 0 where
-  pub small : sum_by unsigned_abs taps ≤ 2 ^ 30
-  pub within : p + 4 ≤ length bytes
-  pub one : AreEntries taps bytes step p j number a
-  pub two : AreEntries taps bytes step (p + 1) j number b
-  pub three : AreEntries taps bytes step (p + 2) j number c
-  pub four : AreEntries taps bytes step (p + 3) j number d
-
--- the sums of eight windows from window j on over the bytes before byte p
-pub record AreSums (taps : List ℤ) (bytes : List ℕ) (step p j : ℕ) (sums : List ℤ) : Type 0 where
-  pub long : length sums ≡ 8
-  pub each : (k : ℕ) → k < 8 → slice_index_or sums k (pos 0) ≡ sum_before taps bytes step p (j + k)
+-- they have at these places what each of eight bytes from p on adds
+pub record IsBlock (taps : List ℤ) (bytes : List ℕ) (step : ℕ) (entries : List ℤ) (p j number : ℕ) (at : List ℕ) : Type 0 where
+  pub within : p + 8 ≤ length bytes
+  pub each : (b : ℕ) → b < 8 → AreEntries taps bytes step entries (p + b) j number (slice_index at b)
 
 -- taps in whole groups of eight, and the rows of all places and bytes
 pub record IsLaid (taps entries : List ℤ) (step span : ℕ) : Type 0 where

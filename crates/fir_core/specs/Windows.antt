@@ -1,5 +1,5 @@
 -- The taps of a window of whole bytes, and the sums of windows that follow one another.
-use Rattle.std.specs.Prelude.{ℕ, ◌+◌, ◌-◌, ◌*◌, ◌%◌, ℤ, pos, List, ◌++◌, map, drop, length, replicate, reverse}
+use Rattle.std.specs.Prelude.{ℕ, ◌+◌, ◌-◌, ◌*◌, ◌%◌, ◌<◌, ◌≤◌, ℤ, pos, List, ◌++◌, map, drop, length, replicate, reverse}
 use Rattle.std.specs.List.{range_with_len}
 use Rattle.std.specs.Int.{div_ceil}
 use Rattle.fir_core.specs.Signed.{dot, bits_of}
@@ -27,3 +27,8 @@ window_sum taps bytes at = dot taps (bits_of (drop at bytes))
 -- the sums of so many windows, each so many bytes behind the one before
 abbrev pub window_sums : List ℤ → List ℕ → ℕ → ℕ → List ℤ
 window_sums taps bytes step number = map (λ i. window_sum taps bytes (i * step)) (range_with_len 0 number)
+
+-- there are some windows, and each of them lies within the bytes
+pub record AreWithin (size step number : ℕ) (bytes : List ℕ) : Type 0 where
+  pub some : 1 ≤ number
+  pub each : (j : ℕ) → j < number → j * step + size ≤ length bytes

@@ -5,6 +5,7 @@ ghost use Rattle.fir_core.specs.Decimator.{samples};
 
 use crate::decimator::sample;
 use crate::lanes::decimate_by_lanes;
+use crate::source::Source;
 use crate::tables::Tables;
 use crate::taps::Taps;
 use crate::tiles::push_samples;
@@ -54,15 +55,13 @@ fn decimate_by_table(alloc: Global, taps: &Taps, bits: &Bits) -> Result<Vec<i32>
     let tables = Tables::new(alloc, taps)?;
     let number = bits.len().div_ceil(taps.factor() as usize);
     let first = taps.delay as usize;
-    let mut made = Vec::new(alloc);
-    push_samples(
-        &mut made,
-        number,
+    let source = Source {
         taps,
-        &tables,
-        bits.as_bytes(),
-        bits.len(),
-        first,
-    )?;
+        tables: &tables,
+        bytes: bits.as_bytes(),
+        count: bits.len(),
+    };
+    let mut made = Vec::new(alloc);
+    push_samples(&mut made, number, source, first)?;
     Ok(made)
 }

@@ -16,6 +16,15 @@ use dsd_bits::Bits;
 use std::alloc::{AllocError, Global};
 use std::simd::prelude::*;
 
+// A decimator, and its taps in the order of the bits.
+#[derive(Clone, Copy)]
+struct Turned<'a> {
+    taps: &'a Taps,
+    turned: &'a [i32],
+    ghost are: { turned.now ≡ aligned taps.now.taps taps.now.delay },
+    ghost small: { sum_by unsigned_abs turned.now ≤ 2 ^ 30 },
+}
+
 /// All samples of a channel, each sum in lanes of eight taps.
 pub(crate) fn decimate_by_lanes(
     alloc: Global,
@@ -24,43 +33,45 @@ pub(crate) fn decimate_by_lanes(
 ) -> Result<Vec<i32>, AllocError>
     ensures { IfOk result (λ made. made.items ≡ samples taps.now bits.now) }
 {
-    let turned = aligned_taps(alloc, taps)?;
+    let aligned = aligned_taps(alloc, taps)?;
     let number = bits.len().div_ceil(taps.factor() as usize);
+    let turned = Turned {
+        taps,
+        turned: aligned.as_slice(),
+    };
     let mut made = Vec::with_capacity(alloc, number)?;
     for j in 0..number {
-        made.push(sample_by_lanes(taps, turned.as_slice(), bits, j))?;
+        made.push(sample_by_lanes(turned, bits, j))?;
     }
     Ok(made)
 }
 
 // Sample `j` of a channel, by the taps in the order of the bits.
-fn sample_by_lanes(taps: &Taps, turned: &[i32], bits: &Bits, j: usize) -> i32
-    requires turned { turned.now ≡ aligned taps.now.taps taps.now.delay }
-    requires sample { j * taps.now.factor < length bits.now }
-    ensures { result ≡ sample_at taps.now bits.now j }
+fn sample_by_lanes(turned: Turned<'_>, bits: &Bits, j: usize) -> i32
+    requires { j * turned.taps.now.factor < length bits.now }
+    ensures { result ≡ sample_at turned.entry.taps.now bits.now j }
 {
     let _count = bits.len();
+    let taps = turned.taps;
     let n = j * taps.factor as usize + taps.delay as usize;
     clip(
-        round(sum_at_by_lanes(taps, turned, bits, n), taps.shift),
+        round(sum_at_by_lanes(turned, bits, n), taps.shift),
         taps.width,
     )
 }
 
 // The convolution at a place: in lanes where its window lies within the recording, else bit by bit.
-fn sum_at_by_lanes(taps: &Taps, turned: &[i32], bits: &Bits, n: usize) -> i32
-    requires turned { turned.now ≡ aligned taps.now.taps taps.now.delay }
-    requires small { sum_by unsigned_abs turned.now ≤ 2 ^ 30 }
-    requires phase { n % 8 ≡ taps.now.delay % 8 }
+fn sum_at_by_lanes(turned: Turned<'_>, bits: &Bits, n: usize) -> i32
+    requires phase { n % 8 ≡ turned.taps.now.delay % 8 }
     requires place { n < 2 ^ 37 }
-    ensures value { result ≡ conv taps.now.taps bits.now n }
+    ensures value { result ≡ conv turned.entry.taps.now.taps bits.now n }
     ensures bound { unsigned_abs result ≤ 2 ^ 30 }
 {
-    let size = turned.len() / 8;
+    let size = turned.turned.len() / 8;
     if n / 8 + 1 < size || bits.len() <= n {
-        return sum_at(taps, bits, n);
+        return sum_at(turned.taps, bits, n);
     }
-    dot_by_lanes(turned, &bits.as_bytes()[n / 8 + 1 - size..])
+    dot_by_lanes(turned.turned, &bits.as_bytes()[n / 8 + 1 - size..])
 }
 
 // The sum of the taps, each with its bit's sign: whole groups of eight in lanes, the rest one by one.

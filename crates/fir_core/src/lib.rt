@@ -16,13 +16,16 @@
 //! ```
 #![tactic(auto)]
 
+mod blocks;
 mod convolution;
 mod decimator;
 mod fault;
 mod kernel;
 mod lanes;
 mod rounding;
+mod row_sums;
 mod rows;
+mod source;
 mod stream;
 mod tables;
 mod taps;

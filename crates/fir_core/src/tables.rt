@@ -23,6 +23,18 @@ pub struct Tables {
     pub(crate) span: usize,
 }
 
+// Taps in whole groups of eight, how many bytes a step has, and how many windows a row spans.
+#[derive(Clone, Copy)]
+struct Layout<'a> {
+    taps: &'a [i32],
+    step: usize,
+    span: usize,
+    ghost whole: { length taps.now % 8 ≡ 0 },
+    ghost small: { sum_by unsigned_abs taps.now ≤ 2 ^ 30 },
+    ghost short: { step ≤ 128 },
+    ghost narrow: { span ≤ 1024 },
+}
+
 impl Model for Tables {
     ghost use Rattle.std.specs.Prelude.{ℤ, List};
     ghost use Rattle.fir_core.specs.TableView.{taps_of};
@@ -47,7 +59,12 @@ impl Tables {
         let step = taps.factor() as usize / 8;
         let aligned = aligned_taps(alloc, taps)?;
         let span = span_of(aligned.len() / 8, step);
-        let rows = rows_of(alloc, aligned.as_slice(), step, span)?;
+        let layout = Layout {
+            taps: aligned.as_slice(),
+            step,
+            span,
+        };
+        let rows = rows_of(alloc, layout)?;
         Ok(Tables {
             taps: aligned,
             rows,
@@ -74,49 +91,40 @@ pub(crate) fn aligned_taps(alloc: Global, taps: &Taps) -> Result<Vec<i32>, Alloc
 }
 
 // The rows of all places in a step and all bytes.
-fn rows_of(alloc: Global, taps: &[i32], step: usize, span: usize) -> Result<Vec<i32>, AllocError>
-    requires whole { length taps.now % 8 ≡ 0 }
-    requires small { sum_by unsigned_abs taps.now ≤ 2 ^ 30 }
-    requires short { step ≤ 128 }
-    requires narrow { span ≤ 1024 }
-    ensures { IfOk result (λ made. made.items ≡ rows taps.now step span) }
+fn rows_of(alloc: Global, layout: Layout<'_>) -> Result<Vec<i32>, AllocError>
+    ensures { IfOk result (λ made. made.items ≡ rows layout.entry.taps.now layout.entry.step layout.entry.span) }
 {
-    (0..256 * step * (span + 8) + 4)
-        .map(|i| row_entry(taps, step, span, i))
+    (0..256 * layout.step * (layout.span + 8) + 4)
+        .map(|i| row_entry(layout, i))
         .collect(alloc)
 }
 
 // Entry `i` of the rows.
-fn row_entry(taps: &[i32], step: usize, span: usize, i: usize) -> i32
-    requires whole { length taps.now % 8 ≡ 0 }
-    requires small { sum_by unsigned_abs taps.now ≤ 2 ^ 30 }
-    requires short { step ≤ 128 }
-    requires narrow { span ≤ 1024 }
-    requires within { i < 256 * step * (span + 8) + 4 }
-    ensures { result ≡ Rows.row_entry taps.now step span i }
+fn row_entry(layout: Layout<'_>, i: usize) -> i32
+    requires { i < 256 * layout.step * (layout.span + 8) + 4 }
+    ensures { result ≡ Rows.row_entry layout.entry.taps.now layout.entry.step layout.entry.span i }
 {
+    let width = layout.span + 8;
     let at = i.saturating_sub(4);
-    let row = at / (span + 8);
-    let number = groups_at(step, span, row / 256, at % (span + 8));
-    last_group(taps, number, (row % 256) as u8)
+    let row = at / width;
+    let number = groups_at(layout, row / 256, at % width);
+    last_group(layout, number, (row % 256) as u8)
 }
 
 // How many groups of its window a byte ends, by its place in a step and a column of its row.
-fn groups_at(step: usize, span: usize, place: usize, column: usize) -> usize
-    requires short { step ≤ 128 }
-    requires narrow { span ≤ 1024 }
-    requires place { place < 2 ^ 32 }
-    ensures { result ≡ Rows.groups_at step span place column }
+fn groups_at(layout: Layout<'_>, place: usize, column: usize) -> usize
+    requires { place < 2 ^ 32 }
+    ensures { result ≡ Rows.groups_at layout.entry.step layout.entry.span place column }
 {
-    (span.saturating_sub(column) * step + (place + 1)).saturating_sub(step)
+    let step = layout.step;
+    (layout.span.saturating_sub(column) * step + (place + 1)).saturating_sub(step)
 }
 
 // The sum, for a byte, of the last of so many groups of taps; of none 0, and of more than there are.
-fn last_group(taps: &[i32], number: usize, byte: u8) -> i32
-    requires whole { length taps.now % 8 ≡ 0 }
-    requires small { sum_by unsigned_abs taps.now ≤ 2 ^ 30 }
-    ensures { result ≡ Rows.last_group taps.now number byte }
+fn last_group(layout: Layout<'_>, number: usize, byte: u8) -> i32
+    ensures { result ≡ Rows.last_group layout.entry.taps.now number byte }
 {
+    let taps = layout.taps;
     if number == 0 || taps.len() / 8 < number {
         return 0;
     }

@@ -1,18 +1,19 @@
 //! The samples of a run of places, by tables where the window lies within the bytes.
 
-ghost use Rattle.std.specs.Prelude.{◌≡◌, ℕ, ◌+◌, ◌-◌, ◌*◌, ◌/◌, ◌%◌, ◌^◌, ◌<◌, ◌≤◌, ◌⊎◌, ◌++◌, EachIndex, OnErr, OnOk, length, map, pos, slice_index_or, take, unsigned_abs};
+ghost use Rattle.std.specs.Prelude.{◌≡◌, ◌+◌, ◌*◌, ◌/◌, ◌%◌, ◌^◌, ◌<◌, ◌≤◌, ◌++◌, EachIndex, OnErr, OnOk, length, map, pos, slice_index_or, unsigned_abs};
 ghost use Rattle.std.specs.Int.{div_ceil};
-ghost use Rattle.std.specs.List.{sum_by};
 ghost use Rattle.dsd_bits.specs.Packing.{unpacked};
 ghost use Rattle.fir_core.specs.Decimator.{samples_of};
-ghost use Rattle.fir_core.specs.Places.{sample_of, samples_from};
+ghost use Rattle.fir_core.specs.Places.{sample_of};
 ghost use Rattle.fir_core.specs.Rounding.{round_clip};
-ghost use Rattle.fir_core.specs.Windows.{aligned, window_size, window_sums};
+ghost use Rattle.fir_core.specs.Sources.{ArePlayable, samples_over};
+ghost use Rattle.fir_core.specs.Windows.{AreWithin, aligned, window_size, window_sums};
 
 use crate::convolution::sum_over;
 use crate::lanes::dot_by_lanes;
 use crate::rounding::{clip, round};
-use crate::rows::Laid;
+use crate::rows::Rows;
+use crate::source::Source;
 use crate::tables::Tables;
 use crate::taps::Taps;
 use crate::turns::sum_all;
@@ -25,113 +26,93 @@ const TILE: usize = 4096;
 /// The sums of windows that begin at each `step`-th byte: by rows, or one by one where the tables are
 /// those of another factor, which no stream has.
 fn sum_tile(tables: &Tables, bytes: &[u8], step: usize, sums: &mut [i32])
-    requires some { 1 ≤ length sums.old }
-    requires within { EachIndex sums.old (λ i. i * step + length tables.now / 8 ≤ length bytes.now) }
+    requires { AreWithin (length tables.now / 8) step (length sums.old) bytes.now }
     ensures { sums.new ≡ window_sums tables.now bytes.now step (length sums.old) }
 {
-    let taps = tables.taps.as_slice();
     if tables.step == step {
-        let rows = Laid {
+        let rows = Rows {
+            taps: tables.taps.as_slice(),
             entries: tables.rows.as_slice(),
             step,
             span: tables.span,
         };
-        sum_all(taps, rows, bytes, sums);
+        sum_all(rows, bytes, sums);
     } else {
-        sum_windows(taps, bytes, step, sums);
+        sum_windows(tables, bytes, step, sums);
     }
 }
 
 /// The sums of windows that begin at each `step`-th byte, one by one.
-fn sum_windows(taps: &[i32], bytes: &[u8], step: usize, sums: &mut [i32])
-    requires whole { length taps.now % 8 ≡ 0 }
-    requires small { sum_by unsigned_abs taps.now ≤ 2 ^ 30 }
-    requires within { EachIndex sums.old (λ i. i * step + length taps.now / 8 ≤ length bytes.now) }
-    ensures { sums.new ≡ window_sums taps.now bytes.now step (length sums.old) }
+fn sum_windows(tables: &Tables, bytes: &[u8], step: usize, sums: &mut [i32])
+    requires { AreWithin (length tables.now / 8) step (length sums.old) bytes.now }
+    ensures { sums.new ≡ window_sums tables.now bytes.now step (length sums.old) }
 {
+    let taps = tables.taps.as_slice();
     for i in 0..sums.len() {
         sums[i] = dot_by_lanes(taps, &bytes[i * step..]);
     }
 }
 
 /// Sums as samples.
-fn finish(sums: &mut [i32], shift: u32, width: u32)
-    requires small { EachIndex sums.old (λ i. unsigned_abs (slice_index_or sums.old i (pos 0)) ≤ 2 ^ 30) }
-    requires small_shift { shift ≤ 30 }
-    requires known_width { (width ≡ 16) ⊎ (width ≡ 24) }
-    ensures { sums.new ≡ map (λ sum. round_clip sum shift width) sums.old }
+fn finish(taps: &Taps, sums: &mut [i32])
+    requires { EachIndex sums.old (λ i. unsigned_abs (slice_index_or sums.old i (pos 0)) ≤ 2 ^ 30) }
+    ensures { sums.new ≡ map (λ sum. round_clip sum taps.now.shift taps.now.width) sums.old }
 {
+    let shift = taps.shift;
+    let width = taps.width;
     for sum in sums.iter_mut() {
         *sum = clip(round(*sum, shift), width);
     }
 }
 
-/// The sample at a place (in bits) of the first `count` bits of the bytes.
-pub(crate) fn sample_over(taps: &Taps, bytes: &[u8], count: usize, place: usize) -> i32
-    requires place { place < 2 ^ 37 }
-    requires enough { count ≤ 8 * length bytes.now }
-    ensures { result ≡ sample_of taps.now (unpacked bytes.now count) place }
+/// The sample at a place, in bits.
+pub(crate) fn sample_over(source: Source<'_>, place: usize) -> i32
+    requires { place < 2 ^ 37 }
+    ensures { result ≡ sample_of source.entry.taps.now (unpacked source.entry.bytes.now source.entry.count) place }
 {
-    clip(
-        round(sum_over(taps, bytes, count, place), taps.shift),
-        taps.width,
-    )
+    let taps = source.taps;
+    let sum = sum_over(taps, source.bytes, source.count, place);
+    clip(round(sum, taps.shift), taps.width)
 }
 
 /// The samples of a run of places, bit by bit: the first is at place `first`, in bits.
-fn fill_plainly(taps: &Taps, bytes: &[u8], count: usize, first: usize, samples: &mut [i32])
-    requires enough { count ≤ 8 * length bytes.now }
-    requires reach { length samples.old * taps.now.factor + first ≤ 2 ^ 37 }
-    ensures { samples.new ≡ samples_from taps.now (unpacked bytes.now count) first (length samples.old) }
+fn fill_plainly(source: Source<'_>, first: usize, samples: &mut [i32])
+    requires { length samples.old * source.taps.now.factor + first ≤ 2 ^ 37 }
+    ensures { samples.new ≡ samples_over source.entry first (length samples.old) }
 {
-    let factor = taps.factor() as usize;
+    let factor = source.taps.factor() as usize;
     for i in 0..samples.len() {
-        samples[i] = sample_over(taps, bytes, count, i * factor + first);
+        samples[i] = sample_over(source, i * factor + first);
     }
 }
 
 /// The samples of a run of places whose windows lie within the bytes, by the tables.
-fn fill_windows(
-    taps: &Taps,
-    tables: &Tables,
-    bytes: &[u8],
-    count: usize,
-    first: usize,
-    samples: &mut [i32],
-)
-    requires enough { count ≤ 8 * length bytes.now }
-    requires tables { tables.now ≡ aligned taps.now.taps taps.now.delay }
-    requires phase { first % 8 ≡ taps.now.delay % 8 }
-    requires begins { window_size (length taps.now.taps) taps.now.delay ≤ first / 8 + 1 }
+fn fill_windows(source: Source<'_>, first: usize, samples: &mut [i32])
+    requires phase { first % 8 ≡ source.taps.now.delay % 8 }
+    requires begins { window_size (length source.taps.now.taps) source.taps.now.delay ≤ first / 8 + 1 }
     requires some { 1 ≤ length samples.old }
-    requires inside { EachIndex samples.old (λ i. i * taps.now.factor + first < count) }
-    ensures { samples.new ≡ samples_from taps.now (unpacked bytes.now count) first (length samples.old) }
+    requires inside { EachIndex samples.old (λ i. i * source.taps.now.factor + first < source.count) }
+    ensures { samples.new ≡ samples_over source.entry first (length samples.old) }
 {
-    let step = taps.factor() as usize / 8;
+    let tables = source.tables;
+    let bytes = source.bytes;
+    let step = source.taps.factor() as usize / 8;
     let groups = tables.taps.as_slice();
     let at = first / 8 + 1 - groups.len() / 8;
     let front = &bytes[at..];
     sum_tile(tables, front, step, samples);
-    finish(samples, taps.shift, taps.width);
+    finish(source.taps, samples);
 }
 
 /// The samples of a run of places: bit by bit where the window goes beyond the bytes, and by the
 /// tables between.
-fn fill_tile(
-    taps: &Taps,
-    tables: &Tables,
-    bytes: &[u8],
-    count: usize,
-    first: usize,
-    samples: &mut [i32],
-)
-    requires enough { count ≤ 8 * length bytes.now }
-    requires reach { length samples.old * taps.now.factor + first ≤ 2 ^ 37 }
-    requires tables { tables.now ≡ aligned taps.now.taps taps.now.delay }
-    requires phase { first % 8 ≡ taps.now.delay % 8 }
-    ensures { samples.new ≡ samples_from taps.now (unpacked bytes.now count) first (length samples.old) }
+fn fill_tile(source: Source<'_>, first: usize, samples: &mut [i32])
+    requires { ArePlayable source.taps.now first (length samples.old) }
+    ensures { samples.new ≡ samples_over source.entry first (length samples.old) }
 {
-    let factor = taps.factor() as usize;
+    let tables = source.tables;
+    let count = source.count;
+    let factor = source.taps.factor() as usize;
     let size = tables.taps.len() / 8;
     let early = (size - 1).saturating_sub(first / 8).div_ceil(factor / 8);
     let late = count
@@ -139,44 +120,27 @@ fn fill_tile(
         .div_ceil(factor)
         .min(samples.len());
     if late <= early {
-        fill_plainly(taps, bytes, count, first, samples);
+        fill_plainly(source, first, samples);
         return;
     }
     let (head, rest) = samples.split_at_mut(early);
     let (middle, tail) = rest.split_at_mut(late - early);
-    fill_plainly(taps, bytes, count, first, head);
-    fill_windows(taps, tables, bytes, count, early * factor + first, middle);
-    fill_plainly(taps, bytes, count, late * factor + first, tail);
+    fill_plainly(source, first, head);
+    fill_windows(source, early * factor + first, middle);
+    fill_plainly(source, late * factor + first, tail);
 }
 
 /// The samples of a run of places, tile by tile.
-pub(crate) fn fill_samples(
-    taps: &Taps,
-    tables: &Tables,
-    bytes: &[u8],
-    count: usize,
-    first: usize,
-    samples: &mut [i32],
-)
-    requires enough { count ≤ 8 * length bytes.now }
-    requires reach { length samples.old * taps.now.factor + first ≤ 2 ^ 37 }
-    requires tables { tables.now ≡ aligned taps.now.taps taps.now.delay }
-    requires phase { first % 8 ≡ taps.now.delay % 8 }
-    ensures { samples.new ≡ samples_from taps.now (unpacked bytes.now count) first (length samples.old) }
+pub(crate) fn fill_samples(source: Source<'_>, first: usize, samples: &mut [i32])
+    requires { ArePlayable source.taps.now first (length samples.old) }
+    ensures { samples.new ≡ samples_over source.entry first (length samples.old) }
 {
-    let factor = taps.factor() as usize;
+    let factor = source.taps.factor() as usize;
     let number = samples.len();
     for tile in 0..number.div_ceil(TILE) {
         let start = tile * TILE;
         let end = (start + TILE).min(number);
-        fill_tile(
-            taps,
-            tables,
-            bytes,
-            count,
-            start * factor + first,
-            &mut samples[start..end],
-        );
+        fill_tile(source, start * factor + first, &mut samples[start..end]);
     }
 }
 
@@ -184,25 +148,18 @@ pub(crate) fn fill_samples(
 pub(crate) fn push_samples(
     out: &mut Vec<i32>,
     number: usize,
-    taps: &Taps,
-    tables: &Tables,
-    bytes: &[u8],
-    count: usize,
+    source: Source<'_>,
     first: usize,
 ) -> Result<(), AllocError>
-    requires enough { count ≤ 8 * length bytes.now }
-    requires reach { number * taps.now.factor + first ≤ 2 ^ 37 }
-    requires tables { tables.now ≡ aligned taps.now.taps taps.now.delay }
-    requires phase { first % 8 ≡ taps.now.delay % 8 }
-    ensures ok { OnOk result (out.new.items
-        ≡ out.old.items ++ samples_from taps.now (unpacked bytes.now count) first number) }
+    requires { ArePlayable source.taps.now first number }
+    ensures ok { OnOk result (out.new.items ≡ out.old.items ++ samples_over source.entry first number) }
     ensures err { OnErr result (out.new.items ≡ out.old.items) }
 {
     let before = out.len();
-    let factor = taps.factor() as usize;
+    let _factor = source.taps.factor();
     out.resize(before + number, 0)?;
     let samples = out.as_mut_slice();
-    fill_samples(taps, tables, bytes, count, first, &mut samples[before..]);
+    fill_samples(source, first, &mut samples[before..]);
     Ok(())
 }
 
@@ -224,6 +181,12 @@ pub fn push_part(
 {
     let count = bits.len();
     let first = start * taps.factor() as usize + taps.delay as usize;
-    push_samples(out, number, taps, tables, bits.as_bytes(), count, first)?;
+    let source = Source {
+        taps,
+        tables,
+        bytes: bits.as_bytes(),
+        count,
+    };
+    push_samples(out, number, source, first)?;
     Ok(())
 }

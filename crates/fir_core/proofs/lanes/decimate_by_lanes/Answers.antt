@@ -3,12 +3,12 @@ use Rattle.std.specs.Int.{div_ceil}
 use Rattle.fir_core.specs.Decimator.{sample_at}
 use Rattle.fir_core.proofs.LaneLaws.{pushed}
 use Rattle.fir_core.proofs.TileLaws.{below_ceil}
+use Rattle.fir_core.proofs.WindowLaws.{abs_sum_aligned}
 use Rattle.std.specs.List.{range_with_len}
-use Rattle.dsd_bits.proofs.ExitLaws.{no_value}
 use Rattle.fir_core.proofs.lanes.decimate_by_lanes.Goals as goal
 
-pub sample_by_lanes-requires-clause-sample : goal.sample_by_lanes-requires-clause-sample
-sample_by_lanes-requires-clause-sample c =
+pub sample_by_lanes-requires : goal.sample_by_lanes-requires
+sample_by_lanes-requires c =
     let count = length c.args.bits.now in
     let within : c.loop-j.j < div_ceil count c.args.taps.now.factor =
     rw (← c.factor.ensures.value) (omega (arith, c.div_ceil-number.ensures ∙ ap (λ n. div_ceil n c.factor.result) c.len.ensures.value, c.loop-j-test.true)) in
@@ -18,17 +18,11 @@ pub loop-j-preserved : goal.loop-j-preserved
 loop-j-preserved c =
     pushed (sample_at c.args.taps.now c.args.bits.now) _ _ c.loop-j.j c.sample_by_lanes.result (record { sfits = c.sample_by_lanes.type_inv }) c.loop-j.invariant c.sample_by_lanes.ensures c.in_ok-push.ensures.items
 
-pub returns-in_err-turned : goal.returns-in_err-turned
-returns-in_err-turned c = no_value _ _ c.from_residual.result c.from_residual.ensures.1
-
-pub returns-in_err-made : goal.returns-in_err-made
-returns-in_err-made c = no_value _ _ c.from_residual-in_err-made.result c.from_residual-in_err-made.ensures.1
-
-pub returns-in_err-push : goal.returns-in_err-push
-returns-in_err-push c = no_value _ _ c.from_residual-in_err-push.result c.from_residual-in_err-push.ensures.1
-
-pub sample_by_lanes-requires-clause-turned : goal.sample_by_lanes-requires-clause-turned
-sample_by_lanes-requires-clause-turned c = c.as_slice.ensures.value ∙ c.in_ok-turned.ensures
+pub invariant_of-turned : goal.invariant_of-turned
+invariant_of-turned c =
+    let d = c.args.taps.now in
+    let are = c.as_slice.ensures.value ∙ c.in_ok-aligned.ensures in
+    record { are = are; small = rw are (omega (arith, abs_sum_aligned d.taps d.delay, c.factor.ensures.limits.small_sum)) }
 
 pub returns : goal.returns
 returns c =

@@ -14,10 +14,10 @@ covers c =
     let more : steps * c.args.step ≤ c.div_ceil-2.result * 8 * c.args.step = mul-le-mul_right c.args.step eights in
     omega (arith, whole, more)
 
-pub returns-clause-wide : goal.returns-clause-wide
-returns-clause-wide c = omega (arith, covers (goal.at.returns-clause-wide c).After-div_ceil-2)
-
 pub returns-clause-loose : goal.returns-clause-loose
 returns-clause-loose c = λ odd.
     let all = covers (goal.at.returns-clause-loose c).After-div_ceil-2 in
     elim c.if-step-eq0.branch [ then-step-eq0 w ↦ absurd (omega arith) | else-step-eq0 w ↦ omega (arith, all) ]
+
+pub returns-clause-wide : goal.returns-clause-wide
+returns-clause-wide c = omega (arith, covers (goal.at.returns-clause-wide c).After-div_ceil-2)

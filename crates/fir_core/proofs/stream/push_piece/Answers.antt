@@ -1,20 +1,7 @@
 use Rattle.std.proofs.Common.{sym, arith}
-use Rattle.dsd_bits.proofs.ExitLaws.{no_ok}
 use Rattle.fir_core.proofs.ExitLaws.{there_err}
 use Rattle.fir_core.proofs.StreamLaws.{held_again}
 use Rattle.fir_core.proofs.stream.push_piece.Goals as goal
-
-pub returns-in_err-extend_from_slice-clause-ok : goal.returns-in_err-extend_from_slice-clause-ok
-returns-in_err-extend_from_slice-clause-ok c = no_ok _ _ c.from_residual.result c.from_residual.ensures.1
-
-pub push_samples-requires-clause-reach : goal.push_samples-requires-clause-reach
-push_samples-requires-clause-reach c = c.requires.reach
-
-pub push_samples-requires-clause-tables : goal.push_samples-requires-clause-tables
-push_samples-requires-clause-tables c = c.requires.tables
-
-pub push_samples-requires-clause-phase : goal.push_samples-requires-clause-phase
-push_samples-requires-clause-phase c = c.requires.phase
 
 pub returns-then-is_err-clause-err : goal.returns-then-is_err-clause-err
 returns-then-is_err-clause-err c =

@@ -6,56 +6,49 @@ use Rattle.fir_core.proofs.TileLaws.{length-sums, run_by_windows, size_is, small
 use Rattle.fir_core.proofs.tiles.fill_windows.Goals as goal
 use Rattle.fir_core.proofs.tiles.fill_windows.Goals.{After-as_slice-groups}
 
-size : (c : After-as_slice-groups) → length c.as_slice-groups.result.now / 8 ≡ window_size (length c.args.taps.now.taps) c.args.taps.now.delay
-size c = size_is c.as_slice-groups.result.now c.args.tables.now c.args.taps.now.taps c.args.taps.now.delay (c.as_slice-groups.ensures.value ∙ c.tables.view_is) c.requires.tables
+size : (c : After-as_slice-groups) → length c.as_slice-groups.result.now / 8 ≡ window_size (length c.args.source.taps.now.taps) c.args.source.taps.now.delay
+size c = size_is c.as_slice-groups.result.now c.args.source.tables.now c.args.source.taps.now.taps c.args.source.taps.now.delay (c.as_slice-groups.ensures.value ∙ c.tables.view_is) c.args.source.same
 
-starts_within : (c : After-as_slice-groups) → c.args.first / 8 + 1 - length c.as_slice-groups.result.now / 8 ≤ length c.args.bytes.now
+starts_within : (c : After-as_slice-groups) → c.args.first / 8 + 1 - length c.as_slice-groups.result.now / 8 ≤ length c.args.source.bytes.now
 starts_within c =
     let first = c.requires.inside 0 c.requires.some in
-    omega (arith, first, c.requires.enough, c.tables.invariant.some, ap length c.as_slice-groups.ensures.value)
+    omega (arith, first, c.args.source.enough, c.tables.invariant.some, ap length c.as_slice-groups.ensures.value)
 
-pub slice_bounds-front-count : goal.slice_bounds-front-count
-slice_bounds-front-count c = starts_within c
+pub sum_tile-requires : goal.sum_tile-requires
+sum_tile-requires c = record {
+  some = c.requires.some;
+  each = λ i h.
+      let groups = length c.as_slice-groups.result.now / 8 in
+      let at = c.args.first / 8 + 1 - groups in
+      let before = (goal.at.sum_tile-requires c).After-as_slice-groups in
+      let front = take_rest c.args.source.bytes.now at in
+      let begins : groups ≤ c.args.first / 8 + 1 = rw (size before) c.requires.begins in
+      rw (ap length front, c.factor.ensures.value)
+      (omega (
+        arith,
+        ap length (c.as_slice-groups.ensures.value ∙ c.tables.view_is),
+        length-drop at c.args.source.bytes.now,
+        window_within i c.args.source.taps.now.factor c.args.first c.args.source.count groups (length c.args.source.bytes.now) c.factor.ensures.limits.whole_bytes begins (c.requires.inside i h) c.args.source.enough,
+      ));
+}
 
-pub slice_bounds-front-start : goal.slice_bounds-front-start
-slice_bounds-front-start c = starts_within c
-
-pub sum_tile-requires-clause-within : goal.sum_tile-requires-clause-within
-sum_tile-requires-clause-within c = λ i h.
-    let groups = length c.as_slice-groups.result.now / 8 in
-    let at = c.args.first / 8 + 1 - groups in
-    let before = (goal.at.sum_tile-requires-clause-within c).After-as_slice-groups in
-    let front = take_rest c.args.bytes.now at in
-    let begins : groups ≤ c.args.first / 8 + 1 = rw (size before) c.requires.begins in
-    rw (ap length front, c.factor.ensures.value)
-    (omega (
-      arith,
-      ap length (c.as_slice-groups.ensures.value ∙ c.tables.view_is),
-      length-drop at c.args.bytes.now,
-      window_within i c.args.taps.now.factor c.args.first c.args.count groups (length c.args.bytes.now) c.factor.ensures.limits.whole_bytes begins (c.requires.inside i h) c.requires.enough,
-    ))
-
-pub finish-requires-clause-small : goal.finish-requires-clause-small
-finish-requires-clause-small c = λ i h.
-    let small : sum_by unsigned_abs c.args.tables.now ≤ 2 ^ 30 = subst (λ (hs : List ℤ). sum_by unsigned_abs hs ≤ 2 ^ 30) c.tables.view_is c.tables.invariant.small in
-    let long = ap length c.sum_tile.ensures ∙ length-sums c.args.tables.now _ _ (length c.args.samples.now) in
-    rw c.sum_tile.ensures (small_windows c.args.tables.now _ _ (length c.args.samples.now) i small (omega arith))
+pub finish-requires : goal.finish-requires
+finish-requires c = λ i h.
+    let small : sum_by unsigned_abs c.args.source.tables.now ≤ 2 ^ 30 = subst (λ (hs : List ℤ). sum_by unsigned_abs hs ≤ 2 ^ 30) c.tables.view_is c.tables.invariant.small in
+    let long = ap length c.sum_tile.ensures ∙ length-sums c.args.source.tables.now _ _ (length c.args.samples.now) in
+    rw c.sum_tile.ensures (small_windows c.args.source.tables.now _ _ (length c.args.samples.now) i small (omega arith))
 
 pub returns : goal.returns
 returns c =
     let before = (goal.at.returns c).After-as_slice-groups in
-    let d = c.args.taps.now in
+    let d = c.args.source.taps.now in
     let number = length c.args.samples.now in
     let at = c.args.first / 8 + 1 - length c.as_slice-groups.result.now / 8 in
-    let front = take (length c.args.bytes.now - at) (drop at c.args.bytes.now) in
+    let front = take (length c.args.source.bytes.now - at) (drop at c.args.source.bytes.now) in
     let done : ℤ → ℤ = λ sum. round_clip sum d.shift d.width in
     c.finish.ensures
-    ∙ ap (λ f. map (λ sum. round_clip sum f.shift f.width) c.sum_tile.new.sums) c.taps.view_is
     ∙ ap (map done) (c.sum_tile.ensures
-    ∙ ap (λ hs. window_sums hs front (c.factor.result / 8) number) c.requires.tables
+    ∙ ap (λ hs. window_sums hs front (c.factor.result / 8) number) c.args.source.same
     ∙ ap (λ n. window_sums (aligned d.taps d.delay) front (n / 8) number) c.factor.ensures.value)
-    ∙ run_by_windows d c.args.bytes.now front c.args.count c.args.first number c.factor.ensures.limits.whole_bytes c.requires.phase c.requires.begins c.requires.inside c.requires.enough
-    (take_rest c.args.bytes.now at ∙ ap (λ m. drop (c.args.first / 8 + 1 - m) c.args.bytes.now) (size before))
-
-pub overflow_sub-at : goal.overflow_sub-at
-overflow_sub-at c = rw (size c) c.requires.begins
+    ∙ run_by_windows d c.args.source.bytes.now front c.args.source.count c.args.first number c.factor.ensures.limits.whole_bytes c.requires.phase c.requires.begins c.requires.inside c.args.source.enough
+    (take_rest c.args.source.bytes.now at ∙ ap (λ m. drop (c.args.first / 8 + 1 - m) c.args.source.bytes.now) (size before))

@@ -13,27 +13,6 @@ reaches c =
     let limits = c.factor.ensures.limits in
     numbers_reach c.args.start c.args.number (length c.args.bits.now) d.factor d.delay (omega (arith, limits.least_factor)) limits.greatest_factor (omega (arith, limits.delay_in_taps, limits.few_taps)) c.len-count.ensures.in_limit c.requires.within
 
-pub push_samples-requires-clause-reach : goal.push_samples-requires-clause-reach
-push_samples-requires-clause-reach c =
-    rw (c.factor.ensures.value, ap (λ f. f.delay) c.taps.view_is) (reaches (goal.at.push_samples-requires-clause-reach c).After-factor)
-
-pub push_samples-requires-clause-phase : goal.push_samples-requires-clause-phase
-push_samples-requires-clause-phase c =
-    let d = c.args.taps.now in
-    rw (c.factor.ensures.value, ap (λ f. f.delay) c.taps.view_is) (omega (arith, whole_step c.args.start d.factor c.factor.ensures.limits.whole_bytes))
-
-pub overflow_mul-first : goal.overflow_mul-first
-overflow_mul-first c = rw c.factor.ensures.value (omega (arith, reaches (goal.at.overflow_mul-first c).After-factor))
-
-pub overflow_add-first : goal.overflow_add-first
-overflow_add-first c = rw (c.factor.ensures.value, ap (λ f. f.delay) c.taps.view_is) (omega (arith, reaches (goal.at.overflow_add-first c).After-factor))
-
-pub push_samples-requires-clause-enough : goal.push_samples-requires-clause-enough
-push_samples-requires-clause-enough c = omega (arith, c.len-count.ensures.value)
-
-pub push_samples-requires-clause-tables : goal.push_samples-requires-clause-tables
-push_samples-requires-clause-tables c = c.requires.tables
-
 pub returns-in_err-push_samples : goal.returns-in_err-push_samples
 returns-in_err-push_samples c = record {
   ok = no_ok _ _ c.from_residual.result c.from_residual.ensures.1;
@@ -48,4 +27,11 @@ returns c = record {
       c.in_ok-push_samples.ensures.ok
       ∙ ap (λ xs. c.args.out.now.items ++ xs) (ap₂ (λ (bs : List Bool) (n : ℕ). samples_from d bs n c.args.number) bits place ∙ numbered d c.args.bits.now c.args.start c.args.number);
   err = tt;
+}
+
+pub push_samples-requires : goal.push_samples-requires
+push_samples-requires c = record {
+  reach = rw (c.factor.ensures.value, ap (λ f. f.delay) c.taps.view_is) (reaches (goal.at.push_samples-requires c).After-factor);
+  phase = let d = c.args.taps.now in
+      rw (c.factor.ensures.value, ap (λ f. f.delay) c.taps.view_is) (omega (arith, whole_step c.args.start d.factor c.factor.ensures.limits.whole_bytes));
 }

@@ -9,8 +9,10 @@ returns-in_err-resize c = record {
   err = any_err c.from_residual.result c.in_err-resize.ensures.items;
 }
 
-pub fill_samples-requires-clause-reach : goal.fill_samples-requires-clause-reach
-fill_samples-requires-clause-reach c =
-    let all = c.as_mut_slice-samples.result.now in
-    let long : length (drop c.len-before.result all) ≡ c.args.number = omega (arith, length-drop c.len-before.result all, c.as_mut_slice-samples.ensures.len, c.in_ok-resize.ensures.len) in
-    rw (take_rest all c.len-before.result, long) c.requires.reach
+pub fill_samples-requires : goal.fill_samples-requires
+fill_samples-requires c = record {
+  reach = let all = c.as_mut_slice-samples.result.now in
+      let long : length (drop c.len-before.result all) ≡ c.args.number = omega (arith, length-drop c.len-before.result all, c.as_mut_slice-samples.ensures.len, c.in_ok-resize.ensures.len) in
+      rw (take_rest all c.len-before.result, long) c.requires.reach;
+  phase = c.requires.phase;
+}

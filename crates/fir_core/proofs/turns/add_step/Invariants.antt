@@ -9,5 +9,5 @@ abbrev pub invariant-loop-place : goal.invariant-loop-place
 invariant-loop-place g l = record {
   long : length l.near ≡ g.row.N;
   sums : (f : ℕ → ℤ) → AreNear g.row.N f l.initial.near
-      → AreNear g.row.N (λ c. f c +ℤ sum_below l.place (λ q. last_group l.taps (groups_at l.rows.step l.rows.span q (l.rows.span - 8 * g.row.N + c)) (get_or l.bytes (l.u * l.rows.step + q) 0))) l.near;
+      → AreNear g.row.N (λ c. f c +ℤ sum_below l.place (λ q. last_group l.of.rows.taps.now (groups_at l.of.rows.step l.of.rows.span q (l.of.rows.span - 8 * g.row.N + c)) (get_or l.bytes (l.u * l.of.rows.step + q) 0))) l.near;
 }

@@ -1,37 +1,13 @@
-use Rattle.std.proofs.Common.{◌≡◌, ℕ, ◌+◌, ◌/◌, ◌∙◌, ap, arith, length, refl, sym, w32}
+use Rattle.std.proofs.Common.{◌≡◌, ℕ, ◌+◌, ◌*◌, ◌<◌, ◌/◌, ◌∙◌, ap, arith, length, sym, w32}
 use Rattle.std.specs.Int.{int_wrap}
 use Rattle.dsd_bits.specs.Sums.{sum_below}
 use Rattle.fir_core.specs.Turns.{turn_sum}
-use Rattle.fir_core.proofs.TurnLaws.{all_turns_fit, reach_within, sum_next, wrapped_zero}
+use Rattle.fir_core.proofs.TurnLaws.{all_turns_fit, reach_within, sum_next}
 use Rattle.fir_core.proofs.turns.add_turns.Goals as goal
-
-pub loop-s-init : goal.loop-s-init
-loop-s-init g c = record { long = refl; sums = λ j h. c.requires.zeros (j + 7) (omega (arith, h)) ∙ sym wrapped_zero }
-
-pub add_turn-requires-clause-laid : goal.add_turn-requires-clause-laid
-add_turn-requires-clause-laid g c = c.requires.laid
-
-pub add_turn-requires-clause-some : goal.add_turn-requires-clause-some
-add_turn-requires-clause-some g c = c.requires.some
-
-pub add_turn-requires-clause-few : goal.add_turn-requires-clause-few
-add_turn-requires-clause-few g c = c.requires.few
-
-pub add_turn-requires-clause-span : goal.add_turn-requires-clause-span
-add_turn-requires-clause-span g c = c.requires.span
-
-pub add_turn-requires-clause-turn : goal.add_turn-requires-clause-turn
-add_turn-requires-clause-turn g c = omega arith
-
-pub add_turn-requires-clause-room : goal.add_turn-requires-clause-room
-add_turn-requires-clause-room g c = omega (arith, c.loop-s.invariant.long, c.requires.room)
-
-pub add_turn-requires-clause-enough : goal.add_turn-requires-clause-enough
-add_turn-requires-clause-enough g c = rw c.loop-s.invariant.long c.requires.enough
 
 pub loop-s-preserved : goal.loop-s-preserved
 loop-s-preserved g c =
-    let turn = λ (i s : ℕ). turn_sum c.args.taps.now c.args.bytes.now c.args.rows.step c.args.rows.span g.row.N s i in
+    let turn = λ (i s : ℕ). turn_sum c.args.of.rows.taps.now c.args.bytes.now c.args.of.rows.step c.args.of.rows.span g.row.N s i in
     record {
       long = c.add_turn.ensures.len ∙ c.loop-s.invariant.long;
       sums = λ j h.
@@ -42,13 +18,14 @@ loop-s-preserved g c =
 pub returns : goal.returns
 returns g c = record {
   len = c.loop-s.invariant.long;
-  sums = λ j below.
-      let hs = c.args.taps.now in
+  sums = λ j under.
+      let below : j + 15 < 8 * (length c.args.sums.now / 8) = rw (← c.loop-s.invariant.long) under in
+      let hs = c.args.of.rows.taps.now in
       let bytes = c.args.bytes.now in
-      let step = c.args.rows.step in
-      let span = c.args.rows.span in
+      let step = c.args.of.rows.step in
+      let span = c.args.of.rows.span in
       let all : c.loop-s.s ≡ 8 = omega arith in
       c.loop-s.invariant.sums j below
       ∙ ap (λ m. int_wrap w32 (sum_below m (λ s. turn_sum hs bytes step span g.row.N s (j + 7)))) all
-      ∙ all_turns_fit hs bytes step span g.row.N j c.requires.span (reach_within j g.row.N (length c.args.sums.now / 8) step (length bytes) below c.requires.enough) c.requires.laid.whole c.requires.wide c.requires.laid.small;
+      ∙ all_turns_fit hs bytes step span g.row.N j c.args.of.span (reach_within j g.row.N (length c.args.sums.now / 8) step (length bytes) below c.requires.enough) c.args.of.rows.laid.whole c.args.of.wide c.args.of.rows.laid.small;
 }

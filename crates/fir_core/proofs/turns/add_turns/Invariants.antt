@@ -8,5 +8,5 @@ use Rattle.fir_core.proofs.turns.add_turns.Given as goal
 abbrev pub invariant-loop-s : goal.invariant-loop-s
 invariant-loop-s g l = record {
   long : length l.sums ≡ length l.initial.sums;
-  sums : (j : ℕ) → j + 15 < 8 * (length l.initial.sums / 8) → get_or l.sums (j + 7) (pos 0) ≡ int_wrap w32 (sum_below l.s (λ s. turn_sum l.taps l.bytes l.rows.step l.rows.span g.row.N s (j + 7)));
+  sums : (j : ℕ) → j + 15 < 8 * (length l.initial.sums / 8) → get_or l.sums (j + 7) (pos 0) ≡ int_wrap w32 (sum_below l.s (λ s. turn_sum l.of.rows.taps.now l.bytes l.of.rows.step l.of.rows.span g.row.N s (j + 7)));
 }

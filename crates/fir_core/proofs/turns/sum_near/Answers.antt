@@ -3,74 +3,43 @@ use Rattle.std.proofs.lemmas.List.{take_rest}
 use Rattle.std.proofs.lemmas.List.FromFn.{get_or-map-range_with_len}
 use Rattle.fir_core.specs.Windows.{window_sum, window_sums}
 use Rattle.fir_core.proofs.TileLaws.{length-sums}
-use Rattle.fir_core.proofs.TurnLaws.{eights_cover, eights_fit, many_follow, some_eights, steps_within, sums_joined}
+use Rattle.fir_core.proofs.TurnLaws.{eights_cover, eights_fit, many_follow, few_eights, some_eights, steps_within, sums_joined}
 use Rattle.fir_core.proofs.turns.sum_near.Goals as goal
 
-pub sum_front-requires-clause-enough : goal.sum_front-requires-clause-enough
-sum_front-requires-clause-enough g c =
+pub invariant_of-sum_front : goal.invariant_of-sum_front
+invariant_of-sum_front g c =
+    let size = length c.args.rows.taps.now / 8 in
+    let laid = c.args.rows.laid in
+    record {
+      some = some_eights size c.args.rows.step g.row.N laid.least (omega (arith, laid.some)) c.requires.number;
+      few = few_eights size c.args.rows.step g.row.N laid.least (omega (arith, laid.few)) c.requires.number;
+      span = eights_fit size c.args.rows.step c.args.rows.span g.row.N laid.least laid.wide laid.eights c.requires.number;
+      wide = eights_cover size c.args.rows.step g.row.N laid.least c.requires.number;
+    }
+
+pub sum_front-requires : goal.sum_front-requires
+sum_front-requires g c = (
+  omega arith,
+  (
+    omega (arith, c.split_at_mut-front.ensures.front_len, c.min-many.ensures),
     steps_within (length c.split_at_mut-front.result.0.now) g.row.N (length c.args.bytes.now / c.args.rows.step) c.args.rows.step (length c.args.bytes.now) refl
-    (many_follow _ _ _ _ _ _ _ _ c.split_at_mut-front.ensures.front_len c.saturating_sub.ensures c.min.ensures c.min-many.ensures c.if-many-eq0.false)
+        (many_follow _ _ _ _ _ _ _ _ c.split_at_mut-front.ensures.front_len c.saturating_sub.ensures c.min.ensures c.min-many.ensures c.if-many-eq0.false),
+  ),
+)
 
-pub sum_front-requires-clause-some : goal.sum_front-requires-clause-some
-sum_front-requires-clause-some g c = some_eights (length c.args.taps.now / 8) c.args.rows.step g.row.N c.requires.laid.least (omega (arith, c.requires.laid.some)) c.requires.number
-
-pub sum_front-requires-clause-span : goal.sum_front-requires-clause-span
-sum_front-requires-clause-span g c = eights_fit (length c.args.taps.now / 8) c.args.rows.step c.args.rows.span g.row.N c.requires.laid.least c.requires.laid.wide c.requires.laid.eights c.requires.number
-
-pub sum_front-requires-clause-wide : goal.sum_front-requires-clause-wide
-sum_front-requires-clause-wide g c = eights_cover (length c.args.taps.now / 8) c.args.rows.step g.row.N c.requires.laid.least c.requires.number
-
-pub sum_rows-requires-then-back-gt0-clause-within : goal.sum_rows-requires-then-back-gt0-clause-within
-sum_rows-requires-then-back-gt0-clause-within g c = λ i h.
+pub sum_rows-requires-then-back-gt0 : goal.sum_rows-requires-then-back-gt0
+sum_rows-requires-then-back-gt0 g c =
     let at = c.min-many.result * c.args.rows.step in
-    let last = c.requires.within (i + c.min-many.result) (omega (arith, h, c.split_at_mut-front.ensures.back_len)) in
-    rw (take_rest c.args.bytes.now at) (omega (arith, length-drop at c.args.bytes.now, last))
-
-pub nonzero_div-steps : goal.nonzero_div-steps
-nonzero_div-steps g c = omega (arith, c.requires.laid.least)
-
-pub overflow_mul-saturating_sub : goal.overflow_mul-saturating_sub
-overflow_mul-saturating_sub g c = omega (arith, c.requires.few)
-
-pub overflow_add-saturating_sub : goal.overflow_add-saturating_sub
-overflow_add-saturating_sub g c = omega (arith, c.requires.few)
-
-pub sum_rows-requires : goal.sum_rows-requires
-sum_rows-requires g c = record { laid = c.requires.laid; some = c.requires.some_sums; within = c.requires.within }
-
-pub returns-then-many-eq0 : goal.returns-then-many-eq0
-returns-then-many-eq0 g c = c.sum_rows.ensures
-
-pub split_at_mut-front-requires : goal.split_at_mut-front-requires
-split_at_mut-front-requires g c = omega (arith, c.min.ensures, c.min-many.ensures)
-
-pub sum_front-requires-clause-laid : goal.sum_front-requires-clause-laid
-sum_front-requires-clause-laid g c = c.requires.laid
-
-pub sum_front-requires-clause-few : goal.sum_front-requires-clause-few
-sum_front-requires-clause-few g c = c.requires.few
-
-pub sum_front-requires-clause-tile : goal.sum_front-requires-clause-tile
-sum_front-requires-clause-tile g c = omega (arith, c.split_at_mut-front.ensures.front_len, c.min-many.ensures)
-
-pub overflow_mul-many : goal.overflow_mul-many
-overflow_mul-many g c = omega (arith, c.requires.within c.min-many.result (omega (arith, c.split_at_mut-front.ensures.back_len)))
-
-pub slice_bounds-sum_rows-count : goal.slice_bounds-sum_rows-count
-slice_bounds-sum_rows-count g c = omega (arith, c.requires.within c.min-many.result (omega (arith, c.split_at_mut-front.ensures.back_len)))
-
-pub slice_bounds-sum_rows-start : goal.slice_bounds-sum_rows-start
-slice_bounds-sum_rows-start g c = omega (arith, c.requires.within c.min-many.result (omega (arith, c.split_at_mut-front.ensures.back_len)))
-
-pub sum_rows-requires-then-back-gt0-clause-laid : goal.sum_rows-requires-then-back-gt0-clause-laid
-sum_rows-requires-then-back-gt0-clause-laid g c = c.requires.laid
-
-pub sum_rows-requires-then-back-gt0-clause-some : goal.sum_rows-requires-then-back-gt0-clause-some
-sum_rows-requires-then-back-gt0-clause-some g c = omega arith
+    record {
+      some = omega arith;
+      each = λ i h.
+          let last = c.requires.within.each (i + c.min-many.result) (omega (arith, h, c.split_at_mut-front.ensures.back_len)) in
+          rw (take_rest c.args.bytes.now at) (omega (arith, length-drop at c.args.bytes.now, last));
+    }
 
 pub returns-else-back-gt0 : goal.returns-else-back-gt0
 returns-else-back-gt0 g c =
-    let hs = c.args.taps.now in
+    let hs = c.args.rows.taps.now in
     let bytes = c.args.bytes.now in
     let step = c.args.rows.step in
     let many = c.min-many.result in
@@ -85,7 +54,7 @@ returns-else-back-gt0 g c =
 
 pub returns-then-back-gt0 : goal.returns-then-back-gt0
 returns-then-back-gt0 g c =
-    let hs = c.args.taps.now in
+    let hs = c.args.rows.taps.now in
     let bytes = c.args.bytes.now in
     let step = c.args.rows.step in
     let many = c.min-many.result in

@@ -1,12 +1,11 @@
 use Rattle.std.proofs.Common.{◌≡◌, ◌+◌, ◌*◌, ◌/◌, ◌%◌, ◌<◌, ◌≤◌, ◌∙◌, ap, arith, length}
-use Rattle.dsd_bits.proofs.ExitLaws.{no_value}
 use Rattle.fir_core.specs.Rows.{rows}
 use Rattle.fir_core.proofs.RowLaws.{is_laid}
 use Rattle.fir_core.proofs.WindowLaws.{abs_sum_aligned, length-aligned}
 use Rattle.fir_core.proofs.tables.Tables.new.Goals as goal
 
-pub rows_of-requires-clause-small : goal.rows_of-requires-clause-small
-rows_of-requires-clause-small c =
+pub invariant_of-layout-clause-small : goal.invariant_of-layout-clause-small
+invariant_of-layout-clause-small c =
     rw (c.as_slice.ensures.value ∙ c.in_ok-aligned.ensures) (omega (arith, abs_sum_aligned c.args.taps.now.taps c.args.taps.now.delay, c.factor.ensures.limits.small_sum))
 
 pub invariant_of-result : goal.invariant_of-result
@@ -21,12 +20,6 @@ invariant_of-result c =
     (omega (arith, c.factor.ensures.value, limits.least_factor)) (omega (arith, c.factor.ensures.value, limits.greatest_factor)) wide loose c.span_of-span.ensures.narrow c.span_of-span.ensures.eights
     (c.in_ok-rows.ensures ∙ ap (λ hs. rows hs step c.span_of-span.result) c.as_slice.ensures.value)
 
-pub returns-in_err-aligned : goal.returns-in_err-aligned
-returns-in_err-aligned c = no_value _ _ c.from_residual.result c.from_residual.ensures.1
-
-pub returns-in_err-rows : goal.returns-in_err-rows
-returns-in_err-rows c = no_value _ _ c.from_residual-in_err-rows.result c.from_residual-in_err-rows.ensures.1
-
-pub rows_of-requires-clause-whole : goal.rows_of-requires-clause-whole
-rows_of-requires-clause-whole c =
+pub invariant_of-layout-clause-whole : goal.invariant_of-layout-clause-whole
+invariant_of-layout-clause-whole c =
     rw (c.as_slice.ensures.value ∙ c.in_ok-aligned.ensures) (omega (arith, length-aligned c.args.taps.now.taps c.args.taps.now.delay))

@@ -19,15 +19,6 @@ within c = record {
   known_width = elim c.else-width-ne16.either [ inl other ↦ inr other.1 | inr sixteen ↦ inl sixteen ];
 }
 
-pub returns-then-abs_sum-clause-only : goal.returns-then-abs_sum-clause-only
-returns-then-abs_sum-clause-only c = λ limits. absurd (omega (arith, limits.small_sum, c.abs_sum.ensures))
-
-pub returns-then-delay-taps-clause-only : goal.returns-then-delay-taps-clause-only
-returns-then-delay-taps-clause-only c = λ limits. absurd (omega (arith, limits.delay_in_taps))
-
-pub returns-then-shift-gt30-clause-only : goal.returns-then-shift-gt30-clause-only
-returns-then-shift-gt30-clause-only c = λ limits. absurd (omega (arith, limits.small_shift))
-
 pub returns-in_err-taps : goal.returns-in_err-taps
 returns-in_err-taps c =
     let e = err_from_is_err_and c.from_residual.result c.from_residual.ensures.1 in
@@ -45,6 +36,3 @@ returns c = record {
   only = λ limits. tt;
   order = no_fault-from_IsWithinLimits _ (within (goal.at.returns c).After-from_slice);
 }
-
-pub invariant_of-result : goal.invariant_of-result
-invariant_of-result c = rw c.in_ok-taps.ensures.items (within (goal.at.invariant_of-result c).After-from_slice)

@@ -1,5 +1,1 @@
-use Rattle.std.proofs.Common.{arith}
 use Rattle.fir_core.proofs.taps.Taps.rate_fits.Goals as goal
-
-pub returns : goal.returns
-returns c = grind arith

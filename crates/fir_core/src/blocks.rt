@@ -1,0 +1,131 @@
+//! Eight bytes that follow one another, and where their rows have what they add.
+
+ghost use Rattle.std.specs.Prelude.{◌≡◌, ◌+◌, ◌*◌, ◌/◌, ◌%◌, ◌<◌, ◌≤◌, length};
+ghost use Rattle.fir_core.specs.Blocks.{ArePlaces, AreFour, HasEntries, IsBehind, IsBlockOf, IsReached};
+
+use crate::rows::{Block, Spot};
+
+/// Four bytes that follow one another.
+#[derive(Clone, Copy)]
+struct Spots<'a> {
+    one: Spot<'a>,
+    two: Spot<'a>,
+    three: Spot<'a>,
+    four: Spot<'a>,
+    ghost follow: { AreFour one one two three four },
+}
+
+/// The byte so many behind one, in the same step.
+#[inline(always)]
+fn on<'a>(spot: Spot<'a>, number: usize) -> Spot<'a>
+    requires inside { spot.place + number < spot.rows.step }
+    requires within { spot.p + number ≤ length spot.bytes.now }
+    ensures { IsBehind number spot.entry result }
+{
+    Spot {
+        rows: spot.rows,
+        bytes: spot.bytes,
+        p: spot.p + number,
+        window: spot.window,
+        place: spot.place + number,
+    }
+}
+
+/// The byte behind one.
+#[inline(always)]
+pub(crate) fn next<'a>(spot: Spot<'a>) -> Spot<'a>
+    requires { spot.p < length spot.bytes.now }
+    ensures { IsBehind 1 spot.entry result }
+{
+    if spot.place + 1 < spot.rows.step {
+        return on(spot, 1);
+    }
+    Spot {
+        rows: spot.rows,
+        bytes: spot.bytes,
+        p: spot.p + 1,
+        window: spot.window + 1,
+        place: 0,
+    }
+}
+
+/// A byte and the three behind it, which mostly lie in one step.
+#[inline(always)]
+fn spots_from<'a>(spot: Spot<'a>) -> Spots<'a>
+    requires { spot.p + 4 ≤ length spot.bytes.now }
+    ensures { AreFour spot.entry result.one result.two result.three result.four }
+{
+    if spot.place + 3 < spot.rows.step {
+        return Spots {
+            one: spot,
+            two: on(spot, 1),
+            three: on(spot, 2),
+            four: on(spot, 3),
+        };
+    }
+    let two = next(spot);
+    let three = next(two);
+    let four = next(three);
+    Spots {
+        one: spot,
+        two,
+        three,
+        four,
+    }
+}
+
+/// Where the rows have what a byte adds to the windows from window `j` on.
+#[inline(always)]
+pub(crate) fn row_place(spot: Spot<'_>, j: usize) -> usize
+    requires within { spot.p < length spot.bytes.now }
+    requires reached { IsReached spot j }
+    ensures { HasEntries spot.entry j result }
+{
+    let row = 256 * spot.place + spot.bytes[spot.p] as usize;
+    4 + row * (spot.rows.span + 8) + (j + spot.rows.span - (spot.window + 1))
+}
+
+/// Where they have what each of four bytes adds.
+#[inline(always)]
+fn places_of(spots: Spots<'_>, j: usize) -> [usize; 4]
+    requires within { spots.one.p + 4 ≤ length spots.one.bytes.now }
+    requires first { IsReached spots.one j }
+    requires last { IsReached spots.four j }
+    ensures { ArePlaces spots.entry.one j result }
+{
+    [
+        row_place(spots.one, j),
+        row_place(spots.two, j),
+        row_place(spots.three, j),
+        row_place(spots.four, j),
+    ]
+}
+
+/// Eight bytes with the places in their rows for all windows below a limit in which one of them stands, and the
+/// byte behind them.
+#[inline(always)]
+pub(crate) fn block_of<'a>(spot: Spot<'a>, limit: usize) -> (Block<'a>, Spot<'a>)
+    requires eights { spot.p % 8 ≡ 0 }
+    requires within { spot.p + 8 ≤ length spot.bytes.now }
+    requires reached { spot.p + 8 + spot.rows.step ≤ limit * spot.rows.step + length spot.rows.taps.now / 8 }
+    ensures block { IsBlockOf spot.entry limit result.0 }
+    ensures next { IsBehind 8 spot.entry result.1 }
+{
+    let front = spots_from(spot);
+    let back = spots_from(next(front.four));
+    let behind = back.four.window + 1;
+    let start = behind.saturating_sub(spot.rows.span);
+    let number = behind.min(limit) - start;
+    let [a, b, c, d] = places_of(front, start);
+    let [e, f, g, h] = places_of(back, start);
+    let block = Block {
+        rows: spot.rows,
+        bytes: spot.bytes,
+        p: spot.p,
+        start,
+        number,
+        limit,
+        at: [a, b, c, d, e, f, g, h],
+    };
+    (block, next(back.four))
+}

@@ -1,0 +1,153 @@
+//! The sums of windows that begin at each step's first byte, eight bytes at a time: a byte's row holds what the
+//! byte adds to each window that it stands in.
+
+ghost use Rattle.std.specs.Prelude.{◌≡◌, ◌+◌, ◌*◌, ◌/◌, ◌%◌, ◌<◌, ◌≤◌, length};
+ghost use Rattle.fir_core.specs.Blocks.{AreAdded, AreOf, AreSummed, IsBehind, sum_within};
+ghost use Rattle.fir_core.specs.Windows.{AreWithin, window_sums};
+
+use crate::blocks::{block_of, next, row_place};
+use crate::rows::{Block, Rows, Spot, with_step};
+use std::simd::prelude::*;
+
+/// Eight bytes in the sum of window `j`.
+fn add_one(block: Block<'_>, j: usize, sum: i32) -> i32
+    requires inside { AreOf block j 1 }
+    requires so_far { sum ≡ sum_within block 0 j }
+    ensures { result ≡ sum_within block.entry 8 j }
+{
+    let mut all = sum;
+    for b in 0..8 {
+        all += block.rows.entries[block.at[b] + (j - block.start)];
+    }
+    all
+}
+
+/// Eight bytes in the sums of eight windows from window `j` on, as one vector.
+#[inline(always)]
+fn add_eight(block: Block<'_>, j: usize, sums: &mut [i32])
+    requires inside { AreOf block j 8 }
+    requires added { AreAdded block j sums.old }
+    ensures { AreAdded block.entry (j + 8) sums.new }
+{
+    let entries = block.rows.entries;
+    let mut lanes = i32x8::from_slice(&sums[j..]);
+    for b in 0..8 {
+        let at = block.at[b] + (j - block.start);
+        lanes += i32x8::from_slice(&entries[at..]);
+    }
+    lanes.copy_to_slice(&mut sums[j..]);
+}
+
+/// Eight bytes in the sums of the windows that they reach, in whole eights of windows. This stands alone, so
+/// that its loop knows no more of the rows than where they begin.
+#[inline(never)]
+fn add_eights(block: Block<'_>, sums: &mut [i32])
+    requires { AreAdded block block.start sums.old }
+    ensures { AreAdded block.entry (block.entry.start + 8 * (block.entry.number / 8)) sums.new }
+{
+    for turn in 0..block.number / 8 {
+        add_eight(block, block.start + 8 * turn, sums);
+    }
+}
+
+/// Eight bytes in the sums of the windows that are left over, one by one. Only at the ends of a tile are there
+/// any.
+#[inline(never)]
+fn add_rest(block: Block<'_>, sums: &mut [i32])
+    requires { AreAdded block (block.start + 8 * (block.number / 8)) sums.old }
+    ensures { AreAdded block.entry (block.entry.start + block.entry.number) sums.new }
+{
+    for j in block.start + 8 * (block.number / 8)..block.start + block.number {
+        sums[j] = add_one(block, j, sums[j]);
+    }
+}
+
+/// Eight bytes in the sum of each window; answers the byte behind them.
+#[inline(always)]
+fn add_block<'a>(spot: Spot<'a>, sums: &mut [i32]) -> Spot<'a>
+    requires eights { spot.p % 8 ≡ 0 }
+    requires within { spot.p + 8 ≤ length spot.bytes.now }
+    requires reached { spot.p + 8 + spot.rows.step ≤ length sums.old * spot.rows.step + length spot.rows.taps.now / 8 }
+    requires so_far { AreSummed spot sums.old }
+    ensures len { length sums.new ≡ length sums.old }
+    ensures sums { AreSummed result sums.new }
+    ensures next { IsBehind 8 spot.entry result }
+{
+    let (block, behind) = block_of(spot, sums.len());
+    add_eights(block, sums);
+    if block.number % 8 != 0 {
+        add_rest(block, sums);
+    }
+    behind
+}
+
+/// A byte in the sum of each window; answers the byte behind it.
+#[inline(always)]
+fn add_last<'a>(spot: Spot<'a>, sums: &mut [i32]) -> Spot<'a>
+    requires within { spot.p < length spot.bytes.now }
+    requires reached { spot.p + 1 + spot.rows.step ≤ length sums.old * spot.rows.step + length spot.rows.taps.now / 8 }
+    requires so_far { AreSummed spot sums.old }
+    ensures len { length sums.new ≡ length sums.old }
+    ensures sums { AreSummed result sums.new }
+    ensures next { IsBehind 1 spot.entry result }
+{
+    let start = (spot.window + 1).saturating_sub(spot.rows.span);
+    let number = (spot.window + 1).min(sums.len()) - start;
+    let at = row_place(spot, start);
+    for k in 0..number {
+        sums[start + k] += spot.rows.entries[at + k];
+    }
+    next(spot)
+}
+
+/// The sums of windows that begin at each step's first byte.
+#[inline(always)]
+fn sum_steps(rows: Rows<'_>, bytes: &[u8], sums: &mut [i32])
+    requires { AreWithin (length rows.taps.now / 8) rows.step (length sums.old) bytes.now }
+    ensures { sums.new ≡ window_sums rows.entry.taps.now bytes.now rows.entry.step (length sums.old) }
+{
+    sums.fill(0);
+    let reach = (sums.len() - 1) * rows.step + rows.taps.len() / 8;
+    let blocks = reach / 8;
+    let mut window = 0;
+    let mut place = 0;
+    for block in 0..blocks {
+        let p = 8 * block;
+        let spot = Spot {
+            rows,
+            bytes,
+            p,
+            window,
+            place,
+        };
+        let behind = add_block(spot, sums);
+        window = behind.window;
+        place = behind.place;
+    }
+    for p in 8 * blocks..reach {
+        let spot = Spot {
+            rows,
+            bytes,
+            p,
+            window,
+            place,
+        };
+        let behind = add_last(spot, sums);
+        window = behind.window;
+        place = behind.place;
+    }
+}
+
+/// The same, where short steps are told as numbers, so that the compiler knows where each byte stands in
+/// its own.
+pub(crate) fn sum_rows(rows: Rows<'_>, bytes: &[u8], sums: &mut [i32])
+    requires { AreWithin (length rows.taps.now / 8) rows.step (length sums.old) bytes.now }
+    ensures { sums.new ≡ window_sums rows.entry.taps.now bytes.now rows.entry.step (length sums.old) }
+{
+    match rows.step {
+        1 => sum_steps(with_step(rows, 1), bytes, sums),
+        2 => sum_steps(with_step(rows, 2), bytes, sums),
+        4 => sum_steps(with_step(rows, 4), bytes, sums),
+        _ => sum_steps(rows, bytes, sums),
+    }
+}

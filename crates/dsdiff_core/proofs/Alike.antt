@@ -1,13 +1,12 @@
 -- Two files whose chunks are alike but for the sound are read alike.
-use Rattle.std.proofs.Common.{◌≡◌, ℕ, ◌+◌, ◌⊎◌, inl, inr, Bool, true, false, cond, ◌&&◌, ◌||◌, not, List, [], ◌∷◌, ◌++◌, map, take, drop, Option, Some, None, is_some, Result, Ok, Err, refl, sym, ap, ap₂, subst, ◌∙◌, arith}
+use Rattle.std.proofs.Common.{◌≡◌, ℕ, ◌+◌, ◌⊎◌, inl, inr, true, false, cond, List, [], ◌∷◌, ◌++◌, map, drop, Some, Result, Ok, Err, refl, sym, ap, ap₂, subst, ◌∙◌}
 use Rattle.std.specs.Prelude.{filter, find, slice_range}
 use Rattle.std.specs.List.{AllByRecursion}
 use Rattle.std.proofs.lemmas.List.{map-append}
-use Rattle.chunk_core.specs.declared.fault.ChunkFault.{ChunkFault}
 use Rattle.chunk_core.specs.declared.layout.Span.{Span}
 use Rattle.chunk_core.specs.Chunks.{Chunk}
 use Rattle.chunk_core.specs.Places.{span_chunk}
-use Rattle.chunk_core.specs.Reading.{spans_in, walk_of}
+use Rattle.chunk_core.specs.Reading.{spans_in}
 use Rattle.chunk_core.specs.Steps.{◌>>=◌}
 use Rattle.chunk_core.proofs.Steps.{bind_then, chosen}
 use Rattle.dsd_bits.specs.declared.marks.Place.TheVariants.{Form}
@@ -20,7 +19,7 @@ use Rattle.dsdiff_core.specs.Masters.{has_no_cut_mark, master_of, masters_of}
 use Rattle.dsdiff_core.specs.Others.{kept, other_in}
 use Rattle.dsdiff_core.specs.Properties.{Told, fields_of, property_of}
 use Rattle.dsdiff_core.specs.Sounds.{sound_leads}
-use Rattle.dsdiff_core.specs.Spans.{data_with, holds_property, is_second, once_each, property_kinds, span_has, top_kinds}
+use Rattle.dsdiff_core.specs.Spans.{data_with, holds_property, once_each, property_kinds, span_has, top_kinds}
 use Rattle.dsdiff_core.specs.Steps.{some_or, walked}
 use Rattle.dsdiff_core.proofs.FileLaws.{behind_type}
 use Rattle.dsdiff_core.proofs.FrontEnds.{Same, firsts, same_data, same_spans}

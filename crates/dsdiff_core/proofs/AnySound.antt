@@ -1,7 +1,6 @@
 -- Other sound bytes change nothing of what is read but the channels.
-use Rattle.std.proofs.Common.{◌≡◌, ℕ, ◌+◌, ◌-◌, ◌*◌, ◌/◌, ◌%◌, ◌^◌, ◌≤◌, inl, inr, min, Bool, true, false, cond, ltb, eqb, not, List, [], ◌∷◌, ◌++◌, length, map, take, drop, Option, Some, None, Result, Ok, Err, refl, sym, ap, ap₂, subst, ◌∙◌, arith}
+use Rattle.std.proofs.Common.{◌≡◌, ℕ, ◌+◌, ◌-◌, ◌*◌, ◌/◌, ◌%◌, ◌^◌, ◌≤◌, inr, Bool, true, false, cond, ltb, eqb, not, List, [], ◌∷◌, ◌++◌, length, map, take, drop, Option, Some, Result, Ok, Err, refl, sym, ap, ap₂, subst, ◌∙◌, arith}
 use Rattle.std.specs.Prelude.{filter, find, slice_range}
-use Rattle.std.proofs.lemmas.Bool.{ltb-false}
 use Rattle.std.proofs.lemmas.List.{append_assoc, drop_at, length-append, take_at}
 use Rattle.chunk_core.specs.declared.fault.ChunkFault.{ChunkFault}
 use Rattle.chunk_core.specs.declared.layout.Span.{Span}
@@ -36,7 +35,6 @@ use Rattle.dsdiff_core.proofs.FileLaws.{parts_ok}
 use Rattle.dsdiff_core.proofs.FormLaws.{end_ok}
 use Rattle.dsdiff_core.proofs.SoundLaws.{sound_ok}
 use Rattle.dsdiff_core.proofs.FrontEnds.{same_spans}
-use Rattle.dsdiff_core.proofs.KindLaws.{bool_cases}
 use Rattle.dsdiff_core.proofs.LeadLaws.{none_first, number_front, part_front}
 use Rattle.dsdiff_core.proofs.OtherSound.{tail_is}
 use Rattle.dsdiff_core.proofs.Steps.{walked_ok}
@@ -80,8 +78,16 @@ module _ (front back : List ℕ) (h : EndsAtHead front) where
   unfolding end_of
   end_same sound other size_s size_o =
       let l = long front h in
-      rw (file_long sound size_s, file_long other size_o, size_is sound, size_is other, part_front 4 0 front (sound ++ back) (omega (arith, l)), part_front 4 0 front (other ++ back) (omega (arith, l)),
-        part_front 4 12 front (sound ++ back) (omega (arith, l)), part_front 4 12 front (other ++ back) (omega (arith, l))) refl
+      rw (
+        file_long sound size_s,
+        file_long other size_o,
+        size_is sound,
+        size_is other,
+        part_front 4 0 front (sound ++ back) (omega (arith, l)),
+        part_front 4 0 front (other ++ back) (omega (arith, l)),
+        part_front 4 12 front (sound ++ back) (omega (arith, l)),
+        part_front 4 12 front (other ++ back) (omega (arith, l)),
+      ) refl
 
   pub end_fits : (sound : List ℕ) (stop : ℕ) → length sound ≡ sound_size front → form_end (front ++ (sound ++ back)) ≡ stop → length front + length sound ≤ stop
   end_fits sound stop size e = omega (arith, sym e, size, file_long sound size, size_is sound, h.in_form)

@@ -1,5 +1,5 @@
 -- What stands around a sound decides of a file, and tells the rest of it.
-use Rattle.std.proofs.Common.{◌≡◌, ◌↔◌, ℕ, Bool, true, false, List, [], ◌++◌, is_some, length, map, replicate, Option, Some, None, Result, Ok, Err, refl, sym, ap, subst, ◌∙◌}
+use Rattle.std.proofs.Common.{◌≡◌, ◌↔◌, ℕ, Bool, true, false, List, [], ◌++◌, is_some, length, replicate, Option, Some, None, Result, Ok, Err, refl, sym, ap, subst, ◌∙◌}
 use Rattle.std.specs.Result.{result_ok}
 use Rattle.std.proofs.lemmas.List.{length-replicate}
 use Rattle.std.proofs.lemmas.List.FromFn.{length-map-range_with_len}
@@ -43,7 +43,7 @@ outlined front back s (Ok d) e is =
     let p = ends_at_head front s e in
     let holds : (sound : List ℕ) → length sound ≡ s.size → IsDsdiff (front ++ (sound ++ back)) (with_channels d (unlaced_all sound (length d.ids))) = λ sound long.
     (let read = read_by front (replicate (sound_size front) 0) back p.0 (long_zeros (sound_size front)) sound (long ∙ p.1) ∙ ap (λ (r : Result Described DsdiffFault). r >>= with_bits sound) is in
-      is_dsdiff (front ++ (sound ++ back)) (with_channels d (unlaced_all sound (length d.ids))) (parts_ok (front ++ (sound ++ back)) (with_channels d (unlaced_all sound (length d.ids))) read)) in
+    is_dsdiff (front ++ (sound ++ back)) (with_channels d (unlaced_all sound (length d.ids))) (parts_ok (front ++ (sound ++ back)) (with_channels d (unlaced_all sound (length d.ids))) read)) in
     let zeros : List ℕ = replicate (sound_size front) 0 in
     let has = (if_found front (Found s) (sym e.found)) (zeros ++ back) (with_channels d (unlaced_all zeros (length d.ids))) (holds zeros (long_zeros (sound_size front) ∙ sym p.1)) in
     let number : length d.ids ≡ s.channels = sym (length-map-range_with_len (unlaced zeros (length d.ids)) 0 (length d.ids)) ∙ has.number in

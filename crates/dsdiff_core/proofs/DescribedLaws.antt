@@ -1,6 +1,5 @@
 -- What a file tells beside its bits, step by step, and the recording of it.
-use Rattle.std.proofs.Common.{◌≡◌, ℕ, ◌+◌, ◌*◌, ◌/◌, ◌%◌, ◌^◌, ◌≤◌, ◌<◌, ◌-◌, inl, inr, Bool, List, [], ◌++◌, length, map, take, drop, replicate, Option, Some, None, Result, Ok, Err, refl, sym, ap, ap₂, subst, ◌∙◌, arith}
-use Rattle.std.proofs.lemmas.Bool.{le-ltb}
+use Rattle.std.proofs.Common.{◌≡◌, ℕ, ◌+◌, ◌*◌, ◌/◌, ◌%◌, ◌^◌, ◌≤◌, ◌<◌, ◌-◌, inl, inr, List, [], ◌++◌, length, map, take, drop, replicate, Option, Some, Result, Ok, Err, refl, sym, ap, ap₂, subst, ◌∙◌, arith}
 use Rattle.std.proofs.lemmas.List.{append-nil, length-append, length-drop, length-replicate, length-take-le, nil_from_length, take-append-drop}
 use Rattle.std.proofs.lemmas.List.FromFn.{length-map-range_with_len}
 use Rattle.byteorder.specs.Endian.{big_number}
@@ -16,10 +15,9 @@ use Rattle.dsd_bits.specs.Layouts.{usual_layout}
 use Rattle.dsd_bits.specs.Shape.{AreDescribed}
 use Rattle.dsdiff_core.specs.declared.fault.DsdiffFault.{DsdiffFault}
 use Rattle.dsdiff_core.specs.declared.held.Held.{Held}
-use Rattle.dsdiff_core.specs.Files.{IsDsdiff}
 use Rattle.dsdiff_core.specs.Forms.{top_of}
 use Rattle.dsdiff_core.specs.Fronts.{IsAccepted, form_of, located, seek, size_at}
-use Rattle.dsdiff_core.specs.Held.{IsAround, IsHeld, IsParted, held}
+use Rattle.dsdiff_core.specs.Held.{IsHeld, IsParted, held}
 use Rattle.dsdiff_core.specs.Located.{EndsAtHead, sound_size}
 use Rattle.dsdiff_core.specs.Masters.{masters_of}
 use Rattle.dsdiff_core.specs.Properties.{Told, property_of}

@@ -1,24 +1,21 @@
 -- Fronts that end at the head of their sound.
-use Rattle.std.proofs.Common.{◌≡◌, ℕ, ◌+◌, ◌-◌, ◌*◌, ◌≤◌, not, List, [], ◌∷◌, ◌++◌, length, map, take, drop, Some, Result, Ok, refl, sym, ap, subst, ◌∙◌, arith}
+use Rattle.std.proofs.Common.{◌≡◌, ℕ, ◌+◌, ◌-◌, ◌*◌, ◌≤◌, List, ◌++◌, length, take, drop, Some, Ok, sym, ap, subst, ◌∙◌, arith}
 use Rattle.std.specs.Prelude.{slice_range}
 use Rattle.std.proofs.lemmas.Bool.{ltb-false}
 use Rattle.std.proofs.lemmas.List.{length-take-le, take-append-drop, take_all}
 use Rattle.std.proofs.lemmas.List.FromFn.{length-map-range_with_len}
 use Rattle.chunk_core.specs.Chunks.{chunks}
-use Rattle.chunk_core.proofs.Steps.{bind_then, guard_ok}
+use Rattle.chunk_core.proofs.Steps.{guard_ok}
 use Rattle.dsd_bits.specs.declared.sound.Sound.{Sound}
 use Rattle.dsd_bits.specs.declared.sound.SoundAt.TheVariants.{Found}
-use Rattle.dsd_bits.specs.Contents.{Content}
-use Rattle.dsd_bits.specs.Ids.{same_id, DSD}
+use Rattle.dsd_bits.specs.Ids.{DSD}
 use Rattle.dsd_bits.specs.Lacing.{unlaced, unlaced_all}
-use Rattle.dsdiff_core.specs.declared.fault.DsdiffFault.{DsdiffFault}
 use Rattle.dsdiff_core.specs.Fields.{form_size}
 use Rattle.dsdiff_core.specs.Files.{IsDsdiff}
-use Rattle.dsdiff_core.specs.Fronts.{EndsAt, form_of, located, seek, size_at}
+use Rattle.dsdiff_core.specs.Fronts.{EndsAt, form_of, seek, size_at}
 use Rattle.dsdiff_core.specs.Kinds.{FRM8}
 use Rattle.dsdiff_core.specs.Laws.{OtherSound}
 use Rattle.dsdiff_core.specs.Located.{EndsAtHead, sound_size}
-use Rattle.dsdiff_core.specs.Reading.{recording_of}
 use Rattle.dsdiff_core.specs.SoundBytes.{with_sound}
 use Rattle.dsdiff_core.proofs.AnySound.{sound_is_free}
 use Rattle.dsdiff_core.proofs.FileLaws.{is_dsdiff, parts_again, parts_from, parts_ok}

@@ -1,9 +1,9 @@
 -- Files whose sound isn't held.
-use Rattle.std.proofs.Common.{◌≡◌, ℕ, ◌+◌, ◌-◌, ◌%◌, ◌≤◌, ◌<◌, ◌^◌, ◌⊎◌, inl, inr, min, Bool, true, false, not, List, [], ◌∷◌, ◌++◌, length, map, take, drop, replicate, Result, Ok, Err, refl, sym, ap, ap₂, subst, ◌∙◌, arith}
+use Rattle.std.proofs.Common.{◌≡◌, ℕ, ◌+◌, ◌-◌, ◌%◌, ◌≤◌, ◌<◌, ◌^◌, inl, inr, min, Bool, true, false, not, List, [], ◌∷◌, ◌++◌, length, take, drop, replicate, Result, Ok, refl, sym, ap, ap₂, subst, ◌∙◌, arith}
 use Rattle.std.specs.Prelude.{All, slice_range}
 use Rattle.std.proofs.lemmas.Bool.{cases_lt}
-use Rattle.std.proofs.lemmas.List.{append-nil, drop-append-le, drop_at, length-append, length-drop, length-replicate, length-take, nil_from_length, take-append-le, take_all}
-use Rattle.std.proofs.lemmas.List.Elements.{All-append, All-weaker}
+use Rattle.std.proofs.lemmas.List.{append-nil, length-append, length-drop, length-replicate, length-take, nil_from_length, take_all}
+use Rattle.std.proofs.lemmas.List.Elements.{All-weaker}
 use Rattle.chunk_core.specs.declared.fault.ChunkFault.{ChunkFault}
 use Rattle.chunk_core.specs.declared.fault.ChunkFault.TheVariants.{HeadCut, DataCut, Memory}
 use Rattle.chunk_core.specs.declared.layout.Span.{Span}
@@ -28,7 +28,6 @@ use Rattle.dsdiff_core.specs.Spans.{span_has}
 use Rattle.dsdiff_core.specs.Steps.{Fails, chunk_fault, walked}
 use Rattle.dsdiff_core.proofs.AnySound.{end_fits}
 use Rattle.dsdiff_core.proofs.Alike.{spans_same}
-use Rattle.dsdiff_core.proofs.KindLaws.{bool_cases}
 use Rattle.dsdiff_core.proofs.LeadLaws.{number_front, part_front}
 use Rattle.dsdiff_core.proofs.WalkLaws.{after, long, sound_span, walk_across}
 use Rattle.dsdiff_core.proofs.OtherSound.{sound_not_kept, tail_is}

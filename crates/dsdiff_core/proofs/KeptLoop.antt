@@ -1,16 +1,10 @@
 -- The loops that keep some of the chunks.
-use Rattle.std.proofs.Common.{◌≡◌, ℕ, ◌+◌, ◌<◌, Bool, true, false, cond, List, [], ◌∷◌, ◌++◌, length, get_or, map, take, not, refl, ap, sym, ◌∙◌, append_assoc}
+use Rattle.std.proofs.Common.{◌≡◌, ℕ, ◌+◌, ◌<◌, Bool, true, false, cond, List, [], ◌∷◌, ◌++◌, length, get_or, map, take, refl, ap, ◌∙◌}
 use Rattle.std.specs.Prelude.{filter}
-use Rattle.std.proofs.lemmas.List.{append-nil, map-append, take_more, map_push}
-use Rattle.std.proofs.lemmas.List.Elements.{filter-append}
+use Rattle.std.proofs.lemmas.List.{append-nil, take_more, map_push}
 use Rattle.chunk_core.specs.declared.layout.Span.{Span}
 use Rattle.chunk_core.specs.Chunks.{Chunk}
 use Rattle.chunk_core.specs.Places.{span_chunk}
-use Rattle.dsd_bits.specs.declared.marks.Place.{Place}
-use Rattle.dsd_bits.specs.declared.marks.Place.TheVariants.{Property, Master, Form}
-use Rattle.dsd_bits.specs.Contents.{OtherContent}
-use Rattle.dsd_bits.specs.Shape.{has_part}
-use Rattle.dsdiff_core.specs.Others.{kept, other_in}
 
 -- those of the first chunks that pass a test, changed
 abbrev pub passed : {X : Type 0} → (Chunk → X) → (Chunk → Bool) → List ℕ → List Span → List X

@@ -1,27 +1,17 @@
 -- The bytes behind a sound, and the head of it.
-use Rattle.std.proofs.Common.{◌≡◌, ℕ, ◌+◌, ◌-◌, ◌*◌, ◌/◌, ◌%◌, ◌^◌, ◌≤◌, inl, inr, min, Bool, true, false, not, List, [], ◌∷◌, ◌++◌, length, map, take, drop, Option, Some, None, Result, Ok, refl, sym, ap, subst, ◌∙◌, arith}
+use Rattle.std.proofs.Common.{◌≡◌, ℕ, ◌+◌, ◌≤◌, inl, inr, Bool, true, false, not, List, [], ◌∷◌, ◌++◌, length, drop, refl, sym, ap, subst, ◌∙◌, arith}
 use Rattle.std.specs.Prelude.{filter, slice_range}
-use Rattle.std.specs.List.{AllZip}
-use Rattle.std.proofs.lemmas.List.{append-nil, drop_at, drop-drop, length-append, take_at}
-use Rattle.std.proofs.lemmas.List.Elements.{filter-append}
-use Rattle.std.proofs.lemmas.List.FromFn.{length-map-range_with_len}
+use Rattle.std.proofs.lemmas.List.{append-nil, drop_at, drop-drop, length-append}
 use Rattle.chunk_core.specs.Chunks.{Chunk, chunks, width}
-use Rattle.dsd_bits.specs.declared.marks.Place.TheVariants.{Property, Master, Form}
-use Rattle.dsd_bits.specs.declared.sound.SoundAt.TheVariants.{Found}
-use Rattle.dsd_bits.specs.Contents.{Content, OtherContent}
-use Rattle.dsd_bits.specs.Ids.{FVER, PROP, DSD, DIIN}
-use Rattle.dsd_bits.specs.Lacing.{unlaced, unlaced_all}
+use Rattle.dsd_bits.specs.declared.marks.Place.TheVariants.{Form}
+use Rattle.dsd_bits.specs.Ids.{FVER, DSD}
 use Rattle.dsd_bits.specs.Shape.{has_part}
-use Rattle.dsdiff_core.specs.declared.fault.DsdiffFault.{DsdiffFault}
-use Rattle.dsdiff_core.specs.Fields.{form_end, form_size}
-use Rattle.dsdiff_core.specs.Files.{IsDsdiff, joined}
-use Rattle.dsdiff_core.specs.Fronts.{behind, seek}
-use Rattle.dsdiff_core.specs.Kinds.{has_id, is_property}
-use Rattle.dsdiff_core.specs.Laws.{OtherSound, SoundHasHead}
-use Rattle.dsdiff_core.specs.Others.{kept, other_in}
-use Rattle.dsdiff_core.proofs.FrontLaws.{either, found_leads, if_found, only_properties, parted, sound_is_at, versioned}
-use Rattle.dsdiff_core.proofs.KindLaws.{bool_cases, id_is, no_property, not_both, order_again, passes}
-use Rattle.dsdiff_core.proofs.LeadLaws.{At, Led, led_here, led_on, number_front, part_front, range_joins, range_parts, seek_right}
+use Rattle.dsdiff_core.specs.Fields.{form_end}
+use Rattle.dsdiff_core.specs.Files.{IsDsdiff}
+use Rattle.dsdiff_core.specs.Kinds.{has_id}
+use Rattle.dsdiff_core.specs.Laws.{SoundHasHead}
+use Rattle.dsdiff_core.proofs.KindLaws.{bool_cases, id_is, not_both, order_again}
+use Rattle.dsdiff_core.proofs.LeadLaws.{Led, led_here, led_on, part_front, range_parts}
 
 -- behind the sound stand the same bytes
 pub tail_is : (front sound back : List ℕ) (k : ℕ) → drop (length front + length sound + k) (front ++ (sound ++ back)) ≡ drop k back

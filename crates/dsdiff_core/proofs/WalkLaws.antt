@@ -1,12 +1,12 @@
 -- The walk of a file: over chunks that are known, and over the head of its sound.
-use Rattle.std.proofs.Common.{◌≡◌, ℕ, ◌+◌, ◌-◌, ◌%◌, ◌≤◌, ◌<◌, List, [], ◌∷◌, ◌++◌, length, take, drop, Result, Ok, Err, refl, sym, ap, subst, ◌∙◌, arith}
+use Rattle.std.proofs.Common.{◌≡◌, ℕ, ◌+◌, ◌-◌, ◌%◌, ◌≤◌, List, [], ◌∷◌, ◌++◌, length, take, Result, Ok, Err, refl, sym, ap, subst, ◌∙◌, arith}
 use Rattle.std.specs.Prelude.{slice_range}
 use Rattle.std.proofs.lemmas.List.{append_assoc, drop_at, length-append, take_at}
 use Rattle.chunk_core.specs.declared.fault.ChunkFault.{ChunkFault}
 use Rattle.chunk_core.specs.declared.layout.Span.{Span}
 use Rattle.chunk_core.specs.Chunks.{Chunk, chunks, width}
 use Rattle.chunk_core.specs.Places.{places}
-use Rattle.chunk_core.specs.Reading.{first_of, spans_in, walk_of}
+use Rattle.chunk_core.specs.Reading.{spans_in, walk_of}
 use Rattle.chunk_core.specs.Steps.{◌>>=◌}
 use Rattle.chunk_core.proofs.Ranges.{range_after}
 use Rattle.chunk_core.proofs.ReadingLaws.{First, first_again, walk_step}

@@ -1,5 +1,5 @@
 -- Chunks of a file by their places: their kinds, and those that may stand once.
-use Rattle.std.specs.Prelude.{◌≤◌, ℕ, ◌+◌, Bool, false, ◌&&◌, ◌||◌, List, [], ◌∷◌, ◌++◌, length, find, Option, is_some, option_map, Result, Ok, Err, if◌then◌else◌}
+use Rattle.std.specs.Prelude.{ℕ, Bool, false, ◌&&◌, ◌||◌, List, [], ◌∷◌, ◌++◌, find, Option, is_some, option_map, Result, Ok, Err, if◌then◌else◌}
 use Rattle.chunk_core.specs.declared.layout.Span.{Span}
 use Rattle.chunk_core.specs.Places.{span_chunk}
 use Rattle.dsd_bits.specs.Ids.{same_id, FVER, FS, CHNL, CMPR, DSD}

@@ -64,11 +64,7 @@ pub fn outline(alloc: Global, front: &[u8], back: &[u8]) -> Result<Option<Record
 }
 
 // What is described, where it is accepted.
-fn told_around(
-    alloc: Global,
-    front: &[u8],
-    back: &[u8],
-) -> Result<Option<Description>, AllocError>
+fn told_around(alloc: Global, front: &[u8], back: &[u8]) -> Result<Option<Description>, AllocError>
     requires { EndsAtHead front.now }
     ensures { IfOk result (λ o. o ≡ result_ok (description_of (with_zeros front.now back.now))) }
 {

@@ -18,11 +18,7 @@ use std::alloc::{AllocError, Global};
 pub(crate) const MARK_FIELDS: usize = 22;
 
 /// The marks among the chunks of the edited masters.
-pub(crate) fn read_marks(
-    alloc: Global,
-    file: Held,
-    inner: &[Span],
-) -> Result<Vec<Mark>, AllocError>
+pub(crate) fn read_marks(alloc: Global, file: Held, inner: &[Span]) -> Result<Vec<Mark>, AllocError>
     requires inside { All (StandsIn file) inner.now }
     requires whole { has_no_cut_mark (map (span_chunk (held file)) inner.now) ≡ true }
     ensures marks { IfOk result (λ v. map mark_content v.items ≡ marks_of (held file.entry) inner.now) }

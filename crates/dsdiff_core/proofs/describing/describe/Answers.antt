@@ -1,4 +1,4 @@
-use Rattle.std.proofs.Common.{ℕ, length, replicate, subst, sym}
+use Rattle.std.proofs.Common.{ℕ, replicate, subst, sym}
 use Rattle.std.proofs.lemmas.List.{length-replicate}
 use Rattle.dsdiff_core.specs.Located.{sound_size}
 use Rattle.dsdiff_core.specs.Steps.{Gives}

@@ -1,4 +1,4 @@
-use Rattle.std.proofs.Common.{◌≡◌, ℕ, ◌<◌, ◌^◌, [], Result, Ok, ap, ◌∙◌, length, map, refl, sym, subst, arith}
+use Rattle.std.proofs.Common.{◌≡◌, ◌<◌, ◌^◌, [], Result, Ok, ap, ◌∙◌, length, map, sym, subst}
 use Rattle.std.proofs.lemmas.List.Elements.{All-map}
 use Rattle.chunk_core.specs.Places.{span_chunk}
 use Rattle.dsd_bits.specs.Contents.{Described, MarkContent, mark_content, other_content}

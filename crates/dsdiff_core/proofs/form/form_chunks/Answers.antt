@@ -1,11 +1,11 @@
-use Rattle.std.proofs.Common.{◌≡◌, [], Ok, ap, map, refl, subst}
+use Rattle.std.proofs.Common.{◌≡◌, [], Ok, map, refl, subst}
 use Rattle.std.proofs.lemmas.Result.{err_from_is_err_and}
 use Rattle.dsd_bits.proofs.ExitLaws.{no_value}
 use Rattle.chunk_core.specs.Places.{span_chunk}
 use Rattle.dsdiff_core.specs.Forms.{top_of, version_of}
 use Rattle.dsdiff_core.specs.Spans.{once_each, top_kinds}
-use Rattle.dsdiff_core.specs.Steps.{Fails, walked}
-use Rattle.dsdiff_core.proofs.JoinedSteps.{step_then, fails_then, walk_fails}
+use Rattle.dsdiff_core.specs.Steps.{Fails}
+use Rattle.dsdiff_core.proofs.JoinedSteps.{step_then, fails_then}
 use Rattle.dsdiff_core.proofs.Steps.{step_fails}
 use Rattle.dsdiff_core.specs.Held.{held}
 use Rattle.dsdiff_core.proofs.form.form_chunks.Goals as goal

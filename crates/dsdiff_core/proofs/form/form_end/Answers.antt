@@ -1,6 +1,5 @@
-use Rattle.std.proofs.Common.{◌≡◌, ◌≤◌, ◌∙◌, not, ap, inl, inr, length, Ok, subst, sym, arith}
+use Rattle.std.proofs.Common.{◌≤◌, ◌∙◌, not, ap, inl, inr, length, Ok, subst, sym, arith}
 use Rattle.dsd_bits.specs.Ids.{same_id, DSD}
-use Rattle.dsdiff_core.specs.Fields.{form_size}
 use Rattle.dsdiff_core.specs.Held.{held}
 use Rattle.dsdiff_core.specs.Kinds.{FRM8}
 use Rattle.dsdiff_core.proofs.FormLaws.{cut_by, form_cut, form_there}

@@ -1,4 +1,4 @@
-use Rattle.std.proofs.Common.{◌∙◌, Err, ap, refl}
+use Rattle.std.proofs.Common.{◌∙◌, ap}
 use Rattle.chunk_core.specs.Steps.{◌>>=◌}
 use Rattle.dsdiff_core.specs.Fronts.{seek}
 use Rattle.dsdiff_core.proofs.ExitLaws.{exact_at}

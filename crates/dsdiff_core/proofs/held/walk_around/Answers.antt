@@ -1,8 +1,7 @@
-use Rattle.std.proofs.Common.{◌≡◌, ◌+◌, ◌-◌, ◌≤◌, ◌++◌, ◌∷◌, [], List, Result, Ok, ap, ap₂, sym, subst, ◌∙◌, inl, inr, arith, drop, length}
+use Rattle.std.proofs.Common.{◌≡◌, ◌+◌, ◌-◌, ◌++◌, ◌∷◌, [], List, Result, Ok, ap, ap₂, sym, subst, ◌∙◌, arith, drop, length}
 use Rattle.std.specs.Prelude.{All}
-use Rattle.std.proofs.lemmas.List.{length-drop, length-take}
+use Rattle.std.proofs.lemmas.List.{length-take}
 use Rattle.std.proofs.lemmas.List.Elements.{All-append, All-push}
-use Rattle.chunk_core.specs.declared.fault.ChunkFault.{ChunkFault}
 use Rattle.chunk_core.specs.declared.layout.Span.{Span}
 use Rattle.chunk_core.specs.Places.{places}
 use Rattle.chunk_core.specs.Steps.{Fails as WalkFails}
@@ -11,7 +10,6 @@ use Rattle.dsdiff_core.specs.Held.{MayStand}
 use Rattle.dsdiff_core.specs.Steps.{Fails, walked, chunk_fault}
 use Rattle.dsdiff_core.proofs.ExitLaws.{fault_at}
 use Rattle.dsdiff_core.proofs.HeldLaws.{after_fails, around_end, around_spans, front_may, later_at, later_may, lead_spans, none_fails, same_spans, sound_may, span_at}
-use Rattle.dsdiff_core.proofs.JoinedSteps.{walk_fails}
 use Rattle.dsdiff_core.proofs.WalkLaws.{after, long, sound_span}
 use Rattle.dsdiff_core.proofs.held.walk_around.Goals as goal
 

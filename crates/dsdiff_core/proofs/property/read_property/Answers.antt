@@ -1,5 +1,5 @@
 use Rattle.dsdiff_core.proofs.ExitLaws.{fault_at}
-use Rattle.std.proofs.Common.{◌≡◌, [], Ok, ap, refl, sym, subst, ◌∙◌, arith}
+use Rattle.std.proofs.Common.{◌≡◌, [], Ok, ap, refl, sym, subst, ◌∙◌}
 use Rattle.dsd_bits.proofs.ExitLaws.{no_value}
 use Rattle.dsdiff_core.specs.declared.fault.DsdiffFault.TheVariants.{NoProperty}
 use Rattle.dsdiff_core.specs.Properties.{property_of}

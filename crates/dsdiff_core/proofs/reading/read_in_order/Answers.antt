@@ -3,7 +3,6 @@ use Rattle.dsd_bits.specs.Contents.{Content, with_channels}
 use Rattle.dsd_bits.specs.Lacing.{unlaced_all}
 use Rattle.dsd_bits.specs.Shape.{AreDescribed}
 use Rattle.dsdiff_core.specs.declared.fault.DsdiffFault.{DsdiffFault}
-use Rattle.dsdiff_core.specs.Held.{IsParted}
 use Rattle.dsdiff_core.specs.Steps.{Fails}
 use Rattle.dsdiff_core.proofs.DescribedLaws.{are_described, fits, read_parted}
 use Rattle.dsdiff_core.proofs.ExitLaws.{fault_at}

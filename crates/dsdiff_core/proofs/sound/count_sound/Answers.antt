@@ -1,4 +1,4 @@
-use Rattle.std.proofs.Common.{◌∙◌, Ok, refl, sym, subst}
+use Rattle.std.proofs.Common.{◌∙◌, refl, sym, subst}
 use Rattle.dsd_bits.specs.Ids.{DSD}
 use Rattle.dsdiff_core.specs.Held.{MayStand, held}
 use Rattle.dsdiff_core.specs.Spans.{span_has}

@@ -2,7 +2,6 @@ use Rattle.std.proofs.Common.{sym, ◌∙◌}
 use Rattle.dsdiff_core.specs.Held.{StandsIn}
 use Rattle.dsdiff_core.specs.Spans.{span_has}
 use Rattle.dsdiff_core.proofs.SpanLaws.{found_holds}
-use Rattle.dsdiff_core.specs.Held.{held}
 use Rattle.dsdiff_core.proofs.spans.data_with.Goals as goal
 
 pub data_of-requires : goal.data_of-requires

@@ -9,12 +9,7 @@ use std::test::Fail;
 
 // What a file of so many bytes is described as that begins with a front up to its sound, and has this tag. A front that
 // ends elsewhere is told as want of memory.
-fn described(
-    alloc: Global,
-    front: &[u8],
-    total: u64,
-    tag: &[u8],
-) -> Result<Description, DsfFault> {
+fn described(alloc: Global, front: &[u8], total: u64, tag: &[u8]) -> Result<Description, DsfFault> {
     match locate(front) {
         Located::Found(sound) if sound.start == front.len() => {
             describe(alloc, front, total, tag.to_vec(alloc)?)
@@ -35,7 +30,7 @@ fn tag_place(front: &[u8]) -> Option<u64> {
 fn is_one_bit(told: &Description) -> bool {
     told.rate() == 2_822_400
         && told.count() == 1
-        && told.ids() == &[*b"C000"]
+        && told.ids() == [*b"C000"].as_slice()
         && told.layout() == 1
         && told.marks().is_empty()
         && told.others().is_empty()
@@ -74,10 +69,22 @@ fn names_what_is_cut(rt: HostRuntime) {
     let mut early = *WITH_TAG;
     early[20] = 0x5b;
     assert!(rt; fault_of(rt.alloc(), WITH_TAG, 4188) == None);
-    assert!(rt; fault_of(rt.alloc(), WITH_TAG, 4187) == Some(DsfFault::DataCut), "the block is cut");
-    assert!(rt; fault_of(rt.alloc(), &DSF_FRONT[..92], 4187) == Some(DsfFault::DataCut), "no tag");
-    assert!(rt; fault_of(rt.alloc(), &early, 4188) == Some(DsfFault::BadPointer), "in the block");
-    assert!(rt; fault_of(rt.alloc(), &early, 4187) == Some(DsfFault::DataCut), "both");
+    assert!(rt;
+        fault_of(rt.alloc(), WITH_TAG, 4187) == Some(DsfFault::DataCut),
+        "the block is cut"
+    );
+    assert!(rt;
+        fault_of(rt.alloc(), &DSF_FRONT[..92], 4187) == Some(DsfFault::DataCut),
+        "no tag"
+    );
+    assert!(rt;
+        fault_of(rt.alloc(), &early, 4188) == Some(DsfFault::BadPointer),
+        "in the block"
+    );
+    assert!(rt;
+        fault_of(rt.alloc(), &early, 4187) == Some(DsfFault::DataCut),
+        "both"
+    );
 }
 
 #[test]
@@ -113,8 +120,14 @@ fn head_in(alloc: Global, order: BitOrder) -> Result<Vec<u8>, DsfFault> {
 #[test]
 fn writes_heads_from_descriptions(rt: HostRuntime) -> Result<(), Fail> {
     let mut front = DSF_FRONT;
-    assert!(rt; equal(&head_in(rt.alloc(), BitOrder::LeastFirst)?, &front[..92]), "1 bit per sample");
+    assert!(rt;
+        equal(&head_in(rt.alloc(), BitOrder::LeastFirst)?, &front[..92]),
+        "1 bit per sample"
+    );
     front[60] = 8;
-    assert!(rt; equal(&head_in(rt.alloc(), BitOrder::MostFirst)?, &front[..92]), "8 bits per sample");
+    assert!(rt;
+        equal(&head_in(rt.alloc(), BitOrder::MostFirst)?, &front[..92]),
+        "8 bits per sample"
+    );
     Ok(())
 }

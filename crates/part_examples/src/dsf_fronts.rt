@@ -83,9 +83,15 @@ fn names_the_first_fault(rt: HostRuntime) {
     let mut front = changed(52, 7);
     assert!(rt; locate(&front) == Located::Refused(DsfFault::BadChannelNumber));
     front[40] = 2;
-    assert!(rt; locate(&front) == Located::Refused(DsfFault::BadVersion), "version and channels");
+    assert!(rt;
+        locate(&front) == Located::Refused(DsfFault::BadVersion),
+        "version and channels"
+    );
     front[4] = 29;
-    assert!(rt; locate(&front) == Located::Refused(DsfFault::BadFormat), "a size too");
+    assert!(rt;
+        locate(&front) == Located::Refused(DsfFault::BadFormat),
+        "a size too"
+    );
 }
 
 // Whether a file of `total` bytes with this header is accepted. None if the header doesn't lead up to a sound.

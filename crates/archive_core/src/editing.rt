@@ -1,11 +1,11 @@
 //! Masters cut from takes by cue lists.
 
 ghost use Rattle.std.specs.Prelude.{◌≡◌, IfErr, IfOk, List, Some, ℕ};
-ghost use Rattle.archive_core.specs.Checking.{Accepts};
-ghost use Rattle.archive_core.specs.Editing.{AnswersEdited, CostsLeast, CostsWindows, Edits, IsCertificate, IsEdited, IsMaster};
+ghost use Rattle.judge_core.specs.Accepting.{Accepts, CostsLeast, CostsWindows, IsMaster};
+ghost use Rattle.archive_core.specs.Editing.{AnswersEdited, Edits, IsCertificate, IsEdited};
 ghost use Rattle.archive_core.specs.Planning.{CertifiesPlanned, IsFileOf, IsPlanned, IsSamePlan};
 ghost use Rattle.cut_core.specs.Hearing.{AreOfTakes};
-ghost use Rattle.archive_core.specs.Cutting.{AreTakes, said_cut};
+ghost use Rattle.judge_core.specs.Cutting.{AreTakes, said_cut};
 ghost use Rattle.splice_core.specs.Splices.{splice_content};
 ghost use Rattle.cut_core.specs.Opening.{file_bytes};
 ghost use Rattle.form_core.specs.Steps.{Fails};

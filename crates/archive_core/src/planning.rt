@@ -2,7 +2,7 @@
 
 ghost use Rattle.std.specs.Prelude.{◌≡◌, ◌+◌, ◌-◌, ◌<◌, ◌^◌, IfErr, IfOk, List, MatchResult, OnErr, OnOk, Some, ℕ};
 ghost use Rattle.std.specs.Io.KnownBytes.{Appends};
-ghost use Rattle.archive_core.specs.Cutting.{AreTakes, said_cut};
+ghost use Rattle.judge_core.specs.Cutting.{AreTakes, said_cut};
 ghost use Rattle.archive_core.specs.Editing.{Edits};
 ghost use Rattle.archive_core.specs.Planning.{AnswersPlanned, IsFileOf, IsPlanned, Plans};
 ghost use Rattle.cut_core.specs.Hearing.{AreOfTakes};
@@ -11,10 +11,10 @@ ghost use Rattle.form_core.specs.Steps.{Fails};
 ghost use Rattle.master_core.specs.Certifying.{AppendsCert, AppendsCertFront};
 ghost use Rattle.splice_core.specs.Splices.{splice_content};
 
-use crate::cutting::cut_heard;
 use cut_core::{Cut, Heard};
 use device_core::{Device, Outlet};
 use form_core::{Ends, Form};
+use judge_core::cut_heard;
 use master_core::{
     CertifyingRoom, ChosenBridges, MasterRoom, Planned, certify, plan, write_master,
 };

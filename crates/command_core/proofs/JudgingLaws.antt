@@ -3,14 +3,13 @@ use Rattle.std.proofs.Common.{◌≡◌, ℕ, Err, List, [], IfOk, IfSome, Optio
 use Rattle.std.specs.Io.Buffered.{reader_buffer, reader_capacity, reader_inner, reader_remaining}
 use Rattle.std.specs.declared.io.buffered.BufReader.{BufReader}
 use Rattle.cut_core.specs.Cuts.{CutContent}
-use Rattle.archive_core.specs.Checking.{Accepts, IfAccepted, IfRejected, IsFoundIn, IsLeastMaster, RejectsFirst}
-use Rattle.archive_core.specs.Editing.{CostsLeast, CostsWindows, IsMaster}
-use Rattle.archive_core.specs.Cutting.{SaysCut}
-use Rattle.master_core.specs.declared.finding.Found.{Found}
+use Rattle.judge_core.specs.Accepting.{Accepts, CostsLeast, CostsWindows, IfAccepted, IfRejected, IsFoundIn, IsLeastMaster, IsMaster, RejectsFirst}
+use Rattle.judge_core.specs.Cutting.{SaysCut}
+use Rattle.judge_core.specs.declared.finding.Found.{Found}
 use Rattle.transfer_core.specs.declared.fault.Fault.{Fault}
-use Rattle.master_core.specs.declared.verdict.Reason.TheVariants.{MasterUnread}
-use Rattle.master_core.specs.declared.verdict.Verdict.{Verdict}
-use Rattle.master_core.specs.declared.verdict.Verdict.TheVariants.{Accepted, Rejected}
+use Rattle.judge_core.specs.declared.verdict.Reason.TheVariants.{MasterUnread}
+use Rattle.judge_core.specs.declared.verdict.Verdict.{Verdict}
+use Rattle.judge_core.specs.declared.verdict.Verdict.TheVariants.{Accepted, Rejected}
 use Rattle.command_core.specs.Commands.{IsLeastIfAccepted, JudgesBy}
 use Rattle.command_core.specs.Masters.{FindsHeld, IsFoundHeld}
 

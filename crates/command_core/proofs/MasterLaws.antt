@@ -5,18 +5,18 @@ use Rattle.dsd_bits.specs.Contents.{Content}
 use Rattle.dsd_bits.specs.declared.blocks.BitOrder.TheVariants.{LeastFirst, MostFirst}
 use Rattle.form_core.specs.declared.form.Form.TheVariants.{Dsdiff, Dsf, Dsf8}
 use Rattle.cut_core.specs.Cuts.{CutContent}
-use Rattle.master_core.specs.Standing.{IsFoundOf}
+use Rattle.judge_core.specs.Standing.{IsFoundOf}
 use Rattle.sound_core.specs.Files.{IsRefused}
 use Rattle.sound_core.specs.Outlines.{AreTold, around_of, with_sound}
-use Rattle.audit_core.specs.Auditing.{AuditsFile, AuditsGiven, found_in}
-use Rattle.audit_core.specs.declared.auditing.Audited.{Audited}
+use Rattle.judge_core.specs.Auditing.{AuditsFile, AuditsGiven, found_in}
+use Rattle.judge_core.specs.declared.auditing.Audited.{Audited}
 use Rattle.transfer_commands.specs.Outlining.{form_in}
 use Rattle.transfer_commands.proofs.ReadLaws.{known_or_some, untold}
 use Rattle.transfer_commands.proofs.TellLaws.{holds_as}
-use Rattle.archive_core.specs.Checking.{HoldsNothing}
+use Rattle.judge_core.specs.Accepting.{HoldsNothing}
 use Rattle.folder_core.specs.Files.{IsGiven, View}
 use Rattle.transfer_commands.specs.declared.fault.CommandFault.{CommandFault}
-use Rattle.master_core.specs.declared.finding.Found.{Found}
+use Rattle.judge_core.specs.declared.finding.Found.{Found}
 use Rattle.command_core.specs.Masters.{FindsHeld, FindsMaster, IsFoundHeld, IsFoundInSome}
 
 -- what was found of a file in one pass was found of the recording that it holds

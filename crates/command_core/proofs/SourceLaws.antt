@@ -13,8 +13,8 @@ use Rattle.transfer_core.specs.declared.fault.Fault.{Fault}
 use Rattle.transfer_core.specs.declared.fault.Fault.TheVariants.{Memory}
 use Rattle.transfer_core.specs.Faults.{fault_of_cut}
 use Rattle.transfer_commands.specs.declared.sources.Sources.{Sources}
-use Rattle.archive_core.specs.Cutting.{AreTakes, said_cut}
-use Rattle.archive_core.proofs.CuttingLaws.{unheard}
+use Rattle.judge_core.specs.Cutting.{AreTakes, said_cut}
+use Rattle.judge_core.proofs.CuttingLaws.{unheard}
 use Rattle.command_core.specs.Sources.{AreHeardOf}
 
 module _ (s : Sources) where

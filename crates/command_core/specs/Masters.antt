@@ -3,9 +3,9 @@ use Rattle.std.specs.Prelude.{ℕ, List, IfSome, IsTrue, Option, Some, None}
 use Rattle.dsd_bits.specs.Contents.{Content}
 use Rattle.form_core.specs.Forms.{HoldsAs}
 use Rattle.cut_core.specs.Cuts.{CutContent}
-use Rattle.master_core.specs.declared.finding.Found.{Found}
-use Rattle.master_core.specs.Standing.{IsFoundOf}
-use Rattle.archive_core.specs.Checking.{HoldsNothing}
+use Rattle.judge_core.specs.declared.finding.Found.{Found}
+use Rattle.judge_core.specs.Standing.{IsFoundOf}
+use Rattle.judge_core.specs.Accepting.{HoldsNothing}
 use Rattle.folder_core.specs.Files.{IsReadOf, View}
 
 -- this was found of the recording that the file holds

@@ -3,20 +3,21 @@
 ghost use Rattle.std.specs.Prelude.{◌≡◌, ◌-◌, ◌<◌, ◌^◌, ◌⊎◌, IfErr, IfOk, IfSome, List, None, ℕ};
 ghost use Rattle.device_core.specs.Inlets.{inlet_failures, inlet_reader};
 ghost use Rattle.cert_core.specs.Readers.{cert_inlet};
-ghost use Rattle.archive_core.specs.Cutting.{SaysCut};
+ghost use Rattle.judge_core.specs.Cutting.{SaysCut};
 ghost use Rattle.transfer_commands.specs.Outlining.{IsUnread};
 ghost use Rattle.command_core.specs.Commands.{IsLeastIfAccepted, JudgesBy};
 ghost use Rattle.command_core.specs.Masters.{FindsHeld, IsFoundHeld, IsOfSome};
 
 use crate::ending::reads_to_end;
-use archive_core::{Fault, Found, Reason, Verdict, check_found};
 use cert_core::CertReader;
 use cut_core::Cut;
 use device_core::{FusedInlet, Inlet, MOST_READS};
+use judge_core::{Found, Reason, Verdict, check_found};
 use sound_core::StreamFault;
 use std::alloc::Global;
 use std::io::{BufReader, Read};
 use transfer_commands::CommandFault;
+use transfer_core::Fault;
 
 /// How many bytes one read asks for.
 const BLOCK: usize = 65_536;

@@ -2,21 +2,21 @@
 
 ghost use Rattle.std.specs.Prelude.{◌≡◌, ◌-◌, ◌<◌, ◌^◌, IfErr, IfOk, IfSome};
 ghost use Rattle.device_core.specs.Inlets.{inlet_failures, inlet_given, inlet_reader, inlet_reads};
-ghost use Rattle.audit_core.specs.Auditing.{found_in};
+ghost use Rattle.judge_core.specs.Auditing.{found_in};
 ghost use Rattle.transfer_commands.specs.Outlining as outlining;
 ghost use Rattle.transfer_commands.specs.Outlining.{IsUnread};
 ghost use Rattle.command_core.specs.Masters.{FindsMaster, IsFoundHeld, IsFoundInSome, IsOfSome};
 
 use crate::ending::reads_to_end;
-use archive_core::{Fault, Found};
-use audit_core::{Audited, audit};
 use cut_core::Cut;
 use device_core::Inlet;
 use folder_core::Folder;
+use judge_core::{Audited, Found, audit};
 use sound_core::StreamFault;
 use std::alloc::Global;
 use std::io::Read;
 use transfer_commands::{CommandFault, form_in};
+use transfer_core::Fault;
 
 /// What is found of a master that is to be judged by a cut, or none of a file that holds no recording. It is read
 /// once and to its end, and its sound isn't held.

@@ -4,12 +4,13 @@ ghost use Rattle.std.specs.Prelude.{List, ℕ, IfErr, IfOk, None, Some, length};
 ghost use Rattle.splice_core.specs.Splices.{splice_content};
 ghost use Rattle.form_core.specs.Steps.{Fails};
 ghost use Rattle.cut_core.specs.Opening.{IsOfTakes};
-ghost use Rattle.archive_core.specs.Cutting.{SaysCut, said_cut};
+ghost use Rattle.judge_core.specs.Cutting.{SaysCut, said_cut};
 ghost use Rattle.archive_core.specs.Planning.{IsPlanned, Plans};
 ghost use Rattle.command_core.specs.Sources.{AreHeardOf};
 
-use archive_core::{Fault, Form, PlannedMaster, cut_heard, plan_master};
+use archive_core::{Fault, Form, PlannedMaster, plan_master};
 use cut_core::Cut;
+use judge_core::cut_heard;
 use std::alloc::Global;
 use transfer_commands::Sources;
 

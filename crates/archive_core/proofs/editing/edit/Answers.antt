@@ -5,8 +5,8 @@ use Rattle.form_core.specs.Forms.{HoldsSome}
 use Rattle.cut_core.specs.Opening.{file_bytes}
 use Rattle.cut_core.proofs.OpeningLaws.{files_are}
 use Rattle.cut_core.proofs.ZipLaws.{zip_long}
-use Rattle.archive_core.specs.Cutting.{AreTakes}
-use Rattle.archive_core.proofs.CuttingLaws.{only_memory, unheard, unsaid}
+use Rattle.judge_core.specs.Cutting.{AreTakes}
+use Rattle.judge_core.proofs.CuttingLaws.{only_memory, unheard, unsaid}
 use Rattle.archive_core.proofs.editing.edit.Goals as goal
 use Rattle.archive_core.proofs.editing.edit.Goals.{In_ok-takes}
 

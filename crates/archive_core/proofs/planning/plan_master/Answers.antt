@@ -5,11 +5,11 @@ use Rattle.form_core.specs.Parts.{FitsIn}
 use Rattle.splice_core.specs.Splices.{splice_content}
 use Rattle.cut_core.specs.Cuts.{CutContent, master_length}
 use Rattle.transfer_core.specs.declared.fault.Fault.TheVariants.{Memory}
-use Rattle.master_core.specs.Masters.{IsBestMaster, master_of}
+use Rattle.master_core.specs.Best.{IsBestMaster, master_of}
 use Rattle.master_core.proofs.ChoiceLaws.{cert_is, cert_stands}
-use Rattle.archive_core.specs.Cutting.{AreTakes, SaysCut}
+use Rattle.judge_core.specs.Cutting.{AreTakes, SaysCut}
 use Rattle.transfer_core.specs.Faults.{fault_of_writing}
-use Rattle.archive_core.proofs.CuttingLaws.{one_cut, only_memory}
+use Rattle.judge_core.proofs.CuttingLaws.{one_cut, only_memory}
 use Rattle.archive_core.proofs.EditLaws.{any_form, file_certificate, file_costs, file_is_accepted, file_is_master, file_least, one_answer, one_file, plan_only_memory}
 use Rattle.archive_core.proofs.planning.plan_master.Goals as goal
 use Rattle.archive_core.proofs.planning.plan_master.Goals.{In_err-bridges, In_ok-cut}

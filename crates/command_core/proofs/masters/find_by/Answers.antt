@@ -1,8 +1,8 @@
 use Rattle.std.proofs.Common.{IfSome, List, subst, sym, ℕ}
 use Rattle.device_core.specs.Inlets.{inlet_reader}
 use Rattle.dsd_bits.specs.Contents.{Content}
-use Rattle.master_core.specs.Standing.{IsFoundOf}
-use Rattle.master_core.specs.declared.finding.Found.{Found}
+use Rattle.judge_core.specs.Standing.{IsFoundOf}
+use Rattle.judge_core.specs.declared.finding.Found.{Found}
 use Rattle.sound_core.specs.Outlines.{IsOutlineFault}
 use Rattle.command_core.specs.Masters.{FindsHeld}
 use Rattle.command_core.proofs.MasterLaws.{audit_given, audit_held, audit_some, left_refused}

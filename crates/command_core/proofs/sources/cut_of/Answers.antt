@@ -1,6 +1,6 @@
 use Rattle.std.proofs.Common.{None}
 use Rattle.std.proofs.lemmas.Result.{err_from_is_err_and}
-use Rattle.archive_core.specs.Cutting.{said_cut}
+use Rattle.judge_core.specs.Cutting.{said_cut}
 use Rattle.command_core.proofs.SourceLaws.{are_takes, gives_refused, not_heard, of_takes}
 use Rattle.command_core.proofs.sources.cut_of.Goals as goal
 

@@ -1,0 +1,71 @@
+use Rattle.std.proofs.Common.{None, arith}
+use Rattle.std.proofs.lemmas.Result.{err_from_is_err_and}
+use Rattle.splice_core.specs.Splices.{splice_content}
+use Rattle.form_core.specs.Forms.{HoldsSome}
+use Rattle.cut_core.specs.Opening.{file_bytes}
+use Rattle.cut_core.proofs.OpeningLaws.{files_are}
+use Rattle.cut_core.proofs.ZipLaws.{zip_long}
+use Rattle.judge_core.specs.Cutting.{AreTakes}
+use Rattle.judge_core.proofs.CuttingLaws.{only_memory, unheard, unsaid}
+use Rattle.judge_core.proofs.checking.check.Goals as goal
+use Rattle.judge_core.proofs.checking.check.Goals.{In_ok-takes}
+
+-- ---- refusals
+pub returns-in_err-splice : goal.returns-in_err-splice
+returns-in_err-splice c =
+    let p = err_from_is_err_and c.from_residual.result c.from_residual.ensures.1 in
+    let is = unsaid c.args.project.now (file_bytes c.args.takes.now) None c.in_err-splice.field-0.0 c.in_err-splice.ensures.exact in
+    rw (p.1, p.2) (record {
+      found = tt;
+      master = tt;
+      least = tt;
+      joint = tt;
+      windows = tt;
+      only = λ cost accepts. only_memory c.args.project.now (file_bytes c.args.takes.now) None accepts.cut accepts.says c.in_err-splice.field-0.0 is;
+      rejected = tt;
+      refused = is;
+    })
+
+pub returns-in_err-takes : goal.returns-in_err-takes
+returns-in_err-takes c =
+    let p = err_from_is_err_and c.from_residual-in_err-takes.result c.from_residual-in_err-takes.ensures.1 in
+    let is = unheard c.args.project.now (file_bytes c.args.takes.now) (splice_content c.in_ok-splice.splice) None c.in_err-takes.field-0.0 c.in_ok-splice.ensures.found c.in_err-takes.ensures in
+    rw (p.1, p.2) (record {
+      found = tt;
+      master = tt;
+      least = tt;
+      joint = tt;
+      windows = tt;
+      only = λ cost accepts. only_memory c.args.project.now (file_bytes c.args.takes.now) None accepts.cut accepts.says _ is;
+      rejected = tt;
+      refused = is;
+    })
+
+-- ---- what was heard is of the files
+are : (c : In_ok-takes) → AreTakes c.args.project.now (file_bytes c.args.takes.now) (splice_content c.in_ok-splice.splice) c.in_ok-takes.takes.items
+are c =
+    let taken = c.in_ok-takes.ensures in
+    record { project_says = c.in_ok-splice.ensures.found; whole = taken.0; read = files_are (splice_content c.in_ok-splice.splice) (file_bytes c.args.takes.now) taken.0 taken.1; heard = taken.2 }
+
+pub check_heard-requires : goal.check_heard-requires
+check_heard-requires c =
+    let here = are (goal.at.check_heard-requires c).In_ok-takes in
+    record { whole = here.whole; heard = here.heard; as_many = omega (arith, here.read.as_many, zip_long HoldsSome (file_bytes c.args.takes.now) here.whole here.read.held) }
+
+-- ---- what is answered
+pub returns : goal.returns
+returns c =
+    let project = c.args.project.now in
+    let files = file_bytes c.args.takes.now in
+    let here = are (goal.at.returns c).In_ok-takes in
+    let h = c.check_heard.ensures in
+    record {
+      found = h.found project files here;
+      master = h.master project files here;
+      least = h.least project files here;
+      joint = h.joint project files here;
+      windows = h.windows project files here;
+      only = h.only project files here;
+      rejected = h.rejected project files here;
+      refused = h.refused project files here;
+    }

@@ -1,0 +1,10 @@
+pub mod Accepting
+pub mod Auditing
+pub mod Checking
+pub mod Claims
+pub mod Comparing
+pub mod Cutting
+pub mod Judging
+pub mod Laws
+pub mod Masters
+pub mod Standing

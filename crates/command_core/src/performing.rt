@@ -7,7 +7,7 @@ ghost use Rattle.command_core.specs.declared.outcome.Outcome.TheVariants as outc
 
 use crate::ending::fault_behind;
 use crate::judging::judge_opened;
-use crate::masters::find_master;
+use crate::masters::find_named;
 use crate::outcome::Outcome;
 use crate::sources::{cut_of, cut_sources};
 use crate::writing::{write_certificate, write_master};
@@ -101,7 +101,7 @@ fn check_files<F: Folder>(
         Ok(cut) => cut,
         Err(fault) => return Err(fault_behind(folder, master, cert, fault)),
     };
-    let found = find_master(alloc, folder, &cut, master)?;
+    let found = find_named(alloc, folder, &cut, master)?;
     let Ok(file) = folder.open(cert) else {
         return Err(CommandFault::ReadFailed);
     };

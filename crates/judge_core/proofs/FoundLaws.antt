@@ -1,7 +1,5 @@
 -- What was found of a recording, and the reasons against it.
-use Rattle.std.proofs.Common.{◌≡◌, ℕ, ◌+◌, ◌-◌, ◌<◌, Bool, List, [], length, get_or, map, IfOk, Option, None, Some, Result, Ok, Err, sym, ap, subst, ◌∙◌, arith}
-use Rattle.std.specs.Prelude.{MatchOption}
-use Rattle.std.specs.declared.alloc.AllocError.{AllocError}
+use Rattle.std.proofs.Common.{◌≡◌, ℕ, ◌+◌, ◌-◌, ◌<◌, Bool, List, [], length, get_or, map, Option, None, Some, sym, ap, subst, ◌∙◌, arith}
 use Rattle.std.proofs.lemmas.List.{get_or-map, length-map, length-replicate}
 use Rattle.std.proofs.lemmas.List.FromFn.{get_or-map-range_with_len, length-map-range_with_len}
 use Rattle.dsd_bits.specs.Channels.{count_of}
@@ -17,7 +15,6 @@ use Rattle.judge_core.specs.declared.verdict.Reason.{Reason}
 use Rattle.judge_core.specs.declared.verdict.Reason.TheVariants.{MasterUnread, MasterShape, MasterLength, MasterMarks, CuedBit, CertHead, Cert, CertExtra}
 use Rattle.judge_core.specs.Checking.{HaveShape, HoldCues, IsLike, IsMasterOf, MasterReason, OuterReason}
 use Rattle.judge_core.specs.Claims.{bridge_bits}
-use Rattle.judge_core.specs.Judging.{IsCuedBit}
 use Rattle.judge_core.specs.Masters.{channel_numbers}
 use Rattle.judge_core.specs.Standing.{AreKept, FindsCued, IsFoundOf, bridges_kept, kept_at, rows_of}
 use Rattle.judge_core.proofs.TotalLaws.{own_long}
@@ -50,21 +47,6 @@ module _ (cut : CutContent) (form : Form) (r : Content) (like : IsLike cut form 
 
   pub holds_cues : HoldCues cut (channel_numbers cut) r.channels → IsMasterOf cut form r
   holds_cues cued = record { shape = like.shape; long = like.long; titled = like.titled; cued = cued }
-
-  pub cued_reason : (x : Reason) → IsCuedBit cut r x → MasterReason cut form r x
-  cued_reason (CuedBit c place) h = (like.shape, like.long, like.titled, h)
-  cued_reason MasterShape h = absurd h
-  cued_reason MasterLength h = absurd h
-  cued_reason MasterMarks h = absurd h
-  cued_reason MasterUnread h = absurd h
-  cued_reason (CertHead reason) h = absurd h
-  cued_reason (Cert k reason) h = absurd h
-  cued_reason CertExtra h = absurd h
-
-  pub cued_whole : (answer : Result (Option Reason) AllocError) → IfOk answer (λ found. MatchOption found (HoldCues cut (channel_numbers cut) r.channels) (IsCuedBit cut r)) → IfOk answer (λ found. MatchOption found (IsMasterOf cut form r) (MasterReason cut form r))
-  cued_whole (Ok None) h = holds_cues h
-  cued_whole (Ok (Some x)) h = cued_reason x h
-  cued_whole (Err fault) h = tt
 
 -- ---- bits that are kept
 -- those of each channel for the bridge behind cue i
@@ -110,7 +92,7 @@ module _ (cut : CutContent) (found : Found) (r : Content) (is : IsFoundOf cut fo
     found_none none = holds_cues cut found.form r whole (subst (λ (o : Option CuedPlace). FindsCued cut r o) none (is.cued whole.shape whole.long))
 
     pub found_some : (p : CuedPlace) → found.differs ≡ Some p → MasterReason cut found.form r (CuedBit p.channel p.place)
-    found_some p some = cued_reason cut found.form r whole (CuedBit p.channel p.place) (subst (λ (o : Option CuedPlace). FindsCued cut r o) some (is.cued whole.shape whole.long))
+    found_some p some = (whole.shape, whole.long, whole.titled, subst (λ (o : Option CuedPlace). FindsCued cut r o) some (is.cued whole.shape whole.long))
 
     pub found_kept : AreKept cut (rows_of found.kept.items)
     found_kept = kept_whole cut r.channels (like_shape cut found.form r whole is.shaped) (rows_of found.kept.items) (is.kept whole.shape whole.long)

@@ -24,8 +24,8 @@ use Rattle.judge_core.specs.declared.verdict.Verdict.{Verdict}
 use Rattle.judge_core.specs.declared.verdict.Verdict.TheVariants.{Accepted, Rejected}
 use Rattle.judge_core.specs.Checking.{HaveShape, IsMasterOf, MasterReason, rebuilt}
 use Rattle.judge_core.specs.Claims.{AreLeastBridges, IsCertOf, IsLeastClaim, bridge_bits, claim_at}
-use Rattle.judge_core.specs.Judging.{AtCost, IsNoRejection, JudgesCert, JudgesMaster, WhereAccepted}
-use Rattle.judge_core.specs.Masters.{AreLeastChannels, AreMasterChannels, CostLeast, IsLeastChannel, IsLeastPart, IsMasterChannel, part_at, parts_of}
+use Rattle.judge_core.specs.Judging.{AtCost, IsLeastOf, IsNoRejection, JudgesCert, JudgesMaster}
+use Rattle.judge_core.specs.Masters.{AreLeastChannels, AreMasterChannels, IsLeastChannel, IsLeastPart, IsMasterChannel, part_at, parts_of}
 use Rattle.judge_core.proofs.ChannelLaws.{nothing_first}
 use Rattle.judge_core.proofs.LeastLaws.{cost_least}
 use Rattle.judge_core.proofs.TotalLaws.{own_lengths, own_long, windows_are_total}
@@ -65,12 +65,6 @@ nothing_least levels cost x long none = let empty : x ≡ [] = nil_from_length x
 -- what is known of what is there
 pub some_is : {X : Type 0} (P : Type 0) (Q : X → Type 0) (o : Option X) (x : X) → o ≡ Some x → MatchOption o P Q → Q x
 some_is P Q o x e h = subst (λ k. MatchOption k P Q) e h
-
--- what stands anyway stands where it is accepted
-pub where_known : (P : Type 0) (answer : Result Verdict CheckFault) → P → IfOk answer (λ v. WhereAccepted v P)
-where_known P (Ok (Accepted cost)) p = p
-where_known P (Ok (Rejected reason)) p = tt
-where_known P (Err fault) p = tt
 
 -- what stands of all bytes stands of known ones
 pub for_known : (known : Option (List ℕ)) (P : List ℕ → Type 0) → ((bytes : List ℕ) → P bytes) → IfSome known P
@@ -117,11 +111,6 @@ module _ (cut : CutContent) (can : CanCut cut) (form : Form) (r : Content) (is :
   judged_only (Some cert) (Ok (Rejected reason)) h = λ shown. absurd (h.1 shown)
   judged_only (Some cert) (Err fault) h = λ shown. tt
 
-  pub judged_least : (known : Option (List ℕ)) (answer : Result Verdict CheckFault) → IfOk answer (JudgesCert cut r.channels known) → IfOk answer (λ v. WhereAccepted v (AreLeastChannels cut r.channels))
-  judged_least known (Ok (Accepted cost)) h = channels_least h.least
-  judged_least known (Ok (Rejected reason)) h = tt
-  judged_least known (Err fault) h = tt
-
   pub judged_whole : PlacesAreWindows → (known : Option (List ℕ)) (answer : Result Verdict CheckFault) → IfOk answer (JudgesCert cut r.channels known) → IfOk answer (λ v. IfSome known (λ cert. JudgesMaster cut form r cert v))
   judged_whole places None (Ok verdict) h = tt
   judged_whole places None (Err fault) h = tt
@@ -129,8 +118,10 @@ module _ (cut : CutContent) (can : CanCut cut) (form : Form) (r : Content) (is :
   judged_whole places (Some cert) (Ok (Rejected reason)) h = inr (is, h.0)
   judged_whole places (Some cert) (Err fault) h = tt
 
-  pub judged_joint : PlacesAreWindows → LeastTogether → (known : Option (List ℕ)) (answer : Result Verdict CheckFault) → IfOk answer (JudgesCert cut r.channels known) → IfOk answer (λ v. AtCost v (CostLeast cut r.channels))
-  judged_joint places together known (Ok (Accepted cost)) h =
-      cost_least cut can together r.channels cost (channels_least h.least) (h.cost_is ∙ windows_are_total cut r.channels can have_shape is.cued places)
-  judged_joint places together known (Ok (Rejected reason)) h = tt
-  judged_joint places together known (Err fault) h = tt
+  -- what is accepted is least
+  pub judged_least : PlacesAreWindows → LeastTogether → (known : Option (List ℕ)) (answer : Result Verdict CheckFault) → IfOk answer (JudgesCert cut r.channels known) → IfOk answer (λ v. AtCost v (IsLeastOf cut form r))
+  judged_least places together known (Ok (Accepted cost)) h =
+      let least = channels_least h.least in
+      record { is_master = is; made = channels_made; least = least; joint = cost_least cut can together r.channels cost least (h.cost_is ∙ windows_are_total cut r.channels can have_shape is.cued places) }
+  judged_least places together known (Ok (Rejected reason)) h = tt
+  judged_least places together known (Err fault) h = tt

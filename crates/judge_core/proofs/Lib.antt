@@ -6,6 +6,7 @@ pub mod CompareLaws
 pub mod CuedLaws
 pub mod CuttingLaws
 pub mod EntryLaws
+pub mod FindLaws
 pub mod FoundLaws
 pub mod JudgeLaws
 pub mod LeastLaws

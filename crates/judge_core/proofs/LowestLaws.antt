@@ -11,33 +11,23 @@ use Rattle.judge_core.specs.Masters.{channel_numbers}
 use Rattle.judge_core.specs.Standing.{TellAll}
 use Rattle.judge_core.proofs.CuedLaws.{first_off, on_cues}
 
-module _ (cut : CutContent) (can : CanCut cut) (some : 1 ≤ length cut.splice.cues) (r : Content) (shape : HaveShape cut r.channels) where
-  -- what is told of a channel
-  abbrev Tells : ℕ → Option ℕ → Type 0
-  Tells c x = TellsOff cut c (get_or r.channels c []) x
-
-  holds_at : (c : ℕ) → c < channel_number cut → Tells c None → get_or r.channels c [] ≡ rebuilt cut c (get_or r.channels c [])
-  holds_at c there none = on_cues cut can r.channels shape c there some (λ p lt off. none p (lt, off))
-
-  pub all_on : ((c : ℕ) → c < channel_number cut → Tells c None) → HoldCues cut (channel_numbers cut) r.channels
-  all_on none = zip_numbers (λ c z. z ≡ rebuilt cut c z) (channel_number cut) r.channels [] shape.as_many (λ c there. holds_at c there (none c there))
-
-  pub first_is : (c place : ℕ) → c < channel_number cut → ((b : ℕ) → b < c → Tells b None) → Tells c (Some place) → IsFirstCuedBit cut r c place
-  first_is c place there none first = record {
-    there = omega (arith, shape.as_many, there);
-    before = zip_numbers (λ k z. z ≡ rebuilt cut k z) c (take c r.channels) [] (length-take-le c r.channels (omega (arith, shape.as_many, there))) (λ k lt.
-        let same = get_or-take c r.channels k [] lt in
-        subst (λ z. z ≡ rebuilt cut k z) (sym same) (holds_at k (omega (arith, lt, there)) (none k lt)));
-    differs = first_off cut can r.channels shape c there some place first.here.0 (λ p sooner off. first.before p sooner (omega (arith, sooner, first.here.0), off)) first.here.1;
-  }
-
--- of channels of which a list tells it
 module _ (cut : CutContent) (can : CanCut cut) (some : 1 ≤ length cut.splice.cues) (r : Content) (shape : HaveShape cut r.channels) (firsts : List (Option ℕ)) (tells : TellAll cut r.channels firsts) where
   told : (c : ℕ) (x : Option ℕ) → c < channel_number cut → get_or firsts c None ≡ x → TellsOff cut c (get_or r.channels c []) x
   told c x there is = subst (TellsOff cut c (get_or r.channels c [])) is (tells c there)
 
+  holds_at : (c : ℕ) → c < channel_number cut → get_or firsts c None ≡ None → get_or r.channels c [] ≡ rebuilt cut c (get_or r.channels c [])
+  holds_at c there none = on_cues cut can r.channels shape c there some (λ p lt off. told c None there none p (lt, off))
+
   pub all_hold : ((c : ℕ) → c < channel_number cut → get_or firsts c None ≡ None) → HoldCues cut (channel_numbers cut) r.channels
-  all_hold none = all_on cut can some r shape (λ c there. told c None there (none c there))
+  all_hold none = zip_numbers (λ c z. z ≡ rebuilt cut c z) (channel_number cut) r.channels [] shape.as_many (λ c there. holds_at c there (none c there))
 
   pub lowest_is : (c place : ℕ) → c < channel_number cut → ((b : ℕ) → b < c → get_or firsts b None ≡ None) → get_or firsts c None ≡ Some place → IsFirstCuedBit cut r c place
-  lowest_is c place there none is = first_is cut can some r shape c place there (λ b lt. told b None (omega (arith, lt, there)) (none b lt)) (told c (Some place) there is)
+  lowest_is c place there none is =
+      let first = told c (Some place) there is in
+      record {
+        there = omega (arith, shape.as_many, there);
+        before = zip_numbers (λ k z. z ≡ rebuilt cut k z) c (take c r.channels) [] (length-take-le c r.channels (omega (arith, shape.as_many, there))) (λ k lt.
+            let same = get_or-take c r.channels k [] lt in
+            subst (λ z. z ≡ rebuilt cut k z) (sym same) (holds_at k (omega (arith, lt, there)) (none k lt)));
+        differs = first_off cut can r.channels shape c there some place first.here.0 (λ p sooner off. first.before p sooner (omega (arith, sooner, first.here.0), off)) first.here.1;
+      }

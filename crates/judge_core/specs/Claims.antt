@@ -1,6 +1,6 @@
 -- The bridges of a master, by their places: the bits that stand there, and what a certificate is to show of them.
 use Rattle.std.specs.Prelude.{ℕ, ◌+◌, ◌-◌, Bool, List, [], All, length, map, slice_index_or, slice_range, take}
-use Rattle.std.specs.List.{range_with_len, sum_by}
+use Rattle.std.specs.List.{sum_by}
 use Rattle.cost_core.specs.Bridges.{IsLeastBridge, bridge_cost}
 use Rattle.cert_core.specs.Certificates.{Claim, IsCert}
 use Rattle.cut_core.specs.Bridges.{bridges}
@@ -10,10 +10,6 @@ use Rattle.cut_core.specs.declared.bridges.BridgePlace.{BridgePlace}
 -- where the bridge behind cue i starts in the master
 abbrev pub bridge_start : CutContent → ℕ → ℕ
 bridge_start cut i = sum_by span (take i cut.splice.cues) + ((cue_at cut i).stop - (cue_at cut i).start)
-
--- the same behind each cue but the last
-abbrev pub bridge_starts : CutContent → List ℕ
-bridge_starts cut = map (bridge_start cut) (range_with_len 0 (length cut.splice.cues - 1))
 
 -- the bits that stand there in a channel of the master
 abbrev pub bridge_bits : CutContent → List Bool → ℕ → List Bool

@@ -15,33 +15,29 @@ use Rattle.cert_core.specs.declared.verdict.CertVerdict.{CertVerdict}
 use Rattle.cert_core.specs.declared.verdict.CertVerdict.TheVariants as judged
 use Rattle.form_core.specs.declared.form.Form.{Form}
 use Rattle.cut_core.specs.Cuts.{CutContent}
-use Rattle.judge_core.specs.declared.verdict.Reason.{Reason}
-use Rattle.judge_core.specs.declared.verdict.Reason.TheVariants.{CuedBit, Cert}
+use Rattle.judge_core.specs.declared.verdict.Reason.TheVariants.{Cert}
 use Rattle.judge_core.specs.declared.verdict.Verdict.{Verdict}
 use Rattle.judge_core.specs.declared.verdict.Verdict.TheVariants.{Accepted, Rejected}
-use Rattle.judge_core.specs.Checking.{CertReasons, IsFirstCuedBit, IsMasterOf, StandsAgainst}
+use Rattle.judge_core.specs.Checking.{CertReasons, IsMasterOf, StandsAgainst}
 use Rattle.judge_core.specs.Claims.{AreLeastBridges, IsCertOf, IsLeastClaim, claim_cost, windows_total}
-use Rattle.judge_core.specs.Masters.{total_cost}
+use Rattle.judge_core.specs.Masters.{AreLeastChannels, AreMasterChannels, CostLeast, total_cost}
 
 -- it is not rejected
 abbrev pub IsNoRejection : Verdict → Type 0
 IsNoRejection (Accepted cost) = Unit {0}
 IsNoRejection (Rejected reason) = ⊥
 
--- the bits differ from those of the cues there: a reason that names the first place
-abbrev pub IsCuedBit : CutContent → Content → Reason → Type 0
-IsCuedBit cut r (CuedBit c place) = IsFirstCuedBit cut r c place
-IsCuedBit cut r _ = ⊥
-
--- P, where it is accepted
-abbrev pub WhereAccepted : Verdict → Type 0 → Type 0
-WhereAccepted (Accepted cost) P = P
-WhereAccepted (Rejected reason) P = Unit {0}
-
 -- P of the cost, where it is accepted
 abbrev pub AtCost : Verdict → (ℕ → Type 0) → Type 0
 AtCost (Accepted cost) P = P cost
 AtCost (Rejected reason) P = Unit {0}
+
+-- a recording is a master of the cut, no bridge of which could cost less, and of all masters of the cut none costs less than this
+pub record IsLeastOf (cut : CutContent) (form : Form) (r : Content) (cost : ℕ) : Type 0 where
+  pub is_master : IsMasterOf cut form r
+  pub made : AreMasterChannels cut r.channels
+  pub least : AreLeastChannels cut r.channels
+  pub joint : CostLeast cut r.channels cost
 
 -- an accepted master is the cues, and its certificate shows its bridges to be least, which cost so much; against a rejected one this reason stands first
 abbrev pub JudgesMaster : CutContent → Form → Content → List ℕ → Verdict → Type 0

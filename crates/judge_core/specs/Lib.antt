@@ -4,6 +4,7 @@ pub mod Checking
 pub mod Claims
 pub mod Comparing
 pub mod Cutting
+pub mod Finding
 pub mod Judging
 pub mod Laws
 pub mod Masters

@@ -1,4 +1,4 @@
--- The bits of a master's bridges, where they stand: in its channels, or kept of them.
+-- What is found of a master whose bits are gone, and kept of its bridges.
 use Rattle.std.specs.Prelude.{◌≡◌, ℕ, ◌+◌, ◌-◌, ◌<◌, Bool, List, None, [], Option, Vec, MatchOption, length, map, slice_index_or}
 use Rattle.std.specs.declared.alloc.Global.{Global}
 use Rattle.std.specs.List.{range_with_len}
@@ -12,9 +12,7 @@ use Rattle.cut_core.specs.Cuts.{AreAlike, CutContent, channel_number, cue_at, ma
 use Rattle.cut_core.specs.declared.bridges.BridgePlace.{BridgePlace}
 use Rattle.judge_core.specs.declared.finding.CuedPlace.{CuedPlace}
 use Rattle.judge_core.specs.declared.finding.Found.{Found}
-use Rattle.judge_core.specs.declared.standing.StandingBits.{StandingBits}
-use Rattle.judge_core.specs.declared.standing.StandingBits.TheVariants.{Channels, Kept}
-use Rattle.judge_core.specs.Checking.{HaveShape, HoldCues, IsFirstCuedBit}
+use Rattle.judge_core.specs.Checking.{HoldCues, IsFirstCuedBit}
 use Rattle.judge_core.specs.Claims.{bridge_bits, claim_of}
 use Rattle.judge_core.specs.Comparing.{TellsOff}
 use Rattle.judge_core.specs.Masters.{channel_numbers}
@@ -38,24 +36,13 @@ pub record AreKept (cut : CutContent) (rows : List (List (List Bool))) : Type 0 
   pub by_channel : (i : ℕ) → i + 1 < length cut.splice.cues → length (slice_index_or rows i []) ≡ channel_number cut
   pub long : (c i : ℕ) → c < channel_number cut → i + 1 < length cut.splice.cues → length (kept_at rows c i) ≡ (cue_at cut i).bridge
 
--- ---- wherever they stand
--- a source has bits for all bridges of the cut
-abbrev pub IsStanding : CutContent → StandingBits → Type 0
-IsStanding cut (Channels zs) = HaveShape cut zs.now
-IsStanding cut (Kept kept) = AreKept cut (rows_of kept.now)
-
--- those for the bridge behind cue i in channel c
-abbrev pub standing_bits : CutContent → StandingBits → ℕ → ℕ → List Bool
-standing_bits cut (Channels zs) c i = bridge_bits cut (slice_index_or zs.now c []) i
-standing_bits cut (Kept kept) c i = kept_at (rows_of kept.now) c i
-
--- what a certificate is to show of them at a place
-abbrev pub claim_from : CutContent → StandingBits → BridgePlace → Claim
-claim_from cut source p = claim_of cut p (standing_bits cut source p.channel p.cue)
+-- what a certificate is to show of those at a place
+abbrev pub claim_from : CutContent → List (List (List Bool)) → BridgePlace → Claim
+claim_from cut rows p = claim_of cut p (kept_at rows p.channel p.cue)
 
 -- they are those that stand in a master with these channels
-abbrev pub AreBitsOf : CutContent → StandingBits → List (List Bool) → Type 0
-AreBitsOf cut source zs = (p : BridgePlace) → IsPlace cut p → standing_bits cut source p.channel p.cue ≡ bridge_bits cut (slice_index_or zs p.channel []) p.cue
+abbrev pub AreBitsOf : CutContent → List (List (List Bool)) → List (List Bool) → Type 0
+AreBitsOf cut rows zs = (p : BridgePlace) → IsPlace cut p → kept_at rows p.channel p.cue ≡ bridge_bits cut (slice_index_or zs p.channel []) p.cue
 
 -- ---- what was found of a master whose bits are gone
 -- the first bit that isn't that of a cue, if there is one

@@ -19,14 +19,14 @@ use std::io::Read;
 
 /// The file of a master without its sound, and what was found of that.
 #[derive(Drop)]
-pub struct Audited {
+pub(crate) struct Audited {
     /// What stands around the sound, and what it tells.
-    pub outline: Outline,
+    pub(crate) outline: Outline,
     /// The first bit that isn't that of the cue there, by rising channel and then by rising place. It matters only
     /// where the sound has as many channels as the master, and each as many bits.
-    pub differs: Option<CuedPlace>,
+    pub(crate) differs: Option<CuedPlace>,
     /// By cue but the last, and by channel, the bits that stand there for the bridge behind the cue.
-    pub kept: Vec<Vec<Bits>>,
+    pub(crate) kept: Vec<Vec<Bits>>,
 }
 
 /// Reads the file of a master once, as [`read_outline`](sound_core::read_outline) does, and finds of its sound what a
@@ -37,7 +37,7 @@ pub struct Audited {
 ///
 /// Refusals: `FileRefused` where the bytes are neither a DSDIFF nor a DSF file that holds a recording; `ReadFailed`;
 /// `TurnLimit` after `2^40` reads, and whatever is answered there were no more; `Memory`.
-pub fn audit<R: Read>(
+pub(crate) fn audit<R: Read>(
     alloc: Global,
     cut: &Cut,
     inlet: &mut Inlet<R>,

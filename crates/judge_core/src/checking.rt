@@ -1,38 +1,25 @@
 //! Whether a file is the master of a project and takes, and its bridges are the best there are.
 
-ghost use Rattle.std.specs.Prelude.{◌≡◌, ◌+◌, ◌-◌, ◌^◌, ◌<◌, ◌⊎◌, IfErr, IfOk, IfSome, List, MatchOption, None, Some, ℕ};
-ghost use Rattle.judge_core.specs.Accepting as checks;
-ghost use Rattle.judge_core.specs.Accepting.{Accepts, AnswersAccepted, CostsLeast, CostsWindows, fault_of_check, HoldsNothing, IfAccepted, IfRejected, IsAcceptedAt, IsFoundIn, IsLeastFile, IsLeastMaster, IsMaster, JudgesFile, ReadsAccepted, RejectsFirst};
-ghost use Rattle.cut_core.specs.Hearing.{AreOfTakes};
-ghost use Rattle.judge_core.specs.Cutting.{AreTakes, said_cut};
-ghost use Rattle.cert_core.specs.Readers.{cert_inlet, failed_checks};
+ghost use Rattle.std.specs.Prelude.{◌≡◌, ◌+◌, ◌-◌, ◌^◌, ◌<◌, ◌⊎◌, IfErr, IfOk, IfSome, List, None, ℕ};
+ghost use Rattle.cert_core.specs.Readers.{cert_inlet};
+ghost use Rattle.cut_core.specs.Opening.{file_bytes};
 ghost use Rattle.device_core.specs.Inlets.{inlet_failures, inlet_reader};
-ghost use Rattle.judge_core.specs.Checking.{IsMasterOf};
-ghost use Rattle.judge_core.specs.Claims.{IsCertOf};
-ghost use Rattle.judge_core.specs.Judging.{AtCost};
-ghost use Rattle.judge_core.specs.Masters.{total_cost};
-ghost use Rattle.judge_core.specs.Standing.{IsFoundOf};
+ghost use Rattle.form_core.specs.Steps.{Fails};
+ghost use Rattle.judge_core.specs.Accepting.{Accepts, AnswersAccepted, CostsLeast, CostsWindows, IfAccepted, IfRejected, IsLeastMaster, IsMaster, ReadsAccepted, RejectsFirst, fault_of_check};
+ghost use Rattle.judge_core.specs.Cutting.{SaysCut, said_cut};
+ghost use Rattle.judge_core.specs.Finding.{IsFoundHeld, IsFoundIn, IsFoundInSome};
 ghost use Rattle.sound_core.specs.Faults.{failed_reads};
 ghost use Rattle.transfer_core.specs.Faults.{as_stream};
-ghost use Rattle.cut_core.specs.Opening.{file_bytes};
-ghost use Rattle.dsd_bits.specs.Contents.{Content};
-ghost use Rattle.form_core.specs.declared.form.Form.{Form};
-ghost use Rattle.form_core.specs.Forms.{HoldsAs};
-ghost use Rattle.form_core.specs.Opening.{IsOpened};
-ghost use Rattle.form_core.specs.Steps.{Fails};
-ghost use Rattle.splice_core.specs.Splices.{splice_content};
 
 use crate::cutting::cut_heard;
 use crate::finding::{Found, judge_found};
-use crate::judging::judge_read;
+use crate::reading::find_master;
 use crate::verdict::{Reason, Verdict};
 use cert_core::{CertReader, CheckFault};
-use cut_core::{Cut, Heard, hear_takes};
+use cut_core::{Cut, hear_takes};
 use device_core::Inlet;
-use form_core::{Opened, ReadFault, read_any};
 use sound_core::StreamFault;
-use splice_core::Splice;
-use std::alloc::{AllocError, Global};
+use std::alloc::Global;
 use std::io::Read;
 use transfer_core::{Fault, splice_of};
 
@@ -74,121 +61,33 @@ pub fn check(
 {
     let splice = splice_of(alloc, project)?;
     let takes = hear_takes(alloc, &splice, takes)?;
-    check_heard(alloc, splice, takes, master, cert)
-}
-
-/// The same verdict by a splice and what was heard of its takes, in the order of their numbers.
-///
-/// Refusals: those of [`check`] from `TakeMismatch` on, in their order.
-pub fn check_heard(
-    alloc: Global,
-    splice: Splice,
-    takes: Vec<Heard>,
-    master: &[u8],
-    cert: &[u8],
-) -> Result<Verdict, Fault>
-    requires { AreOfTakes (splice_content splice) takes.items }
-    // Of whichever project and files it was heard, the clauses of `check` hold of them.
-    ensures found { (project : List ℕ) (files : List (List ℕ))
-        → AreTakes project files (splice_content splice) takes.items
-        → IfAccepted result (Accepts project files master.now cert.now) }
-    ensures master { (project : List ℕ) (files : List (List ℕ))
-        → AreTakes project files (splice_content splice) takes.items
-        → IfAccepted result (λ _. IsMaster project files master.now) }
-    ensures least { (project : List ℕ) (files : List (List ℕ))
-        → AreTakes project files (splice_content splice) takes.items
-        → IfAccepted result (λ _. IsLeastMaster project files master.now) }
-    ensures joint { (project : List ℕ) (files : List (List ℕ))
-        → AreTakes project files (splice_content splice) takes.items
-        → IfAccepted result (CostsLeast project files master.now) }
-    ensures windows { (project : List ℕ) (files : List (List ℕ))
-        → AreTakes project files (splice_content splice) takes.items
-        → IfAccepted result (CostsWindows project files master.now) }
-    ensures only { (project : List ℕ) (files : List (List ℕ))
-        → AreTakes project files (splice_content splice) takes.items → (cost : ℕ)
-        → Accepts project files master.now cert.now cost → AnswersAccepted result cost }
-    ensures rejected { (project : List ℕ) (files : List (List ℕ))
-        → AreTakes project files (splice_content splice) takes.items
-        → IfRejected result (RejectsFirst project files master.now cert.now) }
-    ensures refused { (project : List ℕ) (files : List (List ℕ))
-        → AreTakes project files (splice_content splice) takes.items
-        → IfErr result (λ fault. Fails Fault.Memory fault (said_cut project files None)) }
-{
     let cut = cut_heard(splice, takes, None)?;
+    let Ok(found) = find_master(alloc, &cut, &mut Inlet::new(master)) else {
+        return Err(Fault::Memory);
+    };
     let mut reader = CertReader::new(Inlet::new(cert));
-    match judge_file(alloc, &cut, master, &mut reader) {
+    match check_found(alloc, &cut, &found, &mut reader) {
         Ok(verdict) => Ok(verdict),
         Err(_) => Err(Fault::Memory),
     }
 }
 
-/// The same verdict by a certificate that is judged while it is read, two rows of it at a time. Only a certificate that is
-/// accepted is read to its end, and none is read where there is a fault, or a reason against the master.
-///
-/// Refusals: those of [`check_heard`]; `ReadFailed` where a read fails.
-pub fn check_read<R: Read>(
-    alloc: Global,
-    splice: Splice,
-    takes: Vec<Heard>,
-    master: &[u8],
-    cert: &mut CertReader<R>,
-) -> Result<Verdict, Fault>
-    requires heard { AreOfTakes (splice_content splice) takes.items }
-    requires ready { inlet_failures (cert_inlet cert.old) < 2 ^ 64 - 1 }
-    // Of whichever project and files it was heard, the clauses of `check` hold of them and of the bytes that the reader has left, where it
-    // tells them. What is accepted is a least master whichever reader it was.
-    ensures found { (project : List ℕ) (files : List (List ℕ))
-        → AreTakes project files (splice_content splice) takes.items
-        → IfAccepted result (λ cost. IfSome (R.remaining (inlet_reader (cert_inlet cert.old)))
-        (λ bytes. Accepts project files master.now bytes cost)) }
-    ensures master { (project : List ℕ) (files : List (List ℕ))
-        → AreTakes project files (splice_content splice) takes.items
-        → IfAccepted result (λ _. IsMaster project files master.now) }
-    ensures least { (project : List ℕ) (files : List (List ℕ))
-        → AreTakes project files (splice_content splice) takes.items
-        → IfAccepted result (λ _. IsLeastMaster project files master.now) }
-    ensures joint { (project : List ℕ) (files : List (List ℕ))
-        → AreTakes project files (splice_content splice) takes.items
-        → IfAccepted result (CostsLeast project files master.now) }
-    ensures windows { (project : List ℕ) (files : List (List ℕ))
-        → AreTakes project files (splice_content splice) takes.items
-        → IfAccepted result (λ cost. IfSome (R.remaining (inlet_reader (cert_inlet cert.old)))
-        (λ _. CostsWindows project files master.now cost)) }
-    ensures only { (project : List ℕ) (files : List (List ℕ))
-        → AreTakes project files (splice_content splice) takes.items → (cost : ℕ)
-        → IfSome (R.remaining (inlet_reader (cert_inlet cert.old)))
-        (λ bytes. Accepts project files master.now bytes cost → ReadsAccepted result cost) }
-    ensures rejected { (project : List ℕ) (files : List (List ℕ))
-        → AreTakes project files (splice_content splice) takes.items
-        → IfRejected result (λ reason. IfSome (R.remaining (inlet_reader (cert_inlet cert.old)))
-        (λ bytes. RejectsFirst project files master.now bytes reason)) }
-    ensures refused { (project : List ℕ) (files : List (List ℕ))
-        → AreTakes project files (splice_content splice) takes.items
-        → IfErr result (λ fault. (fault ≡ Fault.Stream StreamFault.ReadFailed)
-        ⊎ Fails Fault.Memory fault (said_cut project files None)) }
-    // The answer is `ReadFailed` exactly where a read failed.
-    ensures failures { inlet_failures (cert_inlet cert.new)
-        ≡ inlet_failures (cert_inlet cert.old) + failed_reads (as_stream result) }
-{
-    let cut = cut_heard(splice, takes, None)?;
-    match judge_file(alloc, &cut, master, cert) {
-        Ok(verdict) => Ok(verdict),
-        Err(fault) => Err(fault_of(fault)),
-    }
-}
-
-/// The same verdict on a master whose bits are gone, by a cut of its project and takes and what was found of it.
+/// The same verdict by a cut of project and takes, by what was found of the master's file, and by a certificate that is
+/// judged while it is read, two rows of it at a time. Only a certificate that is accepted is read to its end, and none is
+/// read where there is a reason against the master.
 ///
 /// Refusals: `ReadFailed` where a read fails, `Memory`.
 pub fn check_found<R: Read>(
     alloc: Global,
     cut: &Cut,
-    found: &Found,
+    found: &Option<Found>,
     cert: &mut CertReader<R>,
 ) -> Result<Verdict, Fault>
     requires ready { inlet_failures (cert_inlet cert.old) < 2 ^ 64 - 1 }
-    requires some { (r : Content) × IsFoundOf cut.now found.now r }
-    // Of whichever project and files it is the cut, and of whichever file it was found, the clauses of `check_read` hold.
+    requires some { IsFoundInSome cut.now found.now }
+    // Of whichever project and files it is the cut, and of whichever file it was found, the clauses of `check` hold of them
+    // and of the bytes that the reader has left, where it tells them. What is accepted is a least master whichever reader
+    // it was.
     ensures found { (project : List ℕ) (files : List (List ℕ)) (master : List ℕ)
         → IsFoundIn project files cut.now found.now master
         → IfAccepted result (λ cost. IfSome (R.remaining (inlet_reader (cert_inlet cert.old)))
@@ -205,11 +104,11 @@ pub fn check_found<R: Read>(
         → IfAccepted result (λ cost. IfSome (R.remaining (inlet_reader (cert_inlet cert.old)))
         (λ _. CostsWindows project files master cost)) }
     ensures only { (project : List ℕ) (files : List (List ℕ)) (master : List ℕ)
-        → IsFoundIn project files cut.now found.now master → (cost : ℕ)
+        → SaysCut project files None cut.now → IsFoundHeld cut.now master found.now → (cost : ℕ)
         → IfSome (R.remaining (inlet_reader (cert_inlet cert.old))) (λ bytes. Accepts project files master bytes cost
         → ReadsAccepted result cost) }
     ensures rejected { (project : List ℕ) (files : List (List ℕ)) (master : List ℕ)
-        → IsFoundIn project files cut.now found.now master
+        → SaysCut project files None cut.now → IsFoundHeld cut.now master found.now
         → IfRejected result (λ reason. IfSome (R.remaining (inlet_reader (cert_inlet cert.old)))
         (λ bytes. RejectsFirst project files master bytes reason)) }
     ensures refused { IfErr result (λ fault. (fault ≡ Fault.Stream StreamFault.ReadFailed) ⊎ (fault ≡ Fault.Memory)) }
@@ -217,6 +116,9 @@ pub fn check_found<R: Read>(
     ensures failures { inlet_failures (cert_inlet cert.new)
         ≡ inlet_failures (cert_inlet cert.old) + failed_reads (as_stream result) }
 {
+    let Some(found) = found else {
+        return Ok(Verdict::Rejected(Reason::MasterUnread));
+    };
     match judge_found(alloc, cut, found, cert) {
         Ok(judged) => Ok(judged),
         Err(fault) => Err(fault_of(fault)),
@@ -230,51 +132,5 @@ fn fault_of(fault: CheckFault) -> Fault
     match fault {
         CheckFault::Device => Fault::Stream(StreamFault::ReadFailed),
         CheckFault::Memory => Fault::Memory,
-    }
-}
-
-// Whether a file is the master of a cut, and a certificate that is read shows its bridges to be least.
-fn judge_file<R: Read>(
-    alloc: Global,
-    cut: &Cut,
-    master: &[u8],
-    cert: &mut CertReader<R>,
-) -> Result<Verdict, CheckFault>
-    requires { inlet_failures (cert_inlet cert.old) < 2 ^ 64 - 1 }
-    ensures judged { IfOk result (λ verdict. IfSome (R.remaining (inlet_reader (cert_inlet cert.old)))
-        (λ bytes. JudgesFile cut.now master.now bytes verdict)) }
-    ensures least { IfOk result (λ verdict. AtCost verdict (IsLeastFile cut.now master.now)) }
-    ensures only { (form : Form) (r : Content) → HoldsAs master.now form r → IsMasterOf cut.now form r
-        → IfSome (R.remaining (inlet_reader (cert_inlet cert.old))) (λ bytes. IsCertOf cut.now r.channels bytes
-        → IfOk result (IsAcceptedAt (total_cost cut.now r.channels))) }
-    ensures failures { inlet_failures (cert_inlet cert.new)
-        ≡ inlet_failures (cert_inlet cert.old) + failed_checks result }
-{
-    let Some(opened) = open_master(alloc, master)? else {
-        return Ok(Verdict::Rejected(Reason::MasterUnread));
-    };
-    judge_read(alloc, cut, &opened, cert)
-}
-
-// The form and the recording of a file, if it is a DSDIFF or DSF file that can be read.
-fn open_master(alloc: Global, file: &[u8]) -> Result<Option<Opened>, AllocError>
-    ensures opened { IfOk result (λ found. MatchOption found (HoldsNothing file.now) (IsOpened file.now)) }
-    ensures only { (form : Form) (r : Content) → HoldsAs file.now form r
-        → IfOk result (λ found. found ≡ Some (record { form = form; recording = r })) }
-{
-    match read_any(alloc, file) {
-        Ok(opened) => Ok(Some(opened)),
-        Err(fault) if is_memory(&fault) => Err(AllocError),
-        Err(_) => Ok(None),
-    }
-}
-
-// Whether a refusal is want of memory.
-fn is_memory(fault: &ReadFault) -> bool
-    ensures { result ≡ checks.is_memory fault.now }
-{
-    match fault {
-        ReadFault::Memory => true,
-        _ => false,
     }
 }

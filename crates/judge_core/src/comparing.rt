@@ -1,42 +1,21 @@
-//! Whether a recording is the master of a cut, whatever its bridges.
+//! Whether a recording is the master of a cut, as far as this needs none of its bits.
 
 ghost use Rattle.std.specs.Prelude.{◌≡◌, ◌≢◌, IfOk, MatchOption, false, map, true};
 ghost use Rattle.dsd_bits.specs.Contents.{mark_content};
 ghost use Rattle.form_core.specs.declared.form.Form.TheVariants.{Dsdiff};
 ghost use Rattle.cut_core.specs.Titles.{titles_of};
-ghost use Rattle.judge_core.specs.Checking.{HaveShape, HoldCues, IsLike, IsMasterOf, IsTitled, MasterReason, OuterReason};
-ghost use Rattle.judge_core.specs.Judging.{IsCuedBit};
-ghost use Rattle.judge_core.specs.Masters.{channel_numbers};
+ghost use Rattle.judge_core.specs.Checking.{IsLike, IsTitled, OuterReason};
 
-use crate::cueing::first_off_so_far;
 use crate::verdict::Reason;
 use cut_core::{Cut, differ};
 use dsd_bits::{Mark, Recording};
-use form_core::{Form, Opened, has_shape};
+use form_core::Form;
 use std::alloc::{AllocError, Global};
 
-/// The first reason why a recording isn't the master of the cut, if there is one: its rate or number of
-/// channels, its length, in a DSDIFF file its marks, a bit that isn't that of the cue there, by rising
-/// channel and then by rising place. Err is want of memory.
-pub fn master_reason(
-    alloc: Global,
-    cut: &Cut,
-    opened: &Opened,
-) -> Result<Option<Reason>, AllocError>
-    ensures { IfOk result (λ found. MatchOption found (IsMasterOf cut.now opened.now.form opened.now.recording)
-        (MasterReason cut.now opened.now.form opened.now.recording)) }
-{
-    let recording = &opened.recording;
-    has_shape(recording);
-    if let Some(reason) = outer_reason(alloc, cut, opened.form, recording, recording.count())? {
-        return Ok(Some(reason));
-    }
-    Ok(first_cued_bit(cut, recording))
-}
-
-/// The first of these reasons that needs none of its bits, by the recording with them or without, and by how many each
-/// channel has. Err is want of memory.
-pub fn outer_reason(
+/// The first reason why a recording isn't the master of the cut that needs none of its bits, by the recording without
+/// them and by how many each channel has: its rate or number of channels, its length, in a DSDIFF file its marks. Err is
+/// want of memory.
+pub(crate) fn outer_reason(
     alloc: Global,
     cut: &Cut,
     form: Form,
@@ -99,20 +78,4 @@ fn same_mark(a: &Mark, b: &Mark) -> bool
     ensures no { result ≡ false → mark_content a.now ≢ mark_content b.now }
 {
     a == b
-}
-
-// The first bit that isn't that of the cue there.
-fn first_cued_bit(cut: &Cut, recording: &Recording) -> Option<Reason>
-    requires shape { HaveShape cut.now recording.now.channels }
-    ensures { MatchOption result (HoldCues cut.now (channel_numbers cut.now) recording.now.channels)
-        (IsCuedBit cut.now recording.now) }
-{
-    cut.can_cut();
-    let channels = recording.channels();
-    for channel in 0..channels.len() {
-        if let Some(place) = first_off_so_far(cut, channel, 0, &channels[channel], None) {
-            return Some(Reason::CuedBit(channel, place));
-        }
-    }
-    None
 }

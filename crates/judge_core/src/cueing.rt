@@ -10,7 +10,7 @@ use dsd_bits::{Bits, byte_from};
 
 /// The first place of a channel whose bit isn't that of the cue there, once another part of the channel came, which
 /// follows so many bits; `first` is the first of those.
-pub fn first_off_so_far(
+pub(crate) fn first_off_so_far(
     cut: &Cut,
     channel: usize,
     done: usize,

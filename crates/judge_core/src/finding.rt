@@ -7,13 +7,11 @@ ghost use Rattle.cert_core.specs.Readers.{cert_inlet, failed_checks};
 ghost use Rattle.cut_core.specs.Cuts.{channel_number};
 ghost use Rattle.judge_core.specs.Checking.{HaveShape, IsMasterOf, MasterReason};
 ghost use Rattle.judge_core.specs.Claims.{IsCertOf};
-ghost use Rattle.judge_core.specs.Judging.{AtCost, IsNoRejection, JudgesMaster, WhereAccepted};
-ghost use Rattle.judge_core.specs.Masters.{AreLeastChannels, AreMasterChannels, CostLeast};
+ghost use Rattle.judge_core.specs.Judging.{AtCost, IsLeastOf, IsNoRejection, JudgesMaster};
 ghost use Rattle.judge_core.specs.Standing.{AreKept, FindsCued, IsFoundOf, TellAll, rows_of};
 
 use crate::comparing::outer_reason;
 use crate::entries::judge_certificate;
-use crate::standing::StandingBits;
 use crate::verdict::{Reason, Verdict};
 use cert_core::{CertReader, CheckFault};
 use cost_core::{least_together, places_are_windows};
@@ -50,7 +48,7 @@ pub struct Found {
 }
 
 /// The first bit of a master that isn't that of the cue there, by the first such place of each of its channels.
-pub fn lowest_off(cut: &Cut, firsts: &[Option<usize>]) -> Option<CuedPlace>
+pub(crate) fn lowest_off(cut: &Cut, firsts: &[Option<usize>]) -> Option<CuedPlace>
     requires { length firsts.now ≡ channel_number cut.now }
     ensures { (r : Content) → HaveShape cut.now r.channels → TellAll cut.now r.channels firsts.now
         → FindsCued cut.now r result }
@@ -64,10 +62,12 @@ pub fn lowest_off(cut: &Cut, firsts: &[Option<usize>]) -> Option<CuedPlace>
     None
 }
 
-/// The verdict of [`judge_read`](crate::judge_read) on a recording whose bits are gone, by what was found of it.
+/// The verdict on a recording whose bits are gone, by what was found of it and by a certificate that is judged while it is
+/// read, two rows of it at a time. Only a certificate that is accepted is read to its end, and none is read where there is
+/// a reason against the recording.
 ///
 /// Refusals: `Device` where a read fails, `Memory`.
-pub fn judge_found<R: Read>(
+pub(crate) fn judge_found<R: Read>(
     alloc: Global,
     cut: &Cut,
     found: &Found,
@@ -75,18 +75,13 @@ pub fn judge_found<R: Read>(
 ) -> Result<Verdict, CheckFault>
     requires ready { inlet_failures (cert_inlet reader.old) < 2 ^ 64 - 1 }
     requires found { (r : Content) × IsFoundOf cut.now found.now r }
-    // Of whichever recording it was found, the clauses of `judge_read` hold of that.
+    // Of whichever recording it was found: what the verdict says of it and of the bytes that the reader has left.
     ensures judged { (r : Content) → IsFoundOf cut.now found.now r
         → IfOk result (λ verdict. IfSome (R.remaining (inlet_reader (cert_inlet reader.old)))
         (λ cert. JudgesMaster cut.now found.now.form r cert verdict)) }
-    ensures master { (r : Content) → IsFoundOf cut.now found.now r
-        → IfOk result (λ verdict. WhereAccepted verdict (IsMasterOf cut.now found.now.form r)) }
-    ensures channels { (r : Content) → IsFoundOf cut.now found.now r
-        → IfOk result (λ verdict. WhereAccepted verdict (AreMasterChannels cut.now r.channels)) }
+    // What is accepted is least, whichever reader it was.
     ensures least { (r : Content) → IsFoundOf cut.now found.now r
-        → IfOk result (λ verdict. WhereAccepted verdict (AreLeastChannels cut.now r.channels)) }
-    ensures joint { (r : Content) → IsFoundOf cut.now found.now r
-        → IfOk result (λ verdict. AtCost verdict (CostLeast cut.now r.channels)) }
+        → IfOk result (λ verdict. AtCost verdict (IsLeastOf cut.now found.now.form r)) }
     ensures only { (r : Content) → IsFoundOf cut.now found.now r → IsMasterOf cut.now found.now.form r
         → IfSome (R.remaining (inlet_reader (cert_inlet reader.old))) (λ cert. IsCertOf cut.now r.channels cert
         → IfOk result IsNoRejection) }
@@ -100,7 +95,7 @@ pub fn judge_found<R: Read>(
     if let Some(reason) = found_reason(alloc, cut, found)? {
         return Ok(Verdict::Rejected(reason));
     }
-    judge_certificate(alloc, cut, StandingBits::Kept(&found.kept), reader)
+    judge_certificate(alloc, cut, &found.kept, reader)
 }
 
 // The first reason why a recording isn't the master of the cut, by what was found of it.

@@ -3,7 +3,6 @@
 ghost use Rattle.std.specs.Prelude.{◌≡◌, IfOk};
 ghost use Rattle.judge_core.specs.Auditing as specs;
 
-use crate::standing::bridge_starts;
 use cut_core::Cut;
 use dsd_bits::BitRange;
 use std::alloc::{AllocError, Global};
@@ -13,12 +12,13 @@ pub(crate) fn bridge_ranges(alloc: Global, cut: &Cut) -> Result<Vec<BitRange>, A
     ensures { IfOk result (λ made. made.items ≡ specs.bridge_ranges cut.now) }
 {
     cut.can_cut();
-    let starts = bridge_starts(alloc, cut)?;
     let mut ranges = Vec::new(alloc);
-    for i in 0..starts.len() {
-        let start = starts[i];
-        let stop = start + cut.cue(i).bridge;
-        ranges.push(BitRange { start, stop })?;
+    let mut place = 0;
+    for i in 0..cut.cue_number() - 1 {
+        let cue = cut.cue(i);
+        let start = place + (cue.stop - cue.start);
+        place = start + cue.bridge;
+        ranges.push(BitRange { start, stop: place })?;
     }
     Ok(ranges)
 }

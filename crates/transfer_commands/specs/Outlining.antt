@@ -1,14 +1,9 @@
 -- What is known of a file of a folder without its sound.
 use Rattle.std.specs.Prelude.{ℕ, List, IsTrue, Option, Some, None, ⊤}
-use Rattle.dsd_bits.specs.declared.blocks.BitOrder.TheVariants.{LeastFirst, MostFirst}
-use Rattle.dsd_bits.specs.declared.interleaving.Interleaving.{Interleaving}
-use Rattle.dsd_bits.specs.declared.interleaving.Interleaving.TheVariants.{Bytes, Blocks}
 use Rattle.sound_core.specs.Files.{IsRefused}
 use Rattle.sound_core.specs.Outlines.{AreAround, AreTold, around_of}
 use Rattle.sound_core.specs.declared.outline.Outline.{Outline}
 use Rattle.transfer_core.specs.declared.fault.Fault.TheVariants.{Memory}
-use Rattle.form_core.specs.declared.form.Form.{Form}
-use Rattle.form_core.specs.declared.form.Form.TheVariants.{Dsdiff, Dsf, Dsf8}
 use Rattle.folder_core.specs.Files.{Gives, IsReadOf, View}
 use Rattle.transfer_commands.specs.declared.fault.CommandFault.{CommandFault}
 use Rattle.transfer_commands.specs.declared.fault.CommandFault.TheVariants.{Call, ReadFailed}
@@ -28,12 +23,6 @@ pub record OutlinesRead (file_name : List ℕ) (old : View) (outline : Outline) 
 abbrev pub OutlinesFile : List ℕ → View → Option Outline → Type 0
 OutlinesFile file_name old (Some outline) = OutlinesRead file_name old outline
 OutlinesFile file_name old None = IsTrue old.is_told → (file : List ℕ) × Gives old file_name file × IsRefused file
-
--- the form of a file whose sound is interleaved so
-abbrev pub form_in : Interleaving → Form
-form_in Bytes = Dsdiff
-form_in (Blocks LeastFirst) = Dsf
-form_in (Blocks MostFirst) = Dsf8
 
 -- a file was not read: it could not be, or memory was wanting
 abbrev pub IsUnread : CommandFault → Type 0

@@ -29,4 +29,4 @@ pub use fault::CommandFault;
 pub use outlining::MOST_KEPT;
 pub use playing::play_file;
 pub use sources::{Sources, hear_sources};
-pub use telling::{form_in, open_file};
+pub use telling::open_file;

@@ -1,20 +1,17 @@
 //! Reading a file of a folder to tell of it.
 
-ghost use Rattle.std.specs.Prelude.{◌≡◌, IfErr, IfOk};
-ghost use Rattle.dsd_bits.specs.Channels.{count_of};
-ghost use Rattle.transfer_commands.specs.Outlining as outlining;
+ghost use Rattle.std.specs.Prelude.{IfErr, IfOk};
 ghost use Rattle.transfer_commands.specs.Outlining.{IsOutlined};
 ghost use Rattle.transfer_commands.specs.Telling.{IsToldOf, IsUntoldOf, TellComesTo};
 
 use crate::fault::CommandFault;
 use crate::outlining::outline_file;
-use dsd_bits::{BitOrder, Interleaving};
 use folder_core::{Folder, read_file, read_short};
-use form_core::{Form, read_any};
+use form_core::read_any;
 use info_core::Told;
 use sound_core::Outline;
 use std::alloc::Global;
-use transfer_core::Fault;
+use transfer_core::{Fault, form_in};
 
 /// What a file holds, told without its bits. A file of fewer than `most` bytes is read whole. Any other is opened again
 /// and read in one pass, in which its sound isn't held; and only where it holds no recording it is opened a third time and
@@ -58,16 +55,5 @@ fn told_by(outline: Outline) -> Told
         form,
         recording: outline.recording,
         count,
-    }
-}
-
-/// The form of a file whose sound is interleaved so.
-pub fn form_in(interleaving: Interleaving) -> Form
-    ensures { result ≡ outlining.form_in interleaving }
-{
-    match interleaving {
-        Interleaving::Bytes => Form::Dsdiff,
-        Interleaving::Blocks(BitOrder::LeastFirst) => Form::Dsf,
-        Interleaving::Blocks(BitOrder::MostFirst) => Form::Dsf8,
     }
 }

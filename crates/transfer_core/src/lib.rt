@@ -2,8 +2,9 @@
 //! ([`convert`], and [`convert_stream`] from a reader to a writer) or played by what a project text says ([`play`],
 //! [`play_stream`]).
 //!
-//! Here is also what the calls of `archive_core` share: why a call is refused ([`Fault`]), and what a project text has
-//! ([`take_names`], [`splice_of`]). Nothing here knows of cuts but for the name of their faults.
+//! Here is also what the calls of `archive_core` share: why a call is refused ([`Fault`]), what a project text has
+//! ([`take_names`], [`splice_of`]), and which form a file has by its sound ([`form_in`]). Nothing here knows of cuts but
+//! for the name of their faults.
 //!
 //! The words of the contracts:
 //!
@@ -27,10 +28,12 @@
 
 mod converting;
 mod fault;
+mod forms;
 mod playing;
 mod projects;
 
 pub use converting::{Converted, convert, convert_stream};
 pub use fault::Fault;
+pub use forms::form_in;
 pub use playing::{play, play_stream};
 pub use projects::{splice_of, take_names};

@@ -5,11 +5,10 @@ use Rattle.device_core.specs.Inlets.{inlet_reader}
 use Rattle.cert_core.specs.Readers.{cert_inlet}
 use Rattle.dsd_bits.specs.Contents.{Content}
 use Rattle.judge_core.proofs.FoundLaws.{kept_bits}
-use Rattle.judge_core.proofs.JudgeLaws.{channels_made, for_known, judged_joint, judged_least, judged_only, judged_whole, reason_against, some_is, where_known}
+use Rattle.judge_core.proofs.JudgeLaws.{for_known, judged_least, judged_only, judged_whole, reason_against, some_is}
 use Rattle.judge_core.specs.Checking.{IsMasterOf, MasterReason}
 use Rattle.judge_core.specs.Claims.{IsCertOf}
 use Rattle.judge_core.specs.Judging.{JudgesCert, JudgesMaster}
-use Rattle.judge_core.specs.Masters.{AreMasterChannels}
 use Rattle.judge_core.specs.Standing.{IsFoundOf, kept_at, rows_of}
 use Rattle.judge_core.specs.declared.verdict.Verdict.TheVariants.{Rejected}
 use Rattle.judge_core.proofs.finding.judge_found.Given.{Over}
@@ -25,10 +24,7 @@ returns-in-Some g c =
     let at = (goal.at.returns-in-Some g c).In-Some in
     record {
       judged = λ r is. for_known (g.R.Read.remaining (inlet_reader (cert_inlet c.args.reader.now))) (λ cert. JudgesMaster c.args.cut.now c.args.found.now.form r cert (Rejected c.in-Some.reason)) (λ cert. inl (reason g at r is));
-      master = λ r is. tt;
-      channels = λ r is. tt;
       least = λ r is. tt;
-      joint = λ r is. tt;
       only = λ r is master. absurd (reason_against c.args.cut.now c.args.found.now.form r c.in-Some.reason (reason g at r is) master);
       failures = sym (add-zero _);
     }
@@ -38,10 +34,7 @@ returns-in_err-reason g c =
     let p = err_from_is_err_and c.from_residual.result c.from_residual.ensures.1 in
     rw (p.1, p.2) (record {
       judged = λ r is. tt;
-      master = λ r is. tt;
-      channels = λ r is. tt;
       least = λ r is. tt;
-      joint = λ r is. tt;
       only = λ r is master. for_known (g.R.Read.remaining (inlet_reader (cert_inlet c.args.reader.now))) (λ cert. IsCertOf c.args.cut.now r.channels cert → Unit {0}) (λ cert shown. tt);
       failures = sym (add-zero _);
     })
@@ -67,13 +60,10 @@ returns g c =
     let answer = c.judge_certificate.result in
     record {
       judged = λ r is. judged_whole cut fits form r (master g at r is) is.shaped c.places_are_windows.ensures known answer (certified g at r is);
-      master = λ r is. where_known (IsMasterOf cut form r) answer (master g at r is);
-      channels = λ r is. where_known (AreMasterChannels cut r.channels) answer (channels_made cut fits form r (master g at r is) is.shaped);
-      least = λ r is. judged_least cut fits form r (master g at r is) is.shaped known answer (certified g at r is);
-      joint = λ r is. judged_joint cut fits form r (master g at r is) is.shaped c.places_are_windows.ensures c.least_together.ensures known answer (certified g at r is);
+      least = λ r is. judged_least cut fits form r (master g at r is) is.shaped c.places_are_windows.ensures c.least_together.ensures known answer (certified g at r is);
       only = λ r is own. judged_only cut fits form r own is.shaped known answer (certified g at r is);
       failures = c.judge_certificate.ensures.failures;
     }
 
-pub judge_certificate-requires-clause-source : goal.judge_certificate-requires-clause-source
-judge_certificate-requires-clause-source g c = rw c.deref.ensures.value (c.in_ok-reason.ensures.kept c.in_default.is)
+pub judge_certificate-requires-clause-kept : goal.judge_certificate-requires-clause-kept
+judge_certificate-requires-clause-kept g c = rw c.deref.ensures.value (c.in_ok-reason.ensures.kept c.in_default.is)

@@ -38,7 +38,7 @@ mod laws;
 mod planning;
 
 pub use cut_core::CutFault;
-pub use editing::{Edited, edit, edit_heard};
+pub use editing::{Edited, edit};
 pub use form_core::{Form, Opened, ReadFault, read_any};
 pub use judge_core::{Reason, Verdict, accepted_is_least, check};
 pub use laws::{least_is_accepted, read_in_order};

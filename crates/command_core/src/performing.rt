@@ -97,7 +97,7 @@ fn check_files<F: Folder>(
     ensures { CheckComesTo project.now master.now cert.now (F.view folder.old) (F.view folder.new) result }
 {
     let sources = hear_sources(alloc, folder, project, MOST_KEPT)?;
-    let cut = match cut_of(sources) {
+    let cut = match cut_of(sources, None) {
         Ok(cut) => cut,
         Err(fault) => return Err(fault_behind(folder, master, cert, fault)),
     };

@@ -11,17 +11,17 @@ ghost use Rattle.judge_core.specs.Finding.{IsFoundHeld, IsFoundIn, IsFoundInSome
 ghost use Rattle.sound_core.specs.Faults.{failed_reads};
 ghost use Rattle.transfer_core.specs.Faults.{as_stream};
 
-use crate::cutting::cut_heard;
+use crate::cutting::cut_files;
 use crate::finding::{Found, judge_found};
 use crate::reading::find_master;
 use crate::verdict::{Reason, Verdict};
 use cert_core::{CertReader, CheckFault};
-use cut_core::{Cut, hear_takes};
+use cut_core::Cut;
 use device_core::Inlet;
 use sound_core::StreamFault;
 use std::alloc::Global;
 use std::io::Read;
-use transfer_core::{Fault, splice_of};
+use transfer_core::Fault;
 
 /// Whether a file is the master of a project and its takes, and a certificate shows that no bridge in it
 /// could cost less, whoever wrote them. It is accepted exactly where this is so, with the sum of what the
@@ -59,9 +59,7 @@ pub fn check(
     ensures refused { IfErr result (λ fault. Fails Fault.Memory fault
         (said_cut project.now (file_bytes takes.now) None)) }
 {
-    let splice = splice_of(alloc, project)?;
-    let takes = hear_takes(alloc, &splice, takes)?;
-    let cut = cut_heard(splice, takes, None)?;
+    let cut = cut_files(alloc, project, takes, None)?;
     let Ok(found) = find_master(alloc, &cut, &mut Inlet::new(master)) else {
         return Err(Fault::Memory);
     };

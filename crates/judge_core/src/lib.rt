@@ -2,9 +2,10 @@
 //! here makes a master, and nothing searches: this crate stands on the costs of bridges (`cost_core`), on what a
 //! certificate shows (`cert_core`) and on the cuts of takes (`cut_core`).
 //!
-//! [`check`] judges a master and its certificate, from project and files on: [`cut_heard`] opens the cut of project and
+//! [`check`] judges a master and its certificate, from project and files on: [`cut_files`] opens the cut of project and
 //! takes, [`find_master`] reads the master's file once, and [`check_found`] judges what was found of it ([`Found`]) by a
-//! certificate that is judged while it is read. Each of them can be called alone, over any reader.
+//! certificate that is judged while it is read. Each of them can be called alone, over any reader; [`cut_heard`] opens the
+//! cut by what was heard of takes that were read before.
 //!
 //! While the sound of a master comes by, a few groups of blocks at a time, an auditor (`auditor.rt`) compares it with the
 //! cues (`cueing.rt`) and keeps the bits of the bridges (`ranges.rt`): what is held beside them is three blocks of the
@@ -52,7 +53,7 @@ mod reading;
 mod verdict;
 
 pub use checking::{check, check_found};
-pub use cutting::cut_heard;
+pub use cutting::{cut_files, cut_heard};
 pub use finding::{CuedPlace, Found};
 pub use laws::accepted_is_least;
 pub use reading::find_master;

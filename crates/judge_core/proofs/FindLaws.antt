@@ -41,11 +41,6 @@ pub held_some : (cut : CutContent) (file : List ℕ) (o : Option Found) → IsFo
 held_some cut file None h = tt
 held_some cut file (Some f) h = (file, h)
 
--- what was found of what was read was found of some bytes
-pub given_some : {R : Type 0} (left : R → Option (List ℕ)) (i j : Inlet R) (cut : CutContent) (o : Option Found) → IsFoundGiven left i j cut o → IsFoundInSome cut o
-given_some left i j cut None h = tt
-given_some left i j cut (Some f) (read, reads, held) = (read, held)
-
 -- a file that is refused is one of no form
 refused_holds : (file : List ℕ) → IsRefused file → HoldsNothing file
 refused_holds file refused Dsdiff r h = refused r (inl h)

@@ -13,13 +13,14 @@ use Rattle.form_core.specs.Writing.{HoldsSound}
 use Rattle.cut_core.specs.Cuts.{CutContent, master_length}
 use Rattle.cut_core.specs.Opening.{IsWhole}
 use Rattle.master_core.specs.Certificates.{cert_of}
-use Rattle.master_core.specs.Checking.{HoldCues, IsMasterOf}
-use Rattle.master_core.specs.Claims.{IsCertOf, windows_total}
-use Rattle.master_core.specs.Masters.{AreBestChannels, AreMasterChannels, CostLeast, IsBestMaster, channel_numbers, master_of, total_cost}
+use Rattle.judge_core.specs.Checking.{HoldCues, IsMasterOf}
+use Rattle.judge_core.specs.Claims.{IsCertOf, windows_total}
+use Rattle.master_core.specs.Best.{AreBestChannels, IsBestMaster, master_of}
+use Rattle.judge_core.specs.Masters.{AreMasterChannels, CostLeast, channel_numbers, total_cost}
 use Rattle.master_core.proofs.MasterLaws.{one_master}
-use Rattle.archive_core.specs.Checking.{Accepts}
-use Rattle.archive_core.specs.Editing.{CostsLeast, CostsWindows, IsCertificate, IsMaster}
-use Rattle.archive_core.specs.Cutting.{SaysCut}
+use Rattle.judge_core.specs.Accepting.{Accepts, CostsLeast, CostsWindows, IsMaster}
+use Rattle.archive_core.specs.Editing.{IsCertificate}
+use Rattle.judge_core.specs.Cutting.{SaysCut}
 
 -- no form is none that is asked for
 no_form : (form : Form) → None ≡ Some form → ⊥

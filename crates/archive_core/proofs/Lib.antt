@@ -1,5 +1,2 @@
-pub mod AcceptedLaws
 pub mod CertificateLaws
-pub mod CheckLaws
-pub mod CuttingLaws
 pub mod EditLaws

@@ -5,12 +5,12 @@ use Rattle.form_core.specs.Forms.{text_in}
 use Rattle.master_core.specs.Certifying.{Certifies, IsRoomOf}
 use Rattle.master_core.specs.Choosing.{AreBridgesOf}
 use Rattle.master_core.specs.Filing.{AreMasterEnds}
-use Rattle.master_core.specs.Masters.{AreBestChannels, master_of}
+use Rattle.master_core.specs.Best.{AreBestChannels, master_of}
 use Rattle.master_core.specs.Writing.{IsRoomFor}
 use Rattle.transfer_core.specs.declared.fault.Fault.{Fault}
 use Rattle.transfer_core.specs.declared.fault.Fault.TheVariants.{Memory}
-use Rattle.archive_core.specs.Checking.{Accepts}
-use Rattle.archive_core.specs.Editing.{CostsLeast, CostsWindows, Edits, IsCertificate, IsMaster}
+use Rattle.judge_core.specs.Accepting.{Accepts, CostsLeast, CostsWindows, IsMaster}
+use Rattle.archive_core.specs.Editing.{Edits, IsCertificate}
 use Rattle.archive_core.specs.declared.planning.PlannedMaster.{PlannedMaster}
 
 -- the bytes are the master's file: the text of the best channels of its cut

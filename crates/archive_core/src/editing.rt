@@ -1,22 +1,19 @@
 //! Masters cut from takes by cue lists.
 
 ghost use Rattle.std.specs.Prelude.{◌≡◌, IfErr, IfOk, List, Some, ℕ};
-ghost use Rattle.archive_core.specs.Checking.{Accepts};
-ghost use Rattle.archive_core.specs.Editing.{AnswersEdited, CostsLeast, CostsWindows, Edits, IsCertificate, IsEdited, IsMaster};
+ghost use Rattle.judge_core.specs.Accepting.{Accepts, CostsLeast, CostsWindows, IsMaster};
+ghost use Rattle.archive_core.specs.Editing.{AnswersEdited, Edits, IsCertificate, IsEdited};
 ghost use Rattle.archive_core.specs.Planning.{CertifiesPlanned, IsFileOf, IsPlanned, IsSamePlan};
-ghost use Rattle.cut_core.specs.Hearing.{AreOfTakes};
-ghost use Rattle.archive_core.specs.Cutting.{AreTakes, said_cut};
-ghost use Rattle.splice_core.specs.Splices.{splice_content};
+ghost use Rattle.judge_core.specs.Cutting.{said_cut};
 ghost use Rattle.cut_core.specs.Opening.{file_bytes};
 ghost use Rattle.form_core.specs.Steps.{Fails};
 
 use crate::planning::{PlannedMaster, plan_master};
-use cut_core::{Heard, hear_takes};
 use device_core::Outlet;
 use form_core::Form;
-use splice_core::Splice;
+use judge_core::cut_files;
 use std::alloc::{AllocError, Global};
-use transfer_core::{Fault, splice_of};
+use transfer_core::Fault;
 
 /// A master that was cut.
 #[derive(Drop)]
@@ -65,47 +62,8 @@ pub fn edit(alloc: Global, project: &[u8], takes: &[Vec<u8>], form: Form) -> Res
     ensures refused { IfErr result (λ fault. Fails Fault.Memory fault
         (said_cut project.now (file_bytes takes.now) (Some form))) }
 {
-    let splice = splice_of(alloc, project)?;
-    let takes = hear_takes(alloc, &splice, takes)?;
-    edit_heard(alloc, splice, takes, form)
-}
-
-/// The same master and certificate of a splice and what was heard of its takes, in the order of their numbers.
-///
-/// Refusals: those of [`edit`] from `TakeMismatch` on, in their order.
-pub fn edit_heard(
-    alloc: Global,
-    splice: Splice,
-    takes: Vec<Heard>,
-    form: Form,
-) -> Result<Edited, Fault>
-    requires { AreOfTakes (splice_content splice) takes.items }
-    // Of whichever project and files it was heard, the clauses of `edit` hold of them.
-    ensures found { (project : List ℕ) (files : List (List ℕ))
-        → AreTakes project files (splice_content splice) takes.items → IfOk result (IsEdited project files form) }
-    ensures master { (project : List ℕ) (files : List (List ℕ))
-        → AreTakes project files (splice_content splice) takes.items
-        → IfOk result (λ made. IsMaster project files made.master.items) }
-    ensures certificate { (project : List ℕ) (files : List (List ℕ))
-        → AreTakes project files (splice_content splice) takes.items
-        → IfOk result (λ made. IsCertificate project files made.master.items made.cert.items) }
-    ensures accepted { (project : List ℕ) (files : List (List ℕ))
-        → AreTakes project files (splice_content splice) takes.items
-        → IfOk result (λ made. Accepts project files made.master.items made.cert.items made.total) }
-    ensures joint { (project : List ℕ) (files : List (List ℕ))
-        → AreTakes project files (splice_content splice) takes.items
-        → IfOk result (λ made. CostsLeast project files made.master.items made.total) }
-    ensures windows { (project : List ℕ) (files : List (List ℕ))
-        → AreTakes project files (splice_content splice) takes.items
-        → IfOk result (λ made. CostsWindows project files made.master.items made.total) }
-    ensures only { (project : List ℕ) (files : List (List ℕ))
-        → AreTakes project files (splice_content splice) takes.items → (master : List ℕ) (cost : ℕ)
-        → Edits project files form master cost → AnswersEdited result master cost }
-    ensures refused { (project : List ℕ) (files : List (List ℕ))
-        → AreTakes project files (splice_content splice) takes.items
-        → IfErr result (λ fault. Fails Fault.Memory fault (said_cut project files (Some form))) }
-{
-    let mut planned = plan_master(alloc, splice, takes, form)?;
+    let cut = cut_files(alloc, project, takes, Some(form))?;
+    let mut planned = plan_master(alloc, cut, form)?;
     let total = planned.total();
     let master = master_of(alloc, &mut planned)?;
     let cert = cert_of(alloc, planned)?;

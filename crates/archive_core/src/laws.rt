@@ -1,7 +1,8 @@
 //! What the words of the contracts have to do with each other. The functions do nothing: a caller's
 //! proof cites what they ensure.
 
-ghost use Rattle.archive_core.specs.Laws.{AcceptedCostsLeast, AcceptedCostsWindows, AcceptedIsLeast, AcceptedIsMaster, LeastIsAccepted, OneCertificate, SaysCutInOrder};
+ghost use Rattle.judge_core.specs.Laws.{SaysCutInOrder};
+ghost use Rattle.archive_core.specs.Laws.{LeastIsAccepted, OneCertificate};
 ghost use Rattle.transfer_core.specs.Laws.{ConvertsInOrder, PlaysInOrder, SaysTakesInOrder};
 
 /// What a file converts to, what project and file play, which takes a text cuts and which cut it comes to is what
@@ -11,16 +12,6 @@ pub fn read_in_order()
     ensures plays { PlaysInOrder }
     ensures takes { SaysTakesInOrder }
     ensures cuts { SaysCutInOrder }
-{}
-
-/// What is accepted with a certificate is a master of its project and takes. None of its bridges could cost less, and no
-/// master of the project and the takes costs less than it is accepted at, which is the sum over the windows of its
-/// bridges.
-pub fn accepted_is_least()
-    ensures master { AcceptedIsMaster }
-    ensures least { AcceptedIsLeast }
-    ensures joint { AcceptedCostsLeast }
-    ensures windows { AcceptedCostsWindows }
 {}
 
 /// The certificate that is written of a master is a function of the project, the takes and the master's bits. With it a

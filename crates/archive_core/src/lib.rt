@@ -5,21 +5,19 @@
 //! [`Form`], and [`play`] makes a RIFF WAVE file of it, decimated as a project text says; [`play_stream`] does so from
 //! a reader to a writer. [`take_names`] tells which takes a project text cuts, [`edit`] cuts its master from them and
 //! certifies it, [`plan_master`] does so up to the writing, and [`check`] judges a master and its certificate, whoever made
-//! them, [`check_read`] by a certificate that is judged while it is read, [`check_found`] also by what was found of the
-//! master while it was read. What is done with one recording is
-//! [`transfer_core`]'s; cuts are [`cut_core`]'s, masters [`master_core`]'s: here stand the calls over them whole, from
-//! project and files on.
+//! them. What is done with one recording is [`transfer_core`]'s, and judging [`judge_core`]'s; cuts are [`cut_core`]'s,
+//! masters [`master_core`]'s: here stand the calls that cut them, from project and files on.
 //!
 //! The words of the contracts:
 //!
 //! - `Converts`, `Plays` and `SaysTakes` (`transfer_core`): what a file converts to, what project and file play, and which
 //!   takes a text cuts.
-//! - `SaysCut project files form cut` says that project and files come to this cut (`specs/Cutting.antt`).
+//! - `SaysCut project files form cut` (`judge_core`) says that project and files come to this cut.
 //! - `Edits project files form master cost` says that these bytes are the file of the master with the first least
-//!   bridges, which cost so much; `IsMaster project files file` that a file is a master, whatever its bridges;
-//!   `IsCertificate project files file cert` that these bytes are its certificate, of which there is one
-//!   (`specs/Editing.antt`); `Accepts project files master cert cost` that it is, and that the certificate shows each
-//!   bridge to be least (`specs/Checking.antt`).
+//!   bridges, which cost so much; `IsCertificate project files file cert` that these bytes are its certificate, of which
+//!   there is one (`specs/Editing.antt`).
+//! - `IsMaster project files file` (`judge_core`) says that a file is a master, whatever its bridges;
+//!   `Accepts project files master cert cost` that it is, and that the certificate shows each bridge to be least.
 //!
 //! Beside `Converts`, `Plays`, `SaysTakes` and `SaysCut` stands a reading in the order of the refusals, to what is
 //! answered or the first fault: `converted_of`, `played_of`, `take_names_of`, `said_cut`. A call gives what its reading
@@ -35,19 +33,15 @@
 //! ```
 #![tactic(auto)]
 
-mod checking;
-mod cutting;
 mod editing;
 mod laws;
 mod planning;
 
-pub use checking::{check, check_found, check_heard, check_read};
 pub use cut_core::CutFault;
-pub use cutting::cut_heard;
-pub use editing::{Edited, edit, edit_heard};
+pub use editing::{Edited, edit};
 pub use form_core::{Form, Opened, ReadFault, read_any};
-pub use laws::{accepted_is_least, least_is_accepted, read_in_order};
-pub use master_core::{CuedPlace, Found, Reason, Verdict};
+pub use judge_core::{Reason, Verdict, accepted_is_least, check};
+pub use laws::{least_is_accepted, read_in_order};
 pub use planning::{PlannedMaster, plan_master};
 pub use sound_core::StreamFault;
 pub use transfer_core::{Converted, Fault, convert, play, play_stream, take_names};

@@ -2,23 +2,18 @@
 
 ghost use Rattle.std.specs.Prelude.{◌≡◌, ◌+◌, ◌-◌, ◌<◌, ◌^◌, IfErr, IfOk, List, MatchResult, OnErr, OnOk, Some, ℕ};
 ghost use Rattle.std.specs.Io.KnownBytes.{Appends};
-ghost use Rattle.archive_core.specs.Cutting.{AreTakes, said_cut};
+ghost use Rattle.judge_core.specs.Cutting.{SaysCut};
 ghost use Rattle.archive_core.specs.Editing.{Edits};
 ghost use Rattle.archive_core.specs.Planning.{AnswersPlanned, IsFileOf, IsPlanned, Plans};
-ghost use Rattle.cut_core.specs.Hearing.{AreOfTakes};
 ghost use Rattle.device_core.specs.Outlets.{AppendsPart, outlet_failures, outlet_writer};
-ghost use Rattle.form_core.specs.Steps.{Fails};
 ghost use Rattle.master_core.specs.Certifying.{AppendsCert, AppendsCertFront};
-ghost use Rattle.splice_core.specs.Splices.{splice_content};
 
-use crate::cutting::cut_heard;
-use cut_core::{Cut, Heard};
+use cut_core::Cut;
 use device_core::{Device, Outlet};
 use form_core::{Ends, Form};
 use master_core::{
     CertifyingRoom, ChosenBridges, MasterRoom, Planned, certify, plan, write_master,
 };
-use splice_core::Splice;
 use std::alloc::Global;
 use std::io::Write;
 use transfer_core::Fault;
@@ -37,30 +32,21 @@ pub struct PlannedMaster {
     cert_room: CertifyingRoom,
 }
 
-/// The master of a splice and what was heard of its takes, in the order of their numbers, before it is written.
+/// The master of a cut, before it is written. The cut is one into a file of the form.
 ///
-/// Refusals: those of [`edit`](crate::edit) from `TakeMismatch` on, in their order.
-pub fn plan_master(
-    alloc: Global,
-    splice: Splice,
-    takes: Vec<Heard>,
-    form: Form,
-) -> Result<PlannedMaster, Fault>
-    requires { AreOfTakes (splice_content splice) takes.items }
+/// Refusals: `Memory`; `NotWholeBytes` only of a cut that is none into a file of the form.
+pub fn plan_master(alloc: Global, cut: Cut, form: Form) -> Result<PlannedMaster, Fault>
     ensures planned { IfOk result IsPlanned }
     // It is the plan of a file.
     ensures file { IfOk result (λ planned. (file : List ℕ) × IsFileOf planned file) }
-    // Of whichever project and files it was heard, it is their master, whose certificate shows it to be least.
-    ensures found { (project : List ℕ) (files : List (List ℕ))
-        → AreTakes project files (splice_content splice) takes.items → IfOk result (Plans project files form) }
-    ensures only { (project : List ℕ) (files : List (List ℕ))
-        → AreTakes project files (splice_content splice) takes.items → (master : List ℕ) (cost : ℕ)
-        → Edits project files form master cost → AnswersPlanned result master cost }
-    ensures refused { (project : List ℕ) (files : List (List ℕ))
-        → AreTakes project files (splice_content splice) takes.items
-        → IfErr result (λ fault. Fails Fault.Memory fault (said_cut project files (Some form))) }
+    // Of whichever project and files it is the cut, it is their master, whose certificate shows it to be least.
+    ensures found { (project : List ℕ) (files : List (List ℕ)) → SaysCut project files (Some form) cut
+        → IfOk result (Plans project files form) }
+    ensures only { (project : List ℕ) (files : List (List ℕ)) → SaysCut project files (Some form) cut
+        → (master : List ℕ) (cost : ℕ) → Edits project files form master cost → AnswersPlanned result master cost }
+    ensures refused { (project : List ℕ) (files : List (List ℕ)) → SaysCut project files (Some form) cut
+        → IfErr result (λ fault. fault ≡ Fault.Memory) }
 {
-    let cut = cut_heard(splice, takes, Some(form))?;
     let Planned {
         bridges,
         ends,

@@ -1,8 +1,8 @@
 -- What becomes of the files of a master and its certificate that could not be written, and of those that are judged.
-use Rattle.std.proofs.Common.{◌≡◌, ◌≢◌, ◌⊎◌, ℕ, inl, inr, IfErr, IfOk, IfSome, IsTrue, List, None, Option, Some, Ok, Err, Result, ap, refl, subst, sym, ◌∙◌}
-use Rattle.archive_core.specs.Checking.{Accepts}
+use Rattle.std.proofs.Common.{◌≡◌, ◌≢◌, ◌⊎◌, ℕ, inl, inr, IfErr, IfOk, IfSome, IsTrue, List, None, Option, Ok, Err, Result, refl, subst, sym, ◌∙◌}
+use Rattle.judge_core.specs.Accepting.{Accepts}
 use Rattle.archive_core.specs.Editing.{Edits, IsCertificate}
-use Rattle.folder_core.specs.Files.{Gives, HadNone, HoldsPrefix, IsFront, IsGiven, IsPut, IsReadOf, KeepsOthers, View}
+use Rattle.folder_core.specs.Files.{IsFront, IsGiven, IsPut, IsReadOf, KeepsOthers, View}
 use Rattle.folder_core.specs.declared.fault.FileFault.{FileFault}
 use Rattle.folder_core.specs.declared.fault.FileFault.TheVariants as files
 use Rattle.transfer_commands.specs.Faults.{of_file}
@@ -12,7 +12,7 @@ use Rattle.transfer_commands.specs.declared.fault.CommandFault.{CommandFault}
 use Rattle.transfer_commands.specs.declared.fault.CommandFault.TheVariants as faults
 use Rattle.transfer_core.specs.declared.fault.Fault.{Fault}
 use Rattle.transfer_core.specs.declared.fault.Fault.TheVariants.{Memory}
-use Rattle.master_core.specs.declared.verdict.Verdict.{Verdict}
+use Rattle.judge_core.specs.declared.verdict.Verdict.{Verdict}
 use Rattle.command_core.specs.Commands.{CheckComesTo, CostsAtLeast, Cut, CutRefused, CutsFile, EditComesTo, EditsFiles, IsLeastIfAccepted, IsNoCommand, JudgesBy, Judges}
 use Rattle.command_core.specs.Outcomes.{of_words}
 use Rattle.words_core.specs.declared.fault.WordsFault.{WordsFault}

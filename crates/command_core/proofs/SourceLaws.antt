@@ -1,5 +1,5 @@
 -- What was heard of a project's takes, as a cut takes it.
-use Rattle.std.proofs.Common.{◌≡◌, IfErr, List, Ok, Err, Option, Result, Global, Vec, length, subst, ℕ}
+use Rattle.std.proofs.Common.{◌≡◌, IfErr, List, inl, Ok, Err, Option, Result, Global, Vec, length, subst, ℕ}
 use Rattle.splice_core.specs.Splices.{splice_content}
 use Rattle.form_core.specs.Steps.{Fails, Gives}
 use Rattle.form_core.specs.declared.form.Form.{Form}
@@ -13,8 +13,8 @@ use Rattle.transfer_core.specs.declared.fault.Fault.{Fault}
 use Rattle.transfer_core.specs.declared.fault.Fault.TheVariants.{Memory}
 use Rattle.transfer_core.specs.Faults.{fault_of_cut}
 use Rattle.transfer_commands.specs.declared.sources.Sources.{Sources}
-use Rattle.archive_core.specs.Cutting.{AreTakes, said_cut}
-use Rattle.archive_core.proofs.CuttingLaws.{unheard}
+use Rattle.judge_core.specs.Cutting.{AreTakes, said_cut}
+use Rattle.judge_core.proofs.CuttingLaws.{unheard}
 use Rattle.command_core.specs.Sources.{AreHeardOf}
 
 module _ (s : Sources) where
@@ -36,3 +36,8 @@ module _ (s : Sources) where
 pub gives_refused : (answer : Result CutContent Fault) (steps : Result CutContent Fault) → Gives Memory (λ cut. cut) answer steps → IfErr answer (λ fault. Fails Memory fault steps)
 gives_refused (Ok cut) steps h = tt
 gives_refused (Err fault) steps h = h
+
+-- want of memory comes in the place of any fault
+pub memory_refused : {X : Type 0} (answer : Result X Fault) (steps : Result CutContent Fault) → IfErr answer (λ fault. fault ≡ Memory) → IfErr answer (λ fault. Fails Memory fault steps)
+memory_refused (Ok x) steps h = tt
+memory_refused (Err fault) steps h = inl h

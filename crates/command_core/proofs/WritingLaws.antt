@@ -1,5 +1,5 @@
 -- What the files of a master come to that were handed back or given up.
-use Rattle.std.proofs.Common.{◌≡◌, ℕ, inl, inr, ◌⊎◌, List, [], ◌++◌, true, false, IsTrue, Option, None, Some, Result, Ok, Err, ap, subst, sym, ◌∙◌}
+use Rattle.std.proofs.Common.{◌≡◌, ℕ, inl, inr, ◌⊎◌, List, [], ◌++◌, true, false, IsTrue, Option, None, Some, Result, Ok, Err, ap, subst, ◌∙◌}
 use Rattle.std.specs.Prelude.{IsOk, OnErr, OnOk, is_ok}
 use Rattle.std.specs.Io.KnownBytes.{Appends}
 use Rattle.device_core.specs.Outlets.{AppendsPart}

@@ -3,12 +3,12 @@ use Rattle.std.specs.Prelude.{◌≡◌, ◌≢◌, ℕ, List, IfSome, IsTrue, O
 use Rattle.transfer_core.specs.declared.fault.Fault as calls
 use Rattle.transfer_core.specs.declared.fault.Fault.TheVariants.{Memory}
 use Rattle.form_core.specs.declared.form.Form.{Form}
-use Rattle.master_core.specs.declared.verdict.Verdict.{Verdict}
-use Rattle.master_core.specs.declared.verdict.Verdict.TheVariants as verdicts
-use Rattle.archive_core.specs.Checking.{Accepts, IsLeastMaster, RejectsFirst}
-use Rattle.archive_core.specs.Cutting.{said_cut}
+use Rattle.judge_core.specs.declared.verdict.Verdict.{Verdict}
+use Rattle.judge_core.specs.declared.verdict.Verdict.TheVariants as verdicts
+use Rattle.judge_core.specs.Accepting.{Accepts, CostsLeast, CostsWindows, IsLeastMaster, IsMaster, RejectsFirst}
+use Rattle.judge_core.specs.Cutting.{said_cut}
 use Rattle.form_core.specs.Steps.{Fails}
-use Rattle.archive_core.specs.Editing.{CostsLeast, CostsWindows, Edits, IsCertificate, IsMaster}
+use Rattle.archive_core.specs.Editing.{Edits, IsCertificate}
 use Rattle.folder_core.specs.Files.{Gives, IsFront, IsPut, IsReadOf, KeepsAllBut, KeepsOthers, View}
 use Rattle.transfer_commands.specs.Converting.{ConvertComesTo}
 use Rattle.transfer_commands.specs.Playing.{PlayComesTo}

@@ -3,8 +3,8 @@ use Rattle.std.specs.Prelude.{◌≡◌, ℕ, List, ◌++◌, codes, Result, Ok,
 use Rattle.std.specs.Fmt.{decimal}
 use Rattle.command_core.specs.declared.outcome.Outcome.{Outcome}
 use Rattle.form_core.specs.Infos.{info_text}
-use Rattle.master_core.specs.declared.verdict.Verdict.{Verdict}
-use Rattle.master_core.specs.declared.verdict.Verdict.TheVariants as verdicts
+use Rattle.judge_core.specs.declared.verdict.Verdict.{Verdict}
+use Rattle.judge_core.specs.declared.verdict.Verdict.TheVariants as verdicts
 use Rattle.transfer_commands.specs.declared.fault.CommandFault.{CommandFault}
 use Rattle.transfer_commands.specs.declared.fault.CommandFault.TheVariants as faults
 use Rattle.words_core.specs.declared.fault.WordsFault.{WordsFault}

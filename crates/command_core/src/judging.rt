@@ -1,22 +1,21 @@
 //! Judges a master by a certificate that is opened and read to its end.
 
-ghost use Rattle.std.specs.Prelude.{◌≡◌, ◌-◌, ◌<◌, ◌^◌, ◌⊎◌, IfErr, IfOk, IfSome, List, None, ℕ};
-ghost use Rattle.device_core.specs.Inlets.{inlet_failures, inlet_reader};
-ghost use Rattle.cert_core.specs.Readers.{cert_inlet};
-ghost use Rattle.archive_core.specs.Cutting.{SaysCut};
+ghost use Rattle.std.specs.Prelude.{IfErr, IfOk, IfSome, List, None, ℕ};
+ghost use Rattle.judge_core.specs.Cutting.{SaysCut};
+ghost use Rattle.judge_core.specs.Finding.{FindsHeld, IsFoundHeld, IsFoundInSome};
 ghost use Rattle.transfer_commands.specs.Outlining.{IsUnread};
 ghost use Rattle.command_core.specs.Commands.{IsLeastIfAccepted, JudgesBy};
-ghost use Rattle.command_core.specs.Masters.{FindsHeld, IsFoundHeld, IsOfSome};
 
 use crate::ending::reads_to_end;
-use archive_core::{Fault, Found, Reason, Verdict, check_found};
 use cert_core::CertReader;
 use cut_core::Cut;
 use device_core::{FusedInlet, Inlet, MOST_READS};
+use judge_core::{Found, Verdict, check_found};
 use sound_core::StreamFault;
 use std::alloc::Global;
 use std::io::{BufReader, Read};
 use transfer_commands::CommandFault;
+use transfer_core::Fault;
 
 /// How many bytes one read asks for.
 const BLOCK: usize = 65_536;
@@ -31,7 +30,7 @@ pub(crate) fn judge_opened<R: Read + Drop>(
     found: &Option<Found>,
     cert: R,
 ) -> Result<Verdict, CommandFault>
-    requires { IsOfSome cut.now found.now }
+    requires { IsFoundInSome cut.now found.now }
     // Whichever project and files it is the cut of, and whichever file it was found in, what is accepted is least.
     ensures least { (project : List ℕ) (files : List (List ℕ)) (file : List ℕ) → SaysCut project files None cut.now
         → IfSome found.now (FindsHeld cut.now file) → IfOk result (IsLeastIfAccepted project files file) }
@@ -44,7 +43,7 @@ pub(crate) fn judge_opened<R: Read + Drop>(
         return Err(CommandFault::Call(Fault::Memory));
     };
     let mut reader = CertReader::new(Inlet::new(buffered));
-    let came = judge_by(alloc, cut, found, &mut reader);
+    let came = check_found(alloc, cut, found, &mut reader);
     if !reads_to_end(&mut reader.into_inlet()) {
         return Err(CommandFault::ReadFailed);
     }
@@ -52,27 +51,5 @@ pub(crate) fn judge_opened<R: Read + Drop>(
         Ok(verdict) => Ok(verdict),
         Err(Fault::Stream(StreamFault::ReadFailed)) => Err(CommandFault::ReadFailed),
         Err(fault) => Err(CommandFault::Call(fault)),
-    }
-}
-
-// Judges a master by what was found in it and by its certificate.
-fn judge_by<R: Read>(
-    alloc: Global,
-    cut: &Cut,
-    found: &Option<Found>,
-    cert: &mut CertReader<R>,
-) -> Result<Verdict, Fault>
-    requires of { IsOfSome cut.now found.now }
-    requires ready { inlet_failures (cert_inlet cert.old) < 2 ^ 64 - 1 }
-    ensures least { (project : List ℕ) (files : List (List ℕ)) (file : List ℕ) → SaysCut project files None cut.now
-        → IfSome found.now (FindsHeld cut.now file) → IfOk result (IsLeastIfAccepted project files file) }
-    ensures judged { (project : List ℕ) (files : List (List ℕ)) (file : List ℕ) → SaysCut project files None cut.now
-        → IsFoundHeld cut.now file found.now
-        → IfOk result (JudgesBy project files file (R.remaining (inlet_reader (cert_inlet cert.old)))) }
-    ensures refused { IfErr result (λ fault. (fault ≡ Fault.Stream StreamFault.ReadFailed) ⊎ (fault ≡ Fault.Memory)) }
-{
-    match found {
-        Some(found) => check_found(alloc, cut, found, cert),
-        None => Ok(Verdict::Rejected(Reason::MasterUnread)),
     }
 }

@@ -7,7 +7,7 @@ ghost use Rattle.command_core.specs.declared.outcome.Outcome.TheVariants as outc
 
 use crate::ending::fault_behind;
 use crate::judging::judge_opened;
-use crate::masters::find_master;
+use crate::masters::find_named;
 use crate::outcome::Outcome;
 use crate::sources::{cut_of, cut_sources};
 use crate::writing::{write_certificate, write_master};
@@ -102,11 +102,11 @@ fn check_files<F: Folder>(
     ensures { CheckComesTo project.now master.now cert.now (F.view folder.old) (F.view folder.new) result }
 {
     let sources = hear_sources(alloc, folder, project, MOST_KEPT)?;
-    let cut = match cut_of(sources) {
+    let cut = match cut_of(sources, None) {
         Ok(cut) => cut,
         Err(fault) => return Err(fault_behind(folder, master, cert, fault)),
     };
-    let found = find_master(alloc, folder, &cut, master)?;
+    let found = find_named(alloc, folder, &cut, master)?;
     let Ok(file) = folder.open(cert) else {
         return Err(CommandFault::ReadFailed);
     };

@@ -1,15 +1,16 @@
 //! Plans masters, and makes the cuts to judge by, from what a project reads of its takes.
 
-ghost use Rattle.std.specs.Prelude.{List, ℕ, IfErr, IfOk, None, Some, length};
+ghost use Rattle.std.specs.Prelude.{List, ℕ, IfErr, IfOk, Some, length};
 ghost use Rattle.splice_core.specs.Splices.{splice_content};
 ghost use Rattle.form_core.specs.Steps.{Fails};
 ghost use Rattle.cut_core.specs.Opening.{IsOfTakes};
-ghost use Rattle.archive_core.specs.Cutting.{SaysCut, said_cut};
+ghost use Rattle.judge_core.specs.Cutting.{SaysCut, said_cut};
 ghost use Rattle.archive_core.specs.Planning.{IsPlanned, Plans};
 ghost use Rattle.command_core.specs.Sources.{AreHeardOf};
 
-use archive_core::{Fault, Form, PlannedMaster, cut_heard, plan_master};
+use archive_core::{Fault, Form, PlannedMaster, plan_master};
 use cut_core::Cut;
+use judge_core::cut_heard;
 use std::alloc::Global;
 use transfer_commands::Sources;
 
@@ -29,21 +30,21 @@ pub(crate) fn cut_sources(
     ensures refused { (project : List ℕ) (files : List (List ℕ)) → AreHeardOf project files sources
         → IfErr result (λ fault. Fails Fault.Memory fault (said_cut project files (Some form))) }
 {
-    let Sources { splice, takes } = sources;
-    plan_master(alloc, splice, takes?, form)
+    let cut = cut_of(sources, Some(form))?;
+    plan_master(alloc, cut, form)
 }
 
-/// The cut of a project and what it reads of its takes, by which a master is judged.
+/// The cut of a project and what it reads of its takes, into a file of a form if one is asked for.
 ///
 /// Refusals: the first fault in the takes' files; those of [`cut_heard`].
-pub(crate) fn cut_of(sources: Sources) -> Result<Cut, Fault>
+pub(crate) fn cut_of(sources: Sources, form: Option<Form>) -> Result<Cut, Fault>
     requires { IsOfTakes (splice_content sources.splice) (length (splice_content sources.splice).takes) sources.takes }
     // Whichever project and files it was read from, this is their cut, or it is refused as they are.
     ensures found { (project : List ℕ) (files : List (List ℕ)) → AreHeardOf project files sources
-        → IfOk result (SaysCut project files None) }
+        → IfOk result (SaysCut project files form) }
     ensures refused { (project : List ℕ) (files : List (List ℕ)) → AreHeardOf project files sources
-        → IfErr result (λ fault. Fails Fault.Memory fault (said_cut project files None)) }
+        → IfErr result (λ fault. Fails Fault.Memory fault (said_cut project files form)) }
 {
     let Sources { splice, takes } = sources;
-    cut_heard(splice, takes?, None)
+    cut_heard(splice, takes?, form)
 }

@@ -28,7 +28,7 @@ use Rattle.cut_core.specs.Keeping.{CanCut}
 use Rattle.cut_core.proofs.CutLaws.{first_shape}
 use Rattle.cut_core.proofs.ZipLaws.{zip_numbers_long}
 use Rattle.master_core.specs.Filing.{AreMasterEnds, WritesMaster, WritesMasterFront, silent_master}
-use Rattle.master_core.specs.Masters.{IsBestChannel, master_of}
+use Rattle.master_core.specs.Best.{IsBestChannel, master_of}
 use Rattle.master_core.specs.Writing.{HasOneBest, WritesBest, WritesBestFront}
 use Rattle.master_core.proofs.MasterLaws.{marks_short, master_shape}
 use Rattle.master_core.proofs.WritingLaws.{front_more, front_on}

@@ -9,7 +9,7 @@ use Rattle.dsd_bits.specs.Shape.{HasShape}
 use Rattle.dsd_bits.specs.declared.marks.Mark.{Mark}
 use Rattle.dsd_bits.specs.declared.marks.Other.{Other}
 use Rattle.splice_core.specs.Cues.{CueContent, IsCueWithin}
-use Rattle.cost_core.specs.Channels.{Part}
+use Rattle.cost_core.specs.Channels.{HaveLengths, Part}
 use Rattle.cost_core.specs.Least.{IsFirstLeast, NotAfter}
 use Rattle.form_core.specs.declared.form.Form.{Form}
 use Rattle.form_core.specs.declared.form.Form.TheVariants as forms
@@ -17,10 +17,25 @@ use Rattle.cut_core.specs.Cuts.{CutContent, channel_number, master_length, span}
 use Rattle.cut_core.specs.Keeping.{CanCut}
 use Rattle.cut_core.specs.Titles.{mark_of_title, titles_from}
 use Rattle.cut_core.proofs.CutLaws.{first_shape}
-use Rattle.cut_core.proofs.ZipLaws.{zip_numbers_long, zip_range}
-use Rattle.master_core.specs.Checking.{HaveShape, HoldCues, IsMasterOf, rebuilt}
-use Rattle.master_core.specs.Masters.{AreBestChannels, AreMasterChannels, IsBestChannel, IsBestMaster, IsFirstLeastPart, IsMasterChannel, channel_numbers, marks_in, master_channel, master_of, parts_of, total_cost}
-use Rattle.master_core.proofs.ChannelLaws.{best_lengths, is_rebuilt}
+use Rattle.cut_core.proofs.ZipLaws.{zip_map, zip_numbers_long, zip_range}
+use Rattle.judge_core.specs.Checking.{HaveShape, HoldCues, IsMasterOf, rebuilt}
+use Rattle.master_core.specs.Best.{AreBestChannels, IsBestChannel, IsBestMaster, IsFirstLeastPart, marks_in, master_of}
+use Rattle.judge_core.specs.Masters.{AreLeastChannels, AreMasterChannels, IsLeastChannel, IsLeastPart, IsMasterChannel, channel_numbers, master_channel, parts_of, total_cost}
+use Rattle.judge_core.proofs.ChannelLaws.{is_rebuilt}
+
+-- ---- first least bits
+-- first least bits have the bridges' lengths
+pub best_lengths : (ps : List Part) (xs : List (List Bool)) → AllZip IsFirstLeastPart ps xs → HaveLengths ps xs
+unfolding HaveLengths
+best_lengths [] [] h = tt
+best_lengths [] (x ∷ xs) h = absurd h
+best_lengths (p ∷ ps) [] h = absurd h
+best_lengths (p ∷ ps) (x ∷ xs) h = (h.0.is_least.long, best_lengths ps xs h.1)
+
+-- the first least bits are least
+pub best_are_least : (cut : CutContent) (zs : List (List Bool)) → AreBestChannels cut zs → AreLeastChannels cut zs
+best_are_least cut zs best = zip_map (IsBestChannel cut) (IsLeastChannel cut) (channel_numbers cut) zs
+    (λ c z made. record { bridges = made.bridges; least = zip_map IsFirstLeastPart IsLeastPart (parts_of cut c) made.bridges (λ p x first. first.is_least) made.best; made = made.made }) best
 
 -- ---- its shape
 title_short : (rate place : ℕ) (title : Option (List ℕ)) → ((t : List ℕ) → title ≡ Some t → length t ≤ 255) → All (λ (mark : MarkContent). length mark.text < 2 ^ 32) (mark_of_title rate place title)

@@ -22,10 +22,10 @@ use Rattle.relace_core.specs.Relacing.{laced_in}
 use Rattle.cut_core.specs.Cuts.{CutContent, channel_number, master_length}
 use Rattle.cut_core.proofs.BridgeLaws.{range_more}
 use Rattle.cut_core.proofs.ZipLaws.{zip_more, zip_numbers_long}
-use Rattle.master_core.specs.Masters.{AreBestChannels, IsBestChannel}
+use Rattle.master_core.specs.Best.{AreBestChannels, IsBestChannel}
 use Rattle.master_core.specs.Parting.{AreBestParts, IsBestPart, within}
 use Rattle.master_core.specs.Writing.{AreRooms, HasOneBest, WritesBest, WritesBestFront, WritesPart, WritesPartFront}
-use Rattle.master_core.proofs.SliceLaws.{length-slice, slice_all, slice_join}
+use Rattle.judge_core.proofs.SliceLaws.{length-slice, slice_all, slice_join}
 
 -- ---- fronts of what is written
 pub front_more : (a b : Option (List ℕ)) (xs ys : List ℕ) → AppendsPart a b xs → AppendsPart a b (xs ++ ys)

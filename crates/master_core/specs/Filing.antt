@@ -9,7 +9,7 @@ use Rattle.form_core.specs.declared.parts.Ends.{Ends}
 use Rattle.form_core.specs.Forms.{text_in}
 use Rattle.form_core.specs.Parts.{FitsIn, head_in, tail_in}
 use Rattle.cut_core.specs.Cuts.{CutContent, channel_number, master_length}
-use Rattle.master_core.specs.Masters.{AreBestChannels, master_of}
+use Rattle.master_core.specs.Best.{AreBestChannels, master_of}
 
 -- the recording of a master without its bits
 abbrev pub silent_master : CutContent → Form → Content

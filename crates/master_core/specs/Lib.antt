@@ -1,13 +1,8 @@
+pub mod Best
 pub mod Certificates
 pub mod Certifying
-pub mod Checking
 pub mod Choosing
-pub mod Claims
-pub mod Judging
-pub mod Masters
 pub mod Filing
 pub mod Parting
 pub mod Planning
 pub mod Writing
-pub mod Standing
-pub mod Comparing

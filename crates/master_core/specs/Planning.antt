@@ -4,10 +4,11 @@ use Rattle.form_core.specs.declared.form.Form.{Form}
 use Rattle.form_core.specs.Forms.{text_in}
 use Rattle.form_core.specs.Writing.{HoldsSound}
 use Rattle.cut_core.specs.Cuts.{CutContent}
-use Rattle.master_core.specs.Checking.{IsMasterOf}
+use Rattle.judge_core.specs.Checking.{IsMasterOf}
 use Rattle.master_core.specs.Choosing.{chosen_claims}
-use Rattle.master_core.specs.Claims.{claims, windows_total}
-use Rattle.master_core.specs.Masters.{AreBestChannels, AreMasterChannels, CostLeast, master_of, total_cost}
+use Rattle.judge_core.specs.Claims.{claims, windows_total}
+use Rattle.master_core.specs.Best.{AreBestChannels, master_of}
+use Rattle.judge_core.specs.Masters.{AreMasterChannels, CostLeast, total_cost}
 use Rattle.master_core.specs.declared.choosing.ChosenBridges.{ChosenBridges}
 
 -- the cut has one list of best channels, and no other: they are those of a master that costs what the bridges cost, than which none costs less; the bridges are what a certificate shows of them; this is their file, and it is read again

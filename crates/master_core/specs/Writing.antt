@@ -7,7 +7,7 @@ use Rattle.dsd_bits.specs.declared.stretches.BitRange.{BitRange}
 use Rattle.dsd_bits.specs.Rooms.{RoomContent}
 use Rattle.relace_core.specs.Relacing.{laced_in}
 use Rattle.cut_core.specs.Cuts.{CutContent, channel_number, master_length}
-use Rattle.master_core.specs.Masters.{AreBestChannels}
+use Rattle.master_core.specs.Best.{AreBestChannels}
 use Rattle.master_core.specs.Parting.{within}
 use Rattle.master_core.specs.declared.writing.MasterRoom.{MasterRoom}
 

@@ -7,7 +7,7 @@ ghost use Rattle.form_core.specs.Parts.{FitsIn};
 ghost use Rattle.cut_core.specs.Cuts.{master_length};
 ghost use Rattle.master_core.specs.Choosing.{AreBridgesOf};
 ghost use Rattle.master_core.specs.Filing.{AreMasterEnds, WritesMaster, WritesMasterFront, silent_master};
-ghost use Rattle.master_core.specs.Masters as masters;
+ghost use Rattle.master_core.specs.Best as masters;
 ghost use Rattle.master_core.specs.Writing.{IsRoomFor};
 
 use crate::choosing::ChosenBridges;

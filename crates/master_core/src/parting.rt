@@ -2,8 +2,9 @@
 
 ghost use Rattle.std.specs.Prelude.{◌≡◌, ◌+◌, ◌-◌, ◌<◌, ◌≤◌, ◌++◌, [], length};
 ghost use Rattle.cut_core.specs.Cuts.{channel_number, cue_at, cue_bits};
-ghost use Rattle.master_core.specs.Claims.{bridge_start};
-ghost use Rattle.master_core.specs.Masters.{IsFirstLeastPart, part_at};
+ghost use Rattle.judge_core.specs.Claims.{bridge_start};
+ghost use Rattle.master_core.specs.Best.{IsFirstLeastPart};
+ghost use Rattle.judge_core.specs.Masters.{part_at};
 ghost use Rattle.master_core.specs.Parting.{IsBestPart, IsPartAdded, HasChosen, IsStepAdded, within};
 
 use crate::choosing::chosen_at;

@@ -1,5 +1,5 @@
 -- What becomes of a file that another is converted to.
-use Rattle.std.proofs.Common.{arith, ◌≡◌, ℕ, ◌%◌, ◌⊎◌, ◌==◌, if◌then◌else◌, inl, inr, List, [], ◌++◌, Bool, IsTrue, Option, None, Some, Err, false, true, refl, subst, sym, ap, ◌∙◌}
+use Rattle.std.proofs.Common.{arith, ◌≡◌, ℕ, ◌%◌, ◌⊎◌, ◌==◌, if◌then◌else◌, inl, inr, List, [], Bool, IsTrue, Option, None, Some, Err, false, true, refl, subst, sym, ap, ◌∙◌}
 use Rattle.std.proofs.lemmas.Bool.Decides.{nat_tests}
 use Rattle.dsd_bits.specs.Channels.{count_of}
 use Rattle.dsd_bits.specs.Contents.{Content, described}
@@ -25,7 +25,8 @@ use Rattle.transfer_commands.specs.Faults.{of_file}
 use Rattle.transfer_commands.specs.Outlining.{IsOutlined, IsUnread, OutlinesRead}
 use Rattle.sound_core.proofs.HeldLaws.{channels_count}
 use Rattle.transfer_commands.proofs.ReadLaws.{last_of, untold}
-use Rattle.transfer_commands.proofs.TellLaws.{holds_as, told_number}
+use Rattle.transfer_core.proofs.FormLaws.{holds_as}
+use Rattle.transfer_commands.proofs.TellLaws.{told_number}
 
 -- ---- a file that was read whole
 

@@ -1,27 +1,19 @@
 -- What is told of a file by its outline.
 use Rattle.std.proofs.Common.{◌≡◌, ℕ, List, [], Result, Ok, Err, IfOk, IfErr, inr, length, sym, ap, ◌∙◌, refl, subst}
 use Rattle.std.proofs.lemmas.List.{length-replicate}
-use Rattle.dsd_bits.specs.declared.blocks.BitOrder.TheVariants.{LeastFirst, MostFirst}
-use Rattle.dsd_bits.specs.declared.interleaving.Interleaving.{Interleaving}
-use Rattle.dsd_bits.specs.declared.interleaving.Interleaving.TheVariants.{Bytes, Blocks}
-use Rattle.dsd_bits.specs.Contents.{Content, described}
+use Rattle.dsd_bits.specs.Contents.{described}
 use Rattle.dsd_bits.specs.Sounds.{sound_channels}
-use Rattle.form_core.specs.Forms.{HoldsAs, form_in}
-use Rattle.sound_core.specs.Outlines.{HoldsIn, around_of, with_sound}
+use Rattle.form_core.specs.Forms.{form_in}
+use Rattle.sound_core.specs.Outlines.{around_of, with_sound}
 use Rattle.sound_core.specs.declared.outline.Outline.{Outline}
 use Rattle.sound_core.proofs.HeldLaws.{channels_count, channels_number}
 use Rattle.folder_core.specs.Files.{IsReadOf, View}
 use Rattle.transfer_commands.specs.declared.telling.Told.{Told}
+use Rattle.transfer_core.proofs.FormLaws.{holds_as}
 use Rattle.transfer_commands.specs.Outlining.{IsOutlined, OutlinesRead}
 use Rattle.transfer_commands.specs.Telling.{IsToldOf, IsUntoldOf, TellComesTo, TellsFile}
 use Rattle.transfer_commands.specs.declared.fault.CommandFault.{CommandFault}
 use Rattle.transfer_commands.specs.declared.fault.CommandFault.TheVariants.{Call, ReadFailed, WriteFailed}
-
--- a file in a form
-pub holds_as : (interleaving : Interleaving) (file : List ℕ) (r : Content) → HoldsIn interleaving file r → HoldsAs file (form_in interleaving) r
-holds_as Bytes file r h = h
-holds_as (Blocks LeastFirst) file r h = h
-holds_as (Blocks MostFirst) file r h = h
 
 -- the silent channels of an outline are as many as those of its file
 pub told_number : (outline : Outline) (file : List ℕ) (is : IsOutlined file outline) → length outline.recording.channels ≡ length (sound_channels outline.sound.interleaving outline.sound.channels outline.sound.count is.around.0)

@@ -1,3 +1,4 @@
+pub mod FormLaws
 pub mod ReadingLaws
 pub mod StreamLaws
 pub mod ConversionLaws

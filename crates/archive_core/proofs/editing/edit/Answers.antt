@@ -1,20 +1,17 @@
-use Rattle.std.proofs.Common.{Some, arith}
+use Rattle.std.proofs.Common.{◌∙◌, Some, inl, refl, subst}
 use Rattle.std.proofs.lemmas.Result.{err_from_is_err_and}
-use Rattle.splice_core.specs.Splices.{splice_content}
-use Rattle.form_core.specs.Forms.{HoldsSome}
 use Rattle.cut_core.specs.Opening.{file_bytes}
-use Rattle.cut_core.proofs.OpeningLaws.{files_are}
-use Rattle.cut_core.proofs.ZipLaws.{zip_long}
-use Rattle.archive_core.specs.Cutting.{AreTakes}
-use Rattle.archive_core.proofs.CuttingLaws.{only_memory, unheard, unsaid}
+use Rattle.judge_core.proofs.CuttingLaws.{only_memory}
+use Rattle.archive_core.specs.Planning.{CertifiesPlanned}
+use Rattle.archive_core.specs.declared.planning.PlannedMaster.{PlannedMaster}
 use Rattle.archive_core.proofs.editing.edit.Goals as goal
-use Rattle.archive_core.proofs.editing.edit.Goals.{In_ok-takes}
+use Rattle.archive_core.proofs.editing.edit.Goals.{In_ok-cert}
 
 -- ---- refusals
-pub returns-in_err-splice : goal.returns-in_err-splice
-returns-in_err-splice c =
+pub returns-in_err-cut : goal.returns-in_err-cut
+returns-in_err-cut c =
     let p = err_from_is_err_and c.from_residual.result c.from_residual.ensures.1 in
-    let is = unsaid c.args.project.now (file_bytes c.args.takes.now) (Some c.args.form) c.in_err-splice.field-0.0 c.in_err-splice.ensures.exact in
+    let is = c.in_err-cut.ensures.exact in
     rw (p.1, p.2) (record {
       found = tt;
       master = tt;
@@ -22,14 +19,14 @@ returns-in_err-splice c =
       accepted = tt;
       joint = tt;
       windows = tt;
-      only = λ master cost edits. only_memory c.args.project.now (file_bytes c.args.takes.now) (Some c.args.form) edits.cut edits.says c.in_err-splice.field-0.0 is;
+      only = λ master cost edits. only_memory c.args.project.now (file_bytes c.args.takes.now) (Some c.args.form) edits.cut edits.says c.in_err-cut.field-0.0 is;
       refused = is;
     })
 
-pub returns-in_err-takes : goal.returns-in_err-takes
-returns-in_err-takes c =
-    let p = err_from_is_err_and c.from_residual-in_err-takes.result c.from_residual-in_err-takes.ensures.1 in
-    let is = unheard c.args.project.now (file_bytes c.args.takes.now) (splice_content c.in_ok-splice.splice) (Some c.args.form) c.in_err-takes.field-0.0 c.in_ok-splice.ensures.found c.in_err-takes.ensures in
+pub returns-in_err-planned : goal.returns-in_err-planned
+returns-in_err-planned c =
+    let p = err_from_is_err_and c.from_residual-in_err-planned.result c.from_residual-in_err-planned.ensures.1 in
+    let memory = c.in_err-planned.ensures.refused c.args.project.now (file_bytes c.args.takes.now) c.in_ok-cut.ensures.found in
     rw (p.1, p.2) (record {
       found = tt;
       master = tt;
@@ -37,35 +34,61 @@ returns-in_err-takes c =
       accepted = tt;
       joint = tt;
       windows = tt;
-      only = λ master cost edits. only_memory c.args.project.now (file_bytes c.args.takes.now) (Some c.args.form) edits.cut edits.says _ is;
-      refused = is;
+      only = λ master cost edits. memory;
+      refused = inl memory;
     })
 
--- ---- what was heard is of the files
-are : (c : In_ok-takes) → AreTakes c.args.project.now (file_bytes c.args.takes.now) (splice_content c.in_ok-splice.splice) c.in_ok-takes.takes.items
-are c =
-    let taken = c.in_ok-takes.ensures in
-    record { project_says = c.in_ok-splice.ensures.found; whole = taken.0; read = files_are (splice_content c.in_ok-splice.splice) (file_bytes c.args.takes.now) taken.0 taken.1; heard = taken.2 }
+pub returns-in_err-master : goal.returns-in_err-master
+returns-in_err-master c =
+    let p = err_from_is_err_and c.from_residual-in_err-master.result c.from_residual-in_err-master.ensures.1 in
+    rw (p.1, p.2) (record {
+      found = tt;
+      master = tt;
+      certificate = tt;
+      accepted = tt;
+      joint = tt;
+      windows = tt;
+      only = λ master cost edits. refl;
+      refused = inl refl;
+    })
 
-pub edit_heard-requires : goal.edit_heard-requires
-edit_heard-requires c =
-    let here = are (goal.at.edit_heard-requires c).In_ok-takes in
-    record { whole = here.whole; heard = here.heard; as_many = omega (arith, here.read.as_many, zip_long HoldsSome (file_bytes c.args.takes.now) here.whole here.read.held) }
+pub returns-in_err-cert : goal.returns-in_err-cert
+returns-in_err-cert c =
+    let p = err_from_is_err_and c.from_residual-in_err-cert.result c.from_residual-in_err-cert.ensures.1 in
+    rw (p.1, p.2) (record {
+      found = tt;
+      master = tt;
+      certificate = tt;
+      accepted = tt;
+      joint = tt;
+      windows = tt;
+      only = λ master cost edits. refl;
+      refused = inl refl;
+    })
 
 -- ---- what is answered
+-- the plan that the certificate is written of is that of the master
+certified : (c : In_ok-cert) → CertifiesPlanned c.in_ok-planned.planned c.in_ok-cert.cert.items
+certified c = subst (λ (p : PlannedMaster). CertifiesPlanned p c.in_ok-cert.cert.items) c.master_of.ensures.same c.in_ok-cert.ensures
+
 pub returns : goal.returns
 returns c =
     let project = c.args.project.now in
     let files = file_bytes c.args.takes.now in
-    let here = are (goal.at.returns c).In_ok-takes in
-    let h = c.edit_heard.ensures in
+    let says = c.in_ok-cut.ensures.found in
+    let total = c.total-total.ensures in
+    let p = c.in_ok-planned.ensures.found project files says in
+    let written = c.in_ok-master.ensures.bytes p.file p.is_file in
+    let whole = certified (goal.at.returns c).In_ok-cert in
     record {
-      found = h.found project files here;
-      master = h.master project files here;
-      certificate = h.certificate project files here;
-      accepted = h.accepted project files here;
-      joint = h.joint project files here;
-      windows = h.windows project files here;
-      only = h.only project files here;
-      refused = h.refused project files here;
+      found = rw (written, total) p.edits;
+      master = rw written p.is_master;
+      certificate = rw written (p.certificate c.in_ok-cert.cert.items whole);
+      accepted = rw (written, total) (p.accepted c.in_ok-cert.cert.items whole);
+      joint = rw (written, total) p.joint;
+      windows = rw (written, total) p.windows;
+      only = λ master cost edits.
+          let both = c.in_ok-planned.ensures.only project files says master cost edits in
+          (c.in_ok-master.ensures.bytes master both.0, total ∙ both.1);
+      refused = tt;
     }

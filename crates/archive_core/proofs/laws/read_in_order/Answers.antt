@@ -1,4 +1,4 @@
-use Rattle.archive_core.proofs.CuttingLaws.{says_cut}
+use Rattle.judge_core.proofs.CuttingLaws.{says_cut}
 use Rattle.transfer_core.proofs.ReadingLaws.{converts, plays, says_takes}
 use Rattle.archive_core.proofs.laws.read_in_order.Goals as goal
 

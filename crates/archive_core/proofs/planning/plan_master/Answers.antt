@@ -1,61 +1,51 @@
-use Rattle.std.proofs.Common.{◌≡◌, ◌∙◌, ap, inl, List, None, Some, refl, subst, ℕ}
+use Rattle.std.proofs.Common.{◌≡◌, ◌∙◌, ap, List, Some, refl, subst, ℕ}
 use Rattle.std.proofs.lemmas.Result.{err_from_is_err_and}
 use Rattle.dsdiff_core.specs.declared.write_fault.WriteFault.TheVariants as writes
 use Rattle.form_core.specs.Parts.{FitsIn}
-use Rattle.splice_core.specs.Splices.{splice_content}
 use Rattle.cut_core.specs.Cuts.{CutContent, master_length}
 use Rattle.transfer_core.specs.declared.fault.Fault.TheVariants.{Memory}
-use Rattle.master_core.specs.Masters.{IsBestMaster, master_of}
+use Rattle.master_core.specs.Best.{IsBestMaster, master_of}
 use Rattle.master_core.proofs.ChoiceLaws.{cert_is, cert_stands}
-use Rattle.archive_core.specs.Cutting.{AreTakes, SaysCut}
+use Rattle.judge_core.specs.Cutting.{SaysCut}
 use Rattle.transfer_core.specs.Faults.{fault_of_writing}
-use Rattle.archive_core.proofs.CuttingLaws.{one_cut, only_memory}
+use Rattle.judge_core.proofs.CuttingLaws.{one_cut, says_cut}
 use Rattle.archive_core.proofs.EditLaws.{any_form, file_certificate, file_costs, file_is_accepted, file_is_master, file_least, one_answer, one_file, plan_only_memory}
 use Rattle.archive_core.proofs.planning.plan_master.Goals as goal
-use Rattle.archive_core.proofs.planning.plan_master.Goals.{In_err-bridges, In_ok-cut}
+use Rattle.archive_core.proofs.planning.plan_master.Goals.{In_err-bridges}
 
 -- ---- refusals
-pub returns-in_err-cut-clause-only : goal.returns-in_err-cut-clause-only
-returns-in_err-cut-clause-only c = λ project files are master cost edits.
-    let p = err_from_is_err_and c.from_residual.result c.from_residual.ensures.1 in
-    rw (p.1, p.2) (only_memory project files (Some c.args.form) edits.cut edits.says c.in_err-cut.field-0.0 (c.in_err-cut.ensures.exact project files are))
-
 -- a master that is cut into whole bytes is planned, want of memory aside
-unplanned : (c : In_err-bridges) (project : List ℕ) (files : List (List ℕ)) → AreTakes project files (splice_content c.args.splice) c.args.takes.items → fault_of_writing c.in_err-bridges.field-0.0 ≡ Memory
-unplanned c project files are =
-    let says = c.in_ok-cut.ensures.found project files are in
+unplanned : (c : In_err-bridges) (project : List ℕ) (files : List (List ℕ)) → SaysCut project files (Some c.args.form) c.args.cut → fault_of_writing c.in_err-bridges.field-0.0 ≡ Memory
+unplanned c project files says =
     let fault = c.in_err-bridges.field-0.0 in
-    let cut_is : master_length c.in_ok-cut.cut.splice.cues ≡ master_length says.splice.cues = ap (λ (k : CutContent). master_length k.splice.cues) says.opens.cut_is in
+    let cut_is : master_length c.args.cut.splice.cues ≡ master_length says.splice.cues = ap (λ (k : CutContent). master_length k.splice.cues) says.opens.cut_is in
     ap fault_of_writing (plan_only_memory c.args.form says.splice says.opens.whole fault (subst (λ (n : ℕ). fault ≡ writes.NotWholeBytes → FitsIn c.args.form n → ⊥) cut_is c.in_err-bridges.ensures.not_whole_bytes))
 
 pub returns-in_err-bridges-clause-refused : goal.returns-in_err-bridges-clause-refused
-returns-in_err-bridges-clause-refused c = λ project files are.
-    let p = err_from_is_err_and c.from_residual-in_err-bridges.result c.from_residual-in_err-bridges.ensures.1 in
-    rw (p.1, p.2) (inl (unplanned (goal.at.returns-in_err-bridges-clause-refused c).In_err-bridges project files are))
+returns-in_err-bridges-clause-refused c = λ project files says.
+    let p = err_from_is_err_and c.from_residual.result c.from_residual.ensures.1 in
+    rw (p.1, p.2) (unplanned (goal.at.returns-in_err-bridges-clause-refused c).In_err-bridges project files says)
 
 pub returns-in_err-bridges-clause-only : goal.returns-in_err-bridges-clause-only
-returns-in_err-bridges-clause-only c = λ project files are master cost edits.
-    let p = err_from_is_err_and c.from_residual-in_err-bridges.result c.from_residual-in_err-bridges.ensures.1 in
-    rw (p.1, p.2) (unplanned (goal.at.returns-in_err-bridges-clause-only c).In_err-bridges project files are)
+returns-in_err-bridges-clause-only c = λ project files says master cost edits.
+    let p = err_from_is_err_and c.from_residual.result c.from_residual.ensures.1 in
+    rw (p.1, p.2) (unplanned (goal.at.returns-in_err-bridges-clause-only c).In_err-bridges project files says)
 
 -- ---- what is answered
-says_any : (c : In_ok-cut) (project : List ℕ) (files : List (List ℕ)) → AreTakes project files (splice_content c.args.splice) c.args.takes.items → SaysCut project files None c.in_ok-cut.cut
-says_any c project files are = any_form project files c.args.form c.in_ok-cut.cut (c.in_ok-cut.ensures.found project files are)
-
 pub returns-clause-found : goal.returns-clause-found
-returns-clause-found c = λ project files are.
-    let cut = c.in_ok-cut.cut in
+returns-clause-found c = λ project files cut_says.
+    let cut = c.args.cut in
     let form = c.args.form in
     let told = c.in_ok-bridges.ensures.master in
     let total = c.in_ok-bridges.field-0.bridges.total in
-    let says = says_any (goal.at.returns-clause-found c).In_ok-cut project files are in
+    let says = any_form project files form cut cut_says in
     let recording = master_of cut form told.channels in
     let best : IsBestMaster cut form recording total = record { channels = told.channels; best = told.best; recording_is = refl; cost_is = told.cost_is } in
     record {
       file = told.file;
       is_file = record { channels = told.channels; best = told.best; text = told.text };
       only = λ other is. one_file cut form is.channels told.channels other told.file is.best told.best is.text told.text;
-      edits = record { cut = cut; says = c.in_ok-cut.ensures.found project files are; recording = recording; best = best; text = told.text };
+      edits = record { cut = cut; says = cut_says; recording = recording; best = best; text = told.text };
       is_master = file_is_master project files cut says form recording told.master told.file told.read_again told.whole;
       certificate = λ cert certifies. file_certificate project files cut says form recording told.master told.file told.read_again cert (cert_is cut c.in_ok-bridges.field-0.bridges told.channels cert told.shows certifies);
       accepted = λ cert certifies.
@@ -76,11 +66,11 @@ returns-clause-planned c =
     record { bridges_are = made.bridges; ends_are = made.ends; room_fits = made.room; cert_room_fits = made.cert_room }
 
 pub returns-clause-only : goal.returns-clause-only
-returns-clause-only c = λ project files are master cost edits.
-    let cut = c.in_ok-cut.cut in
+returns-clause-only c = λ project files says master cost edits.
+    let cut = c.args.cut in
     let form = c.args.form in
     let told = c.in_ok-bridges.ensures.master in
-    let same : cut ≡ edits.cut = one_cut project files (Some form) edits.cut edits.says cut (c.in_ok-cut.ensures.exact project files are) in
+    let same : cut ≡ edits.cut = one_cut project files (Some form) edits.cut edits.says cut (says_cut project files (Some form) cut says) in
     let both = one_answer cut edits.cut form (master_of cut form told.channels) edits.recording told.file master c.in_ok-bridges.field-0.bridges.total cost same
     (record { channels = told.channels; best = told.best; recording_is = refl; cost_is = told.cost_is }) edits.best told.text edits.text in
     (record { channels = told.channels; best = told.best; text = told.text ∙ ap Some both.0 }, both.1)

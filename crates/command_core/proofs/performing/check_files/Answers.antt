@@ -15,7 +15,7 @@ returns g c =
     let are : AreHeardOf h.project h.takes c.in_ok-sources.sources = record { project_says = h.project_says; hears = h.hears } in
     let says = c.in-Ok.ensures.found h.project h.takes are in
     let read = c.hear_sources.ensures.same in
-    let held = c.find_master.ensures.same ∙ read in
+    let held = c.find_named.ensures.same ∙ read in
     let master = subst (λ (v : View). FindsMaster v c.in-Ok.cut c.args.master.now c.in_ok-found.found) read c.in_ok-found.ensures.found in
     let given = subst (λ (v : View). IsGiven v c.args.cert.now (g.F.In.Read.remaining c.in-Ok-open.file)) held c.in-Ok-open.ensures.bytes in
     checked c.args.project.now c.args.master.now c.args.cert.now old (view c.open.new.self) h.project h.takes master.file (g.F.In.Read.remaining c.in-Ok-open.file)
@@ -25,10 +25,10 @@ returns g c =
     c.judge_opened.ensures.fault
 
 pub returns-in_default : goal.returns-in_default
-returns-in_default g c = c.open.ensures.same ∙ c.find_master.ensures.same ∙ c.hear_sources.ensures.same
+returns-in_default g c = c.open.ensures.same ∙ c.find_named.ensures.same ∙ c.hear_sources.ensures.same
 
 pub judge_opened-requires : goal.judge_opened-requires
-judge_opened-requires g c = c.in_ok-found.ensures.of
+judge_opened-requires g c = c.in_ok-found.ensures.some
 
 pub cut_of-requires : goal.cut_of-requires
 cut_of-requires g c = c.in_ok-sources.ensures.of
@@ -43,7 +43,7 @@ pub returns-in_err-found : goal.returns-in_err-found
 returns-in_err-found g c =
     let view = g.F.Folder.view in
     let e = err_from_is_err_and c.from_residual-in_err-found.result c.from_residual-in_err-found.ensures.1 in
-    subst (CheckComesTo c.args.project.now c.args.master.now c.args.cert.now (view c.args.folder.now) (view c.find_master.new.folder)) (sym (e.1 ∙ ap Err e.2)) (master_unread c.args.project.now c.args.master.now c.args.cert.now (view c.args.folder.now) (view c.find_master.new.folder) (c.find_master.ensures.same ∙ c.hear_sources.ensures.same) c.in_err-found.field-0.0 c.in_err-found.ensures.fault)
+    subst (CheckComesTo c.args.project.now c.args.master.now c.args.cert.now (view c.args.folder.now) (view c.find_named.new.folder)) (sym (e.1 ∙ ap Err e.2)) (master_unread c.args.project.now c.args.master.now c.args.cert.now (view c.args.folder.now) (view c.find_named.new.folder) (c.find_named.ensures.same ∙ c.hear_sources.ensures.same) c.in_err-found.field-0.0 c.in_err-found.ensures.fault)
 
 pub returns-in-Err : goal.returns-in-Err
 returns-in-Err g c =

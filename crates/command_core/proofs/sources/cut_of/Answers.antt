@@ -1,13 +1,12 @@
-use Rattle.std.proofs.Common.{None}
 use Rattle.std.proofs.lemmas.Result.{err_from_is_err_and}
-use Rattle.archive_core.specs.Cutting.{said_cut}
+use Rattle.judge_core.specs.Cutting.{said_cut}
 use Rattle.command_core.proofs.SourceLaws.{are_takes, gives_refused, not_heard, of_takes}
 use Rattle.command_core.proofs.sources.cut_of.Goals as goal
 
 pub returns-in_err-takes-clause-refused : goal.returns-in_err-takes-clause-refused
 returns-in_err-takes-clause-refused c = λ project files are.
     let p = err_from_is_err_and c.from_residual.result c.from_residual.ensures.1 in
-    rw (p.1, p.2) (not_heard c.args.sources project files are None c.in_err-takes.field-0.0 c.in_err-takes.was)
+    rw (p.1, p.2) (not_heard c.args.sources project files are c.args.form c.in_err-takes.field-0.0 c.in_err-takes.was)
 
 pub cut_heard-requires : goal.cut_heard-requires
 cut_heard-requires c = of_takes c.args.sources c.in_ok-takes.field-0 c.in_ok-takes.was c.requires
@@ -16,4 +15,4 @@ pub returns-clause-found : goal.returns-clause-found
 returns-clause-found c = λ project files are. c.cut_heard.ensures.found project files (are_takes c.args.sources project files are c.in_ok-takes.field-0 c.in_ok-takes.was)
 
 pub returns-clause-refused : goal.returns-clause-refused
-returns-clause-refused c = λ project files are. gives_refused c.cut_heard.result (said_cut project files None) (c.cut_heard.ensures.exact project files (are_takes c.args.sources project files are c.in_ok-takes.field-0 c.in_ok-takes.was))
+returns-clause-refused c = λ project files are. gives_refused c.cut_heard.result (said_cut project files c.args.form) (c.cut_heard.ensures.exact project files (are_takes c.args.sources project files are c.in_ok-takes.field-0 c.in_ok-takes.was))

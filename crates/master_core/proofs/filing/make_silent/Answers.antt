@@ -2,7 +2,7 @@ use Rattle.std.proofs.Common.{◌≡◌, ◌∙◌, [], ap, replicate, sym, subs
 use Rattle.dsd_bits.specs.Contents.{Content, content_of}
 use Rattle.dsd_bits.specs.Shape.{HasShape}
 use Rattle.master_core.specs.Filing.{silent_master}
-use Rattle.master_core.specs.Masters.{master_of}
+use Rattle.master_core.specs.Best.{master_of}
 use Rattle.master_core.proofs.FilingLaws.{silent_shape}
 use Rattle.master_core.proofs.MasterLaws.{content_is}
 use Rattle.master_core.proofs.filing.make_silent.Goals as goal

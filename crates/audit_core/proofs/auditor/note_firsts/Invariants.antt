@@ -1,6 +1,0 @@
--- Of the first channels it is noted, and of the others it is as it was.
-use Rattle.audit_core.proofs.AuditLaws.{ToldUpTo}
-use Rattle.audit_core.proofs.auditor.note_firsts.Given as goal
-
-abbrev pub invariant-loop-c : goal.invariant-loop-c
-invariant-loop-c l = ToldUpTo l.cut l.done l.parts l.initial.firsts l.firsts l.c

@@ -1,7 +1,0 @@
-use Rattle.std.proofs.Common.{◌≡◌, map}
-use Rattle.std.specs.List.{range_with_len}
-use Rattle.audit_core.specs.Auditing.{bridge_range}
-use Rattle.audit_core.proofs.ranges.bridge_ranges.Given as goal
-
-abbrev pub invariant-loop-i : goal.invariant-loop-i
-invariant-loop-i l = record { ranges : l.ranges.items ≡ map (bridge_range l.cut) (range_with_len 0 l.i) }

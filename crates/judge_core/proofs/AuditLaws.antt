@@ -1,0 +1,154 @@
+-- What is found of a sound that comes, and of all of it.
+use Rattle.std.proofs.Common.{◌≡◌, ℕ, ◌+◌, ◌-◌, ◌%◌, ◌<◌, ◌≤◌, inl, inr, Bool, List, [], ◌++◌, length, get_or, set, replicate, Option, None, Some, refl, sym, ap, subst, ◌∙◌, arith}
+use Rattle.std.specs.List.{range_with_len}
+use Rattle.std.proofs.lemmas.Bool.{cases_lt}
+use Rattle.std.proofs.lemmas.List.{get_or-replicate, get_or-set_other, get_or-set_same, length-replicate, length-set}
+use Rattle.std.proofs.lemmas.Simd.{map-map}
+use Rattle.device_core.specs.declared.inlet.Inlet.{Inlet}
+use Rattle.dsd_bits.specs.declared.interleaving.Interleaving.TheVariants.{Bytes}
+use Rattle.dsd_bits.specs.declared.sound.Sound.{Sound}
+use Rattle.dsd_bits.specs.declared.stretches.BitRange.{BitRange}
+use Rattle.dsd_bits.specs.Channels.{count_of}
+use Rattle.dsd_bits.specs.Contents.{Content}
+use Rattle.dsd_bits.specs.Shape.{HasShape}
+use Rattle.dsd_bits.specs.Sounds.{sound_channels, sound_size}
+use Rattle.dsd_bits.specs.Stretches.{stretch_of, stretches_of}
+use Rattle.form_core.specs.declared.form.Form.{Form}
+use Rattle.relace_core.proofs.JoinLaws.{Appended, taken}
+use Rattle.cut_core.specs.Cuts.{AreAlike, CutContent, channel_number, master_length}
+use Rattle.judge_core.specs.declared.finding.CuedPlace.{CuedPlace}
+use Rattle.judge_core.specs.Checking.{HaveShape}
+use Rattle.judge_core.specs.Comparing.{TellsOff}
+use Rattle.judge_core.specs.Standing.{FindsCued, IsFoundOf, TellAll, bridges_kept}
+use Rattle.sound_core.specs.Keepers.{Keeps}
+use Rattle.sound_core.specs.Outlines.{AreTold, StandsIn, around_of, with_sound}
+use Rattle.sound_core.specs.Sinks.{IsTakenOf, TakesFile, TakesGiven}
+use Rattle.sound_core.specs.Stretches.{items_of}
+use Rattle.sound_core.specs.declared.outline.Outline.{Outline}
+use Rattle.sound_core.proofs.HeldLaws.{held_count, held_number, held_shape, held_silent}
+use Rattle.sound_core.proofs.KeeperLaws.{channel_bits, no_size, same_stretches}
+use Rattle.judge_core.specs.Auditing.{AreParts, Audits, AuditsFile, AuditsGiven, HasMeasure, IsAuditOf, IsAuditing, TellMore, bridge_range, bridge_ranges, found_in}
+use Rattle.judge_core.specs.declared.auditing.Audited.{Audited}
+use Rattle.judge_core.specs.declared.auditor.Auditor.{Auditor}
+
+-- ---- before the first byte
+pub audits_none : (cut : CutContent) (s : Sound) (ranges : List BitRange) (stretches : List (List (List Bool))) (firsts : List (Option ℕ)) → Keeps s ranges 0 stretches [] → firsts ≡ replicate (channel_number cut) None → Audits cut s ranges 0 stretches firsts []
+audits_none cut s ranges stretches firsts keeps is = record {
+  keeps = keeps;
+  number = ap length is ∙ length-replicate (channel_number cut) None;
+  tells = λ measure c there.
+      let none : get_or firsts c None ≡ None = ap (λ (l : List (Option ℕ)). get_or l c None) is ∙ get_or-replicate (channel_number cut) c None None there in
+      let z = get_or (sound_channels s.interleaving s.channels 0 []) c [] in
+      let long : length z ≡ 0 = channel_bits s.interleaving s.channels 0 [] c keeps.is_sound.some_channel (λ e. refl) (sym (no_size s.interleaving s.channels)) (omega (arith, there, measure.number)) in
+      subst (TellsOff cut c z) (sym none) (λ p off. absurd (omega (arith, off.0, long)));
+}
+
+-- ---- channel by channel
+-- of the first channels it is told with the parts behind them, and of the others as it was
+pub record ToldUpTo (cut : CutContent) (done : ℕ) (parts : List (List Bool)) (old now : List (Option ℕ)) (n : ℕ) : Type 0 where
+  pub number : length now ≡ length old
+  pub later : (c : ℕ) → n ≤ c → get_or now c None ≡ get_or old c None
+  pub told : (c : ℕ) → c < n → (before : List Bool) → length before ≡ done → TellsOff cut c before (get_or old c None) → TellsOff cut c (before ++ get_or parts c []) (get_or now c None)
+
+pub told_next : (cut : CutContent) (done : ℕ) (parts : List (List Bool)) (old now : List (Option ℕ)) (n : ℕ) (first : Option ℕ) → ToldUpTo cut done parts old now n → n < length now
+    → ((before : List Bool) → length before ≡ done → TellsOff cut n before (get_or now n None) → TellsOff cut n (before ++ get_or parts n []) first) → ToldUpTo cut done parts old (set now n first) (n + 1)
+told_next cut done parts old now n first so_far low tells = record {
+  number = length-set now n first ∙ so_far.number;
+  later = λ c h. get_or-set_other now n c first None (λ same. omega (arith, h, same)) ∙ so_far.later c (omega (arith, h));
+  told = λ c h before long off. elim (cases_lt c n) [
+    | inl less ↦ subst (TellsOff cut c (before ++ get_or parts c [])) (sym (get_or-set_other now n c first None (λ same. omega (arith, less, same)))) (so_far.told c less before long off)
+    | inr at ↦ (
+        let same : c ≡ n = omega (arith, h, at) in
+        let here : TellsOff cut n before (get_or now n None) = subst (TellsOff cut n before) (sym (so_far.later n (omega arith))) (subst (λ k. TellsOff cut k before (get_or old k None)) same off) in
+        subst (λ k. TellsOff cut k (before ++ get_or parts k []) (get_or (set now n first) k None)) (sym same) (subst (TellsOff cut n (before ++ get_or parts n [])) (sym (get_or-set_same now n first None low)) (tells before long here)))
+  ];
+}
+
+pub told_all : (cut : CutContent) (done : ℕ) (parts : List (List Bool)) (old now : List (Option ℕ)) (n : ℕ) → ToldUpTo cut done parts old now n → channel_number cut ≤ n → TellMore cut done parts old now
+told_all cut done parts old now n so_far enough = record { number = so_far.number; tells = λ c there. so_far.told c (omega (arith, there, enough)) }
+
+-- ---- some bytes more
+module _ (cut : CutContent) (s : Sound) (ranges : List BitRange) (done : ℕ) (stretches : List (List (List Bool))) (firsts : List (Option ℕ)) (before bytes : List ℕ) (bits : ℕ)
+    (audits : Audits cut s ranges done stretches firsts before) (within : done + bits ≤ s.count) (some : 0 < bits) (whole : s.interleaving ≡ Bytes → bits % 8 ≡ 0) (size : length bytes ≡ sound_size s.interleaving s.channels bits) where
+  abbrev parts : List (List Bool)
+  parts = sound_channels s.interleaving s.channels bits bytes
+
+  joined : Appended (sound_channels s.interleaving s.channels (done + bits) (before ++ bytes)) (sound_channels s.interleaving s.channels done before) parts s.channels done
+  joined = taken s.interleaving s.channels done bits before bytes (audits.keeps.groups (omega (arith, within, some))) audits.keeps.size size
+
+  pub are_parts : HasMeasure cut s → AreParts cut done parts
+  are_parts measure = record {
+    number = joined.more_long ∙ measure.number;
+    inside = λ c there.
+        let long = channel_bits s.interleaving s.channels bits bytes c audits.keeps.is_sound.some_channel whole size (omega (arith, there, measure.number)) in
+        omega (arith, long, within, measure.long);
+  }
+
+  module _ (t : Sound) (same : t ≡ s) (rs : List BitRange) (n : ℕ) (more : n ≡ done + bits) (kept : List (List (List Bool))) (keeps : Keeps t rs n kept (before ++ bytes)) where
+    channels_are : sound_channels t.interleaving t.channels n (before ++ bytes) ≡ sound_channels s.interleaving s.channels (done + bits) (before ++ bytes)
+    channels_are = ap (λ m. sound_channels t.interleaving t.channels m (before ++ bytes)) more ∙ ap (λ (u : Sound). sound_channels u.interleaving u.channels (done + bits) (before ++ bytes)) same
+
+    pub audits_more : HasMeasure cut s → (next : List (Option ℕ)) → TellMore cut done parts firsts next → Audits cut t rs n kept next (before ++ bytes)
+    audits_more measure next tells = record {
+      keeps = keeps;
+      number = tells.number ∙ audits.number;
+      tells = λ own c there.
+          let low : c < s.channels = omega (arith, there, measure.number) in
+          let first = get_or next c None in
+          let told = tells.tells c there (get_or (sound_channels s.interleaving s.channels done before) c []) (joined.bits c low) (audits.tells measure c there) in
+          subst (λ zs. TellsOff cut c (get_or zs c []) first) (sym channels_are) (subst (λ z. TellsOff cut c z first) (sym (joined.each c low)) told);
+    }
+
+-- ---- all of it
+-- the stretches of the bridges are their bits
+pub bridges_are : (cut : CutContent) (zs : List (List Bool)) → stretches_of zs (bridge_ranges cut) ≡ bridges_kept cut zs
+bridges_are cut zs = map-map (stretch_of zs) (bridge_range cut) (range_with_len 0 (length cut.splice.cues - 1))
+
+-- an auditor that took a whole sound
+module _ (a : Auditor) (outline : Outline) (cut : CutContent) (own : a.cut.now ≡ cut) (source : a.keeper.sound ≡ outline.sound) (all : a.keeper.done ≡ outline.sound.count) (ranges_are : a.keeper.ranges.now ≡ bridge_ranges cut)
+    (shape : HasShape outline.recording) (differs : Option CuedPlace) (lowest : (r : Content) → HaveShape cut r.channels → TellAll cut r.channels a.firsts.items → FindsCued cut r differs) where
+  abbrev made : Audited
+  made = record { outline = outline; differs = differs; kept = a.keeper.stretches }
+
+  module _ (told : AreTold (around_of outline)) (file sound : List ℕ) (stands : StandsIn (around_of outline) file sound) (audits : IsAuditing a sound) where
+    abbrev held : Content
+    held = with_sound outline.recording outline.sound sound
+
+    own_shape : HasShape held
+    own_shape = held_shape outline shape told file sound stands
+
+    measure : AreAlike cut.first held → count_of held.channels ≡ master_length cut.splice.cues → HasMeasure cut a.keeper.sound
+    measure alike long = record {
+      number = ap (λ (s : Sound). s.channels) source ∙ sym (held_number outline shape told file sound stands) ∙ alike.as_many_channels;
+      long = ap (λ (s : Sound). s.count) source ∙ sym (held_count outline shape told file sound stands) ∙ long;
+    }
+
+    whole_are : sound_channels a.keeper.sound.interleaving a.keeper.sound.channels a.keeper.done sound ≡ held.channels
+    whole_are = ap (λ n. sound_channels a.keeper.sound.interleaving a.keeper.sound.channels n sound) all ∙ ap (λ (s : Sound). sound_channels s.interleaving s.channels outline.sound.count sound) source
+
+    have_shape : AreAlike cut.first held → count_of held.channels ≡ master_length cut.splice.cues → HaveShape cut held.channels
+    have_shape alike long = record { as_many = alike.as_many_channels; long = λ k d lt. own_shape.level.same k d lt ∙ long }
+
+    own_audits : Audits cut a.keeper.sound a.keeper.ranges.now a.keeper.done (items_of a.keeper.stretches.items) a.firsts.items sound
+    own_audits = subst (λ k. Audits k a.keeper.sound a.keeper.ranges.now a.keeper.done (items_of a.keeper.stretches.items) a.firsts.items sound) own audits
+
+    found : (form : Form) → IsFoundOf cut (found_in form made) held
+    found form = record {
+      shaped = own_shape;
+      recording_is = held_silent outline shape told file sound stands;
+      count_is = sym (held_count outline shape told file sound stands);
+      cued = λ alike long. lowest held (have_shape alike long) (subst (λ zs. TellAll cut zs a.firsts.items) whole_are (own_audits.tells (measure alike long)));
+      kept = λ alike long.
+          same_stretches (sound_channels a.keeper.sound.interleaving a.keeper.sound.channels a.keeper.done sound) a.keeper.ranges.now (items_of a.keeper.stretches.items) audits.keeps.kept
+          ∙ ap (λ zs. stretches_of zs a.keeper.ranges.now) whole_are ∙ ap (stretches_of held.channels) ranges_are ∙ bridges_are cut held.channels;
+    }
+
+  taken_audit : AreTold (around_of outline) → (file : List ℕ) → IsTakenOf (IsAuditing a) (around_of outline) file → IsAuditOf cut made file
+  taken_audit told file (sound, stands, audits) = (sound, stands, found told file sound stands audits)
+
+  pub file_audited : (left : Option (List ℕ)) → TakesFile (IsAuditing a) left (around_of outline) → AuditsFile left cut made
+  file_audited None (told, h) = (told, tt)
+  file_audited (Some file) (told, h) = (told, taken_audit told file h)
+
+  pub given_audited : {R : Type 0} (left : R → Option (List ℕ)) (i j : Inlet R) → AreTold (around_of outline) → TakesGiven (IsAuditing a) left i j (around_of outline) → AuditsGiven left i j cut made
+  given_audited left i j told (read, reads, h) = (read, reads, taken_audit told read h)

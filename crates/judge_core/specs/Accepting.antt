@@ -1,0 +1,107 @@
+-- Which masters and certificates are accepted, and why others are rejected.
+use Rattle.std.specs.Prelude.{◌≡◌, ℕ, ◌⊎◌, List, MatchResult, None, Result, Ok, Err}
+use Rattle.dsd_bits.specs.Contents.{Content}
+use Rattle.form_core.specs.declared.form.Form.{Form}
+use Rattle.form_core.specs.Forms.{HoldsAs}
+use Rattle.cert_core.specs.declared.verdict.CheckFault.{CheckFault}
+use Rattle.cert_core.specs.declared.verdict.CheckFault.TheVariants as certs
+use Rattle.cut_core.specs.Cuts.{CutContent}
+use Rattle.judge_core.specs.declared.verdict.Reason.{Reason}
+use Rattle.judge_core.specs.declared.verdict.Reason.TheVariants.{MasterUnread}
+use Rattle.judge_core.specs.declared.verdict.Verdict.{Verdict}
+use Rattle.judge_core.specs.declared.verdict.Verdict.TheVariants.{Accepted, Rejected}
+use Rattle.judge_core.specs.Checking.{IsMasterOf, IsTitled, StandsAgainst}
+use Rattle.judge_core.specs.Claims.{IsCertOf, windows_total}
+use Rattle.judge_core.specs.Finding.{HoldsNothing}
+use Rattle.judge_core.specs.Masters.{AreLeastChannels, AreMasterChannels, CostLeast, total_cost}
+use Rattle.sound_core.specs.declared.fault.StreamFault.TheVariants.{ReadFailed}
+use Rattle.transfer_core.specs.declared.fault.Fault.{Fault}
+use Rattle.transfer_core.specs.declared.fault.Fault.TheVariants.{Stream, Memory}
+use Rattle.judge_core.specs.Cutting.{SaysCut}
+
+-- the file holds a master of the project and the takes, and the certificate shows each of its bridges to be least; so much do they cost
+pub record Accepts (project : List ℕ) (files : List (List ℕ)) (master cert : List ℕ) (cost : ℕ) : Type 0 where
+  pub cut : CutContent
+  pub says : SaysCut project files None cut
+  pub form : Form
+  pub recording : Content
+  pub master_holds : HoldsAs master form recording
+  pub is_master : IsMasterOf cut form recording
+  pub shown : IsCertOf cut recording.channels cert
+  pub cost_is : cost ≡ total_cost cut recording.channels
+
+-- a file is a master of a project and takes: it holds the cues and some bridges, at the takes' rate, with the titles' marks where its form has marks
+pub record IsMaster (project : List ℕ) (files : List (List ℕ)) (file : List ℕ) : Type 0 where
+  pub cut : CutContent
+  pub says : SaysCut project files None cut
+  pub form : Form
+  pub recording : Content
+  pub file_holds : HoldsAs file form recording
+  pub same_rate : recording.rate ≡ cut.first.rate
+  pub made : AreMasterChannels cut recording.channels
+  pub titled : IsTitled cut form recording
+
+-- the file is a master of the project and takes, no bridge of which could cost less
+pub record IsLeastMaster (project : List ℕ) (files : List (List ℕ)) (file : List ℕ) : Type 0 where
+  pub cut : CutContent
+  pub says : SaysCut project files None cut
+  pub form : Form
+  pub recording : Content
+  pub file_holds : HoldsAs file form recording
+  pub least : AreLeastChannels cut recording.channels
+
+-- of all masters of a project and takes none costs less: the channels that the file holds are those of one, read whole they cost this much, and those of no other cost less
+pub record CostsLeast (project : List ℕ) (files : List (List ℕ)) (file : List ℕ) (cost : ℕ) : Type 0 where
+  pub cut : CutContent
+  pub says : SaysCut project files None cut
+  pub form : Form
+  pub recording : Content
+  pub file_holds : HoldsAs file form recording
+  pub made : AreMasterChannels cut recording.channels
+  pub least : CostLeast cut recording.channels cost
+
+-- the sum over all bridges of a master, by rising cue and then by rising channel, of what its bits there cost over their windows
+pub record CostsWindows (project : List ℕ) (files : List (List ℕ)) (file : List ℕ) (cost : ℕ) : Type 0 where
+  pub cut : CutContent
+  pub says : SaysCut project files None cut
+  pub form : Form
+  pub recording : Content
+  pub file_holds : HoldsAs file form recording
+  pub cost_is : cost ≡ windows_total cut recording.channels
+
+-- there is a cut, and this reason stands first against the master: it is no file of any form, or what is wrong with its recording or its certificate
+pub record RejectsFirst (project : List ℕ) (files : List (List ℕ)) (master cert : List ℕ) (reason : Reason) : Type 0 where
+  pub cut : CutContent
+  pub says : SaysCut project files None cut
+  pub stands : ((reason ≡ MasterUnread) × HoldsNothing master)
+      ⊎ ((form : Form) × (r : Content) × HoldsAs master form r × StandsAgainst cut form r cert reason)
+
+-- P of the cost, where the master was accepted
+abbrev pub IfAccepted : Result Verdict Fault → (ℕ → Type 0) → Type 0
+IfAccepted (Ok (Accepted cost)) P = P cost
+IfAccepted (Ok (Rejected reason)) P = Unit {0}
+IfAccepted (Err fault) P = Unit {0}
+
+-- P of the reason, where it was rejected
+abbrev pub IfRejected : Result Verdict Fault → (Reason → Type 0) → Type 0
+IfRejected (Ok (Accepted cost)) P = Unit {0}
+IfRejected (Ok (Rejected reason)) P = P reason
+IfRejected (Err fault) P = Unit {0}
+
+-- it was accepted at this cost
+abbrev pub IsAcceptedAt : ℕ → Verdict → Type 0
+IsAcceptedAt cost (Accepted total) = total ≡ cost
+IsAcceptedAt cost (Rejected reason) = ⊥
+
+-- the same of an answer, want of memory aside
+abbrev pub AnswersAccepted : Result Verdict Fault → ℕ → Type 0
+AnswersAccepted result cost = MatchResult result (IsAcceptedAt cost) (λ fault. fault ≡ Memory)
+
+-- the same of a certificate that is read, failed reads aside too
+abbrev pub ReadsAccepted : Result Verdict Fault → ℕ → Type 0
+ReadsAccepted result cost = MatchResult result (IsAcceptedAt cost) (λ fault. (fault ≡ Stream ReadFailed) ⊎ (fault ≡ Memory))
+
+-- what a certificate that wasn't judged is refused for
+abbrev pub fault_of_check : CheckFault → Fault
+fault_of_check certs.Device = Stream ReadFailed
+fault_of_check certs.Memory = Memory

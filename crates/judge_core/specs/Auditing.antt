@@ -1,0 +1,70 @@
+-- What is found of the sound of a master that comes.
+use Rattle.std.specs.Prelude.{◌≡◌, ℕ, ◌+◌, ◌-◌, ◌<◌, ◌≤◌, Bool, List, [], ◌++◌, None, Option, IfSome, length, map, slice_index_or}
+use Rattle.std.specs.List.{range_with_len}
+use Rattle.device_core.specs.declared.inlet.Inlet.{Inlet}
+use Rattle.dsd_bits.specs.declared.sound.Sound.{Sound}
+use Rattle.dsd_bits.specs.declared.stretches.BitRange.{BitRange}
+use Rattle.dsd_bits.specs.Sounds.{sound_channels}
+use Rattle.form_core.specs.declared.form.Form.{Form}
+use Rattle.cut_core.specs.Cuts.{CutContent, channel_number, cue_at, master_length}
+use Rattle.judge_core.specs.declared.finding.Found.{Found}
+use Rattle.judge_core.specs.Claims.{bridge_start}
+use Rattle.judge_core.specs.Comparing.{TellsOff}
+use Rattle.judge_core.specs.Standing.{IsFoundOf, TellAll}
+use Rattle.sound_core.specs.Keepers.{Keeps}
+use Rattle.sound_core.specs.Outlines.{AreTold, StandsIn, around_of, with_sound}
+use Rattle.sound_core.specs.Reads.{Reads}
+use Rattle.sound_core.specs.Stretches.{items_of}
+use Rattle.judge_core.specs.declared.auditing.Audited.{Audited}
+use Rattle.judge_core.specs.declared.auditor.Auditor.{Auditor}
+
+-- where the bridge behind cue i stands in the master
+abbrev pub bridge_range : CutContent → ℕ → BitRange
+bridge_range cut i = record { start = bridge_start cut i; stop = bridge_start cut i + (cue_at cut i).bridge }
+
+-- the same behind each cue but the last
+abbrev pub bridge_ranges : CutContent → List BitRange
+bridge_ranges cut = map (bridge_range cut) (range_with_len 0 (length cut.splice.cues - 1))
+
+-- ---- a sound that comes
+-- a sound has as many channels as the master, and each as many bits
+pub record HasMeasure (cut : CutContent) (s : Sound) : Type 0 where
+  pub number : s.channels ≡ channel_number cut
+  pub long : s.count ≡ master_length cut.splice.cues
+
+-- these are parts of a master's channels, which follow so many bits
+pub record AreParts (cut : CutContent) (done : ℕ) (parts : List (List Bool)) : Type 0 where
+  pub number : length parts ≡ channel_number cut
+  pub inside : (c : ℕ) → c < channel_number cut → done + length (slice_index_or parts c []) ≤ master_length cut.splice.cues
+
+-- where the first bit of each channel is told that isn't that of the cue there, it is told with these parts behind the channels too
+pub record TellMore (cut : CutContent) (done : ℕ) (parts : List (List Bool)) (old new : List (Option ℕ)) : Type 0 where
+  pub number : length new ≡ length old
+  pub tells : (c : ℕ) → c < channel_number cut → (before : List Bool) → length before ≡ done → TellsOff cut c before (slice_index_or old c None) → TellsOff cut c (before ++ slice_index_or parts c []) (slice_index_or new c None)
+
+-- after these bytes of a sound, which are whole groups of blocks or all, there are the stretches of their channels, and where the sound has the master's measure the first bit of each that isn't that of the cue there
+pub record Audits (cut : CutContent) (s : Sound) (ranges : List BitRange) (done : ℕ) (stretches : List (List (List Bool))) (firsts : List (Option ℕ)) (bytes : List ℕ) : Type 0 where
+  pub keeps : Keeps s ranges done stretches bytes
+  pub number : length firsts ≡ channel_number cut
+  pub tells : HasMeasure cut s → TellAll cut (sound_channels s.interleaving s.channels done bytes) firsts
+
+-- the auditor has those
+abbrev pub IsAuditing : Auditor → List ℕ → Type 0
+IsAuditing a bytes = Audits a.cut.now a.keeper.sound a.keeper.ranges.now a.keeper.done (items_of a.keeper.stretches.items) a.firsts.items bytes
+
+-- ---- the whole file
+-- what was found of a file, which is of this form
+abbrev pub found_in : Form → Audited → Found
+found_in form a = record { form = form; recording = a.outline.recording; count = a.outline.sound.count; differs = a.differs; kept = a.kept }
+
+-- the file is some sound in the surroundings, and this was found of the recording with the channels of that sound
+abbrev pub IsAuditOf : CutContent → Audited → List ℕ → Type 0
+IsAuditOf cut a file = (sound : List ℕ) × StandsIn (around_of a.outline) file sound × ((form : Form) → IsFoundOf cut (found_in form a) (with_sound a.outline.recording a.outline.sound sound))
+
+-- whatever file stands there, it is some sound in the surroundings, they tell what it holds, and this was found of that
+abbrev pub AuditsFile : Option (List ℕ) → CutContent → Audited → Type 0
+AuditsFile left cut a = AreTold (around_of a.outline) × IfSome left (IsAuditOf cut a)
+
+-- a reader that does not tell its bytes gave some, which are some sound in the surroundings, and this was found of them
+abbrev pub AuditsGiven : {R : Type 0} → (R → Option (List ℕ)) → Inlet R → Inlet R → CutContent → Audited → Type 0
+AuditsGiven left old new cut a = (read : List ℕ) × Reads left old new read × IsAuditOf cut a read

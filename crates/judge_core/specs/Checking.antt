@@ -1,0 +1,112 @@
+-- Which recordings are masters of a cut, and the reason that stands first against others.
+use Rattle.std.specs.Prelude.{◌≡◌, ◌≢◌, ℕ, ◌-◌, ◌<◌, ◌⊎◌, Bool, false, List, [], ◌++◌, All, length, map, slice_index_or, take}
+use Rattle.std.specs.List.{AllZip, range_with_len}
+use Rattle.dsd_bits.specs.Channels.{count_of}
+use Rattle.dsd_bits.specs.Contents.{Content}
+use Rattle.form_core.specs.declared.form.Form.{Form}
+use Rattle.form_core.specs.declared.form.Form.TheVariants.{Dsdiff}
+use Rattle.cost_core.specs.Bridges.{bridge_cost}
+use Rattle.cost_core.specs.StateCosts.{trellis_of}
+use Rattle.cert_core.specs.Certificates.{AreEntries, Claim}
+use Rattle.cert_core.specs.Reasons.{FirstReason, HeadReason}
+use Rattle.cert_core.specs.Text.{cert_head}
+use Rattle.cert_core.specs.declared.version.Version.{Version}
+use Rattle.cert_core.specs.declared.verdict.CertReason.{CertReason}
+use Rattle.cut_core.specs.Cuts.{AreAlike, CutContent, channel_number, master_length}
+use Rattle.cut_core.specs.Titles.{titles_of}
+use Rattle.judge_core.specs.declared.verdict.Reason.{Reason}
+use Rattle.judge_core.specs.declared.verdict.Reason.TheVariants.{MasterShape, MasterLength, MasterMarks, CuedBit, CertHead, Cert, CertExtra}
+use Rattle.judge_core.specs.Claims.{bridge_bits, claims}
+use Rattle.judge_core.specs.Masters.{channel_numbers, master_channel}
+
+-- there are as many channels as a master has, and each of them is as long
+pub record HaveShape (cut : CutContent) (zs : List (List Bool)) : Type 0 where
+  pub as_many : length zs ≡ channel_number cut
+  pub long : All (λ z. length z ≡ master_length cut.splice.cues) zs
+
+-- a DSDIFF master has the marks of the titles
+abbrev pub IsTitled : CutContent → Form → Content → Type 0
+IsTitled cut form r = form ≡ Dsdiff → r.marks ≡ titles_of cut
+
+-- a channel rebuilt of the cues, and of its own bits between them
+abbrev pub rebuilt : CutContent → ℕ → List Bool → List Bool
+rebuilt cut c z = master_channel cut c (map (bridge_bits cut z) (range_with_len 0 (length cut.splice.cues - 1)))
+
+-- channels of these numbers hold the cues where they belong
+abbrev pub HoldCues : CutContent → List ℕ → List (List Bool) → Type 0
+HoldCues cut cs zs = AllZip (λ c z. z ≡ rebuilt cut c z) cs zs
+
+-- a recording is the master of a cut, whatever its bridges
+pub record IsMasterOf (cut : CutContent) (form : Form) (r : Content) : Type 0 where
+  pub shape : AreAlike cut.first r
+  pub long : count_of r.channels ≡ master_length cut.splice.cues
+  pub titled : IsTitled cut form r
+  pub cued : HoldCues cut (channel_numbers cut) r.channels
+
+-- what needs none of its bits: it is like the takes, has as many bits as a master, and the marks of the titles
+pub record IsLike (cut : CutContent) (form : Form) (r : Content) (count : ℕ) : Type 0 where
+  pub shape : AreAlike cut.first r
+  pub long : count ≡ master_length cut.splice.cues
+  pub titled : IsTitled cut form r
+
+-- or the first reason why it is not
+abbrev pub OuterReason : CutContent → Form → Content → ℕ → Reason → Type 0
+OuterReason cut form r count MasterShape = AreAlike cut.first r → ⊥
+OuterReason cut form r count MasterLength = AreAlike cut.first r × (count ≢ master_length cut.splice.cues)
+OuterReason cut form r count MasterMarks = AreAlike cut.first r × (count ≡ master_length cut.splice.cues) × (form ≡ Dsdiff) × (r.marks ≢ titles_of cut)
+OuterReason cut form r count _ = ⊥
+
+-- the first place where two channels differ
+pub record IsFirstDifference (x y : List Bool) (place : ℕ) : Type 0 where
+  pub there : place < length x
+  pub before : (i : ℕ) → i < place → slice_index_or x i false ≡ slice_index_or y i false
+  pub differs : slice_index_or x place false ≢ slice_index_or y place false
+
+-- the channels before channel c hold the cues, and channel c differs from them first at a place
+pub record IsFirstCuedBit (cut : CutContent) (r : Content) (c place : ℕ) : Type 0 where
+  pub there : c < length r.channels
+  pub before : HoldCues cut (range_with_len 0 c) (take c r.channels)
+  pub differs : IsFirstDifference (slice_index_or r.channels c []) (rebuilt cut c (slice_index_or r.channels c [])) place
+
+-- a certificate of so many weights and entries, of one version or the other, begins with entries that show these claims, and goes on with these bytes
+pub record ShowsUpTo (weights number : ℕ) (cs : List Claim) (cert after : List ℕ) : Type 0 where
+  pub version : Version
+  pub entries : List ℕ
+  pub text : cert ≡ cert_head version weights number ++ (entries ++ after)
+  pub shown : AreEntries version cs entries
+
+-- the entries before entry k show their claims, and entry k is wrong first for this reason
+pub record IsFirstWrong (cut : CutContent) (zs : List (List Bool)) (cert : List ℕ) (k : ℕ) (reason : CertReason) : Type 0 where
+  pub claim : Claim
+  pub there : k < length (claims cut zs)
+  pub claim_is : slice_index_or (claims cut zs) k claim ≡ claim
+  pub after : List ℕ
+  pub goes_on : ShowsUpTo (length cut.splice.weights) (length (claims cut zs)) (take k (claims cut zs)) cert after
+  pub wrong : FirstReason goes_on.version (trellis_of claim.bridging) claim.cue claim.channel (bridge_cost claim.bridging claim.bits) after reason
+
+-- all claims are shown, and more bytes follow
+pub record HasMore (cut : CutContent) (zs : List (List Bool)) (cert : List ℕ) : Type 0 where
+  pub after : List ℕ
+  pub some : 0 < length after
+  pub goes_on : ShowsUpTo (length cut.splice.weights) (length (claims cut zs)) (claims cut zs) cert after
+
+-- a recording isn't the master for this reason, and for none before it in the order: shape, length, marks, cued bits
+abbrev pub MasterReason : CutContent → Form → Content → Reason → Type 0
+MasterReason cut form r MasterShape = AreAlike cut.first r → ⊥
+MasterReason cut form r MasterLength = AreAlike cut.first r × (count_of r.channels ≢ master_length cut.splice.cues)
+MasterReason cut form r MasterMarks =
+    AreAlike cut.first r × (count_of r.channels ≡ master_length cut.splice.cues) × (form ≡ Dsdiff) × (r.marks ≢ titles_of cut)
+MasterReason cut form r (CuedBit c place) =
+    AreAlike cut.first r × (count_of r.channels ≡ master_length cut.splice.cues) × IsTitled cut form r × IsFirstCuedBit cut r c place
+MasterReason cut form r _ = ⊥
+
+-- a certificate doesn't show a master's bridges to be least for this reason, and for none before it in the order: head, entries, end
+abbrev pub CertReasons : CutContent → List (List Bool) → List ℕ → Reason → Type 0
+CertReasons cut zs cert (CertHead reason) = HeadReason (length cut.splice.weights) (length (claims cut zs)) cert reason
+CertReasons cut zs cert (Cert k reason) = IsFirstWrong cut zs cert k reason
+CertReasons cut zs cert CertExtra = HasMore cut zs cert
+CertReasons cut zs cert _ = ⊥
+
+-- of a master that is read, this reason stands first: what is wrong with the master, and then with the certificate
+abbrev pub StandsAgainst : CutContent → Form → Content → List ℕ → Reason → Type 0
+StandsAgainst cut form r cert reason = MasterReason cut form r reason ⊎ (IsMasterOf cut form r × CertReasons cut r.channels cert reason)

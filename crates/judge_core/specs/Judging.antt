@@ -1,0 +1,104 @@
+-- What the steps of a judgement answer.
+use Rattle.std.specs.Prelude.{◌≡◌, ℕ, ◌<◌, Bool, List, ◌++◌, All, IfSome, Option, None, Some, length, slice_index_or, take}
+use Rattle.std.specs.Io.KnownBytes.{Consumes}
+use Rattle.std.specs.List.{sum_by}
+use Rattle.dsd_bits.specs.Contents.{Content}
+use Rattle.cost_core.specs.StateCosts.{trellis_of}
+use Rattle.cert_core.specs.Certificates.{AreEntries, Claim}
+use Rattle.cert_core.specs.Entries.{BeginsValid, ReadsEntry}
+use Rattle.cert_core.specs.Readers.{InHead}
+use Rattle.cert_core.specs.Reasons.{FirstReason}
+use Rattle.cert_core.specs.Text.{cert_head}
+use Rattle.cert_core.specs.declared.version.Version.{Version}
+use Rattle.cert_core.specs.declared.verdict.CertReason.{CertReason}
+use Rattle.cert_core.specs.declared.verdict.CertVerdict.{CertVerdict}
+use Rattle.cert_core.specs.declared.verdict.CertVerdict.TheVariants as judged
+use Rattle.form_core.specs.declared.form.Form.{Form}
+use Rattle.cut_core.specs.Cuts.{CutContent}
+use Rattle.judge_core.specs.declared.verdict.Reason.TheVariants.{Cert}
+use Rattle.judge_core.specs.declared.verdict.Verdict.{Verdict}
+use Rattle.judge_core.specs.declared.verdict.Verdict.TheVariants.{Accepted, Rejected}
+use Rattle.judge_core.specs.Checking.{CertReasons, IsMasterOf, StandsAgainst}
+use Rattle.judge_core.specs.Claims.{AreLeastBridges, IsCertOf, IsLeastClaim, claim_cost, windows_total}
+use Rattle.judge_core.specs.Masters.{AreLeastChannels, AreMasterChannels, CostLeast, total_cost}
+
+-- it is not rejected
+abbrev pub IsNoRejection : Verdict → Type 0
+IsNoRejection (Accepted cost) = Unit {0}
+IsNoRejection (Rejected reason) = ⊥
+
+-- P of the cost, where it is accepted
+abbrev pub AtCost : Verdict → (ℕ → Type 0) → Type 0
+AtCost (Accepted cost) P = P cost
+AtCost (Rejected reason) P = Unit {0}
+
+-- a recording is a master of the cut, no bridge of which could cost less, and of all masters of the cut none costs less than this
+pub record IsLeastOf (cut : CutContent) (form : Form) (r : Content) (cost : ℕ) : Type 0 where
+  pub is_master : IsMasterOf cut form r
+  pub made : AreMasterChannels cut r.channels
+  pub least : AreLeastChannels cut r.channels
+  pub joint : CostLeast cut r.channels cost
+
+-- an accepted master is the cues, and its certificate shows its bridges to be least, which cost so much; against a rejected one this reason stands first
+abbrev pub JudgesMaster : CutContent → Form → Content → List ℕ → Verdict → Type 0
+JudgesMaster cut form r cert (Accepted cost) = IsMasterOf cut form r × IsCertOf cut r.channels cert × (cost ≡ total_cost cut r.channels) × (cost ≡ windows_total cut r.channels)
+JudgesMaster cut form r cert (Rejected reason) = StandsAgainst cut form r cert reason
+
+-- the head of a certificate of the version was read, or known bytes have this reason first in it, and begin with that of no version
+abbrev pub JudgesHead : Version → ℕ → ℕ → Option (List ℕ) → Option (List ℕ) → Option CertReason → Type 0
+JudgesHead v weights number old new None = Consumes old new (cert_head v weights number)
+JudgesHead v weights number old new (Some reason) = InHead weights number old reason × IfSome old (λ bytes. (other : Version) → (rest : List ℕ) → bytes ≡ cert_head other weights number ++ rest → ⊥)
+
+-- an entry of the version that shows the claim was read, and its bits are least, at this cost
+pub record ShowsClaim (v : Version) (claim : Claim) (old new : Option (List ℕ)) (cost : ℕ) : Type 0 where
+  pub entry : ReadsEntry v (trellis_of claim.bridging) claim.cue claim.channel claim.bits old new
+  pub cost_is : cost ≡ claim_cost claim
+  pub least : IsLeastClaim claim
+
+-- known bytes have this reason first in the claim's entry, and don't begin with one that shows it
+pub record LacksClaim (v : Version) (claim : Claim) (old : Option (List ℕ)) (reason : CertReason) : Type 0 where
+  pub first : IfSome old (λ bytes. FirstReason v (trellis_of claim.bridging) claim.cue claim.channel (claim_cost claim) bytes reason)
+  pub none : IfSome old (λ bytes. BeginsValid v (trellis_of claim.bridging) claim.cue claim.channel claim.bits bytes → ⊥)
+
+-- one of them
+abbrev pub JudgesClaim : Version → Claim → Option (List ℕ) → Option (List ℕ) → CertVerdict → Type 0
+JudgesClaim v claim old new (judged.Accepted cost) = ShowsClaim v claim old new cost
+JudgesClaim v claim old new (judged.Rejected reason) = LacksClaim v claim old reason
+
+-- entries of the version that show the claims were read, one for each in their order
+abbrev pub ReadsEntries : Version → List Claim → Option (List ℕ) → Option (List ℕ) → Type 0
+ReadsEntries v cs old new = (entries : List ℕ) × Consumes old new entries × AreEntries v cs entries
+
+-- and the bits of each are least, at this cost together
+pub record ShowsClaims (v : Version) (cs : List Claim) (old new : Option (List ℕ)) (cost : ℕ) : Type 0 where
+  pub entries : ReadsEntries v cs old new
+  pub cost_is : cost ≡ sum_by claim_cost cs
+  pub least : All IsLeastClaim cs
+
+-- the bytes have entries that show the claims before claim k, and its own entry is wrong first for this reason
+pub record IsWrongFrom (v : Version) (cs : List Claim) (k : ℕ) (reason : CertReason) (bytes : List ℕ) : Type 0 where
+  pub claim : Claim
+  pub there : k < length cs
+  pub claim_is : slice_index_or cs k claim ≡ claim
+  pub entries : List ℕ
+  pub after : List ℕ
+  pub text : bytes ≡ entries ++ after
+  pub shown : AreEntries v (take k cs) entries
+  pub wrong : FirstReason v (trellis_of claim.bridging) claim.cue claim.channel (claim_cost claim) after reason
+
+-- entries that show the claims were read, or the entry of one is wrong first and known bytes aren't such entries
+abbrev pub JudgesClaims : Version → List Claim → Option (List ℕ) → Option (List ℕ) → Verdict → Type 0
+JudgesClaims v cs old new (Accepted cost) = ShowsClaims v cs old new cost
+JudgesClaims v cs old new (Rejected (Cert k reason)) = IfSome old (λ bytes. IsWrongFrom v cs k reason bytes × (AreEntries v cs bytes → ⊥))
+JudgesClaims v cs old new (Rejected _) = ⊥
+
+-- known bytes are a certificate of the bridges, whose bits are least, at this cost together
+pub record ShowsBridges (cut : CutContent) (zs : List (List Bool)) (known : Option (List ℕ)) (cost : ℕ) : Type 0 where
+  pub shown : IfSome known (IsCertOf cut zs)
+  pub cost_is : cost ≡ windows_total cut zs
+  pub least : AreLeastBridges cut zs
+
+-- or this reason stands first, and they aren't
+abbrev pub JudgesCert : CutContent → List (List Bool) → Option (List ℕ) → Verdict → Type 0
+JudgesCert cut zs known (Accepted cost) = ShowsBridges cut zs known cost
+JudgesCert cut zs known (Rejected reason) = IfSome known (λ cert. CertReasons cut zs cert reason × (IsCertOf cut zs cert → ⊥))

@@ -1,0 +1,59 @@
+-- A master: the cues and the bridges between them, channel by channel, and what they cost.
+use Rattle.std.specs.Prelude.{◌≡◌, ℕ, ◌+◌, ◌-◌, ◌≤◌, Bool, List, [], length, map, slice_index_or}
+use Rattle.std.specs.List.{AllZip, range_with_len, sum_by}
+use Rattle.cost_core.specs.Bridges.{IsLeastBridge}
+use Rattle.cost_core.specs.Channels.{HaveLengths, Part, channel, channel_cost}
+use Rattle.cut_core.specs.Cuts.{CutContent, channel_number, cue_bits, window}
+
+-- the bridge behind cue i in channel c, and the next cue
+abbrev pub part_at : CutContent → ℕ → ℕ → Part
+part_at cut c i = record { bridging = window cut c i; cue = cue_bits cut c (i + 1) }
+
+-- what follows the first cue in channel c
+abbrev pub parts_of : CutContent → ℕ → List Part
+parts_of cut c = map (part_at cut c) (range_with_len 0 (length cut.splice.cues - 1))
+
+-- channel c of the master: cue 0, bridge 0, cue 1, bridge 1 and so on, with these bits for the bridges
+abbrev pub master_channel : CutContent → ℕ → List (List Bool) → List Bool
+master_channel cut c bridges = channel (cue_bits cut c 0) (parts_of cut c) bridges
+
+-- the bits are channel c of a master: the cues with some bits of the stated lengths for the bridges
+pub record IsMasterChannel (cut : CutContent) (c : ℕ) (z : List Bool) : Type 0 where
+  pub bridges : List (List Bool)
+  pub lengths : HaveLengths (parts_of cut c) bridges
+  pub made : z ≡ master_channel cut c bridges
+
+-- no bits of a bridge's length cost less
+abbrev pub IsLeastPart : Part → List Bool → Type 0
+IsLeastPart p x = IsLeastBridge p.bridging x
+
+-- the cues with least bits for each bridge
+pub record IsLeastChannel (cut : CutContent) (c : ℕ) (z : List Bool) : Type 0 where
+  pub bridges : List (List Bool)
+  pub least : AllZip IsLeastPart (parts_of cut c) bridges
+  pub made : z ≡ master_channel cut c bridges
+
+-- the numbers of the channels
+abbrev pub channel_numbers : CutContent → List ℕ
+channel_numbers cut = range_with_len 0 (channel_number cut)
+
+-- there are as many channels as the takes have, each the cues and some bridges
+abbrev pub AreMasterChannels : CutContent → List (List Bool) → Type 0
+AreMasterChannels cut zs = AllZip (IsMasterChannel cut) (channel_numbers cut) zs
+
+-- the same with least bits for each bridge
+abbrev pub AreLeastChannels : CutContent → List (List Bool) → Type 0
+AreLeastChannels cut zs = AllZip (IsLeastChannel cut) (channel_numbers cut) zs
+
+-- what channel c of a master costs, over all its places
+abbrev pub cost_of : CutContent → ℕ → List Bool → ℕ
+cost_of cut c z = channel_cost z (length (cue_bits cut c 0)) (parts_of cut c)
+
+-- what a master's channels cost together
+abbrev pub total_cost : CutContent → List (List Bool) → ℕ
+total_cost cut zs = sum_by (λ c. cost_of cut c (slice_index_or zs c [])) (channel_numbers cut)
+
+-- of all masters of a cut none costs less than these channels, read whole, and this is what they cost
+pub record CostLeast (cut : CutContent) (zs : List (List Bool)) (cost : ℕ) : Type 0 where
+  pub own : cost ≡ total_cost cut zs
+  pub least : (others : List (List Bool)) → AreMasterChannels cut others → cost ≤ total_cost cut others

@@ -1,0 +1,72 @@
+//! The file of a master, read once.
+
+ghost use Rattle.std.specs.Prelude.{◌≡◌, ◌+◌, ◌-◌, ◌<◌, ◌≤◌, ◌^◌, IfErr, IfOk, IsErrOf};
+ghost use Rattle.device_core.specs.Inlets.{inlet_failures, inlet_given, inlet_reader, inlet_reads};
+ghost use Rattle.sound_core.specs.Faults.{failed_reads};
+ghost use Rattle.sound_core.specs.Outlines.{IsOutlineFault};
+ghost use Rattle.judge_core.specs.Auditing.{AuditsFile, AuditsGiven};
+
+use crate::auditor::Auditor;
+use crate::finding::{CuedPlace, lowest_off};
+use crate::ranges::bridge_ranges;
+use cut_core::Cut;
+use device_core::Inlet;
+use dsd_bits::Bits;
+use form_core::has_shape;
+use sound_core::{Outline, StreamFault, read_into};
+use std::alloc::Global;
+use std::io::Read;
+
+/// The file of a master without its sound, and what was found of that.
+#[derive(Drop)]
+pub(crate) struct Audited {
+    /// What stands around the sound, and what it tells.
+    pub(crate) outline: Outline,
+    /// The first bit that isn't that of the cue there, by rising channel and then by rising place. It matters only
+    /// where the sound has as many channels as the master, and each as many bits.
+    pub(crate) differs: Option<CuedPlace>,
+    /// By cue but the last, and by channel, the bits that stand there for the bridge behind the cue.
+    pub(crate) kept: Vec<Vec<Bits>>,
+}
+
+/// Reads the file of a master once, as [`read_outline`](sound_core::read_outline) does, and finds of its sound what a
+/// verdict by the cut needs: the first bit that isn't that of the cue there, and the bits of the bridges. Beside these,
+/// at most three blocks of 65,536 bytes of the sound are held at a time, and the channels of one.
+///
+/// The inlet counts fewer than `2^63` reads and bytes at entry.
+///
+/// Refusals: `FileRefused` where the bytes are neither a DSDIFF nor a DSF file that holds a recording; `ReadFailed`;
+/// `TurnLimit` after `2^40` reads, and whatever is answered there were no more; `Memory`.
+pub(crate) fn audit<R: Read>(
+    alloc: Global,
+    cut: &Cut,
+    inlet: &mut Inlet<R>,
+) -> Result<Audited, StreamFault>
+    requires inlet_ready { inlet_failures inlet.old < 2 ^ 64 - 1 }
+    requires reads_low { inlet_reads inlet.old < 2 ^ 63 }
+    requires given_low { inlet_given inlet.old < 2 ^ 63 }
+    // The reader's file is some sound in the outline, and this was found of the recording that it holds.
+    ensures ok { IfOk result (AuditsFile (R.remaining (inlet_reader inlet.old)) cut.now) }
+    // The same of what was read, where the reader doesn't tell its bytes.
+    ensures any_reader { IfOk result (AuditsGiven R.remaining inlet.old inlet.new cut.now) }
+    ensures fault { IfErr result (IsOutlineFault (R.remaining (inlet_reader inlet.old))) }
+    ensures read_failed { inlet_failures inlet.new ≡ inlet_failures inlet.old + failed_reads result }
+    // Whatever is answered, there were at most 2^40 reads.
+    ensures reads { inlet_reads inlet.new ≤ inlet_reads inlet.old + 2 ^ 40 }
+    ensures turn_limit { IsErrOf result StreamFault.TurnLimit → inlet_reads inlet.new ≡ inlet_reads inlet.old + 2 ^ 40 }
+{
+    let ranges = bridge_ranges(alloc, cut)?;
+    let mut auditor = Auditor::new(alloc, cut, &ranges);
+    match read_into(alloc, inlet, &mut auditor) {
+        Ok(outline) => {
+            has_shape(&outline.recording);
+            let differs = lowest_off(cut, &auditor.firsts);
+            Ok(Audited {
+                outline,
+                differs,
+                kept: auditor.keeper.stretches,
+            })
+        }
+        Err(fault) => Err(fault),
+    }
+}

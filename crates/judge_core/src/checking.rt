@@ -1,0 +1,134 @@
+//! Whether a file is the master of a project and takes, and its bridges are the best there are.
+
+ghost use Rattle.std.specs.Prelude.{◌≡◌, ◌+◌, ◌-◌, ◌^◌, ◌<◌, ◌⊎◌, IfErr, IfOk, IfSome, List, None, ℕ};
+ghost use Rattle.cert_core.specs.Readers.{cert_inlet};
+ghost use Rattle.cut_core.specs.Opening.{file_bytes};
+ghost use Rattle.device_core.specs.Inlets.{inlet_failures, inlet_reader};
+ghost use Rattle.form_core.specs.Steps.{Fails};
+ghost use Rattle.judge_core.specs.Accepting.{Accepts, AnswersAccepted, CostsLeast, CostsWindows, IfAccepted, IfRejected, IsLeastMaster, IsMaster, ReadsAccepted, RejectsFirst, fault_of_check};
+ghost use Rattle.judge_core.specs.Cutting.{SaysCut, said_cut};
+ghost use Rattle.judge_core.specs.Finding.{IsFoundHeld, IsFoundIn, IsFoundInSome};
+ghost use Rattle.sound_core.specs.Faults.{failed_reads};
+ghost use Rattle.transfer_core.specs.Faults.{as_stream};
+
+use crate::cutting::cut_files;
+use crate::finding::{Found, judge_found};
+use crate::reading::find_master;
+use crate::verdict::{Reason, Verdict};
+use cert_core::{CertReader, CheckFault};
+use cut_core::Cut;
+use device_core::Inlet;
+use sound_core::StreamFault;
+use std::alloc::Global;
+use std::io::Read;
+use transfer_core::Fault;
+
+/// Whether a file is the master of a project and its takes, and a certificate shows that no bridge in it
+/// could cost less, whoever wrote them. It is accepted exactly where this is so, with the sum of what the
+/// bridges of all channels cost: of all masters of the project and the takes none has a smaller one.
+///
+/// `takes` are the files of the takes in the order of their numbers, `master` a DSDIFF or DSF file, `cert` a
+/// certificate. Else the answer is the first reason of this order: `MasterUnread`, `MasterShape` (another
+/// sample rate or number of channels than the takes), `MasterLength`, `MasterMarks` (a DSDIFF file whose marks
+/// aren't those of the titles), `CuedBit` with the lowest such channel and place, `CertHead`, `Cert` with the
+/// first such entry, `CertExtra`. Refusals, in this order: `Project`, `NoSplice`, `TakeNumber`, `TakeUnread`,
+/// `TakeMismatch`, `CueOutside`, `MasterTooLong`, then by rising cue `NoRoomBefore` and `NoRoomAfter`. Every want
+/// of memory is `Memory`.
+pub fn check(
+    alloc: Global,
+    project: &[u8],
+    takes: &[Vec<u8>],
+    master: &[u8],
+    cert: &[u8],
+) -> Result<Verdict, Fault>
+    // What is accepted is a master with a certificate of its own bits.
+    ensures found { IfAccepted result (Accepts project.now (file_bytes takes.now) master.now cert.now) }
+    // It is a master of the project and the takes, and each of its bridges is least.
+    ensures master { IfAccepted result (λ _. IsMaster project.now (file_bytes takes.now) master.now) }
+    ensures least { IfAccepted result (λ _. IsLeastMaster project.now (file_bytes takes.now) master.now) }
+    // Of all masters of the project and the takes none costs less than it is accepted at.
+    ensures joint { IfAccepted result (CostsLeast project.now (file_bytes takes.now) master.now) }
+    // What it is accepted at is the sum over all bridges of what their bits cost over their windows.
+    ensures windows { IfAccepted result (CostsWindows project.now (file_bytes takes.now) master.now) }
+    // Such a master and certificate are accepted, want of memory aside.
+    ensures only { (cost : ℕ) → Accepts project.now (file_bytes takes.now) master.now cert.now cost
+        → AnswersAccepted result cost }
+    // Which reason it is: the first that stands.
+    ensures rejected { IfRejected result (RejectsFirst project.now (file_bytes takes.now) master.now cert.now) }
+    // Which fault it is: the first of the project, its splice and its cut.
+    ensures refused { IfErr result (λ fault. Fails Fault.Memory fault
+        (said_cut project.now (file_bytes takes.now) None)) }
+{
+    let cut = cut_files(alloc, project, takes, None)?;
+    let Ok(found) = find_master(alloc, &cut, &mut Inlet::new(master)) else {
+        return Err(Fault::Memory);
+    };
+    let mut reader = CertReader::new(Inlet::new(cert));
+    match check_found(alloc, &cut, &found, &mut reader) {
+        Ok(verdict) => Ok(verdict),
+        Err(_) => Err(Fault::Memory),
+    }
+}
+
+/// The same verdict by a cut of project and takes, by what was found of the master's file, and by a certificate that is
+/// judged while it is read, two rows of it at a time. Only a certificate that is accepted is read to its end, and none is
+/// read where there is a reason against the master.
+///
+/// Refusals: `ReadFailed` where a read fails, `Memory`.
+pub fn check_found<R: Read>(
+    alloc: Global,
+    cut: &Cut,
+    found: &Option<Found>,
+    cert: &mut CertReader<R>,
+) -> Result<Verdict, Fault>
+    requires ready { inlet_failures (cert_inlet cert.old) < 2 ^ 64 - 1 }
+    requires some { IsFoundInSome cut.now found.now }
+    // Of whichever project and files it is the cut, and of whichever file it was found, the clauses of `check` hold of them
+    // and of the bytes that the reader has left, where it tells them. What is accepted is a least master whichever reader
+    // it was.
+    ensures found { (project : List ℕ) (files : List (List ℕ)) (master : List ℕ)
+        → IsFoundIn project files cut.now found.now master
+        → IfAccepted result (λ cost. IfSome (R.remaining (inlet_reader (cert_inlet cert.old)))
+        (λ bytes. Accepts project files master bytes cost)) }
+    ensures master { (project : List ℕ) (files : List (List ℕ)) (master : List ℕ)
+        → IsFoundIn project files cut.now found.now master → IfAccepted result (λ _. IsMaster project files master) }
+    ensures least { (project : List ℕ) (files : List (List ℕ)) (master : List ℕ)
+        → IsFoundIn project files cut.now found.now master
+        → IfAccepted result (λ _. IsLeastMaster project files master) }
+    ensures joint { (project : List ℕ) (files : List (List ℕ)) (master : List ℕ)
+        → IsFoundIn project files cut.now found.now master → IfAccepted result (CostsLeast project files master) }
+    ensures windows { (project : List ℕ) (files : List (List ℕ)) (master : List ℕ)
+        → IsFoundIn project files cut.now found.now master
+        → IfAccepted result (λ cost. IfSome (R.remaining (inlet_reader (cert_inlet cert.old)))
+        (λ _. CostsWindows project files master cost)) }
+    ensures only { (project : List ℕ) (files : List (List ℕ)) (master : List ℕ)
+        → SaysCut project files None cut.now → IsFoundHeld cut.now master found.now → (cost : ℕ)
+        → IfSome (R.remaining (inlet_reader (cert_inlet cert.old))) (λ bytes. Accepts project files master bytes cost
+        → ReadsAccepted result cost) }
+    ensures rejected { (project : List ℕ) (files : List (List ℕ)) (master : List ℕ)
+        → SaysCut project files None cut.now → IsFoundHeld cut.now master found.now
+        → IfRejected result (λ reason. IfSome (R.remaining (inlet_reader (cert_inlet cert.old)))
+        (λ bytes. RejectsFirst project files master bytes reason)) }
+    ensures refused { IfErr result (λ fault. (fault ≡ Fault.Stream StreamFault.ReadFailed) ⊎ (fault ≡ Fault.Memory)) }
+    // The answer is `ReadFailed` exactly where a read failed.
+    ensures failures { inlet_failures (cert_inlet cert.new)
+        ≡ inlet_failures (cert_inlet cert.old) + failed_reads (as_stream result) }
+{
+    let Some(found) = found else {
+        return Ok(Verdict::Rejected(Reason::MasterUnread));
+    };
+    match judge_found(alloc, cut, found, cert) {
+        Ok(judged) => Ok(judged),
+        Err(fault) => Err(fault_of(fault)),
+    }
+}
+
+// What a certificate that wasn't judged is refused for.
+fn fault_of(fault: CheckFault) -> Fault
+    ensures { result ≡ fault_of_check fault }
+{
+    match fault {
+        CheckFault::Device => Fault::Stream(StreamFault::ReadFailed),
+        CheckFault::Memory => Fault::Memory,
+    }
+}

@@ -1,0 +1,81 @@
+//! Whether a recording is the master of a cut, as far as this needs none of its bits.
+
+ghost use Rattle.std.specs.Prelude.{◌≡◌, ◌≢◌, IfOk, MatchOption, false, map, true};
+ghost use Rattle.dsd_bits.specs.Contents.{mark_content};
+ghost use Rattle.form_core.specs.declared.form.Form.TheVariants.{Dsdiff};
+ghost use Rattle.cut_core.specs.Titles.{titles_of};
+ghost use Rattle.judge_core.specs.Checking.{IsLike, IsTitled, OuterReason};
+
+use crate::verdict::Reason;
+use cut_core::{Cut, differ};
+use dsd_bits::{Mark, Recording};
+use form_core::Form;
+use std::alloc::{AllocError, Global};
+
+/// The first reason why a recording isn't the master of the cut that needs none of its bits, by the recording without
+/// them and by how many each channel has: its rate or number of channels, its length, in a DSDIFF file its marks. Err is
+/// want of memory.
+pub(crate) fn outer_reason(
+    alloc: Global,
+    cut: &Cut,
+    form: Form,
+    recording: &Recording,
+    count: usize,
+) -> Result<Option<Reason>, AllocError>
+    ensures { IfOk result (λ found. MatchOption found (IsLike cut.now form recording.now count)
+        (OuterReason cut.now form recording.now count)) }
+{
+    if differ(cut.first(), recording) {
+        return Ok(Some(Reason::MasterShape));
+    }
+    if count != cut.length() {
+        return Ok(Some(Reason::MasterLength));
+    }
+    if !is_titled(alloc, cut, form, recording)? {
+        return Ok(Some(Reason::MasterMarks));
+    }
+    Ok(None)
+}
+
+// Whether the recording of a DSDIFF file has the marks of the titles and no others.
+fn is_titled(
+    alloc: Global,
+    cut: &Cut,
+    form: Form,
+    recording: &Recording,
+) -> Result<bool, AllocError>
+    ensures yes { IfOk result (λ titled. titled ≡ true → IsTitled cut.now form recording.now) }
+    ensures no { IfOk result (λ titled. titled ≡ false → (form ≡ Dsdiff) × (recording.now.marks ≢ titles_of cut.now)) }
+{
+    match form {
+        Form::Dsdiff => {
+            let titles = cut.titles(alloc)?;
+            Ok(same_marks(recording.marks(), &titles))
+        }
+        Form::Dsf | Form::Dsf8 => Ok(true),
+    }
+}
+
+// Whether two lists of marks hold the same.
+fn same_marks(a: &[Mark], b: &[Mark]) -> bool
+    ensures yes { result ≡ true → map mark_content a.now ≡ map mark_content b.now }
+    ensures no { result ≡ false → map mark_content a.now ≢ map mark_content b.now }
+{
+    if a.len() != b.len() {
+        return false;
+    }
+    for i in 0..a.len() {
+        if !same_mark(&a[i], &b[i]) {
+            return false;
+        }
+    }
+    true
+}
+
+// Whether two marks hold the same.
+fn same_mark(a: &Mark, b: &Mark) -> bool
+    ensures yes { result ≡ true → mark_content a.now ≡ mark_content b.now }
+    ensures no { result ≡ false → mark_content a.now ≢ mark_content b.now }
+{
+    a == b
+}

@@ -1,0 +1,49 @@
+//! The cut of a project and its takes.
+
+ghost use Rattle.std.specs.Prelude.{IfErr, IfOk, List, ℕ};
+ghost use Rattle.splice_core.specs.Splices.{splice_content};
+ghost use Rattle.form_core.specs.Steps.{Gives};
+ghost use Rattle.cut_core.specs.Hearing.{AreOfTakes};
+ghost use Rattle.cut_core.specs.Opening.{file_bytes};
+ghost use Rattle.judge_core.specs.Cutting.{AreTakes, IsCutFault, SaysCut, said_cut};
+
+use cut_core::{Cut, Heard, hear_takes};
+use form_core::Form;
+use splice_core::Splice;
+use std::alloc::Global;
+use transfer_core::{Fault, splice_of};
+
+/// The cut of a project's text and the files of its takes, in the order of their numbers. `form` is the form of the file
+/// that is to be cut, where one is.
+///
+/// Refusals, in this order: `Project`, `NoSplice`, `TakeNumber`, `TakeUnread`, those of [`cut_heard`].
+pub fn cut_files(
+    alloc: Global,
+    project: &[u8],
+    takes: &[Vec<u8>],
+    form: Option<Form>,
+) -> Result<Cut, Fault>
+    ensures found { IfOk result (SaysCut project.now (file_bytes takes.now) form) }
+    ensures exact { Gives Fault.Memory (λ cut. cut) result (said_cut project.now (file_bytes takes.now) form) }
+{
+    let splice = splice_of(alloc, project)?;
+    let takes = hear_takes(alloc, &splice, takes)?;
+    cut_heard(splice, takes, form)
+}
+
+/// The cut of a splice and what was heard of its takes, in the order of their numbers. `form` is the form of the file
+/// that is to be cut, where one is.
+///
+/// Refusals: those of [`Cut::of`], in their order.
+pub fn cut_heard(splice: Splice, takes: Vec<Heard>, form: Option<Form>) -> Result<Cut, Fault>
+    requires { AreOfTakes (splice_content splice) takes.items }
+    // Of whichever project and files it was heard, it is their cut, or refused as they are.
+    ensures found { (project : List ℕ) (files : List (List ℕ))
+        → AreTakes project files (splice_content splice) takes.items → IfOk result (SaysCut project files form) }
+    ensures exact { (project : List ℕ) (files : List (List ℕ))
+        → AreTakes project files (splice_content splice) takes.items
+        → Gives Fault.Memory (λ cut. cut) result (said_cut project files form) }
+    ensures fault { IfErr result IsCutFault }
+{
+    Ok(Cut::of(splice, takes, form)?)
+}

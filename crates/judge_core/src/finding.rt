@@ -1,0 +1,116 @@
+//! What was found of a master whose bits are gone, and the verdict by that.
+
+ghost use Rattle.std.specs.Prelude.{◌≡◌, ◌+◌, ◌-◌, ◌^◌, ◌<◌, IfOk, IfSome, MatchOption, None, length};
+ghost use Rattle.dsd_bits.specs.Contents.{Content};
+ghost use Rattle.device_core.specs.Inlets.{inlet_failures, inlet_reader};
+ghost use Rattle.cert_core.specs.Readers.{cert_inlet, failed_checks};
+ghost use Rattle.cut_core.specs.Cuts.{channel_number};
+ghost use Rattle.judge_core.specs.Checking.{HaveShape, IsMasterOf, MasterReason};
+ghost use Rattle.judge_core.specs.Claims.{IsCertOf};
+ghost use Rattle.judge_core.specs.Judging.{AtCost, IsLeastOf, IsNoRejection, JudgesMaster};
+ghost use Rattle.judge_core.specs.Standing.{AreKept, FindsCued, IsFoundOf, TellAll, rows_of};
+
+use crate::comparing::outer_reason;
+use crate::entries::judge_certificate;
+use crate::verdict::{Reason, Verdict};
+use cert_core::{CertReader, CheckFault};
+use cost_core::{least_together, places_are_windows};
+use cut_core::Cut;
+use dsd_bits::{Bits, Recording};
+use form_core::Form;
+use std::alloc::{AllocError, Global};
+use std::io::Read;
+
+/// A place in a channel of a master.
+#[derive(Clone, Copy)]
+pub struct CuedPlace {
+    /// The number of the channel.
+    pub channel: usize,
+    /// The place of the bit in it.
+    pub place: usize,
+}
+
+/// What was found of a recording whose bits are gone.
+#[derive(Drop)]
+pub struct Found {
+    /// The form of its file.
+    pub form: Form,
+    /// The recording without its bits: its channels have none.
+    pub recording: Recording,
+    /// How many bits each channel had.
+    pub count: usize,
+    /// The first bit that isn't that of the cue there, by rising channel and then by rising place. It matters only where
+    /// the recording has the rate, the channels and the length of the master.
+    pub differs: Option<CuedPlace>,
+    /// By cue but the last, and by channel, the bits that stand there for the bridge behind the cue. They matter where
+    /// `differs` does.
+    pub kept: Vec<Vec<Bits>>,
+}
+
+/// The first bit of a master that isn't that of the cue there, by the first such place of each of its channels.
+pub(crate) fn lowest_off(cut: &Cut, firsts: &[Option<usize>]) -> Option<CuedPlace>
+    requires { length firsts.now ≡ channel_number cut.now }
+    ensures { (r : Content) → HaveShape cut.now r.channels → TellAll cut.now r.channels firsts.now
+        → FindsCued cut.now r result }
+{
+    cut.can_cut();
+    for channel in 0..firsts.len() {
+        if let Some(place) = firsts[channel] {
+            return Some(CuedPlace { channel, place });
+        }
+    }
+    None
+}
+
+/// The verdict on a recording whose bits are gone, by what was found of it and by a certificate that is judged while it is
+/// read, two rows of it at a time. Only a certificate that is accepted is read to its end, and none is read where there is
+/// a reason against the recording.
+///
+/// Refusals: `Device` where a read fails, `Memory`.
+pub(crate) fn judge_found<R: Read>(
+    alloc: Global,
+    cut: &Cut,
+    found: &Found,
+    reader: &mut CertReader<R>,
+) -> Result<Verdict, CheckFault>
+    requires ready { inlet_failures (cert_inlet reader.old) < 2 ^ 64 - 1 }
+    requires found { (r : Content) × IsFoundOf cut.now found.now r }
+    // Of whichever recording it was found: what the verdict says of it and of the bytes that the reader has left.
+    ensures judged { (r : Content) → IsFoundOf cut.now found.now r
+        → IfOk result (λ verdict. IfSome (R.remaining (inlet_reader (cert_inlet reader.old)))
+        (λ cert. JudgesMaster cut.now found.now.form r cert verdict)) }
+    // What is accepted is least, whichever reader it was.
+    ensures least { (r : Content) → IsFoundOf cut.now found.now r
+        → IfOk result (λ verdict. AtCost verdict (IsLeastOf cut.now found.now.form r)) }
+    ensures only { (r : Content) → IsFoundOf cut.now found.now r → IsMasterOf cut.now found.now.form r
+        → IfSome (R.remaining (inlet_reader (cert_inlet reader.old))) (λ cert. IsCertOf cut.now r.channels cert
+        → IfOk result IsNoRejection) }
+    // The answer is `Device` exactly where a read failed.
+    ensures failures { inlet_failures (cert_inlet reader.new)
+        ≡ inlet_failures (cert_inlet reader.old) + failed_checks result }
+{
+    cut.can_cut();
+    least_together();
+    places_are_windows();
+    if let Some(reason) = found_reason(alloc, cut, found)? {
+        return Ok(Verdict::Rejected(reason));
+    }
+    judge_certificate(alloc, cut, &found.kept, reader)
+}
+
+// The first reason why a recording isn't the master of the cut, by what was found of it.
+fn found_reason(alloc: Global, cut: &Cut, found: &Found) -> Result<Option<Reason>, AllocError>
+    requires { (r : Content) × IsFoundOf cut.now found.now r }
+    ensures reason { (r : Content) → IsFoundOf cut.now found.now r
+        → IfOk result (λ reason. MatchOption reason (IsMasterOf cut.now found.now.form r)
+        (MasterReason cut.now found.now.form r)) }
+    ensures kept { IfOk result (λ reason. reason ≡ None → AreKept cut.now (rows_of found.now.kept.items)) }
+{
+    if let Some(reason) = outer_reason(alloc, cut, found.form, &found.recording, found.count)? {
+        return Ok(Some(reason));
+    }
+    match found.differs {
+        Some(CuedPlace { channel, place }) => Ok(Some(Reason::CuedBit(channel, place))),
+        None => Ok(None),
+    }
+}

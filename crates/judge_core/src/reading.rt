@@ -1,0 +1,68 @@
+//! A master's file, read to be judged.
+
+ghost use Rattle.std.specs.Prelude.{◌≡◌, ◌+◌, ◌-◌, ◌<◌, ◌≤◌, ◌^◌, IfErr, IfOk, IfSome, IsErrOf};
+ghost use Rattle.device_core.specs.Inlets.{inlet_failures, inlet_given, inlet_reader, inlet_reads};
+ghost use Rattle.sound_core.specs.Faults.{IsReadingFault, failed_reads};
+ghost use Rattle.form_core.specs.Forms as forms;
+ghost use Rattle.judge_core.specs.Auditing.{found_in};
+ghost use Rattle.judge_core.specs.Finding.{IsFoundGiven, IsFoundHeld};
+
+use crate::auditing::{Audited, audit};
+use crate::finding::Found;
+use cut_core::Cut;
+use device_core::Inlet;
+use form_core::form_in;
+use sound_core::StreamFault;
+use std::alloc::Global;
+use std::io::Read;
+
+/// What is found of the file of a master that is to be judged by a cut, or none of a file that holds no recording. It is
+/// read once, as far as it matters, as [`read_outline`](sound_core::read_outline) does. Beside what is found, at most
+/// three blocks of 65,536 bytes of the sound are held at a time, and the channels of one.
+///
+/// The inlet counts fewer than `2^63` reads and bytes at entry.
+///
+/// Refusals: `ReadFailed`; `TurnLimit` after `2^40` reads, and whatever is answered there were no more; `Memory`.
+pub fn find_master<R: Read>(
+    alloc: Global,
+    cut: &Cut,
+    inlet: &mut Inlet<R>,
+) -> Result<Option<Found>, StreamFault>
+    requires inlet_ready { inlet_failures inlet.old < 2 ^ 64 - 1 }
+    requires reads_low { inlet_reads inlet.old < 2 ^ 63 }
+    requires given_low { inlet_given inlet.old < 2 ^ 63 }
+    // It was found of the recording that the reader's file holds.
+    ensures found { IfOk result (λ found. IfSome (R.remaining (inlet_reader inlet.old))
+        (λ file. IsFoundHeld cut.now file found)) }
+    // The same of what was read, where the reader doesn't tell its bytes.
+    ensures any_reader { IfOk result (IsFoundGiven R.remaining inlet.old inlet.new cut.now) }
+    ensures fault { IfErr result IsReadingFault }
+    ensures read_failed { inlet_failures inlet.new ≡ inlet_failures inlet.old + failed_reads result }
+    // Whatever is answered, there were at most 2^40 reads.
+    ensures reads { inlet_reads inlet.new ≤ inlet_reads inlet.old + 2 ^ 40 }
+    ensures turn_limit { IsErrOf result StreamFault.TurnLimit → inlet_reads inlet.new ≡ inlet_reads inlet.old + 2 ^ 40 }
+{
+    match audit(alloc, cut, inlet) {
+        Ok(audited) => Ok(Some(found_by(audited))),
+        Err(StreamFault::FileRefused) => Ok(None),
+        Err(fault) => Err(fault),
+    }
+}
+
+// What was found of a file, in the form that it has.
+fn found_by(audited: Audited) -> Found
+    ensures { result ≡ found_in (forms.form_in audited.outline.sound.interleaving) audited }
+{
+    let Audited {
+        outline,
+        differs,
+        kept,
+    } = audited;
+    Found {
+        form: form_in(outline.sound.interleaving),
+        recording: outline.recording,
+        count: outline.sound.count,
+        differs,
+        kept,
+    }
+}

@@ -1,6 +1,0 @@
-use Rattle.std.proofs.Common.{ℕ, ◌<◌}
-use Rattle.master_core.specs.Comparing.{IsOffAt}
-use Rattle.master_core.proofs.cueing.first_off_at.Given as goal
-
-abbrev pub invariant-loop-place : goal.invariant-loop-place
-invariant-loop-place l = record { none : (p : ℕ) → p < l.place → IsOffAt l.cut l.fn.at.channel l.fn.at.cue l.done l.part p → ⊥ }

@@ -30,10 +30,7 @@ returns-clause-ok c = λ (before : List ℕ) (keeps : IsKeeping c.args.self.now 
 pub unlace-requires : goal.unlace-requires
 unlace-requires c =
     let k = c.args.self.now in
-    let sound = c.requires.keeping.1.is_sound in
     record {
-      channel_number = (sound.some_channel, sound.six_channels);
-      in_limit = omega (arith, c.requires.within, sound.in_limit);
       size = c.requires.size;
       from_whole = from_whole k.sound k.ranges.now k.done (items_of k.stretches.items) c.requires.keeping.0 c.args.bytes.now c.args.bits c.requires.keeping.1 c.requires.within (omega (arith, c.requires.some)) c.requires.size c.requires.groups;
     }

@@ -35,26 +35,25 @@
 //! ```
 #![tactic(auto)]
 
-mod closing;
 mod fault;
 mod front;
 mod keeper;
 mod keeping;
 mod laws;
+mod nothing;
 mod outline;
+mod part;
 mod reader;
 mod sink;
 mod taking;
 mod writing;
 
-pub use closing::closes;
 pub use fault::StreamFault;
-pub use front::read_front;
 pub use keeper::Keeper;
 pub use keeping::{Kept, read_stretches};
 pub use laws::accepted_files_tell_one_sound;
 pub use outline::{Outline, read_outline};
-pub use reader::{SoundReader, new_block};
+pub use part::SoundPart;
 pub use sink::SoundSink;
 pub use taking::read_into;
 pub use writing::put;

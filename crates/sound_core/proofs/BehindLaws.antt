@@ -33,6 +33,7 @@ use Rattle.sound_core.proofs.HeadLaws.{never_found}
 use Rattle.sound_core.proofs.OutlineLaws.{left_is}
 use Rattle.sound_core.proofs.ReadLaws.{reads_on}
 use Rattle.sound_core.proofs.TakingLaws.{begins_passed}
+use Rattle.sound_core.proofs.ToldLaws.{tells_at}
 
 -- ---- a DSF file
 module _ (head : List ℕ) (s : Sound) (at : EndsAt head s) (order : BitOrder) (told : s.interleaving ≡ Blocks order) (is_sound : IsSound s) where
@@ -70,6 +71,8 @@ module _ (head : List ℕ) (s : Sound) (at : EndsAt head s) (order : BitOrder) (
 
       blocks_told : AreTold around
       blocks_told = record {
+        tells = tells_at head s at;
+        start = at.start;
         is_sound = is_sound;
         whole = λ other. (let both : Blocks order ≡ Bytes = sym told ∙ other in absurd cc);
         silent = outline.no_bits s (leads head s at order told);
@@ -192,6 +195,8 @@ module _ (head : List ℕ) (s : Sound) (at : EndsAt head s) (told : s.interleavi
 
     frames_told : AreTold own
     frames_told = record {
+      tells = tells_at head s at;
+      start = at.start;
       is_sound = is_sound;
       whole = λ _. whole_bytes;
       silent = outline.0;

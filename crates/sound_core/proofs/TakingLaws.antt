@@ -33,6 +33,36 @@ begins_passed left i j n a b passes = by (left (inlet_reader i)) refl
         let ys = left_is left i j passes.read passes.reads xs known in
         (b ++ ys.0, ap (λ zs. a ++ zs) ys.2 ∙ sym (append_assoc a passes.read ys.0) ∙ ap (λ zs. zs ++ ys.0) passes.parts ∙ append_assoc passes.passed b ys.0)
 
+-- ---- a part behind what came
+module _ (part : SoundPart) (before : List ℕ) (fed : IsFed part.sound part.done before) where
+  abbrev s : Sound
+  s = part.sound
+
+  groups : part.done % 32768 ≡ 0
+  groups = fed.groups (omega (arith, part.some, part.within))
+
+  sum : sound_size s.interleaving s.channels (part.done + part.bits) ≡ length before + sound_size s.interleaving s.channels part.bits
+  sum = omega (arith, fed.size, size_on s.interleaving s.channels part.done part.bits groups)
+
+  -- both are a part of the sound
+  pub part_within : length before + sound_size s.interleaving s.channels part.bits ≤ s.size
+  part_within = elim (cases_lt (part.done + part.bits) s.count) [
+    | inl less ↦ (
+        let rest = s.count - (part.done + part.bits) in
+        let all : part.done + part.bits + rest ≡ s.count = omega (arith, less) in
+        omega (arith, sum, part.is_sound.size, ap (sound_size s.interleaving s.channels) all, size_on s.interleaving s.channels (part.done + part.bits) rest (omega (arith, part.groups less, groups))))
+    | inr all ↦ (let is : part.done + part.bits ≡ s.count = omega (arith, all, part.within) in omega (arith, sum, part.is_sound.size, ap (sound_size s.interleaving s.channels) is))
+  ]
+
+  fed_on : (bytes : List ℕ) → length bytes ≡ sound_size s.interleaving s.channels part.bits → IsFed s (part.done + part.bits) (before ++ bytes)
+  fed_on bytes long = record {
+    is_sound = fed.is_sound;
+    whole = fed.whole;
+    within = part.within;
+    groups = λ rest. omega (arith, part.groups rest, groups);
+    size = omega (arith, sum, length-append before bytes, long);
+  }
+
 -- ---- one part after the other
 module _ {R S : Type 0} (left : R → Option (List ℕ)) (has : S → S → Sound → ℕ → List ℕ → Type 0) where
   pub some_none : (s : Sound) (i : Inlet R) (old k : S) (ahead : List ℕ) → IsFed s 0 [] → has old k s 0 [] → TakesSome left has s i i old k 0 ahead ahead
@@ -49,24 +79,8 @@ module _ {R S : Type 0} (left : R → Option (List ℕ)) (has : S → S → Soun
   some_all s i j old now n a b so_far all = let count : n ≡ s.count = omega (arith, all, so_far.fed.within) in subst (λ m. TakesSome left has s i j old now m a b) count so_far
 
   module _ (part : SoundPart) (i j : Inlet R) (old now : S) (a b : List ℕ) (so_far : TakesSome left has part.sound i j old now part.done a b) where
-    abbrev s : Sound
-    s = part.sound
-
-    groups : part.done % 32768 ≡ 0
-    groups = so_far.fed.groups (omega (arith, part.some, part.within))
-
-    sum : sound_size s.interleaving s.channels (part.done + part.bits) ≡ length so_far.passes.passed + sound_size s.interleaving s.channels part.bits
-    sum = omega (arith, so_far.passes.long, size_on s.interleaving s.channels part.done part.bits groups)
-
-    -- the parts so far and this one are a part of the sound
-    whole : sound_size s.interleaving s.channels (part.done + part.bits) ≤ s.size
-    whole = elim (cases_lt (part.done + part.bits) s.count) [
-      | inl less ↦ (
-          let rest = s.count - (part.done + part.bits) in
-          let sum : part.done + part.bits + rest ≡ s.count = omega (arith, less) in
-          omega (arith, part.is_sound.size, ap (sound_size s.interleaving s.channels) sum, size_on s.interleaving s.channels (part.done + part.bits) rest (omega (arith, part.groups less, groups))))
-      | inr all ↦ (let is : part.done + part.bits ≡ s.count = omega (arith, all, part.within) in omega (arith, part.is_sound.size, ap (sound_size s.interleaving s.channels) is))
-    ]
+    abbrev within : length so_far.passes.passed + sound_size part.sound.interleaving part.sound.channels part.bits ≤ part.sound.size
+    within = part_within part so_far.passes.passed so_far.fed
 
     abbrev pub passes_on : (k : Inlet R) (n : ℕ) (c : List ℕ) (passes : Passes left j k n b c) → Passes left i k (length so_far.passes.passed + n) a c
     passes_on k n c passes = record {
@@ -78,31 +92,26 @@ module _ {R S : Type 0} (left : R → Option (List ℕ)) (has : S → S → Soun
       long = omega (arith, length-append so_far.passes.passed passes.passed, passes.long);
     }
 
-    pub some_on : (k : Inlet R) (new : S) (c : List ℕ) → TakesPart left has j k now new part b c → TakesSome left has s i k old new (part.done + part.bits) a c
+    pub some_on : (k : Inlet R) (new : S) (c : List ℕ) → TakesPart left has j k now new part b c → TakesSome left has part.sound i k old new (part.done + part.bits) a c
     some_on k new c taken =
-        let more = passes_on k (sound_size s.interleaving s.channels part.bits) c taken.passes in
+        let more = passes_on k (sound_size part.sound.interleaving part.sound.channels part.bits) c taken.passes in
+        let fed = fed_on part so_far.passes.passed so_far.fed taken.passes.passed taken.passes.long in
         record {
-          passes = record { passed = so_far.passes.passed ++ taken.passes.passed; read = so_far.passes.read ++ taken.passes.read; reads = more.reads; parts = more.parts; long = more.long ∙ sym sum };
-          fed = record {
-            is_sound = so_far.fed.is_sound;
-            whole = so_far.fed.whole;
-            within = part.within;
-            groups = λ rest. omega (arith, part.groups rest, groups);
-            size = more.long ∙ sym sum;
-          };
+          passes = record { passed = so_far.passes.passed ++ taken.passes.passed; read = so_far.passes.read ++ taken.passes.read; reads = more.reads; parts = more.parts; long = fed.size };
+          fed = fed;
           taken = taken.taken old so_far.passes.passed so_far.fed so_far.taken;
         }
 
     -- where a part is missing the sound is not whole
-    some_fault : (f : StreamFault) → IsPassFault (left (inlet_reader j)) (sound_size s.interleaving s.channels part.bits) b f → IsPassFault (left (inlet_reader i)) s.size a f
+    some_fault : (f : StreamFault) → IsPassFault (left (inlet_reader j)) (sound_size part.sound.interleaving part.sound.channels part.bits) b f → IsPassFault (left (inlet_reader i)) part.sound.size a f
     some_fault FileRefused h = by (left (inlet_reader i)) refl
       where
-        by : (l : Option (List ℕ)) → left (inlet_reader i) ≡ l → IsPassFault l s.size a FileRefused
+        by : (l : Option (List ℕ)) → left (inlet_reader i) ≡ l → IsPassFault l part.sound.size a FileRefused
         by None known = tt
         by (Some xs) known =
             let ys = left_is left i j so_far.passes.read so_far.passes.reads xs known in
-            let fewer : length (b ++ ys.0) < sound_size s.interleaving s.channels part.bits = subst (λ l. IsPassFault l (sound_size s.interleaving s.channels part.bits) b FileRefused) ys.1 h in
-            omega (arith, fewer, whole, sum, ap length so_far.passes.parts, ap length ys.2, length-append a xs, length-append a so_far.passes.read, length-append so_far.passes.passed b, length-append so_far.passes.read ys.0, length-append b ys.0)
+            let fewer : length (b ++ ys.0) < sound_size part.sound.interleaving part.sound.channels part.bits = subst (λ l. IsPassFault l (sound_size part.sound.interleaving part.sound.channels part.bits) b FileRefused) ys.1 h in
+            omega (arith, fewer, within, ap length so_far.passes.parts, ap length ys.2, length-append a xs, length-append a so_far.passes.read, length-append so_far.passes.passed b, length-append so_far.passes.read ys.0, length-append b ys.0)
     some_fault RateNotDivided h = absurd h
     some_fault TooLarge h = absurd h
     some_fault ReadFailed h = tt
@@ -110,25 +119,25 @@ module _ {R S : Type 0} (left : R → Option (List ℕ)) (has : S → S → Soun
     some_fault TurnLimit h = tt
     some_fault Memory h = tt
 
-    pub stops_on : (refused : S → S → Sound → List ℕ → StreamFault → Type 0) (k : Inlet R) (new : S) (c : List ℕ) (f : StreamFault) → StopsPart left has refused j k now new part b c f → StopsSound left has refused s i k old new a f
+    pub stops_on : (refused : S → S → Sound → List ℕ → StreamFault → Type 0) (k : Inlet R) (new : S) (c : List ℕ) (f : StreamFault) → StopsPart left has refused j k now new part b c f → StopsSound left has refused part.sound i k old new a f
     stops_on refused k new c f (inl stops) = record {
       came = so_far.passes.passed;
-      few = omega (arith, whole, sum);
-      begins = begins_passed left i j (sound_size s.interleaving s.channels part.done) a b so_far.passes;
+      few = omega (arith, within);
+      begins = begins_passed left i j (sound_size part.sound.interleaving part.sound.channels part.done) a b so_far.passes;
       how = inl (record {
         done = part.done;
         fed = so_far.fed;
-        taken = subst (λ x. has old x s part.done so_far.passes.passed) (sym stops.same) so_far.taken;
+        taken = subst (λ x. has old x part.sound part.done so_far.passes.passed) (sym stops.same) so_far.taken;
         fault = some_fault f stops.fault;
         pace = λ stop. omega (arith, stops.pace stop, part.fits, so_far.passes.reads.given, ap length so_far.passes.parts, length-append a so_far.passes.read, length-append so_far.passes.passed b);
       });
     }
     stops_on refused k new c f (inr refuses) =
-        let more = passes_on k (sound_size s.interleaving s.channels part.bits) c refuses.passes in
+        let more = passes_on k (sound_size part.sound.interleaving part.sound.channels part.bits) c refuses.passes in
         record {
           came = more.passed;
-          few = omega (arith, whole, sum, more.long);
-          begins = begins_passed left i k (length so_far.passes.passed + sound_size s.interleaving s.channels part.bits) a c more;
+          few = omega (arith, within, more.long);
+          begins = begins_passed left i k (length so_far.passes.passed + sound_size part.sound.interleaving part.sound.channels part.bits) a c more;
           how = inr (record { own = refuses.own; refuses = refuses.refuses old so_far.passes.passed so_far.fed so_far.taken });
         }
 

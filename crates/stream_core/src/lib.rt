@@ -26,6 +26,7 @@
 
 mod pieces;
 mod playing;
+mod sink;
 mod wave;
 
 pub use playing::play;

@@ -43,7 +43,7 @@ pub fn play(alloc: Global, project: &[u8], file: &[u8]) -> Result<Vec<u8>, Fault
 /// Plays a reader's file to a writer, and answers the number of bytes that were written: those that [`play`]
 /// answers for the file, however its reads are cut. Of the sound at most one block of 65,536 bytes and one group of
 /// the channels' blocks is held; what stands before the sound is held whole, and so is what a DSDIFF form has behind
-/// it. The reading may stop at a DSDIFF form's end.
+/// it, or the tag of a DSF file. The reading may stop at a DSDIFF form's end.
 ///
 /// The inlet counts fewer than `2^63` reads and bytes at entry.
 ///

@@ -304,12 +304,12 @@ module _ {R : Type 0} (left : R → Option (List ℕ)) (i j : Inlet R) (front he
     begins = begins_sound stops.came stops.begins;
     how = elim stops.how [
       | inl ends ↦ inl (record {
-          done = ends.done;
-          fed = ends.fed;
-          taken = ends.taken;
-          fault = pass_stands f ends.fault;
-          pace = λ stop. omega (arith, ends.pace stop, reads.given, ap length front_is, length-append head ahead, head_long);
-        })
+        done = ends.done;
+        fed = ends.fed;
+        taken = ends.taken;
+        fault = pass_stands f ends.fault;
+        pace = λ stop. omega (arith, ends.pace stop, reads.given, ap length front_is, length-append head ahead, head_long);
+      })
       | inr refuses ↦ inr refuses
     ];
   })

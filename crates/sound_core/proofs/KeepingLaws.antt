@@ -15,9 +15,12 @@ use Rattle.sound_core.proofs.KeeperLaws.{same_stretches}
 -- a keeper that took a whole sound
 module _ (first k : Keeper) (o : Surroundings) (ranges : List BitRange) (own : first.ranges.now ≡ ranges) where
   taken_kept : (file : List ℕ) → IsTakenOf (IsKeeping first k) o file → IsKeptOf o ranges (items_of k.stretches.items) file
-  taken_kept file (sound, stands, has) =
-      (sound, stands, subst (λ rs. items_of k.stretches.items ≡ stretches_of (with_sound o.recording o.sound sound).channels rs) own
-      (subst (λ rs. items_of k.stretches.items ≡ stretches_of (with_sound o.recording o.sound sound).channels rs) has.same (same_stretches (sound_channels o.sound.interleaving o.sound.channels o.sound.count sound) k.ranges.now (items_of k.stretches.items) has.keeps.kept)))
+  taken_kept file (sound, stands, has) = (
+    sound,
+    stands,
+    subst (λ rs. items_of k.stretches.items ≡ stretches_of (with_sound o.recording o.sound sound).channels rs) own
+        (subst (λ rs. items_of k.stretches.items ≡ stretches_of (with_sound o.recording o.sound sound).channels rs) has.same (same_stretches (sound_channels o.sound.interleaving o.sound.channels o.sound.count sound) k.ranges.now (items_of k.stretches.items) has.keeps.kept)),
+  )
 
   pub file_kept : (left : Option (List ℕ)) → TakesFile (IsKeeping first k) left o → KeepsFile left o ranges (items_of k.stretches.items)
   file_kept None (told, h) = (told, tt)

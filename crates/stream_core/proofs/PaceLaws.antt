@@ -61,8 +61,7 @@ module _ {W : Type 0} (held : W → Option (List ℕ)) (law : SoundIsPlayed) (ol
       let back = begun file bytes begins plays in
       let same : t ≡ s = told_once begins.front begins.rest s t begins.tells (subst (λ f. TellsSound f t) begins.file_is told) in
       let n = sound_given s given - 131072 in
-      subst (λ (z : Sound). WritesFrames d z (sound_given z given - 131072) bytes a c) (sym same)
-      (
+      subst (λ (z : Sound). WritesFrames d z (sound_given z given - 131072) bytes a c) (sym same) (
         first,
         back.0,
         back.1,
@@ -109,17 +108,17 @@ module _ {W : Type 0} (held : W → Option (List ℕ)) (left : Option (List ℕ)
   }
   play_fails law (inr some) = elim some.how [
     | inl ends ↦ record {
-        fault = outline_stands left old.taps.now f ends.fault;
-        unwritten = λ early. absurd (outline_later left f ends.fault early);
-        front = front_came held law old new some.sound some.came ends.taken some.few left some.begins;
-        keeps_up = λ stops. keeps_came held law old new some.sound some.came ends.taken some.few left (h - g) some.begins (ends.pace stops);
-        failures = omega (arith, ends.taken.failures, outline_unwritten (Unit {0}) left f ends.fault);
-      }
+      fault = outline_stands left old.taps.now f ends.fault;
+      unwritten = λ early. absurd (outline_later left f ends.fault early);
+      front = front_came held law old new some.sound some.came ends.taken some.few left some.begins;
+      keeps_up = λ stops. keeps_came held law old new some.sound some.came ends.taken some.few left (h - g) some.begins (ends.pace stops);
+      failures = omega (arith, ends.taken.failures, outline_unwritten (Unit {0}) left f ends.fault);
+    }
     | inr refuses ↦ record {
-        fault = refused_stands left some.sound some.came some.begins refuses.refuses.fault;
-        unwritten = refuses.refuses.unwritten;
-        front = refused_front law left some.sound some.came some.begins some.few refuses.refuses;
-        keeps_up = λ stops. absurd (own_goes_on f refuses.own stops);
-        failures = refuses.refuses.failures;
-      }
+      fault = refused_stands left some.sound some.came some.begins refuses.refuses.fault;
+      unwritten = refuses.refuses.unwritten;
+      front = refused_front law left some.sound some.came some.begins some.few refuses.refuses;
+      keeps_up = λ stops. absurd (own_goes_on f refuses.own stops);
+      failures = refuses.refuses.failures;
+    }
   ]

@@ -65,7 +65,7 @@ returns-in_err-take_sound-clause-fault g c =
     let k = (goal.at.returns-in_err-take_sound-clause-fault g c).In_ok-head in
     rw (fault_is c.from_residual-in_err-take_sound.result _ c.from_residual-in_err-take_sound.ensures.1)
     (stops_in_sound g.R.Read.remaining _ _ _ _ _ c.in_ok-sound.sound (reads_is g k) c.in_ok-sound.ensures.tells c.in_ok-head.ensures.head c.in_ok-head.ensures.rest
-        g.S.SoundSink.has g.S.SoundSink.refused c.take_sound.new.reader.inlet.now c.args.sink.now c.take_sound.new.sink c.in_err-take_sound.field-0.0 c.in_err-take_sound.ensures.fault)
+    g.S.SoundSink.has g.S.SoundSink.refused c.take_sound.new.reader.inlet.now c.args.sink.now c.take_sound.new.sink c.in_err-take_sound.field-0.0 c.in_err-take_sound.ensures.fault)
 
 pub returns-clause-fault : goal.returns-clause-fault
 returns-clause-fault g c =
@@ -73,8 +73,8 @@ returns-clause-fault g c =
     let taken = c.in_ok-take_sound.ensures.ok in
     IfErr-weaker c.read_rest.result _ _ (λ f stands.
     stops_behind g.R.Read.remaining _ _ _ _ _ c.in_ok-sound.sound (reads_is g at.In_ok-head) c.in_ok-sound.ensures.tells c.in_ok-head.ensures.head c.in_ok-head.ensures.rest _ _ (passes_is g at.In_ok-take_sound)
-        g.S.SoundSink.has g.S.SoundSink.refused c.read_rest.new.reader.inlet.now c.args.sink.now c.take_sound.new.sink f taken.fed taken.taken
-        (rest_stands g.R.Read.remaining _ _ _ _ _ c.in_ok-sound.sound (reads_is g at.In_ok-head) c.in_ok-sound.ensures.tells c.in_ok-head.ensures.head c.in_ok-head.ensures.rest _ _ (passes_is g at.In_ok-take_sound) f stands)) c.read_rest.ensures.fault
+    g.S.SoundSink.has g.S.SoundSink.refused c.read_rest.new.reader.inlet.now c.args.sink.now c.take_sound.new.sink f taken.fed taken.taken
+    (rest_stands g.R.Read.remaining _ _ _ _ _ c.in_ok-sound.sound (reads_is g at.In_ok-head) c.in_ok-sound.ensures.tells c.in_ok-head.ensures.head c.in_ok-head.ensures.rest _ _ (passes_is g at.In_ok-take_sound) f stands)) c.read_rest.ensures.fault
 
 -- all came
 pub returns-clause-ok : goal.returns-clause-ok

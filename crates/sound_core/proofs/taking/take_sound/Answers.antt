@@ -45,7 +45,7 @@ pub returns-in_err-take_part-clause-fault : goal.returns-in_err-take_part-clause
 returns-in_err-take_part-clause-fault g c =
     rw (fault_is c.from_residual-in_err-take_part.result _ c.from_residual-in_err-take_part.ensures.1)
     (stops_on g.R.Read.remaining g.S.SoundSink.has _ c.args.reader.now.inlet.now c.loop-done.reader.inlet.now c.args.sink.now c.loop-done.sink c.args.reader.now.ahead.now.items c.loop-done.reader.ahead.now.items c.loop-done.invariant.0
-        g.S.SoundSink.refused c.take_part.new.reader.inlet.now c.take_part.new.sink c.take_part.new.reader.ahead.now.items c.in_err-take_part.field-0.0 c.in_err-take_part.ensures.fault)
+    g.S.SoundSink.refused c.take_part.new.reader.inlet.now c.take_part.new.sink c.take_part.new.reader.ahead.now.items c.in_err-take_part.field-0.0 c.in_err-take_part.ensures.fault)
 
 pub returns-clause-ok : goal.returns-clause-ok
 returns-clause-ok g c =

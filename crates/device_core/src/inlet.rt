@@ -100,8 +100,11 @@ impl<R: Read> Inlet<R> {
         Ok(filled)
     }
 
-    // One read, to the place behind the first `filled` bytes of the buffer.
-    fn pull_behind(&mut self, buffer: &mut [u8], filled: usize) -> Result<usize, Device>
+    /// One read, to the place behind the first `filled` bytes of the buffer, of which there are more: how many bytes it
+    /// gave.
+    ///
+    /// Refusal: as of [`Inlet::pull`].
+    pub fn pull_behind(&mut self, buffer: &mut [u8], filled: usize) -> Result<usize, Device>
         requires ready { inlet_failures self.old < 2 ^ 64 - 1 }
         requires room { filled < length buffer.old }
         ensures bytes { PullsBehind (R.remaining (inlet_reader self.old))

@@ -25,8 +25,9 @@ use Rattle.sound_core.specs.Outlines.{AreTold, StandsIn, around_of, with_sound}
 use Rattle.sound_core.specs.Sinks.{IsTakenOf, TakesFile, TakesGiven}
 use Rattle.sound_core.specs.Stretches.{items_of}
 use Rattle.sound_core.specs.declared.outline.Outline.{Outline}
+use Rattle.sound_core.specs.declared.part.SoundPart.{SoundPart}
 use Rattle.sound_core.proofs.HeldLaws.{held_count, held_number, held_shape, held_silent}
-use Rattle.sound_core.proofs.KeeperLaws.{channel_bits, no_size, same_stretches}
+use Rattle.sound_core.proofs.KeeperLaws.{channel_bits, from_whole, no_size, same_stretches}
 use Rattle.judge_core.specs.Auditing.{AreParts, Audits, AuditsFile, AuditsGiven, HasMeasure, IsAuditOf, IsAuditing, TellMore, bridge_range, bridge_ranges, found_in}
 use Rattle.judge_core.specs.declared.auditing.Audited.{Audited}
 use Rattle.judge_core.specs.declared.auditor.Auditor.{Auditor}
@@ -67,37 +68,37 @@ told_next cut done parts old now n first so_far low tells = record {
 pub told_all : (cut : CutContent) (done : ℕ) (parts : List (List Bool)) (old now : List (Option ℕ)) (n : ℕ) → ToldUpTo cut done parts old now n → channel_number cut ≤ n → TellMore cut done parts old now
 told_all cut done parts old now n so_far enough = record { number = so_far.number; tells = λ c there. so_far.told c (omega (arith, there, enough)) }
 
--- ---- some bytes more
-module _ (cut : CutContent) (s : Sound) (ranges : List BitRange) (done : ℕ) (stretches : List (List (List Bool))) (firsts : List (Option ℕ)) (before bytes : List ℕ) (bits : ℕ)
-    (audits : Audits cut s ranges done stretches firsts before) (within : done + bits ≤ s.count) (some : 0 < bits) (whole : s.interleaving ≡ Bytes → bits % 8 ≡ 0) (size : length bytes ≡ sound_size s.interleaving s.channels bits) where
+-- ---- a part more
+module _ (cut : CutContent) (part : SoundPart) (ranges : List BitRange) (stretches : List (List (List Bool))) (firsts : List (Option ℕ)) (before bytes : List ℕ)
+    (audits : Audits cut part.sound ranges part.done stretches firsts before) (size : length bytes ≡ sound_size part.sound.interleaving part.sound.channels part.bits) where
+  abbrev s : Sound
+  s = part.sound
+
   abbrev parts : List (List Bool)
-  parts = sound_channels s.interleaving s.channels bits bytes
+  parts = sound_channels s.interleaving s.channels part.bits bytes
 
-  joined : Appended (sound_channels s.interleaving s.channels (done + bits) (before ++ bytes)) (sound_channels s.interleaving s.channels done before) parts s.channels done
-  joined = taken s.interleaving s.channels done bits before bytes (audits.keeps.groups (omega (arith, within, some))) audits.keeps.size size
+  joined : Appended (sound_channels s.interleaving s.channels (part.done + part.bits) (before ++ bytes)) (sound_channels s.interleaving s.channels part.done before) parts s.channels part.done
+  joined = taken s.interleaving s.channels part.done part.bits before bytes (audits.keeps.groups (omega (arith, part.within, part.some))) audits.keeps.size size
 
-  pub are_parts : HasMeasure cut s → AreParts cut done parts
+  pub are_parts : HasMeasure cut s → AreParts cut part.done parts
   are_parts measure = record {
     number = joined.more_long ∙ measure.number;
     inside = λ c there.
-        let long = channel_bits s.interleaving s.channels bits bytes c audits.keeps.is_sound.some_channel whole size (omega (arith, there, measure.number)) in
-        omega (arith, long, within, measure.long);
+        let whole = from_whole part ranges stretches before bytes audits.keeps size in
+        let long = channel_bits s.interleaving s.channels part.bits bytes c audits.keeps.is_sound.some_channel whole size (omega (arith, there, measure.number)) in
+        omega (arith, long, part.within, measure.long);
   }
 
-  module _ (t : Sound) (same : t ≡ s) (rs : List BitRange) (n : ℕ) (more : n ≡ done + bits) (kept : List (List (List Bool))) (keeps : Keeps t rs n kept (before ++ bytes)) where
-    channels_are : sound_channels t.interleaving t.channels n (before ++ bytes) ≡ sound_channels s.interleaving s.channels (done + bits) (before ++ bytes)
-    channels_are = ap (λ m. sound_channels t.interleaving t.channels m (before ++ bytes)) more ∙ ap (λ (u : Sound). sound_channels u.interleaving u.channels (done + bits) (before ++ bytes)) same
-
-    pub audits_more : HasMeasure cut s → (next : List (Option ℕ)) → TellMore cut done parts firsts next → Audits cut t rs n kept next (before ++ bytes)
-    audits_more measure next tells = record {
-      keeps = keeps;
-      number = tells.number ∙ audits.number;
-      tells = λ own c there.
-          let low : c < s.channels = omega (arith, there, measure.number) in
-          let first = get_or next c None in
-          let told = tells.tells c there (get_or (sound_channels s.interleaving s.channels done before) c []) (joined.bits c low) (audits.tells measure c there) in
-          subst (λ zs. TellsOff cut c (get_or zs c []) first) (sym channels_are) (subst (λ z. TellsOff cut c z first) (sym (joined.each c low)) told);
-    }
+  pub audits_more : (kept : List (List (List Bool))) → Keeps s ranges (part.done + part.bits) kept (before ++ bytes) → HasMeasure cut s → (next : List (Option ℕ)) → TellMore cut part.done parts firsts next → Audits cut s ranges (part.done + part.bits) kept next (before ++ bytes)
+  audits_more kept keeps measure next tells = record {
+    keeps = keeps;
+    number = tells.number ∙ audits.number;
+    tells = λ own c there.
+        let low : c < s.channels = omega (arith, there, measure.number) in
+        let first = get_or next c None in
+        let told = tells.tells c there (get_or (sound_channels s.interleaving s.channels part.done before) c []) (joined.bits c low) (audits.tells measure c there) in
+        subst (λ z. TellsOff cut c z first) (sym (joined.each c low)) told;
+  }
 
 -- ---- all of it
 -- the stretches of the bridges are their bits
@@ -105,50 +106,47 @@ pub bridges_are : (cut : CutContent) (zs : List (List Bool)) → stretches_of zs
 bridges_are cut zs = map-map (stretch_of zs) (bridge_range cut) (range_with_len 0 (length cut.splice.cues - 1))
 
 -- an auditor that took a whole sound
-module _ (a : Auditor) (outline : Outline) (cut : CutContent) (own : a.cut.now ≡ cut) (source : a.keeper.sound ≡ outline.sound) (all : a.keeper.done ≡ outline.sound.count) (ranges_are : a.keeper.ranges.now ≡ bridge_ranges cut)
+module _ (first a : Auditor) (outline : Outline) (cut : CutContent) (own : first.cut.now ≡ cut) (ranges_are : first.keeper.ranges.now ≡ bridge_ranges cut)
     (shape : HasShape outline.recording) (differs : Option CuedPlace) (lowest : (r : Content) → HaveShape cut r.channels → TellAll cut r.channels a.firsts.items → FindsCued cut r differs) where
   abbrev made : Audited
   made = record { outline = outline; differs = differs; kept = a.keeper.stretches }
 
-  module _ (told : AreTold (around_of outline)) (file sound : List ℕ) (stands : StandsIn (around_of outline) file sound) (audits : IsAuditing a sound) where
+  abbrev s : Sound
+  s = outline.sound
+
+  module _ (told : AreTold (around_of outline)) (file sound : List ℕ) (stands : StandsIn (around_of outline) file sound) (is : IsAuditing first a s s.count sound) where
     abbrev held : Content
-    held = with_sound outline.recording outline.sound sound
+    held = with_sound outline.recording s sound
 
     own_shape : HasShape held
     own_shape = held_shape outline shape told file sound stands
 
-    measure : AreAlike cut.first held → count_of held.channels ≡ master_length cut.splice.cues → HasMeasure cut a.keeper.sound
-    measure alike long = record {
-      number = ap (λ (s : Sound). s.channels) source ∙ sym (held_number outline shape told file sound stands) ∙ alike.as_many_channels;
-      long = ap (λ (s : Sound). s.count) source ∙ sym (held_count outline shape told file sound stands) ∙ long;
-    }
-
-    whole_are : sound_channels a.keeper.sound.interleaving a.keeper.sound.channels a.keeper.done sound ≡ held.channels
-    whole_are = ap (λ n. sound_channels a.keeper.sound.interleaving a.keeper.sound.channels n sound) all ∙ ap (λ (s : Sound). sound_channels s.interleaving s.channels outline.sound.count sound) source
+    measure : AreAlike cut.first held → count_of held.channels ≡ master_length cut.splice.cues → HasMeasure cut s
+    measure alike long = record { number = sym (held_number outline shape told file sound stands) ∙ alike.as_many_channels; long = sym (held_count outline shape told file sound stands) ∙ long }
 
     have_shape : AreAlike cut.first held → count_of held.channels ≡ master_length cut.splice.cues → HaveShape cut held.channels
     have_shape alike long = record { as_many = alike.as_many_channels; long = λ k d lt. own_shape.level.same k d lt ∙ long }
 
-    own_audits : Audits cut a.keeper.sound a.keeper.ranges.now a.keeper.done (items_of a.keeper.stretches.items) a.firsts.items sound
-    own_audits = subst (λ k. Audits k a.keeper.sound a.keeper.ranges.now a.keeper.done (items_of a.keeper.stretches.items) a.firsts.items sound) own audits
+    own_audits : Audits cut s a.keeper.ranges.now s.count (items_of a.keeper.stretches.items) a.firsts.items sound
+    own_audits = subst (λ k. Audits k s a.keeper.ranges.now s.count (items_of a.keeper.stretches.items) a.firsts.items sound) (is.same ∙ own) is.audits
 
     found : (form : Form) → IsFoundOf cut (found_in form made) held
     found form = record {
       shaped = own_shape;
       recording_is = held_silent outline shape told file sound stands;
       count_is = sym (held_count outline shape told file sound stands);
-      cued = λ alike long. lowest held (have_shape alike long) (subst (λ zs. TellAll cut zs a.firsts.items) whole_are (own_audits.tells (measure alike long)));
+      cued = λ alike long. lowest held (have_shape alike long) (own_audits.tells (measure alike long));
       kept = λ alike long.
-          same_stretches (sound_channels a.keeper.sound.interleaving a.keeper.sound.channels a.keeper.done sound) a.keeper.ranges.now (items_of a.keeper.stretches.items) audits.keeps.kept
-          ∙ ap (λ zs. stretches_of zs a.keeper.ranges.now) whole_are ∙ ap (stretches_of held.channels) ranges_are ∙ bridges_are cut held.channels;
+          same_stretches (sound_channels s.interleaving s.channels s.count sound) a.keeper.ranges.now (items_of a.keeper.stretches.items) is.audits.keeps.kept
+          ∙ ap (stretches_of held.channels) (is.ranges ∙ ranges_are) ∙ bridges_are cut held.channels;
     }
 
-  taken_audit : AreTold (around_of outline) → (file : List ℕ) → IsTakenOf (IsAuditing a) (around_of outline) file → IsAuditOf cut made file
-  taken_audit told file (sound, stands, audits) = (sound, stands, found told file sound stands audits)
+  taken_audit : AreTold (around_of outline) → (file : List ℕ) → IsTakenOf (IsAuditing first a) (around_of outline) file → IsAuditOf cut made file
+  taken_audit told file (sound, stands, is) = (sound, stands, found told file sound stands is)
 
-  pub file_audited : (left : Option (List ℕ)) → TakesFile (IsAuditing a) left (around_of outline) → AuditsFile left cut made
+  pub file_audited : (left : Option (List ℕ)) → TakesFile (IsAuditing first a) left (around_of outline) → AuditsFile left cut made
   file_audited None (told, h) = (told, tt)
   file_audited (Some file) (told, h) = (told, taken_audit told file h)
 
-  pub given_audited : {R : Type 0} (left : R → Option (List ℕ)) (i j : Inlet R) → AreTold (around_of outline) → TakesGiven (IsAuditing a) left i j (around_of outline) → AuditsGiven left i j cut made
+  pub given_audited : {R : Type 0} (left : R → Option (List ℕ)) (i j : Inlet R) → AreTold (around_of outline) → TakesGiven (IsAuditing first a) left i j (around_of outline) → AuditsGiven left i j cut made
   given_audited left i j told (read, reads, h) = (read, reads, taken_audit told read h)

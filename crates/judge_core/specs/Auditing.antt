@@ -48,9 +48,11 @@ pub record Audits (cut : CutContent) (s : Sound) (ranges : List BitRange) (done 
   pub number : length firsts ≡ channel_number cut
   pub tells : HasMeasure cut s → TellAll cut (sound_channels s.interleaving s.channels done bytes) firsts
 
--- the auditor has those
-abbrev pub IsAuditing : Auditor → List ℕ → Type 0
-IsAuditing a bytes = Audits a.cut.now a.keeper.sound a.keeper.ranges.now a.keeper.done (items_of a.keeper.stretches.items) a.firsts.items bytes
+-- the auditor has those of its cut and its ranges, which are the same as at first
+pub record IsAuditing (first a : Auditor) (s : Sound) (done : ℕ) (bytes : List ℕ) : Type 0 where
+  pub same : a.cut.now ≡ first.cut.now
+  pub ranges : a.keeper.ranges.now ≡ first.keeper.ranges.now
+  pub audits : Audits a.cut.now s a.keeper.ranges.now done (items_of a.keeper.stretches.items) a.firsts.items bytes
 
 -- ---- the whole file
 -- what was found of a file, which is of this form

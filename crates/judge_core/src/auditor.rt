@@ -6,9 +6,9 @@ ghost use Rattle.judge_core.specs.Auditing.{AreParts, HasMeasure, TellMore};
 
 use crate::cueing::first_off_so_far;
 use cut_core::Cut;
-use dsd_bits::{BitRange, Bits, Interleaving, Sound};
-use relace_core::{Stretch, unlace};
-use sound_core::{Keeper, SoundSink};
+use dsd_bits::{BitRange, Bits, Sound};
+use relace_core::unlace;
+use sound_core::{Keeper, SoundPart, SoundSink, StreamFault};
 use std::alloc::{AllocError, Global};
 
 /// What is found of the sound of a master that comes a few groups of blocks at a time.
@@ -24,9 +24,7 @@ pub(crate) struct Auditor<'a> {
 }
 
 impl<'a> Auditor<'a> {
-    ghost use Rattle.std.specs.Prelude.{◌≡◌, ℕ, ◌+◌, ◌%◌, ◌≤◌, ◌⊎◌, ◌++◌, [], List, OnOk, length};
-    ghost use Rattle.dsd_bits.specs.Sounds.{IsSound, sound_size};
-    ghost use Rattle.judge_core.specs.Auditing.{IsAuditing};
+    ghost use Rattle.std.specs.Prelude.{◌≡◌};
 
     /// An auditor by a cut, whose bridges stand in these ranges, before any sound.
     pub(crate) fn new(alloc: Global, cut: &'a Cut, ranges: &'a [BitRange]) -> Auditor<'a>
@@ -39,80 +37,33 @@ impl<'a> Auditor<'a> {
             firsts: Vec::new(alloc),
         }
     }
+}
 
-    /// Begins with a sound, before its first byte.
-    pub(crate) fn begin(&mut self, alloc: Global, sound: Sound) -> Result<(), AllocError>
-        requires sound { IsSound sound }
-        requires whole { sound.interleaving ≡ Interleaving.Bytes → sound.count % 8 ≡ 0 }
-        ensures same { (self.new.cut.now ≡ self.old.cut.now)
-            × (self.new.keeper.ranges.now ≡ self.old.keeper.ranges.now) }
-        ensures new { OnOk result (IsAuditing self.new []) }
-        ensures made { OnOk result ((self.new.keeper.sound ≡ sound) × (self.new.keeper.done ≡ 0)) }
-    {
+impl<'a> SoundSink for Auditor<'a> {
+    ghost use Rattle.std.specs.Prelude.{◌≡◌, ⊤};
+    ghost use Rattle.sound_core.specs.declared.fault.StreamFault.TheVariants.{Memory};
+    ghost use Rattle.judge_core.specs.Auditing.{IsAuditing};
+
+    ghost ready = { λ a. ⊤ };
+
+    ghost has = { λ first a s done bytes. IsAuditing first a s done bytes };
+
+    ghost refused = { λ first a s came f. f ≡ Memory };
+
+    fn begin(&mut self, alloc: Global, sound: Sound) -> Result<(), StreamFault> {
         self.keeper.begin(alloc, sound)?;
         let firsts = no_firsts(alloc, self.cut.channel_number())?;
         self.firsts = firsts;
         Ok(())
     }
 
-    /// Takes the next bytes of the sound, those of so many bits of each channel: whole groups of blocks, or all that
-    /// comes.
-    pub(crate) fn take(
-        &mut self,
-        alloc: Global,
-        bytes: &[u8],
-        bits: usize,
-    ) -> Result<(), AllocError>
-        requires auditing { (before : List ℕ) × IsAuditing self.old before }
-        requires some { 1 ≤ bits }
-        requires within { self.old.keeper.done + bits ≤ self.old.keeper.sound.count }
-        requires size { length bytes.now ≡ sound_size self.old.keeper.sound.interleaving self.old.keeper.sound.channels
-            bits }
-        requires groups { (bits % 32768 ≡ 0) ⊎ (self.old.keeper.done + bits ≡ self.old.keeper.sound.count) }
-        ensures same { (self.new.cut.now ≡ self.old.cut.now)
-            × (self.new.keeper.ranges.now ≡ self.old.keeper.ranges.now) }
-        ensures sound { self.new.keeper.sound ≡ self.old.keeper.sound }
-        ensures done { OnOk result (self.new.keeper.done ≡ self.old.keeper.done + bits) }
-        ensures ok { OnOk result ((before : List ℕ) → IsAuditing self.old before
-            → IsAuditing self.new (before ++ bytes.now)) }
-    {
-        let sound = self.keeper.sound;
-        let done = self.keeper.done;
-        self.keeper.take(alloc, bytes, bits)?;
-        if has_measure(self.cut, &sound) {
-            let stretch = Stretch {
-                channels: sound.channels,
-                count: bits,
-            };
-            let parts = unlace(alloc, bytes, stretch, sound.interleaving)?;
-            note_firsts(&mut self.firsts, self.cut, done, &parts);
+    fn take(&mut self, alloc: Global, part: SoundPart, bytes: &[u8]) -> Result<(), StreamFault> {
+        self.keeper.take(alloc, part, bytes)?;
+        if has_measure(self.cut, &part.sound) {
+            let parts = unlace(alloc, bytes, part.stretch(), part.sound.interleaving)?;
+            note_firsts(&mut self.firsts, self.cut, part.done, &parts);
         }
         Ok(())
-    }
-}
-
-impl<'a> SoundSink for Auditor<'a> {
-    ghost use Rattle.std.specs.Prelude.{List};
-    ghost use Rattle.cut_core.specs.Cuts.{CutContent};
-    ghost use Rattle.dsd_bits.specs.declared.stretches.BitRange.{BitRange as Range};
-    ghost use Rattle.judge_core.specs.Auditing.{IsAuditing};
-
-    ghost source = { λ a. a.keeper.sound };
-
-    ghost done = { λ a. a.keeper.done };
-
-    ghost has = { λ a bytes. IsAuditing a bytes };
-
-    ghost Kept = { CutContent × List Range };
-
-    ghost kept = { λ a. (a.cut.now, a.keeper.ranges.now) };
-
-    fn begin(&mut self, alloc: Global, sound: Sound) -> Result<(), AllocError> {
-        Auditor::begin(self, alloc, sound)
-    }
-
-    fn take(&mut self, alloc: Global, bytes: &[u8], bits: usize) -> Result<(), AllocError> {
-        Auditor::take(self, alloc, bytes, bits)
     }
 }
 

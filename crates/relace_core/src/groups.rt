@@ -15,15 +15,7 @@ pub fn stretch_bits(channels: usize) -> usize
     ensures groups { result % 32768 ≡ 0 }
     ensures fits { result / 32768 * channels ≤ 16 }
 {
-    let groups = match channels {
-        1 => 16,
-        2 => 8,
-        3 => 5,
-        4 => 4,
-        5 => 3,
-        _ => 2,
-    };
-    groups * GROUP_BITS
+    16 / channels * GROUP_BITS
 }
 
 /// How many bytes hold so many bits of each channel.

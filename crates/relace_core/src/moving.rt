@@ -19,8 +19,6 @@ pub(crate) fn push_as_blocks(
     stretch: Stretch,
     order: BitOrder,
 ) -> Result<(), AllocError>
-    requires channel_number { (1 ≤ stretch.channels) × (stretch.channels ≤ 6) }
-    requires in_limit { stretch.count ≤ most_bits }
     requires size { length bytes.now ≡ stretch.count / 8 * stretch.channels }
     requires whole { stretch.count % 8 ≡ 0 }
     ensures ok { OnOk result (out.new.items ≡ out.old.items ++ blocked order (unlaced_all bytes.now stretch.channels)) }
@@ -36,8 +34,6 @@ pub(crate) fn push_as_blocks(
 
 // Writes the frames of a stretch over zeros, as blocks.
 fn fill_blocks(blocks: &mut [u8], bytes: &[u8], stretch: Stretch)
-    requires channel_number { (1 ≤ stretch.channels) × (stretch.channels ≤ 6) }
-    requires in_limit { stretch.count ≤ most_bits }
     requires size { length bytes.now ≡ stretch.count / 8 * stretch.channels }
     requires whole { stretch.count % 8 ≡ 0 }
     requires room { length blocks.old ≡ blocks_size stretch.channels stretch.count }
@@ -62,8 +58,6 @@ pub(crate) fn push_as_frames(
     stretch: Stretch,
     order: BitOrder,
 ) -> Result<(), AllocError>
-    requires channel_number { (1 ≤ stretch.channels) × (stretch.channels ≤ 6) }
-    requires in_limit { stretch.count ≤ most_bits }
     requires size { length bytes.now ≡ blocks_size stretch.channels stretch.count }
     requires whole { stretch.count % 8 ≡ 0 }
     ensures ok { OnOk result (out.new.items
@@ -80,8 +74,6 @@ pub(crate) fn push_as_frames(
 
 // Writes the blocks of a stretch as frames.
 fn fill_frames(frames: &mut [u8], bytes: &[u8], stretch: Stretch)
-    requires channel_number { (1 ≤ stretch.channels) × (stretch.channels ≤ 6) }
-    requires in_limit { stretch.count ≤ most_bits }
     requires size { length bytes.now ≡ blocks_size stretch.channels stretch.count }
     requires frames { length frames.old ≡ stretch.count / 8 * stretch.channels }
     ensures { (c j : ℕ) → c < stretch.channels → j < stretch.count / 8 →

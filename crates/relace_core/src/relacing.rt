@@ -18,6 +18,8 @@ pub struct Stretch {
     pub channels: usize,
     /// The bits of each, at most `2^36`.
     pub count: usize,
+    pub ghost channel_number: { (1 ≤ channels) × (channels ≤ 6) },
+    pub ghost in_limit: { count ≤ most_bits },
 }
 
 /// Appends the sound bytes of a stretch, which stand in `bytes` interleaved as `from` says, interleaved as `to`
@@ -31,8 +33,6 @@ pub fn push_relaced(
     from: Interleaving,
     to: Interleaving,
 ) -> Result<(), AllocError>
-    requires channel_number { (1 ≤ stretch.channels) × (stretch.channels ≤ 6) }
-    requires in_limit { stretch.count ≤ most_bits }
     requires size { length bytes.now ≡ sound_size from stretch.channels stretch.count }
     requires from_whole { from ≡ Interleaving.Bytes → stretch.count % 8 ≡ 0 }
     requires to_whole { to ≡ Interleaving.Bytes → stretch.count % 8 ≡ 0 }
@@ -62,8 +62,6 @@ pub fn unlace(
     stretch: Stretch,
     from: Interleaving,
 ) -> Result<Vec<Bits>, AllocError>
-    requires channel_number { (1 ≤ stretch.channels) × (stretch.channels ≤ 6) }
-    requires in_limit { stretch.count ≤ most_bits }
     requires size { length bytes.now ≡ sound_size from stretch.channels stretch.count }
     requires from_whole { from ≡ Interleaving.Bytes → stretch.count % 8 ≡ 0 }
     ensures bits { IfOk result (λ made. made.items ≡ sound_channels from stretch.channels stretch.count bytes.now) }
@@ -79,8 +77,6 @@ pub fn unlace(
 
 // The channels of frames.
 fn unlace_frames(alloc: Global, bytes: &[u8], stretch: Stretch) -> Result<Vec<Bits>, AllocError>
-    requires channel_number { (1 ≤ stretch.channels) × (stretch.channels ≤ 6) }
-    requires in_limit { stretch.count ≤ most_bits }
     requires size { length bytes.now ≡ stretch.count / 8 * stretch.channels }
     requires whole { stretch.count % 8 ≡ 0 }
     ensures bits { IfOk result (λ made. made.items
@@ -103,8 +99,6 @@ fn unlace_groups(
     stretch: Stretch,
     order: BitOrder,
 ) -> Result<Vec<Bits>, AllocError>
-    requires channel_number { (1 ≤ stretch.channels) × (stretch.channels ≤ 6) }
-    requires in_limit { stretch.count ≤ most_bits }
     requires size { length bytes.now ≡ blocks_size stretch.channels stretch.count }
     ensures bits { IfOk result (λ made. made.items
         ≡ sound_channels (Interleaving.Blocks order) stretch.channels stretch.count bytes.now) }

@@ -21,17 +21,19 @@ use Rattle.dsf_core.specs.Fields.{needed, tag_told}
 use Rattle.dsf_core.specs.Files.{IsDsf}
 use Rattle.dsf_core.specs.Fronts as dsf
 use Rattle.dsf_core.proofs.FrontLaws.{found_leads}
-use Rattle.sound_core.specs.Closing.{EndsAt}
-use Rattle.sound_core.specs.Files.{HoldsRecording, IsRefused, TellsSound}
-use Rattle.sound_core.specs.Outlines.{AreAround, AreTold, HoldsIn, IsOutlineFault, IsRestFault, IsTagFault, ReadsTag, StandsIn, Surroundings, Surrounds, SurroundsFile, SurroundsGiven, with_sound}
+use Rattle.sound_core.specs.Files.{EndsAt, HoldsRecording, IsRefused, TellsSound}
+use Rattle.sound_core.specs.Outlines.{AreTold, HoldsIn, IsOutlineFault, IsRestFault, IsTagFault, ReadsTag, StandsIn, Surroundings, Surrounds, with_sound}
 use Rattle.sound_core.specs.Readers.{IsPassFault, Passes}
 use Rattle.sound_core.specs.Reads.{Reads}
+use Rattle.sound_core.specs.Sinks.{BeginsSound, IsFed, StopsSound, StopsTaking}
 use Rattle.sound_core.specs.declared.fault.StreamFault.{StreamFault}
 use Rattle.sound_core.specs.declared.fault.StreamFault.TheVariants.{FileRefused, RateNotDivided, TooLarge, ReadFailed, WriteFailed, TurnLimit, Memory}
 use Rattle.sound_core.proofs.ClosingLaws.{ends, ends_at, found, leads, no_form, nothing_left, same_form}
 use Rattle.sound_core.proofs.HeadLaws.{never_found}
 use Rattle.sound_core.proofs.OutlineLaws.{left_is}
 use Rattle.sound_core.proofs.ReadLaws.{reads_on}
+use Rattle.sound_core.proofs.TakingLaws.{begins_passed}
+use Rattle.sound_core.proofs.ToldLaws.{tells_at}
 
 -- ---- a DSF file
 module _ (head : List ℕ) (s : Sound) (at : EndsAt head s) (order : BitOrder) (told : s.interleaving ≡ Blocks order) (is_sound : IsSound s) where
@@ -69,6 +71,8 @@ module _ (head : List ℕ) (s : Sound) (at : EndsAt head s) (order : BitOrder) (
 
       blocks_told : AreTold around
       blocks_told = record {
+        tells = tells_at head s at;
+        start = at.start;
         is_sound = is_sound;
         whole = λ other. (let both : Blocks order ≡ Bytes = sym told ∙ other in absurd cc);
         silent = outline.no_bits s (leads head s at order told);
@@ -191,6 +195,8 @@ module _ (head : List ℕ) (s : Sound) (at : EndsAt head s) (told : s.interleavi
 
     frames_told : AreTold own
     frames_told = record {
+      tells = tells_at head s at;
+      start = at.start;
       is_sound = is_sound;
       whole = λ _. whole_bytes;
       silent = outline.0;
@@ -278,7 +284,48 @@ module _ {R : Type 0} (left : R → Option (List ℕ)) (i j : Inlet R) (front he
   pass_stands TurnLimit h = tt
   pass_stands Memory h = tt
 
+  -- what came of the sound begins it
+  begins_sound : (came : List ℕ) → IfSome (left (inlet_reader j)) (λ xs. (more : List ℕ) × (ahead ++ xs ≡ came ++ more)) → IfSome (left (inlet_reader i)) (BeginsSound s came)
+  begins_sound came begins = by (left (inlet_reader i)) refl
+    where
+      by : (o : Option (List ℕ)) → left (inlet_reader i) ≡ o → IfSome o (BeginsSound s came)
+      by None known = tt
+      by (Some xs) known =
+          let ys = left_is left i j front reads xs known in
+          let all = subst (λ o. IfSome o (λ zs. (more : List ℕ) × (ahead ++ zs ≡ came ++ more))) ys.1 begins in
+          record { front = front; rest = ys.0; file_is = ys.2; tells = tells; more = all.0; sound_is = ap (λ zs. zs ++ ys.0) (sym ahead_is) ∙ all.1 }
+
+  pub stops_in_sound : {S : Type 0} (has : S → S → Sound → ℕ → List ℕ → Type 0) (refused : S → S → Sound → List ℕ → StreamFault → Type 0) (k : Inlet R) (old new : S) (f : StreamFault)
+      → StopsSound left has refused s j k old new ahead f → StopsTaking has refused (left (inlet_reader i)) (inlet_given i) (inlet_given k) old new f
+  stops_in_sound has refused k old new f stops = inr (record {
+    sound = s;
+    came = stops.came;
+    few = stops.few;
+    begins = begins_sound stops.came stops.begins;
+    how = elim stops.how [
+      | inl ends ↦ inl (record {
+        done = ends.done;
+        fed = ends.fed;
+        taken = ends.taken;
+        fault = pass_stands f ends.fault;
+        pace = λ stop. omega (arith, ends.pace stop, reads.given, ap length front_is, length-append head ahead, head_long);
+      })
+      | inr refuses ↦ inr refuses
+    ];
+  })
+
   module _ (k : Inlet R) (back : List ℕ) (passes : Passes left j k s.size ahead back) where
+    -- the reading ended behind the sound
+    pub stops_behind : {S : Type 0} (has : S → S → Sound → ℕ → List ℕ → Type 0) (refused : S → S → Sound → List ℕ → StreamFault → Type 0) (l : Inlet R) (old new : S) (f : StreamFault)
+        → IsFed s s.count passes.passed → has old new s s.count passes.passed → IsOutlineFault (left (inlet_reader i)) f → StopsTaking has refused (left (inlet_reader i)) (inlet_given i) (inlet_given l) old new f
+    stops_behind has refused l old new f fed taken fault = inr (record {
+      sound = s;
+      came = passes.passed;
+      few = omega (arith, passes.long);
+      begins = begins_sound passes.passed (begins_passed left j k s.size ahead back passes);
+      how = inl (record { done = s.count; fed = fed; taken = taken; fault = fault; pace = λ stop. omega (arith, passes.long) });
+    })
+
     -- how many bytes were given so far
     pub given_is : (given : ℕ) → inlet_given i ≡ given → inlet_given k ≡ given + (length head + s.size + length back)
     given_is given from =
@@ -323,9 +370,6 @@ module _ {R : Type 0} (left : R → Option (List ℕ)) (i j : Inlet R) (front he
         subst (λ f. StandsIn o f passes.passed) (ap (λ xs. xs ++ (passes.passed ++ (back ++ surrounds.read))) own_head ∙ sym (read_is surrounds.read)) (surrounds.given passes.passed long),
       )
 
-      pub surrounds_given : SurroundsGiven left i l o
-      surrounds_given = (front ++ (passes.read ++ surrounds.read), given_stands.0, (passes.passed, given_stands.1))
-
       -- and so is the file
       pub file_stands : (xs : List ℕ) → left (inlet_reader i) ≡ Some xs → StandsIn o xs passes.passed
       file_stands xs known =
@@ -333,10 +377,3 @@ module _ {R : Type 0} (left : R → Option (List ℕ)) (i j : Inlet R) (front he
           let zs = left_is left k l surrounds.read surrounds.reads ys.0 ys.1 in
           let is : o.head ++ (passes.passed ++ (back ++ (surrounds.read ++ zs.0))) ≡ xs = ap (λ us. us ++ (passes.passed ++ (back ++ (surrounds.read ++ zs.0)))) own_head ∙ ap (λ us. head ++ (passes.passed ++ (back ++ us))) (sym zs.2) ∙ sym ys.2 in
           subst (λ f. StandsIn o f passes.passed) is (surrounds.stands passes.passed zs.0 long zs.1)
-
-      pub surrounds_file : SurroundsFile (left (inlet_reader i)) o
-      surrounds_file = (surrounds.told, by (left (inlet_reader i)) refl)
-        where
-          by : (o' : Option (List ℕ)) → left (inlet_reader i) ≡ o' → IfSome o' (AreAround o)
-          by None known = tt
-          by (Some xs) known = (passes.passed, file_stands xs known)

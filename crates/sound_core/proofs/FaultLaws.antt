@@ -1,6 +1,6 @@
 -- What holds of each fault of a kind; faults of a stage are faults of the whole.
 use Rattle.std.proofs.Common.{ap, ◌≡◌, ◌≢◌, ◌-◌, ◌<◌, ℕ, inl, inr, arith, List, Option, None, Some, Result, Ok, Err, IfErr, IsErrAnd, IsErrOf, refl, subst}
-use Rattle.sound_core.specs.Faults.{IsReadingFault, IsWritingFault, failed_reads}
+use Rattle.sound_core.specs.Faults.{IsReadingFault, IsSinkFault, IsWritingFault, failed_reads}
 use Rattle.sound_core.specs.Files.{IsFrontFault}
 use Rattle.sound_core.specs.Outlines.{IsOutlineFault, IsTagFault}
 use Rattle.sound_core.specs.Readers.{IsPassFault}
@@ -78,3 +78,21 @@ front_in_outline left ReadFailed h = tt
 front_in_outline left WriteFailed h = absurd h
 front_in_outline left TurnLimit h = tt
 front_in_outline left Memory h = tt
+
+-- ---- a fault of a sink is none of reading
+pub own_unread : (X : Type 0) (f : StreamFault) → IsSinkFault f → failed_reads {X = X} (Err f) ≡ 0
+own_unread X FileRefused h = refl
+own_unread X RateNotDivided h = refl
+own_unread X TooLarge h = refl
+own_unread X ReadFailed h = absurd h
+own_unread X WriteFailed h = refl
+own_unread X TurnLimit h = absurd h
+own_unread X Memory h = refl
+
+pub own_no_turn : {X : Type 0} (f : StreamFault) → IsSinkFault f → IsErrOf {T = X} (Err f) TurnLimit → ⊥
+own_no_turn f h turn = subst IsSinkFault (let is : f ≡ TurnLimit = cc in is) h
+
+-- of an answer both is so
+pub both : {X : Type 0} (r : Result X StreamFault) (P Q F : StreamFault → Type 0) → ((f : StreamFault) → P f → Q f → F f) → IfErr r P → IfErr r Q → IfErr r F
+both (Ok x) P Q F on p q = tt
+both (Err f) P Q F on p q = on f p q

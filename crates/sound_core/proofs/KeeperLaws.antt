@@ -14,6 +14,7 @@ use Rattle.relace_core.proofs.GroupLaws.{size_on}
 use Rattle.relace_core.proofs.JoinLaws.{Appended, taken}
 use Rattle.relace_core.proofs.TakenLaws.{channel_long}
 use Rattle.sound_core.specs.Keepers.{Keeps}
+use Rattle.sound_core.specs.declared.part.SoundPart.{SoundPart}
 use Rattle.dsd_bits.specs.Stretches.{stretch_of, stretches_of}
 use Rattle.sound_core.specs.Stretches.{AreApart, AreGrown, AreRoomy, AreStretches, IsGrown}
 use Rattle.dsd_bits.specs.declared.stretches.BitRange.{BitRange}
@@ -169,15 +170,24 @@ pub all_grown : (ranges : List BitRange) (channels : List (List Bool)) (done : �
 all_grown ranges channels done old now i so_far enough = record { number = so_far.number; each = λ k r h. so_far.grown k r (omega (arith, h, enough)) }
 
 -- ---- a sound that comes
-module _ (s : Sound) (ranges : List BitRange) (done : ℕ) (old : List (List (List Bool))) (before bytes : List ℕ) (bits : ℕ)
-    (keeps : Keeps s ranges done old before) (within : done + bits ≤ s.count) (some : 0 < bits) (size : length bytes ≡ sound_size s.interleaving s.channels bits) (last : (bits % 32768 ≡ 0) ⊎ (done + bits ≡ s.count)) where
+module _ (part : SoundPart) (ranges : List BitRange) (old : List (List (List Bool))) (before bytes : List ℕ) (keeps : Keeps part.sound ranges part.done old before)
+    (size : length bytes ≡ sound_size part.sound.interleaving part.sound.channels part.bits) where
+  abbrev s : Sound
+  s = part.sound
+
+  abbrev done : ℕ
+  done = part.done
+
+  abbrev bits : ℕ
+  bits = part.bits
+
   groups : done % 32768 ≡ 0
-  groups = keeps.groups (omega (arith, within, some))
+  groups = keeps.groups (omega (arith, part.within, part.some))
 
   pub from_whole : s.interleaving ≡ Bytes → bits % 8 ≡ 0
-  from_whole is = elim last [
-    | inl even ↦ omega (arith, even)
-    | inr all ↦ omega (arith, all, groups, keeps.whole is)
+  from_whole is = elim (cases_lt (done + bits) s.count) [
+    | inl less ↦ omega (arith, part.groups less)
+    | inr all ↦ omega (arith, all, part.within, groups, keeps.whole is)
   ]
 
   abbrev more : List (List Bool)
@@ -193,11 +203,8 @@ module _ (s : Sound) (ranges : List BitRange) (done : ℕ) (old : List (List (Li
   now_keeps new are = record {
     is_sound = keeps.is_sound;
     whole = keeps.whole;
-    within = within;
-    groups = λ rest. elim last [
-      | inl even ↦ omega (arith, even, groups)
-      | inr all ↦ absurd (omega (arith, rest, all))
-    ];
+    within = part.within;
+    groups = λ rest. omega (arith, part.groups rest, groups);
     size = omega (arith, length-append before bytes, keeps.size, size, size_on s.interleaving s.channels done bits groups);
     kept = are;
   }
@@ -209,7 +216,7 @@ module _ (s : Sound) (ranges : List BitRange) (done : ℕ) (old : List (List (Li
   keeps_apart apart = now_keeps old (apart_on _ _ more s.channels done joined ranges old keeps.kept bits few apart)
 
   pub keeps_roomy : AreRoomy more old
-  keeps_roomy = roomy _ _ more s.channels done joined ranges old keeps.kept bits few (record { start = 0; stop = 0 }) (omega (arith, within, keeps.is_sound.in_limit)) joined.more_long
+  keeps_roomy = roomy _ _ more s.channels done joined ranges old keeps.kept bits few (record { start = 0; stop = 0 }) (omega (arith, part.within, keeps.is_sound.in_limit)) joined.more_long
 
 -- before the first byte
 pub keeps_none : (s : Sound) (ranges : List BitRange) (number : ℕ) → IsSound s → (s.interleaving ≡ Bytes → s.count % 8 ≡ 0) → number ≡ length ranges → Keeps s ranges 0 (replicate number (replicate s.channels [])) []

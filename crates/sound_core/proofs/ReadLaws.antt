@@ -1,9 +1,9 @@
 -- Bytes that are read, one after the other.
-use Rattle.std.proofs.Common.{◌≡◌, ℕ, ◌+◌, ◌-◌, inl, inr, min, List, [], ◌++◌, length, take, drop, Option, None, Some, IfSome, subst, sym, ap, ◌∙◌, arith, append_assoc, append-nil, length-append, length-drop, length-take, take-append-drop}
+use Rattle.std.proofs.Common.{◌≡◌, ℕ, ◌+◌, ◌-◌, ◌≤◌, inl, inr, min, List, [], ◌++◌, length, take, drop, Option, None, Some, IfSome, subst, sym, ap, ◌∙◌, arith, append_assoc, append-nil, length-append, length-drop, length-take, take-append-drop, take-take}
 use Rattle.std.specs.Io.KnownBytes.{Consumes, IsAtEnd}
 use Rattle.std.proofs.KnownBytes.{Consumes-nil, Consumes-trans, Consumes-whole}
 use Rattle.std.proofs.lemmas.Bool.{cases_lt}
-use Rattle.std.proofs.lemmas.List.{nil_from_length, take-append-le, take_min}
+use Rattle.std.proofs.lemmas.List.{nil_from_length, take-append-le, take_all, take_min}
 use Rattle.std.proofs.Math.Seq.{take-append-add}
 use Rattle.device_core.specs.Inlets.{inlet_given, inlet_reader}
 use Rattle.device_core.specs.declared.inlet.Inlet.{Inlet}
@@ -56,3 +56,25 @@ whole_is {X} size xs ys = elim (cases_lt size (length xs)) [
   where
     all_taken : (xs : List X) → take (length xs) xs ++ [] ≡ xs
     all_taken xs = ap (λ zs. take (length xs) xs ++ zs) (sym (nil_from_length (drop (length xs) xs) (omega (arith, length-drop (length xs) xs)))) ∙ take-append-drop (length xs) xs
+
+-- what is read behind them is that of all behind the first of them, where it fills them up
+pub joined_behind : {X : Type 0} (size : ℕ) (xs part : List X) → length part ≡ size - length (take size xs) → xs ++ part ≡ (take size xs ++ part) ++ drop size xs
+joined_behind {X} size xs part long =
+    let first = take size xs in
+    let rest = drop size xs in
+    ap (λ zs. zs ++ part) (sym (take-append-drop size xs)) ∙ append_assoc first rest part ∙ ap (λ zs. first ++ zs) (elim (cases_lt size (length xs)) [
+      | inl less ↦ (let none : part ≡ [] = nil_from_length part (omega (arith, long, length-take size xs)) in rw none (append-nil rest))
+      | inr more ↦ (let none : rest ≡ [] = nil_from_length rest (omega (arith, length-drop size xs)) in rw none (sym (append-nil part)))
+    ]) ∙ sym (append_assoc first part rest)
+
+-- ---- the front of a block
+-- what is put into the front of a block leaves it as long as it was
+pub same_long : (len : ℕ) (xs block : List ℕ) → len ≡ length block → length (take len (xs ++ drop (length xs) block)) ≡ length block
+same_long len xs block e = omega (arith, length-take len (xs ++ drop (length xs) block), length-append xs (drop (length xs) block), length-drop (length xs) block)
+
+-- and there it stands
+pub front_part : (len n : ℕ) (front back rest : List ℕ) → n ≤ length front → n ≤ len → take n (take len ((front ++ back) ++ rest)) ≡ take n front
+front_part len n front back rest few within = take-take n len ((front ++ back) ++ rest) within ∙ ap (take n) (append_assoc front back rest) ∙ take-append-le n front (back ++ rest) few
+
+pub front_put : (len n : ℕ) (front back rest : List ℕ) → length front ≡ n → n ≤ len → take n (take len ((front ++ back) ++ rest)) ≡ front
+front_put len n front back rest long within = front_part len n front back rest (omega (arith, long)) within ∙ take_all n front (omega (arith, long))

@@ -1,10 +1,10 @@
 -- A reader that goes on: it stays the same, and what was counted adds up.
-use Rattle.std.proofs.Common.{◌≡◌, ◌≢◌, ℕ, ◌+◌, ◌≤◌, Result, Ok, Err, IsErrOf, arith, refl, ap, subst, ◌∙◌}
+use Rattle.std.proofs.Common.{◌≡◌, ◌≢◌, ℕ, ◌+◌, ◌≤◌, Result, Ok, Err, IfErr, IsErrOf, arith, refl, ap, subst, ◌∙◌}
 use Rattle.std.specs.Io.Iter.{u64_saturate}
 use Rattle.device_core.specs.Inlets.{inlet_failures, inlet_given, inlet_reads}
 use Rattle.device_core.specs.declared.inlet.Inlet.{Inlet}
-use Rattle.sound_core.specs.Faults.{failed_reads}
-use Rattle.sound_core.proofs.FaultLaws.{memory_no_turn}
+use Rattle.sound_core.specs.Faults.{IsSinkFault, failed_reads}
+use Rattle.sound_core.proofs.FaultLaws.{memory_no_turn, own_no_turn, own_unread}
 use Rattle.sound_core.specs.Readers.{Counts, IsReading, IsSame}
 use Rattle.sound_core.specs.Reads.{HasBudget}
 use Rattle.sound_core.specs.declared.fault.StreamFault.{StreamFault}
@@ -86,3 +86,8 @@ counts_so_far a b x reading same none = record { failures = omega (arith, none);
 -- no read was asked for
 pub counts_none_refused : {R X : Type 0} (a b : SoundReader R) → inlet_failures b.inlet.now ≡ inlet_failures a.inlet.now → inlet_reads b.inlet.now ≤ a.limit → Counts {X = X} a b (Err FileRefused)
 counts_none_refused a b none most = record { failures = omega (arith, none); turns = λ turn. absurd cc; most = most }
+
+-- a sink refused, or did not
+pub counts_own : {R X Y : Type 0} (a m b : SoundReader R) (x : X) (r : Result Y StreamFault) → m.limit ≡ a.limit → inlet_failures m.inlet.now ≡ inlet_failures a.inlet.now → IfErr r IsSinkFault → Counts m b (Ok x) → Counts a b r
+counts_own a m b x (Ok y) limit same own p = counts_ok a m b x y limit same p
+counts_own {Y = Y} a m b x (Err f) limit same own p = counts_before a m b x (Err f) (own_unread Y f own) (λ turn. own_no_turn f own turn) limit same p

@@ -1,17 +1,20 @@
--- A sound that is read and taken, group by group.
-use Rattle.std.proofs.Common.{◌≡◌, ℕ, ◌+◌, ◌-◌, ◌%◌, ◌<◌, ◌≤◌, ◌⊎◌, inl, inr, List, [], ◌++◌, length, Option, Some, None, IfSome, refl, sym, subst, ap, ◌∙◌, arith, append_assoc, length-append}
+-- A sound that is read and taken, part by part.
+use Rattle.std.proofs.Common.{◌≡◌, ℕ, ◌+◌, ◌-◌, ◌%◌, ◌<◌, ◌≤◌, ◌⊎◌, inl, inr, List, [], ◌++◌, length, drop, Option, Some, None, IfSome, refl, sym, subst, ap, ◌∙◌, arith, append_assoc, length-append}
+use Rattle.std.proofs.lemmas.Bool.{cases_lt}
 use Rattle.std.proofs.lemmas.List.{nil_from_length}
-use Rattle.device_core.specs.Inlets.{inlet_reader}
+use Rattle.device_core.specs.Inlets.{inlet_given, inlet_reader}
 use Rattle.device_core.specs.declared.inlet.Inlet.{Inlet}
 use Rattle.dsd_bits.specs.declared.interleaving.Interleaving.TheVariants.{Bytes}
 use Rattle.dsd_bits.specs.declared.sound.Sound.{Sound}
 use Rattle.dsd_bits.specs.Sounds.{IsSound, sound_size}
 use Rattle.relace_core.proofs.GroupLaws.{size_on}
-use Rattle.sound_core.specs.Outlines.{AreTold, StandsIn, Surroundings}
+use Rattle.sound_core.specs.Faults.{IsSinkFault}
+use Rattle.sound_core.specs.Outlines.{AreAround, AreTold, IsOutlineFault, StandsIn, Surroundings, SurroundsFile, SurroundsGiven}
 use Rattle.sound_core.specs.Readers.{IsPassFault, Passes}
-use Rattle.sound_core.specs.Sinks.{IsFed, IsTakenOf, TakesFile, TakesPart, TakesSome}
+use Rattle.sound_core.specs.Sinks.{IsFed, IsTakenOf, StopsPart, StopsSound, StopsTaking, TakesFile, TakesGiven, TakesPart, TakesSome}
 use Rattle.sound_core.specs.declared.fault.StreamFault.{StreamFault}
 use Rattle.sound_core.specs.declared.fault.StreamFault.TheVariants.{FileRefused, RateNotDivided, TooLarge, ReadFailed, WriteFailed, TurnLimit, Memory}
+use Rattle.sound_core.specs.declared.part.SoundPart.{SoundPart}
 use Rattle.sound_core.proofs.KeeperLaws.{no_size}
 use Rattle.sound_core.proofs.OutlineLaws.{left_is, pass_none}
 use Rattle.sound_core.proofs.ReadLaws.{reads_on}
@@ -20,103 +23,158 @@ use Rattle.sound_core.proofs.ReadLaws.{reads_on}
 pub fed_none : (s : Sound) → IsSound s → (s.interleaving ≡ Bytes → s.count % 8 ≡ 0) → IsFed s 0 []
 fed_none s is_sound whole = record { is_sound = is_sound; whole = whole; within = omega arith; groups = λ rest. refl; size = sym (no_size s.interleaving s.channels) }
 
-fed_on : (s : Sound) (n bits : ℕ) (before bytes : List ℕ) → IsFed s n before → n < s.count → n + bits ≤ s.count → (bits % 32768 ≡ 0) ⊎ (n + bits ≡ s.count) → length bytes ≡ sound_size s.interleaving s.channels bits → IsFed s (n + bits) (before ++ bytes)
-fed_on s n bits before bytes fed more within last size =
-    let groups : n % 32768 ≡ 0 = fed.groups more in
-    record {
-      is_sound = fed.is_sound;
-      whole = fed.whole;
-      within = within;
-      groups = λ rest. elim last [
-        | inl even ↦ omega (arith, even, groups)
-        | inr all ↦ absurd (omega (arith, rest, all))
-      ];
-      size = omega (arith, length-append before bytes, fed.size, size, size_on s.interleaving s.channels n bits groups);
-    }
+-- what was passed begins what there is
+pub begins_passed : {R : Type 0} (left : R → Option (List ℕ)) (i j : Inlet R) (n : ℕ) (a b : List ℕ) (passes : Passes left i j n a b) → IfSome (left (inlet_reader i)) (λ xs. (more : List ℕ) × (a ++ xs ≡ passes.passed ++ more))
+begins_passed left i j n a b passes = by (left (inlet_reader i)) refl
+  where
+    by : (o : Option (List ℕ)) → left (inlet_reader i) ≡ o → IfSome o (λ xs. (more : List ℕ) × (a ++ xs ≡ passes.passed ++ more))
+    by None known = tt
+    by (Some xs) known =
+        let ys = left_is left i j passes.read passes.reads xs known in
+        (b ++ ys.0, ap (λ zs. a ++ zs) ys.2 ∙ sym (append_assoc a passes.read ys.0) ∙ ap (λ zs. zs ++ ys.0) passes.parts ∙ append_assoc passes.passed b ys.0)
 
--- ---- one after the other
-module _ {R S K : Type 0} (left : R → Option (List ℕ)) (source : S → Sound) (done : S → ℕ) (has : S → List ℕ → Type 0) (kept : S → K) (s : Sound) where
-  pub some_none : (i : Inlet R) (k : S) (ahead : List ℕ) → source k ≡ s → done k ≡ 0 → IsFed s 0 [] → has k [] → TakesSome left source done has kept s i i k k 0 ahead ahead
-  some_none i k ahead source_is none fed begun =
+-- ---- a part behind what came
+module _ (part : SoundPart) (before : List ℕ) (fed : IsFed part.sound part.done before) where
+  abbrev s : Sound
+  s = part.sound
+
+  groups : part.done % 32768 ≡ 0
+  groups = fed.groups (omega (arith, part.some, part.within))
+
+  sum : sound_size s.interleaving s.channels (part.done + part.bits) ≡ length before + sound_size s.interleaving s.channels part.bits
+  sum = omega (arith, fed.size, size_on s.interleaving s.channels part.done part.bits groups)
+
+  -- both are a part of the sound
+  pub part_within : length before + sound_size s.interleaving s.channels part.bits ≤ s.size
+  part_within = elim (cases_lt (part.done + part.bits) s.count) [
+    | inl less ↦ (
+        let rest = s.count - (part.done + part.bits) in
+        let all : part.done + part.bits + rest ≡ s.count = omega (arith, less) in
+        omega (arith, sum, part.is_sound.size, ap (sound_size s.interleaving s.channels) all, size_on s.interleaving s.channels (part.done + part.bits) rest (omega (arith, part.groups less, groups))))
+    | inr all ↦ (let is : part.done + part.bits ≡ s.count = omega (arith, all, part.within) in omega (arith, sum, part.is_sound.size, ap (sound_size s.interleaving s.channels) is))
+  ]
+
+  fed_on : (bytes : List ℕ) → length bytes ≡ sound_size s.interleaving s.channels part.bits → IsFed s (part.done + part.bits) (before ++ bytes)
+  fed_on bytes long = record {
+    is_sound = fed.is_sound;
+    whole = fed.whole;
+    within = part.within;
+    groups = λ rest. omega (arith, part.groups rest, groups);
+    size = omega (arith, sum, length-append before bytes, long);
+  }
+
+-- ---- one part after the other
+module _ {R S : Type 0} (left : R → Option (List ℕ)) (has : S → S → Sound → ℕ → List ℕ → Type 0) where
+  pub some_none : (s : Sound) (i : Inlet R) (old k : S) (ahead : List ℕ) → IsFed s 0 [] → has old k s 0 [] → TakesSome left has s i i old k 0 ahead ahead
+  some_none s i old k ahead fed begun =
       let pass = pass_none left i ahead in
       record {
-        passes = record { passed = []; read = pass.read; reads = pass.reads; parts = parts pass; long = fed.size };
-        source_is = source_is;
-        done_is = none;
-        kept_is = refl;
+        passes = record { passed = []; read = pass.read; reads = pass.reads; parts = pass.parts ∙ ap (λ xs. xs ++ ahead) (nil_from_length pass.passed pass.long); long = fed.size };
         fed = fed;
         taken = begun;
       }
-    where
-      parts : (pass : Passes left i i 0 ahead ahead) → ahead ++ pass.read ≡ [] ++ ahead
-      parts pass = pass.parts ∙ ap (λ xs. xs ++ ahead) (nil_from_length pass.passed pass.long)
 
-  module _ (i j : Inlet R) (old now : S) (n : ℕ) (a b : List ℕ) (so_far : TakesSome left source done has kept s i j old now n a b) where
-    -- what the sink has
-    pub some_fed : IsFed (source now) (done now) so_far.passes.passed
-    some_fed = subst (λ (t : Sound). IsFed t (done now) so_far.passes.passed) (sym so_far.source_is) (subst (λ m. IsFed s m so_far.passes.passed) (sym so_far.done_is) so_far.fed)
+  -- all of it was taken
+  pub some_all : (s : Sound) (i j : Inlet R) (old now : S) (n : ℕ) (a b : List ℕ) → TakesSome left has s i j old now n a b → s.count ≤ n → TakesSome left has s i j old now s.count a b
+  some_all s i j old now n a b so_far all = let count : n ≡ s.count = omega (arith, all, so_far.fed.within) in subst (λ m. TakesSome left has s i j old now m a b) count so_far
 
-    module _ (more : n < s.count) where
-      groups : n % 32768 ≡ 0
-      groups = so_far.fed.groups more
+  module _ (part : SoundPart) (i j : Inlet R) (old now : S) (a b : List ℕ) (so_far : TakesSome left has part.sound i j old now part.done a b) where
+    abbrev within : length so_far.passes.passed + sound_size part.sound.interleaving part.sound.channels part.bits ≤ part.sound.size
+    within = part_within part so_far.passes.passed so_far.fed
 
-      own_size : (bits : ℕ) → sound_size (source now).interleaving (source now).channels bits ≡ sound_size s.interleaving s.channels bits
-      own_size bits = ap (λ (t : Sound). sound_size t.interleaving t.channels bits) so_far.source_is
+    abbrev pub passes_on : (k : Inlet R) (n : ℕ) (c : List ℕ) (passes : Passes left j k n b c) → Passes left i k (length so_far.passes.passed + n) a c
+    passes_on k n c passes = record {
+      passed = so_far.passes.passed ++ passes.passed;
+      read = so_far.passes.read ++ passes.read;
+      reads = reads_on left i j k so_far.passes.read passes.read so_far.passes.reads passes.reads;
+      parts = sym (append_assoc a so_far.passes.read passes.read) ∙ ap (λ xs. xs ++ passes.read) so_far.passes.parts ∙ append_assoc so_far.passes.passed b passes.read
+          ∙ ap (λ xs. so_far.passes.passed ++ xs) passes.parts ∙ sym (append_assoc so_far.passes.passed passes.passed c);
+      long = omega (arith, length-append so_far.passes.passed passes.passed, passes.long);
+    }
 
-      pub some_on : (k : Inlet R) (new : S) (bits : ℕ) (c : List ℕ) → n + bits ≤ s.count → (bits % 32768 ≡ 0) ⊎ (n + bits ≡ s.count) → TakesPart left source done has kept j k now new bits b c → TakesSome left source done has kept s i k old new (n + bits) a c
-      some_on k new bits c within last part = record {
-        passes = record {
-          passed = so_far.passes.passed ++ part.passes.passed;
-          read = so_far.passes.read ++ part.passes.read;
-          reads = reads_on left i j k so_far.passes.read part.passes.read so_far.passes.reads part.passes.reads;
-          parts = sym (append_assoc a so_far.passes.read part.passes.read) ∙ ap (λ xs. xs ++ part.passes.read) so_far.passes.parts ∙ append_assoc so_far.passes.passed b part.passes.read
-              ∙ ap (λ xs. so_far.passes.passed ++ xs) part.passes.parts ∙ sym (append_assoc so_far.passes.passed part.passes.passed c);
-          long = omega (arith, length-append so_far.passes.passed part.passes.passed, so_far.passes.long, part.passes.long, own_size bits, size_on s.interleaving s.channels n bits groups);
-        };
-        source_is = part.same.0 ∙ so_far.source_is;
-        done_is = part.more ∙ ap (λ m. m + bits) so_far.done_is;
-        kept_is = part.same.1 ∙ so_far.kept_is;
-        fed = fed_on s n bits so_far.passes.passed part.passes.passed so_far.fed more within last (part.passes.long ∙ own_size bits);
-        taken = part.taken so_far.passes.passed some_fed so_far.taken;
-      }
+    pub some_on : (k : Inlet R) (new : S) (c : List ℕ) → TakesPart left has j k now new part b c → TakesSome left has part.sound i k old new (part.done + part.bits) a c
+    some_on k new c taken =
+        let more = passes_on k (sound_size part.sound.interleaving part.sound.channels part.bits) c taken.passes in
+        let fed = fed_on part so_far.passes.passed so_far.fed taken.passes.passed taken.passes.long in
+        record {
+          passes = record { passed = so_far.passes.passed ++ taken.passes.passed; read = so_far.passes.read ++ taken.passes.read; reads = more.reads; parts = more.parts; long = fed.size };
+          fed = fed;
+          taken = taken.taken old so_far.passes.passed so_far.fed so_far.taken;
+        }
 
-      -- where a group is missing the sound is not whole
-      pub some_fault : (bits : ℕ) (f : StreamFault) → n + bits ≤ s.count → (bits % 32768 ≡ 0) ⊎ (n + bits ≡ s.count) → IsPassFault (left (inlet_reader j)) (sound_size s.interleaving s.channels bits) b f → IsPassFault (left (inlet_reader i)) s.size a f
-      some_fault bits FileRefused within last h = by (left (inlet_reader i)) refl
-        where
-          -- the groups so far are a part of the sound
-          whole : sound_size s.interleaving s.channels (n + bits) ≤ s.size
-          whole = elim last [
-            | inl even ↦ (
-                let rest = s.count - (n + bits) in
-                let sum : n + bits + rest ≡ s.count = omega (arith, within) in
-                omega (arith, so_far.fed.is_sound.size, ap (sound_size s.interleaving s.channels) sum, size_on s.interleaving s.channels (n + bits) rest (omega (arith, even, groups))))
-            | inr all ↦ omega (arith, so_far.fed.is_sound.size, ap (sound_size s.interleaving s.channels) all)
-          ]
+    -- where a part is missing the sound is not whole
+    some_fault : (f : StreamFault) → IsPassFault (left (inlet_reader j)) (sound_size part.sound.interleaving part.sound.channels part.bits) b f → IsPassFault (left (inlet_reader i)) part.sound.size a f
+    some_fault FileRefused h = by (left (inlet_reader i)) refl
+      where
+        by : (l : Option (List ℕ)) → left (inlet_reader i) ≡ l → IsPassFault l part.sound.size a FileRefused
+        by None known = tt
+        by (Some xs) known =
+            let ys = left_is left i j so_far.passes.read so_far.passes.reads xs known in
+            let fewer : length (b ++ ys.0) < sound_size part.sound.interleaving part.sound.channels part.bits = subst (λ l. IsPassFault l (sound_size part.sound.interleaving part.sound.channels part.bits) b FileRefused) ys.1 h in
+            omega (arith, fewer, within, ap length so_far.passes.parts, ap length ys.2, length-append a xs, length-append a so_far.passes.read, length-append so_far.passes.passed b, length-append so_far.passes.read ys.0, length-append b ys.0)
+    some_fault RateNotDivided h = absurd h
+    some_fault TooLarge h = absurd h
+    some_fault ReadFailed h = tt
+    some_fault WriteFailed h = absurd h
+    some_fault TurnLimit h = tt
+    some_fault Memory h = tt
 
-          by : (l : Option (List ℕ)) → left (inlet_reader i) ≡ l → IsPassFault l s.size a FileRefused
-          by None known = tt
-          by (Some xs) known =
-              let ys = left_is left i j so_far.passes.read so_far.passes.reads xs known in
-              let fewer : length (b ++ ys.0) < sound_size s.interleaving s.channels bits = subst (λ l. IsPassFault l (sound_size s.interleaving s.channels bits) b FileRefused) ys.1 h in
-              omega (arith, fewer, whole, size_on s.interleaving s.channels n bits groups, so_far.passes.long, ap length so_far.passes.parts, ap length ys.2, length-append a xs, length-append a so_far.passes.read, length-append so_far.passes.passed b, length-append so_far.passes.read ys.0, length-append b ys.0)
-      some_fault bits RateNotDivided within last h = absurd h
-      some_fault bits TooLarge within last h = absurd h
-      some_fault bits ReadFailed within last h = tt
-      some_fault bits WriteFailed within last h = absurd h
-      some_fault bits TurnLimit within last h = tt
-      some_fault bits Memory within last h = tt
+    pub stops_on : (refused : S → S → Sound → List ℕ → StreamFault → Type 0) (k : Inlet R) (new : S) (c : List ℕ) (f : StreamFault) → StopsPart left has refused j k now new part b c f → StopsSound left has refused part.sound i k old new a f
+    stops_on refused k new c f (inl stops) = record {
+      came = so_far.passes.passed;
+      few = omega (arith, within);
+      begins = begins_passed left i j (sound_size part.sound.interleaving part.sound.channels part.done) a b so_far.passes;
+      how = inl (record {
+        done = part.done;
+        fed = so_far.fed;
+        taken = subst (λ x. has old x part.sound part.done so_far.passes.passed) (sym stops.same) so_far.taken;
+        fault = some_fault f stops.fault;
+        pace = λ stop. omega (arith, stops.pace stop, part.fits, so_far.passes.reads.given, ap length so_far.passes.parts, length-append a so_far.passes.read, length-append so_far.passes.passed b);
+      });
+    }
+    stops_on refused k new c f (inr refuses) =
+        let more = passes_on k (sound_size part.sound.interleaving part.sound.channels part.bits) c refuses.passes in
+        record {
+          came = more.passed;
+          few = omega (arith, within, more.long);
+          begins = begins_passed left i k (length so_far.passes.passed + sound_size part.sound.interleaving part.sound.channels part.bits) a c more;
+          how = inr (record { own = refuses.own; refuses = refuses.refuses old so_far.passes.passed so_far.fed so_far.taken });
+        }
 
-    -- all of it was taken
-    pub some_all : s.count ≤ n → TakesSome left source done has kept s i j old now s.count a b
-    some_all all =
-        let count : n ≡ s.count = omega (arith, all, so_far.fed.within) in
-        subst (λ m. TakesSome left source done has kept s i j old now m a b) count so_far
+-- refused before its first byte
+pub stops_first : {R S : Type 0} (left : R → Option (List ℕ)) (has : S → S → Sound → ℕ → List ℕ → Type 0) (refused : S → S → Sound → List ℕ → StreamFault → Type 0) (s : Sound) (i k : Inlet R) (old new : S) (a : List ℕ) (f : StreamFault)
+    → IsSinkFault f → refused old new s [] f → StopsSound left has refused s i k old new a f
+stops_first left has refused s i k old new a f own refuses = record {
+  came = [];
+  few = omega arith;
+  begins = by (left (inlet_reader i));
+  how = inr (record { own = own; refuses = refuses });
+}
+  where
+    by : (o : Option (List ℕ)) → IfSome o (λ xs. (more : List ℕ) × (a ++ xs ≡ [] ++ more))
+    by None = tt
+    by (Some xs) = (a ++ xs, refl)
 
 -- ---- the whole file
-pub file_taken : (has : List ℕ → Type 0) (left : Option (List ℕ)) (o : Surroundings) (bytes : List ℕ) → AreTold o → ((xs : List ℕ) → left ≡ Some xs → StandsIn o xs bytes) → has bytes → TakesFile has left o
+pub file_taken : (has : Sound → ℕ → List ℕ → Type 0) (left : Option (List ℕ)) (o : Surroundings) (bytes : List ℕ) → AreTold o → ((xs : List ℕ) → left ≡ Some xs → StandsIn o xs bytes) → has o.sound o.sound.count bytes → TakesFile has left o
 file_taken has left o bytes told stands held = (told, by left refl)
   where
     by : (l : Option (List ℕ)) → left ≡ l → IfSome l (IsTakenOf has o)
     by None known = tt
     by (Some xs) known = (bytes, stands xs known, held)
+
+-- it is some sound in the surroundings, whatever the sink has of that
+pub file_around : (has : Sound → ℕ → List ℕ → Type 0) (left : Option (List ℕ)) (o : Surroundings) → TakesFile has left o → SurroundsFile left o
+file_around has None o (told, h) = (told, tt)
+file_around has (Some xs) o (told, h) = (told, (h.0, h.1))
+
+pub given_around : {R : Type 0} (has : Sound → ℕ → List ℕ → Type 0) (left : R → Option (List ℕ)) (i j : Inlet R) (o : Surroundings) → TakesGiven has left i j o → SurroundsGiven left i j o
+given_around has left i j o (read, reads, h) = (read, reads, (h.0, h.1))
+
+-- a sink that refuses for memory alone
+pub memory_alone : {S : Type 0} (has : S → S → Sound → ℕ → List ℕ → Type 0) (left : Option (List ℕ)) (g h : ℕ) (old new : S) (f : StreamFault) → StopsTaking has (λ a b s came e. e ≡ Memory) left g h old new f → IsOutlineFault left f
+memory_alone has left g h old new f (inl none) = none.fault
+memory_alone has left g h old new f (inr some) = elim some.how [
+  | inl ends ↦ ends.fault
+  | inr refuses ↦ rw refuses.refuses tt
+]

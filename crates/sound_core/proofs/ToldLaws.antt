@@ -29,7 +29,7 @@ use Rattle.dsf_core.specs.Files.{IsDsf}
 use Rattle.dsf_core.specs.Fronts as dsf
 use Rattle.dsf_core.proofs.FrontLaws as blocks
 use Rattle.dsf_core.proofs.ToldLaws as blocks_told
-use Rattle.sound_core.specs.Files.{GivesNone, HoldsRecording, IsAccepted, IsBeforeSound, TellsSound}
+use Rattle.sound_core.specs.Files.{EndsAt, GivesNone, HoldsRecording, IsAccepted, IsBeforeSound, TellsSound}
 use Rattle.sound_core.specs.Laws.{OneSoundIsTold}
 use Rattle.sound_core.specs.Reads.{GivesBytes, Reads}
 use Rattle.sound_core.proofs.HeadLaws.{IsFound, dsdiff_found, dsf_found, never_found, other_head, told_found}
@@ -176,6 +176,17 @@ one_sound file accepted = elim accepted.1 [
   | inl form ↦ only file (form_tells file accepted.0 form)
   | inr (order, is) ↦ only file (blocks_tell file accepted.0 order is)
 ]
+
+-- the head tells of the sound that it leads to
+pub tells_at : (head : List ℕ) (s : Sound) → EndsAt head s → TellsSound head s
+tells_at head s at = by s.interleaving (told_found s.interleaving head s at.leads)
+  where
+    by : (o : Interleaving) → IsFound o head s → TellsSound head s
+    by Bytes e = dsdiff_found head (Found s) (sym e) (form_fronts.if_found head (Found s) (sym e)) (form_fronts.in_limits head (Found s) (sym e)) (form_fronts.inside head (Found s) (sym e))
+    by (Blocks order) e =
+        let l = blocks.found_leads head s e in
+        let no_form = form_fronts.if_refused head Refused (sym (other_head head (omega (arith, l.holds.fields)) l.heads.first)) in
+        dsf_found head no_form (Found s) (sym e) (blocks.if_found head (Found s) (sym e)) (blocks.in_limits head (Found s) (sym e)) (blocks.inside head (Found s) (sym e)) (blocks.in_blocks head (Found s) (sym e))
 
 -- ---- where more bytes are wanted
 pub form_wanted : (front : List ℕ) (x : SoundAt) → x ≡ dsdiff.sound_at front → IfMore x (dsdiff.HoldsHead front → ⊥) → IfMore x (IsBeforeSound front)

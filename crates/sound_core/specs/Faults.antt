@@ -57,3 +57,9 @@ abbrev pub StopsReading : StreamFault → Type 0
 StopsReading ReadFailed = ⊤
 StopsReading TurnLimit = ⊤
 StopsReading _ = ⊥
+
+-- a fault that a sink may have of its own: none of reading
+abbrev pub IsSinkFault : StreamFault → Type 0
+IsSinkFault ReadFailed = ⊥
+IsSinkFault TurnLimit = ⊥
+IsSinkFault _ = ⊤

@@ -30,6 +30,11 @@ abbrev pub LeadsTo : Interleaving → List ℕ → Sound → Type 0
 LeadsTo Bytes front s = dsdiff.TellsSound front s
 LeadsTo (Blocks order) front s = dsf.TellsSound front s
 
+-- the head of a file leads to this sound, and ends where that starts
+pub record EndsAt (head : List ℕ) (s : Sound) : Type 0 where
+  pub leads : LeadsTo s.interleaving head s
+  pub start : s.start ≡ length head
+
 -- the front of a file tells of this sound: it stands behind it or in it, and every recording of a file that begins so has it
 pub record TellsSound (front : List ℕ) (s : Sound) : Type 0 where
   pub leads : LeadsTo s.interleaving front s

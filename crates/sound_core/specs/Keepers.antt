@@ -16,6 +16,7 @@ pub record Keeps (s : Sound) (ranges : List BitRange) (done : ℕ) (stretches : 
   pub size : length bytes ≡ sound_size s.interleaving s.channels done
   pub kept : AreStretches (sound_channels s.interleaving s.channels done bytes) ranges stretches
 
--- the keeper has those
-abbrev pub IsKeeping : Keeper → List ℕ → Type 0
-IsKeeping k bytes = Keeps k.sound k.ranges.now k.done (items_of k.stretches.items) bytes
+-- the keeper has those of its ranges, which are the same as at first
+pub record IsKeeping (first k : Keeper) (s : Sound) (done : ℕ) (bytes : List ℕ) : Type 0 where
+  pub same : k.ranges.now ≡ first.ranges.now
+  pub keeps : Keeps s k.ranges.now done (items_of k.stretches.items) bytes

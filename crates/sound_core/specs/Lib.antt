@@ -2,7 +2,6 @@ pub mod Faults
 pub mod Files
 pub mod Reads
 pub mod Readers
-pub mod Closing
 pub mod Outlines
 pub mod Sinks
 pub mod Stretches

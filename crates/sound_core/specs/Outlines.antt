@@ -10,7 +10,7 @@ use Rattle.dsd_bits.specs.Contents.{Content}
 use Rattle.dsd_bits.specs.Sounds.{IsSound, sound_channels}
 use Rattle.dsdiff_core.specs.Files.{IsDsdiff}
 use Rattle.dsf_core.specs.Files.{IsDsf}
-use Rattle.sound_core.specs.Files.{IsRefused}
+use Rattle.sound_core.specs.Files.{IsRefused, TellsSound}
 use Rattle.sound_core.specs.Reads.{Reads}
 use Rattle.sound_core.specs.declared.fault.StreamFault.{StreamFault}
 use Rattle.sound_core.specs.declared.fault.StreamFault.TheVariants.{FileRefused, ReadFailed, TurnLimit, Memory}
@@ -57,6 +57,8 @@ pub record StandsIn (o : Surroundings) (file sound : List ℕ) : Type 0 where
 
 -- what surroundings tell: every file that is some sound in them holds their recording, with the channels of that sound
 pub record AreTold (o : Surroundings) : Type 0 where
+  pub tells : TellsSound o.head o.sound
+  pub start : o.sound.start ≡ length o.head
   pub is_sound : IsSound o.sound
   pub whole : o.sound.interleaving ≡ Bytes → o.sound.count % 8 ≡ 0
   pub silent : o.recording.channels ≡ replicate o.sound.channels []

@@ -1,6 +1,7 @@
 -- A reader of a file: what it keeps to, and how far it goes.
-use Rattle.std.specs.Prelude.{◌≡◌, ℕ, ◌+◌, ◌-◌, ◌<◌, ◌≤◌, ◌^◌, List, [], ◌++◌, length, Option, IfSome, Result, IsErrOf, ⊤}
-use Rattle.device_core.specs.Inlets.{inlet_failures, inlet_given, inlet_reads}
+use Rattle.std.specs.Prelude.{◌≡◌, ℕ, ◌+◌, ◌-◌, ◌<◌, ◌≤◌, ◌^◌, List, [], ◌++◌, length, take, Option, IfSome, Result, IsErrOf, ⊤}
+use Rattle.std.specs.Io.KnownBytes.{IsAtEnd}
+use Rattle.device_core.specs.Inlets.{inlet_failures, inlet_given, inlet_reader, inlet_reads}
 use Rattle.device_core.specs.declared.inlet.Inlet.{Inlet}
 use Rattle.sound_core.specs.Faults.{failed_reads}
 use Rattle.sound_core.specs.Reads.{HasBudget, Reads}
@@ -32,6 +33,15 @@ pub record Counts {R X : Type 0} (old new : SoundReader R) (r : Result X StreamF
   pub turns : IsErrOf r TurnLimit → inlet_reads new.inlet.now ≡ old.limit
   pub most : inlet_reads new.inlet.now ≤ old.limit
 
+-- one read to the places from `filled` up to `size` of a block gave so many bytes, none only at the end
+pub record PullsTo {R : Type 0} (left : R → Option (List ℕ)) (old new : Inlet R) (filled size : ℕ) (block_old block_new : List ℕ) (n : ℕ) : Type 0 where
+  pub read : List ℕ
+  pub reads : Reads left old new read
+  pub number : n ≡ length read
+  pub few : filled + n ≤ size
+  pub front : take (filled + n) block_new ≡ take filled block_old ++ read
+  pub end : n ≡ 0 → IsAtEnd (left (inlet_reader new))
+
 -- so many bytes were passed: of those ahead and those that were read, the first; the others are ahead
 pub record Passes {R : Type 0} (left : R → Option (List ℕ)) (old new : Inlet R) (n : ℕ) (ahead_old ahead_new : List ℕ) : Type 0 where
   pub passed : List ℕ
@@ -39,6 +49,11 @@ pub record Passes {R : Type 0} (left : R → Option (List ℕ)) (old new : Inlet
   pub reads : Reads left old new read
   pub parts : ahead_old ++ read ≡ passed ++ ahead_new
   pub long : length passed ≡ n
+
+-- so many bytes were passed, and are the first of a block
+pub record Fills {R : Type 0} (left : R → Option (List ℕ)) (old new : Inlet R) (n : ℕ) (ahead_old ahead_new block : List ℕ) : Type 0 where
+  pub passes : Passes left old new n ahead_old ahead_new
+  pub first : take n block ≡ passes.passed
 
 -- a fault of this: there are fewer, or one of reading
 abbrev pub IsPassFault : Option (List ℕ) → ℕ → List ℕ → StreamFault → Type 0

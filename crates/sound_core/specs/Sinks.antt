@@ -1,12 +1,17 @@
 -- What takes a sound while its file is read once.
-use Rattle.std.specs.Prelude.{◌≡◌, ℕ, ◌+◌, ◌%◌, ◌<◌, ◌≤◌, List, ◌++◌, length, Option, IfSome}
+use Rattle.std.specs.Prelude.{◌≡◌, ◌⊎◌, ℕ, ◌+◌, ◌-◌, ◌%◌, ◌<◌, ◌≤◌, min, List, ◌++◌, drop, length, Option, IfSome, ⊤}
+use Rattle.device_core.specs.Inlets.{inlet_given, inlet_reader}
 use Rattle.device_core.specs.declared.inlet.Inlet.{Inlet}
 use Rattle.dsd_bits.specs.declared.interleaving.Interleaving.TheVariants.{Bytes}
 use Rattle.dsd_bits.specs.declared.sound.Sound.{Sound}
 use Rattle.dsd_bits.specs.Sounds.{IsSound, sound_size}
-use Rattle.sound_core.specs.Outlines.{AreTold, StandsIn, Surroundings}
-use Rattle.sound_core.specs.Readers.{Passes}
+use Rattle.sound_core.specs.Faults.{IsSinkFault, StopsReading}
+use Rattle.sound_core.specs.Files.{GivesNone, TellsSound}
+use Rattle.sound_core.specs.Outlines.{AreTold, IsOutlineFault, StandsIn, Surroundings}
+use Rattle.sound_core.specs.Readers.{IsPassFault, Passes}
 use Rattle.sound_core.specs.Reads.{Reads}
+use Rattle.sound_core.specs.declared.fault.StreamFault.{StreamFault}
+use Rattle.sound_core.specs.declared.part.SoundPart.{SoundPart}
 
 -- these bytes of a sound came, those of so many bits of each channel: whole groups of blocks, or all
 pub record IsFed (s : Sound) (done : ℕ) (bytes : List ℕ) : Type 0 where
@@ -16,32 +21,104 @@ pub record IsFed (s : Sound) (done : ℕ) (bytes : List ℕ) : Type 0 where
   pub groups : done < s.count → done % 32768 ≡ 0
   pub size : length bytes ≡ sound_size s.interleaving s.channels done
 
+-- how many bytes of the sound stand among so many first bytes of its file
+abbrev pub sound_given : Sound → ℕ → ℕ
+sound_given s given = min (given - s.start) s.size
+
+-- ---- what is so where a file was read to its end
 -- the file is some sound in the surroundings, and the sink has its bytes
-abbrev pub IsTakenOf : (List ℕ → Type 0) → Surroundings → List ℕ → Type 0
-IsTakenOf has o file = (sound : List ℕ) × StandsIn o file sound × has sound
+abbrev pub IsTakenOf : (Sound → ℕ → List ℕ → Type 0) → Surroundings → List ℕ → Type 0
+IsTakenOf has o file = (sound : List ℕ) × StandsIn o file sound × has o.sound o.sound.count sound
 
 -- whatever file stands there, it is some sound in the surroundings, they tell what it holds, and the sink has the bytes of that sound
-abbrev pub TakesFile : (List ℕ → Type 0) → Option (List ℕ) → Surroundings → Type 0
+abbrev pub TakesFile : (Sound → ℕ → List ℕ → Type 0) → Option (List ℕ) → Surroundings → Type 0
 TakesFile has left o = AreTold o × IfSome left (IsTakenOf has o)
 
 -- a reader that does not tell its bytes gave some, which are some sound in the surroundings, and the sink has its bytes
-abbrev pub TakesGiven : {R : Type 0} → (List ℕ → Type 0) → (R → Option (List ℕ)) → Inlet R → Inlet R → Surroundings → Type 0
+abbrev pub TakesGiven : {R : Type 0} → (Sound → ℕ → List ℕ → Type 0) → (R → Option (List ℕ)) → Inlet R → Inlet R → Surroundings → Type 0
 TakesGiven has left old new o = (read : List ℕ) × Reads left old new read × IsTakenOf has o read
 
--- ---- stages
+-- ---- what is so where it was not
+-- the file tells of this sound, whose bytes begin with these
+pub record BeginsSound (s : Sound) (came file : List ℕ) : Type 0 where
+  pub front : List ℕ
+  pub rest : List ℕ
+  pub file_is : file ≡ front ++ rest
+  pub tells : TellsSound front s
+  pub more : List ℕ
+  pub sound_is : drop s.start front ++ rest ≡ came ++ more
 
--- the next bytes were read, those of so many bits of each channel, and taken by a sink of this sound
-pub record TakesPart {R S K : Type 0} (left : R → Option (List ℕ)) (source : S → Sound) (done : S → ℕ) (has : S → List ℕ → Type 0) (kept : S → K) (i j : Inlet R) (old new : S) (bits : ℕ) (ahead_old ahead_new : List ℕ) : Type 0 where
-  pub passes : Passes left i j (sound_size (source old).interleaving (source old).channels bits) ahead_old ahead_new
-  pub same : (source new ≡ source old) × (kept new ≡ kept old)
-  pub more : done new ≡ done old + bits
-  pub taken : (before : List ℕ) → IsFed (source old) (done old) before → has old before → has new (before ++ passes.passed)
+-- no byte of the sound came to the sink, which is as it was
+pub record NoneCame {S : Type 0} (left : Option (List ℕ)) (given_old given_new : ℕ) (old new : S) (f : StreamFault) : Type 0 where
+  pub same : new ≡ old
+  pub fault : IsOutlineFault left f
+  pub none : StopsReading f → GivesNone left given_old given_new
+
+-- the sink has the bytes that came, and the reading ended behind them; where it stopped for a device, at most 65,536 bytes of the sound more were given
+pub record ReadingEnds {S : Type 0} (left : Option (List ℕ)) (given : ℕ) (has : S → S → Sound → ℕ → List ℕ → Type 0) (old new : S) (s : Sound) (came : List ℕ) (f : StreamFault) : Type 0 where
+  pub done : ℕ
+  pub fed : IsFed s done came
+  pub taken : has old new s done came
+  pub fault : IsOutlineFault left f
+  pub pace : StopsReading f → sound_given s given ≤ length came + 65536
+
+-- the sink refused what came, with a fault of its own
+pub record SinkRefuses {S : Type 0} (refused : S → S → Sound → List ℕ → StreamFault → Type 0) (old new : S) (s : Sound) (came : List ℕ) (f : StreamFault) : Type 0 where
+  pub own : IsSinkFault f
+  pub refuses : refused old new s came f
+
+-- some bytes of the sound came to the sink, and no more
+pub record SomeCame {S : Type 0} (left : Option (List ℕ)) (given_old given_new : ℕ) (has : S → S → Sound → ℕ → List ℕ → Type 0) (refused : S → S → Sound → List ℕ → StreamFault → Type 0) (old new : S) (f : StreamFault) : Type 0 where
+  pub sound : Sound
+  pub came : List ℕ
+  pub few : length came ≤ sound.size
+  pub begins : IfSome left (BeginsSound sound came)
+  pub how : ReadingEnds left (given_new - given_old) has old new sound came f ⊎ SinkRefuses refused old new sound came f
+
+-- why a file is not taken to its end, and what the sink is then
+abbrev pub StopsTaking : {S : Type 0} → (S → S → Sound → ℕ → List ℕ → Type 0) → (S → S → Sound → List ℕ → StreamFault → Type 0) → Option (List ℕ) → ℕ → ℕ → S → S → StreamFault → Type 0
+StopsTaking has refused left given_old given_new old new f = NoneCame left given_old given_new old new f ⊎ SomeCame left given_old given_new has refused old new f
+
+-- ---- stages
+-- the bytes of a part of a sound were read, and taken by a sink that had what came before
+pub record TakesPart {R S : Type 0} (left : R → Option (List ℕ)) (has : S → S → Sound → ℕ → List ℕ → Type 0) (i j : Inlet R) (old new : S) (part : SoundPart) (ahead_old ahead_new : List ℕ) : Type 0 where
+  pub passes : Passes left i j (sound_size part.sound.interleaving part.sound.channels part.bits) ahead_old ahead_new
+  pub taken : (first : S) (before : List ℕ) → IsFed part.sound part.done before → has first old part.sound part.done before → has first new part.sound (part.done + part.bits) (before ++ passes.passed)
+
+-- they were read, and the sink refused them
+pub record RefusesPart {R S : Type 0} (left : R → Option (List ℕ)) (has : S → S → Sound → ℕ → List ℕ → Type 0) (refused : S → S → Sound → List ℕ → StreamFault → Type 0) (i j : Inlet R) (old new : S) (part : SoundPart) (ahead_old ahead_new : List ℕ) (f : StreamFault) : Type 0 where
+  pub passes : Passes left i j (sound_size part.sound.interleaving part.sound.channels part.bits) ahead_old ahead_new
+  pub own : IsSinkFault f
+  pub refuses : (first : S) (before : List ℕ) → IsFed part.sound part.done before → has first old part.sound part.done before → refused first new part.sound (before ++ passes.passed) f
+
+-- so many bytes were not read to their end; the sink is as it was
+pub record StopsBefore {R S : Type 0} (left : R → Option (List ℕ)) (i j : Inlet R) (old new : S) (n : ℕ) (ahead : List ℕ) (f : StreamFault) : Type 0 where
+  pub same : new ≡ old
+  pub fault : IsPassFault (left (inlet_reader i)) n ahead f
+  pub pace : StopsReading f → inlet_given j + length ahead ≤ inlet_given i + n
+
+-- a part was not taken, for one of both
+abbrev pub StopsPart : {R S : Type 0} → (R → Option (List ℕ)) → (S → S → Sound → ℕ → List ℕ → Type 0) → (S → S → Sound → List ℕ → StreamFault → Type 0) → Inlet R → Inlet R → S → S → SoundPart → List ℕ → List ℕ → StreamFault → Type 0
+StopsPart left has refused i j old new part ahead_old ahead_new f = StopsBefore left i j old new (sound_size part.sound.interleaving part.sound.channels part.bits) ahead_old f
+    ⊎ RefusesPart left has refused i j old new part ahead_old ahead_new f
 
 -- the first bytes of a sound were read, those of so many bits of each channel, and taken
-pub record TakesSome {R S K : Type 0} (left : R → Option (List ℕ)) (source : S → Sound) (done : S → ℕ) (has : S → List ℕ → Type 0) (kept : S → K) (s : Sound) (i j : Inlet R) (old new : S) (bits : ℕ) (ahead_old ahead_new : List ℕ) : Type 0 where
+pub record TakesSome {R S : Type 0} (left : R → Option (List ℕ)) (has : S → S → Sound → ℕ → List ℕ → Type 0) (s : Sound) (i j : Inlet R) (old new : S) (bits : ℕ) (ahead_old ahead_new : List ℕ) : Type 0 where
   pub passes : Passes left i j (sound_size s.interleaving s.channels bits) ahead_old ahead_new
-  pub source_is : source new ≡ s
-  pub done_is : done new ≡ bits
-  pub kept_is : kept new ≡ kept old
   pub fed : IsFed s bits passes.passed
-  pub taken : has new passes.passed
+  pub taken : has old new s bits passes.passed
+
+-- the reading ended in the sound, behind what the sink has
+pub record EndsInSound {R S : Type 0} (left : R → Option (List ℕ)) (has : S → S → Sound → ℕ → List ℕ → Type 0) (s : Sound) (i j : Inlet R) (old new : S) (came ahead : List ℕ) (f : StreamFault) : Type 0 where
+  pub done : ℕ
+  pub fed : IsFed s done came
+  pub taken : has old new s done came
+  pub fault : IsPassFault (left (inlet_reader i)) s.size ahead f
+  pub pace : StopsReading f → inlet_given j + length ahead ≤ inlet_given i + (length came + 65536)
+
+-- a sound was not taken to its end
+pub record StopsSound {R S : Type 0} (left : R → Option (List ℕ)) (has : S → S → Sound → ℕ → List ℕ → Type 0) (refused : S → S → Sound → List ℕ → StreamFault → Type 0) (s : Sound) (i j : Inlet R) (old new : S) (ahead : List ℕ) (f : StreamFault) : Type 0 where
+  pub came : List ℕ
+  pub few : length came ≤ s.size
+  pub begins : IfSome (left (inlet_reader i)) (λ xs. (more : List ℕ) × (ahead ++ xs ≡ came ++ more))
+  pub how : EndsInSound left has s i j old new came ahead f ⊎ SinkRefuses refused old new s came f

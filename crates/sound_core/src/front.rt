@@ -19,7 +19,7 @@ use std::io::Read;
 ///
 /// Refusals: `FileRefused` where no file that begins so holds a recording, or the file is at its end; `ReadFailed`,
 /// `TurnLimit` and `Memory`.
-pub fn read_front<R: Read>(
+pub(crate) fn read_front<R: Read>(
     alloc: Global,
     reader: &mut SoundReader<'_, R>,
 ) -> Result<Sound, StreamFault>

@@ -4,114 +4,58 @@ ghost use Rattle.std.specs.Prelude.{◌≡◌, ◌+◌, ◌-◌, ◌<◌, ◌≤
 ghost use Rattle.dsd_bits.specs.Limits.{most_bits};
 ghost use Rattle.sound_core.specs.Stretches.{AreApart, AreGrown, AreRoomy, IsGrown, IsRoomy, items_of};
 
+use crate::fault::StreamFault;
+use crate::part::SoundPart;
 use crate::sink::SoundSink;
-use dsd_bits::{BitRange, Bits, Interleaving, Sound};
-use relace_core::{Stretch, unlace};
+use dsd_bits::{BitRange, Bits, Sound};
+use relace_core::unlace;
 use std::alloc::{AllocError, Global};
 
 /// What is kept of a sound: the bits of each channel in some ranges.
 #[derive(Drop)]
 pub struct Keeper<'a> {
-    /// The sound that comes.
-    pub sound: Sound,
     /// What is kept of it.
     pub ranges: &'a [BitRange],
-    /// How many bits of each channel came.
-    pub done: usize,
     /// For each range what came of it.
     pub stretches: Vec<Vec<Bits>>,
 }
 
-// The sound of a keeper that has not begun.
-const NO_SOUND: Sound = Sound {
-    rate: 0,
-    channels: 0,
-    count: 0,
-    start: 0,
-    size: 0,
-    interleaving: Interleaving::Bytes,
-};
-
 impl<'a> Keeper<'a> {
-    ghost use Rattle.std.specs.Prelude.{◌≡◌, ℕ, ◌+◌, ◌%◌, ◌≤◌, ◌⊎◌, ◌++◌, [], List, IfOk, OnOk, length};
-    ghost use Rattle.dsd_bits.specs.Sounds.{IsSound, sound_size};
-    ghost use Rattle.sound_core.specs.Keepers.{IsKeeping};
+    ghost use Rattle.std.specs.Prelude.{◌≡◌};
 
     /// A keeper of these ranges, before any sound.
     pub fn new(alloc: Global, ranges: &'a [BitRange]) -> Keeper<'a>
         ensures { result.ranges.now ≡ ranges.now }
     {
         Keeper {
-            sound: NO_SOUND,
             ranges,
-            done: 0,
             stretches: Vec::new(alloc),
         }
-    }
-
-    /// Begins with a sound, before its first byte.
-    pub fn begin(&mut self, alloc: Global, sound: Sound) -> Result<(), AllocError>
-        requires sound { IsSound sound }
-        requires whole { sound.interleaving ≡ Interleaving.Bytes → sound.count % 8 ≡ 0 }
-        ensures same { self.new.ranges.now ≡ self.old.ranges.now }
-        ensures new { OnOk result (IsKeeping self.new []) }
-        ensures made { OnOk result ((self.new.sound ≡ sound) × (self.new.done ≡ 0)) }
-    {
-        let stretches = no_stretches(alloc, self.ranges.len(), sound.channels)?;
-        self.sound = sound;
-        self.done = 0;
-        self.stretches = stretches;
-        Ok(())
-    }
-
-    /// Takes the next bytes of the sound, those of so many bits of each channel: whole groups of blocks, or all that
-    /// comes.
-    pub fn take(&mut self, alloc: Global, bytes: &[u8], bits: usize) -> Result<(), AllocError>
-        requires keeping { (before : List ℕ) × IsKeeping self.old before }
-        requires some { 1 ≤ bits }
-        requires within { self.old.done + bits ≤ self.old.sound.count }
-        requires size { length bytes.now ≡ sound_size self.old.sound.interleaving self.old.sound.channels bits }
-        requires groups { (bits % 32768 ≡ 0) ⊎ (self.old.done + bits ≡ self.old.sound.count) }
-        ensures same { (self.new.sound ≡ self.old.sound) × (self.new.ranges.now ≡ self.old.ranges.now) }
-        ensures done { OnOk result (self.new.done ≡ self.old.done + bits) }
-        ensures ok { OnOk result ((before : List ℕ) → IsKeeping self.old before
-            → IsKeeping self.new (before ++ bytes.now)) }
-    {
-        let done = self.done;
-        if !are_apart(self.ranges, done, done + bits) {
-            let stretch = Stretch {
-                channels: self.sound.channels,
-                count: bits,
-            };
-            let channels = unlace(alloc, bytes, stretch, self.sound.interleaving)?;
-            grow_all(&mut self.stretches, self.ranges, &channels, done)?;
-        }
-        self.done = done + bits;
-        Ok(())
     }
 }
 
 impl<'a> SoundSink for Keeper<'a> {
-    ghost use Rattle.std.specs.Prelude.{List};
-    ghost use Rattle.dsd_bits.specs.declared.stretches.BitRange.{BitRange as Range};
+    ghost use Rattle.std.specs.Prelude.{◌≡◌, ⊤};
     ghost use Rattle.sound_core.specs.Keepers.{IsKeeping};
+    ghost use Rattle.sound_core.specs.declared.fault.StreamFault.TheVariants.{Memory};
 
-    ghost source = { λ k. k.sound };
+    ghost ready = { λ k. ⊤ };
 
-    ghost done = { λ k. k.done };
+    ghost has = { λ first k s done bytes. IsKeeping first k s done bytes };
 
-    ghost has = { λ k bytes. IsKeeping k bytes };
+    ghost refused = { λ first k s came f. f ≡ Memory };
 
-    ghost Kept = { List Range };
-
-    ghost kept = { λ k. k.ranges.now };
-
-    fn begin(&mut self, alloc: Global, sound: Sound) -> Result<(), AllocError> {
-        Keeper::begin(self, alloc, sound)
+    fn begin(&mut self, alloc: Global, sound: Sound) -> Result<(), StreamFault> {
+        self.stretches = no_stretches(alloc, self.ranges.len(), sound.channels)?;
+        Ok(())
     }
 
-    fn take(&mut self, alloc: Global, bytes: &[u8], bits: usize) -> Result<(), AllocError> {
-        Keeper::take(self, alloc, bytes, bits)
+    fn take(&mut self, alloc: Global, part: SoundPart, bytes: &[u8]) -> Result<(), StreamFault> {
+        if !are_apart(self.ranges, part.done, part.done + part.bits) {
+            let channels = unlace(alloc, bytes, part.stretch(), part.sound.interleaving)?;
+            grow_all(&mut self.stretches, self.ranges, &channels, part.done)?;
+        }
+        Ok(())
     }
 }
 

@@ -3,13 +3,14 @@
 //!
 //! [`read_outline`] reads a file once and tells all of it but the bits of its sound: an [`Outline`], by which the file
 //! can be read again and written in another form while it is read. Of the sound it holds one block of 65,536 bytes; what
-//! stands before the sound is held whole, and so is what a DSDIFF form has behind it.
-//! [`read_into`] does so too, and has a [`SoundSink`] take the sound (`taking.rt`); [`read_stretches`] keeps of it the bits
-//! of each channel in the ranges that it is given, by a sink (`keeper.rt`).
+//! stands before the sound is held whole, and so is what a DSDIFF form has behind it, or the tag of a DSF file.
+//! [`read_into`] does so too, and has a [`SoundSink`] take the sound (`sink.rt`), a [`SoundPart`] of at most 65,536 bytes
+//! at a time (`part.rt`): there is one loop over a sound (`taking.rt`), whatever is made of it. [`read_stretches`] keeps
+//! the bits of each channel in the ranges that it is given, by a sink (`keeper.rt`); the sink of [`read_outline`] keeps
+//! nothing (`nothing.rt`).
 //!
-//! The stages, each a module, serve whoever plays a file as well: a [`SoundReader`] has the inlet, a block to read into,
-//! the limit of its reads and what was read ahead (`reader.rt`); [`read_front`] leads up to the sound (`front.rt`), and
-//! [`closes`] asks whether what stands behind it closes the file (`closing.rt`). Whoever writes meanwhile does so by [`put`].
+//! A reader has the inlet, a block to read into, the limit of its reads and what was read ahead (`reader.rt`). It is led up
+//! to the sound (`front.rt`), and then behind it (`outline.rt`). A sink that writes does so by [`put`].
 //!
 //! The words of the contracts:
 //!
@@ -22,7 +23,8 @@
 //!   every such file holds what the surroundings tell, with the channels of its sound, and `SurroundsFile left around`
 //!   both of a reader's file (`specs/Outlines.antt`).
 //! - `IsFed s done bytes` says that these bytes of a sound came, those of so many bits of each channel, and `TakesFile has
-//!   left around` that a reader's file is some sound in these surroundings, of whose bytes this holds (`specs/Sinks.antt`).
+//!   left around` that a reader's file is some sound in these surroundings, of whose bytes this holds, `StopsTaking` why it
+//!   isn't taken to its end, and what the sink is then (`specs/Sinks.antt`).
 //! - `KeepsFile left around ranges kept` says that a reader's file is some sound in these surroundings, and which stretches
 //!   of its channels were kept (`specs/Keeping.antt`).
 //!
@@ -35,26 +37,25 @@
 //! ```
 #![tactic(auto)]
 
-mod closing;
 mod fault;
 mod front;
 mod keeper;
 mod keeping;
 mod laws;
+mod nothing;
 mod outline;
+mod part;
 mod reader;
 mod sink;
 mod taking;
 mod writing;
 
-pub use closing::closes;
 pub use fault::StreamFault;
-pub use front::read_front;
 pub use keeper::Keeper;
 pub use keeping::{Kept, read_stretches};
 pub use laws::accepted_files_tell_one_sound;
 pub use outline::{Outline, read_outline};
-pub use reader::{SoundReader, new_block};
+pub use part::SoundPart;
 pub use sink::SoundSink;
 pub use taking::read_into;
 pub use writing::put;

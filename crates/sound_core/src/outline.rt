@@ -3,14 +3,15 @@
 ghost use Rattle.std.specs.Prelude.{◌≡◌, ◌+◌, ◌-◌, ◌%◌, ◌<◌, ◌≤◌, ◌^◌, ◌++◌, IfErr, IfOk, IsErrOf, length, true};
 ghost use Rattle.device_core.specs.Inlets.{inlet_failures, inlet_given, inlet_reader, inlet_reads};
 ghost use Rattle.dsd_bits.specs.Sounds.{IsSound, has_blocks};
-ghost use Rattle.sound_core.specs.Closing.{EndsAt};
 ghost use Rattle.sound_core.specs.Faults.{failed_reads};
+ghost use Rattle.sound_core.specs.Files.{EndsAt};
 ghost use Rattle.sound_core.specs.Outlines.{IsOutlineFault, IsRestFault, IsTagFault, ReadsTag, Surrounds, SurroundsFile, SurroundsGiven, around_of, with_ends};
-ghost use Rattle.sound_core.specs.Readers.{Counts, IsAtStart, IsReading, IsSame};
+ghost use Rattle.sound_core.specs.Readers.{Counts, IsReading, IsSame};
 
 use crate::fault::StreamFault;
-use crate::front::read_front;
-use crate::reader::{SoundReader, new_block};
+use crate::nothing::Nothing;
+use crate::reader::SoundReader;
+use crate::taking::read_into;
 use device_core::Inlet;
 use dsd_bits::{Interleaving, Recording, Sound};
 use std::alloc::Global;
@@ -57,28 +58,7 @@ pub fn read_outline<R: Read>(alloc: Global, inlet: &mut Inlet<R>) -> Result<Outl
     ensures reads { inlet_reads inlet.new ≤ inlet_reads inlet.old + 2 ^ 40 }
     ensures turn_limit { IsErrOf result StreamFault.TurnLimit → inlet_reads inlet.new ≡ inlet_reads inlet.old + 2 ^ 40 }
 {
-    let mut block = new_block(alloc)?;
-    let mut ahead = Vec::new(alloc);
-    outline_of(alloc, &mut SoundReader::new(inlet, &mut block, &mut ahead))
-}
-
-// Reads a file, and tells all of it but the bits of its sound.
-fn outline_of<R: Read>(
-    alloc: Global,
-    reader: &mut SoundReader<'_, R>,
-) -> Result<Outline, StreamFault>
-    requires { IsAtStart reader.old }
-    ensures same { IsSame reader.old reader.new }
-    ensures ok { IfOk result (λ o. SurroundsFile (R.remaining (inlet_reader reader.old.inlet.now)) (around_of o)) }
-    ensures any_reader { IfOk result (λ o. SurroundsGiven
-        R.remaining reader.old.inlet.now reader.new.inlet.now (around_of o)) }
-    ensures counts { Counts reader.old reader.new result }
-    ensures fault { IfErr result (IsOutlineFault (R.remaining (inlet_reader reader.old.inlet.now))) }
-{
-    let sound = read_front(alloc, reader)?;
-    let head = reader.take_head(alloc, sound.start)?;
-    reader.pass(sound.size as u64)?;
-    read_rest(alloc, sound, head, reader)
+    read_into(alloc, inlet, &mut Nothing {})
 }
 
 /// Reads the rest of a file behind its sound, as far as it matters: what is told of the whole file, which begins with

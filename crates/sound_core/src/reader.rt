@@ -1,14 +1,15 @@
 //! A file that is read: a block at a time, and in no more reads than one call may ask for.
 
-ghost use Rattle.std.specs.Prelude.{◌≡◌, ◌+◌, ◌-◌, ◌<◌, ◌≤◌, ◌^◌, ◌++◌, [], List, ℕ, IfErr, IfOk, OnOk, drop, length, take};
+ghost use Rattle.std.specs.Prelude.{◌≡◌, ◌+◌, ◌-◌, ◌<◌, ◌≤◌, ◌^◌, ◌++◌, [], List, ℕ, IfErr, IfOk, MatchResult, OnErr, OnOk, drop, length, take};
 ghost use Rattle.std.specs.Io.KnownBytes.{IsAtEnd};
-ghost use Rattle.device_core.specs.Inlets.{inlet_failures, inlet_given, inlet_reader, inlet_reads};
+ghost use Rattle.std.specs.Io.Iter.{u64_saturate};
+ghost use Rattle.device_core.specs.Inlets.{PullsBehind, inlet_failures, inlet_given, inlet_reader, inlet_reads};
 ghost use Rattle.sound_core.specs.Faults.{IsReadingFault, StopsReading};
-ghost use Rattle.sound_core.specs.Readers.{Counts, IsAtStart, IsPassFault, IsReading, IsSame, Passes};
+ghost use Rattle.sound_core.specs.Readers.{Counts, Fills, IsAtStart, IsPassFault, IsReading, IsSame, Passes, PullsTo};
 ghost use Rattle.sound_core.specs.Reads.{Reads, ReadsAll, ReadsToEnd, ReadsUntil};
 
 use crate::fault::StreamFault;
-use device_core::{Inlet, MOST_READS};
+use device_core::{Device, Inlet, MOST_READS};
 use std::alloc::{AllocError, Global};
 use std::io::Read;
 use std::mem;
@@ -19,32 +20,68 @@ const BLOCK: usize = 65_536;
 /// A block of 65,536 zeros, for bytes to be read into.
 ///
 /// Refusal: want of memory.
-pub fn new_block(alloc: Global) -> Result<Vec<u8>, AllocError>
+pub(crate) fn new_block(alloc: Global) -> Result<Vec<u8>, AllocError>
     ensures { IfOk result (λ block. length block.items ≡ 65536) }
 {
     vec![in alloc; 0u8; BLOCK]
 }
 
+// Puts these bytes to the front of a block.
+fn put_front(block: &mut Vec<u8>, bytes: &[u8])
+    requires { length bytes.now ≤ length block.old.items }
+    ensures long { length block.new.items ≡ length block.old.items }
+    ensures front { take (length bytes.now) block.new.items ≡ bytes.now }
+{
+    let (front, _) = block.as_mut_slice().split_at_mut(bytes.len());
+    front.copy_from_slice(bytes);
+}
+
+// One read to the places from `filled` up to `size` of a block.
+fn pull_part<R: Read>(
+    inlet: &mut Inlet<R>,
+    block: &mut Vec<u8>,
+    filled: usize,
+    size: usize,
+) -> Result<usize, Device>
+    requires ready { inlet_failures inlet.old < 2 ^ 64 - 1 }
+    requires room { filled < size }
+    requires fits { size ≤ length block.old.items }
+    ensures long { length block.new.items ≡ length block.old.items }
+    ensures few { IfOk result (λ n. filled + n ≤ size) }
+    ensures bytes { PullsBehind (R.remaining (inlet_reader inlet.old)) (R.remaining (inlet_reader inlet.new))
+        result filled block.old.items block.new.items }
+    ensures failures { MatchResult result
+        (λ _. inlet_failures inlet.new ≡ inlet_failures inlet.old)
+        (λ _. inlet_failures inlet.new ≡ inlet_failures inlet.old + 1) }
+    ensures reads { inlet_reads inlet.new ≡ u64_saturate (inlet_reads inlet.old + 1) }
+    ensures given { MatchResult result
+        (λ n. inlet_given inlet.new ≡ u64_saturate (inlet_given inlet.old + n))
+        (λ _. inlet_given inlet.new ≡ inlet_given inlet.old) }
+{
+    let (front, _) = block.as_mut_slice().split_at_mut(size);
+    inlet.pull_behind(front, filled)
+}
+
 /// A file that is read from an inlet. That is lent, and so is the memory that is read into.
 #[derive(Drop)]
-pub struct SoundReader<'a, R> {
+pub(crate) struct SoundReader<'a, R> {
     /// What is read.
-    pub inlet: &'a mut Inlet<R>,
+    pub(crate) inlet: &'a mut Inlet<R>,
     /// How many bytes the inlet counted before the file's first.
-    pub given: u64,
+    pub(crate) given: u64,
     /// How many reads the inlet may count.
-    pub limit: u64,
+    pub(crate) limit: u64,
     /// What one read gives.
-    pub block: &'a mut Vec<u8>,
+    pub(crate) block: &'a mut Vec<u8>,
     /// The bytes that were read, and not yet taken or passed.
-    pub ahead: &'a mut Vec<u8>,
+    pub(crate) ahead: &'a mut Vec<u8>,
 }
 
 impl<'a, R: Read> SoundReader<'a, R> {
     /// A reader before the first byte of a file, of at most `2^40` reads.
     ///
     /// The inlet counts fewer than `2^63` reads and bytes, `block` is one of [`new_block`], and `ahead` is empty.
-    pub fn new(
+    pub(crate) fn new(
         inlet: &'a mut Inlet<R>,
         block: &'a mut Vec<u8>,
         ahead: &'a mut Vec<u8>,
@@ -70,35 +107,80 @@ impl<'a, R: Read> SoundReader<'a, R> {
         }
     }
 
-    /// One read into the front of the block: how many bytes it gave, none only at the end.
+    /// One read to the places from `filled` up to `size` of the block: how many bytes it gave, none only at the end.
     ///
     /// Refusals: `TurnLimit` where the inlet counts `limit` reads; `ReadFailed`.
-    pub fn pull(&mut self) -> Result<usize, StreamFault>
+    fn pull_behind(&mut self, filled: usize, size: usize) -> Result<usize, StreamFault>
         requires reading { IsReading self.old }
+        requires room { filled < size }
+        requires fits { size ≤ 65536 }
         ensures same { IsSame self.old self.new }
         ensures reading { OnOk result (IsReading self.new) }
         ensures kept { self.new.ahead.now.items ≡ self.old.ahead.now.items }
-        ensures few { IfOk result (λ n. n ≤ 65536) }
-        ensures read { IfOk result (λ n. Reads R.remaining self.old.inlet.now self.new.inlet.now
-            (take n self.new.block.now.items)) }
-        ensures end { IfOk result (λ n. n ≡ 0 → IsAtEnd (R.remaining (inlet_reader self.new.inlet.now))) }
-        ensures turn { IfOk result (λ n. inlet_reads self.new.inlet.now ≡ inlet_reads self.old.inlet.now + 1) }
-        ensures none { IfErr result (λ f. inlet_given self.new.inlet.now ≡ inlet_given self.old.inlet.now) }
+        ensures read { IfOk result (PullsTo R.remaining self.old.inlet.now self.new.inlet.now filled size
+            self.old.block.now.items self.new.block.now.items) }
+        ensures turn { OnOk result (inlet_reads self.new.inlet.now ≡ inlet_reads self.old.inlet.now + 1) }
+        ensures none { OnErr result (inlet_given self.new.inlet.now ≡ inlet_given self.old.inlet.now) }
         ensures counts { Counts self.old self.new result }
         ensures fault { IfErr result IsReadingFault }
     {
         if self.inlet.reads() == self.limit {
             return Err(StreamFault::TurnLimit);
         }
-        match self.inlet.pull(self.block.as_mut_slice()) {
+        match pull_part(self.inlet, self.block, filled, size) {
             Ok(count) => Ok(count),
             Err(_) => Err(StreamFault::ReadFailed),
         }
     }
 
+    /// Makes the next so many bytes the first of the block: those ahead, and then what is read.
+    ///
+    /// Refusals: `FileRefused` where the file ends before; those of [`SoundReader::pull_behind`].
+    pub(crate) fn fill(&mut self, size: usize) -> Result<(), StreamFault>
+        requires reading { IsReading self.old }
+        requires fits { size ≤ 65536 }
+        ensures same { IsSame self.old self.new }
+        ensures reading { OnOk result (IsReading self.new) }
+        ensures ok { OnOk result (Fills R.remaining self.old.inlet.now self.new.inlet.now size
+            self.old.ahead.now.items self.new.ahead.now.items self.new.block.now.items) }
+        ensures pace { IfErr result (λ f. StopsReading f → inlet_given self.new.inlet.now
+            + length self.old.ahead.now.items ≤ inlet_given self.old.inlet.now + size) }
+        ensures counts { Counts self.old self.new result }
+        ensures fault { IfErr result (IsPassFault
+            (R.remaining (inlet_reader self.old.inlet.now)) size self.old.ahead.now.items) }
+    {
+        let mut filled = self.move_ahead(size);
+        while filled < size {
+            let count = self.pull_behind(filled, size)?;
+            if count == 0 {
+                return Err(StreamFault::FileRefused);
+            }
+            filled += count;
+        }
+        Ok(())
+    }
+
+    // Moves the first so many bytes ahead, or as many as there are, to the front of the block: how many.
+    fn move_ahead(&mut self, size: usize) -> usize
+        requires reading { IsReading self.old }
+        requires fits { size ≤ 65536 }
+        ensures same { IsSame self.old self.new }
+        ensures untouched { self.new.inlet.now ≡ self.old.inlet.now }
+        ensures reading { IsReading self.new }
+        ensures number { result ≡ length (take size self.old.ahead.now.items) }
+        ensures moved { take result self.new.block.now.items ≡ take size self.old.ahead.now.items }
+        ensures rest { self.new.ahead.now.items ≡ drop size self.old.ahead.now.items }
+    {
+        let count = size.min(self.ahead.len());
+        let (moved, _) = self.ahead.split_at(count);
+        put_front(self.block, moved);
+        self.drop_ahead(count);
+        count
+    }
+
     /// One read, whose bytes are appended to those ahead: how many it gave, none only at the end.
     ///
-    /// Refusals: as of [`SoundReader::pull`]; `Memory`.
+    /// Refusals: as of [`SoundReader::pull_behind`]; `Memory`.
     pub(crate) fn read_more(&mut self) -> Result<usize, StreamFault>
         requires reading { IsReading self.old }
         ensures same { IsSame self.old self.new }
@@ -112,7 +194,7 @@ impl<'a, R: Read> SoundReader<'a, R> {
         ensures counts { Counts self.old self.new result }
         ensures fault { IfErr result IsReadingFault }
     {
-        let count = self.pull()?;
+        let count = self.pull_behind(0, BLOCK)?;
         let (read, _) = self.block.split_at(count);
         self.ahead.extend_from_slice(read)?;
         Ok(count)
@@ -121,7 +203,7 @@ impl<'a, R: Read> SoundReader<'a, R> {
     /// Reads until there are so many bytes ahead, or the file is at its end.
     ///
     /// Refusals: as of [`SoundReader::read_more`].
-    pub fn read_until(&mut self, wanted: u64) -> Result<(), StreamFault>
+    pub(crate) fn read_until(&mut self, wanted: u64) -> Result<(), StreamFault>
         requires reading { IsReading self.old }
         ensures same { IsSame self.old self.new }
         ensures reading { OnOk result (IsReading self.new) }
@@ -141,7 +223,7 @@ impl<'a, R: Read> SoundReader<'a, R> {
 
     /// Reads to the file's end, and keeps nothing.
     ///
-    /// Refusals: as of [`SoundReader::pull`].
+    /// Refusals: as of [`SoundReader::pull_behind`].
     pub(crate) fn read_to_end(&mut self) -> Result<(), StreamFault>
         requires reading { IsReading self.old }
         ensures same { IsSame self.old self.new }
@@ -151,7 +233,7 @@ impl<'a, R: Read> SoundReader<'a, R> {
         ensures fault { IfErr result IsReadingFault }
     {
         loop {
-            let count = self.pull()?;
+            let count = self.pull_behind(0, BLOCK)?;
             if count == 0 {
                 return Ok(());
             }
@@ -180,7 +262,7 @@ impl<'a, R: Read> SoundReader<'a, R> {
     /// Takes the first so many bytes ahead out.
     ///
     /// Refusal: `Memory`.
-    pub fn take_head(&mut self, alloc: Global, size: usize) -> Result<Vec<u8>, StreamFault>
+    pub(crate) fn take_head(&mut self, alloc: Global, size: usize) -> Result<Vec<u8>, StreamFault>
         requires within { size ≤ length self.old.ahead.now.items }
         ensures same { IsSame self.old self.new }
         ensures untouched { self.new.inlet.now ≡ self.old.inlet.now }
@@ -196,7 +278,7 @@ impl<'a, R: Read> SoundReader<'a, R> {
     }
 
     /// Takes all bytes ahead out.
-    pub fn take_ahead(&mut self, alloc: Global) -> Vec<u8>
+    pub(crate) fn take_ahead(&mut self, alloc: Global) -> Vec<u8>
         ensures same { IsSame self.old self.new }
         ensures untouched { self.new.inlet.now ≡ self.old.inlet.now }
         ensures reading { IsReading self.old → IsReading self.new }
@@ -212,6 +294,7 @@ impl<'a, R: Read> SoundReader<'a, R> {
         ensures same { IsSame self.old self.new }
         ensures untouched { self.new.inlet.now ≡ self.old.inlet.now }
         ensures reading { IsReading self.old → IsReading self.new }
+        ensures block { self.new.block.now.items ≡ self.old.block.now.items }
         ensures rest { self.new.ahead.now.items ≡ drop size self.old.ahead.now.items }
     {
         let left = self.ahead.len() - size;

@@ -1,48 +1,45 @@
 //! What takes a sound while its file is read once.
 
-ghost use Rattle.std.specs.Prelude.{◌≡◌, ◌+◌, ◌%◌, ◌≤◌, ◌⊎◌, ◌++◌, [], ℕ, List, OnOk, length};
+ghost use Rattle.std.specs.Prelude.{◌≡◌, ◌+◌, ◌++◌, [], ℕ, List, IfErr, OnOk, length};
 ghost use Rattle.dsd_bits.specs.Sounds.{sound_size};
 ghost use Rattle.dsd_bits.specs.declared.sound.Sound.{Sound};
+ghost use Rattle.sound_core.specs.Faults.{IsSinkFault};
 ghost use Rattle.sound_core.specs.Sinks.{IsFed};
+ghost use Rattle.sound_core.specs.declared.fault.StreamFault.{StreamFault};
 
+use crate::fault::StreamFault;
+use crate::part::SoundPart;
 use dsd_bits::Sound;
-use std::alloc::{AllocError, Global};
+use std::alloc::Global;
 
 /// What takes a sound while its file is read once, a few groups of blocks after the other.
 pub trait SoundSink {
-    /// The sound that comes.
-    ghost source: { Self → Sound };
+    /// It can begin with a sound.
+    ghost ready: { Self → Type 0 };
 
-    /// How many bits of each channel came.
-    ghost done: { Self → ℕ };
+    /// What the first became, after these bytes of a sound, those of so many bits of each channel.
+    ghost has: { Self → Self → Sound → ℕ → List ℕ → Type 0 };
 
-    /// What it has of the bytes that came.
-    ghost has: { Self → List ℕ → Type 0 };
+    /// What the first became, after it refused a sound that begins with these bytes, for this fault.
+    ghost refused: { Self → Self → Sound → List ℕ → StreamFault → Type 0 };
 
-    /// What else its owner knows of it, which no sound changes.
-    ghost Kept: { Type 0 } = { Unit {0} };
+    /// Begins with a sound, before the first byte of it.
+    fn begin(&mut self, alloc: Global, sound: Sound) -> Result<(), StreamFault>
+        requires ready { ready self.old }
+        requires fed { IsFed sound 0 [] }
+        ensures has { OnOk result (has self.old self.new sound 0 []) }
+        ensures own { IfErr result IsSinkFault }
+        ensures refused { IfErr result (refused self.old self.new sound []) };
 
-    ghost kept: { Self → Self.Kept };
-
-    /// Begins with a sound, before the first byte of it. It is refused only for want of memory.
-    fn begin(&mut self, alloc: Global, sound: Sound) -> Result<(), AllocError>
-        requires { IsFed sound 0 [] }
-        ensures kept { kept self.new ≡ kept self.old }
-        ensures source { OnOk result (source self.new ≡ sound) }
-        ensures done { OnOk result (done self.new ≡ 0) }
-        ensures has { OnOk result (has self.new []) };
-
-    /// Takes the next bytes of the sound, those of so many bits of each channel: whole groups of blocks, or all that
-    /// comes. It is refused only for want of memory.
-    fn take(&mut self, alloc: Global, bytes: &[u8], bits: usize) -> Result<(), AllocError>
-        requires fed { (before : List ℕ) × IsFed (source self.old) (done self.old) before × has self.old before }
-        requires some { 1 ≤ bits }
-        requires within { done self.old + bits ≤ (source self.old).count }
-        requires size { length bytes.now ≡ sound_size (source self.old).interleaving (source self.old).channels bits }
-        requires groups { (bits % 32768 ≡ 0) ⊎ (done self.old + bits ≡ (source self.old).count) }
-        ensures kept { kept self.new ≡ kept self.old }
-        ensures source { source self.new ≡ source self.old }
-        ensures done { OnOk result (done self.new ≡ done self.old + bits) }
-        ensures has { OnOk result ((before : List ℕ) → IsFed (source self.old) (done self.old) before
-            → has self.old before → has self.new (before ++ bytes.now)) };
+    /// Takes the bytes of the next part of the sound.
+    fn take(&mut self, alloc: Global, part: SoundPart, bytes: &[u8]) -> Result<(), StreamFault>
+        requires fed { (first : Self) × (before : List ℕ) × IsFed part.sound part.done before
+            × has first self.old part.sound part.done before }
+        requires size { length bytes.now ≡ sound_size part.sound.interleaving part.sound.channels part.bits }
+        ensures has { OnOk result ((first : Self) (before : List ℕ) → IsFed part.sound part.done before
+            → has first self.old part.sound part.done before
+            → has first self.new part.sound (part.done + part.bits) (before ++ bytes.now)) }
+        ensures own { IfErr result IsSinkFault }
+        ensures refused { IfErr result (λ f. (first : Self) (before : List ℕ) → IsFed part.sound part.done before
+            → has first self.old part.sound part.done before → refused first self.new part.sound (before ++ bytes.now) f) };
 }

@@ -18,13 +18,12 @@ use Rattle.wave_core.proofs.SizeLaws.{length_of_samples}
 use Rattle.player_core.specs.Due.{bytes_heard, channel_bits, channels_heard, due_bytes, frames_due}
 use Rattle.player_core.specs.Frames.{frame, frames_below}
 use Rattle.player_core.specs.Groups.{part_size, place_in}
-use Rattle.player_core.specs.Laws.{total_frames}
 use Rattle.player_core.proofs.SampleLaws.{length-frames}
 use Rattle.stream_core.specs.Pace.{HoldsFrames, StandsIn}
 
 -- ---- the group of a byte, and one more, end in the sound
 module _ (c part wholes count u i : ℕ) (six : c + 1 ≤ 6) (some : 1 ≤ part) (few : part ≤ 4096) (all : u ≤ wholes * ((c + 1) * part)) (bits : 8 * (wholes * part) < count + 8 * part)
-    (stands : (i / 8 / part * (c + 1) + c) * part + i / 8 % part < u - 131072) where
+    (stands : (i / 8 / part * (c + 1) + c) * part + i / 8 % part < u - 65536) where
   group : ℕ
   group = (c + 1) * part
 
@@ -85,24 +84,24 @@ module _ (c part wholes count u i : ℕ) (six : c + 1 ≤ 6) (some : 1 ≤ part)
 one_less : (n : ℕ) → 1 ≤ n → (c : ℕ) × (n ≡ c + 1)
 one_less n some = (n - 1, omega (arith, some))
 
-module _ (s : Sound) (is : IsSound s) (u i : ℕ) (within : u ≤ s.size) (stands : StandsIn s (u - 131072) i) where
+module _ (s : Sound) (is : IsSound s) (u i : ℕ) (within : u ≤ s.size) (stands : StandsIn s (u - 65536) i) where
   -- its bits are heard, and it is one of them
   pub place_heard : i < heard s.count (bytes_heard s u)
   place_heard =
       let one = one_less s.channels is.some_channel in
       by s.interleaving one.0 one.1 (subst (λ n. n ≤ sound_size s.interleaving s.channels s.count) refl (omega (arith, within, is.size))) (stands one.0 (omega (arith, one.1)))
     where
-      by : (o : Interleaving) (c : ℕ) → s.channels ≡ c + 1 → u ≤ sound_size o s.channels s.count → place_in o s.channels c (i / 8) < u - 131072
+      by : (o : Interleaving) (c : ℕ) → s.channels ≡ c + 1 → u ≤ sound_size o s.channels s.count → place_in o s.channels c (i / 8) < u - 65536
           → i < min (8 * min (div_ceil s.count 8) (u / (s.channels * part_size o) * part_size o)) s.count
       by Bytes c number few at =
           let size : s.count / 8 * s.channels ≡ s.count / 8 * ((c + 1) * 1) = rw number (grind arith) in
-          let place : (i / 8 / 1 * (c + 1) + c) * 1 + i / 8 % 1 < u - 131072 = subst (λ n. (i / 8 / 1 * n + c) * 1 + i / 8 % 1 < u - 131072) number at in
+          let place : (i / 8 / 1 * (c + 1) + c) * 1 + i / 8 % 1 < u - 65536 = subst (λ n. (i / 8 / 1 * n + c) * 1 + i / 8 % 1 < u - 65536) number at in
           subst (λ n. i < min (8 * min (div_ceil s.count 8) (u / (n * 1) * 1)) s.count) (sym number)
           (is_heard c 1 (s.count / 8) s.count u i (omega (arith, number, is.six_channels)) (omega arith) (omega arith) (omega (arith, few, size)) (omega arith) place)
       by (Blocks o) c number few at =
           let groups = div_ceil s.count 32768 in
           let size : groups * s.channels * 4096 ≡ groups * ((c + 1) * 4096) = rw number (mul_assoc groups (c + 1) 4096) in
-          let place : (i / 8 / 4096 * (c + 1) + c) * 4096 + i / 8 % 4096 < u - 131072 = subst (λ n. (i / 8 / 4096 * n + c) * 4096 + i / 8 % 4096 < u - 131072) number at in
+          let place : (i / 8 / 4096 * (c + 1) + c) * 4096 + i / 8 % 4096 < u - 65536 = subst (λ n. (i / 8 / 4096 * n + c) * 4096 + i / 8 % 4096 < u - 65536) number at in
           subst (λ n. i < min (8 * min (div_ceil s.count 8) (u / (n * 4096) * 4096)) s.count) (sym number)
           (is_heard c 4096 groups s.count u i (omega (arith, number, is.six_channels)) (omega arith) (omega arith) (omega (arith, few, size)) (omega arith) place)
 
@@ -113,15 +112,12 @@ some_more j n factor some less = elim (cases_lt j (div_ceil n factor)) [
   | inr most ↦ (let all : div_ceil n factor * factor ≤ j * factor = mul-le-mul_right factor most in absurd (omega (arith, all, (div_ceil_times n factor some).0, less)))
 ]
 
-module _ (d : Decimator) (s : Sound) (is : IsSound s) (least : 8 ≤ d.factor) (u j : ℕ) (within : u ≤ s.size) (stands : StandsIn s (u - 131072) (j * d.factor + d.delay)) where
+module _ (d : Decimator) (s : Sound) (is : IsSound s) (least : 8 ≤ d.factor) (u j : ℕ) (within : u ≤ s.size) (stands : StandsIn s (u - 65536) (j * d.factor + d.delay)) where
   place : j * d.factor + d.delay < heard s.count (bytes_heard s u)
   place = place_heard s is u (j * d.factor + d.delay) within stands
 
   pub frame_due : j < frames_due d s u
   frame_due = some_more j (heard s.count (bytes_heard s u) - d.delay) d.factor (omega (arith, least)) (omega (arith, place))
-
-  pub frame_there : j < total_frames d s
-  frame_there = some_more j s.count d.factor (omega (arith, least)) (omega (arith, place))
 
 -- ---- their bytes
 pub length-due : (d : Decimator) (s : Sound) (bytes : List ℕ) → length (due_bytes d s bytes) ≡ frames_due d s (length bytes) * (s.channels * (d.width / 8))

@@ -1,20 +1,17 @@
 -- How far what is written may lag behind what was read.
-use Rattle.std.specs.Prelude.{◌≡◌, ℕ, ◌+◌, ◌-◌, ◌*◌, ◌/◌, ◌<◌, ◌≤◌, min, List, ◌++◌, length, take, Option, IfSome}
+use Rattle.std.specs.Prelude.{◌≡◌, ℕ, ◌+◌, ◌-◌, ◌*◌, ◌/◌, ◌<◌, ◌≤◌, List, [], ◌++◌, length, Option, IfSome, Err}
 use Rattle.std.specs.Io.KnownBytes.{Appends}
 use Rattle.dsd_bits.specs.declared.sound.Sound.{Sound}
 use Rattle.fir_core.specs.Decimator.{Decimator}
-use Rattle.player_core.specs.Due.{due_bytes}
 use Rattle.player_core.specs.Groups.{place_in}
-use Rattle.player_core.specs.PlayerView.{IsFed, filter_of, sound_of}
-use Rattle.player_core.specs.declared.player.Player.{Player}
 use Rattle.wave_core.specs.Sizes.{block_align, header_size}
 use Rattle.sound_core.specs.Files.{TellsSound}
-use Rattle.sound_core.specs.Reads.{GivesBytes}
-use Rattle.stream_core.specs.Playing.{PlaysBy}
-
--- how many bytes of the sound stand among so many first bytes of its file
-abbrev pub sound_given : Sound → ℕ → ℕ
-sound_given s given = min (given - s.start) s.size
+use Rattle.sound_core.specs.Sinks.{sound_given}
+use Rattle.stream_core.specs.Playing.{PlaysBy, Stands, WritesFront}
+use Rattle.device_core.specs.Outlets.{outlet_failures, outlet_writer}
+use Rattle.device_core.specs.declared.outlet.Outlet.{Outlet}
+use Rattle.sound_core.specs.Faults.{IsBeforeWriting, StopsReading, failed_writes}
+use Rattle.sound_core.specs.declared.fault.StreamFault.{StreamFault}
 
 -- bit i of every channel stands in the first n bytes of the sound
 abbrev pub StandsIn : Sound → ℕ → ℕ → Type 0
@@ -36,17 +33,10 @@ KeepsUp left_old d front given held_old held_new = IfSome left_old (λ left. (by
 
 -- ---- stages
 
--- what was read of the next bytes of the sound was played
-pub record PlaysGivenPart (left_old : Option (List ℕ)) (given_old given_new : ℕ) (p : Player) (wanted : ℕ) (held_old held_new : Option (List ℕ)) : Type 0 where
-  pub part : List ℕ
-  pub more : List ℕ
-  pub gives : GivesBytes left_old given_old given_new part
-  pub few : length part ≤ wanted
-  pub written : Appends held_old held_new more
-  pub due : (before : List ℕ) → IsFed p before → due_bytes (filter_of p) (sound_of p) (before ++ part) ≡ due_bytes (filter_of p) (sound_of p) before ++ more
-
--- what was read of the sound, which begins with bytes that were read before, was played
-pub record PlaysGivenSound (left_old : Option (List ℕ)) (given_old given_new : ℕ) (d : Decimator) (s : Sound) (ahead : List ℕ) (held_old held_new : Option (List ℕ)) : Type 0 where
-  pub read : List ℕ
-  pub gives : GivesBytes left_old given_old given_new read
-  pub written : Appends held_old held_new (due_bytes d s (take s.size (ahead ++ read)))
+-- why a file is not played to its end: a fault stands, and of what it plays a front was written, which keeps up with the reading
+pub record PlayFails {W : Type 0} (held : W → Option (List ℕ)) (left : Option (List ℕ)) (d : Decimator) (given : ℕ) (old new : Outlet W) (f : StreamFault) : Type 0 where
+  pub fault : IfSome left (λ file. Stands d file f)
+  pub unwritten : IsBeforeWriting f → outlet_writer new ≡ outlet_writer old
+  pub front : WritesFront left (PlaysBy d) (held (outlet_writer old)) (held (outlet_writer new))
+  pub keeps_up : StopsReading f → KeepsUp left d [] given (held (outlet_writer old)) (held (outlet_writer new))
+  pub failures : outlet_failures new ≡ outlet_failures old + failed_writes {X = Unit {0}} (Err f)

@@ -1,7 +1,6 @@
 -- What is played of a reader's file, and which faults stand.
 use Rattle.std.specs.Prelude.{◌≡◌, ◌≢◌, ℕ, ◌%◌, ◌≤◌, ◌^◌, List, ◌++◌, length, Option, Some, IfSome, ⊤}
 use Rattle.std.specs.Io.KnownBytes.{Appends}
-use Rattle.device_core.specs.Inlets.{inlet_reader}
 use Rattle.device_core.specs.Outlets.{AppendsFront}
 use Rattle.device_core.specs.declared.inlet.Inlet.{Inlet}
 use Rattle.dsd_bits.specs.declared.sound.Sound.{Sound}
@@ -52,20 +51,6 @@ Stands d file ReadFailed = ⊤
 Stands d file WriteFailed = ⊤
 Stands d file TurnLimit = ⊤
 Stands d file Memory = ⊤
-
--- behind bytes that were read before, a file was read to where it closes, and played
-pub record PlaysRead {R : Type 0} (left : R → Option (List ℕ)) (old new : Inlet R) (d : Decimator) (front : List ℕ) (held_old held_new : Option (List ℕ)) (n : ℕ) : Type 0 where
-  pub read : List ℕ
-  pub bytes : List ℕ
-  pub reads : Reads left old new read
-  pub plays : PlaysBy d (front ++ read) bytes
-  pub goes_on : (rest : List ℕ) → left (inlet_reader new) ≡ Some rest → PlaysBy d (front ++ (read ++ rest)) bytes
-  pub size : n ≡ length bytes
-  pub written : Appends held_old held_new bytes
-
--- the same of a file that begins with bytes that were read before
-abbrev pub PlaysBehind : Decimator → List ℕ → List ℕ → List ℕ → Type 0
-PlaysBehind d front left bytes = PlaysBy d (front ++ left) bytes
 
 -- ---- whatever it is that says what a file plays
 

@@ -8,7 +8,8 @@ use Rattle.fir_core.specs.Decimator.{Decimator}
 use Rattle.sound_core.specs.Faults as reading
 use Rattle.sound_core.specs.Files.{HoldsRecording}
 use Rattle.stream_core.specs.Pace as pace
-use Rattle.stream_core.specs.Pace.{WritesFrames, sound_given}
+use Rattle.sound_core.specs.Sinks.{sound_given}
+use Rattle.stream_core.specs.Pace.{WritesFrames}
 use Rattle.stream_core.specs.Playing as streams
 use Rattle.stream_core.specs.Playing.{PlaysBy, PlaysFile, PlaysGiven, WritesFront}
 use Rattle.sound_core.specs.declared.fault.StreamFault.{StreamFault}

@@ -42,7 +42,7 @@ pub fn play(alloc: Global, project: &[u8], file: &[u8]) -> Result<Vec<u8>, Fault
 /// Plays a reader's file to a writer, and returns the number of bytes that were written. They are those that [`play`]
 /// returns for the file, however its bytes are split into reads. Of the sound it holds at most one block of 65,536
 /// bytes and one group of the channels' blocks. What precedes the sound is held whole, and so is what follows it in a
-/// DSDIFF form. The reading may stop at a DSDIFF form's end.
+/// DSDIFF form, or the tag of a DSF file. The reading may stop at a DSDIFF form's end.
 ///
 /// At entry the inlet must have counted fewer than `2^63` reads and bytes.
 ///

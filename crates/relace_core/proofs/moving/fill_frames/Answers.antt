@@ -5,7 +5,7 @@ use Rattle.relace_core.proofs.MovingLaws.{more_frames}
 use Rattle.relace_core.proofs.moving.fill_frames.Goals as goal
 
 pub overflow_mul-from-in-loop-group : goal.overflow_mul-from-in-loop-group
-overflow_mul-from-in-loop-group c = omega (arith, mul-le (4096 * c.loop-group.group) c.args.stretch.channels (2 ^ 33) 6 (omega (arith, c.div_ceil-group-end.ensures, c.loop-group-test.true, c.requires.in_limit)) c.requires.channel_number.1)
+overflow_mul-from-in-loop-group c = omega (arith, mul-le (4096 * c.loop-group.group) c.args.stretch.channels (2 ^ 33) 6 (omega (arith, c.div_ceil-group-end.ensures, c.loop-group-test.true, c.args.stretch.in_limit)) c.args.stretch.channel_number.1)
 
 pub split_at_mut-rest-requires : goal.split_at_mut-rest-requires
 split_at_mut-rest-requires c =

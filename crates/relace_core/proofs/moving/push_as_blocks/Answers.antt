@@ -15,7 +15,7 @@ returns-clause-ok c =
     written_behind c.args.out.now.items _ c.resize.new.self.items front new _ c.len-kept.result (c.len-kept.result + c.blocks_size.result) c.resize.new.self.len
     (c.len-kept.ensures ∙ c.args.out.now.ok.0) (le-add_right _ _) c.in_ok-resize.ensures.items (c.split_at_mut-blocks.ensures.front ∙ ap (take c.len-kept.result) c.as_mut_slice.ensures.value)
     (omega (arith, length-append front new))
-    ∙ ap (λ xs. c.args.out.now.items ++ xs) (c.put_in_order.ensures ∙ blocks_are c.args.order c.args.bytes.now filled s.channels s.count c.requires.channel_number.0 c.requires.whole c.requires.in_limit (λ k. omega (arith, c.type_inv.bytes k)) c.requires.size (omega (arith, c.fill_blocks.auto.blocks, c.split_at_mut-blocks.ensures.back_len, c.as_mut_slice.ensures.len, c.in_ok-resize.ensures.len, c.blocks_size.ensures.value)) c.fill_blocks.ensures)
+    ∙ ap (λ xs. c.args.out.now.items ++ xs) (c.put_in_order.ensures ∙ blocks_are c.args.order c.args.bytes.now filled s.channels s.count c.args.stretch.channel_number.0 c.requires.whole c.args.stretch.in_limit (λ k. omega (arith, c.type_inv.bytes k)) c.requires.size (omega (arith, c.fill_blocks.auto.blocks, c.split_at_mut-blocks.ensures.back_len, c.as_mut_slice.ensures.len, c.in_ok-resize.ensures.len, c.blocks_size.ensures.value)) c.fill_blocks.ensures)
 
 -- ---- what grew is zeros
 zeros : (m place : ℕ) → slice_index (replicate m 0) place ≡ 0

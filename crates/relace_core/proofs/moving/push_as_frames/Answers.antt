@@ -12,4 +12,4 @@ returns-clause-ok c =
     written_behind c.args.out.now.items _ c.resize.new.self.items front new _ c.len-kept.result (c.len-kept.result + s.count / 8 * s.channels) c.resize.new.self.len
     (omega arith) (omega arith) c.in_ok-resize.ensures.items (c.split_at_mut-frames.ensures.front ∙ ap (take c.len-kept.result) c.as_mut_slice.ensures.value)
     (omega (arith, length-append front new))
-    ∙ ap (λ xs. c.args.out.now.items ++ xs) (c.put_in_order.ensures ∙ frames_are c.args.order c.args.bytes.now filled s.channels s.count c.requires.channel_number.0 c.requires.whole c.requires.in_limit (λ k. omega (arith, c.type_inv.bytes k)) (omega (arith, c.fill_frames.auto.frames, c.split_at_mut-frames.ensures.back_len, c.as_mut_slice.ensures.len, c.in_ok-resize.ensures.len)) c.fill_frames.ensures)
+    ∙ ap (λ xs. c.args.out.now.items ++ xs) (c.put_in_order.ensures ∙ frames_are c.args.order c.args.bytes.now filled s.channels s.count c.args.stretch.channel_number.0 c.requires.whole c.args.stretch.in_limit (λ k. omega (arith, c.type_inv.bytes k)) (omega (arith, c.fill_frames.auto.frames, c.split_at_mut-frames.ensures.back_len, c.as_mut_slice.ensures.len, c.in_ok-resize.ensures.len)) c.fill_frames.ensures)

@@ -22,7 +22,7 @@ returns-in-Bytes-Bytes-clause-ok c =
     let from_bytes = c.in-Bytes-Bytes.is-0 in
     let size = c.requires.size ∙ ap (λ o. sound_size o n count) from_bytes in
     let same : relaced c.args.from c.args.to n count bytes ≡ bytes =
-    same_frames bytes n count c.requires.channel_number.0 (c.requires.from_whole from_bytes) size c.requires.in_limit (λ k. omega (arith, c.type_inv.bytes k)) c.args.from c.args.to from_bytes c.in-Bytes-Bytes.is-1 in
+    same_frames bytes n count c.args.stretch.channel_number.0 (c.requires.from_whole from_bytes) size c.args.stretch.in_limit (λ k. omega (arith, c.type_inv.bytes k)) c.args.from c.args.to from_bytes c.in-Bytes-Bytes.is-1 in
     rw same (search rules)
 
 pub returns-in_ok-channels-in-Blocks-Blocks-clause-ok : goal.returns-in_ok-channels-in-Blocks-Blocks-clause-ok

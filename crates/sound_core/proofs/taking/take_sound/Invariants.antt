@@ -6,8 +6,8 @@ use Rattle.sound_core.specs.Sinks.{TakesSome}
 use Rattle.sound_core.proofs.taking.take_sound.Given as goal
 
 abbrev pub invariant-loop-done : goal.invariant-loop-done
-invariant-loop-done g l = TakesSome g.R.Read.remaining g.S.SoundSink.source g.S.SoundSink.done g.S.SoundSink.has g.S.SoundSink.kept l.sound l.initial.reader.inlet.now l.reader.inlet.now l.initial.sink l.sink l.done l.initial.reader.ahead.now.items l.reader.ahead.now.items
-    × IsReading l.reader × IsSame l.initial.reader l.reader × (inlet_failures l.reader.inlet.now ≡ inlet_failures l.initial.reader.inlet.now)
+invariant-loop-done g l = TakesSome g.R.Read.remaining g.S.SoundSink.has l.sound l.fn.reader.inlet.now l.reader.inlet.now l.fn.sink l.sink l.done l.fn.reader.ahead.now.items l.reader.ahead.now.items
+    × IsReading l.reader × IsSame l.fn.reader l.reader × (inlet_failures l.reader.inlet.now ≡ inlet_failures l.fn.reader.inlet.now)
 
 abbrev pub decreases-loop-done : goal.decreases-loop-done
 decreases-loop-done g l = l.sound.count - l.done

@@ -1,7 +1,7 @@
 use Rattle.std.proofs.Common.{◌≡◌, add-zero, refl, sym}
 use Rattle.std.proofs.lemmas.Result.{on_err_weaker, on_ok_weaker}
 use Rattle.player_core.specs.PlayerView.{filter_of}
-use Rattle.stream_core.proofs.FaultLaws.{fault_is}
+use Rattle.sound_core.proofs.FaultLaws.{fault_is}
 use Rattle.stream_core.proofs.PieceLaws.{due_put, nothing_put, part_is_front, part_put}
 use Rattle.stream_core.proofs.pieces.put_due.Goals as goal
 

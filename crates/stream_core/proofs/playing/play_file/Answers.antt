@@ -1,54 +1,63 @@
-use Rattle.std.proofs.Common.{ℕ, Err, ◌-◌, ◌∙◌, arith, refl, subst, sym}
-use Rattle.std.proofs.lemmas.Result.{IfErr-weaker, IfOk-weaker, on_err_weaker}
+use Rattle.std.proofs.Common.{◌∙◌, subst, sym}
 use Rattle.device_core.specs.Inlets.{inlet_given, inlet_reader}
-use Rattle.device_core.specs.Outlets.{outlet_writer}
-use Rattle.stream_core.specs.Pace.{KeepsUp}
-use Rattle.stream_core.proofs.PaceLaws.{keeps_file, keeps_front}
-use Rattle.stream_core.specs.Playing.{PlaysBy}
-use Rattle.stream_core.proofs.PlayLaws.{found_front, found_outside, found_stands, front_outside, none_front, plays_file, plays_given}
-use Rattle.sound_core.proofs.ReaderLaws.{counts_from, same_counts, same_on}
-use Rattle.stream_core.proofs.FaultLaws.{fault_is, front_stands, front_unwritten}
+use Rattle.sound_core.specs.Outlines.{around_of}
+use Rattle.sound_core.proofs.FaultLaws.{fault_is}
+use Rattle.stream_core.proofs.PaceLaws.{Stops, play_fails, same_outlet}
+use Rattle.stream_core.proofs.SinkLaws.{end_requires, end_stops, ended, file_played, given_played, size_is}
+use Rattle.stream_core.proofs.playing.play_file.Given.{Over}
 use Rattle.stream_core.proofs.playing.play_file.Goals as goal
+use Rattle.stream_core.proofs.playing.play_file.Goals.{In_err-finish}
 
-pub play_found-requires : goal.play_found-requires
-play_found-requires g c = record { tells = c.in_ok-sound.ensures.tells; given = c.in_ok-sound.ensures.given; reading = c.in_ok-sound.ensures.reading; outlet_ready = c.requires.outlet_ready }
+pub file_size-size-requires : goal.file_size-size-requires
+file_size-size-requires g c = c.in_ok-outline.ensures.ok.0.is_sound
 
-pub returns-in_err-sound : goal.returns-in_err-sound
-returns-in_err-sound g c =
-    let left = g.R.Read.remaining (inlet_reader c.args.reader.now.inlet.now) in
-    let a = g.W.Write.contents (outlet_writer c.args.outlet.now) in
-    let f = c.in_err-sound.field-0.0 in
-    rw (fault_is c.from_residual.result _ c.from_residual.ensures.1) (record {
-      same = c.read_front.ensures.same;
-      ok = tt;
-      any_reader = tt;
-      fault = front_stands left c.args.taps.now f c.in_err-sound.ensures.fault;
-      cause = front_outside left c.args.taps.now f c.in_err-sound.ensures.fault;
-      unwritten = λ early. refl;
-      front = none_front left (PlaysBy c.args.taps.now) a;
-      keeps_up = λ stops. keeps_front left a a c.args.taps.now _ _ (c.in_err-sound.ensures.stopped stops);
-      counts = same_counts c.args.reader.now c.read_front.new.reader f c.in_err-sound.ensures.counts;
-      write_failed = omega (arith, front_unwritten {X = ℕ} left (Err f) c.in_err-sound.ensures.fault);
-    })
+pub finish-requires : goal.finish-requires
+finish-requires g c = end_requires g.W.Write.contents c.args.sink.now c.read_into.new.sink c.read_into.new.sink (around_of c.in_ok-outline.outline) c.in_ok-outline.ensures.ok.0 g.R.Read.remaining c.args.inlet.now c.read_into.new.inlet c.in_ok-outline.ensures.any_reader
 
-pub returns : goal.returns
-returns g c =
-    let left = g.R.Read.remaining (inlet_reader c.args.reader.now.inlet.now) in
-    let new = g.R.Read.remaining (inlet_reader c.read_front.new.reader.inlet.now) in
-    let a = g.W.Write.contents (outlet_writer c.args.outlet.now) in
-    let b = g.W.Write.contents (outlet_writer c.play_found.new.outlet) in
-    let front = c.read_front.new.reader.ahead.now.items in
-    let read = c.in_ok-sound.ensures.read in
-    record {
-      same = same_on c.args.reader.now c.read_front.new.reader c.play_found.new.reader c.read_front.ensures.same c.play_found.ensures.same;
-      ok = IfOk-weaker c.play_found.result _ _ (plays_file g.R.Read.remaining _ _ _ c.args.taps.now _ _ refl _ _ read) c.play_found.ensures.ok;
-      any_reader = IfOk-weaker c.play_found.result _ _ (plays_given g.R.Read.remaining _ _ _ c.args.taps.now _ _ refl _ _ read) c.play_found.ensures.ok;
-      fault = IfErr-weaker c.play_found.result _ _ (λ f. found_stands left new c.args.taps.now front front f read.consumed refl) c.play_found.ensures.fault;
-      cause = IfErr-weaker c.play_found.result _ _ (λ f. found_outside c.sound_is_played.ensures left new c.args.taps.now front front f read.consumed refl) c.play_found.ensures.fault;
-      unwritten = c.play_found.ensures.unwritten;
-      front = on_err_weaker c.play_found.result (found_front left new a b c.args.taps.now front front read.consumed refl) c.play_found.ensures.front;
-      keeps_up = IfErr-weaker c.play_found.result _ _ (λ f keeps stops. keeps_file left new a b c.args.taps.now front front _ read.consumed refl
-          (subst (λ n. KeepsUp new c.args.taps.now front (inlet_given c.play_found.new.reader.inlet.now - n) a b) (c.read_front.ensures.same.given ∙ sym c.requires.start.given) (keeps stops))) c.play_found.ensures.keeps_up;
-      counts = counts_from c.args.reader.now c.read_front.new.reader c.play_found.new.reader c.play_found.result c.read_front.ensures.same.limit (omega (arith, c.in_ok-sound.ensures.counts.failures)) c.play_found.ensures.counts;
-      write_failed = c.play_found.ensures.write_failed;
-    }
+pub returns-in_err-outline-clause-same : goal.returns-in_err-outline-clause-same
+returns-in_err-outline-clause-same g c = same_outlet g.W.Write.contents (g.R.Read.remaining (inlet_reader c.args.inlet.now)) (inlet_given c.args.inlet.now) (inlet_given c.read_into.new.inlet) c.args.sink.now c.read_into.new.sink c.in_err-outline.field-0.0 c.in_err-outline.ensures.fault
+
+pub returns-in_err-outline-clause-fault : goal.returns-in_err-outline-clause-fault
+returns-in_err-outline-clause-fault g c =
+    rw (fault_is c.from_residual.result _ c.from_residual.ensures.1)
+    (play_fails g.W.Write.contents (g.R.Read.remaining (inlet_reader c.args.inlet.now)) (inlet_given c.args.inlet.now) (inlet_given c.read_into.new.inlet) c.args.sink.now c.read_into.new.sink c.in_err-outline.field-0.0 c.sound_is_played.ensures c.in_err-outline.ensures.fault)
+
+stops : (g : Over) (c : In_err-finish g) → Stops g.W.Write.contents (g.R.Read.remaining (inlet_reader c.args.inlet.now)) (inlet_given c.args.inlet.now) (inlet_given c.read_into.new.inlet) c.args.sink.now c.finish.new.sink c.in_err-finish.field-0.0
+stops g c =
+    end_stops g.W.Write.contents c.args.sink.now c.read_into.new.sink c.finish.new.sink (around_of c.in_ok-outline.outline) c.in_ok-outline.ensures.ok.0 g.R.Read.remaining c.args.inlet.now c.read_into.new.inlet (inlet_given c.args.inlet.now) (inlet_given c.read_into.new.inlet)
+    c.in_err-finish.field-0.0 c.in_err-finish.ensures.fault c.in_ok-outline.ensures.any_reader c.in_err-finish.ensures.refused
+
+pub returns-in_err-finish-clause-same : goal.returns-in_err-finish-clause-same
+returns-in_err-finish-clause-same g c =
+    let at = (goal.at.returns-in_err-finish-clause-same g c).In_err-finish in
+    same_outlet g.W.Write.contents (g.R.Read.remaining (inlet_reader c.args.inlet.now)) (inlet_given c.args.inlet.now) (inlet_given c.read_into.new.inlet) c.args.sink.now c.finish.new.sink c.in_err-finish.field-0.0 (stops g at)
+
+pub returns-in_err-finish-clause-fault : goal.returns-in_err-finish-clause-fault
+returns-in_err-finish-clause-fault g c =
+    let at = (goal.at.returns-in_err-finish-clause-fault g c).In_err-finish in
+    rw (fault_is c.from_residual-in_err-finish.result _ c.from_residual-in_err-finish.ensures.1)
+    (play_fails g.W.Write.contents (g.R.Read.remaining (inlet_reader c.args.inlet.now)) (inlet_given c.args.inlet.now) (inlet_given c.read_into.new.inlet) c.args.sink.now c.finish.new.sink c.in_err-finish.field-0.0 c.sound_is_played.ensures (stops g at))
+
+pub returns-clause-same : goal.returns-clause-same
+returns-clause-same g c = (ended g.W.Write.contents c.args.sink.now c.read_into.new.sink c.finish.new.sink (around_of c.in_ok-outline.outline) c.in_ok-outline.ensures.ok.0 g.R.Read.remaining c.args.inlet.now c.read_into.new.inlet c.in_ok-outline.ensures.any_reader c.in_ok-finish.ensures.ok).0
+
+pub returns-clause-failures : goal.returns-clause-failures
+returns-clause-failures g c = (ended g.W.Write.contents c.args.sink.now c.read_into.new.sink c.finish.new.sink (around_of c.in_ok-outline.outline) c.in_ok-outline.ensures.ok.0 g.R.Read.remaining c.args.inlet.now c.read_into.new.inlet c.in_ok-outline.ensures.any_reader c.in_ok-finish.ensures.ok).1
+
+pub returns-clause-ok : goal.returns-clause-ok
+returns-clause-ok g c =
+    let o = around_of c.in_ok-outline.outline in
+    let told = c.in_ok-outline.ensures.ok.0 in
+    let given = c.in_ok-outline.ensures.any_reader in
+    file_played g.W.Write.contents c.args.sink.now c.read_into.new.sink c.finish.new.sink o told c.sound_is_played.ensures c.in_ok-finish.ensures.ok c.file_size-size.result
+    (size_is g.W.Write.contents c.args.sink.now c.read_into.new.sink c.finish.new.sink o told g.R.Read.remaining c.args.inlet.now c.read_into.new.inlet given c.file_size-size.result c.file_size-size.ensures)
+    (g.R.Read.remaining (inlet_reader c.args.inlet.now)) c.in_ok-outline.ensures.ok
+
+pub returns-clause-any_reader : goal.returns-clause-any_reader
+returns-clause-any_reader g c =
+    let o = around_of c.in_ok-outline.outline in
+    let told = c.in_ok-outline.ensures.ok.0 in
+    let given = c.in_ok-outline.ensures.any_reader in
+    given_played g.W.Write.contents c.args.sink.now c.read_into.new.sink c.finish.new.sink o told c.sound_is_played.ensures c.in_ok-finish.ensures.ok c.file_size-size.result
+    (size_is g.W.Write.contents c.args.sink.now c.read_into.new.sink c.finish.new.sink o told g.R.Read.remaining c.args.inlet.now c.read_into.new.inlet given c.file_size-size.result c.file_size-size.ensures)
+    g.R.Read.remaining c.args.inlet.now c.read_into.new.inlet given

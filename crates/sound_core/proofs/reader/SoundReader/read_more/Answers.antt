@@ -1,18 +1,18 @@
-use Rattle.std.proofs.Common.{◌++◌, ◌∙◌, ap, ap₂, arith, length, length-take, refl, take}
+use Rattle.std.proofs.Common.{◌≡◌, ◌+◌, ◌++◌, ◌∙◌, ap, ap₂, arith, length, refl, take}
 use Rattle.sound_core.proofs.FaultLaws.{fault_is}
 use Rattle.sound_core.proofs.ReaderLaws.{counts_memory}
 use Rattle.sound_core.proofs.reader.SoundReader.read_more.Goals as goal
 
-pub pull-requires : goal.pull-requires
-pull-requires g c = record { reading = c.requires.reading }
+pub pull_behind-requires : goal.pull_behind-requires
+pull_behind-requires g c = record { reading = c.requires.reading; room = omega arith; fits = omega arith }
 
 pub split_at-requires : goal.split_at-requires
-split_at-requires g c = omega (arith, c.in_ok-count.ensures.few, c.in_ok-count.ensures.reading.size, ap length c.deref.ensures.value)
+split_at-requires g c = omega (arith, c.in_ok-count.ensures.read.few, c.in_ok-count.ensures.reading.size, ap length c.deref.ensures.value)
 
 pub returns-in_err-count : goal.returns-in_err-count
 returns-in_err-count g c =
     rw (fault_is c.from_residual.result _ c.from_residual.ensures.1) (record {
-      same = c.pull.ensures.same;
+      same = c.pull_behind.ensures.same;
       reading = tt;
       read = tt;
       end = tt;
@@ -24,7 +24,7 @@ returns-in_err-count g c =
 
 pub returns-in_err-extend_from_slice : goal.returns-in_err-extend_from_slice
 returns-in_err-extend_from_slice g c =
-    let same = c.pull.ensures.same in
+    let same = c.pull_behind.ensures.same in
     rw (fault_is c.from_residual-in_err-extend_from_slice.result _ c.from_residual-in_err-extend_from_slice.ensures.1) (record {
       same = record { reference = same.reference; given = same.given; limit = same.limit };
       reading = tt;
@@ -32,26 +32,27 @@ returns-in_err-extend_from_slice g c =
       end = tt;
       turn = tt;
       none = λ stops. absurd stops;
-      counts = counts_memory c.args.self.now c.pull.new.self _ _ refl c.in_ok-count.ensures.counts;
+      counts = counts_memory c.args.self.now c.pull_behind.new.self _ _ refl c.in_ok-count.ensures.counts;
       fault = tt;
     })
 
 pub returns : goal.returns
 returns g c =
-    let same = c.pull.ensures.same in
+    let same = c.pull_behind.ensures.same in
     let still = c.in_ok-count.ensures.reading in
     let all = c.in_ok-count.ensures.counts in
-    let read = take c.in_ok-count.count c.pull.new.self.block.now.items in
+    let pulls = c.in_ok-count.ensures.read in
+    let own : c.in_ok-count.count ≡ 0 + c.in_ok-count.count = omega arith in
     record {
       same = record { reference = same.reference; given = same.given; limit = same.limit };
       reading = record { ready = still.ready; budget = still.budget; size = still.size };
       read = (
-        read,
-        c.in_ok-count.ensures.read,
-        omega (arith, length-take c.in_ok-count.count c.pull.new.self.block.now.items, c.in_ok-count.ensures.few, c.in_ok-count.ensures.reading.size),
-        c.in_ok-extend_from_slice.ensures.items ∙ ap₂ (λ xs ys. xs ++ ys) c.pull.ensures.kept (c.split_at.ensures.front ∙ ap (take c.in_ok-count.count) c.deref.ensures.value),
+        pulls.read,
+        pulls.reads,
+        pulls.number,
+        c.in_ok-extend_from_slice.ensures.items ∙ ap₂ (λ xs ys. xs ++ ys) c.pull_behind.ensures.kept (c.split_at.ensures.front ∙ ap (take c.in_ok-count.count) c.deref.ensures.value ∙ ap (λ n. take n c.pull_behind.new.self.block.now.items) own ∙ pulls.front),
       );
-      end = c.in_ok-count.ensures.end;
+      end = pulls.end;
       turn = c.in_ok-count.ensures.turn;
       none = tt;
       counts = record { failures = all.failures; turns = all.turns; most = all.most };

@@ -40,7 +40,7 @@ struct Choice {
 }
 
 /// The bits of least cost for each bridge of a cut, of several such the first. Err is want of memory.
-pub fn choose_bridges(alloc: Global, cut: &Cut) -> Result<ChosenBridges, AllocError>
+pub(crate) fn choose_bridges(alloc: Global, cut: &Cut) -> Result<ChosenBridges, AllocError>
     ensures bridges { IfOk result (AreBridgesOf cut.now) }
     ensures total { IfOk result (λ made. made.total ≡ specs.chosen_cost made.chosen.items) }
 {

@@ -1,5 +1,6 @@
 -- The sizes that a WAVE file names, in bytes.
 use Rattle.std.specs.Prelude.{ℕ, ◌+◌, ◌-◌, ◌*◌, ◌/◌, ◌%◌, ◌^◌, ◌<◌, Bool, ◌==◌, ◌||◌, nat_lt, if◌then◌else◌}
+use Rattle.wave_core.specs.Contents.{WaveSpec}
 
 -- the format chunk has its second form, WAVE_FORMAT_EXTENSIBLE: for samples of 24 bits, or more than two channels
 abbrev pub is_extensible : ℕ → ℕ → Bool
@@ -28,6 +29,10 @@ pad_size channels width frames = data_size channels width frames % 2
 -- the size of the RIFF chunk: all of the file but the 8 bytes of its own head
 abbrev pub riff_size : ℕ → ℕ → ℕ → ℕ
 riff_size channels width frames = header_size channels width - 8 + data_size channels width frames + pad_size channels width frames
+
+-- that of a file that tells so much
+abbrev pub riff_size_of : WaveSpec → ℕ → ℕ
+riff_size_of s frames = riff_size s.channels s.width frames
 
 -- the bytes of the whole file
 abbrev pub file_size : ℕ → ℕ → ℕ → ℕ

@@ -3,7 +3,7 @@ use Rattle.std.specs.Prelude.{ℕ, suc, ◌-◌, ◌*◌, ◌/◌, ◌^◌, ℤ,
 use Rattle.std.specs.List.{flat_map}
 use Rattle.chunk_core.specs.declared.numbers.Order.TheVariants.{Little}
 use Rattle.chunk_core.specs.Numbers.{bytes_of}
-use Rattle.wave_core.specs.Contents.{Pcm}
+use Rattle.wave_core.specs.Contents.{Pcm, WaveSpec}
 use Rattle.wave_core.specs.Sizes.{block_align, data_size, format_size, is_extensible, pad_size, riff_size}
 
 -- the head of the RIFF chunk, and its type
@@ -38,6 +38,18 @@ data_head size = codes "data" ++ bytes_of Little 4 size
 unfoldable pub header : ℕ → ℕ → ℕ → ℕ → List ℕ
 header channels rate width frames =
     riff_head (riff_size channels width frames) ++ (format_chunk channels rate width ++ data_head (data_size channels width frames))
+
+-- the format chunk of a file that tells so much
+abbrev pub format_of : WaveSpec → List ℕ
+format_of s = format_chunk s.channels s.rate s.width
+
+-- all that stands before its samples, by the two sizes that are named there
+abbrev pub head_of : WaveSpec → ℕ → ℕ → List ℕ
+head_of s riff_bytes sound_bytes = riff_head riff_bytes ++ (format_of s ++ data_head sound_bytes)
+
+-- the same of so many frames
+abbrev pub header_of : WaveSpec → ℕ → List ℕ
+header_of s frames = header s.channels s.rate s.width frames
 
 -- the number that stands for a value in two's complement of so many bits (negsuc n is -1 - n)
 abbrev pub twos_complement : ℕ → ℤ → ℕ

@@ -2,8 +2,8 @@
 
 ghost use Rattle.std.specs.Prelude.{◌≡◌, ◌≤◌, ◌^◌, ◌++◌, ◌↔◌, IfSome, IfNone, OnOk, OnErr};
 ghost use Rattle.wave_core.specs.Contents.{IsWaveSpec, spec_of};
-ghost use Rattle.wave_core.specs.Sizes.{FitsRiff, data_size, riff_size};
-ghost use Rattle.wave_core.specs.Texts.{data_head, extension, format_chunk, header, riff_head};
+ghost use Rattle.wave_core.specs.Sizes.{FitsRiff, data_size, riff_size, riff_size_of};
+ghost use Rattle.wave_core.specs.Texts.{data_head, extension, format_of, head_of, header, header_of, riff_head};
 
 use crate::fault::WaveFault;
 use crate::spec::WaveSpec;
@@ -59,11 +59,9 @@ impl WaveSpec {
     /// Appends the bytes before the samples of so many frames. Refusals as of [`push_header`].
     #[tactic(auto, unfolding(crate::specs::Texts::header))]
     pub fn push_header(&self, out: &mut Vec<u8>, frames: u64) -> Result<(), WaveFault>
-        ensures ok { OnOk result (out.new.items
-            ≡ out.old.items ++ header self.now.channels self.now.rate self.now.width frames) }
+        ensures ok { OnOk result (out.new.items ≡ out.old.items ++ header_of self.now frames) }
         ensures fits { OnOk result (FitsRiff self.now.channels self.now.width frames) }
-        ensures too_large { (result ≡ Err WaveFault.TooLarge)
-            ↔ (2 ^ 32 ≤ riff_size self.now.channels self.now.width frames) }
+        ensures too_large { (result ≡ Err WaveFault.TooLarge) ↔ (2 ^ 32 ≤ riff_size_of self.now frames) }
         ensures unchanged { OnErr result (out.new.items ≡ out.old.items) }
     {
         let Some(sizes) = sizes_of(self, frames) else {
@@ -103,9 +101,7 @@ pub(crate) fn push_fields(
     spec: &WaveSpec,
     sizes: &Sizes,
 ) -> Result<(), AllocError>
-    ensures { OnOk result (out.new.items ≡ out.old.items
-        ++ (riff_head sizes.now.riff_size
-        ++ (format_chunk spec.now.channels spec.now.rate spec.now.width ++ data_head sizes.now.data_size))) }
+    ensures { OnOk result (out.new.items ≡ out.old.items ++ head_of spec.now sizes.now.riff_size sizes.now.data_size) }
 {
     push_riff_head(out, sizes.riff_size)?;
     push_format(out, spec)?;
@@ -125,8 +121,7 @@ fn push_riff_head(out: &mut Vec<u8>, riff_size: u32) -> Result<(), AllocError>
 
 // Appends the format chunk.
 fn push_format(out: &mut Vec<u8>, spec: &WaveSpec) -> Result<(), AllocError>
-    ensures { OnOk result (out.new.items
-        ≡ out.old.items ++ format_chunk spec.now.channels spec.now.rate spec.now.width) }
+    ensures { OnOk result (out.new.items ≡ out.old.items ++ format_of spec.now) }
 {
     let block_align = spec.block_align();
     out.extend_from_slice(b"fmt ")?;

@@ -1,9 +1,9 @@
 //! The samples and what follows them.
 
 ghost use Rattle.std.specs.Prelude.{◌≡◌, ◌≢◌, ℕ, ◌+◌, ◌*◌, ◌/◌, ◌≤◌, ◌<◌, ◌++◌, pos, All, OnOk, OnErr, length, slice_index, slice_index_or};
-ghost use Rattle.std.specs.List.{flat_map};
 ghost use Rattle.wave_core.specs.Contents.{IsSample, IsWidth};
-ghost use Rattle.wave_core.specs.Frames.{frames_of};
+ghost use Rattle.wave_core.specs.Frames.{frame_bytes};
+ghost use Rattle.wave_core.specs.Places.{HasSample, HasSamples, SameButAt, SameButOf};
 ghost use Rattle.wave_core.specs.Sizes.{pad_size};
 ghost use Rattle.wave_core.specs.Texts.{pad_bytes, sample_bytes};
 
@@ -36,8 +36,7 @@ pub fn push_frames(
     requires width { IsWidth width }
     requires values { All (IsSample width) samples.now }
     requires frames { 1 ≤ frames }
-    ensures ok { OnOk result (out.new.items
-        ≡ out.old.items ++ flat_map (sample_bytes width) (frames_of samples.now frames)) }
+    ensures ok { OnOk result (out.new.items ≡ out.old.items ++ frame_bytes width samples.now frames) }
     ensures unchanged { OnErr result (out.new.items ≡ out.old.items) }
 {
     let before = out.len();
@@ -60,7 +59,7 @@ fn fill_frames(to: &mut [u8], width: u32, samples: &[i32], frames: usize)
     requires values { All (IsSample width) samples.now }
     requires frames { 1 ≤ frames }
     requires size { length to.old ≡ frames * (length samples.now / frames) * (width / 8) }
-    ensures { to.new ≡ flat_map (sample_bytes width) (frames_of samples.now frames) }
+    ensures { to.new ≡ frame_bytes width samples.now frames }
 {
     let channels = samples.len() / frames;
     if channels == 2 {
@@ -89,12 +88,8 @@ fn fill_pairs(to: &mut [u8], width: u32, left: &[i32], right: &[i32])
     requires as_many { length left.now ≤ length right.now }
     requires enough { length left.now * 2 * (width / 8) ≤ length to.old }
     ensures size { length to.new ≡ length to.old }
-    ensures left { (i k : ℕ) → i < length left.now → k < width / 8 →
-        slice_index to.new (i * 2 * (width / 8) + k)
-        ≡ slice_index (sample_bytes width (slice_index_or left.now i (pos 0))) k }
-    ensures right { (i k : ℕ) → i < length left.now → k < width / 8 →
-        slice_index to.new ((i * 2 + 1) * (width / 8) + k)
-        ≡ slice_index (sample_bytes width (slice_index_or right.now i (pos 0))) k }
+    ensures left { HasSamples width (λ i. i * 2) (length left.now) left.now to.new }
+    ensures right { HasSamples width (λ i. i * 2 + 1) (length left.now) right.now to.new }
 {
     for i in 0..left.len() {
         put_sample(to, width, i * 2, left[i]);
@@ -109,12 +104,8 @@ fn spread(to: &mut [u8], width: u32, samples: &[i32], channels: usize, c: usize)
     requires values { All (IsSample width) samples.now }
     requires channel { c < channels }
     requires enough { length samples.now * channels * (width / 8) ≤ length to.old }
-    ensures own { (i k : ℕ) → i < length samples.now → k < width / 8 →
-        slice_index to.new ((i * channels + c) * (width / 8) + k)
-        ≡ slice_index (sample_bytes width (slice_index_or samples.now i (pos 0))) k }
-    ensures others { (i d k : ℕ) → d < channels → d ≢ c → k < width / 8 →
-        slice_index to.new ((i * channels + d) * (width / 8) + k)
-        ≡ slice_index to.old ((i * channels + d) * (width / 8) + k) }
+    ensures own { HasSamples width (λ i. i * channels + c) (length samples.now) samples.now to.new }
+    ensures others { SameButOf width channels c to.old to.new }
 {
     for i in 0..samples.len() {
         put_sample(to, width, i * channels + c, samples[i]);
@@ -127,10 +118,8 @@ fn put_sample(to: &mut [u8], width: u32, place: usize, value: i32)
     requires width { IsWidth width }
     requires value { IsSample width value }
     requires inside { place * (width / 8) + width / 8 ≤ length to.old }
-    ensures own { (k : ℕ) → k < width / 8 → slice_index to.new (place * (width / 8) + k)
-        ≡ slice_index (sample_bytes width value) k }
-    ensures others { (p k : ℕ) → p ≢ place → k < width / 8
-        → slice_index to.new (p * (width / 8) + k) ≡ slice_index to.old (p * (width / 8) + k) }
+    ensures own { HasSample width place value to.new }
+    ensures others { SameButAt width place to.old to.new }
 {
     let [low, middle, high, _] = value.to_le_bytes();
     if width == 16 {

@@ -261,7 +261,7 @@ fn count_told(alloc: Global, file: &[u8]) -> Result<usize, Fault> {
     let files: [(&str, &[u8]); 1] = [("in", file)];
     let mut shelf = shelf_of(&files);
     match open_file(alloc, &mut shelf, "in", 0) {
-        Ok(told) => Ok(told.count),
+        Ok(told) => Ok(told.description.count()),
         Err(fault) => Err(fault_of(Outcome::from(fault))),
     }
 }

@@ -36,11 +36,7 @@ pub fn info_lines(
 }
 
 // The lines before that of the IDs.
-fn first_lines(
-    alloc: Global,
-    form: Form,
-    description: &Description,
-) -> Result<String, AllocError>
+fn first_lines(alloc: Global, form: Form, description: &Description) -> Result<String, AllocError>
     ensures { IfOk result (λ text. string_bytes text ≡ infos.first_lines form description.now) }
 {
     let form = name_of(form);

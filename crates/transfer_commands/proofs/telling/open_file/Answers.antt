@@ -1,4 +1,6 @@
 use Rattle.std.proofs.Common.{◌∙◌, subst, sym}
+use Rattle.std.specs.Prelude.{IfSome}
+use Rattle.sound_core.specs.Outlines.{AreTold, around_of}
 use Rattle.folder_core.specs.Files.{IsReadOf, View}
 use Rattle.folder_core.specs.ShortFiles.{IsShortOf}
 use Rattle.transfer_commands.specs.Outlining.{OutlinesFile}
@@ -26,3 +28,6 @@ returns g c =
     let same = c.outline_file.ensures.same ∙ c.read_short.ensures.same in
     let read = subst (λ (v : View). IsReadOf v c.args.file.now c.in_ok-bytes-2.bytes.items) same c.in_ok-bytes-2.ensures.bytes in
     whole_told c.args.file.now old (view c.read_file.new.folder) c.deref-2.result.now c.told_of-2.result c.told_of-2.ensures.told c.told_of-2.ensures.fault (c.read_file.ensures.same ∙ same) (subst (IsReadOf old c.args.file.now) (sym c.deref-2.ensures.value) read)
+
+pub told_by-requires : goal.told_by-requires
+told_by-requires g c = (subst (λ o. IfSome o (λ outline. AreTold (around_of outline))) c.in-Some-2.is c.in_ok-outline.ensures.around).is_sound.in_limit

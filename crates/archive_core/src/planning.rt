@@ -1,11 +1,10 @@
 //! Masters that are planned: all is chosen and all memory is held, before a byte is written.
 
 ghost use Rattle.std.specs.Prelude.{◌≡◌, ◌+◌, ◌-◌, ◌<◌, ◌^◌, IfErr, IfOk, List, MatchResult, OnErr, OnOk, Some, ℕ};
-ghost use Rattle.std.specs.Io.KnownBytes.{Appends};
 ghost use Rattle.judge_core.specs.Cutting.{SaysCut};
 ghost use Rattle.archive_core.specs.Editing.{Edits};
 ghost use Rattle.archive_core.specs.Planning.{AnswersPlanned, IsFileOf, IsPlanned, Plans};
-ghost use Rattle.device_core.specs.Outlets.{AppendsPart, outlet_failures, outlet_writer};
+ghost use Rattle.device_core.specs.Outlets.{Puts, PutsPart, outlet_failures, outlet_writer};
 ghost use Rattle.master_core.specs.Certifying.{AppendsCert, AppendsCertFront};
 
 use cut_core::Cut;
@@ -82,11 +81,9 @@ impl PlannedMaster {
         ensures planned { IsPlanned self.new }
         ensures same { IsSamePlan self.old self.new }
         ensures ok { (file : List ℕ) → IsFileOf self.old file
-            → OnOk result (Appends (W.contents (outlet_writer outlet.old))
-            (W.contents (outlet_writer outlet.new)) file) }
+            → OnOk result (Puts W.contents outlet.old outlet.new file) }
         ensures err { (file : List ℕ) → IsFileOf self.old file
-            → OnErr result (AppendsPart (W.contents (outlet_writer outlet.old))
-            (W.contents (outlet_writer outlet.new)) file) }
+            → OnErr result (PutsPart W.contents outlet.old outlet.new file) }
         ensures failures { MatchResult result
             (λ _. outlet_failures outlet.new ≡ outlet_failures outlet.old)
             (λ _. outlet_failures outlet.new ≡ outlet_failures outlet.old + 1) }

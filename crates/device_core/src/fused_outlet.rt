@@ -1,8 +1,7 @@
 //! An outlet that writes nothing more after its first failure.
 
 ghost use Rattle.std.specs.Prelude.{◌≡◌, ◌+◌, ◌-◌, ◌<◌, ◌^◌, true, false, not, is_ok, ◌↔◌, IsErrOf, OnOk};
-ghost use Rattle.std.specs.Io.KnownBytes.{Appends};
-ghost use Rattle.device_core.specs.Outlets.{outlet_writer, outlet_failures, AppendsPart};
+ghost use Rattle.device_core.specs.Outlets.{Puts, PutsPart, outlet_failures};
 
 use crate::outlet::Outlet;
 use std::fmt;
@@ -52,11 +51,9 @@ impl<W: Write> FusedOutlet<W> {
     /// Refusals: `Device` at the first write that answers an error or takes nothing, and a front of the bytes
     /// went out, not all of them; `Failed` after a `Device`, and nothing is written.
     pub fn put_all(&mut self, bytes: &[u8]) -> Result<(), FusedFault>
-        ensures ok { OnOk result (Appends (W.contents (outlet_writer (fused_outlet self.old)))
-            (W.contents (outlet_writer (fused_outlet self.new))) bytes.now) }
+        ensures ok { OnOk result (Puts W.contents (fused_outlet self.old) (fused_outlet self.new) bytes.now) }
         ensures device { IsErrOf result FusedFault.Device
-            → AppendsPart (W.contents (outlet_writer (fused_outlet self.old)))
-            (W.contents (outlet_writer (fused_outlet self.new))) bytes.now }
+            → PutsPart W.contents (fused_outlet self.old) (fused_outlet self.new) bytes.now }
         ensures failed { IsErrOf result FusedFault.Failed ↔ (fused_failed self.old ≡ true) }
         ensures unchanged { IsErrOf result FusedFault.Failed → self.new ≡ self.old }
         ensures failures { outlet_failures (fused_outlet self.new)

@@ -1,7 +1,7 @@
 //! A reader whose failures, reads and bytes are counted.
 
 ghost use Rattle.std.specs.Prelude.{◌≡◌, ◌+◌, ◌-◌, ◌<◌, ◌≤◌, ◌^◌, min, length, take, MatchResult, IfOk, OnErr};
-ghost use Rattle.std.specs.Io.KnownBytes.{Consumes, IsAtEnd, ReadConsumes};
+ghost use Rattle.std.specs.Io.KnownBytes.{IsAtEnd, ReadConsumes};
 ghost use Rattle.std.specs.Io.Iter.{u64_saturate};
 
 use crate::device::Device;
@@ -18,7 +18,7 @@ pub struct Inlet<R> {
 }
 
 impl<R: Read> Inlet<R> {
-    ghost use Rattle.device_core.specs.Inlets.{inlet_reader, inlet_failures, inlet_reads, inlet_given, CountsReads, FailsFilling, PullsBehind};
+    ghost use Rattle.device_core.specs.Inlets.{CountsReads, FailsFilling, Gives, PullsBehind, inlet_failures, inlet_given, inlet_reader, inlet_reads};
 
     /// An inlet over this reader, whose counts are 0.
     pub fn new(reader: R) -> Inlet<R>
@@ -76,8 +76,7 @@ impl<R: Read> Inlet<R> {
     pub fn fill(&mut self, buffer: &mut [u8]) -> Result<usize, Device>
         requires { inlet_failures self.old < 2 ^ 64 - 1 }
         ensures bytes { IfOk result (λ n. (n ≤ length buffer.new)
-            × Consumes (R.remaining (inlet_reader self.old))
-            (R.remaining (inlet_reader self.new)) (take n buffer.new)) }
+            × Gives R.remaining self.old self.new (take n buffer.new)) }
         ensures end { IfOk result (λ n. n < length buffer.new → IsAtEnd (R.remaining (inlet_reader self.new))) }
         ensures failures { MatchResult result
             (λ _. inlet_failures self.new ≡ inlet_failures self.old)

@@ -1,7 +1,6 @@
 //! A writer whose failures are counted.
 
 ghost use Rattle.std.specs.Prelude.{◌≡◌, ◌+◌, ◌-◌, ◌<◌, ◌^◌, MatchResult, OnOk, OnErr};
-ghost use Rattle.std.specs.Io.KnownBytes.{Appends};
 
 use crate::device::Device;
 use std::io::Write;
@@ -15,7 +14,7 @@ pub struct Outlet<W> {
 }
 
 impl<W: Write> Outlet<W> {
-    ghost use Rattle.device_core.specs.Outlets.{outlet_writer, outlet_failures, AppendsPart};
+    ghost use Rattle.device_core.specs.Outlets.{Puts, PutsPart, outlet_failures, outlet_writer};
 
     /// An outlet over this writer, without failures.
     pub fn new(writer: W) -> Outlet<W>
@@ -34,10 +33,8 @@ impl<W: Write> Outlet<W> {
     /// Refusal: `Device` at the first write that answers an error, whichever it is, or takes nothing.
     pub fn put_all(&mut self, bytes: &[u8]) -> Result<(), Device>
         requires { outlet_failures self.old < 2 ^ 64 - 1 }
-        ensures ok { OnOk result (Appends (W.contents (outlet_writer self.old))
-            (W.contents (outlet_writer self.new)) bytes.now) }
-        ensures err { OnErr result (AppendsPart (W.contents (outlet_writer self.old))
-            (W.contents (outlet_writer self.new)) bytes.now) }
+        ensures ok { OnOk result (Puts W.contents self.old self.new bytes.now) }
+        ensures err { OnErr result (PutsPart W.contents self.old self.new bytes.now) }
         ensures failures { MatchResult result
             (λ _. outlet_failures self.new ≡ outlet_failures self.old)
             (λ _. outlet_failures self.new ≡ outlet_failures self.old + 1) }

@@ -1,10 +1,9 @@
 //! The certificate of chosen bridges, written entry by entry to an outlet in room that was made before.
 
 ghost use Rattle.std.specs.Prelude.{◌≡◌, ◌+◌, ◌-◌, ◌<◌, ◌≤◌, ◌^◌, IfOk, MatchResult, OnErr, OnOk, is_ok, length, not};
-ghost use Rattle.std.specs.Io.KnownBytes.{Appends};
 ghost use Rattle.cert_core.specs.Writers.{cert_outlet, entries_left, failures_before, has_failed};
 ghost use Rattle.cut_core.specs.Cuts.{CutContent};
-ghost use Rattle.device_core.specs.Outlets.{AppendsFront, outlet_failures, outlet_writer};
+ghost use Rattle.device_core.specs.Outlets.{Puts, PutsFront, outlet_failures, outlet_writer};
 ghost use Rattle.master_core.specs.Certificates.{CertificatesShow, entry_text};
 ghost use Rattle.master_core.specs.Certifying.{AppendsCert, AppendsCertFront, AppendsEntries, AppendsSomeEntries, IsFresh, IsReady, IsRoomOf};
 ghost use Rattle.master_core.specs.Choosing.{AreBridgesOf, IsChosen, chosen_claims};
@@ -135,11 +134,9 @@ fn write_entry<W: Write>(
     requires room { HasBuffers (2 ^ (length window.now.weights - 1)) pass.old }
     requires ready { IsReady (length window.now.weights) writer.old }
     requires entries { 0 < entries_left writer.old }
-    ensures ok { OnOk result (Appends (W.contents (outlet_writer (cert_outlet writer.old)))
-        (W.contents (outlet_writer (cert_outlet writer.new)))
+    ensures ok { OnOk result (Puts W.contents (cert_outlet writer.old) (cert_outlet writer.new)
         (entry_text (record { cue = place.cue; channel = place.channel; bridging = window.now; bits = chosen.now.bits }))) }
-    ensures err { OnErr result (AppendsFront (W.contents (outlet_writer (cert_outlet writer.old)))
-        (W.contents (outlet_writer (cert_outlet writer.new)))
+    ensures err { OnErr result (PutsFront W.contents (cert_outlet writer.old) (cert_outlet writer.new)
         (entry_text (record { cue = place.cue; channel = place.channel; bridging = window.now; bits = chosen.now.bits }))) }
     ensures ready { OnOk result (IsReady (length window.now.weights) writer.new) }
     ensures left { OnOk result (entries_left writer.new + 1 ≡ entries_left writer.old) }

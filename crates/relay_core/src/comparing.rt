@@ -1,9 +1,9 @@
 //! Bytes that a reader has to give.
 
 ghost use Rattle.std.specs.Prelude.{◌≡◌, ◌+◌, ◌-◌, ◌<◌, ◌≤◌, ◌^◌, [], IfErr, OnOk, length, take};
-ghost use Rattle.std.specs.Io.KnownBytes.{Consumes, IsAtEnd};
+ghost use Rattle.std.specs.Io.KnownBytes.{IsAtEnd};
 ghost use Rattle.std.specs.Io.Iter.{u64_saturate};
-ghost use Rattle.device_core.specs.Inlets.{inlet_failures, inlet_given, inlet_reader};
+ghost use Rattle.device_core.specs.Inlets.{Gives, inlet_failures, inlet_given, inlet_reader};
 ghost use Rattle.sound_core.specs.Faults.{failed_reads};
 ghost use Rattle.relay_core.specs.Comparing.{ConsumesMany, IsExpectFault, IsFillFault, IsMoreFault};
 
@@ -25,7 +25,7 @@ pub(crate) fn fill<R: Read>(
     requires ready { inlet_failures inlet.old < 2 ^ 64 - 1 }
     requires within { size ≤ length block.old.items }
     ensures size { length block.new.items ≡ length block.old.items }
-    ensures read { OnOk result (Consumes (R.remaining (inlet_reader inlet.old)) (R.remaining (inlet_reader inlet.new))
+    ensures read { OnOk result (Gives R.remaining inlet.old inlet.new
         (take size block.new.items)) }
     ensures given { OnOk result (inlet_given inlet.new ≡ u64_saturate (inlet_given inlet.old + size)) }
     ensures failures { inlet_failures inlet.new ≡ inlet_failures inlet.old + failed_reads result }
@@ -50,8 +50,7 @@ pub(crate) fn expect<R: Read>(
     requires ready { inlet_failures inlet.old < 2 ^ 64 - 1 }
     requires size { length block.old.items ≡ 65536 }
     ensures size { length block.new.items ≡ 65536 }
-    ensures read { OnOk result (Consumes (R.remaining (inlet_reader inlet.old))
-        (R.remaining (inlet_reader inlet.new)) bytes.now) }
+    ensures read { OnOk result (Gives R.remaining inlet.old inlet.new bytes.now) }
     ensures given { OnOk result (inlet_given inlet.new ≡ u64_saturate (inlet_given inlet.old + length bytes.now)) }
     ensures failures { inlet_failures inlet.new ≡ inlet_failures inlet.old + failed_reads result }
     ensures fault { IfErr result (IsExpectFault (R.remaining (inlet_reader inlet.old)) bytes.now) }
@@ -77,8 +76,7 @@ fn expect_part<R: Read>(
     requires size { length block.old.items ≡ 65536 }
     requires fits { length part.now ≤ 65536 }
     ensures size { length block.new.items ≡ 65536 }
-    ensures read { OnOk result (Consumes (R.remaining (inlet_reader inlet.old))
-        (R.remaining (inlet_reader inlet.new)) part.now) }
+    ensures read { OnOk result (Gives R.remaining inlet.old inlet.new part.now) }
     ensures given { OnOk result (inlet_given inlet.new ≡ u64_saturate (inlet_given inlet.old + length part.now)) }
     ensures failures { inlet_failures inlet.new ≡ inlet_failures inlet.old + failed_reads result }
     ensures fault { IfErr result (IsExpectFault (R.remaining (inlet_reader inlet.old)) part.now) }
@@ -128,8 +126,7 @@ pub(crate) fn expect_end<R: Read>(
 ) -> Result<(), StreamFault>
     requires ready { inlet_failures inlet.old < 2 ^ 64 - 1 }
     requires size { length block.old.items ≡ 65536 }
-    ensures read { OnOk result (Consumes (R.remaining (inlet_reader inlet.old))
-        (R.remaining (inlet_reader inlet.new)) [] × IsAtEnd (R.remaining (inlet_reader inlet.new))) }
+    ensures read { OnOk result (Gives R.remaining inlet.old inlet.new [] × IsAtEnd (R.remaining (inlet_reader inlet.new))) }
     ensures given { OnOk result (inlet_given inlet.new ≡ u64_saturate (inlet_given inlet.old + 0)) }
     ensures failures { inlet_failures inlet.new ≡ inlet_failures inlet.old + failed_reads result }
     ensures fault { IfErr result (IsMoreFault (R.remaining (inlet_reader inlet.old))) }

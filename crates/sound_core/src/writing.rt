@@ -1,8 +1,7 @@
 //! Bytes that go out, with the fault of whoever streams a file.
 
 ghost use Rattle.std.specs.Prelude.{◌≡◌, ◌+◌, ◌-◌, ◌<◌, ◌^◌, IfErr, OnErr, OnOk};
-ghost use Rattle.std.specs.Io.KnownBytes.{Appends};
-ghost use Rattle.device_core.specs.Outlets.{AppendsPart, outlet_failures, outlet_writer};
+ghost use Rattle.device_core.specs.Outlets.{Puts, PutsPart, outlet_failures};
 ghost use Rattle.sound_core.specs.Faults.{IsWritingFault, failed_writes};
 
 use crate::fault::StreamFault;
@@ -14,10 +13,8 @@ use std::io::Write;
 /// Refusal: `WriteFailed`; a prefix of them went out, and not all of them.
 pub fn put<W: Write>(outlet: &mut Outlet<W>, bytes: &[u8]) -> Result<(), StreamFault>
     requires ready { outlet_failures outlet.old < 2 ^ 64 - 1 }
-    ensures ok { OnOk result (Appends (W.contents (outlet_writer outlet.old))
-        (W.contents (outlet_writer outlet.new)) bytes.now) }
-    ensures err { OnErr result (AppendsPart (W.contents (outlet_writer outlet.old))
-        (W.contents (outlet_writer outlet.new)) bytes.now) }
+    ensures ok { OnOk result (Puts W.contents outlet.old outlet.new bytes.now) }
+    ensures err { OnErr result (PutsPart W.contents outlet.old outlet.new bytes.now) }
     ensures failures { outlet_failures outlet.new ≡ outlet_failures outlet.old + failed_writes result }
     ensures fault { IfErr result IsWritingFault }
 {

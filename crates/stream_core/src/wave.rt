@@ -1,8 +1,7 @@
 //! What is written around the frames.
 
 ghost use Rattle.std.specs.Prelude.{◌≡◌, ◌+◌, ◌-◌, ◌/◌, ◌<◌, ◌≤◌, ◌^◌, IfErr, IfOk, OnErr, OnOk};
-ghost use Rattle.std.specs.Io.KnownBytes.{Appends};
-ghost use Rattle.device_core.specs.Outlets.{AppendsFront, outlet_failures, outlet_writer};
+ghost use Rattle.device_core.specs.Outlets.{Puts, PutsFront, outlet_failures, outlet_writer};
 ghost use Rattle.dsd_bits.specs.Sounds.{IsSound};
 ghost use Rattle.player_core.specs.Laws.{total_frames};
 ghost use Rattle.wave_core.specs.Contents.{spec_of};
@@ -54,8 +53,7 @@ pub(crate) fn put_header<W: Write>(
     requires ready { outlet_failures outlet.old < 2 ^ 64 - 1 }
     ensures ok { OnOk result (OpensWave taps.now sound.now (W.contents (outlet_writer outlet.old))
         (W.contents (outlet_writer outlet.new))) }
-    ensures err { OnErr result (AppendsFront (W.contents (outlet_writer outlet.old))
-        (W.contents (outlet_writer outlet.new)) (header_of taps.now sound.now)) }
+    ensures err { OnErr result (PutsFront W.contents outlet.old outlet.new (header_of taps.now sound.now)) }
     ensures least { OnOk result (8 ≤ taps.now.factor) }
     ensures fault { IfErr result (IsOpeningFault taps.now sound.now) }
     ensures unwritten { IfErr result (λ f. IsBeforeWriting f → outlet_writer outlet.new ≡ outlet_writer outlet.old) }
@@ -83,10 +81,9 @@ pub(crate) fn put_pad<W: Write>(
 ) -> Result<(), StreamFault>
     requires sound { IsSound sound.now }
     requires ready { outlet_failures outlet.old < 2 ^ 64 - 1 }
-    ensures ok { OnOk result (Appends (W.contents (outlet_writer outlet.old)) (W.contents (outlet_writer outlet.new))
+    ensures ok { OnOk result (Puts W.contents outlet.old outlet.new
         (pad_of taps.now sound.now)) }
-    ensures err { OnErr result (AppendsFront (W.contents (outlet_writer outlet.old))
-        (W.contents (outlet_writer outlet.new)) (pad_of taps.now sound.now)) }
+    ensures err { OnErr result (PutsFront W.contents outlet.old outlet.new (pad_of taps.now sound.now)) }
     ensures fault { IfErr result IsWritingFault }
     ensures failures { outlet_failures outlet.new ≡ outlet_failures outlet.old + failed_writes result }
 {

@@ -32,7 +32,7 @@ pub record IsCertificate (project : List ℕ) (files : List (List ℕ)) (file ce
   pub file_holds : HoldsAs file form recording
   pub text : cert ≡ cert_of cut recording.channels
 
--- this master and this cost were answered, want of memory aside
+-- this master and this cost were answered, unless memory ran out
 abbrev pub AnswersEdited : Result Edited Fault → List ℕ → ℕ → Type 0
 AnswersEdited (Ok made) master cost = (made.master.items ≡ master) × (made.total ≡ cost)
 AnswersEdited (Err fault) master cost = fault ≡ Memory

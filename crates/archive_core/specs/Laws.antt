@@ -1,4 +1,4 @@
--- What the words of the contracts have to do with each other.
+-- Laws: what the words of the contracts have to do with each other.
 use Rattle.std.specs.Prelude.{◌≡◌, ℕ, List}
 use Rattle.judge_core.specs.Accepting.{Accepts, IsLeastMaster, IsMaster}
 use Rattle.archive_core.specs.Editing.{IsCertificate}

@@ -13,7 +13,7 @@ use Rattle.judge_core.specs.Accepting.{Accepts, CostsLeast, CostsWindows, IsMast
 use Rattle.archive_core.specs.Editing.{Edits, IsCertificate}
 use Rattle.archive_core.specs.declared.planning.PlannedMaster.{PlannedMaster}
 
--- the bytes are the master's file: the text of the best channels of its cut
+-- the bytes are the file of a planned master: the text of the best channels of its cut
 pub record IsFileOf (planned : PlannedMaster) (file : List ℕ) : Type 0 where
   pub channels : List (List Bool)
   pub best : AreBestChannels planned.cut channels
@@ -50,7 +50,7 @@ pub record Plans (project : List ℕ) (files : List (List ℕ)) (form : Form) (p
   pub joint : CostsLeast project files file (planned_total planned)
   pub windows : CostsWindows project files file (planned_total planned)
 
--- a master of this file and this cost was planned, want of memory aside
+-- a master of this file and this cost was planned, unless the call reports `Memory`
 abbrev pub AnswersPlanned : Result PlannedMaster Fault → List ℕ → ℕ → Type 0
 AnswersPlanned (Ok planned) master cost = IsFileOf planned master × (planned_total planned ≡ cost)
 AnswersPlanned (Err fault) master cost = fault ≡ Memory

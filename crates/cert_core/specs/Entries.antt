@@ -1,4 +1,4 @@
--- Which bytes are an entry that shows bits to be least.
+-- Which bytes are an entry that shows bits to be least (weak duality of shortest paths).
 use Rattle.std.specs.Prelude.{◌≡◌, ℕ, Bool, List, ◌++◌, Option}
 use Rattle.std.specs.Io.KnownBytes.{Consumes}
 use Rattle.cost_core.specs.Trellis.{Trellis}

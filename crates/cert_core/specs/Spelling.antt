@@ -1,4 +1,4 @@
--- How a certificate of either version spells a row.
+-- How a certificate of either version spells a row (`docs/CERTIFICATES.md`; frame of reference coding).
 use Rattle.std.specs.Prelude.{◌≡◌, ℕ, zero, suc, ◌+◌, ◌*◌, ◌-◌, ◌^◌, ◌<◌, ◌≤◌, ◌⊎◌, min, max, leb, List, [], ◌∷◌, ◌++◌, length, map, fold, count_by, flat_map, slice_index_or}
 use Rattle.std.specs.Int.{w64, to_be_bytes, bytes_high_first}
 use Rattle.cert_core.specs.declared.version.Version.{Version}

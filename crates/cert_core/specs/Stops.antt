@@ -1,4 +1,4 @@
--- Why a reading stops before its end.
+-- Why the private steps of a reader stop before their end.
 use Rattle.std.specs.Prelude.{◌≡◌, ◌≢◌, ℕ, ◌+◌, ◌^◌, ◌<◌, ◌⊎◌, List, length, map, flat_map, slice_index_or, Option, Result, Ok, Err, ⊤, IfSome}
 use Rattle.std.specs.Io.KnownBytes.{Consumes}
 use Rattle.device_core.specs.Inlets.{inlet_reader}

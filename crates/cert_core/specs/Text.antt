@@ -1,4 +1,4 @@
--- The text of a certificate, in bytes. Each number has its highest byte first.
+-- The text of a certificate, in bytes (`docs/CERTIFICATES.md`). Each number has its highest byte first.
 use Rattle.std.specs.Prelude.{ℕ, List, [], ◌∷◌, ◌++◌, length, flat_map}
 use Rattle.std.specs.Int.{w16, w32, w64, to_be_bytes}
 use Rattle.cert_core.specs.declared.version.Version.{Version}

@@ -1,4 +1,4 @@
--- What contracts see of a writer of certificates.
+-- What contracts see of a writer of certificates, and in which order its calls come while it hasn't failed.
 use Rattle.std.specs.Prelude.{ℕ, ◌-◌, ◌^◌, Bool, true, false, List, Option, if◌then◌else◌}
 use Rattle.device_core.specs.declared.outlet.Outlet.{Outlet}
 use Rattle.device_core.specs.Outlets.{Puts, PutsPart, outlet_failures}

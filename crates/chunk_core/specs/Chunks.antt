@@ -1,4 +1,4 @@
--- What bytes are chunks, and how chunks are spelled.
+-- What bytes are chunks, and how chunks are spelled (DSDIFF 1.5, local chunks, after EA IFF 85).
 use Rattle.std.specs.Prelude.{◌≡◌, ◌<◌, ℕ, ◌+◌, ◌%◌, ◌^◌, ◌⊎◌, List, [], ◌∷◌, ◌++◌, length, take, drop, replicate}
 use Rattle.byteorder.specs.Endian.{big_number, big_bytes}
 

@@ -1,4 +1,4 @@
--- What the words of the contracts have to do with each other.
+-- Laws: what the words of the contracts have to do with each other.
 use Rattle.std.specs.Prelude.{◌≡◌, ℕ, List, map, slice_range, All, Ok}
 use Rattle.std.specs.List.{flat_map}
 use Rattle.chunk_core.specs.declared.layout.Span.{Span}

@@ -1,4 +1,4 @@
--- Numbers as bytes, in either order, and IDs.
+-- Numbers as bytes, in either order, and IDs (DSDIFF 1.5: the highest byte first; DSF 1.01: the lowest).
 use Rattle.std.specs.Prelude.{ℕ, List, take, drop}
 use Rattle.byteorder.specs.Endian.{big_number, little_number, big_bytes, little_bytes}
 use Rattle.chunk_core.specs.declared.numbers.Order.{Order}

@@ -9,7 +9,7 @@ abbrev pub ◌>>=◌ : {A B E : Type 0} → Result A E → (A → Result B E) �
 (Ok x) >>= f = f x
 (Err e) >>= f = Err e
 
--- the reading has this fault; want of memory is no fault of a reading and says nothing of it
+-- the reading has this fault; running out of memory is no fault of a reading and says nothing of it
 abbrev pub Fails : {Y : Type 0} → ChunkFault → Result Y ChunkFault → Type 0
 Fails Memory reading = Unit {0}
 Fails (HeadCut at) reading = reading ≡ Err (HeadCut at)

@@ -97,7 +97,7 @@ Judges project takes master cert (verdicts.Rejected reason) = RejectsFirst proje
 abbrev pub JudgesBy : List ℕ → List (List ℕ) → List ℕ → Option (List ℕ) → Verdict → Type 0
 JudgesBy project takes master left verdict = IfSome left (λ cert. Judges project takes master cert verdict)
 
--- a master that was read is least, where the verdict by a project and takes that were read accepts it; where the folder tells its bytes, the verdict is that by the certificate's; and nothing changed
+-- a master that was read is least, where the verdict by a project and takes that were read accepts it; where the folder has known bytes, the verdict is that by the certificate's; and nothing changed
 pub record ChecksFiles (project_name master_name cert_name : List ℕ) (old new : View) (verdict : Verdict) : Type 0 where
   pub project : List ℕ
   pub takes : List (List ℕ)
@@ -115,7 +115,7 @@ pub record IsUncut (form : Option Form) (project_name : List ℕ) (old : View) (
   pub sources : AreSources project_name old project takes
   pub first : Fails Memory fault (said_cut project takes form)
 
--- nothing changed, and memory was wanting, or this fault comes first on the way from the project to its cut
+-- nothing changed, and memory ran out, or this fault comes first on the way from the project to its cut
 abbrev pub CutRefused : Option Form → List ℕ → View → View → calls.Fault → Type 0
 CutRefused form project old new fault = (new ≡ old) × ((fault ≡ Memory) ⊎ (IsUnnamed project old fault ⊎ IsUncut form project old fault))
 
@@ -145,7 +145,7 @@ TaskComesTo (tasks.Edit form project master cert) old new = Says Edited (EditCom
 TaskComesTo (tasks.Check project master cert) old new = Says verdict_of (CheckComesTo project.now master.now cert.now old new)
 TaskComesTo (tasks.Info file) old new = Says Info (TellComesTo file.now old new)
 
--- the words are no command or name no form, or memory was wanting
+-- the words are no command or name no form, or memory ran out
 abbrev pub IsNoCommand : Outcome → Type 0
 IsNoCommand WrongWords = Unit {0}
 IsNoCommand UnknownFormName = Unit {0}

@@ -4,7 +4,7 @@ use Rattle.std.specs.List.{sum_by, range_with_len}
 use Rattle.cost_core.specs.Least.{IsLeast, IsFirstLeast}
 use Rattle.cost_core.specs.Weighted.{weighted, square}
 
--- what decides the cost of a bridge's bits: the weights, how many bits the bridge has, the bits before and after it that a weight reads, and the targets, that of place 1 first
+-- what decides the cost of a bridge's bits: the weights, how many bits the bridge has (a search has one level for each), the bits before and after it that a weight reads, and the targets, that of place 1 first
 pub record Bridging : Type 0 where
   pub weights : List ℤ
   pub levels : ℕ

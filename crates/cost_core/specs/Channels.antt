@@ -58,18 +58,18 @@ AreLeast [] xs = Unit {0}
 AreLeast (p ∷ ps) [] = Unit {0}
 AreLeast (p ∷ ps) (x ∷ xs) = IsLeastBridge p.bridging x × AreLeast ps xs
 
--- the cost of a whole channel is the sum over its windows
+-- law: the cost of a whole channel is the sum over its windows
 abbrev pub PlacesAreWindows : Type 0
 PlacesAreWindows =
     (cue : List Bool) (ps : List Part) (xs : List (List Bool)) → AreJoined cue ps → HaveLengths ps xs → channel_cost (channel cue ps xs) (length cue) ps ≡ windows_cost ps xs
 
--- least bridges make a channel than which none with bridges of these lengths costs less
+-- law: least bridges make a channel than which none with bridges of these lengths costs less
 abbrev pub LeastTogether : Type 0
 LeastTogether =
     (cue : List Bool) (ps : List Part) (xs ys : List (List Bool)) → AreJoined cue ps → HaveLengths ps xs → HaveLengths ps ys → AreLeast ps xs →
     channel_cost (channel cue ps xs) (length cue) ps ≤ channel_cost (channel cue ps ys) (length cue) ps
 
--- the window of the bridge after a cue joins that cue and the next one, whatever its length and its target
+-- law: the window of the bridge after a cue joins that cue and the next one, whatever its length and its target
 abbrev pub FadesJoin : Type 0
 FadesJoin =
     (splice : SpliceContent) (i : ℕ) (a b : List Bool) → IsSplicing splice.weights (length splice.takes) splice.cues → i + 1 < length splice.cues →

@@ -26,14 +26,14 @@ pub record CanBridge (splice : SpliceContent) (i : ℕ) (a : List Bool) (stop : 
   pub before : (reach_at splice i).before ≤ start
   pub after : stop + (reach_at splice i).after ≤ length a
 
--- which of the two is wanting first
+-- which of the two is missing first
 abbrev pub first_fault : SpliceContent → ℕ → ℕ → Option RoomFault
 first_fault splice i count =
     let reach = reach_at splice i in
     if nat_lt (cue_at splice (i + 1)).start reach.before then Some rooms.NoRoomBefore
     else (if nat_lt count ((cue_at splice i).stop + reach.after) then Some rooms.NoRoomAfter else None)
 
--- the want of room that a fault names: none where memory was wanting
+-- the missing room that a fault names: none where memory ran out
 abbrev pub named : WindowFault → Option RoomFault
 named NoRoomBefore = Some rooms.NoRoomBefore
 named NoRoomAfter = Some rooms.NoRoomAfter

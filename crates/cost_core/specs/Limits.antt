@@ -11,10 +11,11 @@ pub record IsBridging (d : Bridging) : Type 0 where
   pub levels_in : d.levels ≤ 4096
   pub target_in : (i : ℕ) → unsigned_abs (target d i) ≤ (d.levels + 1) * 4096
 
--- the greatest absolute value of a scaled weighted sum and of a target, and the greatest squared deviation: it is below 2 ^ 51
+-- the greatest absolute value of a scaled weighted sum and of a target
 abbrev pub greatest_sum : ℕ
 greatest_sum = 4097 * 4096
 
+-- the greatest squared deviation: it is below 2 ^ 51
 abbrev pub greatest_step : ℕ
 greatest_step = (2 * greatest_sum) * (2 * greatest_sum)
 

@@ -2,7 +2,7 @@
 use Rattle.std.specs.Prelude.{ℕ, ◌+◌, ◌-◌, ℤ, pos, ◌+ℤ◌, ◌*ℤ◌, List, map, nat_le, if◌then◌else◌}
 use Rattle.std.specs.List.{range_with_len}
 
--- the target of place i of a line from a to b over so many bits
+-- the target of place i of a straight line from level a to level b over so many bits
 abbrev pub line : ℤ → ℤ → ℕ → ℕ → ℤ
 line a b levels i =
     if nat_le i levels

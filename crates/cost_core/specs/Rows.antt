@@ -1,4 +1,4 @@
--- One level of a trellis over plain lists, by the states that it leads to.
+-- One level of a trellis over plain lists, by the states that it leads to (Viterbi's algorithm).
 use Rattle.std.specs.Prelude.{ℕ, ◌+◌, ◌/◌, ◌^◌, List, [], ◌∷◌, Bool, min, nat_lt, if◌then◌else◌, take, drop, length}
 use Rattle.std.specs.Simd.Lanes.{zip2}
 

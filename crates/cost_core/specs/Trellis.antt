@@ -1,4 +1,4 @@
--- A trellis: the states that bits lead through, and what each step and the end cost.
+-- A trellis: the states that bits lead through, and what each step and the end cost (Viterbi 1967: the trellis of a finite-state machine).
 use Rattle.std.specs.Prelude.{◌≡◌, ℕ, ◌+◌, ◌*◌, ◌-◌, ◌/◌, ◌%◌, ◌^◌, ◌<◌, ◌==◌, Bool, true, false, List, [], ◌∷◌, length}
 
 -- states are the numbers below 2 ^ width: the last `width` bits, the newest the least significant
@@ -28,10 +28,11 @@ newest q = q % 2 == 1
 abbrev pub next : ℕ → ℕ → Bool → ℕ
 next width q bit = (2 * q + digit bit) % 2 ^ width
 
--- the two states that lead to a state by its newest bit: the one whose oldest bit is 0, and the one whose oldest bit is 1
+-- of the two states that lead to a state by its newest bit, the one whose oldest bit is 0
 abbrev pub before_by_0 : ℕ → ℕ → ℕ
 before_by_0 width q = q / 2
 
+-- of the two states that lead to a state by its newest bit, the one whose oldest bit is 1
 abbrev pub before_by_1 : ℕ → ℕ → ℕ
 before_by_1 width q = q / 2 + 2 ^ (width - 1)
 

@@ -1,4 +1,4 @@
--- Tables of bounds that show that bits are least.
+-- Tables of bounds that show that bits are least (weak duality of shortest paths).
 use Rattle.std.specs.Prelude.{◌≡◌, ℕ, ◌+◌, ◌^◌, ◌<◌, ◌≤◌, min, Bool, List, length}
 use Rattle.cost_core.specs.Trellis.{Trellis, states, next, cost}
 use Rattle.cost_core.specs.Bridges.{Bridging, IsLeastBridge}
@@ -13,12 +13,12 @@ pub record IsValid (t : Trellis) (bound : ℕ → ℕ → ℕ) (c : ℕ) (x : Li
   pub at_end : (q : ℕ) → q < states t → c ≤ bound t.levels q + t.tail q
   pub is_cost : c ≡ cost t x
 
--- the bits of a bridge for which a table is valid are least
+-- law: the bits of a bridge for which a table is valid are least
 abbrev pub LeastFromValid : Type 0
 LeastFromValid =
     (d : Bridging) (bound : ℕ → ℕ → ℕ) (c : ℕ) (x : List Bool) → IsBridging d → length x ≡ d.levels → IsValid (trellis_of d) bound c x → IsLeastBridge d x
 
--- a valid table stays valid where each bound above c becomes c
+-- law: a valid table stays valid where each bound above c becomes c
 abbrev pub CutIsValid : Type 0
 CutIsValid =
     (t : Trellis) (bound : ℕ → ℕ → ℕ) (c : ℕ) (x : List Bool) → IsValid t bound c x → IsValid t (λ level q. min (bound level q) c) c x

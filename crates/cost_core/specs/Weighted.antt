@@ -14,5 +14,6 @@ weighted weights z n = weighed weights (λ k. slice_index_or z (n - k) false)
 unfoldable pub weighted_code : List ℤ → ℕ → ℤ
 weighted_code weights code = weighed weights (λ k. code / 2 ^ k % 2 == 1)
 
+-- the square of a whole number
 unfoldable pub square : ℤ → ℕ
 square z = unsigned_abs z * unsigned_abs z

@@ -27,6 +27,6 @@ bridging_at splice i a stop b start =
       targets = targets_of cue.target splice.weights a stop b start cue.bridge;
     }
 
--- the same from its take a to the take b of the next cue
+-- the bridge after cue i by that cue's target, from its take a to the take b of the next cue
 abbrev pub bridging : SpliceContent → ℕ → List Bool → List Bool → Bridging
 bridging splice i a b = bridging_at splice i a (cue_at splice i).stop b (cue_at splice (i + 1)).start

@@ -9,7 +9,7 @@ use Rattle.splice_core.specs.Splices.{SpliceContent}
 use Rattle.cost_core.specs.Bridges.{Bridging}
 use Rattle.cost_core.specs.Windows as fades
 
--- a splice, the first of its takes without its bits, by cue and by channel the bits that are cut, and by cue and by channel the windows of the bridges
+-- a splice, the first of its takes without its bits, and by cue and by channel the bits that are cut and the windows of the bridges
 pub record CutContent : Type 0 where
   pub splice : SpliceContent
   pub first : Content

@@ -17,10 +17,11 @@ abbrev pub lead_at : SpliceContent → ℕ → ℕ
 lead_at splice zero = 0
 lead_at splice (suc i) = (reach_at splice i).before
 
--- the first bit that is heard for cue i, and the place after the last
+-- the first bit that is heard for cue i
 abbrev pub heard_from : SpliceContent → ℕ → ℕ
 heard_from splice i = (cue_at splice i).start - lead_at splice i
 
+-- the place after the last bit that is heard for cue i
 abbrev pub heard_to : SpliceContent → ℕ → ℕ
 heard_to splice i = (cue_at splice i).stop + (reach_at splice i).after
 
@@ -63,7 +64,7 @@ pub record AreOfTakes (splice : SpliceContent) (hs : List Heard) : Type 0 where
   pub as_many : length whole ≡ length splice.takes
 
 -- ---- what else decides
--- the rate of a take, how many channels it has and how many bits each
+-- the rate of a take, how many channels it has and how many bits each; they decide whether it can be cut
 pub record TakeShape : Type 0 where
   pub rate : ℕ
   pub channels : ℕ
@@ -81,10 +82,11 @@ heard_shape h = record { rate = h.recording.rate; channels = length h.recording.
 abbrev pub heard_shapes : List Heard → List TakeShape
 heard_shapes hs = map (λ h. heard_shape (heard_content h)) hs
 
--- those of take i, past the last one of nothing, and of the take of cue i
+-- those of take i; past the last take, those of nothing
 abbrev pub shape_at : List TakeShape → ℕ → TakeShape
 shape_at shapes i = slice_index_or shapes i (record { rate = 0; channels = 0; count = 0 })
 
+-- those of the take of cue i
 abbrev pub shape_of_cue : SpliceContent → List TakeShape → ℕ → TakeShape
 shape_of_cue splice shapes i = shape_at shapes (cue_at splice i).take
 
@@ -93,6 +95,7 @@ shape_of_cue splice shapes i = shape_at shapes (cue_at splice i).take
 abbrev pub start_in : SpliceContent → ℕ → ℕ
 start_in splice i = (cue_at splice i).start - heard_from splice i
 
+-- where a cue ends in what is heard for it
 abbrev pub stop_in : SpliceContent → ℕ → ℕ
 stop_in splice i = (cue_at splice i).stop - heard_from splice i
 
@@ -100,10 +103,11 @@ stop_in splice i = (cue_at splice i).stop - heard_from splice i
 abbrev pub heard_at : List HeardContent → ℕ → HeardContent
 heard_at hs i = slice_index_or hs i (record { recording = take_at [] 0; count = 0; stretches = [] })
 
--- what was heard for cue i, by channel, and in channel c
+-- what was heard for cue i, by channel
 abbrev pub stretches_at : SpliceContent → List HeardContent → ℕ → List (List Bool)
 stretches_at splice hs i = slice_index_or (heard_at hs (cue_at splice i).take).stretches i []
 
+-- what was heard for cue i in channel c
 abbrev pub stretch_at : SpliceContent → List HeardContent → ℕ → ℕ → List Bool
 stretch_at splice hs c i = slice_index_or (stretches_at splice hs i) c []
 

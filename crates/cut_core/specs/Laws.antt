@@ -1,4 +1,4 @@
--- Which cut files and a splice come to is what reading them in order comes to.
+-- Law: which cut files and a splice come to is what reading them in order comes to.
 use Rattle.std.specs.Prelude.{◌≡◌, ◌↔◌, ℕ, List, Ok, Option}
 use Rattle.splice_core.specs.Splices.{SpliceContent}
 use Rattle.form_core.specs.declared.form.Form.{Form}

@@ -30,7 +30,7 @@ abbrev pub fault_of_take : ℕ → ReadFault → CutFault
 fault_of_take number reads.Memory = Memory
 fault_of_take number fault = TakeUnread number fault
 
--- the channels of a DSDIFF file, if one is asked for, end with a whole byte
+-- the channels of a DSDIFF file, if one is asked for, end with a whole byte (DSDIFF 1.5, DSD sound data chunk)
 abbrev pub IsWhole : Option Form → SpliceContent → Type 0
 IsWhole form splice = form ≡ Some Dsdiff → master_length splice.cues % 8 ≡ 0
 
@@ -92,7 +92,7 @@ abbrev pub whole_in : Option Form → SpliceContent → Bool
 whole_in (Some Dsdiff) splice = master_length splice.cues % 8 == 0
 whole_in form splice = true
 
--- a splice and takes of these shapes can be cut, into a file of the form where one is asked for
+-- a splice and takes of these shapes can be cut, into a file of the form where one is asked for, or the first fault
 unfoldable pub fitting : Option Form → SpliceContent → List TakeShape → Result ⊤ CutFault
 fitting form splice shapes = do
   alike ← each_before (length shapes) (alike_at shapes)
@@ -107,7 +107,7 @@ cut_from form splice takes = do
   fits ← fitting form splice (map shape_of takes)
   Ok (cut_with splice takes)
 
--- the takes of a splice
+-- the takes of a splice, as many as it names, or the first fault
 unfoldable pub takes_of : SpliceContent → List (List ℕ) → Result (List Content) CutFault
 takes_of splice files = do
   as_many ← required (length files == length splice.takes) TakeNumber
@@ -119,7 +119,7 @@ cut_of splice files form = do
   takes ← takes_of splice files
   cut_from form splice takes
 
--- a call heard the take of a number that the steps come to, want of memory aside
+-- a call heard the take of a number that the steps come to, unless memory ran out
 abbrev pub HearsTake : SpliceContent → ℕ → Result Heard CutFault → Result Content CutFault → Type 0
 HearsTake splice number (Ok h) steps = (r : Content) × (steps ≡ Ok r) × HasShape r × (heard_content h ≡ heard_of splice number r)
 HearsTake splice number (Err fault) steps = Fails Memory fault steps
@@ -129,12 +129,12 @@ abbrev pub IsOfTake : SpliceContent → ℕ → Result Heard CutFault → Type 0
 IsOfTake splice number (Ok h) = (r : Content) × HasShape r × (heard_content h ≡ heard_of splice number r)
 IsOfTake splice number (Err fault) = ⊤
 
--- of the first so many takes
+-- whatever it was, what was heard is of some recordings, the first n takes
 abbrev pub IsOfTakes : SpliceContent → ℕ → Result (Vec Heard Global) CutFault → Type 0
 IsOfTakes splice n (Ok hs) = (whole : List Content) × AreHeard splice whole hs.items × (length whole ≡ n)
 IsOfTakes splice n (Err fault) = ⊤
 
--- a call heard the takes that the steps come to, want of memory aside
+-- a call heard the takes that the steps come to, unless memory ran out
 abbrev pub HearsTakes : SpliceContent → Result (Vec Heard Global) CutFault → Result (List Content) CutFault → Type 0
 HearsTakes splice (Ok hs) steps = (takes : List Content) × (steps ≡ Ok takes) × AreHeard splice takes hs.items
 HearsTakes splice (Err fault) steps = Fails Memory fault steps

@@ -11,7 +11,7 @@ use Rattle.cut_core.specs.Rooms.{HaveRoom}
 abbrev pub cut_content : Inside → CutContent
 cut_content x = heard_cut (splice_content x.splice) (map heard_content x.takes.items)
 
--- it was heard of takes that can be cut
+-- what was heard of takes that can be cut is what the fields hold
 pub record KeepsCut (x : Inside) : Type 0 where
   pub takes : List Content
   pub heard : AreHeard (splice_content x.splice) takes x.takes.items

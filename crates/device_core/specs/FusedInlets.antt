@@ -3,7 +3,7 @@ use Rattle.std.specs.Prelude.{ℕ, ◌<◌, ◌≤◌, ◌⊎◌}
 use Rattle.device_core.specs.Inlets.{inlet_failures, inlet_reader, inlet_reads}
 use Rattle.device_core.specs.declared.fused_inlet.FusedInlet.{FusedInlet}
 
--- the reader, as it stands
+-- the reader of a fused inlet
 abbrev pub fused_reader : {R : Type 0} → FusedInlet R → R
 fused_reader fused = inlet_reader fused.inlet
 

@@ -11,7 +11,7 @@ outlet_writer outlet = outlet.writer
 abbrev pub outlet_failures : {W : Type 0} → Outlet W → ℕ
 outlet_failures outlet = outlet.failures
 
--- known bytes grow by a front of these
+-- where a writer's bytes are known, they grew by a prefix of these
 abbrev pub AppendsFront : Option (List ℕ) → Option (List ℕ) → List ℕ → Type 0
 AppendsFront old new all = (front : List ℕ) × (back : List ℕ) × (all ≡ front ++ back) × Appends old new front
 

@@ -1,4 +1,4 @@
--- Sound bytes of several channels in blocks: for every 32768 bits a block of 4096 bytes of each channel in turn.
+-- Sound bytes of several channels in blocks: for every 32768 bits a block of 4096 bytes of each channel in turn (DSF 1.01, data chunk; the two orders of the bits are this project's profile).
 use Rattle.std.specs.Prelude.{◌≡◌, ℕ, ◌+◌, ◌-◌, ◌*◌, ◌/◌, ◌%◌, ◌<◌, ◌≤◌, Bool, false, ◌==◌, List, [], ◌++◌, map, length, slice_index, slice_index_or}
 use Rattle.std.specs.List.{range_with_len}
 use Rattle.std.specs.Int.{bit_at, div_ceil}
@@ -9,11 +9,11 @@ use Rattle.dsd_bits.specs.Limits.{block_bits, block_bytes}
 use Rattle.dsd_bits.specs.Packing.{packed_byte}
 use Rattle.dsd_bits.specs.Turning.{turned}
 
--- the sound byte in which bit i of channel c stands
+-- the sound byte that holds bit i of channel c: (i / 32768 * channels + c) * 4096 + i % 32768 / 8
 abbrev pub block_place : ℕ → ℕ → ℕ → ℕ
 block_place channels c i = (i / block_bits * channels + c) * block_bytes + i % block_bits / 8
 
--- which bit of that byte it is, the least significant being bit 0
+-- which bit of that byte it is, the least significant being bit 0: i % 8 or 7 - i % 8
 abbrev pub bit_number : BitOrder → ℕ → ℕ
 bit_number LeastFirst i = i % 8
 bit_number MostFirst i = 7 - i % 8
@@ -54,6 +54,6 @@ pub record AreBlocks (order : BitOrder) (channels : List (List Bool)) (bytes : L
   pub size : length bytes ≡ blocks_size (length channels) (count_of channels)
   pub at : (c i : ℕ) → c < length channels → i < block_bits * div_ceil (count_of channels) block_bits → block_bit order bytes (length channels) c i ≡ slice_index_or (slice_index_or channels c []) i false
 
--- channels that are laced in blocks are read again, whatever stands behind the blocks
+-- law: channels that are laced in blocks are read again, whatever follows the blocks
 abbrev pub BlocksReadAgain : Type 0
 BlocksReadAgain = (order : BitOrder) (channels : List (List Bool)) (more : List ℕ) → IsLevel channels → 1 ≤ length channels → unblocked_all order (blocked order channels ++ more) (length channels) (count_of channels) ≡ channels

@@ -9,10 +9,11 @@ same_id a b = bytes_eq a b
 abbrev pub FVER : List ℕ
 FVER = codes "FVER"
 
--- properties, and the type of those that speak of the sound
+-- properties
 abbrev pub PROP : List ℕ
 PROP = codes "PROP"
 
+-- the type of properties that speak of the sound
 abbrev pub SND : List ℕ
 SND = codes "SND "
 
@@ -32,9 +33,10 @@ CMPR = codes "CMPR"
 abbrev pub DSD : List ℕ
 DSD = codes "DSD "
 
--- what an edited master has, and the marks in it
+-- what an edited master has
 abbrev pub DIIN : List ℕ
 DIIN = codes "DIIN"
 
+-- a mark in an edited master
 abbrev pub MARK : List ℕ
 MARK = codes "MARK"

@@ -1,11 +1,11 @@
--- Sound bytes of several channels, laced: one byte of each channel in turn.
+-- Sound bytes of several channels, laced: one byte of each channel in turn (DSDIFF 1.5, DSD sound data chunk).
 use Rattle.std.specs.Prelude.{◌≡◌, ℕ, ◌+◌, ◌-◌, ◌*◌, ◌/◌, ◌%◌, ◌<◌, ◌≤◌, Bool, false, ◌==◌, List, [], map, length, slice_index, slice_index_or}
 use Rattle.std.specs.List.{range_with_len}
 use Rattle.std.specs.Int.{bit_at}
 use Rattle.dsd_bits.specs.Channels.{IsLevel, count_of}
 use Rattle.dsd_bits.specs.Packing.{packed_byte}
 
--- bit i of channel c among the sound bytes of so many channels
+-- bit i of channel c among the sound bytes of N channels: bit 7 - i % 8 of byte i / 8 * channels + c
 abbrev pub laced_bit : List ℕ → ℕ → ℕ → ℕ → Bool
 laced_bit bytes channels c i = bit_at (slice_index bytes (i / 8 * channels + c)) (7 - i % 8) == 1
 
@@ -42,6 +42,6 @@ pub record AreLaced (channels : List (List Bool)) (bytes : List ℕ) : Type 0 wh
   pub size : 8 * length bytes ≡ count_of channels * length channels
   pub at : (c i : ℕ) → c < length channels → i < count_of channels → laced_bit bytes (length channels) c i ≡ slice_index_or (slice_index_or channels c []) i false
 
--- channels of whole bytes that are laced are read again
+-- law: channels of whole bytes that are laced are read again
 abbrev pub LacedReadAgain : Type 0
 LacedReadAgain = (channels : List (List Bool)) → IsLevel channels → count_of channels % 8 ≡ 0 → 1 ≤ length channels → unlaced_all (laced channels) (length channels) ≡ channels

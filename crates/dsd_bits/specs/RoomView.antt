@@ -5,7 +5,7 @@ use Rattle.dsd_bits.specs.Limits.{most_bits}
 use Rattle.dsd_bits.specs.Packing.{IsTight, unpacked}
 use Rattle.dsd_bits.specs.Rooms.{RoomContent}
 
--- the bits in the bytes, and the room for them
+-- what the fields of a `BitRoom` mean: the bits in the bytes, and the room for them
 abbrev pub room_content : Inside → RoomContent
 room_content x = record { bits = unpacked x.bytes.items x.count; most = x.most }
 

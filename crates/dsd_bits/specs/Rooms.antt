@@ -1,7 +1,7 @@
 -- Bits for which room is held.
 use Rattle.std.specs.Prelude.{ℕ, Bool, List, map}
 
--- the bits, and how many there may be
+-- what a `BitRoom` holds: its bits, and how many there may be
 pub record RoomContent : Type 0 where
   pub bits : List Bool
   pub most : ℕ

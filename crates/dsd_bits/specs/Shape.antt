@@ -9,7 +9,7 @@ use Rattle.dsd_bits.specs.Ids.{same_id, FVER, PROP, SND, FS, CHNL, CMPR, DSD, DI
 use Rattle.dsd_bits.specs.Layouts.{layout_channels}
 use Rattle.dsd_bits.specs.Limits.{most_bits, least_rate, greatest_rate}
 
--- the two places are the same
+-- two places of kept chunks are the same
 abbrev pub same_place : Place → Place → Bool
 same_place Property Property = true
 same_place Master Master = true
@@ -26,7 +26,7 @@ has_part Property id bytes = same_id id FS || same_id id CHNL || same_id id CMPR
 has_part Master id bytes = same_id id MARK
 has_part Form id bytes = same_id id FVER || same_id id DSD || same_id id DIIN || (same_id id PROP && starts_with nat_eq bytes SND)
 
--- what the parts of a recording keep to
+-- the rules that each recording keeps, one by one
 pub record HasShape (r : Content) : Type 0 where
   pub rate_low : least_rate ≤ r.rate
   pub rate_high : r.rate ≤ greatest_rate

@@ -1,4 +1,4 @@
--- The sound of a file: what it is, and where its bytes stand.
+-- The sound of a file: what it is, and where its bytes stand (DSDIFF 1.5 and DSF 1.01, sound data).
 use Rattle.std.specs.Prelude.{◌≡◌, ◌≤◌, ℕ, ◌+◌, ◌*◌, ◌/◌, Bool, true, false, List, length, take, drop}
 use Rattle.dsd_bits.specs.declared.interleaving.Interleaving.{Interleaving}
 use Rattle.dsd_bits.specs.declared.interleaving.Interleaving.TheVariants.{Bytes, Blocks}
@@ -21,7 +21,7 @@ abbrev pub sound_size : Interleaving → ℕ → ℕ → ℕ
 sound_size Bytes channels count = count / 8 * channels
 sound_size (Blocks order) channels count = blocks_size channels count
 
--- the channels in sound bytes
+-- the channels in sound bytes, laced by bytes or by blocks
 abbrev pub sound_channels : Interleaving → ℕ → ℕ → List ℕ → List (List Bool)
 sound_channels Bytes channels count bytes = unlaced_all bytes channels
 sound_channels (Blocks order) channels count bytes = unblocked_all order bytes channels count

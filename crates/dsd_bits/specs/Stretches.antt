@@ -3,7 +3,7 @@ use Rattle.std.specs.Prelude.{Bool, List, [], length, map, replicate, slice_rang
 use Rattle.dsd_bits.specs.declared.stretches.BitRange.{BitRange}
 use Rattle.dsd_bits.specs.Contents.{Content}
 
--- the bits that each channel has in a range
+-- the bits that each channel has in a range, as far as it reaches
 abbrev pub stretch_of : List (List Bool) → BitRange → List (List Bool)
 stretch_of channels range = map (λ bits. slice_range bits range.start range.stop) channels
 

@@ -1,4 +1,4 @@
--- The fields of the form and of the sound property's chunks.
+-- The fields of the form and of the sound property's chunks (DSDIFF 1.5).
 use Rattle.std.specs.Prelude.{ℕ, ◌+◌, ◌*◌, min, List, length, map, take, drop}
 use Rattle.std.specs.List.{range_with_len}
 use Rattle.byteorder.specs.Endian.{big_number}

@@ -40,7 +40,7 @@ pub record TellsProperty (property : Chunk) (rate number : ℕ) : Type 0 where
   pub names_long : 2 + 4 * number ≤ length names.content
   pub raw : take 4 kinds.content ≡ DSD
 
--- the file holds this recording
+-- the file holds this recording: the whole format as one relation, field by field
 pub record IsDsdiff (file : List ℕ) (r : Content) : Type 0 where
   -- the form, whose last pad may be missing
   pub long : 16 ≤ length file

@@ -1,4 +1,4 @@
--- Where the sound of a file stands, as the front of the file tells.
+-- Where the sound of a file stands, as the front of the file tells (DSDIFF 1.5).
 use Rattle.std.specs.Prelude.{◌≡◌, ◌≤◌, ℕ, zero, suc, ◌+◌, ◌*◌, ◌/◌, ◌%◌, ◌-◌, not, List, [], ◌∷◌, filter, length, map, take, drop, slice_index, slice_range, Option, Some, None, Result, Ok, Err, nat_eq, nat_lt, if◌then◌else◌}
 use Rattle.byteorder.specs.Endian.{big_number}
 use Rattle.chunk_core.specs.declared.fault.ChunkFault.TheVariants.{DataCut}
@@ -47,7 +47,7 @@ pub record HoldsHead (front : List ℕ) : Type 0 where
   pub id : take 4 (drop at front) ≡ DSD
   pub whole : at + 12 ≤ length front
 
--- the front of a file tells of this sound: a form, in it chunks of which none is a sound, and the head of one
+-- the front of a file tells of this sound: a form, chunks of which none is a sound, the head of the sound, and what version and sound property say
 pub record TellsSound (front : List ℕ) (s : Sound) : Type 0 where
   -- the form begins
   pub form : take 4 front ≡ FRM8
@@ -148,6 +148,7 @@ abbrev pub sound_from : List ℕ → Option ℕ → Result (Option Sound) Dsdiff
 sound_from front None = Ok None
 sound_from front (Some at) = sound_behind front at >>= λ s. Ok (Some s)
 
+-- the same from the first byte on, in the order of the reading: the form begins, the head of the sound is found, the chunks before it tell what it is
 unfoldable pub sound_in : List ℕ → Result (Option Sound) DsdiffFault
 sound_in front = do
   place ← located front

@@ -1,4 +1,4 @@
--- The bytes of a mark.
+-- The bytes of a mark (DSDIFF 1.5, marker chunk).
 use Rattle.std.specs.Prelude.{ℕ, List, [], ◌∷◌, ◌++◌, length}
 use Rattle.std.specs.Int.{w32, cast_unsigned}
 use Rattle.byteorder.specs.Endian.{big_bytes}

@@ -1,4 +1,4 @@
--- Where marks are.
+-- Where marks are (DSDIFF 1.5, marker chunk; the use for titles is this project's).
 use Rattle.std.specs.Prelude.{◌≡◌, ℕ, ◌+◌, ◌*◌, ◌/◌, ◌%◌, ℤ, pos, ◌+ℤ◌, List}
 use Rattle.dsd_bits.specs.Contents.{MarkContent}
 

@@ -1,4 +1,4 @@
--- The marks of an edited master.
+-- The marks of an edited master (DSDIFF 1.5, marker chunk).
 use Rattle.std.specs.Prelude.{◌≤◌, ℕ, ◌+◌, List, length, take, drop, slice_index}
 use Rattle.std.specs.Int.{w32, cast_signed}
 use Rattle.byteorder.specs.Endian.{big_number}

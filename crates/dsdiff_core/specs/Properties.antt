@@ -36,7 +36,7 @@ names_of (Some bytes) =
     else if nat_lt (length bytes) (2 + 4 * big_number 2 bytes) then Err NoChannels
     else Ok (big_number 2 bytes, drop 2 bytes)
 
--- the data of its chunk tell of no compression
+-- the data of its chunk say that nothing is compressed
 abbrev pub raw_of : Option (List ℕ) → Result (Unit {0}) DsdiffFault
 raw_of None = Err NoCompression
 raw_of (Some bytes) =

@@ -31,11 +31,11 @@ pub record FitsFields (r : Content) : Type 0 where
 abbrev pub as_told : Content → Content
 as_told r = record r { layout = usual_layout (length r.channels); tag = [] }
 
--- a file that was written for a recording holds that recording, but for what a file does not tell
+-- law: a file that was written for a recording holds that recording, but for what a file does not tell
 abbrev pub WrittenReadAgain : Type 0
 WrittenReadAgain = (r : Content) (file : List ℕ) → HasShape r → FitsFields r → dsdiff_text r ≡ Some file → length file < 2 ^ 63 → IsDsdiff file (as_told r)
 
--- the file of channels of whole bytes is a head, their bytes and a tail, and head and tail are those of any recording with the same parts beside the channels
+-- law: the file of channels of whole bytes is a head, their bytes and a tail, and head and tail are those of any recording with the same parts beside the channels
 abbrev pub WrittenInParts : Type 0
 WrittenInParts =
     (r : Content) (channels : List (List Bool)) → count_of channels % 8 ≡ 0

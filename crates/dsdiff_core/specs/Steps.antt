@@ -21,7 +21,7 @@ abbrev pub some_or : {A : Type 0} → DsdiffFault → Option A → Result A Dsdi
 some_or e None = Err e
 some_or e (Some x) = Ok x
 
--- the reading has this fault; want of memory is no fault of a reading and says nothing of it
+-- the reading has this fault; running out of memory is no fault of a reading and says nothing of it
 abbrev pub Fails : {Y : Type 0} → DsdiffFault → Result Y DsdiffFault → Type 0
 Fails faults.Memory reading = Unit {0}
 Fails e reading = reading ≡ Err e

@@ -36,7 +36,7 @@ mark_chunk m = record { id = MARK; content = mark_bytes m }
 abbrev pub other_chunk : OtherContent → Chunk
 other_chunk o = record { id = o.id; content = o.bytes }
 
--- those that were kept of a place, in their order
+-- the kept chunks of a place, in their order; the places are this project's
 abbrev pub others_of : Place → List OtherContent → List Chunk
 others_of place others = map other_chunk (at_place place others)
 

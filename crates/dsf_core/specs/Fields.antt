@@ -94,7 +94,7 @@ sound_end file = sound_place file + needed file
 
 -- ---- what the fields tell
 
--- the layout: the channel type where it fits the channel number, else the usual layout
+-- the layout: the channel type where it fits the channel number, else the usual layout (this project's profile)
 abbrev pub layout_told : ℕ → ℕ → ℕ
 layout_told kind number = if nat_eq (layout_channels kind) number then kind else usual_layout number
 

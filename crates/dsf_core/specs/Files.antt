@@ -9,12 +9,12 @@ use Rattle.dsd_bits.specs.Ids.{DSD}
 use Rattle.dsd_bits.specs.Limits.{most_bits, least_rate, greatest_rate, block_bytes}
 use Rattle.dsf_core.specs.Fields.{FMT, DATA, first_size, pointer, format_size, version, format, channel_type, channel_number, rate, bits_per_sample, count, block_size, data_place, data_size, sound_place, needed, sound_end, layout_told, dsf_ids, tag_told}
 
--- the bits per sample that tell an order
+-- the bits per sample that tell an order (this project's profile)
 abbrev pub bits_of : BitOrder → ℕ
 bits_of LeastFirst = 1
 bits_of MostFirst = 8
 
--- the file holds this recording, its bits in this order
+-- the file holds this recording, its bits in this order: the whole format as one relation, field by field
 pub record IsDsf (file : List ℕ) (r : Content) (order : BitOrder) : Type 0 where
   -- three chunks, the second and the third of them with all their fields
   pub first : id_at file 0 ≡ DSD

@@ -1,4 +1,4 @@
--- Where the sound of a file stands, as the front of the file tells, and which ends make a file of it.
+-- Where the sound of a file stands, as the front of the file tells, and which ends make a file of it (DSF 1.01).
 use Rattle.std.specs.Prelude.{◌≡◌, ◌≤◌, ℕ, ◌+◌, ◌-◌, ◌⊎◌, Bool, true, false, List, [], ◌++◌, length, drop, replicate, Option, None, Some, Result, Ok, Err, nat_eq, nat_lt, if◌then◌else◌}
 use Rattle.chunk_core.specs.Numbers.{id_at}
 use Rattle.dsd_bits.specs.declared.blocks.BitOrder.{BitOrder}

@@ -1,4 +1,4 @@
--- What the words of the contracts have to do with each other.
+-- Laws: what the words of the contracts have to do with each other.
 use Rattle.std.specs.Prelude.{◌≡◌, ◌↔◌, ℕ, List, ◌++◌, length, take}
 use Rattle.dsd_bits.specs.declared.blocks.BitOrder.{BitOrder}
 use Rattle.dsd_bits.specs.declared.sound.Sound.{Sound}

@@ -11,6 +11,6 @@ use Rattle.dsf_core.specs.Writing.{dsf_text}
 abbrev pub as_told : Content → Content
 as_told r = record r { ids = dsf_ids (length r.channels); marks = []; others = [] }
 
--- a file that was written for a recording holds that recording, but for what a file does not tell
+-- law: a file that was written for a recording holds that recording, but for what a file does not tell
 abbrev pub WrittenReadAgain : Type 0
 WrittenReadAgain = (r : Content) (order : BitOrder) → HasShape r → length (dsf_text r order) < 2 ^ 63 → IsDsf (dsf_text r order) (as_told r) order

@@ -3,7 +3,7 @@ use Rattle.std.specs.Prelude.{◌≡◌, Result, Ok, Err}
 use Rattle.dsf_core.specs.declared.fault.DsfFault.{DsfFault}
 use Rattle.dsf_core.specs.declared.fault.DsfFault.TheVariants as faults
 
--- the reading has this fault; want of memory is no fault of a reading and says nothing of it
+-- the reading has this fault; running out of memory is no fault of a reading and says nothing of it
 abbrev pub Fails : {Y : Type 0} → DsfFault → Result Y DsfFault → Type 0
 Fails faults.Memory reading = Unit {0}
 Fails e reading = reading ≡ Err e

@@ -23,7 +23,7 @@ untold = record { is_told = false; given = λ time name. None; file = λ name. N
 abbrev pub Gives : View → List ℕ → List ℕ → Type 0
 Gives view name bytes = (time : ℕ) × (view.given time name ≡ Some bytes)
 
--- bytes were read of a name: where the folder tells its bytes, an opening of the name gives them
+-- bytes were read of a name: where the folder has known bytes, an opening of the name gives them
 abbrev pub IsReadOf : View → List ℕ → List ℕ → Type 0
 IsReadOf view name bytes = IsTrue view.is_told → Gives view name bytes
 
@@ -31,11 +31,11 @@ IsReadOf view name bytes = IsTrue view.is_told → Gives view name bytes
 abbrev pub AreReadOf : View → List (List ℕ) → List (List ℕ) → Type 0
 AreReadOf view names files = AllZip (IsReadOf view) names files
 
--- where the folder tells its bytes, a reader has those left that an opening of the name gives
+-- where the folder has known bytes, a reader has those left that an opening of the name gives
 abbrev pub IsGiven : View → List ℕ → Option (List ℕ) → Type 0
 IsGiven view name left = IsTrue view.is_told → (bytes : List ℕ) × Gives view name bytes × (left ≡ Some bytes)
 
--- where the folder tells its bytes, these were put under a name
+-- where the folder has known bytes, these were put under a name
 abbrev pub IsPut : View → List ℕ → List ℕ → Type 0
 IsPut view name bytes = IsTrue view.is_told → view.file name ≡ Some bytes
 
@@ -69,11 +69,11 @@ pub record HoldsPrefix (name : List ℕ) (old new : View) (bytes : List ℕ) : T
   pub stands : new.file name ≡ Some prefix
   pub had_none : HadNone name old
 
--- where the folder tells its bytes, a file is as it was, or holds a prefix of some bytes where no old file had to be kept
+-- where the folder has known bytes, a file is as it was, or holds a prefix of some bytes where no old file had to be kept
 abbrev pub IsFront : List ℕ → View → View → List ℕ → Type 0
 IsFront name old new bytes = IsTrue old.is_told → (new.file name ≡ old.file name) ⊎ HoldsPrefix name old new bytes
 
--- a file could not be read: a read failed, or memory was wanting
+-- a file could not be read: a read failed, or memory ran out
 abbrev pub IsReadFault : FileFault → Type 0
 IsReadFault ReadFailed = Unit {0}
 IsReadFault Memory = Unit {0}

@@ -8,6 +8,6 @@ abbrev pub IsShort : ℕ → List ℕ → Option (Vec ℕ Global) → Type 0
 IsShort most file (Some bytes) = (file ≡ bytes.items) × (length bytes.items < most)
 IsShort most file None = most ≤ length file
 
--- the same of bytes that an opening of a name gives, where the folder tells its bytes
+-- the same of bytes that an opening of a name gives, where the folder has known bytes
 abbrev pub IsShortOf : ℕ → View → List ℕ → Option (Vec ℕ Global) → Type 0
 IsShortOf most view name short = IsTrue view.is_told → (file : List ℕ) × Gives view name file × IsShort most file short

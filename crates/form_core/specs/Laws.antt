@@ -1,4 +1,4 @@
--- What a file holds is what reading it in order comes to, and what was written.
+-- Laws: what a file holds is what reading it in order comes to, and what was written.
 use Rattle.std.specs.Prelude.{◌≡◌, ◌↔◌, ◌<◌, ◌^◌, ℕ, List, length, Ok, Some}
 use Rattle.dsd_bits.specs.Contents.{Content}
 use Rattle.dsd_bits.specs.Shape.{HasShape}

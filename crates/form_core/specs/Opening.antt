@@ -34,7 +34,7 @@ from_dsdiff (Err fault) otherwise = if is_other fault then otherwise else Err (d
 unfoldable pub opened_of : List ℕ → Result Opened ReadFault
 opened_of file = from_dsdiff (dsdiff.recording_of file) (from_dsf (dsf.recording_of file))
 
--- a call answered what reading gives, want of memory aside
+-- a call answered what reading gives, unless memory ran out
 abbrev pub Opens : Result Opened ReadFault → Result Opened ReadFault → Type 0
 Opens (Ok x) reading = reading ≡ Ok x
 Opens (Err Memory) reading = ⊤

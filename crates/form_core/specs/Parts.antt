@@ -34,7 +34,7 @@ tail_in Dsdiff r count = dsdiff.tail_text r (count / 8 * length r.channels)
 tail_in Dsf r count = r.tag
 tail_in Dsf8 r count = r.tag
 
--- the file of channels is a head, their bytes and a tail, and head and tail are those of any recording with as many channels and the same parts beside
+-- law: the file of channels is a head, their bytes and a tail, and head and tail are those of any recording with as many channels and the same parts beside
 abbrev pub WrittenInParts : Type 0
 WrittenInParts = (form : Form) (r : Content) (channels : List (List Bool)) → length r.channels ≡ length channels → FitsIn form (count_of channels)
     → text_in form (record r { channels = channels }) ≡ Some (head_in form r (count_of channels) ++ (laced_in (interleaving_in form) channels ++ tail_in form r (count_of channels)))

@@ -6,11 +6,11 @@ abbrev pub map_err : {X E F : Type 0} → (E → F) → Result X E → Result X 
 map_err f (Ok x) = Ok x
 map_err f (Err e) = Err (f e)
 
--- a call is refused as the steps are, want of memory aside
+-- a call is refused as the steps are, unless memory ran out
 abbrev pub Fails : {Y E : Type 0} → E → E → Result Y E → Type 0
 Fails memory e steps = (e ≡ memory) ⊎ (steps ≡ Err e)
 
--- what a call answered, its value seen by view, is what the steps come to, want of memory aside
+-- what a call answered, its value seen by view, is what the steps come to, unless memory ran out
 abbrev pub Gives : {X Y E : Type 0} → E → (X → Y) → Result X E → Result Y E → Type 0
 Gives memory view (Ok x) steps = steps ≡ Ok (view x)
 Gives memory view (Err e) steps = Fails memory e steps

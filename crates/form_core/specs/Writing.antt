@@ -15,7 +15,7 @@ pub record HoldsSound (form : Form) (recording : Content) (bytes : List ℕ) : T
   pub same_channels : again.channels ≡ recording.channels
   pub same_marks : form ≡ Dsdiff → again.marks ≡ recording.marks
 
--- a refusal of writing: part of a byte where there is no text, or want of memory
+-- a refusal of writing: part of a byte where there is no text, or memory ran out
 abbrev pub IsWriteFault : Form → Content → WriteFault → Type 0
 IsWriteFault form recording NotWholeBytes = text_in form recording ≡ None
 IsWriteFault form recording Memory = ⊤

@@ -30,6 +30,6 @@ claims_text weights cs = cert_head Two weights (length cs) ++ flat_map entry_tex
 abbrev pub cert_of : CutContent → List (List Bool) → List ℕ
 cert_of cut zs = claims_text (length cut.splice.weights) (claims cut zs)
 
--- the certificate of claims whose bits are least shows them to be least
+-- law: the certificate of claims whose bits are least shows them to be least
 abbrev pub CertificatesShow : Type 0
 CertificatesShow = (weights : ℕ) (cs : List Claim) → All (λ claim. IsBridging claim.bridging) cs → All IsLeastClaim cs → IsCert weights cs (claims_text weights cs)

@@ -14,7 +14,7 @@ use Rattle.master_core.specs.Choosing.{chosen_claims}
 use Rattle.master_core.specs.declared.certifying.CertifyingRoom.{CertifyingRoom}
 use Rattle.master_core.specs.declared.choosing.ChosenBridges.{ChosenBridges}
 
--- the room serves for the bridges of the cut
+-- the room serves for the certificate of the cut's bridges
 pub record IsRoomOf (cut : CutContent) (room : CertifyingRoom) : Type 0 where
   pub pass_fits : HasBuffers (2 ^ (length cut.splice.weights - 1)) room.pass
   pub row_fits : room_weights room.row ≡ length cut.splice.weights

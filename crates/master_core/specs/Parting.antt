@@ -10,7 +10,7 @@ use Rattle.master_core.specs.Best.{AreBestChannels, IsBestChannel, IsFirstLeastP
 use Rattle.judge_core.specs.Masters.{part_at}
 use Rattle.master_core.specs.declared.parting.MasterSource.{MasterSource}
 
--- the bits are those that were chosen for all bridges of the cut
+-- a `MasterSource` holds the bits that were chosen for all bridges of its cut
 pub record HasChosen (s : MasterSource) : Type 0 where
   pub places : s.places.now ≡ bridges s.cut.now
   pub chosen : AreChosen s.cut.now s.chosen.now

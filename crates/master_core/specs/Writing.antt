@@ -16,7 +16,7 @@ pub record AreRooms (number most : ℕ) (rooms : List RoomContent) : Type 0 wher
   pub as_many : length rooms ≡ number
   pub large : All (λ room. most ≤ room.most) rooms
 
--- a master of the cut can be written through the room: whole groups of blocks of its channels fit, and their sound bytes
+-- a master of the cut can be written through a `MasterRoom`: whole groups of blocks of its channels fit, and their sound bytes
 pub record IsRoomFor (cut : CutContent) (room : MasterRoom) : Type 0 where
   pub rooms : AreRooms (channel_number cut) room.stretch room.rooms.items
   pub some : 32768 ≤ room.stretch

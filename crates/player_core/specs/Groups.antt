@@ -1,4 +1,4 @@
--- Sound bytes in groups: for each channel in turn as many of its bytes as the form puts side by side.
+-- Sound bytes in groups: for each channel in turn as many of its bytes as the form puts side by side (DSDIFF 1.5, DSD sound data chunk; DSF 1.01, data chunk).
 use Rattle.std.specs.Prelude.{ℕ, ◌+◌, ◌*◌, ◌/◌, ◌%◌, min, List, map, slice_index}
 use Rattle.std.specs.List.{range_with_len}
 use Rattle.std.specs.Int.{div_ceil}

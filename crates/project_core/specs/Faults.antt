@@ -5,7 +5,7 @@ use Rattle.project_core.specs.declared.key.Key.TheVariants as keys
 use Rattle.project_core.specs.declared.fault.ProjectFault.{ProjectFault}
 use Rattle.project_core.specs.declared.fault.ProjectFault.TheVariants as faults
 
--- the fault that tells the key whose limit is broken
+-- a project's fault for a decimator's broken limit, which names the key of that limit
 abbrev pub limit_fault : TapsFault → ProjectFault
 limit_fault TapNumber = faults.OutOfLimit keys.Taps
 limit_fault TapSum = faults.OutOfLimit keys.Taps

@@ -1,4 +1,4 @@
--- What the words of the contracts have to do with each other.
+-- Laws: what the words of the contracts have to do with each other.
 use Rattle.std.specs.Prelude.{◌≡◌, ◌↔◌, ℕ, List, Ok}
 use Rattle.project_core.specs.Projects.{ProjectContent}
 use Rattle.project_core.specs.Meaning.{IsProject}

@@ -1,4 +1,4 @@
--- What TOML tables have.
+-- What TOML tables have, as the library `toml` reads them.
 use Rattle.std.specs.Prelude.{◌≡◌, ℕ, ℤ, pos, List, [], ◌∷◌, map, Option, Some, None, Bool, true, ◌&&◌, IsSome, IsTrue, if◌then◌else◌}
 use Rattle.std.specs.List.{list_any}
 use Rattle.std.specs.Str.{bytes_eq, is_utf8}

@@ -1,4 +1,4 @@
--- Sound bytes of one interleaving in another.
+-- Sound bytes of one interleaving in another (DSDIFF 1.5, DSF 1.01).
 use Rattle.std.specs.Prelude.{◌≡◌, ℕ, ◌+◌, ◌%◌, Bool, List, ◌++◌, length}
 use Rattle.dsd_bits.specs.declared.interleaving.Interleaving.{Interleaving}
 use Rattle.dsd_bits.specs.declared.interleaving.Interleaving.TheVariants.{Bytes, Blocks}
@@ -7,7 +7,7 @@ use Rattle.dsd_bits.specs.Lacing.{laced}
 use Rattle.dsd_bits.specs.Limits.{block_bits}
 use Rattle.dsd_bits.specs.Sounds.{sound_channels, sound_size}
 
--- the sound bytes of the channels
+-- the sound bytes of the channels: frames, or blocks
 abbrev pub laced_in : Interleaving → List (List Bool) → List ℕ
 laced_in Bytes channels = laced channels
 laced_in (Blocks order) channels = blocked order channels

@@ -25,14 +25,14 @@ failed_writes (Err TurnLimit) = 0
 failed_writes (Err Memory) = 0
 failed_writes (Ok x) = 0
 
--- a fault of reading: a read failed, there were too many, or memory was wanting
+-- a fault of reading: a read failed, there were too many, or memory ran out
 abbrev pub IsReadingFault : StreamFault → Type 0
 IsReadingFault ReadFailed = ⊤
 IsReadingFault TurnLimit = ⊤
 IsReadingFault Memory = ⊤
 IsReadingFault _ = ⊥
 
--- a fault of writing: a write failed, or memory was wanting
+-- a fault of writing: a write failed, or memory ran out
 abbrev pub IsWritingFault : StreamFault → Type 0
 IsWritingFault WriteFailed = ⊤
 IsWritingFault Memory = ⊤

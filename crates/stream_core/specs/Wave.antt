@@ -1,4 +1,4 @@
--- The WAVE file of a sound in parts, and how it begins.
+-- The WAVE file of a sound in parts, and how it begins (RIFF WAVE).
 use Rattle.std.specs.Prelude.{◌≡◌, ◌≢◌, ℕ, ◌/◌, ◌%◌, ◌≤◌, ◌^◌, List, Option, ⊤}
 use Rattle.std.specs.Io.KnownBytes.{Appends}
 use Rattle.dsd_bits.specs.declared.sound.Sound.{Sound}
@@ -10,10 +10,11 @@ use Rattle.wave_core.specs.Texts.{header, pad_bytes}
 use Rattle.sound_core.specs.declared.fault.StreamFault.{StreamFault}
 use Rattle.sound_core.specs.declared.fault.StreamFault.TheVariants.{RateNotDivided, TooLarge, WriteFailed, Memory}
 
--- what stands before the frames, and behind them
+-- the bytes before the frames
 abbrev pub header_of : Decimator → Sound → List ℕ
 header_of d s = header s.channels (s.rate / d.factor) d.width (total_frames d s)
 
+-- the bytes after the frames: one zero byte after odd data, else nothing
 abbrev pub pad_of : Decimator → Sound → List ℕ
 pad_of d s = pad_bytes s.channels d.width (total_frames d s)
 

@@ -37,7 +37,7 @@ pub record StreamsRead (old : View) (splice : SpliceContent) (number : ℕ) (nam
   pub file_read : IsReadOf old name file
   pub is_heard : HearsHeld splice number file heard
 
--- the same, or nothing: where the folder tells its bytes, an opening of the name gives no recording
+-- the same, or nothing: where the folder has known bytes, an opening of the name gives no recording
 abbrev pub StreamsFile : View → SpliceContent → ℕ → List ℕ → Option Heard → Type 0
 StreamsFile old splice number name (Some heard) = StreamsRead old splice number name heard
 StreamsFile old splice number name None = IsTrue old.is_told → (file : List ℕ) × Gives old name file × IsRefused file

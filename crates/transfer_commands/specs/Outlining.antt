@@ -19,12 +19,12 @@ pub record OutlinesRead (file_name : List ℕ) (old : View) (outline : Outline) 
   pub file_read : IsReadOf old file_name file
   pub is_outline : IsOutlined file outline
 
--- the same, or there is none: where the folder tells its bytes, an opening of the name gives no recording
+-- the same, or there is none: where the folder has known bytes, an opening of the name gives no recording
 abbrev pub OutlinesFile : List ℕ → View → Option Outline → Type 0
 OutlinesFile file_name old (Some outline) = OutlinesRead file_name old outline
 OutlinesFile file_name old None = IsTrue old.is_told → (file : List ℕ) × Gives old file_name file × IsRefused file
 
--- a file was not read: it could not be, or memory was wanting
+-- a file was not read: it could not be, or memory ran out
 abbrev pub IsUnread : CommandFault → Type 0
 IsUnread (Call Memory) = ⊤
 IsUnread ReadFailed = ⊤

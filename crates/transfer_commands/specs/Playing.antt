@@ -35,7 +35,7 @@ pub record EndsPlaying (project file output_name : List ℕ) (old new : View) (f
   pub outside : OnlyFromOutside (Some file) project fault
   pub front : LeavesFront project file fault output_name old new
 
--- the same of bytes that openings of the project and of a file give, where the folder tells its bytes
+-- the same of bytes that openings of the project and of a file give, where the folder has known bytes
 pub record LeavesOutput (project_name file_name output_name : List ℕ) (old new : View) (fault : calls.Fault) : Type 0 where
   pub project : List ℕ
   pub project_read : IsReadOf old project_name project

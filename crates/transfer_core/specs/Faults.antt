@@ -50,7 +50,7 @@ fault_of_stream fault = Stream fault
 abbrev pub OfStream : (StreamFault → Type 0) → Fault → Type 0
 OfStream P fault = (f : StreamFault) × (fault ≡ fault_of_stream f) × P f
 
--- an answer as one of such a file: a fault of anything else counts no device, as want of memory doesn't
+-- an answer as one of such a file, by which the failures of devices are counted: any other fault counts none, nor does running out of memory
 abbrev pub as_stream : {X : Type 0} → Result X Fault → Result X StreamFault
 as_stream (Ok x) = Ok x
 as_stream (Err (Stream fault)) = Err fault

@@ -16,7 +16,7 @@ use Rattle.transfer_core.specs.Faults.{fault_of_file}
 use Rattle.transfer_core.specs.Projects.{SaysDecimator, decimator_of}
 use Rattle.form_core.specs.Steps.{map_err}
 
--- the project's text says a decimator, the file holds a recording, and these bytes are the WAVE text of its samples
+-- the project's text says a decimator, the file holds a recording, the factor divides its rate, and these bytes are the WAVE text of its samples
 pub record Plays (project file bytes : List ℕ) : Type 0 where
   pub decimator : Decimator
   pub form : Form

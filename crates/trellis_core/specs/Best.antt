@@ -1,12 +1,13 @@
--- Least sums of steps by level and state, and the way back through them.
+-- Least sums of steps by level and state, and the way back through them (Viterbi 1967: survivors). Only the search's private functions cite this.
 use Rattle.std.specs.Prelude.{ℕ, zero, suc, ◌+◌, ◌-◌, ◌^◌, ◌==◌, min, nat_lt, if◌then◌else◌, Bool, List, [], ◌∷◌, map}
 use Rattle.std.specs.List.{range_with_len}
 use Rattle.cost_core.specs.Trellis.{Trellis, states, newest, before_by_0, before_by_1}
 
--- the sum by way of either state before a state, from the sums of the level before
+-- the sum by way of the state before whose oldest bit is 0, from the sums of the level before
 abbrev pub by_0 : Trellis → ℕ → (ℕ → ℕ) → ℕ → ℕ
 by_0 t level sum q = sum (before_by_0 t.width q) + t.step level (before_by_0 t.width q) (newest q)
 
+-- the sum by way of the state before whose oldest bit is 1, from the sums of the level before
 abbrev pub by_1 : Trellis → ℕ → (ℕ → ℕ) → ℕ → ℕ
 by_1 t level sum q = sum (before_by_1 t.width q) + t.step level (before_by_1 t.width q) (newest q)
 

@@ -1,4 +1,4 @@
--- The decisions of a search: for each level and state which of the two states before it the way back takes, a bit each.
+-- The decisions of a search: for each level and state which of the two states before it the way back takes, a bit each (Viterbi's algorithm). Only the search's private functions cite this.
 use Rattle.std.specs.Prelude.{◌≡◌, ℕ, ◌+◌, ◌*◌, ◌/◌, ◌%◌, ◌<◌, nat_lt, Bool, List, length, slice_index}
 use Rattle.std.specs.Int.{bit_at, div_ceil}
 use Rattle.cost_core.specs.Trellis.{Trellis, states, digit}

@@ -34,7 +34,7 @@ cut_spelling cost spelling row = spelling (cut_at cost row)
 abbrev pub HandsOverCutUpTo : Bridging → (List ℕ → List ℕ) → Option (List ℕ) → Option (List ℕ) → Type 0
 HandsOverCutUpTo d spelling old new = (x : List Bool) × IsLeastBridge d x × HandsOverUpTo (trellis_of d) (cut_spelling (bridge_cost d x) spelling) old new
 
--- a table of best sums is one of valid bounds where it is cut at the cost of a least bridge
+-- law: a table of best sums is one of valid bounds where it is cut at the cost of a least bridge
 abbrev pub CutRowsAreValid : Type 0
 CutRowsAreValid =
     (d : Bridging) (rows : List (List ℕ)) (x : List Bool) → IsBridging d → BestRows (trellis_of d) rows → IsLeastBridge d x

@@ -1,4 +1,4 @@
--- Least sums of steps by level and state, over all lists of bits, and tables of them.
+-- Least sums of steps by level and state, over all lists of bits, and tables of them (Viterbi 1967: shortest paths, the minimum over all paths).
 use Rattle.std.specs.Prelude.{◌≡◌, ◌↔◌, ℕ, zero, suc, ◌+◌, ◌==◌, ◌^◌, ◌<◌, ◌≤◌, ◌⊎◌, min, Bool, false, true, List, [], ◌∷◌, ◌++◌, filter, fold, length, map}
 use Rattle.std.specs.List.{range_with_len}
 use Rattle.cost_core.specs.Trellis.{Trellis, states, state_after, steps}
@@ -27,7 +27,7 @@ pub record BestRows (t : Trellis) (rows : List (List ℕ)) : Type 0 where
   pub is_table : IsTable t rows
   pub are_best : (level q : ℕ) → level ≤ t.levels → q < states t → IsBest t level q (value_in rows level q)
 
--- the best sums are valid bounds for each least bridge
+-- law: the best sums are valid bounds for each least bridge
 abbrev pub BestRowsAreValid : Type 0
 BestRowsAreValid =
     (d : Bridging) (rows : List (List ℕ)) (x : List Bool) → IsBridging d → BestRows (trellis_of d) rows → IsLeastBridge d x
@@ -54,6 +54,6 @@ least_row t level = map (least_sum t level) (range_with_len 0 (states t))
 unfoldable pub least_rows : Trellis → List (List ℕ)
 least_rows t = map (least_row t) (range_with_len 0 (t.levels + 1))
 
--- there is one table of best sums: that of the least sums over all lists
+-- law: a table is one of best sums exactly where it is `least_rows`, so there is one such table
 abbrev pub BestRowsAreLeast : Type 0
 BestRowsAreLeast = (t : Trellis) (rows : List (List ℕ)) → BestRows t rows ↔ (rows ≡ least_rows t)

@@ -1,4 +1,4 @@
--- The room of a pass over the levels.
+-- The room of a pass over the levels. Only the search's private functions cite this.
 use Rattle.std.specs.Prelude.{◌≡◌, ℕ, ◌*◌, length}
 use Rattle.trellis_core.specs.Decisions.{decision_bytes}
 use Rattle.trellis_core.specs.declared.rows.PassRoom.{PassRoom}

@@ -1,4 +1,4 @@
--- What a WAVE file of PCM samples holds, as lists and numbers.
+-- What a WAVE file of PCM samples holds, as lists and numbers (RIFF WAVE; the limits are this project's).
 use Rattle.std.specs.Prelude.{◌≡◌, ℕ, ◌-◌, ◌%◌, ◌^◌, ◌<◌, ◌≤◌, ◌⊎◌, ℤ, pos, negsuc, List, length, All}
 
 -- samples of so many bits at a rate in frames a second: the channels of a frame in order, frame by frame
@@ -17,7 +17,7 @@ abbrev pub IsSample : ℕ → ℤ → Type 0
 IsSample width (pos n) = n < 2 ^ (width - 1)
 IsSample width (negsuc n) = n < 2 ^ (width - 1)
 
--- a width that samples may have
+-- a width that samples may have: 16 or 24
 abbrev pub IsWidth : ℕ → Type 0
 IsWidth width = (width ≡ 16) ⊎ (width ≡ 24)
 

@@ -1,4 +1,4 @@
--- How the parts of a WAVE file make the whole.
+-- Laws: how the parts of a WAVE file make the whole.
 use Rattle.std.specs.Prelude.{◌≡◌, ℕ, ◌*◌, ◌^◌, ◌≤◌, ◌++◌, length, Some, None}
 use Rattle.std.specs.List.{flat_map}
 use Rattle.wave_core.specs.Contents.{Pcm}

@@ -1,4 +1,4 @@
--- The sizes that a WAVE file names, in bytes.
+-- The sizes that a WAVE file names, in bytes (Microsoft and IBM, Multimedia Programming Interface and Data Specifications 1.0, WAVE form, PCM; Microsoft, WAVEFORMATEXTENSIBLE).
 use Rattle.std.specs.Prelude.{ℕ, ◌+◌, ◌-◌, ◌*◌, ◌/◌, ◌%◌, ◌^◌, ◌<◌, Bool, ◌==◌, ◌||◌, nat_lt, if◌then◌else◌}
 use Rattle.wave_core.specs.Contents.{WaveSpec}
 

@@ -9,7 +9,7 @@ ghost use Rattle.cut_core.specs.Opening.{file_bytes};
 ghost use Rattle.form_core.specs.Steps.{Fails};
 
 use crate::planning::{PlannedMaster, plan_master};
-use device_core::Outlet;
+use chunk_core::Outlet;
 use form_core::Form;
 use judge_core::cut_files;
 use std::alloc::{AllocError, Global};

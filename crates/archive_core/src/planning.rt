@@ -4,11 +4,11 @@ ghost use Rattle.std.specs.Prelude.{◌≡◌, ◌+◌, ◌-◌, ◌<◌, ◌^�
 ghost use Rattle.judge_core.specs.Cutting.{SaysCut};
 ghost use Rattle.archive_core.specs.Editing.{Edits};
 ghost use Rattle.archive_core.specs.Planning.{AnswersPlanned, IsFileOf, IsPlanned, Plans};
-ghost use Rattle.device_core.specs.Outlets.{Puts, PutsPart, outlet_failures, outlet_writer};
+ghost use Rattle.chunk_core.specs.Outlets.{Puts, PutsPart, outlet_failures, outlet_writer};
 ghost use Rattle.master_core.specs.Certifying.{AppendsCert, AppendsCertFront};
 
 use cut_core::Cut;
-use device_core::{Device, Outlet};
+use chunk_core::{Device, Outlet};
 use form_core::{Ends, Form};
 use master_core::{
     CertifyingRoom, ChosenBridges, MasterRoom, Planned, certify, plan, write_master,

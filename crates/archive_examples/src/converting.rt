@@ -6,7 +6,7 @@ ghost use Rattle.sound_core.specs.Outlines.{AreTold, around_of};
 
 use crate::long_sounds::{blocks, laced};
 use crate::streamed::{NEVER, Streamed, check_streamed, roomy};
-use device_core::{Inlet, Outlet};
+use chunk_core::{Inlet, Outlet};
 use fixtures::devices::{Dripping, Sipping, drip, sip};
 use fixtures::files::{FILE, ONES_FILE, STEREO, followed, mono, noted, one_bit, three, with_sound};
 use form_core::Form;

@@ -3,7 +3,7 @@
 use crate::long_sounds::{blocks, laced};
 use crate::played::two_groups;
 use crate::streamed::NEVER;
-use device_core::Inlet;
+use chunk_core::Inlet;
 use dsd_bits::{BitRange, Bits};
 use fixtures::compared::equal;
 use fixtures::devices::drip;

@@ -1,11 +1,11 @@
 //! Plays a reader's file to a writer, and files that several examples play.
 
 ghost use Rattle.std.specs.Prelude.{◌-◌, ◌<◌, ◌^◌};
-ghost use Rattle.device_core.specs.Inlets.{inlet_failures, inlet_given, inlet_reads};
+ghost use Rattle.chunk_core.specs.Inlets.{inlet_failures, inlet_given, inlet_reads};
 
 use crate::streamed::{NEVER, Streamed, check_streamed, roomy};
 use archive_core::{play, play_stream};
-use device_core::{Inlet, Outlet};
+use chunk_core::{Inlet, Outlet};
 use fixtures::compared::equal;
 use fixtures::devices::{Dripping, Sipping, drip, sip};
 use fixtures::files::dsf_of;

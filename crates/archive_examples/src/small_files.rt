@@ -4,7 +4,7 @@
 use crate::played::{ONES, check_played, play_on, plays, plays_built, two_groups};
 use crate::streamed::NEVER;
 use archive_core::play;
-use device_core::Inlet;
+use chunk_core::Inlet;
 use fixtures::compared::equal;
 use fixtures::devices::{drip, sip};
 use fixtures::files::{

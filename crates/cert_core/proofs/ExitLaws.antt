@@ -3,11 +3,11 @@ use Rattle.std.specs.Prelude.{if◌then◌else◌, ◌↔◌}
 use Rattle.std.proofs.Common.{◌≡◌, ℕ, ◌+◌, ◌-◌, ◌*◌, ◌^◌, ◌≤◌, ◌∙◌, Bool, true, false, Some, Ok, Err, IsErrOf, ap, arith, length, refl, subst, sym}
 use native.Mathlib.Nat.{ℕ_set}
 use native.Mathlib.Bridge.{le_prop}
-use Rattle.device_core.specs.FusedOutlets.{failed_parts, fused_failed, fused_outlet}
-use Rattle.device_core.specs.Outlets.{outlet_failures}
-use Rattle.device_core.specs.declared.fused_outlet.FusedFault.{FusedFault}
-use Rattle.device_core.specs.declared.fused_outlet.FusedFault.TheVariants.{Device, Failed}
-use Rattle.device_core.specs.declared.fused_outlet.FusedOutlet.{FusedOutlet}
+use Rattle.chunk_core.specs.FusedOutlets.{failed_parts, fused_failed, fused_outlet}
+use Rattle.chunk_core.specs.Outlets.{outlet_failures}
+use Rattle.chunk_core.specs.declared.fused_outlet.FusedFault.{FusedFault}
+use Rattle.chunk_core.specs.declared.fused_outlet.FusedFault.TheVariants.{Device, Failed}
+use Rattle.chunk_core.specs.declared.fused_outlet.FusedOutlet.{FusedOutlet}
 use Rattle.cert_core.specs.Counting.{IsCounted}
 use Rattle.cert_core.specs.Readers.{IsWell}
 use Rattle.cert_core.specs.declared.verdict.CertReason.{CertReason}

@@ -1,8 +1,8 @@
 -- The failures of an outlet that a writer of certificates was given.
 use Rattle.std.specs.Prelude.{◌≡◌, ℕ, ◌+◌, if◌then◌else◌}
-use Rattle.device_core.specs.FusedOutlets.{fused_failed, fused_outlet}
-use Rattle.device_core.specs.Outlets.{outlet_failures}
-use Rattle.device_core.specs.declared.fused_outlet.FusedOutlet.{FusedOutlet}
+use Rattle.chunk_core.specs.FusedOutlets.{fused_failed, fused_outlet}
+use Rattle.chunk_core.specs.Outlets.{outlet_failures}
+use Rattle.chunk_core.specs.declared.fused_outlet.FusedOutlet.{FusedOutlet}
 
 -- an outlet that had so many failures before has one more where a write failed since
 abbrev pub IsCounted : {W : Type 0} → ℕ → FusedOutlet W → Type 0

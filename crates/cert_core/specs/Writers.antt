@@ -1,9 +1,9 @@
 -- What contracts see of a writer of certificates, and in which order its calls come while it hasn't failed.
 use Rattle.std.specs.Prelude.{ℕ, ◌-◌, ◌^◌, Bool, true, false, List, Option, if◌then◌else◌}
-use Rattle.device_core.specs.declared.outlet.Outlet.{Outlet}
-use Rattle.device_core.specs.Outlets.{Puts, PutsPart, outlet_failures}
+use Rattle.chunk_core.specs.declared.outlet.Outlet.{Outlet}
+use Rattle.chunk_core.specs.Outlets.{Puts, PutsPart, outlet_failures}
 use Rattle.cert_core.specs.declared.writer.CertWriter.{CertWriter}
-use Rattle.device_core.specs.FusedOutlets.{fused_outlet, fused_failed}
+use Rattle.chunk_core.specs.FusedOutlets.{fused_outlet, fused_failed}
 use Rattle.cert_core.specs.Text.{cert_head}
 use Rattle.cert_core.specs.declared.version.Version.{Version}
 

@@ -2,7 +2,7 @@
 
 ghost use Rattle.std.specs.Prelude.{◌≡◌, ℕ, ◌+◌, ◌*◌, ◌-◌, ◌^◌, ◌<◌, ◌≤◌, length, slice_index_or, IfOk, OnOk};
 ghost use Rattle.std.specs.Int.{w64, to_be_bytes};
-ghost use Rattle.device_core.specs.Inlets.{Gives, inlet_failures, inlet_reader};
+ghost use Rattle.chunk_core.specs.Inlets.{Gives, inlet_failures, inlet_reader};
 ghost use Rattle.cost_core.specs.Trellis.{states, cost, IsBounded};
 ghost use Rattle.cost_core.specs.StateCosts.{trellis_of};
 ghost use Rattle.cost_core.specs.Limits.{IsBridging};
@@ -19,7 +19,7 @@ use crate::stop::Stop;
 use crate::verdict::CertReason;
 use crate::version::Version;
 use cost_core::Window;
-use device_core::Inlet;
+use chunk_core::Inlet;
 use dsd_bits::Bits;
 use std::alloc::{AllocError, Global};
 use std::io::Read;

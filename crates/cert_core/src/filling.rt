@@ -1,12 +1,12 @@
 //! Reads bytes that must be there.
 
 ghost use Rattle.std.specs.Prelude.{◌≡◌, ◌+◌, ◌-◌, ◌<◌, ◌^◌, length, OnOk};
-ghost use Rattle.device_core.specs.Inlets.{Gives, inlet_failures, inlet_reader};
+ghost use Rattle.chunk_core.specs.Inlets.{Gives, inlet_failures, inlet_reader};
 ghost use Rattle.cert_core.specs.Stops.{OnReason, failed_stops, CutBelow};
 
 use crate::stop::Stop;
 use crate::verdict::CertReason;
-use device_core::Inlet;
+use chunk_core::Inlet;
 use std::io::Read;
 
 /// Fills a buffer with the next bytes. Reason: `Cut` if there are fewer.

@@ -69,7 +69,7 @@ mod verdict;
 mod version;
 mod writer;
 
-pub use device_core::FusedFault as CertFault;
+pub use chunk_core::FusedFault as CertFault;
 pub use laws::{
     byte_width_is_least, cert_goes_on, one_reason, parts_join, read_is_cert, shown_is_least,
     shown_is_read,

@@ -2,7 +2,7 @@
 
 ghost use Rattle.std.specs.Prelude.{◌≡◌, ◌+◌, ◌-◌, ◌^◌, ◌<◌, ◌≤◌, ◌++◌, List, ℕ, length, true, false, IfSome, IsErrOf};
 ghost use Rattle.std.specs.Io.KnownBytes.{IsAtEnd};
-ghost use Rattle.device_core.specs.Inlets.{Gives, inlet_failures, inlet_reader};
+ghost use Rattle.chunk_core.specs.Inlets.{Gives, inlet_failures, inlet_reader};
 ghost use Rattle.cost_core.specs.StateCosts.{trellis_of};
 ghost use Rattle.cost_core.specs.Bridges.{bridge_cost, IsLeastBridge};
 ghost use Rattle.cert_core.specs.Text.{cert_head};
@@ -15,7 +15,7 @@ use crate::stop::Stop;
 use crate::verdict::{CertReason, CertVerdict, CheckFault};
 use crate::version::Version;
 use cost_core::Window;
-use device_core::Inlet;
+use chunk_core::Inlet;
 use dsd_bits::Bits;
 use std::alloc::Global;
 use std::io::Read;

@@ -2,7 +2,7 @@
 
 ghost use Rattle.std.specs.Prelude.{◌≡◌, ℕ, ◌+◌, ◌*◌, ◌-◌, ◌^◌, ◌<◌, ◌≤◌, [], length, map, take, drop, flat_map, slice_index, slice_index_or, IfOk, IfErr, OnOk};
 ghost use Rattle.std.specs.Int.{w64, to_be_bytes, bytes_high_first};
-ghost use Rattle.device_core.specs.Inlets.{Gives, inlet_failures, inlet_reader};
+ghost use Rattle.chunk_core.specs.Inlets.{Gives, inlet_failures, inlet_reader};
 ghost use Rattle.cert_core.specs.Reasons.{Bounded};
 ghost use Rattle.cert_core.specs.Spelling.{raised_text, row_text};
 ghost use Rattle.cert_core.specs.Stops.{OnLeft, OnReason, failed_stops, InForm, InSpelling, RaisedReason};
@@ -14,7 +14,7 @@ use crate::spelling::{bounds_of, width_of};
 use crate::stop::Stop;
 use crate::verdict::CertReason;
 use crate::version::Version;
-use device_core::Inlet;
+use chunk_core::Inlet;
 use std::io::Read;
 
 // The number in the eight bytes at `place`.

@@ -9,7 +9,7 @@ use std::io::Write;
 /// refuses, as many rows as an entry can have.
 impl<W: Write> LevelSink for CertWriter<W> {
     ghost use Rattle.std.specs.Prelude.{ℕ};
-    ghost use Rattle.device_core.specs.Outlets.{outlet_writer};
+    ghost use Rattle.chunk_core.specs.Outlets.{outlet_writer};
     ghost use Rattle.cert_core.specs.Spelling.{row_text, version_number, version_of};
     ghost use Rattle.cert_core.specs.Writers.{Stage, cert_outlet, cert_version, has_failed, row_length, rows_taken, stage};
 

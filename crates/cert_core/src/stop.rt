@@ -1,7 +1,7 @@
 //! Why a reading stops before its end.
 
 use crate::verdict::CertReason;
-use device_core::Device;
+use chunk_core::Device;
 use std::alloc::AllocError;
 
 /// A reason for a rejection, a read that failed, or out of memory.

@@ -2,8 +2,8 @@
 
 ghost use Rattle.std.specs.Prelude.{◌≡◌, true, false, ◌+◌, ◌*◌, ◌-◌, ◌<◌, ◌≤◌, ◌^◌, length, not, is_ok, ◌↔◌, IsErrOf, OnOk, OnErr, IfOk, IfErr};
 ghost use Rattle.std.specs.Int.{w64, to_be_bytes};
-ghost use Rattle.device_core.specs.FusedOutlets.{failed_parts};
-ghost use Rattle.device_core.specs.Outlets.{outlet_failures};
+ghost use Rattle.chunk_core.specs.FusedOutlets.{failed_parts};
+ghost use Rattle.chunk_core.specs.Outlets.{outlet_failures};
 ghost use Rattle.cert_core.specs.Counting.{IsCounted};
 ghost use Rattle.cert_core.specs.Rooms.{room_weights};
 ghost use Rattle.cert_core.specs.Spelling.{row_text};
@@ -14,7 +14,7 @@ use crate::numbers::{head_bytes, start_bytes};
 use crate::room::CertRoom;
 use crate::spelling::put_row;
 use crate::version::Version;
-use device_core::{FusedOutlet, Outlet};
+use chunk_core::{FusedOutlet, Outlet};
 use std::alloc::Global;
 use std::io::Write;
 

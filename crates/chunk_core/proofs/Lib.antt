@@ -1,6 +1,7 @@
-pub mod Steps
+pub mod PlaceLaws
+pub mod Pulls
 pub mod Ranges
 pub mod ReadingLaws
-pub mod PlaceLaws
 pub mod SpelledAgain
+pub mod Steps
 pub mod WalkLoop

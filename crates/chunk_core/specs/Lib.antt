@@ -1,7 +1,11 @@
 pub mod Chunks
+pub mod FusedInlets
+pub mod FusedOutlets
 pub mod Heads
+pub mod Inlets
 pub mod Laws
 pub mod Numbers
+pub mod Outlets
 pub mod Places
 pub mod Reading
 pub mod Steps

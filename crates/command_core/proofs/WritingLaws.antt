@@ -2,7 +2,7 @@
 use Rattle.std.proofs.Common.{◌≡◌, ℕ, inl, inr, ◌⊎◌, List, [], ◌++◌, true, false, IsTrue, Option, None, Some, Result, Ok, Err, ap, subst, ◌∙◌}
 use Rattle.std.specs.Prelude.{IsOk, OnErr, OnOk, is_ok}
 use Rattle.std.specs.Io.KnownBytes.{Appends}
-use Rattle.device_core.specs.Outlets.{AppendsPart}
+use Rattle.chunk_core.specs.Outlets.{AppendsPart}
 use Rattle.folder_core.specs.Files.{HoldsPrefix, IsEnded, IsFront, IsGivenUp, IsPut, KeepsOthers, View}
 use Rattle.archive_core.specs.Planning.{CertifiesPlanned, IsSamePlan}
 use Rattle.archive_core.specs.declared.planning.PlannedMaster.{PlannedMaster}

@@ -2,11 +2,11 @@
 
 ghost use Rattle.std.specs.Prelude.{◌≡◌, ◌⊎◌, true};
 ghost use Rattle.std.specs.Io.KnownBytes.{IsAtEnd};
-ghost use Rattle.device_core.specs.Inlets.{inlet_reader};
+ghost use Rattle.chunk_core.specs.Inlets.{inlet_reader};
 ghost use Rattle.transfer_commands.specs.declared.fault.CommandFault.TheVariants as faults;
 
 use archive_core::Fault;
-use device_core::{Inlet, MOST_READS};
+use chunk_core::{Inlet, MOST_READS};
 use folder_core::Folder;
 use std::io::Read;
 use transfer_commands::CommandFault;

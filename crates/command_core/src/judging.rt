@@ -9,7 +9,7 @@ ghost use Rattle.command_core.specs.Commands.{IsLeastIfAccepted, JudgesBy};
 use crate::ending::reads_to_end;
 use cert_core::CertReader;
 use cut_core::Cut;
-use device_core::{FusedInlet, Inlet, MOST_READS};
+use chunk_core::{FusedInlet, Inlet, MOST_READS};
 use judge_core::{Found, Verdict, check_found};
 use sound_core::StreamFault;
 use std::alloc::Global;

@@ -7,7 +7,7 @@ ghost use Rattle.command_core.specs.Masters.{FindsMaster};
 
 use crate::ending::reads_to_end;
 use cut_core::Cut;
-use device_core::Inlet;
+use chunk_core::Inlet;
 use folder_core::Folder;
 use judge_core::{Found, find_master};
 use sound_core::StreamFault;

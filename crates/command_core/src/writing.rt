@@ -7,7 +7,7 @@ ghost use Rattle.folder_core.specs.Files.{IsFront, IsPut, KeepsOthers};
 ghost use Rattle.folder_core.specs.declared.fault.FileFault.TheVariants as faults;
 
 use archive_core::PlannedMaster;
-use device_core::Outlet;
+use chunk_core::Outlet;
 use folder_core::{FileFault, Folder, FolderFault, hand_back};
 
 /// Creates a file, writes the planned master to it and keeps it, or gives it up if a write failed. Before that, it

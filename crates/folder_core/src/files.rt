@@ -6,7 +6,7 @@ ghost use Rattle.folder_core.specs.declared.fault.FileFault.TheVariants as fault
 
 use crate::fault::FileFault;
 use crate::folder::Folder;
-use device_core::{FusedInlet, MOST_READS, Outlet};
+use chunk_core::{FusedInlet, MOST_READS, Outlet};
 use std::alloc::Global;
 use std::io::Read;
 

@@ -6,7 +6,7 @@ ghost use Rattle.folder_core.specs.ShortFiles.{IsShort, IsShortOf};
 
 use crate::fault::FileFault;
 use crate::folder::Folder;
-use device_core::Inlet;
+use chunk_core::Inlet;
 use std::alloc::Global;
 use std::io::Read;
 

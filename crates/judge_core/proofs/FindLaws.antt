@@ -1,6 +1,6 @@
 -- What was found of a master's file that was read.
 use Rattle.std.proofs.Common.{ℕ, inl, inr, List, IfSome, None, Option, Some}
-use Rattle.device_core.specs.declared.inlet.Inlet.{Inlet}
+use Rattle.chunk_core.specs.declared.inlet.Inlet.{Inlet}
 use Rattle.dsd_bits.specs.declared.blocks.BitOrder.TheVariants.{LeastFirst, MostFirst}
 use Rattle.form_core.specs.declared.form.Form.TheVariants.{Dsdiff, Dsf, Dsf8}
 use Rattle.cut_core.specs.Cuts.{CutContent}

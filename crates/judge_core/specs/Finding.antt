@@ -1,6 +1,6 @@
 -- What is found of a master's file that is read to be judged.
 use Rattle.std.specs.Prelude.{ℕ, List, IfSome, None, Option, Some}
-use Rattle.device_core.specs.declared.inlet.Inlet.{Inlet}
+use Rattle.chunk_core.specs.declared.inlet.Inlet.{Inlet}
 use Rattle.dsd_bits.specs.Contents.{Content}
 use Rattle.form_core.specs.declared.form.Form.{Form}
 use Rattle.form_core.specs.Forms.{HoldsAs}

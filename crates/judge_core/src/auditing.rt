@@ -1,7 +1,7 @@
 //! The file of a master, read once.
 
 ghost use Rattle.std.specs.Prelude.{◌≡◌, ◌+◌, ◌-◌, ◌<◌, ◌≤◌, ◌^◌, IfErr, IfOk, IsErrOf};
-ghost use Rattle.device_core.specs.Inlets.{inlet_failures, inlet_given, inlet_reader, inlet_reads};
+ghost use Rattle.chunk_core.specs.Inlets.{inlet_failures, inlet_given, inlet_reader, inlet_reads};
 ghost use Rattle.sound_core.specs.Faults.{failed_reads};
 ghost use Rattle.sound_core.specs.Outlines.{IsOutlineFault};
 ghost use Rattle.judge_core.specs.Auditing.{AuditsFile, AuditsGiven};
@@ -10,7 +10,7 @@ use crate::auditor::Auditor;
 use crate::finding::{CuedPlace, lowest_off};
 use crate::ranges::bridge_ranges;
 use cut_core::Cut;
-use device_core::Inlet;
+use chunk_core::Inlet;
 use dsd_bits::Bits;
 use form_core::has_shape;
 use sound_core::{Outline, StreamFault, read_into};

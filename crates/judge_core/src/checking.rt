@@ -3,7 +3,7 @@
 ghost use Rattle.std.specs.Prelude.{◌≡◌, ◌+◌, ◌-◌, ◌^◌, ◌<◌, ◌⊎◌, IfErr, IfOk, IfSome, List, None, ℕ};
 ghost use Rattle.cert_core.specs.Readers.{cert_inlet};
 ghost use Rattle.cut_core.specs.Opening.{file_bytes};
-ghost use Rattle.device_core.specs.Inlets.{inlet_failures, inlet_reader};
+ghost use Rattle.chunk_core.specs.Inlets.{inlet_failures, inlet_reader};
 ghost use Rattle.form_core.specs.Steps.{Fails};
 ghost use Rattle.judge_core.specs.Accepting.{Accepts, AnswersAccepted, CostsLeast, CostsWindows, IfAccepted, IfRejected, IsLeastMaster, IsMaster, ReadsAccepted, RejectsFirst, fault_of_check};
 ghost use Rattle.judge_core.specs.Cutting.{SaysCut, said_cut};
@@ -17,7 +17,7 @@ use crate::reading::find_master;
 use crate::verdict::{Reason, Verdict};
 use cert_core::{CertReader, CheckFault};
 use cut_core::Cut;
-use device_core::Inlet;
+use chunk_core::Inlet;
 use sound_core::StreamFault;
 use std::alloc::Global;
 use std::io::Read;

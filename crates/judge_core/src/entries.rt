@@ -2,7 +2,7 @@
 
 ghost use Rattle.std.specs.Prelude.{◌≡◌, ◌+◌, ◌-◌, ◌^◌, ◌<◌, ◌≤◌, All, Bool, IfOk, IfSome, List, None, OnOk, [], false, length, map, slice_index_or, true};
 ghost use Rattle.std.specs.Io.KnownBytes.{IsAtEnd};
-ghost use Rattle.device_core.specs.Inlets.{inlet_failures, inlet_reader};
+ghost use Rattle.chunk_core.specs.Inlets.{inlet_failures, inlet_reader};
 ghost use Rattle.cert_core.specs.Readers.{cert_inlet, failed_checks, has_read_head, read_version};
 ghost use Rattle.cut_core.specs.Bridges.{IsPlace};
 ghost use Rattle.judge_core.specs.Judging.{JudgesCert, JudgesClaim, JudgesClaims, JudgesHead};

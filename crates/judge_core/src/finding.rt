@@ -2,7 +2,7 @@
 
 ghost use Rattle.std.specs.Prelude.{◌≡◌, ◌+◌, ◌-◌, ◌^◌, ◌<◌, IfOk, IfSome, MatchOption, None, length};
 ghost use Rattle.dsd_bits.specs.Contents.{Content};
-ghost use Rattle.device_core.specs.Inlets.{inlet_failures, inlet_reader};
+ghost use Rattle.chunk_core.specs.Inlets.{inlet_failures, inlet_reader};
 ghost use Rattle.cert_core.specs.Readers.{cert_inlet, failed_checks};
 ghost use Rattle.cut_core.specs.Cuts.{channel_number};
 ghost use Rattle.judge_core.specs.Checking.{HaveShape, IsMasterOf, MasterReason};

@@ -1,7 +1,7 @@
 //! A master's file, read to be judged.
 
 ghost use Rattle.std.specs.Prelude.{◌≡◌, ◌+◌, ◌-◌, ◌<◌, ◌≤◌, ◌^◌, IfErr, IfOk, IfSome, IsErrOf};
-ghost use Rattle.device_core.specs.Inlets.{inlet_failures, inlet_given, inlet_reader, inlet_reads};
+ghost use Rattle.chunk_core.specs.Inlets.{inlet_failures, inlet_given, inlet_reader, inlet_reads};
 ghost use Rattle.sound_core.specs.Faults.{IsReadingFault, failed_reads};
 ghost use Rattle.form_core.specs.Forms as forms;
 ghost use Rattle.judge_core.specs.Auditing.{found_in};
@@ -10,7 +10,7 @@ ghost use Rattle.judge_core.specs.Finding.{IsFoundGiven, IsFoundHeld};
 use crate::auditing::{Audited, audit};
 use crate::finding::Found;
 use cut_core::Cut;
-use device_core::Inlet;
+use chunk_core::Inlet;
 use form_core::form_in;
 use sound_core::StreamFault;
 use std::alloc::Global;

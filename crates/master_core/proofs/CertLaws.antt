@@ -19,9 +19,9 @@ use Rattle.cert_core.specs.Certificates.{Claim, IsCert, Shows, ShowsAll}
 use Rattle.cert_core.specs.Spelling.{row_text}
 use Rattle.cert_core.specs.Text.{cert_entry, cert_head, entry_start}
 use Rattle.cert_core.specs.declared.version.Version.TheVariants.{Two}
-use Rattle.device_core.specs.Outlets.{AppendsFront, AppendsPart}
-use Rattle.device_core.specs.declared.fused_outlet.FusedFault.{FusedFault}
-use Rattle.device_core.specs.declared.fused_outlet.FusedFault.TheVariants.{Device, Failed}
+use Rattle.chunk_core.specs.Outlets.{AppendsFront, AppendsPart}
+use Rattle.chunk_core.specs.declared.fused_outlet.FusedFault.{FusedFault}
+use Rattle.chunk_core.specs.declared.fused_outlet.FusedFault.TheVariants.{Device, Failed}
 use Rattle.master_core.specs.Certificates.{CertificatesShow, claim_entry, claims_text, entry_text}
 use Rattle.master_core.specs.Certifying.{AppendsEntries, AppendsSomeEntries}
 

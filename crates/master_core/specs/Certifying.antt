@@ -1,7 +1,7 @@
 -- The certificate of chosen bridges, whole and in the making.
 use Rattle.std.specs.Prelude.{◌≡◌, ℕ, ◌-◌, ◌^◌, true, false, List, Option, flat_map, length}
 use Rattle.std.specs.Io.KnownBytes.{Appends}
-use Rattle.device_core.specs.Outlets.{AppendsFront}
+use Rattle.chunk_core.specs.Outlets.{AppendsFront}
 use Rattle.trellis_core.specs.Passes.{HasBuffers}
 use Rattle.cert_core.specs.Certificates.{Claim}
 use Rattle.cert_core.specs.Rooms.{room_weights}

@@ -1,7 +1,7 @@
 -- The file of a master, in three parts.
 use Rattle.std.specs.Prelude.{◌≡◌, ◌≤◌, ◌^◌, ℕ, Bool, List, [], Option, Some, length, replicate}
 use Rattle.std.specs.Io.KnownBytes.{Appends}
-use Rattle.device_core.specs.Outlets.{AppendsPart}
+use Rattle.chunk_core.specs.Outlets.{AppendsPart}
 use Rattle.dsd_bits.specs.Contents.{Content}
 use Rattle.dsdiff_core.specs.ReadAgain.{FitsFields}
 use Rattle.form_core.specs.declared.form.Form.{Form}

@@ -3,7 +3,7 @@
 ghost use Rattle.std.specs.Prelude.{◌≡◌, ◌+◌, ◌-◌, ◌<◌, ◌≤◌, ◌^◌, IfOk, MatchResult, OnErr, OnOk, is_ok, length, not};
 ghost use Rattle.cert_core.specs.Writers.{cert_outlet, entries_left, failures_before, has_failed};
 ghost use Rattle.cut_core.specs.Cuts.{CutContent};
-ghost use Rattle.device_core.specs.Outlets.{Puts, PutsFront, outlet_failures, outlet_writer};
+ghost use Rattle.chunk_core.specs.Outlets.{Puts, PutsFront, outlet_failures, outlet_writer};
 ghost use Rattle.master_core.specs.Certificates.{CertificatesShow, entry_text};
 ghost use Rattle.master_core.specs.Certifying.{AppendsCert, AppendsCertFront, AppendsEntries, AppendsSomeEntries, IsFresh, IsReady, IsRoomOf};
 ghost use Rattle.master_core.specs.Choosing.{AreBridgesOf, IsChosen, chosen_claims};
@@ -13,7 +13,7 @@ use crate::choosing::ChosenBridges;
 use cert_core::{CertRoom, CertWriter, Version};
 use cost_core::Window;
 use cut_core::{BridgePlace, Cut};
-use device_core::{Device, Outlet};
+use chunk_core::{Device, Outlet};
 use std::alloc::{AllocError, Global};
 use std::io::Write;
 use trellis_core::{Chosen, PassRoom, hand_cut};

@@ -1,7 +1,7 @@
 //! The whole file of a master, written from cues and bridges.
 
 ghost use Rattle.std.specs.Prelude.{◌≡◌, ◌↔◌, ◌+◌, ◌-◌, ◌<◌, ◌^◌, Err, IfOk, MatchResult, OnErr, OnOk, map};
-ghost use Rattle.device_core.specs.Outlets.{outlet_failures, outlet_writer};
+ghost use Rattle.chunk_core.specs.Outlets.{outlet_failures, outlet_writer};
 ghost use Rattle.dsd_bits.specs.Contents.{mark_content};
 ghost use Rattle.form_core.specs.Parts.{FitsIn};
 ghost use Rattle.cut_core.specs.Cuts.{master_length};
@@ -14,7 +14,7 @@ use crate::choosing::ChosenBridges;
 use crate::parting::MasterSource;
 use crate::writing::{MasterRoom, has_one_best, write_sound};
 use cut_core::Cut;
-use device_core::{Device, Outlet};
+use chunk_core::{Device, Outlet};
 use dsd_bits::{Mark, Recording, silent_channels};
 use form_core::{Ends, Form, WriteFault, ends_in, fields_fit, interleaving_in, written_in_parts};
 use std::alloc::{AllocError, Global};

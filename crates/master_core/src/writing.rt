@@ -3,7 +3,7 @@
 
 ghost use Rattle.std.specs.Prelude.{◌≡◌, ◌+◌, ◌-◌, ◌*◌, ◌/◌, ◌%◌, ◌<◌, ◌≤◌, ◌^◌, All, IfOk, MatchResult, OnErr, OnOk, length, map, vec_capacity};
 ghost use Rattle.std.specs.Io.KnownBytes.{Appends};
-ghost use Rattle.device_core.specs.Outlets.{AppendsFront, outlet_failures, outlet_writer};
+ghost use Rattle.chunk_core.specs.Outlets.{AppendsFront, outlet_failures, outlet_writer};
 ghost use Rattle.dsd_bits.specs.Channels.{IsLevel, count_of};
 ghost use Rattle.dsd_bits.specs.Rooms.{rooms_bits};
 ghost use Rattle.dsd_bits.specs.Sounds.{sound_size};
@@ -14,7 +14,7 @@ ghost use Rattle.master_core.specs.Writing.{AreRooms, HasOneBest, IsRoomFor, Wri
 
 use crate::parting::{MasterSource, push_part};
 use cut_core::Cut;
-use device_core::{Device, Outlet};
+use chunk_core::{Device, Outlet};
 use dsd_bits::{BitRange, BitRoom, Interleaving};
 use relace_core::{push_rooms, stretch_bits};
 use std::alloc::{AllocError, Global};

@@ -1,13 +1,13 @@
 //! The certificate of a bridge of one bit, read a byte at a time, and by a reader that fails.
 
 ghost use Rattle.std.specs.Prelude.{◌≡◌, length};
-ghost use Rattle.device_core.specs.Inlets.{inlet_failures};
+ghost use Rattle.chunk_core.specs.Inlets.{inlet_failures};
 ghost use Rattle.cert_core.specs.Readers.{cert_inlet};
 
 use crate::certificates::{NARROW, WORKED};
 use cert_core::{CertReader, CertVerdict, CheckFault};
 use cost_core::{Window, WindowFault};
-use device_core::Inlet;
+use chunk_core::Inlet;
 use dsd_bits::Bits;
 use fixtures::devices::drip;
 use fixtures::windows::{bits_of, by_newest, ones, zeros};

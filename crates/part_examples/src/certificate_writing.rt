@@ -1,13 +1,13 @@
 //! The certificate of a bridge of one bit as it is written, and writers that fail.
 
 ghost use Rattle.std.specs.Prelude.{◌≡◌, ◌+◌, ◌<◌, ◌≤◌, ◌^◌, ◌-◌, length, false};
-ghost use Rattle.device_core.specs.Outlets.{outlet_failures};
+ghost use Rattle.chunk_core.specs.Outlets.{outlet_failures};
 ghost use Rattle.cert_core.specs.Writers.{has_head, is_open, row_length};
 
 use crate::certificates::{NARROW, WORKED};
 use cert_core::{CertFault, CertWriter, Version};
 use cost_core::LevelSink;
-use device_core::Outlet;
+use chunk_core::Outlet;
 use fixtures::devices::sip;
 use std::alloc::{AllocError, Global};
 use std::io::Write;

@@ -1,10 +1,10 @@
 //! What inlets and outlets, plain and fused, do with readers and writers that do little at a time and fail.
 
 ghost use Rattle.std.specs.Prelude.{◌<◌, ◌≤◌, ◌+◌, ◌-◌, ◌^◌};
-ghost use Rattle.device_core.specs.Inlets.{inlet_failures};
+ghost use Rattle.chunk_core.specs.Inlets.{inlet_failures};
 
 use crate::compared::check_printed;
-use device_core::{Device, FusedFault, FusedInlet, FusedOutlet, Inlet, Outlet};
+use chunk_core::{Device, FusedFault, FusedInlet, FusedOutlet, Inlet, Outlet};
 use fixtures::compared::equal;
 use fixtures::devices::{Dripping, drip, sip};
 use std::alloc::Global;

@@ -3,11 +3,11 @@
 ghost use Rattle.std.specs.Prelude.{◌≡◌, ◌+◌, ◌-◌, ◌<◌, ◌≤◌, ◌^◌, [], IfErr, OnOk, length, take};
 ghost use Rattle.std.specs.Io.KnownBytes.{IsAtEnd};
 ghost use Rattle.std.specs.Io.Iter.{u64_saturate};
-ghost use Rattle.device_core.specs.Inlets.{Gives, inlet_failures, inlet_given, inlet_reader};
+ghost use Rattle.chunk_core.specs.Inlets.{Gives, inlet_failures, inlet_given, inlet_reader};
 ghost use Rattle.sound_core.specs.Faults.{failed_reads};
 ghost use Rattle.relay_core.specs.Comparing.{ConsumesMany, IsExpectFault, IsFillFault, IsMoreFault};
 
-use device_core::Inlet;
+use chunk_core::Inlet;
 use sound_core::StreamFault;
 use std::io::Read;
 

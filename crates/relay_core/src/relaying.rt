@@ -2,15 +2,15 @@
 
 ghost use Rattle.std.specs.Prelude.{◌≡◌, ◌+◌, ◌*◌, ◌/◌, ◌%◌, ◌-◌, ◌<◌, ◌≤◌, ◌^◌, ◌++◌, IfErr, IfOk, OnOk, length};
 ghost use Rattle.std.specs.Io.Iter.{u64_saturate};
-ghost use Rattle.device_core.specs.Inlets.{inlet_failures, inlet_given, inlet_reader};
-ghost use Rattle.device_core.specs.Outlets.{outlet_failures, outlet_writer};
+ghost use Rattle.chunk_core.specs.Inlets.{inlet_failures, inlet_given, inlet_reader};
+ghost use Rattle.chunk_core.specs.Outlets.{outlet_failures, outlet_writer};
 ghost use Rattle.dsd_bits.specs.Sounds.{sound_size};
 ghost use Rattle.sound_core.specs.Faults.{failed_reads, failed_writes};
 ghost use Rattle.sound_core.specs.Outlines.{AreTold, around_of};
 ghost use Rattle.relay_core.specs.Relays.{IsPart, IsPartFault, IsRelacing, IsRelayFault, IsRestFault, PartFront, PassesRest, Relays, RelaysFront, RelaysGiven, RelaysPart};
 
 use crate::comparing::{BLOCK, expect, expect_end, fill, pass};
-use device_core::{Inlet, Outlet};
+use chunk_core::{Inlet, Outlet};
 use dsd_bits::{Interleaving, Sound};
 use relace_core::{Stretch, groups_join, push_relaced, stretch_bits, stretch_size};
 use sound_core::{Outline, StreamFault, put};

@@ -1,6 +1,6 @@
 -- What is kept of a sound are the stretches of its channels.
 use Rattle.std.proofs.Common.{◌≡◌, List, ℕ, Option, Some, None, subst}
-use Rattle.device_core.specs.declared.inlet.Inlet.{Inlet}
+use Rattle.chunk_core.specs.declared.inlet.Inlet.{Inlet}
 use Rattle.dsd_bits.specs.Sounds.{sound_channels}
 use Rattle.dsd_bits.specs.Stretches.{stretches_of}
 use Rattle.dsd_bits.specs.declared.stretches.BitRange.{BitRange}

@@ -1,8 +1,8 @@
 -- What was read of a file, part by part, and what its outline tells.
 use Rattle.std.proofs.Common.{◌≡◌, ◌≢◌, ℕ, ◌+◌, ◌<◌, ◌≤◌, List, [], ◌++◌, length, take, drop, Option, None, Some, IfSome, refl, sym, subst, ap, ◌∙◌, arith, append_assoc, append-nil, length-append, length-take, take-append-drop}
 use Rattle.std.specs.Io.KnownBytes.{Consumes, IsAtEnd}
-use Rattle.device_core.specs.Inlets.{inlet_reader}
-use Rattle.device_core.specs.declared.inlet.Inlet.{Inlet}
+use Rattle.chunk_core.specs.Inlets.{inlet_reader}
+use Rattle.chunk_core.specs.declared.inlet.Inlet.{Inlet}
 use Rattle.sound_core.specs.Outlines.{ReadsTag}
 use Rattle.sound_core.specs.Readers.{Passes}
 use Rattle.sound_core.specs.Reads.{Reads, ReadsAll, ReadsToEnd}

@@ -5,8 +5,8 @@ use Rattle.std.proofs.KnownBytes.{Consumes-nil, Consumes-trans, Consumes-whole}
 use Rattle.std.proofs.lemmas.Bool.{cases_lt}
 use Rattle.std.proofs.lemmas.List.{nil_from_length, take-append-le, take_all, take_min}
 use Rattle.std.proofs.Math.Seq.{take-append-add}
-use Rattle.device_core.specs.Inlets.{inlet_given, inlet_reader}
-use Rattle.device_core.specs.declared.inlet.Inlet.{Inlet}
+use Rattle.chunk_core.specs.Inlets.{inlet_given, inlet_reader}
+use Rattle.chunk_core.specs.declared.inlet.Inlet.{Inlet}
 use Rattle.sound_core.specs.Reads.{GivesBytes, Reads}
 
 pub reads_none : {R : Type 0} (left : R → Option (List ℕ)) (inlet : Inlet R) → Reads left inlet inlet []

@@ -1,8 +1,8 @@
 -- A reader that goes on: it stays the same, and what was counted adds up.
 use Rattle.std.proofs.Common.{◌≡◌, ◌≢◌, ℕ, ◌+◌, ◌≤◌, Result, Ok, Err, IfErr, IsErrOf, arith, refl, ap, subst, ◌∙◌}
 use Rattle.std.specs.Io.Iter.{u64_saturate}
-use Rattle.device_core.specs.Inlets.{inlet_failures, inlet_given, inlet_reads}
-use Rattle.device_core.specs.declared.inlet.Inlet.{Inlet}
+use Rattle.chunk_core.specs.Inlets.{inlet_failures, inlet_given, inlet_reads}
+use Rattle.chunk_core.specs.declared.inlet.Inlet.{Inlet}
 use Rattle.sound_core.specs.Faults.{IsSinkFault, failed_reads}
 use Rattle.sound_core.proofs.FaultLaws.{memory_no_turn, own_no_turn, own_unread}
 use Rattle.sound_core.specs.Readers.{Counts, IsReading, IsSame}

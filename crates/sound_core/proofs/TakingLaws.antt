@@ -2,8 +2,8 @@
 use Rattle.std.proofs.Common.{◌≡◌, ℕ, ◌+◌, ◌-◌, ◌%◌, ◌<◌, ◌≤◌, ◌⊎◌, inl, inr, List, [], ◌++◌, length, drop, Option, Some, None, IfSome, refl, sym, subst, ap, ◌∙◌, arith, append_assoc, length-append}
 use Rattle.std.proofs.lemmas.Bool.{cases_lt}
 use Rattle.std.proofs.lemmas.List.{nil_from_length}
-use Rattle.device_core.specs.Inlets.{inlet_given, inlet_reader}
-use Rattle.device_core.specs.declared.inlet.Inlet.{Inlet}
+use Rattle.chunk_core.specs.Inlets.{inlet_given, inlet_reader}
+use Rattle.chunk_core.specs.declared.inlet.Inlet.{Inlet}
 use Rattle.dsd_bits.specs.declared.interleaving.Interleaving.TheVariants.{Bytes}
 use Rattle.dsd_bits.specs.declared.sound.Sound.{Sound}
 use Rattle.dsd_bits.specs.Sounds.{IsSound, sound_size}

@@ -4,8 +4,8 @@ use Rattle.std.specs.Prelude.{Result, Ok, slice_range}
 use Rattle.std.proofs.lemmas.Bool.{cases_lt}
 use Rattle.std.proofs.lemmas.List.{take-append-le}
 use Rattle.chunk_core.specs.Chunks.{chunks}
-use Rattle.device_core.specs.Inlets.{inlet_given, inlet_reader}
-use Rattle.device_core.specs.declared.inlet.Inlet.{Inlet}
+use Rattle.chunk_core.specs.Inlets.{inlet_given, inlet_reader}
+use Rattle.chunk_core.specs.declared.inlet.Inlet.{Inlet}
 use Rattle.dsd_bits.specs.declared.blocks.BitOrder.{BitOrder}
 use Rattle.dsd_bits.specs.declared.interleaving.Interleaving.{Interleaving}
 use Rattle.dsd_bits.specs.declared.interleaving.Interleaving.TheVariants.{Bytes, Blocks}

@@ -1,6 +1,6 @@
 -- Stretches of a file's sound: the bits of each channel in ranges of places.
 use Rattle.std.specs.Prelude.{◌≡◌, ℕ, Bool, List, Option, IfSome}
-use Rattle.device_core.specs.declared.inlet.Inlet.{Inlet}
+use Rattle.chunk_core.specs.declared.inlet.Inlet.{Inlet}
 use Rattle.sound_core.specs.Outlines.{AreTold, StandsIn, Surroundings, with_sound}
 use Rattle.sound_core.specs.Reads.{Reads}
 use Rattle.dsd_bits.specs.Stretches.{stretches_of}

@@ -1,8 +1,8 @@
 -- What a file holds beside its sound, and where that stands.
 use Rattle.std.specs.Prelude.{◌≡◌, ◌≢◌, ◌⊎◌, ℕ, ◌+◌, ◌%◌, ◌<◌, Bool, true, List, [], ◌++◌, length, replicate, Option, Some, IfSome, ⊤}
 use Rattle.std.specs.Io.KnownBytes.{IsAtEnd}
-use Rattle.device_core.specs.Inlets.{inlet_reader}
-use Rattle.device_core.specs.declared.inlet.Inlet.{Inlet}
+use Rattle.chunk_core.specs.Inlets.{inlet_reader}
+use Rattle.chunk_core.specs.declared.inlet.Inlet.{Inlet}
 use Rattle.dsd_bits.specs.declared.interleaving.Interleaving.{Interleaving}
 use Rattle.dsd_bits.specs.declared.interleaving.Interleaving.TheVariants.{Bytes, Blocks}
 use Rattle.dsd_bits.specs.declared.sound.Sound.{Sound}

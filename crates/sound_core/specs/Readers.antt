@@ -1,8 +1,8 @@
 -- A reader of a file: what it keeps to, and how far it goes.
 use Rattle.std.specs.Prelude.{◌≡◌, ℕ, ◌+◌, ◌-◌, ◌<◌, ◌≤◌, ◌^◌, List, [], ◌++◌, length, take, Option, IfSome, Result, IsErrOf, ⊤}
 use Rattle.std.specs.Io.KnownBytes.{IsAtEnd}
-use Rattle.device_core.specs.Inlets.{inlet_failures, inlet_given, inlet_reader, inlet_reads}
-use Rattle.device_core.specs.declared.inlet.Inlet.{Inlet}
+use Rattle.chunk_core.specs.Inlets.{inlet_failures, inlet_given, inlet_reader, inlet_reads}
+use Rattle.chunk_core.specs.declared.inlet.Inlet.{Inlet}
 use Rattle.sound_core.specs.Faults.{failed_reads}
 use Rattle.sound_core.specs.Reads.{HasBudget, Reads}
 use Rattle.sound_core.specs.declared.fault.StreamFault.{StreamFault}

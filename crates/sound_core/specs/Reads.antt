@@ -2,8 +2,8 @@
 use Rattle.std.specs.Prelude.{◌≡◌, ℕ, ◌+◌, ◌-◌, ◌*◌, ◌<◌, ◌≤◌, ◌^◌, ◌⊎◌, List, ◌++◌, length, Option, IfSome}
 use Rattle.std.specs.Io.KnownBytes.{Consumes, IsAtEnd}
 use Rattle.std.specs.Io.Iter.{u64_saturate}
-use Rattle.device_core.specs.Inlets.{inlet_given, inlet_reader, inlet_reads}
-use Rattle.device_core.specs.declared.inlet.Inlet.{Inlet}
+use Rattle.chunk_core.specs.Inlets.{inlet_given, inlet_reader, inlet_reads}
+use Rattle.chunk_core.specs.declared.inlet.Inlet.{Inlet}
 
 -- up to so many reads of a block each, no count comes to its end
 pub record HasBudget {R : Type 0} (limit : ℕ) (inlet : Inlet R) : Type 0 where

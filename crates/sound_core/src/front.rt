@@ -1,7 +1,7 @@
 //! The front of a file, up to its sound.
 
 ghost use Rattle.std.specs.Prelude.{◌≡◌, ◌+◌, ◌-◌, ◌<◌, ◌≤◌, ◌^◌, ◌++◌, List, ℕ, IfErr, IfOk, OnOk, length};
-ghost use Rattle.device_core.specs.Inlets.{inlet_given, inlet_reader};
+ghost use Rattle.chunk_core.specs.Inlets.{inlet_given, inlet_reader};
 ghost use Rattle.dsd_bits.specs.Sounds.{IfFound, IfMore, IfRefused};
 ghost use Rattle.sound_core.specs.Faults.{StopsReading};
 ghost use Rattle.sound_core.specs.Files.{GivesNone, IsBeforeSound, IsFrontFault, IsRefused, TellsSound};

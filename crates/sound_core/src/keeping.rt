@@ -1,7 +1,7 @@
 //! Stretches of a file's sound, kept while the file is read once.
 
 ghost use Rattle.std.specs.Prelude.{◌≡◌, ◌+◌, ◌-◌, ◌<◌, ◌≤◌, ◌^◌, IfErr, IfOk, IsErrOf};
-ghost use Rattle.device_core.specs.Inlets.{inlet_failures, inlet_given, inlet_reader, inlet_reads};
+ghost use Rattle.chunk_core.specs.Inlets.{inlet_failures, inlet_given, inlet_reader, inlet_reads};
 ghost use Rattle.sound_core.specs.Faults.{failed_reads};
 ghost use Rattle.sound_core.specs.Keeping.{KeepsFile, KeepsGiven, stretches_in};
 ghost use Rattle.sound_core.specs.Outlines.{IsOutlineFault, around_of};
@@ -10,7 +10,7 @@ use crate::fault::StreamFault;
 use crate::keeper::Keeper;
 use crate::outline::Outline;
 use crate::taking::read_into;
-use device_core::Inlet;
+use chunk_core::Inlet;
 use dsd_bits::{BitRange, Bits};
 use std::alloc::Global;
 use std::io::Read;

@@ -1,7 +1,7 @@
 //! What a file holds beside its sound, read in one pass.
 
 ghost use Rattle.std.specs.Prelude.{◌≡◌, ◌+◌, ◌-◌, ◌%◌, ◌<◌, ◌≤◌, ◌^◌, ◌++◌, IfErr, IfOk, IsErrOf, length, true};
-ghost use Rattle.device_core.specs.Inlets.{inlet_failures, inlet_given, inlet_reader, inlet_reads};
+ghost use Rattle.chunk_core.specs.Inlets.{inlet_failures, inlet_given, inlet_reader, inlet_reads};
 ghost use Rattle.dsd_bits.specs.Sounds.{IsSound, has_blocks};
 ghost use Rattle.sound_core.specs.Faults.{failed_reads};
 ghost use Rattle.sound_core.specs.Files.{EndsAt};
@@ -12,7 +12,7 @@ use crate::fault::StreamFault;
 use crate::nothing::Nothing;
 use crate::reader::SoundReader;
 use crate::taking::read_into;
-use device_core::Inlet;
+use chunk_core::Inlet;
 use dsd_bits::{Interleaving, Recording, Sound};
 use std::alloc::Global;
 use std::io::Read;

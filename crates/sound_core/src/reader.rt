@@ -3,13 +3,13 @@
 ghost use Rattle.std.specs.Prelude.{◌≡◌, ◌+◌, ◌-◌, ◌<◌, ◌≤◌, ◌^◌, ◌++◌, [], List, ℕ, IfErr, IfOk, MatchResult, OnErr, OnOk, drop, length, take};
 ghost use Rattle.std.specs.Io.KnownBytes.{IsAtEnd};
 ghost use Rattle.std.specs.Io.Iter.{u64_saturate};
-ghost use Rattle.device_core.specs.Inlets.{PullsBehind, inlet_failures, inlet_given, inlet_reader, inlet_reads};
+ghost use Rattle.chunk_core.specs.Inlets.{PullsBehind, inlet_failures, inlet_given, inlet_reader, inlet_reads};
 ghost use Rattle.sound_core.specs.Faults.{IsReadingFault, StopsReading};
 ghost use Rattle.sound_core.specs.Readers.{Counts, Fills, IsAtStart, IsPassFault, IsReading, IsSame, Passes, PullsTo};
 ghost use Rattle.sound_core.specs.Reads.{Reads, ReadsAll, ReadsToEnd, ReadsUntil};
 
 use crate::fault::StreamFault;
-use device_core::{Device, Inlet, MOST_READS};
+use chunk_core::{Device, Inlet, MOST_READS};
 use std::alloc::{AllocError, Global};
 use std::io::Read;
 use std::mem;

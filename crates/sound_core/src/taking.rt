@@ -1,7 +1,7 @@
 //! A sound taken by a sink while its file is read once.
 
 ghost use Rattle.std.specs.Prelude.{◌≡◌, ◌+◌, ◌-◌, ◌<◌, ◌≤◌, ◌^◌, [], ℕ, List, IfErr, IfOk, IsErrOf, OnOk};
-ghost use Rattle.device_core.specs.Inlets.{inlet_failures, inlet_given, inlet_reader, inlet_reads};
+ghost use Rattle.chunk_core.specs.Inlets.{inlet_failures, inlet_given, inlet_reader, inlet_reads};
 ghost use Rattle.sound_core.specs.Faults.{failed_reads};
 ghost use Rattle.sound_core.specs.Outlines.{around_of};
 ghost use Rattle.sound_core.specs.Readers.{Counts, IsAtStart, IsReading, IsSame};
@@ -13,7 +13,7 @@ use crate::outline::{Outline, read_rest};
 use crate::part::SoundPart;
 use crate::reader::{SoundReader, new_block};
 use crate::sink::SoundSink;
-use device_core::Inlet;
+use chunk_core::Inlet;
 use dsd_bits::Sound;
 use relace_core::{stretch_bits, stretch_size};
 use std::alloc::Global;

@@ -1,11 +1,11 @@
 //! Bytes that go out, with the fault of whoever streams a file.
 
 ghost use Rattle.std.specs.Prelude.{◌≡◌, ◌+◌, ◌-◌, ◌<◌, ◌^◌, IfErr, OnErr, OnOk};
-ghost use Rattle.device_core.specs.Outlets.{Puts, PutsPart, outlet_failures};
+ghost use Rattle.chunk_core.specs.Outlets.{Puts, PutsPart, outlet_failures};
 ghost use Rattle.sound_core.specs.Faults.{IsWritingFault, failed_writes};
 
 use crate::fault::StreamFault;
-use device_core::Outlet;
+use chunk_core::Outlet;
 use std::io::Write;
 
 /// Writes these bytes.

@@ -3,7 +3,7 @@ use Rattle.std.proofs.Common.{◌≡◌, ℕ, ◌≤◌, List, [], ◌++◌, len
 use Rattle.std.specs.Io.KnownBytes.{Appends}
 use Rattle.std.proofs.KnownBytes.{Appends-nil, Appends-trans}
 use Rattle.std.proofs.lemmas.List.{nil_from_length}
-use Rattle.device_core.specs.Outlets.{AppendsFront, AppendsPart}
+use Rattle.chunk_core.specs.Outlets.{AppendsFront, AppendsPart}
 use Rattle.player_core.specs.Due.{all_bytes, bytes_heard, due_bytes}
 use Rattle.player_core.specs.PlayerView.{FeedsPlayer, FinishesPlayer, IsFed, IsPlayer, filter_of, sound_of}
 use Rattle.player_core.specs.declared.player.Player.{Player}

@@ -4,7 +4,7 @@ use Rattle.std.proofs.lemmas.Bool.{cases_lt}
 use Rattle.std.proofs.lemmas.List.{drop-append-le, nil_from_length, take_all}
 use Rattle.std.proofs.Math.Seq.{drop-append_seam, take-append_seam}
 use Rattle.std.specs.Io.KnownBytes.{Appends, Consumes}
-use Rattle.device_core.specs.Outlets.{AppendsFront}
+use Rattle.chunk_core.specs.Outlets.{AppendsFront}
 use Rattle.dsd_bits.specs.declared.interleaving.Interleaving.{Interleaving}
 use Rattle.dsd_bits.specs.declared.interleaving.Interleaving.TheVariants.{Bytes, Blocks}
 use Rattle.dsd_bits.specs.declared.sound.Sound.{Sound}

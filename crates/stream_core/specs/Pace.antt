@@ -8,8 +8,8 @@ use Rattle.wave_core.specs.Sizes.{block_align, header_size}
 use Rattle.sound_core.specs.Files.{TellsSound}
 use Rattle.sound_core.specs.Sinks.{sound_given}
 use Rattle.stream_core.specs.Playing.{PlaysBy, Stands, WritesFront}
-use Rattle.device_core.specs.Outlets.{outlet_failures, outlet_writer}
-use Rattle.device_core.specs.declared.outlet.Outlet.{Outlet}
+use Rattle.chunk_core.specs.Outlets.{outlet_failures, outlet_writer}
+use Rattle.chunk_core.specs.declared.outlet.Outlet.{Outlet}
 use Rattle.sound_core.specs.Faults.{IsBeforeWriting, StopsReading, failed_writes}
 use Rattle.sound_core.specs.declared.fault.StreamFault.{StreamFault}
 

@@ -1,7 +1,7 @@
 -- What plays a sound to an outlet while its file is read.
 use Rattle.std.specs.Prelude.{◌≡◌, ℕ, ◌+◌, ◌-◌, ◌%◌, ◌<◌, ◌≤◌, ◌^◌, List, ◌++◌, length, Option, Some, Err}
 use Rattle.std.specs.Io.KnownBytes.{Appends}
-use Rattle.device_core.specs.Outlets.{AppendsFront, outlet_failures, outlet_writer}
+use Rattle.chunk_core.specs.Outlets.{AppendsFront, outlet_failures, outlet_writer}
 use Rattle.dsd_bits.specs.declared.sound.Sound.{Sound}
 use Rattle.player_core.specs.Due.{all_bytes, due_bytes}
 use Rattle.player_core.specs.Laws.{file_around, total_frames}

@@ -1,12 +1,12 @@
 //! The frames of a sound that comes piece by piece.
 
 ghost use Rattle.std.specs.Prelude.{◌≡◌, ◌+◌, ◌-◌, ◌<◌, ◌≤◌, ◌^◌, [], IfErr, OnErr, OnOk, length};
-ghost use Rattle.device_core.specs.Outlets.{outlet_failures, outlet_writer};
+ghost use Rattle.chunk_core.specs.Outlets.{outlet_failures, outlet_writer};
 ghost use Rattle.player_core.specs.PlayerView.{IsPlayer, fed_of, filter_of, sound_of};
 ghost use Rattle.sound_core.specs.Faults.{IsWritingFault, failed_writes};
 ghost use Rattle.stream_core.specs.Pieces.{PutsDue, PutsFrontOf, PutsRest};
 
-use device_core::Outlet;
+use chunk_core::Outlet;
 use player_core::Player;
 use sound_core::{StreamFault, put};
 use std::io::Write;

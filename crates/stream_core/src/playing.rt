@@ -1,15 +1,15 @@
 //! The way of a file's bytes, from a reader to the frames at a writer.
 
 ghost use Rattle.std.specs.Prelude.{◌≡◌, ◌+◌, ◌-◌, ◌<◌, ◌≤◌, ◌^◌, [], IfErr, IfOk, IfSome, IsErrOf, OnErr, OnOk};
-ghost use Rattle.device_core.specs.Inlets.{inlet_failures, inlet_given, inlet_reader, inlet_reads};
-ghost use Rattle.device_core.specs.Outlets.{outlet_failures, outlet_writer};
+ghost use Rattle.chunk_core.specs.Inlets.{inlet_failures, inlet_given, inlet_reader, inlet_reads};
+ghost use Rattle.chunk_core.specs.Outlets.{outlet_failures, outlet_writer};
 ghost use Rattle.sound_core.specs.Faults.{IsBeforeWriting, StopsReading, failed_reads, failed_writes};
 ghost use Rattle.stream_core.specs.Pace.{KeepsUp, PlayFails};
 ghost use Rattle.stream_core.specs.Playing.{OnlyFromOutside, PlaysBy, PlaysFile, PlaysGiven, Stands, WritesFront};
 
 use crate::sink::{PlayingSink, finish};
 use crate::wave::file_size;
-use device_core::{Inlet, Outlet};
+use chunk_core::{Inlet, Outlet};
 use fir_core::Taps;
 use player_core::sound_is_played;
 use sound_core::{StreamFault, read_into};

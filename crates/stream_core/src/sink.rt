@@ -7,7 +7,7 @@ ghost use Rattle.sound_core.specs.Faults.{IsWritingFault};
 
 use crate::pieces::{put_due, put_rest};
 use crate::wave::{put_header, put_pad};
-use device_core::Outlet;
+use chunk_core::Outlet;
 use dsd_bits::Sound;
 use fir_core::Taps;
 use player_core::Player;
@@ -53,7 +53,7 @@ impl<'a, 't, W> PlayingSink<'a, 't, W> {
 
 impl<'a, 't, W: Write> SoundSink for PlayingSink<'a, 't, W> {
     ghost use Rattle.std.specs.Prelude.{◌-◌, ◌<◌, ◌^◌};
-    ghost use Rattle.device_core.specs.Outlets.{outlet_failures};
+    ghost use Rattle.chunk_core.specs.Outlets.{outlet_failures};
     ghost use Rattle.stream_core.specs.Sinks.{IsPlaying, RefusesPlaying};
 
     ghost ready = { λ p. outlet_failures p.outlet.now < 2 ^ 64 - 1 };

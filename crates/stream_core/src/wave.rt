@@ -1,14 +1,14 @@
 //! What is written around the frames.
 
 ghost use Rattle.std.specs.Prelude.{◌≡◌, ◌+◌, ◌-◌, ◌/◌, ◌<◌, ◌≤◌, ◌^◌, IfErr, IfOk, OnErr, OnOk};
-ghost use Rattle.device_core.specs.Outlets.{Puts, PutsFront, outlet_failures, outlet_writer};
+ghost use Rattle.chunk_core.specs.Outlets.{Puts, PutsFront, outlet_failures, outlet_writer};
 ghost use Rattle.dsd_bits.specs.Sounds.{IsSound};
 ghost use Rattle.player_core.specs.Laws.{total_frames};
 ghost use Rattle.wave_core.specs.Contents.{spec_of};
 ghost use Rattle.sound_core.specs.Faults.{IsBeforeWriting, IsWritingFault, failed_writes};
 ghost use Rattle.stream_core.specs.Wave.{IsOpeningFault, OpensWave, file_size, header_of, pad_of};
 
-use device_core::Outlet;
+use chunk_core::Outlet;
 use dsd_bits::Sound;
 use fir_core::Taps;
 use player_core::wave_spec;

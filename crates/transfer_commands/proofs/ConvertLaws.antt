@@ -3,7 +3,7 @@ use Rattle.std.proofs.Common.{arith, ◌≡◌, ℕ, ◌%◌, ◌⊎◌, ◌==�
 use Rattle.std.proofs.lemmas.Bool.Decides.{nat_tests}
 use Rattle.dsd_bits.specs.Channels.{count_of}
 use Rattle.dsd_bits.specs.Contents.{Content, described}
-use Rattle.device_core.specs.Outlets.{AppendsFront}
+use Rattle.chunk_core.specs.Outlets.{AppendsFront}
 use Rattle.form_core.specs.Forms.{HoldsAs, dropped_in, form_in, text_in}
 use Rattle.form_core.specs.Laws.{HeldIsOpened}
 use Rattle.form_core.specs.Parts.{FitsIn, WrittenInParts}

@@ -4,7 +4,7 @@ use Rattle.transfer_core.specs.Playing.{Plays}
 use Rattle.transfer_core.specs.declared.fault.Fault as calls
 use Rattle.stream_core.specs.Playing.{PlaysFile, WritesFront}
 use Rattle.transfer_core.specs.Streaming.{IsBeforeWriting, OnlyFromOutside, StreamStands}
-use Rattle.device_core.specs.Outlets.{AppendsFront}
+use Rattle.chunk_core.specs.Outlets.{AppendsFront}
 use Rattle.folder_core.specs.Files.{IsGiven, IsGivenUp, IsReadOf, KeepsOthers, View}
 use Rattle.transfer_commands.specs.Playing.{EndsPlaying, HoldsPlayed, LeavesFront, PlayComesTo, PlayedComesTo}
 use Rattle.transfer_commands.specs.declared.fault.CommandFault.{CommandFault}

@@ -11,7 +11,7 @@ ghost use Rattle.transfer_commands.specs.Outlining.{OutlinesRead};
 
 use crate::fault::CommandFault;
 use crate::outlining::outline_file;
-use device_core::{Inlet, Outlet};
+use chunk_core::{Inlet, Outlet};
 use folder_core::{Folder, hand_back, read_file, read_short, write_file};
 use form_core::{Form, held_is_opened, written_in_parts};
 use sound_core::{Outline, StreamFault};

@@ -5,7 +5,7 @@ ghost use Rattle.sound_core.specs.Outlines.{AreTold, around_of};
 ghost use Rattle.transfer_commands.specs.Outlining.{IsUnread, OutlinesFile};
 
 use crate::fault::CommandFault;
-use device_core::Inlet;
+use chunk_core::Inlet;
 use folder_core::Folder;
 use sound_core::{Outline, StreamFault, read_outline};
 use std::alloc::Global;

@@ -5,7 +5,7 @@ ghost use Rattle.folder_core.specs.Files.{IsGiven};
 ghost use Rattle.transfer_commands.specs.Playing.{PlayComesTo, PlayedComesTo};
 
 use crate::fault::CommandFault;
-use device_core::{Inlet, Outlet};
+use chunk_core::{Inlet, Outlet};
 use folder_core::{Folder, hand_back, read_file};
 use std::alloc::Global;
 use transfer_core::play_stream;

@@ -1,6 +1,6 @@
 -- What is played from a reader by a project's decimator is what project and file play.
 use Rattle.std.proofs.Common.{◌≡◌, ◌⊎◌, ◌-◌, ℕ, inl, inr, List, [], Option, None, Some, IfSome, IsErrAnd, IsErrOf, Result, Ok, Err, refl, sym, ap, ◌∙◌, subst}
-use Rattle.device_core.specs.declared.inlet.Inlet.{Inlet}
+use Rattle.chunk_core.specs.declared.inlet.Inlet.{Inlet}
 use Rattle.dsd_bits.specs.declared.blocks.BitOrder.TheVariants.{LeastFirst, MostFirst}
 use Rattle.dsd_bits.specs.declared.interleaving.Interleaving.TheVariants.{Blocks}
 use Rattle.dsd_bits.specs.Contents.{Content}

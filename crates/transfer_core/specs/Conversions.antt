@@ -1,8 +1,8 @@
 -- What is converted from a reader to a writer, and which faults stand.
 use Rattle.std.specs.Prelude.{ℕ, List, Option, IfSome}
 use Rattle.std.specs.Io.KnownBytes.{Appends}
-use Rattle.device_core.specs.Outlets.{AppendsFront}
-use Rattle.device_core.specs.declared.inlet.Inlet.{Inlet}
+use Rattle.chunk_core.specs.Outlets.{AppendsFront}
+use Rattle.chunk_core.specs.declared.inlet.Inlet.{Inlet}
 use Rattle.sound_core.specs.Outlines.{AreAround, Surroundings}
 use Rattle.sound_core.specs.Reads.{ReadsCapped}
 use Rattle.form_core.specs.declared.form.Form.{Form}

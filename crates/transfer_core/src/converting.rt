@@ -1,8 +1,8 @@
 //! Converts a recording from one form to another: in memory, or from a reader to a writer.
 
 ghost use Rattle.std.specs.Prelude.{◌≡◌, ◌+◌, ◌-◌, ◌<◌, ◌^◌, Err, IfErr, IfOk, IsErrOf, OnErr};
-ghost use Rattle.device_core.specs.Inlets.{inlet_failures, inlet_reader, inlet_reads};
-ghost use Rattle.device_core.specs.Outlets.{outlet_failures, outlet_writer};
+ghost use Rattle.chunk_core.specs.Inlets.{inlet_failures, inlet_reader, inlet_reads};
+ghost use Rattle.chunk_core.specs.Outlets.{outlet_failures, outlet_writer};
 ghost use Rattle.sound_core.specs.Faults.{failed_reads, failed_writes};
 ghost use Rattle.sound_core.specs.Outlines.{AreTold, around_of};
 ghost use Rattle.form_core.specs.Parts.{FitsIn};
@@ -12,7 +12,7 @@ ghost use Rattle.transfer_core.specs.Converting.{IsConverted, IsKept, contents, 
 ghost use Rattle.transfer_core.specs.Faults.{as_stream};
 
 use crate::fault::Fault;
-use device_core::{Inlet, Outlet};
+use chunk_core::{Inlet, Outlet};
 use form_core::{Form, dropped_in, ends_in, interleaving_in, read_any, write_in, written_in_parts};
 use relay_core::{Target, relay};
 use sound_core::Outline;

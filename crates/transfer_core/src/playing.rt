@@ -1,8 +1,8 @@
 //! Makes a WAVE file of a project and a file: in memory, or from a reader to a writer.
 
 ghost use Rattle.std.specs.Prelude.{◌≡◌, ℕ, ◌+◌, ◌-◌, ◌<◌, ◌≤◌, ◌^◌, List, IfErr, IfOk, IsErrOf, OnErr};
-ghost use Rattle.device_core.specs.Inlets.{inlet_failures, inlet_given, inlet_reader, inlet_reads};
-ghost use Rattle.device_core.specs.Outlets.{outlet_failures, outlet_writer};
+ghost use Rattle.chunk_core.specs.Inlets.{inlet_failures, inlet_given, inlet_reader, inlet_reads};
+ghost use Rattle.chunk_core.specs.Outlets.{outlet_failures, outlet_writer};
 ghost use Rattle.sound_core.specs.Faults.{StopsReading, failed_reads, failed_writes};
 ghost use Rattle.transfer_core.specs.Faults.{OfStream, as_stream};
 ghost use Rattle.transfer_core.specs.Playing.{Plays, played_of};
@@ -12,7 +12,7 @@ ghost use Rattle.stream_core.specs.Playing.{PlaysFile, PlaysGiven, WritesFront};
 
 use crate::fault::Fault;
 use crate::projects::decimator_of;
-use device_core::{Inlet, Outlet};
+use chunk_core::{Inlet, Outlet};
 use form_core::{Opened, read_any};
 use player_core::wave_of;
 use sound_core::{StreamFault, accepted_files_tell_one_sound};

@@ -6,7 +6,7 @@ use Rattle.cert_core.specs.Reasons.{RowBounded}
 use Rattle.cert_core.specs.Stops.{ReadsRows, InEnd}
 use Rattle.cert_core.specs.Text.{entry_start}
 use Rattle.std.specs.Io.KnownBytes.{Consumes}
-use Rattle.device_core.specs.Inlets.{inlet_reader}
+use Rattle.chunk_core.specs.Inlets.{inlet_reader}
 use Rattle.cert_core.proofs.Consuming.{maps}
 use Rattle.cert_core.proofs.Whole.{last_long, last_bounded, entry_read, end_first, rows_first, start_first}
 use Rattle.cert_core.proofs.entry.read_entry.Goals as goal

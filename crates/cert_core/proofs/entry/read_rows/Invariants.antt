@@ -1,6 +1,6 @@
 -- The rows so far were read and are clean, and `previous` is the last of them.
 use Rattle.std.proofs.Common.{◌≡◌, ◌+◌, ◌*◌, length}
-use Rattle.device_core.specs.Inlets.{inlet_reader, inlet_failures}
+use Rattle.chunk_core.specs.Inlets.{inlet_reader, inlet_failures}
 use Rattle.cost_core.specs.StateCosts.{trellis_of}
 use Rattle.cost_core.specs.Trellis.{states}
 use Rattle.cert_core.proofs.Entries.{RowsSoFar}

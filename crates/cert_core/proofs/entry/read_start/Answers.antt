@@ -1,7 +1,7 @@
 use Rattle.std.proofs.Common.{◌∙◌, ◌<◌, ◌⊎◌, Err, IfSome, arith, inl, inr, length, refl, subst, sym}
 use Rattle.std.proofs.lemmas.Result.{err_from_is_err_and}
 use Rattle.std.specs.Io.KnownBytes.{Consumes}
-use Rattle.device_core.specs.Inlets.{inlet_reader}
+use Rattle.chunk_core.specs.Inlets.{inlet_reader}
 use Rattle.cert_core.specs.Text.{entry_start}
 use Rattle.cert_core.specs.Reasons.{StartReason}
 use Rattle.cert_core.specs.Stops.{CutBelow, InStart}

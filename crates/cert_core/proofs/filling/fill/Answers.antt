@@ -1,5 +1,5 @@
 use Rattle.std.proofs.Common.{length-take-le, refl, take, length, arith}
-use Rattle.device_core.specs.Inlets.{inlet_reader}
+use Rattle.chunk_core.specs.Inlets.{inlet_reader}
 use Rattle.cert_core.proofs.Consuming.{short_before}
 use Rattle.cert_core.proofs.filling.fill.Goals as goal
 

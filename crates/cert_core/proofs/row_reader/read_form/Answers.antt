@@ -1,7 +1,7 @@
 use Rattle.std.proofs.Common.{◌≡◌, ◌<◌, ◌⊎◌, Err, arith, inl, length, subst}
 use Rattle.std.proofs.lemmas.Result.{err_from_is_err_and}
 use Rattle.std.specs.Io.KnownBytes.{Consumes}
-use Rattle.device_core.specs.Inlets.{inlet_reader}
+use Rattle.chunk_core.specs.Inlets.{inlet_reader}
 use Rattle.cert_core.specs.declared.verdict.CertReason.TheVariants.{Cut, Row}
 use Rattle.cert_core.specs.declared.version.Version.TheVariants.{Two}
 use Rattle.cert_core.specs.Spelling.{IsTooWide}

@@ -4,7 +4,7 @@ use Rattle.std.proofs.lemmas.Result.{err_from_is_err_and}
 use Rattle.std.specs.Io.KnownBytes.{Consumes}
 use Rattle.dsd_bits.proofs.ExitLaws.{no_ok}
 use Rattle.dsd_bits.proofs.ShiftingLemmas.{written_back}
-use Rattle.device_core.specs.Inlets.{inlet_reader}
+use Rattle.chunk_core.specs.Inlets.{inlet_reader}
 use Rattle.cert_core.specs.declared.verdict.CertReason.{CertReason}
 use Rattle.cert_core.specs.declared.verdict.CertReason.TheVariants.{Bound}
 use Rattle.cert_core.specs.declared.version.Version.TheVariants.{One}

@@ -1,6 +1,6 @@
 -- No read failed.
 use Rattle.std.proofs.Common.{◌≡◌}
-use Rattle.device_core.specs.Inlets.{inlet_failures}
+use Rattle.chunk_core.specs.Inlets.{inlet_failures}
 use Rattle.command_core.proofs.ending.reads_to_end.Given as goal
 
 abbrev pub invariant-loop-turn : goal.invariant-loop-turn

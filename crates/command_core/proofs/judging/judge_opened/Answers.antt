@@ -1,7 +1,7 @@
 use Rattle.std.proofs.Common.{◌≡◌, ◌∙◌, Ok, ap}
 use Rattle.std.specs.Io.Buffered.{reader_remaining}
-use Rattle.device_core.specs.FusedInlets.{fused_reader}
-use Rattle.device_core.specs.Inlets.{inlet_reader}
+use Rattle.chunk_core.specs.FusedInlets.{fused_reader}
+use Rattle.chunk_core.specs.Inlets.{inlet_reader}
 use Rattle.cert_core.specs.Readers.{cert_inlet}
 use Rattle.judge_core.specs.Finding.{IsFoundIn}
 use Rattle.judge_core.proofs.FindLaws.{held_there}

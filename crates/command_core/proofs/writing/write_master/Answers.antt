@@ -1,6 +1,6 @@
 use Rattle.std.proofs.Common.{◌≡◌, ◌∙◌, [], IsTrue, Some, ap, arith, inl, refl, subst}
 use Rattle.std.specs.Prelude.{OnErr, OnOk, is_ok}
-use Rattle.device_core.specs.Outlets.{outlet_writer}
+use Rattle.chunk_core.specs.Outlets.{outlet_writer}
 use Rattle.folder_core.specs.Files.{IsEnded, KeepsOthers, View}
 use Rattle.command_core.proofs.WritingLaws.{file_front, file_whole, unchanged}
 use Rattle.command_core.proofs.writing.write_master.Goals as goal

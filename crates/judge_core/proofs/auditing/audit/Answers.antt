@@ -1,5 +1,5 @@
 use Rattle.std.proofs.Common.{◌≡◌, ◌∙◌, Err, Ok, ap, length, subst, sym}
-use Rattle.device_core.specs.Inlets.{inlet_given, inlet_reader}
+use Rattle.chunk_core.specs.Inlets.{inlet_given, inlet_reader}
 use Rattle.cut_core.specs.Cuts.{channel_number}
 use Rattle.judge_core.specs.Standing.{TellAll}
 use Rattle.sound_core.proofs.TakingLaws.{memory_alone}

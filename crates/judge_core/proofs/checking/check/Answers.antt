@@ -3,7 +3,7 @@ use Rattle.std.proofs.lemmas.Result.{err_from_is_err_and}
 use Rattle.cut_core.specs.Opening.{file_bytes}
 use Rattle.judge_core.specs.Cutting.{SaysCut}
 use Rattle.cert_core.specs.Readers.{cert_inlet}
-use Rattle.device_core.specs.Inlets.{inlet_failures, inlet_reader}
+use Rattle.chunk_core.specs.Inlets.{inlet_failures, inlet_reader}
 use Rattle.judge_core.specs.Accepting.{Accepts, IfAccepted, IfRejected, IsAcceptedAt, RejectsFirst}
 use Rattle.judge_core.specs.Finding.{IsFoundHeld, IsFoundIn}
 use Rattle.judge_core.proofs.FindLaws.{held_some, held_there}

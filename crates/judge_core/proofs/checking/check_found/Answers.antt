@@ -1,5 +1,5 @@
 use Rattle.std.proofs.Common.{Err, IfSome, List, arith, subst, ℕ}
-use Rattle.device_core.specs.Inlets.{inlet_reader}
+use Rattle.chunk_core.specs.Inlets.{inlet_reader}
 use Rattle.cert_core.specs.Readers.{cert_inlet}
 use Rattle.judge_core.specs.Accepting.{Accepts, ReadsAccepted, fault_of_check}
 use Rattle.judge_core.specs.Finding.{FindsHeld, IsFoundHeld}

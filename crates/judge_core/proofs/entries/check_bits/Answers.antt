@@ -1,4 +1,4 @@
-use Rattle.device_core.specs.Inlets.{inlet_reader}
+use Rattle.chunk_core.specs.Inlets.{inlet_reader}
 use Rattle.cert_core.specs.Readers.{cert_inlet}
 use Rattle.judge_core.proofs.EntryLaws.{claim_judged, record_of}
 use Rattle.judge_core.proofs.entries.check_bits.Goals as goal

@@ -1,5 +1,5 @@
 use Rattle.std.proofs.Common.{◌≡◌, Bool, List, None, Option, Some, length, arith, map, subst}
-use Rattle.device_core.specs.Inlets.{inlet_reader}
+use Rattle.chunk_core.specs.Inlets.{inlet_reader}
 use Rattle.cert_core.specs.Readers.{cert_inlet}
 use Rattle.cert_core.specs.declared.verdict.CertReason.{CertReason}
 use Rattle.judge_core.specs.Claims.{claims}

@@ -4,7 +4,7 @@ use Rattle.std.specs.List.{All}
 use Rattle.std.proofs.lemmas.List.{get_or-map, length-map, take_all}
 use Rattle.std.proofs.lemmas.List.Elements.{All-more}
 use Rattle.std.proofs.lemmas.List.Sums.{sum_by_more}
-use Rattle.device_core.specs.Inlets.{inlet_reader}
+use Rattle.chunk_core.specs.Inlets.{inlet_reader}
 use Rattle.cert_core.specs.Certificates.{Claim}
 use Rattle.cert_core.specs.Readers.{cert_inlet}
 use Rattle.judge_core.specs.Judging.{JudgesClaim, LacksClaim, ReadsEntries, ShowsClaim}

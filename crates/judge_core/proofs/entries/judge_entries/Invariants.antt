@@ -1,6 +1,6 @@
 use Rattle.std.proofs.Common.{◌≡◌, ◌≤◌, ◌*◌, ◌^◌, true, map, take}
 use Rattle.std.specs.List.{All, sum_by}
-use Rattle.device_core.specs.Inlets.{inlet_failures, inlet_reader}
+use Rattle.chunk_core.specs.Inlets.{inlet_failures, inlet_reader}
 use Rattle.cert_core.specs.Readers.{cert_inlet, has_read_head, read_version}
 use Rattle.judge_core.specs.Judging.{ReadsEntries}
 use Rattle.judge_core.specs.Claims.{IsLeastClaim, claim_cost}

@@ -2,7 +2,7 @@ use Rattle.std.proofs.Common.{◌≡◌, ◌+◌, ◌∙◌, Err, add-zero, ap, 
 use Rattle.std.proofs.lemmas.Result.{err_from_is_err_and}
 use Rattle.std.specs.Result.{IfOk}
 use Rattle.dsd_bits.proofs.ExitLaws.{no_ok, no_value}
-use Rattle.device_core.specs.Inlets.{inlet_failures, inlet_reader}
+use Rattle.chunk_core.specs.Inlets.{inlet_failures, inlet_reader}
 use Rattle.cert_core.specs.Readers.{cert_inlet, failed_checks}
 use Rattle.cost_core.specs.Bridges.{Bridging}
 use Rattle.cut_core.specs.Cuts as cuts

@@ -1,4 +1,4 @@
-use Rattle.device_core.specs.Inlets.{inlet_reader}
+use Rattle.chunk_core.specs.Inlets.{inlet_reader}
 use Rattle.std.proofs.Common.{subst}
 use Rattle.cert_core.specs.Readers.{cert_inlet}
 use Rattle.judge_core.specs.Judging.{JudgesHead}

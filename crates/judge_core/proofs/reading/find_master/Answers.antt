@@ -1,5 +1,5 @@
 use Rattle.std.proofs.Common.{IfSome, Some, subst, sym}
-use Rattle.device_core.specs.Inlets.{inlet_reader}
+use Rattle.chunk_core.specs.Inlets.{inlet_reader}
 use Rattle.judge_core.specs.declared.finding.Found.{Found}
 use Rattle.sound_core.specs.Outlines.{IsOutlineFault}
 use Rattle.judge_core.specs.Finding.{FindsHeld, IsFoundGiven}

@@ -1,7 +1,7 @@
 use Rattle.std.proofs.Common.{subst, sym}
 use Rattle.std.specs.Prelude.{OnErr, OnOk}
 use Rattle.cert_core.specs.Writers.{cert_outlet}
-use Rattle.device_core.specs.Outlets.{outlet_writer}
+use Rattle.chunk_core.specs.Outlets.{outlet_writer}
 use Rattle.master_core.specs.Certifying.{AppendsCert, AppendsCertFront}
 use Rattle.master_core.proofs.certifying.certify.Goals as goal
 

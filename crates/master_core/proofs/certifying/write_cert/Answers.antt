@@ -5,7 +5,7 @@ use Rattle.cert_core.specs.Text.{cert_head}
 use Rattle.cert_core.specs.Writers.{cert_outlet, cert_weights, has_failed}
 use Rattle.cert_core.specs.declared.version.Version.{Version}
 use Rattle.cert_core.specs.declared.version.Version.TheVariants.{Two}
-use Rattle.device_core.specs.Outlets.{AppendsPart, outlet_writer}
+use Rattle.chunk_core.specs.Outlets.{AppendsPart, outlet_writer}
 use Rattle.master_core.specs.Choosing.{chosen_claims}
 use Rattle.master_core.proofs.CertLaws.{cert_cut, cert_whole, failed_write, head_cut, part_is_front}
 use Rattle.master_core.proofs.ChoiceLaws.{claim_number}

@@ -6,7 +6,7 @@ use Rattle.cert_core.specs.Certificates.{Claim}
 use Rattle.cert_core.specs.Writers.{cert_outlet}
 use Rattle.cut_core.specs.Bridges.{IsPlace}
 use Rattle.cut_core.proofs.CutLaws.{first_shape}
-use Rattle.device_core.specs.Outlets.{outlet_writer}
+use Rattle.chunk_core.specs.Outlets.{outlet_writer}
 use Rattle.trellis_core.specs.Passes.{HasBuffers}
 use Rattle.master_core.specs.Certifying.{AppendsEntries, IsReady}
 use Rattle.master_core.specs.Choosing.{chosen_claims}

@@ -1,7 +1,7 @@
 -- The entries of the bridges below k are written.
 use Rattle.std.proofs.Common.{◌≡◌, ◌+◌, ◌-◌, ◌^◌, length, take}
 use Rattle.cert_core.specs.Writers.{cert_outlet, entries_left, failures_before}
-use Rattle.device_core.specs.Outlets.{outlet_writer}
+use Rattle.chunk_core.specs.Outlets.{outlet_writer}
 use Rattle.master_core.specs.Certifying.{AppendsEntries, IsReady}
 use Rattle.master_core.specs.Choosing.{chosen_claims}
 use Rattle.trellis_core.specs.Passes.{HasBuffers}

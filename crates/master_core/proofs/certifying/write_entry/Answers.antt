@@ -9,7 +9,7 @@ use Rattle.cert_core.specs.Text.{entry_start}
 use Rattle.cert_core.specs.Writers.{Stage, cert_outlet, has_failed, stage}
 use Rattle.cert_core.specs.declared.version.Version.{Version}
 use Rattle.cert_core.specs.declared.version.Version.TheVariants.{Two}
-use Rattle.device_core.specs.Outlets.{AppendsPart, outlet_writer}
+use Rattle.chunk_core.specs.Outlets.{AppendsPart, outlet_writer}
 use Rattle.trellis_core.specs.Handing.{HandsOverAll, HandsOverUpTo, cut_spelling}
 use Rattle.trellis_core.specs.Passes.{HasBuffers}
 use Rattle.master_core.proofs.CertLaws.{cut_in_cost, cut_in_rows, cut_in_start, entry_whole, failed_write, part_is_front}

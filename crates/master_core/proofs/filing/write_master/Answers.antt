@@ -3,7 +3,7 @@ use Rattle.std.proofs.lemmas.Result.{err_from_is_err_and, on_err_weaker, on_ok_w
 use Rattle.std.specs.Prelude.{MatchResult}
 use Rattle.std.specs.Io.KnownBytes.{Appends}
 use Rattle.dsd_bits.proofs.ExitLaws.{any_err}
-use Rattle.device_core.specs.Outlets.{AppendsPart, outlet_failures, outlet_writer}
+use Rattle.chunk_core.specs.Outlets.{AppendsPart, outlet_failures, outlet_writer}
 use Rattle.form_core.specs.Parts.{interleaving_in}
 use Rattle.cut_core.proofs.CutLaws.{first_shape}
 use Rattle.master_core.specs.Parting.{HasChosen}

@@ -1,7 +1,7 @@
 use Rattle.std.proofs.Common.{◌≡◌, ◌+◌, ◌%◌, ◌≤◌, ◌⊎◌, inl, inr, refl, subst, arith}
 use Rattle.std.proofs.lemmas.Result.{err_from_is_err_and}
 use Rattle.dsd_bits.proofs.ExitLaws.{any_err}
-use Rattle.device_core.specs.Outlets.{outlet_writer}
+use Rattle.chunk_core.specs.Outlets.{outlet_writer}
 use Rattle.cut_core.specs.Cuts.{master_length}
 use Rattle.cut_core.proofs.CutLaws.{first_shape}
 use Rattle.master_core.proofs.WritingLaws.{HasWritten, next_place, written_front, written_more, written_nothing, written_whole}

@@ -1,6 +1,6 @@
 -- So many bits of each channel were written so far, whole groups of them where more come.
 use Rattle.std.proofs.Common.{◌≡◌, ◌-◌, ◌%◌, ◌<◌, ◌≤◌}
-use Rattle.device_core.specs.Outlets.{outlet_failures, outlet_writer}
+use Rattle.chunk_core.specs.Outlets.{outlet_failures, outlet_writer}
 use Rattle.master_core.specs.Writing.{IsRoomFor}
 use Rattle.master_core.proofs.WritingLaws.{HasWritten}
 use Rattle.master_core.proofs.writing.write_sound.Given as goal

@@ -1,7 +1,7 @@
 use Rattle.std.proofs.Common.{◌≡◌, ◌-◌, ◌++◌, ◌%◌, ℕ, List, length, map, refl, sym, ap, ap₂, subst, ◌∙◌, arith}
 use Rattle.std.specs.Io.KnownBytes.{Appends}
 use Rattle.std.proofs.lemmas.Result.{on_err_weaker, on_ok_weaker}
-use Rattle.device_core.specs.Outlets.{AppendsPart, outlet_writer}
+use Rattle.chunk_core.specs.Outlets.{AppendsPart, outlet_writer}
 use Rattle.dsd_bits.specs.Channels.{IsLevel, count_of}
 use Rattle.dsd_bits.specs.Rooms.{RoomContent, rooms_bits}
 use Rattle.dsd_bits.specs.Sounds.{sound_size}

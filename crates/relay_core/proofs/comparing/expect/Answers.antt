@@ -1,5 +1,5 @@
 use Rattle.std.proofs.Common.{◌++◌, arith, length-append}
-use Rattle.device_core.specs.Inlets.{inlet_reader}
+use Rattle.chunk_core.specs.Inlets.{inlet_reader}
 use Rattle.relay_core.proofs.ComparingLaws.{expect_fault, expect_on, fault_is, halves}
 use Rattle.relay_core.proofs.comparing.expect.Goals as goal
 

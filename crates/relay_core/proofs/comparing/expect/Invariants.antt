@@ -2,7 +2,7 @@
 use Rattle.std.proofs.Common.{◌≡◌, ℕ, ◌+◌, List, ◌++◌, length}
 use Rattle.std.specs.Io.KnownBytes.{Consumes}
 use Rattle.std.specs.Io.Iter.{u64_saturate}
-use Rattle.device_core.specs.Inlets.{inlet_failures, inlet_given, inlet_reader}
+use Rattle.chunk_core.specs.Inlets.{inlet_failures, inlet_given, inlet_reader}
 use Rattle.relay_core.proofs.comparing.expect.Given as goal
 
 abbrev pub invariant-loop-left : goal.invariant-loop-left

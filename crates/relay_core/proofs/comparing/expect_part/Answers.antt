@@ -1,7 +1,7 @@
 use Rattle.std.proofs.Common.{◌≡◌, ◌∙◌, ap, arith, length, length-take, subst, sym, take}
 use Rattle.std.specs.Cmp.Lexicographic.{same_text}
 use Rattle.std.specs.Io.KnownBytes.{Consumes}
-use Rattle.device_core.specs.Inlets.{inlet_reader}
+use Rattle.chunk_core.specs.Inlets.{inlet_reader}
 use Rattle.relay_core.proofs.ComparingLaws.{differ, fault_is, fewer_differ, part_differs}
 use Rattle.relay_core.proofs.comparing.expect_part.Goals as goal
 

@@ -1,6 +1,6 @@
 use Rattle.std.proofs.Common.{◌≤◌, ◌+◌, ◌∙◌, add-zero, ap, subst, sym}
 use Rattle.std.specs.Io.Iter.{u64_saturate}
-use Rattle.device_core.specs.Inlets.{inlet_given, inlet_reader}
+use Rattle.chunk_core.specs.Inlets.{inlet_given, inlet_reader}
 use Rattle.relay_core.proofs.ComparingLaws.{few_left, front_read, same_long}
 use Rattle.relay_core.proofs.comparing.fill.Goals as goal
 

@@ -1,5 +1,5 @@
 use Rattle.std.proofs.Common.{◌≡◌, ◌+◌, ◌-◌, ◌≤◌, ◌∙◌, Err, ap, arith, length, length-take, subst, take}
-use Rattle.device_core.specs.Inlets.{inlet_reader}
+use Rattle.chunk_core.specs.Inlets.{inlet_reader}
 use Rattle.sound_core.specs.Faults.{failed_reads}
 use Rattle.relay_core.specs.Comparing.{ConsumesMany}
 use Rattle.relay_core.proofs.ComparingLaws.{fault_is, fewer_at_first, many_on}

@@ -1,7 +1,7 @@
 -- So many bytes were read so far.
 use Rattle.std.proofs.Common.{◌≡◌, ◌+◌, ◌-◌, ◌≤◌, length}
 use Rattle.std.specs.Io.Iter.{u64_saturate}
-use Rattle.device_core.specs.Inlets.{inlet_failures, inlet_given, inlet_reader}
+use Rattle.chunk_core.specs.Inlets.{inlet_failures, inlet_given, inlet_reader}
 use Rattle.relay_core.specs.Comparing.{ConsumesMany}
 use Rattle.relay_core.proofs.comparing.pass.Given as goal
 

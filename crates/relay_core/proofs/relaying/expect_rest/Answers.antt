@@ -1,7 +1,7 @@
 use Rattle.std.proofs.Common.{subst}
 use Rattle.std.specs.Io.KnownBytes.{Consumes}
 use Rattle.std.proofs.lemmas.Result.{IfErr-weaker, err_from_is_err_and, on_ok_weaker}
-use Rattle.device_core.specs.Inlets.{inlet_reader}
+use Rattle.chunk_core.specs.Inlets.{inlet_reader}
 use Rattle.sound_core.specs.Outlines.{around_of}
 use Rattle.relay_core.specs.Comparing.{IsExpectFault}
 use Rattle.relay_core.proofs.ComparingLaws.{fault_is}

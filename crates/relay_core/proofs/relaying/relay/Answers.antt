@@ -2,8 +2,8 @@ use Rattle.std.proofs.Common.{◌≡◌, ◌+◌, ◌∙◌, Err, add-zero, ap, 
 use Rattle.std.specs.Io.Iter.{u64_saturate}
 use Rattle.std.specs.Io.KnownBytes.{Consumes}
 use Rattle.std.proofs.lemmas.Result.{IfErr-weaker, on_ok_weaker}
-use Rattle.device_core.specs.Inlets.{inlet_failures, inlet_given, inlet_reader}
-use Rattle.device_core.specs.Outlets.{outlet_writer}
+use Rattle.chunk_core.specs.Inlets.{inlet_failures, inlet_given, inlet_reader}
+use Rattle.chunk_core.specs.Outlets.{outlet_writer}
 use Rattle.sound_core.specs.Outlines.{around_of}
 use Rattle.sound_core.specs.declared.fault.StreamFault.TheVariants.{Memory}
 use Rattle.relay_core.specs.Comparing.{IsExpectFault}

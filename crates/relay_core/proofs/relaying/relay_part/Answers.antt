@@ -1,8 +1,8 @@
 use Rattle.std.proofs.Common.{◌≡◌, ◌+◌, ◌∙◌, ◌++◌, add-zero, ap, arith, length, length-take, subst, sym, take}
 use Rattle.std.proofs.lemmas.Result.{IfErr-weaker, on_ok_weaker}
 use Rattle.std.specs.Io.KnownBytes.{Appends}
-use Rattle.device_core.specs.Inlets.{inlet_failures, inlet_reader}
-use Rattle.device_core.specs.Outlets.{AppendsPart, outlet_writer}
+use Rattle.chunk_core.specs.Inlets.{inlet_failures, inlet_reader}
+use Rattle.chunk_core.specs.Outlets.{AppendsPart, outlet_writer}
 use Rattle.dsd_bits.specs.Sounds.{sound_size}
 use Rattle.relace_core.specs.Relacing.{relaced}
 use Rattle.sound_core.specs.declared.fault.StreamFault.TheVariants.{Memory}

@@ -1,6 +1,6 @@
 use Rattle.std.proofs.Common.{◌≡◌, ◌+◌, ◌-◌, ◌≤◌, ◌∙◌, inl, inr, ap, arith, subst, sym}
-use Rattle.device_core.specs.Inlets.{inlet_reader}
-use Rattle.device_core.specs.Outlets.{outlet_writer}
+use Rattle.chunk_core.specs.Inlets.{inlet_reader}
+use Rattle.chunk_core.specs.Outlets.{outlet_writer}
 use Rattle.relay_core.specs.Relays.{IsPartFault, PartFront, RelaysPart}
 use Rattle.dsd_bits.specs.Sounds.{sound_size}
 use Rattle.relace_core.proofs.GroupLaws.{size_fits, size_on, whole_on, last_groups}

@@ -1,8 +1,8 @@
 -- So many bits of each channel were read and written so far, whole groups of them where more come.
 use Rattle.std.proofs.Common.{◌≡◌, ◌+◌, ◌-◌, ◌%◌, ◌<◌, ◌≤◌, length}
 use Rattle.std.specs.Io.Iter.{u64_saturate}
-use Rattle.device_core.specs.Inlets.{inlet_failures, inlet_given, inlet_reader}
-use Rattle.device_core.specs.Outlets.{outlet_failures, outlet_writer}
+use Rattle.chunk_core.specs.Inlets.{inlet_failures, inlet_given, inlet_reader}
+use Rattle.chunk_core.specs.Outlets.{outlet_failures, outlet_writer}
 use Rattle.dsd_bits.specs.Sounds.{sound_size}
 use Rattle.relay_core.specs.Relays.{RelaysPart}
 use Rattle.relay_core.proofs.relaying.relay_sound.Given as goal

@@ -1,5 +1,5 @@
 use Rattle.std.proofs.Common.{◌∙◌, [], ap, inl, inr, arith, length, length-append, refl, subst, sym}
-use Rattle.device_core.specs.Inlets.{inlet_given, inlet_reader}
+use Rattle.chunk_core.specs.Inlets.{inlet_given, inlet_reader}
 use Rattle.sound_core.specs.Files.{IsBeforeSound, IsRefused, TellsSound}
 use Rattle.sound_core.specs.Reads.{Reads}
 use Rattle.sound_core.proofs.ToldLaws.{before_first, gives_none}

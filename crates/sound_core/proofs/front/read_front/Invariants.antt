@@ -1,6 +1,6 @@
 -- What was read so far is ahead, which is no file that holds a recording, and holds nothing of the sound.
 use Rattle.std.proofs.Common.{◌≡◌, ◌-◌}
-use Rattle.device_core.specs.Inlets.{inlet_failures, inlet_reads}
+use Rattle.chunk_core.specs.Inlets.{inlet_failures, inlet_reads}
 use Rattle.sound_core.specs.Files.{IsBeforeSound, IsRefused}
 use Rattle.sound_core.specs.Readers.{IsReading, IsSame}
 use Rattle.sound_core.specs.Reads.{Reads}

@@ -1,6 +1,6 @@
 use Rattle.std.specs.Prelude.{nat_lt}
 use Rattle.std.proofs.Common.{◌≡◌, ◌∙◌, ap, arith, length, min, refl, subst, take}
-use Rattle.device_core.specs.Inlets.{inlet_reader}
+use Rattle.chunk_core.specs.Inlets.{inlet_reader}
 use Rattle.dsdiff_core.specs.Outlines.{TellsOutline}
 use Rattle.sound_core.specs.Outlines.{IsRestFault}
 use Rattle.sound_core.proofs.BehindLaws.{IsBehind, frames_around, frames_refused, is_behind}

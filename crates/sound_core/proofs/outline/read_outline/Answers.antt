@@ -1,6 +1,6 @@
 use Rattle.std.specs.Prelude.{⊤}
 use Rattle.std.proofs.lemmas.Result.{IfErr-weaker, IfOk-weaker}
-use Rattle.device_core.specs.Inlets.{inlet_given, inlet_reader}
+use Rattle.chunk_core.specs.Inlets.{inlet_given, inlet_reader}
 use Rattle.sound_core.specs.Outlines.{around_of}
 use Rattle.sound_core.proofs.TakingLaws.{file_around, given_around, memory_alone}
 use Rattle.sound_core.proofs.outline.read_outline.Goals as goal

@@ -1,5 +1,5 @@
 use Rattle.std.proofs.Common.{◌-◌, arith, refl}
-use Rattle.device_core.specs.Inlets.{inlet_reader}
+use Rattle.chunk_core.specs.Inlets.{inlet_reader}
 use Rattle.sound_core.proofs.FaultLaws.{early_tag, fault_is, pass_in_tag, reading_in_tag}
 use Rattle.sound_core.proofs.OutlineLaws.{tag_none, tag_some}
 use Rattle.sound_core.proofs.ReaderLaws.{counts_later, counts_none_refused, counts_ok, same_counts, same_on, same_self}

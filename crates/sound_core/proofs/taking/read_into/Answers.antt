@@ -1,5 +1,5 @@
 use Rattle.std.proofs.Common.{◌≤◌, ◌+◌, ◌^◌, ◌∙◌, IfErr, IfOk, ap, arith, inl, refl, subst, sym}
-use Rattle.device_core.specs.Inlets.{inlet_failures, inlet_given, inlet_reader, inlet_reads}
+use Rattle.chunk_core.specs.Inlets.{inlet_failures, inlet_given, inlet_reader, inlet_reads}
 use Rattle.sound_core.specs.Faults.{failed_reads}
 use Rattle.sound_core.specs.Outlines.{around_of}
 use Rattle.sound_core.specs.Sinks.{StopsTaking, TakesFile, TakesGiven}

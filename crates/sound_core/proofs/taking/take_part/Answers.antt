@@ -1,6 +1,6 @@
 use Rattle.std.proofs.Common.{◌≡◌, ◌++◌, ◌∙◌, ℕ, ap, arith, inl, inr, length, refl, subst, sym, take}
 use Rattle.std.proofs.lemmas.Result.{on_ok_weaker}
-use Rattle.device_core.specs.Inlets.{inlet_reader}
+use Rattle.chunk_core.specs.Inlets.{inlet_reader}
 use Rattle.dsd_bits.specs.Sounds.{sound_size}
 use Rattle.sound_core.specs.Readers.{IsPassFault, Passes}
 use Rattle.sound_core.proofs.FaultLaws.{both, fault_is}

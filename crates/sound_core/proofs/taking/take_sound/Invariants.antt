@@ -1,6 +1,6 @@
 -- What came so far of the sound was taken.
 use Rattle.std.proofs.Common.{◌≡◌, ◌-◌}
-use Rattle.device_core.specs.Inlets.{inlet_failures}
+use Rattle.chunk_core.specs.Inlets.{inlet_failures}
 use Rattle.sound_core.specs.Readers.{IsReading, IsSame}
 use Rattle.sound_core.specs.Sinks.{TakesSome}
 use Rattle.sound_core.proofs.taking.take_sound.Given as goal

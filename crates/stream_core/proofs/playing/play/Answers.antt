@@ -1,7 +1,7 @@
 use Rattle.std.proofs.Common.{◌≡◌, ◌-◌, ◌∙◌, IfErr, IfOk, OnOk, subst, sym}
 use Rattle.std.proofs.lemmas.Result.{IfErr-weaker}
-use Rattle.device_core.specs.Inlets.{inlet_given, inlet_reader}
-use Rattle.device_core.specs.Outlets.{outlet_failures, outlet_writer}
+use Rattle.chunk_core.specs.Inlets.{inlet_given, inlet_reader}
+use Rattle.chunk_core.specs.Outlets.{outlet_failures, outlet_writer}
 use Rattle.stream_core.specs.Pace.{PlayFails}
 use Rattle.stream_core.specs.Playing.{PlaysBy, PlaysFile, PlaysGiven}
 use Rattle.stream_core.proofs.FaultLaws.{of_err, writes_are}

@@ -1,5 +1,5 @@
 use Rattle.std.proofs.Common.{◌∙◌, subst, sym}
-use Rattle.device_core.specs.Inlets.{inlet_given, inlet_reader}
+use Rattle.chunk_core.specs.Inlets.{inlet_given, inlet_reader}
 use Rattle.sound_core.specs.Outlines.{around_of}
 use Rattle.sound_core.proofs.FaultLaws.{fault_is}
 use Rattle.stream_core.proofs.PaceLaws.{Stops, play_fails, same_outlet}

@@ -1,7 +1,7 @@
 use Rattle.std.proofs.Common.{Err, ap, ◌≤◌, ◌^◌, ◌∙◌, add-zero, refl, subst, sym}
 use Rattle.std.proofs.lemmas.Bool.{true≢false}
 use Rattle.std.proofs.lemmas.Result.{IfErr-weaker, on_err_weaker, on_ok_weaker}
-use Rattle.device_core.specs.Outlets.{AppendsFront, outlet_writer}
+use Rattle.chunk_core.specs.Outlets.{AppendsFront, outlet_writer}
 use Rattle.wave_core.specs.Sizes.{riff_size}
 use Rattle.wave_core.specs.declared.spec.WaveSpec.{WaveSpec}
 use Rattle.sound_core.proofs.FaultLaws.{by_writing}

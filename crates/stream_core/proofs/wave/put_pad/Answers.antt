@@ -2,7 +2,7 @@ use Rattle.std.proofs.Common.{◌∙◌, subst}
 use Rattle.std.specs.Io.KnownBytes.{Appends}
 use Rattle.std.proofs.lemmas.Result.{on_err_weaker, on_ok_weaker}
 use Rattle.dsd_bits.proofs.ExitLaws.{any_err}
-use Rattle.device_core.specs.Outlets.{AppendsFront, outlet_writer}
+use Rattle.chunk_core.specs.Outlets.{AppendsFront, outlet_writer}
 use Rattle.stream_core.specs.Wave.{pad_of}
 use Rattle.stream_core.proofs.PieceLaws.{front_nil, part_is_front}
 use Rattle.stream_core.proofs.WaveLaws.{pad_is}

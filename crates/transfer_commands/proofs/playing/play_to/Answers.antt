@@ -5,8 +5,8 @@ use Rattle.folder_core.proofs.FileLaws.{given_up, not_kept}
 use Rattle.transfer_core.specs.Playing.{Plays}
 use Rattle.stream_core.specs.Playing.{PlaysFile, PlaysGiven, WritesFront}
 use Rattle.transfer_core.specs.Streaming.{IsBeforeWriting, OnlyFromOutside, StreamStands}
-use Rattle.device_core.specs.Inlets.{inlet_reader}
-use Rattle.device_core.specs.Outlets.{outlet_writer}
+use Rattle.chunk_core.specs.Inlets.{inlet_reader}
+use Rattle.chunk_core.specs.Outlets.{outlet_writer}
 use Rattle.transfer_commands.proofs.PlayLaws.{ended, played}
 use Rattle.transfer_commands.proofs.playing.play_to.Goals as goal
 

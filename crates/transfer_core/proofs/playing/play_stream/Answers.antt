@@ -1,6 +1,6 @@
 use Rattle.std.proofs.Common.{add-zero, arith, inl, refl, sym}
-use Rattle.device_core.specs.Inlets.{inlet_reader}
-use Rattle.device_core.specs.Outlets.{outlet_writer}
+use Rattle.chunk_core.specs.Inlets.{inlet_reader}
+use Rattle.chunk_core.specs.Outlets.{outlet_writer}
 use Rattle.sound_core.specs.Faults.{StopsReading}
 use Rattle.stream_core.proofs.PlayLaws.{none_front}
 use Rattle.transfer_core.specs.Playing.{Plays}

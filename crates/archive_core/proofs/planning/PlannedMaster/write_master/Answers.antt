@@ -1,7 +1,7 @@
 use Rattle.std.proofs.Common.{subst}
 use Rattle.std.specs.Io.KnownBytes.{Appends}
 use Rattle.std.proofs.lemmas.Result.{on_err_weaker, on_ok_weaker}
-use Rattle.device_core.specs.Outlets.{AppendsPart, outlet_writer}
+use Rattle.chunk_core.specs.Outlets.{AppendsPart, outlet_writer}
 use Rattle.archive_core.proofs.EditLaws.{one_file}
 use Rattle.archive_core.proofs.planning.PlannedMaster.write_master.Goals as goal
 

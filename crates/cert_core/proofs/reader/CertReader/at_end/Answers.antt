@@ -1,5 +1,5 @@
 use Rattle.std.proofs.Common.{length-take-le, take, arith}
-use Rattle.device_core.specs.Inlets.{inlet_reader}
+use Rattle.chunk_core.specs.Inlets.{inlet_reader}
 use Rattle.cert_core.specs.Readers.{cert_inlet}
 use Rattle.cert_core.proofs.Consuming.{end_before}
 use Rattle.cert_core.proofs.reader.CertReader.at_end.Goals as goal

@@ -1,5 +1,5 @@
 use Rattle.std.proofs.Common.{◌≡◌, ◌∙◌, Err, ℕ, arith, refl, subst}
-use Rattle.device_core.specs.Inlets.{inlet_reader}
+use Rattle.chunk_core.specs.Inlets.{inlet_reader}
 use Rattle.cost_core.specs.Trellis.{cost}
 use Rattle.cost_core.specs.Bridges.{bridge_cost}
 use Rattle.cost_core.specs.StateCosts.{trellis_of}

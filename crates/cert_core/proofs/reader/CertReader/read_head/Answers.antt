@@ -1,7 +1,7 @@
 use Rattle.std.proofs.Common.{◌≡◌, subst, sym, ◌∙◌, length, take, length-take-le, arith}
 use Rattle.std.proofs.lemmas.List.{take_all}
 use Rattle.std.specs.Io.KnownBytes.{Consumes}
-use Rattle.device_core.specs.Inlets.{inlet_reader}
+use Rattle.chunk_core.specs.Inlets.{inlet_reader}
 use Rattle.cert_core.specs.Readers.{cert_inlet}
 use Rattle.cert_core.proofs.ExitLaws.{fault_not_well, not_refused, not_well}
 use Rattle.cert_core.proofs.Heads.{short_head, short_reason, other_head, other_reason}

@@ -3,9 +3,9 @@ use Rattle.std.specs.Option.{IsSome}
 use Rattle.std.specs.Io.KnownBytes.{Appends}
 use Rattle.std.proofs.Common.{List, [], Option, None, Some, Err, IsErrOf, ap, refl, rules, subst, sym, true≢false}
 use Rattle.std.proofs.KnownBytes.{Appends-nil}
-use Rattle.device_core.specs.Outlets.{outlet_writer, AppendsPart}
-use Rattle.device_core.specs.declared.fused_outlet.FusedFault.{FusedFault}
-use Rattle.device_core.specs.declared.fused_outlet.FusedFault.TheVariants.{Device, Failed}
+use Rattle.chunk_core.specs.Outlets.{outlet_writer, AppendsPart}
+use Rattle.chunk_core.specs.declared.fused_outlet.FusedFault.{FusedFault}
+use Rattle.chunk_core.specs.declared.fused_outlet.FusedFault.TheVariants.{Device, Failed}
 use Rattle.cost_core.specs.Sinks.{AppendsFront}
 use Rattle.cert_core.specs.Spelling.{row_text, version_number, version_of}
 use Rattle.cert_core.specs.Writers.{cert_outlet, cert_version, has_failed, rows_left}

@@ -1,8 +1,8 @@
 use Rattle.std.proofs.Common.{refl, subst}
 use Rattle.std.specs.Io.KnownBytes.{Appends}
 use Rattle.std.proofs.lemmas.Result.{err_from_is_err_and}
-use Rattle.device_core.specs.Outlets.{outlet_writer, AppendsPart}
-use Rattle.device_core.specs.FusedOutlets.{fused_outlet}
+use Rattle.chunk_core.specs.Outlets.{outlet_writer, AppendsPart}
+use Rattle.chunk_core.specs.FusedOutlets.{fused_outlet}
 use Rattle.cert_core.proofs.ExitLaws.{counted_err, counted_ok, outlet_back, not_refused}
 use Rattle.cert_core.proofs.writer.CertWriter.end_bridge.Goals as goal
 

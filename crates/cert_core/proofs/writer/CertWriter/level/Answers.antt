@@ -2,8 +2,8 @@ use Rattle.std.proofs.Common.{◌≡◌, ◌-◌, ◌∙◌, ap, ap₂, length, 
 use Rattle.std.specs.Io.KnownBytes.{Appends}
 use Rattle.std.proofs.lemmas.Result.{err_from_is_err_and}
 use Rattle.dsd_bits.proofs.ShiftingLemmas.{written_back}
-use Rattle.device_core.specs.Outlets.{outlet_writer, AppendsPart}
-use Rattle.device_core.specs.FusedOutlets.{fused_outlet}
+use Rattle.chunk_core.specs.Outlets.{outlet_writer, AppendsPart}
+use Rattle.chunk_core.specs.FusedOutlets.{fused_outlet}
 use Rattle.cert_core.specs.Spelling.{row_text}
 use Rattle.cert_core.specs.Writers.{cert_version}
 use Rattle.cert_core.proofs.ExitLaws.{counted_err, counted_ok, failed_not_device, not_refused, true_or_false}

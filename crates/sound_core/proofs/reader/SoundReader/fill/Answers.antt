@@ -1,5 +1,5 @@
 use Rattle.std.proofs.Common.{◌≡◌, ◌<◌, ◌≤◌, ◌+◌, ◌++◌, [], ◌∙◌, ap, append-nil, append_assoc, arith, length, length-append, length-take, subst, sym, take}
-use Rattle.device_core.specs.Inlets.{inlet_failures, inlet_given}
+use Rattle.chunk_core.specs.Inlets.{inlet_failures, inlet_given}
 use Rattle.sound_core.specs.Faults.{StopsReading}
 use Rattle.sound_core.specs.Reads.{Reads}
 use Rattle.sound_core.proofs.FaultLaws.{fault_is}

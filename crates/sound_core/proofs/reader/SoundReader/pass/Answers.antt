@@ -1,5 +1,5 @@
 use Rattle.std.proofs.Common.{◌≡◌, ◌+◌, ◌-◌, ◌++◌, ◌∙◌, ap, arith, length, refl, subst, sym}
-use Rattle.device_core.specs.Inlets.{inlet_failures, inlet_reader}
+use Rattle.chunk_core.specs.Inlets.{inlet_failures, inlet_reader}
 use Rattle.sound_core.specs.Readers.{Passes}
 use Rattle.sound_core.proofs.FaultLaws.{fault_is, reading_in_pass}
 use Rattle.sound_core.proofs.OutlineLaws.{pass_more, pass_none, pass_part, pass_short}

@@ -1,6 +1,6 @@
 -- So many bytes were passed so far.
 use Rattle.std.proofs.Common.{◌≡◌, ◌-◌, ◌≤◌}
-use Rattle.device_core.specs.Inlets.{inlet_failures, inlet_reads}
+use Rattle.chunk_core.specs.Inlets.{inlet_failures, inlet_reads}
 use Rattle.sound_core.specs.Readers.{IsReading, IsSame, Passes}
 use Rattle.sound_core.proofs.reader.SoundReader.pass.Given as goal
 

@@ -1,6 +1,6 @@
 -- What was read so far is ahead.
 use Rattle.std.proofs.Common.{◌≡◌, ℕ, ◌-◌, List, ◌++◌}
-use Rattle.device_core.specs.Inlets.{inlet_failures, inlet_reads}
+use Rattle.chunk_core.specs.Inlets.{inlet_failures, inlet_reads}
 use Rattle.sound_core.specs.Readers.{IsReading, IsSame}
 use Rattle.sound_core.specs.Reads.{Reads}
 use Rattle.sound_core.proofs.reader.SoundReader.read_until.Given as goal

@@ -1,6 +1,6 @@
 use Rattle.std.proofs.Common.{◌++◌, [], ◌∙◌, ap, append-nil, arith, refl, subst, sym}
 use Rattle.std.specs.Io.KnownBytes.{Appends}
-use Rattle.device_core.specs.Outlets.{outlet_writer}
+use Rattle.chunk_core.specs.Outlets.{outlet_writer}
 use Rattle.player_core.specs.Due.{all_bytes}
 use Rattle.player_core.proofs.SoundLaws.{nothing_is_due}
 use Rattle.sound_core.proofs.FaultLaws.{fault_is}

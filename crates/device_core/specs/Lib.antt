@@ -1,4 +1,0 @@
-pub mod FusedInlets
-pub mod FusedOutlets
-pub mod Inlets
-pub mod Outlets

@@ -12,6 +12,7 @@ import tomllib
 import channels
 import restore
 import room
+import tagging
 import waves
 from names import KINDS, SETTINGS, TABLE, keep, load, remove, result, shown, sum_line, sum_of
 from program import PROGRAM
@@ -95,6 +96,8 @@ def convert(key):
         dropped = must(entry, lambda: room.copied_size(source), "convert", form, source, part)
         must(entry, lambda: room.copied_size(source), "convert", looked["form"], part, back)
         kept = restore.keep_all_but_sound(source, front)
+        # Before the bits are compared, so that they are those of the file with its tag.
+        tag = tagging.hand_on(source, part, is_compared=True)
         rate, sums = compare(entry, source, looked["sha256"], part, back, kept)
         made = {result("converted", entry, f".{ENDINGS[form]}"): part}
         made |= {result("kept", entry, ending): file for ending, file in kept.items()}
@@ -106,6 +109,7 @@ def convert(key):
             "dropped": int(dropped.split()[-1]),
             "renamed": entry["renamed"],
             "results": results,
+            "tag": tag,
         })
     finally:
         remove(part, back, *(front + ending for ending in KINDS["kept"]))
@@ -117,8 +121,9 @@ def play(key):
     try:
         chosen, source = settings["filters"][str(load(look_of(key))["rate"])], source_of(key)
         must(entry, lambda: room.played_size(source, chosen), "play", chosen, source, part)
+        tag = tagging.hand_on(source, part)
         results = placed({result("pcm", entry, ".wav"): part})
-        keep(note_of("play", key, settings["form"]), {"renamed": entry["renamed"], "results": results})
+        keep(note_of("play", key, settings["form"]), {"renamed": entry["renamed"], "results": results, "tag": tag})
     finally:
         remove(part)
 
@@ -179,6 +184,7 @@ def told(key, todo, form):
         "kept": [path for path in results.get("convert", []) if path not in converted],
         "dropped": notes["convert"]["dropped"] if converted else 0,
         "pcm": results["play"][0] if "play" in results else None,
+        "tags": {step: note["tag"] for step, note in notes.items() if note.get("tag")},
     }
 
 
@@ -211,6 +217,7 @@ def report(table, steps, results, sounds):
     converted = sum(todo["convert"] for todo in steps.values())
     dropped = sum(found["dropped"] > 0 for found in results.values())
     named = sum(entry["renamed"] is not None for entry in table["files"].values())
+    tags = [tag == tagging.HANDED_ON for found in results.values() for tag in found["tags"].values()]
     return (
         f"files {len(steps) + len(table['refused']) - kinds.count('folder')}\n"
         f"refused {kinds.count('info')}, folders that can't be listed {kinds.count('folder')}\n"
@@ -218,7 +225,8 @@ def report(table, steps, results, sounds):
         f"can be made again byte for byte {converted}, of which marks, chunks or a tag were dropped {dropped}\n"
         f"played {sum(todo['play'] for todo in steps.values())}, not played {kinds.count('play')}\n"
         f"channels with equal bits {sounds}\n"
-        f"results under other names {named}\n")
+        f"results under other names {named}\n"
+        f"tags handed on to {tags.count(True)} results, not to {tags.count(False)}\n")
 
 
 STEPS = {step.__name__: step for step in (look, convert, play, plan, lists)}

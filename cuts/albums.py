@@ -1,18 +1,18 @@
 """Recordings with several tracks: where tracks begin, by DSDIFF marks or by a cue sheet, and masters that the program
 cuts of them and judges. Titles and names are kept as far as files can have them."""
+import contextlib
 import dataclasses
 import json
 import os
 import re
 import struct
-import subprocess
 import unicodedata
 
 import channels
 import outputs
 import room
 from outputs import Refused, shown_name
-from program import PROGRAM
+from program import PROGRAM, finished
 from project_texts import MOST_CUES, MOST_TAKES
 
 ENDINGS = {"dsdiff": ".dff", "dsf": ".dsf", "dsf8": ".dsf"}
@@ -52,15 +52,15 @@ def asked(what, name, *words, folder=None):
     """What the program prints; a fault is one of that file."""
     program = os.path.abspath(PROGRAM) if "/" in PROGRAM else PROGRAM
     try:
-        done = subprocess.run([program, *words], capture_output=True, cwd=folder, check=False)
+        status, out, err = finished([program, *words], folder)
     except OSError as error:
         raise Refused(
             f"the program {program} can't be run ({error.strerror}): build it, or name it by DSDARC"
         ) from None
-    if done.returncode:
-        said = (done.stderr or done.stdout).decode(errors="replace").strip()
-        raise Refused(f"{what}, {shown_name(name)}: {said or f'the program ended with status {done.returncode}'}")
-    return done.stdout.decode()
+    if status:
+        said = (err or out).decode(errors="replace").strip()
+        raise Refused(f"{what}, {shown_name(name)}: {said or f'the program ended with status {status}'}")
+    return out.decode()
 
 
 def recording(what, name):
@@ -239,11 +239,25 @@ def project(count, parts):
     return f"[splice]\nweights = [1, 1]\ntakes = [{takes}]\n" + "".join(cue(take, track) for take, track in parts)
 
 
+@contextlib.contextmanager
+def leaving_nothing(made):
+    """Where a block ends early, removes what the program was writing beside a file."""
+    try:
+        yield
+    except BaseException:
+        folder, name = os.path.split(os.path.abspath(made))
+        with contextlib.suppress(OSError):
+            for each in os.listdir(folder):
+                if each.startswith(f".{name}.dsdarc-"):
+                    os.remove(os.path.join(folder, each))
+        raise
+
+
 def make(form, takes, parts, what, made):
     """Has the program cut a master and judge it: `takes` are names, `parts` pairs of a take's number and a track.
     `made` is a file beside which the master is written, and which it replaces."""
     assert len(takes) <= MOST_TAKES and len(parts) <= MOST_CUES
-    with outputs.scratch() as folder:
+    with outputs.scratch() as folder, leaving_nothing(made):
         for number, name in enumerate(takes):
             os.symlink(os.path.abspath(name), os.path.join(folder, f"take{number}"))
         os.symlink(os.path.abspath(made), os.path.join(folder, "master"))

@@ -3,8 +3,6 @@ import dataclasses
 import os
 
 import jinja2
-from markupsafe import Markup
-
 import measured
 from names import shown
 
@@ -40,11 +38,12 @@ LEGEND = (
 
 @dataclasses.dataclass
 class Cell:
-    """What a cell shows, its class, and the number by which it is sorted ('' is none, and None sorts by the text)."""
+    """What a cell shows, its class, and its data: `v` is the number by which it is sorted ('' is none; otherwise it is
+    sorted by the text), `x` the sums, `h`, `m` and `s` the outlines of its picture."""
 
     shown: str
     classes: str = ""
-    value: float | str | None = None
+    data: dict = dataclasses.field(default_factory=dict)
 
 
 @dataclasses.dataclass
@@ -64,15 +63,15 @@ def visible(text):
 def number(value, spelled="{}", unit=""):
     """A cell with a number, or an empty one."""
     if value is None:
-        return Cell("", "n", "")
-    return Cell(spelled.format(value) + unit, "n", round(value, 4))
+        return Cell("", "n", {"v": ""})
+    return Cell(spelled.format(value) + unit, "n", {"v": round(value, 4)})
 
 
 def duration(seconds):
     if seconds is None:
         return number(None)
     minutes, rest = divmod(round(seconds, 1), 60)
-    return Cell(f"{int(minutes)}:{rest:04.1f}", "n", round(seconds, 4))
+    return Cell(f"{int(minutes)}:{rest:04.1f}", "n", {"v": round(seconds, 4)})
 
 
 def height(value, kind):
@@ -90,21 +89,14 @@ def steps(levels, kind):
     return f"{path}V{HEIGHT}Z"
 
 
-def picture(*shapes):
-    inner = "".join(f'<path class="{kind}" d="{path}"/>' for kind, path in shapes)
-    return Markup(f'<svg viewBox="0 0 {WIDTH} {HEIGHT}" preserveAspectRatio="none">{inner}</svg>')
+def level_cell(figures):
+    return Cell("", "p", {"h": steps(figures["highs"], "level"), "m": steps(figures["means"], "level")})
 
 
-def level_picture(figures):
-    return picture(("h", steps(figures["highs"], "level")), ("m", steps(figures["means"], "level")))
-
-
-def spectrum_picture(figures):
+def spectrum_cell(figures):
     places = [height(value, "spectrum") for value in figures["spectrum"]]
-    if not places:
-        return ""
     moves = "".join(f"l1 {there - here}" for here, there in zip(places, places[1:]))
-    return picture(("s", f"M.5 {places[0]}{moves}"))
+    return Cell("", "p", {"s": f"M.5 {places[0]}{moves}"} if places else {})
 
 
 def figure_cells(figures):
@@ -116,27 +108,27 @@ def figure_cells(figures):
             Cell(""),
             Cell(""),
         ]
-    silence = Cell("all", "n", figures["seconds"])
+    silence = Cell("all", "n", {"v": round(figures["seconds"], 4)})
     if figures["silence"]:
-        silence = Cell("{:.2f} + {:.2f} s".format(*figures["silence"]), "n", round(sum(figures["silence"]), 4))
+        silence = number(sum(figures["silence"]))
+        silence.shown = "{:.2f} + {:.2f} s".format(*figures["silence"])
     return [
-        Cell(f"{figures['rate']}/{figures['width']}", "n", figures["rate"]),
+        Cell(f"{figures['rate']}/{figures['width']}", "n", {"v": figures["rate"]}),
         number(figures["peak"], "{:.1f}", " dB"),
         number(figures["clipped"]),
         number(figures["offset"], "{:.0f}", " dB"),
         silence,
-        Cell(level_picture(figures)),
-        Cell(spectrum_picture(figures)),
+        level_cell(figures),
+        spectrum_cell(figures),
     ]
 
 
 def sums_cell(sums):
-    """The sums, of which the first digits are seen before it is opened."""
+    """The sums, of which the first digits are seen until they are asked for."""
     if not sums:
         return Cell("")
-    lines = "\n".join(f"{total}  {what}" for what, total in sums.items())
     return Cell(
-        Markup("<details><summary>{}</summary><pre>{}</pre></details>").format(next(iter(sums.values()))[:8], lines)
+        next(iter(sums.values()))[:8], "x", {"x": "\n".join(f"{total}  {what}" for what, total in sums.items())}
     )
 
 
@@ -184,5 +176,12 @@ def page(title, rows):
     template = jinja2.Environment(loader=loader, autoescape=True).get_template("page.html.j2")
     lines = [line_of(row) for row in rows]
     return template.render(
-        title=visible(title), summary=summary(rows, lines), kinds=KINDS, columns=COLUMNS, rows=lines, legend=LEGEND
+        title=visible(title),
+        summary=summary(rows, lines),
+        kinds=KINDS,
+        columns=COLUMNS,
+        rows=lines,
+        legend=LEGEND,
+        width=WIDTH,
+        height=HEIGHT,
     )

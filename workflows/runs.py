@@ -68,6 +68,18 @@ def kept_beside(found):
     return [*kept, *(f"tag {tag}" for tag in sorted(tags))]
 
 
+def refused_steps(path):
+    """Step, fault and name of each line of refused.tsv; a line that begins with a tab goes on with the fault before."""
+    found = []
+    for line in lines_of(path):
+        if line.startswith("\t") and found:
+            found[-1][1] += "\n" + line[1:]
+        else:
+            step, fault, shown = line.split("\t", 2)
+            found.append([step, fault, plain(shown)])
+    return found
+
+
 def of_workflow(out):
     """The rows of a run of the workflow."""
     table = names.load(os.path.join(out, names.TABLE))
@@ -83,12 +95,8 @@ def of_workflow(out):
         row.kept = kept_beside(found)
         made = {"file": found["sha256"], "converted": sums.get(found["converted"]), "WAVE": sums.get(found["pcm"])}
         row.sums = {what: total for what, total in made.items() if total}
-    for line in lines_of(os.path.join(out, "refused.tsv")):
-        if line.startswith("\t") and rows:
-            continue
-        step, fault, shown = line.split("\t", 2)
-        if plain(shown) in rows:
-            rows[plain(shown)].refusals.append((step, fault))
+    for step, fault, name in refused_steps(os.path.join(out, "refused.tsv")):
+        rows.setdefault(name, Row(name)).refusals.append((step, fault))
     return list(rows.values())
 
 

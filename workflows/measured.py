@@ -7,6 +7,7 @@ import numpy as np
 
 import tagging
 import waves
+from channels import take
 from outputs import Refused
 
 COLUMNS = 60  # of a level picture
@@ -54,10 +55,10 @@ def samples(file, wave, first, count):
     """Frames as whole numbers of 32 bits, the lowest 8 or 16 of them zero."""
     size = wave.width // 8
     file.seek(wave.start + first * wave.channels * size)
-    data = np.frombuffer(file.read(count * wave.channels * size), np.uint8).reshape(-1, size)
-    wide = np.zeros((len(data), 4), np.uint8)
-    wide[:, 4 - size :] = data
-    return wide.view("<i4").reshape(-1, wave.channels)
+    # Four bytes from each sample's place, less the bytes before it, which belong to another.
+    data = bytes(4 - size) + take(file, count * wave.channels * size)
+    wide = np.ndarray(count * wave.channels, "<i4", data, 0, size) & np.int32(-1 << (32 - wave.width))
+    return wide.reshape(count, wave.channels)
 
 
 def level(value):
@@ -65,49 +66,64 @@ def level(value):
     return float(20 * np.log10(value)) if value > 0 else FLOOR
 
 
+def heard(piece):
+    """The frames of a piece that aren't silent."""
+    limit = 2**31 * 10 ** (SILENCE / 20)
+    return np.flatnonzero(((piece > limit) | (piece < -limit)).any(axis=1))
+
+
 class Course:
     """What is gathered from the pieces of a file."""
 
     def __init__(self, wave):
         self.wave = wave
-        self.sums, self.peak, self.clipped = np.zeros(wave.channels), 0, 0
-        self.first = self.last = None  # frames that aren't silent
+        self.sums, self.clipped = np.zeros(wave.channels), 0
+        # The first frame that isn't silent, and where the last piece begins that has such a one.
+        self.first = self.last_piece = None
         # A column of the picture is as many frames long, but the last.
         self.step = max(-(-wave.frames // COLUMNS), 1)
         self.highs, self.squares = np.zeros(COLUMNS), np.zeros(COLUMNS)
 
     def add(self, at, piece):
         """Takes the frames from a place on."""
-        high, low = piece.max(axis=1).astype(np.int64), piece.min(axis=1).astype(np.int64)
+        high, low = int(piece.max()), int(piece.min())
         edge = 1 << (32 - self.wave.width)
-        self.clipped += int(np.count_nonzero(piece >= (1 << 31) - edge) + np.count_nonzero(piece == -(1 << 31)))
-        loud = np.maximum(high, -low)
-        self.peak = max(self.peak, int(loud.max()))
-        self.sums += piece.sum(axis=0, dtype=np.float64)
-        heard = np.flatnonzero(loud > 2**31 * 10 ** (SILENCE / 20))
-        if len(heard):
-            self.first = at + int(heard[0]) if self.first is None else self.first
-            self.last = at + int(heard[-1])
-        starts = np.arange(at // self.step * self.step, at + len(piece), self.step) - at
-        starts[0] = 0
-        columns = np.arange(at // self.step, at // self.step + len(starts))
-        energy = np.square(piece / 2.0**31).mean(axis=1)
-        np.maximum.at(self.highs, columns, np.maximum.reduceat(loud, starts) / 2.0**31)
-        np.add.at(self.squares, columns, np.add.reduceat(energy, starts))
+        if high >= (1 << 31) - edge or low == -(1 << 31):
+            self.clipped += int(np.count_nonzero(piece >= (1 << 31) - edge) + np.count_nonzero(piece == -(1 << 31)))
+        if max(high, -low) > 2**31 * 10 ** (SILENCE / 20):
+            self.first = at + int(heard(piece)[0]) if self.first is None else self.first
+            self.last_piece = at
+        for channel in range(self.wave.channels):
+            self.sums[channel] += piece[:, channel].sum(dtype=np.int64)
+        column = at // self.step
+        while column * self.step < at + len(piece):
+            part = piece[max(column * self.step - at, 0) : (column + 1) * self.step - at]
+            loud = max(int(part.max()), -int(part.min())) / 2.0**31
+            plain = part.astype(np.float32).reshape(-1)
+            self.highs[column] = max(self.highs[column], loud)
+            self.squares[column] += float(np.dot(plain, plain)) / 2.0**62 / self.wave.channels
+            column += 1
 
-    def figures(self):
+    def silence(self, file):
+        """Seconds of silence at the start and the end, or None where all is silent."""
+        if self.first is None:
+            return None
+        count = min(PIECE, self.wave.frames - self.last_piece)
+        last = self.last_piece + int(heard(samples(file, self.wave, self.last_piece, count))[-1])
+        return [self.first / self.wave.rate, (self.wave.frames - 1 - last) / self.wave.rate]
+
+    def figures(self, file):
         wave, frames = self.wave, max(self.wave.frames, 1)
-        is_heard = self.first is not None
         counts = np.clip(frames - self.step * np.arange(COLUMNS), 1, self.step)
         return {
             "rate": wave.rate,
             "width": wave.width,
             "channels": wave.channels,
             "seconds": wave.frames / wave.rate,
-            "peak": level(self.peak / 2**31),
+            "peak": level(self.highs.max()),
             "clipped": self.clipped,
             "offset": level(np.abs(self.sums).max() / frames / 2**31),
-            "silence": [self.first / wave.rate, (wave.frames - 1 - self.last) / wave.rate] if is_heard else None,
+            "silence": self.silence(file),
             "highs": [round(level(it), 1) for it in self.highs],
             "means": [round(level(it), 1) for it in np.sqrt(self.squares / counts)],
         }
@@ -141,4 +157,4 @@ def measure(name, go_on):
         for at in range(0, wave.frames, PIECE):
             go_on()
             course.add(at, samples(file, wave, at, min(PIECE, wave.frames - at)))
-        return course.figures() | {"spectrum": spectrum(file, wave)}
+        return course.figures(file) | {"spectrum": spectrum(file, wave)}

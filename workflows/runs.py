@@ -143,8 +143,13 @@ def of_play_all(out, archive, pool):
 
 def rows_of(out, archive, pool):
     """The rows of a run, by their names."""
-    for kind, needed in ((of_workflow, "results.json"), (of_play_all, "refused.txt")):
-        if os.path.isfile(os.path.join(out, needed)):
-            rows = kind(out) if kind is of_workflow else kind(out, archive, pool)
-            return sorted(rows, key=lambda row: row.name)
-    raise Refused(f"{names.shown(out)} holds no run that ended: there is neither results.json nor refused.txt")
+    try:
+        if os.path.isfile(os.path.join(out, "results.json")):
+            rows = of_workflow(out)
+        elif os.path.isfile(os.path.join(out, "refused.txt")):
+            rows = of_play_all(out, archive, pool)
+        else:
+            raise Refused(f"{names.shown(out)} holds no run that ended: there is neither results.json nor refused.txt")
+    except (LookupError, TypeError, ValueError, AttributeError):
+        raise Refused(f"{names.shown(out)} holds lists that no run wrote, or that were changed") from None
+    return sorted(rows, key=lambda row: row.name)

@@ -99,8 +99,8 @@ def read(tag):
 
     try:
         return frames(ID3(io.BytesIO(tag)))
-    except mutagen.MutagenError as error:
-        raise Untagged(f"its tag is no ID3 tag that mutagen reads ({type(error).__name__})") from None
+    except (mutagen.MutagenError, LookupError, ValueError, struct.error):
+        raise Untagged("its tag is no ID3 tag that mutagen reads") from None
 
 
 def read_back(name):

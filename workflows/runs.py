@@ -110,7 +110,7 @@ def refusals_of(path):
     for line in lines_of(path):
         parts = SAID.fullmatch(line)
         if line.startswith("\t") and name is not None:
-            found[name] += "\n" + line[1:]
+            found[name] += "\n" + line[1:].removeprefix("fault: ")
         elif parts:
             name = plain(parts[1])
             found[name] = parts[2].removeprefix("fault: ")

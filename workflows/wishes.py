@@ -2,8 +2,10 @@
 import contextlib
 import os
 import re
+import struct
 import subprocess
 
+import channels
 from outputs import Refused
 from program import PROGRAM, ROOT
 
@@ -18,6 +20,7 @@ MADE_FOR = {
 }
 SERVED_BY = {rate: name for name, rate in MADE_FOR.items()} | {12_288_000: "dsd256"}
 NAME = re.compile(r"(dsd\d+)-to-([1-9]\d*)-(16|24)(-plus6)?\.toml", re.ASCII)
+HEAD = 4096  # bytes, in which files have their rate
 WISH = re.compile(r"([1-9]\d{0,9})/([1-9]\d?)", re.ASCII)
 
 
@@ -84,6 +87,19 @@ def asked(words, **how):
         return subprocess.run([PROGRAM, "info", *words], check=False, **how)
     except OSError as error:
         raise Refused(f"no program runs: {PROGRAM}: {error.strerror}") from None
+
+
+def rate_in_head(name):
+    """The rate that the first bytes of a file say, or None where it isn't there: without the program, so in no time."""
+    with open(name, "rb") as file:
+        head = file.read(HEAD)
+    if head[:4] == b"DSD " and head[28:32] == b"fmt " and len(head) >= 60:
+        return struct.unpack_from("<I", head, 56)[0]
+    for chunk, data in channels.chunks(head[16:]) if head[:4] == b"FRM8" else ():
+        for inner, field in channels.chunks(data[4:]) if (chunk, data[:4]) == (b"PROP", b"SND ") else ():
+            if inner == b"FS  " and len(field) >= 4:
+                return struct.unpack_from(">I", field)[0]
+    return None
 
 
 def rate_of(name):

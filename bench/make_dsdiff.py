@@ -7,7 +7,7 @@ import random
 import re
 import sys
 
-sys.path.insert(0, os.path.join(os.path.dirname(os.path.dirname(os.path.abspath(__file__))), "workflows"))
+sys.path.insert(0, os.path.join(os.path.dirname(os.path.dirname(os.path.abspath(__file__))), "scripts/common"))
 from dsdiffs import dsdiff, numbered  # noqa: E402
 from outputs import Outputs, Refused, ended  # noqa: E402
 

@@ -12,7 +12,7 @@ import os
 import re
 import sys
 
-sys.path.insert(0, os.path.join(os.path.dirname(os.path.dirname(os.path.abspath(__file__))), "workflows"))
+sys.path.insert(0, os.path.join(os.path.dirname(os.path.dirname(os.path.abspath(__file__))), "scripts/common"))
 from outputs import Outputs, Refused, ended  # noqa: E402
 
 WEIGHTS = [16, 62, 146, 260, 360, 412, 412, 360, 260, 146, 62, 16]

@@ -1,4 +1,5 @@
 # What the scripts of this folder measure with; they `source` it.
+# shellcheck shell=bash
 
 # The time of a command, in milliseconds.
 once() {

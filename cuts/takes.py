@@ -1,5 +1,5 @@
 """Takes as signals: a stored 1 is +1, a stored 0 is -1, and outside of a recording there is 0. Only what is asked for
-is read, by workflows/channels.py."""
+is read, by scripts/common/channels.py."""
 import os
 import stat
 import struct
@@ -8,7 +8,7 @@ from pathlib import Path
 
 import numpy as np
 
-sys.path.insert(0, str(Path(__file__).resolve().parent.parent / "workflows"))
+sys.path.insert(0, str(Path(__file__).resolve().parent.parent / "scripts/common"))
 import channels  # noqa: E402
 import dsdiffs  # noqa: E402
 from outputs import shown_name  # noqa: E402

@@ -14,7 +14,7 @@ from pathlib import Path
 
 os.environ.setdefault("OMP_NUM_THREADS", "1")
 
-sys.path.insert(0, str(Path(__file__).resolve().parent.parent / "workflows"))
+sys.path.insert(0, str(Path(__file__).resolve().parent.parent / "scripts/common"))
 import outputs  # noqa: E402
 
 outputs.begin()

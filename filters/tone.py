@@ -17,7 +17,7 @@ from pathlib import Path
 os.environ.setdefault("OMP_NUM_THREADS", "1")
 
 FOLDER = Path(__file__).resolve().parent
-sys.path[:0] = [str(FOLDER.parent / name) for name in ("workflows", "modulator")]
+sys.path[:0] = [str(FOLDER.parent / name) for name in ("scripts/common", "modulator")]
 import outputs  # noqa: E402
 
 outputs.begin()

@@ -13,7 +13,7 @@ from scipy import optimize
 from scipy import signal as signals
 
 FOLDER = Path(__file__).resolve().parent
-sys.path.insert(0, str(FOLDER.parent / "workflows"))
+sys.path.insert(0, str(FOLDER.parent / "scripts/common"))
 from outputs import Refused  # noqa: E402
 
 AUDIO = 20_000  # Hz: the zeros of the noise transfer lie below

@@ -13,9 +13,10 @@ import struct
 import sys
 import tempfile
 
-import channels
-import names
-import room
+sys.path.insert(0, os.path.join(os.path.dirname(os.path.dirname(os.path.realpath(__file__))), "scripts/common"))
+import channels  # noqa: E402
+import names  # noqa: E402
+import room  # noqa: E402
 
 PIECE = 1 << 20
 # Where the head of a DSF file has its bits per sample.

@@ -9,13 +9,14 @@ import subprocess
 import sys
 import tomllib
 
-import channels
-import restore
-import room
-import tagging
-import waves
-from names import KINDS, SETTINGS, TABLE, keep, load, remove, result, shown, sum_line, sum_of
-from program import PROGRAM
+sys.path.insert(0, os.path.join(os.path.dirname(os.path.dirname(os.path.realpath(__file__))), "scripts/common"))
+import channels  # noqa: E402
+import restore  # noqa: E402
+import room  # noqa: E402
+import tagging  # noqa: E402
+import waves  # noqa: E402
+from names import KINDS, SETTINGS, TABLE, keep, load, remove, result, shown, sum_line, sum_of  # noqa: E402
+from program import PROGRAM  # noqa: E402
 
 ENDINGS = {"dsdiff": "dff", "dsf": "dsf", "dsf8": "dsf"}
 
@@ -103,14 +104,17 @@ def convert(key):
         made |= {result("kept", entry, ending): file for ending, file in kept.items()}
         results = placed(made)
         remove(*(result("kept", entry, ending) for ending in KINDS["kept"] if ending not in kept))
-        keep(note_of("convert", key, form), {
-            "rate": rate,
-            "channels": [{"bits": bits, "sha256": total} for bits, total in sums],
-            "dropped": int(dropped.split()[-1]),
-            "renamed": entry["renamed"],
-            "results": results,
-            "tag": tag,
-        })
+        keep(
+            note_of("convert", key, form),
+            {
+                "rate": rate,
+                "channels": [{"bits": bits, "sha256": total} for bits, total in sums],
+                "dropped": int(dropped.split()[-1]),
+                "renamed": entry["renamed"],
+                "results": results,
+                "tag": tag,
+            },
+        )
     finally:
         remove(part, back, *(front + ending for ending in KINDS["kept"]))
 
@@ -150,14 +154,20 @@ def unplayable(found, filters):
 def plan():
     """What is done with each file, and the list of what is refused."""
     settings, table, steps = load(SETTINGS), load(TABLE), {}
-    lines = [f"{'folder' if fault == 'FolderUnread' else 'info'}\t{fault}\t{shown(name)}\n"
-             for fault, name in table["refused"]]
+    lines = [
+        f"{'folder' if fault == 'FolderUnread' else 'info'}\t{fault}\t{shown(name)}\n"
+        for fault, name in table["refused"]
+    ]
     for key, entry in by_name(table):
         found = load(look_of(key))
-        faults = {"info": found["fault"]} if "fault" in found else {
-            "convert": unconvertible(found, settings["form"]),
-            "play": unplayable(found, settings["filters"]),
-        }
+        faults = (
+            {"info": found["fault"]}
+            if "fault" in found
+            else {
+                "convert": unconvertible(found, settings["form"]),
+                "play": unplayable(found, settings["filters"]),
+            }
+        )
         lines += [f"{step}\t{fault}\t{shown(entry['name'])}\n" for step, fault in faults.items() if fault]
         steps[key] = {
             "convert": "info" not in faults and not faults["convert"],
@@ -199,13 +209,17 @@ def lists():
             made |= note["results"]
         if "convert" in notes:
             rate, name = notes["convert"]["rate"], shown(entry["name"])
-            sounds += [f"{channel['sha256']}\t{rate}\t{channel['bits']}\t{number}\t{name}\n"
-                       for number, channel in enumerate(notes["convert"]["channels"])]
+            sounds += [
+                f"{channel['sha256']}\t{rate}\t{channel['bits']}\t{number}\t{name}\n"
+                for number, channel in enumerate(notes["convert"]["channels"])
+            ]
     keep("SOURCES.SHA256SUMS", "".join(sources))
     keep("SHA256SUMS", "".join(sum_line(file["sha256"], path) for path, file in sorted(made.items())))
     keep("channels.tsv", "".join(sounds))
-    keep("dropped.tsv", "".join(
-        f"{found['dropped']}\t{shown(name)}\n" for name, found in results.items() if found["dropped"]))
+    keep(
+        "dropped.tsv",
+        "".join(f"{found['dropped']}\t{shown(name)}\n" for name, found in results.items() if found["dropped"]),
+    )
     keep("results.json", results)
     keep("report.txt", report(table, steps, results, len(sounds)))
 
@@ -226,7 +240,8 @@ def report(table, steps, results, sounds):
         f"played {sum(todo['play'] for todo in steps.values())}, not played {kinds.count('play')}\n"
         f"channels with equal bits {sounds}\n"
         f"results under other names {named}\n"
-        f"tags handed on to {tags.count(True)} results, not to {tags.count(False)}\n")
+        f"tags handed on to {tags.count(True)} results, not to {tags.count(False)}\n"
+    )
 
 
 STEPS = {step.__name__: step for step in (look, convert, play, plan, lists)}

@@ -1,0 +1,313 @@
+"""The names of an archive's files: which there are, the key that each goes by, and where what is made of it stands.
+
+A name can hold whatever a disk takes, also what a shell would run. So no shell and no Snakemake reads one: inside a
+workflow a file goes by its key, the first digits of its name's SHA-256, and `work/names.json` tells whose key it is.
+"""
+import errno
+import hashlib
+import json
+import os
+import re
+import stat
+import sys
+import unicodedata
+
+import room
+
+KEY_DIGITS = 32
+ENDINGS = (".dff", ".dsf")
+# What the results of one file end with, by the folder that they stand in.
+KINDS = {"converted": (".dff", ".dsf"), "pcm": (".wav",), "kept": (".head", ".fill", ".id3", ".tail")}
+ADDED = max(len(ending) for endings in KINDS.values() for ending in endings)
+# A file's path from the archive, a result's from OUT, and the path of OUT; the system takes 4095 bytes.
+LONGEST_SOURCE = 4000
+LONGEST_RESULT = 3000
+LONGEST_OUT = 1000
+FRONT = 200
+TABLE = "work/names.json"
+SETTINGS = "work/settings.json"
+# A word that no shell reads even where it stands in no quotes, and what it reads in one kind of quotes or the other.
+PLAIN = re.compile(r"[\w./+@-]+")
+READ_IN_QUOTES = set("'\"\\$`!")
+
+
+def key_of(name):
+    return hashlib.sha256(os.fsencode(name)).hexdigest()[:KEY_DIGITS]
+
+
+def is_text(name):
+    """Whether a name is UTF-8."""
+    return not any("\udc80" <= letter <= "\udcff" for letter in name)
+
+
+def shown(name):
+    """A name on one line, as sha256sum writes it."""
+    return name.replace("\\", "\\\\").replace("\n", "\\n").replace("\r", "\\r")
+
+
+def sum_line(total, name):
+    """A line of sums, as sha256sum writes it."""
+    return f"{chr(92) if shown(name) != name else ''}{total}  {shown(name)}\n"
+
+
+def keep(name, data):
+    """Writes a text or an object as JSON, whole or not at all."""
+    part = name + ".part"
+    try:
+        with open(part, "w", encoding="utf-8", errors="surrogateescape") as file:
+            if isinstance(data, str):
+                file.write(data)
+            else:
+                json.dump(data, file, indent=1, sort_keys=True)
+                file.write("\n")
+        os.replace(part, name)
+    except BaseException:
+        remove(part)
+        raise
+
+
+def load(name):
+    with open(name, encoding="utf-8") as file:
+        return json.load(file)
+
+
+def keep_if_other(name, data):
+    """Writes an object as JSON where another stands, so that the time of the file tells when it changed."""
+    try:
+        if load(name) == data:
+            return
+    except (OSError, ValueError):
+        pass
+    keep(name, data)
+
+
+def sum_of(name):
+    with open(name, "rb") as file:
+        return hashlib.file_digest(file, "sha256").hexdigest()
+
+
+def remove(*names):
+    for name in names:
+        if os.path.lexists(name):
+            os.remove(name)
+
+
+def fault_of(archive, name):
+    """The fault that a file isn't even looked at for, or None."""
+    path = os.path.join(archive, name)
+    if not is_text(name):
+        return "WrongWords"
+    if len(os.fsencode(name)) > LONGEST_SOURCE:
+        return "PathTooLong"
+    try:
+        mode = os.stat(path).st_mode
+    except OSError as error:
+        return "PathTooLong" if error.errno == errno.ENAMETOOLONG else "ReadFailed"
+    if not stat.S_ISREG(mode):
+        return "NotAFile"
+    return None if os.access(path, os.R_OK) else "ReadFailed"
+
+
+def walk(archive, left_out):
+    """The name of each DSD file below a folder with its fault or None, and of each folder that can't be listed.
+
+    Links to files are taken, links to folders are not followed, and the folder that is left out is not entered.
+    """
+    out, folders = os.stat(left_out), [""]
+    while folders:
+        folder = folders.pop()
+        try:
+            with os.scandir(os.path.join(archive, folder)) as found:
+                entries = list(found)
+        except OSError:
+            if not folder:
+                raise
+            yield folder, "FolderUnread"
+            continue
+        for entry in entries:
+            name = os.path.join(folder, entry.name)
+            if entry.is_dir(follow_symlinks=False):
+                if not is_same(entry, out):
+                    folders.append(name)
+            elif entry.name.lower().endswith(ENDINGS) and not is_folder(entry):
+                yield name, fault_of(archive, name)
+
+
+def is_folder(entry):
+    """Whether a link leads to a folder; one that leads to nothing that can be told doesn't."""
+    try:
+        return entry.is_dir()
+    except OSError:
+        return False
+
+
+def is_same(entry, folder):
+    try:
+        return os.path.samestat(entry.stat(follow_symlinks=False), folder)
+    except OSError:
+        return False
+
+
+def folders_of(names):
+    """The folders that names stand in, and the folders of these."""
+    found = set()
+    for name in names:
+        while (name := os.path.dirname(name)) and name not in found:
+            found.add(name)
+    return found
+
+
+def front_of(name):
+    """As much of a name as leaves room for a key, cut between two letters."""
+    return os.fsencode(name)[:FRONT].decode(errors="ignore")
+
+
+def renamed(name, folders, longest):
+    """The front of a file's results where these can't have its name in the folders of the archive, or None.
+
+    They can't where they would be too long, or where a folder has the name of one of them.
+    """
+    parts = os.fsencode(name).split(b"/")
+    fits = (
+        len(parts[-1]) + ADDED <= longest
+        and all(len(part) <= longest for part in parts)
+        and max(map(len, KINDS)) + 1 + len(os.fsencode(name)) + ADDED <= LONGEST_RESULT
+    )
+    if fits and not any(name + ending in folders for endings in KINDS.values() for ending in endings):
+        return None
+    return f"renamed/{front_of(os.path.basename(name))}~{key_of(name)}"
+
+
+def result(kind, entry, ending):
+    """The path in OUT of what is made of a file."""
+    return (entry["renamed"] or f"{kind}/{entry['name']}") + ending
+
+
+def table_of(archive, out):
+    """The files that are looked at, by their keys, and what is refused by its name alone."""
+    found = sorted(walk(archive, out))
+    good = [name for name, fault in found if fault is None]
+    folders, longest = folders_of(good), os.pathconf(out, "PC_NAME_MAX")
+    files = {key_of(name): {"name": name, "renamed": renamed(name, folders, longest)} for name in good}
+    if len(files) != len(good):
+        sys.exit("two names have the same key: rename one of the files")
+    return {"files": files, "refused": [[fault, name] for name, fault in found if fault]}
+
+
+def tells_apart(folder, first, second):
+    """Whether a folder's disk takes two names for two files."""
+    names = [os.path.join(folder, name) for name in (first, second)]
+    try:
+        with open(names[0], "w"):
+            return not os.path.lexists(names[1])
+    finally:
+        remove(names[0])
+
+
+def clashing(files, folder):
+    """Two names that OUT's disk would take for one, or None: it may not tell capital letters, or accents, apart."""
+    forms = []
+    if not tells_apart(folder, "probe", "PROBE"):
+        forms.append(str.casefold)
+    if not tells_apart(folder, "prob\u00e9", "probe\u0301"):
+        forms.append(lambda name: unicodedata.normalize("NFD", name))
+    seen = {}
+    for entry in files.values() if forms else ():
+        form = entry["name"]
+        for change in forms:
+            form = change(form)
+        if seen.setdefault(form, entry["name"]) != entry["name"]:
+            return seen[form], entry["name"]
+    return None
+
+
+def link(target, name):
+    """Makes a link where there is another or none, so that the time of a link tells when it changed."""
+    if os.path.islink(name) and os.readlink(name) == target:
+        return False
+    remove(name)
+    os.symlink(target, name)
+    return True
+
+
+def link_archive(named):
+    """Has `archive` in OUT lead to the folder that was named, or finds it where none was."""
+    if named is None and not os.path.lexists("archive"):
+        sys.exit("say which folder: --config archive=FOLDER, or put a link to it into OUT: ln -s FOLDER OUT/archive")
+    if named is not None:
+        if os.path.lexists("archive") and not os.path.islink("archive"):
+            sys.exit("OUT/archive is no link: move it away")
+        if not os.path.isdir(named):
+            sys.exit(f"no such folder: {named!r}; if it is there, put a link to it into OUT: ln -s FOLDER OUT/archive")
+        link(named, "archive")
+    if not os.path.isdir("archive"):
+        sys.exit("OUT/archive leads to no folder")
+
+
+def link_files(files):
+    """A link for each file, by its key; all are new where the archive is another."""
+    target = os.path.realpath("archive")
+    try:
+        same = load("work/archive.json") == target
+    except (OSError, ValueError):
+        same = False
+    os.makedirs("work/links", exist_ok=True)
+    for key in os.listdir("work/links"):
+        if not same or key not in files:
+            os.remove(f"work/links/{key}")
+    for key, entry in files.items():
+        link(f"../../archive/{entry['name']}", f"work/links/{key}")
+    if not same:
+        keep("work/archive.json", target)
+
+
+def is_there(note, entry):
+    """Whether what a note tells of stands where it should."""
+    return note["renamed"] == entry["renamed"] and all(
+        os.path.isfile(name) and os.path.getsize(name) == made["bytes"] for name, made in note["results"].items()
+    )
+
+
+def forget_lost(kind, files):
+    """Removes the notes of what is no longer there, so that it is made again; and what stands in another's place."""
+    for name in os.listdir(f"work/{kind}"):
+        entry, path = files.get(name.partition(".")[0]), f"work/{kind}/{name}"
+        if entry and name.endswith(".json"):
+            note = load(path)
+            if not is_there(note, entry):
+                remove(path, *(note["results"] if note["renamed"] != entry["renamed"] else ()))
+
+
+def settle(archive, settings):
+    """What the first process of a workflow does in OUT, its folder: the table of names, the links, the settings."""
+    out = os.getcwd()
+    if len(os.fsencode(out)) > LONGEST_OUT:
+        sys.exit(f"the path of OUT has more than {LONGEST_OUT} bytes: take another")
+    link_archive(archive)
+    for folder in ("looks", "converted", "played", "parts"):
+        os.makedirs(f"work/{folder}", exist_ok=True)
+    table = table_of("archive", ".")
+    room.start("work", len(table["files"]))
+    clash = clashing(table["files"], "work")
+    if clash:
+        sys.exit("the disk of OUT takes these two for one name, take another: " + ", ".join(map(repr, clash)))
+    link_files(table["files"])
+    for kind in ("converted", "played"):
+        forget_lost(kind, table["files"])
+    keep_if_other(TABLE, table)
+    keep_if_other(SETTINGS, settings)
+
+
+def check_words(out, words):
+    """Refuses what Snakemake 7 would hand to a cluster's shell in a way that isn't safe."""
+    if not PLAIN.fullmatch(out):
+        sys.exit(
+            f"Snakemake hands the path of OUT to the cluster's shell: only letters, digits and ._-+@/ are safe in it, "
+            f"so take another than {out!r}"
+        )
+    for word in words:
+        if not word.isprintable() or READ_IN_QUOTES & set(word):
+            sys.exit(
+                f"Snakemake hands this to the cluster's shell, which would read more in it: {word!r}; "
+                f"if it is the archive, put a link to it into OUT: ln -s FOLDER OUT/archive"
+            )

@@ -1,0 +1,43 @@
+"""The program that scripts run: what DSDARC names, else that of the clone, or of the installation, that they stand in."""
+import os
+import subprocess
+
+from outputs import Refused
+
+# The folder of workflows/, filters/ and examples/: the top of a clone, or share/dsdarc of an installation.
+ROOT = os.path.dirname(os.path.dirname(os.path.dirname(os.path.abspath(__file__))))
+
+
+def found():
+    """The program of a clone, which builds itself, or the installed one."""
+    built = os.path.join(ROOT, "bin", "dsdarc")
+    return built if os.path.exists(built) else os.path.normpath(os.path.join(ROOT, "..", "..", "bin", "dsdarc"))
+
+
+PROGRAM = os.environ.get("DSDARC") or found()
+
+
+def finished(words, folder=None):
+    """Runs a command, in a folder: its status, and what it prints on both outputs. Where this is stopped the command is
+    asked to end, so that it removes what it was writing."""
+    child = subprocess.Popen(
+        words, stdin=subprocess.DEVNULL, stdout=subprocess.PIPE, stderr=subprocess.PIPE, cwd=folder
+    )
+    try:
+        out, err = child.communicate()
+    except BaseException:
+        child.terminate()
+        child.wait()
+        raise
+    return child.returncode, out, err
+
+
+def must(program, *words):
+    """Runs a command that has to be done."""
+    try:
+        status, out, err = finished([program, *words])
+    except (OSError, ValueError) as error:
+        raise Refused(f"the program {program} can't be run ({error}): build it, or name it by DSDARC") from None
+    if status:
+        said = (err or out).decode(errors="replace").strip()
+        raise Refused(f"{' '.join(map(os.fspath, [program, *words]))}: {said or f'status {status}'}")

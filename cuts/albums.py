@@ -107,7 +107,8 @@ def starts_of(found):
                     if inner == b"MARK":
                         hours, minutes, seconds, samples, offset, kind, _, _, count = MARK.unpack_from(data)
                         place = ((hours * 60 + minutes) * 60 + seconds) * found.rate + samples + offset
-                        starts += [(place, text_of(data[MARK.size : MARK.size + count]))] if kind == START else []
+                        text = text_of(data[MARK.size : MARK.size + count]).rstrip("\0")
+                        starts += [(place, text)] if kind == START else []
     return sorted(it for it in starts if 0 <= it[0] < found.samples)
 
 
@@ -166,7 +167,7 @@ def cued(found, name):
 
 
 def in_bytes(tracks, found):
-    """Lets tracks begin at whole bytes, as DSDIFF files hold them; tells of each that begins earlier for that."""
+    """Lets tracks begin at whole bytes, as DSDIFF files hold them: a line for each that begins earlier for that."""
     if found.samples % 8:
         raise Refused(
             f"{shown_name(found.name)} has {found.samples} bits a channel, and a DSDIFF file holds whole bytes, "

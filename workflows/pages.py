@@ -154,7 +154,7 @@ def line_of(row):
     is_kind = {
         "refused": bool(row.refusals),
         "clipped": has_figures and figures["clipped"] > 0,
-        "dropped": row.dropped > 0,
+        "dropped": (row.dropped or 0) > 0,
         "unplayed": row.pcm is None,
     }
     return Line(cells, " ".join(kind for kind, holds in is_kind.items() if holds), bool(row.refusals))

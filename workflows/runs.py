@@ -24,7 +24,7 @@ class Row:
     channels: int | None = None
     samples: int | None = None
     pcm: str | None = None
-    dropped: int = 0
+    dropped: int | None = None
     kept: list = dataclasses.field(default_factory=list)
     sums: dict = dataclasses.field(default_factory=dict)
     refusals: list = dataclasses.field(default_factory=list)

@@ -139,6 +139,11 @@ def write(name, tag):
             head.offset_metdata_chunk, head.total_size = end, end + len(tag)
             head.write()
         elif form == b"FRM8":
+            file.seek(4)
+            if struct.unpack(">Q", channels.take(file, 8))[0] + 12 == end + 1:
+                # The last pad, which may be missing.
+                file.seek(end)
+                file.write(b"\0")
             DSDIFFFile(file).insert_chunk("ID3", tag)
         else:
             if end + len(tag) + 16 > MOST_WAVE:
@@ -161,7 +166,7 @@ def put(name, tag, is_compared=False):
         write(name, tag)
         back = read_back(name)
     except (mutagen.MutagenError, AssertionError, LookupError, ValueError, struct.error) as error:
-        raise Untagged(f"mutagen can't write the tag: {error or type(error).__name__}") from None
+        raise Untagged(f"mutagen can't write the tag: {str(error) or type(error).__name__}") from None
     if not is_compared and sound_sum(name) != before:
         raise Untagged("its sound would be another")
     if back != said or tag_of(name) != tag:

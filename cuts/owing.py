@@ -24,9 +24,7 @@ AROUND = 1024  # bits at 2,822,400 Hz to each side of a place, in which a click 
 STEP = 16  # such bits between the times at which it is
 
 
-def sounds(
-    take: Take, first: int, stop: int, guessed: tuple[int, int] = GUESSED, down: int = DOWN
-) -> np.ndarray:
+def sounds(take: Take, first: int, stop: int, guessed: tuple[int, int] = GUESSED, down: int = DOWN) -> np.ndarray:
     """What of a take passes a low-pass, a row for each channel."""
     taps = lowpass(take.rate, *guessed, down)
     half = len(taps) // 2

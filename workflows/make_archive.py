@@ -18,8 +18,14 @@ from dsdiffs import chunk, dsdiff, mark  # noqa: E402
 from program import PROGRAM  # noqa: E402
 
 RATES = [2_822_400, 2_822_400, 5_644_800, 3_072_000, 11_289_600, 6_144_000]
-NAMES = ["{nr:02} track.dff", "{nr:02} - Größe & Maß.dff", "{nr:02} it's \"quoted\".DFF", "{nr:02} [live] {{take}}.dff",
-         "{nr:02} 100% $HOME `x`.dff", "-{nr:02} first.dff"]
+NAMES = [
+    "{nr:02} track.dff",
+    "{nr:02} - Größe & Maß.dff",
+    '{nr:02} it\'s "quoted".DFF',
+    "{nr:02} [live] {{take}}.dff",
+    "{nr:02} 100% $HOME `x`.dff",
+    "-{nr:02} first.dff",
+]
 
 
 @contextlib.contextmanager
@@ -56,7 +62,7 @@ def good(folder, number, chance):
     """A whole file: its form, rate, channels and length go by its number."""
     rate = RATES[number % len(RATES)]
     channels = [2, 2, 1, 6, 5, 2, 3, 4][number % 8]
-    count = 2 ** 11 + chance.randrange(2 ** 15)
+    count = 2**11 + chance.randrange(2**15)
     more = mark(b"one") + chunk(b"COMT", b"\0\0") if number % 7 == 0 else b""
     place = ["", "Artist A/Disc 1", "Artist A/Disc 2", "Künstler Ö/an album/CD 1"][number % 4]
     name = os.path.join(folder, place, NAMES[number % len(NAMES)].format(nr=number))
@@ -68,7 +74,7 @@ def good(folder, number, chance):
 
 
 def patched(data, at, new):
-    return data[:at] + new + data[at + len(new):]
+    return data[:at] + new + data[at + len(new) :]
 
 
 def broken(folder, chance):
@@ -87,7 +93,7 @@ def broken(folder, chance):
         "cut in the head.dff": whole[:40],
         "packed (DST).dff": dsdiff(2_822_400, 2, stereo, compression=b"DST "),
         "part frame.dff": dsdiff(2_822_400, 2, stereo[:-1]),
-        "seven channels.dff": dsdiff(2_822_400, 7, stereo[:7 * 5000]),
+        "seven channels.dff": dsdiff(2_822_400, 7, stereo[: 7 * 5000]),
         "slow rate.dff": dsdiff(44_100, 2, stereo),
         "cut mark.dff": dsdiff(2_822_400, 2, stereo, more=chunk(b"DIIN", chunk(b"MARK", b"short"))),
         "cut in the sound.dsf": dsf[:20_000],

@@ -13,6 +13,7 @@ sys.path.insert(0, os.path.join(os.path.dirname(os.path.dirname(os.path.realpath
 import channels  # noqa: E402
 import restore  # noqa: E402
 import room  # noqa: E402
+import tagging  # noqa: E402
 import waves  # noqa: E402
 from names import KINDS, SETTINGS, TABLE, keep, load, remove, result, shown, sum_line, sum_of  # noqa: E402
 from program import PROGRAM  # noqa: E402
@@ -96,18 +97,24 @@ def convert(key):
         dropped = must(entry, lambda: room.copied_size(source), "convert", form, source, part)
         must(entry, lambda: room.copied_size(source), "convert", looked["form"], part, back)
         kept = restore.keep_all_but_sound(source, front)
+        # Before the bits are compared, so that they are those of the file with its tag.
+        tag = tagging.hand_on(source, part, is_compared=True)
         rate, sums = compare(entry, source, looked["sha256"], part, back, kept)
         made = {result("converted", entry, f".{ENDINGS[form]}"): part}
         made |= {result("kept", entry, ending): file for ending, file in kept.items()}
         results = placed(made)
         remove(*(result("kept", entry, ending) for ending in KINDS["kept"] if ending not in kept))
-        keep(note_of("convert", key, form), {
-            "rate": rate,
-            "channels": [{"bits": bits, "sha256": total} for bits, total in sums],
-            "dropped": int(dropped.split()[-1]),
-            "renamed": entry["renamed"],
-            "results": results,
-        })
+        keep(
+            note_of("convert", key, form),
+            {
+                "rate": rate,
+                "channels": [{"bits": bits, "sha256": total} for bits, total in sums],
+                "dropped": int(dropped.split()[-1]),
+                "renamed": entry["renamed"],
+                "results": results,
+                "tag": tag,
+            },
+        )
     finally:
         remove(part, back, *(front + ending for ending in KINDS["kept"]))
 
@@ -118,8 +125,9 @@ def play(key):
     try:
         chosen, source = settings["filters"][str(load(look_of(key))["rate"])], source_of(key)
         must(entry, lambda: room.played_size(source, chosen), "play", chosen, source, part)
+        tag = tagging.hand_on(source, part)
         results = placed({result("pcm", entry, ".wav"): part})
-        keep(note_of("play", key, settings["form"]), {"renamed": entry["renamed"], "results": results})
+        keep(note_of("play", key, settings["form"]), {"renamed": entry["renamed"], "results": results, "tag": tag})
     finally:
         remove(part)
 
@@ -146,14 +154,20 @@ def unplayable(found, filters):
 def plan():
     """What is done with each file, and the list of what is refused."""
     settings, table, steps = load(SETTINGS), load(TABLE), {}
-    lines = [f"{'folder' if fault == 'FolderUnread' else 'info'}\t{fault}\t{shown(name)}\n"
-             for fault, name in table["refused"]]
+    lines = [
+        f"{'folder' if fault == 'FolderUnread' else 'info'}\t{fault}\t{shown(name)}\n"
+        for fault, name in table["refused"]
+    ]
     for key, entry in by_name(table):
         found = load(look_of(key))
-        faults = {"info": found["fault"]} if "fault" in found else {
-            "convert": unconvertible(found, settings["form"]),
-            "play": unplayable(found, settings["filters"]),
-        }
+        faults = (
+            {"info": found["fault"]}
+            if "fault" in found
+            else {
+                "convert": unconvertible(found, settings["form"]),
+                "play": unplayable(found, settings["filters"]),
+            }
+        )
         lines += [f"{step}\t{fault}\t{shown(entry['name'])}\n" for step, fault in faults.items() if fault]
         steps[key] = {
             "convert": "info" not in faults and not faults["convert"],
@@ -180,6 +194,7 @@ def told(key, todo, form):
         "kept": [path for path in results.get("convert", []) if path not in converted],
         "dropped": notes["convert"]["dropped"] if converted else 0,
         "pcm": results["play"][0] if "play" in results else None,
+        "tags": {step: note["tag"] for step, note in notes.items() if note.get("tag")},
     }
 
 
@@ -194,13 +209,17 @@ def lists():
             made |= note["results"]
         if "convert" in notes:
             rate, name = notes["convert"]["rate"], shown(entry["name"])
-            sounds += [f"{channel['sha256']}\t{rate}\t{channel['bits']}\t{number}\t{name}\n"
-                       for number, channel in enumerate(notes["convert"]["channels"])]
+            sounds += [
+                f"{channel['sha256']}\t{rate}\t{channel['bits']}\t{number}\t{name}\n"
+                for number, channel in enumerate(notes["convert"]["channels"])
+            ]
     keep("SOURCES.SHA256SUMS", "".join(sources))
     keep("SHA256SUMS", "".join(sum_line(file["sha256"], path) for path, file in sorted(made.items())))
     keep("channels.tsv", "".join(sounds))
-    keep("dropped.tsv", "".join(
-        f"{found['dropped']}\t{shown(name)}\n" for name, found in results.items() if found["dropped"]))
+    keep(
+        "dropped.tsv",
+        "".join(f"{found['dropped']}\t{shown(name)}\n" for name, found in results.items() if found["dropped"]),
+    )
     keep("results.json", results)
     keep("report.txt", report(table, steps, results, len(sounds)))
 
@@ -212,6 +231,7 @@ def report(table, steps, results, sounds):
     converted = sum(todo["convert"] for todo in steps.values())
     dropped = sum(found["dropped"] > 0 for found in results.values())
     named = sum(entry["renamed"] is not None for entry in table["files"].values())
+    tags = [tag == tagging.HANDED_ON for found in results.values() for tag in found["tags"].values()]
     return (
         f"files {len(steps) + len(table['refused']) - kinds.count('folder')}\n"
         f"refused {kinds.count('info')}, folders that can't be listed {kinds.count('folder')}\n"
@@ -219,7 +239,9 @@ def report(table, steps, results, sounds):
         f"can be made again byte for byte {converted}, of which marks, chunks or a tag were dropped {dropped}\n"
         f"played {sum(todo['play'] for todo in steps.values())}, not played {kinds.count('play')}\n"
         f"channels with equal bits {sounds}\n"
-        f"results under other names {named}\n")
+        f"results under other names {named}\n"
+        f"tags handed on to {tags.count(True)} results, not to {tags.count(False)}\n"
+    )
 
 
 STEPS = {step.__name__: step for step in (look, convert, play, plan, lists)}

@@ -49,7 +49,8 @@ def tells_full(message, has_jobs):
     """Whether Snakemake has to say that the disk is full, or that a job failed where one met a full disk."""
     said = str(message.get("msg"))
     return any(f"[Errno {number}]" in said for number in room.FULL) or (
-        has_jobs and message["level"].endswith("error") and not os.path.exists(room.MARK))
+        has_jobs and message["level"].endswith("error") and not os.path.exists(room.MARK)
+    )
 
 
 def watch(workflow, logger):

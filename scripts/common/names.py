@@ -168,8 +168,11 @@ def renamed(name, folders, longest):
     They can't where they would be too long, or where a folder has the name of one of them.
     """
     parts = os.fsencode(name).split(b"/")
-    fits = (len(parts[-1]) + ADDED <= longest and all(len(part) <= longest for part in parts)
-            and max(map(len, KINDS)) + 1 + len(os.fsencode(name)) + ADDED <= LONGEST_RESULT)
+    fits = (
+        len(parts[-1]) + ADDED <= longest
+        and all(len(part) <= longest for part in parts)
+        and max(map(len, KINDS)) + 1 + len(os.fsencode(name)) + ADDED <= LONGEST_RESULT
+    )
     if fits and not any(name + ending in folders for endings in KINDS.values() for ending in endings):
         return None
     return f"renamed/{front_of(os.path.basename(name))}~{key_of(name)}"
@@ -261,7 +264,8 @@ def link_files(files):
 def is_there(note, entry):
     """Whether what a note tells of stands where it should."""
     return note["renamed"] == entry["renamed"] and all(
-        os.path.isfile(name) and os.path.getsize(name) == made["bytes"] for name, made in note["results"].items())
+        os.path.isfile(name) and os.path.getsize(name) == made["bytes"] for name, made in note["results"].items()
+    )
 
 
 def forget_lost(kind, files):
@@ -297,9 +301,13 @@ def settle(archive, settings):
 def check_words(out, words):
     """Refuses what Snakemake 7 would hand to a cluster's shell in a way that isn't safe."""
     if not PLAIN.fullmatch(out):
-        sys.exit(f"Snakemake hands the path of OUT to the cluster's shell: only letters, digits and ._-+@/ are safe in it, "
-                 f"so take another than {out!r}")
+        sys.exit(
+            f"Snakemake hands the path of OUT to the cluster's shell: only letters, digits and ._-+@/ are safe in it, "
+            f"so take another than {out!r}"
+        )
     for word in words:
         if not word.isprintable() or READ_IN_QUOTES & set(word):
-            sys.exit(f"Snakemake hands this to the cluster's shell, which would read more in it: {word!r}; "
-                     f"if it is the archive, put a link to it into OUT: ln -s FOLDER OUT/archive")
+            sys.exit(
+                f"Snakemake hands this to the cluster's shell, which would read more in it: {word!r}; "
+                f"if it is the archive, put a link to it into OUT: ln -s FOLDER OUT/archive"
+            )

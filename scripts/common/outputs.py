@@ -56,12 +56,12 @@ def keep(name):
 
 
 @contextlib.contextmanager
-def scratch():
-    """A folder for the time of a block."""
+def scratch(beside=None):
+    """A folder for the time of a block: in that for temporary files, or in another one."""
     folder = None
     try:
         with unstopped():
-            folder = tempfile.mkdtemp()
+            folder = tempfile.mkdtemp(prefix=".dsdarc-script-", dir=beside)
             note(shutil.rmtree, folder)
         yield folder
     finally:

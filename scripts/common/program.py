@@ -17,12 +17,27 @@ def found():
 PROGRAM = os.environ.get("DSDARC") or found()
 
 
+def finished(words, folder=None):
+    """Runs a command, in a folder: its status, and what it prints on both outputs. Where this is stopped the command is
+    asked to end, so that it removes what it was writing."""
+    child = subprocess.Popen(
+        words, stdin=subprocess.DEVNULL, stdout=subprocess.PIPE, stderr=subprocess.PIPE, cwd=folder
+    )
+    try:
+        out, err = child.communicate()
+    except BaseException:
+        child.terminate()
+        child.wait()
+        raise
+    return child.returncode, out, err
+
+
 def must(program, *words):
     """Runs a command that has to be done."""
     try:
-        done = subprocess.run([program, *words], stdout=subprocess.PIPE, stderr=subprocess.PIPE, check=False)
+        status, out, err = finished([program, *words])
     except (OSError, ValueError) as error:
         raise Refused(f"the program {program} can't be run ({error}): build it, or name it by DSDARC") from None
-    if done.returncode:
-        said = (done.stderr or done.stdout).decode(errors="replace").strip()
-        raise Refused(f"{' '.join(map(os.fspath, [program, *words]))}: {said or f'status {done.returncode}'}")
+    if status:
+        said = (err or out).decode(errors="replace").strip()
+        raise Refused(f"{' '.join(map(os.fspath, [program, *words]))}: {said or f'status {status}'}")

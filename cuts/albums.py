@@ -1,0 +1,275 @@
+"""Recordings with several tracks: where tracks begin, by DSDIFF marks or by a cue sheet, and masters that the program
+cuts of them and judges. Titles and names are kept as far as files can have them."""
+import contextlib
+import dataclasses
+import json
+import os
+import re
+import struct
+import unicodedata
+
+import channels
+import outputs
+import room
+from outputs import Refused, shown_name
+from program import PROGRAM, finished
+from project_texts import MOST_CUES, MOST_TAKES
+
+ENDINGS = {"dsdiff": ".dff", "dsf": ".dsf", "dsf8": ".dsf"}
+START = 0  # the type of a mark at which a track starts
+MOST_TITLE = 255  # bytes of a mark's text that a project may have
+MOST_NAME = 200  # bytes of a title in a name
+MARK = struct.Struct(">HBBIiHHHI")
+FRAMES = 75  # of a second in a cue sheet
+# What some system takes for more than a letter of a name.
+UNSAFE = re.compile(r'[/\\:*?"<>|]')
+INDEX = re.compile(r"(\d{1,2})\s+(\d{1,4}):([0-5]\d):([0-6]\d|7[0-4])", re.ASCII)
+NUMBERED = re.compile(r"(\d{2,3})(?:(?: - | |\.|_|-)(.*))?", re.ASCII | re.DOTALL)
+
+
+@dataclasses.dataclass
+class Recording:
+    """What the program reports of a file."""
+
+    name: str
+    form: str
+    rate: int
+    channels: int
+    samples: int
+
+
+@dataclasses.dataclass
+class Track:
+    """Part of a recording: bits `start` to `stop` - 1. What comes before the first track has the number 0."""
+
+    number: int
+    title: str | None
+    start: int
+    stop: int = 0
+
+
+def asked(what, name, *words, folder=None):
+    """What the program prints; a fault is one of that file."""
+    program = os.path.abspath(PROGRAM) if "/" in PROGRAM else PROGRAM
+    try:
+        status, out, err = finished([program, *words], folder)
+    except OSError as error:
+        raise Refused(
+            f"the program {program} can't be run ({error.strerror}): build it, or name it by DSDARC"
+        ) from None
+    if status:
+        said = (err or out).decode(errors="replace").strip()
+        raise Refused(f"{what}, {shown_name(name)}: {said or f'the program ended with status {status}'}")
+    return out.decode()
+
+
+def recording(what, name):
+    """What a file holds; it may have any name."""
+    if not os.path.isfile(name):
+        os.stat(name)
+        raise Refused(f"{what}, {shown_name(name)}: it is no file")
+    with outputs.scratch() as folder:
+        os.symlink(os.path.abspath(name), os.path.join(folder, "take"))
+        lines = asked(what, name, "info", "take", folder=folder).splitlines()
+    found = dict(line.split(" ", 1) for line in lines)
+    return Recording(name, found["form"], *(int(found[key]) for key in ("rate", "channels", "samples")))
+
+
+# Where tracks begin.
+
+
+def text_of(data):
+    """A text that says nothing of its encoding."""
+    try:
+        return data.decode("utf-8-sig")
+    except UnicodeDecodeError:
+        return data.decode("cp1252", errors="replace")
+
+
+def form_chunks(file):
+    """ID and size of each chunk of a DSDIFF form; the file stands at its data."""
+    size = struct.unpack(">4sQ", channels.take(file, 12))[1]
+    at, stop = 16, min(12 + size, os.fstat(file.fileno()).st_size)
+    while at + 12 <= stop:
+        file.seek(at)
+        name, size = struct.unpack(">4sQ", channels.take(file, 12))
+        yield name, size
+        at += 12 + size + size % 2
+
+
+def starts_of(found):
+    """Place and text of each mark of a DSDIFF file at which a track starts, in their order."""
+    starts = []
+    if found.form == "dsdiff":
+        with open(found.name, "rb") as file:
+            for name, size in form_chunks(file):
+                for inner, data in channels.chunks(channels.take(file, size)) if name == b"DIIN" else ():
+                    if inner == b"MARK":
+                        hours, minutes, seconds, samples, offset, kind, _, _, count = MARK.unpack_from(data)
+                        place = ((hours * 60 + minutes) * 60 + seconds) * found.rate + samples + offset
+                        text = text_of(data[MARK.size : MARK.size + count]).rstrip("\0")
+                        starts += [(place, text)] if kind == START else []
+    return sorted(it for it in starts if 0 <= it[0] < found.samples)
+
+
+def marked(found):
+    """The tracks of an album by its marks, without their ends."""
+    starts = starts_of(found)
+    if not starts:
+        raise Refused(f"{shown_name(found.name)} has no marks of tracks: name a cue sheet by --cue")
+    return [Track(number, title, place) for number, (place, title) in enumerate(starts, 1)]
+
+
+def unquoted(text):
+    return text[1:-1] if len(text) > 1 and text[0] == text[-1] == '"' else text
+
+
+def indexed(name, line, number, track, rest):
+    """Takes a line INDEX into a track, if it is that of its start."""
+    parts = INDEX.fullmatch(rest)
+    if track is None or parts is None:
+        raise Refused(f"{shown_name(name)}, line {number}: no index as INDEX 01 00:00:00 of a track: {line!r}")
+    if int(parts[1]) == 1:
+        track["at"] = (int(parts[2]) * 60 + int(parts[3])) * FRAMES + int(parts[4])
+
+
+def sheet(name):
+    """Number, title and start (in 75ths of a second) of each track of a cue sheet."""
+    with open(name, "rb") as file:
+        lines = text_of(file.read()).splitlines()
+    tracks, files = [], 0
+    for number, line in enumerate(lines, 1):
+        word, _, rest = line.strip().partition(" ")
+        word, rest, last = word.upper(), rest.strip(), tracks[-1] if tracks else None
+        files += word == "FILE"
+        if files > 1:
+            raise Refused(f"{shown_name(name)}, line {number}: a second FILE; the sheet has to be one of one recording")
+        if word == "TRACK":
+            digits = rest.split(" ")[0]
+            if not re.fullmatch(r"\d{1,3}", digits, re.ASCII) or int(digits) <= (last["number"] if last else 0):
+                raise Refused(f"{shown_name(name)}, line {number}: no track of a higher number: {line.strip()!r}")
+            tracks.append({"number": int(digits), "title": ""})
+        elif word == "TITLE" and last:
+            last["title"] = unquoted(rest)
+        elif word == "INDEX":
+            indexed(name, line.strip(), number, last, rest)
+    for track in tracks:
+        if "at" not in track:
+            raise Refused(f"{shown_name(name)}: track {track['number']} has no INDEX 01")
+    if not tracks:
+        raise Refused(f"{shown_name(name)} has no tracks: it is no cue sheet")
+    return tracks
+
+
+def cued(found, name):
+    """The tracks of an album by a cue sheet, without their ends."""
+    return [Track(it["number"], it["title"], (it["at"] * found.rate + FRAMES // 2) // FRAMES) for it in sheet(name)]
+
+
+def in_bytes(tracks, found):
+    """Lets tracks begin at whole bytes, as DSDIFF files hold them: a line for each that begins earlier for that."""
+    if found.samples % 8:
+        raise Refused(
+            f"{shown_name(found.name)} has {found.samples} bits a channel, and a DSDIFF file holds whole bytes, "
+            "multiples of 8: take --form dsf"
+        )
+    for track in tracks:
+        early = track.start % 8
+        if early:
+            track.start -= early
+            yield f"track {track.number} starts {early} bits earlier, at bit {track.start}: DSDIFF holds whole bytes"
+
+
+def whole(tracks, found):
+    """Tracks with their ends: each goes on to the next, and what comes before the first is a part of its own."""
+    if tracks[0].start > 0:
+        tracks = [Track(0, None, 0), *tracks]
+    for track, following in zip(tracks, [*tracks[1:], Track(0, None, found.samples)]):
+        track.stop = following.start
+        if track.stop <= track.start:
+            place = track.start / found.rate
+            raise Refused(f"track {track.number} at {place:.3f} s has no bits: the next starts or the album ends there")
+    return tracks
+
+
+# Names.
+
+
+def shortened(text, most):
+    """As much of a text as a number of bytes holds, cut between two letters."""
+    return text.encode(errors="replace")[:most].decode(errors="ignore")
+
+
+def is_control(letter):
+    return unicodedata.category(letter) in ("Cc", "Cs", "Zl", "Zp")
+
+
+def file_name(track, form, digits=2):
+    """A name that every system takes: the number, and of the title what is no place, no blank at an end and not long."""
+    title = "".join("_" if is_control(it) else it for it in UNSAFE.sub("_", track.title or ""))
+    title = shortened(title.strip(" "), MOST_NAME).rstrip(" .")
+    return f"{track.number:0{digits}}{' - ' if title else ''}{title}{ENDINGS[form]}"
+
+
+def named(name):
+    """Number and title that a file's name says."""
+    stem = os.fsencode(os.path.splitext(os.path.basename(name))[0]).decode(errors="replace")
+    parts = NUMBERED.fullmatch(stem)
+    return (int(parts[1]), parts[2] or "") if parts else (None, stem)
+
+
+# Masters.
+
+
+def quoted(text):
+    """A text as TOML has it; JSON spells all but one letter so."""
+    return json.dumps(text, ensure_ascii=False).replace("\x7f", "\\u007f")
+
+
+def cue(take, track):
+    """A cue of a project, with the title of a track."""
+    lines = ["", "[[splice.cue]]", f"take = {take}", f"start = {track.start}", f"stop = {track.stop}"]
+    if track.title is not None:
+        lines.append(f"title = {quoted(shortened(track.title, MOST_TITLE))}")
+    return "\n".join(lines) + "\n"
+
+
+def project(count, parts):
+    """A project of plain cuts: of each part the number of its take and the track."""
+    takes = ", ".join(f'"take{number}"' for number in range(count))
+    return f"[splice]\nweights = [1, 1]\ntakes = [{takes}]\n" + "".join(cue(take, track) for take, track in parts)
+
+
+@contextlib.contextmanager
+def leaving_nothing(made):
+    """Where a block ends early, removes what the program was writing beside a file."""
+    try:
+        yield
+    except BaseException:
+        folder, name = os.path.split(os.path.abspath(made))
+        with contextlib.suppress(OSError):
+            for each in os.listdir(folder):
+                if each.startswith(f".{name}.dsdarc-"):
+                    os.remove(os.path.join(folder, each))
+        raise
+
+
+def make(form, takes, parts, what, made):
+    """Has the program cut a master and judge it: `takes` are names, `parts` pairs of a take's number and a track.
+    `made` is a file beside which the master is written, and which it replaces."""
+    assert len(takes) <= MOST_TAKES and len(parts) <= MOST_CUES
+    with outputs.scratch() as folder, leaving_nothing(made):
+        for number, name in enumerate(takes):
+            os.symlink(os.path.abspath(name), os.path.join(folder, f"take{number}"))
+        os.symlink(os.path.abspath(made), os.path.join(folder, "master"))
+        with open(os.path.join(folder, "project.toml"), "w", encoding="utf-8") as file:
+            file.write(project(len(takes), parts))
+        try:
+            asked(*what, "edit", form, "project.toml", "master", "cert", folder=folder)
+        except Refused as fault:
+            size = sum(os.path.getsize(name) for name in takes)
+            if str(fault).endswith("fault: WriteFailed") and not room.has_room(os.path.dirname(made), size):
+                raise OSError(room.full().errno, room.full().strerror, what[1]) from None
+            raise
+        if not asked(*what, "check", "project.toml", "master", "cert", folder=folder).startswith("accepted "):
+            raise Refused(f"{what[0]}, {shown_name(what[1])}: the program doesn't accept it")

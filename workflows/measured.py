@@ -1,0 +1,160 @@
+"""Measures WAVE files of linear PCM, piece by piece: peak, clipped samples, offset, silence at both ends, the course of
+the level, and the spectrum. Levels are in dB relative to full scale."""
+import dataclasses
+import struct
+
+import numpy as np
+
+import tagging
+import waves
+from channels import take
+from outputs import Refused
+
+COLUMNS = 60  # of a level picture
+BANDS = 60  # of a spectrum
+FLOOR = -160.0  # dB, of what is nothing
+SILENCE = -60.0  # dB: a sample above it isn't silence
+PIECE = 1 << 18  # frames
+SPECTRA = 64  # of a file, at most
+LENGTH = 1 << 13  # frames of one spectrum
+LOWEST = 20.0  # Hz
+
+
+@dataclasses.dataclass
+class Wave:
+    """What a file holds: rate, channels, bits of a sample, where its samples begin, and how many frames there are."""
+
+    rate: int
+    channels: int
+    width: int
+    start: int
+    frames: int
+
+
+def wave_of(file):
+    """What a WAVE file holds whose samples are 16 or 24 bits of PCM."""
+    form = data = None
+    if tagging.form_of(file) != b"RIFF":
+        raise Refused("it is no WAVE file")
+    for name, at, size in tagging.chunks(file, b"RIFF"):
+        if name == b"fmt ":
+            file.seek(at)
+            form = file.read(size)
+        elif name == b"data" and data is None:
+            data = at, size
+    if form is None or data is None:
+        raise Refused("it has no format, or no samples")
+    _, channels, rate, _, block, width = struct.unpack_from("<HHIIHH", form)
+    waves.mask_of(form, width)
+    if width not in (16, 24) or block != channels * width // 8 or not channels:
+        raise Refused(f"its samples have {width} bits")
+    return Wave(rate, channels, width, data[0], data[1] // block)
+
+
+def samples(file, wave, first, count):
+    """Frames as whole numbers of 32 bits, the lowest 8 or 16 of them zero."""
+    size = wave.width // 8
+    file.seek(wave.start + first * wave.channels * size)
+    # Four bytes from each sample's place, less the bytes before it, which belong to another.
+    data = bytes(4 - size) + take(file, count * wave.channels * size)
+    wide = np.ndarray(count * wave.channels, "<i4", data, 0, size) & np.int32(-1 << (32 - wave.width))
+    return wide.reshape(count, wave.channels)
+
+
+def level(value):
+    """An amplitude in dB."""
+    return float(20 * np.log10(value)) if value > 0 else FLOOR
+
+
+def heard(piece):
+    """The frames of a piece that aren't silent."""
+    limit = 2**31 * 10 ** (SILENCE / 20)
+    return np.flatnonzero(((piece > limit) | (piece < -limit)).any(axis=1))
+
+
+class Course:
+    """What is gathered from the pieces of a file."""
+
+    def __init__(self, wave):
+        self.wave = wave
+        self.sums, self.clipped = np.zeros(wave.channels), 0
+        # The first frame that isn't silent, and where the last piece begins that has such a one.
+        self.first = self.last_piece = None
+        # A column of the picture is as many frames long, but the last.
+        self.step = max(-(-wave.frames // COLUMNS), 1)
+        self.highs, self.squares = np.zeros(COLUMNS), np.zeros(COLUMNS)
+
+    def add(self, at, piece):
+        """Takes the frames from a place on."""
+        high, low = int(piece.max()), int(piece.min())
+        edge = 1 << (32 - self.wave.width)
+        if high >= (1 << 31) - edge or low == -(1 << 31):
+            self.clipped += int(np.count_nonzero(piece >= (1 << 31) - edge) + np.count_nonzero(piece == -(1 << 31)))
+        if max(high, -low) > 2**31 * 10 ** (SILENCE / 20):
+            self.first = at + int(heard(piece)[0]) if self.first is None else self.first
+            self.last_piece = at
+        for channel in range(self.wave.channels):
+            self.sums[channel] += piece[:, channel].sum(dtype=np.int64)
+        column = at // self.step
+        while column * self.step < at + len(piece):
+            part = piece[max(column * self.step - at, 0) : (column + 1) * self.step - at]
+            loud = max(int(part.max()), -int(part.min())) / 2.0**31
+            plain = part.astype(np.float32).reshape(-1)
+            self.highs[column] = max(self.highs[column], loud)
+            self.squares[column] += float(np.dot(plain, plain)) / 2.0**62 / self.wave.channels
+            column += 1
+
+    def silence(self, file):
+        """Seconds of silence at the start and the end, or None where all is silent."""
+        if self.first is None:
+            return None
+        count = min(PIECE, self.wave.frames - self.last_piece)
+        last = self.last_piece + int(heard(samples(file, self.wave, self.last_piece, count))[-1])
+        return [self.first / self.wave.rate, (self.wave.frames - 1 - last) / self.wave.rate]
+
+    def figures(self, file):
+        wave, frames = self.wave, max(self.wave.frames, 1)
+        counts = np.clip(frames - self.step * np.arange(COLUMNS), 1, self.step)
+        return {
+            "rate": wave.rate,
+            "width": wave.width,
+            "channels": wave.channels,
+            "seconds": wave.frames / wave.rate,
+            "peak": level(self.highs.max()),
+            "clipped": self.clipped,
+            "offset": level(np.abs(self.sums).max() / frames / 2**31),
+            "silence": self.silence(file),
+            "highs": [round(level(it), 1) for it in self.highs],
+            "means": [round(level(it), 1) for it in np.sqrt(self.squares / counts)],
+        }
+
+
+def spectrum(file, wave):
+    """The mean of some spectra, evenly over the file, in bands as wide as their pitch: a full-scale sine is 0 dB."""
+    length = min(LENGTH, wave.frames)
+    if length < 64:
+        return []
+    window = np.hanning(length)
+    places = np.unique(np.linspace(0, wave.frames - length, min(SPECTRA, -(-wave.frames // length))).astype(int))
+    power = np.zeros(length // 2 + 1)
+    for place in places:
+        piece = samples(file, wave, int(place), length) / 2.0**31
+        power += np.square(np.abs(np.fft.rfft(piece * window[:, None], axis=0))).mean(axis=1)
+    power *= 4 / np.square(window.sum()) / len(places)
+    edges = np.geomspace(LOWEST, wave.rate / 2, BANDS + 1) * length / wave.rate
+    bands = []
+    for low, high in zip(edges, edges[1:]):
+        first = min(int(low), len(power) - 1)
+        bands.append(round(level(np.sqrt(power[first : max(int(np.ceil(high)), first + 1)].max())), 1))
+    return bands
+
+
+def measure(name, go_on):
+    """The figures of a file. `go_on` is called before each piece, and may raise what ends this."""
+    with open(name, "rb") as file:
+        wave = wave_of(file)
+        course = Course(wave)
+        for at in range(0, wave.frames, PIECE):
+            go_on()
+            course.add(at, samples(file, wave, at, min(PIECE, wave.frames - at)))
+        return course.figures(file) | {"spectrum": spectrum(file, wave)}

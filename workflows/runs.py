@@ -1,0 +1,155 @@
+"""What a run over an archive left in OUT, a row for each file: of the workflow (`Snakefile`) or of `play_all`."""
+import dataclasses
+import os
+import re
+import subprocess
+
+import names
+import tagging
+from outputs import Refused
+from program import PROGRAM
+
+# How a line of refused.txt goes on behind a name.
+SAID = re.compile(r"(.*): (fault: .*|no filter .*|status \d+|stopped|the program ended .*)", re.DOTALL)
+
+
+@dataclasses.dataclass
+class Row:
+    """What is known of a file. `kept` is what stands beside it, `sums` are SHA-256 by what they are of, `refusals`
+    steps and faults, a fault with its second line."""
+
+    name: str
+    form: str = ""
+    rate: int | None = None
+    channels: int | None = None
+    samples: int | None = None
+    pcm: str | None = None
+    dropped: int | None = None
+    kept: list = dataclasses.field(default_factory=list)
+    sums: dict = dataclasses.field(default_factory=dict)
+    refusals: list = dataclasses.field(default_factory=list)
+    figures: dict | None = None
+
+
+def plain(shown):
+    """A name as it was before it was written on a line (`names.shown`)."""
+    return re.sub(r"\\([\\nr])", lambda it: {"\\": "\\", "n": "\n", "r": "\r"}[it[1]], shown)
+
+
+def lines_of(path):
+    with open(path, encoding="utf-8", errors="surrogateescape") as file:
+        return file.read().split("\n")[:-1]
+
+
+def sums_of(path):
+    """The sums of a list as sha256sum writes it, by names."""
+    sums = {}
+    for line in lines_of(path):
+        total, _, shown = line.removeprefix("\\").partition("  ")
+        sums[plain(shown)] = total
+    return sums
+
+
+def told_of(row, found):
+    """Takes what the program reports of a file."""
+    row.form, row.rate, row.channels, row.samples = (
+        found.get("form", ""),
+        *(int(found[key]) if key in found else None for key in ("rate", "channels", "samples")),
+    )
+
+
+# A run of the workflow.
+
+
+def kept_beside(found):
+    """What of a file isn't in its converted one, and stands beside it; and what became of its tag."""
+    kept = [os.path.splitext(path)[1] for path in found["kept"]]
+    tags = {"handed on" if tag == tagging.HANDED_ON else f"left out: {tag}" for tag in found.get("tags", {}).values()}
+    return [*kept, *(f"tag {tag}" for tag in sorted(tags))]
+
+
+def refused_steps(path):
+    """Step, fault and name of each line of refused.tsv; a line that begins with a tab goes on with the fault before."""
+    found = []
+    for line in lines_of(path):
+        if line.startswith("\t") and found:
+            found[-1][1] += "\n" + line[1:]
+        else:
+            step, fault, shown = line.split("\t", 2)
+            found.append([step, fault, plain(shown)])
+    return found
+
+
+def of_workflow(out):
+    """The rows of a run of the workflow."""
+    table = names.load(os.path.join(out, names.TABLE))
+    results = names.load(os.path.join(out, "results.json"))
+    sums = sums_of(os.path.join(out, "SHA256SUMS"))
+    rows = {name: Row(name) for _, name in table["refused"]}
+    for key, entry in table["files"].items():
+        found = results.get(entry["name"])
+        if found is None:
+            continue
+        row = rows[entry["name"]] = Row(entry["name"], dropped=found["dropped"], pcm=found["pcm"])
+        told_of(row, names.load(os.path.join(out, "work", "looks", f"{key}.json")))
+        row.kept = kept_beside(found)
+        made = {"file": found["sha256"], "converted": sums.get(found["converted"]), "WAVE": sums.get(found["pcm"])}
+        row.sums = {what: total for what, total in made.items() if total}
+    for step, fault, name in refused_steps(os.path.join(out, "refused.tsv")):
+        rows.setdefault(name, Row(name)).refusals.append((step, fault))
+    return list(rows.values())
+
+
+# A run of play_all.
+
+
+def refusals_of(path):
+    """What refused.txt says of each name; a line that begins with a tab goes on with the one before it."""
+    found = {}
+    name = None
+    for line in lines_of(path):
+        parts = SAID.fullmatch(line)
+        if line.startswith("\t") and name is not None:
+            found[name] += "\n" + line[1:].removeprefix("fault: ")
+        elif parts:
+            name = plain(parts[1])
+            found[name] = parts[2].removeprefix("fault: ")
+    return found
+
+
+def asked(archive, row):
+    """Asks the program what a file of the archive holds."""
+    path = os.path.abspath(os.path.join(archive, row.name))
+    try:
+        done = subprocess.run([PROGRAM, "info", path], capture_output=True, check=False)
+    except ValueError:
+        return
+    if done.returncode == 0:
+        told_of(row, dict(line.split(" ", 1) for line in done.stdout.decode().splitlines()))
+
+
+def of_play_all(out, archive, pool):
+    """The rows of a run of play_all; what its files hold is asked where the archive is named."""
+    sums = sums_of(os.path.join(out, "SHA256SUMS"))
+    said = refusals_of(os.path.join(out, "refused.txt"))
+    rows = [Row(name.removesuffix(".wav"), pcm=name, sums={"WAVE": total}) for name, total in sums.items()]
+    rows += [Row(name, refusals=[("play", fault)]) for name, fault in said.items()]
+    if archive is not None:
+        if not os.path.isdir(archive):
+            raise Refused(f"{names.shown(archive)} is no folder: name the archive that was played")
+        list(pool.map(lambda row: asked(archive, row), rows))
+    return rows
+
+
+def rows_of(out, archive, pool):
+    """The rows of a run, by their names."""
+    try:
+        if os.path.isfile(os.path.join(out, "results.json")):
+            rows = of_workflow(out)
+        elif os.path.isfile(os.path.join(out, "refused.txt")):
+            rows = of_play_all(out, archive, pool)
+        else:
+            raise Refused(f"{names.shown(out)} holds no run that ended: there is neither results.json nor refused.txt")
+    except (LookupError, TypeError, ValueError, AttributeError):
+        raise Refused(f"{names.shown(out)} holds lists that no run wrote, or that were changed") from None
+    return sorted(rows, key=lambda row: row.name)

@@ -1,0 +1,193 @@
+"""Hands the ID3 tag of a DSF, DSDIFF or WAVE file on to another one, by mutagen; the sound stays as it is.
+
+A DSF file has its tag at its end, a DSDIFF file in a chunk `ID3 `, a WAVE file in a chunk `id3 `. The tag is handed on as
+its bytes. It has to be one that mutagen reads, before and behind. Whether a file has one is seen without mutagen."""
+import hashlib
+import io
+import os
+import struct
+from importlib.util import find_spec
+
+import channels
+from outputs import Refused
+
+# How chunks are laid out, by the first bytes of a file: ID and size, where they begin, and the tag's.
+FORMS = {b"FRM8": (struct.Struct(">4sQ"), 16, (b"ID3 ",)), b"RIFF": (struct.Struct("<4sI"), 12, (b"id3 ", b"ID3 "))}
+PIECE = 1 << 20
+# A WAVE file has no more bytes behind its first 8 than this.
+MOST_WAVE = 2**32 - 1
+HANDED_ON = "handed on"
+
+
+class Untagged(Refused):
+    """The tag isn't handed on, and why."""
+
+
+def has_mutagen():
+    return find_spec("mutagen") is not None
+
+
+def chunks(file, form):
+    """ID, first byte and size of each chunk of a DSDIFF or WAVE file."""
+    head, at, _ = FORMS[form]
+    stop = os.fstat(file.fileno()).st_size
+    while at + head.size <= stop:
+        file.seek(at)
+        name, size = head.unpack(channels.take(file, head.size))
+        yield name, at + head.size, size
+        at += head.size + size + size % 2
+
+
+def form_of(file):
+    file.seek(0)
+    return file.read(4)
+
+
+def tag_of(name):
+    """The bytes of a file's tag, empty where it has none."""
+    with open(name, "rb") as file:
+        form = form_of(file)
+        if form == b"DSD ":
+            file.seek(20)
+            place = struct.unpack("<Q", channels.take(file, 8))[0]
+            if place == 0 or place > os.fstat(file.fileno()).st_size:
+                return b""
+            file.seek(place)
+            return file.read()
+        for chunk, at, size in chunks(file, form) if form in FORMS else ():
+            if chunk in FORMS[form][2]:
+                file.seek(at)
+                return file.read(size)
+    return b""
+
+
+def sound_range(file):
+    """The first byte of a file's sound, and the one behind it."""
+    form = form_of(file)
+    if form == b"RIFF":
+        for chunk, at, size in chunks(file, form):
+            if chunk == b"data":
+                return at, at + size
+        raise Untagged("it has no samples")
+    file.seek(0)
+    sound = channels.sound_of(file)
+    return sound.start, sound.stop
+
+
+def sound_sum(name):
+    """The SHA-256 of a file's sound, as its bytes."""
+    total = hashlib.sha256()
+    with open(name, "rb") as file:
+        at, stop = sound_range(file)
+        file.seek(at)
+        while at < stop:
+            data = channels.take(file, min(PIECE, stop - at))
+            total.update(data)
+            at += len(data)
+    return total.digest()
+
+
+def frames(tags):
+    """What a tag says, to be compared; nothing where there is none."""
+    return sorted(map(repr, tags.values())) if tags else []
+
+
+def read(tag):
+    """What the bytes of a tag say."""
+    import mutagen
+    from mutagen.id3 import ID3
+
+    try:
+        return frames(ID3(io.BytesIO(tag)))
+    except (mutagen.MutagenError, LookupError, ValueError, struct.error):
+        raise Untagged("its tag is no ID3 tag that mutagen reads") from None
+
+
+def read_back(name):
+    """What the tag of a file says that mutagen opens by its form."""
+    from mutagen.dsdiff import DSDIFF
+    from mutagen.dsf import DSF
+    from mutagen.wave import WAVE
+
+    with open(name, "rb") as file:
+        form = form_of(file)
+    return frames({b"DSD ": DSF, b"FRM8": DSDIFF, b"RIFF": WAVE}[form](name).tags)
+
+
+def remove(name):
+    """Removes the tag of a file."""
+    from mutagen import dsdiff, dsf, wave
+
+    with open(name, "rb") as file:
+        form = form_of(file)
+    {b"DSD ": dsf, b"FRM8": dsdiff, b"RIFF": wave}[form].delete(name)
+
+
+def write(name, tag):
+    """Writes a tag into a file that has none, in its place."""
+    from mutagen._riff import RiffFile
+    from mutagen.dsdiff import DSDIFFFile
+    from mutagen.dsf import DSFFile
+
+    with open(name, "r+b") as file:
+        form = form_of(file)
+        end = file.seek(0, os.SEEK_END)
+        if form == b"DSD ":
+            file.write(tag)
+            file.seek(0)
+            head = DSFFile(file).dsd_chunk
+            head.offset_metdata_chunk, head.total_size = end, end + len(tag)
+            head.write()
+        elif form == b"FRM8":
+            file.seek(4)
+            if struct.unpack(">Q", channels.take(file, 8))[0] + 12 == end + 1:
+                # The last pad, which may be missing.
+                file.seek(end)
+                file.write(b"\0")
+            DSDIFFFile(file).insert_chunk("ID3", tag)
+        else:
+            if end + len(tag) + 16 > MOST_WAVE:
+                raise Untagged("a WAVE file has no room for it below 4 GiB")
+            RiffFile(file).insert_chunk("id3", tag)
+        file.flush()
+        os.fsync(file.fileno())
+
+
+def put(name, tag, is_compared=False):
+    """Puts a tag into a file that no one else reads yet, in the place of the one that it has. Its sound has to be the
+    same before and behind, unless that is compared elsewhere, and mutagen has to read the tag back. Where this fails
+    the file isn't to be used."""
+    import mutagen
+
+    said, before = read(tag), None if is_compared else sound_sum(name)
+    try:
+        if tag_of(name):
+            remove(name)
+        write(name, tag)
+        back = read_back(name)
+    except (mutagen.MutagenError, AssertionError, LookupError, ValueError, struct.error) as error:
+        raise Untagged(f"mutagen can't write the tag: {str(error) or type(error).__name__}") from None
+    if not is_compared and sound_sum(name) != before:
+        raise Untagged("its sound would be another")
+    if back != said or tag_of(name) != tag:
+        raise Untagged("the tag is read back as another one")
+
+
+def hand_on(source, name, is_compared=False):
+    """Gives a file that was just made the tag of its source, where it has none. Tells nothing where there is none to
+    hand on, else whether it was, or why not; then the file is as it was."""
+    tag = tag_of(source)
+    if not tag or tag_of(name):
+        return None
+    if not has_mutagen():
+        return "python3-mutagen isn't installed"
+    with open(name, "rb") as file:
+        head, size = file.read(28), os.path.getsize(name)
+    try:
+        put(name, tag, is_compared)
+    except Untagged as why:
+        with open(name, "r+b") as file:
+            file.write(head)
+            file.truncate(size)
+        return str(why)
+    return HANDED_ON

@@ -17,11 +17,11 @@ use Rattle.dsdiff_core.specs.Fields.{form_size}
 use Rattle.dsdiff_core.specs.Files.{IsDsdiff}
 use Rattle.dsdiff_core.specs.Fronts as dsdiff
 use Rattle.dsdiff_core.specs.Kinds.{FRM8}
-use Rattle.dsdiff_core.proofs.ClosingLaws.{before_end}
+use Rattle.dsdiff_core.proofs.HeadLaws.{ends_at_head}
 use Rattle.dsdiff_core.proofs.FormEnds.{form_ends}
 use Rattle.dsdiff_core.proofs.FrontEnds as form
 use Rattle.dsdiff_core.proofs.LeadLaws.{number_front}
-use Rattle.dsdiff_core.proofs.OtherSound.{other_sound}
+use Rattle.dsdiff_core.proofs.WalkLaws as form_walk
 use Rattle.dsf_core.specs.Fronts as dsf
 use Rattle.dsf_core.proofs.FrontLaws as blocks
 use Rattle.dsf_core.proofs.DescribingLaws.{other_bytes}
@@ -84,7 +84,7 @@ module _ (head : List ℕ) (s : Sound) (at : EndsAt head s) (told : s.interleavi
   pub same_form : (sound back rest : List ℕ) (r : Content) → length sound ≡ s.size → dsdiff.left_behind head s.size ≤ length back → IsDsdiff (head ++ (sound ++ back)) r ↔ IsDsdiff (head ++ (sound ++ (back ++ rest))) r
   same_form sound back rest r long enough =
       let file = head ++ (sound ++ back) in
-      let least = before_end head s form_ends_at in
-      let size : form_size file ≡ form_size head = number_front 8 4 head (sound ++ back) (omega (arith, least.0)) in
+      let least : 28 ≤ length head = form_walk.long head (ends_at_head head s form_ends_at).0 in
+      let size : form_size file ≡ form_size head = number_front 8 4 head (sound ++ back) (omega (arith, least)) in
       let law = form_ends file rest r (omega (arith, size, enough, long, length-append head (sound ++ back), length-append sound back)) in
       (λ is. subst (λ f. IsDsdiff f r) (joined sound back rest) (law.0 is), λ is. law.1 (subst (λ f. IsDsdiff f r) (sym (joined sound back rest)) is))

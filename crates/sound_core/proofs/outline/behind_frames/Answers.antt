@@ -7,12 +7,13 @@ use Rattle.sound_core.proofs.BehindLaws.{IsBehind, frames_around, frames_refused
 use Rattle.sound_core.proofs.ClosingLaws.{form_ends_at}
 use Rattle.sound_core.proofs.FaultLaws.{by_reading, fault_is}
 use Rattle.sound_core.proofs.ReaderLaws.{counts_kept, counts_kept_refused, counts_memory, same_counts}
+use Rattle.dsdiff_core.proofs.HeadLaws.{ends_at_head}
 use Rattle.sound_core.proofs.outline.behind_frames.Given.{Over}
 use Rattle.sound_core.proofs.outline.behind_frames.Goals as goal
 use Rattle.sound_core.proofs.outline.behind_frames.Goals.{After-truncate}
 
 pub bytes_behind-wanted-requires : goal.bytes_behind-wanted-requires
-bytes_behind-wanted-requires g c = (c.args.sound.now, form_ends_at c.args.head.now c.args.sound.now c.requires.at_sound c.requires.interleaving)
+bytes_behind-wanted-requires g c = (ends_at_head c.args.head.now c.args.sound.now (form_ends_at c.args.head.now c.args.sound.now c.requires.at_sound c.requires.interleaving)).0
 
 pub outline-requires : goal.outline-requires
 outline-requires g c = (c.args.sound.now, form_ends_at c.args.head.now c.args.sound.now c.requires.at_sound c.requires.interleaving)
@@ -24,7 +25,7 @@ kept_is g c =
     let at = form_ends_at c.args.head.now c.args.sound.now c.requires.at_sound c.requires.interleaving in
     let size : c.len.result ≡ length c.read_until.new.self.ahead.now.items = omega (arith, c.len.ensures) in
     let again : c.len-2.result ≡ length c.read_until.new.self.ahead.now.items = omega (arith, c.len-2.ensures) in
-    is_behind c.args.head.now c.args.sound.now.size c.read_until.new.self.ahead.now.items c.truncate.new.self.items _ _ c.bytes_behind-wanted.result (c.bytes_behind-wanted.ensures c.args.sound.now at) read.enough (ap (λ n. nat_lt n c.bytes_behind-wanted.result) size)
+    is_behind c.args.head.now c.args.sound.now.size c.read_until.new.self.ahead.now.items c.truncate.new.self.items _ _ c.bytes_behind-wanted.result (c.bytes_behind-wanted.ensures.told c.args.sound.now at) read.enough (ap (λ n. nat_lt n c.bytes_behind-wanted.result) size)
     (c.truncate.ensures.items ∙ ap (λ n. take n c.read_until.new.self.ahead.now.items) (c.min-kept.ensures ∙ ap (λ n. min n c.bytes_behind-wanted.result) again))
 
 pub returns-in_default : goal.returns-in_default

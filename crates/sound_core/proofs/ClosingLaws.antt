@@ -1,9 +1,7 @@
 -- The bytes behind a sound, by the format's own reading.
-use Rattle.std.proofs.Common.{◌≡◌, ℕ, ◌+◌, ◌-◌, ◌≤◌, ◌⊎◌, ◌↔◌, inl, inr, Bool, true, false, List, [], ◌++◌, length, take, replicate, Option, Some, None, refl, sym, subst, ap, ◌∙◌, arith, append_assoc, append-nil, length-append, length-take-le}
-use Rattle.std.proofs.lemmas.List.{length-replicate, take-append-le}
+use Rattle.std.proofs.Common.{◌≡◌, ℕ, ◌≤◌, ◌↔◌, true, false, List, [], ◌++◌, length, take, Option, Some, None, refl, sym, subst, ap, ◌∙◌, arith, append_assoc, length-append, length-take-le}
+use Rattle.std.proofs.lemmas.List.{take-append-le}
 use Rattle.std.specs.Io.KnownBytes.{IsAtEnd}
-use Rattle.chunk_core.specs.Inlets.{inlet_reader}
-use Rattle.chunk_core.specs.declared.inlet.Inlet.{Inlet}
 use Rattle.dsd_bits.specs.declared.blocks.BitOrder.{BitOrder}
 use Rattle.dsd_bits.specs.declared.interleaving.Interleaving.{Interleaving}
 use Rattle.dsd_bits.specs.declared.interleaving.Interleaving.TheVariants.{Bytes, Blocks}
@@ -11,7 +9,6 @@ use Rattle.dsd_bits.specs.declared.sound.Sound.{Sound}
 use Rattle.dsd_bits.specs.declared.sound.SoundAt.TheVariants.{Found}
 use Rattle.dsd_bits.specs.Contents.{Content}
 use Rattle.dsd_bits.specs.Ids.{DSD, same_id}
-use Rattle.dsd_bits.specs.Lacing.{unlaced_all}
 use Rattle.dsd_bits.specs.Sounds.{has_blocks}
 use Rattle.dsdiff_core.specs.Fields.{form_size}
 use Rattle.dsdiff_core.specs.Files.{IsDsdiff}
@@ -24,11 +21,9 @@ use Rattle.dsdiff_core.proofs.LeadLaws.{number_front}
 use Rattle.dsdiff_core.proofs.WalkLaws as form_walk
 use Rattle.dsf_core.specs.Fronts as dsf
 use Rattle.dsf_core.proofs.FrontLaws as blocks
-use Rattle.dsf_core.proofs.DescribingLaws.{other_bytes}
 use Rattle.dsf_core.proofs.FrontLaws.{found_leads}
-use Rattle.sound_core.specs.Files.{EndsAt, HoldsRecording, IsAccepted, LeadsTo, TellsSound}
-use Rattle.sound_core.specs.Reads.{Reads}
-use Rattle.sound_core.proofs.HeadLaws.{IsFound, found_told, never_found, told_found}
+use Rattle.sound_core.specs.Files.{EndsAt, LeadsTo, TellsSound}
+use Rattle.sound_core.proofs.HeadLaws.{IsFound, found_told, told_found}
 
 -- ---- the head, up to the sound
 pub ends_at : (front : List ℕ) (s : Sound) → TellsSound front s → EndsAt (take s.start front) s

@@ -1,20 +1,18 @@
 -- What was written where a file is not played to its end.
-use Rattle.std.proofs.Common.{◌≡◌, ℕ, ◌+◌, ◌-◌, ◌*◌, ◌/◌, ◌<◌, ◌≤◌, ◌^◌, inl, inr, List, [], ◌++◌, length, Option, None, Some, IfSome, Err, refl, sym, subst, ap, ap₂, ◌∙◌, arith, append_assoc, length-append}
-use Rattle.std.specs.Io.KnownBytes.{Appends}
+use Rattle.std.proofs.Common.{◌≡◌, ℕ, ◌+◌, ◌-◌, ◌*◌, ◌/◌, ◌≤◌, inl, inr, List, [], ◌++◌, length, Option, None, Some, IfSome, sym, subst, ap, ap₂, ◌∙◌, arith, append_assoc, length-append}
 use Rattle.chunk_core.specs.Outlets.{AppendsFront, outlet_failures, outlet_writer}
 use Rattle.dsd_bits.specs.declared.sound.Sound.{Sound}
 use Rattle.fir_core.specs.Decimator.{Decimator}
-use Rattle.player_core.specs.Due.{all_bytes, due_bytes, frames_due}
+use Rattle.player_core.specs.Due.{due_bytes, frames_due}
 use Rattle.player_core.specs.Laws.{SoundIsPlayed, file_around, total_frames}
 use Rattle.player_core.proofs.FrontLaws.{front_of_all}
 use Rattle.wave_core.specs.Sizes.{header_size}
 use Rattle.wave_core.proofs.SizeLaws.{length_of_header}
-use Rattle.sound_core.specs.Faults.{StopsReading}
 use Rattle.sound_core.specs.Files.{GivesNone, TellsSound}
-use Rattle.sound_core.specs.Sinks.{BeginsSound, ReadingEnds, StopsTaking, sound_given}
+use Rattle.sound_core.specs.Sinks.{BeginsSound, StopsTaking, sound_given}
 use Rattle.sound_core.specs.declared.fault.StreamFault.{StreamFault}
 use Rattle.sound_core.proofs.ToldLaws.{told_once}
-use Rattle.stream_core.specs.Pace.{KeepsUp, PlayFails, StandsIn, WritesFrames}
+use Rattle.stream_core.specs.Pace.{KeepsUp, PlayFails, WritesFrames}
 use Rattle.stream_core.specs.Playing.{PlaysBy, Stands, WritesFront}
 use Rattle.stream_core.specs.Sinks.{IsPlaying, RefusesPlaying}
 use Rattle.stream_core.specs.Wave.{IsOpeningFault, header_of, pad_of}

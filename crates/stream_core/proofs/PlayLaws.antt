@@ -1,10 +1,8 @@
 -- What a file plays whose sound came to a sink, or a part of it.
-use Rattle.std.proofs.Common.{◌≡◌, ℕ, ◌+◌, ◌-◌, ◌%◌, ◌^◌, ◌≤◌, inl, inr, List, [], ◌++◌, length, take, drop, Option, None, Some, IfSome, refl, sym, subst, ap, ap₂, ◌∙◌, arith, append_assoc, length-append, length-take, length-drop, take-append-drop}
+use Rattle.std.proofs.Common.{◌≡◌, ℕ, ◌+◌, ◌-◌, ◌%◌, ◌^◌, ◌≤◌, inl, inr, List, ◌++◌, length, take, drop, Option, None, Some, IfSome, sym, subst, ap, ◌∙◌, arith, append_assoc, length-append, length-take, length-drop, take-append-drop}
 use Rattle.std.proofs.lemmas.Bool.{cases_lt}
-use Rattle.std.proofs.lemmas.List.{drop-append-le, nil_from_length, take_all}
+use Rattle.std.proofs.lemmas.List.{drop-append-le, take_all}
 use Rattle.std.proofs.Math.Seq.{drop-append_seam, take-append_seam}
-use Rattle.std.specs.Io.KnownBytes.{Appends, Consumes}
-use Rattle.chunk_core.specs.Outlets.{AppendsFront}
 use Rattle.dsd_bits.specs.declared.interleaving.Interleaving.{Interleaving}
 use Rattle.dsd_bits.specs.declared.interleaving.Interleaving.TheVariants.{Bytes, Blocks}
 use Rattle.dsd_bits.specs.declared.sound.Sound.{Sound}

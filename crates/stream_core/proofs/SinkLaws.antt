@@ -1,5 +1,5 @@
 -- What plays a sound, one piece after the other.
-use Rattle.std.proofs.Common.{◌≡◌, ℕ, ◌+◌, ◌-◌, ◌<◌, ◌≤◌, ◌^◌, inr, List, [], ◌++◌, length, Option, None, Some, IfSome, Err, refl, sym, subst, ap, ap₂, ◌∙◌, arith, append_assoc, append-nil, length-append}
+use Rattle.std.proofs.Common.{◌≡◌, ℕ, ◌+◌, inr, List, [], ◌++◌, length, Option, None, Some, IfSome, Err, sym, subst, ap, ap₂, ◌∙◌, arith, append_assoc, append-nil, length-append}
 use Rattle.std.specs.Io.KnownBytes.{Appends, Consumes}
 use Rattle.std.proofs.KnownBytes.{Appends-trans}
 use Rattle.std.proofs.lemmas.List.{nil_from_length}
@@ -14,7 +14,6 @@ use Rattle.player_core.specs.PlayerView.{IsFed, IsPlayer, filter_of, sound_of}
 use Rattle.player_core.specs.declared.player.Player.{Player}
 use Rattle.sound_core.specs.Faults.{IsWritingFault, failed_writes}
 use Rattle.sound_core.specs.Outlines.{AreTold, StandsIn, Surroundings}
-use Rattle.sound_core.specs.Reads.{Reads}
 use Rattle.sound_core.specs.Sinks.{BeginsSound, TakesFile, TakesGiven}
 use Rattle.sound_core.specs.declared.fault.StreamFault.{StreamFault}
 use Rattle.stream_core.specs.Pieces.{PutsDue, PutsFrontOf, PutsRest}

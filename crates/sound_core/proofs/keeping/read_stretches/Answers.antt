@@ -1,4 +1,3 @@
-use Rattle.std.proofs.Common.{arith}
 use Rattle.chunk_core.specs.Inlets.{inlet_given, inlet_reader}
 use Rattle.sound_core.specs.Keepers.{IsKeeping}
 use Rattle.sound_core.specs.Outlines.{around_of}

@@ -1,8 +1,8 @@
-use Rattle.std.proofs.Common.{◌≡◌, ◌+◌, ◌-◌, ◌≤◌, ◌∙◌, inl, inr, arith, refl}
+use Rattle.std.proofs.Common.{◌+◌, ◌-◌, ◌≤◌, inl, inr, arith, refl}
 use Rattle.relace_core.proofs.GroupLaws.{last_groups, size_fits}
 use Rattle.sound_core.proofs.FaultLaws.{fault_is}
-use Rattle.sound_core.proofs.ReaderLaws.{counts_later, counts_so_far, same_on, same_self}
-use Rattle.sound_core.proofs.TakingLaws.{some_all, some_none, some_on, stops_first, stops_on}
+use Rattle.sound_core.proofs.ReaderLaws.{same_on, same_self}
+use Rattle.sound_core.proofs.TakingLaws.{some_all, some_none, some_on, stops_on}
 use Rattle.sound_core.proofs.taking.take_sound.Goals as goal
 
 pub loop-done-init : goal.loop-done-init

@@ -1,4 +1,3 @@
-use Rattle.std.proofs.Common.{◌∙◌, subst, sym}
 use Rattle.chunk_core.specs.Inlets.{inlet_given, inlet_reader}
 use Rattle.sound_core.specs.Outlines.{around_of}
 use Rattle.sound_core.proofs.FaultLaws.{fault_is}

@@ -1,8 +1,7 @@
-use Rattle.std.proofs.Common.{◌∙◌, Bool, List, arith, ap}
+use Rattle.std.proofs.Common.{Bool, List, arith}
 use Rattle.std.specs.Prelude.{Vec}
 use Rattle.std.specs.declared.alloc.Global.{Global}
 use Rattle.std.proofs.lemmas.List.{length-map, with_items_is}
-use Rattle.dsd_bits.specs.declared.interleaving.Interleaving.TheVariants.{Bytes}
 use Rattle.sound_core.specs.Stretches.{items_of}
 use Rattle.sound_core.proofs.KeeperLaws.{from_whole, keeps_apart, keeps_grown, keeps_roomy}
 use Rattle.sound_core.proofs.keeper.KeeperSoundSink.take.Goals as goal

@@ -1,6 +1,5 @@
-use Rattle.std.proofs.Common.{◌≡◌, ◌<◌, ◌≤◌, ◌+◌, ◌++◌, [], ◌∙◌, ap, append-nil, append_assoc, arith, length, length-append, length-take, subst, sym, take}
-use Rattle.chunk_core.specs.Inlets.{inlet_failures, inlet_given}
-use Rattle.sound_core.specs.Faults.{StopsReading}
+use Rattle.std.proofs.Common.{◌≡◌, ◌<◌, ◌++◌, [], ◌∙◌, ap, append-nil, append_assoc, arith, length, length-append, length-take, subst, sym, take}
+use Rattle.chunk_core.specs.Inlets.{inlet_failures}
 use Rattle.sound_core.specs.Reads.{Reads}
 use Rattle.sound_core.proofs.FaultLaws.{fault_is}
 use Rattle.sound_core.proofs.ReadLaws.{at_end, joined_behind, reads_none, reads_on}

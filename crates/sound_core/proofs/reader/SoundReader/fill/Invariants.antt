@@ -1,6 +1,6 @@
 -- The block begins with the bytes that were ahead, and what was read so far.
 use Rattle.std.proofs.Common.{◌≡◌, ℕ, ◌+◌, ◌-◌, ◌≤◌, List, ◌++◌, drop, length, take}
-use Rattle.chunk_core.specs.Inlets.{inlet_failures, inlet_reads}
+use Rattle.chunk_core.specs.Inlets.{inlet_failures}
 use Rattle.sound_core.specs.Readers.{IsReading, IsSame}
 use Rattle.sound_core.specs.Reads.{Reads}
 use Rattle.sound_core.proofs.reader.SoundReader.fill.Given as goal

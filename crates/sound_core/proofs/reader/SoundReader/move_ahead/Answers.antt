@@ -1,4 +1,4 @@
-use Rattle.std.proofs.Common.{◌≡◌, ◌∙◌, ap, arith, length, length-take, min, subst, sym, take}
+use Rattle.std.proofs.Common.{◌≡◌, ◌∙◌, ap, arith, length, length-take, min, sym, take}
 use Rattle.std.proofs.lemmas.List.{take_min}
 use Rattle.sound_core.proofs.reader.SoundReader.move_ahead.Goals as goal
 

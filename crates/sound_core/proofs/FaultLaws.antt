@@ -1,5 +1,5 @@
 -- What holds of each fault of a kind; faults of a stage are faults of the whole.
-use Rattle.std.proofs.Common.{ap, ◌≡◌, ◌≢◌, ◌-◌, ◌<◌, ℕ, inl, inr, arith, List, Option, None, Some, Result, Ok, Err, IfErr, IsErrAnd, IsErrOf, refl, subst}
+use Rattle.std.proofs.Common.{◌≡◌, ◌≢◌, ◌-◌, ◌<◌, ℕ, inl, inr, arith, List, Option, None, Some, Result, Ok, Err, IfErr, IsErrAnd, IsErrOf, refl, subst}
 use Rattle.sound_core.specs.Faults.{IsReadingFault, IsSinkFault, IsWritingFault, failed_reads}
 use Rattle.sound_core.specs.Files.{IsFrontFault}
 use Rattle.sound_core.specs.Outlines.{IsOutlineFault, IsTagFault}
@@ -36,11 +36,7 @@ pub unread : {X : Type 0} (r : Result X StreamFault) → IfErr r IsWritingFault 
 unread (Ok x) h = refl
 unread {X} (Err f) h = by_writing (λ g. failed_reads {X = X} (Err g) ≡ 0) refl refl f h
 
--- ---- a read that failed is not one too many
-pub failed_no_turn : {X Q : Type 0} → IsErrOf {T = X} (Err ReadFailed) TurnLimit → Q
-failed_no_turn {X} turn = absurd (let none : 1 ≡ 0 = ap (failed_reads {X = X}) turn in omega (arith, none))
-
--- nor is want of memory
+-- ---- want of memory is no read too many
 pub memory_no_turn : {X Q : Type 0} → IsErrOf {T = X} (Err Memory) TurnLimit → Q
 memory_no_turn turn = absurd (subst (λ r. IfErr r IsWritingFault) turn tt)
 

@@ -1,12 +1,9 @@
 -- A reader that goes on: it stays the same, and what was counted adds up.
-use Rattle.std.proofs.Common.{◌≡◌, ◌≢◌, ℕ, ◌+◌, ◌≤◌, Result, Ok, Err, IfErr, IsErrOf, arith, refl, ap, subst, ◌∙◌}
-use Rattle.std.specs.Io.Iter.{u64_saturate}
-use Rattle.chunk_core.specs.Inlets.{inlet_failures, inlet_given, inlet_reads}
-use Rattle.chunk_core.specs.declared.inlet.Inlet.{Inlet}
+use Rattle.std.proofs.Common.{◌≡◌, ◌+◌, ◌≤◌, Result, Ok, Err, IfErr, IsErrOf, arith, refl, ap, subst, ◌∙◌}
+use Rattle.chunk_core.specs.Inlets.{inlet_failures, inlet_reads}
 use Rattle.sound_core.specs.Faults.{IsSinkFault, failed_reads}
 use Rattle.sound_core.proofs.FaultLaws.{memory_no_turn, own_no_turn, own_unread}
 use Rattle.sound_core.specs.Readers.{Counts, IsReading, IsSame}
-use Rattle.sound_core.specs.Reads.{HasBudget}
 use Rattle.sound_core.specs.declared.fault.StreamFault.{StreamFault}
 use Rattle.sound_core.specs.declared.fault.StreamFault.TheVariants.{FileRefused, RateNotDivided, TooLarge, ReadFailed, WriteFailed, TurnLimit, Memory}
 use Rattle.sound_core.specs.declared.reader.SoundReader.{SoundReader}
@@ -47,9 +44,6 @@ counts_ok a m b x y limit same p = counts_before a m b x (Ok y) refl (λ turn. c
 pub counts_refused : {R X Y : Type 0} (a m b : SoundReader R) (x : X) → m.limit ≡ a.limit → inlet_failures m.inlet.now ≡ inlet_failures a.inlet.now → Counts m b (Ok x) → Counts {X = Y} a b (Err FileRefused)
 counts_refused a m b x limit same p = counts_before a m b x (Err FileRefused) refl (λ turn. cc) limit same p
 
-pub counts_from : {R X : Type 0} (a m b : SoundReader R) (r : Result X StreamFault) → m.limit ≡ a.limit → inlet_failures m.inlet.now ≡ inlet_failures a.inlet.now → Counts m b r → Counts a b r
-counts_from a m b r limit same p = record { failures = p.failures ∙ ap (λ n. n + failed_reads r) same; turns = λ turn. p.turns turn ∙ limit; most = rw (← limit) p.most }
-
 -- nothing more was read
 pub counts_still : {R X Y : Type 0} (a b c : SoundReader R) (x : X) (r : Result Y StreamFault) → failed_reads r ≡ 0 → (IsErrOf r TurnLimit → ⊥) → c.inlet.now ≡ b.inlet.now → Counts a b (Ok x) → Counts a c r
 counts_still a b c x r none not_turn same p =
@@ -67,17 +61,6 @@ counts_kept a b c x y same p = counts_still a b c x (Ok y) refl (λ turn. cc) sa
 
 pub counts_kept_refused : {R X Y : Type 0} (a b c : SoundReader R) (x : X) → c.inlet.now ≡ b.inlet.now → Counts a b (Ok x) → Counts {X = Y} a c (Err FileRefused)
 counts_kept_refused a b c x same p = counts_still a b c x (Err FileRefused) refl (λ turn. cc) same p
-
--- one read more, and what it gave
-pub read_one : {R : Type 0} (limit : ℕ) (i j : Inlet R) (n : ℕ) → HasBudget limit i → inlet_reads i ≢ limit → n ≤ 65536 → inlet_reads j ≡ u64_saturate (inlet_reads i + 1) → inlet_given j ≡ u64_saturate (inlet_given i + n)
-    → HasBudget limit j × (inlet_reads j ≡ inlet_reads i + 1) × (inlet_given j ≡ inlet_given i + n)
-read_one limit i j n budget some few read given =
-    let turn : inlet_reads j ≡ inlet_reads i + 1 = omega (arith, budget.reads, budget.low, some, read) in
-    let more : inlet_given j ≡ inlet_given i + n = omega (arith, budget.reads, budget.given, some, few, given) in (
-      record { reads = omega (arith, budget.reads, some, turn); given = omega (arith, budget.reads, budget.given, some, few, turn, more); low = budget.low },
-      turn,
-      more,
-    )
 
 -- no read failed so far
 pub counts_so_far : {R X : Type 0} (a b : SoundReader R) (x : X) → IsReading b → IsSame a b → inlet_failures b.inlet.now ≡ inlet_failures a.inlet.now → Counts a b (Ok x)

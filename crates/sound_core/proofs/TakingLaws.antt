@@ -8,7 +8,6 @@ use Rattle.dsd_bits.specs.declared.interleaving.Interleaving.TheVariants.{Bytes}
 use Rattle.dsd_bits.specs.declared.sound.Sound.{Sound}
 use Rattle.dsd_bits.specs.Sounds.{IsSound, sound_size}
 use Rattle.relace_core.proofs.GroupLaws.{size_on}
-use Rattle.sound_core.specs.Faults.{IsSinkFault}
 use Rattle.sound_core.specs.Outlines.{AreTold, IsOutlineFault, StandsIn, Surroundings, SurroundsFile, SurroundsGiven}
 use Rattle.sound_core.specs.Readers.{IsPassFault, Passes}
 use Rattle.sound_core.specs.Sinks.{IsFed, IsTakenOf, StopsPart, StopsSound, StopsTaking, TakesFile, TakesGiven, TakesPart, TakesSome}
@@ -140,20 +139,6 @@ module _ {R S : Type 0} (left : R → Option (List ℕ)) (has : S → S → Soun
           begins = begins_passed left i k (length so_far.passes.passed + sound_size part.sound.interleaving part.sound.channels part.bits) a c more;
           how = inr (record { own = refuses.own; refuses = refuses.refuses old so_far.passes.passed so_far.fed so_far.taken });
         }
-
--- refused before its first byte
-pub stops_first : {R S : Type 0} (left : R → Option (List ℕ)) (has : S → S → Sound → ℕ → List ℕ → Type 0) (refused : S → S → Sound → List ℕ → StreamFault → Type 0) (s : Sound) (i k : Inlet R) (old new : S) (a : List ℕ) (f : StreamFault)
-    → IsSinkFault f → refused old new s [] f → StopsSound left has refused s i k old new a f
-stops_first left has refused s i k old new a f own refuses = record {
-  came = [];
-  few = omega arith;
-  begins = by (left (inlet_reader i));
-  how = inr (record { own = own; refuses = refuses });
-}
-  where
-    by : (o : Option (List ℕ)) → IfSome o (λ xs. (more : List ℕ) × (a ++ xs ≡ [] ++ more))
-    by None = tt
-    by (Some xs) = (a ++ xs, refl)
 
 -- ---- the whole file
 pub file_taken : (has : Sound → ℕ → List ℕ → Type 0) (left : Option (List ℕ)) (o : Surroundings) (bytes : List ℕ) → AreTold o → ((xs : List ℕ) → left ≡ Some xs → StandsIn o xs bytes) → has o.sound o.sound.count bytes → TakesFile has left o

@@ -1,11 +1,10 @@
 -- What is found of a sound that comes, and of all of it.
-use Rattle.std.proofs.Common.{◌≡◌, ℕ, ◌+◌, ◌-◌, ◌%◌, ◌<◌, ◌≤◌, inl, inr, Bool, List, [], ◌++◌, length, get_or, set, replicate, Option, None, Some, refl, sym, ap, subst, ◌∙◌, arith}
+use Rattle.std.proofs.Common.{◌≡◌, ℕ, ◌+◌, ◌-◌, ◌<◌, ◌≤◌, inl, inr, Bool, List, [], ◌++◌, length, get_or, set, replicate, Option, None, Some, refl, sym, ap, subst, ◌∙◌, arith}
 use Rattle.std.specs.List.{range_with_len}
 use Rattle.std.proofs.lemmas.Bool.{cases_lt}
 use Rattle.std.proofs.lemmas.List.{get_or-replicate, get_or-set_other, get_or-set_same, length-replicate, length-set}
 use Rattle.std.proofs.lemmas.Simd.{map-map}
 use Rattle.chunk_core.specs.declared.inlet.Inlet.{Inlet}
-use Rattle.dsd_bits.specs.declared.interleaving.Interleaving.TheVariants.{Bytes}
 use Rattle.dsd_bits.specs.declared.sound.Sound.{Sound}
 use Rattle.dsd_bits.specs.declared.stretches.BitRange.{BitRange}
 use Rattle.dsd_bits.specs.Channels.{count_of}
@@ -111,24 +110,24 @@ module _ (first a : Auditor) (outline : Outline) (cut : CutContent) (own : first
   abbrev made : Audited
   made = record { outline = outline; differs = differs; kept = a.keeper.stretches }
 
-  abbrev s : Sound
-  s = outline.sound
+  abbrev t : Sound
+  t = outline.sound
 
-  module _ (told : AreTold (around_of outline)) (file sound : List ℕ) (stands : StandsIn (around_of outline) file sound) (is : IsAuditing first a s s.count sound) where
+  module _ (told : AreTold (around_of outline)) (file sound : List ℕ) (stands : StandsIn (around_of outline) file sound) (is : IsAuditing first a t t.count sound) where
     abbrev held : Content
-    held = with_sound outline.recording s sound
+    held = with_sound outline.recording t sound
 
     own_shape : HasShape held
     own_shape = held_shape outline shape told file sound stands
 
-    measure : AreAlike cut.first held → count_of held.channels ≡ master_length cut.splice.cues → HasMeasure cut s
+    measure : AreAlike cut.first held → count_of held.channels ≡ master_length cut.splice.cues → HasMeasure cut t
     measure alike long = record { number = sym (held_number outline shape told file sound stands) ∙ alike.as_many_channels; long = sym (held_count outline shape told file sound stands) ∙ long }
 
     have_shape : AreAlike cut.first held → count_of held.channels ≡ master_length cut.splice.cues → HaveShape cut held.channels
     have_shape alike long = record { as_many = alike.as_many_channels; long = λ k d lt. own_shape.level.same k d lt ∙ long }
 
-    own_audits : Audits cut s a.keeper.ranges.now s.count (items_of a.keeper.stretches.items) a.firsts.items sound
-    own_audits = subst (λ k. Audits k s a.keeper.ranges.now s.count (items_of a.keeper.stretches.items) a.firsts.items sound) (is.same ∙ own) is.audits
+    own_audits : Audits cut t a.keeper.ranges.now t.count (items_of a.keeper.stretches.items) a.firsts.items sound
+    own_audits = subst (λ k. Audits k t a.keeper.ranges.now t.count (items_of a.keeper.stretches.items) a.firsts.items sound) (is.same ∙ own) is.audits
 
     found : (form : Form) → IsFoundOf cut (found_in form made) held
     found form = record {
@@ -137,7 +136,7 @@ module _ (first a : Auditor) (outline : Outline) (cut : CutContent) (own : first
       count_is = sym (held_count outline shape told file sound stands);
       cued = λ alike long. lowest held (have_shape alike long) (own_audits.tells (measure alike long));
       kept = λ alike long.
-          same_stretches (sound_channels s.interleaving s.channels s.count sound) a.keeper.ranges.now (items_of a.keeper.stretches.items) is.audits.keeps.kept
+          same_stretches (sound_channels t.interleaving t.channels t.count sound) a.keeper.ranges.now (items_of a.keeper.stretches.items) is.audits.keeps.kept
           ∙ ap (stretches_of held.channels) (is.ranges ∙ ranges_are) ∙ bridges_are cut held.channels;
     }
 

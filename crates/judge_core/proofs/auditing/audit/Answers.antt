@@ -17,8 +17,8 @@ returns-in-Ok-clause-any_reader g c =
     given_audited c.new-auditor.result c.read_into.new.sink c.in-Ok.outline c.args.cut.now c.new-auditor.ensures.cut (c.new-auditor.ensures.ranges ∙ c.deref.ensures.value ∙ c.in_ok-ranges.ensures) c.has_shape.ensures c.lowest_off-differs.result
     (λ r shape tells. c.lowest_off-differs.ensures r shape (subst (TellAll c.args.cut.now r.channels) (sym c.deref-in-Ok.ensures.value) tells)) g.R.Read.remaining c.args.inlet.now c.read_into.new.inlet c.in-Ok.ensures.ok.0 c.in-Ok.ensures.any_reader
 
-pub returns-in-Err-clause-fault : goal.returns-in-Err-clause-fault
-returns-in-Err-clause-fault g c = memory_alone IsAuditing (g.R.Read.remaining (inlet_reader c.args.inlet.now)) (inlet_given c.args.inlet.now) (inlet_given c.read_into.new.inlet) c.new-auditor.result c.read_into.new.sink c.in-Err.fault c.in-Err.ensures.fault
+pub returns-clause-fault : goal.returns-clause-fault
+returns-clause-fault g c = memory_alone IsAuditing (g.R.Read.remaining (inlet_reader c.args.inlet.now)) (inlet_given c.args.inlet.now) (inlet_given c.read_into.new.inlet) c.new-auditor.result c.read_into.new.sink c.in-Err.fault c.in-Err.ensures.fault
 
 pub lowest_off-differs-requires : goal.lowest_off-differs-requires
 lowest_off-differs-requires g c =

@@ -2,6 +2,7 @@ use Rattle.std.proofs.Common.{◌∙◌, ap, arith, length, subst, sym}
 use Rattle.std.proofs.lemmas.List.{with_items_is}
 use Rattle.sound_core.specs.Keepers.{Keeps}
 use Rattle.sound_core.specs.Stretches.{items_of}
+use Rattle.sound_core.proofs.FaultLaws.{fault_is}
 use Rattle.sound_core.proofs.KeeperLaws.{from_whole}
 use Rattle.judge_core.proofs.AuditLaws.{are_parts, audits_more}
 use Rattle.judge_core.proofs.auditor.AuditorSoundSink.take.Goals as goal
@@ -51,3 +52,8 @@ returns-else-has_measure-clause-has c = λ first before fed is.
       ranges = keeps.same;
       audits = record { keeps = keeps.keeps; number = is.audits.number; tells = λ measure. absurd (c.has_measure.ensures.no c.if-has_measure.false measure) };
     }
+
+pub returns-in_err-take-clause-refused : goal.returns-in_err-take-clause-refused
+returns-in_err-take-clause-refused c =
+    rw (fault_is c.from_residual.result _ c.from_residual.ensures.1) (λ first before fed is.
+    c.in_err-take.ensures.refused first.keeper before fed (record { same = is.ranges; keeps = is.audits.keeps }))

@@ -7,8 +7,8 @@ ghost use Rattle.archive_core.specs.Planning.{AnswersPlanned, IsFileOf, IsPlanne
 ghost use Rattle.chunk_core.specs.Outlets.{Puts, PutsPart, outlet_failures, outlet_writer};
 ghost use Rattle.master_core.specs.Certifying.{AppendsCert, AppendsCertFront};
 
-use cut_core::Cut;
 use chunk_core::{Device, Outlet};
+use cut_core::Cut;
 use form_core::{Ends, Form};
 use master_core::{
     CertifyingRoom, ChosenBridges, MasterRoom, Planned, certify, plan, write_master,

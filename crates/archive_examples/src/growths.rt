@@ -13,8 +13,8 @@ use crate::outcomes::prints;
 use archive_core::{
     Fault, Form, Reason, StreamFault, convert, play, play_stream, read_any, take_names,
 };
-use command_core::{Folder, FolderFault, MemoryFolder, Outcome, read_files, read_whole};
 use chunk_core::{Inlet, Outlet};
+use command_core::{Folder, FolderFault, MemoryFolder, Outcome, read_files, read_whole};
 use fixtures::compared::equal;
 use fixtures::files::{FILE, WAVE, dsf_of, stereo};
 use fixtures::projects::{DECIMATE, SPLICE};

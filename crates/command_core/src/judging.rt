@@ -8,8 +8,8 @@ ghost use Rattle.command_core.specs.Commands.{IsLeastIfAccepted, JudgesBy};
 
 use crate::ending::reads_to_end;
 use cert_core::CertReader;
-use cut_core::Cut;
 use chunk_core::{FusedInlet, Inlet, MOST_READS};
+use cut_core::Cut;
 use judge_core::{Found, Verdict, check_found};
 use sound_core::StreamFault;
 use std::alloc::Global;

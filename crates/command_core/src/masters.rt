@@ -6,8 +6,8 @@ ghost use Rattle.transfer_commands.specs.Outlining.{IsUnread};
 ghost use Rattle.command_core.specs.Masters.{FindsMaster};
 
 use crate::ending::reads_to_end;
-use cut_core::Cut;
 use chunk_core::Inlet;
+use cut_core::Cut;
 use folder_core::Folder;
 use judge_core::{Found, find_master};
 use sound_core::StreamFault;

@@ -120,7 +120,11 @@ pub(crate) fn add_squared_differences(
 }
 
 /// The scaled weighted sums of all numbers that have as many binary digits as there are weights. Err is out of memory.
-pub(crate) fn scaled_sums(alloc: Global, weights: &[i32], levels: usize) -> Result<Vec<i32>, AllocError>
+pub(crate) fn scaled_sums(
+    alloc: Global,
+    weights: &[i32],
+    levels: usize,
+) -> Result<Vec<i32>, AllocError>
     requires weights { AreWeights weights.now }
     requires levels { levels ≤ 4096 }
     ensures { IfOk result (λ made. made.items

@@ -53,7 +53,12 @@ pub(crate) fn take_of<'a>(splice: &Splice, takes: &'a [Heard], cue: usize) -> &'
 }
 
 /// The bits that are heard for a cue in a channel.
-pub(crate) fn stretch<'a>(splice: &Splice, takes: &'a [Heard], channel: usize, cue: usize) -> &'a Bits
+pub(crate) fn stretch<'a>(
+    splice: &Splice,
+    takes: &'a [Heard],
+    channel: usize,
+    cue: usize,
+) -> &'a Bits
     requires cue { cue < length (splice_content splice.now).cues }
     requires takes { length takes.now ≡ length (splice_content splice.now).takes }
     requires there { HasStretch (splice_content splice.now) (map heard_content takes.now) channel cue }

@@ -14,7 +14,11 @@ use splice_core::{Cue, Splice};
 use std::alloc::{AllocError, Global};
 
 /// The marks of all titles.
-pub(crate) fn title_marks(alloc: Global, splice: &Splice, rate: u32) -> Result<Vec<Mark>, AllocError>
+pub(crate) fn title_marks(
+    alloc: Global,
+    splice: &Splice,
+    rate: u32,
+) -> Result<Vec<Mark>, AllocError>
     requires rate { (1000000 ≤ rate) × (rate ≤ 50000000) }
     requires in_limit { master_length (splice_content splice.now).cues ≤ 2 ^ 36 }
     ensures { IfOk result (λ marks. map mark_content marks.items ≡ titles rate (splice_content splice.now).cues) }

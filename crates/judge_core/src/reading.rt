@@ -9,8 +9,8 @@ ghost use Rattle.judge_core.specs.Finding.{IsFoundGiven, IsFoundHeld};
 
 use crate::auditing::{Audited, audit};
 use crate::finding::Found;
-use cut_core::Cut;
 use chunk_core::Inlet;
+use cut_core::Cut;
 use form_core::form_in;
 use sound_core::StreamFault;
 use std::alloc::Global;

@@ -11,9 +11,9 @@ ghost use Rattle.trellis_core.specs.Passes.{HasBuffers};
 
 use crate::choosing::ChosenBridges;
 use cert_core::{CertRoom, CertWriter, Version};
+use chunk_core::{Device, Outlet};
 use cost_core::Window;
 use cut_core::{BridgePlace, Cut};
-use chunk_core::{Device, Outlet};
 use std::alloc::{AllocError, Global};
 use std::io::Write;
 use trellis_core::{Chosen, PassRoom, hand_cut};

@@ -24,7 +24,12 @@ pub struct MasterSource<'a> {
 }
 
 /// Adds the part of a channel of the master that lies in a range to empty room, which is large enough for it.
-pub(crate) fn push_part(room: &mut BitRoom, source: &MasterSource<'_>, channel: usize, range: BitRange)
+pub(crate) fn push_part(
+    room: &mut BitRoom,
+    source: &MasterSource<'_>,
+    channel: usize,
+    range: BitRange,
+)
     requires ready { HasChosen source.now }
     requires channel { channel < channel_number source.now.cut.now }
     requires empty { room.old.bits ≡ [] }

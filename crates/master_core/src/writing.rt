@@ -13,8 +13,8 @@ ghost use Rattle.master_core.specs.Parting.{AreBestParts, IsBestPart, HasChosen}
 ghost use Rattle.master_core.specs.Writing.{AreRooms, HasOneBest, IsRoomFor, WritesBest, WritesBestFront, WritesPart, WritesPartFront};
 
 use crate::parting::{MasterSource, push_part};
-use cut_core::Cut;
 use chunk_core::{Device, Outlet};
+use cut_core::Cut;
 use dsd_bits::{BitRange, BitRoom, Interleaving};
 use relace_core::{push_rooms, stretch_bits};
 use std::alloc::{AllocError, Global};

@@ -6,8 +6,8 @@ ghost use Rattle.cert_core.specs.Readers.{cert_inlet};
 
 use crate::certificates::{NARROW, WORKED};
 use cert_core::{CertReader, CertVerdict, CheckFault};
-use cost_core::{Window, WindowFault};
 use chunk_core::Inlet;
+use cost_core::{Window, WindowFault};
 use dsd_bits::Bits;
 use fixtures::devices::drip;
 use fixtures::windows::{bits_of, by_newest, ones, zeros};

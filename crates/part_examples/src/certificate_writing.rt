@@ -6,8 +6,8 @@ ghost use Rattle.cert_core.specs.Writers.{has_head, is_open, row_length};
 
 use crate::certificates::{NARROW, WORKED};
 use cert_core::{CertFault, CertWriter, Version};
-use cost_core::LevelSink;
 use chunk_core::Outlet;
+use cost_core::LevelSink;
 use fixtures::devices::sip;
 use std::alloc::{AllocError, Global};
 use std::io::Write;

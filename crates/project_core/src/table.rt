@@ -44,7 +44,11 @@ pub(crate) fn text_of(value: &Value, key: Key) -> Result<&str, ProjectFault>
 
 /// The table that the value at a key is. It must have no keys but these.
 #[tactic(auto, unfolding(crate::specs::Reading::table_of))]
-pub(crate) fn table_of<'a>(value: &'a Value, key: Key, keys: &[Key]) -> Result<&'a Table, ProjectFault>
+pub(crate) fn table_of<'a>(
+    value: &'a Value,
+    key: Key,
+    keys: &[Key],
+) -> Result<&'a Table, ProjectFault>
     ensures { Gives (λ t. table_view t.now) result (table_of key keys.now (view value.now)) }
 {
     let table = value.as_table().ok_or(ProjectFault::WrongKind(key))?;

@@ -10,8 +10,8 @@ ghost use Rattle.transfer_commands.specs.Hearing.{HearsFile, HearsFiles, HearsHe
 ghost use Rattle.transfer_commands.specs.Outlining.{IsUnread};
 
 use crate::fault::CommandFault;
-use cut_core::{CutFault, Heard, hear_file, push_heard, ranges_of};
 use chunk_core::Inlet;
+use cut_core::{CutFault, Heard, hear_file, push_heard, ranges_of};
 use folder_core::{Folder, read_file, read_short};
 use form_core::{has_shape, held_is_opened};
 use sound_core::{Kept, StreamFault, read_stretches};

@@ -10,7 +10,7 @@
 //!
 //! - `AuditsFile left cut a` says that a reader's file is some sound in known surroundings, and that this was found of
 //!   the recording with the channels of that sound (`IsFoundOf` of `master_core`).
-//! - `IsAuditing auditor bytes` says what an auditor has after these bytes of a sound.
+//! - `IsAuditing first auditor sound done bytes` says what an auditor became after these bytes of a sound.
 //!
 //! ```text
 //! let Audited { outline, differs, kept } = audit(alloc, &cut, &mut inlet)?;

@@ -41,10 +41,8 @@ fn bytes_of(alloc: Global, size: usize) -> Result<Vec<u8>, AllocError> {
     Ok(made)
 }
 
-// Whether a stretch within the limits takes exactly these bytes.
+// Whether a stretch takes exactly these bytes.
 fn takes(bytes: &[u8], stretch: Stretch, from: Interleaving) -> bool
-    requires channels { stretch.channels ≤ 6 }
-    requires in_limit { stretch.count ≤ 2 ^ 36 }
     ensures { result ≡ true → length bytes.now ≡ sound_size from stretch.channels stretch.count }
 {
     match from {
@@ -53,8 +51,8 @@ fn takes(bytes: &[u8], stretch: Stretch, from: Interleaving) -> bool
     }
 }
 
-// Appends a stretch that is within the limits and takes exactly these bytes. It must have whole bytes of each channel
-// unless both interleavings have blocks. For any other stretch the answer is `AllocError`.
+// Appends a stretch that takes exactly these bytes. It must have whole bytes of each channel unless both interleavings
+// have blocks. For any other stretch the answer is `AllocError`.
 fn push(
     alloc: Global,
     out: &mut Vec<u8>,
@@ -63,9 +61,6 @@ fn push(
     from: Interleaving,
     to: Interleaving,
 ) -> Result<(), AllocError> {
-    if stretch.channels < 1 || 6 < stretch.channels || MOST_BITS < stretch.count {
-        return Err(AllocError);
-    }
     if !takes(bytes, stretch, from) {
         return Err(AllocError);
     }
@@ -116,6 +111,9 @@ fn holds_channels(
     to: Interleaving,
     count: usize,
 ) -> Result<bool, LaceFault> {
+    if MOST_BITS < count {
+        return Ok(false);
+    }
     let stretch = Stretch { channels: 3, count };
     let bytes = bytes_of(alloc, size_of(from))?;
     let mut out = Vec::new(alloc);

@@ -23,12 +23,12 @@ use Rattle.sound_core.specs.Files.{IsRefused, LeadsTo, TellsSound}
 -- ---- a DSF file is no DSDIFF file
 -- a form begins otherwise
 pub other_head : (front : List ℕ) → 16 ≤ length front → take 4 front ≡ DSD → dsdiff.sound_at front ≡ Refused
-unfolding dsdiff.sound_in dsdiff.form_of
+unfolding dsdiff.sound_in dsdiff.form_of dsdiff.located
 other_head front long id = rw (le-ltb (length front) 16 long, id) refl
 
 -- and nothing is told of fewer bytes than its head
 short_front : (front : List ℕ) → (16 ≤ length front) ⊎ (dsdiff.sound_at front ≡ More)
-unfolding dsdiff.sound_in
+unfolding dsdiff.sound_in dsdiff.located
 short_front front = elim (cases_lt (length front) 16) [
   | inl short ↦ inr (rw (lt-ltb (length front) 16 short) refl)
   | inr long ↦ inl long

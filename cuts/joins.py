@@ -1,4 +1,5 @@
 """A cut between two takes: what it clicks, and where in a window it clicks least."""
+import copy
 from dataclasses import dataclass
 
 import numpy as np
@@ -10,7 +11,7 @@ from clicks import delay
 from hearing import Hearing
 from links import Link
 from owing import Errors, Owing
-from takes import Take
+from takes import Signals
 
 NEAR = 4096  # pairs that owe most nearly the same
 TRIED = 64  # of these, the quietest ones, whose click is told exactly; and so many links
@@ -53,8 +54,9 @@ class Window:
 class Cut:
     """Two takes around the places of a window."""
 
-    def __init__(self, hearing: Hearing, owing: Owing, before: Take, after: Take, window: Window):
+    def __init__(self, hearing: Hearing, owing: Owing, takes: tuple[Signals, Signals], window: Window):
         self.hearing, self.owing, self.window = hearing, owing, window
+        before, after = takes
         reach = hearing.size // 2
         self.before = Errors(before, window.stop - reach, window.stop + window.stops + reach)
         self.after = Errors(after, window.start - reach, window.start + window.starts + reach)
@@ -63,6 +65,18 @@ class Cut:
             owing.before(self.before, window.stop, window.stops),
             owing.after(self.after, window.start, window.starts),
         )
+
+    def channel(self, number: int) -> "Cut":
+        """The same of one channel."""
+        found = copy.copy(self)
+        found.before, found.after = self.before.channel(number), self.after.channel(number)
+        found.owed = tuple(it[number : number + 1] for it in self.owed)
+        return found
+
+    @property
+    def count(self) -> int:
+        """Channels."""
+        return len(self.before.values)
 
     def place(self, stop: int, start: int) -> Place:
         """The exact click of a cut."""
@@ -95,14 +109,19 @@ class Cut:
 
     def linked(self, shortest: int) -> list[Place]:
         """The best cuts with a link of at least so many bits."""
-        window, takes = self.window, [self.before, self.after]
+        window = self.window
         found = links.parity_pairs(self.owing, *self.owed, window.wished, window.most)
         found = found[(found[:, 0] >= links.MARGIN) & (found[:, 1] < window.starts - links.MARGIN)]
+        best = self.links_at(found, shortest).first(TRIED)
+        places = found + (window.stop, window.start)
+        return [self.with_link(*places[it[0]].tolist(), Link(*it[1:])) for it in best.rows.tolist()]
+
+    def links_at(self, found: np.ndarray, shortest: int) -> links.Found:
+        """The best links of at least so many bits at each of these pairs of places."""
+        window, takes = self.window, [self.before, self.after]
         middles = [window.stop + window.stops // 2, window.start + window.starts // 2]
         spans = links.spans_of(takes, self.bits, middles)
-        places = found + (window.stop, window.start)
-        best = links.best(self.owing, takes, spans, places, self.left(found), shortest).first(TRIED)
-        return [self.with_link(*places[it[0]].tolist(), Link(*it[1:])) for it in best.rows.tolist()]
+        return links.best(self.owing, takes, spans, found + (window.stop, window.start), self.left(found), shortest)
 
     def with_link(self, middle: int, start: int, link: Link) -> Place:
         """The exact click of a cut with a link in its place."""

@@ -30,7 +30,7 @@ def wish_of(project: Project, cut: int, asked: Asked, time: float) -> fading.Wis
     most = round(asked.shift * project.rate)
     wish = fading.Wish(cue["stop"], following["start"], length, most, asked.power, asked.is_butt)
     stop, start = wish.ends
-    if stop < cue["start"] + project.shortest or start + most > following["stop"] - project.shortest:
+    if stop < cue["start"] + project.least(cut) or start + most > following["stop"] - project.least(cut + 1):
         raise Refused("a cue is too short for the fade")
     if stop + length > project.take(cut).bits or start - most - length < 0:
         raise Refused("a take isn't long enough for the fade")

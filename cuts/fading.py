@@ -24,7 +24,7 @@ from owing import GUESSED, sounds
 from spectra import let_in
 from takes import Signals
 
-TRIED = 8  # modulators of each direction, twice as many where there are few places
+TRIED = 10  # modulators of each direction, twice as many where there are few places
 PLACES = 12_000  # around the middle at which both may meet
 
 

@@ -3,17 +3,34 @@
 What is heard is told by the spectrum of all errors before a place and of all from it on, as seen from there, at the
 lines of `continuing`."""
 from dataclasses import dataclass
+from functools import lru_cache
 
 import numpy as np
 
 from continuing import turns
+from hearing import hearing_of
 
 LOW = 6  # lines by which a first moment is told
+KEPT = 512  # of which the one is taken that has the lowest peak
+STEPS = 64  # places at which a click is told, in the time that the lines tell apart
+
+
+@lru_cache
+def waves(rate: int) -> np.ndarray:
+    """What is heard, at some times around a place, of the numbers of a spectrum as it is seen from there."""
+    turn, hearing = turns(rate), hearing_of(rate)
+    middle = np.arange(-hearing.half, hearing.half + 1)
+    loud = (np.cos(np.outer(turn, middle)) @ hearing.taps) * turn[1] / np.pi
+    loud[0] /= 2
+    time = (np.arange(STEPS) / STEPS - 0.5) * 2 * np.pi / turn[1]
+    found = np.exp(1j * np.outer(turn, time)) * loud[:, None]
+    return np.concatenate([found.real, -found.imag])
 
 
 @dataclass(frozen=True)
 class Meeting:
-    """Which front and which rear meet, at which place; how much is heard of it, and the first moment of that."""
+    """Which front and which rear meet, at which place; how loud the peak is that is heard of it, and the first moment
+    of that."""
 
     front: int
     rear: int
@@ -67,8 +84,11 @@ class Field:
         heard = 2 * np.einsum("inp,jnp->ijp", fronts, rears)
         heard += np.einsum("inp,inp->ip", fronts, fronts)[:, None]
         heard += np.einsum("jnp,jnp->jp", rears, rears)
-        i, j, place = (int(it) for it in np.unravel_index(heard.argmin(), heard.shape))
+        best = np.argpartition(heard, KEPT, axis=None)[:KEPT]
+        i, j, place = np.unravel_index(best, heard.shape)
         left = fronts[i, :, place] + rears[j, :, place]
-        imag = left[len(left) // 2 :]
+        peaks = np.abs(left @ waves(self.rate)).max(axis=1)
+        least = int(np.lexsort((best, peaks))[0])
+        imag = left[least, left.shape[1] // 2 :]
         moment = -float(np.mean(imag[1:LOW] / turns(self.rate)[1:LOW]))
-        return Meeting(i, j, self.first + place, float(left @ left), moment)
+        return Meeting(int(i[least]), int(j[least]), self.first + int(place[least]), float(peaks[least]), moment)

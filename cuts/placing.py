@@ -19,18 +19,20 @@ BRIDGED = 256  # cuts with a bridge that are tried, if it is short
 @dataclass(frozen=True)
 class Asked:
     """What is asked for: the name of the take of seams, how far a cut may move in each take and how early or late what
-    follows may come, in seconds; whether there may be links, and whether all channels change together."""
+    follows may come, in seconds; whether there may be links, whether all channels change together, and whether bridges
+    that fade are left out."""
 
     take: str = ""
     within: float = 0.5e-3
     shift: float = 50e-6
     linking: bool = True
     together: bool = False
+    plain: bool = False
 
 
 def makes_transition(project: Project, number: int, asked: Asked) -> bool:
     """Whether a cut is to be a transition: one channel needs none, and a bridge that stays has one place."""
-    has_bridge = project.spots()[number].role in ("bridge", "line")
+    has_bridge = project.spots()[number].role in (("line",) if asked.plain else ("bridge", "line"))
     return project.count > 1 and asked.linking and not asked.together and not has_bridge
 
 
@@ -68,10 +70,10 @@ def room_of(project: Project, cut: int, within: int, margin: int) -> Room:
     late = length - early
     room = length + project.shortest if length else 0
     stop, start = cue["stop"] + early, following["start"] - late
-    low = max(stop - within, cue["start"] + project.shortest + early + margin)
+    low = max(stop - within, cue["start"] + project.least(cut) + early + margin)
     high = min(stop + within, project.take(cut).bits - late - margin)
     first = max(start - within, room - late, margin)
-    last = min(start + within, following["stop"] - project.shortest - late - margin)
+    last = min(start + within, following["stop"] - project.least(cut + 1) - late - margin)
     return Room(stop, start, (low, high), (first, last))
 
 
@@ -144,5 +146,7 @@ def place(project: Project, number: int, asked: Asked) -> None:
         spot = project.spots()[number]
         is_apart = makes_transition(project, number, asked)
         project.leave_out_between(spot)
+        if asked.plain:
+            project.leave_out_bridge(spot.before)
         if not (is_apart and place_apart(project, spot.before, asked)):
             place_together(project, spot.before, asked)

@@ -134,7 +134,7 @@ def warn(project: Project, number: int) -> None:
         if bits < known:
             where = f"the {end} of take {project.cues[take]['take']}, where its sound isn't known"
             print(f"{name}: it lies {max(bits, 0)} bits from {where}: it may click louder", file=sys.stderr)
-    reach = hearing_of(project.rate).half
+    reach = 2 * hearing_of(project.rate).half  # a cut is measured to half of it, and there the rest is heard
     for other in spots:
         is_near = other.place - reach < spot.place + spot.length and spot.place - reach < other.place + other.length
         if other.role == "line" and is_near:

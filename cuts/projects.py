@@ -138,7 +138,14 @@ class Project:
         """Bits that each cue has at least."""
         return len(self.weights) - 1
 
-    def take(self, cue: int) -> Take:
+    def least(self, cue: int) -> int:
+        """Bits that a cue has to keep: with fewer it would be taken for a link."""
+        one = self.cues[cue]
+        is_inside = 0 < cue < len(self.cues) - 1
+        bits = max(self.shortest, int(np.ceil(LINK * self.rate))) if is_inside else self.shortest
+        return min(bits, one["stop"] - one["start"])
+
+    def take(self, cue: int) -> Signals:
         return self.takes[self.cues[cue]["take"]]
 
     def bridge(self, cue: int) -> int:
@@ -194,10 +201,13 @@ class Project:
 
     @contextlib.contextmanager
     def undone(self) -> Iterator[None]:
-        """After a fault in a block the cues are as before."""
-        cues, origins = copy.deepcopy(self.cues), list(self.origins)
+        """After a fault in a block the cues are as before. It is one too if a cue has become so short that it would be
+        taken for a link."""
+        cues, origins, cuts = copy.deepcopy(self.cues), list(self.origins), len(self.spots())
         try:
             yield
+            if len(self.spots()) != cuts:
+                raise Refused("a cue would be shorter than 10 us, and so be taken for a link")
         except BaseException:
             self.cues, self.origins = cues, origins
             raise

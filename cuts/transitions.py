@@ -13,7 +13,7 @@ from crossfades import wrapped
 from joins import Cut, Place
 from links import Link
 
-KEPT = 2  # places of each channel for each shift, for which links are looked for
+KEPT = 2  # places of each channel for each shift, for which links are looked for; more where there are few shifts
 JUDGED = 16  # shifts whose clicks are told exactly
 
 
@@ -56,12 +56,13 @@ def fitting(cut: Cut) -> np.ndarray:
     """The pairs of places of one channel that fit best, for each shift, with the number of that."""
     (before,), (after,) = (owed @ cut.owing.moments for owed in cut.owed)
     weights, found = links.parity_weights(cut.owing), []
+    kept = max(KEPT, links.PAIRS // len(shifts_of(cut)))
     for number, shift in enumerate(shifts_of(cut)):
         low, high = max(0, -shift), min(cut.window.stops, cut.window.starts - shift)
         if low >= high:
             continue
         distance = weights @ (wrapped(before[low:high] - after[low + shift : high + shift]) ** 2).T
-        best = np.argpartition(distance, KEPT)[:KEPT] if high - low > KEPT else np.arange(high - low)
+        best = np.argpartition(distance, kept)[:kept] if high - low > kept else np.arange(high - low)
         first = low + np.sort(best)
         found.append(np.stack([first, first + shift, np.full(len(first), number)], axis=1))
     return np.concatenate(found) if found else np.empty((0, 3), np.int64)

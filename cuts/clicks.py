@@ -1,4 +1,4 @@
-"""What a master clicks at its cuts: what is heard of it less what it should be, told from the master's bits alone.
+"""How loudly a master clicks at its cuts: what is heard of it less what it should be, from the master's bits alone.
 
 What it should be is its takes' sounds, put together as the project says: switched where a cut is plain, in the middle
 of its link where it has one, faded in a straight line over a bridge, and as its crossfade says in a seam. What the
@@ -114,7 +114,7 @@ def levels(
 
 
 def is_owned(project: Project, spot: Spot, channel: int) -> bool:
-    """Whether a channel of a transition has bits of the take before, its link, and bits of the take behind."""
+    """Whether a channel of a transition has bits of the take before, its link, and bits of the take after."""
     seam = project.record(spot.before + 1)
     takes, middle = (project.take(spot.before), project.take(spot.after)), int(seam.middles[channel])
     stop, start = project.cues[spot.before]["stop"], project.cues[spot.after]["start"]

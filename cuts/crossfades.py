@@ -21,7 +21,7 @@ class Crossfade:
     middles: list[float]
 
     def parts(self, first: int, stop: int) -> tuple[np.ndarray, np.ndarray]:
-        """How much of both takes there is from one place to another, a row for each channel."""
+        """The parts of both takes from one place to another, a row for each channel."""
         away = np.arange(first, stop) + 0.5 - np.array(self.middles, float)[:, None]
         return shares(away, self.ramp, self.power)
 
@@ -32,7 +32,7 @@ class Crossfade:
 
 
 def shares(away: np.ndarray, ramp: float, power: bool) -> tuple[np.ndarray, np.ndarray]:
-    """How much of both takes there is, so many bits behind the middle of a ramp."""
+    """The parts of both takes at a distance in bits from the middle of a ramp."""
     rising = np.clip(away / ramp + 0.5, 0, 1) if ramp else (away > 0) * 1.0
     if power:
         return np.cos(rising * np.pi / 2), np.sin(rising * np.pi / 2)
@@ -66,8 +66,8 @@ class Sounds:
 
 
 def even_middle(sounds: Sounds, crossfade: Crossfade, middle: float, most: int, wanted: float) -> tuple[float, float]:
-    """The middle nearest to one, at most so many bits away, at which the sum of the crossfade is a wanted number or
-    differs from it by an even one; and what is missing there. If there is none, where least is missing."""
+    """The nearest middle, at most `most` bits away, at which the sum of the crossfade is `wanted` or differs from it by
+    an even number; and what is missing there. If there is none, the middle at which least is missing."""
     ramp, power = crossfade.ramp, crossfade.power
     missing = wrapped(wanted - sounds.sums(ramp, power, middle, most))
     if abs(missing[most]) < SETTLED:

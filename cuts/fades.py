@@ -7,14 +7,14 @@ from outputs import Refused
 from projects import Project
 from seams import Seam
 
-LONGER = (2, 4, 8, 16)  # times as long are fades of takes that are too alike, up to so many seconds
-LONGEST = 0.04
+LONGER = (2, 4, 8, 16)  # times as long: what is tried if takes are too alike
+LONGEST = 0.04  # seconds
 
 
 @dataclass(frozen=True)
 class Asked:
-    """What is asked for: the name of the take of seams, how long the new bits are and how far what follows may move,
-    in seconds."""
+    """What is asked for: the name of the take of seams; how long the new bits are and how far what follows may move, in
+    seconds."""
 
     take: str = ""
     time: float = 10e-3
@@ -24,7 +24,7 @@ class Asked:
 
 
 def wish_of(project: Project, cut: int, asked: Asked, time: float) -> fading.Wish:
-    """The fade at a plain cut behind a cue, if there is room for it in both cues and both takes."""
+    """The fade at the plain cut after a cue, if there is room for it in both cues and both takes."""
     cue, following = project.cues[cut], project.cues[cut + 1]
     length = round(time * project.rate) // 2 * 2 + 1
     most = round(asked.shift * project.rate)

@@ -6,9 +6,9 @@ nearly the same the one is cut to the other. Each channel has a place of its own
 
 Two numbers of all that is owed can't be changed by choosing bits: their sum is odd or even, and so is their first
 moment. So the middle of the crossfade moves in each channel until the sum is right (`crossfades`), and what is left of
-the moment is added to the sound as a wave that is too small to be heard. Only if no middle is found, as the takes are too
-alike, the second take is moved by some bits, or what is left of the sum is added to the sound as a bump as long as the
-fade."""
+the moment is added to the sound as a wave that is too small to be heard. If no middle is found, as the takes are too
+much alike, the second take is moved by some bits, or what is left of the sum is added to the sound as a bump as long
+as the fade."""
 from dataclasses import dataclass
 from pathlib import Path
 
@@ -26,8 +26,6 @@ from takes import Signals
 
 TRIED = 10  # modulators of each direction, twice as many where there are few places
 PLACES = 12_000  # around the middle at which both may meet
-
-
 TRIES = 3  # of a channel, until next to no moment is left
 SETTLED = 0.01  # of a first moment
 DOWN = 240  # dB: what a low-pass leaves of the sound in the errors adds to their moments
@@ -127,7 +125,7 @@ class Surroundings:
         return known + moments(np.ones(self.wish.length), -half)[:, None]
 
     def crossfade(self, moved: int, ramp: float, most: int) -> tuple[Crossfade, list[float]]:
-        """The crossfade whose middles move at most so many bits, and what its sums miss."""
+        """The crossfade whose middles move by at most `most` bits, and what its sums miss."""
         wanted, both = self.owed(moved)[0], self.sounds(moved)
         empty = Crossfade(ramp, self.wish.power, [])
         middle = self.wish.early
@@ -156,7 +154,7 @@ class Plan:
 
 
 def planned(before: Signals, after: Signals, wish: Wish) -> Plan:
-    """The first plan by which nothing is missing, or that by which least is. Nothing is moved unless that has to be."""
+    """The first plan that misses nothing, or the one that misses least; the second take moves only if it has to."""
     around = Surroundings(before, after, wish, hearing_of(before.rate).size // 2)
     found = []
     for moved in sorted(range(-wish.most, wish.most + 1), key=lambda it: (abs(it), it)):

@@ -1,7 +1,7 @@
 """Where bits that go on from one take meet bits that lead up to another, so that nearly nothing is heard of it.
 
-What is heard is told by the spectrum of all errors before a place and of all from it on, as seen from there, at the
-lines of `continuing`."""
+What is heard is computed from the spectrum of all errors before a place and of all from it on, as seen from there, at
+the lines of `continuing`."""
 from dataclasses import dataclass
 from functools import lru_cache
 
@@ -10,9 +10,9 @@ import numpy as np
 from continuing import turns
 from hearing import hearing_of
 
-LOW = 6  # lines by which a first moment is told
-KEPT = 512  # of which the one is taken that has the lowest peak
-STEPS = 64  # places at which a click is told, in the time that the lines tell apart
+LOW = 6  # lines from which a first moment is computed
+KEPT = 512  # meetings of the least energy, of which the one with the lowest peak is taken
+STEPS = 64  # times at which a click is computed, over one period of the lines
 
 
 @lru_cache
@@ -41,7 +41,7 @@ class Meeting:
 
 @dataclass(frozen=True)
 class Field:
-    """The places of a fade at which both may meet: from `first` on and before `stop`, of so many bits."""
+    """The places at which both may meet in a fade of `length` bits: from `first` on and before `stop`."""
 
     rate: int
     length: int

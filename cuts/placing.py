@@ -61,9 +61,9 @@ class Room:
 
 
 def room_of(project: Project, cut: int, within: int, margin: int) -> Room:
-    """Where the cut behind a cue may be, so that both cues stay long enough, also if so many bits to each side of it
-    aren't theirs, and a bridge has its rooms. Of a cut with a bridge the places are those at which it would be cut
-    plain, in the middle of the bridge."""
+    """Where the cut after a cue may be, so that both cues stay long enough without `margin` bits to each side of the
+    cut, and a bridge has its room. The places of a cut with a bridge are those at which it would be cut plain, in the
+    middle of the bridge."""
     cue, following = project.cues[cut], project.cues[cut + 1]
     length = project.bridge(cut)
     early = length // 2
@@ -112,7 +112,7 @@ def place_together(project: Project, cut: int, asked: Asked) -> None:
 
 
 def place_apart(project: Project, cut: int, asked: Asked) -> bool:
-    """Makes a transition of a cut; tells whether there was room for it."""
+    """Makes a transition of a cut, and returns whether there was room for it."""
     window = window_of(project, cut, asked, links.MARGIN)
     found = transitions.best(meeting(project, cut, window)) if window else None
     if found is None:

@@ -122,8 +122,8 @@ def ends(project: Project, spot: Spot) -> tuple[int, int]:
 
 
 def warn(project: Project, number: int) -> None:
-    """Tells where what a cut clicks can't be known: near the ends of takes, whose sound is guessed from both sides, and
-    near lines."""
+    """Prints a warning if it can't be known how loudly a cut clicks: near the end of a take, whose sound is estimated
+    from both sides, and near a line."""
     spots = project.spots()
     spot, known = spots[number], len(lowpass(project.rate, *GUESSED)) // 2
     first, last = ends(project, spot)

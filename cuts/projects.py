@@ -20,8 +20,8 @@ LINK = 1e-5  # seconds: a shorter cue between two plain cuts is a link, which ha
 
 @dataclass(frozen=True)
 class Spot:
-    """A cut: the numbers of the cues before and behind it, and what it is: "plain", "bridge", "line", "link" or "seam".
-    In the master it begins at `place`, and has so many bits of its own."""
+    """A cut: the numbers of the cues before and after it, and what it is: "plain", "bridge", "line", "link" or "seam".
+    In the master it begins at `place`, and has `length` bits of its own."""
 
     before: int
     after: int
@@ -165,8 +165,8 @@ class Project:
         return found[0] if found else None
 
     def roles(self) -> list[str]:
-        """What each cue is: "cue", "link" or "seam". Of a link the first half stands for bits of the cue before, and
-        the others for bits of the cue behind."""
+        """What each cue is: "cue", "link" or "seam". The first half of a link replaces bits of the cue before, and the
+        rest those of the cue after."""
         found: list[str] = []
         for number, cue in enumerate(self.cues):
             is_between = self.is_free(number) and found[-1] == "cue"
@@ -233,7 +233,7 @@ class Project:
         self.move(spot.before, stop, start)
 
     def demand_room(self, seams: int, cues: int) -> None:
-        """There is room for so many seams, which are so many cues more."""
+        """Refuses if there is no room for a take of seams, if any are made, and for more cues."""
         if seams and self.slot == MOST_TAKES:
             raise Refused(f"the project has {MOST_TAKES} takes, and there is no room for one more")
         if len(self.cues) + cues > MOST_CUES:
@@ -257,7 +257,7 @@ class Project:
         return self.seams
 
     def insert_seam(self, cut: int, seam: Seam, signs: np.ndarray) -> None:
-        """Puts a seam behind a cue, its bits into the take of seams."""
+        """Inserts a seam after a cue, and appends its bits to the take of seams."""
         self.insert(cut, self.slot, seam.first, seam.first + seam.length)
         self.seams.add(seam, signs)
 

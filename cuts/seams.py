@@ -23,10 +23,10 @@ KINDS = ("fade", "butt", "transition")
 
 @dataclass(frozen=True)
 class Seam:
-    """The bits of the take of seams from `first` on. The wished place of the cut is `before` bits behind the end of
-    the cue before, and `after` bits before the start of the cue behind. `middles` are counted from the first bit. For
-    each channel of a transition there is the link that lies around its middle: which take it is of (0 or 1), its first
-    bit there and its length."""
+    """The bits of the take of seams from `first` on. The wished place of the cut is `before` bits after the end of the
+    cue before, and `after` bits before the start of the cue after. `middles` are counted from the first bit. A
+    transition has a link around the middle of each channel: of the take before or after (0 or 1), its first bit there
+    and its length."""
 
     first: int
     length: int
@@ -58,7 +58,7 @@ def are_numbers(values: object, kinds: tuple[type, ...]) -> bool:
 
 
 def is_seam(row: object, count: int) -> bool:
-    """Whether a row of a comment is a seam of so many channels."""
+    """Whether a row of a comment is a seam of `count` channels."""
     if not isinstance(row, dict) or set(row) != set(Seam.__dataclass_fields__):
         return False
     wholes = [row[it] for it in ("first", "length", "before", "after")]

@@ -106,7 +106,7 @@ class Held(Signals):
         return self.rows[:, first:stop]
 
     def add(self, rows: np.ndarray) -> None:
-        """Puts bits behind, with others up to a whole byte."""
+        """Appends bits, and repeats the last ones up to a whole byte."""
         spare = -(self.bits + rows.shape[1]) % 8
         self.rows = np.concatenate([self.rows, np.pad(rows, ((0, 0), (0, spare)), mode="edge")], axis=1)
 

@@ -14,7 +14,7 @@ from joins import Cut, Place
 from links import Link
 
 KEPT = 2  # places of each channel for each shift, for which links are looked for; more where there are few shifts
-JUDGED = 16  # shifts whose clicks are told exactly
+JUDGED = 16  # shifts whose clicks are computed exactly
 
 
 @dataclass(frozen=True)
@@ -29,7 +29,7 @@ class Transition:
 
     @property
     def ends(self) -> tuple[int, int]:
-        """The first bit of the first take that it stands for, and the place behind the last: links lie inside."""
+        """The first bit of the first take that it replaces, and the place after the last: links lie inside."""
         middles = [it.stop + it.link.ahead for it in self.places]
         return min(middles) - links.MARGIN, max(middles) + links.MARGIN
 
@@ -41,8 +41,8 @@ class Transition:
 
 @dataclass(frozen=True)
 class Best:
-    """Of a channel, for each shift, how loud its best link is told to be, and where: rows of both places in the
-    window, the link's take, its first bit and its length."""
+    """The best link of a channel for each shift: how loud it is, as far as the numbers say, and a row of both places
+    in the window, the link's take, its first bit and its length."""
 
     peaks: np.ndarray
     rows: np.ndarray

@@ -23,8 +23,8 @@ REFERENCES = ("to 20 kHz", "to 26 kHz", "true")
 
 @dataclass(frozen=True)
 class Way:
-    """How the cuts of a master are made: with bridges of so many bits, and then moved, faded or left as they are. The
-    take of seams gets its name where they are made."""
+    """How the cuts of a master are made: with bridges of `bridge` bits, and then moved, faded or left as they are. The
+    take of seams gets its name when they are made."""
 
     bridge: int = 0
     weights: tuple[int, ...] = (1, 1)
@@ -89,7 +89,7 @@ def measured(project: Project, master: Signals, made: list[material.Made], predi
 
 
 def moved(project: Project, program: Path, wish: placing.Asked | fades.Asked) -> list[float]:
-    """Makes all cuts, and tells how loudly each will click in its loudest channel."""
+    """Makes all cuts, and returns how loudly each will click in its loudest channel."""
     cuts = range(len(project.spots()))
     for number in cuts:
         if isinstance(wish, placing.Asked):

@@ -19,6 +19,7 @@ from hearing import DOWN, Hearing, lowpass
 from takes import Signals
 
 GUESSED = (26_000, 34_000)  # Hz: a take's sound is what passes a low-pass that ends here (cuts/README.md says why)
+OTHER = (30_000, 38_000)  # Hz: another estimate of it, by which a link has to be quiet too
 LINES = 17
 HIGHEST = 22_400  # Hz: the last line
 NUMBERS = 8
@@ -36,10 +37,10 @@ def sounds(take: Signals, first: int, stop: int, guessed: tuple[int, int] = GUES
 class Errors:
     """The signs of a take at the places from `first` on, and its errors (`values`): a row for each channel."""
 
-    def __init__(self, take: Signals, first: int, stop: int):
-        self.first = first
+    def __init__(self, take: Signals, first: int, stop: int, guessed: tuple[int, int] = GUESSED):
+        self.first, self.stop = first, stop
         self.signs = take.signs(first, stop)
-        self.values = self.signs - sounds(take, first, stop)
+        self.values = self.signs - sounds(take, first, stop, guessed)
 
     def channel(self, number: int) -> "Errors":
         """Those of one channel."""

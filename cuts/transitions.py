@@ -19,13 +19,13 @@ JUDGED = 16  # shifts whose clicks are computed exactly
 
 @dataclass(frozen=True)
 class Transition:
-    """The place at which each channel changes, with its link."""
+    """The place at which each channel changes, with its link; and the loudest peak by the worse of both estimates."""
 
     places: list[Place]
 
     @property
     def loudest(self) -> float:
-        return max(it.loudest for it in self.places)
+        return max(max(it.loudest, it.other) for it in self.places)
 
     @property
     def ends(self) -> tuple[int, int]:
@@ -98,4 +98,4 @@ def best(cut: Cut) -> Transition | None:
 
 def linked(cut: Cut, row: list[int]) -> Place:
     """The exact click of a channel."""
-    return cut.with_link(cut.window.stop + row[0], cut.window.start + row[1], Link(*row[2:]))
+    return cut.judged(cut.window.stop + row[0], cut.window.start + row[1], Link(*row[2:]))

@@ -160,9 +160,8 @@ class Project:
 
     def record(self, cue: int) -> Seam | None:
         """The seam whose bits a cue holds."""
-        ends = self.cues[cue]["start"], self.cues[cue]["stop"]
-        found = [it for it in self.records[self.cues[cue]["take"]] if (it.first, it.first + it.length) == ends]
-        return found[0] if found else None
+        one = self.cues[cue]
+        return self.records[one["take"]].get((one["start"], one["stop"]))
 
     def roles(self) -> list[str]:
         """What each cue is: "cue", "link" or "seam". The first half of a link replaces bits of the cue before, and the
@@ -251,7 +250,7 @@ class Project:
             slot = self.slot
             self.demand_room(1, 0)
             old = self.takes[slot] if slot < len(self.takes) else Held(name, self.rate, np.empty((self.count, 0)))
-            self.seams = Seams(name, old, self.records[slot] if slot < len(self.takes) else [])
+            self.seams = Seams(name, old, self.records[slot] if slot < len(self.takes) else {})
             for rows, new in ((self.takes, self.seams.take), (self.records, self.seams.seams), (self.names, name)):
                 rows[slot : slot + 1] = [new]
         return self.seams

@@ -39,6 +39,11 @@ class Seam:
     links: list[list[int]] = field(default_factory=list)
 
     @property
+    def ends(self) -> tuple[int, int]:
+        """Its first bit in the take of seams, and the place after its last."""
+        return self.first, self.first + self.length
+
+    @property
     def crossfade(self) -> Crossfade:
         return Crossfade(self.ramp, self.power, self.middles)
 
@@ -84,9 +89,9 @@ def is_link(values: object) -> bool:
     return are_numbers(values, (int,)) and len(values) == 3 and values[0] in (0, 1) and min(values) >= 0
 
 
-def seams_of(take: Signals) -> list[Seam]:
-    """The seams of a take; none of one that isn't a take of seams."""
-    found = []
+def seams_of(take: Signals) -> dict[tuple[int, int], Seam]:
+    """The seams of a take by their ends; none of one that isn't a take of seams."""
+    found: list[Seam] = []
     for comment in take.comments() if isinstance(take, Take) else ():
         if comment.startswith(HEAD):
             try:
@@ -94,20 +99,20 @@ def seams_of(take: Signals) -> list[Seam]:
             except (ValueError, RecursionError):
                 continue
             found += [Seam(**it) for it in rows if is_seam(it, take.count)] if isinstance(rows, list) else []
-    return found
+    return {it.ends: it for it in reversed(found)}
 
 
 class Seams:
     """The take of seams as it is made: the seams that a project has, and those that are added."""
 
-    def __init__(self, name: str, old: Signals, seams: list[Seam]):
+    def __init__(self, name: str, old: Signals, seams: dict[tuple[int, int], Seam]):
         self.take = Held(name, old.rate, old.stored(0, old.bits).astype(np.uint8))
-        self.seams = list(seams)
+        self.seams = dict(seams)
 
     def add(self, seam: Seam, signs: np.ndarray) -> None:
         """Adds a seam, whose first bit is the next one of the take."""
         self.take.add((signs > 0).astype(np.uint8))
-        self.seams.append(seam)
+        self.seams[seam.ends] = seam
 
     def stored(self, used: list[Seam]) -> bytes:
         """The file, which says what these seams are."""

@@ -1,53 +1,24 @@
-"""What a master clicks at its cuts: what is heard of it less what it should be, told from the master's bits alone.
+"""How loudly a master clicks at its cuts: what is heard of it less what it should be, from the master's bits alone.
 
 What it should be is its takes' sounds, put together as the project says: switched where a cut is plain, in the middle
-of its link where it has one, and faded in a straight line over a bridge. What the takes' sounds are is said by a
-reference: all that passes a low-pass, or true signals that are known from elsewhere."""
+of its link where it has one, faded in a straight line over a bridge, and as its crossfade says in a seam. What the
+takes' sounds are is said by a reference: all that passes a low-pass, or true signals that are known from elsewhere."""
 from collections.abc import Callable
-from dataclasses import dataclass
 
 import numpy as np
 
-from hearing import Hearing, decibels
+from hearing import Hearing
 from owing import GUESSED, sounds
-from projects import Project
-from takes import Take
+from projects import Project, Spot
+from takes import Signals
 
 # Of a take, counted from 0, its sound from one place to another, a row for each channel.
 Reference = Callable[[int, int, int], np.ndarray]
 PIECE = 1 << 22  # bits of a cue that are compared at a time
 
 
-@dataclass(frozen=True)
-class Spot:
-    """A cut in the master: its cue before, and where its bridge or link begins, or the next cue where it has none; how
-    many bits either has."""
-
-    cue: int
-    place: int
-    bridge: int
-    link: int = 0
-
-    @property
-    def between(self) -> int:
-        return self.bridge + self.link
-
-
 def length_of(cue: dict) -> int:
-    return int(cue["stop"]) - int(cue["start"])
-
-
-def spots(project: Project) -> list[Spot]:
-    """The cuts in their order."""
-    found, place = [], 0
-    for number, cue in enumerate(project.cues[:-1]):
-        place += length_of(cue)
-        if project.is_link(number + 1):
-            found.append(Spot(number, place, 0, length_of(project.cues[number + 1])))
-        elif not project.is_link(number):
-            found.append(Spot(number, place, project.bridge(number)))
-        place += project.bridge(number)
-    return found
+    return cue["stop"] - cue["start"]
 
 
 def decoded(project: Project, guessed: tuple[int, int] = GUESSED) -> Reference:
@@ -66,90 +37,108 @@ def known(rows: list[np.ndarray]) -> Reference:
     return part
 
 
-def with_fades(reference: Reference, number: int, rows: np.ndarray) -> Reference:
-    """A reference that knows the sound of one take, which was made of fades."""
-    fades = known([rows])
-    return lambda take, first, stop: fades(0, first, stop) if take == number else reference(take, first, stop)
-
-
 def delay(weights: list[int]) -> float:
     """How many bits early a fade is that these weights hear."""
     total = sum(weights)
     return sum(number * it for number, it in enumerate(weights)) / total if total else 0.0
 
 
-def faded(project: Project, reference: Reference, spot: Spot, first: int, stop: int) -> np.ndarray:
+def around(project: Project, reference: Reference, spot: Spot, first: int, stop: int) -> tuple[np.ndarray, np.ndarray]:
+    """The sounds of both takes at a cut, from one place of the master to another."""
+    cue, following = project.cues[spot.before], project.cues[spot.after]
+    offset = cue["stop"] - spot.place
+    before = reference(cue["take"], first + offset, stop + offset)
+    offset = following["start"] - spot.place - spot.length
+    return before, reference(following["take"], first + offset, stop + offset)
+
+
+def bridged(project: Project, reference: Reference, spot: Spot, first: int, stop: int) -> np.ndarray:
     """What a bridge and what is around it should be, from one place of the master to another."""
-    cue, following = project.cues[spot.cue], project.cues[spot.cue + 1]
     at = np.arange(first, stop) - spot.place
-    part = np.clip((at + 1 + delay(project.weights)) / (spot.bridge + 1), 0, 1)
-    offset = int(cue["stop"]) - spot.place
-    before = reference(int(cue["take"]), first + offset, stop + offset)
-    offset = int(following["start"]) - spot.place - spot.bridge
-    after = reference(int(following["take"]), first + offset, stop + offset)
-    if not project.is_line(spot.cue):
+    part = np.clip((at + 1 + delay(project.weights)) / (spot.length + 1), 0, 1)
+    before, after = around(project, reference, spot, first, stop)
+    if spot.role != "line":
         return (1 - part) * before + part * after
-    low, high = (int(it) / (sum(project.weights) or 1) for it in cue["line"])
-    line = low + (high - low) * np.clip((at + 1) / (spot.bridge + 1), 0, 1)
-    return np.where(at < 0, before, np.where(at < spot.bridge, line, after))
+    low, high = (it / (sum(project.weights) or 1) for it in project.cues[spot.before]["line"])
+    line = low + (high - low) * np.clip((at + 1) / (spot.length + 1), 0, 1)
+    return np.where(at < 0, before, np.where(at < spot.length, line, after))
 
 
-def linked(project: Project, number: int) -> tuple[int, int]:
+def seamed(project: Project, reference: Reference, spot: Spot, first: int, stop: int) -> np.ndarray:
+    """What a seam should be, from one place of the master to another."""
+    before, after = around(project, reference, spot, first, stop)
+    return project.record(spot.before + 1).crossfade.mixed(before, after, first - spot.place)
+
+
+def linked(project: Project, roles: list[str], number: int) -> tuple[int, int]:
     """How many bits of the links before and behind it sound like a cue."""
-    early = length_of(project.cues[number - 1]) if project.is_link(number - 1) else 0
-    late = length_of(project.cues[number + 1]) if project.is_link(number + 1) else 0
+    early = length_of(project.cues[number - 1]) if number and roles[number - 1] == "link" else 0
+    late = length_of(project.cues[number + 1]) if roles[number + 1 : number + 2] == ["link"] else 0
     return early - early // 2, late // 2
 
 
 def ideal(project: Project, reference: Reference, first: int, stop: int) -> np.ndarray:
     """What the master should be from one place to another; 0 outside of it."""
     found = np.zeros((project.count, stop - first))
-    place = 0
+    place, roles = 0, project.roles()
     for number, cue in enumerate(project.cues):
         length = length_of(cue)
-        early, late = linked(project, number)
+        early, late = linked(project, roles, number)
         low, high = max(place - early, first), min(place + length + late, stop)
-        if low < high and not project.is_link(number):
-            offset = int(cue["start"]) - place
-            found[:, low - first : high - first] = reference(int(cue["take"]), low + offset, high + offset)
+        if low < high and roles[number] == "cue":
+            offset = cue["start"] - place
+            found[:, low - first : high - first] = reference(cue["take"], low + offset, high + offset)
         place += length + project.bridge(number)
-    for spot in spots(project):
-        early = int(np.ceil(delay(project.weights)))
-        low, high = max(spot.place - early, first), min(spot.place + spot.bridge, stop)
-        if spot.bridge and low < high:
-            found[:, low - first : high - first] = faded(project, reference, spot, low, high)
+    for spot in project.spots():
+        early = int(np.ceil(delay(project.weights))) if spot.role == "bridge" else 0
+        low, high = max(spot.place - early, first), min(spot.place + spot.length, stop)
+        if low < high and spot.role in ("bridge", "line", "seam"):
+            made = seamed if spot.role == "seam" else bridged
+            found[:, low - first : high - first] = made(project, reference, spot, low, high)
     return found
 
 
-def errors(hearing: Hearing, project: Project, master: Take, spot: Spot, reference: Reference) -> np.ndarray:
+def errors(hearing: Hearing, project: Project, master: Signals, spot: Spot, reference: Reference) -> np.ndarray:
     """The master less what it should be, around the middle of a cut, a row for each channel."""
-    first = spot.place + spot.between // 2 - hearing.size // 2
-    stop = first + hearing.size
-    return master.signs(first, stop) - ideal(project, reference, first, stop)
+    size = hearing.size_for(spot.length // 2)
+    first = spot.place + spot.length // 2 - size // 2
+    return master.signs(first, first + size) - ideal(project, reference, first, first + size)
 
 
 def levels(
-    hearing: Hearing, project: Project, master: Take, spot: Spot, reference: Reference
+    hearing: Hearing, project: Project, master: Signals, spot: Spot, reference: Reference
 ) -> list[tuple[float, float]]:
-    """The click of a cut in each channel: peak and A-weighted energy in dB."""
+    """The click of a cut in each channel, from before its start to after its end: peak and A-weighted energy in dB."""
     rows = errors(hearing, project, master, spot, reference)
-    return [hearing.levels(it, spot.between // 2) for it in rows]
+    return [hearing.levels(it, spot.length // 2) for it in rows]
 
 
-def stretch(
-    hearing: Hearing, project: Project, master: Take, reference: Reference, first: int, stop: int
-) -> list[float]:
-    """The peak of what is heard of the master's errors from one place to another, in each channel, in dB."""
-    low, high = first - hearing.half, stop + hearing.half
-    heard = hearing.heard(master.signs(low, high) - ideal(project, reference, low, high))
-    return [decibels(float(np.abs(it[hearing.half : -hearing.half]).max())) for it in heard]
+def is_owned(project: Project, spot: Spot, channel: int) -> bool:
+    """Whether a channel of a transition has bits of the take before, its link, and bits of the take after."""
+    seam = project.record(spot.before + 1)
+    takes, middle = (project.take(spot.before), project.take(spot.after)), int(seam.middles[channel])
+    stop, start = project.cues[spot.before]["stop"], project.cues[spot.after]["start"]
+    side, first, length = seam.links[channel]
+    low, high = middle - length // 2, middle + length - length // 2
+    if low < 0 or high > seam.length:
+        return False
+    parts = [takes[0].signs(stop, stop + low), takes[side].signs(first, first + length)]
+    parts.append(takes[1].signs(start - seam.length + high, start))
+    held = project.take(spot.before + 1).signs(seam.first, seam.first + seam.length)
+    return np.array_equal(np.concatenate([it[channel] for it in parts]), held[channel])
 
 
-def wrong_cue(project: Project, master: Take) -> int | None:
+def are_owned(project: Project, spot: Spot) -> bool:
+    """Whether all channels of a transition hold takes' bits; whatever else a cut is, nothing is wrong with it."""
+    is_transition = spot.role == "seam" and project.record(spot.before + 1).is_owned
+    return not is_transition or all(is_owned(project, spot, it) for it in range(project.count))
+
+
+def wrong_cue(project: Project, master: Signals) -> int | None:
     """The first cue whose bits the master doesn't hold at their place."""
     place = 0
     for number, cue in enumerate(project.cues):
-        start, length = int(cue["start"]), length_of(cue)
+        start, length = cue["start"], length_of(cue)
         for at in range(0, length, PIECE):
             count = min(PIECE, length - at)
             if place + at + count > master.bits:

@@ -5,29 +5,35 @@ fade. Somewhere inside both meet: several of each are tried, and all places near
 nearly the same the one is cut to the other. Each channel has a place of its own, as these bits belong to no take.
 
 Two numbers of all that is owed can't be changed by choosing bits: their sum is odd or even, and so is their first
-moment. What is left there of the takes is added to the fade's sound as a bump as long as the fade, which is so low a
-tone that it isn't heard; the second take is moved by some bits so that it is small in all channels."""
+moment. So the middle of the crossfade moves in each channel until the sum is right (`crossfades`), and what is left of
+the moment is added to the sound as a wave that is too small to be heard. If no middle is found, as the takes are too
+much alike, the second take is moved by some bits, or what is left of the sum is added to the sound as a bump as long
+as the fade."""
 from dataclasses import dataclass
 from pathlib import Path
 
 import numpy as np
 
-import spectra
-from continuing import continued, past_of, turns
-from hearing import Hearing, decibels
+from continuing import continued, past_of
+from crossfades import SETTLED as EVEN
+from crossfades import Crossfade, Sounds, even_middle, wrapped
+from hearing import hearing_of
 from material import modulators
+from meeting import Field
 from owing import GUESSED, sounds
 from spectra import let_in
-from takes import Take
+from takes import Signals
 
-TRIED = 8  # modulators of each direction, twice as many where there are few places
+TRIED = 10  # modulators of each direction, twice as many where there are few places
 PLACES = 12_000  # around the middle at which both may meet
-
-
 TRIES = 3  # of a channel, until next to no moment is left
 SETTLED = 0.01  # of a first moment
-LOW = 6  # lines by which it is told
 DOWN = 240  # dB: what a low-pass leaves of the sound in the errors adds to their moments
+
+# How much of a fade the ramp takes, and how far its middle may move from the wished place: what is tried in turn.
+RAMPS = ((0.8, 0.1), (0.4, 0.3))
+BUTT = 10e-6  # seconds in which the sound of a butt changes
+MOVES = (0.1, 0.4)  # how far its middle may move
 
 
 class NotStable(Exception):
@@ -37,41 +43,43 @@ class NotStable(Exception):
 @dataclass(frozen=True)
 class Wish:
     """A cut in the middle of a fade: the places in both takes, an odd number of bits, and how many bits the second may
-    be moved. With `power` the sum of both takes' powers stays, else that of their levels."""
+    be moved. With `power` the sum of both takes' powers stays, else that of their levels; a butt changes the sound at
+    the cut."""
 
     stop: int
     start: int
     length: int
-    most: int
-    power: bool
+    most: int = 0
+    power: bool = False
+    is_butt: bool = False
+
+    @property
+    def early(self) -> int:
+        """How many bits of it lie before the cut."""
+        return self.length // 2
 
     @property
     def ends(self) -> tuple[int, int]:
         """Where the first take stops and the second starts, if it isn't moved."""
-        half = self.length // 2
-        return self.stop - half, self.start + self.length - half
+        return self.stop - self.early, self.start + self.length - self.early
+
+    def ramps(self, rate: int) -> list[tuple[float, int]]:
+        """How long the ramps are that are tried, and how far the middle of each may move."""
+        if self.is_butt:
+            return [(BUTT * rate, int(self.length * it)) for it in MOVES]
+        return [(self.length * ramp, int(self.length * it)) for ramp, it in RAMPS]
 
 
 @dataclass(frozen=True)
 class Fade:
-    """Bits that stand between bit `stop` - 1 of the first take and bit `start` of the second: signs and the sound
-    that they are to have, a row for each channel. For each channel also the loudest peak of what is heard of their
-    errors and those around them, and how large the bump is, in dB."""
+    """Bits that stand between bit `stop` - 1 of the first take and bit `start` of the second: their signs, a row for
+    each channel. `bumps` is how large the bump is in each channel, of full scale: 0 where there is none."""
 
     stop: int
     start: int
     signs: np.ndarray
-    sound: np.ndarray
-    clicks: list[float]
+    crossfade: Crossfade
     bumps: list[float]
-
-
-def parts(wish: Wish) -> tuple[np.ndarray, np.ndarray]:
-    """How much of both takes there is at each bit of the fade."""
-    rising = (np.arange(wish.length) + 1) / (wish.length + 1)
-    if wish.power:
-        return np.cos(rising * np.pi / 2), np.sin(rising * np.pi / 2)
-    return 1 - rising, rising
 
 
 def moments(errors: np.ndarray, first: int) -> np.ndarray:
@@ -79,19 +87,14 @@ def moments(errors: np.ndarray, first: int) -> np.ndarray:
     return np.stack([errors.sum(axis=-1), errors @ (first + np.arange(errors.shape[-1]))])
 
 
-def sound_of(take: Take, first: int, stop: int) -> np.ndarray:
+def sound_of(take: Signals, first: int, stop: int) -> np.ndarray:
     return sounds(take, first, stop, GUESSED, DOWN)
-
-
-def wrapped(numbers: np.ndarray) -> np.ndarray:
-    """Numbers less the nearest even ones."""
-    return numbers - 2 * np.rint(numbers / 2)
 
 
 class Surroundings:
     """Both takes around a fade: their errors outside of it, let in from afar, and their sounds inside."""
 
-    def __init__(self, before: Take, after: Take, wish: Wish, reach: int):
+    def __init__(self, before: Signals, after: Signals, wish: Wish, reach: int):
         rate = before.rate
         self.wish, self.rate = wish, rate
         self.stop, self.start = wish.ends
@@ -109,24 +112,57 @@ class Surroundings:
         part = self.after_errors[:, first : first + self.reach]
         return let_in(part[:, ::-1], self.rate)[:, ::-1]
 
-    def sound(self, moved: int) -> np.ndarray:
-        """The sound of the fade."""
-        low, high = parts(self.wish)
+    def sounds(self, moved: int) -> tuple[np.ndarray, np.ndarray]:
+        """Those of both takes in the fade."""
         first = self.wish.most + moved
-        return low * self.sound_before + high * self.sound_after[:, first : first + self.wish.length]
+        return self.sound_before, self.sound_after[:, first : first + self.wish.length]
 
-    def left(self, moved: int) -> np.ndarray:
-        """Sum and first moment, about the middle, of what no bits can change, a column for each channel."""
+    def owed(self, moved: int) -> np.ndarray:
+        """Sum and first moment, about the middle, that the sound of the fade is to have or to differ from by even
+        numbers: a column for each channel."""
         half = self.wish.length // 2
         known = moments(self.before, -half - self.reach) + moments(self.after(moved), half + 1)
-        inside = moments(self.sound(moved), -half)
-        bits = moments(np.ones(self.wish.length), -half)[:, None]
-        return wrapped(known + bits - inside)
+        return known + moments(np.ones(self.wish.length), -half)[:, None]
 
-    def best_move(self) -> int:
-        """How far the second take is moved so that the largest bump is least."""
-        moves = sorted(range(-self.wish.most, self.wish.most + 1), key=lambda it: (abs(it), it))
-        return min(moves, key=lambda it: round(float(np.abs(self.left(it)[0]).max()), 6))
+    def crossfade(self, moved: int, ramp: float, most: int) -> tuple[Crossfade, list[float]]:
+        """The crossfade whose middles move by at most `most` bits, and what its sums miss."""
+        wanted, both = self.owed(moved)[0], self.sounds(moved)
+        empty = Crossfade(ramp, self.wish.power, [])
+        middle = self.wish.early
+        found = [even_middle(Sounds(*it), empty, middle, most, number) for *it, number in zip(*both, wanted)]
+        return Crossfade(ramp, self.wish.power, [it for it, _ in found]), [it for _, it in found]
+
+
+@dataclass(frozen=True)
+class Plan:
+    """How a fade is made: how far the second take is moved, its crossfade, and what that misses of the sum in each
+    channel."""
+
+    around: Surroundings
+    moved: int
+    crossfade: Crossfade
+    missing: list[float]
+
+    @property
+    def worst(self) -> float:
+        return max(map(abs, self.missing))
+
+    @property
+    def is_even(self) -> bool:
+        """Whether nothing is missing."""
+        return self.worst < EVEN
+
+
+def planned(before: Signals, after: Signals, wish: Wish) -> Plan:
+    """The first plan that misses nothing, or the one that misses least; the second take moves only if it has to."""
+    around = Surroundings(before, after, wish, hearing_of(before.rate).size // 2)
+    found = []
+    for moved in sorted(range(-wish.most, wish.most + 1), key=lambda it: (abs(it), it)):
+        for ramp, most in wish.ramps(before.rate):
+            found.append(Plan(around, moved, *around.crossfade(moved, ramp, most)))
+            if found[-1].is_even:
+                return found[-1]
+    return min(found, key=lambda it: it.worst)
 
 
 def bumps(length: int) -> tuple[np.ndarray, np.ndarray]:
@@ -137,59 +173,31 @@ def bumps(length: int) -> tuple[np.ndarray, np.ndarray]:
     return bump / bump.sum(), slope / (slope @ place)
 
 
-def ahead_of(errors: np.ndarray, rate: int, reach: int, first: int, stop: int) -> np.ndarray:
-    """The spectrum of all errors before a place, for each place of the fade; so many errors are the first take's."""
-    return spectra.ahead(errors[: reach + stop], turns(rate), reach + first)[:, : stop - first]
-
-
-def behind_of(errors: np.ndarray, rate: int, first: int, stop: int) -> np.ndarray:
-    """The spectrum of all errors from a place on, for each place of the fade; the second take's come last."""
-    return spectra.behind(errors[first:], turns(rate), stop - first)
-
-
-def numbers_of(seen: list[np.ndarray]) -> np.ndarray:
-    """Spectra as real numbers: for each place a row for each of the spectra."""
-    return np.stack([np.concatenate([it.real, it.imag]).T for it in seen], axis=1)
-
-
-def meeting(fronts: list[np.ndarray], rears: list[np.ndarray]) -> tuple[int, int, int]:
-    """Which front and which rear are quietest together, and at which of the places."""
-    front, rear = numbers_of(fronts), numbers_of(rears)
-    heard = 2 * np.matmul(front, rear.transpose(0, 2, 1))
-    heard += (front**2).sum(axis=2)[:, :, None] + (rear**2).sum(axis=2)[:, None, :]
-    place, i, j = np.unravel_index(heard.argmin(), heard.shape)
-    return int(i), int(j), int(place)
-
-
 @dataclass(frozen=True)
 class Joint:
-    """The signs of one channel of a fade; where its halves meet, how much is heard, and the first moment of that."""
+    """The signs of one channel of a fade; how much is heard of where its halves meet, and the first moment of that."""
 
     signs: np.ndarray
     heard: float
     moment: float
 
 
-def joined(program: Path, modulator: modulators.Modulator, rate: int, before, sound, after, seed: int) -> Joint:
-    """Bits that go on from the errors before, up to a place at which they meet bits that lead up to the errors
-    after."""
+def joined(program: Path, modulator: modulators.Modulator, rate: int, known: tuple, seed: int) -> Joint:
+    """Bits of a sound that go on from the errors before, up to a place at which they meet bits that lead up to the
+    errors after."""
+    before, sound, after = known
     length = len(sound)
     first = max(length // 2 - PLACES // 2, length // 8)
-    stop = length - first
+    field = Field(rate, length, first, length - first)
     pasts = past_of(modulator, rate, before), past_of(modulator, rate, after[::-1])
-    fronts, rears, ahead, behind = [], [], [], []
-    for it in range(TRIED if stop - first > PLACES // 2 else 2 * TRIED):
-        front = continued(program, modulator, rate, pasts[0], sound, seed + 2 * it + 1)
-        rear = continued(program, modulator, rate, pasts[1], sound[::-1], seed + 2 * it + 2)[::-1]
-        fronts.append(front)
-        rears.append(rear)
-        ahead.append(ahead_of(np.concatenate([before, front - sound]), rate, len(before), first, stop))
-        behind.append(behind_of(np.concatenate([rear - sound, after]), rate, first, stop))
-    i, j, place = meeting(ahead, behind)
-    heard = ahead[i][:, place] + behind[j][:, place]
-    moment = -float(np.mean(heard.imag[1:LOW] / turns(rate)[1:LOW]))
-    signs = np.concatenate([fronts[i][: first + place], rears[j][first + place :]])
-    return Joint(signs, float((np.abs(heard) ** 2).sum()), moment)
+    parts, halves = (sound[: field.stop], sound[first:][::-1]), ([], [])
+    for it in range(TRIED if field.stop - first > PLACES // 2 else 2 * TRIED):
+        for number, (half, past, part) in enumerate(zip(halves, pasts, parts)):
+            half.append(continued(program, modulator, rate, past, part, seed + 2 * it + 1 + number))
+    fronts, rears = np.stack(halves[0]), np.stack(halves[1])[:, ::-1]
+    found = field.quietest(field.fronts(before, fronts - parts[0]), field.rears(rears - sound[first:], after))
+    signs = np.concatenate([fronts[found.front, : found.place], rears[found.rear, found.place - first :]])
+    return Joint(signs, found.heard, found.moment)
 
 
 def kinds_for(rate: int) -> list[modulators.Modulator]:
@@ -199,49 +207,39 @@ def kinds_for(rate: int) -> list[modulators.Modulator]:
     return [usual, *(modulators.Modulator(order, gain, usual.dither) for order, gain in dict.fromkeys(louder))]
 
 
-def whole_bytes(rows: np.ndarray) -> np.ndarray:
-    """Rows whose number of places is a multiple of 8, with a last value as often as it takes."""
-    return np.pad(rows, ((0, 0), (0, -rows.shape[1] % 8)), mode="edge")
-
-
-def fade(hearing: Hearing, program: Path, before: Take, after: Take, wish: Wish, seed: int) -> Fade:
-    """Joins two takes by a fade."""
-    around = Surroundings(before, after, wish, hearing.size // 2)
-    moved = around.best_move()
-    sound, later, left = around.sound(moved), around.after(moved), around.left(moved)
-    bump = bumps(wish.length)[0]
-    rows, clicks = [], []
-    for channel, row in enumerate(sound + left[0][:, None] * bump):
+def made(program: Path, plan: Plan, seed: int) -> Fade:
+    """The fade of a plan."""
+    around, wish = plan.around, plan.around.wish
+    later, bump, rows = around.after(plan.moved), bumps(wish.length)[0], []
+    sound = plan.crossfade.mixed(*around.sounds(plan.moved)) + np.array(plan.missing)[:, None] * bump
+    moment = wrapped(around.owed(plan.moved) - moments(sound, -wish.early))[1]
+    for channel, row in enumerate(sound):
         known = around.before[channel], row, later[channel]
-        signs, row = settled(program, hearing.rate, known, float(left[1][channel]), seed + 100 * channel)
-        errors = np.concatenate([known[0], signs - row, known[2]])
-        heard = hearing.heard(errors[None])[0][hearing.half : -hearing.half]
-        rows.append(signs)
-        clicks.append(decibels(float(np.abs(heard).max())))
-    sizes = [decibels(float(abs(it) * bump.max())) for it in left[0]]
-    return Fade(around.stop, around.start + moved, np.stack(rows), sound, clicks, sizes)
+        rows.append(settled(program, around.rate, known, float(moment[channel]), seed + 100 * channel))
+    sizes = [abs(it) * bump.max() if abs(it) >= EVEN else 0.0 for it in plan.missing]
+    return Fade(around.stop, around.start + plan.moved, np.stack(rows), plan.crossfade, sizes)
 
 
-def settled(program: Path, rate: int, known: tuple, moment: float, seed: int) -> tuple[np.ndarray, np.ndarray]:
-    """The signs of a channel, and its sound with the slope that takes up the first moment. What a modulator leaves at
-    very low frequencies has a moment too, which is seen where both halves meet, and taken up in the next try."""
+def settled(program: Path, rate: int, known: tuple, moment: float, seed: int) -> np.ndarray:
+    """The signs of a channel, whose sound has a slope that takes up the first moment. What a modulator leaves at very
+    low frequencies has a moment too, which is seen where both halves meet, and taken up in the next try."""
     before, sound, after = known
     slope, found = bumps(len(sound))[1], []
     for _ in range(TRIES):
         row = sound + moment * slope
         joint = stable(program, rate, (before, row, after), seed)
-        found.append((joint.heard, len(found), joint.signs, row))
+        found.append((joint.heard, len(found), joint.signs))
         if abs(joint.moment) < SETTLED:
             break
         moment += joint.moment
-    return min(found, key=lambda it: it[:2])[2:]
+    return min(found, key=lambda it: it[:2])[2]
 
 
 def stable(program: Path, rate: int, known: tuple, seed: int) -> Joint:
     """What is joined by the first modulator that is stable."""
     for modulator in kinds_for(rate):
         try:
-            return joined(program, modulator, rate, *known, seed)
+            return joined(program, modulator, rate, known, seed)
         except modulators.Unstable:
             continue
     raise NotStable("no modulator is stable for the sound of this fade: it is too loud")

@@ -23,35 +23,43 @@ def decibels(magnitude: float) -> float:
 
 
 class Hearing:
-    """The low-pass of a rate: its taps, how many there are to each side of the middle one (half), and the A-weighting
-    of spectra of `size` places."""
+    """The low-pass of a rate: its taps, how many there are to each side of the middle one (half), and how many places
+    a click is told by (size), unless it is wide."""
 
     def __init__(self, rate: int):
         self.rate = rate
         self.taps = lowpass(rate, PASSED, STOPPED)
         self.half = len(self.taps) // 2
-        self.size = 1 << int(np.ceil(np.log2(5.5 * self.half)))
-        self.spectrum = fft.rfft(np.roll(np.pad(self.taps, (0, self.size - len(self.taps))), -self.half)).real
-        self.weighting = weighting(fft.rfftfreq(self.size, 1 / rate))
+        self.size = self.size_for(0)
 
-    def heard(self, signals: np.ndarray) -> np.ndarray:
-        """Signals through the low-pass, as long as they are."""
-        return np.stack([signal.oaconvolve(it, self.taps, mode="same") for it in signals])
+    def size_for(self, wider: int) -> int:
+        """How many places tell a click that is wider by so many places to each side."""
+        return 1 << int(np.ceil(np.log2(5.5 * self.half + 2 * wider)))
+
+    @lru_cache(maxsize=8)
+    def spectrum(self, size: int) -> np.ndarray:
+        """That of the low-pass, for so many places."""
+        return fft.rfft(np.roll(np.pad(self.taps, (0, size - len(self.taps))), -self.half)).real
+
+    @lru_cache(maxsize=8)
+    def weighting(self, size: int) -> np.ndarray:
+        """The A-weighting of spectra of so many places."""
+        return weighting(fft.rfftfreq(size, 1 / self.rate))
 
     def click(self, error: np.ndarray, wider: int = 0) -> np.ndarray:
-        """What is heard of an error of `size` places, no more than the reach of the low-pass and `wider` places away
-        from its middle."""
-        heard = fft.irfft(fft.rfft(error) * self.spectrum, self.size)
-        reach = min(self.half + wider, self.size // 2)
-        heard[: self.size // 2 - reach] = 0
-        heard[self.size // 2 + reach :] = 0
+        """What is heard of an error, no more than the reach of the low-pass and `wider` places away from its middle."""
+        size = len(error)
+        heard = fft.irfft(fft.rfft(error) * self.spectrum(size), size)
+        reach = min(self.half + wider, size // 2)
+        heard[: size // 2 - reach] = 0
+        heard[size // 2 + reach :] = 0
         return heard
 
     def levels(self, error: np.ndarray, wider: int = 0) -> tuple[float, float]:
         """Peak and A-weighted energy of the click of an error, in dB."""
         heard = self.click(error, wider)
-        power = (np.abs(fft.rfft(heard)) * self.weighting) ** 2
-        energy = (2 * power.sum() - power[0] - power[-1]) / self.size
+        power = (np.abs(fft.rfft(heard)) * self.weighting(len(heard))) ** 2
+        energy = (2 * power.sum() - power[0] - power[-1]) / len(heard)
         return decibels(np.abs(heard).max()), decibels(np.sqrt(energy / (CLICK * self.rate / 2)))
 
 

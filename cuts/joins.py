@@ -1,5 +1,6 @@
 """A cut between two takes: what it clicks, and where in a window it clicks least."""
-from dataclasses import dataclass
+import copy
+from dataclasses import dataclass, replace
 
 import numpy as np
 
@@ -9,8 +10,8 @@ import pairs
 from clicks import delay
 from hearing import Hearing
 from links import Link
-from owing import Errors, Owing
-from takes import Take
+from owing import OTHER, Errors, Owing
+from takes import Signals
 
 NEAR = 4096  # pairs that owe most nearly the same
 TRIED = 64  # of these, the quietest ones, whose click is told exactly; and so many links
@@ -20,12 +21,14 @@ GAIN = 1.0  # dB that a link gains at least, or there is none
 @dataclass(frozen=True)
 class Place:
     """A cut from bit `stop` - 1 of one take to bit `start` of the other, perhaps with a link between, and what each
-    channel clicks: peak and A-weighted energy in dB."""
+    channel clicks: peak and A-weighted energy in dB. With a link, `other` is the loudest peak by another estimate of
+    the takes' sounds."""
 
     stop: int
     start: int
     clicks: list[tuple[float, float]]
     link: Link | None = None
+    other: float = -np.inf
 
     @property
     def loudest(self) -> float:
@@ -53,16 +56,34 @@ class Window:
 class Cut:
     """Two takes around the places of a window."""
 
-    def __init__(self, hearing: Hearing, owing: Owing, before: Take, after: Take, window: Window):
+    def __init__(self, hearing: Hearing, owing: Owing, takes: tuple[Signals, Signals], window: Window):
         self.hearing, self.owing, self.window = hearing, owing, window
+        before, after = takes
         reach = hearing.size // 2
         self.before = Errors(before, window.stop - reach, window.stop + window.stops + reach)
         self.after = Errors(after, window.start - reach, window.start + window.starts + reach)
+        self.other = copy.copy(self)  # the same by another estimate of the takes' sounds
+        self.other.before, self.other.after = (
+            Errors(take, it.first, it.stop, OTHER) for take, it in zip(takes, (self.before, self.after))
+        )
         self.bits = [before.bits, after.bits]
         self.owed = (
             owing.before(self.before, window.stop, window.stops),
             owing.after(self.after, window.start, window.starts),
         )
+
+    def channel(self, number: int) -> "Cut":
+        """The same of one channel."""
+        found, found.other = copy.copy(self), copy.copy(self.other)
+        for one, whole in ((found, self), (found.other, self.other)):
+            one.before, one.after = whole.before.channel(number), whole.after.channel(number)
+        found.owed = tuple(it[number : number + 1] for it in self.owed)
+        return found
+
+    @property
+    def count(self) -> int:
+        """Channels."""
+        return len(self.before.values)
 
     def place(self, stop: int, start: int) -> Place:
         """The exact click of a cut."""
@@ -95,14 +116,24 @@ class Cut:
 
     def linked(self, shortest: int) -> list[Place]:
         """The best cuts with a link of at least so many bits."""
-        window, takes = self.window, [self.before, self.after]
+        window = self.window
         found = links.parity_pairs(self.owing, *self.owed, window.wished, window.most)
         found = found[(found[:, 0] >= links.MARGIN) & (found[:, 1] < window.starts - links.MARGIN)]
+        best = self.links_at(found, shortest).first(TRIED)
+        places = found + (window.stop, window.start)
+        return [self.judged(*places[it[0]].tolist(), Link(*it[1:])) for it in best.rows.tolist()]
+
+    def links_at(self, found: np.ndarray, shortest: int) -> links.Found:
+        """The best links of at least so many bits at each of these pairs of places."""
+        window, takes = self.window, [self.before, self.after]
         middles = [window.stop + window.stops // 2, window.start + window.starts // 2]
         spans = links.spans_of(takes, self.bits, middles)
-        places = found + (window.stop, window.start)
-        best = links.best(self.owing, takes, spans, places, self.left(found), shortest).first(TRIED)
-        return [self.with_link(*places[it[0]].tolist(), Link(*it[1:])) for it in best.rows.tolist()]
+        return links.best(self.owing, takes, spans, found + (window.stop, window.start), self.left(found), shortest)
+
+    def judged(self, middle: int, start: int, link: Link) -> Place:
+        """The exact click of a cut with a link in its place, and that by another estimate."""
+        other = self.other.with_link(middle, start, link).loudest
+        return replace(self.with_link(middle, start, link), other=other)
 
     def with_link(self, middle: int, start: int, link: Link) -> Place:
         """The exact click of a cut with a link in its place."""
@@ -156,5 +187,5 @@ def row(errors: Errors, channel: int, first: int, stop: int) -> np.ndarray:
 
 
 def quietest(places: list[Place]) -> Place:
-    """The place whose loudest channel clicks least, of equal ones the first."""
-    return min(places, key=lambda it: (round(it.loudest, 6), it.stop, it.start))
+    """The place whose loudest channel clicks least by the worse of both estimates, of equal ones the first."""
+    return min(places, key=lambda it: (round(max(it.loudest, it.other), 6), it.stop, it.start))

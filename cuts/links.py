@@ -81,10 +81,14 @@ def replaced(takes: list[Errors], places: np.ndarray, length: int) -> np.ndarray
     return np.concatenate([front, rear], axis=2).transpose(1, 0, 2).reshape(len(places), -1)
 
 
+def parity_weights(owing: Owing) -> np.ndarray:
+    """How much is heard of the sum and of the first moment."""
+    return (np.linalg.pinv(owing.moments) ** 2).sum(axis=1)
+
+
 def parity_pairs(owing: Owing, before: np.ndarray, after: np.ndarray, wished: int, most: int) -> np.ndarray:
     """The pairs of places at which the sum and the first moment of what is owed are nearest to even numbers."""
-    weights = (np.linalg.pinv(owing.moments) ** 2).sum(axis=1)
-    distance = pairs.apart_in_parity(weights)
+    distance = pairs.apart_in_parity(parity_weights(owing))
     return pairs.nearest(before @ owing.moments, after @ owing.moments, wished, most, PAIRS, distance)
 
 

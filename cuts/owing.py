@@ -9,14 +9,17 @@ is, `taps` being the low-pass of `hearing`,
 So a plain cut from place a of one take to place b of another clicks by owed_a(t) - owed_b(t). Here it is told by the
 spectrum of the errors before p, as seen from there. As nearly all comes of the last hundred bits it is smooth, a
 polynomial of the frequency, and eight numbers a channel tell it."""
+import copy
+
 import numpy as np
 from scipy import signal
 
 import spectra
 from hearing import DOWN, Hearing, lowpass
-from takes import Take
+from takes import Signals
 
 GUESSED = (26_000, 34_000)  # Hz: a take's sound is what passes a low-pass that ends here (cuts/README.md says why)
+OTHER = (30_000, 38_000)  # Hz: another estimate of it, by which a link has to be quiet too
 LINES = 17
 HIGHEST = 22_400  # Hz: the last line
 NUMBERS = 8
@@ -24,7 +27,7 @@ AROUND = 1024  # bits at 2,822,400 Hz to each side of a place, in which a click 
 STEP = 16  # such bits between the times at which it is
 
 
-def sounds(take: Take, first: int, stop: int, guessed: tuple[int, int] = GUESSED, down: int = DOWN) -> np.ndarray:
+def sounds(take: Signals, first: int, stop: int, guessed: tuple[int, int] = GUESSED, down: int = DOWN) -> np.ndarray:
     """What of a take passes a low-pass, a row for each channel."""
     taps = lowpass(take.rate, *guessed, down)
     half = len(taps) // 2
@@ -34,10 +37,16 @@ def sounds(take: Take, first: int, stop: int, guessed: tuple[int, int] = GUESSED
 class Errors:
     """The signs of a take at the places from `first` on, and its errors (`values`): a row for each channel."""
 
-    def __init__(self, take: Take, first: int, stop: int):
-        self.first = first
+    def __init__(self, take: Signals, first: int, stop: int, guessed: tuple[int, int] = GUESSED):
+        self.first, self.stop = first, stop
         self.signs = take.signs(first, stop)
-        self.values = self.signs - sounds(take, first, stop)
+        self.values = self.signs - sounds(take, first, stop, guessed)
+
+    def channel(self, number: int) -> "Errors":
+        """Those of one channel."""
+        found = copy.copy(self)
+        found.signs, found.values = self.signs[number : number + 1], self.values[number : number + 1]
+        return found
 
     def part(self, first: int, stop: int) -> np.ndarray:
         return self.values[:, first - self.first : stop - self.first]

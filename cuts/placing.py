@@ -1,70 +1,152 @@
-"""Moves the cuts of a project, one after the other, to where its takes meet."""
-from collections.abc import Iterator
+"""Moves the cuts of a project to where its takes meet, or makes transitions of them."""
+from dataclasses import dataclass
+
+import numpy as np
 
 import bridges
-from hearing import hearing_of
-from joins import Cut, Place, Window, quietest
-from owing import Owing
+import joins
+import links
+import transitions
+from hearing import hearing_of, lowpass
+from outputs import Refused
+from owing import GUESSED, Owing
 from projects import MOST_CUES, Project
+from seams import Seam
 
 BRIDGED = 256  # cuts with a bridge that are tried, if it is short
 
 
-def window_of(project: Project, number: int, within: int, most: int) -> Window:
-    """Where the cut behind a cue may be, so that both cues stay long enough and a bridge has its rooms. Of a cut with a
-    bridge the places are those at which it would be cut plain, in the middle of the bridge."""
-    cue, following = project.cues[number], project.cues[number + 1]
-    length = project.bridge(number)
+@dataclass(frozen=True)
+class Asked:
+    """What is asked for: the name of the take of seams, how far a cut may move in each take and how early or late what
+    follows may come, in seconds; whether there may be links, whether all channels change together, and whether bridges
+    that fade are left out."""
+
+    take: str = ""
+    within: float = 0.5e-3
+    shift: float = 50e-6
+    linking: bool = True
+    together: bool = False
+    plain: bool = False
+
+
+def makes_transition(project: Project, number: int, asked: Asked) -> bool:
+    """Whether a cut is to be a transition: one channel needs none, and a bridge that stays has one place."""
+    has_bridge = project.spots()[number].role in (("line",) if asked.plain else ("bridge", "line"))
+    return project.count > 1 and asked.linking and not asked.together and not has_bridge
+
+
+@dataclass(frozen=True)
+class Room:
+    """Between which places a cut may be in both takes, and which are wished."""
+
+    stop: int
+    start: int
+    stops: tuple[int, int]
+    starts: tuple[int, int]
+
+    def window(self, most: int) -> joins.Window | None:
+        """The window of the places, if there are any pairs whose shift is at most so large."""
+        (low, high), (first, last) = self.stops, self.starts
+        wished = (self.start - first) - (self.stop - low)
+        nearest = min(max(wished, low - high), last - first)
+        if low > high or first > last or abs(nearest - wished) > most:
+            return None
+        return joins.Window(low, high - low + 1, first, last - first + 1, wished, most)
+
+    def inside(self, stop: int, start: int) -> "Room":
+        """The part in which both takes have bits up to a place, and from one on."""
+        stops, starts = (self.stops[0], min(self.stops[1], stop)), (max(self.starts[0], start), self.starts[1])
+        return Room(self.stop, self.start, stops, starts)
+
+
+def room_of(project: Project, cut: int, within: int, margin: int) -> Room:
+    """Where the cut after a cue may be, so that both cues stay long enough without `margin` bits to each side of the
+    cut, and a bridge has its room. The places of a cut with a bridge are those at which it would be cut plain, in the
+    middle of the bridge."""
+    cue, following = project.cues[cut], project.cues[cut + 1]
+    length = project.bridge(cut)
     early = length // 2
     late = length - early
     room = length + project.shortest if length else 0
-    stop, start = int(cue["stop"]) + early, int(following["start"]) - late
-    low = max(stop - within, int(cue["start"]) + project.shortest + early)
-    high = min(stop + within, project.take(number).bits - late)
-    low_start = max(start - within, room - late, 0)
-    high_start = min(start + within, int(following["stop"]) - project.shortest - late)
-    wished = (start - low_start) - (stop - low)
-    return Window(low, high - low + 1, low_start, high_start - low_start + 1, wished, most)
+    stop, start = cue["stop"] + early, following["start"] - late
+    low = max(stop - within, cue["start"] + project.least(cut) + early + margin)
+    high = min(stop + within, project.take(cut).bits - late - margin)
+    first = max(start - within, room - late, margin)
+    last = min(start + within, following["stop"] - project.least(cut + 1) - late - margin)
+    return Room(stop, start, (low, high), (first, last))
 
 
-def places(project: Project, number: int, cut: Cut, linking: bool) -> tuple[Place, Place]:
-    """A cut at the wished place, and at the best, perhaps with a link."""
-    stop, start = int(project.cues[number]["stop"]), int(project.cues[number + 1]["start"])
-    length = project.bridge(number)
-    if length == 0:
-        return cut.place(stop, start), cut.best_linked(project.shortest) if linking else cut.best()
-    early = length // 2
-    wished = cut.bridged([(stop + early, start - length + early)], project.weights, length)
-    near = cut.near(bridges.trials(project.weights, length, BRIDGED))
-    return wished[0], quietest([*wished, *cut.bridged(near, project.weights, length)])
+def window_of(project: Project, cut: int, asked: Asked, margin: int = 0) -> joins.Window | None:
+    """The window of a cut. It keeps away from the ends of takes, where their sound isn't known, if that leaves any
+    pairs of places."""
+    within, most = round(asked.within * project.rate), round(asked.shift * project.rate)
+    room = room_of(project, cut, within, margin)
+    known = len(lowpass(project.rate, *GUESSED)) // 2
+    safe = room.inside(project.take(cut).bits - known, known)
+    return safe.window(most) or room.window(most)
 
 
-def move(project: Project, number: int, found: Place) -> None:
-    """Moves the cut behind a cue, and puts its link there."""
-    project.move(number, found.stop, found.start)
-    if found.link:
-        take = project.cues[number + found.link.take]["take"]
-        project.insert(number, int(take), found.link.first, found.link.first + found.link.length)
-
-
-def place(
-    project: Project, within: float, shift: float, linking: bool = True
-) -> Iterator[tuple[int, Place | None, Place | None]]:
-    """Tells of each cut the wished place and that to which it was moved, or nothing of one that stays, as its bridge
-    goes in a line. Both times are in seconds: how far a cut may move in each take, and how early or late what follows
-    may come. Where `linking`, cuts may have links; those that the project has are left out before."""
-    project.leave_out_links()
+def meeting(project: Project, cut: int, window: joins.Window | None) -> joins.Cut:
+    if window is None:
+        raise Refused("its cues are too short for it to move")
     hearing = hearing_of(project.rate)
-    owing = Owing(hearing)
-    number = 0
-    for cut_number in range(len(project.cues) - 1):
-        if project.is_line(number):
-            yield cut_number, None, None
-        else:
-            window = window_of(project, number, round(within * project.rate), round(shift * project.rate))
-            cut = Cut(hearing, owing, project.take(number), project.take(number + 1), window)
-            wished, found = places(project, number, cut, linking and len(project.cues) < MOST_CUES)
-            move(project, number, found)
-            yield cut_number, wished, found
-            number += 1 if found.link else 0
-        number += 1
+    return joins.Cut(hearing, Owing(hearing), (project.take(cut), project.take(cut + 1)), window)
+
+
+def place_together(project: Project, cut: int, asked: Asked) -> None:
+    """Moves a cut to the best pair of places, perhaps with a link."""
+    found, length = meeting(project, cut, window_of(project, cut, asked)), project.bridge(cut)
+    if length:
+        stop, start, early = project.cues[cut]["stop"], project.cues[cut + 1]["start"], length // 2
+        near = found.near(bridges.trials(project.weights, length, BRIDGED))
+        places = [(stop + early, start - length + early), *near]
+        best = joins.quietest(found.bridged(places, project.weights, length))
+    else:
+        is_linking = asked.linking and len(project.cues) < MOST_CUES
+        best = found.best_linked(project.shortest) if is_linking else found.best()
+    project.move(cut, best.stop, best.start)
+    if best.link:
+        take = project.cues[cut + best.link.take]["take"]
+        project.insert(cut, take, best.link.first, best.link.first + best.link.length)
+
+
+def place_apart(project: Project, cut: int, asked: Asked) -> bool:
+    """Makes a transition of a cut, and returns whether there was room for it."""
+    window = window_of(project, cut, asked, links.MARGIN)
+    found = transitions.best(meeting(project, cut, window)) if window else None
+    if found is None:
+        return False
+    stop, start, offset = project.cues[cut]["stop"], project.cues[cut + 1]["start"], found.offset
+    low, high = min(found.ends[0], stop), max(found.ends[1], start - offset)  # the wished place lies inside
+    seams = project.seams_as(asked.take)
+    middles = [it.stop + it.link.ahead - low for it in found.places]
+    rows = [[it.link.take, it.link.first, it.link.length] for it in found.places]
+    wished = stop - low, high + offset - start
+    seam = Seam(seams.take.bits, high - low, "transition", *wished, 0, False, middles, rows)
+    signs = np.stack([signs_of(project, cut, (low, high), it, channel) for channel, it in enumerate(found.places)])
+    project.move(cut, low, high + offset)
+    project.insert_seam(cut, seam, signs)
+    return True
+
+
+def signs_of(project: Project, cut: int, ends: tuple[int, int], place: joins.Place, channel: int) -> np.ndarray:
+    """The bits of a channel of a transition between two places of the first take."""
+    takes = project.take(cut), project.take(cut + 1)
+    offset, link = place.start - place.stop - place.between, place.link
+    before = takes[0].signs(ends[0], place.stop)
+    between = takes[link.take].signs(link.first, link.first + link.length)
+    behind = takes[1].signs(place.start, ends[1] + offset)
+    return np.concatenate([it[channel] for it in (before, between, behind)])
+
+
+def place(project: Project, number: int, asked: Asked) -> None:
+    """Moves a cut, whose link or seam is left out before."""
+    with project.undone():
+        spot = project.spots()[number]
+        is_apart = makes_transition(project, number, asked)
+        project.leave_out_between(spot)
+        if asked.plain:
+            project.leave_out_bridge(spot.before)
+        if not (is_apart and place_apart(project, spot.before, asked)):
+            place_together(project, spot.before, asked)

@@ -1,17 +1,33 @@
 """Projects with a table `splice`: read, changed and written again with their order and comments."""
+import contextlib
 import copy
 import sys
 import tomllib
-from collections.abc import Callable
+from collections.abc import Callable, Iterator
+from dataclasses import dataclass
 from pathlib import Path
 
+import numpy as np
 import tomlkit
 
-from takes import Take, Unread
+from seams import Seam, Seams, seams_of
+from takes import Held, Signals, Take, Unread
 from outputs import Refused
 from project_texts import MOST_BITS, MOST_CUES, MOST_TAKES, Text, read, shown
 
 LINK = 1e-5  # seconds: a shorter cue between two plain cuts is a link, which has no sound of its own
+
+
+@dataclass(frozen=True)
+class Spot:
+    """A cut: the numbers of the cues before and after it, and what it is: "plain", "bridge", "line", "link" or "seam".
+    In the master it begins at `place`, and has `length` bits of its own."""
+
+    before: int
+    after: int
+    role: str
+    place: int
+    length: int
 
 
 def hand_over(one: tomlkit.items.Item, other: tomlkit.items.Item) -> bool:
@@ -83,9 +99,13 @@ class Project:
         self.cues: list[dict] = copy.deepcopy(splice["cue"])
         self.origins: list[int | None] = list(range(len(self.cues)))
         self.names = list(splice["takes"])
-        self.takes = opened(self.source)
+        self.takes: list[Signals] = [*opened(self.source)]
+        self.records = [seams_of(it) for it in self.takes]
+        self.seams: Seams | None = None
         self.rate, self.count = self.takes[0].rate, self.takes[0].count
+        self.slot = self.seam_slot()
         self.demand_bits()
+        self.was_whole = self.length() % 8 == 0
 
     def demand_bits(self) -> None:
         """The takes have all bits that are asked for."""
@@ -118,7 +138,14 @@ class Project:
         """Bits that each cue has at least."""
         return len(self.weights) - 1
 
-    def take(self, cue: int) -> Take:
+    def least(self, cue: int) -> int:
+        """Bits that a cue has to keep: with fewer it would be taken for a link."""
+        one = self.cues[cue]
+        is_inside = 0 < cue < len(self.cues) - 1
+        bits = max(self.shortest, int(np.ceil(LINK * self.rate))) if is_inside else self.shortest
+        return min(bits, one["stop"] - one["start"])
+
+    def take(self, cue: int) -> Signals:
         return self.takes[self.cues[cue]["take"]]
 
     def bridge(self, cue: int) -> int:
@@ -127,13 +154,40 @@ class Project:
     def is_line(self, cue: int) -> bool:
         return self.cues[cue].get("target") == "line"
 
-    def is_link(self, cue: int) -> bool:
-        """Whether a cue is a link: of its bits the first half stands for those of the cue before, and the others for
-        those of the cue behind."""
-        if not 0 < cue < len(self.cues) - 1 or self.bridge(cue - 1) or self.bridge(cue):
-            return False
-        length = self.cues[cue]["stop"] - self.cues[cue]["start"]
-        return length < LINK * self.rate and not self.is_link(cue - 1)
+    def is_free(self, cue: int) -> bool:
+        """Whether a cue lies between two plain cuts."""
+        return 0 < cue < len(self.cues) - 1 and not self.bridge(cue - 1) and not self.bridge(cue)
+
+    def record(self, cue: int) -> Seam | None:
+        """The seam whose bits a cue holds."""
+        one = self.cues[cue]
+        return self.records[one["take"]].get((one["start"], one["stop"]))
+
+    def roles(self) -> list[str]:
+        """What each cue is: "cue", "link" or "seam". The first half of a link replaces bits of the cue before, and the
+        rest those of the cue after."""
+        found: list[str] = []
+        for number, cue in enumerate(self.cues):
+            is_between = self.is_free(number) and found[-1] == "cue"
+            if is_between and self.record(number):
+                found.append("seam")
+            else:
+                found.append("link" if is_between and cue["stop"] - cue["start"] < LINK * self.rate else "cue")
+        return found
+
+    def spots(self) -> list[Spot]:
+        """The cuts in their order."""
+        found, place, roles = [], 0, self.roles()
+        for number, (cue, role) in enumerate(zip(self.cues[:-1], roles)):
+            length = cue["stop"] - cue["start"]
+            if role != "cue":
+                found.append(Spot(number - 1, number + 1, role, place, length))
+            place += length
+            if role == "cue" and roles[number + 1] == "cue":
+                kind = ("line" if self.is_line(number) else "bridge") if self.bridge(number) else "plain"
+                found.append(Spot(number, number + 1, kind, place, self.bridge(number)))
+            place += self.bridge(number)
+        return found
 
     def length(self) -> int:
         """Bits of a channel of the master."""
@@ -144,6 +198,19 @@ class Project:
         self.cues[cut]["stop"] = stop
         self.cues[cut + 1]["start"] = start
 
+    @contextlib.contextmanager
+    def undone(self) -> Iterator[None]:
+        """After a fault in a block the cues are as before. It is one too if a cue has become so short that it would be
+        taken for a link."""
+        cues, origins, cuts = copy.deepcopy(self.cues), list(self.origins), len(self.spots())
+        try:
+            yield
+            if len(self.spots()) != cuts:
+                raise Refused("a cue would be shorter than 10 us, and so be taken for a link")
+        except BaseException:
+            self.cues, self.origins = cues, origins
+            raise
+
     def leave_out_bridge(self, cut: int) -> None:
         """Makes a plain cut of one whose bridge fades, in the middle of the bridge: so nothing comes earlier."""
         length, cue = self.bridge(cut), self.cues[cut]
@@ -152,28 +219,56 @@ class Project:
             del cue["bridge"]
             cue.pop("target", None)
 
-    def leave_out_links(self) -> None:
-        """Makes plain cuts of those that have links, each in the middle of the link."""
-        for number in reversed(range(len(self.cues))):
-            if self.is_link(number):
-                length = self.cues[number]["stop"] - self.cues[number]["start"]
-                stop = self.cues[number - 1]["stop"] + length // 2
-                start = self.cues[number + 1]["start"] - (length - length // 2)
-                if stop <= self.take(number - 1).bits and start >= 0:
-                    del self.cues[number], self.origins[number]
-                    self.move(number - 1, stop, start)
+    def leave_out_between(self, spot: Spot) -> None:
+        """Makes a plain cut of one that has a link, in the middle of it, or a seam, at the place that was wished."""
+        if spot.after - spot.before == 1:
+            return
+        seam = self.record(spot.before + 1) if spot.role == "seam" else None
+        early, late = (seam.before, seam.after) if seam else (spot.length // 2, spot.length - spot.length // 2)
+        stop, start = self.cues[spot.before]["stop"] + early, self.cues[spot.after]["start"] - late
+        if stop > self.take(spot.before).bits or start < 0:
+            raise Refused(f"its takes have no bits for those of its {spot.role}")
+        del self.cues[spot.before + 1], self.origins[spot.before + 1]
+        self.move(spot.before, stop, start)
 
-    def add_take(self, name: str) -> int:
-        """The number of a take that is added."""
-        if len(self.names) == MOST_TAKES:
+    def demand_room(self, seams: int, cues: int) -> None:
+        """Refuses if there is no room for a take of seams, if any are made, and for more cues."""
+        if seams and self.slot == MOST_TAKES:
             raise Refused(f"the project has {MOST_TAKES} takes, and there is no room for one more")
-        self.names.append(name)
-        return len(self.names) - 1
+        if len(self.cues) + cues > MOST_CUES:
+            had = f"the project has {len(self.cues)} cues, and {cues} more are needed"
+            raise Refused(f"{had}: there is room for {MOST_CUES}")
+
+    def seam_slot(self) -> int:
+        """The number of the take of seams, that of a new one if there is none."""
+        held = [self.cues[it]["take"] for it, role in enumerate(self.roles()) if role == "seam"]
+        return min(held, default=len(self.takes))
+
+    def seams_as(self, name: str) -> Seams:
+        """The take of seams, which gets a name; it holds all seams that the one before it held."""
+        if self.seams is None:
+            slot = self.slot
+            self.demand_room(1, 0)
+            old = self.takes[slot] if slot < len(self.takes) else Held(name, self.rate, np.empty((self.count, 0)))
+            self.seams = Seams(name, old, self.records[slot] if slot < len(self.takes) else {})
+            for rows, new in ((self.takes, self.seams.take), (self.records, self.seams.seams), (self.names, name)):
+                rows[slot : slot + 1] = [new]
+        return self.seams
+
+    def insert_seam(self, cut: int, seam: Seam, signs: np.ndarray) -> None:
+        """Inserts a seam after a cue, and appends its bits to the take of seams."""
+        self.insert(cut, self.slot, seam.first, seam.first + seam.length)
+        self.seams.add(seam, signs)
+
+    def seam_file(self) -> bytes:
+        """The file of the take of seams."""
+        roles = enumerate(self.roles())
+        held = [it for it, role in roles if role == "seam" and self.cues[it]["take"] == self.slot]
+        return self.seams.stored([self.record(it) for it in held])
 
     def insert(self, cut: int, take: int, start: int, stop: int) -> None:
         """Puts a cue behind another."""
-        if len(self.cues) == MOST_CUES:
-            raise Refused(f"the project has {MOST_CUES} cues, and there is no room for one more")
+        self.demand_room(0, 1)
         self.cues.insert(cut + 1, {"take": take, "start": start, "stop": stop})
         self.origins.insert(cut + 1, None)
 
@@ -206,8 +301,11 @@ class Project:
         """The text with what was changed, by tomlkit."""
         document = tomlkit.parse(self.source.text)
         takes, cues = document["splice"]["takes"], document["splice"]["cue"]
-        for name in self.names[len(takes) :]:
-            takes.append(name)
+        for number, name in enumerate(self.names):
+            if number == len(takes):
+                takes.append(name)
+            elif takes[number] != name:
+                takes[number] = name
         for number in sorted(set(range(len(cues))) - set(self.origins), reverse=True):
             hand_over(cues[number], cues[number - 1])
             del cues[number]

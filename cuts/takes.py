@@ -14,10 +14,11 @@ import dsdiffs  # noqa: E402
 from outputs import shown_name  # noqa: E402
 
 Unread = channels.Unread
+MOST_COMMENTS = 1 << 24  # bytes of a chunk of comments that is read
 
 
 def sound_of(file) -> channels.Sound:
-    """The sound of a file that dsdarc would read, as far as its heads tell."""
+    """The sound of a file that dsdarc would read, as far as its headers tell."""
     try:
         sound = channels.sound_of(file)
     except (struct.error, LookupError, ArithmeticError, ValueError, MemoryError, OSError):
@@ -32,26 +33,16 @@ def sound_of(file) -> channels.Sound:
     return sound
 
 
-class Take:
-    """A DSDIFF or DSF file that is open: its rate, number of channels (count) and bits of each channel."""
+class Signals:
+    """Bits of some channels: their rate, the number of channels (count) and of the bits of each."""
 
-    def __init__(self, path: str | Path):
-        self.name = str(path)
-        if not stat.S_ISREG(os.stat(path).st_mode):
-            raise Unread("it is no file")
-        self.file = open(path, "rb")
-        self.sound = sound_of(self.file)
-        self.rate, self.count, self.bits = self.sound.rate, self.sound.count, self.sound.bits
+    rate: int
+    count: int
+    bits: int
 
     def stored(self, first: int, stop: int) -> np.ndarray:
         """The bits of all channels from `first` to `stop` - 1, which lie inside: 0 and 1, a row for each channel."""
-        start = first // 8 * 8
-        try:
-            spans = channels.span(self.file, self.sound, start, stop)
-        except Unread as error:
-            raise Unread(f"{shown_name(self.name)}: {error}") from None
-        rows = [np.unpackbits(np.frombuffer(it, np.uint8))[first - start : stop - start] for it in spans]
-        return np.stack(rows)
+        raise NotImplementedError
 
     def signs(self, first: int, stop: int) -> np.ndarray:
         """The signals of all channels from `first` to `stop` - 1, which may lie outside."""
@@ -62,7 +53,69 @@ class Take:
         return found
 
 
-def dsdiff_of(rate: int, sounds: list[bytes]) -> bytes:
+class Take(Signals):
+    """A DSDIFF or DSF file that is open."""
+
+    def __init__(self, path: str | Path):
+        self.name = str(path)
+        if not stat.S_ISREG(os.stat(path).st_mode):
+            raise Unread("it is no file")
+        self.file = open(path, "rb")
+        self.sound = sound_of(self.file)
+        self.rate, self.count, self.bits = self.sound.rate, self.sound.count, self.sound.bits
+
+    def stored(self, first: int, stop: int) -> np.ndarray:
+        start = first // 8 * 8
+        try:
+            spans = channels.span(self.file, self.sound, start, stop)
+        except Unread as error:
+            raise Unread(f"{shown_name(self.name)}: {error}") from None
+        rows = [np.unpackbits(np.frombuffer(it, np.uint8))[first - start : stop - start] for it in spans]
+        return np.stack(rows)
+
+    def comments(self) -> list[bytes]:
+        """The comments of a DSDIFF file that lie after its sound, as far as they are whole."""
+        if self.sound.width is not None:
+            return []
+        self.file.seek(self.sound.stop + (self.sound.stop - self.sound.start) % 2)
+        while len(head := self.file.read(12)) == 12:
+            name, size = struct.unpack(">4sQ", head)
+            if size > MOST_COMMENTS:
+                return []
+            if name == b"COMT":
+                return dsdiffs.comment_texts(self.file.read(size))
+            self.file.seek(size + size % 2, os.SEEK_CUR)
+        return []
+
+
+class Held(Signals):
+    """A take in memory, of rows of 0 and 1."""
+
+    def __init__(self, name: str, rate: int, rows: np.ndarray):
+        self.name, self.rate, self.rows = name, rate, rows
+
+    @property
+    def count(self) -> int:
+        return len(self.rows)
+
+    @property
+    def bits(self) -> int:
+        return self.rows.shape[1]
+
+    def stored(self, first: int, stop: int) -> np.ndarray:
+        return self.rows[:, first:stop]
+
+    def add(self, rows: np.ndarray) -> None:
+        """Appends bits, and repeats the last ones up to a whole byte."""
+        spare = -(self.bits + rows.shape[1]) % 8
+        self.rows = np.concatenate([self.rows, np.pad(rows, ((0, 0), (0, spare)), mode="edge")], axis=1)
+
+    def dsdiff(self, comments: list[bytes]) -> bytes:
+        """The file, whose bits are whole bytes."""
+        return dsdiff_of(self.rate, [np.packbits(it).tobytes() for it in self.rows], dsdiffs.comments(comments))
+
+
+def dsdiff_of(rate: int, sounds: list[bytes], more: bytes = b"") -> bytes:
     """The DSDIFF file of channels that are given as their bytes, the earliest bit the most significant."""
     laced = np.stack([np.frombuffer(it, np.uint8) for it in sounds], axis=1).tobytes()
-    return dsdiffs.dsdiff(rate, len(sounds), laced)
+    return dsdiffs.dsdiff(rate, len(sounds), laced, more=more)

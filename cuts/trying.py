@@ -5,14 +5,15 @@ from pathlib import Path
 import numpy as np
 
 import clicks
-import fading
+import fades
 import material
 import placing
+import planned
 from hearing import PASSED, STOPPED, hearing_of
 from outputs import Refused
 from program import PROGRAM, must
 from projects import Project
-from takes import Take, dsdiff_of
+from takes import Signals, Take
 
 SECONDS = 0.4
 CUTS = 8  # in a master
@@ -22,15 +23,12 @@ REFERENCES = ("to 20 kHz", "to 26 kHz", "true")
 
 @dataclass(frozen=True)
 class Way:
-    """How the cuts of a master are made: with bridges of so many bits, moved within a time, with links or
-    without, or by fades of a time."""
+    """How the cuts of a master are made: with bridges of `bridge` bits, and then moved, faded or left as they are. The
+    take of seams gets its name when they are made."""
 
     bridge: int = 0
     weights: tuple[int, ...] = (1, 1)
-    within: float | None = None
-    shift: float = 50e-6
-    fade: float | None = None
-    linking: bool = True
+    wish: placing.Asked | fades.Asked | None = None
 
 
 @dataclass(frozen=True)
@@ -70,104 +68,54 @@ def loudest(levels: list[tuple[float, float]]) -> tuple[float, float]:
     return max(it[0] for it in levels), max(it[1] for it in levels)
 
 
-def measured(project: Project, master: Take, made: list[material.Made], predicted: dict[int, float]) -> list[Seen]:
-    """What each cut clicks."""
+def measured(project: Project, master: Signals, made: list[material.Made], predicted: list[float]) -> list[Seen]:
+    """What each cut clicks; what was made has to hold the takes' bits."""
     hearing = hearing_of(project.rate)
+    trues = [it.true for it in made]
     named = {
         "to 20 kHz": clicks.decoded(project, (PASSED, STOPPED)),
         "to 26 kHz": clicks.decoded(project),
-        "true": clicks.known([it.true for it in made]),
+        "true": clicks.known(trues),
     }
     found = []
-    for number, spot in enumerate(clicks.spots(project)):
+    for number, spot in enumerate(project.spots()):
         levels = {name: loudest(clicks.levels(hearing, project, master, spot, it)) for name, it in named.items()}
-        found.append(Seen(levels, predicted.get(number)))
+        found.append(Seen(levels, predicted[number] if predicted else None))
+        if not clicks.are_owned(project, spot):
+            raise Refused("a transition doesn't hold the takes' bits")
     if clicks.wrong_cue(project, master) is not None:
         raise Refused("a cue doesn't hold its take's bits")
     return found
 
 
-def tried(folder: Path, asked: material.Asked, made: list[material.Made], way: Way) -> list[Seen]:
+def moved(project: Project, program: Path, wish: placing.Asked | fades.Asked) -> list[float]:
+    """Makes all cuts, and returns how loudly each will click in its loudest channel."""
+    cuts = range(len(project.spots()))
+    for number in cuts:
+        if isinstance(wish, placing.Asked):
+            placing.place(project, number, wish)
+        else:
+            fades.fade(project, program, number, wish)
+    project.end_with_a_byte()
+    return [loudest(planned.Seen(project, it).clicks)[0] for it in cuts]
+
+
+def tried(folder: Path, program: Path, asked: material.Asked, made: list[material.Made], way: Way) -> list[Seen]:
     """Cuts a master of two takes that were made, and measures it."""
     path = folder / "project.toml"
     names = [str(it.path) for it in made]
     bits = made[0].true.shape[1]
     path.write_text(project_text(names, way, bits, asked.rate, asked.seed), encoding="utf-8")
-    project, predicted = Project(path), {}
-    if way.within is not None:
-        for number, _, found in placing.place(project, way.within, way.shift, way.linking):
-            if found is not None:
-                predicted[number] = found.loudest
-        project.end_with_a_byte()
+    predicted: list[float] = []
+    if way.wish is not None:
+        project, name = Project(path), str(folder / "project.seams.dff")
+        predicted = moved(project, program, replace(way.wish, take=name))
         path.write_text(project.text(), encoding="utf-8")
+        if project.seams:
+            Path(name).write_bytes(project.seam_file())
+    project = Project(path)
     master = cut_and_checked(path, "dsf" if project.length() % 8 else "dsdiff")
     return measured(project, Take(master), made, predicted)
-
-
-def true_fade(made: list[material.Made], takes: tuple[int, int], wish: fading.Wish, found: fading.Fade) -> np.ndarray:
-    """What a fade is of true signals."""
-    low, high = fading.parts(wish)
-    before, after = (made[it].true for it in takes)
-    stop, start = found.stop, found.start
-    return low * before[:, stop : stop + wish.length] + high * after[:, start - wish.length : start]
-
-
-def faded(folder: Path, program: Path, asked: material.Asked, made: list[material.Made], way: Way) -> list[list[Seen]]:
-    """Cuts a master of two takes with fades, and measures it: each fade's louder end, and each fade whole."""
-    path, take = folder / "project.toml", folder / "fades.dff"
-    bits = made[0].true.shape[1]
-    path.write_text(project_text([str(it.path) for it in made], way, bits, asked.rate, asked.seed), encoding="utf-8")
-    project, hearing = Project(path), hearing_of(asked.rate)
-    length = round(way.fade * asked.rate) // 2 * 2 + 1
-    number, rows = project.add_take(str(take)), {"signs": [], "sound": [], "true": []}
-    for cut in reversed(range(CUTS)):
-        cue, following = project.cues[cut], project.cues[cut + 1]
-        wish = fading.Wish(int(cue["stop"]), int(following["start"]), length, round(way.shift * asked.rate), False)
-        found = fading.fade(hearing, program, project.take(cut), project.take(cut + 1), wish, cut + 1)
-        true = true_fade(made, (int(cue["take"]), int(following["take"])), wish, found)
-        project.move(cut, found.stop, found.start)
-        first = sum(it.shape[1] for it in rows["signs"])
-        project.insert(cut, number, first, first + length)
-        for name, row in (("signs", found.signs), ("sound", found.sound), ("true", true)):
-            rows[name].append(fading.whole_bytes(row))
-    signs, sound, true = (np.concatenate(it, axis=1) for it in rows.values())
-    take.write_bytes(dsdiff_of(asked.rate, [np.packbits(it > 0).tobytes() for it in signs]))
-    project.end_with_a_byte()
-    path.write_text(project.text(), encoding="utf-8")
-    project = Project(path)
-    master = Take(cut_and_checked(path, "dsdiff"))
-    named = {
-        "to 26 kHz": clicks.with_fades(clicks.decoded(project), number, sound),
-        "true": clicks.known([*(it.true for it in made), true]),
-    }
-    return [ends_seen(project, master, named), wholes_seen(project, master, named, number)]
-
-
-def ends_seen(project: Project, master: Take, named: dict[str, clicks.Reference]) -> list[Seen]:
-    """The louder end of each fade."""
-    hearing, found = hearing_of(project.rate), []
-    spots = clicks.spots(project)
-    for ends in zip(spots[::2], spots[1::2]):
-        levels = {}
-        for name, it in named.items():
-            levels[name] = loudest([one for end in ends for one in clicks.levels(hearing, project, master, end, it)])
-        found.append(Seen(levels, None))
-    return found
-
-
-def wholes_seen(project: Project, master: Take, named: dict[str, clicks.Reference], take: int) -> list[Seen]:
-    """Each fade whole, from before its begin to behind its end; nothing A-weighted is told."""
-    hearing, found, place = hearing_of(project.rate), [], 0
-    for cue in project.cues:
-        stop = place + int(cue["stop"]) - int(cue["start"])
-        if cue["take"] == take:
-            ends = place - hearing.half, stop + hearing.half
-            levels = {
-                name: (max(clicks.stretch(hearing, project, master, it, *ends)), np.nan) for name, it in named.items()
-            }
-            found.append(Seen(levels, None))
-        place = stop
-    return found
 
 
 def over_seeds(
@@ -179,23 +127,7 @@ def over_seeds(
         one = replace(asked, seed=seed)
         made = material.make(folder, program, one)
         for sofar, way in zip(found, ways):
-            sofar += tried(folder, one, made, way)
+            sofar += tried(folder, program, one, made, way)
         for it in made:
             it.path.unlink()
     return found
-
-
-def fades_over_seeds(
-    folder: Path, program: Path, asked: material.Asked, way: Way, seeds: list[int]
-) -> tuple[list[Seen], list[Seen]]:
-    """The ends and the wholes of fades by several seeds."""
-    ends, wholes = [], []
-    for seed in seeds:
-        one = replace(asked, seed=seed)
-        made = material.make(folder, program, one)
-        some, whole = faded(folder, program, one, made, way)
-        ends += some
-        wholes += whole
-        for it in made:
-            it.path.unlink()
-    return ends, wholes

@@ -34,6 +34,26 @@ def mark(text):
     return chunk(b"DIIN", chunk(b"MARK", mark_data(text)))
 
 
+def comments(texts):
+    """A chunk of the form with general comments, whose time is the earliest."""
+    data = struct.pack(">H", len(texts))
+    for text in texts:
+        data += struct.pack(">HBBBBHHI", 0, 1, 1, 0, 0, 0, 0, len(text)) + text + b"\0" * (len(text) % 2)
+    return chunk(b"COMT", data)
+
+
+def comment_texts(data):
+    """The texts of the data of a chunk of comments, as far as they are whole."""
+    texts, at = [], 2
+    for _ in range(struct.unpack_from(">H", data)[0] if len(data) >= 2 else 0):
+        if at + 14 > len(data):
+            break
+        size = struct.unpack_from(">I", data, at + 10)[0]
+        texts.append(data[at + 14 : at + 14 + size])
+        at += 14 + size + size % 2
+    return texts
+
+
 def dsdiff(rate, channels, sound, compression=b"DSD ", ids=None, more=b"", kept=b""):
     """The file of a sound, the bytes of all channels in turn, with more chunks of the form behind it, and kept ones in
     its property."""

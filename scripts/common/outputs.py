@@ -214,6 +214,10 @@ class Outputs:
         self.files[made.name] = made
         made.begin()
 
+    def drop(self, name):
+        """Leaves out a file to which nothing is to be written; what stood there stays."""
+        self.files.pop(os.fspath(name)).clear()
+
     def folder(self, name):
         """Makes a folder where there is none; it goes again after a fault."""
         name = os.path.abspath(name)

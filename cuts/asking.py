@@ -1,0 +1,53 @@
+"""What the scripts that change projects are asked for, and what they do alike."""
+import argparse
+import os
+from pathlib import Path
+
+from outputs import Refused
+from projects import Project
+
+
+def usual(words: argparse.ArgumentParser) -> None:
+    """The words of both."""
+    words.add_argument("project", type=Path)
+    words.add_argument("-o", "--output", type=Path, required=True, metavar="NEW")
+    words.add_argument("--take", type=Path, metavar="FILE", help="the take of seams, DSDIFF (NEW.seams.dff)")
+    words.add_argument("--cut", type=int, nargs="+", metavar="N", help="these cuts alone, counted from 0")
+
+
+def parsed(words: argparse.ArgumentParser) -> argparse.Namespace:
+    """What is asked for, with the name of the take of seams."""
+    asked = words.parse_args()
+    asked.take = asked.take or Path(f"{os.path.splitext(asked.output)[0]}.seams.dff")
+    try:
+        str(asked.take).encode()
+    except UnicodeEncodeError:
+        raise Refused(f"--take: {ascii(str(asked.take))} is no text in UTF-8, so no project can name it") from None
+    return asked
+
+
+def cuts_of(project: Project, wished: list[int] | None, staying: set[str], what: str) -> list[int]:
+    """The cuts that are asked for. Those of some kinds stay: a line always, and what was made before unless it is
+    asked for by its number."""
+    spots = project.spots()
+    for it in wished or ():
+        if not 0 <= it < len(spots):
+            raise Refused(f"there is no cut {it}: the project has {len(spots)}, counted from 0")
+    found = []
+    for number in sorted(set(range(len(spots)) if wished is None else wished)):
+        role = spots[number].role
+        if role == "line" or wished is None and role in staying:
+            why = "its bridge goes in a line" if role == "line" else f"it has a {role}; --cut {number} makes it anew"
+            print(f"cut {number}: stays, as {why}")
+        else:
+            found.append(number)
+    if not found:
+        raise Refused(f"there is no cut to {what}")
+    return found
+
+
+def end_with_a_byte(project: Project) -> None:
+    """If the master was to be whole bytes long, it will be so again."""
+    spare = project.end_with_a_byte() if project.was_whole else 0
+    if spare:
+        print(f"the last cue ends {spare} bits earlier, so that DSDIFF files hold the master")

@@ -1,0 +1,153 @@
+"""The master of a project before it is cut: the bits that `edit` will put there, and what its cuts will click."""
+import sys
+from collections.abc import Iterable, Iterator
+
+import numpy as np
+
+import bridges
+import clicks
+from hearing import Hearing, decibels, hearing_of, lowpass
+from owing import GUESSED
+from projects import Project, Spot
+from takes import Signals
+
+
+class Planned(Signals):
+    """The master as the project is now. The bits of a bridge that goes in a line aren't known: there is 0."""
+
+    def __init__(self, project: Project):
+        self.project = project
+        self.rate, self.count, self.bits = project.rate, project.count, project.length()
+
+    def signs(self, first: int, stop: int) -> np.ndarray:
+        found, place = np.zeros((self.count, stop - first)), 0
+        for number, cue in enumerate(self.project.cues):
+            length = cue["stop"] - cue["start"]
+            low, high = max(place, first), min(place + length, stop)
+            if low < high:
+                offset = cue["start"] - place
+                found[:, low - first : high - first] = self.project.take(number).signs(low + offset, high + offset)
+            place += length + self.project.bridge(number)
+        for spot in self.project.spots():
+            low, high = max(spot.place, first), min(spot.place + spot.length, stop)
+            if spot.role == "bridge" and low < high:
+                found[:, low - first : high - first] = self.bridge(spot)[:, low - spot.place : high - spot.place]
+        return found
+
+    def bridge(self, spot: Spot) -> np.ndarray:
+        """The signs of a bridge that fades."""
+        project, more = self.project, self.project.shortest
+        stop, start = project.cues[spot.before]["stop"], project.cues[spot.after]["start"]
+        before = project.take(spot.before).signs(stop - more, stop + spot.length)
+        after = project.take(spot.after).signs(start - spot.length - more, start + more)
+        return bridges.least(project.weights, before, after, spot.length)
+
+
+def errors(hearing: Hearing, project: Project, spot: Spot) -> np.ndarray:
+    """What the master will be more than it should be around a cut, without bridges that go in a line."""
+    found = clicks.errors(hearing, project, Planned(project), spot, clicks.decoded(project))
+    first = spot.place + spot.length // 2 - found.shape[1] // 2
+    for other in project.spots():
+        if other.role == "line":
+            found[:, max(other.place - first, 0) : max(other.place + other.length - first, 0)] = 0
+    return found
+
+
+def steps(project: Project, spot: Spot) -> list[float]:
+    """How far the sound of what follows is from that before, where it changes: in dB to full scale, in each channel."""
+    seam, reference = project.record(spot.before + 1) if spot.role == "seam" else None, clicks.decoded(project)
+    middles, found = seam.middles if seam else [spot.length // 2] * project.count, []
+    for channel, middle in enumerate(middles):
+        place = spot.place + int(middle)
+        before, after = clicks.around(project, reference, spot, place, place + 1)
+        found.append(decibels(abs(float(after[channel, 0] - before[channel, 0]))))
+    return found
+
+
+class Seen:
+    """A cut as the project has it now: what it will click in each channel, as cuts/measure finds it (peak and
+    A-weighted energy in dB), and the steps of the sound."""
+
+    def __init__(self, project: Project, number: int):
+        spot, hearing = project.spots()[number], hearing_of(project.rate)
+        self.spot, self.rate = spot, project.rate
+        self.seam = project.record(spot.before + 1) if spot.role == "seam" else None
+        self.stop, self.start = project.cues[spot.before]["stop"], project.cues[spot.after]["start"]
+        self.clicks = [hearing.levels(it, spot.length // 2) for it in errors(hearing, project, spot)]
+        self.steps = steps(project, spot)
+
+    @property
+    def is_faded(self) -> bool:
+        """Whether its sound changes so slowly that there is no step."""
+        is_fade = self.seam is not None and self.seam.kind == "fade"
+        return is_fade or self.spot.role in ("bridge", "line")
+
+    @property
+    def length(self) -> int:
+        return self.spot.length
+
+    def channel(self, channel: int) -> str:
+        """Where a channel of a seam changes."""
+        if self.seam is None:
+            return ""
+        place = f" at {(self.seam.middles[channel] - self.seam.before) / self.rate * 1e6:+.1f} us"
+        return place + (f", link of {self.seam.links[channel][2]} bits," if self.seam.links else "")
+
+
+def named(seen: Seen) -> str:
+    """What a cut is."""
+    if seen.seam:
+        return f"{seen.seam.kind} of {seen.length} bits"
+    return {"plain": "cut plain", "link": f"link of {seen.length} bits"}.get(seen.spot.role, f"bridge of {seen.length}")
+
+
+def told(number: int, old: Seen, new: Seen, more: list[str] | None = None) -> str:
+    """The line of a cut that was changed; `more` is what else there is to say of each channel."""
+    late = ((new.stop + new.length - old.stop - old.length) - (new.start - old.start)) / new.rate * 1e6
+    places = f"stop {old.stop} to {new.stop}, start {old.start} to {new.start}, {late + 0.0:+.1f} us"
+    parts = [f"cut {number}: {named(new)}, {places}"]
+    for channel, (before, after) in enumerate(zip(old.clicks, new.clicks)):
+        step = f"{old.steps[channel]:.1f} dB" + (" faded" if new.is_faded else f" to {new.steps[channel]:.1f}")
+        peak = f"peak {before[0]:.1f} to {after[0]:.1f} dB, A {before[1]:.1f} to {after[1]:.1f}"
+        parts.append(f"channel {channel}{new.channel(channel)} {peak}, step {step}" + (more[channel] if more else ""))
+    return "; ".join(parts)
+
+
+def ends(project: Project, spot: Spot) -> tuple[int, int]:
+    """From where the sound of the second take counts in a cut, and up to where that of the first does."""
+    if spot.role != "seam":
+        return 0, spot.length
+    seam = project.record(spot.before + 1)
+    return int(min(seam.middles) - seam.ramp / 2), int(max(seam.middles) + seam.ramp / 2)
+
+
+def warn(project: Project, number: int) -> None:
+    """Prints a warning if it can't be known how loudly a cut clicks: near the end of a take, whose sound is estimated
+    from both sides, and near a line."""
+    spots = project.spots()
+    spot, known = spots[number], len(lowpass(project.rate, *GUESSED)) // 2
+    first, last = ends(project, spot)
+    after = project.take(spot.before).bits - project.cues[spot.before]["stop"] - last
+    before = project.cues[spot.after]["start"] - spot.length + first
+    name = f"{sys.argv[0].rpartition('/')[2]}: cut {number}"
+    for take, bits, end in ((spot.before, after, "end"), (spot.after, before, "start")):
+        if bits < known:
+            where = f"the {end} of take {project.cues[take]['take']}, where its sound isn't known"
+            print(f"{name}: it lies {max(bits, 0)} bits from {where}: it may click louder", file=sys.stderr)
+    reach = 2 * hearing_of(project.rate).half  # a cut is measured to half of it, and there the rest is heard
+    for other in spots:
+        is_near = other.place - reach < spot.place + spot.length and spot.place - reach < other.place + other.length
+        if other.role == "line" and is_near:
+            print(f"{name}: what the bits of a line near it add isn't counted", file=sys.stderr)
+
+
+def settled(project: Project, numbers: Iterable[int]) -> Iterator[int]:
+    """Passes on the numbers of cuts that are made in their order, each once no later one can add to what it clicks."""
+    waiting: list[int] = []
+    reach = hearing_of(project.rate).size
+    for number in numbers:
+        waiting.append(number)
+        spots = project.spots()
+        while spots[waiting[0]].place + spots[waiting[0]].length + reach < spots[number].place:
+            yield waiting.pop(0)
+    yield from waiting

@@ -1,0 +1,119 @@
+"""Seams: bits between two cues in which the sound goes over from one take to the other.
+
+All seams of a project lie in one take, the take of seams, and each is a cue of it. What a seam is, that take says in a
+comment (the chunk COMT of DSDIFF), a TOML text: a project has no keys for it. `kinds` are
+
+    fade        new bits, in which the sound is faded from the one take to the other
+    butt        new bits, in whose midst the sound changes
+    transition  in each channel bits of the first take, a link, and bits of the second
+
+A comment that can't be read is none, and a cue that isn't just what a comment says is a usual one."""
+import tomllib
+from dataclasses import asdict, dataclass, field
+
+import numpy as np
+import tomlkit
+
+from crossfades import Crossfade
+from takes import Held, Signals, Take
+
+HEAD = b"# What the cues of this take are, for dsdarc's cuts/\n"
+KINDS = ("fade", "butt", "transition")
+
+
+@dataclass(frozen=True)
+class Seam:
+    """The bits of the take of seams from `first` on. The wished place of the cut is `before` bits after the end of the
+    cue before, and `after` bits before the start of the cue after. `middles` are counted from the first bit. A
+    transition has a link around the middle of each channel: of the take before or after (0 or 1), its first bit there
+    and its length."""
+
+    first: int
+    length: int
+    kind: str
+    before: int
+    after: int
+    ramp: float
+    power: bool
+    middles: list[float]
+    links: list[list[int]] = field(default_factory=list)
+
+    @property
+    def ends(self) -> tuple[int, int]:
+        """Its first bit in the take of seams, and the place after its last."""
+        return self.first, self.first + self.length
+
+    @property
+    def crossfade(self) -> Crossfade:
+        return Crossfade(self.ramp, self.power, self.middles)
+
+    @property
+    def is_owned(self) -> bool:
+        """Whether its bits are those of the takes around it."""
+        return self.kind == "transition"
+
+
+def text_of(seams: list[Seam]) -> bytes:
+    """The comment about seams."""
+    return HEAD + tomlkit.dumps({"seam": [asdict(it) for it in seams]}).encode()
+
+
+def are_numbers(values: object, kinds: tuple[type, ...]) -> bool:
+    return isinstance(values, list) and all(type(it) in kinds for it in values)
+
+
+def is_seam(row: object, count: int) -> bool:
+    """Whether a row of a comment is a seam of `count` channels."""
+    if not isinstance(row, dict) or set(row) != set(Seam.__dataclass_fields__):
+        return False
+    wholes = [row[it] for it in ("first", "length", "before", "after")]
+    links = row["links"]
+    is_transition = row["kind"] == "transition"
+    return (
+        are_numbers(wholes, (int,))
+        and all(0 <= it < 1 << 40 for it in wholes)
+        and row["kind"] in KINDS
+        and type(row["ramp"]) in (int, float)
+        and 0 <= row["ramp"] < 1 << 40
+        and type(row["power"]) is bool
+        and are_numbers(row["middles"], (int, float))
+        and len(row["middles"]) == count
+        and all(0 <= it <= row["length"] for it in row["middles"])
+        and isinstance(links, list)
+        and len(links) == (count if is_transition else 0)
+        and all(is_link(it) for it in links)
+    )
+
+
+def is_link(values: object) -> bool:
+    return are_numbers(values, (int,)) and len(values) == 3 and values[0] in (0, 1) and min(values) >= 0
+
+
+def seams_of(take: Signals) -> dict[tuple[int, int], Seam]:
+    """The seams of a take by their ends; none of one that isn't a take of seams."""
+    found: list[Seam] = []
+    for comment in take.comments() if isinstance(take, Take) else ():
+        if comment.startswith(HEAD):
+            try:
+                rows = tomllib.loads(comment.decode()).get("seam", [])
+            except (ValueError, RecursionError):
+                continue
+            found += [Seam(**it) for it in rows if is_seam(it, take.count)] if isinstance(rows, list) else []
+    return {it.ends: it for it in reversed(found)}
+
+
+class Seams:
+    """The take of seams as it is made: the seams that a project has, and those that are added."""
+
+    def __init__(self, name: str, old: Signals, seams: dict[tuple[int, int], Seam]):
+        self.take = Held(name, old.rate, old.stored(0, old.bits).astype(np.uint8))
+        self.seams = dict(seams)
+
+    def add(self, seam: Seam, signs: np.ndarray) -> None:
+        """Adds a seam, whose first bit is the next one of the take."""
+        self.take.add((signs > 0).astype(np.uint8))
+        self.seams[seam.ends] = seam
+
+    def stored(self, used: list[Seam]) -> bytes:
+        """The file, which says what these seams are."""
+        return self.take.dsdiff([text_of(used)])

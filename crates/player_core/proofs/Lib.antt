@@ -10,3 +10,10 @@ pub mod FinishLoop
 pub mod SampleLaws
 pub mod FrontLaws
 pub mod SoundLaws
+pub mod PieceLaws
+pub mod PlayLaws
+pub mod PlaceLaws
+pub mod PaceLaws
+pub mod FaultLaws
+pub mod WaveLaws
+pub mod SinkLaws

@@ -4,3 +4,8 @@ pub mod Samples
 pub mod Due
 pub mod PlayerView
 pub mod Laws
+pub mod Wave
+pub mod Pieces
+pub mod Playing
+pub mod Pace
+pub mod Sinks

@@ -1,8 +1,13 @@
-//! From sound to the frames of a WAVE file.
+//! From sound to the frames of a RIFF WAVE file, in memory or from a reader to a writer.
 //!
-//! [`wave_spec`] is what the file tells. [`wave_of`] makes the file of a recording, tile by tile. A [`Player`] takes the bytes of a sound piece by
-//! piece, as they stand in a DSDIFF 1.5 or DSF 1.01 file, and gives the bytes of each frame once its place has
-//! come: of the sound it holds a part of one group of blocks, and what each channel's filter still reads.
+//! [`wave_spec`] is what the file tells. [`wave_of`] makes the file of a recording, tile by tile. A [`Player`] takes the
+//! bytes of a sound piece by piece, as they stand in a DSDIFF 1.5 or DSF 1.01 file, and gives the bytes of each frame once
+//! its place has come: of the sound it holds a part of one group of blocks, and what each channel's filter still reads.
+//!
+//! [`play`] reads a file part by part and writes its WAVE file. `sound_core` reads the file, and a sink takes its sound
+//! from there (`sink.rt`): it writes the frames piece by piece (`pieces.rt`), and what stands around them (`wave.rt`). It
+//! holds at most one block of 65,536 bytes of the sound, what a player holds, what stands before the sound, and what a
+//! DSDIFF form has behind it, or the tag of a DSF file.
 //!
 //! The words of the contracts:
 //!
@@ -16,10 +21,17 @@
 //!   `FinishesPlayer` what is left (`specs/PlayerView.antt`).
 //! - `file_around d s bytes` is a header, these bytes and a pad, `IsPlayed` what is played of a recording in a file
 //!   (`specs/Laws.antt`).
+//! - `PlaysBy d file bytes` says that these bytes are the WAVE text of the file's recording by this decimator,
+//!   `Stands d file fault` that a fault stands (`specs/Playing.antt`).
+//! - `KeepsUp left d front given old new` says that what was written lags behind what was given by at most 131,072
+//!   bytes of the sound (`specs/Pace.antt`).
+//! - `IsPlaying held first now s bytes` says what the sink has written after these bytes of a sound (`specs/Sinks.antt`).
 //!
 //! What it promises: whatever bytes a player was fed before, what [`Player::feed`] appends makes of the bytes
 //! that were due those that are due now, and what [`Player::finish`] appends makes of them those of all frames.
-//! So the pieces' sizes change nothing.
+//! So the pieces' sizes change nothing. Of [`play`], Ok means that exactly the bytes that the reader's file plays were
+//! written, however its reads are cut; a fault stands that is named; and a file that is played is refused only for memory,
+//! a device or the number of reads, after a front of its WAVE file, which keeps up with the reading where that stops.
 //!
 //! Laws for whoever writes the file in parts: [`sound_is_played`], the WAVE text of a recording in a file is the header,
 //! the bytes of all frames of its sound, and the pad; [`frames_fill_the_data`] and [`file_has_its_size`], their numbers;
@@ -31,13 +43,21 @@
 //! player.feed(&bytes[..100], &mut out)?;     // the frames that are due after 100 bytes
 //! player.feed(&bytes[100..], &mut out)?;     // those that are due after all
 //! player.finish(&mut out)?;                  // the rest
+//!
+//! let mut inlet = Inlet::new(file);
+//! let mut outlet = Outlet::new(wave);
+//! let count = play(alloc, &taps, &mut inlet, &mut outlet)?;    // so many bytes were written
 //! ```
 #![tactic(auto)]
 
 mod groups;
 mod laws;
+mod pieces;
 mod player;
+mod playing;
+mod sink;
 mod spec;
+mod wave;
 mod wave_file;
 
 pub use laws::{
@@ -45,5 +65,6 @@ pub use laws::{
     sound_is_played,
 };
 pub use player::Player;
+pub use playing::play;
 pub use spec::wave_spec;
 pub use wave_file::wave_of;

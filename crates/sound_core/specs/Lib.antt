@@ -8,3 +8,5 @@ pub mod Stretches
 pub mod Keepers
 pub mod Keeping
 pub mod Laws
+pub mod Comparing
+pub mod Relays

@@ -9,6 +9,11 @@
 //! the bits of each channel in the ranges that it is given, by a sink (`keeper.rt`); the sink of [`read_outline`] keeps
 //! nothing (`nothing.rt`).
 //!
+//! [`relay`] reads a file whose outline is known once more, and hands its sound on in another interleaving
+//! (`relaying.rt`): it writes a head, then the sound, then a tail. Of the sound it holds whole groups of the channels'
+//! blocks, at most 65,536 bytes, and what is made of them. A file that isn't a sound in that outline is refused
+//! (`comparing.rt`); which bytes its sound has isn't compared with anything.
+//!
 //! A reader has the inlet, a block to read into, the limit of its reads and what was read ahead (`reader.rt`). It is led up
 //! to the sound (`front.rt`), and then behind it (`outline.rt`). A sink that writes does so by [`put`].
 //!
@@ -28,15 +33,24 @@
 //! - `KeepsFile left around ranges kept` says that a reader's file is some sound in these surroundings, and which stretches
 //!   of its channels were kept (`specs/Keeping.antt`).
 //!
+//! - `relayed target outline sound` are the bytes that are written of a sound: head, sound, tail. `Relays left target
+//!   outline old new` says that the reader's file is some sound in the outline, and that what was written is made of that
+//!   sound; `RelaysFront left target outline old new fault` that a prefix of it was written, if the file is one, and after
+//!   a failed write not all of it (`specs/Relays.antt`).
+//!
 //! What it promises: Ok means that the reader's file is some sound in the outline, however its reads are cut, and that
 //! every such file holds what the outline tells; a file that is refused holds no recording.
 //!
 //! ```text
 //! let mut inlet = Inlet::new(file);
 //! let outline = read_outline(alloc, &mut inlet)?;    // what the file holds beside the bits of its sound
+//!
+//! let target = Target { interleaving: Interleaving::Bytes, head: &head, tail: &tail };
+//! relay(alloc, &outline, &target, &mut again, &mut outlet)?;    // the same sound, interleaved by bytes
 //! ```
 #![tactic(auto)]
 
+mod comparing;
 mod fault;
 mod front;
 mod keeper;
@@ -46,6 +60,7 @@ mod nothing;
 mod outline;
 mod part;
 mod reader;
+mod relaying;
 mod sink;
 mod taking;
 mod writing;
@@ -56,6 +71,7 @@ pub use keeping::{Kept, read_stretches};
 pub use laws::accepted_files_tell_one_sound;
 pub use outline::{Outline, read_outline};
 pub use part::SoundPart;
+pub use relaying::{Target, relay};
 pub use sink::SoundSink;
 pub use taking::read_into;
 pub use writing::put;

@@ -2,7 +2,7 @@
 use Rattle.std.proofs.Common.{◌≡◌, ℕ, inl, inr, Bool, List, [], ◌++◌, IsTrue, Option, None, Some, Result, Ok, Err, false, length, true, refl, subst, ap, ◌∙◌}
 use Rattle.transfer_core.specs.Playing.{Plays}
 use Rattle.transfer_core.specs.declared.fault.Fault as calls
-use Rattle.stream_core.specs.Playing.{PlaysFile, WritesFront}
+use Rattle.player_core.specs.Playing.{PlaysFile, WritesFront}
 use Rattle.transfer_core.specs.Streaming.{IsBeforeWriting, OnlyFromOutside, StreamStands}
 use Rattle.chunk_core.specs.Outlets.{AppendsFront}
 use Rattle.folder_core.specs.Files.{IsGiven, IsGivenUp, IsReadOf, KeepsOthers, View}

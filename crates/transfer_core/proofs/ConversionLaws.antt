@@ -19,9 +19,9 @@ use Rattle.relace_core.proofs.TakenLaws.{unlaced_count}
 use Rattle.sound_core.specs.declared.fault.StreamFault.{StreamFault}
 use Rattle.sound_core.specs.declared.fault.StreamFault.TheVariants as faults
 use Rattle.sound_core.specs.Outlines.{AreTold, HoldsIn, StandsIn, Surroundings, with_sound}
-use Rattle.stream_core.proofs.PieceLaws.{front_nil}
-use Rattle.relay_core.specs.declared.relaying.Target.{Target}
-use Rattle.relay_core.specs.Relays.{IsRelayFault, Relays, RelaysFront, RelaysGiven, relayed}
+use Rattle.player_core.proofs.PieceLaws.{front_nil}
+use Rattle.sound_core.specs.declared.relaying.Target.{Target}
+use Rattle.sound_core.specs.Relays.{IsRelayFault, Relays, RelaysFront, RelaysGiven, relayed}
 use Rattle.form_core.specs.declared.fault.ReadFault.{ReadFault}
 use Rattle.form_core.specs.declared.form.Form.{Form}
 use Rattle.form_core.specs.declared.form.Form.TheVariants as forms

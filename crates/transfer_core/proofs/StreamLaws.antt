@@ -7,11 +7,11 @@ use Rattle.dsd_bits.specs.Contents.{Content}
 use Rattle.fir_core.specs.Decimator.{Decimator}
 use Rattle.sound_core.specs.Faults as reading
 use Rattle.sound_core.specs.Files.{HoldsRecording}
-use Rattle.stream_core.specs.Pace as pace
+use Rattle.player_core.specs.Pace as pace
 use Rattle.sound_core.specs.Sinks.{sound_given}
-use Rattle.stream_core.specs.Pace.{WritesFrames}
-use Rattle.stream_core.specs.Playing as streams
-use Rattle.stream_core.specs.Playing.{PlaysBy, PlaysFile, PlaysGiven, WritesFront}
+use Rattle.player_core.specs.Pace.{WritesFrames}
+use Rattle.player_core.specs.Playing as streams
+use Rattle.player_core.specs.Playing.{PlaysBy, PlaysFile, PlaysGiven, WritesFront}
 use Rattle.sound_core.specs.declared.fault.StreamFault.{StreamFault}
 use Rattle.sound_core.specs.declared.fault.StreamFault.TheVariants as faults
 use Rattle.form_core.specs.declared.form.Form.{Form}

@@ -7,7 +7,7 @@ use Rattle.sound_core.specs.Outlines.{AreAround, Surroundings}
 use Rattle.sound_core.specs.Reads.{ReadsCapped}
 use Rattle.form_core.specs.declared.form.Form.{Form}
 use Rattle.form_core.specs.Parts.{FitsIn}
-use Rattle.relay_core.specs.Relays.{IsRelayFault}
+use Rattle.sound_core.specs.Relays.{IsRelayFault}
 use Rattle.transfer_core.specs.declared.fault.Fault.{Fault}
 use Rattle.transfer_core.specs.declared.fault.Fault.TheVariants.{NotWholeBytes}
 use Rattle.transfer_core.specs.Converting.{Converts}

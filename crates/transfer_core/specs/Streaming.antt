@@ -6,8 +6,8 @@ use Rattle.form_core.specs.Steps.{Fails}
 use Rattle.sound_core.specs.Faults as streams
 use Rattle.sound_core.specs.Files.{TellsSound}
 use Rattle.sound_core.specs.Sinks.{sound_given}
-use Rattle.stream_core.specs.Pace.{WritesFrames}
-use Rattle.stream_core.specs.Playing.{Stands}
+use Rattle.player_core.specs.Pace.{WritesFrames}
+use Rattle.player_core.specs.Playing.{Stands}
 use Rattle.transfer_core.specs.declared.fault.Fault.{Fault}
 use Rattle.transfer_core.specs.declared.fault.Fault.TheVariants.{Project, NoDecimation, Memory}
 use Rattle.transfer_core.specs.Faults.{OfStream}

@@ -14,8 +14,7 @@ ghost use Rattle.transfer_core.specs.Faults.{as_stream};
 use crate::fault::Fault;
 use chunk_core::{Inlet, Outlet};
 use form_core::{Form, dropped_in, ends_in, interleaving_in, read_any, write_in, written_in_parts};
-use relay_core::{Target, relay};
-use sound_core::Outline;
+use sound_core::{Outline, Target, relay};
 use std::alloc::Global;
 use std::io::{Read, Write};
 

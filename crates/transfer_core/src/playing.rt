@@ -8,7 +8,7 @@ ghost use Rattle.transfer_core.specs.Faults.{OfStream, as_stream};
 ghost use Rattle.transfer_core.specs.Playing.{Plays, played_of};
 ghost use Rattle.form_core.specs.Steps.{Gives};
 ghost use Rattle.transfer_core.specs.Streaming.{IsBeforeWriting, KeepsUp, OnlyFromOutside, SaysNone, StreamStands};
-ghost use Rattle.stream_core.specs.Playing.{PlaysFile, PlaysGiven, WritesFront};
+ghost use Rattle.player_core.specs.Playing.{PlaysFile, PlaysGiven, WritesFront};
 
 use crate::fault::Fault;
 use crate::projects::decimator_of;
@@ -100,5 +100,5 @@ pub fn play_stream<R: Read, W: Write>(
 {
     accepted_files_tell_one_sound();
     let taps = decimator_of(alloc, project)?;
-    Ok(stream_core::play(alloc, &taps, inlet, outlet)?)
+    Ok(player_core::play(alloc, &taps, inlet, outlet)?)
 }

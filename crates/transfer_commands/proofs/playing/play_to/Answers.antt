@@ -3,7 +3,7 @@ use Rattle.std.specs.Prelude.{is_ok}
 use Rattle.folder_core.specs.Files.{IsGivenUp}
 use Rattle.folder_core.proofs.FileLaws.{given_up, not_kept}
 use Rattle.transfer_core.specs.Playing.{Plays}
-use Rattle.stream_core.specs.Playing.{PlaysFile, PlaysGiven, WritesFront}
+use Rattle.player_core.specs.Playing.{PlaysFile, PlaysGiven, WritesFront}
 use Rattle.transfer_core.specs.Streaming.{IsBeforeWriting, OnlyFromOutside, StreamStands}
 use Rattle.chunk_core.specs.Inlets.{inlet_reader}
 use Rattle.chunk_core.specs.Outlets.{outlet_writer}

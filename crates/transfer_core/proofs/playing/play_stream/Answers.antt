@@ -2,7 +2,7 @@ use Rattle.std.proofs.Common.{add-zero, arith, inl, refl, sym}
 use Rattle.chunk_core.specs.Inlets.{inlet_reader}
 use Rattle.chunk_core.specs.Outlets.{outlet_writer}
 use Rattle.sound_core.specs.Faults.{StopsReading}
-use Rattle.stream_core.proofs.PlayLaws.{none_front}
+use Rattle.player_core.proofs.PlayLaws.{none_front}
 use Rattle.transfer_core.specs.Playing.{Plays}
 use Rattle.transfer_core.proofs.StreamLaws.{answered, before_writing, fault_is, keeps_up, of_stream, only_outside, plays_file, plays_given, project_keeps_up, project_outside, project_stream, project_turns, same_stream, stands, stream_turns, writes_front}
 use Rattle.transfer_core.proofs.playing.play_stream.Goals as goal

@@ -1,0 +1,88 @@
+//! The way of a file's bytes, from a reader to the frames at a writer.
+
+ghost use Rattle.std.specs.Prelude.{◌≡◌, ◌+◌, ◌-◌, ◌<◌, ◌≤◌, ◌^◌, [], IfErr, IfOk, IfSome, IsErrOf, OnErr, OnOk};
+ghost use Rattle.chunk_core.specs.Inlets.{inlet_failures, inlet_given, inlet_reader, inlet_reads};
+ghost use Rattle.chunk_core.specs.Outlets.{outlet_failures, outlet_writer};
+ghost use Rattle.sound_core.specs.Faults.{IsBeforeWriting, StopsReading, failed_reads, failed_writes};
+ghost use Rattle.player_core.specs.Pace.{KeepsUp, PlayFails};
+ghost use Rattle.player_core.specs.Playing.{OnlyFromOutside, PlaysBy, PlaysFile, PlaysGiven, Stands, WritesFront};
+
+use crate::laws::sound_is_played;
+use crate::sink::{PlayingSink, finish};
+use crate::wave::file_size;
+use chunk_core::{Inlet, Outlet};
+use fir_core::Taps;
+use sound_core::{StreamFault, read_into};
+use std::alloc::Global;
+use std::io::{Read, Write};
+
+/// Plays a reader's file to a writer: the number of bytes of the WAVE file that was written.
+pub fn play<R: Read, W: Write>(
+    alloc: Global,
+    taps: &Taps,
+    inlet: &mut Inlet<R>,
+    outlet: &mut Outlet<W>,
+) -> Result<u64, StreamFault>
+    requires inlet_ready { inlet_failures inlet.old < 2 ^ 64 - 1 }
+    requires outlet_ready { outlet_failures outlet.old < 2 ^ 64 - 1 }
+    requires reads_low { inlet_reads inlet.old < 2 ^ 63 }
+    requires given_low { inlet_given inlet.old < 2 ^ 63 }
+    // What the reader's file plays was written, however its reads are cut.
+    ensures ok { IfOk result (PlaysFile (R.remaining (inlet_reader inlet.old)) (PlaysBy taps.now)
+        (W.contents (outlet_writer outlet.old)) (W.contents (outlet_writer outlet.new))) }
+    // The same of what was read, where the reader doesn't tell its bytes.
+    ensures any_reader { IfOk result (PlaysGiven R.remaining inlet.old inlet.new (PlaysBy taps.now)
+        (W.contents (outlet_writer outlet.old)) (W.contents (outlet_writer outlet.new))) }
+    // A fault of the file stands; what is played is refused from outside alone, and a front of it was written.
+    ensures fault { IfErr result (λ f. IfSome (R.remaining (inlet_reader inlet.old)) (λ file. Stands taps.now file f)) }
+    ensures cause { IfErr result (OnlyFromOutside (R.remaining (inlet_reader inlet.old)) taps.now) }
+    // Of a sound that isn't played nothing is written.
+    ensures unwritten { IfErr result (λ f. IsBeforeWriting f → outlet_writer outlet.new ≡ outlet_writer outlet.old) }
+    ensures front { OnErr result (WritesFront (R.remaining (inlet_reader inlet.old)) (PlaysBy taps.now)
+        (W.contents (outlet_writer outlet.old)) (W.contents (outlet_writer outlet.new))) }
+    // Where the reading stops, what was written lags behind by at most 131,072 bytes of the one sound that the
+    // file tells of.
+    ensures keeps_up { IfErr result (λ f. StopsReading f
+        → KeepsUp (R.remaining (inlet_reader inlet.old)) taps.now [] (inlet_given inlet.new - inlet_given inlet.old)
+        (W.contents (outlet_writer outlet.old)) (W.contents (outlet_writer outlet.new))) }
+    ensures read_failed { inlet_failures inlet.new ≡ inlet_failures inlet.old + failed_reads result }
+    ensures write_failed { outlet_failures outlet.new ≡ outlet_failures outlet.old + failed_writes result }
+    // Whatever is answered, there were at most 2^40 reads.
+    ensures reads { inlet_reads inlet.new ≤ inlet_reads inlet.old + 2 ^ 40 }
+    ensures turn_limit { IsErrOf result StreamFault.TurnLimit → inlet_reads inlet.new ≡ inlet_reads inlet.old + 2 ^ 40 }
+{
+    sound_is_played();
+    let mut player = None;
+    let mut out = Vec::new(alloc);
+    let mut sink = PlayingSink::new(taps, outlet, &mut player, &mut out);
+    play_file(alloc, inlet, &mut sink)
+}
+
+// Plays a reader's file by a sink that didn't begin.
+fn play_file<R: Read, W: Write>(
+    alloc: Global,
+    inlet: &mut Inlet<R>,
+    sink: &mut PlayingSink<'_, '_, W>,
+) -> Result<u64, StreamFault>
+    requires inlet_ready { inlet_failures inlet.old < 2 ^ 64 - 1 }
+    requires outlet_ready { outlet_failures sink.old.outlet.now < 2 ^ 64 - 1 }
+    requires reads_low { inlet_reads inlet.old < 2 ^ 63 }
+    requires given_low { inlet_given inlet.old < 2 ^ 63 }
+    ensures same { sink.new.outlet.ghost_name ≡ sink.old.outlet.ghost_name }
+    ensures ok { IfOk result (PlaysFile (R.remaining (inlet_reader inlet.old)) (PlaysBy sink.old.taps.now)
+        (W.contents (outlet_writer sink.old.outlet.now)) (W.contents (outlet_writer sink.new.outlet.now))) }
+    ensures any_reader { IfOk result (PlaysGiven R.remaining inlet.old inlet.new (PlaysBy sink.old.taps.now)
+        (W.contents (outlet_writer sink.old.outlet.now)) (W.contents (outlet_writer sink.new.outlet.now))) }
+    ensures failures { OnOk result (outlet_failures sink.new.outlet.now ≡ outlet_failures sink.old.outlet.now) }
+    ensures fault { IfErr result (PlayFails W.contents (R.remaining (inlet_reader inlet.old)) sink.old.taps.now
+        (inlet_given inlet.new - inlet_given inlet.old) sink.old.outlet.now sink.new.outlet.now) }
+    ensures read_failed { inlet_failures inlet.new ≡ inlet_failures inlet.old + failed_reads result }
+    ensures reads { inlet_reads inlet.new ≤ inlet_reads inlet.old + 2 ^ 40 }
+    ensures turn_limit { IsErrOf result StreamFault.TurnLimit → inlet_reads inlet.new ≡ inlet_reads inlet.old + 2 ^ 40 }
+{
+    sound_is_played();
+    let outline = read_into(alloc, inlet, sink)?;
+    let size = file_size(sink.taps, &outline.sound);
+    finish(sink, &outline.sound)?;
+    Ok(size)
+}

@@ -1,2 +1,0 @@
-pub mod ComparingLaws
-pub mod RelayLaws

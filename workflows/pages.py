@@ -114,9 +114,9 @@ def figure_cells(figures):
         silence.shown = "{:.2f} + {:.2f} s".format(*figures["silence"])
     return [
         Cell(f"{figures['rate']}/{figures['width']}", "n", {"v": figures["rate"]}),
-        number(figures["peak"], "{:.1f}", " dB"),
+        number(figures["peak"], "{:z.1f}", " dB"),
         number(figures["clipped"]),
-        number(figures["offset"], "{:.0f}", " dB"),
+        number(figures["offset"], "{:z.0f}", " dB"),
         silence,
         level_cell(figures),
         spectrum_cell(figures),

@@ -123,6 +123,14 @@ def remove(name):
     {b"DSD ": dsf, b"FRM8": dsdiff, b"RIFF": wave}[form].delete(name)
 
 
+def remove_all(name):
+    """Removes the tags of a file, as some programs leave two; mutagen removes the first."""
+    size = None
+    while tag_of(name) and os.path.getsize(name) != size:
+        size = os.path.getsize(name)
+        remove(name)
+
+
 def write(name, tag):
     """Writes a tag into a file that has none, in its place."""
     from mutagen._riff import RiffFile
@@ -161,8 +169,7 @@ def put(name, tag, is_compared=False):
 
     said, before = read(tag), None if is_compared else sound_sum(name)
     try:
-        if tag_of(name):
-            remove(name)
+        remove_all(name)
         write(name, tag)
         back = read_back(name)
     except (mutagen.MutagenError, AssertionError, LookupError, ValueError, struct.error) as error:

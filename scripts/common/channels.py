@@ -64,6 +64,8 @@ def dsdiff_sound(file):
         name, size = struct.unpack(">4sQ", take(file, 12))
         if name == b"DSD ":
             break
+        if name == b"DST ":
+            raise Unread("its sound is compressed (DST): unpack it with another tool first")
         if name == b"PROP":
             data = take(file, size)
             if data[:4] == b"SND ":

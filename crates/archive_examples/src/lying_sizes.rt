@@ -119,13 +119,13 @@ fn blocks_that_are_cut_are_refused(rt: HostRuntime) {
 
 // How a file of 100,000 bytes begins, after how many reads of one byte, of 7 and of 4096 bytes playing has its answer,
 // and whether it is played. Other forms are refused after 16 bytes. A form whose rate is 44,100 hertz is refused at the
-// header of its sound. A DSF file whose first chunk has another size is refused after 80 bytes. `FILE` is played, and
-// nothing after it is read.
+// header of its sound. A DSF file whose first chunk has another size is refused after 80 bytes. `FILE` is played: its
+// 126 bytes before the sound are 18 reads of 7 bytes, the byte of its sound is read alone, and the pad by one more.
 const READS: [(&[u8], [u64; 3], bool); 4] = [
     (b"RIFF", [16, 3, 1], false),
     (SLOW, [126, 18, 1], false),
     (b"DSD \x1d", [80, 12, 1], false),
-    (&FILE, [128, 19, 1], true),
+    (&FILE, [128, 20, 1], true),
 ];
 
 // `FILE` with another rate.

@@ -13,7 +13,7 @@ use Rattle.dsd_bits.specs.Turning.{turned}
 abbrev pub block_place : ℕ → ℕ → ℕ → ℕ
 block_place channels c i = (i / block_bits * channels + c) * block_bytes + i % block_bits / 8
 
--- which bit of that byte it is, the least significant being bit 0: i % 8 or 7 - i % 8
+-- which bit of that byte it is, where bit 0 is the least significant: i % 8 or 7 - i % 8
 abbrev pub bit_number : BitOrder → ℕ → ℕ
 bit_number LeastFirst i = i % 8
 bit_number MostFirst i = 7 - i % 8
@@ -22,7 +22,7 @@ bit_number MostFirst i = 7 - i % 8
 abbrev pub block_bit : BitOrder → List ℕ → ℕ → ℕ → ℕ → Bool
 block_bit order bytes channels c i = bit_at (slice_index bytes (block_place channels c i)) (bit_number order i) == 1
 
--- how many sound bytes there are for channels of so many bits: whole groups of blocks
+-- the number of sound bytes for channels of n bits: whole groups of blocks
 abbrev pub blocks_size : ℕ → ℕ → ℕ
 blocks_size channels count = div_ceil count block_bits * channels * block_bytes
 
@@ -34,12 +34,12 @@ unblocked order bytes channels count c = map (block_bit order bytes channels c) 
 abbrev pub unblocked_all : BitOrder → List ℕ → ℕ → ℕ → List (List Bool)
 unblocked_all order bytes channels count = map (unblocked order bytes channels count) (range_with_len 0 channels)
 
--- a byte with the most significant bit first, in this order
+-- a byte of this order with its most significant bit first
 abbrev pub ordered : BitOrder → ℕ → ℕ
 ordered LeastFirst b = turned b
 ordered MostFirst b = b
 
--- the sound byte at a place; behind a channel's end it is zero
+-- the sound byte at a place; past a channel's end it is zero
 abbrev pub block_byte : BitOrder → List (List Bool) → ℕ → ℕ
 block_byte order channels place =
     let block = place / block_bytes in
@@ -49,11 +49,11 @@ block_byte order channels place =
 abbrev pub blocked : BitOrder → List (List Bool) → List ℕ
 blocked order channels = map (block_byte order channels) (range_with_len 0 (blocks_size (length channels) (count_of channels)))
 
--- each bit of each channel stands at its place, and the bits behind the channels' end are zeros
+-- each bit of each channel is at its place, and the bits after the channels' end are zeros
 pub record AreBlocks (order : BitOrder) (channels : List (List Bool)) (bytes : List ℕ) : Type 0 where
   pub size : length bytes ≡ blocks_size (length channels) (count_of channels)
   pub at : (c i : ℕ) → c < length channels → i < block_bits * div_ceil (count_of channels) block_bits → block_bit order bytes (length channels) c i ≡ slice_index_or (slice_index_or channels c []) i false
 
--- law: channels that are laced in blocks are read again, whatever follows the blocks
+-- law: channels that are interleaved in blocks are read again, whatever follows the blocks
 abbrev pub BlocksReadAgain : Type 0
 BlocksReadAgain = (order : BitOrder) (channels : List (List Bool)) (more : List ℕ) → IsLevel channels → 1 ≤ length channels → unblocked_all order (blocked order channels ++ more) (length channels) (count_of channels) ≡ channels

@@ -17,7 +17,7 @@ pub record MarkContent : Type 0 where
   pub flags : ℕ
   pub text : List ℕ
 
--- a chunk that is kept as its bytes
+-- a chunk kept as its bytes
 pub record OtherContent : Type 0 where
   pub place : Place
   pub id : List ℕ
@@ -33,7 +33,7 @@ pub record Content : Type 0 where
   pub others : List OtherContent
   pub tag : List ℕ
 
--- a recording without its bits: how many each channel has, and what stands beside them
+-- a recording without its bits: their number in each channel, and everything else
 pub record Described : Type 0 where
   pub rate : ℕ
   pub count : ℕ

@@ -1,4 +1,4 @@
--- Sound bytes of several channels, laced: one byte of each channel in turn (DSDIFF 1.5, DSD sound data chunk).
+-- Sound bytes of several channels, interleaved: one byte of each channel in turn (DSDIFF 1.5, DSD sound data chunk).
 use Rattle.std.specs.Prelude.{◌≡◌, ℕ, ◌+◌, ◌-◌, ◌*◌, ◌/◌, ◌%◌, ◌<◌, ◌≤◌, Bool, false, ◌==◌, List, [], map, length, slice_index, slice_index_or}
 use Rattle.std.specs.List.{range_with_len}
 use Rattle.std.specs.Int.{bit_at}
@@ -9,7 +9,7 @@ use Rattle.dsd_bits.specs.Packing.{packed_byte}
 abbrev pub laced_bit : List ℕ → ℕ → ℕ → ℕ → Bool
 laced_bit bytes channels c i = bit_at (slice_index bytes (i / 8 * channels + c)) (7 - i % 8) == 1
 
--- the bytes of channel c in so many frames from one on
+-- the bytes of channel c in n frames from one on
 abbrev pub picked : List ℕ → ℕ → ℕ → ℕ → ℕ → List ℕ
 picked bytes channels c from frames = map (λ frame. slice_index bytes (frame * channels + c)) (range_with_len from frames)
 
@@ -25,11 +25,11 @@ unlaced_all bytes channels = map (unlaced bytes channels) (range_with_len 0 chan
 abbrev pub laced_byte : List (List Bool) → ℕ → ℕ
 laced_byte channels place = packed_byte (slice_index_or channels (place % length channels) []) (place / length channels)
 
--- how many bytes each channel takes
+-- the number of bytes of each channel
 abbrev pub frames_of : List (List Bool) → ℕ
 frames_of channels = count_of channels / 8
 
--- the sound bytes of the channels in so many frames from one on
+-- the sound bytes of the channels in n frames from one on
 abbrev pub laced_part : List (List Bool) → ℕ → ℕ → List ℕ
 laced_part channels from frames = map (laced_byte channels) (range_with_len (from * length channels) (frames * length channels))
 
@@ -37,11 +37,11 @@ laced_part channels from frames = map (laced_byte channels) (range_with_len (fro
 abbrev pub laced : List (List Bool) → List ℕ
 laced channels = map (laced_byte channels) (range_with_len 0 (frames_of channels * length channels))
 
--- each bit of each channel stands at its place, and nothing stands beside them
+-- each bit of each channel is at its place, and there is nothing else
 pub record AreLaced (channels : List (List Bool)) (bytes : List ℕ) : Type 0 where
   pub size : 8 * length bytes ≡ count_of channels * length channels
   pub at : (c i : ℕ) → c < length channels → i < count_of channels → laced_bit bytes (length channels) c i ≡ slice_index_or (slice_index_or channels c []) i false
 
--- law: channels of whole bytes that are laced are read again
+-- law: channels of whole bytes that are interleaved are read again
 abbrev pub LacedReadAgain : Type 0
 LacedReadAgain = (channels : List (List Bool)) → IsLevel channels → count_of channels % 8 ≡ 0 → 1 ≤ length channels → unlaced_all (laced channels) (length channels) ≡ channels

@@ -17,10 +17,10 @@ greatest_rate = 50000000
 abbrev pub IsRate : ℕ → Type 0
 IsRate rate = (least_rate ≤ rate) × (rate ≤ greatest_rate)
 
--- the bytes of a block: 4096 (DSF 1.01)
+-- the bytes of a channel in a block: 4096 (DSF 1.01)
 abbrev pub block_bytes : ℕ
 block_bytes = 4096
 
--- the bits of a block: 32768
+-- the bits of a channel in a block: 32768
 abbrev pub block_bits : ℕ
 block_bits = 32768

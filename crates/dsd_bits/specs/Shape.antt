@@ -16,7 +16,7 @@ same_place Master Master = true
 same_place Form Form = true
 same_place _ _ = false
 
--- those of the chunks that stand at the place, in their order
+-- the chunks of this place, in their order
 abbrev pub at_place : Place → List OtherContent → List OtherContent
 at_place place others = filter (λ o. same_place o.place place) others
 
@@ -26,7 +26,7 @@ has_part Property id bytes = same_id id FS || same_id id CHNL || same_id id CMPR
 has_part Master id bytes = same_id id MARK
 has_part Form id bytes = same_id id FVER || same_id id DSD || same_id id DIIN || (same_id id PROP && starts_with nat_eq bytes SND)
 
--- the rules that each recording keeps, one by one
+-- the rules that each recording obeys, one by one
 pub record HasShape (r : Content) : Type 0 where
   pub rate_low : least_rate ≤ r.rate
   pub rate_high : r.rate ≤ greatest_rate
@@ -40,7 +40,7 @@ pub record HasShape (r : Content) : Type 0 where
   pub in_order : r.others ≡ at_place Property r.others ++ (at_place Master r.others ++ at_place Form r.others)
   pub no_parts : All (λ o. has_part o.place o.id o.bytes ≡ false) r.others
 
--- what the parts of a description keep to
+-- the rules that the parts of a description obey
 pub record IsDescription (d : Described) : Type 0 where
   pub rate_low : least_rate ≤ d.rate
   pub rate_high : d.rate ≤ greatest_rate
@@ -52,7 +52,7 @@ pub record IsDescription (d : Described) : Type 0 where
   pub in_order : d.others ≡ at_place Property d.others ++ (at_place Master d.others ++ at_place Form d.others)
   pub no_parts : All (λ o. has_part o.place o.id o.bytes ≡ false) d.others
 
--- the channels are as many as the description says, and as long
+-- there are as many channels as the description says, and each has as many bits as it says
 pub record AreDescribed (d : Described) (channels : List (List Bool)) : Type 0 where
   pub number : length channels ≡ length d.ids
   pub level : IsLevel channels

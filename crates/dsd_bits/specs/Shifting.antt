@@ -2,7 +2,7 @@
 use Rattle.std.specs.Prelude.{ℕ, ◌+◌, ◌-◌, ◌*◌, ◌/◌, ◌%◌, ◌^◌, List, map, slice_index}
 use Rattle.std.specs.List.{range_with_len}
 
--- the 8 bits at `shift` and behind it, of two bytes that stand side by side
+-- the 8 bits from `shift` on of two neighbouring bytes
 abbrev pub byte_across : ℕ → ℕ → ℕ → ℕ
 byte_across high low shift = (high * 256 + low) / 2 ^ (8 - shift) % 256
 
@@ -10,6 +10,6 @@ byte_across high low shift = (high * 256 + low) / 2 ^ (8 - shift) % 256
 abbrev pub byte_from : List ℕ → ℕ → ℕ
 byte_from bytes at = byte_across (slice_index bytes (at / 8)) (slice_index bytes (at / 8 + 1)) (at % 8)
 
--- so many bytes of the bits from bit `at` on
+-- n bytes of the bits from bit `at` on
 abbrev pub bytes_from : List ℕ → ℕ → ℕ → List ℕ
 bytes_from bytes at size = map (λ k. byte_from bytes (at + 8 * k)) (range_with_len 0 size)

@@ -1,4 +1,4 @@
--- The sound of a file: what it is, and where its bytes stand (DSDIFF 1.5 and DSF 1.01, sound data).
+-- The sound of a file: what it is, and where its bytes are (DSDIFF 1.5 and DSF 1.01, sound data).
 use Rattle.std.specs.Prelude.{◌≡◌, ◌≤◌, ℕ, ◌+◌, ◌*◌, ◌/◌, Bool, true, false, List, length, take, drop}
 use Rattle.dsd_bits.specs.declared.interleaving.Interleaving.{Interleaving}
 use Rattle.dsd_bits.specs.declared.interleaving.Interleaving.TheVariants.{Bytes, Blocks}
@@ -11,17 +11,17 @@ use Rattle.dsd_bits.specs.Contents.{Content}
 use Rattle.dsd_bits.specs.Lacing.{unlaced_all}
 use Rattle.dsd_bits.specs.Limits.{most_bits, least_rate, greatest_rate}
 
--- the channels stand in blocks
+-- the channels are in blocks
 abbrev pub has_blocks : Interleaving → Bool
 has_blocks Bytes = false
 has_blocks (Blocks order) = true
 
--- how many sound bytes channels of so many bits need: a byte of each channel in turn, or blocks
+-- the number of sound bytes of channels of n bits: a byte of each channel in turn, or blocks
 abbrev pub sound_size : Interleaving → ℕ → ℕ → ℕ
 sound_size Bytes channels count = count / 8 * channels
 sound_size (Blocks order) channels count = blocks_size channels count
 
--- the channels in sound bytes, laced by bytes or by blocks
+-- the channels in sound bytes, interleaved by bytes or by blocks
 abbrev pub sound_channels : Interleaving → ℕ → ℕ → List ℕ → List (List Bool)
 sound_channels Bytes channels count bytes = unlaced_all bytes channels
 sound_channels (Blocks order) channels count bytes = unblocked_all order bytes channels count
@@ -39,7 +39,8 @@ pub record IsSound (s : Sound) : Type 0 where
 abbrev pub sound_bytes : List ℕ → Sound → List ℕ
 sound_bytes file s = take s.size (drop s.start file)
 
--- the file, which holds this recording, has this sound: it tells rate, channel number and count, and its bytes hold the channels
+-- the sound of the file that holds this recording: it has the recording's rate, channel number and count, and its bytes
+-- hold the channels
 pub record HasSound (file : List ℕ) (r : Content) (s : Sound) : Type 0 where
   pub rate : r.rate ≡ s.rate
   pub number : length r.channels ≡ s.channels
@@ -47,19 +48,19 @@ pub record HasSound (file : List ℕ) (r : Content) (s : Sound) : Type 0 where
   pub in_file : s.start + s.size ≤ length file
   pub channels : r.channels ≡ sound_channels s.interleaving s.channels s.count (sound_bytes file s)
 
--- P of the sound that was found
+-- P holds of the sound that was found
 abbrev pub IfFound : SoundAt → (Sound → Type 0) → Type 0
 IfFound More P = Unit {0}
 IfFound Refused P = Unit {0}
 IfFound (Found s) P = P s
 
--- P where more bytes are wanted
+-- P holds if more bytes are needed
 abbrev pub IfMore : SoundAt → Type 0 → Type 0
 IfMore More P = P
 IfMore Refused P = Unit {0}
 IfMore (Found s) P = Unit {0}
 
--- P where every file that begins so is refused
+-- P holds if every file that begins like this is refused
 abbrev pub IfRefused : SoundAt → Type 0 → Type 0
 IfRefused More P = Unit {0}
 IfRefused Refused P = P

@@ -7,10 +7,10 @@ use Rattle.dsd_bits.specs.Contents.{Content}
 abbrev pub stretch_of : List (List Bool) → BitRange → List (List Bool)
 stretch_of channels range = map (λ bits. slice_range bits range.start range.stop) channels
 
--- those of each range in turn
+-- the bits in each range in turn
 abbrev pub stretches_of : List (List Bool) → List BitRange → List (List (List Bool))
 stretches_of channels ranges = map (stretch_of channels) ranges
 
--- a recording without its bits: as many channels, of no bits
+-- a recording without its bits: it has as many channels, all empty
 abbrev pub silent : Content → Content
 silent r = record r { channels = replicate (length r.channels) [] }

@@ -10,7 +10,7 @@ turned b = bit_at b 0 * 128 + bit_at b 1 * 64 + bit_at b 2 * 32 + bit_at b 3 * 1
 pub record IsTurned (old new : ℕ) : Type 0 where
   pub at : (i : ℕ) → i < 8 → bit_at new i ≡ bit_at old (7 - i)
 
--- each byte is turned where it stands
+-- each byte is reversed in place
 pub record AreTurned (old new : List ℕ) : Type 0 where
   pub size : length new ≡ length old
   pub at : (k : ℕ) → k < length old → IsTurned (slice_index old k) (slice_index new k)

@@ -11,8 +11,8 @@ use crate::ranges::append_range;
 use std::alloc::{AllocError, Global};
 use std::marker::Model;
 
-/// A list of at most `2^36` bits, packed with the earliest bit of a byte its most significant and
-/// with zeros in the spare bits of the last byte.
+/// A list of at most `2^36` bits. It is packed with the earliest bit of a byte as its most significant bit, and with
+/// zeros in the spare bits of the last byte.
 #[derive(Drop)]
 pub struct Bits {
     bytes: Vec<u8>,
@@ -38,10 +38,9 @@ impl Bits {
         }
     }
 
-    /// The first `count` bits of `bytes`, the most significant bit of a byte first; what stands behind
-    /// them is left out.
+    /// The first `count` bits of `bytes`, the most significant bit of a byte first. What follows them is left out.
     ///
-    /// Refusals, in this order: `TooFewBytes` where the bytes hold fewer than `count` bits, `Memory`.
+    /// Refusals, in this order: `TooFewBytes` if the bytes hold fewer than `count` bits, `Memory`.
     pub fn from_packed(alloc: Global, bytes: &[u8], count: usize) -> Result<Bits, BitsFault>
         requires { count ≤ most_bits }
         ensures ok { IfOk result (λ bits. bits ≡ unpacked bytes.now count) }
@@ -55,7 +54,7 @@ impl Bits {
         Ok(Bits::from_first_bits(kept, count))
     }
 
-    // The first bits of the bytes, which are no more than these bits take.
+    // The first bytes, as many as these bits take.
     pub(crate) fn from_first_bits(bytes: Vec<u8>, count: usize) -> Bits
         requires in_limit { count ≤ most_bits }
         requires size { vec_len bytes ≡ div_ceil count 8 }
@@ -83,7 +82,7 @@ impl Bits {
         self.count
     }
 
-    /// Bit `i`, counted from the earliest, which is bit 0.
+    /// Bit `i`, where bit 0 is the earliest.
     pub fn get(&self, i: usize) -> bool
         requires { i < length self.now }
         ensures { result ≡ slice_index_or self.now i false }
@@ -91,7 +90,7 @@ impl Bits {
         (self.bytes[i / 8] >> (7 - i % 8)) & 1 == 1
     }
 
-    /// The bits packed: `len` divided by 8 and rounded up bytes, zeros in the spare bits of the last.
+    /// The packed bits: `len / 8` bytes, rounded up, with zeros in the spare bits of the last one.
     pub fn as_bytes(&self) -> &[u8]
         ensures packed { result.now ≡ packed self.now }
         ensures bits { self.now ≡ unpacked result.now (length self.now) }
@@ -101,7 +100,7 @@ impl Bits {
         bytes
     }
 
-    /// Adds a bit at the end. Where there is no memory for it the bits stay as they were.
+    /// Adds a bit at the end. If there is no memory for it, the bits are unchanged.
     pub fn push_bit(&mut self, bit: bool) -> Result<(), AllocError>
         requires { length self.old < most_bits }
         ensures ok { OnOk result (self.new ≡ self.old ++ bit ∷ []) }
@@ -113,8 +112,8 @@ impl Bits {
         Ok(())
     }
 
-    /// Adds the bits `start` to `stop - 1` of `source` at the end. Where there is no memory for them the
-    /// bits stay as they were.
+    /// Adds the bits `start` to `stop - 1` of `source` at the end. If there is no memory for them, the bits are
+    /// unchanged.
     pub fn push_range(&mut self, source: &Bits, start: usize, stop: usize) -> Result<(), AllocError>
         requires in_order { start ≤ stop }
         requires in_source { stop ≤ length source.now }

@@ -1,5 +1,4 @@
-//! Channels laced into blocks of sound bytes, as the data chunk of DSF 1.01 holds them, and taken apart
-//! again.
+//! Channels interleaved in blocks of sound bytes, as the data chunk of DSF 1.01 holds them, and taken apart again.
 
 ghost use Rattle.std.specs.Prelude.{◌≡◌, ◌≢◌, ◌+◌, ◌*◌, ◌<◌, ◌≤◌, ◌++◌, ◌↔◌, IfOk, IsOk, OnOk, if◌then◌else◌, is_ok, length, map, slice_index, vec_capacity, vec_len};
 ghost use Rattle.std.specs.List.{range_with_len};
@@ -16,17 +15,17 @@ use std::alloc::{AllocError, Global};
 /// Which bit of a sound byte of DSF 1.01 is the earliest.
 #[derive(Clone, Copy, PartialEq, Eq)]
 pub enum BitOrder {
-    /// The least significant, as of 1 bit per sample.
+    /// The least significant, as with 1 bit per sample.
     LeastFirst,
-    /// The most significant, as of 8 bits per sample.
+    /// The most significant, as with 8 bits per sample.
     MostFirst,
 }
 
-/// The first `count` bits, at most `2^36`, of each of one to six channels in sound bytes of DSF 1.01:
-/// for every 32768 bits a block of 4096 bytes of each channel in turn. What stands behind a channel's
-/// last bit and behind the last block is left out.
+/// The first `count` bits, at most `2^36`, of each of one to six channels in sound bytes of DSF 1.01. For every 32768
+/// bits these hold a block of 4096 bytes of each channel in turn. What follows a channel's last bit or the last block
+/// is left out.
 ///
-/// Refusals, in this order: `TooFewBytes` where a block is missing or cut, `Memory`.
+/// Refusals, in this order: `TooFewBytes` if a block is missing or cut short, `Memory`.
 pub fn unlace_blocks(
     alloc: Global,
     bytes: &[u8],
@@ -52,8 +51,8 @@ pub fn unlace_blocks(
     Ok(made)
 }
 
-/// How many sound bytes of DSF 1.01 there are for one to six channels of so many bits, at most `2^36`: whole
-/// groups of blocks.
+/// How many sound bytes of DSF 1.01 one to six channels of `count` bits take, at most `2^36` bits each: whole groups of
+/// blocks.
 pub fn blocks_size(channels: usize, count: usize) -> usize
     requires channel_number { channels ≤ 6 }
     requires in_limit { count ≤ most_bits }
@@ -87,8 +86,8 @@ fn unlace_channel(
     Ok(Bits::from_first_bits(own, count))
 }
 
-/// The sound bytes of DSF 1.01 of one to six channels of equal length: for every 32768 bits a block of
-/// 4096 bytes of each channel in turn, the last block of a channel filled with zeros.
+/// The sound bytes of DSF 1.01 of one to six channels of equal length: for every 32768 bits a block of 4096 bytes of
+/// each channel in turn. The last block of a channel is filled up with zeros.
 pub fn lace_blocks(alloc: Global, channels: &[Bits], order: BitOrder) -> Result<Vec<u8>, AllocError>
     requires channel_number { (1 ≤ length channels.now) × (length channels.now ≤ 6) }
     requires level { IsLevel channels.now }
@@ -100,8 +99,8 @@ pub fn lace_blocks(alloc: Global, channels: &[Bits], order: BitOrder) -> Result<
     Ok(made)
 }
 
-/// Appends the sound bytes of DSF 1.01 of one to six channels of equal length, as [`lace_blocks`] gives
-/// them. Where there is no memory for them `out` stays as it was.
+/// Appends the sound bytes of DSF 1.01 of one to six channels of equal length, as [`lace_blocks`] returns them. If
+/// there is no memory for them, `out` is unchanged.
 pub fn push_blocks(out: &mut Vec<u8>, channels: &[Bits], order: BitOrder) -> Result<(), AllocError>
     requires channel_number { (1 ≤ length channels.now) × (length channels.now ≤ 6) }
     requires level { IsLevel channels.now }
@@ -117,8 +116,8 @@ pub fn push_blocks(out: &mut Vec<u8>, channels: &[Bits], order: BitOrder) -> Res
     Ok(())
 }
 
-// Appends the block of a channel in a group: 4096 of its bytes, with zeros behind their end. It fails
-// only where room is missing.
+// Appends the block of a channel in a group: 4096 of its bytes, with zeros after their end. It fails only if there is
+// no room.
 pub(crate) fn push_block(
     out: &mut Vec<u8>,
     bytes: &[u8],
@@ -141,8 +140,7 @@ pub(crate) fn push_block(
     Ok(())
 }
 
-// Appends bytes of which each is changed between this order of its bits and the most significant bit
-// first.
+// Appends bytes, each changed between this order of its bits and the order with the most significant bit first.
 fn push_in_order(out: &mut Vec<u8>, bytes: &[u8], order: BitOrder) -> Result<(), AllocError>
     ensures { OnOk result (out.new.items ≡ out.old.items ++ map (ordered order) bytes.now) }
 {
@@ -153,7 +151,7 @@ fn push_in_order(out: &mut Vec<u8>, bytes: &[u8], order: BitOrder) -> Result<(),
     Ok(())
 }
 
-/// Changes bytes between this order of their bits and the most significant bit first.
+/// Changes bytes between this order of their bits and the order with the most significant bit first.
 pub fn put_in_order(bytes: &mut [u8], order: BitOrder)
     ensures { bytes.new ≡ map (ordered order) bytes.old }
 {
@@ -163,8 +161,8 @@ pub fn put_in_order(bytes: &mut [u8], order: BitOrder)
     }
 }
 
-/// The law of blocks: channels of equal length that are laced in blocks are read again, whatever stands
-/// behind the blocks.
+/// The law of blocks: channels of equal length that are interleaved in blocks are read again, whatever follows the
+/// blocks.
 pub fn laced_blocks_are_read_again()
     ensures { BlocksReadAgain }
 {}

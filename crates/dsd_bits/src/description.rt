@@ -8,7 +8,7 @@ ghost use Rattle.dsd_bits.specs.Shape.{IsDescription};
 use crate::marks::{Mark, Other};
 use std::marker::Model;
 
-/// What a recording holds beside its sound and the names of its channels.
+/// What a recording holds besides its sound and the IDs of its channels.
 #[derive(Drop)]
 pub struct Metadata {
     /// The marks, in the order of the file.
@@ -19,8 +19,8 @@ pub struct Metadata {
     pub tag: Vec<u8>,
 }
 
-/// A recording without its bits: its rate, how many bits each channel has, and all that is kept beside them. Contracts
-/// see it as one record of lists and numbers, `Described`, which keeps to the rules of `IsDescription`.
+/// A recording without its bits: its rate, how many bits each channel has, and all that is kept besides them. Contracts
+/// see it as one record of lists and numbers, `Described`, which obeys the rules of `IsDescription`.
 #[derive(Drop)]
 pub struct Description {
     rate: u32,
@@ -44,7 +44,7 @@ impl Model for Description {
 }
 
 impl Description {
-    /// The description of these parts, which are moved into it; it takes no memory.
+    /// The description of these parts, which are moved into it. It takes no memory.
     ///
     /// The rate is in hertz, 1,000,000 to 50,000,000. `count` is the number of bits of each channel, at most `2^36`.
     /// There is an ID for each of one to six channels, and a layout of DSF 1.01 (`specs/Layouts.antt`) for that many.
@@ -71,7 +71,7 @@ impl Description {
         }
     }
 
-    /// The same with another number of bits in each channel, at most `2^36`.
+    /// The same description, but with another number of bits in each channel, at most `2^36`.
     pub fn with_count(self, count: usize) -> Description
         requires in_limit { count ≤ most_bits }
         ensures { result ≡ record self { count = count } }
@@ -81,7 +81,7 @@ impl Description {
         description
     }
 
-    /// Bits a second of each channel, in hertz.
+    /// Bits per second of each channel, in hertz.
     pub fn rate(&self) -> u32
         ensures value { result ≡ self.now.rate }
         ensures in_limits { IsRate result }
@@ -97,7 +97,7 @@ impl Description {
         self.count
     }
 
-    /// The ID of each channel, as of DSDIFF 1.5: as many as there are channels.
+    /// The ID of each channel, as in DSDIFF 1.5: as many as there are channels.
     pub fn ids(&self) -> &[[u8; 4]]
         ensures value { result.now ≡ self.now.ids }
         ensures shape { IsDescription self.now }
@@ -106,7 +106,7 @@ impl Description {
         ids
     }
 
-    /// The layout of the channels, a channel type of DSF 1.01.
+    /// The layout of the channels, which is a channel type of DSF 1.01.
     pub fn layout(&self) -> u32
         ensures { result ≡ self.now.layout }
     {

@@ -1,4 +1,4 @@
-//! Why bytes give no bits.
+//! Why bytes can't be read as bits.
 
 ghost use Rattle.std.specs.Prelude.{◌≡◌};
 ghost use Rattle.dsd_bits.specs.declared.fault.BitsFault.TheVariants as bits_faults;
@@ -8,12 +8,12 @@ use std::alloc::{AllocError, AllocFailed};
 use std::fmt;
 use thiserror::Error;
 
-/// Why bytes give no list of bits. A fault's text is its name.
+/// Why bytes can't be read as a list of bits. A fault's text is its name.
 #[derive(Clone, Copy, Debug, PartialEq, Eq, Error)]
 pub enum BitsFault {
     /// The bytes hold fewer bits than were asked for.
     TooFewBytes,
-    /// Want of memory.
+    /// Out of memory.
     Memory,
 }
 
@@ -31,14 +31,14 @@ impl From<AllocError> for BitsFault {
     }
 }
 
-/// Why sound bytes give no channels. A fault's text is its name.
+/// Why sound bytes can't be read as channels. A fault's text is its name.
 #[derive(Clone, Copy, Debug, PartialEq, Eq, Error)]
 pub enum LaceFault {
-    /// The bytes are no whole number of frames, a frame being one byte of each channel.
+    /// The bytes are not a whole number of frames, where a frame is one byte of each channel.
     PartFrame,
     /// The bytes hold fewer blocks than the channels take.
     TooFewBytes,
-    /// Want of memory.
+    /// Out of memory.
     Memory,
 }
 

@@ -1,4 +1,4 @@
-//! How the sound bytes of several channels stand among each other.
+//! How the sound bytes of several channels are interleaved.
 
 use crate::blocks::BitOrder;
 
@@ -15,7 +15,7 @@ impl Interleaving {
     ghost use Rattle.std.specs.Prelude.{◌≡◌};
     ghost use Rattle.dsd_bits.specs.Sounds.{has_blocks};
 
-    /// Whether the channels stand in blocks.
+    /// Whether the channels are in blocks.
     pub fn has_blocks(self) -> bool
         ensures { result ≡ has_blocks self }
     {

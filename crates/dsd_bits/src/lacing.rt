@@ -1,4 +1,4 @@
-//! Channels laced into sound bytes, as the sound chunk of DSDIFF 1.5 holds them, and taken apart again.
+//! Channels interleaved byte by byte, as the sound chunk of DSDIFF 1.5 holds them, and taken apart again.
 
 ghost use Rattle.std.specs.Prelude.{◌≡◌, ◌≢◌, ℕ, ◌+◌, ◌*◌, ◌/◌, ◌%◌, ◌<◌, ◌≤◌, ◌++◌, ◌↔◌, IfOk, IsOk, OnOk, if◌then◌else◌, is_ok, length, slice_index, vec_capacity, vec_len};
 ghost use Rattle.dsd_bits.specs.Channels.{IsLevel, count_of};
@@ -11,10 +11,10 @@ use crate::fault::LaceFault;
 use std::alloc::{AllocError, Global};
 use std::simd::prelude::*;
 
-/// The channels of laced sound bytes, one to six: a frame is one byte of each channel in turn, its
-/// most significant bit the earliest. Each channel gets 8 bits for each frame, at most `2^36`.
+/// The channels in interleaved sound bytes, one to six. A frame is one byte of each channel in turn, with the most
+/// significant bit as the earliest. Each channel gets 8 bits for each frame, at most `2^36`.
 ///
-/// Refusals, in this order: `PartFrame` where the bytes are no whole number of frames, `Memory`.
+/// Refusals, in this order: `PartFrame` if the bytes are not a whole number of frames, `Memory`.
 pub fn unlace_bytes(alloc: Global, bytes: &[u8], channels: usize) -> Result<Vec<Bits>, LaceFault>
     requires channel_number { (1 ≤ channels) × (channels ≤ 6) }
     requires in_limit { 8 * (length bytes.now / channels) ≤ most_bits }
@@ -35,7 +35,7 @@ pub fn unlace_bytes(alloc: Global, bytes: &[u8], channels: usize) -> Result<Vec<
     Ok(made)
 }
 
-// Both channels of laced sound bytes.
+// Both channels of interleaved sound bytes.
 fn unlace_two(alloc: Global, bytes: &[u8]) -> Result<Vec<Bits>, AllocError>
     requires whole_frames { length bytes.now % 2 ≡ 0 }
     requires in_limit { 8 * (length bytes.now / 2) ≤ most_bits }
@@ -60,7 +60,7 @@ fn unlace_two(alloc: Global, bytes: &[u8]) -> Result<Vec<Bits>, AllocError>
     Ok(made)
 }
 
-// Appends the bytes of each of two channels in so many frames from one on.
+// Appends each of two channels' bytes in `count` frames, from one frame on.
 fn push_split(
     left: &mut Vec<u8>,
     right: &mut Vec<u8>,
@@ -82,8 +82,7 @@ fn push_split(
     Ok(())
 }
 
-// Writes the bytes of each of two channels in frames from one on: of 16 frames at a time, and then of
-// what is left.
+// Writes each of two channels' bytes in frames from one on: 16 frames at a time, then the rest.
 pub(crate) fn split_two(left: &mut [u8], right: &mut [u8], bytes: &[u8], from: usize)
     requires inside { 2 * (from + length left.old) ≤ length bytes.now }
     requires right { length right.old ≡ length left.old }
@@ -102,7 +101,7 @@ pub(crate) fn split_two(left: &mut [u8], right: &mut [u8], bytes: &[u8], from: u
     }
 }
 
-// The bytes of each of two channels in 16 frames.
+// Each of two channels' bytes in 16 frames.
 #[inline(always)]
 fn split_frames(bytes: &[u8], frame: usize) -> (u8x16, u8x16)
     requires { 2 * frame + 32 ≤ length bytes.now }
@@ -116,7 +115,7 @@ fn split_frames(bytes: &[u8], frame: usize) -> (u8x16, u8x16)
     first.deinterleave(second)
 }
 
-// One channel of laced sound bytes.
+// One channel of interleaved sound bytes.
 fn unlace_channel(
     alloc: Global,
     bytes: &[u8],
@@ -136,7 +135,7 @@ fn unlace_channel(
     Ok(Bits::from_whole_bytes(own))
 }
 
-// Writes one channel's byte of each frame of so many channels.
+// Writes one channel's byte of each frame, where a frame has `channels` bytes.
 fn pick(to: &mut [u8], bytes: &[u8], channels: usize, channel: usize)
     requires channel { channel < channels }
     requires enough { channels * length to.old ≤ length bytes.now }
@@ -162,8 +161,8 @@ pub fn lace_bytes(alloc: Global, channels: &[Bits]) -> Result<Vec<u8>, AllocErro
     Ok(made)
 }
 
-/// Appends the sound bytes of one to six channels of equal length in whole bytes, as [`lace_bytes`] gives
-/// them. Where there is no memory for them `out` stays as it was.
+/// Appends the sound bytes of one to six channels of equal length in whole bytes, as [`lace_bytes`] returns them. If
+/// there is no memory for them, `out` is unchanged.
 pub fn push_laced(out: &mut Vec<u8>, channels: &[Bits]) -> Result<(), AllocError>
     requires channel_number { (1 ≤ length channels.now) × (length channels.now ≤ 6) }
     requires level { IsLevel channels.now }
@@ -184,8 +183,7 @@ pub fn push_laced(out: &mut Vec<u8>, channels: &[Bits]) -> Result<(), AllocError
     Ok(())
 }
 
-// Appends the sound bytes of two or more channels in so many frames from one on. It fails only where
-// room is missing.
+// Appends the sound bytes of two or more channels in some frames from one on. It fails only if there is no room.
 fn push_frames(
     out: &mut Vec<u8>,
     channels: &[Bits],
@@ -208,7 +206,7 @@ fn push_frames(
     Ok(())
 }
 
-// Writes the sound bytes of two or more channels in so many frames from one on.
+// Writes the sound bytes of two or more channels in some frames from one on.
 fn lace_into(to: &mut [u8], channels: &[Bits], from: usize, frames: usize)
     requires channel_number { 2 ≤ length channels.now }
     requires level { IsLevel channels.now }
@@ -229,7 +227,7 @@ fn lace_into(to: &mut [u8], channels: &[Bits], from: usize, frames: usize)
     }
 }
 
-// So many whole bytes of a channel from one on.
+// Whole bytes of a channel, from one on.
 fn bytes_from(channel: &Bits, from: usize, size: usize) -> &[u8]
     requires { 8 * (from + size) ≤ length channel.now }
     ensures size { length result.now ≡ size }
@@ -240,7 +238,7 @@ fn bytes_from(channel: &Bits, from: usize, size: usize) -> &[u8]
     &bytes[from..from + size]
 }
 
-// Writes the bytes of two channels in turn.
+// Writes the bytes of two channels, one of each in turn.
 pub(crate) fn lace_two(to: &mut [u8], left: &[u8], right: &[u8])
     requires left { length to.old ≡ 2 * length left.now }
     requires right { length right.now ≡ length left.now }
@@ -255,7 +253,7 @@ pub(crate) fn lace_two(to: &mut [u8], left: &[u8], right: &[u8])
     }
 }
 
-// Writes the bytes of a channel over its bytes of the frames of so many channels.
+// Writes a channel's bytes over its bytes of the frames.
 pub(crate) fn spread(to: &mut [u8], bytes: &[u8], channels: usize, channel: usize)
     requires channel { channel < channels }
     requires enough { channels * length bytes.now ≤ length to.old }
@@ -269,7 +267,7 @@ pub(crate) fn spread(to: &mut [u8], bytes: &[u8], channels: usize, channel: usiz
     }
 }
 
-/// The law of lacing: channels of equal length in whole bytes that are laced are read again.
+/// The law of interleaving by bytes: channels of equal length in whole bytes that are interleaved are read again.
 pub fn laced_channels_are_read_again()
     ensures { LacedReadAgain }
 {}

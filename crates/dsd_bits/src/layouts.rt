@@ -3,7 +3,7 @@
 ghost use Rattle.std.specs.Prelude.{◌≡◌, ◌≤◌};
 ghost use Rattle.dsd_bits.specs.Layouts as layouts;
 
-/// How many channels a layout has, and 0 for a number that is no layout.
+/// How many channels a layout has. It is 0 for a number that is no layout.
 pub fn layout_channels(layout: u32) -> u32
     ensures { result ≡ layouts.layout_channels layout }
 {
@@ -16,8 +16,8 @@ pub fn layout_channels(layout: u32) -> u32
     }
 }
 
-/// The layout of one to six channels of which nothing but their number is known: mono, stereo, three,
-/// four (quad), five and six channels.
+/// The layout of one to six channels if only their number is known: mono, stereo, three, four (quad), five and six
+/// channels.
 pub fn usual_layout(number: u32) -> u32
     requires { number ≤ 6 }
     ensures { result ≡ layouts.usual_layout number }

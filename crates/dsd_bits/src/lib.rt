@@ -1,50 +1,48 @@
 //! One-bit sound (DSD): lists of bits, sound bytes of several channels, and recordings.
 //!
-//! A [`Bits`] is a list of truth values to whoever reads a contract: a stored 1 is `true`. In memory
-//! it is packed eight bits to a byte, the earliest bit the most significant, as DSDIFF 1.5 stores a
-//! channel; the bits of the last byte that are not used are zero. A range of one list is added to
-//! another by whole bytes, wherever it begins. [`turn`] changes between this order of the bits of a
-//! byte and that of DSF 1.01.
+//! In contracts, a [`Bits`] is a list of truth values: a stored 1 is `true`. In memory it is packed eight bits to a
+//! byte, the earliest bit the most significant, as DSDIFF 1.5 stores a channel. The unused bits of the last byte are
+//! zero. A range of one list is added to another by whole bytes, wherever it begins. [`turn`] changes between this
+//! order of the bits of a byte and that of DSF 1.01.
 //!
-//! [`unlace_bytes`] takes the sound bytes of DSDIFF apart into channels, and [`lace_bytes`] puts them
-//! together: what was laced is read again. [`unlace_blocks`] and [`lace_blocks`] do so with the blocks of
-//! DSF 1.01, in which each byte has the earliest bit at the one end or the other ([`BitOrder`]).
-//! [`push_laced`] and [`push_blocks`] put the sound bytes behind what a list of bytes already holds. Where no channel is
-//! wanted, [`frames_to_planes`] and [`planes_to_frames`] move a group of DSDIFF's frames to DSF's blocks and back, and
-//! [`put_in_order`] changes the order of the bits of bytes. A [`BitRoom`] is
-//! bits for which room is held: bits are added to it, and [`push_laced_rooms`] and [`push_blocked_rooms`] put its sound
-//! bytes where room is held, without memory and without a way to fail.
+//! [`unlace_bytes`] takes the interleaved sound bytes of DSDIFF apart into channels, and [`lace_bytes`] interleaves
+//! channels; the result is read again as the same channels. [`unlace_blocks`] and [`lace_blocks`] do the same with the
+//! blocks of DSF 1.01, in which each byte has the earliest bit at one end or the other ([`BitOrder`]). [`push_laced`]
+//! and [`push_blocks`] append the sound bytes to a list of bytes. If no channels are needed as such,
+//! [`frames_to_planes`] and [`planes_to_frames`] move a group of DSDIFF's frames to DSF's blocks and back, and
+//! [`put_in_order`] changes the order of the bits of bytes. A [`BitRoom`] is a list of bits whose memory is reserved.
+//! Adding bits to it takes no memory and can't fail; neither can [`push_laced_rooms`] and [`push_blocked_rooms`], which
+//! write its sound bytes into reserved memory.
 //!
-//! A [`Recording`] is one record of lists and numbers: its rate, its channels, their IDs and layout,
-//! its marks, the chunks that it keeps as they are, and its tag. A [`Description`] is a recording without its bits: it
-//! says how many there are. A [`Sound`] says what the sound of a file is, how its
-//! channels are interleaved ([`Interleaving`]) and where its bytes stand, and [`SoundAt`] what the front of the file
-//! tells of it.
+//! A [`Recording`] is one record of lists and numbers: its rate, its channels, their IDs and layout, its marks, the
+//! chunks that it keeps as they are, and its tag. A [`Description`] is a recording without its bits; it holds their
+//! number. A [`Sound`] says what the sound of a file is, how its channels are interleaved ([`Interleaving`]) and where
+//! its bytes are. A [`SoundAt`] is what the first bytes of a file say about it.
 //!
 //! [`MOST_BITS`], [`LEAST_RATE`] and [`GREATEST_RATE`] are the limits of a recording, [`BLOCK_BYTES`] and
-//! [`BLOCK_BITS`] the size of a block; contracts have words of the same names (`specs/Limits.antt`).
+//! [`BLOCK_BITS`] the size of a block. Contracts have words of the same names (`specs/Limits.antt`).
 //!
 //! The words of the contracts:
 //!
-//! - `unpacked bytes n` is the list of the first `n` bits of some bytes, `packed bits` the bytes of a
-//!   list, `IsTight bytes n` says that bytes hold just `n` bits.
-//! - `RoomContent` is the bits of a [`BitRoom`] and how many there may be, `rooms_bits` the bits of several.
-//! - `laced_bit bytes channels c i` is bit `i` of channel `c` among sound bytes, `unlaced_all` all the
-//!   channels, `laced` the sound bytes of channels, `AreLaced` says where each bit stands.
-//! - `block_bit order bytes channels c i` is bit `i` of channel `c` among sound bytes in blocks,
-//!   `unblocked_all` the first bits of all the channels, `blocks_size` how many sound bytes these take,
-//!   `blocked` the sound bytes of channels, `AreBlocks` says where each bit stands.
+//! - `unpacked bytes n` is the list of the first `n` bits of some bytes, and `packed bits` the bytes of a list.
+//!   `IsTight bytes n` says that bytes hold exactly `n` bits.
+//! - `RoomContent` is the bits of a [`BitRoom`] and how many it has room for, `rooms_bits` the bits of several.
+//! - `laced_bit bytes channels c i` is bit `i` of channel `c` among sound bytes, `unlaced_all` all the channels, and
+//!   `laced` the sound bytes of channels. `AreLaced` says where each bit is.
+//! - `block_bit order bytes channels c i` is bit `i` of channel `c` among sound bytes in blocks, `unblocked_all` the
+//!   first bits of all channels, `blocks_size` how many sound bytes these take, and `blocked` the sound bytes of
+//!   channels. `AreBlocks` says where each bit is.
 //! - `IsTurned old new` says that bit `i` of one byte is bit `7 - i` of the other.
-//! - `IsLevel channels` says that channels are equally long, `count_of` how long.
-//! - `Content` is what a recording holds, `HasShape` names the rules that it keeps, `layout_channels`
-//!   is the table of layouts.
-//! - `Described` is what a description says, `IsDescription` names the rules that it keeps; `described r` is that of a
-//!   recording, and `with_channels d channels` the recording that a description and channels make.
-//! - `stretches_of channels ranges` are the bits of the channels in each range ([`BitRange`]), `silent r` a recording
+//! - `IsLevel channels` says that all channels have the same length, `count_of` is that length.
+//! - `Content` is what a recording holds. `HasShape` names the rules that it obeys, and `layout_channels` is the table
+//!   of layouts.
+//! - `Described` is what a description says, and `IsDescription` names the rules that it obeys. `described r` is the
+//!   description of a recording, and `with_channels d channels` the recording made of a description and channels.
+//! - `stretches_of channels ranges` is the bits of the channels in each range ([`BitRange`]), `silent r` a recording
 //!   without its bits.
-//! - `IsSound s` names the limits of a sound, `HasSound file r s` says that the bytes of the sound in a
-//!   file hold the channels of a recording; `IfFound`, `IfMore` and `IfRefused` speak of a [`SoundAt`].
-//! - `sign`, what a bit counts, and `sum_below`, sums of whole numbers, serve the crates above.
+//! - `IsSound s` names the limits of a sound. `HasSound file r s` says that the bytes of the sound in a file hold the
+//!   channels of a recording. `IfFound`, `IfMore` and `IfRefused` are about a [`SoundAt`].
+//! - `sign`, which is what a bit counts, and `sum_below`, a sum of whole numbers, are for the crates above.
 //!
 //! ```text
 //! let bits = Bits::from_packed(alloc, &[0xf0, 0xff], 12)?;

@@ -9,8 +9,8 @@ pub const LEAST_RATE: u32 = 1_000_000;
 /// The greatest rate of a recording, in hertz.
 pub const GREATEST_RATE: u32 = 50_000_000;
 
-/// How many bytes of a channel stand in a block of DSF 1.01.
+/// How many bytes of a channel a block of DSF 1.01 holds.
 pub const BLOCK_BYTES: usize = 4096;
 
-/// How many bits of a channel stand in a block of DSF 1.01.
+/// How many bits of a channel a block of DSF 1.01 holds.
 pub const BLOCK_BITS: usize = 32768;

@@ -1,4 +1,4 @@
-//! Packed bits that are written into bytes, whole bytes at a time.
+//! Packed bits are written into bytes, whole bytes at a time.
 
 ghost use Rattle.std.specs.Prelude.{◌≡◌, ℕ, ◌+◌, ◌-◌, ◌*◌, ◌/◌, ◌%◌, ◌<◌, ◌≤◌, ◌++◌, ◌∷◌, [], Bool, List, false, if◌then◌else◌, IsOk, is_ok, length, OnOk, slice_index, vec_capacity, vec_len};
 ghost use Rattle.std.specs.Int.{div_ceil};
@@ -7,7 +7,7 @@ ghost use Rattle.dsd_bits.specs.Shifting.{byte_across, byte_from, bytes_from};
 
 use std::alloc::AllocError;
 
-// Clears the packed bits from bit `from` on, which all stand in the last byte.
+// Clears the packed bits from bit `from` on, which are all in the last byte.
 pub(crate) fn clear_from(bytes: &mut Vec<u8>, from: usize)
     requires in_last { (from ≤ 8 * vec_len bytes.old) × (8 * vec_len bytes.old < from + 8) }
     ensures len { vec_len bytes.new ≡ vec_len bytes.old }
@@ -20,7 +20,7 @@ pub(crate) fn clear_from(bytes: &mut Vec<u8>, from: usize)
     }
 }
 
-// Writes the next bit behind the `at` bits that the bytes hold.
+// Writes the next bit after the `at` bits that the bytes hold.
 pub(crate) fn put_bit(bytes: &mut Vec<u8>, at: usize, bit: bool)
     requires { at < 8 * vec_len bytes.old }
     ensures len { vec_len bytes.new ≡ vec_len bytes.old }
@@ -32,8 +32,8 @@ pub(crate) fn put_bit(bytes: &mut Vec<u8>, at: usize, bit: bool)
     }
 }
 
-// Writes the bits of `source` from bit `from` on behind the first `at` bits, to the end of their last
-// byte, whose spare bits are zero.
+// Writes the bits of `source` from bit `from` on after the first `at` bits, up to the end of their last byte, whose
+// spare bits are zero.
 pub(crate) fn fill_byte(bytes: &mut Vec<u8>, at: usize, source: &[u8], from: usize)
     requires in_bytes { at ≤ 8 * vec_len bytes.old }
     requires spare { (i : ℕ) → at ≤ i → i < 8 * div_ceil at 8 → packed_bit bytes.old.items i ≡ false }
@@ -51,7 +51,7 @@ pub(crate) fn fill_byte(bytes: &mut Vec<u8>, at: usize, source: &[u8], from: usi
     }
 }
 
-// Appends `size` bytes: the bits of `source` from bit `at` on, zeros past its end.
+// Appends `size` bytes: the bits of `source` from bit `at` on, with zeros past its end.
 pub(crate) fn append_bytes(
     bytes: &mut Vec<u8>,
     source: &[u8],
@@ -78,8 +78,8 @@ pub(crate) fn append_bytes(
     Ok(())
 }
 
-// Writes the bits of `source` from bit `at` on over the bytes from `kept` on: each is made of two bytes
-// that stand side by side, of which the last may lack the second.
+// Writes the bits of `source` from bit `at` on over the bytes from `kept` on. Each is made of two neighbouring bytes;
+// the last may lack the second.
 fn shift_into(to: &mut [u8], kept: usize, source: &[u8], at: usize)
     requires some { kept < length to.old }
     requires in_source { at / 8 + (length to.old - kept) ≤ length source.now }
@@ -100,7 +100,7 @@ fn shift_into(to: &mut [u8], kept: usize, source: &[u8], at: usize)
     );
 }
 
-/// The 8 bits from bit `at` on, zeros past the end.
+/// The 8 bits from bit `at` on, with zeros past the end.
 #[inline]
 pub fn byte_from(bytes: &[u8], at: usize) -> u8
     ensures { result ≡ byte_from bytes.now at }
@@ -112,7 +112,7 @@ pub fn byte_from(bytes: &[u8], at: usize) -> u8
     )
 }
 
-// The 8 bits at `shift` and behind it, of two bytes that stand side by side.
+// The 8 bits from `shift` on of two neighbouring bytes.
 #[inline]
 fn byte_across(high: u8, low: u8, shift: usize) -> u8
     requires { shift < 8 }
@@ -121,7 +121,7 @@ fn byte_across(high: u8, low: u8, shift: usize) -> u8
     ((high as u16 * 256 + low as u16) >> (8 - shift) & 0xff) as u8
 }
 
-// Byte `j`, and zero past the end.
+// Byte `j`, or zero past the end.
 fn byte_or_zero(bytes: &[u8], j: usize) -> u8
     ensures { result ≡ slice_index bytes.now j }
 {

@@ -1,4 +1,4 @@
-//! Frames, which are one byte of each channel in turn, and planes, which are 4096 bytes of each channel in turn.
+//! Frames (one byte of each channel in turn) and planes (4096 bytes of each channel in turn).
 
 ghost use Rattle.std.specs.Prelude.{◌≡◌, ℕ, ◌+◌, ◌*◌, ◌/◌, ◌%◌, ◌<◌, ◌≤◌, ◌⊎◌, length, slice_index};
 ghost use Rattle.dsd_bits.specs.Limits.{block_bytes};
@@ -7,8 +7,8 @@ use crate::lacing::split_two;
 use crate::limits::BLOCK_BYTES;
 use std::simd::prelude::*;
 
-/// Writes `count` frames of one to six channels into planes: the byte of channel `c` in frame `k` to place
-/// `4096 * c + k`. At most 4096 frames; the rest of each plane stays as it was.
+/// Writes `count` frames of one to six channels into planes: the byte of channel `c` in frame `k` to place `4096 * c +
+/// k`. There are at most 4096 frames. The rest of each plane is unchanged.
 pub fn frames_to_planes(planes: &mut [u8], frames: &[u8], channels: usize, count: usize)
     requires channel_number { (1 ≤ channels) × (channels ≤ 6) }
     requires few { count ≤ block_bytes }
@@ -29,7 +29,7 @@ pub fn frames_to_planes(planes: &mut [u8], frames: &[u8], channels: usize, count
     }
 }
 
-// The same for a number of channels that is known when it is compiled, which makes vectors of it.
+// The same for a number of channels that is known at compile time, so that the compiler makes vectors of it.
 fn take_apart<const N: usize>(planes: &mut [u8], frames: &[u8], count: usize)
     requires number { N ≤ 6 }
     requires few { count ≤ block_bytes }
@@ -47,7 +47,7 @@ fn take_apart<const N: usize>(planes: &mut [u8], frames: &[u8], count: usize)
     }
 }
 
-// The same of two channels, 16 frames at a time whichever processor it is compiled for.
+// The same for two channels, 16 frames at a time whatever processor it is compiled for.
 fn take_two_apart(planes: &mut [u8], frames: &[u8], count: usize)
     requires few { count ≤ block_bytes }
     requires frames { count * 2 ≤ length frames.now }
@@ -63,7 +63,7 @@ fn take_two_apart(planes: &mut [u8], frames: &[u8], count: usize)
     split_two(left, right, frames, 0);
 }
 
-// The same of five channels, of which no compiler makes vectors by itself.
+// The same for five channels, of which no compiler makes vectors by itself.
 fn take_five_apart(planes: &mut [u8], frames: &[u8], count: usize)
     requires few { count ≤ block_bytes }
     requires frames { count * 5 ≤ length frames.now }
@@ -78,7 +78,7 @@ fn take_five_apart(planes: &mut [u8], frames: &[u8], count: usize)
     }
 }
 
-// One of five channels: 16 frames at a time, and then what is left.
+// One of five channels: 16 frames at a time, then the rest.
 fn take_fifth_out(planes: &mut [u8], frames: &[u8], channel: usize, count: usize)
     requires channel { channel < 5 }
     requires few { count ≤ block_bytes }
@@ -126,8 +126,8 @@ fn eight_of_fifths(bytes: &[u8], from: usize) -> u8x8
     first.shuffle(second, [0, 5, 10, 15, 16, 21, 26, 31])
 }
 
-/// Writes `count` frames of one to six channels from planes: the byte of channel `c` in frame `k` from place
-/// `4096 * c + k`. At most 4096 frames; what stands behind them stays as it was.
+/// Writes `count` frames of one to six channels from planes: the byte of channel `c` in frame `k` from place `4096 * c
+/// + k`. There are at most 4096 frames. What follows them is unchanged.
 pub fn planes_to_frames(frames: &mut [u8], planes: &[u8], channels: usize, count: usize)
     requires channel_number { (1 ≤ channels) × (channels ≤ 6) }
     requires few { count ≤ block_bytes }
@@ -148,7 +148,7 @@ pub fn planes_to_frames(frames: &mut [u8], planes: &[u8], channels: usize, count
     }
 }
 
-// The same for a number of channels that is known when it is compiled, which makes vectors of it.
+// The same for a number of channels that is known at compile time, so that the compiler makes vectors of it.
 fn put_together<const N: usize>(frames: &mut [u8], planes: &[u8], count: usize)
     requires number { N ≤ 6 }
     requires few { count ≤ block_bytes }

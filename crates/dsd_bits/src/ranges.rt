@@ -1,4 +1,4 @@
-//! A range of bits behind packed bits.
+//! A range of bits is appended to packed bits.
 
 ghost use Rattle.std.specs.Prelude.{◌≡◌, ◌-◌, ◌*◌, ◌+◌, ◌≤◌, ◌++◌, IsOk, OnErr, OnOk, length, slice_range, vec_capacity};
 ghost use Rattle.dsd_bits.specs.Limits.{most_bits};
@@ -8,8 +8,8 @@ use crate::bits::Bits;
 use crate::packing::{append_bytes, clear_from, fill_byte};
 use std::alloc::AllocError;
 
-// Appends the bits `start` to `stop - 1` of `source` to `before` packed bits. It fails only where room is missing, and
-// leaves the bytes as they were then.
+// Appends the bits `start` to `stop - 1` of `source` to `before` packed bits. It fails only if there is no room, and
+// then the bytes are unchanged.
 pub(crate) fn append_range(
     bytes: &mut Vec<u8>,
     before: usize,
@@ -38,7 +38,7 @@ pub(crate) fn append_range(
     Ok(())
 }
 
-// The same where room for the bits is held: it never fails.
+// The same if memory for the bits is reserved: it never fails.
 pub(crate) fn append_held(
     bytes: &mut Vec<u8>,
     before: usize,

@@ -14,8 +14,8 @@ use crate::stretches::silent_channels;
 use std::alloc::{AllocError, Global};
 use std::marker::Model;
 
-/// A recording of one to six channels of equal length. Contracts see it as one record of lists and
-/// numbers, `Content`, which keeps to the rules of `HasShape`.
+/// A recording of one to six channels of equal length. Contracts see it as one record of lists and numbers, `Content`,
+/// which obeys the rules of `HasShape`.
 #[derive(Drop)]
 pub struct Recording {
     description: Description,
@@ -34,7 +34,7 @@ impl Model for Recording {
 }
 
 impl Recording {
-    /// The recording of these parts, which are moved into it; it takes no memory.
+    /// The recording of these parts, which are moved into it. It takes no memory.
     ///
     /// The rate is in hertz, 1,000,000 to 50,000,000. There are one to six channels of equal length, at
     /// most `2^36` bits, an ID for each, and a layout of DSF 1.01 (`specs/Layouts.antt`) for that many. The
@@ -62,7 +62,7 @@ impl Recording {
         }
     }
 
-    /// The recording of this description with these channels, which are moved into it; it takes no memory.
+    /// The recording of this description with these channels, which are moved into it. It takes no memory.
     pub fn of(description: Description, channels: Vec<Bits>) -> Recording
         requires { AreDescribed description channels.items }
         ensures { result ≡ with_channels description channels.items }
@@ -81,21 +81,21 @@ impl Recording {
         description
     }
 
-    /// The recording without its bits, which are let go.
+    /// The recording without its bits, whose memory is freed.
     pub fn into_description(self) -> Description
         ensures { result ≡ described self }
     {
         self.description
     }
 
-    /// The same recording without its bits: its channels have none. Err is out of memory.
+    /// The same recording without its bits: its channels are empty. Err is out of memory.
     pub fn into_silent(self, alloc: Global) -> Result<Recording, AllocError>
         ensures { IfOk result (λ r. r ≡ silent self) }
     {
         Recording::silent(alloc, self.description)
     }
 
-    /// A recording of this description, but that its channels have no bits. Err is out of memory.
+    /// A recording of this description, but with empty channels. Err is out of memory.
     pub fn silent(alloc: Global, description: Description) -> Result<Recording, AllocError>
         ensures { IfOk result (λ r. r ≡ with_channels description (replicate (length description.ids) [])) }
     {
@@ -107,7 +107,7 @@ impl Recording {
         })
     }
 
-    /// Bits a second of each channel, in hertz.
+    /// Bits per second of each channel, in hertz.
     pub fn rate(&self) -> u32
         ensures value { result ≡ self.now.rate }
         ensures in_limits { IsRate result }
@@ -120,7 +120,7 @@ impl Recording {
         ensures value { result.now ≡ self.now.channels }
         ensures shape { HasShape self.now }
     {
-        // Read, so that the description's own shape is known.
+        // Borrowed, so that the description's own shape is known.
         let _shape = self.description.ids();
         let channels = self.channels.as_slice();
         channels
@@ -134,14 +134,14 @@ impl Recording {
         self.description.count()
     }
 
-    /// The ID of each channel, as of DSDIFF 1.5.
+    /// The ID of each channel, as in DSDIFF 1.5.
     pub fn ids(&self) -> &[[u8; 4]]
         ensures { result.now ≡ self.now.ids }
     {
         self.description.ids()
     }
 
-    /// The layout of the channels, a channel type of DSF 1.01.
+    /// The layout of the channels, which is a channel type of DSF 1.01.
     pub fn layout(&self) -> u32
         ensures { result ≡ self.now.layout }
     {

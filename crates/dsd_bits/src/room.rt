@@ -1,4 +1,4 @@
-//! Room for bits that is held before they come.
+//! Bits whose memory is reserved before they come.
 
 ghost use Rattle.std.specs.Prelude.{◌≡◌, ◌-◌, ◌+◌, ◌≤◌, ◌++◌, [], IfOk, length, slice_range};
 ghost use Rattle.dsd_bits.specs.Limits.{most_bits};
@@ -9,7 +9,7 @@ use crate::ranges::append_held;
 use std::alloc::{AllocError, Global};
 use std::marker::Model;
 
-/// Bits for which room is held: to add to them takes no memory and never fails.
+/// Bits whose memory is reserved: adding to them takes no memory and never fails.
 #[derive(Drop)]
 pub struct BitRoom {
     bytes: Vec<u8>,
@@ -30,7 +30,7 @@ impl Model for BitRoom {
 }
 
 impl BitRoom {
-    /// Room for `most` bits, at most `2^36`, and no bits in it. Err is want of memory.
+    /// Memory for `most` bits, at most `2^36`, with no bits in it. Err is out of memory.
     pub fn new(alloc: Global, most: usize) -> Result<BitRoom, AllocError>
         requires { most ≤ most_bits }
         ensures { IfOk result (λ room. room ≡ record { bits = []; most = most }) }
@@ -51,7 +51,7 @@ impl BitRoom {
         self.count
     }
 
-    /// Lets all bits go. The room is held on.
+    /// Removes all bits, and keeps the memory.
     pub fn clear(&mut self)
         ensures { self.new ≡ record self.old { bits = [] } }
     {
@@ -59,7 +59,7 @@ impl BitRoom {
         self.count = 0;
     }
 
-    /// Adds the bits `start` to `stop - 1` of `source` at the end, for which there is room.
+    /// Adds the bits `start` to `stop - 1` of `source` at the end, for which memory is reserved.
     pub fn push_range(&mut self, source: &Bits, start: usize, stop: usize)
         requires in_order { start ≤ stop }
         requires in_source { stop ≤ length source.now }
@@ -70,7 +70,7 @@ impl BitRoom {
         self.count += stop - start;
     }
 
-    // The bits packed, zeros in the spare bits of the last byte.
+    // The packed bits, with zeros in the spare bits of the last byte.
     pub(crate) fn as_bytes(&self) -> &[u8]
         ensures { result.now ≡ packed self.now.bits }
     {

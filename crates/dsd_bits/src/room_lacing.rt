@@ -1,4 +1,4 @@
-//! Bits in held rooms laced into sound bytes for which room is held too.
+//! Bits in reserved memory are interleaved into sound bytes, for which memory is reserved too.
 
 ghost use Rattle.std.specs.Prelude.{◌≡◌, ◌+◌, ◌*◌, ◌%◌, ◌≤◌, ◌++◌, length, map, slice_index, vec_capacity, vec_len};
 ghost use Rattle.std.specs.List.{range_with_len};
@@ -14,8 +14,8 @@ use crate::limits::BLOCK_BITS;
 use crate::room::BitRoom;
 use std::alloc::AllocError;
 
-/// Appends the sound bytes of one to six channels of equal length in whole bytes, which stand in rooms, as
-/// [`push_laced`](crate::push_laced) does. There is room for them, so it takes no memory.
+/// Appends the sound bytes of one to six channels of equal length in whole bytes, held in [`BitRoom`](crate::BitRoom)s,
+/// as [`push_laced`](crate::push_laced) does. Memory for them is reserved, so it takes none.
 pub fn push_laced_rooms(out: &mut Vec<u8>, rooms: &[BitRoom])
     requires channel_number { (1 ≤ length rooms.now) × (length rooms.now ≤ 6) }
     requires level { IsLevel (rooms_bits rooms.now) }
@@ -51,8 +51,8 @@ fn lace_rooms(to: &mut [u8], rooms: &[BitRoom])
     }
 }
 
-/// Appends the sound bytes of one to six channels of equal length, which stand in rooms, in blocks, as
-/// [`push_blocks`](crate::push_blocks) does. There is room for them, so it takes no memory.
+/// Appends the sound bytes in blocks of one to six channels of equal length, held in [`BitRoom`](crate::BitRoom)s, as
+/// [`push_blocks`](crate::push_blocks) does. Memory for them is reserved, so it takes none.
 pub fn push_blocked_rooms(out: &mut Vec<u8>, rooms: &[BitRoom], order: BitOrder)
     requires channel_number { (1 ≤ length rooms.now) × (length rooms.now ≤ 6) }
     requires level { IsLevel (rooms_bits rooms.now) }
@@ -68,7 +68,7 @@ pub fn push_blocked_rooms(out: &mut Vec<u8>, rooms: &[BitRoom], order: BitOrder)
     }
 }
 
-// Appends the block of a channel in a group, for which there is room.
+// Appends the block of a channel in a group, for which memory is reserved.
 fn push_held_block(out: &mut Vec<u8>, bytes: &[u8], group: usize, order: BitOrder)
     requires in_bytes { block_bytes * group ≤ length bytes.now }
     requires held { vec_len out.old + block_bytes ≤ vec_capacity out.old }

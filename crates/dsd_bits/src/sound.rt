@@ -1,4 +1,4 @@
-//! Where the sound of a file stands, as the front of the file tells.
+//! Where a file holds its sound, as its first bytes say.
 
 use crate::interleaving::Interleaving;
 
@@ -13,19 +13,19 @@ pub struct Sound {
     pub count: usize,
     /// The place of the first sound byte in the file.
     pub start: usize,
-    /// How many sound bytes the channels need.
+    /// How many sound bytes the channels take.
     pub size: usize,
     /// How the channels are interleaved.
     pub interleaving: Interleaving,
 }
 
-/// What the front of a file tells of its sound.
+/// What the first bytes of a file say about its sound.
 #[derive(Clone, Copy, PartialEq, Eq)]
 pub enum SoundAt {
-    /// The head of the chunk of the sound is not yet there.
+    /// They don't yet hold the header of the sound's chunk.
     More,
-    /// No file that begins so is accepted.
+    /// No file that begins like this is accepted.
     Refused,
-    /// Where the sound stands, and what it is.
+    /// Where the sound is, and what it is.
     Found(Sound),
 }

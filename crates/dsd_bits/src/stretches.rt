@@ -1,4 +1,4 @@
-//! Parts of the channels of a recording, and channels of no bits.
+//! Parts of the channels of a recording, and channels without bits.
 
 ghost use Rattle.std.specs.Prelude.{◌≡◌, [], IfOk, map, replicate, slice_range};
 ghost use Rattle.dsd_bits.specs.Stretches as specs;
@@ -6,16 +6,16 @@ ghost use Rattle.dsd_bits.specs.Stretches as specs;
 use crate::bits::Bits;
 use std::alloc::{AllocError, Global};
 
-/// Some bits of each channel in turn: the first, and the place after the last.
+/// A range of bits of each channel, from the first to the place after the last.
 #[derive(Clone, Copy)]
 pub struct BitRange {
     /// The place of the first bit.
     pub start: usize,
-    /// The place after the last bit; there are none where it is no greater than `start`.
+    /// The place after the last bit. The range is empty if it is not above `start`.
     pub stop: usize,
 }
 
-/// For each range in turn the bits that each channel has there, as far as it reaches. Err is want of memory.
+/// For each range in turn the bits that each channel has there, as far as it reaches. Err is out of memory.
 pub fn stretches_of(
     alloc: Global,
     channels: &[Bits],
@@ -53,7 +53,7 @@ fn cut_out(alloc: Global, channel: &Bits, range: BitRange) -> Result<Bits, Alloc
     Ok(made)
 }
 
-/// So many channels of no bits. Err is want of memory.
+/// As many channels without bits as asked for. Err is out of memory.
 pub fn silent_channels(alloc: Global, number: usize) -> Result<Vec<Bits>, AllocError>
     ensures { IfOk result (λ made. made.items ≡ replicate number []) }
 {

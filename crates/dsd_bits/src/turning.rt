@@ -1,11 +1,10 @@
-//! Bytes with their bits in the other order, as DSF 1.01 stores them: the earliest bit the least
-//! significant.
+//! Bytes with their bits in the other order, as DSF 1.01 stores them: the earliest bit is the least significant.
 
 ghost use Rattle.std.specs.Prelude.{◌≡◌, map};
 ghost use Rattle.dsd_bits.specs.Turning.{AreTurned, IsTurned, turned};
 
-/// The bits of a byte in the other order: bit `i` of the result is bit `7 - i` of `byte`, bit 0 being
-/// the least significant.
+/// The bits of a byte in the other order: bit `i` of the result is bit `7 - i` of `byte`, where bit 0 is the least
+/// significant.
 pub fn turn_byte(byte: u8) -> u8
     ensures value { result ≡ turned byte }
     ensures bits { IsTurned byte result }
@@ -20,7 +19,7 @@ pub fn turn_byte(byte: u8) -> u8
         + byte / 128
 }
 
-/// Turns each byte as [`turn_byte`] does.
+/// Reverses each byte as [`turn_byte`] does.
 pub fn turn(bytes: &mut [u8])
     ensures values { bytes.new ≡ map turned bytes.old }
     ensures bits { AreTurned bytes.old bytes.new }

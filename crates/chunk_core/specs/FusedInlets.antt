@@ -1,4 +1,4 @@
--- What contracts see of a reader with an end to its reads, that is not read again after a failure.
+-- What contracts see of a reader with a limited number of reads, which is not read again after a failure.
 use Rattle.std.specs.Prelude.{ℕ, ◌<◌, ◌≤◌, ◌⊎◌}
 use Rattle.chunk_core.specs.Inlets.{inlet_failures, inlet_reader, inlet_reads}
 use Rattle.chunk_core.specs.declared.fused_inlet.FusedInlet.{FusedInlet}
@@ -7,7 +7,7 @@ use Rattle.chunk_core.specs.declared.fused_inlet.FusedInlet.{FusedInlet}
 abbrev pub fused_reader : {R : Type 0} → FusedInlet R → R
 fused_reader fused = inlet_reader fused.inlet
 
--- how many reads it may be read
+-- the number of reads that it may make in all
 abbrev pub fused_most : {R : Type 0} → FusedInlet R → ℕ
 fused_most fused = fused.most
 

@@ -5,7 +5,7 @@ use Rattle.chunk_core.specs.declared.fused_outlet.FusedOutlet.{FusedOutlet}
 use Rattle.chunk_core.specs.declared.fused_outlet.FusedFault.{FusedFault}
 use Rattle.chunk_core.specs.declared.fused_outlet.FusedFault.TheVariants.{Device, Failed}
 
--- the outlet, as it stands
+-- the outlet itself
 abbrev pub fused_outlet : {W : Type 0} → FusedOutlet W → Outlet W
 fused_outlet fused = fused.outlet
 
@@ -13,7 +13,7 @@ fused_outlet fused = fused.outlet
 abbrev pub fused_failed : {W : Type 0} → FusedOutlet W → Bool
 fused_failed fused = fused.has_failed
 
--- how many failures of its writer an answer counts: one where it is `Device`
+-- the number of failures of its writer that a result counts: one if it is `Device`
 abbrev pub failed_parts : {T : Type 0} → Result T FusedFault → ℕ
 failed_parts (Err Device) = 1
 failed_parts (Err Failed) = 0

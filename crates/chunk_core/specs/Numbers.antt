@@ -9,7 +9,7 @@ abbrev pub number_of : Order → ℕ → List ℕ → ℕ
 number_of Big n bytes = big_number n bytes
 number_of Little n bytes = little_number n bytes
 
--- the number in the n bytes that stand at a place
+-- the number in the n bytes at a place
 abbrev pub number_at : Order → ℕ → List ℕ → ℕ → ℕ
 number_at order n bytes at = number_of order n (drop at bytes)
 
@@ -18,6 +18,6 @@ abbrev pub bytes_of : Order → ℕ → ℕ → List ℕ
 bytes_of Big n value = big_bytes n value
 bytes_of Little n value = little_bytes n value
 
--- the ID that stands at a place
+-- the ID at a place
 abbrev pub id_at : List ℕ → ℕ → List ℕ
 id_at bytes at = take 4 (drop at bytes)

@@ -1,4 +1,4 @@
--- Where chunks stand.
+-- Where chunks are.
 use Rattle.std.specs.Prelude.{◌≤◌, ℕ, ◌+◌, List, [], ◌∷◌, length, take, drop}
 use Rattle.chunk_core.specs.declared.layout.Span.{Span}
 use Rattle.chunk_core.specs.Chunks.{Chunk, width}
@@ -12,7 +12,7 @@ places at (c ∷ cs) = record { id = c.id; start = at + 12; size = length c.cont
 abbrev pub span_chunk : List ℕ → Span → Chunk
 span_chunk bytes s = record { id = s.id; content = take s.size (drop s.start bytes) }
 
--- the data of a span, and the head before them, lie in a range
+-- a range holds the data of a span and the header before them
 pub record LiesIn (start stop : ℕ) (s : Span) : Type 0 where
   pub begins : start + 12 ≤ s.start
   pub ends : s.start + s.size ≤ stop

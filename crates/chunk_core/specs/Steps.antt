@@ -15,7 +15,7 @@ Fails Memory reading = Unit {0}
 Fails (HeadCut at) reading = reading ≡ Err (HeadCut at)
 Fails (DataCut at) reading = reading ≡ Err (DataCut at)
 
--- what a function returned, its value seen by view, is the reading, unless memory ran out
+-- what a function returned, its value as `view` shows it, is the reading, unless memory ran out
 abbrev pub Gives : {X Y : Type 0} → (X → Y) → Result X ChunkFault → Result Y ChunkFault → Type 0
 Gives view (Ok x) reading = reading ≡ Ok (view x)
 Gives view (Err e) reading = Fails e reading

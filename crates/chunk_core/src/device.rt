@@ -2,7 +2,7 @@
 
 use thiserror::Error;
 
-/// A read or a write failed, or a write took nothing of the bytes that it was given.
+/// A read or a write failed, or a write accepted none of the bytes that it got.
 #[derive(Clone, Copy, Debug, PartialEq, Eq, Error)]
 #[error("Device")]
 pub struct Device;

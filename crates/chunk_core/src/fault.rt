@@ -1,4 +1,4 @@
-//! Why a range is no list of chunks.
+//! Why a range is not a list of chunks.
 
 ghost use Rattle.std.specs.Prelude.{◌≡◌};
 ghost use Rattle.chunk_core.specs.declared.fault.ChunkFault.TheVariants.{Memory};
@@ -6,17 +6,17 @@ ghost use Rattle.chunk_core.specs.declared.fault.ChunkFault.TheVariants.{Memory}
 use std::alloc::AllocFailed;
 use thiserror::Error;
 
-/// Why a range is no list of chunks. A place is counted in bytes from the first byte of the slice that
-/// was walked, and is that of the chunk's head.
+/// Why a range is not a list of chunks. Each fault has the place of the chunk's header, in bytes from the start of the
+/// slice that was walked.
 #[derive(Clone, Copy, Debug, PartialEq, Eq, Error)]
 pub enum ChunkFault {
-    /// Fewer than the 12 bytes of a head are left at this place, but some are.
+    /// At this place at least one byte is left, but fewer than the 12 of a header.
     #[error("HeadCut {0}")]
     HeadCut(usize),
-    /// The data of the chunk at this place go past the end of the range.
+    /// The data of the chunk at this place extend past the end of the range.
     #[error("DataCut {0}")]
     DataCut(usize),
-    /// Want of memory.
+    /// Out of memory.
     #[error("Memory")]
     Memory,
 }

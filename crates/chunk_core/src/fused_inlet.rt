@@ -1,4 +1,4 @@
-//! A reader with an end to its reads.
+//! A reader with a limited number of reads.
 
 ghost use Rattle.std.specs.Prelude.{◌≡◌, ◌↔◌, IsTrue};
 ghost use Rattle.chunk_core.specs.FusedInlets.{HasFailed, fused_most, fused_reader};
@@ -8,8 +8,7 @@ use crate::inlet::Inlet;
 use std::io;
 use std::io::{ErrorKind, Read};
 
-/// A reader that is read so many times at most, and not again after a read that failed: every later read
-/// fails.
+/// A reader that is read a limited number of times, and not again after a failed read: every later read fails.
 #[derive(Drop)]
 pub struct FusedInlet<R> {
     inlet: Inlet<R>,
@@ -17,7 +16,7 @@ pub struct FusedInlet<R> {
 }
 
 impl<R: Read> FusedInlet<R> {
-    /// This reader, for so many reads.
+    /// This reader, for at most `most` reads.
     pub fn new(reader: R, most: u64) -> FusedInlet<R>
         ensures reader { fused_reader result ≡ reader }
         ensures most { fused_most result ≡ most }
@@ -28,7 +27,7 @@ impl<R: Read> FusedInlet<R> {
         }
     }
 
-    /// Whether a read failed, or no read is left.
+    /// Whether a read failed, or the reads are used up.
     pub fn has_failed(&self) -> bool
         ensures { IsTrue result ↔ HasFailed self.now }
     {

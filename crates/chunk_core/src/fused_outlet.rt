@@ -11,9 +11,9 @@ use thiserror::Error;
 /// Why bytes weren't written, or not all of them. A fault's text is its name.
 #[derive(Clone, Copy, Debug, PartialEq, Eq, Error)]
 pub enum FusedFault {
-    /// A write failed. A front of the bytes went out.
+    /// A write failed. A prefix of the bytes was written.
     Device,
-    /// An earlier write failed. Nothing went out.
+    /// An earlier write failed. Nothing was written.
     Failed,
 }
 
@@ -23,7 +23,7 @@ impl fmt::Display for FusedFault {
     }
 }
 
-/// An outlet that writes nothing more once a write failed.
+/// An outlet that writes nothing more after a failed write.
 #[derive(Drop)]
 pub struct FusedOutlet<W> {
     outlet: Outlet<W>,
@@ -34,7 +34,7 @@ pub struct FusedOutlet<W> {
 impl<W: Write> FusedOutlet<W> {
     ghost use Rattle.chunk_core.specs.FusedOutlets.{failed_parts, fused_failed, fused_outlet};
 
-    /// An outlet that didn't fail yet.
+    /// An outlet without a failed write so far.
     pub fn new(outlet: Outlet<W>) -> FusedOutlet<W>
         requires { outlet_failures outlet < 2 ^ 64 - 1 }
         ensures outlet { fused_outlet result ≡ outlet }
@@ -46,10 +46,10 @@ impl<W: Write> FusedOutlet<W> {
         }
     }
 
-    /// Writes all of the bytes, in as many writes as it takes.
+    /// Writes all of the bytes, in as many writes as needed.
     ///
-    /// Refusals: `Device` at the first write that answers an error or takes nothing, and a front of the bytes
-    /// went out, not all of them; `Failed` after a `Device`, and nothing is written.
+    /// Refusals: `Device` at the first write that returns an error or accepts nothing; a prefix of the bytes was
+    /// written, but not all of them. `Failed` after a `Device`; nothing is written.
     pub fn put_all(&mut self, bytes: &[u8]) -> Result<(), FusedFault>
         ensures ok { OnOk result (Puts W.contents (fused_outlet self.old) (fused_outlet self.new) bytes.now) }
         ensures device { IsErrOf result FusedFault.Device
@@ -79,7 +79,7 @@ impl<W: Write> FusedOutlet<W> {
         self.has_failed
     }
 
-    /// The outlet, as it stands.
+    /// The outlet itself.
     pub fn into_inner(self) -> Outlet<W>
         ensures { result ≡ fused_outlet self }
     {

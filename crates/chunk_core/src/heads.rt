@@ -1,4 +1,4 @@
-//! The head of a chunk.
+//! The header of a chunk.
 
 ghost use Rattle.std.specs.Prelude.{◌<◌, ◌+◌, length, MatchOption};
 ghost use Rattle.chunk_core.specs.Heads.{IsHeadAt};
@@ -6,10 +6,9 @@ ghost use Rattle.chunk_core.specs.Heads.{IsHeadAt};
 use crate::layout::Head;
 use crate::numbers::{Order, id_at, u64_at};
 
-/// The head that stands at the place `at`, with its size in this order of bytes: `Big` for DSDIFF 1.5,
-/// `Little` for DSF 1.01.
+/// The header at the place `at`, with its size in this order of bytes: `Big` for DSDIFF 1.5, `Little` for DSF 1.01.
 ///
-/// It is `None` where fewer than 12 bytes stand there, as at any place past the end.
+/// It is `None` if fewer than 12 bytes are left there, as at any place past the end.
 pub fn head(order: Order, bytes: &[u8], at: usize) -> Option<Head>
     ensures { MatchOption result (length bytes.now < at + 12) (IsHeadAt order bytes.now at) }
 {

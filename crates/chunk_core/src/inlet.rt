@@ -7,8 +7,7 @@ ghost use Rattle.std.specs.Io.Iter.{u64_saturate};
 use crate::device::Device;
 use std::io::Read;
 
-/// A reader with three counts: the reads that failed, the reads, and the bytes that they gave. It takes no
-/// memory.
+/// A reader with three counters: failed reads, reads, and bytes that they returned. It takes no memory.
 #[derive(Drop)]
 pub struct Inlet<R> {
     reader: R,
@@ -20,7 +19,7 @@ pub struct Inlet<R> {
 impl<R: Read> Inlet<R> {
     ghost use Rattle.chunk_core.specs.Inlets.{CountsReads, FailsFilling, Gives, PullsBehind, inlet_failures, inlet_given, inlet_reader, inlet_reads};
 
-    /// An inlet over this reader, whose counts are 0.
+    /// An inlet over this reader, with all counters at 0.
     pub fn new(reader: R) -> Inlet<R>
         ensures reader { inlet_reader result ≡ reader }
         ensures failures { inlet_failures result ≡ 0 }
@@ -35,15 +34,15 @@ impl<R: Read> Inlet<R> {
         }
     }
 
-    /// One read into the buffer. Its answer is how many bytes it gave, which stand at the buffer's front.
-    /// After `Device`, and behind the bytes that were given, what the buffer holds is open.
+    /// Reads once into the buffer, and returns how many bytes came. They are at the start of the buffer. What the
+    /// buffer holds after them, or after `Device`, is unspecified.
     ///
-    /// Refusal: `Device` where the read answers an error, whichever it is.
+    /// Refusal: `Device` if the read returns an error of any kind.
     pub fn pull(&mut self, buffer: &mut [u8]) -> Result<usize, Device>
         requires { inlet_failures self.old < 2 ^ 64 - 1 }
         ensures bound { IfOk result (λ n. n ≤ length buffer.new) }
-        // Known bytes are given in their order and lost to the reader, none of them after `Device`. A
-        // buffer with room is given none only where none are left.
+        // Known bytes come in their order and leave the reader, none of them after `Device`. A buffer with room gets
+        // none only at the reader's end.
         ensures bytes { ReadConsumes (R.remaining (inlet_reader self.old))
             (R.remaining (inlet_reader self.new)) result buffer.new }
 
@@ -68,11 +67,11 @@ impl<R: Read> Inlet<R> {
         }
     }
 
-    /// Reads until the buffer is full or nothing is left, in as many reads as it takes. Its answer is how
-    /// many bytes they gave, which stand at the buffer's front. After `Device`, and behind the bytes that
-    /// were given, what the buffer holds is open; the bytes that came before a failed read are counted.
+    /// Reads until the buffer is full or the reader ends, in as many reads as needed, and returns how many bytes came.
+    /// They are at the start of the buffer. What the buffer holds after them, or after `Device`, is unspecified. Bytes
+    /// that came before a failed read are counted.
     ///
-    /// Refusal: `Device` at the first read that answers an error, whichever it is.
+    /// Refusal: `Device` at the first read that returns an error of any kind.
     pub fn fill(&mut self, buffer: &mut [u8]) -> Result<usize, Device>
         requires { inlet_failures self.old < 2 ^ 64 - 1 }
         ensures bytes { IfOk result (λ n. (n ≤ length buffer.new)
@@ -82,10 +81,10 @@ impl<R: Read> Inlet<R> {
             (λ _. inlet_failures self.new ≡ inlet_failures self.old)
             (λ _. inlet_failures self.new ≡ inlet_failures self.old + 1) }
         ensures given { IfOk result (λ n. inlet_given self.new ≡ u64_saturate (inlet_given self.old + n)) }
-        // One read more than those that gave bytes, where the buffer isn't full.
+        // If the buffer isn't full, there was one read more than those that returned bytes.
         ensures reads { IfOk result (λ n. CountsReads (inlet_reads self.old) (inlet_reads self.new) n
             (min 1 (length buffer.new - n))) }
-        // What was read before a read failed is counted too.
+        // What came before a failed read is counted too.
         ensures err { OnErr result (FailsFilling R.remaining self.old self.new (length buffer.new)) }
     {
         let mut filled = 0;
@@ -99,10 +98,10 @@ impl<R: Read> Inlet<R> {
         Ok(filled)
     }
 
-    /// One read, to the place behind the first `filled` bytes of the buffer, of which there are more: how many bytes it
-    /// gave.
+    /// Reads once to the place after the first `filled` bytes of the buffer, which has more than these, and returns how
+    /// many bytes came.
     ///
-    /// Refusal: as of [`Inlet::pull`].
+    /// Refusal: as for [`Inlet::pull`].
     pub fn pull_behind(&mut self, buffer: &mut [u8], filled: usize) -> Result<usize, Device>
         requires ready { inlet_failures self.old < 2 ^ 64 - 1 }
         requires room { filled < length buffer.old }
@@ -126,21 +125,21 @@ impl<R: Read> Inlet<R> {
         self.failures
     }
 
-    /// How many reads there were; it stays at `2^64-1`.
+    /// How many reads there were. It stops at `2^64-1`.
     pub fn reads(&self) -> u64
         ensures { result ≡ inlet_reads self.now }
     {
         self.reads
     }
 
-    /// How many bytes the reads gave; it stays at `2^64-1`.
+    /// How many bytes the reads returned. It stops at `2^64-1`.
     pub fn given(&self) -> u64
         ensures { result ≡ inlet_given self.now }
     {
         self.given
     }
 
-    /// The reader, as it stands.
+    /// The reader itself.
     pub fn into_inner(self) -> R
         ensures { result ≡ inlet_reader self }
     {

@@ -1,60 +1,58 @@
 //! Chunks of DSDIFF and DSF files, the numbers in them, and the devices that bytes come from and go to.
 //!
-//! A chunk is a head and its data. A head has 12 bytes: a four-byte ID, and the number of data bytes as
-//! an unsigned number of eight bytes, the highest byte first in DSDIFF 1.5 and the lowest first in
-//! DSF 1.01 ([`Order`]). In DSDIFF, as in IFF, one pad byte follows odd data. The size counts neither
-//! the head nor the pad.
+//! A chunk is a header and its data. A header has 12 bytes: a four-byte ID, and the number of data bytes as an unsigned
+//! number of eight bytes, the highest byte first in DSDIFF 1.5 and the lowest first in DSF 1.01 ([`Order`]). In DSDIFF,
+//! as in IFF, one pad byte follows odd data. The size counts neither the header nor the pad.
 //!
-//! [`head`] reads one head, [`walk`] finds the DSDIFF chunks that a range of bytes is made of, [`walk_at`] those of
-//! bytes that stand at a place of a file, and
-//! [`u16_at`], [`u32_at`], [`u64_at`] and [`id_at`] read what stands at a place. [`push_chunk`],
-//! [`push_u16`], [`push_u32`] and [`push_u64`] write chunks and numbers at the end of some bytes. What is read is
-//! never trusted for its size: a size goes up to `2^64-1`, and nothing is allocated for data that were only
-//! announced. All of them are over bytes in memory.
+//! [`head`] reads one header. [`walk`] finds the DSDIFF chunks of a range of bytes, [`walk_at`] those of bytes that lie
+//! at a given place of a file. [`u16_at`], [`u32_at`], [`u64_at`] and [`id_at`] read a number or an ID at a place.
+//! [`push_chunk`], [`push_u16`], [`push_u32`] and [`push_u64`] append chunks and numbers to bytes. A size that was read
+//! is never trusted: it may be up to `2^64-1`, and nothing is allocated for data that were only announced. All of these
+//! work on bytes in memory.
 //!
-//! An [`Inlet`] is any reader with counts of its failed reads, its reads and the bytes that they gave; an
-//! [`Outlet`] is any writer with a count of its failures. [`Inlet::pull`] reads once, [`Inlet::fill`]
-//! until a buffer is full, [`Outlet::put_all`] writes the whole of a slice, and [`Device`] is the one fault of
-//! both: it is answered exactly where the count of failures rose in the call.
+//! An [`Inlet`] is any reader with counters of its failed reads, its reads and the bytes that they returned. An
+//! [`Outlet`] is any writer with a counter of its failures. [`Inlet::pull`] reads once, [`Inlet::fill`] until a buffer
+//! is full, and [`Outlet::put_all`] writes a whole slice. [`Device`] is the one fault of both: it is returned exactly
+//! if the counter of failures rose in the call.
 //!
-//! A device that failed once needn't be trusted again. A [`FusedInlet`] is a reader that is read so many times
-//! at most, and not again after a read that failed; a [`FusedOutlet`] writes nothing more once a write failed,
-//! and its fault, [`FusedFault`], tells the write that failed from those that came behind it. So whoever writes
-//! part by part may make each call and look at the answers last.
+//! A device that failed once should not be used again. A [`FusedInlet`] is read at most a given number of times, and
+//! not again after a failed read. A [`FusedOutlet`] writes nothing more after a failed write, and its fault,
+//! [`FusedFault`], tells the write that failed from the calls after it. So a caller that writes part by part may make
+//! every call and check the results at the end.
 //!
-//! None of them takes memory of its own, and none knows a file by name. [`MOST_READS`] is how many reads a file may
-//! take to come to its end.
+//! None of them takes memory of its own, and none knows a file by name. [`MOST_READS`] is how many reads may be spent
+//! on a file.
 //!
 //! The words of its contracts:
-//! - `chunks bytes cs` (`specs/Chunks.antt`): the bytes are just these chunks. A pad may have any
-//!   value, and the last one may be missing. `spell` is a chunk's own spelling, with a pad of zero.
-//! - `places start cs` (`specs/Places.antt`): the spans of chunks that stand from `start` on, and
-//!   `span_chunk bytes` the way back, from a span to the chunk whose data stand there.
-//! - `spans_in bytes start stop` (`specs/Reading.antt`): the spans of a range or the first fault in
-//!   it, chunk by chunk; `spans_at at bytes` is that of bytes which stand at a place.
+//! - `chunks bytes cs` (`specs/Chunks.antt`): the bytes are exactly these chunks. A pad may have any value, and the
+//!   last one may be missing. `spell` is the bytes of a chunk as it is written, with a pad of zero.
+//! - `places start cs` (`specs/Places.antt`): the spans of chunks that follow each other from `start` on. `span_chunk
+//!   bytes` is the way back, from a span to the chunk whose data it holds.
+//! - `spans_in bytes start stop` (`specs/Reading.antt`): the spans of a range or the first fault in it, chunk by chunk.
+//!   `spans_at at bytes` is the same for bytes that lie at a given place.
 //! - `number_at`, `bytes_of`, `id_at` (`specs/Numbers.antt`) and `IsHeadAt` (`specs/Heads.antt`): numbers
 //!   and heads in either order, and IDs.
-//! - `>>=`, `Gives` (`specs/Steps.antt`): steps that may fail, and what a function gives of them when
-//!   memory may run out.
-//! - `inlet_reader`, `inlet_failures`, `inlet_reads`, `inlet_given` (`specs/Inlets.antt`), `outlet_writer`
-//!   and `outlet_failures` (`specs/Outlets.antt`): what an inlet and an outlet hold. Which bytes a reader
-//!   has left and a writer holds is std's `Read::remaining` and `Write::contents`: known over memory,
-//!   unknown over files.
-//! - `CountsReads`, `FailsFilling` (`specs/Inlets.antt`): how many reads filling a buffer took; what was read and counted
-//!   before a read failed.
-//! - `AppendsFront`, `AppendsPart` (`specs/Outlets.antt`): a front of some bytes went out; that, and not all.
-//! - `fused_reader`, `fused_most`, `HasFailed` (`specs/FusedInlets.antt`): the reader of a fused inlet, how many
-//!   reads it has, and that it is read no more.
-//! - `fused_outlet`, `fused_failed`, `failed_parts` (`specs/FusedOutlets.antt`): the outlet of a fused one,
-//!   whether a write failed, and how many failures an answer counts.
+//! - `>>=`, `Gives` (`specs/Steps.antt`): steps that may fail, and what a function returns of them if memory may run
+//!   out.
+//! - `inlet_reader`, `inlet_failures`, `inlet_reads`, `inlet_given` (`specs/Inlets.antt`), `outlet_writer` and
+//!   `outlet_failures` (`specs/Outlets.antt`): what an inlet and an outlet hold. The bytes that a reader has left and a
+//!   writer holds are std's `Read::remaining` and `Write::contents`: known in memory, unknown for files.
+//! - `CountsReads`, `FailsFilling` (`specs/Inlets.antt`): how many reads it took to fill a buffer; what was read and
+//!   counted before a read failed.
+//! - `AppendsFront`, `AppendsPart` (`specs/Outlets.antt`): a prefix of some bytes was written; a prefix, but not all of
+//!   them.
+//! - `fused_reader`, `fused_most`, `HasFailed` (`specs/FusedInlets.antt`): the reader of a fused inlet, how many reads
+//!   it may make in all, and that it is read no more.
+//! - `fused_outlet`, `fused_failed`, `failed_parts` (`specs/FusedOutlets.antt`): the outlet inside a fused one, whether
+//!   a write failed, and how many failures a result counts.
 //!
-//! What it promises: a walk gives exactly the chunks of the range, each with its place, or the first
-//! fault; it refuses for nothing else but want of memory. What is pushed is exactly the spelling, and
-//! a refused push leaves the bytes as they were. Four functions that do nothing carry the laws that callers
-//! prove with (`specs/Laws.antt`): [`one_list`], [`spelled_again`], [`spans_found`], [`spans_again`].
-//! a pull gives the reader's next bytes, and where there is room for some, none only at their
-//! end. What is put goes out whole, or up to a failure. A fused inlet has left what its reader has left. A fused
-//! outlet answers `Failed` exactly after a `Device`, and is left as it is then.
+//! What it promises: a walk returns exactly the chunks of the range, each with its place, or the first fault. Its only
+//! other refusal is out of memory. What is appended is exactly the spelling, and after a refused push the bytes are
+//! unchanged. Four functions that do nothing carry the laws that callers prove with (`specs/Laws.antt`): [`one_list`],
+//! [`spelled_again`], [`spans_found`], [`spans_again`]. A pull returns the reader's next bytes, and if the buffer has
+//! room, it returns none only at their end. What is put is written whole, or up to a failure. A fused inlet has the
+//! bytes left that its reader has left. A fused outlet returns `Failed` exactly after a `Device`, and is then
+//! unchanged.
 //!
 //! ```text
 //! let mut bytes = Vec::new(alloc);

@@ -1,4 +1,4 @@
 //! How often a file is read.
 
-/// How many reads a file may take to come to its end.
+/// How many reads may be spent on a file.
 pub const MOST_READS: u64 = 1 << 40;

@@ -15,7 +15,7 @@ pub enum Order {
     Little,
 }
 
-/// The four bytes of the ID that stands at the place `at`.
+/// The four bytes of the ID at the place `at`.
 pub fn id_at(bytes: &[u8], at: usize) -> [u8; 4]
     requires { at + 4 ≤ length bytes.now }
     ensures { result ≡ id_at bytes.now at }
@@ -27,7 +27,7 @@ pub fn id_at(bytes: &[u8], at: usize) -> [u8; 4]
     id
 }
 
-/// The number of two bytes that stands at the place `at`.
+/// The number of two bytes at the place `at`.
 pub fn u16_at(order: Order, bytes: &[u8], at: usize) -> u16
     requires { at + 2 ≤ length bytes.now }
     ensures { result ≡ number_at order 2 bytes.now at }
@@ -39,7 +39,7 @@ pub fn u16_at(order: Order, bytes: &[u8], at: usize) -> u16
     }
 }
 
-/// The number of four bytes that stands at the place `at`.
+/// The number of four bytes at the place `at`.
 pub fn u32_at(order: Order, bytes: &[u8], at: usize) -> u32
     requires { at + 4 ≤ length bytes.now }
     ensures { result ≡ number_at order 4 bytes.now at }
@@ -51,7 +51,7 @@ pub fn u32_at(order: Order, bytes: &[u8], at: usize) -> u32
     }
 }
 
-/// The number of eight bytes that stands at the place `at`.
+/// The number of eight bytes at the place `at`.
 pub fn u64_at(order: Order, bytes: &[u8], at: usize) -> u64
     requires { at + 8 ≤ length bytes.now }
     ensures { result ≡ number_at order 8 bytes.now at }
@@ -75,7 +75,7 @@ pub fn u64_bytes(order: Order, value: u64) -> [u8; 8]
     bytes
 }
 
-/// Appends the two bytes of `value`. A refused growth leaves `out` as it was.
+/// Appends the two bytes of `value`. After a refused growth `out` is unchanged.
 pub fn push_u16(out: &mut Vec<u8>, order: Order, value: u16) -> Result<(), AllocError>
     ensures ok { OnOk result (out.new.items ≡ out.old.items ++ bytes_of order 2 value) }
     ensures err { OnErr result (out.new.items ≡ out.old.items) }
@@ -88,7 +88,7 @@ pub fn push_u16(out: &mut Vec<u8>, order: Order, value: u16) -> Result<(), Alloc
     out.extend_from_slice(&bytes)
 }
 
-/// Appends the four bytes of `value`. A refused growth leaves `out` as it was.
+/// Appends the four bytes of `value`. After a refused growth `out` is unchanged.
 pub fn push_u32(out: &mut Vec<u8>, order: Order, value: u32) -> Result<(), AllocError>
     ensures ok { OnOk result (out.new.items ≡ out.old.items ++ bytes_of order 4 value) }
     ensures err { OnErr result (out.new.items ≡ out.old.items) }
@@ -101,7 +101,7 @@ pub fn push_u32(out: &mut Vec<u8>, order: Order, value: u32) -> Result<(), Alloc
     out.extend_from_slice(&bytes)
 }
 
-/// Appends the eight bytes of `value`. A refused growth leaves `out` as it was.
+/// Appends the eight bytes of `value`. After a refused growth `out` is unchanged.
 pub fn push_u64(out: &mut Vec<u8>, order: Order, value: u64) -> Result<(), AllocError>
     ensures ok { OnOk result (out.new.items ≡ out.old.items ++ bytes_of order 8 value) }
     ensures err { OnErr result (out.new.items ≡ out.old.items) }

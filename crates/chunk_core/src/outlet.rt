@@ -5,8 +5,8 @@ ghost use Rattle.std.specs.Prelude.{◌≡◌, ◌+◌, ◌-◌, ◌<◌, ◌^�
 use crate::device::Device;
 use std::io::Write;
 
-/// A writer with the number of its failures: writes that answered an error, or took nothing of some
-/// bytes. It takes no memory.
+/// A writer with a counter of its failures: writes that returned an error, or accepted none of some bytes. It takes no
+/// memory.
 #[derive(Drop)]
 pub struct Outlet<W> {
     writer: W,
@@ -27,10 +27,10 @@ impl<W: Write> Outlet<W> {
         }
     }
 
-    /// Writes all of the bytes, in as many writes as it takes; of no bytes, none. After `Device` a front
-    /// of them went out, and not all of them.
+    /// Writes all of the bytes, in as many writes as needed; for no bytes, none. After `Device` a prefix of them was
+    /// written, but not all.
     ///
-    /// Refusal: `Device` at the first write that answers an error, whichever it is, or takes nothing.
+    /// Refusal: `Device` at the first write that returns an error of any kind, or accepts nothing.
     pub fn put_all(&mut self, bytes: &[u8]) -> Result<(), Device>
         requires { outlet_failures self.old < 2 ^ 64 - 1 }
         ensures ok { OnOk result (Puts W.contents self.old self.new bytes.now) }
@@ -52,14 +52,14 @@ impl<W: Write> Outlet<W> {
         Ok(())
     }
 
-    /// How many writes failed, or took nothing of some bytes.
+    /// How many writes failed, or accepted none of some bytes.
     pub fn failures(&self) -> u64
         ensures { result ≡ outlet_failures self.now }
     {
         self.failures
     }
 
-    /// The writer, as it stands.
+    /// The writer itself.
     pub fn into_inner(self) -> W
         ensures { result ≡ outlet_writer self }
     {

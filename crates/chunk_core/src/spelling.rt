@@ -1,4 +1,4 @@
-//! DSDIFF chunks, written.
+//! Writes DSDIFF chunks.
 
 ghost use Rattle.std.specs.Prelude.{◌≡◌, ◌++◌, OnOk, OnErr};
 ghost use Rattle.chunk_core.specs.Chunks.{spelled};
@@ -6,8 +6,8 @@ ghost use Rattle.chunk_core.specs.Chunks.{spelled};
 use crate::numbers::{Order, u64_bytes};
 use std::alloc::AllocError;
 
-/// Appends a DSDIFF chunk (DSDIFF 1.5): the ID, the number of data bytes, the data, and one zero byte
-/// after odd data, which the size does not count. A refused growth leaves `out` as it was.
+/// Appends a DSDIFF chunk (DSDIFF 1.5): the ID, the number of data bytes, the data, and one zero byte after odd data.
+/// The size does not count that byte. After a refused growth `out` is unchanged.
 pub fn push_chunk(out: &mut Vec<u8>, id: [u8; 4], content: &[u8]) -> Result<(), AllocError>
     ensures ok { OnOk result (out.new.items ≡ out.old.items ++ spelled id content.now) }
     ensures err { OnErr result (out.new.items ≡ out.old.items) }

@@ -12,15 +12,14 @@ use crate::layout::Span;
 use crate::numbers::Order;
 use std::alloc::Global;
 
-/// The DSDIFF chunks (DSDIFF 1.5) that the bytes from `start` up to `stop` are made of, in their order.
-/// Places are counted in the whole slice. A pad may have any value, and the last one may be missing.
+/// The DSDIFF chunks (DSDIFF 1.5) that fill the bytes from `start` up to `stop`, in their order. Places are counted in
+/// the whole slice. A pad may have any value, and the last one may be missing.
 ///
-/// Refusals, by the first chunk that is no chunk: `HeadCut` where fewer than 12 bytes are left for its
-/// head, `DataCut` where its data go past `stop`; each with the place of the head. `Memory` may come
-/// in place of either.
+/// Refusals, at the first place without a whole chunk: `HeadCut` if fewer than 12 bytes are left for its header,
+/// `DataCut` if its data extend past `stop`. Each has the place of the header. `Memory` may come in place of either.
 pub fn walk(alloc: Global, bytes: &[u8], start: usize, stop: usize) -> Result<Vec<Span>, ChunkFault>
     requires { (start ≤ stop) × (stop ≤ length bytes.now) }
-    // The range is made of the chunks that are found, and they stand at these places.
+    // The range is made of the chunks that are found, and they are at these places.
     ensures found { IfOk result (λ spans.
         chunks (slice_range bytes.now start stop) (map (span_chunk bytes.now) spans.items)) }
     ensures places { IfOk result (λ spans. spans.items ≡ places start (map (span_chunk bytes.now) spans.items)) }
@@ -36,8 +35,8 @@ pub fn walk(alloc: Global, bytes: &[u8], start: usize, stop: usize) -> Result<Ve
     walk_at(alloc, &bytes[start..stop], start)
 }
 
-/// The DSDIFF chunks that some bytes are made of, by their places in a file where these bytes stand at `at`: what
-/// [`walk`] finds there. The faults are the same.
+/// The DSDIFF chunks that fill some bytes, with their places in a file that holds these bytes at `at`. They are what
+/// [`walk`] finds there, and the faults are the same.
 pub fn walk_at(alloc: Global, bytes: &[u8], at: usize) -> Result<Vec<Span>, ChunkFault>
     requires { at + length bytes.now < 2 ^ 64 }
     ensures exact { Gives (λ spans. spans.items) result (spans_at at bytes.now) }
@@ -53,7 +52,7 @@ pub fn walk_at(alloc: Global, bytes: &[u8], at: usize) -> Result<Vec<Span>, Chun
     Ok(spans)
 }
 
-// The chunk at the front of bytes that stand at a place.
+// The first chunk of bytes that lie at a given place.
 #[tactic(auto, unfolding(crate::specs::Reading::first_of))]
 fn span_at(here: &[u8], at: usize) -> Result<Span, ChunkFault>
     requires { at + length here.now < 2 ^ 64 }

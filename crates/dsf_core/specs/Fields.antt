@@ -1,4 +1,5 @@
--- The fields of a DSF 1.01 file at their offsets. Numbers have the lowest byte first, and the size of a chunk counts the 12 bytes of its head.
+-- The fields of a DSF 1.01 file at their offsets. Numbers have the lowest byte first, and the size of a chunk counts
+-- the 12 bytes of its header.
 use Rattle.std.specs.Prelude.{ℕ, ◌+◌, List, [], ◌∷◌, ◌++◌, codes, map, drop, nat_eq, if◌then◌else◌}
 use Rattle.std.specs.List.{range_with_len}
 use Rattle.chunk_core.specs.declared.numbers.Order.TheVariants.{Little}
@@ -20,7 +21,7 @@ u64_at file at = number_at Little 8 file at
 abbrev pub first_size : List ℕ → ℕ
 first_size file = u64_at file 4
 
--- where the tag stands, and 0 for none
+-- the place of the tag, or 0 for none
 abbrev pub pointer : List ℕ → ℕ
 pointer file = u64_at file 20
 
@@ -46,23 +47,23 @@ format file = u32_at file 44
 abbrev pub channel_type : List ℕ → ℕ
 channel_type file = u32_at file 48
 
--- how many channels there are
+-- the number of channels
 abbrev pub channel_number : List ℕ → ℕ
 channel_number file = u32_at file 52
 
--- the bits a second of each channel, in hertz
+-- the bits per second of each channel, in hertz
 abbrev pub rate : List ℕ → ℕ
 rate file = u32_at file 56
 
--- 1 or 8, which tells the order of the bits in a byte
+-- 1 or 8, which is the order of the bits in a byte
 abbrev pub bits_per_sample : List ℕ → ℕ
 bits_per_sample file = u32_at file 60
 
--- how many bits each channel has
+-- the number of bits of each channel
 abbrev pub count : List ℕ → ℕ
 count file = u64_at file 64
 
--- how many bytes a block has
+-- the number of bytes of a block
 abbrev pub block_size : List ℕ → ℕ
 block_size file = u32_at file 72
 
@@ -72,7 +73,7 @@ block_size file = u32_at file 72
 abbrev pub DATA : List ℕ
 DATA = codes "data"
 
--- where it stands: behind the format chunk
+-- its place: after the format chunk
 abbrev pub data_place : List ℕ → ℕ
 data_place file = 28 + format_size file
 
@@ -80,31 +81,31 @@ data_place file = 28 + format_size file
 abbrev pub data_size : List ℕ → ℕ
 data_size file = u64_at file (data_place file + 4)
 
--- where the sound bytes stand
+-- the place of the first sound byte
 abbrev pub sound_place : List ℕ → ℕ
 sound_place file = data_place file + 12
 
--- how many sound bytes the channels need
+-- the number of sound bytes that the channels need
 abbrev pub needed : List ℕ → ℕ
 needed file = blocks_size (channel_number file) (count file)
 
--- where these end
+-- the place after these bytes
 abbrev pub sound_end : List ℕ → ℕ
 sound_end file = sound_place file + needed file
 
 -- ---- what the fields tell
 
--- the layout: the channel type where it fits the channel number, else the usual layout (this project's profile)
+-- the layout: the channel type if it fits the channel number, else the usual layout (this project's profile)
 abbrev pub layout_told : ℕ → ℕ → ℕ
 layout_told kind number = if nat_eq (layout_channels kind) number then kind else usual_layout number
 
--- the IDs of so many channels
+-- the IDs of n channels
 abbrev pub dsf_ids : ℕ → List (List ℕ)
 dsf_ids number =
     if nat_eq number 2 then codes "SLFT" ∷ codes "SRGT" ∷ []
     else map (λ c. codes "C00" ++ (48 + c) ∷ []) (range_with_len 0 number)
 
--- the bytes from a place on, and none for 0
+-- the bytes from a place on; none for 0
 abbrev pub tag_from : ℕ → List ℕ → List ℕ
 tag_from place file = if nat_eq place 0 then [] else drop place file
 

@@ -1,4 +1,4 @@
--- What a file of DSF 1.01 that holds a recording is, field by field.
+-- When a DSF 1.01 file holds a recording, field by field.
 use Rattle.std.specs.Prelude.{◌≡◌, ◌≤◌, ℕ, ◌-◌, ◌⊎◌, List, [], length, drop}
 use Rattle.chunk_core.specs.Numbers.{id_at}
 use Rattle.dsd_bits.specs.declared.blocks.BitOrder.{BitOrder}
@@ -9,7 +9,7 @@ use Rattle.dsd_bits.specs.Ids.{DSD}
 use Rattle.dsd_bits.specs.Limits.{most_bits, least_rate, greatest_rate, block_bytes}
 use Rattle.dsf_core.specs.Fields.{FMT, DATA, first_size, pointer, format_size, version, format, channel_type, channel_number, rate, bits_per_sample, count, block_size, data_place, data_size, sound_place, needed, sound_end, layout_told, dsf_ids, tag_told}
 
--- the bits per sample that tell an order (this project's profile)
+-- the bits per sample that mean an order (this project's profile)
 abbrev pub bits_of : BitOrder → ℕ
 bits_of LeastFirst = 1
 bits_of MostFirst = 8
@@ -23,7 +23,7 @@ pub record IsDsf (file : List ℕ) (r : Content) (order : BitOrder) : Type 0 whe
   pub second_long : 52 ≤ format_size file
   pub third : id_at file (data_place file) ≡ DATA
   pub third_long : 12 ≤ data_size file
-  -- raw sound of version 1, in the limits
+  -- raw sound of version 1, within the limits
   pub version_is : version file ≡ 1
   pub format_is : format file ≡ 0
   pub some_channel : 1 ≤ channel_number file
@@ -33,7 +33,7 @@ pub record IsDsf (file : List ℕ) (r : Content) (order : BitOrder) : Type 0 whe
   pub order_is : bits_per_sample file ≡ bits_of order
   pub block_is : block_size file ≡ block_bytes
   pub not_long : count file ≤ most_bits
-  -- the needed sound bytes stand in the data chunk and in the file, and the tag behind them
+  -- the data chunk and the file hold the needed sound bytes, and the tag comes after them
   pub in_chunk : needed file ≤ data_size file - 12
   pub in_file : sound_end file ≤ length file
   pub behind : (pointer file ≡ 0) ⊎ ((sound_end file ≤ pointer file) × (pointer file ≤ length file))
@@ -43,6 +43,6 @@ pub record IsDsf (file : List ℕ) (r : Content) (order : BitOrder) : Type 0 whe
   pub ids_read : r.ids ≡ dsf_ids (channel_number file)
   pub layout_read : r.layout ≡ layout_told (channel_type file) (channel_number file)
   pub tag_read : r.tag ≡ tag_told file
-  -- what the format does not tell
+  -- what the format does not store
   pub no_marks : r.marks ≡ []
   pub no_others : r.others ≡ []

@@ -1,4 +1,4 @@
--- Laws: what the words of the contracts have to do with each other.
+-- Laws: how the words of the contracts are related.
 use Rattle.std.specs.Prelude.{◌≡◌, ◌↔◌, ℕ, List, ◌++◌, length, take}
 use Rattle.dsd_bits.specs.declared.blocks.BitOrder.{BitOrder}
 use Rattle.dsd_bits.specs.declared.sound.Sound.{Sound}
@@ -8,26 +8,26 @@ use Rattle.dsd_bits.specs.Sounds.{HasSound}
 use Rattle.dsf_core.specs.Files.{IsDsf}
 use Rattle.dsf_core.specs.Fronts.{EndsAtSound, HoldsHead, IsAccepted, TellsSound, sound_at}
 
--- a file holds one recording at most, in one order of bits
+-- a file holds at most one recording, in one order of bits
 abbrev pub OneRecording : Type 0
 OneRecording = (file : List ℕ) (r s : Content) (order other : BitOrder) → IsDsf file r order → IsDsf file s other → (r ≡ s) × (order ≡ other)
 
--- other bytes of the same number behind the front of a file change neither that it is accepted nor that it is refused
+-- the bytes after the front of a file may be replaced by as many others: a file that is accepted stays accepted
 abbrev pub SoundDoesNotMatter : Type 0
 SoundDoesNotMatter = (front rest other : List ℕ) → EndsAtSound front → length rest ≡ length other → IsAccepted (front ++ rest) → IsAccepted (front ++ other)
 
--- a file that is accepted holds the head of its sound
+-- a file that is accepted holds the header of its sound
 abbrev pub SoundHasHead : Type 0
 SoundHasHead = (file : List ℕ) → IsAccepted file → HoldsHead file
 
--- the reading of a front in order finds a sound exactly where the front tells of it
+-- reading a front in order finds a sound exactly if the front describes it
 abbrev pub FoundIsTold : Type 0
 FoundIsTold = (front : List ℕ) (s : Sound) → (sound_at front ≡ Found s) ↔ TellsSound front s
 
--- a file that holds a recording tells of its sound
+-- a file that holds a recording describes its sound
 abbrev pub SoundIsTold : Type 0
 SoundIsTold = (file : List ℕ) (r : Content) (order : BitOrder) → IsDsf file r order → (s : Sound) × TellsSound file s × HasSound file r s
 
--- the front of a file, cut where the sound that it tells of starts, tells of the same sound
+-- the front of a file, cut where the sound starts, describes the same sound
 abbrev pub SoundEndsFront : Type 0
 SoundEndsFront = (front : List ℕ) (s : Sound) → sound_at front ≡ Found s → sound_at (take s.start front) ≡ Found s

@@ -15,7 +15,7 @@ use Rattle.dsf_core.specs.declared.fault.DsfFault.TheVariants.{NotDsf, HeadCut, 
 use Rattle.dsf_core.specs.declared.front.Front.{Front}
 use Rattle.dsf_core.specs.Fields.{FMT, DATA, first_size, pointer, format_size, version, format, channel_type, channel_number, rate, bits_per_sample, count, block_size, data_place, data_size, sound_place, needed, layout_told, dsf_ids, tag_from}
 
--- where the data chunk stands, behind the other two
+-- the place of the data chunk, after the other two
 unfoldable pub chunks_of : List ℕ → Result ℕ DsfFault
 chunks_of file =
     if nat_lt (length file) 4 then Err NotDsf
@@ -30,7 +30,7 @@ chunks_of file =
     else if not (nat_eq (format file) 0) then Err BadFormat
     else Ok (data_place file)
 
--- the order of the bits, where these numbers of the format chunk lie in their limits
+-- the order of the bits, if these numbers of the format chunk are within their limits
 unfoldable pub order_told : ℕ → ℕ → ℕ → ℕ → ℕ → ℕ → Result BitOrder DsfFault
 order_told version number rate bits block count =
     if not (nat_eq version 1) then Err BadVersion
@@ -43,11 +43,11 @@ order_told version number rate bits block count =
     else if nat_lt most_bits count then Err TooLong
     else Ok (if nat_eq bits 1 then LeastFirst else MostFirst)
 
--- the order of the bits, where the fields lie in their limits
+-- the order of the bits, if the fields are within their limits
 abbrev pub order_of : List ℕ → Result BitOrder DsfFault
 order_of file = order_told (version file) (channel_number file) (rate file) (bits_per_sample file) (block_size file) (count file)
 
--- the sound that the fields tell, the needed sound bytes, its bits in this order
+-- the sound that the fields describe: the needed sound bytes, with their bits in this order
 abbrev pub sound_told : List ℕ → BitOrder → Sound
 sound_told file order = record {
   rate = rate file;
@@ -58,22 +58,22 @@ sound_told file order = record {
   interleaving = Blocks order;
 }
 
--- what the fields tell of a file with its bits in this order
+-- what the fields of a file say, with its bits in this order
 abbrev pub front_told : List ℕ → BitOrder → Front
 front_told file order = record { sound = sound_told file order; order = order; kind = channel_type file; tag_at = pointer file }
 
--- what the front of a file tells, if it leads to a sound, whose needed bytes stand in the data chunk
+-- what the header of a file says, if it leads to a sound and the data chunk holds the needed bytes
 unfoldable pub front_of : List ℕ → Result Front DsfFault
 front_of file = do
   data_at ← chunks_of file
   order ← order_of file
   if nat_lt (data_size file) (needed file + 12) then Err DataCut else Ok (front_told file order)
 
--- where the sound ends
+-- the place after the sound
 abbrev pub end_of : Front → ℕ
 end_of front = front.sound.start + front.sound.size
 
--- whether the sound ends in a file of so many bytes, and the tag stands behind it in the file
+-- whether a file of n bytes holds the whole sound, and the tag after it
 unfoldable pub ends_of : Front → ℕ → Result (Unit {0}) DsfFault
 ends_of front total =
     if nat_lt total (end_of front) then Err DataCut
@@ -82,7 +82,7 @@ ends_of front total =
     else if nat_lt total front.tag_at then Err BadPointer
     else Ok tt
 
--- the description of a file with this front and this tag
+-- the description of a file with this header and this tag
 abbrev pub described_by : Front → List ℕ → Described
 described_by front tag = record {
   rate = front.sound.rate;

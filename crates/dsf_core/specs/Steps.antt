@@ -8,7 +8,7 @@ abbrev pub Fails : {Y : Type 0} → DsfFault → Result Y DsfFault → Type 0
 Fails faults.Memory reading = Unit {0}
 Fails e reading = reading ≡ Err e
 
--- what a function returned, its value seen by view, is the reading, unless memory ran out
+-- what a function returned, its value as `view` shows it, is the reading, unless memory ran out
 abbrev pub Gives : {X Y : Type 0} → (X → Y) → Result X DsfFault → Result Y DsfFault → Type 0
 Gives view (Ok x) reading = reading ≡ Ok (view x)
 Gives view (Err e) reading = Fails e reading

@@ -9,26 +9,27 @@ use Rattle.dsd_bits.specs.Limits.{block_bytes}
 use Rattle.dsf_core.specs.Fields.{FMT, DATA}
 use Rattle.dsf_core.specs.Files.{bits_of}
 
--- how many sound bytes there are
+-- the number of sound bytes
 abbrev pub sound_size : Described → ℕ
 sound_size d = blocks_size (length d.ids) d.count
 
--- where the tag stands: behind the sound, and 0 for none
+-- the place of the tag: after the sound, or 0 for none
 abbrev pub tag_place : Described → ℕ
 tag_place d = if nat_eq (length d.tag) 0 then 0 else 92 + sound_size d
 
--- the first chunk: its size, the file's, and where the tag stands
+-- the first chunk: its size, that of the file, and the place of the tag
 abbrev pub first_text : ℕ → ℕ → List ℕ
 first_text total pointer = DSD ++ (little_bytes 8 28 ++ (little_bytes 8 total ++ little_bytes 8 pointer))
 
--- the format chunk: its size, version 1, raw sound, the layout, the channel number, the rate, the bits per sample, the count, the block size, and four bytes that mean nothing
+-- the format chunk: its size, version 1, raw sound, the layout, the channel number, the rate, the bits per sample, the
+-- count, the block size, and four reserved bytes
 abbrev pub format_text : ℕ → ℕ → ℕ → ℕ → ℕ → List ℕ
 format_text layout number rate bits count =
     FMT ++ (little_bytes 8 52 ++ (little_bytes 4 1 ++ (little_bytes 4 0
     ++ (little_bytes 4 layout ++ (little_bytes 4 number ++ (little_bytes 4 rate ++ (little_bytes 4 bits ++ (little_bytes 8 count
     ++ (little_bytes 4 block_bytes ++ little_bytes 4 0)))))))))
 
--- the head of the data chunk: its size
+-- the header of the data chunk: its size
 abbrev pub data_text : ℕ → List ℕ
 data_text size = DATA ++ little_bytes 8 size
 
@@ -38,6 +39,6 @@ head_text d order =
     first_text (92 + sound_size d + length d.tag) (tag_place d)
     ++ (format_text d.layout (length d.ids) d.rate (bits_of order) d.count ++ data_text (12 + sound_size d))
 
--- the whole file: the head, the sound and the tag
+-- the whole file: the bytes before the sound, the sound and the tag
 abbrev pub dsf_text : Content → BitOrder → List ℕ
 dsf_text r order = head_text (described r) order ++ (blocked order r.channels ++ r.tag)

@@ -10,7 +10,7 @@ use crate::fields::{
     long_at, short_at,
 };
 
-/// Where the data chunk stands.
+/// The place of the data chunk.
 #[tactic(auto, unfolding(crate::specs::Reading::chunks_of))]
 pub(crate) fn find_data(file: &[u8]) -> Result<usize, DsfFault>
     ensures exact { result ≡ chunks_of file.now }

@@ -1,4 +1,4 @@
-//! What a file tells beside its bits, where its sound is not held, and at which length it ends.
+//! What a file holds besides its bits, if its sound is not in memory, and at which length the file is whole.
 
 ghost use Rattle.std.specs.Prelude.{◌≡◌, ◌≤◌, ◌-◌, ◌++◌, ◌↔◌, IfOk, length, replicate, true};
 ghost use Rattle.dsd_bits.specs.declared.sound.Sound.{Sound};
@@ -14,9 +14,9 @@ use crate::front::{Front, check_ends, read_front};
 use dsd_bits::{Description, Metadata};
 use std::alloc::{AllocError, Global};
 
-/// Where the tag stands in a file that begins with `front`, which ends where the sound starts: the tag is all that
-/// stands from there to the file's end. 0 where there is none. In a file that is accepted it stands behind the
-/// blocks that the channels need.
+/// The place of the tag in a file that begins with `front`, which ends where the sound starts. The tag is everything
+/// from there to the file's end; 0 means that there is none. In an accepted file it comes after the blocks that the
+/// channels need.
 ///
 /// It takes no memory.
 pub fn tag_at(front: &[u8]) -> u64
@@ -26,9 +26,9 @@ pub fn tag_at(front: &[u8]) -> u64
     long_at(front, POINTER_AT)
 }
 
-/// Whether a file of `total` bytes is accepted that begins with `front`, which ends where the sound starts:
-/// whether the file that goes on with zeros is. The needed blocks end in the file, and the pointer to
-/// the tag is 0 or leads behind them into the file. Which bytes stand behind `front` does not matter
+/// Whether a file of `total` bytes that begins with `front` is accepted. `front` ends where the sound starts, and the
+/// rest is taken as zeros. The blocks that the channels need must lie in the file, and the pointer to the tag must be 0
+/// or lead to a place after them in the file. Which bytes follow `front` does not matter
 /// ([`crate::bytes_of_sound_do_not_matter`]).
 ///
 /// It takes no memory.
@@ -43,11 +43,11 @@ pub fn closes(front: &[u8], total: u64) -> bool
     }
 }
 
-/// The description of the recording that a file holds, told without its sound: the file has `total` bytes, begins with
-/// `front`, which ends where the sound starts, and has this tag ([`tag_at`]). Which bytes stand elsewhere does not
-/// matter: with the channels in its sound bytes the description makes the recording that [`crate::read`] gives.
+/// The description of the recording that a file holds, without reading its sound. The file has `total` bytes, begins
+/// with `front`, which ends where the sound starts, and has this tag ([`tag_at`]). Its other bytes do not matter: the
+/// description and the channels in its sound bytes make the recording that [`crate::read`] returns.
 ///
-/// Refusals, the first that applies, whatever the tag: `DataCut`, `BadPointer`. `Memory` may come in place of each.
+/// Refusals, in this order, whatever the tag: `DataCut`, `BadPointer`. `Memory` may come in place of either.
 pub fn describe(
     alloc: Global,
     front: &[u8],
@@ -63,7 +63,7 @@ pub fn describe(
     Ok(description_of(alloc, &front, tag)?)
 }
 
-/// The description of a file with this front and this tag.
+/// The description of a file with this header and this tag.
 pub(crate) fn description_of(
     alloc: Global,
     front: &Front,

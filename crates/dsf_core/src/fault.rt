@@ -1,4 +1,4 @@
-//! Why a file holds no recording that can be read.
+//! Why a file does not hold a recording that can be read.
 
 ghost use Rattle.std.specs.Prelude.{◌≡◌};
 ghost use Rattle.dsf_core.specs.declared.fault.DsfFault.TheVariants.{Memory};
@@ -7,15 +7,15 @@ use std::alloc::{AllocError, AllocFailed};
 use std::fmt;
 use thiserror::Error;
 
-/// Why a file is no DSF 1.01 file in this project's limits. A fault's text is its name.
+/// Why a file is not a DSF 1.01 file within this project's limits. A fault's text is its name.
 #[derive(Clone, Copy, Debug, PartialEq, Eq, Error)]
 pub enum DsfFault {
-    /// Fewer than 4 bytes, or no `DSD ` at the start.
+    /// The file has fewer than 4 bytes, or does not start with `DSD `.
     NotDsf,
-    /// The file ends inside the head of a chunk, or inside the format chunk.
+    /// The file ends inside the header of a chunk, or inside the format chunk.
     HeadCut,
-    /// The first chunk has not 28 bytes, the format chunk isn't there or has fewer than 52 bytes, the
-    /// data chunk isn't there or has fewer than 12 bytes, or the format isn't raw DSD.
+    /// The first chunk does not have 28 bytes, the format chunk is missing or has fewer than 52 bytes, the data chunk
+    /// is missing or has fewer than 12 bytes, or the format is not raw DSD.
     BadFormat,
     /// The format version is not 1.
     BadVersion,
@@ -25,15 +25,15 @@ pub enum DsfFault {
     BadRate,
     /// The bits per sample are neither 1 nor 8.
     BadBits,
-    /// The block size is not 4096.
+    /// The block size is not 4096 bytes.
     BadBlock,
-    /// More than `2^36` bits a channel.
+    /// A channel has more than `2^36` bits.
     TooLong,
-    /// The blocks that the channels need do not stand in the data chunk, or not in the file.
+    /// The blocks that the channels need are not wholly in the data chunk, or not in the file.
     DataCut,
-    /// The pointer to the tag leads before the end of these blocks, or past the file's end.
+    /// The pointer to the tag leads to a place before the end of these blocks, or past the file's end.
     BadPointer,
-    /// Want of memory.
+    /// Out of memory.
     Memory,
 }
 

@@ -1,4 +1,4 @@
-//! Where the fields of a file stand, each with its name in DSF 1.01. Numbers have the lowest byte first.
+//! The offsets of the fields of a file, each with its name in DSF 1.01. Numbers have the lowest byte first.
 
 ghost use Rattle.std.specs.Prelude.{◌≡◌, ◌≤◌, ◌+◌, length};
 ghost use Rattle.dsd_bits.specs.Ids.{same_id};
@@ -7,19 +7,19 @@ ghost use Rattle.dsf_core.specs.Fields as fields;
 
 use chunk_core::{Order, id_at, u32_at, u64_at};
 
-/// How many bytes a chunk's head has: its ID and its size.
+/// How many bytes a chunk's header has: its ID and its size.
 pub(crate) const HEAD_SIZE: usize = 12;
 
-/// How many bytes the chunk `DSD ` has. The format chunk stands behind it.
+/// How many bytes the chunk `DSD ` has. The format chunk follows it.
 pub(crate) const FIRST_SIZE: usize = 28;
 
-/// How many bytes the fields of the format chunk have, with its head.
+/// How many bytes the fields of the format chunk have, with its header.
 pub(crate) const FORMAT_SIZE: usize = 52;
 
 /// "Size of this chunk" of `DSD `.
 pub(crate) const FIRST_SIZE_AT: usize = 4;
 
-/// "Pointer to Metadata chunk": where the tag stands, and 0 for none.
+/// "Pointer to Metadata chunk": the place of the tag, or 0 for none.
 pub(crate) const POINTER_AT: usize = 20;
 
 /// "Size of this chunk" of `fmt `.
@@ -40,7 +40,7 @@ pub(crate) const CHANNEL_NUMBER_AT: usize = 52;
 /// "Sampling frequency", in hertz.
 pub(crate) const RATE_AT: usize = 56;
 
-/// "Bits per sample": 1 or 8, which tells the order of the bits in a byte.
+/// "Bits per sample": 1 or 8, which is the order of the bits in a byte.
 pub(crate) const BITS_AT: usize = 60;
 
 /// "Sample count": the bits of each channel.
@@ -55,7 +55,7 @@ pub(crate) const VERSION: u32 = 1;
 /// The "Format ID" of raw DSD.
 pub(crate) const RAW_DSD: u32 = 0;
 
-/// Whether this ID stands at an offset.
+/// Whether this ID is at an offset.
 pub(crate) fn has_id(file: &[u8], at: usize, id: [u8; 4]) -> bool
     requires { at + 4 ≤ length file.now }
     ensures { result ≡ same_id (id_at file.now at) id }

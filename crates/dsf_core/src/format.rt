@@ -12,7 +12,7 @@ use dsd_bits::{
 };
 use std::alloc::{AllocError, Global};
 
-/// The order of the bits in a byte, where these numbers lie in their limits.
+/// The order of the bits in a byte, if these numbers are within their limits.
 #[tactic(auto, unfolding(crate::specs::Reading::order_told))]
 pub(crate) fn order_told(
     version: u32,
@@ -50,7 +50,7 @@ pub(crate) fn order_told(
     Ok(BitOrder::MostFirst)
 }
 
-/// The layout of so many channels: the channel type where it fits them, else the usual layout.
+/// The layout of `number` channels: the channel type if it fits that number, else the usual layout.
 pub(crate) fn layout(kind: u32, number: u32) -> u32
     requires { number ≤ 6 }
     ensures { result ≡ layout_told kind number }
@@ -61,7 +61,7 @@ pub(crate) fn layout(kind: u32, number: u32) -> u32
     usual_layout(number)
 }
 
-/// The IDs of so many channels: `SLFT` and `SRGT` for two, else `C000`, `C001` and so on.
+/// The IDs of `number` channels: `SLFT` and `SRGT` for two, else `C000`, `C001` and so on.
 pub(crate) fn channel_ids(alloc: Global, number: usize) -> Result<Vec<[u8; 4]>, AllocError>
     requires { number ≤ 6 }
     ensures { IfOk result (λ ids. ids.items ≡ dsf_ids number) }

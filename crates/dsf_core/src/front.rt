@@ -1,4 +1,4 @@
-//! The front of a file, which leads to its sound, and the ends of what it tells of.
+//! The header of a file, which leads to its sound, and the check of where sound and tag end.
 
 ghost use Rattle.std.specs.Prelude.{◌≡◌};
 ghost use Rattle.dsf_core.specs.Reading.{ends_of, front_of};
@@ -12,20 +12,20 @@ use crate::fields::{
 use crate::format::order_told;
 use dsd_bits::{BitOrder, Interleaving, Sound, blocks_size};
 
-/// What the front of a file tells of it.
+/// What the header of a file says about it.
 #[derive(Clone, Copy)]
 pub(crate) struct Front {
-    /// Its sound: the blocks that its channels need.
+    /// Its sound: the blocks that the channels need.
     pub sound: Sound,
     /// The order of the bits in its bytes.
     pub order: BitOrder,
     /// The channel type.
     pub kind: u32,
-    /// Where its tag stands, and 0 for none.
+    /// The place of its tag, or 0 for none.
     pub tag_at: u64,
 }
 
-/// What the front of a file tells, or the first fault of a file that is no longer.
+/// What the header of a file says, or the first fault of a file that ends after it.
 #[tactic(auto, unfolding(crate::specs::Reading::front_of))]
 pub(crate) fn read_front(file: &[u8]) -> Result<Front, DsfFault>
     ensures { result ≡ front_of file.now }
@@ -62,8 +62,8 @@ pub(crate) fn read_front(file: &[u8]) -> Result<Front, DsfFault>
     })
 }
 
-/// The first fault of a file of so many bytes behind its front: its sound ends in it, and its tag stands behind the
-/// sound in it.
+/// The first fault after the header of a file of `total` bytes: the sound must end in the file, and the tag must follow
+/// the sound in it.
 #[tactic(auto, unfolding(crate::specs::Reading::ends_of))]
 pub(crate) fn check_ends(front: &Front, total: u64) -> Result<(), DsfFault>
     ensures { result ≡ ends_of front.now total }

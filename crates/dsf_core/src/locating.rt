@@ -1,4 +1,4 @@
-//! Where the sound of a file stands, as its first bytes tell.
+//! Where a file holds its sound, as its first bytes say.
 
 ghost use Rattle.std.specs.Prelude.{◌≡◌, ◌≤◌, ◌++◌, List, ℕ, length, true};
 ghost use Rattle.dsd_bits.specs.declared.blocks.BitOrder.{BitOrder};
@@ -11,30 +11,32 @@ use crate::fault::DsfFault;
 use crate::front::read_front;
 use dsd_bits::{Interleaving, Sound, SoundAt};
 
-/// What the first bytes of a DSF 1.01 file tell of its sound.
+/// What the first bytes of a DSF 1.01 file say about its sound.
 #[derive(Clone, Copy, PartialEq, Eq)]
 pub enum Located {
-    /// Where the sound stands, and what it is: that of every file that begins so and is accepted.
+    /// Where the sound is, and what it is. This holds for every accepted file that begins like this.
     Found(Sound),
-    /// More bytes are wanted: they do not hold the whole head of the data chunk. A file that ends here has this fault.
+    /// More bytes are needed: these do not hold the whole header of the data chunk. A file that ends here has this
+    /// fault.
     More(DsfFault),
-    /// The fault of every file that begins so.
+    /// The fault of every file that begins like this.
     Refused(DsfFault),
 }
 
-/// Where the sound of a DSF 1.01 file stands, and what it is, told by the first bytes of the file alone, or the fault
-/// that [`crate::read`] answers: of a file that ends with them (`NotDsf`, `HeadCut`), or of every file that begins so.
+/// Where the sound of a DSF 1.01 file is, and what it is, from the first bytes of the file alone. Otherwise it is the
+/// fault that [`crate::read`] returns: for a file that ends with these bytes (`NotDsf`, `HeadCut`), or for every file
+/// that begins with them.
 ///
 /// It takes no memory.
 pub fn locate(front: &[u8]) -> Located
     ensures told { IsLocated front.now result }
-    // By the order of refusals.
+    // In the order of refusals.
     ensures exact { result ≡ located front.now }
 {
     answer(front)
 }
 
-// The same, by the order of refusals alone.
+// The same, in the order of refusals alone.
 #[tactic(auto, unfolding(crate::specs::Fronts::located))]
 fn answer(front: &[u8]) -> Located
     ensures { result ≡ located front.now }
@@ -49,7 +51,7 @@ fn answer(front: &[u8]) -> Located
     }
 }
 
-// Whether a fault says that a head is cut.
+// Whether a fault says that a header is cut short.
 fn is_cut(fault: DsfFault) -> bool
     ensures { result ≡ is_cut fault }
 {
@@ -59,11 +61,11 @@ fn is_cut(fault: DsfFault) -> bool
     }
 }
 
-/// Where the sound of a DSF 1.01 file stands, as [`locate`] tells it, without the faults:
-/// - `More`: the front does not hold the whole head of the data chunk.
-/// - `Refused`: no file that begins so is accepted by [`crate::read`].
-/// - `Found`: every file that begins so and is accepted has this sound: its rate, its channels, its count
-///   and the order of its bits, and the blocks that the channels need stand at `start`, `size` bytes.
+/// Where the sound of a DSF 1.01 file is, as [`locate`] returns it, without the faults:
+/// - `More`: the bytes do not hold the whole header of the data chunk.
+/// - `Refused`: [`crate::read`] accepts no file that begins like this.
+/// - `Found`: every accepted file that begins like this has this sound: its rate, its channels, its count and the order
+///   of its bits. The blocks that the channels need are the `size` bytes from `start` on.
 ///
 /// It takes no memory.
 pub fn sound_at(front: &[u8]) -> SoundAt
@@ -75,7 +77,7 @@ pub fn sound_at(front: &[u8]) -> SoundAt
     ensures interleaving { IfFound result (λ s. has_blocks s.interleaving ≡ true) }
     ensures refused { IfRefused result ((rest : List ℕ) → IsAccepted (front.now ++ rest) → ⊥) }
     ensures more { IfMore result (HoldsHead front.now → ⊥) }
-    // By the order of refusals.
+    // In the order of refusals.
     ensures exact { result ≡ sound_at front.now }
 {
     without_fault(locate(front))

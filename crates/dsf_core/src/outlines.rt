@@ -1,4 +1,4 @@
-//! What a file tells beside its bits, as a recording with channels of no bits.
+//! What a file holds besides its bits, as a recording with empty channels.
 
 ghost use Rattle.std.specs.Prelude.{◌≤◌, IfOk, length};
 ghost use Rattle.dsf_core.specs.Fronts.{EndsAtSound, TellsOutline};
@@ -8,10 +8,10 @@ use crate::fault::DsfFault;
 use dsd_bits::Recording;
 use std::alloc::{AllocError, Global};
 
-/// What [`describe`] tells of a file, as the recording that it holds, but with channels of no bits. There is none where
+/// What [`describe`] returns of a file, as the recording that it holds, but with empty channels. It is `None` if
 /// [`crate::read`] accepts no such file.
 ///
-/// It fails for want of memory alone.
+/// The only refusal is out of memory.
 pub fn outline(
     alloc: Global,
     front: &[u8],

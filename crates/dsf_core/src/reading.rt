@@ -17,23 +17,22 @@ use crate::front::{Front, check_ends, read_front};
 use dsd_bits::{BitOrder, Bits, LaceFault, Recording, unlace_blocks};
 use std::alloc::{AllocError, Global};
 
-/// The recording that a DSF 1.01 file holds, and the order of the bits in its bytes: its rate in hertz,
-/// a list of bits for each channel, and the tag, which is all that stands from the pointer to the
-/// file's end. The IDs are `SLFT` and `SRGT` for two channels, else `C000`, `C001` and so on. The layout
-/// is the channel type where it fits the channel number, else the usual layout for so many channels.
-/// There are no marks and no kept chunks.
+/// The recording that a DSF 1.01 file holds, and the order of the bits in its bytes. It has the rate in hertz, a list
+/// of bits for each channel, and the tag, which is everything from the pointer to the file's end. The IDs are `SLFT`
+/// and `SRGT` for two channels, else `C000`, `C001` and so on. The layout is the channel type if it fits the channel
+/// number, else the usual layout for that number. There are no marks and no kept chunks.
 ///
-/// Refusals, in this order; the first that applies is answered:
+/// Refusals; the first that applies, in this order:
 /// 1. `NotDsf`: fewer than 4 bytes, or no `DSD `.
 /// 2. `HeadCut`: fewer than 80 bytes.
-/// 3. `BadFormat`: the first chunk's size is not 28, no `fmt ` behind it, or one of fewer than 52 bytes.
-/// 4. `HeadCut`: fewer bytes than the format chunk and 12 behind it take.
-/// 5. `BadFormat`: no `data` there, one of fewer than 12 bytes, or a format other than 0.
+/// 3. `BadFormat`: the size of the first chunk is not 28, `fmt ` does not follow it, or `fmt ` has fewer than 52 bytes.
+/// 4. `HeadCut`: the file ends before the 12 bytes after the format chunk.
+/// 5. `BadFormat`: `data` does not come there, or has fewer than 12 bytes, or the format is not 0.
 /// 6. `BadVersion`, `BadChannelNumber`, `BadRate`, `BadBits`, `BadBlock`, `TooLong`: not version 1; not
 ///    1 to 6 channels; not 1,000,000 to 50,000,000 hertz; neither 1 nor 8 bits per sample; blocks of
 ///    another size than 4096; more than `2^36` bits a channel.
-/// 7. `DataCut`: the blocks that the channels need do not stand in the data chunk, or not in the file.
-/// 8. `BadPointer`: the pointer is not 0 and leads before the end of these blocks or past the file's end.
+/// 7. `DataCut`: the blocks that the channels need are not wholly in the data chunk, or not in the file.
+/// 8. `BadPointer`: the pointer is not 0, and leads to a place before the end of these blocks or past the file's end.
 ///
 /// `Memory` may come in place of any of them.
 pub fn read(alloc: Global, file: &[u8]) -> Result<(Recording, BitOrder), DsfFault>
@@ -47,7 +46,7 @@ pub fn read(alloc: Global, file: &[u8]) -> Result<(Recording, BitOrder), DsfFaul
     read_in_order(alloc, file)
 }
 
-// The same, by the order of refusals alone.
+// The same, in the order of refusals alone.
 #[tactic(auto, unfolding(crate::specs::Reading::recording_of))]
 fn read_in_order(alloc: Global, file: &[u8]) -> Result<(Recording, BitOrder), DsfFault>
     ensures { Gives (λ x. x) result (recording_of file.now) }
@@ -61,7 +60,7 @@ fn read_in_order(alloc: Global, file: &[u8]) -> Result<(Recording, BitOrder), Ds
     Ok((Recording::of(description, channels), front.order))
 }
 
-// The bytes from a place on, and none for 0.
+// The bytes from a place on; none for 0.
 fn tag_in(file: &[u8], place: u64) -> &[u8]
     requires { place ≤ length file.now }
     ensures { result.now ≡ tag_from place file.now }
@@ -74,7 +73,7 @@ fn tag_in(file: &[u8], place: u64) -> &[u8]
     tag
 }
 
-// The channels in the bytes from the sound on, in which it stands whole.
+// The channels in the bytes from the sound on, which hold it whole.
 fn channels_in(alloc: Global, front: &Front, bytes: &[u8]) -> Result<Vec<Bits>, AllocError>
     requires in_limits { IsSound front.now.sound }
     requires enough { blocks_size front.now.sound.channels front.now.sound.count ≤ length bytes.now }

@@ -12,7 +12,7 @@ use chunk_core::{Order, push_u32, push_u64};
 use dsd_bits::{BLOCK_BYTES, BitOrder, Description, Recording, blocks_size, push_blocks};
 use std::alloc::{AllocError, Global};
 
-// How many bytes stand before the sound: two chunks, and the head of the third.
+// How many bytes come before the sound: two chunks, and the header of the third.
 const FRONT_SIZE: usize = FIRST_SIZE + FORMAT_SIZE + HEAD_SIZE;
 
 // What the "Reserved" field of the format chunk holds.
@@ -21,13 +21,13 @@ const RESERVED: u32 = 0;
 /// The bytes of the DSF 1.01 file that holds the recording, in this order of bits: 1 bit per sample for
 /// [`BitOrder::LeastFirst`], 8 for [`BitOrder::MostFirst`]. Numbers have the lowest byte first.
 ///
-/// The file is the chunk `DSD ` of 28 bytes, `fmt ` of 52, `data` with the blocks of the channels, the last
-/// group filled with zeros, and the tag. The pointer leads to the tag, and is 0 where it is empty.
+/// The file is the chunk `DSD ` of 28 bytes, `fmt ` of 52 bytes, `data` with the blocks of the channels, the last group
+/// filled up with zeros, and the tag. The pointer leads to the tag. It is 0 if the tag is empty.
 ///
-/// A file does not tell the IDs, the marks and the kept chunks.
+/// A file does not store the IDs, the marks and the kept chunks.
 pub fn write(alloc: Global, recording: &Recording, order: BitOrder) -> Result<Vec<u8>, AllocError>
     ensures text { IfOk result (λ file. file.items ≡ dsf_text recording.now order) }
-    // What is read from it is the recording, but for what a file does not tell.
+    // What is read from it is the recording, without what a file does not store.
     ensures read_again { IfOk result (λ file. IsDsf file.items (as_told recording.now) order) }
 {
     let description = recording.description();
@@ -42,8 +42,9 @@ pub fn write(alloc: Global, recording: &Recording, order: BitOrder) -> Result<Ve
     Ok(out)
 }
 
-/// The 92 bytes before the sound of the DSF 1.01 file that holds a recording of this description: so the head of a
-/// file is written before its sound is read. [`write`] begins with it, and goes on with the sound bytes and the tag.
+/// The 92 bytes before the sound of the DSF 1.01 file that holds a recording of this description, so that they can be
+/// written before the sound is read. The file that [`write`] returns begins with them, and continues with the sound
+/// bytes and the tag.
 pub fn head(
     alloc: Global,
     description: &Description,
@@ -69,7 +70,7 @@ pub fn head_counted(
     Ok(out)
 }
 
-// Appends the bytes before the sound of so many bits a channel.
+// Appends the bytes before the sound, if each channel has `count` bits.
 fn push_head(
     out: &mut Vec<u8>,
     description: &Description,
@@ -100,7 +101,7 @@ fn push_head(
     Ok(())
 }
 
-// Where a tag of so many bytes stands behind so many sound bytes, and 0 for none.
+// The place of a tag after the sound, or 0 for an empty tag.
 fn tag_place(tag_size: u64, size: u64) -> u64
     requires in_limit { size ≤ 51539607552 }
     ensures { result ≡ (if nat_eq tag_size 0 then 0 else 92 + size) }
@@ -111,7 +112,7 @@ fn tag_place(tag_size: u64, size: u64) -> u64
     FRONT_SIZE as u64 + size
 }
 
-// Appends the first chunk, of a file of so many bytes.
+// Appends the first chunk, with the size of the file.
 fn push_first(out: &mut Vec<u8>, total: u64, pointer: u64) -> Result<(), AllocError>
     ensures { OnOk result (out.new.items ≡ out.old.items ++ first_text total pointer) }
 {
@@ -148,7 +149,7 @@ fn push_format(
     Ok(())
 }
 
-// Appends the head of the data chunk, which has so many bytes.
+// Appends the header of the data chunk, with its size.
 fn push_data_head(out: &mut Vec<u8>, size: u64) -> Result<(), AllocError>
     ensures { OnOk result (out.new.items ≡ out.old.items ++ data_text size) }
 {
@@ -157,7 +158,7 @@ fn push_data_head(out: &mut Vec<u8>, size: u64) -> Result<(), AllocError>
     Ok(())
 }
 
-// The bits per sample that tell an order.
+// The bits per sample that mean an order.
 fn bits_per_sample(order: BitOrder) -> u32
     ensures { result ≡ bits_of order }
 {

@@ -10,7 +10,7 @@ name_of Dsdiff = codes "dsdiff"
 name_of Dsf = codes "dsf"
 name_of Dsf8 = codes "dsf8"
 
--- the form of a name, if there is one
+-- the form with a name, if there is one
 abbrev pub form_named : List ℕ → Option Form
 form_named name =
     if bytes_eq name (codes "dsdiff") then Some Dsdiff

@@ -1,4 +1,4 @@
--- The forms that a recording is kept in.
+-- The file forms of a recording.
 use Rattle.std.specs.Prelude.{ℕ, List, Option, Some, ◌+◌, length, nat_eq, if◌then◌else◌}
 use Rattle.dsd_bits.specs.declared.blocks.BitOrder.TheVariants.{LeastFirst, MostFirst}
 use Rattle.dsd_bits.specs.declared.interleaving.Interleaving.{Interleaving}
@@ -17,12 +17,12 @@ HoldsAs file Dsdiff r = IsDsdiff file r
 HoldsAs file Dsf r = IsDsf file r LeastFirst
 HoldsAs file Dsf8 r = IsDsf file r MostFirst
 
--- the file has some form and holds this recording
+-- the file holds this recording in some form
 pub record HoldsSome (file : List ℕ) (recording : Content) : Type 0 where
   pub form : Form
   pub holds : HoldsAs file form recording
 
--- the form of a file whose sound is interleaved so
+-- the form of a file whose sound is interleaved like this
 abbrev pub form_in : Interleaving → Form
 form_in Bytes = Dsdiff
 form_in (Blocks LeastFirst) = Dsf
@@ -34,7 +34,7 @@ text_in Dsdiff r = dsdiff_text r
 text_in Dsf r = Some (dsf_text r LeastFirst)
 text_in Dsf8 r = Some (dsf_text r MostFirst)
 
--- how many parts beside the sound a file of this form has no place for: a tag, or each mark and each kept chunk
+-- the number of parts besides the sound that a file of this form can't hold: a tag, or each mark and each kept chunk
 abbrev pub dropped_in : Form → Described → ℕ
 dropped_in Dsdiff d = if nat_eq (length d.tag) 0 then 0 else 1
 dropped_in Dsf d = length d.marks + length d.others

@@ -1,4 +1,4 @@
--- What is printed of a file.
+-- What is printed about a file.
 use Rattle.std.specs.Prelude.{ℕ, ◌/◌, ◌%◌, false, List, [], ◌∷◌, ◌++◌, codes, flat_map, length}
 use Rattle.std.specs.Fmt.{decimal, digit_glyph, signed_decimal}
 use Rattle.dsd_bits.specs.Contents.{Described, MarkContent}
@@ -6,7 +6,7 @@ use Rattle.dsdiff_core.specs.MarkPlaces.{place_of}
 use Rattle.form_core.specs.declared.form.Form.{Form}
 use Rattle.form_core.specs.FormNames.{name_of}
 
--- the lines of the form, the rate in hertz, the number of channels and that of the samples of each
+-- the lines of the form, the rate in hertz, the number of channels and the number of samples of each
 abbrev pub first_lines : Form → Described → List ℕ
 first_lines form d = codes "form " ++ name_of form
     ++ codes "\nrate " ++ decimal d.rate
@@ -17,7 +17,7 @@ first_lines form d = codes "form " ++ name_of form
 abbrev pub hexadecimal : ℕ → List ℕ
 hexadecimal byte = digit_glyph false (byte / 16) ∷ digit_glyph false (byte % 16) ∷ []
 
--- a channel's ID behind a space: the digits of its bytes
+-- a space and a channel's ID: the digits of its bytes
 abbrev pub id_text : List ℕ → List ℕ
 id_text id = codes " " ++ flat_map hexadecimal id
 
@@ -31,7 +31,8 @@ mark_line rate mark = codes "\nmark " ++ signed_decimal (place_of mark rate)
     ++ codes " type " ++ decimal mark.kind
     ++ codes " channel " ++ decimal mark.channel
 
--- all lines, without the end of the last: then come the layout, the marks, how many chunks are kept as they are, and how many bytes the tag has
+-- all lines, without the end of the last; after the IDs come the layout, the marks, the number of kept chunks, and the
+-- number of bytes of the tag
 abbrev pub info_text : Form → Described → List ℕ
 info_text form d = first_lines form d ++ ids_line d.ids
     ++ codes "\nlayout " ++ decimal d.layout

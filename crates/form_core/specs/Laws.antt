@@ -1,4 +1,4 @@
--- Laws: what a file holds is what reading it in order comes to, and what was written.
+-- Laws: a file holds what reading it in order returns, and what was written.
 use Rattle.std.specs.Prelude.{◌≡◌, ◌↔◌, ◌<◌, ◌^◌, ℕ, List, length, Ok, Some}
 use Rattle.dsd_bits.specs.Contents.{Content}
 use Rattle.dsd_bits.specs.Shape.{HasShape}
@@ -8,7 +8,7 @@ use Rattle.form_core.specs.Forms.{HoldsAs, text_in}
 use Rattle.form_core.specs.Opening.{opened_of}
 use Rattle.form_core.specs.Writing.{HoldsSound}
 
--- a file holds a recording in a form exactly where reading comes to both
+-- a file holds a recording in a form exactly if reading returns both
 abbrev pub HeldIsOpened : Type 0
 HeldIsOpened = (file : List ℕ) (form : Form) (r : Content) → HoldsAs file form r ↔ (opened_of file ≡ Ok (record { form = form; recording = r }))
 

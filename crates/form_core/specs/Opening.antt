@@ -20,12 +20,12 @@ abbrev pub from_dsf : Result (Content × BitOrder) DsfFault → Result Opened Re
 from_dsf (Ok x) = Ok (record { form = form_in (Blocks x.1); recording = x.0 })
 from_dsf (Err fault) = Err (dsf_fault fault)
 
--- a refusal says that the file is no DSDIFF file at all
+-- a refusal says that the file is not a DSDIFF file at all
 abbrev pub is_other : DsdiffFault → Bool
 is_other NotDsdiff = true
 is_other _ = false
 
--- a reading of DSDIFF as a reading of any form: what is no DSDIFF file at all is read otherwise
+-- a reading of DSDIFF as a reading of any form: a file that is not a DSDIFF file at all is read in the other way
 abbrev pub from_dsdiff : Result Content DsdiffFault → Result Opened ReadFault → Result Opened ReadFault
 from_dsdiff (Ok r) otherwise = Ok (record { form = forms.Dsdiff; recording = r })
 from_dsdiff (Err fault) otherwise = if is_other fault then otherwise else Err (dsdiff_fault fault)
@@ -34,7 +34,7 @@ from_dsdiff (Err fault) otherwise = if is_other fault then otherwise else Err (d
 unfoldable pub opened_of : List ℕ → Result Opened ReadFault
 opened_of file = from_dsdiff (dsdiff.recording_of file) (from_dsf (dsf.recording_of file))
 
--- a call answered what reading gives, unless memory ran out
+-- a call returned what reading gives, unless memory ran out
 abbrev pub Opens : Result Opened ReadFault → Result Opened ReadFault → Type 0
 Opens (Ok x) reading = reading ≡ Ok x
 Opens (Err Memory) reading = ⊤
@@ -42,6 +42,6 @@ Opens (Err UnknownForm) reading = reading ≡ Err UnknownForm
 Opens (Err (Dsdiff fault)) reading = reading ≡ Err (Dsdiff fault)
 Opens (Err (Dsf fault)) reading = reading ≡ Err (Dsf fault)
 
--- an answer is what the file holds
+-- what was returned is what the file holds
 abbrev pub IsOpened : List ℕ → Opened → Type 0
 IsOpened file x = HoldsAs file x.form x.recording

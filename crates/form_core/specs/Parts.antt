@@ -1,4 +1,4 @@
--- The file of a form in three parts: what stands before the sound, the sound, and what stands behind it.
+-- The file of a form in three parts: the bytes before the sound, the sound, and the bytes after it.
 use Rattle.std.specs.Prelude.{◌≡◌, ℕ, ◌*◌, ◌/◌, ◌%◌, Bool, List, ◌++◌, length, Some}
 use Rattle.dsd_bits.specs.declared.blocks.BitOrder.TheVariants.{LeastFirst, MostFirst}
 use Rattle.dsd_bits.specs.declared.interleaving.Interleaving.{Interleaving}
@@ -18,23 +18,24 @@ interleaving_in Dsdiff = Bytes
 interleaving_in Dsf = Blocks LeastFirst
 interleaving_in Dsf8 = Blocks MostFirst
 
--- a form has a place for channels of so many bits: DSDIFF's frames hold whole bytes
+-- a file of the form can hold channels of n bits: DSDIFF's frames hold whole bytes
 abbrev pub FitsIn : Form → ℕ → Type 0
 FitsIn form count = interleaving_in form ≡ Bytes → count % 8 ≡ 0
 
--- the bytes before the sound of a file that is written for a recording with so many bits in each channel
+-- the bytes before the sound of a file that is written for a recording with n bits in each channel
 abbrev pub head_in : Form → Content → ℕ → List ℕ
 head_in Dsdiff r count = dsdiff.head_text r (count / 8 * length r.channels)
 head_in Dsf r count = dsf.head_text (record (described r) { count = count }) LeastFirst
 head_in Dsf8 r count = dsf.head_text (record (described r) { count = count }) MostFirst
 
--- the bytes behind it
+-- the bytes after it
 abbrev pub tail_in : Form → Content → ℕ → List ℕ
 tail_in Dsdiff r count = dsdiff.tail_text r (count / 8 * length r.channels)
 tail_in Dsf r count = r.tag
 tail_in Dsf8 r count = r.tag
 
--- law: the file of channels is a head, their bytes and a tail, and head and tail are those of any recording with as many channels and the same parts beside
+-- law: the file of channels is a head, their bytes and a tail; head and tail are the same for any recording with as
+-- many channels and the same other parts
 abbrev pub WrittenInParts : Type 0
 WrittenInParts = (form : Form) (r : Content) (channels : List (List Bool)) → length r.channels ≡ length channels → FitsIn form (count_of channels)
     → text_in form (record r { channels = channels }) ≡ Some (head_in form r (count_of channels) ++ (laced_in (interleaving_in form) channels ++ tail_in form r (count_of channels)))

@@ -1,7 +1,7 @@
--- Steps that may fail, and what a call answers of them.
+-- Steps that may fail, and what a call returns of them.
 use Rattle.std.specs.Prelude.{◌≡◌, ◌⊎◌, Result, Ok, Err}
 
--- the same steps, with each fault under another name
+-- the same steps, with each fault renamed
 abbrev pub map_err : {X E F : Type 0} → (E → F) → Result X E → Result X F
 map_err f (Ok x) = Ok x
 map_err f (Err e) = Err (f e)
@@ -10,7 +10,7 @@ map_err f (Err e) = Err (f e)
 abbrev pub Fails : {Y E : Type 0} → E → E → Result Y E → Type 0
 Fails memory e steps = (e ≡ memory) ⊎ (steps ≡ Err e)
 
--- what a call answered, its value seen by view, is what the steps come to, unless memory ran out
+-- what a call returned, its value as `view` shows it, is the result of the steps, unless memory ran out
 abbrev pub Gives : {X Y E : Type 0} → E → (X → Y) → Result X E → Result Y E → Type 0
 Gives memory view (Ok x) steps = steps ≡ Ok (view x)
 Gives memory view (Err e) steps = Fails memory e steps

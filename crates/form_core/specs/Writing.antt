@@ -7,7 +7,8 @@ use Rattle.form_core.specs.declared.form.Form.{Form}
 use Rattle.form_core.specs.declared.form.Form.TheVariants.{Dsdiff}
 use Rattle.form_core.specs.Forms.{HoldsAs, text_in}
 
--- the bytes are a file of the form with the rate and the channels of the recording, and with its marks where the form has marks
+-- the bytes are a file of the form with the rate and the channels of the recording, and with its marks if the form has
+-- marks
 pub record HoldsSound (form : Form) (recording : Content) (bytes : List ℕ) : Type 0 where
   pub again : Content
   pub holds : HoldsAs bytes form again
@@ -15,7 +16,7 @@ pub record HoldsSound (form : Form) (recording : Content) (bytes : List ℕ) : T
   pub same_channels : again.channels ≡ recording.channels
   pub same_marks : form ≡ Dsdiff → again.marks ≡ recording.marks
 
--- a refusal of writing: part of a byte where there is no text, or memory ran out
+-- a refusal of writing: part of a byte if there is no such file, or memory ran out
 abbrev pub IsWriteFault : Form → Content → WriteFault → Type 0
 IsWriteFault form recording NotWholeBytes = text_in form recording ≡ None
 IsWriteFault form recording Memory = ⊤

@@ -1,4 +1,4 @@
-//! Why a file is not read.
+//! Why a file can't be read.
 
 ghost use Rattle.std.specs.Prelude.{◌≡◌};
 ghost use Rattle.form_core.specs.Faults.{dsdiff_fault, dsf_fault};
@@ -7,19 +7,19 @@ use dsdiff_core::DsdiffFault;
 use dsf_core::DsfFault;
 use thiserror::Error;
 
-/// Why a file is not read as a recording.
+/// Why a file can't be read as a recording.
 #[derive(Clone, Copy, Debug, PartialEq, Eq, Error)]
 pub enum ReadFault {
     /// The file is neither a DSDIFF file nor a DSF file.
     #[error("UnknownForm")]
     UnknownForm,
-    /// The file is a DSDIFF file that holds no recording that can be read.
+    /// The file is a DSDIFF file, but does not hold a recording that can be read.
     #[error("Dsdiff {0}")]
     Dsdiff(DsdiffFault),
-    /// The file is a DSF file that holds no recording that can be read.
+    /// The file is a DSF file, but does not hold a recording that can be read.
     #[error("Dsf {0}")]
     Dsf(DsfFault),
-    /// Want of memory.
+    /// Out of memory.
     #[error("Memory")]
     Memory,
 }

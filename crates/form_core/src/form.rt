@@ -1,4 +1,4 @@
-//! The forms that a recording is kept in, and how the sound of each is interleaved.
+//! The file forms of a recording, and how the sound of each is interleaved.
 
 ghost use Rattle.std.specs.Prelude.{◌≡◌};
 ghost use Rattle.form_core.specs.Forms as forms;
@@ -17,7 +17,7 @@ pub enum Form {
     Dsf8,
 }
 
-/// How the sound of a file of the form is interleaved.
+/// How the sound of a file of this form is interleaved.
 pub fn interleaving_in(form: Form) -> Interleaving
     ensures { result ≡ parts.interleaving_in form }
 {
@@ -28,7 +28,7 @@ pub fn interleaving_in(form: Form) -> Interleaving
     }
 }
 
-/// The form of a file whose sound is interleaved so.
+/// The form of a file whose sound is interleaved like this.
 pub fn form_in(interleaving: Interleaving) -> Form
     ensures { result ≡ forms.form_in interleaving }
 {

@@ -1,4 +1,4 @@
-//! The names of forms, as words of a command line and in what is printed.
+//! The names of forms, on the command line and in printed text.
 
 ghost use Rattle.std.specs.Prelude.{◌≡◌};
 ghost use Rattle.form_core.specs.FormNames as names;
@@ -16,7 +16,7 @@ pub fn name_of(form: Form) -> &'static str
     }
 }
 
-/// The form of a name, if there is one.
+/// The form with this name, if there is one.
 pub fn form_named(name: &str) -> Option<Form>
     ensures { result ≡ names.form_named name.now }
 {

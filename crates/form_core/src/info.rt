@@ -1,4 +1,4 @@
-//! What is told of a file.
+//! What is printed about a file.
 
 ghost use Rattle.std.specs.Prelude.{◌≡◌, ◌++◌, IfOk, OnOk, flat_map, map, string_bytes};
 ghost use Rattle.dsd_bits.specs.Contents.{mark_content};
@@ -12,10 +12,10 @@ use dsdiff_core::place;
 use std::alloc::{AllocError, Global};
 use std::fmt::Write;
 
-/// The lines that `info` prints of a file's recording, without the end of the last line: the file's form,
-/// its rate in hertz, how many channels and samples (bits) a channel it has, the channels' IDs as
-/// hexadecimal digits, its layout, its marks with their places in samples, how many chunks are kept as
-/// they are, and how many bytes its tag has. It is refused only for want of memory.
+/// The lines that `info` prints about a file's recording, without the end of the last line: the file's form, its rate
+/// in hertz, the number of channels, the number of samples (bits) of a channel, the channels' IDs as hexadecimal
+/// digits, the layout, the marks with their places in samples, the number of kept chunks, and the number of bytes of
+/// the tag. The only refusal is out of memory.
 pub fn info_lines(
     alloc: Global,
     form: Form,
@@ -35,7 +35,7 @@ pub fn info_lines(
     Ok(text)
 }
 
-// The lines before that of the IDs.
+// The lines before the IDs.
 fn first_lines(alloc: Global, form: Form, description: &Description) -> Result<String, AllocError>
     ensures { IfOk result (λ text. string_bytes text ≡ infos.first_lines form description.now) }
 {
@@ -57,7 +57,7 @@ fn push_ids(text: &mut String, ids: &[[u8; 4]]) -> Result<(), AllocError>
     Ok(())
 }
 
-// Appends an ID behind a space.
+// Appends a space and an ID.
 fn push_id(text: &mut String, id: &[u8; 4]) -> Result<(), AllocError>
     ensures { OnOk result (string_bytes text.new ≡ string_bytes text.old ++ id_text id.now) }
 {

@@ -23,14 +23,14 @@ pub struct Opened {
     pub recording: Recording,
 }
 
-/// The form of a file and the recording that it holds: a DSDIFF 1.5 or DSF 1.01 file of 1 to 6 channels.
+/// The form of a file and the recording that it holds. The file is a DSDIFF 1.5 or DSF 1.01 file of 1 to 6 channels.
 ///
-/// Refusals: `UnknownForm` for a file that is neither a DSDIFF nor a DSF file, `Dsdiff` or `Dsf` for one
-/// that is but holds no recording that can be read; `Memory` at any point.
+/// Refusals: `UnknownForm` for a file that is neither a DSDIFF nor a DSF file, `Dsdiff` or `Dsf` for one that is but
+/// does not hold a recording that can be read; `Memory` at any point.
 pub fn read_any(alloc: Global, file: &[u8]) -> Result<Opened, ReadFault>
     // What is read is what the file holds.
     ensures found { IfOk result (IsOpened file.now) }
-    // What a file holds is read, want of memory aside.
+    // What a file holds is read, unless memory runs out.
     ensures only { (form : Form) (r : Content) → HoldsAs file.now form r
         → Opens result (Ok (record { form = form; recording = r })) }
     // Which fault it is.
@@ -39,7 +39,7 @@ pub fn read_any(alloc: Global, file: &[u8]) -> Result<Opened, ReadFault>
     open_in_order(alloc, file)
 }
 
-// The same, by the order of reading alone.
+// The same, in the order of reading alone.
 #[tactic(auto, unfolding(crate::specs::Opening::opened_of))]
 fn open_in_order(alloc: Global, file: &[u8]) -> Result<Opened, ReadFault>
     ensures { Opens result (opened_of file.now) }
@@ -59,7 +59,7 @@ fn open_in_order(alloc: Global, file: &[u8]) -> Result<Opened, ReadFault>
     Err(ReadFault::from(fault))
 }
 
-// Whether a refusal says that the file is no DSDIFF file at all.
+// Whether a refusal says that the file is not a DSDIFF file at all.
 fn is_other(fault: &DsdiffFault) -> bool
     ensures { result ≡ openings.is_other fault.now }
 {

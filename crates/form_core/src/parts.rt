@@ -1,4 +1,4 @@
-//! What stands around the sound in a file of a form.
+//! The bytes before and after the sound in a file of a form.
 
 ghost use Rattle.std.specs.Prelude.{◌≡◌, ◌↔◌, ◌≤◌, ◌*◌, ◌/◌, ◌%◌, Err, IfOk};
 ghost use Rattle.dsd_bits.specs.Contents.{described};
@@ -13,21 +13,21 @@ use dsd_bits::{BitOrder, Recording};
 use dsdiff_core::WriteFault;
 use std::alloc::{AllocError, Global};
 
-/// What stands around the sound in a file.
+/// The bytes before and after the sound in a file.
 #[derive(Drop)]
 pub struct Ends {
     /// The bytes before the sound.
     pub head: Vec<u8>,
-    /// The bytes behind it.
+    /// The bytes after it.
     pub tail: Vec<u8>,
 }
 
-/// What stands around the sound in the file of the form that holds the recording with `count` bits, at most `2^36`,
-/// in each channel. The bits of its channels are not looked at, only their number: so it is told of an outline,
-/// before the sound is read. What [`crate::write_in`] makes is the head, the sound bytes by [`interleaving_in`], and the
+/// The bytes before and after the sound in the file of the form that holds the recording with `count` bits, at most
+/// `2^36`, in each channel. Only the number of channels is used, not their bits, so this works for a recording whose
+/// sound is not read yet. What [`crate::write_in`] returns is the head, the sound bytes by [`interleaving_in`], and the
 /// tail.
 ///
-/// Refusals, in this order: `NotWholeBytes` where the form is DSDIFF and `count` isn't a multiple of 8, for which no
+/// Refusals, in this order: `NotWholeBytes` if the form is DSDIFF and `count` isn't a multiple of 8, for which no
 /// memory is needed; `Memory`.
 pub fn ends_in(
     alloc: Global,
@@ -48,7 +48,7 @@ pub fn ends_in(
     }
 }
 
-// What stands around the sound in a DSDIFF file.
+// The bytes before and after the sound in a DSDIFF file.
 fn around_frames(alloc: Global, recording: &Recording, count: usize) -> Result<Ends, WriteFault>
     requires in_limit { count ≤ most_bits }
     ensures head { IfOk result (λ ends. ends.head.items ≡ head_in Form.Dsdiff recording.now count) }
@@ -66,7 +66,7 @@ fn around_frames(alloc: Global, recording: &Recording, count: usize) -> Result<E
     Ok(Ends { head, tail })
 }
 
-// What stands around the sound in a DSF file.
+// The bytes before and after the sound in a DSF file.
 fn around_blocks(
     alloc: Global,
     recording: &Recording,

@@ -4,7 +4,7 @@ ghost use Rattle.dsd_bits.specs.Shape.{HasShape};
 
 use dsd_bits::Recording;
 
-/// A recording keeps the rules of its shape.
+/// A recording obeys the rules of its shape.
 pub fn has_shape(recording: &Recording)
     ensures { HasShape recording.now }
 {

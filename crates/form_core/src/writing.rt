@@ -12,8 +12,8 @@ use std::alloc::Global;
 
 /// The file of the form that holds the recording.
 ///
-/// Refusals, in this order: `NotWholeBytes` where the form is DSDIFF and the number of each channel's bits
-/// isn't a multiple of 8, for which no memory is needed; `Memory`.
+/// Refusals, in this order: `NotWholeBytes` if the form is DSDIFF and the number of each channel's bits isn't a
+/// multiple of 8, for which no memory is needed; `Memory`.
 pub fn write_in(alloc: Global, recording: &Recording, form: Form) -> Result<Vec<u8>, WriteFault>
     ensures text { IfOk result (λ file. text_in form recording.now ≡ Some file.items) }
     // What is read from it has the recording's sound.
@@ -28,8 +28,8 @@ pub fn write_in(alloc: Global, recording: &Recording, form: Form) -> Result<Vec<
     }
 }
 
-/// How many parts of a recording a file of the form has no place for: marks and kept chunks in a DSF
-/// file, a tag in a DSDIFF file.
+/// How many parts of a recording a file of the form can't hold: marks and kept chunks in a DSF file, a tag in a DSDIFF
+/// file.
 pub fn dropped_in(description: &Description, form: Form) -> u64
     ensures { result ≡ forms.dropped_in form description.now }
 {

@@ -1,4 +1,4 @@
--- Sound bytes of one interleaving in another (DSDIFF 1.5, DSF 1.01).
+-- Sound bytes in another interleaving (DSDIFF 1.5, DSF 1.01).
 use Rattle.std.specs.Prelude.{◌≡◌, ℕ, ◌+◌, ◌%◌, Bool, List, ◌++◌, length}
 use Rattle.dsd_bits.specs.declared.interleaving.Interleaving.{Interleaving}
 use Rattle.dsd_bits.specs.declared.interleaving.Interleaving.TheVariants.{Bytes, Blocks}
@@ -12,11 +12,12 @@ abbrev pub laced_in : Interleaving → List (List Bool) → List ℕ
 laced_in Bytes channels = laced channels
 laced_in (Blocks order) channels = blocked order channels
 
--- the sound bytes of the same channels, so many of so many bits, in the other interleaving
+-- the sound bytes, interleaved as `to`, of the channels that the bytes hold as `from`, `count` bits each
 abbrev pub relaced : Interleaving → Interleaving → ℕ → ℕ → List ℕ → List ℕ
 relaced from to channels count bytes = laced_in to (sound_channels from channels count bytes)
 
--- sound bytes of whole groups of 4096 bytes a channel, and those behind them, each written in the other interleaving, are all of them written so
+-- re-interleaving whole groups of 4096 bytes a channel and the bytes after them in two parts gives the same as
+-- re-interleaving all of them
 abbrev pub GroupsJoin : Type 0
 GroupsJoin = (from to : Interleaving) (channels a b : ℕ) (first more : List ℕ) → a % block_bits ≡ 0 → length first ≡ sound_size from channels a → length more ≡ sound_size from channels b
     → relaced from to channels (a + b) (first ++ more) ≡ relaced from to channels a first ++ relaced from to channels b more

@@ -1,4 +1,4 @@
-//! How much of a sound is taken at a time: whole groups of the channels' blocks.
+//! How much of a sound is processed at a time: whole groups of the channels' blocks.
 
 ghost use Rattle.std.specs.Prelude.{◌≡◌, ◌*◌, ◌/◌, ◌%◌, ◌≤◌, ◌^◌};
 ghost use Rattle.dsd_bits.specs.Sounds.{sound_size};
@@ -8,7 +8,7 @@ use dsd_bits::{Interleaving, blocks_size};
 // The bits of each channel in a group of blocks.
 const GROUP_BITS: usize = 32_768;
 
-/// How many bits of each channel are taken at a time: those of as many groups of blocks as fit 65,536 bytes.
+/// How many bits of each channel are processed at a time: those of as many groups of blocks as fit 65,536 bytes.
 pub fn stretch_bits(channels: usize) -> usize
     requires { (1 ≤ channels) × (channels ≤ 6) }
     ensures some { 32768 ≤ result }
@@ -18,7 +18,7 @@ pub fn stretch_bits(channels: usize) -> usize
     16 / channels * GROUP_BITS
 }
 
-/// How many bytes hold so many bits of each channel.
+/// How many sound bytes hold `bits` bits of each channel.
 pub fn stretch_size(interleaving: Interleaving, channels: usize, bits: usize) -> usize
     requires channels { (1 ≤ channels) × (channels ≤ 6) }
     requires in_limit { bits ≤ 2 ^ 36 }

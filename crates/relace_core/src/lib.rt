@@ -1,18 +1,18 @@
-//! Sound bytes of one interleaving written in another, a stretch at a time.
+//! Re-interleaves sound bytes, a stretch at a time.
 //!
 //! An [`Interleaving`](dsd_bits::Interleaving) is that of DSDIFF 1.5, frames of one byte of each channel in turn, or
-//! that of DSF 1.01, blocks of 4096 bytes of each channel in turn with their bits in an order. A group, 4096 bytes
-//! (32768 bits) of each channel, is the same sound in both.
+//! that of DSF 1.01, blocks of 4096 bytes of each channel in turn with their bits in either order. A group is 4096
+//! bytes (32768 bits) of each channel. It holds the same sound in both.
 //!
-//! [`unlace`] takes a stretch apart into channels, [`push_relaced`] appends its bytes in the other interleaving. Whole groups and what stands behind them
-//! can be written one after the other ([`groups_join`]), so that a file is converted while it is read; [`stretch_bits`]
-//! says how much is taken at a time, [`stretch_size`] how many bytes that are. [`push_rooms`] writes bits that stand in
-//! held rooms, without memory.
+//! [`unlace`] takes a stretch apart into channels, [`push_relaced`] appends its bytes in the other interleaving. Whole
+//! groups and the bytes after them can be re-interleaved one after the other ([`groups_join`]), so a file can be
+//! converted while it is read. [`stretch_bits`] says how much is processed at a time, [`stretch_size`] how many bytes
+//! that is. [`push_rooms`] writes bits from reserved memory, and takes none.
 //!
 //! The words of the contracts (`specs/Relacing.antt`):
-//! - `relaced from to channels count bytes` is what is written: the sound bytes, by `to`, of the channels that stand in
-//!   the bytes by `from`.
-//! - `laced_in to channels` are the sound bytes of channels.
+//! - `relaced from to channels count bytes` is the re-interleaved bytes: the sound bytes, by `to`, of the channels that
+//!   the bytes hold by `from`.
+//! - `laced_in to channels` is the sound bytes of channels.
 //!
 //! ```text
 //! let stretch = Stretch { channels: 2, count: 16 };

@@ -1,4 +1,5 @@
-//! Frames written as blocks, and blocks as frames, with no channels between: a group of 4096 bytes a channel at a time.
+//! Frames are written as blocks, and blocks as frames, without making channels: a group of 4096 bytes a channel at a
+//! time.
 
 ghost use Rattle.std.specs.Prelude.{◌≡◌, ℕ, ◌+◌, ◌*◌, ◌/◌, ◌%◌, ◌<◌, ◌≤◌, ◌++◌, OnErr, OnOk, length, slice_index};
 ghost use Rattle.std.specs.Int.{div_ceil};

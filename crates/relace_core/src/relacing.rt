@@ -1,4 +1,4 @@
-//! Sound bytes of one interleaving written in another.
+//! Re-interleaves sound bytes.
 
 ghost use Rattle.std.specs.Prelude.{◌≡◌, ◌≤◌, ◌*◌, ◌/◌, ◌%◌, ◌++◌, IfOk, OnErr, OnOk, length};
 ghost use Rattle.dsd_bits.specs.Blocks.{blocks_size};
@@ -11,7 +11,7 @@ use crate::moving::{push_as_blocks, push_as_frames};
 use dsd_bits::{BitOrder, Bits, Interleaving, LaceFault, push_blocks, unlace_blocks, unlace_bytes};
 use std::alloc::{AllocError, Global};
 
-/// How many channels a stretch of sound has, and how many bits each of them.
+/// How many channels a stretch of sound has, and how many bits each of them has.
 #[derive(Clone, Copy)]
 pub struct Stretch {
     /// One to six channels.
@@ -22,9 +22,9 @@ pub struct Stretch {
     pub ghost in_limit: { count ≤ most_bits },
 }
 
-/// Appends the sound bytes of a stretch, which stand in `bytes` interleaved as `from` says, interleaved as `to`
-/// says. Frames hold whole bytes of each channel. What stands behind the bits in the last blocks is not looked at,
-/// and is written as zeros. Where there is no memory for them `out` stays as it was.
+/// Appends the sound bytes of a stretch in another interleaving: `bytes` is interleaved as `from`, what is appended as
+/// `to`. Frames hold whole bytes of each channel. What follows the bits in the last blocks is ignored, and is written
+/// as zeros. If there is no memory for the bytes, `out` is unchanged.
 pub fn push_relaced(
     alloc: Global,
     out: &mut Vec<u8>,
@@ -55,7 +55,7 @@ pub fn push_relaced(
     }
 }
 
-/// The channels of a stretch, whose sound bytes stand in `bytes` interleaved as `from` says.
+/// The channels of a stretch whose sound bytes are `bytes`, interleaved as `from`.
 pub fn unlace(
     alloc: Global,
     bytes: &[u8],

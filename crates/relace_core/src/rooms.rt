@@ -1,4 +1,4 @@
-//! Bits in held rooms written as sound bytes.
+//! Bits in reserved memory are written as sound bytes.
 
 ghost use Rattle.std.specs.Prelude.{◌≡◌, ◌+◌, ◌%◌, ◌≤◌, ◌++◌, length, vec_capacity, vec_len};
 ghost use Rattle.dsd_bits.specs.Channels.{IsLevel, count_of};
@@ -8,8 +8,8 @@ ghost use Rattle.relace_core.specs.Relacing.{laced_in};
 
 use dsd_bits::{BitRoom, Interleaving, push_blocked_rooms, push_laced_rooms};
 
-/// Appends the sound bytes of one to six channels of equal length, which stand in rooms, interleaved as `to` says.
-/// Frames hold whole bytes of each channel. There is room for the bytes, so it takes no memory.
+/// Appends the sound bytes of one to six channels of equal length, held in [`BitRoom`](dsd_bits::BitRoom)s, interleaved
+/// as `to`. Frames hold whole bytes of each channel. Memory for the bytes is reserved, so it takes none.
 pub fn push_rooms(out: &mut Vec<u8>, rooms: &[BitRoom], to: Interleaving)
     requires channel_number { (1 ≤ length rooms.now) × (length rooms.now ≤ 6) }
     requires level { IsLevel (rooms_bits rooms.now) }

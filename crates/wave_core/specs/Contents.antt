@@ -1,18 +1,18 @@
 -- What a WAVE file of PCM samples holds, as lists and numbers (RIFF WAVE; the limits are this project's).
 use Rattle.std.specs.Prelude.{◌≡◌, ℕ, ◌-◌, ◌%◌, ◌^◌, ◌<◌, ◌≤◌, ◌⊎◌, ℤ, pos, negsuc, List, length, All}
 
--- samples of so many bits at a rate in frames a second: the channels of a frame in order, frame by frame
+-- samples of a width in bits at a rate in frames per second: the channels of a frame in order, frame by frame
 pub record Pcm : Type 0 where
   pub channels : ℕ
   pub rate : ℕ
   pub width : ℕ
   pub samples : List ℤ
 
--- the samples of these numbers
+-- the samples with these numbers
 abbrev pub pcm_of : ℕ → ℕ → ℕ → List ℤ → Pcm
 pcm_of channels rate width samples = record { channels = channels; rate = rate; width = width; samples = samples }
 
--- the value can be written in so many bits of two's complement: -2^(width-1) up to 2^(width-1) - 1 (negsuc n is -1 - n)
+-- the value can be written in two's complement of `width` bits: -2^(width-1) up to 2^(width-1) - 1 (negsuc n is -1 - n)
 abbrev pub IsSample : ℕ → ℤ → Type 0
 IsSample width (pos n) = n < 2 ^ (width - 1)
 IsSample width (negsuc n) = n < 2 ^ (width - 1)
@@ -21,17 +21,17 @@ IsSample width (negsuc n) = n < 2 ^ (width - 1)
 abbrev pub IsWidth : ℕ → Type 0
 IsWidth width = (width ≡ 16) ⊎ (width ≡ 24)
 
--- what a file tells of its samples: the channels of a frame, the frames a second, the bits of a sample
+-- what a file says about its samples: the channels of a frame, the frames per second, the bits of a sample
 pub record WaveSpec : Type 0 where
   pub channels : ℕ
   pub rate : ℕ
   pub width : ℕ
 
--- what these numbers tell
+-- the description with these numbers
 abbrev pub spec_of : ℕ → ℕ → ℕ → WaveSpec
 spec_of channels rate width = record { channels = channels; rate = rate; width = width }
 
--- the rules that it keeps
+-- the rules that it obeys
 pub record IsWaveSpec (s : WaveSpec) : Type 0 where
   pub some_channel : 1 ≤ s.channels
   pub six_channels : s.channels ≤ 6
@@ -39,7 +39,7 @@ pub record IsWaveSpec (s : WaveSpec) : Type 0 where
   pub highest_rate : s.rate ≤ 6250000
   pub known_width : IsWidth s.width
 
--- the rules that all samples in memory keep
+-- the rules that all samples in memory obey
 pub record IsPcm (p : Pcm) : Type 0 where
   pub spec : IsWaveSpec (spec_of p.channels p.rate p.width)
   pub whole_frames : length p.samples % p.channels ≡ 0

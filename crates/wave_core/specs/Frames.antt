@@ -1,9 +1,9 @@
--- Frames of samples that are given channel by channel.
+-- Frames of samples that come channel by channel.
 use Rattle.std.specs.Prelude.{ℕ, ◌+◌, ◌*◌, ◌/◌, ℤ, pos, List, length, map, slice_index_or}
 use Rattle.std.specs.List.{flat_map, range_with_len}
 use Rattle.wave_core.specs.Texts.{sample_bytes}
 
--- frame i of samples of which each channel has so many: sample i of each channel, in order
+-- frame i of samples that come channel by channel, n of each: sample i of each channel, in order
 abbrev pub frame_of : List ℤ → ℕ → ℕ → List ℤ
 frame_of samples frames i = map (λ c. slice_index_or samples (c * frames + i) (pos 0)) (range_with_len 0 (length samples / frames))
 
@@ -11,6 +11,6 @@ frame_of samples frames i = map (λ c. slice_index_or samples (c * frames + i) (
 abbrev pub frames_of : List ℤ → ℕ → List ℤ
 frames_of samples frames = flat_map (frame_of samples frames) (range_with_len 0 frames)
 
--- their bytes
+-- the bytes of all frames
 abbrev pub frame_bytes : ℕ → List ℤ → ℕ → List ℕ
 frame_bytes width samples frames = flat_map (sample_bytes width) (frames_of samples frames)

@@ -1,4 +1,5 @@
--- The sizes that a WAVE file names, in bytes (Microsoft and IBM, Multimedia Programming Interface and Data Specifications 1.0, WAVE form, PCM; Microsoft, WAVEFORMATEXTENSIBLE).
+-- The sizes in a WAVE file, in bytes (Microsoft and IBM, Multimedia Programming Interface and Data Specifications 1.0,
+-- WAVE form, PCM; Microsoft, WAVEFORMATEXTENSIBLE).
 use Rattle.std.specs.Prelude.{ℕ, ◌+◌, ◌-◌, ◌*◌, ◌/◌, ◌%◌, ◌^◌, ◌<◌, Bool, ◌==◌, ◌||◌, nat_lt, if◌then◌else◌}
 use Rattle.wave_core.specs.Contents.{WaveSpec}
 
@@ -10,7 +11,8 @@ is_extensible channels width = width == 24 || nat_lt 2 channels
 abbrev pub format_size : ℕ → ℕ → ℕ
 format_size channels width = if is_extensible channels width then 40 else 16
 
--- the bytes before the samples: the head of the RIFF chunk and its type, the format chunk, the head of the data chunk
+-- the bytes before the samples: the header of the RIFF chunk and its type, the format chunk, the header of the data
+-- chunk
 abbrev pub header_size : ℕ → ℕ → ℕ
 header_size channels width = 28 + format_size channels width
 
@@ -18,19 +20,19 @@ header_size channels width = 28 + format_size channels width
 abbrev pub block_align : ℕ → ℕ → ℕ
 block_align channels width = channels * (width / 8)
 
--- the bytes of the samples of so many frames
+-- the bytes of the samples of n frames
 abbrev pub data_size : ℕ → ℕ → ℕ → ℕ
 data_size channels width frames = frames * block_align channels width
 
--- the bytes that follow the samples, to make odd data even
+-- the bytes after the samples, which make odd data even
 abbrev pub pad_size : ℕ → ℕ → ℕ → ℕ
 pad_size channels width frames = data_size channels width frames % 2
 
--- the size of the RIFF chunk: all of the file but the 8 bytes of its own head
+-- the size of the RIFF chunk: the file without the 8 bytes of its own header
 abbrev pub riff_size : ℕ → ℕ → ℕ → ℕ
 riff_size channels width frames = header_size channels width - 8 + data_size channels width frames + pad_size channels width frames
 
--- that of a file that tells so much
+-- the size of the RIFF chunk of a file with this description
 abbrev pub riff_size_of : WaveSpec → ℕ → ℕ
 riff_size_of s frames = riff_size s.channels s.width frames
 

@@ -6,52 +6,54 @@ use Rattle.chunk_core.specs.Numbers.{bytes_of}
 use Rattle.wave_core.specs.Contents.{Pcm, WaveSpec}
 use Rattle.wave_core.specs.Sizes.{block_align, data_size, format_size, is_extensible, pad_size, riff_size}
 
--- the head of the RIFF chunk, and its type
+-- the header of the RIFF chunk, and its type
 abbrev pub riff_head : ℕ → List ℕ
 riff_head size = codes "RIFF" ++ bytes_of Little 4 size ++ codes "WAVE"
 
--- the format tag: of integer samples, and of a format chunk in its second form
+-- the format tag: that of integer samples, or that of a format chunk in its second form
 abbrev pub format_tag : ℕ → ℕ → ℕ
 format_tag channels width = if is_extensible channels width then 65534 else 1
 
--- the subformat of integer samples: 00000001-0000-0010-8000-00aa00389b71 as its bytes stand in a file
+-- the subformat of integer samples: 00000001-0000-0010-8000-00aa00389b71 as a file stores its bytes
 abbrev pub pcm_subformat : List ℕ
 pcm_subformat = 1 ∷ 0 ∷ 0 ∷ 0 ∷ 0 ∷ 0 ∷ 16 ∷ 0 ∷ 128 ∷ 0 ∷ 0 ∷ 170 ∷ 0 ∷ 56 ∷ 155 ∷ 113 ∷ []
 
--- what the second form has more: how many bytes follow, the bits of a sample that count, no loudspeaker named, and the subformat
+-- the further fields of the second form: how many bytes follow, the number of valid bits of a sample, a channel mask of
+-- 0, and the subformat
 abbrev pub extension : ℕ → ℕ → List ℕ
 extension channels width =
     if is_extensible channels width then bytes_of Little 2 22 ++ bytes_of Little 2 width ++ bytes_of Little 4 0 ++ pcm_subformat else []
 
--- the format chunk: its size, the tag, the channels, the frames and the bytes a second, the bytes of a frame, the bits of a sample, and the second form's extension
+-- the format chunk: its size, the tag, the channels, the frames and the bytes per second, the bytes of a frame, the
+-- bits of a sample, and the second form's extension
 abbrev pub format_chunk : ℕ → ℕ → ℕ → List ℕ
 format_chunk channels rate width =
     codes "fmt " ++ bytes_of Little 4 (format_size channels width) ++ bytes_of Little 2 (format_tag channels width) ++ bytes_of Little 2 channels
     ++ bytes_of Little 4 rate ++ bytes_of Little 4 (rate * block_align channels width) ++ bytes_of Little 2 (block_align channels width)
     ++ bytes_of Little 2 width ++ extension channels width
 
--- the head of the data chunk
+-- the header of the data chunk
 abbrev pub data_head : ℕ → List ℕ
 data_head size = codes "data" ++ bytes_of Little 4 size
 
--- all that stands before the samples of so many frames
+-- all bytes before the samples of n frames
 unfoldable pub header : ℕ → ℕ → ℕ → ℕ → List ℕ
 header channels rate width frames =
     riff_head (riff_size channels width frames) ++ (format_chunk channels rate width ++ data_head (data_size channels width frames))
 
--- the format chunk of a file that tells so much
+-- the format chunk of a file with this description
 abbrev pub format_of : WaveSpec → List ℕ
 format_of s = format_chunk s.channels s.rate s.width
 
--- all that stands before its samples, by the two sizes that are named there
+-- all bytes before its samples, with the two sizes in them
 abbrev pub head_of : WaveSpec → ℕ → ℕ → List ℕ
 head_of s riff_bytes sound_bytes = riff_head riff_bytes ++ (format_of s ++ data_head sound_bytes)
 
--- the same of so many frames
+-- all bytes before its samples, for n frames
 abbrev pub header_of : WaveSpec → ℕ → List ℕ
 header_of s frames = header s.channels s.rate s.width frames
 
--- the number that stands for a value in two's complement of so many bits (negsuc n is -1 - n)
+-- the number that stands for a value in two's complement of `width` bits (negsuc n is -1 - n)
 abbrev pub twos_complement : ℕ → ℤ → ℕ
 twos_complement width (pos n) = n
 twos_complement width (negsuc n) = 2 ^ width - suc n
@@ -60,15 +62,15 @@ twos_complement width (negsuc n) = 2 ^ width - suc n
 abbrev pub sample_bytes : ℕ → ℤ → List ℕ
 sample_bytes width value = bytes_of Little (width / 8) (twos_complement width value)
 
--- what follows the samples of so many frames: one zero byte after odd data, else nothing
+-- what follows the samples of n frames: one zero byte after odd data, else nothing
 abbrev pub pad_bytes : ℕ → ℕ → ℕ → List ℕ
 pad_bytes channels width frames = replicate (pad_size channels width frames) 0
 
--- how many frames there are
+-- the number of frames
 abbrev pub frame_count : Pcm → ℕ
 frame_count p = length p.samples / p.channels
 
--- the file: the header, each sample, the pad; none where the RIFF chunk's size does not fit 32 bits
+-- the file: the header, each sample, the pad; none if the RIFF chunk's size does not fit 32 bits
 abbrev pub wave_text : Pcm → Option (List ℕ)
 wave_text p =
     if nat_lt (riff_size p.channels p.width (frame_count p)) (2 ^ 32)

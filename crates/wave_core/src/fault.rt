@@ -1,4 +1,4 @@
-//! Why samples are not written.
+//! Why samples can't be written.
 
 ghost use Rattle.std.specs.Prelude.{◌≡◌};
 ghost use Rattle.wave_core.specs.declared.fault.WaveFault.TheVariants.{Memory};
@@ -7,12 +7,12 @@ use std::alloc::AllocError;
 use std::fmt;
 use thiserror::Error;
 
-/// Why samples are not written. A fault's text is its name.
+/// Why samples can't be written. A fault's text is its name.
 #[derive(Clone, Copy, Debug, PartialEq, Eq, Error)]
 pub enum WaveFault {
-    /// The size of the RIFF chunk would not fit the 32 bits that it has.
+    /// The size of the RIFF chunk would not fit its 32 bits.
     TooLarge,
-    /// Want of memory.
+    /// Out of memory.
     Memory,
 }
 

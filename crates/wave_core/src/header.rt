@@ -1,4 +1,4 @@
-//! What stands before the samples.
+//! The bytes before the samples.
 
 ghost use Rattle.std.specs.Prelude.{◌≡◌, ◌≤◌, ◌^◌, ◌++◌, ◌↔◌, IfSome, IfNone, OnOk, OnErr};
 ghost use Rattle.wave_core.specs.Contents.{IsWaveSpec, spec_of};
@@ -10,35 +10,35 @@ use crate::spec::WaveSpec;
 use chunk_core::{Order, push_u16, push_u32};
 use std::alloc::AllocError;
 
-// How many bytes of the second form follow the number of them.
+// How many bytes of the second form follow the field with their number.
 const EXTENSION_SIZE: u16 = 22;
 
-// No loudspeaker is named for any channel.
+// No channel is assigned to a loudspeaker.
 const NO_LOUDSPEAKERS: u32 = 0;
 
-// The subformat of integer samples, 00000001-0000-0010-8000-00aa00389b71 as its bytes stand in a file.
+// The subformat of integer samples, 00000001-0000-0010-8000-00aa00389b71, as a file stores its bytes.
 const PCM_SUBFORMAT: [u8; 16] = [
     1, 0, 0, 0, 0, 0, 0x10, 0, 0x80, 0, 0, 0xaa, 0, 0x38, 0x9b, 0x71,
 ];
 
-// The greatest size that a chunk can name.
+// The greatest size that a chunk can have.
 const LARGEST_SIZE: u64 = 0xffff_ffff;
 
 // The sizes of the chunks that depend on the number of frames, in bytes.
 #[derive(Clone, Copy)]
 pub(crate) struct Sizes {
-    // The RIFF chunk, which is the file but for its first 8 bytes.
+    // The RIFF chunk, which is the file without its first 8 bytes.
     pub(crate) riff_size: u32,
     // The samples.
     pub(crate) data_size: u32,
 }
 
-/// Appends the bytes before the samples, 44, or 68 for 24 bits or more than two channels: `rate` is in frames a
-/// second, 1 to 6,250,000, `width` the bits of a sample, 16 or 24, and `frames` the number of frames that follow,
+/// Appends the bytes before the samples: 44, or 68 for 24 bits or more than two channels. `rate` is in frames per
+/// second, 1 to 6,250,000, and `width` is the bits of a sample, 16 or 24. `frames` is the number of frames that follow,
 /// each of one sample for each of 1 to 6 channels.
 ///
-/// Refusals, in this order: `TooLarge` where the size of the RIFF chunk would not fit 32 bits, `Memory`.
-/// After a refusal nothing was appended.
+/// Refusals, in this order: `TooLarge` if the size of the RIFF chunk would not fit 32 bits, `Memory`. After a refusal
+/// nothing was appended.
 pub fn push_header(
     out: &mut Vec<u8>,
     channels: u16,
@@ -56,7 +56,7 @@ pub fn push_header(
 }
 
 impl WaveSpec {
-    /// Appends the bytes before the samples of so many frames. Refusals as of [`push_header`].
+    /// Appends the bytes before the samples of `frames` frames. Refusals as for [`push_header`].
     #[tactic(auto, unfolding(crate::specs::Texts::header))]
     pub fn push_header(&self, out: &mut Vec<u8>, frames: u64) -> Result<(), WaveFault>
         ensures ok { OnOk result (out.new.items ≡ out.old.items ++ header_of self.now frames) }
@@ -74,7 +74,7 @@ impl WaveSpec {
     }
 }
 
-// The sizes for so many frames, where they fit.
+// The sizes for `frames` frames, if they fit.
 pub(crate) fn sizes_of(spec: &WaveSpec, frames: u64) -> Option<Sizes>
     ensures data_size { IfSome result (λ sizes. sizes.data_size ≡ data_size spec.now.channels spec.now.width frames) }
     ensures riff_size { IfSome result (λ sizes. sizes.riff_size ≡ riff_size spec.now.channels spec.now.width frames) }
@@ -95,7 +95,7 @@ pub(crate) fn sizes_of(spec: &WaveSpec, frames: u64) -> Option<Sizes>
     })
 }
 
-// Appends what stands before the samples of frames whose sizes these are.
+// Appends the bytes before the samples of frames with these sizes.
 pub(crate) fn push_fields(
     out: &mut Vec<u8>,
     spec: &WaveSpec,
@@ -109,7 +109,7 @@ pub(crate) fn push_fields(
     Ok(())
 }
 
-// Appends the head of the RIFF chunk and its type.
+// Appends the header of the RIFF chunk and its type.
 fn push_riff_head(out: &mut Vec<u8>, riff_size: u32) -> Result<(), AllocError>
     ensures { OnOk result (out.new.items ≡ out.old.items ++ riff_head riff_size) }
 {
@@ -136,7 +136,7 @@ fn push_format(out: &mut Vec<u8>, spec: &WaveSpec) -> Result<(), AllocError>
     Ok(())
 }
 
-// Appends what the format chunk's second form has more.
+// Appends the further fields of the format chunk's second form.
 fn push_extension(out: &mut Vec<u8>, spec: &WaveSpec) -> Result<(), AllocError>
     ensures { OnOk result (out.new.items ≡ out.old.items ++ extension spec.now.channels spec.now.width) }
 {
@@ -149,7 +149,7 @@ fn push_extension(out: &mut Vec<u8>, spec: &WaveSpec) -> Result<(), AllocError>
     out.extend_from_slice(&PCM_SUBFORMAT)
 }
 
-// Appends the head of the data chunk.
+// Appends the header of the data chunk.
 fn push_data_head(out: &mut Vec<u8>, data_size: u32) -> Result<(), AllocError>
     ensures { OnOk result (out.new.items ≡ out.old.items ++ data_head data_size) }
 {

@@ -1,4 +1,4 @@
-//! Samples with what a file tells of them.
+//! Samples with the numbers that describe them.
 
 ghost use Rattle.std.specs.Prelude.{◌≡◌};
 ghost use Rattle.wave_core.specs.Contents.{IsPcm, pcm_of};
@@ -6,9 +6,9 @@ ghost use Rattle.wave_core.specs.Contents.{IsPcm, pcm_of};
 use crate::spec::WaveSpec;
 use std::marker::Model;
 
-/// Integer samples (pulse code modulation) of one to six channels: their rate in frames a second, their
-/// width in bits, and the values, frame by frame, in each frame one sample of each channel in order.
-/// Contracts see it as one record of numbers and a list, which keeps to the rules of `IsPcm`.
+/// Integer samples (pulse code modulation) of one to six channels: their rate in frames per second, their width in
+/// bits, and the values. These are frame by frame; each frame has one sample of each channel in order. Contracts see it
+/// as one record of numbers and a list, which obeys the rules of `IsPcm`.
 #[derive(Drop)]
 pub struct Pcm {
     pub(crate) spec: WaveSpec,
@@ -26,11 +26,10 @@ impl Model for Pcm {
 }
 
 impl Pcm {
-    /// The samples of these parts, which are moved into it; it takes no memory.
+    /// The samples of these parts, which are moved into it. It takes no memory.
     ///
-    /// There are 1 to 6 channels, the rate is 1 to 6,250,000 frames a second, a sample has 16 or 24 bits.
-    /// The samples are whole frames, and each lies in the range of its width: -32,768 to 32,767, or
-    /// -8,388,608 to 8,388,607.
+    /// There are 1 to 6 channels, the rate is 1 to 6,250,000 frames per second, and a sample has 16 or 24 bits. The
+    /// samples are whole frames, and each is in the range of its width: -32,768 to 32,767, or -8,388,608 to 8,388,607.
     pub fn new(channels: u16, rate: u32, width: u32, samples: Vec<i32>) -> Pcm
         requires parts { IsPcm (pcm_of channels rate width samples.items) }
         ensures parts { result ≡ pcm_of channels rate width samples.items }

@@ -10,8 +10,8 @@ ghost use Rattle.wave_core.specs.Texts.{pad_bytes, sample_bytes};
 use crate::spec::WaveSpec;
 use std::alloc::AllocError;
 
-/// Appends a sample of `width` bits, 16 or 24, in two's complement, the lowest byte first: two or three
-/// bytes. The value lies in the range of the width. A refused growth leaves `out` as it was.
+/// Appends a sample of `width` bits, 16 or 24, in two's complement, the lowest byte first: two or three bytes. The
+/// value is in the range of the width. After a refused growth `out` is unchanged.
 pub fn push_sample(out: &mut Vec<u8>, width: u32, value: i32) -> Result<(), AllocError>
     requires width { IsWidth width }
     requires value { IsSample width value }
@@ -25,8 +25,8 @@ pub fn push_sample(out: &mut Vec<u8>, width: u32, value: i32) -> Result<(), Allo
     out.extend_from_slice(&[low, middle, high])
 }
 
-/// Appends frames, each a sample of each channel in order, as of [`push_sample`]. The samples are given
-/// channel by channel, `frames` of each. A refused growth leaves `out` as it was.
+/// Appends frames, each a sample of each channel in order, as [`push_sample`] writes them. The samples come channel by
+/// channel, `frames` of each. After a refused growth `out` is unchanged.
 pub fn push_frames(
     out: &mut Vec<u8>,
     width: u32,
@@ -52,7 +52,7 @@ pub fn push_frames(
     Ok(())
 }
 
-// Writes frames of samples that are given channel by channel.
+// Writes frames of samples that come channel by channel.
 #[inline(always)]
 fn fill_frames(to: &mut [u8], width: u32, samples: &[i32], frames: usize)
     requires width { IsWidth width }
@@ -78,8 +78,8 @@ fn fill_frames(to: &mut [u8], width: u32, samples: &[i32], frames: usize)
     }
 }
 
-// Writes the samples of two channels over the frames of both, front to back: a frame's six bytes are one place in the
-// cache, which channel by channel is come to twice.
+// Writes the samples of two channels over the frames of both, in order. The six bytes of a frame share a place in the
+// cache, which would be visited twice channel by channel.
 #[inline(always)]
 fn fill_pairs(to: &mut [u8], width: u32, left: &[i32], right: &[i32])
     requires width { IsWidth width }
@@ -97,7 +97,7 @@ fn fill_pairs(to: &mut [u8], width: u32, left: &[i32], right: &[i32])
     }
 }
 
-// Writes the samples of a channel over sample `c` of each frame of so many channels.
+// Writes the samples of a channel over sample `c` of each frame of `channels` samples.
 #[inline(always)]
 fn spread(to: &mut [u8], width: u32, samples: &[i32], channels: usize, c: usize)
     requires width { IsWidth width }
@@ -112,7 +112,7 @@ fn spread(to: &mut [u8], width: u32, samples: &[i32], channels: usize, c: usize)
     }
 }
 
-// Writes a sample as of [`push_sample`] over that at a place.
+// Writes a sample, as [`push_sample`] does, over that at a place.
 #[inline(always)]
 fn put_sample(to: &mut [u8], width: u32, place: usize, value: i32)
     requires width { IsWidth width }
@@ -132,9 +132,8 @@ fn put_sample(to: &mut [u8], width: u32, place: usize, value: i32)
     to[place * 3 + 2] = high;
 }
 
-/// Appends what follows the samples of so many frames of 1 to 6 channels, each sample of `width` bits, 16
-/// or 24: one zero byte where these are an odd number of bytes, else nothing. A refused growth leaves
-/// `out` as it was.
+/// Appends what follows the samples of `frames` frames of 1 to 6 channels, each sample of `width` bits, 16 or 24: one
+/// zero byte if the samples take an odd number of bytes, else nothing. After a refused growth `out` is unchanged.
 pub fn push_pad(out: &mut Vec<u8>, channels: u16, width: u32, frames: u64) -> Result<(), AllocError>
     ensures ok { OnOk result (out.new.items ≡ out.old.items ++ pad_bytes channels width frames) }
     ensures unchanged { OnErr result (out.new.items ≡ out.old.items) }
@@ -146,7 +145,7 @@ pub fn push_pad(out: &mut Vec<u8>, channels: u16, width: u32, frames: u64) -> Re
 }
 
 impl WaveSpec {
-    /// Appends what follows the samples of so many frames, as of [`push_pad`].
+    /// Appends what follows the samples of `frames` frames, as [`push_pad`] does.
     pub fn push_pad(&self, out: &mut Vec<u8>, frames: u64) -> Result<(), AllocError>
         ensures ok { OnOk result (out.new.items ≡ out.old.items ++ pad_bytes self.now.channels self.now.width frames) }
         ensures unchanged { OnErr result (out.new.items ≡ out.old.items) }
@@ -155,7 +154,7 @@ impl WaveSpec {
     }
 }
 
-// How many bytes follow the samples. The data of so many frames may be more than a number holds.
+// How many bytes follow the samples. The number of data bytes may be too large for a number of 64 bits.
 fn pad_size(channels: u16, width: u32, frames: u64) -> u64
     ensures { result ≡ pad_size channels width frames }
 {

@@ -1,4 +1,4 @@
-//! What a WAVE file tells of its samples.
+//! What a WAVE file says about its samples.
 
 ghost use Rattle.std.specs.Prelude.{◌≡◌, ◌+◌, ◌≤◌, ◌^◌};
 ghost use Rattle.wave_core.specs.Contents.{IsWaveSpec, spec_of};
@@ -7,9 +7,8 @@ ghost use Rattle.wave_core.specs.Texts.{format_tag};
 
 use std::marker::Model;
 
-/// What a WAVE file tells of its samples: how many channels a frame has, 1 to 6, the frames a second, 1 to 6,250,000,
-/// and the bits of a sample, 16 or 24. Contracts see it as one record of numbers, which keeps to the rules of
-/// `IsWaveSpec`.
+/// What a WAVE file says about its samples: the channels of a frame, 1 to 6, the frames per second, 1 to 6,250,000, and
+/// the bits of a sample, 16 or 24. Contracts see it as one record of numbers, which obeys the rules of `IsWaveSpec`.
 #[derive(Drop)]
 pub struct WaveSpec {
     pub(crate) channels: u16,
@@ -28,7 +27,8 @@ impl Model for WaveSpec {
 }
 
 impl WaveSpec {
-    /// What these numbers tell: 1 to 6 channels, 1 to 6,250,000 frames a second, and samples of 16 or 24 bits.
+    /// The description with these numbers: 1 to 6 channels, 1 to 6,250,000 frames per second, and samples of 16 or 24
+    /// bits.
     pub fn new(channels: u16, rate: u32, width: u32) -> WaveSpec
         requires limits { IsWaveSpec (spec_of channels rate width) }
         ensures numbers { result ≡ spec_of channels rate width }
@@ -40,14 +40,14 @@ impl WaveSpec {
         }
     }
 
-    /// How many bytes stand before the samples: 44, or 68 for 24 bits or more than two channels.
+    /// How many bytes come before the samples: 44, or 68 for 24 bits or more than two channels.
     pub fn header_size(&self) -> u64
         ensures { result ≡ sizes.header_size self.now.channels self.now.width }
     {
         28 + u64::from(self.format_size())
     }
 
-    /// How many bytes the file of so many frames has, at most `2^36`.
+    /// How many bytes the file of `frames` frames has, at most `2^36` frames.
     pub fn file_size(&self, frames: u64) -> u64
         requires { frames ≤ 2 ^ 36 }
         ensures { result ≡ sizes.file_size self.now.channels self.now.width frames }
@@ -71,7 +71,7 @@ impl WaveSpec {
         self.width == 24 || self.channels > 2
     }
 
-    // The tag of the format chunk: that of its second form (WAVE_FORMAT_EXTENSIBLE), or of integer samples.
+    // The tag of the format chunk: that of its second form (WAVE_FORMAT_EXTENSIBLE), or that of integer samples.
     pub(crate) fn format_tag(&self) -> u16
         ensures { result ≡ format_tag self.now.channels self.now.width }
     {

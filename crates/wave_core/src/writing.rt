@@ -12,11 +12,11 @@ use crate::pcm::Pcm;
 use crate::sound::push_sample;
 use std::alloc::{AllocError, Global};
 
-/// The bytes of the WAVE file of the samples: what [`crate::push_header`] appends, each sample as of
-/// [`crate::push_sample`], and what [`crate::push_pad`] appends.
+/// The bytes of the WAVE file of the samples: what [`crate::push_header`] appends, each sample as
+/// [`crate::push_sample`] writes it, and what [`crate::push_pad`] appends.
 ///
-/// Refusals, in this order: `TooLarge` where the size of the RIFF chunk would not fit 32 bits, for which no
-/// memory is needed; `Memory`.
+/// Refusals, in this order: `TooLarge` if the size of the RIFF chunk would not fit 32 bits, for which no memory is
+/// needed; `Memory`.
 #[tactic(auto, unfolding(crate::specs::Texts::header))]
 pub fn write(alloc: Global, pcm: &Pcm) -> Result<Vec<u8>, WaveFault>
     ensures text { IfOk result (λ file. wave_text pcm.now ≡ Some file.items) }
@@ -46,8 +46,8 @@ fn push_samples(out: &mut Vec<u8>, width: u32, samples: &[i32]) -> Result<(), Al
     Ok(())
 }
 
-/// The law of the parts: the header, the samples of whole frames and the pad are the whole file, and where
-/// they are too large there is none. The function does nothing: a caller's proof cites what it ensures.
+/// The law of the parts: the header, the samples of whole frames and the pad are the whole file, and if they are too
+/// large there is none. The function does nothing: a caller's proof cites what it ensures.
 pub fn parts_join()
     ensures { PartsJoin }
 {}

@@ -10,7 +10,7 @@ pub record IsPlace (cut : CutContent) (p : BridgePlace) : Type 0 where
   pub channel_there : p.channel < channel_number cut
   pub bridged : 1 ≤ (cue_at cut p.cue).bridge
 
--- the places of the bridge behind cue i, by rising channel: a plain cut has none
+-- the places of the bridge after cue i, by rising channel; a plain cut has none
 abbrev pub places_behind : CutContent → ℕ → List BridgePlace
 places_behind cut i = if (cue_at cut i).bridge == 0 then [] else map (λ c. record { cue = i; channel = c }) (range_with_len 0 (channel_number cut))
 

@@ -1,4 +1,4 @@
--- A splice with what it hears of its takes.
+-- A splice with what it reads of its takes.
 use Rattle.std.specs.Prelude.{ℕ, ◌+◌, ◌-◌, ◌≤◌, ◌^◌, ◌≡◌, Bool, List, [], All, length, map, slice_index_or}
 use Rattle.std.specs.List.{range_with_len, sum_by}
 use Rattle.dsd_bits.specs.Channels.{count_of}
@@ -16,7 +16,7 @@ pub record CutContent : Type 0 where
   pub cued : List (List (List Bool))
   pub windows : List (List Bridging)
 
--- take i; past the last one a recording of nothing
+-- take i; past the last one an empty recording
 abbrev pub take_at : List Content → ℕ → Content
 take_at takes i = slice_index_or takes i (record { rate = 0; channels = []; ids = []; layout = 0; marks = []; others = []; tag = [] })
 
@@ -24,11 +24,12 @@ take_at takes i = slice_index_or takes i (record { rate = 0; channels = []; ids 
 abbrev pub source : SpliceContent → List Content → ℕ → ℕ → List Bool
 source splice takes c i = slice_index_or (take_at takes (fades.cue_at splice i).take).channels c []
 
--- f of the numbers below n
+-- f of each number below n
 abbrev pub each_below : {X : Type 0} → ℕ → (ℕ → X) → List X
 each_below n f = map f (range_with_len 0 n)
 
--- the cut of a splice and its takes: each cue's bits and each bridge's window in each channel, as those of the takes are
+-- the cut of a splice and its takes: each cue's bits and each bridge's window in each channel, from the bits of the
+-- takes
 abbrev pub cut_with : SpliceContent → List Content → CutContent
 cut_with splice takes =
     let number = length (take_at takes 0).channels in
@@ -39,11 +40,11 @@ cut_with splice takes =
       windows = each_below (length splice.cues - 1) (λ i. each_below number (λ c. fades.bridging splice i (source splice takes c i) (source splice takes c (i + 1))));
     }
 
--- cue i; past the last one a cue of no bits
+-- cue i; past the last one a cue without bits
 abbrev pub cue_at : CutContent → ℕ → CueContent
 cue_at cut i = fades.cue_at cut.splice i
 
--- how many channels the takes have, and so the master
+-- the number of channels of the takes, and so of the master
 abbrev pub channel_number : CutContent → ℕ
 channel_number cut = length cut.first.channels
 
@@ -51,27 +52,27 @@ channel_number cut = length cut.first.channels
 abbrev pub cue_bits : CutContent → ℕ → ℕ → List Bool
 cue_bits cut c i = slice_index_or (slice_index_or cut.cued i []) c []
 
--- a bridge of nothing
+-- an empty bridge
 abbrev pub no_bridging : Bridging
 no_bridging = record { weights = []; levels = 0; preceding = []; following = []; targets = [] }
 
--- the window of the bridge behind cue i in channel c
+-- the window of the bridge after cue i in channel c
 abbrev pub window : CutContent → ℕ → ℕ → Bridging
 window cut c i = slice_index_or (slice_index_or cut.windows i []) c no_bridging
 
--- how many bits each channel of the take of cue i has
+-- the number of bits of each channel of the take of cue i
 abbrev pub count_at : SpliceContent → List Content → ℕ → ℕ
 count_at splice takes i = count_of (take_at takes (fades.cue_at splice i).take).channels
 
--- how many bits of a channel a cue and the bridge behind it take
+-- the number of bits of a channel that a cue and the bridge after it take
 abbrev pub span : CueContent → ℕ
 span cue = (cue.stop - cue.start) + cue.bridge
 
--- how many bits each channel of the master has
+-- the number of bits of each channel of the master
 abbrev pub master_length : List CueContent → ℕ
 master_length cues = sum_by span cues
 
--- two recordings have the same rate and as many channels
+-- two recordings have the same rate and the same number of channels
 pub record AreAlike (first r : Content) : Type 0 where
   pub same_rate : r.rate ≡ first.rate
   pub as_many_channels : length r.channels ≡ length first.channels
@@ -84,7 +85,8 @@ IsAlike takes r = AreAlike (take_at takes 0) r
 abbrev pub IsInside : List Content → CueContent → Type 0
 IsInside takes cue = cue.stop ≤ count_of (take_at takes cue.take).channels
 
--- the takes fit the splice: they are as many and alike, each cue ends within its take, and the master is within the limit
+-- the takes fit the splice: their number is right, they are alike, each cue ends within its take, and the master is
+-- within the limit
 pub record FitTakes (splice : SpliceContent) (takes : List Content) : Type 0 where
   pub as_many : length takes ≡ length splice.takes
   pub alike : All (IsAlike takes) takes

@@ -1,4 +1,5 @@
--- The takes of a splice, opened: what is asked of their files, and the reading in order, to the cut or the first fault.
+-- The takes of a splice, opened: what is required of their files, and the reading in order, to the cut or the first
+-- fault.
 use Rattle.std.specs.Prelude.{◌≡◌, ℕ, zero, suc, ◌-◌, ◌%◌, ◌^◌, ◌==◌, ◌&&◌, Bool, true, false, List, [], ◌∷◌, ◌++◌, Result, Ok, Err, Option, Some, Vec, length, map, nat_le, slice_index_or, ⊤}
 use Rattle.std.specs.declared.alloc.Global.{Global}
 use Rattle.std.specs.List.{AllZip}
@@ -30,7 +31,7 @@ abbrev pub fault_of_take : ℕ → ReadFault → CutFault
 fault_of_take number reads.Memory = Memory
 fault_of_take number fault = TakeUnread number fault
 
--- the channels of a DSDIFF file, if one is asked for, end with a whole byte (DSDIFF 1.5, DSD sound data chunk)
+-- the channels of a DSDIFF file, if one is to be cut, end with a whole byte (DSDIFF 1.5, DSD sound data chunk)
 abbrev pub IsWhole : Option Form → SpliceContent → Type 0
 IsWhole form splice = form ≡ Some Dsdiff → master_length splice.cues % 8 ≡ 0
 
@@ -39,7 +40,7 @@ pub record AreRead (splice : SpliceContent) (files : List (List ℕ)) (takes : L
   pub as_many : length files ≡ length splice.takes
   pub held : AllZip HoldsSome files takes
 
--- the files hold takes that the splice can be cut from, into a file of the form where one is asked for, and this is the cut
+-- the files hold takes that the splice can be cut from, into a file of the form if one is given, and this is the cut
 pub record OpensCut (splice : SpliceContent) (files : List (List ℕ)) (form : Option Form) (cut : CutContent) : Type 0 where
   pub takes : List Content
   pub read : AreRead splice files takes
@@ -49,12 +50,12 @@ pub record OpensCut (splice : SpliceContent) (files : List (List ℕ)) (form : O
   pub room : HaveRoom splice takes
 
 -- ---- the reading in the order of the faults
--- a test that has to be met, or this fault
+-- a test that must hold, or this fault
 abbrev pub required : Bool → CutFault → Result ⊤ CutFault
 required true fault = Ok tt
 required false fault = Err fault
 
--- the steps of the numbers below n in turn, to the first fault
+-- the steps of the numbers below n in turn, up to the first fault
 abbrev pub each_before : ℕ → (ℕ → Result ⊤ CutFault) → Result ⊤ CutFault
 each_before zero step = Ok tt
 each_before (suc n) step = do
@@ -67,7 +68,7 @@ take_in number file = do
   opened ← map_err (fault_of_take number) (opened_of file)
   Ok opened.recording
 
--- that of file i
+-- the recording that file i holds
 abbrev pub take_from : List (List ℕ) → ℕ → Result Content CutFault
 take_from files i = take_in i (slice_index_or files i [])
 
@@ -87,12 +88,12 @@ alike_at shapes i = required ((shape_at shapes i).rate == (shape_at shapes 0).ra
 abbrev pub inside_at : SpliceContent → List TakeShape → ℕ → Result ⊤ CutFault
 inside_at splice shapes i = required (nat_le (cue_at splice i).stop (shape_of_cue splice shapes i).count) (CueOutside i)
 
--- the channels of a file of the form, if one is asked for, end with a whole byte
+-- the channels of a file of the form, if one is given, end with a whole byte
 abbrev pub whole_in : Option Form → SpliceContent → Bool
 whole_in (Some Dsdiff) splice = master_length splice.cues % 8 == 0
 whole_in form splice = true
 
--- a splice and takes of these shapes can be cut, into a file of the form where one is asked for, or the first fault
+-- whether a splice and takes of these shapes can be cut, into a file of the form if one is given, or the first fault
 unfoldable pub fitting : Option Form → SpliceContent → List TakeShape → Result ⊤ CutFault
 fitting form splice shapes = do
   alike ← each_before (length shapes) (alike_at shapes)
@@ -101,7 +102,7 @@ fitting form splice shapes = do
   whole ← required (whole_in form splice) NotWholeBytes
   each_before (length splice.cues - 1) (room_at splice shapes)
 
--- the cut of a splice and its takes, or the first fault of them
+-- the cut of a splice and its takes, or their first fault
 unfoldable pub cut_from : Option Form → SpliceContent → List Content → Result CutContent CutFault
 cut_from form splice takes = do
   fits ← fitting form splice (map shape_of takes)
@@ -119,22 +120,22 @@ cut_of splice files form = do
   takes ← takes_of splice files
   cut_from form splice takes
 
--- a call heard the take of a number that the steps come to, unless memory ran out
+-- a call read what the splice reads of the take that the steps return, unless memory ran out
 abbrev pub HearsTake : SpliceContent → ℕ → Result Heard CutFault → Result Content CutFault → Type 0
 HearsTake splice number (Ok h) steps = (r : Content) × (steps ≡ Ok r) × HasShape r × (heard_content h ≡ heard_of splice number r)
 HearsTake splice number (Err fault) steps = Fails Memory fault steps
 
--- whatever it was, what was heard is of some recording, the take of a number
+-- what a call read, if anything, is what the splice reads of some recording, the take of a number
 abbrev pub IsOfTake : SpliceContent → ℕ → Result Heard CutFault → Type 0
 IsOfTake splice number (Ok h) = (r : Content) × HasShape r × (heard_content h ≡ heard_of splice number r)
 IsOfTake splice number (Err fault) = ⊤
 
--- whatever it was, what was heard is of some recordings, the first n takes
+-- what a call read, if anything, is what the splice reads of some recordings, the first n takes
 abbrev pub IsOfTakes : SpliceContent → ℕ → Result (Vec Heard Global) CutFault → Type 0
 IsOfTakes splice n (Ok hs) = (whole : List Content) × AreHeard splice whole hs.items × (length whole ≡ n)
 IsOfTakes splice n (Err fault) = ⊤
 
--- a call heard the takes that the steps come to, unless memory ran out
+-- a call read what the splice reads of the takes that the steps return, unless memory ran out
 abbrev pub HearsTakes : SpliceContent → Result (Vec Heard Global) CutFault → Result (List Content) CutFault → Type 0
 HearsTakes splice (Ok hs) steps = (takes : List Content) × (steps ≡ Ok takes) × AreHeard splice takes hs.items
 HearsTakes splice (Err fault) steps = Fails Memory fault steps

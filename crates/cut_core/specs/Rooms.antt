@@ -11,13 +11,13 @@ use Rattle.cut_core.specs.Hearing.{TakeShape, shape_of_cue}
 use Rattle.cut_core.specs.declared.fault.CutFault.{CutFault}
 use Rattle.cut_core.specs.declared.fault.CutFault.TheVariants.{NoRoomBefore, NoRoomAfter}
 
--- the room that the bridge behind cue i wants as a fault, if it wants any
+-- the missing room of the bridge after cue i as a fault, if any is missing
 abbrev pub wanted : ℕ → Option RoomFault → Result ⊤ CutFault
 wanted i None = Ok tt
 wanted i (Some rooms.NoRoomBefore) = Err (NoRoomBefore i)
 wanted i (Some rooms.NoRoomAfter) = Err (NoRoomAfter i)
 
--- the bridge behind cue i, if there is one, has room in both takes
+-- the bridge after cue i, if there is one, has room in both takes
 abbrev pub HasRoomAt : SpliceContent → List Content → ℕ → Type 0
 HasRoomAt splice takes i = 1 ≤ (cue_at splice i).bridge → costs.HasRoom splice i (count_at splice takes i)
 
@@ -25,6 +25,6 @@ HasRoomAt splice takes i = 1 ≤ (cue_at splice i).bridge → costs.HasRoom spli
 abbrev pub HaveRoom : SpliceContent → List Content → Type 0
 HaveRoom splice takes = (i : ℕ) → i + 1 < length splice.cues → HasRoomAt splice takes i
 
--- the room of the bridge behind cue i, if there is one, or the first that it wants
+-- whether the bridge after cue i, if there is one, has room, or the first room that is missing
 abbrev pub room_at : SpliceContent → List TakeShape → ℕ → Result ⊤ CutFault
 room_at splice shapes i = if (cue_at splice i).bridge == 0 then Ok tt else wanted i (costs.first_fault splice i (shape_of_cue splice shapes i).count)

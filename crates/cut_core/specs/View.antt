@@ -1,4 +1,4 @@
--- What a `Cut` stands for.
+-- What a `Cut` means.
 use Rattle.std.specs.Prelude.{List, map}
 use Rattle.dsd_bits.specs.Contents.{Content}
 use Rattle.splice_core.specs.Splices.{splice_content}
@@ -7,11 +7,11 @@ use Rattle.cut_core.specs.Cuts.{CutContent, FitTakes}
 use Rattle.cut_core.specs.Hearing.{AreHeard, heard_content, heard_cut}
 use Rattle.cut_core.specs.Rooms.{HaveRoom}
 
--- the cut of the splice and what was heard, as the fields have them
+-- the cut of the splice and of what was read, as the fields hold them
 abbrev pub cut_content : Inside → CutContent
 cut_content x = heard_cut (splice_content x.splice) (map heard_content x.takes.items)
 
--- what was heard of takes that can be cut is what the fields hold
+-- the fields hold what was read of takes that can be cut
 pub record KeepsCut (x : Inside) : Type 0 where
   pub takes : List Content
   pub heard : AreHeard (splice_content x.splice) takes x.takes.items

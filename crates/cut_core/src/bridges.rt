@@ -7,7 +7,7 @@ ghost use Rattle.cut_core.specs.Bridges.{IsPlace, places_behind};
 use crate::cut::Cut;
 use std::alloc::{AllocError, Global};
 
-/// Where a bridge of a master stands.
+/// The place of a bridge in a master.
 #[derive(Clone, Copy, PartialEq, Eq)]
 pub struct BridgePlace {
     /// The number of the cue before it.
@@ -16,7 +16,7 @@ pub struct BridgePlace {
     pub channel: usize,
 }
 
-/// The places of all bridges, by rising cue and then by rising channel. A plain cut is no bridge. Err is want of
+/// The places of all bridges, by rising cue and then by rising channel. A plain cut is not a bridge. Err is out of
 /// memory.
 pub(crate) fn bridge_places(alloc: Global, cut: &Cut) -> Result<Vec<BridgePlace>, AllocError>
     ensures places { IfOk result (λ made. made.items ≡ specs.bridges cut.now) }
@@ -30,7 +30,7 @@ pub(crate) fn bridge_places(alloc: Global, cut: &Cut) -> Result<Vec<BridgePlace>
     Ok(places)
 }
 
-// Appends the places of the bridge behind a cue.
+// Appends the places of the bridge after a cue.
 fn push_places(out: &mut Vec<BridgePlace>, cut: &Cut, cue: usize) -> Result<(), AllocError>
     requires { cue + 1 < length cut.now.splice.cues }
     ensures appended { OnOk result (out.new.items ≡ out.old.items ++ places_behind cut.now cue) }

@@ -1,4 +1,4 @@
-//! The cues of a splice, and what was heard of the takes that they are cut from.
+//! The cues of a splice, and the bits that were read for them from their takes.
 
 ghost use Rattle.std.specs.Prelude.{◌≡◌, ◌+◌, ◌^◌, ◌<◌, ◌≤◌, length, map};
 ghost use Rattle.splice_core.specs.Cues.{IsCueWithin, cue_content};
@@ -20,7 +20,7 @@ pub(crate) fn cue_number(splice: &Splice) -> usize
     splice.cues.len()
 }
 
-/// The cue of a number of a splice.
+/// Cue `i` of a splice.
 pub(crate) fn cue_at(splice: &Splice, number: usize) -> &Cue
     requires { number < length (splice_content splice.now).cues }
     ensures value { cue_content result.now ≡ fades.cue_at (splice_content splice.now) number }
@@ -30,7 +30,7 @@ pub(crate) fn cue_at(splice: &Splice, number: usize) -> &Cue
     &splice.cues[number]
 }
 
-/// How many bits of the master the cue of a number and the bridge behind it take.
+/// How many bits of each channel of the master cue `i` and the bridge after it take.
 pub(crate) fn span_at(splice: &Splice, number: usize) -> usize
     requires { number < length (splice_content splice.now).cues }
     ensures value { result ≡ span (fades.cue_at (splice_content splice.now) number) }
@@ -40,7 +40,7 @@ pub(crate) fn span_at(splice: &Splice, number: usize) -> usize
     cue.stop - cue.start + cue.bridge
 }
 
-/// What was heard of the take that a cue is cut from.
+/// What was read of the take that a cue is cut from.
 pub(crate) fn take_of<'a>(splice: &Splice, takes: &'a [Heard], cue: usize) -> &'a Heard
     requires cue { cue < length (splice_content splice.now).cues }
     requires takes { length takes.now ≡ length (splice_content splice.now).takes }
@@ -52,7 +52,7 @@ pub(crate) fn take_of<'a>(splice: &Splice, takes: &'a [Heard], cue: usize) -> &'
     &takes[cue_at(splice, cue).take]
 }
 
-/// The bits that are heard for a cue in a channel.
+/// The bits that were read for a cue in a channel.
 pub(crate) fn stretch<'a>(
     splice: &Splice,
     takes: &'a [Heard],

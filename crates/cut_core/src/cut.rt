@@ -28,21 +28,21 @@ use splice_core::{Cue, Splice};
 use std::alloc::{AllocError, Global};
 use std::marker::Model;
 
-/// A splice with what it hears of its takes, from which a master can be cut: the takes are of one sample rate and one
+/// A splice with what it reads of its takes, from which a master can be cut. The takes have the same sample rate and
 /// number of channels, each cue ends within its take, the master has at most `2^36` bits a channel, and each bridge has
-/// room in both its takes. Of the takes it holds the bits of the cues and those that the bridges round them read.
+/// room in both its takes. Of the takes it holds the bits of the cues and those that the bridges next to them read.
 #[derive(Drop)]
 pub struct Cut {
     splice: Splice,
     takes: Vec<Heard>,
 }
 
-/// The bits of a cue in a channel, where they stand.
+/// The bits of a cue in a channel, and where they are.
 #[derive(Clone, Copy)]
 pub struct CuedBits<'a> {
-    /// What is heard of the take round the cue.
+    /// The bits that were read for the cue, its own and some around it.
     pub bits: &'a Bits,
-    /// The place of the cue's first bit in it.
+    /// The place of the cue's first bit in them.
     pub start: usize,
     /// The place after its last.
     pub stop: usize,
@@ -61,13 +61,13 @@ impl Model for Cut {
 
 impl Cut {
     /// A splice with its takes, read from their files, DSDIFF or DSF, in the order of their numbers. `form` is the form
-    /// of the file that is to be cut, where one is.
+    /// of the file to be cut, if there is one.
     ///
-    /// Refusals, in this order: `TakeNumber` where there are not as many files as takes, `TakeUnread` of the first file
-    /// that isn't read, `TakeMismatch` of the first take that isn't like take 0, `CueOutside` of the first cue that
-    /// stops behind the end of its take, `MasterTooLong` where the master would have more than `2^36` bits a channel,
-    /// `NotWholeBytes` where the form is DSDIFF and the master's channels would end inside a byte, then by rising cue
-    /// `NoRoomBefore` and `NoRoomAfter`. Every want of memory is `Memory`.
+    /// Refusals, in this order: `TakeNumber` if there are not as many files as takes, `TakeUnread` for the first file
+    /// that can't be read, `TakeMismatch` for the first take that isn't like take 0, `CueOutside` for the first cue
+    /// that stops after the end of its take, `MasterTooLong` if the master would have more than `2^36` bits a channel,
+    /// `NotWholeBytes` if the form is DSDIFF and the master's channels would end inside a byte, then by rising cue
+    /// `NoRoomBefore` and `NoRoomAfter`. Whenever memory runs out it is `Memory`.
     #[tactic(auto, unfolding(crate::specs::Opening::cut_of))]
     pub fn open(
         alloc: Global,
@@ -75,9 +75,9 @@ impl Cut {
         files: &[Vec<u8>],
         form: Option<Form>,
     ) -> Result<Cut, CutFault>
-        // What is answered is the cut of takes that the files hold, and can be cut.
+        // What is returned is the cut of takes that the files hold, and can be cut.
         ensures found { IfOk result (OpensCut (splice_content splice) (file_bytes files.now) form) }
-        // What is answered or refused is what reading in order comes to, want of memory aside.
+        // The result or refusal is that of reading in order, unless memory runs out.
         ensures exact { Gives CutFault.Memory (λ cut. cut) result
             (cut_of (splice_content splice) (file_bytes files.now) form) }
     {
@@ -85,13 +85,13 @@ impl Cut {
         Cut::of(splice, takes, form)
     }
 
-    /// A splice with what it hears of its takes, in the order of their numbers.
+    /// A splice with what it reads of its takes, in the order of their numbers.
     ///
     /// Refusals: those of [`Cut::open`] from `TakeMismatch` on, in their order.
     #[tactic(auto, unfolding(crate::specs::Opening::cut_from))]
     pub fn of(splice: Splice, takes: Vec<Heard>, form: Option<Form>) -> Result<Cut, CutFault>
         requires { AreOfTakes (splice_content splice) takes.items }
-        // Of whichever takes it was heard, what is answered or refused is what reading them in order comes to.
+        // Whichever takes it was read from, the result or refusal is that of reading them in order.
         ensures exact { (whole : List Content) → AreHeard (splice_content splice) whole takes.items
             → Gives CutFault.Memory (λ cut. cut) result (cut_from form (splice_content splice) whole) }
     {
@@ -99,7 +99,7 @@ impl Cut {
         Ok(Cut { splice, takes })
     }
 
-    /// What a cut keeps, for those who build on it. It does nothing.
+    /// What holds of every cut, for those who build on it. It does nothing.
     pub fn can_cut(&self)
         ensures { CanCut self.now }
     {
@@ -116,7 +116,7 @@ impl Cut {
         cues::cue_number(&self.splice)
     }
 
-    /// The cue of a number.
+    /// Cue `i`.
     pub fn cue(&self, number: usize) -> &Cue
         requires { number < length self.now.splice.cues }
         ensures value { cue_content result.now ≡ cue_at self.now number }
@@ -126,7 +126,7 @@ impl Cut {
         cues::cue_at(&self.splice, number)
     }
 
-    /// How many bits of the master the cue of a number and the bridge behind it take.
+    /// How many bits of each channel of the master cue `i` and the bridge after it take.
     pub fn span(&self, number: usize) -> usize
         requires { number < length self.now.splice.cues }
         ensures value { result ≡ span (cue_at self.now number) }
@@ -152,14 +152,14 @@ impl Cut {
         fitting::master_length(&self.splice)
     }
 
-    /// The first take without its bits, whose sample rate, channel IDs and layout the master has.
+    /// The first take without its bits. The master has its sample rate, channel IDs and layout.
     pub fn first(&self) -> &Recording
         ensures { result.now ≡ self.now.first }
     {
         &self.takes[0].recording
     }
 
-    /// How many channels the takes have, and so the master: 1 to 6.
+    /// How many channels the takes have, and so the master has: 1 to 6.
     pub fn channel_number(&self) -> usize
         ensures value { result ≡ cuts.channel_number self.now }
         ensures few { result ≤ 6 }
@@ -167,7 +167,7 @@ impl Cut {
         self.first().channels().len()
     }
 
-    /// Where the bits of a cue in a channel stand.
+    /// Where the bits of a cue in a channel are.
     pub fn cued(&self, channel: usize, cue: usize) -> CuedBits<'_>
         requires channel { channel < cuts.channel_number self.now }
         requires cue { cue < length self.now.splice.cues }
@@ -186,7 +186,7 @@ impl Cut {
         }
     }
 
-    /// Appends the bits of a cue in a channel. Err is want of memory.
+    /// Appends the bits of a cue in a channel. Err is out of memory.
     pub fn push_cue(&self, out: &mut Bits, channel: usize, cue: usize) -> Result<(), AllocError>
         requires channel { channel < cuts.channel_number self.now }
         requires cue { cue < length self.now.splice.cues }
@@ -199,7 +199,7 @@ impl Cut {
         out.push_range(here.bits, here.start, here.stop)
     }
 
-    /// The places of all bridges, by rising cue and then by rising channel. A plain cut is no bridge. Err is want of
+    /// The places of all bridges, by rising cue and then by rising channel. A plain cut is not a bridge. Err is out of
     /// memory.
     pub fn bridges(&self, alloc: Global) -> Result<Vec<BridgePlace>, AllocError>
         ensures places { IfOk result (λ made. made.items ≡ places.bridges self.now) }
@@ -209,7 +209,7 @@ impl Cut {
         bridge_places(alloc, self)
     }
 
-    /// The window of the bridge at a place. Err is want of memory.
+    /// The window of the bridge at a place. Err is out of memory.
     pub fn window(&self, alloc: Global, place: BridgePlace) -> Result<Window, AllocError>
         requires { IsPlace self.now place }
         ensures { IfOk result (λ window. window ≡ cuts.window self.now place.channel place.cue) }
@@ -222,7 +222,7 @@ impl Cut {
         Window::between(alloc, &self.splice, cue, own, stop, next, start)
     }
 
-    /// The marks of the titles: one at the first bit of the master of each cue that has a title. Err is want of memory.
+    /// The marks of the titles: for each cue with a title, one at its first bit in the master. Err is out of memory.
     pub fn titles(&self, alloc: Global) -> Result<Vec<Mark>, AllocError>
         ensures { IfOk result (λ made. map mark_content made.items ≡ titles_of self.now) }
     {

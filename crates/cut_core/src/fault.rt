@@ -7,22 +7,22 @@ use form_core::ReadFault;
 use std::alloc::AllocError;
 use thiserror::Error;
 
-/// Why a splice can't be cut from the files of its takes: the first fault that stands.
+/// Why a splice can't be cut from the files of its takes: the first fault that applies.
 ///
-/// A fault's text is its name, and after one space the number of the take or cue, counted from 0, and behind that of a
-/// take that isn't read why.
+/// A fault's text is its name, then a space and the number of the take or cue, counted from 0, and for a take that
+/// can't be read also the reason.
 #[derive(Clone, Copy, Debug, PartialEq, Eq, Error)]
 pub enum CutFault {
     /// There are not as many files as takes.
     #[error("TakeNumber")]
     TakeNumber,
-    /// The file of the take of this number is not read as a recording.
+    /// The file of the take of this number can't be read as a recording.
     #[error("TakeUnread {0} {1}")]
     TakeUnread(usize, ReadFault),
     /// The take of this number has another sample rate or number of channels than take 0.
     #[error("TakeMismatch {0}")]
     TakeMismatch(usize),
-    /// The cue of this number stops behind the end of its take.
+    /// The cue of this number stops after the end of its take.
     #[error("CueOutside {0}")]
     CueOutside(usize),
     /// The master would have more than `2^36` bits a channel.
@@ -31,13 +31,13 @@ pub enum CutFault {
     /// The channels of a DSDIFF file would end inside a byte.
     #[error("NotWholeBytes")]
     NotWholeBytes,
-    /// The cue behind the bridge of this cue starts too early for its fade.
+    /// The cue after this one starts too early for the fade of the bridge between them.
     #[error("NoRoomBefore {0}")]
     NoRoomBefore(usize),
     /// The cue of this number stops too late for its fade.
     #[error("NoRoomAfter {0}")]
     NoRoomAfter(usize),
-    /// Want of memory.
+    /// Out of memory.
     #[error("Memory")]
     Memory,
 }

@@ -17,12 +17,12 @@ use dsd_bits::Recording;
 use form_core::Form;
 use splice_core::Splice;
 
-/// Whether takes, as many as the splice has, can be cut, into a file of the form where one is asked for.
+/// Whether takes, as many as the splice has, can be cut, into a file of the form if one is given.
 ///
-/// Refusals, in this order: `TakeMismatch` of the first take that isn't like take 0, `CueOutside` of the first cue
-/// that stops behind the end of its take, `MasterTooLong` where the master would have more than `2^36` bits a
-/// channel, `NotWholeBytes` where the form is DSDIFF and the master's channels would end inside a byte, then by rising
-/// cue `NoRoomBefore` and `NoRoomAfter`.
+/// Refusals, in this order: `TakeMismatch` for the first take that isn't like take 0, `CueOutside` for the first cue
+/// that stops after the end of its take, `MasterTooLong` if the master would have more than `2^36` bits a channel,
+/// `NotWholeBytes` if the form is DSDIFF and the master's channels would end inside a byte, then by rising cue
+/// `NoRoomBefore` and `NoRoomAfter`.
 #[tactic(auto, unfolding(crate::specs::Opening::fitting))]
 pub(crate) fn fits(splice: &Splice, takes: &[Heard], form: Option<Form>) -> Result<(), CutFault>
     requires { length takes.now ≡ length (splice_content splice.now).takes }
@@ -60,7 +60,7 @@ fn alike_at(takes: &[Heard], i: usize) -> Result<(), CutFault>
     Ok(())
 }
 
-/// Whether two recordings have another rate or another number of channels.
+/// Whether two recordings differ in rate or number of channels.
 pub fn differ(first: &Recording, take: &Recording) -> bool
     ensures alike { result ≡ false → AreAlike first.now take.now }
     ensures other { result ≡ true → AreAlike first.now take.now → ⊥ }
@@ -103,7 +103,7 @@ pub(crate) fn master_length(splice: &Splice) -> usize
     length
 }
 
-// Whether the channels of a file of the form, if one is asked for, end with a whole byte.
+// Whether the channels of a file of the form, if one is given, end with a whole byte.
 fn is_whole(splice: &Splice, form: Option<Form>) -> bool
     ensures { result ≡ whole_in form (splice_content splice.now) }
 {
@@ -125,7 +125,7 @@ fn have_room(splice: &Splice, takes: &[Heard]) -> Result<(), CutFault>
     Ok(())
 }
 
-// Whether the bridge behind cue `i`, if there is one, has room.
+// Whether the bridge after cue `i`, if there is one, has room.
 fn has_room_at(splice: &Splice, takes: &[Heard], i: usize) -> Result<(), CutFault>
     requires as_many { length takes.now ≡ length (splice_content splice.now).takes }
     requires there { i + 1 < length (splice_content splice.now).cues }

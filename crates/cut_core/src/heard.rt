@@ -1,4 +1,4 @@
-//! What a cut hears of a take: the bits of its cues, and those that the bridges round them read.
+//! What a cut reads of a take: the bits of its cues, and those that the bridges next to them read.
 
 ghost use Rattle.std.specs.Prelude.{◌≡◌, ◌+◌, ◌<◌, ◌≤◌, ◌^◌, IfOk, length};
 ghost use Rattle.splice_core.specs.Splices.{splice_content};
@@ -11,20 +11,20 @@ use dsd_bits::{BitRange, Bits, Recording, stretches_of};
 use splice_core::Splice;
 use std::alloc::{AllocError, Global};
 
-/// What a splice hears of one of its takes.
+/// What a splice reads of one of its takes.
 #[derive(Drop)]
 pub struct Heard {
-    /// The take without its bits: its channels have none.
+    /// The take without its bits: its channels are empty.
     pub recording: Recording,
     /// How many bits each channel of the take has.
     pub count: usize,
-    /// For each cue of the splice, by [`ranges_of`], the bits of each channel that are heard for it.
+    /// For each cue of the splice, by [`ranges_of`], the bits of each channel that are read for it.
     pub stretches: Vec<Vec<Bits>>,
 }
 
-/// For each cue of a splice the bits that are heard for it of the take of a number: those of the cue, before them what
-/// the target of the bridge there reads, and behind them the same. Of a cue of another take there are none. Err is want
-/// of memory.
+/// For each cue of a splice the range of bits that is read for it from the take of a number: the cue, the bits before
+/// it that the target of the bridge there reads, and the bits after it likewise. For a cue of another take the range is
+/// empty. Err is out of memory.
 pub fn ranges_of(alloc: Global, splice: &Splice, number: usize) -> Result<Vec<BitRange>, AllocError>
     ensures { IfOk result (λ made. made.items ≡ specs.ranges_of (splice_content splice.now) number) }
 {
@@ -35,7 +35,7 @@ pub fn ranges_of(alloc: Global, splice: &Splice, number: usize) -> Result<Vec<Bi
     Ok(ranges)
 }
 
-// The bits that are heard for a cue of the take of a number.
+// The range of bits that is read for a cue from the take of a number.
 fn range_of(splice: &Splice, number: usize, cue: usize) -> BitRange
     requires { cue < length (splice_content splice.now).cues }
     ensures { result ≡ specs.range_of (splice_content splice.now) number cue }
@@ -50,7 +50,7 @@ fn range_of(splice: &Splice, number: usize, cue: usize) -> BitRange
     }
 }
 
-/// The first bit that is heard for a cue.
+/// The first bit that is read for a cue.
 pub(crate) fn heard_from(splice: &Splice, cue: usize) -> usize
     requires { cue < length (splice_content splice.now).cues }
     ensures { result ≡ specs.heard_from (splice_content splice.now) cue }
@@ -72,7 +72,7 @@ fn lead_at(splice: &Splice, cue: usize) -> usize
     before
 }
 
-/// What a splice hears of a recording, its take of a number. Err is want of memory.
+/// What a splice reads of a recording, its take of a number. Err is out of memory.
 pub fn hear(
     alloc: Global,
     splice: &Splice,

@@ -1,9 +1,8 @@
-//! What the words of the contracts have to do with each other. The function does nothing: a caller's
-//! proof cites what it ensures.
+//! How the words of the contracts are related. The function does nothing: a caller's proof cites what it ensures.
 
 ghost use Rattle.cut_core.specs.Laws.{OpensInOrder};
 
-/// Which cut a splice and files come to is what reading them in order comes to.
+/// The cut of a splice and files is the result of reading them in order.
 pub fn opens_in_order()
     ensures { OpensInOrder }
 {}

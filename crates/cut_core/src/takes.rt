@@ -14,10 +14,10 @@ use form_core::{Opened, ReadFault, has_shape, read_any};
 use splice_core::Splice;
 use std::alloc::Global;
 
-/// What a splice hears of its takes, read from their files.
+/// What a splice reads of its takes, from their files.
 ///
-/// Refusals, in this order: `TakeNumber` where there are not as many files as takes, `TakeUnread` of the
-/// first file that isn't read. Every want of memory is `Memory`.
+/// Refusals, in this order: `TakeNumber` if there are not as many files as takes, `TakeUnread` for the first file that
+/// can't be read. Whenever memory runs out it is `Memory`.
 #[tactic(auto, unfolding(crate::specs::Opening::takes_of))]
 pub fn hear_takes(alloc: Global, splice: &Splice, files: &[Vec<u8>]) -> Result<Vec<Heard>, CutFault>
     ensures { HearsTakes (splice_content splice.now) result
@@ -29,7 +29,7 @@ pub fn hear_takes(alloc: Global, splice: &Splice, files: &[Vec<u8>]) -> Result<V
     read_takes(alloc, splice, files)
 }
 
-// What a splice hears of the recordings of files.
+// What a splice reads of the recordings of files.
 #[tactic(auto, using(crate::proofs::Steps::takes_stop))]
 fn read_takes(alloc: Global, splice: &Splice, files: &[Vec<u8>]) -> Result<Vec<Heard>, CutFault>
     ensures { HearsTakes (splice_content splice.now) result (takes_before (file_bytes files.now) (length files.now)) }
@@ -41,7 +41,7 @@ fn read_takes(alloc: Global, splice: &Splice, files: &[Vec<u8>]) -> Result<Vec<H
     Ok(takes)
 }
 
-// What a splice hears of the file of a number.
+// What a splice reads of the file of a number.
 fn hear_take(
     alloc: Global,
     splice: &Splice,
@@ -54,9 +54,9 @@ fn hear_take(
     hear_file(alloc, splice, number, &files[number])
 }
 
-/// What a splice hears of a file, the take of a number.
+/// What a splice reads of a file, the take of a number.
 ///
-/// Refusals: `TakeUnread` where the file isn't read; `Memory`.
+/// Refusals: `TakeUnread` if the file can't be read; `Memory`.
 pub fn hear_file(
     alloc: Global,
     splice: &Splice,
@@ -70,7 +70,7 @@ pub fn hear_file(
     Ok(hear(alloc, splice, number, recording)?)
 }
 
-/// What was heard of takes, and of the next one behind them: the first fault is kept.
+/// What was read of some takes, and of the next one after them: the first fault is kept.
 pub fn push_heard(
     takes: Result<Vec<Heard>, CutFault>,
     next: Result<Heard, CutFault>,
@@ -104,7 +104,7 @@ fn read_take(alloc: Global, number: usize, file: &[u8]) -> Result<Recording, Cut
     }
 }
 
-// The fault of the take of a number that is not read.
+// The fault for the take of a number if it can't be read.
 fn unread(number: usize, fault: ReadFault) -> CutFault
     ensures { result ≡ fault_of_take number fault }
 {

@@ -1,4 +1,4 @@
--- What is cut of a project and takes.
+-- What is cut from a project and takes.
 use Rattle.std.specs.Prelude.{◌≡◌, ℕ, List, None, Some, Result, Ok, Err}
 use Rattle.dsd_bits.specs.Contents.{Content}
 use Rattle.form_core.specs.declared.form.Form.{Form}
@@ -11,7 +11,7 @@ use Rattle.transfer_core.specs.declared.fault.Fault.{Fault}
 use Rattle.transfer_core.specs.declared.fault.Fault.TheVariants.{Memory}
 use Rattle.judge_core.specs.Cutting.{SaysCut}
 
--- these bytes are the file of the master whose every bridge is the first least one, at this cost
+-- these bytes are the file of the master whose every bridge is the first least one, and this is its cost
 pub record Edits (project : List ℕ) (files : List (List ℕ)) (form : Form) (master : List ℕ) (cost : ℕ) : Type 0 where
   pub cut : CutContent
   pub says : SaysCut project files (Some form) cut
@@ -19,11 +19,11 @@ pub record Edits (project : List ℕ) (files : List (List ℕ)) (form : Form) (m
   pub best : IsBestMaster cut form recording cost
   pub text : text_in form recording ≡ Some master
 
--- the same of an answer
+-- the same of what was returned
 abbrev pub IsEdited : List ℕ → List (List ℕ) → Form → Edited → Type 0
 IsEdited project files form made = Edits project files form made.master.items made.total
 
--- the bytes are the certificate of a master of a project and takes, the text that these and the bits of its bridges come to
+-- the bytes are the certificate of a master of a project and takes, a function of these and of the bits of its bridges
 pub record IsCertificate (project : List ℕ) (files : List (List ℕ)) (file cert : List ℕ) : Type 0 where
   pub cut : CutContent
   pub says : SaysCut project files None cut
@@ -32,7 +32,7 @@ pub record IsCertificate (project : List ℕ) (files : List (List ℕ)) (file ce
   pub file_holds : HoldsAs file form recording
   pub text : cert ≡ cert_of cut recording.channels
 
--- this master and this cost were answered, unless memory ran out
+-- this master and this cost were returned, unless memory ran out
 abbrev pub AnswersEdited : Result Edited Fault → List ℕ → ℕ → Type 0
 AnswersEdited (Ok made) master cost = (made.master.items ≡ master) × (made.total ≡ cost)
 AnswersEdited (Err fault) master cost = fault ≡ Memory

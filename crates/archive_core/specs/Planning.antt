@@ -1,4 +1,4 @@
--- What is planned of a project and takes before it is written.
+-- What is planned for a project and takes before it is written.
 use Rattle.std.specs.Prelude.{◌≡◌, ℕ, Bool, List, Some, Result, Ok, Err}
 use Rattle.form_core.specs.declared.form.Form.{Form}
 use Rattle.form_core.specs.Forms.{text_in}
@@ -19,26 +19,27 @@ pub record IsFileOf (planned : PlannedMaster) (file : List ℕ) : Type 0 where
   pub best : AreBestChannels planned.cut channels
   pub text : text_in planned.form (master_of planned.cut planned.form channels) ≡ Some file
 
--- what its bridges cost
+-- the cost of the bridges of a planned master
 abbrev pub planned_total : PlannedMaster → ℕ
 planned_total planned = planned.bridges.total
 
--- the bytes are the certificate that shows each of its bridges to be least
+-- the bytes are the certificate that shows each bridge of a planned master to be least
 abbrev pub CertifiesPlanned : PlannedMaster → List ℕ → Type 0
 CertifiesPlanned planned cert = Certifies planned.cut planned.bridges cert
 
--- its bridges and what stands around its sound are those of its cut, and its rooms serve for it
+-- the bridges and the bytes before and after the sound are those of the plan's cut, and its reserved memory fits it
 pub record IsPlanned (planned : PlannedMaster) : Type 0 where
   pub bridges_are : AreBridgesOf planned.cut planned.bridges
   pub ends_are : AreMasterEnds planned.cut planned.form planned.ends
   pub room_fits : IsRoomFor planned.cut planned.room
   pub cert_room_fits : IsRoomOf planned.cut planned.cert_room
 
--- the same is planned, whatever the room for its file holds now
+-- the same is planned, whatever the memory for its file holds now
 abbrev pub IsSamePlan : PlannedMaster → PlannedMaster → Type 0
 IsSamePlan old new = new ≡ record old { room = new.room }
 
--- the plan has one file, and no other: it is the master of the project and the takes with the first least bridges, the plan's certificate is that master's, and with it it is accepted; of all masters none costs less
+-- the plan has one file, and no other: it is the master of the project and the takes with the first least bridges; the
+-- plan's certificate is that of this master, and with it the master is accepted; no master costs less
 pub record Plans (project : List ℕ) (files : List (List ℕ)) (form : Form) (planned : PlannedMaster) : Type 0 where
   pub file : List ℕ
   pub is_file : IsFileOf planned file
@@ -50,7 +51,7 @@ pub record Plans (project : List ℕ) (files : List (List ℕ)) (form : Form) (p
   pub joint : CostsLeast project files file (planned_total planned)
   pub windows : CostsWindows project files file (planned_total planned)
 
--- a master of this file and this cost was planned, unless the call reports `Memory`
+-- a master with this file and this cost was planned, unless the call reports `Memory`
 abbrev pub AnswersPlanned : Result PlannedMaster Fault → List ℕ → ℕ → Type 0
 AnswersPlanned (Ok planned) master cost = IsFileOf planned master × (planned_total planned ≡ cost)
 AnswersPlanned (Err fault) master cost = fault ≡ Memory

@@ -26,36 +26,36 @@ pub struct Edited {
     pub total: u128,
 }
 
-/// The master of a project: in each channel the cues of its splice in turn, cut from the takes, and behind
-/// each cue but the last its bridge, whose bits cost least of all of its length and of several such are the
-/// first, read from the last bit to the first. It is a file of the form, at the rate of the takes, with the
-/// channel IDs and the layout of take 0; a DSDIFF file has a mark at the first bit of each titled cue. Of all
-/// masters of the project and the takes, with whatever bridges of these lengths, none has a smaller total. With
-/// it comes the certificate that shows each of its bridges to be least.
+/// The master of a project: in each channel the cues of its splice in turn, cut from the takes, and after each cue but
+/// the last its bridge. The bits of a bridge cost least of all lists of its length; of several such lists they are the
+/// first, read from the last bit to the first. The master is a file of the form, at the rate of the takes, with the
+/// channel IDs and the layout of take 0. A DSDIFF file has a mark at the first bit of each titled cue. No master of the
+/// project and the takes, with whatever bridges of these lengths, has a smaller total. With it comes the certificate
+/// that shows each of its bridges to be least.
 ///
-/// `takes` are the files of the takes, DSDIFF or DSF, in the order of their numbers. Refusals, in this
-/// order: `Project`, `NoSplice`, `TakeNumber`, `TakeUnread` of the first file that isn't read, `TakeMismatch`
-/// of the first take that has another rate or number of channels than take 0, `CueOutside` of the first cue
-/// that stops behind the end of its take, `MasterTooLong` (more than `2^36` bits a channel), `NotWholeBytes`
-/// where the form is DSDIFF and the channels would end inside a byte, then by rising cue `NoRoomBefore` and
-/// `NoRoomAfter`. Every want of memory is `Memory`.
+/// `takes` are the files of the takes, DSDIFF or DSF, in the order of their numbers. Refusals, in this order:
+/// `Project`, `NoSplice`, `TakeNumber`, `TakeUnread` for the first file that can't be read, `TakeMismatch` for the
+/// first take that has another rate or number of channels than take 0, `CueOutside` for the first cue that stops after
+/// the end of its take, `MasterTooLong` (more than `2^36` bits a channel), `NotWholeBytes` if the form is DSDIFF and
+/// the channels would end inside a byte, then by rising cue `NoRoomBefore` and `NoRoomAfter`. Whenever memory runs out
+/// it is `Memory`.
 pub fn edit(alloc: Global, project: &[u8], takes: &[Vec<u8>], form: Form) -> Result<Edited, Fault>
-    // What is answered is the file of the cues and the first least bridges, and what they cost.
+    // What is returned is the file of the cues and the first least bridges, and what they cost.
     ensures found { IfOk result (IsEdited project.now (file_bytes takes.now) form) }
     // The file is a master of the project and the takes.
     ensures master { IfOk result (λ made. IsMaster project.now (file_bytes takes.now) made.master.items) }
-    // The certificate is one text, which project, takes and the bits of the master decide.
+    // The certificate is a function of the project, the takes and the bits of the master.
     ensures certificate { IfOk result (λ made. IsCertificate project.now
         (file_bytes takes.now) made.master.items made.cert.items) }
-    // The certificate shows each bridge of the master to be least, and so much do they cost.
+    // The certificate shows each bridge of the master to be least, and the total is what they cost.
     ensures accepted { IfOk result (λ made. Accepts project.now
         (file_bytes takes.now) made.master.items made.cert.items made.total) }
-    // Of all masters of the project and the takes none costs less.
+    // No master of the project and the takes costs less.
     ensures joint { IfOk result (λ made. CostsLeast project.now (file_bytes takes.now) made.master.items made.total) }
     // It is the sum over all bridges of what their bits cost over their windows.
     ensures windows { IfOk result (λ made. CostsWindows project.now
         (file_bytes takes.now) made.master.items made.total) }
-    // What a project and takes come to is answered, want of memory aside.
+    // The master of a project and takes is returned, unless memory runs out.
     ensures only { (master : List ℕ) (cost : ℕ) → Edits project.now (file_bytes takes.now) form master cost
         → AnswersEdited result master cost }
     // Which fault it is: the first of the project, its splice and its cut.
@@ -74,7 +74,7 @@ pub fn edit(alloc: Global, project: &[u8], takes: &[Vec<u8>], form: Form) -> Res
     })
 }
 
-// The file of a planned master, in memory, where no write fails but for want of that.
+// The file of a planned master, in memory. A write fails only if memory runs out.
 fn master_of(alloc: Global, planned: &mut PlannedMaster) -> Result<Vec<u8>, AllocError>
     requires { IsPlanned planned.old }
     ensures planned { IsPlanned planned.new }

@@ -1,4 +1,4 @@
-//! Masters that are planned: all is chosen and all memory is held, before a byte is written.
+//! Masters that are planned: everything is chosen and all memory is reserved before a byte is written.
 
 ghost use Rattle.std.specs.Prelude.{◌≡◌, ◌+◌, ◌-◌, ◌<◌, ◌^◌, IfErr, IfOk, List, MatchResult, OnErr, OnOk, Some, ℕ};
 ghost use Rattle.judge_core.specs.Cutting.{SaysCut};
@@ -17,28 +17,28 @@ use std::alloc::Global;
 use std::io::Write;
 use transfer_core::Fault;
 
-/// A master whose bridges are chosen, with all memory that its file and its certificate need to be written. Its channels
-/// are never in memory: they are put together of what was heard while they are written.
+/// A master whose bridges are chosen, with all memory that writing its file and its certificate takes. Its channels are
+/// never in memory: while they are written, they are put together from the parts of the takes that the cut kept.
 #[derive(Drop)]
 pub struct PlannedMaster {
     cut: Cut,
     form: Form,
     bridges: ChosenBridges,
-    // What stands around its sound.
+    // The bytes before and after its sound.
     ends: Ends,
-    // The rooms that its file and its certificate are written through.
+    // The memory in which its file and its certificate are written.
     room: MasterRoom,
     cert_room: CertifyingRoom,
 }
 
-/// The master of a cut, before it is written. The cut is one into a file of the form.
+/// The master of a cut, before it is written. The cut must be for a file of the form.
 ///
-/// Refusals: `Memory`; `NotWholeBytes` only of a cut that is none into a file of the form.
+/// Refusals: `Memory`; `NotWholeBytes` only for a cut that is not for a file of the form.
 pub fn plan_master(alloc: Global, cut: Cut, form: Form) -> Result<PlannedMaster, Fault>
     ensures planned { IfOk result IsPlanned }
     // It is the plan of a file.
     ensures file { IfOk result (λ planned. (file : List ℕ) × IsFileOf planned file) }
-    // Of whichever project and files it is the cut, it is their master, whose certificate shows it to be least.
+    // If it is the cut of a project and files, it is their master, and its certificate shows it to be least.
     ensures found { (project : List ℕ) (files : List (List ℕ)) → SaysCut project files (Some form) cut
         → IfOk result (Plans project files form) }
     ensures only { (project : List ℕ) (files : List (List ℕ)) → SaysCut project files (Some form) cut
@@ -72,9 +72,10 @@ impl PlannedMaster {
         self.bridges.total()
     }
 
-    /// Writes the master's file. No memory is asked for, and nothing of the plan changes but what its room holds.
+    /// Writes the master's file. It takes no memory, and changes nothing of the plan but the contents of the memory
+    /// reserved for it.
     ///
-    /// Refusal: `Device` where a write fails, and a front of the file went out, not all of it.
+    /// Refusal: `Device` if a write fails; a prefix of the file was written, but not all of it.
     pub fn write_master<W: Write>(&mut self, outlet: &mut Outlet<W>) -> Result<(), Device>
         requires planned { IsPlanned self.old }
         requires ready { outlet_failures outlet.old < 2 ^ 64 - 1 }
@@ -105,10 +106,11 @@ impl PlannedMaster {
         ensures { (cert : List ℕ) × CertifiesPlanned self.now cert }
     {}
 
-    /// Writes the certificate of the master to an outlet, which is handed back: which text it is, project, takes and the bits
-    /// of the bridges decide. The rows of each bridge are made while they are written; no memory is asked for.
+    /// Writes the certificate of the master to an outlet, and returns the outlet. The text is a function of the
+    /// project, the takes and the bits of the bridges. The rows of each bridge are made while they are written. It
+    /// takes no memory.
     ///
-    /// Refusal: `Device` where a write fails, and a prefix of the certificate went out.
+    /// Refusal: `Device` if a write fails; a prefix of the certificate was written.
     pub fn write_certificate<W: Write>(self, outlet: Outlet<W>) -> (Result<(), Device>, Outlet<W>)
         requires planned { IsPlanned self }
         requires ready { outlet_failures outlet < 2 ^ 64 - 1 }

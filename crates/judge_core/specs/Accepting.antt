@@ -19,7 +19,8 @@ use Rattle.transfer_core.specs.declared.fault.Fault.{Fault}
 use Rattle.transfer_core.specs.declared.fault.Fault.TheVariants.{Stream, Memory}
 use Rattle.judge_core.specs.Cutting.{SaysCut}
 
--- the file holds a master of the project and the takes, and the certificate shows each of its bridges to be least; so much do they cost
+-- the file holds a master of the project and the takes, the certificate shows each of its bridges to be least, and this
+-- is their total cost
 pub record Accepts (project : List ℕ) (files : List (List ℕ)) (master cert : List ℕ) (cost : ℕ) : Type 0 where
   pub cut : CutContent
   pub says : SaysCut project files None cut
@@ -30,7 +31,8 @@ pub record Accepts (project : List ℕ) (files : List (List ℕ)) (master cert :
   pub shown : IsCertOf cut recording.channels cert
   pub cost_is : cost ≡ total_cost cut recording.channels
 
--- a file is a master of a project and takes: it holds the cues and some bridges, at the takes' rate, with the titles' marks where its form has marks
+-- a file is a master of a project and takes: it holds the cues and some bridges, at the takes' rate, with the titles'
+-- marks if its form has marks
 pub record IsMaster (project : List ℕ) (files : List (List ℕ)) (file : List ℕ) : Type 0 where
   pub cut : CutContent
   pub says : SaysCut project files None cut
@@ -41,7 +43,7 @@ pub record IsMaster (project : List ℕ) (files : List (List ℕ)) (file : List 
   pub made : AreMasterChannels cut recording.channels
   pub titled : IsTitled cut form recording
 
--- the file is a master of the project and takes, no bridge of which could cost less
+-- the file is a master of the project and takes, and none of its bridges could cost less
 pub record IsLeastMaster (project : List ℕ) (files : List (List ℕ)) (file : List ℕ) : Type 0 where
   pub cut : CutContent
   pub says : SaysCut project files None cut
@@ -50,7 +52,8 @@ pub record IsLeastMaster (project : List ℕ) (files : List (List ℕ)) (file : 
   pub file_holds : HoldsAs file form recording
   pub least : AreLeastChannels cut recording.channels
 
--- of all masters of a project and takes none costs less: the channels that the file holds are those of one, read whole they cost this much, and those of no other cost less
+-- no master of a project and takes costs less: the channels that the file holds are those of a master, read whole they
+-- have this cost, and those of no other master have a smaller one
 pub record CostsLeast (project : List ℕ) (files : List (List ℕ)) (file : List ℕ) (cost : ℕ) : Type 0 where
   pub cut : CutContent
   pub says : SaysCut project files None cut
@@ -69,20 +72,21 @@ pub record CostsWindows (project : List ℕ) (files : List (List ℕ)) (file : L
   pub file_holds : HoldsAs file form recording
   pub cost_is : cost ≡ windows_total cut recording.channels
 
--- there is a cut, and this reason stands first against the master: it is no file of any form, or what is wrong with its recording or its certificate
+-- there is a cut, and this is the first reason against the master: the file isn't of any form, or something is wrong
+-- with its recording or its certificate
 pub record RejectsFirst (project : List ℕ) (files : List (List ℕ)) (master cert : List ℕ) (reason : Reason) : Type 0 where
   pub cut : CutContent
   pub says : SaysCut project files None cut
   pub stands : ((reason ≡ MasterUnread) × HoldsNothing master)
       ⊎ ((form : Form) × (r : Content) × HoldsAs master form r × StandsAgainst cut form r cert reason)
 
--- P of the cost, where the master was accepted
+-- P holds of the cost, if the master was accepted
 abbrev pub IfAccepted : Result Verdict Fault → (ℕ → Type 0) → Type 0
 IfAccepted (Ok (Accepted cost)) P = P cost
 IfAccepted (Ok (Rejected reason)) P = Unit {0}
 IfAccepted (Err fault) P = Unit {0}
 
--- P of the reason, where it was rejected
+-- P holds of the reason, if it was rejected
 abbrev pub IfRejected : Result Verdict Fault → (Reason → Type 0) → Type 0
 IfRejected (Ok (Accepted cost)) P = Unit {0}
 IfRejected (Ok (Rejected reason)) P = P reason
@@ -93,15 +97,15 @@ abbrev pub IsAcceptedAt : ℕ → Verdict → Type 0
 IsAcceptedAt cost (Accepted total) = total ≡ cost
 IsAcceptedAt cost (Rejected reason) = ⊥
 
--- the same of an answer, want of memory aside
+-- it was accepted at this cost, unless memory ran out
 abbrev pub AnswersAccepted : Result Verdict Fault → ℕ → Type 0
 AnswersAccepted result cost = MatchResult result (IsAcceptedAt cost) (λ fault. fault ≡ Memory)
 
--- the same of a certificate that is read, failed reads aside too
+-- it was accepted at this cost, unless memory ran out or a read of the certificate failed
 abbrev pub ReadsAccepted : Result Verdict Fault → ℕ → Type 0
 ReadsAccepted result cost = MatchResult result (IsAcceptedAt cost) (λ fault. (fault ≡ Stream ReadFailed) ⊎ (fault ≡ Memory))
 
--- what a certificate that wasn't judged is refused for
+-- the fault for a certificate that couldn't be judged
 abbrev pub fault_of_check : CheckFault → Fault
 fault_of_check certs.Device = Stream ReadFailed
 fault_of_check certs.Memory = Memory

@@ -1,4 +1,4 @@
--- What is found of the sound of a master that comes.
+-- What is found in the sound of a master while it is read.
 use Rattle.std.specs.Prelude.{◌≡◌, ℕ, ◌+◌, ◌-◌, ◌<◌, ◌≤◌, Bool, List, [], ◌++◌, None, Option, IfSome, length, map, slice_index_or}
 use Rattle.std.specs.List.{range_with_len}
 use Rattle.chunk_core.specs.declared.inlet.Inlet.{Inlet}
@@ -18,11 +18,11 @@ use Rattle.sound_core.specs.Stretches.{items_of}
 use Rattle.judge_core.specs.declared.auditing.Audited.{Audited}
 use Rattle.judge_core.specs.declared.auditor.Auditor.{Auditor}
 
--- where the bridge behind cue i stands in the master
+-- the range of the bridge after cue i in the master
 abbrev pub bridge_range : CutContent → ℕ → BitRange
 bridge_range cut i = record { start = bridge_start cut i; stop = bridge_start cut i + (cue_at cut i).bridge }
 
--- the same behind each cue but the last
+-- the range of the bridge after each cue but the last
 abbrev pub bridge_ranges : CutContent → List BitRange
 bridge_ranges cut = map (bridge_range cut) (range_with_len 0 (length cut.splice.cues - 1))
 
@@ -32,41 +32,44 @@ pub record HasMeasure (cut : CutContent) (s : Sound) : Type 0 where
   pub number : s.channels ≡ channel_number cut
   pub long : s.count ≡ master_length cut.splice.cues
 
--- these are parts of a master's channels, which follow so many bits
+-- these are parts of a master's channels, which follow `done` bits
 pub record AreParts (cut : CutContent) (done : ℕ) (parts : List (List Bool)) : Type 0 where
   pub number : length parts ≡ channel_number cut
   pub inside : (c : ℕ) → c < channel_number cut → done + length (slice_index_or parts c []) ≤ master_length cut.splice.cues
 
--- where the first bit of each channel is told that isn't that of the cue there, it is told with these parts behind the channels too
+-- if the old list has for each channel the first bit that isn't that of the cue there, the new list has it for the
+-- channels with these parts added
 pub record TellMore (cut : CutContent) (done : ℕ) (parts : List (List Bool)) (old new : List (Option ℕ)) : Type 0 where
   pub number : length new ≡ length old
   pub tells : (c : ℕ) → c < channel_number cut → (before : List Bool) → length before ≡ done → TellsOff cut c before (slice_index_or old c None) → TellsOff cut c (before ++ slice_index_or parts c []) (slice_index_or new c None)
 
--- after these bytes of a sound, which are whole groups of blocks or all, there are the stretches of their channels, and where the sound has the master's measure the first bit of each that isn't that of the cue there
+-- after these bytes of a sound, which are whole groups of blocks or all of it: the stretches of their channels, and if
+-- the sound has as many channels and bits as the master, for each channel the first bit that isn't that of the cue
+-- there
 pub record Audits (cut : CutContent) (s : Sound) (ranges : List BitRange) (done : ℕ) (stretches : List (List (List Bool))) (firsts : List (Option ℕ)) (bytes : List ℕ) : Type 0 where
   pub keeps : Keeps s ranges done stretches bytes
   pub number : length firsts ≡ channel_number cut
   pub tells : HasMeasure cut s → TellAll cut (sound_channels s.interleaving s.channels done bytes) firsts
 
--- the auditor has those of its cut and its ranges, which are the same as at first
+-- the auditor's cut and ranges are those of the first one, and it holds what these bytes give
 pub record IsAuditing (first a : Auditor) (s : Sound) (done : ℕ) (bytes : List ℕ) : Type 0 where
   pub same : a.cut.now ≡ first.cut.now
   pub ranges : a.keeper.ranges.now ≡ first.keeper.ranges.now
   pub audits : Audits a.cut.now s a.keeper.ranges.now done (items_of a.keeper.stretches.items) a.firsts.items bytes
 
 -- ---- the whole file
--- what was found of a file, which is of this form
+-- what was found in a file of this form
 abbrev pub found_in : Form → Audited → Found
 found_in form a = record { form = form; recording = a.outline.recording; count = a.outline.sound.count; differs = a.differs; kept = a.kept }
 
--- the file is some sound in the surroundings, and this was found of the recording with the channels of that sound
+-- the file is the outline with some sound, and this was found in the recording with the channels of that sound
 abbrev pub IsAuditOf : CutContent → Audited → List ℕ → Type 0
 IsAuditOf cut a file = (sound : List ℕ) × StandsIn (around_of a.outline) file sound × ((form : Form) → IsFoundOf cut (found_in form a) (with_sound a.outline.recording a.outline.sound sound))
 
--- whatever file stands there, it is some sound in the surroundings, they tell what it holds, and this was found of that
+-- the outline describes a recording; and if the reader's bytes are known, they are a file as in `IsAuditOf`
 abbrev pub AuditsFile : Option (List ℕ) → CutContent → Audited → Type 0
 AuditsFile left cut a = AreTold (around_of a.outline) × IfSome left (IsAuditOf cut a)
 
--- a reader that does not tell its bytes gave some, which are some sound in the surroundings, and this was found of them
+-- the reader returned some bytes, which are a file as in `IsAuditOf`; this also holds if its bytes aren't known
 abbrev pub AuditsGiven : {R : Type 0} → (R → Option (List ℕ)) → Inlet R → Inlet R → CutContent → Audited → Type 0
 AuditsGiven left old new cut a = (read : List ℕ) × Reads left old new read × IsAuditOf cut a read

@@ -1,4 +1,4 @@
--- Which recordings are masters of a cut, and the reason that stands first against others.
+-- Which recordings are masters of a cut, and the first reason against others.
 use Rattle.std.specs.Prelude.{◌≡◌, ◌≢◌, ℕ, ◌-◌, ◌<◌, ◌⊎◌, Bool, false, List, [], ◌++◌, All, length, map, slice_index_or, take}
 use Rattle.std.specs.List.{AllZip, range_with_len}
 use Rattle.dsd_bits.specs.Channels.{count_of}
@@ -19,7 +19,7 @@ use Rattle.judge_core.specs.declared.verdict.Reason.TheVariants.{MasterShape, Ma
 use Rattle.judge_core.specs.Claims.{bridge_bits, claims}
 use Rattle.judge_core.specs.Masters.{channel_numbers, master_channel}
 
--- there are as many channels as a master has, and each of them is as long
+-- there are as many channels as a master has, and each is as long
 pub record HaveShape (cut : CutContent) (zs : List (List Bool)) : Type 0 where
   pub as_many : length zs ≡ channel_number cut
   pub long : All (λ z. length z ≡ master_length cut.splice.cues) zs
@@ -28,11 +28,11 @@ pub record HaveShape (cut : CutContent) (zs : List (List Bool)) : Type 0 where
 abbrev pub IsTitled : CutContent → Form → Content → Type 0
 IsTitled cut form r = form ≡ Dsdiff → r.marks ≡ titles_of cut
 
--- a channel rebuilt of the cues, and of its own bits between them
+-- a channel rebuilt from the cues, and from its own bits between them
 abbrev pub rebuilt : CutContent → ℕ → List Bool → List Bool
 rebuilt cut c z = master_channel cut c (map (bridge_bits cut z) (range_with_len 0 (length cut.splice.cues - 1)))
 
--- channels of these numbers hold the cues where they belong
+-- the channels of these numbers hold the cues where they belong
 abbrev pub HoldCues : CutContent → List ℕ → List (List Bool) → Type 0
 HoldCues cut cs zs = AllZip (λ c z. z ≡ rebuilt cut c z) cs zs
 
@@ -43,13 +43,13 @@ pub record IsMasterOf (cut : CutContent) (form : Form) (r : Content) : Type 0 wh
   pub titled : IsTitled cut form r
   pub cued : HoldCues cut (channel_numbers cut) r.channels
 
--- what needs none of its bits: it is like the takes, has as many bits as a master, and the marks of the titles
+-- what can be said without its bits: it is like the takes, has as many bits as a master, and the marks of the titles
 pub record IsLike (cut : CutContent) (form : Form) (r : Content) (count : ℕ) : Type 0 where
   pub shape : AreAlike cut.first r
   pub long : count ≡ master_length cut.splice.cues
   pub titled : IsTitled cut form r
 
--- or the first reason why it is not
+-- the first reason why a recording isn't like this
 abbrev pub OuterReason : CutContent → Form → Content → ℕ → Reason → Type 0
 OuterReason cut form r count MasterShape = AreAlike cut.first r → ⊥
 OuterReason cut form r count MasterLength = AreAlike cut.first r × (count ≢ master_length cut.splice.cues)
@@ -62,20 +62,21 @@ pub record IsFirstDifference (x y : List Bool) (place : ℕ) : Type 0 where
   pub before : (i : ℕ) → i < place → slice_index_or x i false ≡ slice_index_or y i false
   pub differs : slice_index_or x place false ≢ slice_index_or y place false
 
--- the channels before channel c hold the cues, and channel c differs from them first at a place
+-- the channels before channel c hold the cues, and a place is the first where channel c differs from them
 pub record IsFirstCuedBit (cut : CutContent) (r : Content) (c place : ℕ) : Type 0 where
   pub there : c < length r.channels
   pub before : HoldCues cut (range_with_len 0 c) (take c r.channels)
   pub differs : IsFirstDifference (slice_index_or r.channels c []) (rebuilt cut c (slice_index_or r.channels c [])) place
 
--- a certificate of so many weights and entries, of one version or the other, begins with entries that show these claims, and goes on with these bytes
+-- a certificate for a number of weights and of entries, of either version, begins with entries that show these claims,
+-- and continues with these bytes
 pub record ShowsUpTo (weights number : ℕ) (cs : List Claim) (cert after : List ℕ) : Type 0 where
   pub version : Version
   pub entries : List ℕ
   pub text : cert ≡ cert_head version weights number ++ (entries ++ after)
   pub shown : AreEntries version cs entries
 
--- the entries before entry k show their claims, and entry k is wrong first for this reason
+-- the entries before entry k show their claims, and this is the first reason why entry k is wrong
 pub record IsFirstWrong (cut : CutContent) (zs : List (List Bool)) (cert : List ℕ) (k : ℕ) (reason : CertReason) : Type 0 where
   pub claim : Claim
   pub there : k < length (claims cut zs)
@@ -107,6 +108,7 @@ CertReasons cut zs cert (Cert k reason) = IsFirstWrong cut zs cert k reason
 CertReasons cut zs cert CertExtra = HasMore cut zs cert
 CertReasons cut zs cert _ = ⊥
 
--- of a master that is read, this reason stands first: what is wrong with the master, and then with the certificate
+-- the first reason against a master that can be read: one against the master, or if there is none, one against the
+-- certificate
 abbrev pub StandsAgainst : CutContent → Form → Content → List ℕ → Reason → Type 0
 StandsAgainst cut form r cert reason = MasterReason cut form r reason ⊎ (IsMasterOf cut form r × CertReasons cut r.channels cert reason)

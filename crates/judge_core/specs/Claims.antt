@@ -1,4 +1,4 @@
--- The bridges of a master, by their places: the bits that stand there, and what a certificate is to show of them.
+-- The bridges of a master, by their places: their bits, and what a certificate must show of them.
 use Rattle.std.specs.Prelude.{ℕ, ◌+◌, ◌-◌, Bool, List, [], All, length, map, slice_index_or, slice_range, take}
 use Rattle.std.specs.List.{sum_by}
 use Rattle.cost_core.specs.Bridges.{IsLeastBridge, bridge_cost}
@@ -11,19 +11,19 @@ use Rattle.cut_core.specs.declared.bridges.BridgePlace.{BridgePlace}
 abbrev pub bridge_start : CutContent → ℕ → ℕ
 bridge_start cut i = sum_by span (take i cut.splice.cues) + ((cue_at cut i).stop - (cue_at cut i).start)
 
--- the bits that stand there in a channel of the master
+-- the bits of the bridge after cue i in a channel of the master
 abbrev pub bridge_bits : CutContent → List Bool → ℕ → List Bool
 bridge_bits cut z i = slice_range z (bridge_start cut i) (bridge_start cut i + (cue_at cut i).bridge)
 
--- what is to be shown of bits at a place: that they are least of the bridge there
+-- what must be shown of bits at a place: that they are least for the bridge there
 abbrev pub claim_of : CutContent → BridgePlace → List Bool → Claim
 claim_of cut p bits = record { cue = p.cue; channel = p.channel; bridging = window cut p.channel p.cue; bits = bits }
 
--- of the bits that stand there in a master with these channels
+-- what must be shown of the bridge at a place, in a master with these channels
 abbrev pub claim_at : CutContent → List (List Bool) → BridgePlace → Claim
 claim_at cut zs p = claim_of cut p (bridge_bits cut (slice_index_or zs p.channel []) p.cue)
 
--- of all its bridges, in their order
+-- what must be shown of all its bridges, in their order
 abbrev pub claims : CutContent → List (List Bool) → List Claim
 claims cut zs = map (claim_at cut zs) (bridges cut)
 
@@ -35,11 +35,11 @@ IsCertOf cut zs cert = IsCert (length cut.splice.weights) (claims cut zs) cert
 abbrev pub IsLeastClaim : Claim → Type 0
 IsLeastClaim claim = IsLeastBridge claim.bridging claim.bits
 
--- what they cost over their window
+-- what the bits of a claim cost over their window
 abbrev pub claim_cost : Claim → ℕ
 claim_cost claim = bridge_cost claim.bridging claim.bits
 
--- no bits of its length cost less than those of any bridge
+-- no bridge has bits of its length that cost less than its own
 abbrev pub AreLeastBridges : CutContent → List (List Bool) → Type 0
 AreLeastBridges cut zs = All IsLeastClaim (claims cut zs)
 

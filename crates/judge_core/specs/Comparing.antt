@@ -7,7 +7,7 @@ use Rattle.cut_core.specs.Cuts.{CutContent, cue_bits, span}
 abbrev pub cue_start : CutContent → ℕ → ℕ
 cue_start cut i = sum_by span (take i cut.splice.cues)
 
--- a cue stands at this place of channel c, and the bit of the channel there isn't the cue's
+-- a cue covers this place of channel c, and the bit of the channel there isn't the cue's
 pub record IsOffCue (cut : CutContent) (c : ℕ) (z : List Bool) (place : ℕ) : Type 0 where
   pub cue : ℕ
   pub cue_there : cue < length cut.splice.cues
@@ -15,7 +15,8 @@ pub record IsOffCue (cut : CutContent) (c : ℕ) (z : List Bool) (place : ℕ) :
   pub to : place < cue_start cut cue + length (cue_bits cut c cue)
   pub differs : slice_index_or z place false ≢ slice_index_or (cue_bits cut c cue) (place - cue_start cut cue) false
 
--- cue i stands at this place of channel c, and of a part of the channel that follows so many bits the bit there isn't the cue's
+-- cue i covers this place of channel c, a part of the channel after `done` bits reaches it, and the bit there isn't the
+-- cue's
 pub record IsOffAt (cut : CutContent) (c i done : ℕ) (part : List Bool) (place : ℕ) : Type 0 where
   pub reached : done ≤ place
   pub inside : place < done + length part
@@ -23,11 +24,11 @@ pub record IsOffAt (cut : CutContent) (c i done : ℕ) (part : List Bool) (place
   pub to : place < cue_start cut i + length (cue_bits cut c i)
   pub differs : slice_index_or part (place - done) false ≢ slice_index_or (cue_bits cut c i) (place - cue_start cut i) false
 
--- the same of some cue
+-- the same for some cue
 abbrev pub IsOffPart : CutContent → ℕ → ℕ → List Bool → ℕ → Type 0
 IsOffPart cut c done part place = (i : ℕ) × (i < length cut.splice.cues) × IsOffAt cut c i done part place
 
--- P of a place and of none before it
+-- P holds of a place and of none before it
 pub record IsFirst (P : ℕ → Type 0) (place : ℕ) : Type 0 where
   pub here : P place
   pub before : (earlier : ℕ) → earlier < place → P earlier → ⊥
@@ -36,6 +37,6 @@ pub record IsFirst (P : ℕ → Type 0) (place : ℕ) : Type 0 where
 abbrev pub FindsFirst : (ℕ → Type 0) → Option ℕ → Type 0
 FindsFirst P first = MatchOption first ((place : ℕ) → P place → ⊥) (IsFirst P)
 
--- the first place of what came of a channel so far whose bit isn't that of the cue there, if there is one
+-- the first place in what was read of a channel whose bit isn't that of the cue there, if there is one
 abbrev pub TellsOff : CutContent → ℕ → List Bool → Option ℕ → Type 0
 TellsOff cut c z first = FindsFirst (λ place. (place < length z) × IsOffCue cut c z place) first

@@ -1,4 +1,4 @@
--- The cut that a project and the files of its takes come to.
+-- The cut of a project and the files of its takes.
 use Rattle.std.specs.Prelude.{◌≡◌, ℕ, List, Option, Result}
 use Rattle.chunk_core.specs.Steps.{◌>>=◌}
 use Rattle.dsd_bits.specs.Contents.{Content}
@@ -14,13 +14,14 @@ use Rattle.transfer_core.specs.declared.fault.Fault.{Fault}
 use Rattle.transfer_core.specs.Faults.{fault_of_cut}
 use Rattle.transfer_core.specs.Projects.{SaysSplice, splice_of}
 
--- the project's text says a splice, and the files hold takes that it can be cut from, into a file of the form where one is asked for
+-- the project's text describes a splice, and the files hold takes that it can be cut from, into a file of the form if
+-- one is given
 pub record SaysCut (project : List ℕ) (files : List (List ℕ)) (form : Option Form) (cut : CutContent) : Type 0 where
   pub splice : SpliceContent
   pub project_says : SaysSplice project splice
   pub opens : OpensCut splice files form cut
 
--- the project's text says this splice, the files hold its takes, and this was heard of them
+-- the project's text describes this splice, the files hold its takes, and `hs` is what was read of them
 pub record AreTakes (project : List ℕ) (files : List (List ℕ)) (splice : SpliceContent) (hs : List Heard) : Type 0 where
   pub project_says : SaysSplice project splice
   pub whole : List Content

@@ -10,7 +10,7 @@ use Rattle.judge_core.specs.declared.finding.Found.{Found}
 use Rattle.judge_core.specs.Cutting.{SaysCut}
 use Rattle.judge_core.specs.Standing.{IsFoundOf}
 
--- no file of any form
+-- the file isn't of any form
 abbrev pub HoldsNothing : List ℕ → Type 0
 HoldsNothing file = (form : Form) (r : Content) → HoldsAs file form r → ⊥
 
@@ -20,22 +20,24 @@ pub record FindsHeld (cut : CutContent) (file : List ℕ) (found : Found) : Type
   pub master_holds : HoldsAs file found.form recording
   pub found_of : IsFoundOf cut found recording
 
--- or nothing was, and it holds none
+-- this was found of the recording that the file holds; or nothing was, and it holds none
 abbrev pub IsFoundHeld : CutContent → List ℕ → Option Found → Type 0
 IsFoundHeld cut file (Some found) = FindsHeld cut file found
 IsFoundHeld cut file None = HoldsNothing file
 
--- a reader that doesn't tell its bytes gave some, as many as were counted, and this was found of the recording that they hold, or nothing was
+-- the reader returned some bytes, as many as were counted, and this was found of the recording that they hold, or
+-- nothing was; this also holds if its bytes aren't known
 abbrev pub IsFoundGiven : {R : Type 0} → (R → Option (List ℕ)) → Inlet R → Inlet R → CutContent → Option Found → Type 0
 IsFoundGiven left old new cut (Some found) = (read : List ℕ) × Reads left old new read × FindsHeld cut read found
 IsFoundGiven left old new cut None = Unit {0}
 
--- something was found of the recording that some bytes hold, or nothing was
+-- this was found of the recording that some bytes hold, or nothing was
 abbrev pub IsFoundInSome : CutContent → Option Found → Type 0
 IsFoundInSome cut (Some found) = (file : List ℕ) × FindsHeld cut file found
 IsFoundInSome cut None = Unit {0}
 
--- project and files come to this cut, and what was found, if something was, was found of the recording that the master's file holds
+-- this is the cut of project and files, and what was found, if anything, was found of the recording that the master's
+-- file holds
 pub record IsFoundIn (project : List ℕ) (files : List (List ℕ)) (cut : CutContent) (found : Option Found) (master : List ℕ) : Type 0 where
   pub says : SaysCut project files None cut
   pub held : IfSome found (FindsHeld cut master)

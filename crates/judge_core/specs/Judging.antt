@@ -1,4 +1,4 @@
--- What the steps of a judgement answer.
+-- What the steps of judging return.
 use Rattle.std.specs.Prelude.{◌≡◌, ℕ, ◌<◌, Bool, List, ◌++◌, All, IfSome, Option, None, Some, length, slice_index_or, take}
 use Rattle.std.specs.Io.KnownBytes.{Consumes}
 use Rattle.std.specs.List.{sum_by}
@@ -22,29 +22,32 @@ use Rattle.judge_core.specs.Checking.{CertReasons, IsMasterOf, StandsAgainst}
 use Rattle.judge_core.specs.Claims.{AreLeastBridges, IsCertOf, IsLeastClaim, claim_cost, windows_total}
 use Rattle.judge_core.specs.Masters.{AreLeastChannels, AreMasterChannels, CostLeast, total_cost}
 
--- it is not rejected
+-- it isn't a rejection
 abbrev pub IsNoRejection : Verdict → Type 0
 IsNoRejection (Accepted cost) = Unit {0}
 IsNoRejection (Rejected reason) = ⊥
 
--- P of the cost, where it is accepted
+-- P holds of the cost, if it is accepted
 abbrev pub AtCost : Verdict → (ℕ → Type 0) → Type 0
 AtCost (Accepted cost) P = P cost
 AtCost (Rejected reason) P = Unit {0}
 
--- a recording is a master of the cut, no bridge of which could cost less, and of all masters of the cut none costs less than this
+-- a recording is a master of the cut, none of its bridges could cost less, and no master of the cut costs less than
+-- this
 pub record IsLeastOf (cut : CutContent) (form : Form) (r : Content) (cost : ℕ) : Type 0 where
   pub is_master : IsMasterOf cut form r
   pub made : AreMasterChannels cut r.channels
   pub least : AreLeastChannels cut r.channels
   pub joint : CostLeast cut r.channels cost
 
--- an accepted master is the cues, and its certificate shows its bridges to be least, which cost so much; against a rejected one this reason stands first
+-- an accepted master holds the cues, its certificate shows its bridges to be least, and this is their total cost; for a
+-- rejected one this is the first reason
 abbrev pub JudgesMaster : CutContent → Form → Content → List ℕ → Verdict → Type 0
 JudgesMaster cut form r cert (Accepted cost) = IsMasterOf cut form r × IsCertOf cut r.channels cert × (cost ≡ total_cost cut r.channels) × (cost ≡ windows_total cut r.channels)
 JudgesMaster cut form r cert (Rejected reason) = StandsAgainst cut form r cert reason
 
--- the head of a certificate of the version was read, or known bytes have this reason first in it, and begin with that of no version
+-- the head of a certificate of the version was read; or this is the first reason against the head in the bytes, if they
+-- are known, and they begin with the head of no version
 abbrev pub JudgesHead : Version → ℕ → ℕ → Option (List ℕ) → Option (List ℕ) → Option CertReason → Type 0
 JudgesHead v weights number old new None = Consumes old new (cert_head v weights number)
 JudgesHead v weights number old new (Some reason) = InHead weights number old reason × IfSome old (λ bytes. (other : Version) → (rest : List ℕ) → bytes ≡ cert_head other weights number ++ rest → ⊥)
@@ -55,12 +58,13 @@ pub record ShowsClaim (v : Version) (claim : Claim) (old new : Option (List ℕ)
   pub cost_is : cost ≡ claim_cost claim
   pub least : IsLeastClaim claim
 
--- known bytes have this reason first in the claim's entry, and don't begin with one that shows it
+-- this is the first reason against the claim's entry in the bytes, if they are known, and they don't begin with one
+-- that shows it
 pub record LacksClaim (v : Version) (claim : Claim) (old : Option (List ℕ)) (reason : CertReason) : Type 0 where
   pub first : IfSome old (λ bytes. FirstReason v (trellis_of claim.bridging) claim.cue claim.channel (claim_cost claim) bytes reason)
   pub none : IfSome old (λ bytes. BeginsValid v (trellis_of claim.bridging) claim.cue claim.channel claim.bits bytes → ⊥)
 
--- one of them
+-- the claim is shown, or this is the first reason against its entry
 abbrev pub JudgesClaim : Version → Claim → Option (List ℕ) → Option (List ℕ) → CertVerdict → Type 0
 JudgesClaim v claim old new (judged.Accepted cost) = ShowsClaim v claim old new cost
 JudgesClaim v claim old new (judged.Rejected reason) = LacksClaim v claim old reason
@@ -69,13 +73,13 @@ JudgesClaim v claim old new (judged.Rejected reason) = LacksClaim v claim old re
 abbrev pub ReadsEntries : Version → List Claim → Option (List ℕ) → Option (List ℕ) → Type 0
 ReadsEntries v cs old new = (entries : List ℕ) × Consumes old new entries × AreEntries v cs entries
 
--- and the bits of each are least, at this cost together
+-- entries that show the claims were read, and the bits of each are least, at this total cost
 pub record ShowsClaims (v : Version) (cs : List Claim) (old new : Option (List ℕ)) (cost : ℕ) : Type 0 where
   pub entries : ReadsEntries v cs old new
   pub cost_is : cost ≡ sum_by claim_cost cs
   pub least : All IsLeastClaim cs
 
--- the bytes have entries that show the claims before claim k, and its own entry is wrong first for this reason
+-- the bytes have entries that show the claims before claim k, and this is the first reason why its own entry is wrong
 pub record IsWrongFrom (v : Version) (cs : List Claim) (k : ℕ) (reason : CertReason) (bytes : List ℕ) : Type 0 where
   pub claim : Claim
   pub there : k < length cs
@@ -86,19 +90,20 @@ pub record IsWrongFrom (v : Version) (cs : List Claim) (k : ℕ) (reason : CertR
   pub shown : AreEntries v (take k cs) entries
   pub wrong : FirstReason v (trellis_of claim.bridging) claim.cue claim.channel (claim_cost claim) after reason
 
--- entries that show the claims were read, or the entry of one is wrong first and known bytes aren't such entries
+-- entries that show the claims were read; or this is the first reason why the entry of one is wrong, and the bytes, if
+-- they are known, aren't such entries
 abbrev pub JudgesClaims : Version → List Claim → Option (List ℕ) → Option (List ℕ) → Verdict → Type 0
 JudgesClaims v cs old new (Accepted cost) = ShowsClaims v cs old new cost
 JudgesClaims v cs old new (Rejected (Cert k reason)) = IfSome old (λ bytes. IsWrongFrom v cs k reason bytes × (AreEntries v cs bytes → ⊥))
 JudgesClaims v cs old new (Rejected _) = ⊥
 
--- known bytes are a certificate of the bridges, whose bits are least, at this cost together
+-- the bytes, if they are known, are a certificate of the bridges, whose bits are least, at this total cost
 pub record ShowsBridges (cut : CutContent) (zs : List (List Bool)) (known : Option (List ℕ)) (cost : ℕ) : Type 0 where
   pub shown : IfSome known (IsCertOf cut zs)
   pub cost_is : cost ≡ windows_total cut zs
   pub least : AreLeastBridges cut zs
 
--- or this reason stands first, and they aren't
+-- the bytes are such a certificate; or this is the first reason against them, and they aren't
 abbrev pub JudgesCert : CutContent → List (List Bool) → Option (List ℕ) → Verdict → Type 0
 JudgesCert cut zs known (Accepted cost) = ShowsBridges cut zs known cost
 JudgesCert cut zs known (Rejected reason) = IfSome known (λ cert. CertReasons cut zs cert reason × (IsCertOf cut zs cert → ⊥))

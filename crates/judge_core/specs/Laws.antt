@@ -1,11 +1,11 @@
--- What the words of the contracts have to do with each other.
+-- How the words of the contracts are related.
 use Rattle.std.specs.Prelude.{◌≡◌, ℕ, List, Ok, Option}
 use Rattle.form_core.specs.declared.form.Form.{Form}
 use Rattle.cut_core.specs.Cuts.{CutContent}
 use Rattle.judge_core.specs.Accepting.{Accepts, CostsLeast, CostsWindows, IsLeastMaster, IsMaster}
 use Rattle.judge_core.specs.Cutting.{SaysCut, said_cut}
 
--- which cut a project and files come to
+-- reading in order returns the cut of a project and files
 abbrev pub SaysCutInOrder : Type 0
 SaysCutInOrder = (project : List ℕ) (files : List (List ℕ)) (form : Option Form) (cut : CutContent) → SaysCut project files form cut → said_cut project files form ≡ Ok cut
 
@@ -13,14 +13,14 @@ SaysCutInOrder = (project : List ℕ) (files : List (List ℕ)) (form : Option F
 abbrev pub AcceptedIsMaster : Type 0
 AcceptedIsMaster = (project : List ℕ) (files : List (List ℕ)) (master cert : List ℕ) (cost : ℕ) → Accepts project files master cert cost → IsMaster project files master
 
--- no bridge of a master that is accepted could cost less
+-- none of the bridges of an accepted master could cost less
 abbrev pub AcceptedIsLeast : Type 0
 AcceptedIsLeast = (project : List ℕ) (files : List (List ℕ)) (master cert : List ℕ) (cost : ℕ) → Accepts project files master cert cost → IsLeastMaster project files master
 
--- of all masters of the project and takes none costs less than the cost that a master is accepted at
+-- no master of the project and takes costs less than the cost at which a master is accepted
 abbrev pub AcceptedCostsLeast : Type 0
 AcceptedCostsLeast = (project : List ℕ) (files : List (List ℕ)) (master cert : List ℕ) (cost : ℕ) → Accepts project files master cert cost → CostsLeast project files master cost
 
--- the cost that a master is accepted at is the sum over all bridges of what their bits cost over their windows
+-- the cost at which a master is accepted is the sum over all bridges of what their bits cost over their windows
 abbrev pub AcceptedCostsWindows : Type 0
 AcceptedCostsWindows = (project : List ℕ) (files : List (List ℕ)) (master cert : List ℕ) (cost : ℕ) → Accepts project files master cert cost → CostsWindows project files master cost

@@ -5,7 +5,7 @@ use Rattle.cost_core.specs.Bridges.{IsLeastBridge}
 use Rattle.cost_core.specs.Channels.{HaveLengths, Part, channel, channel_cost}
 use Rattle.cut_core.specs.Cuts.{CutContent, channel_number, cue_bits, window}
 
--- the bridge behind cue i in channel c, and the next cue
+-- the bridge after cue i in channel c, and the next cue
 abbrev pub part_at : CutContent → ℕ → ℕ → Part
 part_at cut c i = record { bridging = window cut c i; cue = cue_bits cut c (i + 1) }
 
@@ -37,11 +37,11 @@ pub record IsLeastChannel (cut : CutContent) (c : ℕ) (z : List Bool) : Type 0 
 abbrev pub channel_numbers : CutContent → List ℕ
 channel_numbers cut = range_with_len 0 (channel_number cut)
 
--- there are as many channels as the takes have, each the cues and some bridges
+-- there are as many channels as the takes have, and each is the cues and some bridges
 abbrev pub AreMasterChannels : CutContent → List (List Bool) → Type 0
 AreMasterChannels cut zs = AllZip (IsMasterChannel cut) (channel_numbers cut) zs
 
--- the same with least bits for each bridge
+-- there are as many channels as the takes have, and each is the cues with least bits for each bridge
 abbrev pub AreLeastChannels : CutContent → List (List Bool) → Type 0
 AreLeastChannels cut zs = AllZip (IsLeastChannel cut) (channel_numbers cut) zs
 
@@ -49,11 +49,11 @@ AreLeastChannels cut zs = AllZip (IsLeastChannel cut) (channel_numbers cut) zs
 abbrev pub cost_of : CutContent → ℕ → List Bool → ℕ
 cost_of cut c z = channel_cost z (length (cue_bits cut c 0)) (parts_of cut c)
 
--- what a master's channels cost together
+-- the total cost of a master's channels
 abbrev pub total_cost : CutContent → List (List Bool) → ℕ
 total_cost cut zs = sum_by (λ c. cost_of cut c (slice_index_or zs c [])) (channel_numbers cut)
 
--- of all masters of a cut none costs less than these channels, read whole, and this is what they cost
+-- no master of a cut costs less than these channels, read whole, and this is what they cost
 pub record CostLeast (cut : CutContent) (zs : List (List Bool)) (cost : ℕ) : Type 0 where
   pub own : cost ≡ total_cost cut zs
   pub least : (others : List (List Bool)) → AreMasterChannels cut others → cost ≤ total_cost cut others

@@ -1,4 +1,4 @@
--- What is found of a master whose bits are gone, and kept of its bridges.
+-- What is found of a master whose bits are no longer in memory, and kept of its bridges.
 use Rattle.std.specs.Prelude.{◌≡◌, ℕ, ◌+◌, ◌-◌, ◌<◌, Bool, List, None, [], Option, Vec, MatchOption, length, map, slice_index_or}
 use Rattle.std.specs.declared.alloc.Global.{Global}
 use Rattle.std.specs.List.{range_with_len}
@@ -18,29 +18,29 @@ use Rattle.judge_core.specs.Comparing.{TellsOff}
 use Rattle.judge_core.specs.Masters.{channel_numbers}
 
 -- ---- bits that are kept
--- by cue, but the last, and by channel the bits that stand for the bridge behind it
+-- by cue but the last, and by channel, the bits of the bridge after it
 abbrev pub bridges_kept : CutContent → List (List Bool) → List (List (List Bool))
 bridges_kept cut zs = map (λ i. map (λ z. bridge_bits cut z i) zs) (range_with_len 0 (length cut.splice.cues - 1))
 
--- those in memory
+-- the same as held in memory
 abbrev pub rows_of : List (Vec (List Bool) Global) → List (List (List Bool))
 rows_of kept = map (λ (row : Vec (List Bool) Global). row.items) kept
 
--- what was kept in channel c for the bridge behind cue i
+-- what was kept in channel c for the bridge after cue i
 abbrev pub kept_at : List (List (List Bool)) → ℕ → ℕ → List Bool
 kept_at rows c i = slice_index_or (slice_index_or rows i []) c []
 
--- there are as many bits as each bridge has, by cue and by channel
+-- by cue and by channel there are as many bits as each bridge has
 pub record AreKept (cut : CutContent) (rows : List (List (List Bool))) : Type 0 where
   pub by_cue : length rows ≡ length cut.splice.cues - 1
   pub by_channel : (i : ℕ) → i + 1 < length cut.splice.cues → length (slice_index_or rows i []) ≡ channel_number cut
   pub long : (c i : ℕ) → c < channel_number cut → i + 1 < length cut.splice.cues → length (kept_at rows c i) ≡ (cue_at cut i).bridge
 
--- what a certificate is to show of those at a place
+-- what a certificate must show of the kept bits of the bridge at a place
 abbrev pub claim_from : CutContent → List (List (List Bool)) → BridgePlace → Claim
 claim_from cut rows p = claim_of cut p (kept_at rows p.channel p.cue)
 
--- they are those that stand in a master with these channels
+-- the kept bits are those of a master with these channels
 abbrev pub AreBitsOf : CutContent → List (List (List Bool)) → List (List Bool) → Type 0
 AreBitsOf cut rows zs = (p : BridgePlace) → IsPlace cut p → kept_at rows p.channel p.cue ≡ bridge_bits cut (slice_index_or zs p.channel []) p.cue
 
@@ -49,11 +49,11 @@ AreBitsOf cut rows zs = (p : BridgePlace) → IsPlace cut p → kept_at rows p.c
 abbrev pub FindsCued : CutContent → Content → Option CuedPlace → Type 0
 FindsCued cut r place = MatchOption place (HoldCues cut (channel_numbers cut) r.channels) (λ p. IsFirstCuedBit cut r p.channel p.place)
 
--- of each channel the first bit that isn't that of the cue there, if there is one
+-- for each channel the first bit that isn't that of the cue there, if there is one
 abbrev pub TellAll : CutContent → List (List Bool) → List (Option ℕ) → Type 0
 TellAll cut zs firsts = (c : ℕ) → c < channel_number cut → TellsOff cut c (slice_index_or zs c []) (slice_index_or firsts c None)
 
--- this was found of a recording, and kept of its bridges, where it has the shape and the length of a master
+-- this was found of a recording, and kept of its bridges, if it has the shape and the length of a master
 pub record IsFoundOf (cut : CutContent) (found : Found) (r : Content) : Type 0 where
   pub shaped : HasShape r
   pub recording_is : found.recording ≡ silent r

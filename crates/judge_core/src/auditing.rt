@@ -17,26 +17,26 @@ use sound_core::{Outline, StreamFault, read_into};
 use std::alloc::Global;
 use std::io::Read;
 
-/// The file of a master without its sound, and what was found of that.
+/// The file of a master without its sound, and what was found in its sound.
 #[derive(Drop)]
 pub(crate) struct Audited {
-    /// What stands around the sound, and what it tells.
+    /// The bytes before and after the sound, and what they say.
     pub(crate) outline: Outline,
-    /// The first bit that isn't that of the cue there, by rising channel and then by rising place. It matters only
-    /// where the sound has as many channels as the master, and each as many bits.
+    /// The first bit that isn't that of the cue there, by rising channel and then by rising place. It is meaningful
+    /// only if the sound has as many channels as the master, and each as many bits.
     pub(crate) differs: Option<CuedPlace>,
-    /// By cue but the last, and by channel, the bits that stand there for the bridge behind the cue.
+    /// By cue but the last, and by channel, the bits at the place of the bridge after the cue.
     pub(crate) kept: Vec<Vec<Bits>>,
 }
 
-/// Reads the file of a master once, as [`read_outline`](sound_core::read_outline) does, and finds of its sound what a
-/// verdict by the cut needs: the first bit that isn't that of the cue there, and the bits of the bridges. Beside these,
-/// at most three blocks of 65,536 bytes of the sound are held at a time, and the channels of one.
+/// Reads the file of a master once, as [`read_outline`](sound_core::read_outline) does, and finds in its sound what a
+/// verdict by the cut needs: the first bit that isn't that of the cue there, and the bits of the bridges. Besides
+/// these, at most three blocks of 65,536 bytes of the sound are held at a time, and the channels of one.
 ///
-/// The inlet counts fewer than `2^63` reads and bytes at entry.
+/// At entry the inlet must have counted fewer than `2^63` reads and bytes.
 ///
-/// Refusals: `FileRefused` where the bytes are neither a DSDIFF nor a DSF file that holds a recording; `ReadFailed`;
-/// `TurnLimit` after `2^40` reads, and whatever is answered there were no more; `Memory`.
+/// Refusals: `FileRefused` if the bytes are neither a DSDIFF nor a DSF file that holds a recording; `ReadFailed`;
+/// `TurnLimit` after `2^40` reads (there are never more, whatever is returned); `Memory`.
 pub(crate) fn audit<R: Read>(
     alloc: Global,
     cut: &Cut,
@@ -45,13 +45,13 @@ pub(crate) fn audit<R: Read>(
     requires inlet_ready { inlet_failures inlet.old < 2 ^ 64 - 1 }
     requires reads_low { inlet_reads inlet.old < 2 ^ 63 }
     requires given_low { inlet_given inlet.old < 2 ^ 63 }
-    // The reader's file is some sound in the outline, and this was found of the recording that it holds.
+    // The reader's file is the outline with some sound, and this was found in the recording that it holds.
     ensures ok { IfOk result (AuditsFile (R.remaining (inlet_reader inlet.old)) cut.now) }
-    // The same of what was read, where the reader doesn't tell its bytes.
+    // The same of the bytes that were read, if the reader's bytes aren't known.
     ensures any_reader { IfOk result (AuditsGiven R.remaining inlet.old inlet.new cut.now) }
     ensures fault { IfErr result (IsOutlineFault (R.remaining (inlet_reader inlet.old))) }
     ensures read_failed { inlet_failures inlet.new ≡ inlet_failures inlet.old + failed_reads result }
-    // Whatever is answered, there were at most 2^40 reads.
+    // Whatever is returned, there were at most 2^40 reads.
     ensures reads { inlet_reads inlet.new ≤ inlet_reads inlet.old + 2 ^ 40 }
     ensures turn_limit { IsErrOf result StreamFault.TurnLimit → inlet_reads inlet.new ≡ inlet_reads inlet.old + 2 ^ 40 }
 {

@@ -1,4 +1,4 @@
-//! The sound of a master, compared with the cues while it comes.
+//! The sound of a master, compared with the cues while it is read.
 
 ghost use Rattle.std.specs.Prelude.{◌≡◌, IfOk, false, length, replicate, true};
 ghost use Rattle.cut_core.specs.Cuts.{channel_number};
@@ -11,22 +11,22 @@ use relace_core::unlace;
 use sound_core::{Keeper, SoundPart, SoundSink, StreamFault};
 use std::alloc::{AllocError, Global};
 
-/// What is found of the sound of a master that comes a few groups of blocks at a time.
+/// What is found in the sound of a master, which comes a few groups of blocks at a time.
 #[derive(Drop)]
 pub(crate) struct Auditor<'a> {
-    /// The cut whose master it should be.
+    /// The cut whose master the sound should be.
     pub(crate) cut: &'a Cut,
     /// What is kept of the sound: the bits of the bridges.
     pub(crate) keeper: Keeper<'a>,
-    /// Of each channel the first place of what came whose bit isn't that of the cue there. They matter only where the
-    /// sound has the measure of the master.
+    /// For each channel the first place so far whose bit isn't that of the cue there. It is meaningful only if the
+    /// sound has as many channels and bits as the master.
     pub(crate) firsts: Vec<Option<usize>>,
 }
 
 impl<'a> Auditor<'a> {
     ghost use Rattle.std.specs.Prelude.{◌≡◌};
 
-    /// An auditor by a cut, whose bridges stand in these ranges, before any sound.
+    /// An auditor for a cut whose bridges are in these ranges, before any sound.
     pub(crate) fn new(alloc: Global, cut: &'a Cut, ranges: &'a [BitRange]) -> Auditor<'a>
         ensures cut { result.cut.now ≡ cut.now }
         ensures ranges { result.keeper.ranges.now ≡ ranges.now }
@@ -75,15 +75,15 @@ fn has_measure(cut: &Cut, sound: &Sound) -> bool
     sound.channels == cut.channel_number() && sound.count == cut.length()
 }
 
-// For each of so many channels that no place was found.
+// For each of `number` channels, that no place was found.
 fn no_firsts(alloc: Global, channels: usize) -> Result<Vec<Option<usize>>, AllocError>
     ensures { IfOk result (λ made. made.items ≡ replicate channels None) }
 {
     vec![in alloc; None; channels]
 }
 
-// Notes of each channel the first place whose bit isn't that of the cue there, once these parts of them came, which
-// follow so many bits.
+// Records for each channel the first place whose bit isn't that of the cue there, after these parts of them came. The
+// parts follow `done` bits.
 fn note_firsts(firsts: &mut [Option<usize>], cut: &Cut, done: usize, parts: &[Bits])
     requires number { length firsts.old ≡ channel_number cut.now }
     requires parts { AreParts cut.now done parts.now }

@@ -23,17 +23,17 @@ use std::alloc::Global;
 use std::io::Read;
 use transfer_core::Fault;
 
-/// Whether a file is the master of a project and its takes, and a certificate shows that no bridge in it
-/// could cost less, whoever wrote them. It is accepted exactly where this is so, with the sum of what the
-/// bridges of all channels cost: of all masters of the project and the takes none has a smaller one.
+/// Whether a file is the master of a project and its takes, and a certificate shows that none of its bridges could cost
+/// less, whoever wrote them. It is accepted exactly if this is so, with the total cost of the bridges of all channels.
+/// No master of the project and the takes has a smaller total.
 ///
 /// `takes` are the files of the takes in the order of their numbers, `master` a DSDIFF or DSF file, `cert` a
-/// certificate. Else the answer is the first reason of this order: `MasterUnread`, `MasterShape` (another
-/// sample rate or number of channels than the takes), `MasterLength`, `MasterMarks` (a DSDIFF file whose marks
-/// aren't those of the titles), `CuedBit` with the lowest such channel and place, `CertHead`, `Cert` with the
-/// first such entry, `CertExtra`. Refusals, in this order: `Project`, `NoSplice`, `TakeNumber`, `TakeUnread`,
-/// `TakeMismatch`, `CueOutside`, `MasterTooLong`, then by rising cue `NoRoomBefore` and `NoRoomAfter`. Every want
-/// of memory is `Memory`.
+/// certificate. A rejection has the first reason in this order: `MasterUnread`, `MasterShape` (another sample rate or
+/// number of channels than the takes), `MasterLength`, `MasterMarks` (a DSDIFF file whose marks aren't those of the
+/// titles), `CuedBit` with the lowest such channel and place, `CertHead`, `Cert` with the first such entry,
+/// `CertExtra`. Refusals, in this order: `Project`, `NoSplice`, `TakeNumber`, `TakeUnread`, `TakeMismatch`,
+/// `CueOutside`, `MasterTooLong`, then by rising cue `NoRoomBefore` and `NoRoomAfter`. Whenever memory runs out it is
+/// `Memory`.
 pub fn check(
     alloc: Global,
     project: &[u8],
@@ -46,14 +46,14 @@ pub fn check(
     // It is a master of the project and the takes, and each of its bridges is least.
     ensures master { IfAccepted result (λ _. IsMaster project.now (file_bytes takes.now) master.now) }
     ensures least { IfAccepted result (λ _. IsLeastMaster project.now (file_bytes takes.now) master.now) }
-    // Of all masters of the project and the takes none costs less than it is accepted at.
+    // No master of the project and the takes costs less than the reported total.
     ensures joint { IfAccepted result (CostsLeast project.now (file_bytes takes.now) master.now) }
-    // What it is accepted at is the sum over all bridges of what their bits cost over their windows.
+    // The reported total is the sum over all bridges of what their bits cost over their windows.
     ensures windows { IfAccepted result (CostsWindows project.now (file_bytes takes.now) master.now) }
-    // Such a master and certificate are accepted, want of memory aside.
+    // Such a master and certificate are accepted, unless memory runs out.
     ensures only { (cost : ℕ) → Accepts project.now (file_bytes takes.now) master.now cert.now cost
         → AnswersAccepted result cost }
-    // Which reason it is: the first that stands.
+    // Which reason it is: the first that applies.
     ensures rejected { IfRejected result (RejectsFirst project.now (file_bytes takes.now) master.now cert.now) }
     // Which fault it is: the first of the project, its splice and its cut.
     ensures refused { IfErr result (λ fault. Fails Fault.Memory fault
@@ -70,11 +70,11 @@ pub fn check(
     }
 }
 
-/// The same verdict by a cut of project and takes, by what was found of the master's file, and by a certificate that is
-/// judged while it is read, two rows of it at a time. Only a certificate that is accepted is read to its end, and none is
-/// read where there is a reason against the master.
+/// The same verdict from a cut of project and takes, from what was found in the master's file, and from a certificate
+/// that is judged while it is read, two rows of it at a time. Only an accepted certificate is read to its end. If there
+/// is a reason against the master, the certificate isn't read.
 ///
-/// Refusals: `ReadFailed` where a read fails, `Memory`.
+/// Refusals: `ReadFailed` if a read fails, `Memory`.
 pub fn check_found<R: Read>(
     alloc: Global,
     cut: &Cut,
@@ -83,9 +83,9 @@ pub fn check_found<R: Read>(
 ) -> Result<Verdict, Fault>
     requires ready { inlet_failures (cert_inlet cert.old) < 2 ^ 64 - 1 }
     requires some { IsFoundInSome cut.now found.now }
-    // Of whichever project and files it is the cut, and of whichever file it was found, the clauses of `check` hold of them
-    // and of the bytes that the reader has left, where it tells them. What is accepted is a least master whichever reader
-    // it was.
+    // For whichever project and files it is the cut, and in whichever file it was found, the clauses of `check` hold of
+    // them and of the bytes that the reader has left, if these are known. What is accepted is a least master, whichever
+    // reader it was.
     ensures found { (project : List ℕ) (files : List (List ℕ)) (master : List ℕ)
         → IsFoundIn project files cut.now found.now master
         → IfAccepted result (λ cost. IfSome (R.remaining (inlet_reader (cert_inlet cert.old)))
@@ -110,7 +110,7 @@ pub fn check_found<R: Read>(
         → IfRejected result (λ reason. IfSome (R.remaining (inlet_reader (cert_inlet cert.old)))
         (λ bytes. RejectsFirst project files master bytes reason)) }
     ensures refused { IfErr result (λ fault. (fault ≡ Fault.Stream StreamFault.ReadFailed) ⊎ (fault ≡ Fault.Memory)) }
-    // The answer is `ReadFailed` exactly where a read failed.
+    // `ReadFailed` is returned exactly if a read failed.
     ensures failures { inlet_failures (cert_inlet cert.new)
         ≡ inlet_failures (cert_inlet cert.old) + failed_reads (as_stream result) }
 {
@@ -123,7 +123,7 @@ pub fn check_found<R: Read>(
     }
 }
 
-// What a certificate that wasn't judged is refused for.
+// The fault for a certificate that couldn't be judged.
 fn fault_of(fault: CheckFault) -> Fault
     ensures { result ≡ fault_of_check fault }
 {

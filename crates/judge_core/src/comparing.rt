@@ -1,4 +1,4 @@
-//! Whether a recording is the master of a cut, as far as this needs none of its bits.
+//! Whether a recording is the master of a cut, as far as this can be said without its bits.
 
 ghost use Rattle.std.specs.Prelude.{◌≡◌, ◌≢◌, IfOk, MatchOption, false, map, true};
 ghost use Rattle.dsd_bits.specs.Contents.{mark_content};
@@ -12,9 +12,9 @@ use dsd_bits::{Mark, Recording};
 use form_core::Form;
 use std::alloc::{AllocError, Global};
 
-/// The first reason why a recording isn't the master of the cut that needs none of its bits, by the recording without
-/// them and by how many each channel has: its rate or number of channels, its length, in a DSDIFF file its marks. Err is
-/// want of memory.
+/// The first reason why a recording isn't the master of the cut, among those that need none of its bits: its rate or
+/// number of channels, its length, in a DSDIFF file its marks. It takes the recording without its bits, and their
+/// number in each channel. Err is out of memory.
 pub(crate) fn outer_reason(
     alloc: Global,
     cut: &Cut,
@@ -37,7 +37,7 @@ pub(crate) fn outer_reason(
     Ok(None)
 }
 
-// Whether the recording of a DSDIFF file has the marks of the titles and no others.
+// Whether the recording of a DSDIFF file has exactly the marks of the titles.
 fn is_titled(
     alloc: Global,
     cut: &Cut,
@@ -56,7 +56,7 @@ fn is_titled(
     }
 }
 
-// Whether two lists of marks hold the same.
+// Whether two lists of marks are equal.
 fn same_marks(a: &[Mark], b: &[Mark]) -> bool
     ensures yes { result ≡ true → map mark_content a.now ≡ map mark_content b.now }
     ensures no { result ≡ false → map mark_content a.now ≢ map mark_content b.now }
@@ -72,7 +72,7 @@ fn same_marks(a: &[Mark], b: &[Mark]) -> bool
     true
 }
 
-// Whether two marks hold the same.
+// Whether two marks are equal.
 fn same_mark(a: &Mark, b: &Mark) -> bool
     ensures yes { result ≡ true → mark_content a.now ≡ mark_content b.now }
     ensures no { result ≡ false → mark_content a.now ≢ mark_content b.now }

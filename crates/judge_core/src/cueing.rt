@@ -1,4 +1,4 @@
-//! Where the bits of a channel that comes part by part aren't those of the cues.
+//! Where the bits of a channel that comes in parts aren't those of the cues.
 
 ghost use Rattle.std.specs.Prelude.{◌≡◌, ◌+◌, ◌-◌, ◌*◌, ◌^◌, ◌<◌, ◌≤◌, ◌++◌, Bool, List, false, length, slice_index_or, slice_range, ℕ};
 ghost use Rattle.dsd_bits.specs.Shifting as bits;
@@ -8,8 +8,8 @@ ghost use Rattle.judge_core.specs.Comparing.{FindsFirst, IsOffAt, IsOffPart, Tel
 use cut_core::{BridgePlace, CuedBits, Cut};
 use dsd_bits::{Bits, byte_from};
 
-/// The first place of a channel whose bit isn't that of the cue there, once another part of the channel came, which
-/// follows so many bits; `first` is the first of those.
+/// The first place of a channel whose bit isn't that of the cue there, after another part of the channel came, which
+/// follows `done` bits. `first` is the first such place in those.
 pub(crate) fn first_off_so_far(
     cut: &Cut,
     channel: usize,
@@ -45,7 +45,7 @@ fn first_off(cut: &Cut, channel: usize, done: usize, part: &Bits) -> Option<usiz
     None
 }
 
-// The first such place in a cue, which starts at a place of the channel.
+// The first such place in a cue that starts at a place of the channel.
 fn first_off_at(cut: &Cut, at: BridgePlace, start: usize, done: usize, part: &Bits) -> Option<usize>
     requires channel { at.channel < channel_number cut.now }
     requires cue { at.cue < length cut.now.splice.cues }
@@ -70,7 +70,7 @@ fn first_off_at(cut: &Cut, at: BridgePlace, start: usize, done: usize, part: &Bi
     None
 }
 
-// The bit of a cue at a place of it.
+// The bit of a cue at one of its places.
 fn cued_bit(cue: CuedBits<'_>, place: usize) -> bool
     requires inside { place < cue.stop - cue.start }
     requires there { cue.stop ≤ length cue.bits.now }
@@ -79,8 +79,8 @@ fn cued_bit(cue: CuedBits<'_>, place: usize) -> bool
     cue.bits.get(cue.start + place)
 }
 
-// How many bits of a part of a channel from a place on are those of a cue's from another: as far as whole eights of so
-// many are alike.
+// How many bits of a part of a channel, from one place on, equal those of a cue from another place on, counted in whole
+// groups of eight.
 fn alike_bits(part: &Bits, at: usize, cue: &Bits, own: usize, most: usize) -> usize
     requires part { at + most ≤ length part.now }
     requires cue { own + most ≤ length cue.now }
@@ -91,7 +91,8 @@ fn alike_bits(part: &Bits, at: usize, cue: &Bits, own: usize, most: usize) -> us
     8 * alike_eights(part.as_bytes(), at, cue.as_bytes(), own, most / 8)
 }
 
-// How many eights of packed bits from a place on are those of others from another, before the first that differ.
+// How many groups of eight packed bits, from one place on, equal those of others from another place on, before the
+// first that differ.
 fn alike_eights(part: &[u8], at: usize, cue: &[u8], own: usize, most: usize) -> usize
     requires part { at + 8 * most ≤ 2 ^ 36 }
     requires cue { own + 8 * most ≤ 2 ^ 36 }

@@ -13,8 +13,8 @@ use splice_core::Splice;
 use std::alloc::Global;
 use transfer_core::{Fault, splice_of};
 
-/// The cut of a project's text and the files of its takes, in the order of their numbers. `form` is the form of the file
-/// that is to be cut, where one is.
+/// The cut of a project's text and the files of its takes, in the order of their numbers. `form` is the form of the
+/// file to be cut, if there is one.
 ///
 /// Refusals, in this order: `Project`, `NoSplice`, `TakeNumber`, `TakeUnread`, those of [`cut_heard`].
 pub fn cut_files(
@@ -31,13 +31,13 @@ pub fn cut_files(
     cut_heard(splice, takes, form)
 }
 
-/// The cut of a splice and what was heard of its takes, in the order of their numbers. `form` is the form of the file
-/// that is to be cut, where one is.
+/// The cut of a splice and what was read of its takes, in the order of their numbers. `form` is the form of the file to
+/// be cut, if there is one.
 ///
 /// Refusals: those of [`Cut::of`], in their order.
 pub fn cut_heard(splice: Splice, takes: Vec<Heard>, form: Option<Form>) -> Result<Cut, Fault>
     requires { AreOfTakes (splice_content splice) takes.items }
-    // Of whichever project and files it was heard, it is their cut, or refused as they are.
+    // For whichever project and files the takes were read, it is their cut, or is refused as they are.
     ensures found { (project : List ℕ) (files : List (List ℕ))
         → AreTakes project files (splice_content splice) takes.items → IfOk result (SaysCut project files form) }
     ensures exact { (project : List ℕ) (files : List (List ℕ))

@@ -16,11 +16,11 @@ use dsd_bits::Bits;
 use std::alloc::Global;
 use std::io::Read;
 
-/// Whether a certificate shows the bridges of a master to be least whose bits were kept of it, by cue but the last and by
-/// channel, judged as it is read. It is accepted exactly where it does, with the sum of what they cost.
+/// Whether a certificate, judged while it is read, shows the bridges of a master to be least. `kept` is the bits of the
+/// bridges, by cue but the last and by channel. It is accepted exactly if it does, with the total of what they cost.
 ///
-/// Else the answer is the first reason of this order: `CertHead`, `Cert` with the first such entry,
-/// `CertExtra`. Refusals: `Device` where a read fails, `Memory`.
+/// A rejection has the first reason in this order: `CertHead`, `Cert` with the first such entry, `CertExtra`. Refusals:
+/// `Device` if a read fails, `Memory`.
 pub(crate) fn judge_certificate<R: Read>(
     alloc: Global,
     cut: &Cut,
@@ -52,7 +52,7 @@ pub(crate) fn judge_certificate<R: Read>(
     }
 }
 
-// Reads the head of a certificate of so many entries. None means that it is that head.
+// Reads the head of a certificate of `number` entries. None means that it is correct.
 fn judge_head<R: Read>(
     reader: &mut CertReader<R>,
     cut: &Cut,

@@ -1,4 +1,4 @@
-//! What was found of a master whose bits are gone, and the verdict by that.
+//! What was found of a master whose bits are no longer in memory, and the verdict from that.
 
 ghost use Rattle.std.specs.Prelude.{◌≡◌, ◌+◌, ◌-◌, ◌^◌, ◌<◌, IfOk, IfSome, MatchOption, None, length};
 ghost use Rattle.dsd_bits.specs.Contents.{Content};
@@ -30,24 +30,24 @@ pub struct CuedPlace {
     pub place: usize,
 }
 
-/// What was found of a recording whose bits are gone.
+/// What was found of a recording whose bits are no longer in memory.
 #[derive(Drop)]
 pub struct Found {
     /// The form of its file.
     pub form: Form,
-    /// The recording without its bits: its channels have none.
+    /// The recording without its bits: its channels are empty.
     pub recording: Recording,
     /// How many bits each channel had.
     pub count: usize,
-    /// The first bit that isn't that of the cue there, by rising channel and then by rising place. It matters only where
-    /// the recording has the rate, the channels and the length of the master.
+    /// The first bit that isn't that of the cue there, by rising channel and then by rising place. It is meaningful
+    /// only if the recording has the rate, the channels and the length of the master.
     pub differs: Option<CuedPlace>,
-    /// By cue but the last, and by channel, the bits that stand there for the bridge behind the cue. They matter where
-    /// `differs` does.
+    /// By cue but the last, and by channel, the bits at the place of the bridge after the cue. They are meaningful
+    /// under the same condition as `differs`.
     pub kept: Vec<Vec<Bits>>,
 }
 
-/// The first bit of a master that isn't that of the cue there, by the first such place of each of its channels.
+/// The first bit of a master that isn't that of the cue there, from the first such place of each of its channels.
 pub(crate) fn lowest_off(cut: &Cut, firsts: &[Option<usize>]) -> Option<CuedPlace>
     requires { length firsts.now ≡ channel_number cut.now }
     ensures { (r : Content) → HaveShape cut.now r.channels → TellAll cut.now r.channels firsts.now
@@ -62,11 +62,11 @@ pub(crate) fn lowest_off(cut: &Cut, firsts: &[Option<usize>]) -> Option<CuedPlac
     None
 }
 
-/// The verdict on a recording whose bits are gone, by what was found of it and by a certificate that is judged while it is
-/// read, two rows of it at a time. Only a certificate that is accepted is read to its end, and none is read where there is
-/// a reason against the recording.
+/// The verdict on a recording whose bits are no longer in memory, from what was found of it and from a certificate that
+/// is judged while it is read, two rows of it at a time. Only an accepted certificate is read to its end. If there is a
+/// reason against the recording, the certificate isn't read.
 ///
-/// Refusals: `Device` where a read fails, `Memory`.
+/// Refusals: `Device` if a read fails, `Memory`.
 pub(crate) fn judge_found<R: Read>(
     alloc: Global,
     cut: &Cut,
@@ -75,7 +75,7 @@ pub(crate) fn judge_found<R: Read>(
 ) -> Result<Verdict, CheckFault>
     requires ready { inlet_failures (cert_inlet reader.old) < 2 ^ 64 - 1 }
     requires found { (r : Content) × IsFoundOf cut.now found.now r }
-    // Of whichever recording it was found: what the verdict says of it and of the bytes that the reader has left.
+    // For whichever recording it was found: what the verdict says of it and of the bytes that the reader has left.
     ensures judged { (r : Content) → IsFoundOf cut.now found.now r
         → IfOk result (λ verdict. IfSome (R.remaining (inlet_reader (cert_inlet reader.old)))
         (λ cert. JudgesMaster cut.now found.now.form r cert verdict)) }
@@ -85,7 +85,7 @@ pub(crate) fn judge_found<R: Read>(
     ensures only { (r : Content) → IsFoundOf cut.now found.now r → IsMasterOf cut.now found.now.form r
         → IfSome (R.remaining (inlet_reader (cert_inlet reader.old))) (λ cert. IsCertOf cut.now r.channels cert
         → IfOk result IsNoRejection) }
-    // The answer is `Device` exactly where a read failed.
+    // `Device` is returned exactly if a read failed.
     ensures failures { inlet_failures (cert_inlet reader.new)
         ≡ inlet_failures (cert_inlet reader.old) + failed_checks result }
 {
@@ -98,7 +98,7 @@ pub(crate) fn judge_found<R: Read>(
     judge_certificate(alloc, cut, &found.kept, reader)
 }
 
-// The first reason why a recording isn't the master of the cut, by what was found of it.
+// The first reason why a recording isn't the master of the cut, from what was found of it.
 fn found_reason(alloc: Global, cut: &Cut, found: &Found) -> Result<Option<Reason>, AllocError>
     requires { (r : Content) × IsFoundOf cut.now found.now r }
     ensures reason { (r : Content) → IsFoundOf cut.now found.now r

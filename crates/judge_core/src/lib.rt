@@ -1,31 +1,31 @@
-//! Whether a file is a master of a project and takes, and its bridges are the best there are, whoever made them. Nothing
-//! here makes a master, and nothing searches: this crate stands on the costs of bridges (`cost_core`), on what a
-//! certificate shows (`cert_core`) and on the cuts of takes (`cut_core`).
+//! Whether a file is a master of a project and takes, and its bridges are the best there are, whoever made them.
+//! Nothing here makes a master, and nothing searches: this crate builds on the costs of bridges (`cost_core`), on what
+//! a certificate shows (`cert_core`) and on the cuts of takes (`cut_core`).
 //!
-//! [`check`] judges a master and its certificate, from project and files on: [`cut_files`] opens the cut of project and
-//! takes, [`find_master`] reads the master's file once, and [`check_found`] judges what was found of it ([`Found`]) by a
-//! certificate that is judged while it is read. Each of them can be called alone, over any reader; [`cut_heard`] opens the
-//! cut by what was heard of takes that were read before.
+//! [`check`] judges a master and its certificate, starting from project and files. [`cut_files`] opens the cut of
+//! project and takes, [`find_master`] reads the master's file once, and [`check_found`] judges what was found of it
+//! ([`Found`]) with a certificate that is judged while it is read. Each of them can be called alone, over any reader.
+//! [`cut_heard`] opens the cut from parts of takes that were read before.
 //!
-//! While the sound of a master comes by, a few groups of blocks at a time, an auditor (`auditor.rt`) compares it with the
-//! cues (`cueing.rt`) and keeps the bits of the bridges (`ranges.rt`): what is held beside them is three blocks of the
-//! sound at most, and the channels of one. `comparing.rt` tells whether the rest is that of a master. A verdict walks one
-//! list, the bridges of the cut by rising cue and then by rising channel: `entries.rt` judges their entries, and what they
-//! cost together is the sum over that list.
+//! While the sound of a master is read, a few groups of blocks at a time, an auditor (`auditor.rt`) compares it with
+//! the cues (`cueing.rt`) and keeps the bits of the bridges (`ranges.rt`). Besides these at most three blocks of the
+//! sound are held, and the channels of one. `comparing.rt` checks whether the rest is that of a master. A verdict walks
+//! one list, the bridges of the cut by rising cue and then by rising channel: `entries.rt` judges their entries, and
+//! their total cost is the sum over that list.
 //!
 //! The words of the contracts:
 //!
-//! - `SaysCut project files form cut` says that project and files come to this cut (`specs/Cutting.antt`).
-//! - `IsMaster project files file` says that a file is a master, whatever its bridges, and
-//!   `Accepts project files master cert cost` that it is, and that the certificate shows each bridge to be least, which
-//!   cost so much together (`specs/Accepting.antt`).
+//! - `SaysCut project files form cut` says that this is the cut of project and files (`specs/Cutting.antt`).
+//! - `IsMaster project files file` says that a file is a master, whatever its bridges. `Accepts project files master
+//!   cert cost` says that it is one, that the certificate shows each bridge to be least, and that this is their total
+//!   cost (`specs/Accepting.antt`).
 //! - `IsMasterOf cut form recording`: a recording is a master of a cut, whatever its bridges (`specs/Checking.antt`).
-//! - `claims cut channels`: what a certificate is to show of these channels, bridge by bridge; `IsCertOf` that it
-//!   does; `windows_total` the sum over the bridges, `total_cost` the sum over whole channels (`specs/Claims.antt`,
+//! - `claims cut channels`: what a certificate must show for these channels, bridge by bridge. `IsCertOf` says that it
+//!   does. `windows_total` is the sum over the bridges, `total_cost` the sum over whole channels (`specs/Claims.antt`,
 //!   `specs/Masters.antt`).
 //! - `JudgesMaster cut form recording cert verdict`: what a verdict says (`specs/Judging.antt`).
-//! - `IsFoundOf cut found recording`: this was found of the recording, and kept of its bridges (`specs/Standing.antt`);
-//!   `IsFoundHeld cut file found` that a file holds such a recording, or none where nothing was found
+//! - `IsFoundOf cut found recording`: this was found of the recording, and kept of its bridges (`specs/Standing.antt`).
+//!   `IsFoundHeld cut file found` says that a file holds such a recording, or holds none if nothing was found
 //!   (`specs/Finding.antt`).
 //!
 //! What follows from `Accepts`, whoever made master and certificate, is the law on [`accepted_is_least`].

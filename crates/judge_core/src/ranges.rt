@@ -1,4 +1,4 @@
-//! Where the bridges of a master stand.
+//! Where the bridges of a master are.
 
 ghost use Rattle.std.specs.Prelude.{◌≡◌, IfOk};
 ghost use Rattle.judge_core.specs.Auditing as specs;
@@ -7,7 +7,7 @@ use cut_core::Cut;
 use dsd_bits::BitRange;
 use std::alloc::{AllocError, Global};
 
-/// Where the bridge behind each cue but the last stands in the master. Err is want of memory.
+/// The range of the bridge after each cue but the last in the master. Err is out of memory.
 pub(crate) fn bridge_ranges(alloc: Global, cut: &Cut) -> Result<Vec<BitRange>, AllocError>
     ensures { IfOk result (λ made. made.items ≡ specs.bridge_ranges cut.now) }
 {

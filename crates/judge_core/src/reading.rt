@@ -16,13 +16,13 @@ use sound_core::StreamFault;
 use std::alloc::Global;
 use std::io::Read;
 
-/// What is found of the file of a master that is to be judged by a cut, or none of a file that holds no recording. It is
-/// read once, as far as it matters, as [`read_outline`](sound_core::read_outline) does. Beside what is found, at most
-/// three blocks of 65,536 bytes of the sound are held at a time, and the channels of one.
+/// What is found of the file of a master that is to be judged by a cut, or none if the file doesn't hold a recording.
+/// It is read once, as far as needed, as [`read_outline`](sound_core::read_outline) does. Besides what is found, at
+/// most three blocks of 65,536 bytes of the sound are held at a time, and the channels of one.
 ///
-/// The inlet counts fewer than `2^63` reads and bytes at entry.
+/// At entry the inlet must have counted fewer than `2^63` reads and bytes.
 ///
-/// Refusals: `ReadFailed`; `TurnLimit` after `2^40` reads, and whatever is answered there were no more; `Memory`.
+/// Refusals: `ReadFailed`; `TurnLimit` after `2^40` reads (there are never more, whatever is returned); `Memory`.
 pub fn find_master<R: Read>(
     alloc: Global,
     cut: &Cut,
@@ -31,14 +31,14 @@ pub fn find_master<R: Read>(
     requires inlet_ready { inlet_failures inlet.old < 2 ^ 64 - 1 }
     requires reads_low { inlet_reads inlet.old < 2 ^ 63 }
     requires given_low { inlet_given inlet.old < 2 ^ 63 }
-    // It was found of the recording that the reader's file holds.
+    // It was found in the recording that the reader's file holds.
     ensures found { IfOk result (λ found. IfSome (R.remaining (inlet_reader inlet.old))
         (λ file. IsFoundHeld cut.now file found)) }
-    // The same of what was read, where the reader doesn't tell its bytes.
+    // The same of the bytes that were read, if the reader's bytes aren't known.
     ensures any_reader { IfOk result (IsFoundGiven R.remaining inlet.old inlet.new cut.now) }
     ensures fault { IfErr result IsReadingFault }
     ensures read_failed { inlet_failures inlet.new ≡ inlet_failures inlet.old + failed_reads result }
-    // Whatever is answered, there were at most 2^40 reads.
+    // Whatever is returned, there were at most 2^40 reads.
     ensures reads { inlet_reads inlet.new ≤ inlet_reads inlet.old + 2 ^ 40 }
     ensures turn_limit { IsErrOf result StreamFault.TurnLimit → inlet_reads inlet.new ≡ inlet_reads inlet.old + 2 ^ 40 }
 {
@@ -49,7 +49,7 @@ pub fn find_master<R: Read>(
     }
 }
 
-// What was found of a file, in the form that it has.
+// What was found in a file, with the form that it has.
 fn found_by(audited: Audited) -> Found
     ensures { result ≡ found_in (forms.form_in audited.outline.sound.interleaving) audited }
 {

@@ -1,17 +1,18 @@
-//! What a check of a master comes to.
+//! The result of checking a master.
 
 use cert_core::CertReason;
 use std::fmt;
 use thiserror::Error;
 
-/// Why a master is rejected: the first reason that stands. Its text is its name, and after a space each what it tells.
+/// Why a master is rejected: the first reason that applies. Its text is its name, followed by each of its parts after a
+/// space.
 #[derive(Clone, Copy, Debug, PartialEq, Eq, Error)]
 pub enum Reason {
-    /// The master's file is not read as a recording.
+    /// The master's file can't be read as a recording.
     MasterUnread,
     /// It has another sample rate or another number of channels than the takes.
     MasterShape,
-    /// Its channels don't have as many bits as the cues and bridges.
+    /// Its channels don't have as many bits as the cues and bridges together.
     MasterLength,
     /// It is a DSDIFF file, and its marks aren't those of the titles.
     MasterMarks,
@@ -21,7 +22,7 @@ pub enum Reason {
     CertHead(CertReason),
     /// The certificate's entry of this number doesn't show its bridge to be least.
     Cert(usize, CertReason),
-    /// Bytes follow the certificate's last entry.
+    /// The certificate's last entry is followed by more bytes.
     CertExtra,
 }
 
@@ -36,11 +37,11 @@ impl fmt::Display for Reason {
     }
 }
 
-/// What a check of a master comes to.
+/// The result of checking a master.
 #[derive(Clone, Copy)]
 pub enum Verdict {
-    /// It holds the cues, and no bridge could cost less; this is what all bridges of all channels cost.
+    /// It holds the cues, and no bridge could cost less. This is what all bridges of all channels cost.
     Accepted { total: u128 },
-    /// It is no such master, or the certificate doesn't show it.
+    /// It isn't such a master, or the certificate doesn't show it.
     Rejected(Reason),
 }

@@ -10,7 +10,7 @@ use Rattle.cut_core.specs.Cuts.{CutContent}
 use Rattle.cut_core.specs.Titles.{titles_of}
 use Rattle.judge_core.specs.Masters.{channel_numbers, master_channel, parts_of, total_cost}
 
--- bits are the first of the least of a bridge
+-- the bits are the first of the least lists of bits of a bridge
 abbrev pub IsFirstLeastPart : Part → List Bool → Type 0
 IsFirstLeastPart p x = IsFirstLeastBridge p.bridging x
 
@@ -20,7 +20,7 @@ pub record IsBestChannel (cut : CutContent) (c : ℕ) (z : List Bool) : Type 0 w
   pub best : AllZip IsFirstLeastPart (parts_of cut c) bridges
   pub made : z ≡ master_channel cut c bridges
 
--- the same with the first least bits for each bridge
+-- each channel is the cues with the first least bits for each bridge
 abbrev pub AreBestChannels : CutContent → List (List Bool) → Type 0
 AreBestChannels cut zs = AllZip (IsBestChannel cut) (channel_numbers cut) zs
 
@@ -42,7 +42,7 @@ master_of cut form channels = record {
   tag = [];
 }
 
--- the recording of the master whose every bridge is the first least one, and what its bridges cost
+-- the recording of the master whose every bridge is the first least one, and the cost of its bridges
 pub record IsBestMaster (cut : CutContent) (form : Form) (recording : Content) (cost : ℕ) : Type 0 where
   pub channels : List (List Bool)
   pub best : AreBestChannels cut channels

@@ -1,4 +1,4 @@
--- The certificate that is written of a master: which text it is, whoever writes it.
+-- The certificate that is written for a master: its text, whoever writes it.
 use Rattle.std.specs.Prelude.{ℕ, Bool, List, ◌++◌, All, flat_map, length, map}
 use Rattle.cost_core.specs.Limits.{IsBridging}
 use Rattle.cost_core.specs.StateCosts.{trellis_of}
@@ -10,19 +10,21 @@ use Rattle.cert_core.specs.declared.version.Version.TheVariants.{Two}
 use Rattle.cut_core.specs.Cuts.{CutContent}
 use Rattle.judge_core.specs.Claims.{IsLeastClaim, claim_cost, claims}
 
--- the rows of a claim: for each level and each state the least sum of steps over all lists of bits that lead there, or what the claim's bits cost where that is less
+-- the rows of a claim: for each level and each state the least sum of steps over all lists of bits that lead there, or
+-- the cost of the claim's bits if that is less
 abbrev pub claim_rows : Claim → List (List ℕ)
 claim_rows claim = map (cut_at (claim_cost claim)) (least_rows (trellis_of claim.bridging))
 
--- the entry of a claim: these rows, and what its bits cost
+-- the entry of a claim: these rows, and the cost of its bits
 abbrev pub claim_entry : Claim → Entry
 claim_entry claim = record { cue = claim.cue; channel = claim.channel; levels = claim.bridging.levels; rows = claim_rows claim; cost = claim_cost claim }
 
--- the bytes of that entry, by the second version
+-- the bytes of that entry, in the second version
 abbrev pub entry_text : Claim → List ℕ
 entry_text claim = cert_entry Two (claim_entry claim)
 
--- the certificate of some claims, by a number of weights: the head of the second version, and then the entry of each claim, in their order
+-- the certificate of some claims, for a number of weights: the head of the second version, and then the entry of each
+-- claim, in their order
 abbrev pub claims_text : ℕ → List Claim → List ℕ
 claims_text weights cs = cert_head Two weights (length cs) ++ flat_map entry_text cs
 

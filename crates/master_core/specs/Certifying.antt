@@ -1,4 +1,4 @@
--- The certificate of chosen bridges, whole and in the making.
+-- The certificate of chosen bridges, whole and in parts.
 use Rattle.std.specs.Prelude.{◌≡◌, ℕ, ◌-◌, ◌^◌, true, false, List, Option, flat_map, length}
 use Rattle.std.specs.Io.KnownBytes.{Appends}
 use Rattle.chunk_core.specs.Outlets.{AppendsFront}
@@ -14,7 +14,7 @@ use Rattle.master_core.specs.Choosing.{chosen_claims}
 use Rattle.master_core.specs.declared.certifying.CertifyingRoom.{CertifyingRoom}
 use Rattle.master_core.specs.declared.choosing.ChosenBridges.{ChosenBridges}
 
--- the room serves for the certificate of the cut's bridges
+-- the reserved memory fits the certificate of the cut's bridges
 pub record IsRoomOf (cut : CutContent) (room : CertifyingRoom) : Type 0 where
   pub pass_fits : HasBuffers (2 ^ (length cut.splice.weights - 1)) room.pass
   pub row_fits : room_weights room.row ≡ length cut.splice.weights
@@ -27,23 +27,23 @@ chosen_cert cut made = claims_text (length cut.splice.weights) (chosen_claims cu
 abbrev pub Certifies : CutContent → ChosenBridges → List ℕ → Type 0
 Certifies cut made cert = cert ≡ chosen_cert cut made
 
--- known bytes grew by this certificate
+-- a writer's bytes, if they are known, grew by this certificate
 abbrev pub AppendsCert : CutContent → ChosenBridges → Option (List ℕ) → Option (List ℕ) → Type 0
 AppendsCert cut made old new = (cert : List ℕ) × Certifies cut made cert × Appends old new cert
 
--- or by a prefix of it
+-- a writer's bytes, if they are known, grew by a prefix of this certificate
 abbrev pub AppendsCertFront : CutContent → ChosenBridges → Option (List ℕ) → Option (List ℕ) → Type 0
 AppendsCertFront cut made old new = (cert : List ℕ) × Certifies cut made cert × AppendsFront old new cert
 
--- known bytes grew by the entries of these claims
+-- a writer's bytes, if they are known, grew by the entries of these claims
 abbrev pub AppendsEntries : List Claim → Option (List ℕ) → Option (List ℕ) → Type 0
 AppendsEntries claims old new = Appends old new (flat_map entry_text claims)
 
--- or by a prefix of them
+-- a writer's bytes, if they are known, grew by a prefix of these entries
 abbrev pub AppendsSomeEntries : List Claim → Option (List ℕ) → Option (List ℕ) → Type 0
 AppendsSomeEntries claims old new = AppendsFront old new (flat_map entry_text claims)
 
--- the writer, by the second version, has written nothing
+-- a writer of the second version that has written nothing
 pub record IsFresh {W : Type 0} (weights : ℕ) (writer : CertWriter W) : Type 0 where
   pub version_is : cert_version writer ≡ Two
   pub weights_are : cert_weights writer ≡ weights
@@ -51,7 +51,7 @@ pub record IsFresh {W : Type 0} (weights : ℕ) (writer : CertWriter W) : Type 0
   pub closed : is_open writer ≡ false
   pub fine : has_failed writer ≡ false
 
--- it has written its head and whole entries, and takes further ones
+-- a writer of the second version that has written its head and whole entries, and accepts further ones
 pub record IsReady {W : Type 0} (weights : ℕ) (writer : CertWriter W) : Type 0 where
   pub version_is : cert_version writer ≡ Two
   pub weights_are : cert_weights writer ≡ weights

@@ -11,12 +11,12 @@ use Rattle.cut_core.specs.declared.bridges.BridgePlace.{BridgePlace}
 use Rattle.judge_core.specs.Claims.{claim_of}
 use Rattle.master_core.specs.declared.choosing.ChosenBridges.{ChosenBridges}
 
--- the first least bits of a bridge, and what they cost
+-- the first least bits of a bridge, and their cost
 pub record IsChosen (d : Bridging) (chosen : Chosen) : Type 0 where
   pub first_least : IsFirstLeastBridge d chosen.bits
   pub cost_is : chosen.cost ≡ bridge_cost d chosen.bits
 
--- those of the bridge at a place
+-- the first least bits of the bridge at a place, and their cost
 abbrev pub IsChosenAt : CutContent → BridgePlace → Chosen → Type 0
 IsChosenAt cut p chosen = IsChosen (window cut p.channel p.cue) chosen
 
@@ -28,21 +28,21 @@ IsNoBridge cut p = (cue_at cut p.cue).bridge ≡ 0
 abbrev pub window_at : CutContent → BridgePlace → Bridging
 window_at cut p = window cut p.channel p.cue
 
--- those of each bridge, in their order
+-- the first least bits of each bridge, in their order, and their costs
 abbrev pub AreChosen : CutContent → List Chosen → Type 0
 AreChosen cut xs = AllZip (IsChosenAt cut) (bridges cut) xs
 
--- what is to be shown of chosen bits, place by place
+-- what must be shown of chosen bits, place by place
 unfoldable pub chosen_claims : CutContent → List BridgePlace → List Chosen → List Claim
 chosen_claims cut [] xs = []
 chosen_claims cut (p ∷ ps) [] = []
 chosen_claims cut (p ∷ ps) (x ∷ xs) = claim_of cut p x.bits ∷ chosen_claims cut ps xs
 
--- what chosen bits cost together
+-- the total cost of chosen bits
 abbrev pub chosen_cost : List Chosen → ℕ
 chosen_cost xs = sum_by (λ (x : Chosen). x.cost) xs
 
--- these are the bridges of the cut, each with its window, and the first least bits of each
+-- these are the bridges of the cut, each with its window and its first least bits
 pub record AreBridgesOf (cut : CutContent) (made : ChosenBridges) : Type 0 where
   pub places_are : made.places.items ≡ bridges cut
   pub each_there : All (IsPlace cut) made.places.items

@@ -15,7 +15,7 @@ use Rattle.master_core.specs.Best.{AreBestChannels, master_of}
 abbrev pub silent_master : CutContent → Form → Content
 silent_master cut form = master_of cut form (replicate (channel_number cut) [])
 
--- what stands around the sound in the master's file, which is short enough to be read again
+-- the bytes before and after the sound in the master's file, few enough for it to be read again
 pub record AreMasterEnds (cut : CutContent) (form : Form) (ends : Ends) : Type 0 where
   pub head : ends.head.items ≡ head_in form (silent_master cut form) (master_length cut.splice.cues)
   pub tail : ends.tail.items ≡ tail_in form (silent_master cut form) (master_length cut.splice.cues)
@@ -32,7 +32,7 @@ pub record WritesMaster (cut : CutContent) (form : Form) (old new : Option (List
   pub text_is : text_in form (master_of cut form channels) ≡ Some text
   pub written : Appends old new text
 
--- a front of it was written, and not all of it
+-- a prefix of the file of the best master was written, and not all of it
 pub record WritesMasterFront (cut : CutContent) (form : Form) (old new : Option (List ℕ)) : Type 0 where
   pub channels : List (List Bool)
   pub best : AreBestChannels cut channels

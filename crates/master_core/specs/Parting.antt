@@ -25,11 +25,11 @@ pub record IsPartAdded (P : List Bool → Type 0) (range : BitRange) (before aft
   pub given : P bits
   pub added : after ≡ before ++ within range bits
 
--- a range as it stands to what begins at a place
+-- a range counted from a place
 abbrev pub behind : BitRange → ℕ → BitRange
 behind range at = record { start = range.start - at; stop = range.stop - at }
 
--- the parts in a range of the channel of the best bridge at a place, and of the cue behind it, were added
+-- the parts in a range of the best bridge at a place, and of the cue after it, were added
 pub record IsStepAdded (cut : CutContent) (p : BridgePlace) (range : BitRange) (before after : List Bool) : Type 0 where
   pub bits : List Bool
   pub best : IsFirstLeastPart (part_at cut p.channel p.cue) bits
@@ -43,7 +43,7 @@ pub record IsBestPart (cut : CutContent) (c : ℕ) (range : BitRange) (part : Li
   pub long : length whole ≡ master_length cut.splice.cues
   pub part_is : part ≡ within range whole
 
--- and so in every channel
+-- each list of bits is the part in a range of a channel of the best master
 pub record AreBestParts (cut : CutContent) (range : BitRange) (parts : List (List Bool)) : Type 0 where
   pub wholes : List (List Bool)
   pub best : AreBestChannels cut wholes

@@ -1,4 +1,4 @@
--- What is planned of a master.
+-- What is planned for a master.
 use Rattle.std.specs.Prelude.{◌≡◌, ℕ, Bool, List, Some}
 use Rattle.form_core.specs.declared.form.Form.{Form}
 use Rattle.form_core.specs.Forms.{text_in}
@@ -11,7 +11,8 @@ use Rattle.master_core.specs.Best.{AreBestChannels, master_of}
 use Rattle.judge_core.specs.Masters.{AreMasterChannels, CostLeast, total_cost}
 use Rattle.master_core.specs.declared.choosing.ChosenBridges.{ChosenBridges}
 
--- the cut has one list of best channels, and no other: they are those of a master that costs what the bridges cost, than which none costs less; the bridges are what a certificate shows of them; this is their file, and it is read again
+-- the cut has one list of best channels, and no other: they make a master with the cost of the bridges, and no master
+-- costs less; the bridges are what a certificate shows of them; this is their file, and it is read again
 pub record PlansMaster (cut : CutContent) (form : Form) (made : ChosenBridges) : Type 0 where
   pub channels : List (List Bool)
   pub best : AreBestChannels cut channels

@@ -1,4 +1,4 @@
--- What is written of a master, and the room that it is written through.
+-- What is written of a master, and the memory reserved for it.
 use Rattle.std.specs.Prelude.{◌≡◌, ℕ, ◌*◌, ◌/◌, ◌%◌, ◌≤◌, Bool, List, Option, All, length, map, vec_capacity}
 use Rattle.std.specs.Io.KnownBytes.{Appends}
 use Rattle.chunk_core.specs.Outlets.{AppendsPart}
@@ -11,12 +11,13 @@ use Rattle.master_core.specs.Best.{AreBestChannels}
 use Rattle.master_core.specs.Parting.{within}
 use Rattle.master_core.specs.declared.writing.MasterRoom.{MasterRoom}
 
--- so many rooms, each for so many bits
+-- there are n `BitRoom`s, each with memory for at least `most` bits
 pub record AreRooms (number most : ℕ) (rooms : List RoomContent) : Type 0 where
   pub as_many : length rooms ≡ number
   pub large : All (λ room. most ≤ room.most) rooms
 
--- a master of the cut can be written through a `MasterRoom`: whole groups of blocks of its channels fit, and their sound bytes
+-- a `MasterRoom` is large enough to write a master of the cut: for whole groups of blocks of its channels, and for
+-- their sound bytes
 pub record IsRoomFor (cut : CutContent) (room : MasterRoom) : Type 0 where
   pub rooms : AreRooms (channel_number cut) room.stretch room.rooms.items
   pub some : 32768 ≤ room.stretch
@@ -37,7 +38,7 @@ pub record WritesBest (cut : CutContent) (to : Interleaving) (old new : Option (
   pub best : AreBestChannels cut channels
   pub written : Appends old new (laced_in to channels)
 
--- a front of them was appended, and not all of them
+-- a prefix of the sound bytes of the best channels was appended, and not all of them
 pub record WritesBestFront (cut : CutContent) (to : Interleaving) (old new : Option (List ℕ)) : Type 0 where
   pub channels : List (List Bool)
   pub best : AreBestChannels cut channels
@@ -49,7 +50,7 @@ pub record WritesPart (cut : CutContent) (to : Interleaving) (range : BitRange) 
   pub best : AreBestChannels cut channels
   pub written : Appends old new (laced_in to (map (within range) channels))
 
--- a front of them was appended, and not all of them
+-- a prefix of the sound bytes of this part was appended, and not all of them
 pub record WritesPartFront (cut : CutContent) (to : Interleaving) (range : BitRange) (old new : Option (List ℕ)) : Type 0 where
   pub channels : List (List Bool)
   pub best : AreBestChannels cut channels

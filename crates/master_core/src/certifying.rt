@@ -1,4 +1,4 @@
-//! The certificate of chosen bridges, written entry by entry to an outlet in room that was made before.
+//! The certificate of chosen bridges, written entry by entry to an outlet. Its memory was reserved before.
 
 ghost use Rattle.std.specs.Prelude.{◌≡◌, ◌+◌, ◌-◌, ◌<◌, ◌≤◌, ◌^◌, IfOk, MatchResult, OnErr, OnOk, is_ok, length, not};
 ghost use Rattle.cert_core.specs.Writers.{cert_outlet, entries_left, failures_before, has_failed};
@@ -18,8 +18,8 @@ use std::alloc::{AllocError, Global};
 use std::io::Write;
 use trellis_core::{Chosen, PassRoom, hand_cut};
 
-/// All memory that the certificate of a cut needs while it is written: room for a pass over the levels of a bridge, and
-/// for the bytes of a row.
+/// All memory that writing the certificate of a cut takes: for a pass over the levels of a bridge, and for the bytes of
+/// a row.
 #[derive(Drop)]
 pub struct CertifyingRoom {
     pub(crate) pass: PassRoom,
@@ -27,7 +27,7 @@ pub struct CertifyingRoom {
 }
 
 impl CertifyingRoom {
-    /// Room for the bridges of a cut. Err is want of memory.
+    /// Memory for the bridges of a cut. Err is out of memory.
     pub fn new(alloc: Global, cut: &Cut) -> Result<CertifyingRoom, AllocError>
         ensures { IfOk result (IsRoomOf cut.now) }
     {
@@ -38,11 +38,11 @@ impl CertifyingRoom {
     }
 }
 
-/// Writes the certificate, of the second version, that shows the chosen bits of each bridge of a cut to be least: which
-/// text it is, cut and bits decide. The rows of each bridge are made while they are written; no memory is asked for. The
-/// outlet is handed back.
+/// Writes the certificate, of the second version, that shows the chosen bits of each bridge of a cut to be least, and
+/// returns the outlet. The text is a function of the cut and the bits. The rows of each bridge are made while they are
+/// written. It takes no memory.
 ///
-/// Refusal: `Device` where a write fails, and a prefix of the certificate went out.
+/// Refusal: `Device` if a write fails; a prefix of the certificate was written.
 pub fn certify<W: Write>(
     cut: &Cut,
     bridges: &ChosenBridges,
@@ -65,7 +65,7 @@ pub fn certify<W: Write>(
     (came, writer.finish())
 }
 
-/// The certificate of bits that are least shows them to be least, whoever chose them. It does nothing.
+/// The certificate of bits that are least shows that they are, whoever chose them. The function does nothing.
 pub fn certificates_show()
     ensures { CertificatesShow }
 {}

@@ -1,4 +1,4 @@
-//! The bits of a master's bridges, searched in their order.
+//! The bits of a master's bridges, found by search in their order.
 
 ghost use Rattle.std.specs.Prelude.{◌≡◌, ◌+◌, ◌<◌, IfOk, MatchOption, length};
 ghost use Rattle.cost_core.specs.Limits.{IsBridging};
@@ -16,9 +16,9 @@ use trellis_core::{Chosen, bridge};
 #[derive(Drop)]
 pub struct ChosenBridges {
     pub(crate) places: Vec<BridgePlace>,
-    // The window of each.
+    // The window of each bridge.
     pub(crate) windows: Vec<Window>,
-    // The bits of each, and what they cost.
+    // The bits of each bridge, and what they cost.
     pub(crate) chosen: Vec<Chosen>,
     // What all of them cost.
     pub(crate) total: u128,
@@ -39,7 +39,7 @@ struct Choice {
     chosen: Chosen,
 }
 
-/// The bits of least cost for each bridge of a cut, of several such the first. Err is want of memory.
+/// The bits of least cost for each bridge of a cut; of several such lists the first. Err is out of memory.
 pub(crate) fn choose_bridges(alloc: Global, cut: &Cut) -> Result<ChosenBridges, AllocError>
     ensures bridges { IfOk result (AreBridgesOf cut.now) }
     ensures total { IfOk result (λ made. made.total ≡ specs.chosen_cost made.chosen.items) }
@@ -65,7 +65,7 @@ pub(crate) fn choose_bridges(alloc: Global, cut: &Cut) -> Result<ChosenBridges, 
     })
 }
 
-// The first least bits of the bridge at a place, with its window. Err is want of memory.
+// The first least bits of the bridge at a place, with its window. Err is out of memory.
 fn choose_bridge(alloc: Global, cut: &Cut, place: BridgePlace) -> Result<Choice, AllocError>
     requires { IsPlace cut.now place }
     ensures window { IfOk result (λ choice. choice.window ≡ window_at cut.now place) }

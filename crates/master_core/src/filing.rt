@@ -20,14 +20,14 @@ use form_core::{Ends, Form, WriteFault, ends_in, fields_fit, interleaving_in, wr
 use std::alloc::{AllocError, Global};
 use std::io::Write;
 
-// The most bytes before the sound of a master, and behind it: far more than the marks of its titles need, and so few
-// that the whole file has fewer than 2^63 bytes, as each that is read.
+// The most bytes before the sound of a master, and after it: far more than the marks of its titles need, and so few
+// that the whole file has fewer than 2^63 bytes, like every file that is read.
 const MOST_AROUND: usize = 1 << 40;
 
-/// What stands around the sound in the file of a form that holds the master of a cut.
+/// The bytes before and after the sound in the file of a form that holds the master of a cut.
 ///
-/// Refusals: `NotWholeBytes` only where the form is DSDIFF and the master's channels would end inside a byte; `Memory`,
-/// also where head or tail had more than `2^40` bytes.
+/// Refusals: `NotWholeBytes` only if the form is DSDIFF and the master's channels would end inside a byte; `Memory`,
+/// also if head or tail had more than `2^40` bytes.
 pub fn master_ends(alloc: Global, cut: &Cut, form: Form) -> Result<Ends, WriteFault>
     ensures ok { IfOk result (AreMasterEnds cut.now form) }
     ensures not_whole_bytes { result ≡ Err WriteFault.NotWholeBytes → FitsIn form (master_length cut.now.splice.cues)
@@ -73,10 +73,11 @@ fn marks_in(alloc: Global, cut: &Cut, form: Form) -> Result<Vec<Mark>, AllocErro
     }
 }
 
-/// Writes the file of the best master: what stands before its sound, the sound, and what stands behind it. It takes no
-/// memory: the room was made for the cut by [`master_room`](crate::master_room), and `ends` by [`master_ends`].
+/// Writes the file of the best master: the bytes before its sound, the sound, and the bytes after it. It takes no
+/// memory: that was reserved for the cut by [`master_room`](crate::master_room), and `ends` was made by
+/// [`master_ends`].
 ///
-/// Refusal: `Device` at the first write that answers an error or takes nothing. A front of the file was written then, and
+/// Refusal: `Device` at the first write that returns an error or accepts nothing; a prefix of the file was written, but
 /// not all of it.
 pub fn write_master<W: Write>(
     cut: &Cut,

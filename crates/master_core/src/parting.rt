@@ -1,4 +1,4 @@
-//! The part of a master's channel that lies in a range, put into held room.
+//! The part of a master's channel in a range, put into reserved memory.
 
 ghost use Rattle.std.specs.Prelude.{◌≡◌, ◌+◌, ◌-◌, ◌<◌, ◌≤◌, ◌++◌, [], length};
 ghost use Rattle.cut_core.specs.Cuts.{channel_number, cue_at, cue_bits};
@@ -12,18 +12,19 @@ use cut_core::{BridgePlace, Cut};
 use dsd_bits::{BitRange, BitRoom, Bits};
 use trellis_core::Chosen;
 
-/// What a master is made of: a cut, and the bits that were chosen for its bridges.
+/// What a master is made from: a cut, and the bits that were chosen for its bridges.
 #[derive(Clone, Copy)]
 pub struct MasterSource<'a> {
     /// The cut.
     pub cut: &'a Cut,
     /// The places of its bridges, in their order.
     pub places: &'a [BridgePlace],
-    /// The bits that were chosen for each.
+    /// The bits that were chosen for each bridge.
     pub chosen: &'a [Chosen],
 }
 
-/// Adds the part of a channel of the master that lies in a range to empty room, which is large enough for it.
+/// Adds the part of a channel of the master in a range to an empty [`BitRoom`](dsd_bits::BitRoom), which is large
+/// enough for it.
 pub(crate) fn push_part(
     room: &mut BitRoom,
     source: &MasterSource<'_>,
@@ -48,8 +49,7 @@ pub(crate) fn push_part(
     }
 }
 
-// Adds the parts of the bridge at a place, which starts at a bit of the channel, and of the cue behind it that lie in a
-// range.
+// Adds the parts in a range of the bridge at a place, which starts at a bit of the channel, and of the cue after it.
 fn push_step(
     room: &mut BitRoom,
     source: &MasterSource<'_>,
@@ -82,7 +82,7 @@ fn cue_length(cut: &Cut, cue: usize) -> usize
     cue.stop - cue.start
 }
 
-// A range as it stands to what begins at a place.
+// A range of the channel, counted from a place in it.
 fn behind(range: BitRange, at: usize) -> BitRange
     ensures start { result.start ≡ range.start - at }
     ensures stop { result.stop ≡ range.stop - at }
@@ -93,7 +93,7 @@ fn behind(range: BitRange, at: usize) -> BitRange
     }
 }
 
-// Adds the part of a cue in a channel that lies in a range of it.
+// Adds the part of a cue in a channel that is in a range of it.
 fn push_cue_part(room: &mut BitRoom, cut: &Cut, channel: usize, cue: usize, range: BitRange)
     requires channel { channel < channel_number cut.now }
     requires cue { cue < length cut.now.splice.cues }
@@ -108,8 +108,8 @@ fn push_cue_part(room: &mut BitRoom, cut: &Cut, channel: usize, cue: usize, rang
     push_within(room, here.bits, piece, range);
 }
 
-// Adds the part of the bridge at a place that lies in a range of it. Its bits are looked for only where there is some,
-// and a plain cut has none.
+// Adds the part of the bridge at a place that is in a range of it. Its bits are looked up only if there is such a part;
+// a plain cut has none.
 fn push_bridge_part(
     room: &mut BitRoom,
     source: &MasterSource<'_>,
@@ -141,7 +141,7 @@ fn push_bridge_part(
     }
 }
 
-// Adds the part of a piece of some bits that lies in a range of the piece.
+// Adds the part of a piece of some bits that is in a range of the piece.
 fn push_within(room: &mut BitRoom, bits: &Bits, piece: BitRange, range: BitRange)
     requires in_order { piece.start ≤ piece.stop }
     requires inside { piece.stop ≤ length bits.now }

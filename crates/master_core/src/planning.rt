@@ -1,4 +1,4 @@
-//! A master that is planned: its bridges are chosen, and all memory that its files need is held.
+//! A master that is planned: its bridges are chosen, and all memory for its files is reserved.
 
 ghost use Rattle.std.specs.Prelude.{◌≡◌, IfErr, IfOk};
 ghost use Rattle.cut_core.specs.Cuts.{master_length};
@@ -19,30 +19,30 @@ use cut_core::Cut;
 use form_core::{Ends, Form, WriteFault, written_in_parts, written_is_read};
 use std::alloc::Global;
 
-/// What a master's file and its certificate are written of.
+/// What a master's file and its certificate are written from.
 #[derive(Drop)]
 pub struct Planned {
     /// Its bridges.
     pub bridges: ChosenBridges,
-    /// What stands around its sound.
+    /// The bytes before and after its sound.
     pub ends: Ends,
-    /// The room that its sound is written through.
+    /// The memory in which its sound is written.
     pub room: MasterRoom,
-    /// The room in which its certificate is written.
+    /// The memory in which its certificate is written.
     pub cert_room: CertifyingRoom,
 }
 
-/// Plans the master of a cut: in each channel the cues in turn, and behind each cue but the last its bridge, whose bits
-/// cost least of all of its length and of several such are the first, read from the last bit to the first. It has the
-/// sample rate, the channel IDs and the layout of take 0, and for a DSDIFF file a mark at the first bit of each titled
-/// cue. Of all masters of the cut, with whatever bridges of these lengths, none costs less. Its channels are never in
-/// memory: [`write_master`](crate::write_master) writes its file, [`certify`](crate::certify) the certificate that shows
-/// each of its bridges to be least, and neither asks for memory.
+/// Plans the master of a cut: in each channel the cues in turn, and after each cue but the last its bridge. The bits of
+/// a bridge cost least of all lists of its length; of several such lists they are the first, read from the last bit to
+/// the first. The master has the sample rate, the channel IDs and the layout of take 0, and for a DSDIFF file a mark at
+/// the first bit of each titled cue. No master of the cut, with whatever bridges of these lengths, costs less. Its
+/// channels are never in memory: [`write_master`](crate::write_master) writes its file, [`certify`](crate::certify) the
+/// certificate that shows each of its bridges to be least, and neither takes memory.
 ///
-/// Refusals: `NotWholeBytes` only where the form is DSDIFF and the channels would end inside a byte; `Memory`.
+/// Refusals: `NotWholeBytes` only if the form is DSDIFF and the channels would end inside a byte; `Memory`.
 pub fn plan(alloc: Global, cut: &Cut, form: Form) -> Result<Planned, WriteFault>
     ensures master { IfOk result (λ made. PlansMaster cut.now form made.bridges) }
-    // What its files are written of.
+    // What its files are written from.
     ensures bridges { IfOk result (λ made. AreBridgesOf cut.now made.bridges) }
     ensures ends { IfOk result (λ made. AreMasterEnds cut.now form made.ends) }
     ensures room { IfOk result (λ made. IsRoomFor cut.now made.room) }
@@ -63,7 +63,7 @@ pub fn plan(alloc: Global, cut: &Cut, form: Form) -> Result<Planned, WriteFault>
     })
 }
 
-// Cues and chosen bits make the master that the cut comes to. It does nothing.
+// Cues and chosen bits make the master of the cut. It does nothing.
 fn is_master(cut: &Cut, form: Form, bridges: &ChosenBridges, ends: &Ends)
     requires bridges { AreBridgesOf cut.now bridges.now }
     requires total { bridges.now.total ≡ specs.chosen_cost bridges.now.chosen.items }

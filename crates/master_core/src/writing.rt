@@ -1,5 +1,5 @@
-//! The sound of a master, written group by group of its channels' blocks from cues and bridges. All memory that it takes
-//! is held before.
+//! The sound of a master, written group by group of its channels' blocks from cues and bridges. All memory that it
+//! takes is reserved before.
 
 ghost use Rattle.std.specs.Prelude.{◌≡◌, ◌+◌, ◌-◌, ◌*◌, ◌/◌, ◌%◌, ◌<◌, ◌≤◌, ◌^◌, All, IfOk, MatchResult, OnErr, OnOk, length, map, vec_capacity};
 ghost use Rattle.std.specs.Io.KnownBytes.{Appends};
@@ -20,7 +20,8 @@ use relace_core::{push_rooms, stretch_bits};
 use std::alloc::{AllocError, Global};
 use std::io::Write;
 
-/// What a master is written through: room for a group of the blocks of each channel, and for the bytes of that group.
+/// The memory with which a master is written: for a group of the blocks of each channel, and for the bytes of that
+/// group.
 #[derive(Drop)]
 pub struct MasterRoom {
     rooms: Vec<BitRoom>,
@@ -28,8 +29,8 @@ pub struct MasterRoom {
     stretch: usize,
 }
 
-/// The room that a master of a cut is written through: at most 65,536 bytes of bits, and as many of sound bytes. Err is
-/// want of memory.
+/// The memory with which a master of a cut is written: at most 65,536 bytes of bits, and as many of sound bytes. Err is
+/// out of memory.
 pub fn master_room(alloc: Global, cut: &Cut) -> Result<MasterRoom, AllocError>
     ensures { IfOk result (IsRoomFor cut.now) }
 {
@@ -44,7 +45,7 @@ pub fn master_room(alloc: Global, cut: &Cut) -> Result<MasterRoom, AllocError>
     })
 }
 
-// So many rooms, each for so many bits.
+// As many `BitRoom`s as channels, each for `most` bits.
 fn bit_rooms(alloc: Global, number: usize, most: usize) -> Result<Vec<BitRoom>, AllocError>
     requires { most ≤ 2 ^ 36 }
     ensures { IfOk result (λ made. AreRooms number most made.items) }
@@ -65,10 +66,10 @@ pub fn has_one_best(source: &MasterSource<'_>)
     source.cut.can_cut();
 }
 
-/// Appends the sound bytes of the best master, interleaved as `to` says. It takes no memory: the room was made for
-/// the cut by [`master_room`].
+/// Appends the sound bytes of the best master, interleaved as `to`. It takes no memory: that was reserved for the cut
+/// by [`master_room`].
 ///
-/// Refusal: `Device` at the first write that answers an error or takes nothing. A front of the bytes went out then.
+/// Refusal: `Device` at the first write that returns an error or accepts nothing; a prefix of the bytes was written.
 pub fn write_sound<W: Write>(
     source: &MasterSource<'_>,
     to: Interleaving,
@@ -100,7 +101,7 @@ pub fn write_sound<W: Write>(
     Ok(())
 }
 
-// Appends the sound bytes of the part of the best master that lies in a range.
+// Appends the sound bytes of the part of the best master in a range.
 fn write_stretch<W: Write>(
     source: &MasterSource<'_>,
     to: Interleaving,
@@ -131,7 +132,7 @@ fn write_stretch<W: Write>(
     outlet.put_all(&room.out)
 }
 
-// Fills the room of each channel with its part that lies in a range.
+// Fills the `BitRoom` of each channel with its part in a range.
 fn fill_rooms(rooms: &mut Vec<BitRoom>, source: &MasterSource<'_>, range: BitRange)
     requires ready { HasChosen source.now }
     requires number { length rooms.old.items ≡ channel_number source.now.cut.now }
@@ -144,7 +145,7 @@ fn fill_rooms(rooms: &mut Vec<BitRoom>, source: &MasterSource<'_>, range: BitRan
     }
 }
 
-// Fills the room of a channel.
+// Fills the `BitRoom` of a channel.
 fn fill_room(room: &mut BitRoom, source: &MasterSource<'_>, channel: usize, range: BitRange)
     requires ready { HasChosen source.now }
     requires channel { channel < channel_number source.now.cut.now }

@@ -52,7 +52,7 @@ pub(crate) fn judge_certificate<R: Read>(
     }
 }
 
-// Reads the head of a certificate of `number` entries. None means that it is correct.
+// Reads the head of a certificate of `entries` entries. None means that it is correct.
 fn judge_head<R: Read>(
     reader: &mut CertReader<R>,
     cut: &Cut,

@@ -35,7 +35,7 @@ ShownIsRead = (v : Version) (claim : Claim) (e : Entry) (rest : List ℕ) → Sh
 abbrev pub ReadIsCert : Type 0
 ReadIsCert = (v : Version) (weights : ℕ) (claims : List Claim) (rest : List ℕ) → AreEntries v claims rest → IsCert weights claims (cert_head v weights (length claims) ++ rest)
 
--- a certificate begins with a head that tells its version
+-- a certificate begins with a head that names its version
 abbrev pub CertHasHead : Type 0
 CertHasHead = (weights : ℕ) (claims : List Claim) (bytes : List ℕ) → IsCert weights claims bytes → (v : Version) × (rest : List ℕ) × (bytes ≡ cert_head v weights (length claims) ++ rest)
 
@@ -61,7 +61,7 @@ NothingFollows = (v : Version) (claims : List Claim) (front after : List ℕ) �
 abbrev pub ShownIsLeast : Type 0
 ShownIsLeast = (v : Version) (d : Bridging) (cue channel : ℕ) (x : List Bool) (bytes : List ℕ) → IsBridging d → length x ≡ d.levels → IsEntry v (trellis_of d) cue channel x bytes → IsLeastBridge d x
 
--- bytes have one first reason at most
+-- bytes have at most one first reason
 abbrev pub OneReason : Type 0
 OneReason = (v : Version) (d : Bridging) (cue channel found : ℕ) (bytes : List ℕ) (a b : CertReason) → IsBridging d → cue < 2 ^ 16 → channel < 2 ^ 16
     → FirstReason v (trellis_of d) cue channel found bytes a → FirstReason v (trellis_of d) cue channel found bytes b → a ≡ b

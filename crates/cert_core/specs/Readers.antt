@@ -1,4 +1,4 @@
--- What contracts see of a reader of certificates and of its answers.
+-- What contracts see of a reader of certificates and of its results.
 use Rattle.std.specs.Prelude.{◌≡◌, ◌<◌, ℕ, Bool, List, length, Option, None, Some, Result, Ok, Err, ⊤, IfSome}
 use Rattle.chunk_core.specs.Inlets.{inlet_failures, inlet_reader}
 use Rattle.chunk_core.specs.declared.inlet.Inlet.{Inlet}
@@ -12,15 +12,15 @@ use Rattle.cert_core.specs.declared.verdict.CheckFault.TheVariants.{Device, Memo
 use Rattle.cert_core.specs.Reasons.{HeadReason}
 use Rattle.cert_core.specs.declared.version.Version.{Version}
 
--- the inlet, as it stands
+-- the inlet itself
 abbrev pub cert_inlet : {R : Type 0} → CertReader R → Inlet R
 cert_inlet reader = reader.inlet
 
--- how many reads failed
+-- the number of reads that failed
 abbrev pub check_failures : {R : Type 0} → CertReader R → ℕ
 check_failures reader = inlet_failures (cert_inlet reader)
 
--- P of the bytes that are left, where they are known
+-- P holds of the bytes that are left, if they are known
 abbrev pub IfLeft : {R : Type 0} → (R → Option (List ℕ)) → CertReader R → (List ℕ → Type 0) → Type 0
 IfLeft left reader P = IfSome (left (inlet_reader (cert_inlet reader))) P
 
@@ -28,23 +28,23 @@ IfLeft left reader P = IfSome (left (inlet_reader (cert_inlet reader))) P
 abbrev pub has_read_head : {R : Type 0} → CertReader R → Bool
 has_read_head reader = reader.has_head
 
--- the version that the head told
+-- the version in the head
 abbrev pub read_version : {R : Type 0} → CertReader R → Version
 read_version reader = reader.version
 
--- P of the cost, where the bits were accepted
+-- P holds of the cost, if the bits were accepted
 abbrev pub IfAccepted : Result CertVerdict CheckFault → (ℕ → Type 0) → Type 0
 IfAccepted (Ok (Accepted cost)) P = P cost
 IfAccepted (Ok (Rejected reason)) P = ⊤
 IfAccepted (Err fault) P = ⊤
 
--- P of the reason, where they were rejected
+-- P holds of the reason, if they were rejected
 abbrev pub IfRejected : Result CertVerdict CheckFault → (CertReason → Type 0) → Type 0
 IfRejected (Ok (Rejected reason)) P = P reason
 IfRejected (Ok (Accepted cost)) P = ⊤
 IfRejected (Err fault) P = ⊤
 
--- one where the answer is `Device`
+-- one if the result is `Device`
 abbrev pub failed_checks : {T : Type 0} → Result T CheckFault → ℕ
 failed_checks (Err Device) = 1
 failed_checks (Err Memory) = 0
@@ -54,16 +54,16 @@ failed_checks (Ok x) = 0
 abbrev pub IsWell : Result (Option CertReason) CheckFault → Type 0
 IsWell result = result ≡ Ok None
 
--- P of the reason, where there is one
+-- P holds of the reason, if there is one
 abbrev pub IfReason : Result (Option CertReason) CheckFault → (CertReason → Type 0) → Type 0
 IfReason (Ok (Some reason)) P = P reason
 IfReason (Ok None) P = ⊤
 IfReason (Err fault) P = ⊤
 
--- known bytes have this reason first in the head
+-- this is the first reason against the head in the bytes, if they are known
 abbrev pub InHead : ℕ → ℕ → Option (List ℕ) → CertReason → Type 0
 InHead weights entries known reason = IfSome known (λ bytes. HeadReason weights entries bytes reason)
 
--- the reason is that known bytes are left
+-- the reason is that bytes are left, if they are known
 abbrev pub InRest : Option (List ℕ) → CertReason → Type 0
 InRest known reason = (reason ≡ Extra) × IfSome known (λ bytes. 0 < length bytes)

@@ -17,11 +17,12 @@ Bounded m row = (q : ℕ) → q < m → slice_index_or row q 0 ≤ 2 ^ 63
 abbrev pub RowBounded : Trellis → List ℕ → Type 0
 RowBounded t row = Bounded (states t) row
 
--- the bytes begin with the row, of m values up to 2 ^ 63, spelled as the version spells it, and go on with the rest
+-- the bytes begin with the row, of m values up to 2 ^ 63, spelled as the version spells it, and continue with the rest
 abbrev pub Spells : Version → ℕ → List ℕ → List ℕ → List ℕ → Type 0
 Spells v m bytes row rest = (bytes ≡ row_text v row ++ rest) × (length row ≡ m) × Bounded m row
 
--- why the bytes begin with no row of m values, that of the level: they end too early, or the width is above eight, or a value above 2 ^ 63, or the row isn't spelled as the version spells it
+-- why the bytes don't begin with a row of m values for the level: they end too early, or the width is above eight, or a
+-- value is above 2 ^ 63, or the row isn't spelled as the version spells it
 abbrev pub SpellingReason : Version → ℕ → ℕ → List ℕ → CertReason → Type 0
 SpellingReason v m level bytes Cut = IsCutRow v m bytes
 SpellingReason v m level bytes Bound = (row : List ℕ) × (rest : List ℕ) × Holds v m bytes row rest × ((q : ℕ) × (q < m) × (2 ^ 63 < slice_index_or row q 0))
@@ -86,7 +87,7 @@ CutInCost v t bytes = (rows : List (List ℕ)) × (rest : List ℕ) × GoesOn v 
 abbrev pub States : Version → Trellis → List ℕ → List (List ℕ) → ℕ → Type 0
 States v t bytes rows stated = (rest : List ℕ) × GoesOn v t bytes rows (to_be_bytes w64 stated ++ rest) × (length rows ≡ t.levels + 1) × (stated < 2 ^ 64)
 
--- the first reason in the bytes after an entry's start, where the bits that were handed in cost `found`
+-- the first reason in the bytes after an entry's start, if the given bits cost `found`
 abbrev pub ReasonAfter : Version → Trellis → ℕ → List ℕ → CertReason → Type 0
 ReasonAfter v t found bytes Cut = ReasonInRow v t bytes Cut ⊎ CutInCost v t bytes
 ReasonAfter v t found bytes Bound = ReasonInRow v t bytes Bound
@@ -114,7 +115,7 @@ StartReason cue channel levels bytes (End q) = ⊥
 StartReason cue channel levels bytes Cost = ⊥
 StartReason cue channel levels bytes Extra = ⊥
 
--- the first reason in the bytes of an entry, where the bits that were handed in cost `found`: it stands in the entry's start, or after a right one
+-- the first reason in the bytes of an entry, if the given bits cost `found`: in the entry's start, or after a right one
 abbrev pub FirstReason : Version → Trellis → ℕ → ℕ → ℕ → List ℕ → CertReason → Type 0
 FirstReason v t cue channel found bytes reason = StartReason cue channel t.levels bytes reason
     ⊎ ((after : List ℕ) × (bytes ≡ entry_start cue channel t.levels ++ after) × ReasonAfter v t found after reason)

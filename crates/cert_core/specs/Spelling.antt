@@ -28,7 +28,7 @@ peak (v ∷ row) = fold max v row
 abbrev pub byte_width : ℕ → ℕ
 byte_width v = count_by (λ step. leb step v) (1 ∷ 256 ∷ 256 ^ 2 ∷ 256 ^ 3 ∷ 256 ^ 4 ∷ 256 ^ 5 ∷ 256 ^ 6 ∷ 256 ^ 7 ∷ [])
 
--- what each value of a row exceeds the least by
+-- by how much each value of a row exceeds the least
 abbrev pub excesses : List ℕ → List ℕ
 excesses row = map (λ v. v - floor row) row
 
@@ -62,6 +62,6 @@ abbrev pub IsTooWide : Version → List ℕ → Type 0
 IsTooWide One bytes = ⊥
 IsTooWide Two bytes = (front : List ℕ) × (width : ℕ) × (after : List ℕ) × (bytes ≡ front ++ (width ∷ after)) × (length front ≡ 8) × (8 < width)
 
--- what the values of a row exceed another by, in so many bytes each
+-- by how much the values of a row exceed another number, each in `width` bytes
 abbrev pub excess_text : ℕ → ℕ → List ℕ → List ℕ
 excess_text width least row = flat_map (bytes_high_first width) (map (λ v. v - least) row)

@@ -14,18 +14,18 @@ use Rattle.cert_core.specs.declared.version.Version.{Version}
 use Rattle.cert_core.specs.declared.version.Version.TheVariants.{Two}
 use Rattle.cert_core.specs.Reasons.{StartReason, FirstReason, EndReason, AreClean, Bounded, ReasonInRow, SpellingReason}
 
--- P of the reason, where there is one
+-- P holds of the reason, if there is one
 abbrev pub OnReason : {T : Type 0} → Result T Stop → (CertReason → Type 0) → Type 0
 OnReason (Err (Reason reason)) P = P reason
 OnReason (Err Device) P = ⊤
 OnReason (Err Memory) P = ⊤
 OnReason (Ok x) P = ⊤
 
--- P of the bytes that an inlet has left, known or not, and of the reason, where there is one
+-- P holds of the bytes that an inlet has left, known or not, and of the reason, if there is one
 abbrev pub OnLeft : {R T : Type 0} → (R → Option (List ℕ)) → Inlet R → Result T Stop → (Option (List ℕ) → CertReason → Type 0) → Type 0
 OnLeft left inlet r P = OnReason r (P (left (inlet_reader inlet)))
 
--- one where a device failed
+-- one if a device failed
 abbrev pub failed_stops : {T : Type 0} → Result T Stop → ℕ
 failed_stops (Err (Reason reason)) = 0
 failed_stops (Err Device) = 1

@@ -1,4 +1,4 @@
--- Two rows of a window, one behind the other, as they are held.
+-- Two rows of a window, one after the other, as they are held.
 use Rattle.std.specs.Prelude.{◌≡◌, ℕ, ◌+◌, ◌<◌, ◌≤◌, List, Bool, Option, MatchOption, length, slice_index}
 use Rattle.cost_core.specs.Trellis.{Trellis, states}
 use Rattle.cost_core.specs.StateCosts.{trellis_of}

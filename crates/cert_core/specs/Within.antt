@@ -12,7 +12,7 @@ pub record AreRows (t : Trellis) (level : ℕ) (previous row : List ℕ) : Type 
   pub row_len : length row ≡ states t
   pub limit : RowBounded t previous
 
--- the lowest number below n of which P holds, or none where it holds of none
+-- the lowest number below n of which P holds, or none if there is none
 abbrev pub IsFirstBelow : ℕ → (ℕ → Type 0) → Option ℕ → Type 0
 IsFirstBelow n P found = MatchOption found
     ((q : ℕ) → q < n → P q → ⊥)

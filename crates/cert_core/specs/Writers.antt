@@ -7,7 +7,7 @@ use Rattle.chunk_core.specs.FusedOutlets.{fused_outlet, fused_failed}
 use Rattle.cert_core.specs.Text.{cert_head}
 use Rattle.cert_core.specs.declared.version.Version.{Version}
 
--- the outlet, as it stands
+-- the outlet itself
 abbrev pub cert_outlet : {W : Type 0} → CertWriter W → Outlet W
 cert_outlet writer = fused_outlet writer.outlet
 
@@ -15,11 +15,11 @@ cert_outlet writer = fused_outlet writer.outlet
 abbrev pub Writes : {W : Type 0} → (W → Option (List ℕ)) → CertWriter W → CertWriter W → List ℕ → Type 0
 Writes contents old new bytes = Puts contents (cert_outlet old) (cert_outlet new) bytes
 
--- a front of these was written, and not all of them
+-- a prefix of these was written, and not all of them
 abbrev pub WritesPart : {W : Type 0} → (W → Option (List ℕ)) → CertWriter W → CertWriter W → List ℕ → Type 0
 WritesPart contents old new bytes = PutsPart contents (cert_outlet old) (cert_outlet new) bytes
 
--- how many writes failed
+-- the number of writes that failed
 abbrev pub cert_failures : {W : Type 0} → CertWriter W → ℕ
 cert_failures writer = outlet_failures (cert_outlet writer)
 
@@ -27,27 +27,29 @@ cert_failures writer = outlet_failures (cert_outlet writer)
 abbrev pub has_failed : {W : Type 0} → CertWriter W → Bool
 has_failed writer = fused_failed writer.outlet
 
--- the version that the head tells
+-- the version in the head
 abbrev pub cert_version : {W : Type 0} → CertWriter W → Version
 cert_version writer = writer.version
 
--- how many weights the head tells
+-- the number of weights in the head
 abbrev pub cert_weights : {W : Type 0} → CertWriter W → ℕ
 cert_weights writer = writer.weights
 
--- how many values a row has
+-- the number of values of a row
 abbrev pub row_length : {W : Type 0} → CertWriter W → ℕ
 row_length writer = 2 ^ (writer.weights - 1)
 
--- how many rows of an entry are still to come
+-- the number of rows of an entry still to come
 abbrev pub rows_left : {W : Type 0} → CertWriter W → ℕ
 rows_left writer = writer.rows_left
 
--- how many rows it still takes or refuses as a sink: those that are still to come, and once a write failed as many as an entry can have
+-- the number of rows that it still accepts or refuses as a sink: those still to come, or after a failed write as many
+-- as an entry can have
 abbrev pub rows_taken : {W : Type 0} → CertWriter W → ℕ
 rows_taken writer = if has_failed writer then 2 ^ 16 else rows_left writer
 
--- what no row changes: the version, the number of weights, whether the head was written, how many entries are still to begin, whether an entry was begun and not ended, how many failures the outlet had before
+-- what no row changes: the version, the number of weights, whether the head was written, the number of entries still to
+-- begin, whether an entry was begun and not ended, the number of failures of the outlet before
 pub record Stage : Type 0 where
   pub version : Version
   pub weights : ℕ
@@ -60,11 +62,11 @@ pub record Stage : Type 0 where
 abbrev pub before_head : Version → ℕ → ℕ → Stage
 before_head version weights failures = record { version = version; weights = weights; has_head = false; entries_left = 0; is_open = false; failures = failures }
 
--- the stage once the next entry was begun
+-- the stage after the next entry was begun
 abbrev pub entry_begun : Stage → Stage
 entry_begun s = record s { entries_left = s.entries_left - 1; is_open = true }
 
--- where a writer stands
+-- the stage of a writer
 abbrev pub stage : {W : Type 0} → CertWriter W → Stage
 stage writer = record { version = writer.version; weights = writer.weights; has_head = writer.has_head; entries_left = writer.entries_left; is_open = writer.is_open; failures = writer.failures }
 

@@ -1,4 +1,5 @@
--- What a command does to a folder, by the names that it is given. What it says of bytes it says of some that were read, in any folder, and of those that openings of the names give, in one that tells its bytes.
+-- What a command does to a folder, by the names that it gets. What it says of bytes holds of some that were read, in
+-- any folder, and of those that openings of the names give, if the folder's bytes are known.
 use Rattle.std.specs.Prelude.{◌≡◌, ◌≢◌, ℕ, List, IfSome, IsTrue, Option, None, Some, ◌⊎◌, Result, Ok, Err}
 use Rattle.transfer_core.specs.declared.fault.Fault as calls
 use Rattle.transfer_core.specs.declared.fault.Fault.TheVariants.{Memory}
@@ -77,13 +78,14 @@ pub record LeavesMaster (cut : Cut) (old new : View) : Type 0 where
   pub certificate : IsCertificate project takes master cert
   pub accepted : Accepts project takes master cert total
 
--- where a verdict accepts a master, it is a master of the project and takes, no bits of any bridge cost less, and of all their masters none costs less
+-- a master that a verdict accepts is a master of the project and takes, no bits of any bridge cost less, and no master
+-- of theirs costs less
 pub record IsLeastAt (project : List ℕ) (takes : List (List ℕ)) (master : List ℕ) (cost : ℕ) : Type 0 where
   pub is_master : IsMaster project takes master
   pub least : IsLeastMaster project takes master
   pub joint : CostsLeast project takes master cost
 
--- the same of a verdict, which may be another
+-- the same for a verdict that may be another one
 abbrev pub IsLeastIfAccepted : List ℕ → List (List ℕ) → List ℕ → Verdict → Type 0
 IsLeastIfAccepted project takes master (verdicts.Accepted cost) = IsLeastAt project takes master cost
 IsLeastIfAccepted project takes master (verdicts.Rejected reason) = Unit {0}
@@ -93,11 +95,12 @@ abbrev pub Judges : List ℕ → List (List ℕ) → List ℕ → List ℕ → V
 Judges project takes master cert (verdicts.Accepted cost) = Accepts project takes master cert cost × CostsWindows project takes master cost
 Judges project takes master cert (verdicts.Rejected reason) = RejectsFirst project takes master cert reason
 
--- the same of whatever certificate was read, where its bytes are known
+-- the same for whatever certificate was read, if its bytes are known
 abbrev pub JudgesBy : List ℕ → List (List ℕ) → List ℕ → Option (List ℕ) → Verdict → Type 0
 JudgesBy project takes master left verdict = IfSome left (λ cert. Judges project takes master cert verdict)
 
--- a master that was read is least, where the verdict by a project and takes that were read accepts it; where the folder has known bytes, the verdict is that by the certificate's; and nothing changed
+-- a master that was read is least, if the verdict by a project and takes that were read accepts it; if the folder's
+-- bytes are known, the verdict is the one by the certificate; and nothing changed
 pub record ChecksFiles (project_name master_name cert_name : List ℕ) (old new : View) (verdict : Verdict) : Type 0 where
   pub project : List ℕ
   pub takes : List (List ℕ)
@@ -108,7 +111,8 @@ pub record ChecksFiles (project_name master_name cert_name : List ℕ) (old new 
   pub by_certificate : IsTrue old.is_told → (cert : List ℕ) × Gives old cert_name cert × Judges project takes master cert verdict
   pub same : new ≡ old
 
--- this fault comes first where a project and takes that were read are made a cut, into a file of the form where one is asked for
+-- this is the first fault of making a cut of a project and takes that were read, into a file of the form if one is
+-- given
 pub record IsUncut (form : Option Form) (project_name : List ℕ) (old : View) (fault : calls.Fault) : Type 0 where
   pub project : List ℕ
   pub takes : List (List ℕ)
@@ -119,14 +123,14 @@ pub record IsUncut (form : Option Form) (project_name : List ℕ) (old : View) (
 abbrev pub CutRefused : Option Form → List ℕ → View → View → calls.Fault → Type 0
 CutRefused form project old new fault = (new ≡ old) × ((fault ≡ Memory) ⊎ (IsUnnamed project old fault ⊎ IsUncut form project old fault))
 
--- the folder before and after `edit FORM PROJECT MASTER CERT` came to this
+-- how `edit FORM PROJECT MASTER CERT` changes the folder
 abbrev pub EditComesTo : Cut → View → View → Result ℕ CommandFault → Type 0
 EditComesTo cut old new (Ok total) = EditsFiles cut old new total
 EditComesTo cut old new (Err (faults.Call fault)) = CutRefused (Some cut.form) cut.project_name old new fault
 EditComesTo cut old new (Err faults.ReadFailed) = new ≡ old
 EditComesTo cut old new (Err faults.WriteFailed) = CutsFront cut old new ⊎ LeavesMaster cut old new
 
--- the folder before and after `check PROJECT MASTER CERT` came to this
+-- how `check PROJECT MASTER CERT` changes the folder
 abbrev pub CheckComesTo : List ℕ → List ℕ → List ℕ → View → View → Result Verdict CommandFault → Type 0
 CheckComesTo project master cert old new (Ok verdict) = ChecksFiles project master cert old new verdict
 CheckComesTo project master cert old new (Err (faults.Call fault)) = CutRefused None project old new fault
@@ -137,7 +141,9 @@ CheckComesTo project master cert old new (Err faults.WriteFailed) = ⊥
 abbrev pub Says : {T : Type 0} → (T → Outcome) → (Result T CommandFault → Type 0) → Outcome → Type 0
 Says {T} done P outcome = (came : Result T CommandFault) × (outcome ≡ outcome_of done came) × P came
 
--- the folder before and after a command came to this: a judgement changes no file, and so does a refusal but where a file is played or converted piece by piece; a write that failed changes one, or two where the first is the master that was cut; and where the folder keeps old files, no fault puts a prefix in the place of one
+-- how a command changes the folder: a judgement changes no file, and neither does a refusal, unless a file is played or
+-- converted piece by piece; a failed write changes one file, or two if the first is the master that was cut; and if the
+-- folder keeps old files, no fault replaces one by a prefix
 abbrev pub TaskComesTo : Task → View → View → Outcome → Type 0
 TaskComesTo (tasks.Play project input output) old new = Says Played (PlayComesTo project.now input.now output.now old new)
 TaskComesTo (tasks.Convert form input output) old new = Says Converted (ConvertComesTo form input.now output.now old new)

@@ -5,7 +5,8 @@ use Rattle.judge_core.specs.declared.finding.Found.{Found}
 use Rattle.judge_core.specs.Finding.{FindsHeld, IsFoundHeld}
 use Rattle.folder_core.specs.Files.{IsReadOf, View}
 
--- what was found, if something was, was found of the recording that bytes hold which were read of a name; where the folder has known bytes and nothing was found, they hold none
+-- what was found, if anything, was found of the recording in bytes that were read of a name; if nothing was found and
+-- the folder's bytes are known, they hold no recording
 pub record FindsMaster (old : View) (cut : CutContent) (name : List ℕ) (found : Option Found) : Type 0 where
   pub file : List ℕ
   pub file_read : IsReadOf old name file

@@ -12,7 +12,9 @@ use Rattle.words_core.specs.declared.fault.WordsFault.TheVariants as words
 use Rattle.transfer_core.specs.declared.fault.Fault.TheVariants.{Memory}
 use Rattle.command_core.specs.declared.outcome.Outcome.TheVariants.{Played, Converted, Edited, Accepted, Rejected, Info, Fault, ReadFailed, WriteFailed, WrongWords, UnknownFormName}
 
--- the line of a file that was played names its bytes, that of one that was converted what was dropped, that of a master that was cut or accepted what it costs, and the lines of a file that was read tell of its recording; of other texts nothing is said
+-- what the printed line says: for a file that was played its number of bytes, for one that was converted what was
+-- dropped, for a master that was cut or accepted its cost, and for a file that was read the lines that describe its
+-- recording; nothing is said of other texts
 abbrev pub ShowsDone : Outcome → List ℕ → Type 0
 ShowsDone (Played n) line = line ≡ codes "played " ++ decimal n ++ codes " bytes"
 ShowsDone (Converted n) line = line ≡ codes "converted dropped " ++ decimal n

@@ -20,11 +20,11 @@ target d i = slice_index_or d.targets (i - 1) (pos 0)
 abbrev pub window_bits : Bridging → List Bool → List Bool
 window_bits d x = d.preceding ++ (x ++ d.following)
 
--- the squared deviation from the target at place i of a bridge whose first bit stands at index m of z
+-- the squared deviation from the target at place i of a bridge whose first bit has index m in z
 unfoldable pub term : Bridging → List Bool → ℕ → ℕ → ℕ
 term d z m i = square ((pos (d.levels + 1) *ℤ weighted d.weights z (m + (i - 1))) -ℤ target d i)
 
--- the sum over the places of a bridge whose first bit stands at index m of z: its own, and those after it that a weight reads
+-- the sum over the places of a bridge whose first bit has index m in z: its own, and those after it that a weight reads
 unfoldable pub places_cost : Bridging → List Bool → ℕ → ℕ
 places_cost d z m = sum_by (term d z m) (range_with_len 1 (d.levels + length d.following))
 

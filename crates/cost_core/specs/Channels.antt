@@ -20,7 +20,8 @@ channel cue (p ∷ ps) (x ∷ xs) = cue ++ (x ++ channel p.cue ps xs)
 abbrev pub unless_cut : Bridging → ℕ → ℕ
 unless_cut d cost = if d.levels == 0 then 0 else cost
 
--- the cost of a channel z, read whole: the sum over the places of all bridges; the first bit of the first bridge stands at index m
+-- the cost of a channel z, read whole: the sum over the places of all bridges; the first bit of the first bridge has
+-- index m
 unfoldable pub channel_cost : List Bool → ℕ → List Part → ℕ
 channel_cost z m [] = 0
 channel_cost z m (p ∷ ps) =

@@ -3,7 +3,8 @@ use Rattle.std.specs.Prelude.{ℕ, ◌+◌, ◌-◌, ℤ, pos, ◌+ℤ◌, ◌*�
 use Rattle.std.specs.List.{range_with_len}
 use Rattle.cost_core.specs.Weighted.{weighted}
 
--- the target of place i of a linear fade of so many bits, from the end `stop` of a cue in the take a to the start of a cue in the take b
+-- the target of place i of a linear fade of n bits, from the end `stop` of a cue in the take a to the start of a cue in
+-- the take b
 abbrev pub fade : List ℤ → List Bool → ℕ → List Bool → ℕ → ℕ → ℕ → ℤ
 fade weights a stop b start levels i =
     if nat_le i levels

@@ -1,4 +1,4 @@
--- The room that a bridge needs, and which want of it comes first.
+-- The room that a bridge needs, and which part of it is missing first.
 use Rattle.std.specs.Prelude.{ℕ, ◌+◌, ◌^◌, ◌≤◌, Bool, List, length, Option, Some, None, nat_lt, if◌then◌else◌}
 use Rattle.splice_core.specs.Splices.{SpliceContent}
 use Rattle.cost_core.specs.declared.fault.RoomFault.{RoomFault}
@@ -8,16 +8,18 @@ use Rattle.cost_core.specs.declared.fault.WindowFault.TheVariants.{NoRoomBefore,
 use Rattle.cost_core.specs.Targets.{Reach, reach_of}
 use Rattle.cost_core.specs.Windows.{cue_at}
 
--- how many bits beyond its cues the target of the bridge after cue i reads
+-- the number of bits beyond its cues that the target of the bridge after cue i reads
 abbrev pub reach_at : SpliceContent → ℕ → Reach
 reach_at splice i = reach_of (cue_at splice i).target (length splice.weights) (cue_at splice i).bridge
 
--- the bridge after cue i has room, where the take of cue i has so many bits: what its target reads stands before the next cue in its take, and after cue i in its own
+-- the bridge after cue i has room, if the take of cue i has `count` bits: what its target reads is in the takes, before
+-- the next cue and after cue i
 pub record HasRoom (splice : SpliceContent) (i count : ℕ) : Type 0 where
   pub before : (reach_at splice i).before ≤ (cue_at splice (i + 1)).start
   pub after : (cue_at splice i).stop + (reach_at splice i).after ≤ count
 
--- the bridge after cue i can be made where that cue ends at place `stop` of some bits a, and the next one begins at place `start` of some bits b: what its target and its weights read stands there
+-- the bridge after cue i can be made, if that cue ends at place `stop` of some bits a, and the next one begins at place
+-- `start` of some bits b: these hold what its target and its weights read
 pub record CanBridge (splice : SpliceContent) (i : ℕ) (a : List Bool) (stop : ℕ) (b : List Bool) (start : ℕ) : Type 0 where
   pub stop_in : stop ≤ 2 ^ 36
   pub start_in : start ≤ 2 ^ 36
@@ -33,7 +35,7 @@ first_fault splice i count =
     if nat_lt (cue_at splice (i + 1)).start reach.before then Some rooms.NoRoomBefore
     else (if nat_lt count ((cue_at splice i).stop + reach.after) then Some rooms.NoRoomAfter else None)
 
--- the missing room that a fault names: none where memory ran out
+-- the missing room that a fault names; none if memory ran out
 abbrev pub named : WindowFault → Option RoomFault
 named NoRoomBefore = Some rooms.NoRoomBefore
 named NoRoomAfter = Some rooms.NoRoomAfter

@@ -1,4 +1,4 @@
--- The least of all lists of so many bits, and which of several least ones is first.
+-- The least of all lists of n bits, and which of several least ones is first.
 use Rattle.std.specs.Prelude.{◌≡◌, ℕ, ◌≤◌, Bool, true, false, List, [], ◌∷◌, length, reverse}
 
 -- x does not come after y in dictionary order, 0 before 1
@@ -10,7 +10,7 @@ NotAfter (true ∷ xs) (false ∷ ys) = ⊥
 NotAfter (false ∷ xs) (false ∷ ys) = NotAfter xs ys
 NotAfter (true ∷ xs) (true ∷ ys) = NotAfter xs ys
 
--- x has so many bits, and no list of as many costs less
+-- x has n bits, and no list of n bits costs less
 pub record IsLeast (levels : ℕ) (cost : List Bool → ℕ) (x : List Bool) : Type 0 where
   pub long : length x ≡ levels
   pub least : (y : List Bool) → length y ≡ levels → cost x ≤ cost y

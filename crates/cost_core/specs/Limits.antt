@@ -19,7 +19,7 @@ greatest_sum = 4097 * 4096
 abbrev pub greatest_step : ℕ
 greatest_step = (2 * greatest_sum) * (2 * greatest_sum)
 
--- a fade of so many bits can be made, from the end `stop` of a cue in the take a to the start of a cue in the take b
+-- a fade of n bits can be made, from the end `stop` of a cue in the take a to the start of a cue in the take b
 pub record CanFade (weights : List ℤ) (a : List Bool) (stop : ℕ) (b : List Bool) (start levels : ℕ) : Type 0 where
   pub weights_in : AreWeights weights
   pub levels_in : levels ≤ 4096

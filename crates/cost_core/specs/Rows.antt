@@ -6,7 +6,7 @@ use Rattle.std.specs.Simd.Lanes.{zip2}
 abbrev pub sums : List ℕ → List ℕ → List ℕ
 sums = zip2 (λ a b. a + b)
 
--- where the second way costs less
+-- whether the second way costs less
 abbrev pub seconds : List ℕ → List ℕ → List Bool
 seconds = zip2 (λ x y. nat_lt y x)
 

@@ -10,11 +10,11 @@ use Rattle.cost_core.specs.Limits.{IsBridging}
 abbrev pub scaled : Bridging → ℕ → ℤ
 scaled d code = pos (d.levels + 1) *ℤ weighted_code d.weights code
 
--- the squared deviation at the place after a level, where the bits up to it are the digits of a number
+-- the squared deviation at the place after a level, if the bits up to it are the digits of a number
 unfoldable pub deviation : Bridging → ℕ → ℕ → ℕ
 deviation d level code = square (scaled d code -ℤ target d (level + 1))
 
--- the squared deviation at the place after a level, where the bits of state q stand before it and a bit at it
+-- the squared deviation at the place after a level, if it has a given bit and the bits before it are those of state q
 abbrev pub step_of : Bridging → ℕ → ℕ → Bool → ℕ
 step_of d level q bit = deviation d level (2 * q + digit bit)
 
@@ -39,7 +39,7 @@ step_row d level =
 abbrev pub tail_row : Bridging → List ℕ
 tail_row d = map (trellis_of d).tail (range_with_len 0 (2 ^ length d.preceding))
 
--- steps along a bridge's bits and the end where they lead add up to the sum over places
+-- the steps along a bridge's bits, and the end that they lead to, add up to the sum over places
 abbrev pub StepsAreCost : Type 0
 StepsAreCost = (d : Bridging) (x : List Bool) → IsBridging d → length x ≡ d.levels → cost (trellis_of d) x ≡ bridge_cost d x
 

@@ -24,7 +24,7 @@ digit true = 1
 abbrev pub newest : ℕ → Bool
 newest q = q % 2 == 1
 
--- the state that a bit leads to, of so many bits
+-- the state that a bit leads to, for states of `width` bits
 abbrev pub next : ℕ → ℕ → Bool → ℕ
 next width q bit = (2 * q + digit bit) % 2 ^ width
 
@@ -46,11 +46,11 @@ unfoldable pub steps : ℕ → (ℕ → ℕ → Bool → ℕ) → ℕ → ℕ �
 steps width step level q [] = 0
 steps width step level q (bit ∷ x) = step level q bit + steps width step (level + 1) (next width q bit) x
 
--- the cost of some bits from a level and a state on: their steps, and the end where they lead
+-- the cost of some bits from a level and a state on: their steps, and the end that they lead to
 unfoldable pub cost_from : Trellis → ℕ → ℕ → List Bool → ℕ
 cost_from t level q x = steps t.width t.step level q x + t.tail (state_after t.width q x)
 
--- the cost of a bridge's bits: their steps from the start, and the end where they lead
+-- the cost of a bridge's bits: their steps from the start, and the end that they lead to
 unfoldable pub cost : Trellis → List Bool → ℕ
 cost t x = cost_from t 0 t.start x
 

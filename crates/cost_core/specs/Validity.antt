@@ -18,7 +18,7 @@ abbrev pub LeastFromValid : Type 0
 LeastFromValid =
     (d : Bridging) (bound : ℕ → ℕ → ℕ) (c : ℕ) (x : List Bool) → IsBridging d → length x ≡ d.levels → IsValid (trellis_of d) bound c x → IsLeastBridge d x
 
--- law: a valid table stays valid where each bound above c becomes c
+-- law: a valid table stays valid if each bound above c becomes c
 abbrev pub CutIsValid : Type 0
 CutIsValid =
     (t : Trellis) (bound : ℕ → ℕ → ℕ) (c : ℕ) (x : List Bool) → IsValid t bound c x → IsValid t (λ level q. min (bound level q) c) c x

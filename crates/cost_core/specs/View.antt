@@ -1,4 +1,4 @@
--- What a `Window` stands for.
+-- What a `Window` means.
 use Rattle.std.specs.Prelude.{◌≡◌, ◌+◌, ◌^◌, map, length}
 use Rattle.std.specs.List.{range_with_len}
 use Rattle.cost_core.specs.declared.window.Window.TheInside.{Inside}

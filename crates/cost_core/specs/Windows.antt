@@ -14,7 +14,8 @@ cue_at splice i = slice_index_or splice.cues i (record { take = 0; start = 0; st
 abbrev pub cued : SpliceContent → ℕ → List Bool → List Bool
 cued splice i a = slice_range a (cue_at splice i).start (cue_at splice i).stop
 
--- the bridge after cue i, where that cue ends at place `stop` of some bits a, and the next one begins at place `start` of some bits b: the last bits before it and the first after it that a weight reads, and the targets of its places
+-- the bridge after cue i, if that cue ends at place `stop` of some bits a, and the next one begins at place `start` of
+-- some bits b: the last bits before it and the first after it that a weight reads, and the targets of its places
 abbrev pub bridging_at : SpliceContent → ℕ → List Bool → ℕ → List Bool → ℕ → Bridging
 bridging_at splice i a stop b start =
     let cue = cue_at splice i in

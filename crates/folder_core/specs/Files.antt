@@ -15,7 +15,7 @@ pub record View : Type 0 where
   pub file : Files
   pub keeps_old : Bool
 
--- of a folder that tells nothing, nothing is known
+-- a folder of which nothing is known
 abbrev pub untold : View
 untold = record { is_told = false; given = λ time name. None; file = λ name. None; keeps_old = false }
 
@@ -23,7 +23,7 @@ untold = record { is_told = false; given = λ time name. None; file = λ name. N
 abbrev pub Gives : View → List ℕ → List ℕ → Type 0
 Gives view name bytes = (time : ℕ) × (view.given time name ≡ Some bytes)
 
--- bytes were read of a name: where the folder has known bytes, an opening of the name gives them
+-- bytes were read of a name: if the folder's bytes are known, an opening of the name gives them
 abbrev pub IsReadOf : View → List ℕ → List ℕ → Type 0
 IsReadOf view name bytes = IsTrue view.is_told → Gives view name bytes
 
@@ -31,11 +31,11 @@ IsReadOf view name bytes = IsTrue view.is_told → Gives view name bytes
 abbrev pub AreReadOf : View → List (List ℕ) → List (List ℕ) → Type 0
 AreReadOf view names files = AllZip (IsReadOf view) names files
 
--- where the folder has known bytes, a reader has those left that an opening of the name gives
+-- if the folder's bytes are known, a reader has those left that an opening of the name gives
 abbrev pub IsGiven : View → List ℕ → Option (List ℕ) → Type 0
 IsGiven view name left = IsTrue view.is_told → (bytes : List ℕ) × Gives view name bytes × (left ≡ Some bytes)
 
--- where the folder has known bytes, these were put under a name
+-- if the folder's bytes are known, these were put under a name
 abbrev pub IsPut : View → List ℕ → List ℕ → Type 0
 IsPut view name bytes = IsTrue view.is_told → view.file name ≡ Some bytes
 
@@ -53,7 +53,7 @@ KeepsAllBut name second old new = (other : List ℕ) → other ≢ name → othe
 abbrev pub HadNone : List ℕ → View → Type 0
 HadNone name old = IsTrue old.keeps_old → old.file name ≡ None
 
--- under a name is what was there, or what is known of a file that was given up; that only where no old file had to be kept
+-- a name has what it had, or what is known of a file that was given up; the latter only if no old file had to be kept
 abbrev pub IsGivenUp : List ℕ → View → View → Option (List ℕ) → Type 0
 IsGivenUp name old new held = (new.file name ≡ old.file name) ⊎ ((new.file name ≡ held) × HadNone name old)
 
@@ -69,7 +69,7 @@ pub record HoldsPrefix (name : List ℕ) (old new : View) (bytes : List ℕ) : T
   pub stands : new.file name ≡ Some prefix
   pub had_none : HadNone name old
 
--- where the folder has known bytes, a file is as it was, or holds a prefix of some bytes where no old file had to be kept
+-- if the folder's bytes are known, a file is unchanged, or holds a prefix of some bytes and no old file had to be kept
 abbrev pub IsFront : List ℕ → View → View → List ℕ → Type 0
 IsFront name old new bytes = IsTrue old.is_told → (new.file name ≡ old.file name) ⊎ HoldsPrefix name old new bytes
 

@@ -1,4 +1,4 @@
--- What a project's fault is where its decimator is refused.
+-- Which fault a project has if its decimator is refused.
 use Rattle.fir_core.specs.declared.fault.TapsFault.{TapsFault}
 use Rattle.fir_core.specs.declared.fault.TapsFault.TheVariants.{TapNumber, TapSum, Factor, Delay, Shift, Width, Memory}
 use Rattle.project_core.specs.declared.key.Key.TheVariants as keys

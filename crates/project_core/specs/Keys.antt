@@ -3,7 +3,7 @@ use Rattle.std.specs.Prelude.{ℕ, List, [], ◌∷◌, codes}
 use Rattle.project_core.specs.declared.key.Key.{Key}
 use Rattle.project_core.specs.declared.key.Key.TheVariants.{Decimate, Taps, Factor, Delay, Shift, Width, Splice, Weights, Takes, Cue, Take, Start, Stop, Bridge, Target, Line, Title}
 
--- a key as it stands in a text
+-- a key as a text spells it
 unfoldable pub name_of : Key → List ℕ
 name_of Decimate = codes "decimate"
 name_of Taps = codes "taps"

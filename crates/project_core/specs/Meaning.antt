@@ -1,4 +1,4 @@
--- What a project text says, with no order of reading.
+-- What a project text says, without an order of reading.
 use Rattle.std.specs.Prelude.{◌≡◌, ℕ, ℤ, List, [], ◌∷◌, map, length, Option, Some, None, codes, option_map, ◌⊎◌}
 use Rattle.std.specs.List.{AllZip}
 use Rattle.toml.specs.Data.{Data, string, array, table, Members, get_member}
@@ -13,7 +13,7 @@ use Rattle.splice_core.specs.Cues.{CueContent, IsCueWithin, IsSplicing}
 use Rattle.splice_core.specs.Splices.{SpliceContent}
 use Rattle.project_core.specs.Projects.{ProjectContent}
 
--- a table says this decimator
+-- a table describes this decimator
 pub record IsDecimate (t : Members) (d : Decimator) : Type 0 where
   pub no_others : FindsOnly decimate_keys t
   pub taps : Has t keys.Taps (numbers d.taps)
@@ -28,12 +28,13 @@ abbrev pub target_name : Target → List ℕ
 target_name Fade = codes "fade"
 target_name (Line a b) = codes "line"
 
--- the two ends of a line, where the target is one
+-- the two ends of a line, if the target is one
 abbrev pub ends_of : Target → Option (List ℤ)
 ends_of Fade = None
 ends_of (Line a b) = Some (a ∷ b ∷ [])
 
--- a table says this cue, among so many weights and takes; without a bridge it is a plain cut, and without a target its target is the fade
+-- a table describes this cue, for a number of weights and of takes; without a bridge it is a plain cut, and without a
+-- target its target is the fade
 pub record IsCue (weights takes : ℕ) (t : Members) (c : CueContent) : Type 0 where
   pub no_others : FindsOnly cue_keys t
   pub take : Has t keys.Take (number c.take)
@@ -45,7 +46,7 @@ pub record IsCue (weights takes : ℕ) (t : Members) (c : CueContent) : Type 0 w
   pub title : get_member (name_of keys.Title) t ≡ option_map string c.title
   pub limits : IsCueWithin weights takes c
 
--- a table says this splice: weights, the names of takes, and a table for each cue
+-- a table describes this splice: weights, the names of takes, and a table for each cue
 pub record IsSplice (t : Members) (s : SpliceContent) : Type 0 where
   pub no_others : FindsOnly splice_keys t
   pub weights : Has t keys.Weights (numbers s.weights)
@@ -53,19 +54,19 @@ pub record IsSplice (t : Members) (s : SpliceContent) : Type 0 where
   pub cues : (ts : List Members) × Has t keys.Cue (array (items_of (map table ts))) × AllZip (IsCue (length s.weights) (length s.takes)) ts s.cues
   pub limits : IsSplicing s.weights (length s.takes) s.cues
 
--- nothing says nothing, and a value is a table that says P of what is there
+-- no value means nothing; a value must be a table, of which P holds with what is there
 abbrev pub SaysOptional : {A : Type 0} → (Members → A → Type 0) → Option Data → Option A → Type 0
 SaysOptional P None None = Unit {0}
 SaysOptional P None (Some x) = ⊥
 SaysOptional P (Some d) None = ⊥
 SaysOptional P (Some d) (Some x) = (t : Members) × (d ≡ table t) × P t x
 
--- a document says this project: each of its two tables is there exactly where the project has it
+-- a document describes this project: each of its two tables is there exactly if the project has it
 pub record IsProjectTable (t : Members) (p : ProjectContent) : Type 0 where
   pub no_others : FindsOnly top_keys t
   pub decimate : SaysOptional IsDecimate (get_member (name_of keys.Decimate) t) p.decimate
   pub splice : SaysOptional IsSplice (get_member (name_of keys.Splice) t) p.splice
 
--- the bytes are a text that says this project
+-- the bytes are a text that describes this project
 abbrev pub IsProject : List ℕ → ProjectContent → Type 0
 IsProject bytes p = (t : Members) × (table_in bytes ≡ Some t) × IsProjectTable t p

@@ -9,7 +9,7 @@ use Rattle.project_core.specs.Keys.{name_of}
 use Rattle.project_core.specs.Steps.{◌>>=◌, each}
 use Rattle.project_core.specs.Tables.{has_only, list_of}
 
--- the value at a key that the table has to have
+-- the value at a key that the table must have
 unfoldable pub value_at : Key → Members → Result Data ProjectFault
 value_at key table = ok_or (get_member (name_of key) table) (MissingKey key)
 
@@ -45,7 +45,7 @@ fits_i32 (negsuc n) = nat_lt n (2 ^ 31)
 abbrev pub signed_of : Key → ℤ → Result ℤ ProjectFault
 signed_of key z = if fits_i32 z then Ok z else Err (OutOfLimit key)
 
--- a number that isn't negative and lies below a bound
+-- a number that isn't negative and is below a bound
 abbrev pub below : ℕ → ℤ → Option ℕ
 below bound (pos n) = if nat_lt n bound then Some n else None
 below bound (negsuc n) = None

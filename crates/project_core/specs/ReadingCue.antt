@@ -20,7 +20,7 @@ take_at number takes table = do
   z ← integer_of keys.Take d
   ok_or (below takes z) (NoTake number)
 
--- the length of a bridge, 0 where it isn't told
+-- the length of a bridge, 0 if it isn't given
 abbrev pub bridge_of : Option Data → Result ℕ ProjectFault
 bridge_of None = Ok 0
 bridge_of (Some d) = do
@@ -31,7 +31,7 @@ bridge_of (Some d) = do
 unfoldable pub bridge_at : Members → Result ℕ ProjectFault
 bridge_at table = bridge_of (get_member (name_of keys.Bridge) table)
 
--- the name of a target, that of the fade where it isn't told
+-- the name of a target, that of the fade if it isn't given
 abbrev pub target_name_of : Option Data → Result (List ℕ) ProjectFault
 target_name_of None = Ok (codes "fade")
 target_name_of (Some d) = text_of keys.Target d
@@ -54,13 +54,13 @@ abbrev pub line_of : List ℤ → Result Target ProjectFault
 line_of (a ∷ b ∷ []) = if is_end a && is_end b then Ok (Line a b) else Err (OutOfLimit keys.Line)
 line_of zs = Err (OutOfLimit keys.Line)
 
--- the line whose ends are told at `line`
+-- the line whose ends are given at `line`
 unfoldable pub line_at : Members → Result Target ProjectFault
 line_at table = do
   zs ← integers_at keys.Line table
   line_of zs
 
--- the fade, where nothing is told at `line`
+-- the fade, if nothing is given at `line`
 unfoldable pub fade_at : Members → Result Target ProjectFault
 fade_at table = fade_of (get_member (name_of keys.Line) table)
 
@@ -86,7 +86,7 @@ title_of d = do
 unfoldable pub title_at : Members → Result (Option (List ℕ)) ProjectFault
 title_at table = optional title_of (get_member (name_of keys.Title) table)
 
--- the cue that a value is, with so many weights and takes, under its number
+-- the cue that a value describes, for a number of weights and of takes, under its number
 unfoldable pub cue_of : ℕ → ℕ → ℕ → Data → Result CueContent ProjectFault
 cue_of weights takes number d = do
   table ← table_of keys.Cue cue_keys d

@@ -4,7 +4,7 @@ use Rattle.project_core.specs.declared.fault.ProjectFault.{ProjectFault}
 use Rattle.project_core.specs.declared.fault.ProjectFault.TheVariants.{Memory}
 
 infixl 10 ◌>>=◌
--- what follows a value, where there is one
+-- what follows a value, if there is one
 abbrev pub ◌>>=◌ : {A B : Type 0} → Result A ProjectFault → (A → Result B ProjectFault) → Result B ProjectFault
 (Ok x) >>= f = f x
 (Err e) >>= f = Err e
@@ -14,7 +14,7 @@ abbrev pub Fails : {Y : Type 0} → ProjectFault → Result Y ProjectFault → T
 Fails Memory reading = Unit {0}
 Fails e reading = reading ≡ Err e
 
--- what a function returned, its value seen by view, is the reading, unless memory ran out
+-- what a function returned, its value as `view` shows it, is the reading, unless memory ran out
 abbrev pub Gives : {X Y : Type 0} → (X → Y) → Result X ProjectFault → Result Y ProjectFault → Type 0
 Gives view (Ok x) reading = reading ≡ Ok (view x)
 Gives view (Err e) reading = Fails e reading

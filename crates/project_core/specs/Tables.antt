@@ -20,7 +20,7 @@ is_among keys name = list_any (λ k. bytes_eq (name_of k) name) keys
 abbrev pub FindsOnly : List Key → Members → Type 0
 FindsOnly keys t = (name : List ℕ) → IsSome (get_member name t) → IsTrue (is_among keys name)
 
--- each member of the table stands at one of these keys
+-- each member of the table is at one of these keys
 abbrev pub has_only : List Key → Members → Bool
 has_only keys no_members = true
 has_only keys (member name d rest) = is_among keys name && has_only keys rest

@@ -27,7 +27,7 @@ pub record IsLine (a b : ℤ) : Type 0 where
 abbrev pub IsTarget : Target → Type 0
 IsTarget target = (a b : ℤ) → target ≡ Line a b → IsLine a b
 
--- the limits of a cue among so many weights and takes
+-- the limits of a cue, for a number of weights and of takes
 pub record IsCueWithin (weights takes : ℕ) (c : CueContent) : Type 0 where
   pub take_is_there : c.take < takes
   pub start_fits : c.start ≤ 2 ^ 36
@@ -43,7 +43,7 @@ pub record AreWeights (weights : List ℤ) : Type 0 where
   pub few_weights : length weights ≤ 12
   pub small_sum : sum_by unsigned_abs weights ≤ 4096
 
--- the bridge of a cue, and 0 where there is none
+-- the bridge of a cue, or 0 if there is none
 abbrev pub bridge_or : Option CueContent → ℕ
 bridge_or None = 0
 bridge_or (Some c) = c.bridge
@@ -52,7 +52,7 @@ bridge_or (Some c) = c.bridge
 abbrev pub last_bridge : List CueContent → ℕ
 last_bridge cues = bridge_or (slice_get cues (length cues - 1))
 
--- the limits of a splice with so many takes
+-- the limits of a splice, for a number of takes
 pub record IsSplicing (weights : List ℤ) (takes : ℕ) (cues : List CueContent) : Type 0 where
   pub weights_fit : AreWeights weights
   pub some_takes : 1 ≤ takes

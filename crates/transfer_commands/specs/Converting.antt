@@ -1,4 +1,4 @@
--- What a folder comes to where one of its files is converted to another.
+-- How a folder changes if one of its files is converted to another.
 use Rattle.std.specs.Prelude.{◌≡◌, ℕ, List, IsTrue, ◌⊎◌, Result, Ok, Err}
 use Rattle.transfer_core.specs.declared.fault.Fault as calls
 use Rattle.transfer_core.specs.declared.fault.Fault.TheVariants.{Memory}
@@ -9,7 +9,8 @@ use Rattle.folder_core.specs.Files.{HadNone, IsFront, IsPut, IsReadOf, KeepsOthe
 use Rattle.transfer_commands.specs.declared.fault.CommandFault.{CommandFault}
 use Rattle.transfer_commands.specs.declared.fault.CommandFault.TheVariants.{Call, ReadFailed, WriteFailed}
 
--- the output holds now what bytes that were read of a recording's file are converted to, without so many parts of it; no other file changed
+-- the output now holds what bytes that were read of a recording's file are converted to, which leaves out `dropped`
+-- parts of it; no other file changed
 pub record ConvertsFile (form : Form) (file_name output_name : List ℕ) (old new : View) (dropped : ℕ) : Type 0 where
   pub file : List ℕ
   pub bytes : List ℕ
@@ -18,11 +19,12 @@ pub record ConvertsFile (form : Form) (file_name output_name : List ℕ) (old ne
   pub others : KeepsOthers output_name old new
   pub converts : Converts file form bytes dropped
 
--- the output is as it was, or no old file had to be kept
+-- the output is unchanged, or no old file had to be kept
 abbrev pub KeepsOld : List ℕ → View → View → Type 0
 KeepsOld name old new = IsTrue old.is_told → (new.file name ≡ old.file name) ⊎ HadNone name old
 
--- the output is as it was, or holds a prefix of what bytes that were read of a recording's file are converted to, if those that were read of it last are the same; an old output is kept, and no other file changed
+-- the output is unchanged, or holds a prefix of what bytes that were read of a recording's file are converted to, if
+-- the bytes of the last reading are the same; an old output is kept, and no other file changed
 pub record ConvertsFront (form : Form) (file_name output_name : List ℕ) (old new : View) : Type 0 where
   pub file : List ℕ
   pub last : List ℕ
@@ -35,17 +37,17 @@ pub record ConvertsFront (form : Form) (file_name output_name : List ℕ) (old n
   pub kept : KeepsOld output_name old new
   pub others : KeepsOthers output_name old new
 
--- this fault comes first where bytes that were read of a recording's file are converted
+-- this is the first fault of converting bytes that were read of a recording's file
 pub record IsUnconverted (form : Form) (file_name : List ℕ) (old : View) (fault : calls.Fault) : Type 0 where
   pub file : List ℕ
   pub file_read : IsReadOf old file_name file
   pub first : Fails Memory fault (converted_of file form)
 
--- nothing changed, or the output holds a prefix at most
+-- nothing changed, or the output holds at most a prefix
 abbrev pub ConvertsInPart : Form → List ℕ → List ℕ → View → View → Type 0
 ConvertsInPart form input output old new = (new ≡ old) ⊎ ConvertsFront form input output old new
 
--- the folder before and after the input was converted to the output came to this
+-- how converting the input to the output changes the folder
 abbrev pub ConvertComesTo : Form → List ℕ → List ℕ → View → View → Result ℕ CommandFault → Type 0
 ConvertComesTo form input output old new (Ok dropped) = ConvertsFile form input output old new dropped
 ConvertComesTo form input output old new (Err (Call Memory)) = ConvertsInPart form input output old new

@@ -1,4 +1,4 @@
--- What a splice hears of the files of its takes, under their names.
+-- What a splice reads of the files of its takes, under their names.
 use Rattle.std.specs.Prelude.{◌≡◌, ℕ, List, IsTrue, Option, Result, Some, None, Vec, ⊤, length}
 use Rattle.std.specs.declared.alloc.Global.{Global}
 use Rattle.dsd_bits.specs.Contents.{Content}
@@ -14,47 +14,48 @@ use Rattle.transfer_core.specs.Projects.{SaysSplice}
 use Rattle.folder_core.specs.Files.{AreReadOf, Gives, IsReadOf, View}
 use Rattle.transfer_commands.specs.Sources.{AreSources}
 
--- the file holds a recording, the take of a number, and this is what a splice hears of it
+-- the file holds a recording, the take of a number, and this is what a splice reads of it
 pub record HearsHeld (splice : SpliceContent) (number : ℕ) (file : List ℕ) (heard : Heard) : Type 0 where
   pub recording : Content
   pub holds : HoldsSome file recording
   pub shape : HasShape recording
   pub is_heard : heard_content heard ≡ heard_of splice number recording
 
--- this was heard of a file in one pass, or nothing, and the file holds no recording
+-- this was read of a file in one pass; or nothing, and the file doesn't hold a recording
 abbrev pub IsHeardIn : SpliceContent → ℕ → List ℕ → Option Heard → Type 0
 IsHeardIn splice number file (Some heard) = HearsHeld splice number file heard
 IsHeardIn splice number file None = IsRefused file
 
--- some bytes hold what was heard
+-- some bytes hold what was read
 abbrev pub IsHeardInSome : SpliceContent → ℕ → Option Heard → Type 0
 IsHeardInSome splice number (Some heard) = (file : List ℕ) × HearsHeld splice number file heard
 IsHeardInSome splice number None = ⊤
 
--- this was heard of bytes that were read of a name, in one pass
+-- this was read, in one pass, of bytes of a name
 pub record StreamsRead (old : View) (splice : SpliceContent) (number : ℕ) (name : List ℕ) (heard : Heard) : Type 0 where
   pub file : List ℕ
   pub file_read : IsReadOf old name file
   pub is_heard : HearsHeld splice number file heard
 
--- the same, or nothing: where the folder has known bytes, an opening of the name gives no recording
+-- the same, or nothing: then, if the folder's bytes are known, an opening of the name gives no recording
 abbrev pub StreamsFile : View → SpliceContent → ℕ → List ℕ → Option Heard → Type 0
 StreamsFile old splice number name (Some heard) = StreamsRead old splice number name heard
 StreamsFile old splice number name None = IsTrue old.is_told → (file : List ℕ) × Gives old name file × IsRefused file
 
--- this was heard of bytes that were read of a name, the take of a number, or is their fault
+-- this was read of bytes of a name, the take of a number, or is their fault
 pub record HearsFile (old : View) (splice : SpliceContent) (number : ℕ) (name : List ℕ) (heard : Result Heard CutFault) : Type 0 where
   pub file : List ℕ
   pub file_read : IsReadOf old name file
   pub hears : HearsTake splice number heard (take_in number file)
 
--- this was heard of bytes that were read of these names, the first takes, or is the first fault of what they hold
+-- this was read of bytes of these names, the first takes, or is the first fault of what they hold
 pub record HearsFiles (old : View) (splice : SpliceContent) (names : List (List ℕ)) (heard : Result (Vec Heard Global) CutFault) : Type 0 where
   pub files : List (List ℕ)
   pub read : AreReadOf old names files
   pub hears : HearsTakes splice heard (takes_before files (length files))
 
--- a text that was read of the project says this splice, and this was heard of bytes that were read of the takes that it names, or is the first fault of what they hold
+-- a text that was read of the project describes this splice, and this was read of bytes of the takes that it names, or
+-- is the first fault of what they hold
 pub record HearsSources (project_name : List ℕ) (old : View) (splice : SpliceContent) (heard : Result (Vec Heard Global) CutFault) : Type 0 where
   pub project : List ℕ
   pub takes : List (List ℕ)

@@ -8,7 +8,7 @@ use Rattle.folder_core.specs.Files.{Gives, IsReadOf, View}
 use Rattle.transfer_commands.specs.declared.fault.CommandFault.{CommandFault}
 use Rattle.transfer_commands.specs.declared.fault.CommandFault.TheVariants.{Call, ReadFailed}
 
--- the file is some sound in these surroundings, which tell what it holds
+-- the file is this outline with some sound, and the outline describes what it holds
 pub record IsOutlined (file : List ℕ) (outline : Outline) : Type 0 where
   pub told : AreTold (around_of outline)
   pub around : AreAround (around_of outline) file
@@ -19,7 +19,7 @@ pub record OutlinesRead (file_name : List ℕ) (old : View) (outline : Outline) 
   pub file_read : IsReadOf old file_name file
   pub is_outline : IsOutlined file outline
 
--- the same, or there is none: where the folder has known bytes, an opening of the name gives no recording
+-- the same, or there is none: then, if the folder's bytes are known, an opening of the name gives no recording
 abbrev pub OutlinesFile : List ℕ → View → Option Outline → Type 0
 OutlinesFile file_name old (Some outline) = OutlinesRead file_name old outline
 OutlinesFile file_name old None = IsTrue old.is_told → (file : List ℕ) × Gives old file_name file × IsRefused file

@@ -1,4 +1,4 @@
--- What a folder comes to where one of its files is played to another.
+-- How a folder changes if one of its files is played to another.
 use Rattle.std.specs.Prelude.{◌≡◌, ℕ, List, [], ◌++◌, length, IsTrue, Option, Some, ◌⊎◌, Result, Ok, Err}
 use Rattle.transfer_core.specs.declared.fault.Fault as calls
 use Rattle.transfer_core.specs.declared.fault.Fault.TheVariants.{Memory}
@@ -8,7 +8,8 @@ use Rattle.folder_core.specs.Files.{Gives, HadNone, IsPut, IsReadOf, KeepsOthers
 use Rattle.transfer_commands.specs.declared.fault.CommandFault.{CommandFault}
 use Rattle.transfer_commands.specs.declared.fault.CommandFault.TheVariants.{Call, ReadFailed, WriteFailed}
 
--- the output holds so many bytes now, which are what bytes that were read of the project play of those that were read of a recording's file; no other file changed
+-- the output now holds `count` bytes, which bytes that were read of the project play of those that were read of a
+-- recording's file; no other file changed
 pub record PlaysFiles (project_name file_name output_name : List ℕ) (old new : View) (count : ℕ) : Type 0 where
   pub project : List ℕ
   pub file : List ℕ
@@ -20,36 +21,38 @@ pub record PlaysFiles (project_name file_name output_name : List ℕ) (old new :
   pub plays : Plays project file bytes
   pub counted : count ≡ length bytes
 
--- a file that was given up holds a prefix of what project and file play, where they do, and nothing where the fault comes before the first write
+-- a file that was given up holds a prefix of what project and file play, if they play anything, and nothing if the
+-- fault comes before the first write
 pub record HoldsPlayed (project file : List ℕ) (fault : calls.Fault) (held : Option (List ℕ)) : Type 0 where
   pub prefix : (bytes : List ℕ) → Plays project file bytes → (prefix : List ℕ) × (rest : List ℕ) × (held ≡ Some prefix) × (bytes ≡ prefix ++ rest)
   pub none : IsBeforeWriting fault → held ≡ Some []
 
--- the output is as it was, or no old one had to be kept and it holds such a prefix
+-- the output is unchanged, or no old one had to be kept and it holds such a prefix
 abbrev pub LeavesFront : List ℕ → List ℕ → calls.Fault → List ℕ → View → View → Type 0
 LeavesFront project file fault output old new = (new.file output ≡ old.file output) ⊎ (HoldsPlayed project file fault (new.file output) × HadNone output old)
 
--- a fault ended the playing of a file, and is so; a file that is played is refused for memory, a device or the number of reads alone
+-- a fault ended the playing of a file, and it is right; a file that can be played is refused only for memory, a device
+-- or the number of reads
 pub record EndsPlaying (project file output_name : List ℕ) (old new : View) (fault : calls.Fault) : Type 0 where
   pub stands : StreamStands (Some file) project fault
   pub outside : OnlyFromOutside (Some file) project fault
   pub front : LeavesFront project file fault output_name old new
 
--- the same of bytes that openings of the project and of a file give, where the folder has known bytes
+-- the same for bytes that openings of the project and of a file give, if the folder's bytes are known
 pub record LeavesOutput (project_name file_name output_name : List ℕ) (old new : View) (fault : calls.Fault) : Type 0 where
   pub project : List ℕ
   pub project_read : IsReadOf old project_name project
   pub ended : IsTrue old.is_told → (file : List ℕ) × Gives old file_name file × EndsPlaying project file output_name old new fault
   pub others : KeepsOthers output_name old new
 
--- a file that was opened under a name is played to an empty one and came to this: it is handed back, or given up after a fault
+-- how playing a file that was opened under a name to an empty one ends: it is handed back, or given up after a fault
 abbrev pub PlayedComesTo : List ℕ → List ℕ → List ℕ → View → View → Result ℕ CommandFault → Type 0
 PlayedComesTo project input output old new (Ok count) = (file : List ℕ) × (bytes : List ℕ) × IsReadOf old input file × IsPut new output bytes × Plays project file bytes × (count ≡ length bytes) × KeepsOthers output old new
 PlayedComesTo project input output old new (Err (Call fault)) = (IsTrue old.is_told → (file : List ℕ) × Gives old input file × EndsPlaying project file output old new fault) × KeepsOthers output old new
 PlayedComesTo project input output old new (Err WriteFailed) = KeepsOthers output old new × (new.file output ≡ old.file output)
 PlayedComesTo project input output old new (Err ReadFailed) = ⊥
 
--- the folder before and after the input was played to the output by the project came to this
+-- how playing the input to the output by the project changes the folder
 abbrev pub PlayComesTo : List ℕ → List ℕ → List ℕ → View → View → Result ℕ CommandFault → Type 0
 PlayComesTo project input output old new (Ok count) = PlaysFiles project input output old new count
 PlayComesTo project input output old new (Err (Call fault)) = ((new ≡ old) × (fault ≡ Memory)) ⊎ LeavesOutput project input output old new fault

@@ -15,7 +15,7 @@ pub record AreSources (project_name : List ℕ) (old : View) (project : List ℕ
   pub names_said : SaysTakes project names
   pub takes_read : AreReadOf old names takes
 
--- this fault comes first where the takes are asked for that a text names which was read of the project
+-- this is the first fault of listing the takes that a text names which was read of the project
 pub record IsUnnamed (project_name : List ℕ) (old : View) (fault : calls.Fault) : Type 0 where
   pub project : List ℕ
   pub project_read : IsReadOf old project_name project

@@ -1,4 +1,4 @@
--- What is told of a file of a folder.
+-- What is reported of a file of a folder.
 use Rattle.std.specs.Prelude.{◌≡◌, ℕ, List, ◌⊎◌, Result, Ok, Err}
 use Rattle.transfer_core.specs.declared.fault.Fault as calls
 use Rattle.transfer_core.specs.declared.fault.Fault.TheVariants.{Memory}
@@ -12,13 +12,13 @@ use Rattle.transfer_commands.specs.declared.telling.Told.{Told}
 use Rattle.transfer_commands.specs.declared.fault.CommandFault.{CommandFault}
 use Rattle.transfer_commands.specs.declared.fault.CommandFault.TheVariants.{Call, ReadFailed, WriteFailed}
 
--- the bytes are a file of the form that is told, and what is told is the recording that they hold, but for its bits
+-- the bytes are a file of the reported form, and hold a recording with the reported description
 pub record IsToldOf (file : List ℕ) (told : Told) : Type 0 where
   pub recording : Content
   pub holds : HoldsAs file told.form recording
   pub tells : told.description ≡ described recording
 
--- bytes that were read of the file hold what is told, and nothing changed
+-- bytes that were read of the file hold what is reported, and nothing changed
 pub record TellsFile (file_name : List ℕ) (old new : View) (told : Told) : Type 0 where
   pub file : List ℕ
   pub file_read : IsReadOf old file_name file
@@ -31,18 +31,18 @@ pub record IsUnopened (file : List ℕ) (fault : calls.Fault) : Type 0 where
   pub reading : Opens (Err cause) (opened_of file)
   pub named : fault ≡ fault_of_file cause
 
--- the same of a call's refusal
+-- the same for a call's refusal
 abbrev pub IsUntoldOf : List ℕ → CommandFault → Type 0
 IsUntoldOf file (Call fault) = IsUnopened file fault
 IsUntoldOf file _ = ⊥
 
--- bytes that were read of the file are no recording for this fault
+-- bytes that were read of the file can't be read as a recording, for this fault
 pub record IsUntold (file_name : List ℕ) (old : View) (fault : calls.Fault) : Type 0 where
   pub file : List ℕ
   pub file_read : IsReadOf old file_name file
   pub unopened : IsUnopened file fault
 
--- the folder before and after the file was told of came to this
+-- how reporting a file changes the folder
 abbrev pub TellComesTo : List ℕ → View → View → Result Told CommandFault → Type 0
 TellComesTo file old new (Ok told) = TellsFile file old new told
 TellComesTo file old new (Err (Call fault)) = (new ≡ old) × ((fault ≡ Memory) ⊎ IsUntold file old fault)

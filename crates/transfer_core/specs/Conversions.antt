@@ -1,4 +1,4 @@
--- What is converted from a reader to a writer, and which faults stand.
+-- What is converted from a reader to a writer, and which faults apply.
 use Rattle.std.specs.Prelude.{ℕ, List, Option, IfSome}
 use Rattle.std.specs.Io.KnownBytes.{Appends}
 use Rattle.chunk_core.specs.Outlets.{AppendsFront}
@@ -13,19 +13,21 @@ use Rattle.transfer_core.specs.declared.fault.Fault.TheVariants.{NotWholeBytes}
 use Rattle.transfer_core.specs.Converting.{Converts}
 use Rattle.transfer_core.specs.Faults.{OfStream}
 
--- whatever file stands there, what it is converted to was written, and so many parts of its recording are not in that
+-- if the reader's file is known, what it is converted to was written, and `dropped` parts of its recording are not in
+-- that
 abbrev pub ConvertsFile : Option (List ℕ) → Form → Option (List ℕ) → Option (List ℕ) → ℕ → Type 0
 ConvertsFile left form held_old held_new dropped = IfSome left (λ file. (bytes : List ℕ) × Converts file form bytes dropped × Appends held_old held_new bytes)
 
--- a reader that does not tell its bytes gave some, as many as were counted, and what they are converted to was written
+-- the reader returned some bytes, as many as were counted, and what they are converted to was written; this also holds
+-- if its bytes aren't known
 abbrev pub ConvertsGiven : {R : Type 0} → (R → Option (List ℕ)) → Inlet R → Inlet R → Form → Option (List ℕ) → Option (List ℕ) → ℕ → Type 0
 ConvertsGiven left old new form held_old held_new dropped = (read : List ℕ) × (bytes : List ℕ) × ReadsCapped left old new read × Converts read form bytes dropped × Appends held_old held_new bytes
 
--- whatever a file of these surroundings is converted to, a front of it was written
+-- a prefix of what any file with these bytes around its sound is converted to was written
 abbrev pub ConvertsFront : Option (List ℕ) → Surroundings → Form → Option (List ℕ) → Option (List ℕ) → Type 0
 ConvertsFront left o form held_old held_new = IfSome left (λ file. AreAround o file → (bytes : List ℕ) (dropped : ℕ) → Converts file form bytes dropped → AppendsFront held_old held_new bytes)
 
--- this fault stands: the channels end inside a byte, or it is one of what is relayed
+-- this fault applies: the channels end inside a byte, or it is one of re-interleaving
 abbrev pub ConversionStands : Option (List ℕ) → Surroundings → Form → Fault → Type 0
 ConversionStands left o form NotWholeBytes = FitsIn form o.sound.count → ⊥
 ConversionStands left o form fault = OfStream (IsRelayFault left o) fault

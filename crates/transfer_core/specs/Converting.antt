@@ -12,7 +12,8 @@ use Rattle.transfer_core.specs.declared.fault.Fault.TheVariants.{NotWholeBytes}
 use Rattle.transfer_core.specs.Faults.{fault_of_file}
 use Rattle.form_core.specs.Steps.{map_err}
 
--- the bytes are the file of the form that is written for the recording in a file, and so many parts of it are not in them
+-- the bytes are the file of the form that is written for the recording in a file, and `dropped` parts of it are not in
+-- them
 pub record Converts (file : List ℕ) (form : Form) (bytes : List ℕ) (dropped : ℕ) : Type 0 where
   pub source : Form
   pub recording : Content
@@ -20,7 +21,7 @@ pub record Converts (file : List ℕ) (form : Form) (bytes : List ℕ) (dropped 
   pub text : text_in form recording ≡ Some bytes
   pub dropped_is : dropped ≡ dropped_in form (described recording)
 
--- the same of an answer
+-- the same for what was returned
 abbrev pub IsConverted : List ℕ → Form → Converted → Type 0
 IsConverted file form made = Converts file form made.bytes.items made.dropped
 
@@ -34,11 +35,11 @@ pub record KeepsSound (file : List ℕ) (form : Form) (bytes : List ℕ) : Type 
   pub same_rate : after.rate ≡ before.rate
   pub same_channels : after.channels ≡ before.channels
 
--- the same of an answer
+-- the same for what was returned
 abbrev pub IsKept : List ℕ → Form → Converted → Type 0
 IsKept file form made = KeepsSound file form made.bytes.items
 
--- the bytes of an answer, and how many parts of the recording are not in them
+-- the returned bytes, and the number of parts of the recording that are not in them
 abbrev pub contents : Converted → List ℕ × ℕ
 contents made = (made.bytes.items, made.dropped)
 

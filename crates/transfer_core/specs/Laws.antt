@@ -1,4 +1,4 @@
--- Laws: whatever the relations of the calls say is what their readings in order come to.
+-- Laws: the relations of the calls hold of what their readings in order return.
 use Rattle.std.specs.Prelude.{◌≡◌, ℕ, List, Ok}
 use Rattle.form_core.specs.declared.form.Form.{Form}
 use Rattle.transfer_core.specs.Converting.{Converts, converted_of}

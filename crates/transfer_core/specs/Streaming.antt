@@ -1,4 +1,4 @@
--- What is played from a reader to a writer, and which faults stand.
+-- What is played from a reader to a writer, and which faults apply.
 use Rattle.std.specs.Prelude.{ℕ, ◌-◌, ◌<◌, ◌⊎◌, List, Option, IfSome, ⊤}
 use Rattle.dsd_bits.specs.declared.sound.Sound.{Sound}
 use Rattle.fir_core.specs.Decimator.{Decimator}
@@ -14,16 +14,17 @@ use Rattle.transfer_core.specs.Faults.{OfStream}
 use Rattle.transfer_core.specs.Playing.{Plays}
 use Rattle.transfer_core.specs.Projects.{SaysDecimator, decimator_of}
 
--- a file that is played is refused for memory, a device or the number of reads alone
+-- a file that can be played is refused only for memory, a device or the number of reads
 abbrev pub OnlyFromOutside : Option (List ℕ) → List ℕ → Fault → Type 0
 OnlyFromOutside left project fault = IfSome left (λ file. (bytes : List ℕ) → Plays project file bytes → OfStream streams.IsFromOutside fault)
 
--- where more than 131,072 bytes of the sound of a file that is played were given, what was written lags behind by no more of them: it holds the header, and each frame whose place stands in those before
+-- if more than 131,072 bytes of the sound of a file that can be played were read, what was written lags by at most that
+-- many: it holds the header, and each frame whose place is in the bytes before
 abbrev pub KeepsUp : Option (List ℕ) → List ℕ → ℕ → Option (List ℕ) → Option (List ℕ) → Type 0
 KeepsUp left project given held_old held_new = IfSome left (λ file. (bytes : List ℕ) (s : Sound) (plays : Plays project file bytes) → TellsSound file s → 131072 < sound_given s given
     → WritesFrames plays.decimator s (sound_given s given - 131072) bytes held_old held_new)
 
--- this fault stands: it is the first of the project and its decimator, or stands of a file that is played by that
+-- this fault applies: it is the first of the project and its decimator, or applies to a file that is played by that
 abbrev pub StreamStands : Option (List ℕ) → List ℕ → Fault → Type 0
 StreamStands left project fault = Fails Memory fault (decimator_of project) ⊎ OfStream (λ f. IfSome left (λ file. (d : Decimator) × SaysDecimator project d × Stands d file f)) fault
 
@@ -33,6 +34,6 @@ IsBeforeWriting (Project fault) = ⊤
 IsBeforeWriting NoDecimation = ⊤
 IsBeforeWriting fault = OfStream streams.IsBeforeWriting fault
 
--- the project says no decimator: it is refused, or has none
+-- the project describes no decimator: it is refused, or has none
 abbrev pub SaysNone : List ℕ → Type 0
 SaysNone project = (d : Decimator) → SaysDecimator project d → ⊥

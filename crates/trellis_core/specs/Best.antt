@@ -11,7 +11,7 @@ by_0 t level sum q = sum (before_by_0 t.width q) + t.step level (before_by_0 t.w
 abbrev pub by_1 : Trellis → ℕ → (ℕ → ℕ) → ℕ → ℕ
 by_1 t level sum q = sum (before_by_1 t.width q) + t.step level (before_by_1 t.width q) (newest q)
 
--- the lesser of 2 ^ 63 and the least sum of steps from the start to a state, in so many steps
+-- the lesser of 2 ^ 63 and the least sum of steps from the start to a state, in n steps
 unfoldable pub best : Trellis → ℕ → ℕ → ℕ
 best t zero q = if q == t.start then 0 else 2 ^ 63
 best t (suc level) q = min (2 ^ 63) (min (by_0 t level (best t level) q) (by_1 t level (best t level) q))
@@ -20,7 +20,7 @@ best t (suc level) q = min (2 ^ 63) (min (by_0 t level (best t level) q) (by_1 t
 unfoldable pub best_row : Trellis → ℕ → List ℕ
 best_row t level = map (best t level) (range_with_len 0 (states t))
 
--- the least sums of so many levels, from level 0 on
+-- the least sums of n levels, from level 0 on
 abbrev pub best_rows : Trellis → ℕ → List (List ℕ)
 best_rows t n = map (best_row t) (range_with_len 0 n)
 

@@ -8,7 +8,7 @@ use Rattle.trellis_core.specs.Best.{best, by_0, by_1}
 abbrev pub decision : Trellis → ℕ → ℕ → Bool
 decision t level q = nat_lt (by_1 t level (best t level) q) (by_0 t level (best t level) q)
 
--- how many bytes the decisions of a level take, of so many states
+-- the number of bytes that the decisions of a level take, for a number of states
 abbrev pub decision_bytes : ℕ → ℕ
 decision_bytes count = div_ceil count 8
 
@@ -16,7 +16,7 @@ decision_bytes count = div_ceil count 8
 abbrev pub AreDecisions : Trellis → ℕ → List ℕ → Type 0
 AreDecisions t level bytes = (q : ℕ) → q < states t → bit_at (slice_index bytes (q / 8)) (q % 8) ≡ digit (decision t level q)
 
--- bytes that hold the decisions of so many levels, one level after another
+-- bytes that hold the decisions of n levels, one level after another
 pub record AreAllDecisions (t : Trellis) (levels : ℕ) (bytes : List ℕ) : Type 0 where
   pub long : length bytes ≡ levels * decision_bytes (states t)
   pub each : (level q : ℕ) → level < levels → q < states t → bit_at (slice_index bytes (level * decision_bytes (states t) + q / 8)) (q % 8) ≡ digit (decision t level q)

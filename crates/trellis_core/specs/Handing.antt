@@ -1,4 +1,4 @@
--- Which rows of best sums a sink was handed.
+-- Which rows of best sums were handed to a sink.
 use Rattle.std.specs.Prelude.{ℕ, min, Bool, Option, List, ◌∷◌, ◌++◌, map}
 use Rattle.cost_core.specs.Limits.{IsBridging}
 use Rattle.cost_core.specs.Tables.{IsTable, value_in}
@@ -9,15 +9,15 @@ use Rattle.cost_core.specs.Trellis.{Trellis}
 use Rattle.cost_core.specs.Sinks.{HandsOver, HandsOverPart}
 use Rattle.trellis_core.specs.LeastSums.{BestRows}
 
--- those of all levels, level 0 first
+-- the rows of all levels were handed over, level 0 first
 abbrev pub HandsOverAll : Trellis → (List ℕ → List ℕ) → Option (List ℕ) → Option (List ℕ) → Type 0
 HandsOverAll t spelling old new = (rows : List (List ℕ)) × BestRows t rows × HandsOver spelling old new rows
 
--- those of the first levels, perhaps of none
+-- the rows of the first levels were handed over, perhaps of none
 abbrev pub HandsOverSome : Trellis → (List ℕ → List ℕ) → Option (List ℕ) → Option (List ℕ) → Type 0
 HandsOverSome t spelling old new = (rows : List (List ℕ)) × (more : List (List ℕ)) × BestRows t (rows ++ more) × HandsOver spelling old new rows
 
--- those of the first levels, perhaps of none, and a front of the next
+-- the rows of the first levels, perhaps of none, and a prefix of the next were handed over
 abbrev pub HandsOverUpTo : Trellis → (List ℕ → List ℕ) → Option (List ℕ) → Option (List ℕ) → Type 0
 HandsOverUpTo t spelling old new =
     (rows : List (List ℕ)) × (row : List ℕ) × (more : List (List ℕ)) × BestRows t (rows ++ (row ∷ more)) × HandsOverPart spelling old new rows row
@@ -30,11 +30,11 @@ cut_at cost row = map (λ v. min v cost) row
 abbrev pub cut_spelling : ℕ → (List ℕ → List ℕ) → List ℕ → List ℕ
 cut_spelling cost spelling row = spelling (cut_at cost row)
 
--- those of the first levels and a front of the next, cut at the cost of a least bridge
+-- the rows of the first levels and a prefix of the next were handed over, cut at the cost of a least bridge
 abbrev pub HandsOverCutUpTo : Bridging → (List ℕ → List ℕ) → Option (List ℕ) → Option (List ℕ) → Type 0
 HandsOverCutUpTo d spelling old new = (x : List Bool) × IsLeastBridge d x × HandsOverUpTo (trellis_of d) (cut_spelling (bridge_cost d x) spelling) old new
 
--- law: a table of best sums is one of valid bounds where it is cut at the cost of a least bridge
+-- law: a table of best sums that is cut at the cost of a least bridge is one of valid bounds
 abbrev pub CutRowsAreValid : Type 0
 CutRowsAreValid =
     (d : Bridging) (rows : List (List ℕ)) (x : List Bool) → IsBridging d → BestRows (trellis_of d) rows → IsLeastBridge d x

@@ -8,7 +8,7 @@ use Rattle.cost_core.specs.StateCosts.{trellis_of}
 use Rattle.cost_core.specs.Limits.{IsBridging}
 use Rattle.cost_core.specs.Validity.{IsValid}
 
--- these bits lead from the start to a state, in so many steps
+-- these bits lead from the start to a state, in n steps
 abbrev pub LeadsTo : Trellis → ℕ → ℕ → List Bool → Type 0
 LeadsTo t level q x = (length x ≡ level) × (state_after t.width t.start x ≡ q)
 
@@ -16,7 +16,8 @@ LeadsTo t level q x = (length x ≡ level) × (state_after t.width t.start x ≡
 abbrev pub sum_of_steps : Trellis → List Bool → ℕ
 sum_of_steps t x = steps t.width t.step 0 t.start x
 
--- v is the lesser of 2 ^ 63 and the least sum of steps over all lists of so many bits that lead to a state: 2 ^ 63 where none leads there
+-- v is the lesser of 2 ^ 63 and the least sum of steps over all lists of n bits that lead to a state; it is 2 ^ 63 if
+-- none leads there
 pub record IsBest (t : Trellis) (level q v : ℕ) : Type 0 where
   pub at_most : v ≤ 2 ^ 63
   pub below_each : (x : List Bool) → LeadsTo t level q x → v ≤ sum_of_steps t x
@@ -54,6 +55,6 @@ least_row t level = map (least_sum t level) (range_with_len 0 (states t))
 unfoldable pub least_rows : Trellis → List (List ℕ)
 least_rows t = map (least_row t) (range_with_len 0 (t.levels + 1))
 
--- law: a table is one of best sums exactly where it is `least_rows`, so there is one such table
+-- law: a table is one of best sums exactly if it is `least_rows`, so there is one such table
 abbrev pub BestRowsAreLeast : Type 0
 BestRowsAreLeast = (t : Trellis) (rows : List (List ℕ)) → BestRows t rows ↔ (rows ≡ least_rows t)

@@ -11,6 +11,6 @@ form_size file = big_number 8 (drop 4 file)
 abbrev pub form_end : List ℕ → ℕ
 form_end file = min (12 + form_size file) (length file)
 
--- so many IDs of four bytes, one after the other
+-- n IDs of four bytes, one after the other
 abbrev pub ids_in : ℕ → List ℕ → List (List ℕ)
 ids_in number bytes = map (λ k. take 4 (drop (4 * k) bytes)) (range_with_len 0 number)

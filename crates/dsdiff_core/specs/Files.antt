@@ -1,4 +1,4 @@
--- What a file of DSDIFF 1.5 that holds a recording is, in lists of chunks.
+-- When a DSDIFF 1.5 file holds a recording, in lists of chunks.
 use Rattle.std.specs.Prelude.{◌≡◌, ◌≤◌, ℕ, ◌+◌, ◌*◌, ◌/◌, ◌%◌, true, ◌||◌, List, [], ◌∷◌, ◌++◌, All, filter, flat_map, length, map, take, drop, slice_range, slice_index}
 use Rattle.std.specs.List.{AllZip}
 use Rattle.byteorder.specs.Endian.{big_number}
@@ -18,9 +18,9 @@ use Rattle.dsdiff_core.specs.Others.{kept}
 abbrev pub joined : List (List Chunk) → List Chunk
 joined masters = flat_map (λ cs. cs) masters
 
--- the chunk, a property of the sound, tells this rate and so many channels, uncompressed
+-- the chunk, a property of the sound, has this rate and this number of channels, uncompressed
 pub record TellsProperty (property : Chunk) (rate number : ℕ) : Type 0 where
-  -- of the chunks behind its type one each for the rate, the channels' names and the compression
+  -- among the chunks after its type one each for the rate, the channels' names and the compression
   pub parts : List Chunk
   pub are_parts : chunks (drop 4 property.content) parts
   pub rates : Chunk
@@ -48,7 +48,7 @@ pub record IsDsdiff (file : List ℕ) (r : Content) : Type 0 where
   pub kind : take 4 (drop 12 file) ≡ DSD
   pub holds_type : 4 ≤ form_size file
   pub in_file : 12 + form_size file ≤ length file + 1
-  -- its chunks: the version first and once, one sound property, and one sound behind it
+  -- its chunks: the version first and once, one sound property, and one sound after it
   pub top : List Chunk
   pub are_top : chunks (slice_range file 16 (form_end file)) top
   pub version : Chunk
@@ -62,7 +62,7 @@ pub record IsDsdiff (file : List ℕ) (r : Content) : Type 0 where
   pub property_then_sound : filter (λ c. is_property c || has_id DSD c) top ≡ property ∷ sound ∷ []
   pub property_is : is_property property ≡ true
   pub sound_is : has_id DSD sound ≡ true
-  -- the property tells the rate, and the channels with their names
+  -- the property has the rate, and the channels with their names
   pub number : ℕ
   pub tells : TellsProperty property r.rate number
   pub ids : r.ids ≡ ids_in number (drop 2 tells.names.content)
@@ -75,7 +75,7 @@ pub record IsDsdiff (file : List ℕ) (r : Content) : Type 0 where
   pub are_masters : AllZip (λ c cs. chunks c.content cs) (filter (has_id DIIN) top) masters
   pub whole_marks : All IsWholeMark (filter (has_id MARK) (joined masters))
   pub marks : r.marks ≡ map mark_in (filter (has_id MARK) (joined masters))
-  -- what is kept as it is, and what the format does not tell
+  -- what is kept as it is, and what the format does not store
   pub others : r.others ≡ kept Property tells.parts ++ (kept Master (joined masters) ++ kept Form top)
   pub layout : r.layout ≡ usual_layout number
   pub tag : r.tag ≡ []

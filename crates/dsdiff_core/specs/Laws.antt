@@ -1,4 +1,4 @@
--- Laws: what the words of the contracts have to do with each other.
+-- Laws: how the words of the contracts are related.
 use Rattle.std.specs.Prelude.{◌≡◌, ◌≤◌, ◌↔◌, ℕ, ◌+◌, List, ◌++◌, length, take}
 use Rattle.dsd_bits.specs.declared.sound.Sound.{Sound}
 use Rattle.dsd_bits.specs.declared.sound.SoundAt.TheVariants.{Found}
@@ -9,32 +9,32 @@ use Rattle.dsdiff_core.specs.Fields.{form_size}
 use Rattle.dsdiff_core.specs.Files.{IsDsdiff}
 use Rattle.dsdiff_core.specs.Fronts.{EndsAt, HoldsHead, IsAccepted, TellsSound, sound_at}
 
--- a file holds one recording at most
+-- a file holds at most one recording
 abbrev pub OneRecording : Type 0
 OneRecording = (file : List ℕ) (r s : Content) → IsDsdiff file r → IsDsdiff file s → r ≡ s
 
--- a file with other sound bytes of the same number holds the same recording, but for its channels, which are these bytes
+-- a file with as many other sound bytes holds the same recording, except for its channels, which are these bytes
 abbrev pub OtherSound : Type 0
 OtherSound =
     (front sound other back : List ℕ) (s : Sound) (r : Content) → EndsAt front s → length sound ≡ s.size → length other ≡ s.size → IsDsdiff (front ++ (sound ++ back)) r
     → IsDsdiff (front ++ (other ++ back)) (record r { channels = unlaced_all other s.channels })
 
--- a file that is accepted holds the head of its sound
+-- a file that is accepted holds the header of its sound
 abbrev pub SoundHasHead : Type 0
 SoundHasHead = (file : List ℕ) → IsAccepted file → HoldsHead file
 
--- the reading of a front in order finds a sound exactly where the front tells of it
+-- reading a front in order finds a sound exactly if the front describes it
 abbrev pub FoundIsTold : Type 0
 FoundIsTold = (front : List ℕ) (s : Sound) → (sound_at front ≡ Found s) ↔ TellsSound front s
 
--- a file that holds a recording tells of its sound
+-- a file that holds a recording describes its sound
 abbrev pub SoundIsTold : Type 0
 SoundIsTold = (file : List ℕ) (r : Content) → IsDsdiff file r → (s : Sound) × TellsSound file s × HasSound file r s
 
--- the front of a file, cut where the sound that it tells of starts, tells of the same sound
+-- the front of a file, cut where the sound starts, describes the same sound
 abbrev pub SoundEndsFront : Type 0
 SoundEndsFront = (front : List ℕ) (s : Sound) → sound_at front ≡ Found s → sound_at (take s.start front) ≡ Found s
 
--- bytes behind the form, whose last pad is there, change nothing of what the file holds
+-- bytes after the form, if its last pad is there, change nothing of what the file holds
 abbrev pub FormEnds : Type 0
 FormEnds = (file rest : List ℕ) (r : Content) → 12 + form_size file ≤ length file → IsDsdiff file r ↔ IsDsdiff (file ++ rest) r

@@ -2,11 +2,12 @@
 use Rattle.std.specs.Prelude.{◌≡◌, ℕ, ◌+◌, ◌*◌, ◌/◌, ◌%◌, ℤ, pos, ◌+ℤ◌, List}
 use Rattle.dsd_bits.specs.Contents.{MarkContent}
 
--- the place of a mark at a rate, in samples from the start, which are fewer than none before it
+-- the place of a mark at a rate, in samples from the start; it is negative before the start
 abbrev pub place_of : MarkContent → ℕ → ℤ
 place_of m rate = pos (((m.hours * 60 + m.minutes) * 60 + m.seconds) * rate + m.samples) +ℤ m.offset
 
--- the mark of a title that starts so many samples from the start: a track's start for all channels, its time by whole division
+-- the mark of a title that starts n samples from the start: a track's start for all channels, its time by whole
+-- division
 abbrev pub title_mark : ℕ → ℕ → List ℕ → MarkContent
 title_mark place rate text = record {
   hours = place / rate / 3600;
@@ -20,6 +21,6 @@ title_mark place rate text = record {
   text = text;
 }
 
--- the mark's place at the rate is so many samples from the start
+-- the mark's place at the rate is n samples from the start
 abbrev pub IsAt : MarkContent → ℕ → ℕ → Type 0
 IsAt mark rate place = place_of mark rate ≡ pos place

@@ -5,11 +5,11 @@ use Rattle.byteorder.specs.Endian.{big_number}
 use Rattle.chunk_core.specs.Chunks.{Chunk}
 use Rattle.dsd_bits.specs.Contents.{MarkContent}
 
--- how many bytes of text a mark names
+-- the number of bytes of text that a mark states
 abbrev pub text_size : List ℕ → ℕ
 text_size bytes = big_number 4 (drop 18 bytes)
 
--- the chunk holds the 22 bytes of a mark's fixed fields, and the text that they name
+-- the chunk holds the 22 bytes of a mark's fixed fields, and the text whose length they state
 pub record IsWholeMark (c : Chunk) : Type 0 where
   pub fields : 22 ≤ length c.content
   pub text : 22 + text_size c.content ≤ length c.content

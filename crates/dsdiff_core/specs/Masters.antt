@@ -12,11 +12,11 @@ use Rattle.dsdiff_core.specs.Kinds.{has_id}
 use Rattle.dsdiff_core.specs.Marks.{text_size}
 use Rattle.dsdiff_core.specs.Steps.{walked}
 
--- a chunk that is no mark, or a whole one
+-- a chunk that is not a mark, or a whole mark
 abbrev pub is_no_cut_mark : Chunk → Bool
 is_no_cut_mark c = not (has_id MARK c) || (nat_le 22 (length c.content) && nat_le (22 + text_size c.content) (length c.content))
 
--- none of the chunks is a mark that is cut
+-- none of the chunks is a mark that is cut short
 abbrev pub has_no_cut_mark : List Chunk → Bool
 has_no_cut_mark [] = true
 has_no_cut_mark (c ∷ cs) = is_no_cut_mark c && has_no_cut_mark cs

@@ -9,6 +9,6 @@ use Rattle.dsd_bits.specs.Shape.{has_part}
 abbrev pub other_in : Place → Chunk → OtherContent
 other_in place c = record { place = place; id = c.id; bytes = c.content }
 
--- those of a place's chunks that are kept, in their order: a recording has no part of its own for them
+-- the chunks of a place that are kept, in their order: a recording has no part of its own for them
 abbrev pub kept : Place → List Chunk → List OtherContent
 kept place cs = map (other_in place) (filter (λ c. not (has_part place c.id c.content)) cs)

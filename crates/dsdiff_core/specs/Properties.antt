@@ -13,13 +13,13 @@ use Rattle.dsdiff_core.specs.Fields.{ids_in}
 use Rattle.dsdiff_core.specs.Spans.{data_with, holds_property, once_each, property_kinds}
 use Rattle.dsdiff_core.specs.Steps.{some_or, walked}
 
--- what a sound property tells, and the places of its chunks
+-- what a sound property says, and the places of its chunks
 pub record Told : Type 0 where
   pub rate : ℕ
   pub ids : List (List ℕ)
   pub parts : List Span
 
--- what a sound property that was read tells
+-- what a sound property that was read says
 abbrev pub told_of : SoundProperty → Told
 told_of p = record { rate = p.rate; ids = p.ids.items; parts = p.parts.items }
 
@@ -44,7 +44,7 @@ raw_of (Some bytes) =
     else if same_id (take 4 bytes) DSD then Ok tt
     else Err Compressed
 
--- rate and channel number lie in their limits
+-- rate and channel number are within their limits
 abbrev pub limits_of : ℕ → ℕ → Result (Unit {0}) DsdiffFault
 limits_of rate number =
     if nat_lt rate least_rate then Err BadRate
@@ -53,7 +53,7 @@ limits_of rate number =
     else if nat_lt 6 number then Err BadChannelNumber
     else Ok tt
 
--- the rate and the IDs in the data of the chunks for rate, channels and compression
+-- the rate and the IDs, from the data of the chunks for rate, channels and compression
 unfoldable pub fields_of : Option (List ℕ) → Option (List ℕ) → Option (List ℕ) → Result (ℕ × List (List ℕ)) DsdiffFault
 fields_of rates names kinds = do
   rate ← rate_of rates

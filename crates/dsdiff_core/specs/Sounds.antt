@@ -11,12 +11,12 @@ use Rattle.dsdiff_core.specs.declared.fault.DsdiffFault.TheVariants.{NoSound, So
 use Rattle.dsdiff_core.specs.Kinds.{has_id, is_property}
 use Rattle.dsdiff_core.specs.Spans.{data_with}
 
--- a sound stands before the first property of the sound
+-- a sound comes before the first property of the sound
 abbrev pub sound_leads : List Chunk → Bool
 sound_leads [] = false
 sound_leads (c ∷ cs) = if is_property c then false else if has_id DSD c then true else sound_leads cs
 
--- the sound bytes of so many channels
+-- the sound bytes of n channels
 abbrev pub sound_of : Bool → Option (List ℕ) → ℕ → Result (List ℕ) DsdiffFault
 sound_of leads None number = Err NoSound
 sound_of leads (Some bytes) number =
@@ -25,6 +25,6 @@ sound_of leads (Some bytes) number =
     else if nat_lt most_bits (8 * (length bytes / number)) then Err TooLong
     else Ok bytes
 
--- how many bits a channel of the sound among the chunks has
+-- the number of bits of a channel of the sound among the chunks
 abbrev pub count_told : List ℕ → List Span → ℕ → Result ℕ DsdiffFault
 count_told file top number = sound_of (sound_leads (map (span_chunk file) top)) (data_with file DSD top) number >>= λ sound. Ok (8 * (length sound / number))

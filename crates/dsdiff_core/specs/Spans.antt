@@ -1,4 +1,4 @@
--- Chunks of a file by their places: their kinds, and those that may stand once.
+-- Chunks of a file by their places: their kinds, and those that may be there once.
 use Rattle.std.specs.Prelude.{ℕ, Bool, false, ◌&&◌, ◌||◌, List, [], ◌∷◌, ◌++◌, find, Option, is_some, option_map, Result, Ok, Err, if◌then◌else◌}
 use Rattle.chunk_core.specs.declared.layout.Span.{Span}
 use Rattle.chunk_core.specs.Places.{span_chunk}
@@ -19,20 +19,20 @@ holds_property file s = is_property (span_chunk file s)
 abbrev pub data_with : List ℕ → List ℕ → List Span → Option (List ℕ)
 data_with file id spans = option_map (λ s. (span_chunk file s).content) (find (span_has id) spans)
 
--- the kinds of chunk that may stand once in the form
+-- the kinds of chunk that may be there once in the form
 abbrev pub top_kinds : List ℕ → List (Span → Bool)
 top_kinds file = span_has FVER ∷ holds_property file ∷ span_has DSD ∷ []
 
--- the kinds of chunk that may stand once in the sound property
+-- the kinds of chunk that may be there once in the sound property
 abbrev pub property_kinds : List (Span → Bool)
 property_kinds = span_has FS ∷ span_has CHNL ∷ span_has CMPR ∷ []
 
--- the chunk is of one of the kinds, as is one before it
+-- the chunk is of one of the kinds, and so is one before it
 abbrev pub is_second : List (Span → Bool) → List Span → Span → Bool
 is_second [] before s = false
 is_second (kind ∷ kinds) before s = (kind s && is_some (find kind before)) || is_second kinds before s
 
--- behind some chunks no chunk is a second of its kind; else the first that is one
+-- none of the chunks is the second of its kind, counting those before; else the first that is one
 unfoldable pub once_each : List (Span → Bool) → List Span → List Span → Result (Unit {0}) DsdiffFault
 once_each kinds before [] = Ok tt
 once_each kinds before (s ∷ ss) = if is_second kinds before s then Err (Twice s.id) else once_each kinds (before ++ s ∷ []) ss

@@ -5,13 +5,13 @@ use Rattle.chunk_core.specs.declared.fault.ChunkFault.TheVariants as chunk_fault
 use Rattle.dsdiff_core.specs.declared.fault.DsdiffFault.{DsdiffFault}
 use Rattle.dsdiff_core.specs.declared.fault.DsdiffFault.TheVariants as faults
 
--- a walk's fault as one of a file
+-- a walk's fault as a fault of a file
 abbrev pub chunk_fault : ChunkFault → DsdiffFault
 chunk_fault chunk_faults.Memory = faults.Memory
 chunk_fault (chunk_faults.HeadCut at) = faults.Chunk (chunk_faults.HeadCut at)
 chunk_fault (chunk_faults.DataCut at) = faults.Chunk (chunk_faults.DataCut at)
 
--- what a walk gave, as a step of reading a file
+-- the result of a walk, as a step of reading a file
 abbrev pub walked : {A : Type 0} → Result A ChunkFault → Result A DsdiffFault
 walked (Ok x) = Ok x
 walked (Err f) = Err (chunk_fault f)
@@ -26,7 +26,7 @@ abbrev pub Fails : {Y : Type 0} → DsdiffFault → Result Y DsdiffFault → Typ
 Fails faults.Memory reading = Unit {0}
 Fails e reading = reading ≡ Err e
 
--- what a function returned, its value seen by view, is the reading, unless memory ran out
+-- what a function returned, its value as `view` shows it, is the reading, unless memory ran out
 abbrev pub Gives : {X Y : Type 0} → (X → Y) → Result X DsdiffFault → Result Y DsdiffFault → Type 0
 Gives view (Ok x) reading = reading ≡ Ok (view x)
 Gives view (Err e) reading = Fails e reading

@@ -1,4 +1,4 @@
--- The bytes of the DSDIFF 1.5 file that holds a recording, made of lists of chunks.
+-- The bytes of the DSDIFF 1.5 file that holds a recording, made from lists of chunks.
 use Rattle.std.specs.Prelude.{ℕ, ◌+◌, ◌%◌, ◌==◌, if◌then◌else◌, List, [], ◌∷◌, ◌++◌, codes, flat_map, length, map, replicate, Option, Some, None}
 use Rattle.byteorder.specs.Endian.{big_bytes}
 use Rattle.chunk_core.specs.Chunks.{Chunk, spell}
@@ -20,7 +20,7 @@ version_chunk = record { id = FVER; content = 1 ∷ 5 ∷ 0 ∷ 0 ∷ [] }
 abbrev pub rate_chunk : ℕ → Chunk
 rate_chunk rate = record { id = FS; content = big_bytes 4 rate }
 
--- how many channels there are, and their IDs
+-- the number of channels, and their IDs
 abbrev pub channels_chunk : List (List ℕ) → Chunk
 channels_chunk ids = record { id = CHNL; content = big_bytes 2 (length ids) ++ flat_map (λ id. id) ids }
 
@@ -32,7 +32,7 @@ compression_chunk = record { id = CMPR; content = DSD ++ 14 ∷ codes "not compr
 abbrev pub mark_chunk : MarkContent → Chunk
 mark_chunk m = record { id = MARK; content = mark_bytes m }
 
--- a chunk that was kept as its bytes
+-- a kept chunk
 abbrev pub other_chunk : OtherContent → Chunk
 other_chunk o = record { id = o.id; content = o.bytes }
 
@@ -40,7 +40,7 @@ other_chunk o = record { id = o.id; content = o.bytes }
 abbrev pub others_of : Place → List OtherContent → List Chunk
 others_of place others = map other_chunk (at_place place others)
 
--- the chunks of the sound's property: the rate, the channels, no compression, and what was kept
+-- the chunks of the sound's property: the rate, the channels, no compression, and the kept chunks
 abbrev pub property_chunks : Content → List Chunk
 property_chunks r = rate_chunk r.rate ∷ channels_chunk r.ids ∷ compression_chunk ∷ others_of Property r.others
 
@@ -52,16 +52,16 @@ property_chunk r = record { id = PROP; content = SND ++ flat_map spell (property
 abbrev pub sound_chunk : Content → Chunk
 sound_chunk r = record { id = DSD; content = laced r.channels }
 
--- the chunks of the edited master: the marks, then what was kept
+-- the chunks of the edited master: the marks, then the kept chunks
 abbrev pub master_chunks : Content → List Chunk
 master_chunks r = map mark_chunk r.marks ++ others_of Master r.others
 
--- the edited master of these chunks; there is none where there are no chunks
+-- the edited master with these chunks; there is none if there are no chunks
 abbrev pub edited_master : List Chunk → List Chunk
 edited_master [] = []
 edited_master (c ∷ cs) = record { id = DIIN; content = flat_map spell (c ∷ cs) } ∷ []
 
--- what stands behind the sound: the edited master, then what was kept
+-- what follows the sound: the edited master, then the kept chunks
 abbrev pub last_chunks : Content → List Chunk
 last_chunks r = edited_master (master_chunks r) ++ others_of Form r.others
 
@@ -73,24 +73,26 @@ form_chunks r = version_chunk ∷ property_chunk r ∷ sound_chunk r ∷ last_ch
 abbrev pub form_text : List Chunk → List ℕ
 form_text cs = FRM8 ++ big_bytes 8 (4 + length (flat_map spell cs)) ++ DSD ++ flat_map spell cs
 
--- the file of a recording, whose channels end with a whole byte
+-- the file of a recording whose channels end with a whole byte
 abbrev pub dsdiff_text : Content → Option (List ℕ)
 dsdiff_text r = if count_of r.channels % 8 == 0 then Some (form_text (form_chunks r)) else None
 
 -- ---- the same as three parts, of which the first and the last don't ask for the channels
 
--- what stands before the sound
+-- the chunks before the sound
 abbrev pub first_chunks : Content → List Chunk
 first_chunks r = version_chunk ∷ property_chunk r ∷ []
 
--- the bytes behind a sound of so many bytes: its pad, the edited master, then what was kept
+-- the bytes after a sound of `size` bytes: its pad, the edited master, then the kept chunks
 abbrev pub tail_text : Content → ℕ → List ℕ
 tail_text r size = replicate (size % 2) 0 ++ flat_map spell (last_chunks r)
 
--- the size of the form of a sound of so many bytes: its type, the chunks before the sound, the head of the sound, the sound, and what stands behind it
+-- the size of the form for a sound of `size` bytes: its type, the chunks before the sound, the header of the sound, the
+-- sound, and what follows it
 abbrev pub size_around : Content → ℕ → ℕ
 size_around r size = 4 + length (flat_map spell (first_chunks r)) + 12 + size + length (tail_text r size)
 
--- the bytes before a sound of so many bytes: the head of the form, its type, the chunks before the sound, and the head of the sound
+-- the bytes before a sound of `size` bytes: the header of the form, its type, the chunks before the sound, and the
+-- header of the sound
 abbrev pub head_text : Content → ℕ → List ℕ
 head_text r size = FRM8 ++ big_bytes 8 (size_around r size) ++ DSD ++ flat_map spell (first_chunks r) ++ DSD ++ big_bytes 8 size

@@ -1,4 +1,4 @@
-//! Why a file holds no recording that can be read.
+//! Why a file does not hold a recording that can be read.
 
 ghost use Rattle.std.specs.Prelude.{◌≡◌};
 ghost use Rattle.dsdiff_core.specs.declared.fault.DsdiffFault.TheVariants.{Memory};
@@ -9,32 +9,32 @@ use std::alloc::{AllocError, AllocFailed};
 use std::error::Error;
 use std::fmt;
 
-/// Why a file is no DSDIFF 1.5 file of uncompressed sound in this project's limits.
+/// Why a file is not a DSDIFF 1.5 file of uncompressed sound within this project's limits.
 ///
-/// A fault's text is its name, and after one space what it tells.
+/// A fault's text is its name, followed by its part after a space, if it has one.
 #[derive(Clone, Copy, Debug, PartialEq, Eq)]
 pub enum DsdiffFault {
     /// Fewer than 16 bytes, no `FRM8` at the start, or a form of another type than `DSD `.
     NotDsdiff,
-    /// The form's size is below the 4 bytes of its type, or goes more than the one byte of a last pad
-    /// past the file's end.
+    /// The form's size is below the 4 bytes of its type, or the form extends past the file's end by more than the one
+    /// byte of a last pad.
     FormCut,
-    /// The form, the sound property or an edited master is no list of chunks. Places are counted from
-    /// the file's first byte.
+    /// The form, the sound property or an edited master is not a list of chunks. Places are counted from the file's
+    /// first byte.
     Chunk(ChunkFault),
-    /// The first chunk is no `FVER`, or one of fewer than 4 bytes.
+    /// The first chunk is not `FVER`, or has fewer than 4 bytes.
     NoVersion,
     /// The main version is not 1.
     BadVersion,
-    /// A second chunk of a kind that may stand once; this is its ID.
+    /// A second chunk of a kind that may be there once; this is its ID.
     Twice([u8; 4]),
-    /// No sound property.
+    /// There is no sound property.
     NoProperty,
-    /// The sound property has no `FS  `, or one of fewer than 4 bytes.
+    /// The sound property has no `FS  `, or its `FS  ` has fewer than 4 bytes.
     NoRate,
-    /// The sound property has no `CHNL`, or one that is too short for the channels that it names.
+    /// The sound property has no `CHNL`, or its `CHNL` is too short for the channels that it names.
     NoChannels,
-    /// The sound property has no `CMPR`, or one of fewer than 4 bytes.
+    /// The sound property has no `CMPR`, or its `CMPR` has fewer than 4 bytes.
     NoCompression,
     /// The sound is compressed.
     Compressed,
@@ -42,17 +42,17 @@ pub enum DsdiffFault {
     BadRate,
     /// The channel number is not from 1 to 6.
     BadChannelNumber,
-    /// No sound.
+    /// There is no sound.
     NoSound,
-    /// The sound stands before the sound property.
+    /// The sound comes before the sound property.
     SoundBeforeProperty,
-    /// The sound is no whole number of frames, a frame being one byte of each channel.
+    /// The sound is not a whole number of frames, where a frame is one byte of each channel.
     PartFrame,
-    /// More than `2^36` bits a channel.
+    /// A channel has more than `2^36` bits.
     TooLong,
-    /// A mark has fewer bytes than its fields, or than its fields and the text that they name.
+    /// A mark has fewer bytes than its fields, or than its fields and the text whose length they state.
     BadMark,
-    /// Want of memory.
+    /// Out of memory.
     Memory,
 }
 

@@ -1,4 +1,4 @@
-//! What is in memory fits the fields that a file has for it.
+//! What is in memory fits the fields of a file.
 
 ghost use Rattle.std.specs.Prelude.{◌≡◌, All, length, map};
 ghost use Rattle.dsd_bits.specs.Contents.{mark_content, other_content};
@@ -7,8 +7,8 @@ ghost use Rattle.dsdiff_core.specs.ReadAgain.{FitsFields, FitsMark};
 
 use dsd_bits::{Mark, Other, Recording};
 
-/// The IDs, the marks and the kept chunks of a recording in memory fit the fields that a file has for them. It
-/// changes nothing: a caller's proof cites what it ensures.
+/// The IDs, the marks and the kept chunks of a recording in memory fit the fields of a file. The function does nothing:
+/// a caller's proof cites what it ensures.
 pub fn fields_fit(recording: &Recording)
     ensures { FitsFields recording.now }
 {
@@ -17,7 +17,7 @@ pub fn fields_fit(recording: &Recording)
     others_fit(recording.others());
 }
 
-/// A recording in memory keeps to the rules of one.
+/// A recording in memory obeys the rules of one.
 pub(crate) fn keeps_shape(recording: &Recording)
     ensures { HasShape recording.now }
 {

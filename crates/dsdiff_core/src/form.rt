@@ -1,4 +1,4 @@
-//! The form that a file is, and its chunks.
+//! The form, which is the whole file, and its chunks.
 
 ghost use Rattle.std.specs.Prelude.{◌≡◌, ◌≤◌, All, IfOk, length, map};
 ghost use Rattle.chunk_core.specs.Places.{span_chunk};
@@ -14,8 +14,7 @@ use crate::once::refuse_second_in_form;
 use chunk_core::{Order, Span, head, id_at, walk};
 use std::alloc::Global;
 
-/// The chunks of the form: the first is a version 1, and none is a second version, sound property or
-/// sound.
+/// The chunks of the form: the first is a version 1, and there is no second version, sound property or sound.
 #[tactic(auto, unfolding(crate::specs::Forms::top_of))]
 pub(crate) fn form_chunks(alloc: Global, file: Held) -> Result<Vec<Span>, DsdiffFault>
     requires { IsHeld file }
@@ -29,8 +28,8 @@ pub(crate) fn form_chunks(alloc: Global, file: Held) -> Result<Vec<Span>, Dsdiff
     Ok(top)
 }
 
-/// The chunks of the form before its sound, whose head stands at a place: the first is a version 1, and
-/// none is a second version or sound property.
+/// The chunks of the form before its sound, whose header is at a given place: the first is a version 1, and there is no
+/// second version or sound property.
 #[tactic(auto, unfolding(crate::specs::Fronts::leading_of))]
 pub(crate) fn leading_chunks(
     alloc: Global,
@@ -71,7 +70,7 @@ fn form_end(file: Held) -> Result<usize, DsdiffFault>
     Ok((form.size as usize).min(size - 12) + 12)
 }
 
-// Refuses another first chunk than a version 1.
+// Refuses a first chunk that is not a version 1.
 fn require_version(file: Held, top: &[Span]) -> Result<(), DsdiffFault>
     requires { All (MayStand file) top.now }
     ensures { Gives (λ _. tt) result (version_of (map (span_chunk (held file.entry)) top.now)) }

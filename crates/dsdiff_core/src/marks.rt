@@ -33,7 +33,7 @@ pub(crate) fn read_marks(alloc: Global, file: Held, inner: &[Span]) -> Result<Ve
     Ok(marks)
 }
 
-// The mark in a chunk's data: 22 bytes of fields, the last of them the size of the text behind them.
+// The mark in a chunk's data: 22 bytes of fields, the last of which is the size of the text after them.
 fn read_mark(alloc: Global, bytes: &[u8]) -> Result<Mark, AllocError>
     requires fields { 22 ≤ length bytes.now }
     requires text { 22 + text_size bytes.now ≤ length bytes.now }
@@ -57,7 +57,7 @@ fn read_mark(alloc: Global, bytes: &[u8]) -> Result<Mark, AllocError>
     })
 }
 
-/// How many bytes of text the fields of a mark name.
+/// How many bytes of text the fields of a mark state.
 pub(crate) fn text_size(bytes: &[u8]) -> u32
     requires { 22 ≤ length bytes.now }
     ensures { result ≡ text_size bytes.now }

@@ -59,7 +59,7 @@ fn no_mark_is_cut(file: Held, spans: &[Span]) -> bool
     true
 }
 
-// Whether the chunk is a mark of fewer bytes than its fields and their text.
+// Whether the chunk is a mark with fewer bytes than its fields and their text.
 fn is_cut_mark(file: Held, span: Span) -> bool
     requires { StandsIn file span }
     ensures { result ≡ not (is_no_cut_mark (span_chunk (held file.entry) span)) }

@@ -1,4 +1,4 @@
-//! Chunks of kinds that may stand once.
+//! Chunks of kinds that may be there once.
 
 ghost use Rattle.std.specs.Prelude.{◌≡◌, ◌&&◌, [], All, find, is_some};
 ghost use Rattle.dsdiff_core.specs.Held.{MayStand, held};
@@ -53,7 +53,7 @@ fn is_second_in_property(before: &[Span], span: Span) -> bool
         || repeats(before, span, *b"CMPR")
 }
 
-// The chunk has this ID, as one before it has.
+// The chunk has this ID, and so has one before it.
 fn repeats(before: &[Span], span: Span, id: [u8; 4]) -> bool
     ensures { result ≡ (span_has id span && is_some (find (span_has id) before.now)) }
 {

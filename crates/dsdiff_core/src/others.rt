@@ -14,7 +14,7 @@ use chunk_core::Span;
 use dsd_bits::{Other, Place};
 use std::alloc::{AllocError, Global};
 
-/// What is kept of the chunks of the sound property, of the edited masters and of the form, in this order.
+/// The chunks of the sound property, of the edited masters and of the form that are kept, in this order.
 pub(crate) fn kept_chunks(
     alloc: Global,
     file: Held,
@@ -34,7 +34,7 @@ pub(crate) fn kept_chunks(
     Ok(others)
 }
 
-// Appends those of a place's chunks that are kept.
+// Appends the chunks of a place that are kept.
 fn push_kept(
     alloc: Global,
     others: &mut Vec<Other>,

@@ -8,12 +8,12 @@ ghost use Rattle.dsdiff_core.specs.MarkPlaces.{IsAt, place_of, title_mark};
 use dsd_bits::Mark;
 use std::alloc::{AllocError, Global};
 
-// The kind of a mark that says where a track starts.
+// The type of a mark at the start of a track.
 const TRACK_START: u16 = 0;
 
-/// The place of a mark of DSDIFF 1.5 at a rate in hertz: the samples from the start, each one bit of each
-/// channel, that its hours, minutes and seconds take, with its own samples and its offset added. A mark
-/// whose offset leads before the start has a place below zero.
+/// The place of a mark of DSDIFF 1.5 at a rate in hertz, in samples from the start, each one bit of each channel: its
+/// hours, minutes and seconds as samples, plus its own samples and its offset. A mark whose offset leads to before the
+/// start has a place below zero.
 ///
 /// Nothing is checked: 70 minutes count as 70 minutes. It takes no memory.
 pub fn place(mark: &Mark, rate: u32) -> i64
@@ -25,12 +25,12 @@ pub fn place(mark: &Mark, rate: u32) -> i64
     samples as i64 + mark.offset as i64
 }
 
-/// The mark of a title that starts at a place: `pos` samples from the start, at most `2^36`, at a rate of
-/// 1,000,000 to 50,000,000 hertz. It is a track's start (DSDIFF 1.5, mark type 0) for all channels, with
-/// whole hours, minutes below 60, seconds below 60 and the samples that are left, no offset and no flags;
-/// the text is copied. [`place`] leads back to `pos`.
+/// The mark of a title that starts at a place: `pos` samples from the start, at most `2^36`, at a rate of 1,000,000 to
+/// 50,000,000 hertz. It is a track's start (DSDIFF 1.5, mark type 0) for all channels, with whole hours, minutes below
+/// 60, seconds below 60 and the remaining samples, without offset and flags. The text is copied. [`place`] returns
+/// `pos` for it.
 ///
-/// It is refused only for want of memory.
+/// The only refusal is out of memory.
 pub fn mark_at(alloc: Global, pos: usize, rate: u32, text: &[u8]) -> Result<Mark, AllocError>
     requires pos { pos ≤ most_bits }
     requires rate { IsRate rate }

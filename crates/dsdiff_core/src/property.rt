@@ -1,4 +1,4 @@
-//! The property of the sound: its rate, its channels and that it is not compressed.
+//! The property of the sound: its rate, its channels, and that it is not compressed.
 
 ghost use Rattle.std.specs.Prelude.{◌≡◌, ◌≤◌, ◌<◌, ◌*◌, All, IfOk, length, option_map};
 ghost use Rattle.dsd_bits.specs.Limits.{IsRate};
@@ -15,7 +15,7 @@ use chunk_core::{Order, Span, id_at, u16_at, u32_at};
 use dsd_bits::{GREATEST_RATE, LEAST_RATE};
 use std::alloc::Global;
 
-/// What the property of the sound tells.
+/// What the property of the sound says.
 #[derive(Drop)]
 pub(crate) struct SoundProperty {
     /// Hertz.
@@ -53,7 +53,7 @@ pub(crate) fn read_property(
     Ok(SoundProperty { rate, ids, parts })
 }
 
-// The rate and the IDs, of the data of `FS  `, `CHNL` and `CMPR`.
+// The rate and the IDs, from the data of `FS  `, `CHNL` and `CMPR`.
 #[tactic(auto, unfolding(crate::specs::Properties::fields_of))]
 fn read_fields(
     alloc: Global,
@@ -87,7 +87,7 @@ fn read_rate(bytes: Option<&[u8]>) -> Result<u32, DsdiffFault>
     Ok(u32_at(Order::Big, bytes, 0))
 }
 
-// The channel number, and the bytes of the IDs and behind them.
+// The channel number, and the bytes of the IDs and after them.
 fn read_names(bytes: Option<&[u8]>) -> Result<(u16, &[u8]), DsdiffFault>
     ensures exact { Gives (λ x. (x.0, x.1.now)) result (names_of (option_map (λ x. x.now) bytes.entry)) }
     ensures long { IfOk result (λ x. 4 * x.0 ≤ length x.1.now) }

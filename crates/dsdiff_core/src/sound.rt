@@ -1,4 +1,4 @@
-//! The sound: whole frames behind the sound property.
+//! The sound: whole frames after the sound property.
 
 ghost use Rattle.std.specs.Prelude.{◌≡◌, ◌≤◌, ◌*◌, ◌/◌, ◌%◌, All, IfOk, length, map};
 ghost use Rattle.chunk_core.specs.Places.{span_chunk};
@@ -16,7 +16,7 @@ use chunk_core::Span;
 use dsd_bits::{Bits, LaceFault, MOST_BITS, unlace_bytes};
 use std::alloc::{AllocError, Global};
 
-/// How many bits a channel of the sound among the form's chunks has, where there are so many channels.
+/// How many bits each of `number` channels of the sound among the form's chunks has.
 #[tactic(auto, unfolding(crate::specs::Sounds::count_told))]
 pub(crate) fn count_sound(file: Held, top: &[Span], number: usize) -> Result<usize, DsdiffFault>
     requires inside { All (MayStand file) top.now }
@@ -34,7 +34,7 @@ pub(crate) fn count_sound(file: Held, top: &[Span], number: usize) -> Result<usi
     Ok(8 * (span.size / number))
 }
 
-/// Refuses a size that is not that of whole frames of so many channels, within the limit.
+/// Refuses a size that is not that of whole frames of `number` channels, within the limit.
 pub(crate) fn check_frames(size: u64, number: usize) -> Result<(), DsdiffFault>
     requires { 1 ≤ number }
     ensures { Gives (λ _. tt) result (frames_of size number) }
@@ -66,7 +66,7 @@ pub(crate) fn channels_of(
     }
 }
 
-// Whether the sound stands before the sound property.
+// Whether the sound comes before the sound property.
 fn leads(file: Held, top: &[Span]) -> bool
     requires { All (MayStand file) top.now }
     ensures { result ≡ sound_leads (map (span_chunk (held file.entry)) top.now) }

@@ -1,4 +1,4 @@
-//! Why a recording is not written.
+//! Why a recording can't be written.
 
 ghost use Rattle.std.specs.Prelude.{◌≡◌};
 ghost use Rattle.dsdiff_core.specs.declared.write_fault.WriteFault.TheVariants.{Memory};
@@ -7,12 +7,12 @@ use std::alloc::AllocError;
 use std::fmt;
 use thiserror::Error;
 
-/// Why a recording is not written. A fault's text is its name.
+/// Why a recording can't be written. A fault's text is its name.
 #[derive(Clone, Copy, Debug, PartialEq, Eq, Error)]
 pub enum WriteFault {
     /// The channels end inside a byte: the number of their bits isn't a multiple of 8.
     NotWholeBytes,
-    /// Want of memory.
+    /// Out of memory.
     Memory,
 }
 

@@ -19,25 +19,24 @@ use chunk_core::{Order, push_chunk, push_u16, push_u32, push_u64};
 use dsd_bits::{Mark, Other, Place, Recording, push_laced};
 use std::alloc::{AllocError, Global};
 
-/// The bytes of the DSDIFF 1.5 file that holds the recording. Numbers are written with the highest byte
-/// first, and an odd chunk is followed by one zero byte, which the size of what encloses it counts.
+/// The bytes of the DSDIFF 1.5 file that holds the recording. Numbers have the highest byte first. An odd chunk is
+/// followed by one zero byte, which the size of the enclosing chunk counts.
 ///
 /// The form has these chunks, in this order:
 /// - `FVER`: version 1.5.
-/// - `PROP` of the type `SND `: `FS  ` with the rate in hertz, `CHNL` with the channels' IDs, `CMPR` with no
-///   compression, and the chunks that were kept of a property.
+/// - `PROP` of the type `SND `: `FS  ` with the rate in hertz, `CHNL` with the channels' IDs, `CMPR` for no
+///   compression, and the kept chunks of a property.
 /// - `DSD `: the sound, one byte of each channel in turn, the most significant bit the earliest.
-/// - `DIIN`: a `MARK` for each mark, then the chunks that were kept of an edited master. It is left out
-///   where it would hold nothing.
-/// - The chunks that were kept of the form.
+/// - `DIIN`: a `MARK` for each mark, then the kept chunks of an edited master. It is left out if it would be empty.
+/// - The kept chunks of the form.
 ///
-/// A file does not tell the layout and the tag.
+/// A file does not store the layout and the tag.
 ///
-/// Refusals, in this order: `NotWholeBytes` where the number of each channel's bits isn't a multiple of 8,
-/// for which no memory is needed; `Memory`.
+/// Refusals, in this order: `NotWholeBytes` if the number of each channel's bits isn't a multiple of 8, for which no
+/// memory is needed; `Memory`.
 pub fn write(alloc: Global, recording: &Recording) -> Result<Vec<u8>, WriteFault>
     ensures text { IfOk result (λ file. dsdiff_text recording.now ≡ Some file.items) }
-    // What is read from it is the recording, but for what a file does not tell.
+    // What is read from it is the recording, without what a file does not store.
     ensures read_again { IfOk result (λ file. IsDsdiff file.items (as_told recording.now)) }
 
     ensures not_whole_bytes { (result ≡ Err WriteFault.NotWholeBytes) ↔ (dsdiff_text recording.now ≡ None) }
@@ -66,9 +65,9 @@ fn file_of(alloc: Global, recording: &Recording) -> Result<Vec<u8>, AllocError>
     Ok(out)
 }
 
-/// The bytes that stand before the sound in the file that [`write`] makes of a recording whose sound has `size`
-/// bytes, where `behind` bytes stand behind it, those of [`write_tail`]. The recording's own channels are not
-/// asked for: an outline of it has the same head.
+/// The bytes before the sound in the file that [`write`] returns for a recording whose sound has `size` bytes, followed
+/// by `behind` bytes, those of [`write_tail`]. The recording's own channels are not used: an outline of it has the same
+/// head.
 pub fn write_head(
     alloc: Global,
     recording: &Recording,
@@ -90,9 +89,9 @@ pub fn write_head(
     Ok(out)
 }
 
-/// The bytes that stand behind the sound in the file that [`write`] makes of a recording whose sound has `size`
-/// bytes: its pad, the edited master and the chunks that were kept of the form. The recording's own channels are
-/// not asked for: an outline of it has the same tail.
+/// The bytes after the sound in the file that [`write`] returns for a recording whose sound has `size` bytes: its pad,
+/// the edited master and the kept chunks of the form. The recording's own channels are not used: an outline of it has
+/// the same tail.
 pub fn write_tail(alloc: Global, recording: &Recording, size: usize) -> Result<Vec<u8>, AllocError>
     ensures { IfOk result (λ tail. tail.items ≡ tail_text recording.now size) }
 {
@@ -104,8 +103,8 @@ pub fn write_tail(alloc: Global, recording: &Recording, size: usize) -> Result<V
     Ok(out)
 }
 
-// The size of the form, by the bytes of the chunks before the sound, of the sound and of what stands behind it.
-// Its number has eight bytes, whatever the sum.
+// The size of the form, from the bytes of the chunks before the sound, of the sound and after it. Its number has eight
+// bytes, whatever the sum.
 fn size_around(first: usize, size: usize, behind: usize) -> u64
     ensures { big_bytes 8 result ≡ big_bytes 8 (4 + first + 12 + size + behind) }
 {
@@ -157,7 +156,7 @@ fn channels_data(alloc: Global, ids: &[[u8; 4]]) -> Result<Vec<u8>, AllocError>
     Ok(out)
 }
 
-// Appends the edited master, which is left out where it would hold nothing.
+// Appends the edited master, which is left out if it would be empty.
 fn push_master(alloc: Global, out: &mut Vec<u8>, recording: &Recording) -> Result<(), AllocError>
     requires { HasShape recording.now }
     ensures { OnOk result (out.new.items
@@ -212,7 +211,7 @@ fn mark_data(alloc: Global, mark: &Mark) -> Result<Vec<u8>, AllocError>
     Ok(out)
 }
 
-// Appends the chunks of a place that are kept as their bytes.
+// Appends the kept chunks of a place.
 fn push_others(out: &mut Vec<u8>, others: &[Other], place: Place) -> Result<(), AllocError>
     ensures { OnOk result (out.new.items
         ≡ out.old.items ++ flat_map spell (others_of place (map other_content others.now))) }
@@ -225,7 +224,7 @@ fn push_others(out: &mut Vec<u8>, others: &[Other], place: Place) -> Result<(), 
     Ok(())
 }
 
-// Whether a kept chunk stands at a place.
+// Whether a kept chunk is of this place.
 fn stands_at(other: &Other, place: Place) -> bool
     ensures { result ≡ same_place other.now.place place }
 {

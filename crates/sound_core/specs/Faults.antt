@@ -1,9 +1,9 @@
--- Which faults count as what.
+-- Kinds of faults.
 use Rattle.std.specs.Prelude.{ℕ, Result, Ok, Err, ⊤}
 use Rattle.sound_core.specs.declared.fault.StreamFault.{StreamFault}
 use Rattle.sound_core.specs.declared.fault.StreamFault.TheVariants.{FileRefused, RateNotDivided, TooLarge, ReadFailed, WriteFailed, TurnLimit, Memory}
 
--- how many reads failed, by what was answered
+-- the number of reads that failed, by the result
 abbrev pub failed_reads : {X : Type 0} → Result X StreamFault → ℕ
 failed_reads (Err ReadFailed) = 1
 failed_reads (Err FileRefused) = 0
@@ -14,7 +14,7 @@ failed_reads (Err TurnLimit) = 0
 failed_reads (Err Memory) = 0
 failed_reads (Ok x) = 0
 
--- how many writes failed, by what was answered
+-- the number of writes that failed, by the result
 abbrev pub failed_writes : {X : Type 0} → Result X StreamFault → ℕ
 failed_writes (Err WriteFailed) = 1
 failed_writes (Err FileRefused) = 0
@@ -44,7 +44,7 @@ IsBeforeWriting RateNotDivided = ⊤
 IsBeforeWriting TooLarge = ⊤
 IsBeforeWriting _ = ⊥
 
--- a fault of memory, a device or the number of reads, which know nothing of the file
+-- a fault of memory, a device or the number of reads, which doesn't depend on the file
 abbrev pub IsFromOutside : StreamFault → Type 0
 IsFromOutside ReadFailed = ⊤
 IsFromOutside WriteFailed = ⊤

@@ -1,4 +1,4 @@
--- What a keeper has of a sound that comes.
+-- What a keeper has of a sound that is read.
 use Rattle.std.specs.Prelude.{◌≡◌, ℕ, ◌%◌, ◌<◌, ◌≤◌, Bool, List, length}
 use Rattle.dsd_bits.specs.declared.interleaving.Interleaving.TheVariants.{Bytes}
 use Rattle.dsd_bits.specs.declared.sound.Sound.{Sound}
@@ -7,7 +7,8 @@ use Rattle.sound_core.specs.Stretches.{AreStretches, items_of}
 use Rattle.dsd_bits.specs.declared.stretches.BitRange.{BitRange}
 use Rattle.sound_core.specs.declared.keeper.Keeper.{Keeper}
 
--- after these bytes of a sound, which are whole groups of blocks or all, there are the stretches of their channels
+-- after these bytes of a sound, which are whole groups of blocks or all of it, these are the stretches of their
+-- channels
 pub record Keeps (s : Sound) (ranges : List BitRange) (done : ℕ) (stretches : List (List (List Bool))) (bytes : List ℕ) : Type 0 where
   pub is_sound : IsSound s
   pub whole : s.interleaving ≡ Bytes → s.count % 8 ≡ 0
@@ -16,7 +17,7 @@ pub record Keeps (s : Sound) (ranges : List BitRange) (done : ℕ) (stretches : 
   pub size : length bytes ≡ sound_size s.interleaving s.channels done
   pub kept : AreStretches (sound_channels s.interleaving s.channels done bytes) ranges stretches
 
--- the keeper has those of its ranges, which are the same as at first
+-- the keeper has the stretches of its ranges, which are the same as at first
 pub record IsKeeping (first k : Keeper) (s : Sound) (done : ℕ) (bytes : List ℕ) : Type 0 where
   pub same : k.ranges.now ≡ first.ranges.now
   pub keeps : Keeps s k.ranges.now done (items_of k.stretches.items) bytes

@@ -16,10 +16,12 @@ stretches_in k = items_of k.stretches.items
 abbrev pub IsKeptOf : Surroundings → List BitRange → List (List (List Bool)) → List ℕ → Type 0
 IsKeptOf o ranges kept file = (sound : List ℕ) × StandsIn o file sound × (kept ≡ stretches_of (with_sound o.recording o.sound sound).channels ranges)
 
--- whatever file stands there, it is some sound in the surroundings, they tell what it holds, and these are the stretches of its channels
+-- the surroundings describe what a file holds; the reader's file, if it is known, is some sound in them, and these are
+-- the stretches of its channels
 abbrev pub KeepsFile : Option (List ℕ) → Surroundings → List BitRange → List (List (List Bool)) → Type 0
 KeepsFile left_old o ranges kept = AreTold o × IfSome left_old (IsKeptOf o ranges kept)
 
--- a reader that does not tell its bytes gave some, which are some sound in the surroundings, and these are the stretches of its channels
+-- the reader returned some bytes, which are some sound in the surroundings, and these are the stretches of its
+-- channels; this also holds if its bytes aren't known
 abbrev pub KeepsGiven : {R : Type 0} → (R → Option (List ℕ)) → Inlet R → Inlet R → Surroundings → List BitRange → List (List (List Bool)) → Type 0
 KeepsGiven left old new o ranges kept = (read : List ℕ) × Reads left old new read × IsKeptOf o ranges kept read

@@ -15,21 +15,21 @@ items_of stretches = map (λ (stretch : Vec (List Bool) Global). stretch.items) 
 abbrev pub AreApart : List BitRange → ℕ → ℕ → Type 0
 AreApart ranges start stop = (i : ℕ) (r : BitRange) → i < length ranges → (stop ≤ (get_or ranges i r).start) ⊎ ((get_or ranges i r).stop ≤ start)
 
--- the channels can be appended to a stretch of as many
+-- the channels can be appended to a stretch of as many channels
 pub record IsRoomy (channels stretch : List (List Bool)) : Type 0 where
   pub number : length stretch ≡ length channels
   pub room : (c : ℕ) → c < length stretch → length (get_or stretch c []) + length (get_or channels c []) ≤ most_bits
 
--- and to each of some stretches
+-- the channels can be appended to each of some stretches
 abbrev pub AreRoomy : List (List Bool) → List (List (List Bool)) → Type 0
 AreRoomy channels stretches = (i : ℕ) → i < length stretches → IsRoomy channels (get_or stretches i [])
 
--- what the channels, which follow so many bits, have in a range was appended to its stretch
+-- what the channels, which follow `done` bits, have in a range was appended to its stretch
 pub record IsGrown (range : BitRange) (channels : List (List Bool)) (done : ℕ) (old new : List (List Bool)) : Type 0 where
   pub number : length new ≡ length old
   pub each : (c : ℕ) → c < length old → get_or new c [] ≡ get_or old c [] ++ slice_range (get_or channels c []) (range.start - done) (range.stop - done)
 
--- and to the stretches of all
+-- what the channels have in each range was appended to its stretch
 pub record AreGrown (ranges : List BitRange) (channels : List (List Bool)) (done : ℕ) (old new : List (List (List Bool))) : Type 0 where
   pub number : length new ≡ length old
   pub each : (i : ℕ) (r : BitRange) → i < length old → IsGrown (get_or ranges i r) channels done (get_or old i []) (get_or new i [])

@@ -1,4 +1,4 @@
-//! Why a reader's file is not read or played.
+//! Why a reader's file can't be read or played.
 
 ghost use Rattle.std.specs.Prelude.{◌≡◌};
 ghost use Rattle.sound_core.specs.declared.fault.StreamFault.TheVariants as faults;
@@ -7,22 +7,22 @@ use std::alloc::AllocError;
 use std::fmt;
 use thiserror::Error;
 
-/// Why a reader's file is not read or played, or not to its end. A fault's text is its name.
+/// Why a reader's file can't be read or played, or not to its end. A fault's text is its name.
 #[derive(Clone, Copy, Debug, PartialEq, Eq, Error)]
 pub enum StreamFault {
     /// The bytes are neither a DSDIFF 1.5 nor a DSF 1.01 file that holds a recording.
     FileRefused,
     /// The decimation factor doesn't divide the sample rate.
     RateNotDivided,
-    /// The WAVE file would be larger than its 32-bit sizes can say.
+    /// The WAVE file would be larger than its 32-bit sizes allow.
     TooLarge,
     /// A read failed.
     ReadFailed,
-    /// A write failed, or took nothing.
+    /// A write failed, or accepted nothing.
     WriteFailed,
-    /// There were `2^40` reads, and the file wasn't at its end.
+    /// There were `2^40` reads, and the file had not ended.
     TurnLimit,
-    /// Want of memory.
+    /// Out of memory.
     Memory,
 }
 

@@ -16,7 +16,7 @@ use std::alloc::{AllocError, Global};
 pub struct Keeper<'a> {
     /// What is kept of it.
     pub ranges: &'a [BitRange],
-    /// For each range what came of it.
+    /// For each range the bits that came so far.
     pub stretches: Vec<Vec<Bits>>,
 }
 
@@ -71,7 +71,7 @@ fn are_apart(ranges: &[BitRange], start: usize, stop: usize) -> bool
     true
 }
 
-// Appends to each stretch what these channels, which follow so many bits, have in its range.
+// Appends to each stretch what these channels, which follow `done` bits, have in its range.
 fn grow_all(
     stretches: &mut [Vec<Bits>],
     ranges: &[BitRange],
@@ -88,7 +88,7 @@ fn grow_all(
     Ok(())
 }
 
-// Appends to a stretch what these channels, which follow so many bits, have in its range.
+// Appends to a stretch what these channels, which follow `done` bits, have in its range.
 fn grow(
     stretch: &mut Vec<Bits>,
     range: BitRange,
@@ -106,7 +106,7 @@ fn grow(
     Ok(())
 }
 
-// Appends the bits of a channel from one place to another, as far as there are.
+// Appends the bits of a channel from one place to another, as far as it reaches.
 fn append_part(bits: &mut Bits, channel: &Bits, start: usize, stop: usize) -> Result<(), AllocError>
     requires { length bits.old + length channel.now ≤ most_bits }
     ensures { OnOk result (bits.new ≡ bits.old ++ slice_range channel.now start stop) }
@@ -118,7 +118,7 @@ fn append_part(bits: &mut Bits, channel: &Bits, start: usize, stop: usize) -> Re
     Ok(())
 }
 
-// So many stretches of so many channels of no bits.
+// An empty stretch for each range.
 fn no_stretches(alloc: Global, number: usize, channels: usize) -> Result<Vec<Vec<Bits>>, AllocError>
     ensures { IfOk result (λ made. items_of made.items ≡ replicate number (replicate channels [])) }
 {
@@ -130,7 +130,7 @@ fn no_stretches(alloc: Global, number: usize, channels: usize) -> Result<Vec<Vec
     Ok(made)
 }
 
-// So many channels of no bits.
+// Empty channels.
 fn no_stretch(alloc: Global, channels: usize) -> Result<Vec<Bits>, AllocError>
     ensures { IfOk result (λ made. made.items ≡ replicate channels []) }
 {

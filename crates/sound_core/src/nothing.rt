@@ -1,4 +1,4 @@
-//! A sound that is read, and not kept.
+//! A sound that is read but not kept.
 
 use crate::fault::StreamFault;
 use crate::part::SoundPart;
@@ -6,7 +6,7 @@ use crate::sink::SoundSink;
 use dsd_bits::Sound;
 use std::alloc::Global;
 
-/// What keeps nothing of a sound.
+/// A sink that keeps nothing of a sound.
 #[derive(Drop)]
 pub(crate) struct Nothing {}
 

@@ -6,7 +6,7 @@ ghost use Rattle.dsd_bits.specs.Sounds.{IsSound, sound_size};
 use dsd_bits::Sound;
 use relace_core::Stretch;
 
-/// The next part of a sound: whole groups of blocks, or all that is left of it, in at most 65,536 bytes.
+/// The next part of a sound: whole groups of blocks, or all the rest, in at most 65,536 bytes.
 #[derive(Clone, Copy)]
 pub struct SoundPart {
     /// The sound.

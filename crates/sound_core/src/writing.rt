@@ -1,4 +1,4 @@
-//! Bytes that go out, with the fault of whoever streams a file.
+//! Bytes that are written, with the fault of those who stream a file.
 
 ghost use Rattle.std.specs.Prelude.{◌≡◌, ◌+◌, ◌-◌, ◌<◌, ◌^◌, IfErr, OnErr, OnOk};
 ghost use Rattle.chunk_core.specs.Outlets.{Puts, PutsPart, outlet_failures};
@@ -10,7 +10,7 @@ use std::io::Write;
 
 /// Writes these bytes.
 ///
-/// Refusal: `WriteFailed`; a prefix of them went out, and not all of them.
+/// Refusal: `WriteFailed`; a prefix of them was written, but not all of them.
 pub fn put<W: Write>(outlet: &mut Outlet<W>, bytes: &[u8]) -> Result<(), StreamFault>
     requires ready { outlet_failures outlet.old < 2 ^ 64 - 1 }
     ensures ok { OnOk result (Puts W.contents outlet.old outlet.new bytes.now) }

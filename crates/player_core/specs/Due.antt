@@ -1,4 +1,4 @@
--- The frames that are due after a front of the sound bytes.
+-- The frames that are due after a prefix of the sound bytes.
 use Rattle.std.specs.Prelude.{ℕ, Bool, List, map, length}
 use Rattle.std.specs.List.{flat_map, range_with_len}
 use Rattle.dsd_bits.specs.declared.sound.Sound.{Sound}
@@ -10,27 +10,27 @@ use Rattle.wave_core.specs.Texts.{sample_bytes}
 use Rattle.player_core.specs.Frames.{frames, frames_below}
 use Rattle.player_core.specs.Groups.{channel_part, channel_size}
 
--- how many bytes of each channel are heard after so many sound bytes
+-- the number of bytes of each channel that are known after n sound bytes
 abbrev pub bytes_heard : Sound → ℕ → ℕ
 bytes_heard s size = channel_size s.interleaving s.channels s.count size
 
--- those of channel c
+-- the known bytes of channel c
 abbrev pub channel_bytes : Sound → List ℕ → ℕ → List ℕ
 channel_bytes s bytes c = channel_part s.interleaving s.channels bytes c 0 (bytes_heard s (length bytes))
 
--- the bits of channel c that are heard
+-- the known bits of channel c
 abbrev pub channel_bits : Sound → List ℕ → ℕ → List Bool
 channel_bits s bytes c = unpacked (channel_bytes s bytes c) (heard s.count (bytes_heard s (length bytes)))
 
--- all bits of channel c, where all its bytes are heard
+-- all bits of channel c, if all its bytes are known
 abbrev pub channel_whole : Sound → List ℕ → ℕ → List Bool
 channel_whole s bytes c = unpacked (channel_bytes s bytes c) s.count
 
--- the bits of every channel that are heard
+-- the known bits of every channel
 abbrev pub channels_heard : Sound → List ℕ → List (List Bool)
 channels_heard s bytes = map (channel_bits s bytes) (range_with_len 0 s.channels)
 
--- how many frames are due: those whose place is among the bits that are heard
+-- the number of frames that are due: those whose place is among the known bits
 abbrev pub frames_due : Decimator → Sound → ℕ → ℕ
 frames_due d s size = due_number d s.count (bytes_heard s size)
 

@@ -13,7 +13,7 @@ frame d channels j = map (λ bits. sample_at d bits j) channels
 abbrev pub frames_below : Decimator → List (List Bool) → ℕ → List ℤ
 frames_below d channels count = flat_map (frame d channels) (range_with_len 0 count)
 
--- how many frames there are: those j from 0 on with j * factor below the number of bits
+-- the number of frames: those j from 0 on with j * factor below the number of bits
 abbrev pub frame_count : Decimator → List (List Bool) → ℕ
 frame_count d channels = div_ceil (count_of channels) d.factor
 
@@ -21,6 +21,6 @@ frame_count d channels = div_ceil (count_of channels) d.factor
 abbrev pub frames : Decimator → List (List Bool) → List ℤ
 frames d channels = frames_below d channels (frame_count d channels)
 
--- the samples of so many frames from one on, channel by channel
+-- the samples of n frames from one on, channel by channel
 abbrev pub tile_of : Decimator → List (List Bool) → ℕ → ℕ → List ℤ
 tile_of d channels start number = flat_map (λ bits. samples_of d bits start number) channels

@@ -1,4 +1,5 @@
--- Sound bytes in groups: for each channel in turn as many of its bytes as the form puts side by side (DSDIFF 1.5, DSD sound data chunk; DSF 1.01, data chunk).
+-- Sound bytes in groups: for each channel in turn its neighbouring bytes in the form (DSDIFF 1.5, DSD sound data chunk;
+-- DSF 1.01, data chunk).
 use Rattle.std.specs.Prelude.{ℕ, ◌+◌, ◌*◌, ◌/◌, ◌%◌, min, List, map, slice_index}
 use Rattle.std.specs.List.{range_with_len}
 use Rattle.std.specs.Int.{div_ceil}
@@ -6,12 +7,12 @@ use Rattle.dsd_bits.specs.declared.interleaving.Interleaving.{Interleaving}
 use Rattle.dsd_bits.specs.declared.interleaving.Interleaving.TheVariants.{Bytes, Blocks}
 use Rattle.dsd_bits.specs.Blocks.{ordered}
 
--- how many bytes of a channel stand side by side: one, or a block
+-- the number of neighbouring bytes of a channel: one, or a block
 abbrev pub part_size : Interleaving → ℕ
 part_size Bytes = 1
 part_size (Blocks order) = 4096
 
--- how many bytes a group has
+-- the number of bytes of a group
 abbrev pub group_size : Interleaving → ℕ → ℕ
 group_size interleaving channels = channels * part_size interleaving
 
@@ -20,7 +21,7 @@ abbrev pub in_order : Interleaving → ℕ → ℕ
 in_order Bytes b = b
 in_order (Blocks order) b = ordered order b
 
--- where byte p of channel c stands
+-- the place of byte p of channel c
 abbrev pub place_in : Interleaving → ℕ → ℕ → ℕ → ℕ
 place_in interleaving channels c p = (p / part_size interleaving * channels + c) * part_size interleaving + p % part_size interleaving
 
@@ -28,7 +29,7 @@ place_in interleaving channels c p = (p / part_size interleaving * channels + c)
 abbrev pub channel_byte : Interleaving → ℕ → List ℕ → ℕ → ℕ → ℕ
 channel_byte interleaving channels bytes c p = in_order interleaving (slice_index bytes (place_in interleaving channels c p))
 
--- how many bytes of each channel of so many bits stand in the whole groups of so many sound bytes
+-- the number of bytes of each channel, which has `count` bits, in the whole groups of `size` sound bytes
 abbrev pub channel_size : Interleaving → ℕ → ℕ → ℕ → ℕ
 channel_size interleaving channels count size = min (div_ceil count 8) (size / group_size interleaving channels * part_size interleaving)
 

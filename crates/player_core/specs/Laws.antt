@@ -1,4 +1,4 @@
--- Laws of a file that a player fills: its header, what the player gives, its pad.
+-- Laws of a file that a player fills: its header, what the player returns, its pad.
 use Rattle.std.specs.Prelude.{◌≡◌, ℕ, ◌/◌, ◌%◌, ◌^◌, ◌≤◌, List, [], ◌++◌, length, Some, None}
 use Rattle.std.specs.Int.{div_ceil}
 use Rattle.dsd_bits.specs.declared.interleaving.Interleaving.TheVariants.{Bytes}
@@ -11,7 +11,7 @@ use Rattle.wave_core.specs.Texts.{header, pad_bytes, wave_text}
 use Rattle.player_core.specs.Due.{all_bytes, due_bytes}
 use Rattle.player_core.specs.Samples.{pcm}
 
--- how many frames are played of a sound
+-- the number of frames that are played of a sound
 abbrev pub total_frames : Decimator → Sound → ℕ
 total_frames d s = div_ceil s.count d.factor
 
@@ -20,7 +20,8 @@ abbrev pub file_around : Decimator → Sound → List ℕ → List ℕ
 file_around d s bytes =
     header s.channels (s.rate / d.factor) d.width (total_frames d s) ++ (bytes ++ pad_bytes s.channels d.width (total_frames d s))
 
--- what is played of a recording in a file: the WAVE file around the bytes of all frames of the sound, or nothing where its sizes are too large
+-- what is played of a recording in a file: the WAVE file around the bytes of all frames of the sound, or nothing if its
+-- sizes are too large
 pub record IsPlayed (file : List ℕ) (r : Content) (s : Sound) (d : Decimator) : Type 0 where
   pub whole : FitsRiff s.channels d.width (total_frames d s) → wave_text (pcm r d) ≡ Some (file_around d s (all_bytes d s (sound_bytes file s)))
   pub too_large : 2 ^ 32 ≤ riff_size s.channels d.width (total_frames d s) → wave_text (pcm r d) ≡ None
@@ -29,12 +30,12 @@ pub record IsPlayed (file : List ℕ) (r : Content) (s : Sound) (d : Decimator) 
 abbrev pub SoundIsPlayed : Type 0
 SoundIsPlayed = (file : List ℕ) (r : Content) (s : Sound) (d : Decimator) → HasSound file r s → IsSound s → IsPlayed file r s d
 
--- the bytes of all frames are as many as the header tells
+-- there are as many bytes of all frames as the header says
 abbrev pub FramesFill : Type 0
 FramesFill = (d : Decimator) (s : Sound) (bytes : List ℕ) → IsSound s → (s.interleaving ≡ Bytes → s.count % 8 ≡ 0)
     → length bytes ≡ s.size → length (all_bytes d s bytes) ≡ data_size s.channels d.width (total_frames d s)
 
--- a file around so many bytes has its size
+-- a file around n bytes has its size
 abbrev pub FileHasSize : Type 0
 FileHasSize = (d : Decimator) (s : Sound) (bytes : List ℕ) → length bytes ≡ data_size s.channels d.width (total_frames d s)
     → length (file_around d s bytes) ≡ file_size s.channels d.width (total_frames d s)
@@ -43,7 +44,7 @@ FileHasSize = (d : Decimator) (s : Sound) (bytes : List ℕ) → length bytes �
 abbrev pub NothingIsDue : Type 0
 NothingIsDue = (d : Decimator) (s : Sound) → due_bytes d s [] ≡ []
 
--- the bytes that are due after a front of the sound bytes are a front of those of all frames
+-- the bytes that are due after a prefix of the sound bytes are a prefix of those of all frames
 abbrev pub FrontComesFirst : Type 0
 FrontComesFirst = (d : Decimator) (s : Sound) (before bytes : List ℕ) → IsSound s → (s.interleaving ≡ Bytes → s.count % 8 ≡ 0) → 8 ≤ d.factor
     → length (before ++ bytes) ≡ s.size → (more : List ℕ) × (all_bytes d s (before ++ bytes) ≡ due_bytes d s before ++ more)

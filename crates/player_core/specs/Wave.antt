@@ -18,7 +18,7 @@ header_of d s = header s.channels (s.rate / d.factor) d.width (total_frames d s)
 abbrev pub pad_of : Decimator → Sound → List ℕ
 pad_of d s = pad_bytes s.channels d.width (total_frames d s)
 
--- how many bytes the file has
+-- the number of bytes of the file
 abbrev pub file_size : Decimator → Sound → ℕ
 file_size d s = sizes.file_size s.channels d.width (total_frames d s)
 

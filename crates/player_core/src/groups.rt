@@ -13,7 +13,7 @@ use std::alloc::AllocError;
 // The bytes of a block.
 const BLOCK: usize = 4096;
 
-/// How many bytes of a channel stand side by side: one in DSDIFF 1.5, a block in DSF 1.01.
+/// How many neighbouring bytes of a channel there are: one in DSDIFF 1.5, a block in DSF 1.01.
 pub(crate) fn part_size(interleaving: Interleaving) -> usize
     ensures { result ≡ Groups.part_size interleaving }
 {
@@ -23,7 +23,7 @@ pub(crate) fn part_size(interleaving: Interleaving) -> usize
     }
 }
 
-/// How many bytes a group of sound bytes has: for each channel in turn as many as stand side by side.
+/// How many bytes a group of sound bytes has: for each channel in turn its neighbouring bytes.
 pub(crate) fn group_size(sound: &Sound) -> usize
     requires { sound.now.channels ≤ 6 }
     ensures { result ≡ Groups.group_size sound.now.interleaving sound.now.channels }
@@ -31,7 +31,7 @@ pub(crate) fn group_size(sound: &Sound) -> usize
     sound.channels * part_size(sound.interleaving)
 }
 
-/// How many bytes of each channel stand in the whole groups of so many sound bytes.
+/// How many bytes of each channel are in the whole groups of `size` sound bytes.
 pub(crate) fn bytes_heard(sound: &Sound, size: usize) -> usize
     requires { (1 ≤ sound.now.channels) × (sound.now.channels ≤ 6) }
     ensures { result ≡ Due.bytes_heard sound.now size }
@@ -40,8 +40,8 @@ pub(crate) fn bytes_heard(sound: &Sound, size: usize) -> usize
     sound.count.div_ceil(8).min(whole)
 }
 
-/// The first bytes of a channel in whole groups of sound bytes, each with its earliest bit the most
-/// significant. They take the place of what `own` held.
+/// The first bytes of a channel in whole groups of sound bytes, each with its earliest bit as the most significant.
+/// They replace what `own` held.
 pub(crate) fn fill_channel(
     own: &mut Vec<u8>,
     groups: &[u8],
@@ -62,7 +62,7 @@ pub(crate) fn fill_channel(
     }
 }
 
-// The byte of a channel in each of the first frames of so many bytes, in the place of what `own` held.
+// The byte of a channel in each of the first frames of `channels` bytes, which replace what `own` held.
 fn fill_strided(
     own: &mut Vec<u8>,
     groups: &[u8],
@@ -79,8 +79,8 @@ fn fill_strided(
     Ok(())
 }
 
-// Writes the byte of a channel in each frame of so many bytes. Two are told as a number, so that the compiler
-// takes many frames at once.
+// Writes the byte of a channel in each frame. Two channels are a constant here, so that the compiler takes many frames
+// at once.
 fn pick(to: &mut [u8], groups: &[u8], channels: usize, channel: usize)
     requires channel { channel < channels }
     requires enough { length to.old * channels ≤ length groups.now }
@@ -107,7 +107,7 @@ fn pick_each(to: &mut [u8], groups: &[u8], channels: usize, channel: usize)
     }
 }
 
-// Appends the first bytes of a channel's block in each group of so many blocks.
+// Appends the first bytes of a channel's block in each group of blocks.
 fn push_blocks(
     own: &mut Vec<u8>,
     groups: &[u8],
@@ -129,7 +129,7 @@ fn push_blocks(
     Ok(())
 }
 
-// Appends bytes of which each is changed between this order of its bits and the most significant bit first.
+// Appends bytes, each changed between this order of its bits and the order with the most significant bit first.
 fn push_in_order(own: &mut Vec<u8>, bytes: &[u8], order: BitOrder) -> Result<(), AllocError>
     ensures { OnOk result (own.new.items ≡ own.old.items ++ map (ordered order) bytes.now) }
 {

@@ -1,23 +1,23 @@
-//! Laws of what a player gives. Each function does nothing: a caller's proof cites what it ensures.
+//! Laws of what a player returns. Each function does nothing: a caller's proof cites what it ensures.
 
 ghost use Rattle.player_core.specs.Laws.{FileHasSize, FramesFill, FrontComesFirst, NothingIsDue, SoundIsPlayed};
 
 use wave_core::parts_join;
 
-/// The law of the file: the WAVE text of a recording that a file holds is the header, the bytes of all frames of
-/// the file's sound, and the pad; where they are too large there is none.
+/// The law of the file: the WAVE text of a recording that a file holds is the header, the bytes of all frames of the
+/// file's sound, and the pad. If they are too large there is none.
 pub fn sound_is_played()
     ensures { SoundIsPlayed }
 {
     parts_join();
 }
 
-/// The law of the data: the bytes of all frames are as many as the header tells.
+/// The law of the data: there are as many bytes of all frames as the header says.
 pub fn frames_fill_the_data()
     ensures { FramesFill }
 {}
 
-/// The law of the size: header, data and pad are as many bytes as the file has.
+/// The law of the size: header, data and pad have as many bytes as the file.
 pub fn file_has_its_size()
     ensures { FileHasSize }
 {}
@@ -27,8 +27,8 @@ pub fn nothing_is_due_at_first()
     ensures { NothingIsDue }
 {}
 
-/// The law of fronts: the bytes of the frames that are due after a front of the sound bytes are a front of those
-/// of all frames.
+/// The law of prefixes: the bytes of the frames that are due after a prefix of the sound bytes are a prefix of those of
+/// all frames.
 pub fn frames_of_a_front_come_first()
     ensures { FrontComesFirst }
 {}

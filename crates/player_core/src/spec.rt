@@ -1,4 +1,4 @@
-//! What the WAVE file of a sound tells.
+//! What the WAVE file of a sound says.
 
 ghost use Rattle.std.specs.Prelude.{◌≡◌, ◌/◌, ◌≤◌};
 ghost use Rattle.dsd_bits.specs.Limits.{greatest_rate, least_rate};
@@ -7,7 +7,7 @@ ghost use Rattle.wave_core.specs.Contents.{spec_of};
 use fir_core::Taps;
 use wave_core::WaveSpec;
 
-/// What the WAVE file of so many channels of bits at a rate tells: 1 to 6 channels, and the rate in hertz within the
+/// What the WAVE file of `channels` channels of bits at a rate says: 1 to 6 channels, and the rate in hertz within the
 /// limits of a recording.
 pub fn wave_spec(taps: &Taps, channels: usize, rate: u32) -> WaveSpec
     requires channels { (1 ≤ channels) × (channels ≤ 6) }

@@ -23,7 +23,7 @@ fn total_frames(taps: &Taps, sound: &Sound) -> u64
     sound.count.div_ceil(taps.factor() as usize) as u64
 }
 
-// What the WAVE file of a sound tells.
+// What the WAVE file of a sound says.
 fn spec_of(taps: &Taps, sound: &Sound) -> WaveSpec
     requires { IsSound sound.now }
     ensures spec { result ≡ spec_of sound.now.channels (sound.now.rate / taps.now.factor) taps.now.width }
@@ -70,7 +70,7 @@ pub(crate) fn put_header<W: Write>(
     }
 }
 
-/// Writes what stands behind the frames of a sound: a byte where their bytes are odd.
+/// Writes what follows the frames of a sound: a byte if theirs are an odd number.
 ///
 /// Refusals: `Memory`, `WriteFailed`.
 pub(crate) fn put_pad<W: Write>(

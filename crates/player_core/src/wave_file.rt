@@ -17,10 +17,9 @@ use wave_core::{WaveFault, parts_join, push_frames};
 // How many frames are made at a time, so that their samples stay in the cache.
 const TILE: usize = 4096;
 
-/// The WAVE file of a recording's samples, in each frame one of each channel in order.
+/// The WAVE file of a recording's samples: in each frame one of each channel, in order.
 ///
-/// Refusals, in this order: `TooLarge` where its sizes would not fit 32 bits, for which no sample is made;
-/// `Memory`.
+/// Refusals, in this order: `TooLarge` if its sizes would not fit 32 bits, for which no sample is made; `Memory`.
 pub fn wave_of(alloc: Global, taps: &Taps, recording: &Recording) -> Result<Vec<u8>, WaveFault>
     requires divided { recording.now.rate % taps.now.factor ≡ 0 }
     ensures text { IfOk result (λ wave. wave_text (pcm recording.now taps.now) ≡ Some wave.items) }
@@ -65,7 +64,7 @@ fn push_tiles(
     Ok(())
 }
 
-// The samples of so many frames from frame `start` on, channel by channel.
+// The samples of some frames from frame `start` on, channel by channel.
 fn fill_tile(
     tile: &mut Vec<i32>,
     taps: &Taps,

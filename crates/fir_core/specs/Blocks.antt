@@ -1,16 +1,16 @@
--- Bytes that follow one another, by the windows in which they stand, and the sums that they are in.
+-- Neighbouring bytes, by the windows that contain them, and the sums that they contribute to.
 use Rattle.std.specs.Prelude.{◌≡◌, ℕ, ◌+◌, ◌*◌, ◌/◌, ◌<◌, ◌≤◌, ℤ, pos, List, length, slice_index, slice_index_or}
 use Rattle.fir_core.specs.Rows.{AreEntries, sum_before}
 use Rattle.fir_core.specs.declared.rows.Block.{Block}
 use Rattle.fir_core.specs.declared.rows.Spot.{Spot}
 
--- a byte so many behind another
+-- the byte n places after another
 pub record IsBehind (number : ℕ) (one two : Spot) : Type 0 where
   pub rows : two.rows ≡ one.rows
   pub bytes : two.bytes ≡ one.bytes
   pub p : two.p ≡ one.p + number
 
--- a byte and the three behind it
+-- a byte and the three after it
 pub record AreFour (spot one two three four : Spot) : Type 0 where
   pub first : one ≡ spot
   pub second : IsBehind 1 spot two
@@ -26,11 +26,11 @@ pub record IsReached (spot : Spot) (j : ℕ) : Type 0 where
 abbrev pub HasEntries : Spot → ℕ → ℕ → Type 0
 HasEntries spot j at = (number : ℕ) → j + number ≤ spot.window + 9 → AreEntries spot.rows.taps.now spot.bytes.now spot.rows.step spot.rows.entries.now spot.p j number at
 
--- the rows of a byte and of the three behind it have at these places what each of them adds
+-- the rows of a byte and of the three after it have at these places what each of them adds
 abbrev pub ArePlaces : Spot → ℕ → List ℕ → Type 0
 ArePlaces spot j at = (b number : ℕ) → b < 4 → j + number ≤ spot.window + 9 → AreEntries spot.rows.taps.now spot.bytes.now spot.rows.step spot.rows.entries.now (spot.p + b) j number (slice_index at b)
 
--- the block of the eight bytes from a byte on, with all windows below a limit in which one of them stands
+-- the block of the eight bytes from a byte on, with all windows below a limit that contain one of them
 pub record IsBlockOf (spot : Spot) (limit : ℕ) (block : Block) : Type 0 where
   pub rows : block.rows ≡ spot.rows
   pub bytes : block.bytes ≡ spot.bytes
@@ -39,7 +39,7 @@ pub record IsBlockOf (spot : Spot) (limit : ℕ) (block : Block) : Type 0 where
   pub done : (j : ℕ) → j < block.start → length spot.rows.taps.now / 8 + j * spot.rows.step ≤ spot.p
   pub rest : (j : ℕ) → block.start + block.number ≤ j → j < limit → spot.p + 8 ≤ j * spot.rows.step
 
--- so many windows from window j on are among those of a block
+-- n windows from window j on are among those of a block
 pub record AreOf (block : Block) (j number : ℕ) : Type 0 where
   pub from : block.start ≤ j
   pub to : j + number ≤ block.start + block.number
@@ -48,11 +48,11 @@ pub record AreOf (block : Block) (j number : ℕ) : Type 0 where
 abbrev pub AreSummed : Spot → List ℤ → Type 0
 AreSummed spot sums = (j : ℕ) → j < length sums → slice_index_or sums j (pos 0) ≡ sum_before spot.rows.taps.now spot.bytes.now spot.rows.step spot.p j
 
--- the sum of a window over the bytes before a block and so many of the block's
+-- the sum of a window over the bytes before a block and n of the block's
 abbrev pub sum_within : Block → ℕ → ℕ → ℤ
 sum_within block number j = sum_before block.rows.taps.now block.bytes.now block.rows.step (block.p + number) j
 
--- the sums of the windows before window j have a block's bytes, and the others those before it
+-- the sums of the windows before window j include a block's bytes, and the others those before it
 pub record AreAdded (block : Block) (j : ℕ) (sums : List ℤ) : Type 0 where
   pub long : length sums ≡ block.limit
   pub done : (k : ℕ) → k < j → slice_index_or sums k (pos 0) ≡ sum_within block 8 k

@@ -1,20 +1,22 @@
--- What a byte adds to each window that it stands in, laid out as rows: one for each place in a step and each byte. Windows begin at each step-th byte.
+-- What a byte adds to each window that contains it, laid out as rows: one for each place in a step and each byte.
+-- Windows begin at each step-th byte.
 use Rattle.std.specs.Prelude.{◌≡◌, ℕ, zero, suc, ◌+◌, ◌-◌, ◌*◌, ◌/◌, ◌%◌, ◌^◌, ◌<◌, ◌≤◌, ℤ, pos, unsigned_abs, List, map, take, drop, length, slice_index, slice_index_or}
 use Rattle.std.specs.List.{range_with_len, sum_by}
 use Rattle.fir_core.specs.Signed.{dot, bits_of_byte}
 use Rattle.fir_core.specs.Windows.{window_sum}
 
--- the sum, for a byte, of the last of so many groups of eight taps; of no groups 0
+-- the sum, for a byte, of the last n groups of eight taps; 0 for no groups
 abbrev pub last_group : List ℤ → ℕ → ℕ → ℤ
 last_group taps zero byte = pos 0
 last_group taps (suc group) byte = dot (take 8 (drop (8 * group) taps)) (bits_of_byte byte)
 
--- how many groups of its window a byte ends, by its place in a step and a column of its row: the window in column span - 1 begins in the
--- byte's own step, each column before has the window a step earlier, and those behind have none
+-- how many groups of its window a byte ends, by its place in a step and a column of its row: the window in column span
+-- - 1 begins in the byte's own step, each column before has the window a step earlier, and those after have none
 abbrev pub groups_at : ℕ → ℕ → ℕ → ℕ → ℕ
 groups_at step span place column = (span - column) * step + (place + 1) - step
 
--- an entry of the rows: each has span + 8 columns, and each place in a step 256 rows; the first four entries stand before them
+-- an entry of the rows: each has span + 8 columns, and each place in a step 256 rows; the first four entries come
+-- before them
 abbrev pub row_entry : List ℤ → ℕ → ℕ → ℕ → ℤ
 row_entry taps step span i = last_group taps (groups_at step span ((i - 4) / (span + 8) / 256) ((i - 4) % (span + 8))) ((i - 4) / (span + 8) % 256)
 
@@ -22,12 +24,12 @@ row_entry taps step span i = last_group taps (groups_at step span ((i - 4) / (sp
 abbrev pub rows : List ℤ → ℕ → ℕ → List ℤ
 rows taps step span = map (row_entry taps step span) (range_with_len 0 (256 * step * (span + 8) + 4))
 
--- byte p stands at this place in the step with which the window of this number begins
+-- byte p is at this place in the step with which the window of this number begins
 pub record IsSpot (step p window place : ℕ) : Type 0 where
   pub at : p ≡ window * step + place
   pub inside : place < step
 
--- where the rows hold what a byte at a spot adds to window j
+-- the place in the rows of what a byte at a spot adds to window j
 abbrev pub row_place : ℕ → ℕ → ℕ → ℕ → ℕ → ℕ
 row_place span window place byte j = 4 + (256 * place + byte) * (span + 8) + (j + span - (window + 1))
 
@@ -39,12 +41,12 @@ sum_before taps bytes step p j = window_sum (take (8 * (p - j * step)) taps) byt
 unfoldable pub entry_of : List ℤ → List ℕ → ℕ → ℕ → ℕ → ℤ
 entry_of taps bytes step p j = last_group taps (p + 1 - j * step) (slice_index bytes p)
 
--- the rows have at a place what byte p adds to so many windows from window j on
+-- the rows have at a place what byte p adds to n windows from window j on
 pub record AreEntries (taps : List ℤ) (bytes : List ℕ) (step : ℕ) (entries : List ℤ) (p j number at : ℕ) : Type 0 where
   pub within : at + number ≤ length entries
   pub each : (k : ℕ) → k < number → slice_index_or entries (at + k) (pos 0) ≡ entry_of taps bytes step p (j + k)
 
--- they have at these places what each of eight bytes from p on adds
+-- the rows have at these places what each of eight bytes from p on adds
 pub record IsBlock (taps : List ℤ) (bytes : List ℕ) (step : ℕ) (entries : List ℤ) (p j number : ℕ) (at : List ℕ) : Type 0 where
   pub within : p + 8 ≤ length bytes
   pub each : (b : ℕ) → b < 8 → AreEntries taps bytes step entries (p + b) j number (slice_index at b)

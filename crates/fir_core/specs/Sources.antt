@@ -5,11 +5,12 @@ use Rattle.fir_core.specs.Decimator.{Decimator}
 use Rattle.fir_core.specs.Places.{samples_from}
 use Rattle.fir_core.specs.declared.source.Source.{Source}
 
--- so many of its samples, the first at this place
+-- n of its samples, the first at this place
 abbrev pub samples_over : Source → ℕ → ℕ → List ℤ
 samples_over source first number = samples_from source.taps.now (unpacked source.bytes.now source.count) first number
 
--- so many samples can be summed from a place on: it lies in its byte as the delay does, and they end within 2^37 bits
+-- n samples can be summed from a place on: it has the place in its byte that the delay has, and they end within 2^37
+-- bits
 pub record ArePlayable (d : Decimator) (first number : ℕ) : Type 0 where
   pub reach : number * d.factor + first ≤ 2 ^ 37
   pub phase : first % 8 ≡ d.delay % 8

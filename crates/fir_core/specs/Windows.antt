@@ -4,19 +4,19 @@ use Rattle.std.specs.List.{range_with_len}
 use Rattle.std.specs.Int.{div_ceil}
 use Rattle.fir_core.specs.Signed.{dot, bits_of}
 
--- how many bits stand behind place n in its byte
+-- the number of bits after place n in its byte
 abbrev pub behind : ℕ → ℕ
 behind n = 7 - n % 8
 
--- how many bytes the window of so many taps has that ends with the byte of place n
+-- the number of bytes of the window of n taps that ends with the byte of a place
 abbrev pub window_size : ℕ → ℕ → ℕ
 window_size number n = div_ceil (number + behind n) 8
 
--- how many bits of the window stand before its first tap
+-- the number of bits of the window before its first tap
 abbrev pub ahead : ℕ → ℕ → ℕ
 ahead number n = 8 * window_size number n - (number + behind n)
 
--- the taps in the order of the window's bits, with taps of 0 for the bits before and behind them
+-- the taps in the order of the window's bits, with taps of 0 for the bits before and after them
 abbrev pub aligned : List ℤ → ℕ → List ℤ
 aligned h n = replicate (ahead (length h) n) (pos 0) ++ reverse h ++ replicate (behind n) (pos 0)
 
@@ -24,7 +24,7 @@ aligned h n = replicate (ahead (length h) n) (pos 0) ++ reverse h ++ replicate (
 abbrev pub window_sum : List ℤ → List ℕ → ℕ → ℤ
 window_sum taps bytes at = dot taps (bits_of (drop at bytes))
 
--- the sums of so many windows, each so many bytes behind the one before
+-- the sums of n windows, each some bytes after the one before
 abbrev pub window_sums : List ℤ → List ℕ → ℕ → ℕ → List ℤ
 window_sums taps bytes step number = map (λ i. window_sum taps bytes (i * step)) (range_with_len 0 number)
 

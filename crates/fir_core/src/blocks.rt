@@ -1,11 +1,11 @@
-//! Eight bytes that follow one another, and where their rows have what they add.
+//! Eight neighbouring bytes, and the places in their rows of what they add.
 
 ghost use Rattle.std.specs.Prelude.{◌≡◌, ◌+◌, ◌*◌, ◌/◌, ◌%◌, ◌<◌, ◌≤◌, length};
 ghost use Rattle.fir_core.specs.Blocks.{ArePlaces, AreFour, HasEntries, IsBehind, IsBlockOf, IsReached};
 
 use crate::rows::{Block, Spot};
 
-/// Four bytes that follow one another.
+/// Four neighbouring bytes.
 #[derive(Clone, Copy)]
 struct Spots<'a> {
     one: Spot<'a>,
@@ -15,7 +15,7 @@ struct Spots<'a> {
     ghost follow: { AreFour one one two three four },
 }
 
-/// The byte so many behind one, in the same step.
+/// The byte `number` places after another one, in the same step.
 #[inline(always)]
 fn on<'a>(spot: Spot<'a>, number: usize) -> Spot<'a>
     requires inside { spot.place + number < spot.rows.step }
@@ -31,7 +31,7 @@ fn on<'a>(spot: Spot<'a>, number: usize) -> Spot<'a>
     }
 }
 
-/// The byte behind one.
+/// The byte after another one.
 #[inline(always)]
 pub(crate) fn next<'a>(spot: Spot<'a>) -> Spot<'a>
     requires { spot.p < length spot.bytes.now }
@@ -49,7 +49,7 @@ pub(crate) fn next<'a>(spot: Spot<'a>) -> Spot<'a>
     }
 }
 
-/// A byte and the three behind it, which mostly lie in one step.
+/// A byte and the three after it, which are mostly in one step.
 #[inline(always)]
 fn spots_from<'a>(spot: Spot<'a>) -> Spots<'a>
     requires { spot.p + 4 ≤ length spot.bytes.now }
@@ -74,7 +74,7 @@ fn spots_from<'a>(spot: Spot<'a>) -> Spots<'a>
     }
 }
 
-/// Where the rows have what a byte adds to the windows from window `j` on.
+/// The place in the rows of what a byte adds to the windows from window `j` on.
 #[inline(always)]
 pub(crate) fn row_place(spot: Spot<'_>, j: usize) -> usize
     requires within { spot.p < length spot.bytes.now }
@@ -85,7 +85,7 @@ pub(crate) fn row_place(spot: Spot<'_>, j: usize) -> usize
     4 + row * (spot.rows.span + 8) + (j + spot.rows.span - (spot.window + 1))
 }
 
-/// Where they have what each of four bytes adds.
+/// The places in the rows of what each of four bytes adds.
 #[inline(always)]
 fn places_of(spots: Spots<'_>, j: usize) -> [usize; 4]
     requires within { spots.one.p + 4 ≤ length spots.one.bytes.now }
@@ -101,8 +101,8 @@ fn places_of(spots: Spots<'_>, j: usize) -> [usize; 4]
     ]
 }
 
-/// Eight bytes with the places in their rows for all windows below a limit in which one of them stands, and the
-/// byte behind them.
+/// Eight bytes with the places in their rows for all windows below a limit that contain one of them, and the byte after
+/// them.
 #[inline(always)]
 pub(crate) fn block_of<'a>(spot: Spot<'a>, limit: usize) -> (Block<'a>, Spot<'a>)
     requires eights { spot.p % 8 ≡ 0 }

@@ -1,4 +1,4 @@
-//! Ways to the same samples.
+//! Different ways to compute the same samples.
 
 ghost use Rattle.std.specs.Prelude.{◌≡◌, IfOk};
 ghost use Rattle.fir_core.specs.Decimator.{samples};
@@ -17,16 +17,14 @@ use std::alloc::{AllocError, Global};
 pub enum Kernel {
     /// Bit by bit.
     Plain,
-    /// By turns of every eighth step over tiles of samples: for each place in the bytes of a step and each of
-    /// the 256 bytes a row of what the byte adds to the windows that it stands in.
+    /// Every eighth step in turn, over tiles of samples: for each place in the bytes of a step and each of the 256
+    /// bytes, a row of what the byte adds to the windows that contain it.
     Table,
-    /// Eight taps at a time, in lanes, with a byte's bits as the mask that selects a tap or its
-    /// negative.
+    /// Eight taps at a time, in lanes. A byte's bits are the mask that selects a tap or its negative.
     Lanes,
 }
 
-/// All samples of a channel, as [`decimate`] answers them, computed by a kernel. It is refused only
-/// for want of memory.
+/// All samples of a channel, as [`decimate`] returns them, computed by a kernel. The only refusal is out of memory.
 pub fn decimate_with(
     alloc: Global,
     taps: &Taps,

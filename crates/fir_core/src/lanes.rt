@@ -60,7 +60,7 @@ fn sample_by_lanes(turned: Turned<'_>, bits: &Bits, j: usize) -> i32
     )
 }
 
-// The convolution at a place: in lanes where its window lies within the recording, else bit by bit.
+// The convolution at a place: in lanes if its window is within the recording, else bit by bit.
 fn sum_at_by_lanes(turned: Turned<'_>, bits: &Bits, n: usize) -> i32
     requires phase { n % 8 ≡ turned.taps.now.delay % 8 }
     requires place { n < 2 ^ 37 }

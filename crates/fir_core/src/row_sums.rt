@@ -1,5 +1,5 @@
-//! The sums of windows that begin at each step's first byte, eight bytes at a time: a byte's row holds what the
-//! byte adds to each window that it stands in.
+//! The sums of windows that begin at each step's first byte, eight bytes at a time. A byte's row holds what the byte
+//! adds to each window that contains it.
 
 ghost use Rattle.std.specs.Prelude.{◌≡◌, ◌+◌, ◌*◌, ◌/◌, ◌%◌, ◌<◌, ◌≤◌, length};
 ghost use Rattle.fir_core.specs.Blocks.{AreAdded, AreOf, AreSummed, IsBehind, sum_within};
@@ -9,7 +9,7 @@ use crate::blocks::{block_of, next, row_place};
 use crate::rows::{Block, Rows, Spot, with_step};
 use std::simd::prelude::*;
 
-/// Eight bytes in the sum of window `j`.
+/// Adds eight bytes to the sum of window `j`.
 fn add_one(block: Block<'_>, j: usize, sum: i32) -> i32
     requires inside { AreOf block j 1 }
     requires so_far { sum ≡ sum_within block 0 j }
@@ -22,7 +22,7 @@ fn add_one(block: Block<'_>, j: usize, sum: i32) -> i32
     all
 }
 
-/// Eight bytes in the sums of eight windows from window `j` on, as one vector.
+/// Adds eight bytes to the sums of eight windows from window `j` on, as one vector.
 #[inline(always)]
 fn add_eight(block: Block<'_>, j: usize, sums: &mut [i32])
     requires inside { AreOf block j 8 }
@@ -38,8 +38,8 @@ fn add_eight(block: Block<'_>, j: usize, sums: &mut [i32])
     lanes.copy_to_slice(&mut sums[j..]);
 }
 
-/// Eight bytes in the sums of the windows that they reach, in whole eights of windows. This stands alone, so
-/// that its loop knows no more of the rows than where they begin.
+/// Adds eight bytes to the sums of the windows that they reach, in whole groups of eight windows. This is a function of
+/// its own, so that its loop knows no more of the rows than where they begin.
 #[inline(never)]
 fn add_eights(block: Block<'_>, sums: &mut [i32])
     requires { AreAdded block block.start sums.old }
@@ -50,8 +50,7 @@ fn add_eights(block: Block<'_>, sums: &mut [i32])
     }
 }
 
-/// Eight bytes in the sums of the windows that are left over, one by one. Only at the ends of a tile are there
-/// any.
+/// Adds eight bytes to the sums of the remaining windows, one by one. There are some only at the ends of a tile.
 #[inline(never)]
 fn add_rest(block: Block<'_>, sums: &mut [i32])
     requires { AreAdded block (block.start + 8 * (block.number / 8)) sums.old }
@@ -62,7 +61,7 @@ fn add_rest(block: Block<'_>, sums: &mut [i32])
     }
 }
 
-/// Eight bytes in the sum of each window; answers the byte behind them.
+/// Adds eight bytes to the sum of each window, and returns the byte after them.
 #[inline(always)]
 fn add_block<'a>(spot: Spot<'a>, sums: &mut [i32]) -> Spot<'a>
     requires eights { spot.p % 8 ≡ 0 }
@@ -81,7 +80,7 @@ fn add_block<'a>(spot: Spot<'a>, sums: &mut [i32]) -> Spot<'a>
     behind
 }
 
-/// A byte in the sum of each window; answers the byte behind it.
+/// Adds a byte to the sum of each window, and returns the byte after it.
 #[inline(always)]
 fn add_last<'a>(spot: Spot<'a>, sums: &mut [i32]) -> Spot<'a>
     requires within { spot.p < length spot.bytes.now }
@@ -138,8 +137,7 @@ fn sum_steps(rows: Rows<'_>, bytes: &[u8], sums: &mut [i32])
     }
 }
 
-/// The same, where short steps are told as numbers, so that the compiler knows where each byte stands in
-/// its own.
+/// The same, with short steps as constants, so that the compiler knows where each byte is in its own.
 pub(crate) fn sum_rows(rows: Rows<'_>, bytes: &[u8], sums: &mut [i32])
     requires { AreWithin (length rows.taps.now / 8) rows.step (length sums.old) bytes.now }
     ensures { sums.new ≡ window_sums rows.entry.taps.now bytes.now rows.entry.step (length sums.old) }

@@ -1,10 +1,9 @@
-//! What each byte adds to the windows that it stands in, laid out as rows, and the places of bytes in them.
+//! What each byte adds to the windows that contain it, laid out as rows, and the places of bytes in them.
 
 ghost use Rattle.std.specs.Prelude.{◌≡◌, ◌+◌, ◌*◌, ◌/◌, ◌%◌, ◌<◌, ◌≤◌, length};
 ghost use Rattle.fir_core.specs.Rows.{IsBlock, IsLaid, IsSpot};
 
-/// Taps in whole groups of eight, the rows of all places in a step of so many bytes, and how many windows a row
-/// spans.
+/// Taps in whole groups of eight, the rows of all places in a step of `step` bytes, and how many windows a row spans.
 #[derive(Clone, Copy)]
 pub(crate) struct Rows<'a> {
     pub(crate) taps: &'a [i32],
@@ -27,8 +26,8 @@ pub(crate) struct Spot<'a> {
     pub(crate) ghost within: { p ≤ length bytes.now },
 }
 
-/// Eight bytes from `p` on, where the rows have what each of them adds to so many windows from window `start` on,
-/// and before which window these end.
+/// Eight bytes from `p` on, the places in the rows of what each of them adds to some windows from window `start` on,
+/// and the window before which these end.
 #[derive(Clone, Copy)]
 pub(crate) struct Block<'a> {
     pub(crate) rows: Rows<'a>,
@@ -42,7 +41,7 @@ pub(crate) struct Block<'a> {
     pub(crate) ghost below: { start + number ≤ limit },
 }
 
-/// The same rows, where the step is told as a number.
+/// The same rows, with the step as a constant.
 #[inline(always)]
 pub(crate) fn with_step<'a>(rows: Rows<'a>, step: usize) -> Rows<'a>
     requires { step ≡ rows.step }
@@ -58,8 +57,8 @@ pub(crate) fn with_step<'a>(rows: Rows<'a>, step: usize) -> Rows<'a>
     }
 }
 
-/// How many windows of so many bytes eight bytes reach, rounded up to whole eights. Where steps are eights
-/// of bytes, eight bytes from a multiple of eight on lie in one.
+/// How many windows of some bytes eight bytes reach, rounded up to whole groups of eight. If steps are multiples of
+/// eight bytes, eight bytes from a multiple of eight on are in one.
 pub(crate) fn span_of(size: usize, step: usize) -> usize
     requires few { size ≤ 513 }
     requires some { 1 ≤ step }

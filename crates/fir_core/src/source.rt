@@ -6,7 +6,7 @@ ghost use Rattle.fir_core.specs.Windows.{aligned};
 use crate::tables::Tables;
 use crate::taps::Taps;
 
-/// Bytes whose first so many bits are played by a decimator, and its tables.
+/// Bytes whose first bits are played by a decimator, and its tables.
 #[derive(Clone, Copy)]
 pub(crate) struct Source<'a> {
     pub(crate) taps: &'a Taps,

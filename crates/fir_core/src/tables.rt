@@ -1,4 +1,4 @@
-//! What each byte adds to the windows that it stands in, for a decimator's taps.
+//! What each byte adds to the windows that contain it, for a decimator's taps.
 
 ghost use Rattle.std.specs.Prelude.{◌≡◌, ◌+◌, ◌*◌, ◌%◌, ◌^◌, ◌<◌, ◌≤◌, length, IfOk, unsigned_abs};
 ghost use Rattle.std.specs.List.{sum_by};
@@ -12,9 +12,8 @@ use crate::taps::Taps;
 use std::alloc::{AllocError, Global};
 use std::marker::Model;
 
-/// A decimator's taps in the order of the bits of a window of whole bytes, and for each byte, at each
-/// place in the bytes of a step, a row of what it adds to the windows that it stands in. Contracts see
-/// it as the taps in that order.
+/// A decimator's taps in the order of the bits of a window of whole bytes, and for each byte, at each place in the
+/// bytes of a step, a row of what it adds to the windows that contain it. Contracts see it as the taps in that order.
 #[derive(Drop)]
 pub struct Tables {
     pub(crate) taps: Vec<i32>,
@@ -51,8 +50,8 @@ impl Tables {
     ghost use Rattle.std.specs.Prelude.{◌≡◌, IfOk};
     ghost use Rattle.fir_core.specs.Windows.{aligned};
 
-    /// The tables of a decimator; of its places they know the delay's, and every sample has its phase.
-    /// They are refused only for want of memory.
+    /// The tables of a decimator. They are made for the place in its byte that the delay has, which every sample's
+    /// place has too. The only refusal is out of memory.
     pub fn new(alloc: Global, taps: &Taps) -> Result<Tables, AllocError>
         ensures { IfOk result (λ made. made ≡ aligned taps.now.taps taps.now.delay) }
     {
@@ -74,7 +73,7 @@ impl Tables {
     }
 }
 
-// The taps in the order of the window's bits, with zeros before and behind them.
+// The taps in the order of the window's bits, with zeros before and after them.
 pub(crate) fn aligned_taps(alloc: Global, taps: &Taps) -> Result<Vec<i32>, AllocError>
     ensures { IfOk result (λ made. made.items ≡ aligned taps.now.taps taps.now.delay) }
 {
@@ -120,7 +119,7 @@ fn groups_at(layout: Layout<'_>, place: usize, column: usize) -> usize
     (layout.span.saturating_sub(column) * step + (place + 1)).saturating_sub(step)
 }
 
-// The sum, for a byte, of the last of so many groups of taps; of none 0, and of more than there are.
+// The sum, for a byte, of the last of some groups of taps; 0 for none, and for more than there are.
 fn last_group(layout: Layout<'_>, number: usize, byte: u8) -> i32
     ensures { result ≡ Rows.last_group layout.entry.taps.now number byte }
 {

@@ -1,4 +1,4 @@
-//! The samples of a run of places, by tables where the window lies within the bytes.
+//! The samples of a run of places, by tables if the window is within the bytes.
 
 ghost use Rattle.std.specs.Prelude.{◌≡◌, ◌+◌, ◌*◌, ◌/◌, ◌%◌, ◌^◌, ◌<◌, ◌≤◌, ◌++◌, EachIndex, OnErr, OnOk, length, map, pos, slice_index_or, unsigned_abs};
 ghost use Rattle.std.specs.Int.{div_ceil};
@@ -23,8 +23,8 @@ use std::alloc::AllocError;
 /// How many samples are summed at a time, so that their sums stay in the cache.
 const TILE: usize = 4096;
 
-/// The sums of windows that begin at each `step`-th byte: by rows, or one by one where the tables are
-/// those of another factor, which no stream has.
+/// The sums of windows that begin at each `step`-th byte: by rows, or one by one if the tables are those of another
+/// factor, which no stream has.
 fn sum_tile(tables: &Tables, bytes: &[u8], step: usize, sums: &mut [i32])
     requires { AreWithin (length tables.now / 8) step (length sums.old) bytes.now }
     ensures { sums.new ≡ window_sums tables.now bytes.now step (length sums.old) }
@@ -104,8 +104,7 @@ fn fill_windows(source: Source<'_>, first: usize, samples: &mut [i32])
     finish(source.taps, samples);
 }
 
-/// The samples of a run of places: bit by bit where the window goes beyond the bytes, and by the
-/// tables between.
+/// The samples of a run of places: bit by bit if the window extends beyond the bytes, and by the tables between.
 fn fill_tile(source: Source<'_>, first: usize, samples: &mut [i32])
     requires { ArePlayable source.taps.now first (length samples.old) }
     ensures { samples.new ≡ samples_over source.entry first (length samples.old) }
@@ -144,7 +143,7 @@ pub(crate) fn fill_samples(source: Source<'_>, first: usize, samples: &mut [i32]
     }
 }
 
-/// Appends the samples of a run of places; for want of memory it appends nothing.
+/// Appends the samples of a run of places. If memory runs out it appends nothing.
 pub(crate) fn push_samples(
     out: &mut Vec<i32>,
     number: usize,
@@ -163,9 +162,8 @@ pub(crate) fn push_samples(
     Ok(())
 }
 
-/// Appends samples of a channel: sample `start` and those that follow it, `number` in all and each as
-/// [`crate::sample`] answers it, by the tables of the same decimator. For want of memory it appends
-/// nothing.
+/// Appends samples of a channel: sample `start` and those that follow it, `number` in all and each as [`crate::sample`]
+/// returns it, by the tables of the same decimator. If memory runs out it appends nothing.
 pub fn push_part(
     out: &mut Vec<i32>,
     number: usize,

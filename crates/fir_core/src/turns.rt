@@ -1,5 +1,5 @@
-//! The sums of windows, by every eighth step at a time: what such a step adds to neighbouring windows lies in
-//! whole vectors of its bytes' rows, and the sums that it stands in stay in registers.
+//! The sums of windows, by every eighth step at a time (strided). What such a step adds to neighbouring windows is in
+//! whole vectors of its bytes' rows, and the sums that it contributes to stay in registers.
 
 ghost use Rattle.std.specs.Prelude.{◌≡◌, ℕ, ◌+◌, ◌-◌, ◌*◌, ◌/◌, ◌<◌, ◌≤◌, ◌^◌, EachIndex, length, pos, slice_index_or, unsigned_abs};
 ghost use Rattle.std.specs.Int.{div_ceil};
@@ -10,7 +10,7 @@ use crate::row_sums::sum_rows;
 use crate::rows::{Rows, with_step};
 use std::simd::prelude::*;
 
-/// Rows of which no byte reaches more than so many eights of windows.
+/// Rows of which no byte reaches more than `most` groups of eight windows.
 #[derive(Clone, Copy)]
 struct Near<'a, const N: usize> {
     rows: Rows<'a>,
@@ -20,7 +20,7 @@ struct Near<'a, const N: usize> {
     ghost wide: { length rows.taps.now / 8 ≤ 8 * N * rows.step },
 }
 
-/// Adds so many eights of numbers to as many vectors.
+/// Adds groups of eight numbers to as many vectors.
 #[inline(always)]
 fn add_row<const N: usize>(near: &mut [[i32; 8]; N], row: &[i32])
     requires few { N ≤ 128 }
@@ -34,7 +34,7 @@ fn add_row<const N: usize>(near: &mut [[i32; 8]; N], row: &[i32])
     }
 }
 
-/// The last so many columns of the row of a byte at a place in its step.
+/// The last columns of the row of a byte at a place in its step.
 #[inline(always)]
 fn last_columns<'a>(rows: Rows<'a>, place: usize, byte: u8, number: usize) -> &'a [i32]
     requires place { place < rows.step }
@@ -62,7 +62,7 @@ fn add_step<const N: usize>(of: Near<'_, N>, bytes: &[u8], u: usize, near: &mut 
     }
 }
 
-/// The vectors as they stand for the columns of eight steps later: each moves down by one, and the last is 0.
+/// The vectors for the columns of eight steps later: each moves down by one, and the last is 0.
 #[inline(always)]
 fn moved<const N: usize>(near: [[i32; 8]; N]) -> [[i32; 8]; N]
     requires some { 1 ≤ N }
@@ -76,7 +76,7 @@ fn moved<const N: usize>(near: [[i32; 8]; N]) -> [[i32; 8]; N]
     moved
 }
 
-/// Eight numbers in the sums from a place on, to which they are added.
+/// Adds eight numbers to the sums from a place on.
 #[inline(always)]
 fn add_eight(near: [i32; 8], sums: &mut [i32], at: usize)
     requires eight { length near ≡ 8 }
@@ -87,8 +87,8 @@ fn add_eight(near: [i32; 8], sums: &mut [i32], at: usize)
     sum.copy_to_slice(&mut sums[at..]);
 }
 
-/// Adds what every eighth step from step `s` on adds to windows, each of them at the place seven behind its own,
-/// to the sums from place `s` on: to the last eight of whole eights no more.
+/// Adds what every eighth step from step `s` on adds to windows, each at the place seven after its own, to the sums
+/// from place `s` on, but not after the last eight of whole groups.
 #[inline(always)]
 fn add_turn<const N: usize>(of: Near<'_, N>, bytes: &[u8], s: usize, sums: &mut [i32])
     requires turn { s < 8 }
@@ -108,7 +108,7 @@ fn add_turn<const N: usize>(of: Near<'_, N>, bytes: &[u8], s: usize, sums: &mut 
     }
 }
 
-/// Adds what all steps add to windows, each of them at the place seven behind its own, to sums of which all are 0.
+/// Adds what all steps add to windows, each at the place seven after its own, to sums that are all 0.
 #[inline(always)]
 fn add_turns<const N: usize>(of: Near<'_, N>, bytes: &[u8], sums: &mut [i32])
     requires room { 8 ≤ length sums.old }
@@ -122,8 +122,8 @@ fn add_turns<const N: usize>(of: Near<'_, N>, bytes: &[u8], sums: &mut [i32])
     }
 }
 
-/// The sums of windows that begin at each step's first byte, as many as a tile has or fewer, where enough bytes
-/// follow them.
+/// The sums of windows that begin at each step's first byte, at most as many as a tile has, if enough bytes follow
+/// them.
 #[inline(always)]
 fn sum_tile<const N: usize>(of: Near<'_, N>, bytes: &[u8], sums: &mut [i32])
     requires tile { length sums.old ≤ 4096 }
@@ -136,7 +136,7 @@ fn sum_tile<const N: usize>(of: Near<'_, N>, bytes: &[u8], sums: &mut [i32])
     sums.copy_from_slice(&used[7..7 + sums.len()]);
 }
 
-/// The same, where short steps are told as numbers, so that the compiler knows how many bytes a step has.
+/// The same, with short steps as constants, so that the compiler knows how many bytes a step has.
 #[inline(never)]
 fn sum_front<const N: usize>(of: Near<'_, N>, bytes: &[u8], sums: &mut [i32])
     requires tile { length sums.old ≤ 4096 }
@@ -151,8 +151,8 @@ fn sum_front<const N: usize>(of: Near<'_, N>, bytes: &[u8], sums: &mut [i32])
     }
 }
 
-/// The sums of windows that begin at each step's first byte: the first by turns, as far as enough bytes follow
-/// them, and the rest eight bytes at a time.
+/// The sums of windows that begin at each step's first byte: the first strided, as far as enough bytes follow them, and
+/// the rest eight bytes at a time.
 fn sum_near<const N: usize>(rows: Rows<'_>, bytes: &[u8], sums: &mut [i32])
     requires number { N ≡ div_ceil (div_ceil (length rows.taps.now / 8) rows.step) 8 }
     requires within { AreWithin (length rows.taps.now / 8) rows.step (length sums.old) bytes.now }
@@ -171,9 +171,9 @@ fn sum_near<const N: usize>(rows: Rows<'_>, bytes: &[u8], sums: &mut [i32])
     }
 }
 
-/// The sums of windows that begin at each step's first byte: by turns, where a row spans few enough windows for
-/// their sums to stay in registers. Up to six vectors the compiler takes apart into numbers, but for six where each
-/// step is a byte: there eight bytes at a time are quicker.
+/// The sums of windows that begin at each step's first byte: strided, if a row spans few enough windows for their sums
+/// to stay in registers. The compiler splits up to six vectors into numbers, but for six if each step is a byte: there
+/// eight bytes at a time are faster.
 pub(crate) fn sum_all(rows: Rows<'_>, bytes: &[u8], sums: &mut [i32])
     requires { AreWithin (length rows.taps.now / 8) rows.step (length sums.old) bytes.now }
     ensures { sums.new ≡ window_sums rows.entry.taps.now bytes.now rows.entry.step (length sums.old) }

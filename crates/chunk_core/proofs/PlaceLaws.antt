@@ -6,8 +6,8 @@ use Rattle.chunk_core.specs.declared.layout.Span.{Span}
 use Rattle.chunk_core.specs.Chunks.{Chunk, chunks, width}
 use Rattle.chunk_core.specs.Laws.{SpansAgain, SpansFound}
 use Rattle.chunk_core.specs.Places.{places, span_chunk}
-use Rattle.chunk_core.specs.Reading.{size_of, spans_in, walk_of}
-use Rattle.chunk_core.proofs.ReadingLaws.{First, first_parts, is_found, found_again}
+use Rattle.chunk_core.specs.Reading.{spans_in, walk_of}
+use Rattle.chunk_core.proofs.ReadingLaws.{first_parts, is_found, found_again}
 use Rattle.chunk_core.proofs.Ranges.{range_inner, range_after}
 use Rattle.chunk_core.proofs.Steps.{bind_ok}
 
@@ -28,17 +28,6 @@ places_push at (d ∷ cs) c = ap (λ (ss : List Span). record { id = d.id; start
 -- the data of a span inside the bytes
 pub span_long : (xs : List ℕ) (stop : ℕ) (s : Span) → s.start + s.size ≤ stop → stop ≤ length xs → length (take s.size (drop s.start xs)) ≡ s.size
 span_long xs stop s h k = omega (arith, length-take s.size (drop s.start xs), length-drop s.start xs)
-
--- a span that was made from a head stands for the first chunk
-pub span_is : (xs : List ℕ) (at stop : ℕ) (s : Span) → 12 ≤ length (slice_range xs at stop) → s.id ≡ take 4 (slice_range xs at stop) → s.size ≡ size_of (slice_range xs at stop)
-    → s.size ≤ length (slice_range xs at stop) - 12 → s.start ≡ at + 12 → First (slice_range xs at stop) (span_chunk xs s)
-span_is xs at stop s long id size fits start =
-    let here : List ℕ = slice_range xs at stop in
-    let short : length here ≤ stop - at = omega (arith, length-take (stop - at) (drop at xs)) in
-    let inner : take s.size (drop 12 here) ≡ take s.size (drop s.start xs) = rw start (range_inner xs at stop 12 s.size (omega arith)) in
-    let content : take (size_of here) (drop 12 here) ≡ take s.size (drop s.start xs) = ap (λ (n : ℕ). take n (drop 12 here)) (sym size) ∙ inner in
-    let counted : length (take s.size (drop 12 here)) ≡ s.size = omega (arith, length-take s.size (drop 12 here), length-drop 12 here) in
-    record { long = omega (arith, size); id = sym id; size = sym size ∙ sym counted ∙ ap length inner; content = content }
 
 -- ---- the places in a range
 

@@ -16,7 +16,7 @@ use Rattle.chunk_core.proofs.PlaceLaws.{spans_again}
 use Rattle.chunk_core.proofs.ReadingLaws.{walk_end}
 use Rattle.dsd_bits.specs.declared.marks.Place.{Place}
 use Rattle.dsd_bits.specs.declared.marks.Place.TheVariants.{Property, Master, Form}
-use Rattle.dsd_bits.specs.Ids.{same_id, DSD}
+use Rattle.dsd_bits.specs.Ids.{DSD}
 use Rattle.dsd_bits.specs.Shape.{has_part}
 use Rattle.dsdiff_core.specs.declared.fault.DsdiffFault.{DsdiffFault}
 use Rattle.dsdiff_core.specs.declared.held.Held.{Held}
@@ -24,7 +24,6 @@ use Rattle.dsdiff_core.specs.Fields.{form_end}
 use Rattle.dsdiff_core.specs.Fronts.{size_at}
 use Rattle.dsdiff_core.specs.Held.{IsAround, IsHeld, MayStand, StandsFor, StandsIn, held}
 use Rattle.dsdiff_core.specs.Located.{sound_size}
-use Rattle.dsdiff_core.specs.Spans.{span_has}
 use Rattle.dsdiff_core.specs.Steps.{Fails, chunk_fault, walked}
 use Rattle.dsdiff_core.proofs.AnySound.{end_fits}
 use Rattle.dsdiff_core.proofs.Alike.{spans_same}
@@ -49,18 +48,6 @@ back_part f at le =
     let here : at ≡ length f.front.now + length zeros + (at - length f.front.now - f.hole) = omega (arith, le, length-replicate {A = ℕ} f.hole 0) in
     ap (λ n. drop n (held f)) here ∙ tail_is f.front.now zeros f.back.now (at - length f.front.now - f.hole)
 
--- a chunk of another kind than a sound is held
-pub may_stand : (f : Held) (s : Span) → MayStand f s → span_has DSD s ≡ false → StandsIn f s
-may_stand f s (inl here) other = here
-may_stand f s (inr sound) other = (let both : true ≡ false = sym sound.0 ∙ other in absurd cc)
-
--- chunks of another ID are no sounds
-pub other_id : (s : Span) (id : List ℕ) → same_id id DSD ≡ false → s.id ≡ id → span_has DSD s ≡ false
-other_id s id other is = ap (λ (x : List ℕ). same_id x DSD) is ∙ other
-
-pub held_by : (f : Held) (s : Span) (id : List ℕ) → same_id id DSD ≡ false → MayStand f s → s.id ≡ id → StandsIn f s
-held_by f s id other may is = may_stand f s may (other_id s id other is)
-
 -- what is kept of a place is held
 pub kept_stands : (p : Place) (f : Held) (s : Span) → StandsFor p f s → has_part p s.id (span_chunk (held f) s).content ≡ false → StandsIn f s
 kept_stands Property f s h e = h
@@ -81,9 +68,6 @@ inside_stand f s start stop ss h low high all = All-weaker (LiesIn start stop) (
     | inr back ↦ inr (omega (arith, lies.begins, low, back.0), omega (arith, lies.ends, high, back.1))
   ];
 }) ss all
-
-pub all_may : (f : Held) (ss : List Span) → All (StandsIn f) ss → All (MayStand f) ss
-all_may f ss all = All-weaker (StandsIn f) (MayStand f) (λ s h. inl h) ss all
 
 -- the chunks of a range that is held
 pub range_spans : (bytes part : List ℕ) (start stop : ℕ) → slice_range bytes start stop ≡ part → spans_at start part ≡ spans_in bytes start stop

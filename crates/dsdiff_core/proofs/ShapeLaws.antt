@@ -43,9 +43,6 @@ empties f none a (suc n) = rw (none a, empties f none (a + 1) n) refl
 pub silent : (n : ℕ) → unlaced_all [] n ≡ replicate n []
 silent n = empties (unlaced [] n) (λ c. rw (zero-div n) refl) 0 n
 
-pub silent_short : (n : ℕ) → 8 * (0 / n) ≤ 2 ^ 36
-silent_short n = rw (zero-div n) (omega arith)
-
 -- ---- what is kept
 
 stays : (p q : Place) (cs : List Chunk) → same_place q p ≡ true → filter (λ o. same_place o.place p) (map (other_in q) cs) ≡ map (other_in q) cs

@@ -1,16 +1,14 @@
 -- What is read keeps to the rules of a recording.
-use Rattle.std.proofs.Common.{◌≡◌, ℕ, ◌+◌, ◌≤◌, Bool, List, [], ◌∷◌, ◌++◌, codes, length, refl, sym, ap, ◌∙◌, inl, inr, arith, ne_eqb, eq-eqb}
+use Rattle.std.proofs.Common.{◌≡◌, ℕ, ◌+◌, ◌≤◌, List, [], ◌∷◌, ◌++◌, codes, length, refl, sym, ◌∙◌, inl, inr, arith, ne_eqb, eq-eqb}
 use Rattle.std.proofs.lemmas.Bool.{cases_eq}
 use Rattle.std.proofs.lemmas.List.FromFn.{length-map-range_with_len}
 use Rattle.dsd_bits.specs.Layouts.{layout_channels}
-use Rattle.dsd_bits.specs.Shape.{AreDescribed, IsDescription}
-use Rattle.dsd_bits.specs.Channels.{IsLevel, count_of}
-use Rattle.dsd_bits.specs.Blocks.{unblocked}
+use Rattle.dsd_bits.specs.Shape.{IsDescription}
 use Rattle.dsd_bits.specs.Sounds.{IsSound}
 use Rattle.dsd_bits.proofs.LayoutLaws.{usual_layout_fits}
 use Rattle.dsf_core.specs.declared.front.Front.{Front}
 use Rattle.dsf_core.specs.Fields.{dsf_ids, layout_told}
-use Rattle.dsf_core.specs.Reading.{channels_by, described_by}
+use Rattle.dsf_core.specs.Reading.{described_by}
 
 layout_fits : (kind number : ℕ) → number ≤ 6 → layout_channels (layout_told kind number) ≡ number
 layout_fits kind number six = elim (cases_eq (layout_channels kind) number) [
@@ -38,10 +36,3 @@ shape_is front tag s =
       in_order = refl;
       no_parts = λ k d h. absurd (omega arith);
     }
-
-pub channels_fit : (front : Front) (tag bytes : List ℕ) (channels : List (List Bool)) → channels ≡ channels_by front bytes → IsLevel channels → count_of channels ≡ front.sound.count → AreDescribed (described_by front tag) channels
-channels_fit front tag bytes channels made level count = record {
-  number = ap length made ∙ length-map-range_with_len (unblocked front.order bytes front.sound.channels front.sound.count) 0 front.sound.channels ∙ sym (id_for_each front.sound.channels);
-  level = level;
-  count = count;
-}

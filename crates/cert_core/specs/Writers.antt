@@ -86,6 +86,6 @@ entries_left writer = writer.entries_left
 abbrev pub is_open : {W : Type 0} → CertWriter W → Bool
 is_open writer = writer.is_open
 
--- the head of its certificate, with so many entries
+-- the head of its certificate, with a number of entries
 abbrev pub head_of : {W : Type 0} → CertWriter W → ℕ → List ℕ
 head_of writer entries = cert_head (cert_version writer) (cert_weights writer) entries

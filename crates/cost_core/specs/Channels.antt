@@ -16,7 +16,7 @@ channel cue [] xs = cue
 channel cue (p ∷ ps) [] = cue
 channel cue (p ∷ ps) (x ∷ xs) = cue ++ (x ++ channel p.cue ps xs)
 
--- a bridge of no bits, a plain cut, costs nothing
+-- an empty bridge, a plain cut, costs nothing
 abbrev pub unless_cut : Bridging → ℕ → ℕ
 unless_cut d cost = if d.levels == 0 then 0 else cost
 

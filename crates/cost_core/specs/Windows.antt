@@ -6,7 +6,7 @@ use Rattle.splice_core.specs.declared.cue.Target.TheVariants as targets
 use Rattle.cost_core.specs.Bridges.{Bridging}
 use Rattle.cost_core.specs.Targets.{targets_of}
 
--- cue i of a splice; past the last one a cue of no bits
+-- cue i of a splice; past the last one an empty cue
 abbrev pub cue_at : SpliceContent → ℕ → CueContent
 cue_at splice i = slice_index_or splice.cues i (record { take = 0; start = 0; stop = 0; bridge = 0; target = targets.Fade; title = None })
 

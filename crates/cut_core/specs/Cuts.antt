@@ -40,7 +40,7 @@ cut_with splice takes =
       windows = each_below (length splice.cues - 1) (λ i. each_below number (λ c. fades.bridging splice i (source splice takes c i) (source splice takes c (i + 1))));
     }
 
--- cue i; past the last one a cue without bits
+-- cue i; past the last one an empty cue
 abbrev pub cue_at : CutContent → ℕ → CueContent
 cue_at cut i = fades.cue_at cut.splice i
 

@@ -33,7 +33,7 @@ range_of splice number i = if (cue_at splice i).take == number then record { sta
 abbrev pub ranges_of : SpliceContent → ℕ → List BitRange
 ranges_of splice number = each_below (length splice.cues) (range_of splice number)
 
--- ---- what is heard of a take
+-- ---- what is read of a take
 -- a recording without its bits, the number of bits of each channel, and by cue and by channel the bits that are read
 pub record HeardContent : Type 0 where
   pub recording : Content
@@ -90,7 +90,7 @@ shape_at shapes i = slice_index_or shapes i (record { rate = 0; channels = 0; co
 abbrev pub shape_of_cue : SpliceContent → List TakeShape → ℕ → TakeShape
 shape_of_cue splice shapes i = shape_at shapes (cue_at splice i).take
 
--- ---- the cut of what was heard
+-- ---- the cut made from what was read
 -- where a cue starts in the bits that are read for it
 abbrev pub start_in : SpliceContent → ℕ → ℕ
 start_in splice i = (cue_at splice i).start - heard_from splice i

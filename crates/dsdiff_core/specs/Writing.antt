@@ -77,7 +77,7 @@ form_text cs = FRM8 ++ big_bytes 8 (4 + length (flat_map spell cs)) ++ DSD ++ fl
 abbrev pub dsdiff_text : Content → Option (List ℕ)
 dsdiff_text r = if count_of r.channels % 8 == 0 then Some (form_text (form_chunks r)) else None
 
--- ---- the same as three parts, of which the first and the last don't ask for the channels
+-- ---- the same as three parts, of which the first and the last don't depend on the channels
 
 -- the chunks before the sound
 abbrev pub first_chunks : Content → List Chunk

@@ -93,7 +93,7 @@ needed file = blocks_size (channel_number file) (count file)
 abbrev pub sound_end : List ℕ → ℕ
 sound_end file = sound_place file + needed file
 
--- ---- what the fields tell
+-- ---- what the fields say
 
 -- the layout: the channel type if it fits the channel number, else the usual layout (this project's profile)
 abbrev pub layout_told : ℕ → ℕ → ℕ

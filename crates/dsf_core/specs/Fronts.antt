@@ -93,7 +93,7 @@ IsLocated front (answers.Refused e) = (rest : List ℕ) → recording_of (front 
 abbrev pub EndsAtSound : List ℕ → Type 0
 EndsAtSound front = (s : Sound) × (sound_at front ≡ Found s) × (s.start ≡ length front)
 
--- ---- a file whose sound is not held
+-- ---- a file whose sound isn't in memory
 
 -- the tag of a file that begins with this front, which ends where the sound starts, is everything from this place on,
 -- and comes after the sound; 0 for none

@@ -13,8 +13,8 @@ pub(crate) struct Rows<'a> {
     pub(crate) ghost laid: { IsLaid taps.now entries.now step span },
 }
 
-/// Bytes over which the taps are summed in windows that begin at each step's first byte, and one of the bytes, or
-/// the end behind them, by the last window that begins with it or before it and its place from there on.
+/// Bytes over which the taps are summed in windows that begin at each step's first byte, and one of the bytes, or the
+/// end after them, by the last window that begins with it or before it and its place from there on.
 #[derive(Clone, Copy)]
 pub(crate) struct Spot<'a> {
     pub(crate) rows: Rows<'a>,

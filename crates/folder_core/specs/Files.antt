@@ -39,7 +39,7 @@ IsGiven view name left = IsTrue view.is_told → (bytes : List ℕ) × Gives vie
 abbrev pub IsPut : View → List ℕ → List ℕ → Type 0
 IsPut view name bytes = IsTrue view.is_told → view.file name ≡ Some bytes
 
--- the folder is as it was but for what was put under this name, and what openings give
+-- the folder is unchanged except for what was put under this name, and what openings give
 pub record KeepsOthers (name : List ℕ) (old new : View) : Type 0 where
   pub others : (other : List ℕ) → other ≢ name → new.file other ≡ old.file other
   pub same_told : new.is_told ≡ old.is_told

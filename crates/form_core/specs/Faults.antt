@@ -1,4 +1,4 @@
--- Which fault of reading a file stands for a fault of its format.
+-- Which fault of reading a file represents a fault of its format.
 use Rattle.dsdiff_core.specs.declared.fault.DsdiffFault.{DsdiffFault}
 use Rattle.dsdiff_core.specs.declared.fault.DsdiffFault.TheVariants as dsdiffs
 use Rattle.dsf_core.specs.declared.fault.DsfFault.{DsfFault}

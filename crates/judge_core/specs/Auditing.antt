@@ -26,7 +26,7 @@ bridge_range cut i = record { start = bridge_start cut i; stop = bridge_start cu
 abbrev pub bridge_ranges : CutContent → List BitRange
 bridge_ranges cut = map (bridge_range cut) (range_with_len 0 (length cut.splice.cues - 1))
 
--- ---- a sound that comes
+-- ---- a sound that is read
 -- a sound has as many channels as the master, and each as many bits
 pub record HasMeasure (cut : CutContent) (s : Sound) : Type 0 where
   pub number : s.channels ≡ channel_number cut

@@ -7,7 +7,7 @@ use Rattle.cut_core.specs.Bridges.{bridges}
 use Rattle.cut_core.specs.Cuts.{CutContent, cue_at, span, window}
 use Rattle.cut_core.specs.declared.bridges.BridgePlace.{BridgePlace}
 
--- where the bridge behind cue i starts in the master
+-- where the bridge after cue i starts in the master
 abbrev pub bridge_start : CutContent → ℕ → ℕ
 bridge_start cut i = sum_by span (take i cut.splice.cues) + ((cue_at cut i).stop - (cue_at cut i).start)
 

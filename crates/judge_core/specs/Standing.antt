@@ -44,7 +44,7 @@ claim_from cut rows p = claim_of cut p (kept_at rows p.channel p.cue)
 abbrev pub AreBitsOf : CutContent → List (List (List Bool)) → List (List Bool) → Type 0
 AreBitsOf cut rows zs = (p : BridgePlace) → IsPlace cut p → kept_at rows p.channel p.cue ≡ bridge_bits cut (slice_index_or zs p.channel []) p.cue
 
--- ---- what was found of a master whose bits are gone
+-- ---- what was found of a master whose bits are no longer in memory
 -- the first bit that isn't that of a cue, if there is one
 abbrev pub FindsCued : CutContent → Content → Option CuedPlace → Type 0
 FindsCued cut r place = MatchOption place (HoldCues cut (channel_numbers cut) r.channels) (λ p. IsFirstCuedBit cut r p.channel p.place)

@@ -1,4 +1,4 @@
-//! What DSF 1.01 files tell beside their bits, and the heads of files that are written from that.
+//! What DSF 1.01 files hold besides their bits, and the heads of files that are written from that.
 
 use dsd_bits::{BitOrder, Description};
 use dsf_core::{DsfFault, Located, describe, head, locate, outline, tag_at};
@@ -7,8 +7,8 @@ use fixtures::files::DSF_FRONT;
 use std::alloc::{AllocError, Global};
 use std::test::Fail;
 
-// What a file of so many bytes is described as that begins with a front up to its sound, and has this tag. A front that
-// ends elsewhere is told as want of memory.
+// The description of a file of `total` bytes that begins with a header up to its sound, and has this tag. For a header
+// that ends elsewhere the answer is out of memory.
 fn described(alloc: Global, front: &[u8], total: u64, tag: &[u8]) -> Result<Description, DsfFault> {
     match locate(front) {
         Located::Found(sound) if sound.start == front.len() => {
@@ -18,7 +18,7 @@ fn described(alloc: Global, front: &[u8], total: u64, tag: &[u8]) -> Result<Desc
     }
 }
 
-// The place of the tag, None where a front doesn't end at its sound.
+// The place of the tag, None if a header doesn't end at its sound.
 fn tag_place(front: &[u8]) -> Option<u64> {
     match locate(front) {
         Located::Found(sound) if sound.start == front.len() => Some(tag_at(front)),
@@ -26,7 +26,7 @@ fn tag_place(front: &[u8]) -> Option<u64> {
     }
 }
 
-// Whether all but its bit is told of the file with one bit.
+// Whether a description has all that the file with one bit holds, but its bit.
 fn is_one_bit(told: &Description) -> bool {
     told.rate() == 2_822_400
         && told.count() == 1
@@ -45,7 +45,7 @@ fn tells_all_but_the_bits(rt: HostRuntime) -> Result<(), Fail> {
     Ok(())
 }
 
-// `DSF_FRONT` up to its sound, of a file whose tag stands at 4188, behind the block.
+// `DSF_FRONT` up to its sound, of a file whose tag is at 4188, after the block.
 const WITH_TAG: &[u8; 92] = b"DSD \x1c\0\0\0\0\0\0\0\x5c\x10\0\0\0\0\0\0\x5c\x10\0\0\0\0\0\0\
     fmt \x34\0\0\0\0\0\0\0\x01\0\0\0\0\0\0\0\x01\0\0\0\x01\0\0\0\0\x11\x2b\0\x01\0\0\0\
     \x01\0\0\0\0\0\0\0\0\x10\0\0\0\0\0\0\
@@ -59,7 +59,7 @@ fn tells_where_the_tag_stands(rt: HostRuntime) -> Result<(), Fail> {
     Ok(())
 }
 
-// The fault of a file of so many bytes that begins so, if it has one.
+// The fault of a file of `total` bytes that begins like this, if it has one.
 fn fault_of(alloc: Global, front: &[u8], total: u64) -> Option<DsfFault> {
     described(alloc, front, total, &[]).err()
 }
@@ -95,7 +95,7 @@ fn names_a_tag_behind_the_end(rt: HostRuntime) {
     assert!(rt; fault_of(rt.alloc(), &late, 4189) == None);
 }
 
-// Whether an outline is told of a file of so many bytes that begins with a front up to its sound.
+// Whether there is an outline of a file of `total` bytes that begins with a header up to its sound.
 fn is_outlined(alloc: Global, front: &[u8], total: u64) -> Result<bool, AllocError> {
     match locate(front) {
         Located::Found(sound) if sound.start == front.len() && front.len() as u64 <= total => {

@@ -1,5 +1,5 @@
-//! What the first bytes of a DSF 1.01 file tell of its sound, the faults that they show, and at which length such a file
-//! ends.
+//! What the first bytes of a DSF 1.01 file state about its sound, the faults that they show, and at which length such a
+//! file ends.
 
 use dsd_bits::{BitOrder, Interleaving, Sound, SoundAt};
 use dsf_core::{DsfFault, Located, closes, locate, sound_at};
@@ -72,7 +72,7 @@ fn names_the_faults_of_fields(rt: HostRuntime) {
     }
 }
 
-// A size of 52 + 256: the head of the data chunk stands further on.
+// A size of 52 + 256: the header of the data chunk comes later.
 #[test]
 fn wants_a_longer_format_chunk(rt: HostRuntime) {
     assert!(rt; locate(&changed(33, 1)) == Located::More(DsfFault::HeadCut));

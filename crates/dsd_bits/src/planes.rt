@@ -126,8 +126,8 @@ fn eight_of_fifths(bytes: &[u8], from: usize) -> u8x8
     first.shuffle(second, [0, 5, 10, 15, 16, 21, 26, 31])
 }
 
-/// Writes `count` frames of one to six channels from planes: the byte of channel `c` in frame `k` from place `4096 * c
-/// + k`. There are at most 4096 frames. What follows them is unchanged.
+/// Writes `count` frames of one to six channels from planes: the byte of channel `c` in frame `k` from place
+/// `4096 * c + k`. There are at most 4096 frames. What follows them is unchanged.
 pub fn planes_to_frames(frames: &mut [u8], planes: &[u8], channels: usize, count: usize)
     requires channel_number { (1 ≤ channels) × (channels ≤ 6) }
     requires few { count ≤ block_bytes }

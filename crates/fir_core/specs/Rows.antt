@@ -10,8 +10,8 @@ abbrev pub last_group : List ℤ → ℕ → ℕ → ℤ
 last_group taps zero byte = pos 0
 last_group taps (suc group) byte = dot (take 8 (drop (8 * group) taps)) (bits_of_byte byte)
 
--- how many groups of its window a byte ends, by its place in a step and a column of its row: the window in column span
--- - 1 begins in the byte's own step, each column before has the window a step earlier, and those after have none
+-- how many groups of its window a byte ends, by its place in a step and a column of its row: the window in column
+-- span - 1 begins in the byte's own step, each column before has the window a step earlier, and those after have none
 abbrev pub groups_at : ℕ → ℕ → ℕ → ℕ → ℕ
 groups_at step span place column = (span - column) * step + (place + 1) - step
 

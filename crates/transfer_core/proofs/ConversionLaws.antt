@@ -128,6 +128,9 @@ pub writing_turns : {Y : Type 0} (w : WriteFault) → IsErrOf {T = Y} (Err (faul
 writing_turns writes.NotWholeBytes is = absurd cc
 writing_turns writes.Memory is = absurd cc
 
+pub turns_as : {X Y : Type 0} (f : StreamFault) → IsErrOf {T = X} (Err f) faults.TurnLimit → IsErrOf {T = Y} (Err f) faults.TurnLimit
+turns_as f is = ap Err (let same : f ≡ faults.TurnLimit = cc in same)
+
 pub stream_whole : {X : Type 0} (f : StreamFault) → IsErrOf {T = X} (Err (fault_of_stream f)) NotWholeBytes → ⊥
 stream_whole faults.Memory is = absurd cc
 stream_whole f is = absurd cc

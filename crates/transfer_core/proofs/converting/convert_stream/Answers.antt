@@ -3,7 +3,7 @@ use Rattle.chunk_core.specs.Inlets.{inlet_reader}
 use Rattle.chunk_core.specs.Outlets.{outlet_writer}
 use Rattle.sound_core.specs.Outlines.{around_of}
 use Rattle.form_core.specs.Parts.{head_in, tail_in}
-use Rattle.transfer_core.proofs.ConversionLaws.{converts_file, converts_front, converts_given, ends_stand, nothing_converted, relay_stands, stream_whole, writing_not_whole, writing_stream, writing_turns}
+use Rattle.transfer_core.proofs.ConversionLaws.{converts_file, converts_front, converts_given, ends_stand, nothing_converted, relay_stands, stream_whole, turns_as, writing_not_whole, writing_stream, writing_turns}
 use Rattle.transfer_core.proofs.StreamLaws.{answered, fault_is, same_stream, stream_turns}
 use Rattle.transfer_core.proofs.converting.convert_stream.Given.{Over}
 use Rattle.transfer_core.proofs.converting.convert_stream.Goals as goal
@@ -52,7 +52,7 @@ returns-in_err-relay g c =
       read_failed = rw (same_stream f) c.in_err-relay.ensures.read_failed;
       write_failed = rw (same_stream f) c.in_err-relay.ensures.write_failed;
       reads = c.relay.ensures.reads;
-      turn_limit = λ is. c.in_err-relay.ensures.turn_limit (stream_turns f is);
+      turn_limit = λ is. c.in_err-relay.ensures.turn_limit (turns_as f (stream_turns f is));
       unread = λ is. absurd (stream_whole f is);
       unwritten = λ is. absurd (stream_whole f is);
     })

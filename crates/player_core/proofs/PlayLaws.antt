@@ -20,6 +20,7 @@ use Rattle.sound_core.specs.Sinks.{BeginsSound}
 use Rattle.sound_core.specs.declared.fault.StreamFault.{StreamFault}
 use Rattle.sound_core.specs.declared.fault.StreamFault.TheVariants.{FileRefused, RateNotDivided, TooLarge, ReadFailed, WriteFailed, TurnLimit, Memory}
 use Rattle.sound_core.proofs.ReadLaws.{whole_is}
+use Rattle.sound_core.proofs.SameLaws.{holds_in}
 use Rattle.player_core.specs.Playing.{OnlyFromOutside, PlaysBy, Stands, WritesFront}
 use Rattle.player_core.specs.Wave.{file_size}
 use Rattle.player_core.proofs.PieceLaws.{front_nil}
@@ -83,10 +84,6 @@ text_came law d s came file bytes begins few plays =
     }
 
 -- ---- whose whole sound came
-holds_in : (o : Interleaving) (file : List ℕ) (r : Content) → HoldsIn o file r → HoldsRecording file r
-holds_in Bytes file r h = inl h
-holds_in (Blocks order) file r h = inr (order, h)
-
 module _ (o : Surroundings) (told : AreTold o) (file sound : List ℕ) (stands : StandsIn o file sound) where
   abbrev behind : List ℕ
   behind = stands.gap ++ (o.back ++ stands.rest)

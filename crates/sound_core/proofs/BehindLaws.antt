@@ -1,7 +1,7 @@
 -- What stands around a sound, by the format's own reading.
 use Rattle.std.proofs.Common.{◌≡◌, ◌≢◌, ℕ, ◌+◌, ◌%◌, ◌<◌, ◌≤◌, ◌⊎◌, inl, inr, min, Bool, true, false, List, [], ◌++◌, length, take, drop, Option, Some, None, IfSome, refl, sym, subst, ap, ap₂, ◌∙◌, arith, append_assoc, append-nil, length-append, length-drop, length-take, take-append-drop}
-use Rattle.std.proofs.lemmas.List.{nil_from_length}
-use Rattle.std.proofs.lemmas.Bool.{cases_lt, ltb-false, ltb-true, ne_eqb}
+use Rattle.std.proofs.lemmas.List.{nil_from_length, take_all}
+use Rattle.std.proofs.lemmas.Bool.{cases_lt, le-ltb, lt-ltb, ltb-false, ltb-true, ne_eqb}
 use Rattle.std.proofs.Math.Seq.{drop-append_seam, take-append_seam}
 use Rattle.std.specs.Io.KnownBytes.{IsAtEnd}
 use Rattle.std.specs.Prelude.{◌↔◌, nat_eq, nat_lt, if◌then◌else◌}
@@ -22,7 +22,7 @@ use Rattle.dsf_core.specs.Files.{IsDsf}
 use Rattle.dsf_core.specs.Fronts as dsf
 use Rattle.dsf_core.proofs.FrontLaws.{found_leads}
 use Rattle.sound_core.specs.Files.{EndsAt, HoldsRecording, IsRefused, TellsSound}
-use Rattle.sound_core.specs.Outlines.{AreTold, HoldsIn, IsOutlineFault, IsRestFault, IsTagFault, ReadsTag, StandsIn, Surroundings, Surrounds, with_sound}
+use Rattle.sound_core.specs.Outlines.{AreTold, HoldsIn, KeepsBehind, IsOutlineFault, IsRestFault, IsTagFault, ReadsTag, StandsIn, Surroundings, Surrounds, with_sound}
 use Rattle.sound_core.specs.Readers.{IsPassFault, Passes}
 use Rattle.sound_core.specs.Reads.{Reads}
 use Rattle.sound_core.specs.Sinks.{BeginsSound, IsFed, StopsSound, StopsTaking}
@@ -76,6 +76,9 @@ module _ (head : List ℕ) (s : Sound) (at : EndsAt head s) (order : BitOrder) (
         is_sound = is_sound;
         whole = λ other. (let both : Blocks order ≡ Bytes = sym told ∙ other in absurd cc);
         silent = outline.no_bits s (leads head s at order told);
+        keeps = λ file sound stands.
+            let is : head ++ (sound ++ (stands.gap ++ tag)) ≡ file = sym (stands.file_is ∙ ap (λ xs. head ++ (sound ++ (stands.gap ++ xs))) (ap (λ xs. tag ++ xs) (stands.ended refl) ∙ append-nil tag)) in
+            subst (λ i. KeepsBehind i around file) (sym told) (own_tag sound stands.gap stands.sound_long stands.gap_long ∙ ap tag_told is, refl);
         holds = λ file sound stands.
             let rest = sound ++ (stands.gap ++ tag) in
             let ended : stands.gap ++ (tag ++ stands.rest) ≡ stands.gap ++ tag = ap (λ xs. stands.gap ++ xs) (ap (λ xs. tag ++ xs) (stands.ended refl) ∙ append-nil tag) in
@@ -163,7 +166,8 @@ pub record IsBehind (head : List ℕ) (size : ℕ) (all back : List ℕ) (ends :
   pub rest : List ℕ
   pub parts : all ≡ back ++ rest
   pub shorter : ends ≡ true → (rest ≡ []) × IsAtEnd new
-  pub whole : ends ≡ false → dsdiff.left_behind head size ≤ length back
+  pub whole : ends ≡ false → length back ≡ dsdiff.left_behind head size
+  pub less : ends ≡ true → length back < dsdiff.left_behind head size
 
 pub is_behind : (head : List ℕ) (size : ℕ) (all back : List ℕ) (ends : Bool) (new : Option (List ℕ)) (wanted : ℕ) → wanted ≡ dsdiff.left_behind head size → (wanted ≤ length all) ⊎ IsAtEnd new
     → ends ≡ nat_lt (length all) wanted → back ≡ take (min (length all) wanted) all → IsBehind head size all back ends new
@@ -174,6 +178,7 @@ is_behind head size all back ends new wanted left enough short cut = record {
       let fewer : length all < wanted = ltb-true (length all) wanted (sym short ∙ yes) in
       (nil_from_length (drop (min (length all) wanted) all) (omega (arith, length-drop (min (length all) wanted) all, fewer)), at_end enough fewer));
   whole = λ no. (let more : wanted ≤ length all = ltb-false (length all) wanted (sym short ∙ no) in omega (arith, more, ap length cut, length-take (min (length all) wanted) all, left));
+  less = λ yes. (let fewer : length all < wanted = ltb-true (length all) wanted (sym short ∙ yes) in omega (arith, fewer, ap length cut, length-take (min (length all) wanted) all, left));
 }
   where
     at_end : (wanted ≤ length all) ⊎ IsAtEnd new → length all < wanted → IsAtEnd new
@@ -189,7 +194,18 @@ module _ (head : List ℕ) (s : Sound) (at : EndsAt head s) (told : s.interleavi
       let same : back ++ rest ≡ back = ap (λ xs. back ++ xs) (none refl) ∙ append-nil back in
       (λ is. subst (λ xs. IsDsdiff (head ++ (sound ++ xs)) r) (sym same) is, λ is. subst (λ xs. IsDsdiff (head ++ (sound ++ xs)) r) same is)
 
-  module _ (back : List ℕ) (ends : Bool) (enough : ends ≡ false → dsdiff.left_behind head s.size ≤ length back) (recording : Content) (outline : frames.TellsOutline head s back (Some recording)) where
+  -- where nothing but this is kept of the bytes behind the sound
+  kept_behind : (back rest : List ℕ) (ends : Bool) → (ends ≡ false → length back ≡ dsdiff.left_behind head s.size) → (ends ≡ true → length back < dsdiff.left_behind head s.size) → (ends ≡ true → rest ≡ [])
+      → (back ≡ take (dsdiff.left_behind head s.size) (back ++ rest)) × (ends ≡ nat_lt (length (back ++ rest)) (dsdiff.left_behind head s.size))
+  kept_behind back rest false exact less none =
+      let n = dsdiff.left_behind head s.size in
+      (sym (ap (λ m. take m (back ++ rest)) (sym (exact refl)) ∙ take-append_seam back rest), sym (le-ltb (length (back ++ rest)) n (omega (arith, exact refl, length-append back rest))))
+  kept_behind back rest true exact less none =
+      let n = dsdiff.left_behind head s.size in
+      let same : back ++ rest ≡ back = ap (λ xs. back ++ xs) (none refl) ∙ append-nil back in
+      (sym (ap (take n) same ∙ take_all n back (omega (arith, less refl))), sym (lt-ltb (length (back ++ rest)) n (omega (arith, less refl, ap length same))))
+
+  module _ (back : List ℕ) (ends : Bool) (exact : ends ≡ false → length back ≡ dsdiff.left_behind head s.size) (less : ends ≡ true → length back < dsdiff.left_behind head s.size) (recording : Content) (outline : frames.TellsOutline head s back (Some recording)) where
     abbrev own : Surroundings
     own = record { sound = s; head = head; gap = 0; back = back; ends = ends; recording = recording }
 
@@ -200,10 +216,17 @@ module _ (head : List ℕ) (s : Sound) (at : EndsAt head s) (told : s.interleavi
       is_sound = is_sound;
       whole = λ _. whole_bytes;
       silent = outline.0;
+      keeps = λ file sound stands.
+          let none : stands.gap ≡ [] = nil_from_length stands.gap stands.gap_long in
+          let is : file ≡ (head ++ sound) ++ (back ++ stands.rest) = stands.file_is ∙ ap (λ xs. head ++ (sound ++ (xs ++ (back ++ stands.rest)))) none ∙ sym (append_assoc head sound (back ++ stands.rest)) in
+          let place : s.start + s.size ≡ length (head ++ sound) = omega (arith, at.start, stands.sound_long, length-append head sound) in
+          let behind : drop (s.start + s.size) file ≡ back ++ stands.rest = ap₂ (λ n xs. drop n xs) place is ∙ drop-append_seam (head ++ sound) (back ++ stands.rest) in
+          let kept = kept_behind back stands.rest ends exact less stands.ended in
+          subst (λ i. KeepsBehind i own file) (sym told) (refl, rw behind kept.0, rw behind kept.1);
       holds = λ file sound stands.
           let none : stands.gap ≡ [] = nil_from_length stands.gap stands.gap_long in
           let is : file ≡ head ++ (sound ++ (back ++ stands.rest)) = stands.file_is ∙ ap (λ xs. head ++ (sound ++ (xs ++ (back ++ stands.rest)))) none in
-          let holds = (followed sound back stands.rest ends (record recording { channels = unlaced_all sound s.channels }) stands.sound_long stands.ended enough).0 (outline.1 sound stands.sound_long) in
+          let holds = (followed sound back stands.rest ends (record recording { channels = unlaced_all sound s.channels }) stands.sound_long stands.ended (λ no. omega (arith, exact no))).0 (outline.1 sound stands.sound_long) in
           in_order s.interleaving told file sound (subst (λ f. IsDsdiff f (record recording { channels = unlaced_all sound s.channels })) (sym is) holds);
     }
       where
@@ -216,7 +239,7 @@ module _ (head : List ℕ) (s : Sound) (at : EndsAt head s) (told : s.interleavi
   frames_around left i j old all back read ends recording reads is behind outline = record {
     read = read;
     reads = reads;
-    told = frames_told back ends behind.whole recording outline;
+    told = frames_told back ends behind.whole behind.less recording outline;
     given = λ sound long. record {
       gap = [];
       rest = behind.rest;
@@ -248,7 +271,7 @@ module _ (head : List ℕ) (s : Sound) (at : EndsAt head s) (told : s.interleavi
           elim (subst (λ zs. HoldsRecording (head ++ (sound ++ zs)) r) parted holds) [
             | inl form ↦ (
                 let none = λ (yes : ends ≡ true). ap₂ (λ us vs. us ++ vs) (behind.shorter yes).0 (nothing_left (left (inlet_reader j)) ys.0 (behind.shorter yes).1 ys.1) in
-                let short = (followed sound back (behind.rest ++ ys.0) ends r long none behind.whole).1 form in
+                let short = (followed sound back (behind.rest ++ ys.0) ends r long none (λ no. omega (arith, behind.whole no))).1 form in
                 refused sound long (r, short))
             | inr (order, is_dsf) ↦ never_found head (sound ++ (back ++ (behind.rest ++ ys.0))) s r order (found head s at told) is_dsf
           ]

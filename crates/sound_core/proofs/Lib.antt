@@ -10,5 +10,5 @@ pub mod TakingLaws
 pub mod KeepingLaws
 pub mod FaultLaws
 pub mod HeldLaws
-pub mod ComparingLaws
+pub mod SameLaws
 pub mod RelayLaws

@@ -1,27 +1,32 @@
--- A file of a known outline, part by part.
-use Rattle.std.proofs.Common.{◌≡◌, ◌≢◌, ℕ, ◌+◌, ◌%◌, ◌^◌, ◌<◌, ◌≤◌, ◌⊎◌, inl, inr, true, false, List, [], ◌++◌, length, take, drop, Option, None, Some, Err, refl, sym, subst, ap, ap₂, ◌∙◌, arith, append_assoc, append-nil, length-append, length-take, length-drop, take-append-drop}
-use Rattle.std.proofs.lemmas.List.{append_cancel_left, nil_from_length}
-use Rattle.std.specs.Io.KnownBytes.{Appends, Consumes, IsAtEnd}
-use Rattle.std.proofs.KnownBytes.{Appends-nil, Appends-trans, Consumes-nil, Consumes-trans}
-use Rattle.std.specs.Io.Iter.{u64_saturate}
-use Rattle.chunk_core.specs.Inlets.{inlet_given, inlet_reader}
-use Rattle.chunk_core.specs.Outlets.{AppendsPart}
+-- What is written of a file of a known outline, and where that ends.
+use Rattle.std.proofs.Common.{◌≡◌, ◌≢◌, ℕ, ◌+◌, ◌-◌, ◌^◌, ◌<◌, ◌≤◌, inl, inr, List, [], ◌++◌, length, take, drop, Option, None, Some, IfSome, Result, Ok, Err, IfErr, OnErr, OnOk, refl, sym, subst, ap, ap₂, ◌∙◌, arith, append_assoc, append-nil, length-append, length-take, take-append-drop}
+use Rattle.std.proofs.lemmas.Bool.{cases_lt}
+use Rattle.std.proofs.lemmas.List.{drop-append-le, nil_from_length}
+use Rattle.std.proofs.Math.Seq.{drop-append_seam}
+use Rattle.std.specs.Io.KnownBytes.{Appends}
+use Rattle.std.proofs.KnownBytes.{Appends-nil, Appends-trans}
+use Rattle.chunk_core.specs.Outlets.{AppendsPart, outlet_failures, outlet_writer}
 use Rattle.chunk_core.specs.declared.inlet.Inlet.{Inlet}
+use Rattle.chunk_core.specs.declared.outlet.Outlet.{Outlet}
 use Rattle.dsd_bits.specs.declared.interleaving.Interleaving.{Interleaving}
 use Rattle.dsd_bits.specs.declared.sound.Sound.{Sound}
-use Rattle.dsd_bits.specs.Sounds.{IsSound, sound_size}
+use Rattle.dsd_bits.specs.Sounds.{sound_size}
 use Rattle.relace_core.proofs.GroupLaws.{size_on}
-use Rattle.relace_core.specs.Relacing.{GroupsJoin, relaced}
-use Rattle.sound_core.specs.Faults.{IsWritingFault, failed_writes}
-use Rattle.sound_core.specs.Outlines.{StandsIn, Surroundings}
+use Rattle.relace_core.proofs.JoinLaws.{groups_join}
+use Rattle.relace_core.specs.Relacing.{relaced}
+use Rattle.sound_core.specs.Faults.{IsSinkFault, IsWritingFault, failed_writes}
+use Rattle.sound_core.specs.Outlines.{AreTold, IsOutlineFault, StandsIn, Surroundings}
+use Rattle.sound_core.specs.Sinks.{BeginsSound, IsFed, StopsTaking, TakesFile, TakesGiven}
 use Rattle.sound_core.specs.declared.fault.StreamFault.{StreamFault}
 use Rattle.sound_core.specs.declared.fault.StreamFault.TheVariants.{FileRefused, RateNotDivided, TooLarge, ReadFailed, WriteFailed, TurnLimit, Memory}
+use Rattle.sound_core.specs.declared.part.SoundPart.{SoundPart}
 use Rattle.sound_core.proofs.FaultLaws.{by_writing}
 use Rattle.sound_core.proofs.KeeperLaws.{no_size}
-use Rattle.sound_core.specs.Comparing.{ConsumesMany, IsExpectFault, IsFillFault, IsMoreFault, IsRefusal}
-use Rattle.sound_core.specs.Relays.{AppendsUntil, IsPartFault, IsRelayFault, IsRestFault, PartFront, PassesRest, Relays, RelaysFront, RelaysGiven, RelaysPart, relaced_sound, relayed}
+use Rattle.sound_core.proofs.SameLaws.{not_refused, same_around, same_front, same_rest, same_stands, told_same}
+use Rattle.sound_core.proofs.TakingLaws.{fed_on}
+use Rattle.sound_core.specs.Relays.{AppendsUntil, IsOwnFault, IsRelayFault, IsRelaying, IsSameAround, RefusesRelaying, RelayFails, Relays, RelaysFront, RelaysGiven, relaced_sound, relayed}
 use Rattle.sound_core.specs.declared.relaying.Target.{Target}
-use Rattle.sound_core.proofs.ComparingLaws.{by_refusal, left_is, same_front, same_rest}
+use Rattle.sound_core.specs.declared.relaying_sink.RelayingSink.{RelayingSink}
 
 -- ---- prefixes of what is written
 pub until_nil : (a : Option (List ℕ)) (all : List ℕ) (f : StreamFault) → f ≢ WriteFailed → AppendsUntil a a all f
@@ -33,7 +38,7 @@ until_part a b all f out = (out.0, out.1, out.2, λ failed. out.3, out.4)
 until_whole : (a b : Option (List ℕ)) (all : List ℕ) (f : StreamFault) → f ≢ WriteFailed → Appends a b all → AppendsUntil a b all f
 until_whole a b all f calm out = (all, [], sym (append-nil all), λ failed. absurd (calm failed), out)
 
-until_more : (a b : Option (List ℕ)) (xs ys : List ℕ) (f : StreamFault) → AppendsUntil a b xs f → AppendsUntil a b (xs ++ ys) f
+pub until_more : (a b : Option (List ℕ)) (xs ys : List ℕ) (f : StreamFault) → AppendsUntil a b xs f → AppendsUntil a b (xs ++ ys) f
 until_more a b xs ys f out = (
   out.0,
   out.1 ++ ys,
@@ -45,348 +50,313 @@ until_more a b xs ys f out = (
 until_on : (a b c : Option (List ℕ)) (xs ys : List ℕ) (f : StreamFault) → Appends a b xs → AppendsUntil b c ys f → AppendsUntil a c (xs ++ ys) f
 until_on a b c xs ys f p q = (xs ++ q.0, q.1, ap (λ zs. xs ++ zs) q.2 ∙ sym (append_assoc xs q.0 q.1), q.3, Appends-trans a b c xs q.0 p q.4)
 
--- a fault of reading is none of writing
-pub not_writing : (P : Type 0) (f : StreamFault) → IsRefusal P f → f ≢ WriteFailed
-not_writing P f h = by_refusal P (λ g. g ≢ WriteFailed) (λ refused same. cc) (λ same. cc) f h
-
--- ---- stretches
--- a prefix of what a stretch is was written
-pub stretch_front : (s : Sound) (to : Interleaving) (bits : ℕ) (left new a b : Option (List ℕ)) (read : List ℕ) (f : StreamFault) → Consumes left new read → length read ≡ sound_size s.interleaving s.channels bits → AppendsUntil a b (relaced s.interleaving to s.channels bits read) f → PartFront left s to bits a b f
-stretch_front s to bits None new a b read f consumed long out = tt
-stretch_front s to bits (Some xs) new a b read f consumed long out = λ part rest is size.
-    let ys = left_is (Some xs) new read xs consumed refl in
-    subst (λ zs. AppendsUntil a b (relaced s.interleaving to s.channels bits zs) f) (same_front read part ys.0 rest (sym ys.2 ∙ is) (long ∙ sym size)) out
-
--- nothing of a sound counts nothing
-pub none_given : (s : Sound) (given n : ℕ) → given < 2 ^ 64 → n ≡ 0 → given ≡ u64_saturate (given + sound_size s.interleaving s.channels n)
-none_given s given n fits none = omega (arith, ap (sound_size s.interleaving s.channels) none, no_size s.interleaving s.channels)
-
+-- ---- a sound interleaved otherwise, part by part
 -- nothing of a sound is nothing of another
-pub part_none : (law : GroupsJoin) (s : Sound) (to : Interleaving) (left a : Option (List ℕ)) → RelaysPart left left s to 0 a a
-part_none law s to left a = record {
-  part = [];
-  consumed = Consumes-nil left;
-  long = sym (no_size s.interleaving s.channels);
-  written = subst (Appends a a) (sym nothing) (Appends-nil a);
-}
-  where
-    nothing : relaced s.interleaving to s.channels 0 [] ≡ []
-    nothing =
-        let made = relaced s.interleaving to s.channels 0 [] in
-        let twice : made ≡ made ++ made = law s.interleaving to s.channels 0 0 [] [] refl (sym (no_size s.interleaving s.channels)) (sym (no_size s.interleaving s.channels)) in
-        nil_from_length made (omega (arith, ap length twice, length-append made made))
+pub relaced_none : (s : Sound) (to : Interleaving) → relaced s.interleaving to s.channels 0 [] ≡ []
+relaced_none s to =
+    let made = relaced s.interleaving to s.channels 0 [] in
+    let none = sym (no_size s.interleaving s.channels) in
+    let twice : made ≡ made ++ made = groups_join s.interleaving to s.channels 0 0 [] [] refl none none in
+    nil_from_length made (omega (arith, ap length twice, length-append made made))
 
-module _ (law : GroupsJoin) (s : Sound) (to : Interleaving) (left now a b : Option (List ℕ)) (done : ℕ) (so_far : RelaysPart left now s to done a b) (whole : done % 32768 ≡ 0) where
-  abbrev size : ℕ → ℕ
-  size bits = sound_size s.interleaving s.channels bits
+-- what came and a part behind it
+pub relaced_on : (part : SoundPart) (before bytes : List ℕ) (to : Interleaving) → IsFed part.sound part.done before → length bytes ≡ sound_size part.sound.interleaving part.sound.channels part.bits
+    → relaced part.sound.interleaving to part.sound.channels (part.done + part.bits) (before ++ bytes) ≡ relaced part.sound.interleaving to part.sound.channels part.done before ++ relaced part.sound.interleaving to part.sound.channels part.bits bytes
+relaced_on part before bytes to fed long = groups_join part.sound.interleaving to part.sound.channels part.done part.bits before bytes (fed.groups (omega (arith, part.some, part.within))) fed.size long
 
-  abbrev made : ℕ → List ℕ → List ℕ
-  made bits bytes = relaced s.interleaving to s.channels bits bytes
+-- what came begins the whole
+pub relaced_begins : (s : Sound) (to : Interleaving) (done : ℕ) (came rest : List ℕ) → IsFed s done came → length (came ++ rest) ≡ s.size → (more : List ℕ) × (relaced_sound s to (came ++ rest) ≡ relaced s.interleaving to s.channels done came ++ more)
+relaced_begins s to done came rest fed long = elim (cases_lt done s.count) [
+  | inl less ↦ (
+      let bits = s.count - done in
+      let sum : done + bits ≡ s.count = omega (arith, less) in
+      let size = size_on s.interleaving s.channels done bits (fed.groups less) in
+      let rest_long : length rest ≡ sound_size s.interleaving s.channels bits = omega (arith, long, length-append came rest, fed.size, fed.is_sound.size, size, ap (sound_size s.interleaving s.channels) sum) in (
+        relaced s.interleaving to s.channels bits rest,
+        ap (λ n. relaced s.interleaving to s.channels n (came ++ rest)) (sym sum) ∙ groups_join s.interleaving to s.channels done bits came rest (fed.groups less) fed.size rest_long,
+      ))
+  | inr all ↦ (
+      let is : s.count ≡ done = omega (arith, all, fed.within) in
+      let none : rest ≡ [] = nil_from_length rest (omega (arith, long, length-append came rest, fed.size, fed.is_sound.size, ap (sound_size s.interleaving s.channels) is)) in (
+        [],
+        ap₂ (λ n xs. relaced s.interleaving to s.channels n xs) is (ap (λ xs. came ++ xs) none ∙ append-nil came) ∙ sym (append-nil (relaced s.interleaving to s.channels done came)),
+      ))
+]
 
-  pub part_on : (new c : Option (List ℕ)) (bits : ℕ) → RelaysPart now new s to bits b c → RelaysPart left new s to (done + bits) a c
-  part_on new c bits more =
-      let both = so_far.part ++ more.part in
-      record {
-        part = both;
-        consumed = Consumes-trans left now new so_far.part more.part so_far.consumed more.consumed;
-        long = length-append so_far.part more.part ∙ ap₂ (λ m n. m + n) so_far.long more.long ∙ sym (size_on s.interleaving s.channels done bits whole);
-        written = subst (Appends a c) (sym (law s.interleaving to s.channels done bits so_far.part more.part whole so_far.long more.long)) (Appends-trans a b c (made done so_far.part) (made bits more.part) so_far.written more.written);
-      }
-
-  -- what comes behind the bytes that were read
-  pub next : (xs part more : List ℕ) (rest : ℕ) → left ≡ Some xs → xs ≡ part ++ more → length part ≡ size (done + rest) → (next : List ℕ) × (part ≡ so_far.part ++ next) × (length next ≡ size rest) × (now ≡ Some (next ++ more))
-  next xs part more rest known is long =
-      let ys = left_is left now so_far.part xs so_far.consumed known in
-      let first = take (size done) part in
-      let behind = drop (size done) part in
-      let total : length part ≡ size done + size rest = long ∙ size_on s.interleaving s.channels done rest whole in
-      let split : part ≡ first ++ behind = sym (take-append-drop (size done) part) in
-      let whole_is : first ++ (behind ++ more) ≡ so_far.part ++ ys.0 = sym (append_assoc first behind more) ∙ ap (λ zs. zs ++ more) (sym split) ∙ sym is ∙ ys.2 in
-      let first_long : length first ≡ length so_far.part = omega (arith, length-take (size done) part, total, so_far.long) in (
-        behind,
-        split ∙ ap (λ zs. zs ++ behind) (same_front first so_far.part (behind ++ more) ys.0 whole_is first_long),
-        omega (arith, length-drop (size done) part, total),
-        ys.1 ∙ ap (λ zs. Some zs) (sym (same_rest first so_far.part (behind ++ more) ys.0 whole_is first_long)),
-      )
-
-  -- a prefix of a stretch is one of all that is left
-  ahead : (bits rest : ℕ) (c : Option (List ℕ)) (f : StreamFault) → (bits % 32768 ≡ 0) ⊎ (rest ≡ 0) → (bytes more : List ℕ) → length bytes ≡ size (bits + rest) → PartFront (Some (bytes ++ more)) s to bits b c f → AppendsUntil b c (made (bits + rest) bytes) f
-  ahead bits rest c f (inr none) bytes more long front =
-      let same : bits + rest ≡ bits = omega (arith, none) in
-      subst (λ n. AppendsUntil b c (made n bytes) f) (sym same) (front bytes more refl (long ∙ ap size same))
-  ahead bits rest c f (inl groups) bytes more long front =
-      let first = take (size bits) bytes in
-      let behind = drop (size bits) bytes in
-      let total : length bytes ≡ size bits + size rest = long ∙ size_on s.interleaving s.channels bits rest groups in
-      let split : bytes ≡ first ++ behind = sym (take-append-drop (size bits) bytes) in
-      let first_long : length first ≡ size bits = omega (arith, length-take (size bits) bytes, total) in
-      let behind_long : length behind ≡ size rest = omega (arith, length-drop (size bits) bytes, total) in
-      let is : made (bits + rest) bytes ≡ made bits first ++ made rest behind = ap (made (bits + rest)) split ∙ law s.interleaving to s.channels bits rest first behind groups first_long behind_long in
-      subst (λ zs. AppendsUntil b c zs f) (sym is) (until_more b c (made bits first) (made rest behind) f (front first (behind ++ more) (ap (λ zs. zs ++ more) split ∙ append_assoc first behind more) first_long))
-
-  pub part_front : (bits rest : ℕ) (c : Option (List ℕ)) (f : StreamFault) → (bits % 32768 ≡ 0) ⊎ (rest ≡ 0) → PartFront now s to bits b c f → PartFront left s to (done + (bits + rest)) a c f
-  part_front bits rest c f last front = by left refl
+-- ---- faults
+-- one of reading around the sound
+module _ (o : Surroundings) (told : AreTold o) (left : Option (List ℕ)) where
+  pub outline_stands : (f : StreamFault) → IsOutlineFault left f → IsRelayFault left o f
+  outline_stands FileRefused h = by left h
     where
-      by : (o : Option (List ℕ)) → left ≡ o → PartFront o s to (done + (bits + rest)) a c f
-      by None known = tt
-      by (Some xs) known = λ part more is long.
-          let n = next xs part more (bits + rest) known is long in
-          let joined : made (done + (bits + rest)) part ≡ made done so_far.part ++ made (bits + rest) n.0 = ap (made (done + (bits + rest))) n.1 ∙ law s.interleaving to s.channels done (bits + rest) so_far.part n.0 whole so_far.long n.2 in
-          subst (λ zs. AppendsUntil a c zs f) (sym joined) (until_on a b c (made done so_far.part) (made (bits + rest) n.0) f so_far.written (ahead bits rest c f last n.0 more n.2 (subst (λ o. PartFront o s to bits b c f) n.3 front)))
+      by : (l : Option (List ℕ)) → IsOutlineFault l FileRefused → IsRelayFault l o FileRefused
+      by None refused = tt
+      by (Some file) refused = λ around. not_refused o told file around refused
+  outline_stands RateNotDivided h = absurd h
+  outline_stands TooLarge h = absurd h
+  outline_stands ReadFailed h = tt
+  outline_stands WriteFailed h = absurd h
+  outline_stands TurnLimit h = tt
+  outline_stands Memory h = tt
 
-  pub part_fault : (bits rest : ℕ) (f : StreamFault) → (bits % 32768 ≡ 0) ⊎ (rest ≡ 0) → IsPartFault now s bits f → IsPartFault left s (done + (bits + rest)) f
-  part_fault bits rest FileRefused last h = by left refl
+outline_calm : (left : Option (List ℕ)) (f : StreamFault) → IsOutlineFault left f → f ≢ WriteFailed
+outline_calm left f h same = subst (IsOutlineFault left) same h
+
+outline_uncounted : (left : Option (List ℕ)) (f : StreamFault) → IsOutlineFault left f → failed_writes {X = Unit {0}} (Err f) ≡ 0
+outline_uncounted left FileRefused h = refl
+outline_uncounted left RateNotDivided h = absurd h
+outline_uncounted left TooLarge h = absurd h
+outline_uncounted left ReadFailed h = refl
+outline_uncounted left WriteFailed h = absurd h
+outline_uncounted left TurnLimit h = refl
+outline_uncounted left Memory h = refl
+
+pub writing_is_own : (own s : Sound) (f : StreamFault) → IsWritingFault f → IsOwnFault own s f
+writing_is_own own s f h = by_writing (IsOwnFault own s) tt tt f h
+
+pub writing_stands : (left : Option (List ℕ)) (o : Surroundings) (f : StreamFault) → IsWritingFault f → IsRelayFault left o f
+writing_stands left o f h = by_writing (IsRelayFault left o) tt tt f h
+
+pub writing_of_sink : (f : StreamFault) → IsWritingFault f → IsSinkFault f
+writing_of_sink f h = by_writing IsSinkFault tt tt f h
+
+-- ---- what relays a sound
+module _ {W : Type 0} (held : W → Option (List ℕ)) (first old new : RelayingSink W) where
+  abbrev a : Option (List ℕ)
+  a = held (outlet_writer first.outlet.now)
+
+  abbrev b : Option (List ℕ)
+  b = held (outlet_writer old.outlet.now)
+
+  abbrev c : Option (List ℕ)
+  c = held (outlet_writer new.outlet.now)
+
+  abbrev to : Interleaving
+  to = first.target.interleaving
+
+  abbrev head : List ℕ
+  head = first.target.head.now
+
+  -- ---- a part behind what came
+  module _ (part : SoundPart) (before bytes : List ℕ) (fed : IsFed part.sound part.done before) (is : IsRelaying held first old part.sound part.done before) (long : length bytes ≡ sound_size part.sound.interleaving part.sound.channels part.bits) (reference : new.outlet.ghost_name ≡ old.outlet.ghost_name) where
+    abbrev s : Sound
+    s = part.sound
+
+    abbrev made : List ℕ
+    made = relaced s.interleaving old.target.interleaving s.channels part.bits bytes
+
+    made_is : made ≡ relaced s.interleaving to s.channels part.bits bytes
+    made_is = ap (λ (t : Target). relaced s.interleaving t.interleaving s.channels part.bits bytes) is.target
+
+    abbrev so_far : List ℕ
+    so_far = relaced s.interleaving to s.channels part.done before
+
+    pub relaying_on : new.target ≡ old.target → Appends b c made → outlet_failures new.outlet.now ≡ outlet_failures old.outlet.now → IsRelaying held first new s (part.done + part.bits) (before ++ bytes)
+    relaying_on target out failures = record {
+      same = reference ∙ is.same;
+      target = target ∙ is.target;
+      own = is.own;
+      ready = is.ready;
+      written = subst (Appends a c) (append_assoc head so_far made ∙ ap (λ xs. head ++ xs) (ap (λ xs. so_far ++ xs) made_is ∙ sym (relaced_on part before bytes to fed long))) (Appends-trans a b c (head ++ so_far) made is.written out);
+      failures = failures ∙ is.failures;
+    }
+
+    pub relaying_refuses : (f : StreamFault) → IsWritingFault f → AppendsUntil b c made f → outlet_failures new.outlet.now ≡ outlet_failures old.outlet.now + failed_writes {X = Unit {0}} (Err f) → RefusesRelaying held first new s (before ++ bytes) f
+    relaying_refuses f fault out failures = record {
+      same = reference ∙ is.same;
+      fault = writing_is_own first.sound s f fault;
+      front = λ own rest whole.
+          let more = relaced_begins s to (part.done + part.bits) (before ++ bytes) rest (fed_on part before fed bytes long) whole in
+          let tail = first.target.tail.now in
+          let now : relaced_sound s to ((before ++ bytes) ++ rest) ≡ so_far ++ (made ++ more.0) =
+          more.1 ∙ ap (λ xs. xs ++ more.0) (relaced_on part before bytes to fed long ∙ ap (λ xs. so_far ++ xs) (sym made_is)) ∙ append_assoc so_far made more.0 in
+          let all : relayed first.target s ((before ++ bytes) ++ rest) ≡ (head ++ so_far) ++ (made ++ (more.0 ++ tail)) =
+          ap (λ xs. head ++ (xs ++ tail)) now ∙ ap (λ xs. head ++ xs) (append_assoc so_far (made ++ more.0) tail ∙ ap (λ xs. so_far ++ xs) (append_assoc made more.0 tail)) ∙ sym (append_assoc head so_far (made ++ (more.0 ++ tail))) in
+          subst (λ xs. AppendsUntil a c xs f) (sym all) (until_on a b c (head ++ so_far) (made ++ (more.0 ++ tail)) f is.written (until_more b c made (more.0 ++ tail) f out));
+      failures = failures ∙ ap (λ n. n + failed_writes {X = Unit {0}} (Err f)) is.failures;
+    }
+
+-- ---- a file that is not taken to its end
+module _ {W : Type 0} (held : W → Option (List ℕ)) (first new : RelayingSink W) (o : Surroundings) (told : AreTold o) (own : first.sound ≡ o.sound) where
+  abbrev at_first : Option (List ℕ)
+  at_first = held (outlet_writer first.outlet.now)
+
+  abbrev at_last : Option (List ℕ)
+  at_last = held (outlet_writer new.outlet.now)
+
+  abbrev pub Stops : Option (List ℕ) → ℕ → ℕ → StreamFault → Type 0
+  Stops left g h f = StopsTaking (λ x y s done bytes. IsRelaying held x y s done bytes) (λ x y s came e. RefusesRelaying held x y s came e) left g h first new f
+
+  -- the sound that the file tells of is that of the outline, and what came begins it
+  began : (file sound : List ℕ) → StandsIn o file sound → (s : Sound) (came : List ℕ) → BeginsSound s came file → s ≡ o.sound
+  began file sound stands s came begins = told_same o.head begins.front (sound ++ (stands.gap ++ (o.back ++ stands.rest))) begins.rest (sym stands.file_is ∙ begins.file_is) o.sound s told.tells begins.tells
+
+  came_is : (file sound : List ℕ) → StandsIn o file sound → (s : Sound) (came : List ℕ) → BeginsSound s came file → length came ≤ s.size → (rest : List ℕ) × (sound ≡ came ++ rest)
+  came_is file sound stands s came begins few =
+      let is = began file sound stands s came begins in
+      let behind = stands.gap ++ (o.back ++ stands.rest) in
+      let here : drop s.start file ≡ came ++ begins.more = ap (drop s.start) begins.file_is ∙ drop-append-le s.start begins.front begins.rest begins.tells.within ∙ begins.sound_is in
+      let there : drop s.start file ≡ sound ++ behind = ap₂ (λ n xs. drop n xs) (ap (λ (t : Sound). t.start) is ∙ told.start) stands.file_is ∙ drop-append_seam o.head (sound ++ behind) in
+      let n = length came in
+      let split : sound ≡ take n sound ++ drop n sound = sym (take-append-drop n sound) in
+      let long : length (take n sound) ≡ n = omega (arith, length-take n sound, few, stands.sound_long, ap (λ (t : Sound). t.size) is) in
+      let whole : take n sound ++ (drop n sound ++ behind) ≡ came ++ begins.more = sym (append_assoc (take n sound) (drop n sound) behind) ∙ ap (λ xs. xs ++ behind) (sym split) ∙ sym there ∙ here in
+      (drop n sound, split ∙ ap (λ xs. xs ++ drop n sound) (same_front (take n sound) came (drop n sound ++ behind) begins.more whole long))
+
+  pub stops_fault : (left : Option (List ℕ)) (g h : ℕ) (f : StreamFault) → Stops left g h f → IsRelayFault left o f
+  stops_fault left g h f (inl none) = outline_stands o told left f none.fault
+  stops_fault left g h f (inr some) = elim some.how [
+    | inl ends ↦ outline_stands o told left f ends.fault
+    | inr refuses ↦ by f refuses.refuses.fault
+  ]
     where
-      more : (bits % 32768 ≡ 0) ⊎ (rest ≡ 0) → size bits ≤ size (bits + rest)
-      more (inl groups) = omega (arith, size_on s.interleaving s.channels bits rest groups)
-      more (inr none) = let same : bits + rest ≡ bits = omega (arith, none) in omega (arith, ap size same)
+      other : (l : Option (List ℕ)) → IfSome l (BeginsSound some.sound some.came) → (some.sound ≡ first.sound → ⊥) → IsRelayFault l o FileRefused
+      other None begins differs = tt
+      other (Some file) begins differs = λ around. differs (began file around.0 around.1 some.sound some.came begins ∙ sym own)
 
-      by : (o : Option (List ℕ)) → left ≡ o → IsPartFault o s (done + (bits + rest)) FileRefused
-      by None known = tt
-      by (Some xs) known =
-          let ys = left_is left now so_far.part xs so_far.consumed known in
-          let fewer : length ys.0 < size bits = subst (λ o. IsPartFault o s bits FileRefused) ys.1 h in
-          omega (arith, fewer, more last, ap length ys.2, length-append so_far.part ys.0, so_far.long, size_on s.interleaving s.channels done (bits + rest) whole)
-  part_fault bits rest RateNotDivided last h = absurd h
-  part_fault bits rest TooLarge last h = absurd h
-  part_fault bits rest ReadFailed last h = tt
-  part_fault bits rest WriteFailed last h = tt
-  part_fault bits rest TurnLimit last h = absurd h
-  part_fault bits rest Memory last h = tt
+      by : (f : StreamFault) → IsOwnFault first.sound some.sound f → IsRelayFault left o f
+      by FileRefused differs = other left some.begins differs
+      by RateNotDivided h = absurd h
+      by TooLarge h = absurd h
+      by ReadFailed h = absurd h
+      by WriteFailed h = tt
+      by TurnLimit h = absurd h
+      by Memory h = tt
 
--- what one stretch more counted
-pub given_on : (a b c m n k : ℕ) → b ≡ u64_saturate (a + m) → c ≡ u64_saturate (b + n) → k ≡ m + n → c ≡ u64_saturate (a + k)
-given_on a b c m n k p q sum = omega (arith, p, q, sum)
+  pub stops_front : (left : Option (List ℕ)) (g h : ℕ) (f : StreamFault) → Stops left g h f → RelaysFront left first.target o at_first at_last f
+  stops_front None g h f stops = tt
+  stops_front (Some file) g h f (inl none) = λ sound stands.
+      subst (λ (k : RelayingSink W). AppendsUntil at_first (held (outlet_writer k.outlet.now)) (relayed first.target o.sound sound) f) (sym none.same) (until_nil at_first (relayed first.target o.sound sound) f (outline_calm (Some file) f none.fault))
+  stops_front (Some file) g h f (inr some) = λ sound stands.
+      let s = some.sound in
+      let is = began file sound stands s some.came some.begins in
+      let rest = came_is file sound stands s some.came some.begins some.few in
+      let long : length (some.came ++ rest.0) ≡ s.size = ap length (sym rest.1) ∙ stands.sound_long ∙ ap (λ (t : Sound). t.size) (sym is) in
+      let all : relayed first.target s (some.came ++ rest.0) ≡ relayed first.target o.sound sound = ap₂ (λ t xs. relayed first.target t xs) is (sym rest.1) in
+      subst (λ xs. AppendsUntil at_first at_last xs f) all (elim some.how [
+        | inl ends ↦ (
+            let to = first.target.interleaving in
+            let head = first.target.head.now in
+            let tail = first.target.tail.now in
+            let made = relaced s.interleaving to s.channels ends.done some.came in
+            let more = relaced_begins s to ends.done some.came rest.0 ends.fed long in
+            let parts : relayed first.target s (some.came ++ rest.0) ≡ (head ++ made) ++ (more.0 ++ tail) =
+            ap (λ xs. head ++ (xs ++ tail)) more.1 ∙ ap (λ xs. head ++ xs) (append_assoc made more.0 tail) ∙ sym (append_assoc head made (more.0 ++ tail)) in
+            subst (λ xs. AppendsUntil at_first at_last xs f) (sym parts) (until_more at_first at_last (head ++ made) (more.0 ++ tail) f (until_whole at_first at_last (head ++ made) f (outline_calm (Some file) f ends.fault) ends.taken.written)))
+        | inr refuses ↦ refuses.refuses.front (is ∙ sym own) rest.0 long
+      ])
 
--- ---- behind the sound
-module _ (o : Surroundings) (left : Option (List ℕ)) where
-  pub gap_fault : (f : StreamFault) → IsFillFault left o.gap f → IsRestFault left o f
-  gap_fault f h = by_refusal (IsFillFault left o.gap FileRefused) (IsRestFault left o) (by left) tt f h
-    where
-      by : (l : Option (List ℕ)) → IsFillFault l o.gap FileRefused → IsRestFault l o FileRefused
-      by None few = tt
-      by (Some xs) few = λ gap rest is long ended. omega (arith, few, long, ap length is, length-append gap (o.back ++ rest))
+  pub stops_counted : (left : Option (List ℕ)) (g h : ℕ) (f : StreamFault) → Stops left g h f → outlet_failures new.outlet.now ≡ outlet_failures first.outlet.now + failed_writes {X = Unit {0}} (Err f)
+  stops_counted left g h f (inl none) = omega (arith, ap (λ (k : RelayingSink W). outlet_failures k.outlet.now) none.same, outline_uncounted left f none.fault)
+  stops_counted left g h f (inr some) = elim some.how [
+    | inl ends ↦ omega (arith, ends.taken.failures, outline_uncounted left f ends.fault)
+    | inr refuses ↦ refuses.refuses.failures
+  ]
 
-  module _ (now : Option (List ℕ)) (many : ConsumesMany left now o.gap) where
-    -- what comes behind the gap
-    kept : (xs gap rest : List ℕ) → left ≡ Some xs → xs ≡ gap ++ (o.back ++ rest) → length gap ≡ o.gap → now ≡ Some (o.back ++ rest)
-    kept xs gap rest known is long =
-        let ys = left_is left now many.bytes xs many.consumed known in
-        ys.1 ∙ ap (λ zs. Some zs) (sym (same_rest gap many.bytes (o.back ++ rest) ys.0 (sym is ∙ ys.2) (long ∙ sym many.long)))
+  pub stops_same : (left : Option (List ℕ)) (g h : ℕ) (f : StreamFault) → Stops left g h f → new.outlet.ghost_name ≡ first.outlet.ghost_name
+  stops_same left g h f (inl none) = ap (λ (k : RelayingSink W). k.outlet.ghost_name) none.same
+  stops_same left g h f (inr some) = elim some.how [
+    | inl ends ↦ ends.taken.same
+    | inr refuses ↦ refuses.refuses.same
+  ]
 
-    pub back_fault : (f : StreamFault) → IsExpectFault now o.back f → IsRestFault left o f
-    back_fault f h = by_refusal (IsExpectFault now o.back FileRefused) (IsRestFault left o) (by left refl) tt f h
+  pub stops_relaying : (left : Option (List ℕ)) (g h : ℕ) (f : StreamFault) → Stops left g h f → RelayFails held left first.target o first.outlet.now new.outlet.now f
+  stops_relaying left g h f stops = record { fault = stops_fault left g h f stops; front = stops_front left g h f stops; failures = stops_counted left g h f stops }
+
+-- ---- a file that was taken, and whose outline is p
+module _ {W : Type 0} (held : W → Option (List ℕ)) (first mid : RelayingSink W) (o p : Surroundings) (told : AreTold o) (own : first.sound ≡ o.sound) (also : AreTold p) where
+  abbrev begun : Option (List ℕ)
+  begun = held (outlet_writer first.outlet.now)
+
+  abbrev behind_sound : Option (List ℕ)
+  behind_sound = held (outlet_writer mid.outlet.now)
+
+  abbrev has : Sound → ℕ → List ℕ → Type 0
+  has s done bytes = IsRelaying held first mid s done bytes
+
+  -- what is so of the sink, whatever was read
+  pub record IsRelayed : Type 0 where
+    pub same : mid.outlet.ghost_name ≡ first.outlet.ghost_name
+    pub target_is : mid.target ≡ first.target
+    pub own_is : p.sound ≡ o.sound
+    pub ready : outlet_failures first.outlet.now < 2 ^ 64 - 1
+    pub failures : outlet_failures mid.outlet.now ≡ outlet_failures first.outlet.now
+
+  pub is_relayed : {R : Type 0} (left : R → Option (List ℕ)) (i j : Inlet R) → TakesGiven has left i j p → IsRelayed
+  is_relayed left i j (read, reads, taken) = record { same = taken.2.same; target_is = taken.2.target; own_is = taken.2.own ∙ own; ready = taken.2.ready.outlet; failures = taken.2.failures }
+
+  -- another outline is one of another file
+  module _ (left : Option (List ℕ)) (taken : TakesFile has left p) (differs : IsSameAround p o → ⊥) where
+    pub other_stands : IsRelayFault left o FileRefused
+    other_stands = by left taken.1
       where
-        by : (l : Option (List ℕ)) → left ≡ l → IsExpectFault now o.back FileRefused → IsRestFault l o FileRefused
-        by None known differs = tt
-        by (Some xs) known differs = λ gap rest is long ended. subst (λ l. IsExpectFault l o.back FileRefused) (kept xs gap rest known is long) differs rest refl
+        by : (l : Option (List ℕ)) → IfSome l (λ file. (sound : List ℕ) × StandsIn p file sound × has p.sound p.sound.count sound) → IsRelayFault l o FileRefused
+        by None h = tt
+        by (Some file) h = λ around. differs (same_around p o also told file h.0 around.0 h.1 around.1)
 
-    module _ (new : Option (List ℕ)) (read : Consumes now new o.back) where
-      pub end_fault : (f : StreamFault) → o.ends ≡ true → IsMoreFault new f → IsRestFault left o f
-      end_fault f sure h = by_refusal (IsMoreFault new FileRefused) (IsRestFault left o) (by left refl) tt f h
-        where
-          by : (l : Option (List ℕ)) → left ≡ l → IsMoreFault new FileRefused → IsRestFault l o FileRefused
-          by None known more = tt
-          by (Some xs) known more = λ gap rest is long ended.
-              let ys = left_is now new o.back (o.back ++ rest) read (kept xs gap rest known is long) in
-              let none : length rest ≡ 0 = ap length (ended sure) in
-              let some : 0 < length ys.0 = subst (λ l. IsMoreFault l FileRefused) ys.1 more in
-              omega (arith, some, none, ap length ys.2, length-append o.back rest, length-append o.back ys.0)
+    other_front : RelaysFront left first.target o begun behind_sound FileRefused
+    other_front = by left other_stands
+      where
+        by : (l : Option (List ℕ)) → IsRelayFault l o FileRefused → RelaysFront l first.target o begun behind_sound FileRefused
+        by None h = tt
+        by (Some file) h = λ sound stands. absurd (h (sound, stands))
 
-      pub passes_open : o.ends ≡ false → PassesRest left new o
-      passes_open more = record {
-        gap = many.bytes;
-        consumed = Consumes-trans left now new many.bytes o.back many.consumed read;
-        long = many.long;
-        ended = λ sure. (let both : true ≡ false = sym sure ∙ more in absurd cc);
-      }
+    pub other_fails : outlet_failures mid.outlet.now ≡ outlet_failures first.outlet.now → RelayFails held left first.target o first.outlet.now mid.outlet.now FileRefused
+    other_fails failures = record { fault = other_stands; front = other_front; failures = omega (arith, failures) }
 
-      pub passes_end : (last : Option (List ℕ)) → Consumes new last [] → IsAtEnd last → PassesRest left last o
-      passes_end last none end = record {
-        gap = many.bytes;
-        consumed = subst (Consumes left last) (append_assoc many.bytes o.back [] ∙ ap (λ zs. many.bytes ++ zs) (append-nil o.back)) (Consumes-trans left new last (many.bytes ++ o.back) [] (Consumes-trans left now new many.bytes o.back many.consumed read) none);
-        long = many.long;
-        ended = λ _. end;
-      }
+  -- the same outline: the tail is written
+  module _ (new : Outlet W) (own_is : p.sound ≡ o.sound) (same : IsSameAround p o) where
+    abbrev ended : Option (List ℕ)
+    ended = held (outlet_writer new)
 
--- ---- the whole file
--- what three readings counted, one after the other
-counted : (a b c d m n k : ℕ) → b ≡ u64_saturate (a + m) → c ≡ u64_saturate (b + n) → d ≡ u64_saturate (c + k) → d ≡ u64_saturate (a + (m + (n + k)))
-counted a b c d m n k p q r = omega (arith, p, q, r)
+    -- what was written of a sound
+    abbrev body : List ℕ → List ℕ
+    body sound = first.target.head.now ++ relaced_sound p.sound first.target.interleaving sound
 
-module _ (t : Target) (o : Surroundings) (sized : IsSound o.sound) (l0 a0 : Option (List ℕ)) where
-  abbrev others : List ℕ → List ℕ
-  others sound = relaced_sound o.sound t.interleaving sound
+    whole : (sound : List ℕ) → body sound ++ first.target.tail.now ≡ relayed first.target o.sound sound
+    whole sound = append_assoc first.target.head.now (relaced_sound p.sound first.target.interleaving sound) first.target.tail.now ∙ ap (λ (t : Sound). relayed first.target t sound) own_is
 
-  -- every file in the surroundings begins with the head
-  pub head_fault : (f : StreamFault) → IsExpectFault l0 o.head f → IsRelayFault l0 o f
-  head_fault f h = by_refusal (IsExpectFault l0 o.head FileRefused) (IsRelayFault l0 o) (by l0) tt f h
-    where
-      by : (l : Option (List ℕ)) → IsExpectFault l o.head FileRefused → IsRelayFault l o FileRefused
-      by None differs = tt
-      by (Some xs) differs = λ around. differs (around.0 ++ (around.1.gap ++ (o.back ++ around.1.rest))) around.1.file_is
+    written : (sound : List ℕ) → has p.sound p.sound.count sound → Appends behind_sound ended mid.target.tail.now → Appends begun ended (relayed first.target o.sound sound)
+    written sound is out = subst (Appends begun ended) (ap (λ (t : Target). body sound ++ t.tail.now) is.target ∙ whole sound) (Appends-trans begun behind_sound ended (body sound) mid.target.tail.now is.written out)
 
-  pub head_part : (a1 : Option (List ℕ)) (f : StreamFault) → AppendsUntil a0 a1 t.head.now f → RelaysFront l0 t o a0 a1 f
-  head_part a1 f out = by l0
-    where
-      by : (l : Option (List ℕ)) → RelaysFront l t o a0 a1 f
-      by None = tt
-      by (Some xs) = λ sound stands. until_more a0 a1 t.head.now (others sound ++ t.tail.now) f out
+    pub file_relayed : (left : Option (List ℕ)) → TakesFile has left p → Appends behind_sound ended mid.target.tail.now → Relays left first.target o begun ended
+    file_relayed None (taken, h) out = tt
+    file_relayed (Some file) (taken, h) out = (h.0, same_stands o p own_is same file h.0 h.1, written h.0 h.2 out)
 
-  module _ (a1 : Option (List ℕ)) (head_out : Appends a0 a1 t.head.now) where
-    pub head_whole : (f : StreamFault) → f ≢ WriteFailed → RelaysFront l0 t o a0 a1 f
-    head_whole f calm = head_part a1 f (until_whole a0 a1 t.head.now f calm head_out)
+    pub given_relayed : {R : Type 0} (left : R → Option (List ℕ)) (i j : Inlet R) → TakesGiven has left i j p → Appends behind_sound ended mid.target.tail.now → RelaysGiven left i j first.target o begun ended
+    given_relayed left i j (read, reads, h) out = (read, h.0, reads, same_stands o p own_is same read h.0 h.1, written h.0 h.2 out)
 
-    module _ (l1 : Option (List ℕ)) (head_in : Consumes l0 l1 o.head) where
-      -- what comes behind the head
-      from_sound : (xs sound : List ℕ) (stands : StandsIn o xs sound) → l0 ≡ Some xs → l1 ≡ Some (sound ++ (stands.gap ++ (o.back ++ stands.rest)))
-      from_sound xs sound stands known =
-          let ys = left_is l0 l1 o.head xs head_in known in
-          ys.1 ∙ ap (λ zs. Some zs) (append_cancel_left o.head ys.0 (sound ++ (stands.gap ++ (o.back ++ stands.rest))) (sym ys.2 ∙ stands.file_is))
+    -- or a prefix of it
+    pub tail_fails : (left : Option (List ℕ)) → TakesFile has left p → (f : StreamFault) → IsWritingFault f → AppendsPart behind_sound ended mid.target.tail.now → outlet_failures new ≡ outlet_failures first.outlet.now + failed_writes {X = Unit {0}} (Err f)
+        → RelayFails held left first.target o first.outlet.now new f
+    tail_fails left taken f fault out failures = record {
+      fault = writing_stands left o f fault;
+      front = by left taken.1;
+      failures = failures;
+    }
+      where
+        by : (l : Option (List ℕ)) → IfSome l (λ file. (sound : List ℕ) × StandsIn p file sound × has p.sound p.sound.count sound) → RelaysFront l first.target o begun ended f
+        by None h = tt
+        by (Some file) h = λ sound stands.
+            let is = h.2 in
+            let here = same_stands o p own_is same file h.0 h.1 in
+            let behind = λ (xs : List ℕ) (t : StandsIn o file xs). t.gap ++ (o.back ++ t.rest) in
+            let one : h.0 ≡ sound =
+            same_front h.0 sound (behind h.0 here) (behind sound stands)
+            (same_rest o.head o.head (h.0 ++ behind h.0 here) (sound ++ behind sound stands) (sym here.file_is ∙ stands.file_is) refl) (here.sound_long ∙ sym stands.sound_long) in
+            let tail : mid.target.tail.now ≡ first.target.tail.now = ap (λ (t : Target). t.tail.now) is.target in
+            subst (λ xs. AppendsUntil begun ended (relayed first.target o.sound xs) f) one (subst (λ xs. AppendsUntil begun ended xs f) (whole h.0) (until_on begun behind_sound ended (body h.0) first.target.tail.now f is.written (until_part behind_sound ended first.target.tail.now f (subst (AppendsPart behind_sound ended) tail out))))
 
-      pub sound_fault : (f : StreamFault) → IsPartFault l1 o.sound o.sound.count f → IsRelayFault l0 o f
-      sound_fault FileRefused h = by l0 refl
-        where
-          by : (l : Option (List ℕ)) → l0 ≡ l → IsRelayFault l o FileRefused
-          by None known = tt
-          by (Some xs) known = λ around.
-              let sound = around.0 in
-              let behind = around.1.gap ++ (o.back ++ around.1.rest) in
-              let fewer : length (sound ++ behind) < sound_size o.sound.interleaving o.sound.channels o.sound.count = subst (λ l. IsPartFault l o.sound o.sound.count FileRefused) (from_sound xs sound around.1 known) h in
-              omega (arith, fewer, length-append sound behind, around.1.sound_long, sized.size)
-      sound_fault RateNotDivided h = absurd h
-      sound_fault TooLarge h = absurd h
-      sound_fault ReadFailed h = tt
-      sound_fault WriteFailed h = tt
-      sound_fault TurnLimit h = absurd h
-      sound_fault Memory h = tt
+-- ---- nothing was read
+pub nothing_relayed : (left : Option (List ℕ)) (target : Target) (o : Surroundings) (a : Option (List ℕ)) (f : StreamFault) → f ≢ WriteFailed → RelaysFront left target o a a f
+nothing_relayed None target o a f calm = tt
+nothing_relayed (Some file) target o a f calm = λ sound stands. until_nil a (relayed target o.sound sound) f calm
 
-      pub sound_part : (a2 : Option (List ℕ)) (f : StreamFault) → PartFront l1 o.sound t.interleaving o.sound.count a1 a2 f → RelaysFront l0 t o a0 a2 f
-      sound_part a2 f front = by l0 refl
-        where
-          by : (l : Option (List ℕ)) → l0 ≡ l → RelaysFront l t o a0 a2 f
-          by None known = tt
-          by (Some xs) known = λ sound stands.
-              let behind = stands.gap ++ (o.back ++ stands.rest) in
-              let out = subst (λ l. PartFront l o.sound t.interleaving o.sound.count a1 a2 f) (from_sound xs sound stands known) front sound behind refl (stands.sound_long ∙ sized.size) in
-              until_on a0 a1 a2 t.head.now (others sound ++ t.tail.now) f head_out (until_more a1 a2 (others sound) t.tail.now f out)
+-- ---- of an answer all is so
+pub each_ok : {P F : Type 0} (n m : ℕ) (r : Result (Unit {0}) StreamFault) → OnOk r P → n ≡ m + failed_writes r → (P → n ≡ m → F) → OnOk r F
+each_ok n m (Ok x) p failures on = on p (omega (arith, failures))
+each_ok n m (Err f) p failures on = tt
 
-      module _ (l2 a2 : Option (List ℕ)) (played : RelaysPart l1 l2 o.sound t.interleaving o.sound.count a1 a2) where
-        -- what was read is the sound, and what comes behind it
-        same_sound : (xs sound : List ℕ) (stands : StandsIn o xs sound) → l0 ≡ Some xs → (played.part ≡ sound) × (l2 ≡ Some (stands.gap ++ (o.back ++ stands.rest)))
-        same_sound xs sound stands known =
-            let behind = stands.gap ++ (o.back ++ stands.rest) in
-            let ys = left_is l1 l2 played.part (sound ++ behind) played.consumed (from_sound xs sound stands known) in
-            let long : length sound ≡ length played.part = stands.sound_long ∙ sized.size ∙ sym played.long in (
-              sym (same_front sound played.part behind ys.0 ys.2 long),
-              ys.1 ∙ ap (λ zs. Some zs) (sym (same_rest sound played.part behind ys.0 ys.2 long)),
-            )
-
-        pub rest_fault : (f : StreamFault) → IsRestFault l2 o f → IsRelayFault l0 o f
-        rest_fault f h = by_refusal (IsRestFault l2 o FileRefused) (IsRelayFault l0 o) (by l0 refl) tt f h
-          where
-            by : (l : Option (List ℕ)) → l0 ≡ l → IsRestFault l2 o FileRefused → IsRelayFault l o FileRefused
-            by None known differs = tt
-            by (Some xs) known differs = λ around. (let same = same_sound xs around.0 around.1 known in subst (λ l. IsRestFault l o FileRefused) same.1 differs around.1.gap around.1.rest refl around.1.gap_long around.1.ended)
-
-        -- what was written so far, and then a prefix of the tail
-        pub tail_part : (a3 : Option (List ℕ)) (f : StreamFault) → AppendsUntil a2 a3 t.tail.now f → RelaysFront l0 t o a0 a3 f
-        tail_part a3 f out = by l0 refl
-          where
-            by : (l : Option (List ℕ)) → l0 ≡ l → RelaysFront l t o a0 a3 f
-            by None known = tt
-            by (Some xs) known = λ sound stands.
-                let same = same_sound xs sound stands known in
-                let written : Appends a1 a2 (others sound) = subst (λ ys. Appends a1 a2 (others ys)) same.0 played.written in
-                until_on a0 a1 a3 t.head.now (others sound ++ t.tail.now) f head_out (until_on a1 a2 a3 (others sound) t.tail.now f written out)
-
-        pub sound_whole : (f : StreamFault) → f ≢ WriteFailed → RelaysFront l0 t o a0 a2 f
-        sound_whole f calm = tail_part a2 f (until_nil a2 t.tail.now f calm)
-
-        module _ (l3 a3 : Option (List ℕ)) (rest : PassesRest l2 l3 o) (tail_out : Appends a2 a3 t.tail.now) where
-          written : Appends a0 a3 (relayed t o.sound played.part)
-          written = Appends-trans a0 a1 a3 t.head.now (others played.part ++ t.tail.now) head_out (Appends-trans a1 a2 a3 (others played.part) t.tail.now played.written tail_out)
-
-          long : length played.part ≡ o.sound.size
-          long = played.long ∙ sym sized.size
-
-          module _ {R : Type 0} (left : R → Option (List ℕ)) (i j : Inlet R) (old : left (inlet_reader i) ≡ l0) (new : left (inlet_reader j) ≡ l3) where
-            pub relays_given : (g1 g2 : ℕ) → g1 ≡ u64_saturate (inlet_given i + length o.head) → g2 ≡ u64_saturate (g1 + sound_size o.sound.interleaving o.sound.channels o.sound.count) → inlet_given j ≡ u64_saturate (g2 + (o.gap + length o.back)) → RelaysGiven left i j t o a0 a3
-            relays_given g1 g2 first second third =
-                let behind = rest.gap ++ o.back in
-                let file = o.head ++ (played.part ++ behind) in
-                let all : length file ≡ length o.head + (length played.part + (o.gap + length o.back)) = omega (arith, length-append o.head (played.part ++ behind), length-append played.part behind, length-append rest.gap o.back, rest.long) in (
-                  file,
-                  played.part,
-                  record {
-                    consumed = rw (old, new) (Consumes-trans l0 l1 l3 o.head (played.part ++ behind) head_in (Consumes-trans l1 l2 l3 played.part behind played.consumed rest.consumed));
-                    given = rw (all, played.long) (counted _ g1 g2 _ _ _ _ first second third);
-                  },
-                  record {
-                    gap = rest.gap;
-                    rest = [];
-                    file_is = ap (λ zs. o.head ++ (played.part ++ (rest.gap ++ zs))) (sym (append-nil o.back));
-                    sound_long = long;
-                    gap_long = rest.long;
-                    ended = λ _. refl;
-                  },
-                  written,
-                )
-
-          pub relays : Relays l0 t o a0 a3
-          relays = by l0 refl
-            where
-              by : (l : Option (List ℕ)) → l0 ≡ l → Relays l t o a0 a3
-              by None known = tt
-              by (Some xs) known =
-                  let ys = left_is l0 l1 o.head xs head_in known in
-                  let zs = left_is l1 l2 played.part ys.0 played.consumed ys.1 in
-                  let us = left_is l2 l3 (rest.gap ++ o.back) zs.0 rest.consumed zs.1 in (
-                    played.part,
-                    record {
-                      gap = rest.gap;
-                      rest = us.0;
-                      file_is = ys.2 ∙ ap (λ vs. o.head ++ vs) (zs.2 ∙ ap (λ vs. played.part ++ vs) (us.2 ∙ append_assoc rest.gap o.back us.0));
-                      sound_long = long;
-                      gap_long = rest.long;
-                      ended = λ sure. subst IsAtEnd us.1 (rest.ended sure);
-                    },
-                    written,
-                  )
-
--- ---- faults that count no failure
-pub writing_stands : (l : Option (List ℕ)) (o : Surroundings) (f : StreamFault) → IsWritingFault f → IsRelayFault l o f
-writing_stands l o f h = by_writing (IsRelayFault l o) tt tt f h
-
-pub unwritten : (P : Type 0) (f : StreamFault) → IsRefusal P f → failed_writes {X = Unit {0}} (Err f) ≡ 0
-unwritten P f h = by_refusal P (λ g. failed_writes {X = Unit {0}} (Err g) ≡ 0) (λ refused. refl) refl f h
-
--- what a step counts is all that was counted
-pub none_before : (a m b n : ℕ) → m ≡ a + 0 → b ≡ m + n → b ≡ a + n
-none_before a m b n none p = omega arith
-
-pub no_more : (a b n : ℕ) → b ≡ a + 0 → n ≡ 0 → b ≡ a + n
-no_more a b n p none = omega arith
-
-pub none_counted : (a n : ℕ) → n ≡ 0 → a ≡ a + n
-none_counted a n none = omega arith
-
--- ---- faults of a part
-pub filling_in_part : (l : Option (List ℕ)) (s : Sound) (bits size : ℕ) (f : StreamFault) → size ≡ sound_size s.interleaving s.channels bits → IsFillFault l size f → IsPartFault l s bits f
-filling_in_part l s bits size f e h = by_refusal (IsFillFault l size FileRefused) (IsPartFault l s bits) (by l) tt f h
-  where
-    by : (l : Option (List ℕ)) → IsFillFault l size FileRefused → IsPartFault l s bits FileRefused
-    by None few = tt
-    by (Some xs) few = subst (λ n. length xs < n) e few
-
-pub writing_in_part : (l : Option (List ℕ)) (s : Sound) (bits : ℕ) (f : StreamFault) → IsWritingFault f → IsPartFault l s bits f
-writing_in_part l s bits f h = by_writing (IsPartFault l s bits) tt tt f h
-
-pub none_of_part : (l : Option (List ℕ)) (s : Sound) (to : Interleaving) (bits : ℕ) (a : Option (List ℕ)) (f : StreamFault) → f ≢ WriteFailed → PartFront l s to bits a a f
-none_of_part None s to bits a f calm = tt
-none_of_part (Some xs) s to bits a f calm = λ part rest e long. until_nil a (relaced s.interleaving to s.channels bits part) f calm
-
--- whole bytes of each channel in a part, where the sound has them
-pub whole_part : (bits count : ℕ) (P : Type 0) → (bits % 8 ≡ 0) ⊎ (bits % 8 ≡ count % 8) → (P → count % 8 ≡ 0) → P → bits % 8 ≡ 0
-whole_part bits count P (inl groups) whole p = groups
-whole_part bits count P (inr last) whole p = last ∙ whole p
+pub each_err : {P : Type 0} {Q F : StreamFault → Type 0} (n m : ℕ) (r : Result (Unit {0}) StreamFault) → OnErr r P → IfErr r Q → n ≡ m + failed_writes r → ((f : StreamFault) → P → Q f → n ≡ m + failed_writes {X = Unit {0}} (Err f) → F f) → IfErr r F
+each_err n m (Ok x) p q failures on = tt
+each_err n m (Err f) p q failures on = on f p q failures

@@ -53,7 +53,7 @@ module _ (part : SoundPart) (before : List ℕ) (fed : IsFed part.sound part.don
     | inr all ↦ (let is : part.done + part.bits ≡ s.count = omega (arith, all, part.within) in omega (arith, sum, part.is_sound.size, ap (sound_size s.interleaving s.channels) is))
   ]
 
-  fed_on : (bytes : List ℕ) → length bytes ≡ sound_size s.interleaving s.channels part.bits → IsFed s (part.done + part.bits) (before ++ bytes)
+  pub fed_on : (bytes : List ℕ) → length bytes ≡ sound_size s.interleaving s.channels part.bits → IsFed s (part.done + part.bits) (before ++ bytes)
   fed_on bytes long = record {
     is_sound = fed.is_sound;
     whole = fed.whole;

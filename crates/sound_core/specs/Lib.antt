@@ -8,5 +8,4 @@ pub mod Stretches
 pub mod Keepers
 pub mod Keeping
 pub mod Laws
-pub mod Comparing
 pub mod Relays

@@ -1,5 +1,5 @@
 -- What a file holds beside its sound, and where that stands.
-use Rattle.std.specs.Prelude.{◌≡◌, ◌≢◌, ◌⊎◌, ℕ, ◌+◌, ◌%◌, ◌<◌, Bool, true, List, [], ◌++◌, length, replicate, Option, Some, IfSome, ⊤}
+use Rattle.std.specs.Prelude.{◌≡◌, ◌≢◌, ◌⊎◌, ℕ, ◌+◌, ◌%◌, ◌<◌, Bool, true, List, [], ◌++◌, drop, length, nat_lt, replicate, take, Option, Some, IfSome, ⊤}
 use Rattle.std.specs.Io.KnownBytes.{IsAtEnd}
 use Rattle.chunk_core.specs.Inlets.{inlet_reader}
 use Rattle.chunk_core.specs.declared.inlet.Inlet.{Inlet}
@@ -9,6 +9,8 @@ use Rattle.dsd_bits.specs.declared.sound.Sound.{Sound}
 use Rattle.dsd_bits.specs.Contents.{Content}
 use Rattle.dsd_bits.specs.Sounds.{IsSound, sound_channels}
 use Rattle.dsdiff_core.specs.Files.{IsDsdiff}
+use Rattle.dsdiff_core.specs.Fronts.{left_behind}
+use Rattle.dsf_core.specs.Fields.{tag_told}
 use Rattle.dsf_core.specs.Files.{IsDsf}
 use Rattle.sound_core.specs.Files.{IsRefused, TellsSound}
 use Rattle.sound_core.specs.Reads.{Reads}
@@ -55,13 +57,19 @@ pub record StandsIn (o : Surroundings) (file sound : List ℕ) : Type 0 where
   pub gap_long : length gap ≡ o.gap
   pub ended : o.ends ≡ true → rest ≡ []
 
--- what surroundings tell: every file that is some sound in them holds their recording, with the channels of that sound
+-- what is kept of the bytes behind the sound of a file: what a DSDIFF form has left there, or all of them where they are fewer, and then the file ends; the tag of a DSF file, which ends with it
+abbrev pub KeepsBehind : Interleaving → Surroundings → List ℕ → Type 0
+KeepsBehind Bytes o file = (o.gap ≡ 0) × (o.back ≡ take (left_behind o.head o.sound.size) (drop (o.sound.start + o.sound.size) file)) × (o.ends ≡ nat_lt (length (drop (o.sound.start + o.sound.size) file)) (left_behind o.head o.sound.size))
+KeepsBehind (Blocks order) o file = (o.back ≡ tag_told file) × (o.ends ≡ true)
+
+-- what surroundings tell: every file that is some sound in them has that kept behind it, and holds their recording, with the channels of that sound
 pub record AreTold (o : Surroundings) : Type 0 where
   pub tells : TellsSound o.head o.sound
   pub start : o.sound.start ≡ length o.head
   pub is_sound : IsSound o.sound
   pub whole : o.sound.interleaving ≡ Bytes → o.sound.count % 8 ≡ 0
   pub silent : o.recording.channels ≡ replicate o.sound.channels []
+  pub keeps : (file sound : List ℕ) → StandsIn o file sound → KeepsBehind o.sound.interleaving o file
   pub holds : (file sound : List ℕ) → StandsIn o file sound → HoldsIn o.sound.interleaving file (with_sound o.recording o.sound sound)
 
 -- the file is some sound in the surroundings

@@ -1,7 +1,6 @@
 -- What was read of a reader whose reads are counted.
 use Rattle.std.specs.Prelude.{◌≡◌, ℕ, ◌+◌, ◌-◌, ◌*◌, ◌<◌, ◌≤◌, ◌^◌, ◌⊎◌, List, ◌++◌, length, Option, IfSome}
 use Rattle.std.specs.Io.KnownBytes.{Consumes, IsAtEnd}
-use Rattle.std.specs.Io.Iter.{u64_saturate}
 use Rattle.chunk_core.specs.Inlets.{inlet_given, inlet_reader, inlet_reads}
 use Rattle.chunk_core.specs.declared.inlet.Inlet.{Inlet}
 
@@ -15,11 +14,6 @@ pub record HasBudget {R : Type 0} (limit : ℕ) (inlet : Inlet R) : Type 0 where
 pub record Reads {R : Type 0} (left : R → Option (List ℕ)) (old new : Inlet R) (bytes : List ℕ) : Type 0 where
   pub consumed : Consumes (left (inlet_reader old)) (left (inlet_reader new)) bytes
   pub given : inlet_given new ≡ inlet_given old + length bytes
-
--- these bytes were read, and counted as far as the count goes, which stays at 2^64-1
-pub record ReadsCapped {R : Type 0} (left : R → Option (List ℕ)) (old new : Inlet R) (bytes : List ℕ) : Type 0 where
-  pub consumed : Consumes (left (inlet_reader old)) (left (inlet_reader new)) bytes
-  pub given : inlet_given new ≡ u64_saturate (inlet_given old + length bytes)
 
 -- these bytes were read of those that are left, and counted
 pub record GivesBytes (left_old : Option (List ℕ)) (given_old given_new : ℕ) (read : List ℕ) : Type 0 where

@@ -10,9 +10,9 @@
 //! nothing (`nothing.rt`).
 //!
 //! [`relay`] reads a file whose outline is known once more, and hands its sound on in another interleaving
-//! (`relaying.rt`): it writes a head, then the sound, then a tail. Of the sound it holds whole groups of the channels'
-//! blocks, at most 65,536 bytes, and what is made of them. A file that isn't a sound in that outline is refused
-//! (`comparing.rt`); which bytes its sound has isn't compared with anything.
+//! (`relaying.rt`): it writes a head, then the sound, by a sink (`relaying_sink.rt`), then a tail. Of the sound it holds
+//! whole groups of the channels' blocks, at most 65,536 bytes, and what is made of them. A file whose outline is another
+//! one now is refused; which bytes its sound has isn't compared with anything.
 //!
 //! A reader has the inlet, a block to read into, the limit of its reads and what was read ahead (`reader.rt`). It is led up
 //! to the sound (`front.rt`), and then behind it (`outline.rt`). A sink that writes does so by [`put`].
@@ -50,7 +50,6 @@
 //! ```
 #![tactic(auto)]
 
-mod comparing;
 mod fault;
 mod front;
 mod keeper;
@@ -61,6 +60,7 @@ mod outline;
 mod part;
 mod reader;
 mod relaying;
+mod relaying_sink;
 mod sink;
 mod taking;
 mod writing;

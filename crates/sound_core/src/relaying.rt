@@ -1,23 +1,24 @@
 //! A file of a known outline, its sound handed on in another interleaving.
 
-ghost use Rattle.std.specs.Prelude.{◌≡◌, ◌+◌, ◌*◌, ◌/◌, ◌%◌, ◌-◌, ◌<◌, ◌≤◌, ◌^◌, ◌++◌, IfErr, IfOk, OnOk, length};
-ghost use Rattle.std.specs.Io.Iter.{u64_saturate};
-ghost use Rattle.chunk_core.specs.Inlets.{inlet_failures, inlet_given, inlet_reader};
+ghost use Rattle.std.specs.Prelude.{◌≡◌, ◌↔◌, ◌⊎◌, ◌+◌, ◌%◌, ◌-◌, ◌<◌, ◌≤◌, ◌^◌, IfErr, IsErrOf, IsTrue, OnOk};
+ghost use Rattle.chunk_core.specs.Inlets.{inlet_failures, inlet_given, inlet_reader, inlet_reads};
 ghost use Rattle.chunk_core.specs.Outlets.{outlet_failures, outlet_writer};
-ghost use Rattle.dsd_bits.specs.Sounds.{sound_size};
 ghost use Rattle.sound_core.specs.Faults.{failed_reads, failed_writes};
 ghost use Rattle.sound_core.specs.Outlines.{AreTold, around_of};
-ghost use Rattle.sound_core.specs.Relays.{IsPart, IsPartFault, IsRelacing, IsRelayFault, IsRestFault, PartFront, PassesRest, Relays, RelaysFront, RelaysGiven, RelaysPart};
+ghost use Rattle.sound_core.specs.Relays.{IsReady, IsRelayFault, IsSameAround, RelayFails, Relays, RelaysFront, RelaysGiven};
 
-use crate::comparing::{BLOCK, expect, expect_end, fill, pass};
 use crate::fault::StreamFault;
 use crate::outline::Outline;
+use crate::relaying_sink::RelayingSink;
+use crate::taking::read_into;
 use crate::writing::put;
 use chunk_core::{Inlet, Outlet};
-use dsd_bits::{Interleaving, Sound};
-use relace_core::{Stretch, groups_join, push_relaced, stretch_bits, stretch_size};
+use dsd_bits::Interleaving;
 use std::alloc::Global;
 use std::io::{Read, Write};
+
+// How many reads and bytes an inlet may have counted.
+const MOST_COUNTED: u64 = 0x8000_0000_0000_0000;
 
 /// What is written around a sound, and how it is interleaved between.
 #[derive(Clone, Copy)]
@@ -30,18 +31,12 @@ pub struct Target<'a> {
     pub tail: &'a [u8],
 }
 
-// What is read into, and what is written from.
-#[derive(Drop)]
-struct Buffers {
-    block: Vec<u8>,
-    out: Vec<u8>,
-}
-
-/// Reads a file of this outline, and writes the target's head, the file's sound interleaved as the target says, and
-/// the target's tail.
+/// Reads a file of this outline as [`read_into`] does, and writes the target's head, the file's sound interleaved as
+/// the target says, and the target's tail.
 ///
-/// Refusals: `FileRefused` where the file isn't a sound in the outline; `ReadFailed`, `WriteFailed`, `Memory`. A prefix
-/// was written then; after `WriteFailed` not all of it was.
+/// Refusals: `FileRefused` where the file isn't a sound in the outline; `ReadFailed`, `WriteFailed`, `Memory`;
+/// `TurnLimit` after `2^40` reads, or where the inlet counted `2^63` reads or bytes before, and whatever is answered
+/// there were no more than `2^40` reads. A prefix was written then; after `WriteFailed` not all of it was.
 pub fn relay<R: Read, W: Write>(
     alloc: Global,
     outline: &Outline,
@@ -65,141 +60,63 @@ pub fn relay<R: Read, W: Write>(
     ensures fault { IfErr result (IsRelayFault (R.remaining (inlet_reader inlet.old)) (around_of outline.now)) }
     ensures read_failed { inlet_failures inlet.new ≡ inlet_failures inlet.old + failed_reads result }
     ensures write_failed { outlet_failures outlet.new ≡ outlet_failures outlet.old + failed_writes result }
+    // Whatever is answered, there were at most 2^40 reads.
+    ensures reads { inlet_reads inlet.new ≤ inlet_reads inlet.old + 2 ^ 40 }
+    ensures turn_limit { IsErrOf result StreamFault.TurnLimit → (2 ^ 63 ≤ inlet_reads inlet.old)
+        ⊎ ((2 ^ 63 ≤ inlet_given inlet.old) ⊎ (inlet_reads inlet.new ≡ inlet_reads inlet.old + 2 ^ 40)) }
 {
-    let mut buffers = Buffers {
-        block: vec![in alloc; 0u8; BLOCK]?,
-        out: Vec::new(alloc),
-    };
-    put(outlet, target.head)?;
-    expect(inlet, &mut buffers.block, &outline.head)?;
-    let sound = Relacing {
+    if inlet.reads() >= MOST_COUNTED || inlet.given() >= MOST_COUNTED {
+        return Err(StreamFault::TurnLimit);
+    }
+    let mut out = Vec::new(alloc);
+    let mut sink = RelayingSink {
+        target: *target,
         sound: outline.sound,
-        to: target.interleaving,
+        outlet,
+        out: &mut out,
     };
-    relay_sound(alloc, &sound, inlet, &mut buffers, outlet)?;
-    expect_rest(outline, inlet, &mut buffers.block)?;
-    put(outlet, target.tail)
+    relay_by(alloc, outline, inlet, &mut sink)
 }
 
-// A sound, and how it is interleaved in what is written.
-#[derive(Clone, Copy)]
-struct Relacing {
-    sound: Sound,
-    to: Interleaving,
-}
-
-// The next bits of each channel of a sound.
-#[derive(Clone, Copy)]
-struct Part {
-    relacing: Relacing,
-    bits: usize,
-}
-
-// Reads what stands behind the sound of a file of this outline.
-fn expect_rest<R: Read>(
+// Relays a file of this outline by a sink of its sound that didn't begin.
+fn relay_by<R: Read, W: Write>(
+    alloc: Global,
     outline: &Outline,
     inlet: &mut Inlet<R>,
-    block: &mut Vec<u8>,
+    sink: &mut RelayingSink<'_, '_, W>,
 ) -> Result<(), StreamFault>
-    requires ready { inlet_failures inlet.old < 2 ^ 64 - 1 }
-    requires size { length block.old.items ≡ 65536 }
-    ensures ok { OnOk result (PassesRest (R.remaining (inlet_reader inlet.old)) (R.remaining (inlet_reader inlet.new))
-        (around_of outline.now)) }
-    ensures given { OnOk result (inlet_given inlet.new
-        ≡ u64_saturate (inlet_given inlet.old + (outline.now.gap + length outline.now.back.items))) }
-    ensures fault { IfErr result (IsRestFault (R.remaining (inlet_reader inlet.old)) (around_of outline.now)) }
-    ensures failures { inlet_failures inlet.new ≡ inlet_failures inlet.old + failed_reads result }
+    requires told { AreTold (around_of outline.now) }
+    requires sound { sink.old.sound ≡ outline.now.sound }
+    requires sink_ready { IsReady sink.old }
+    requires inlet_ready { inlet_failures inlet.old < 2 ^ 64 - 1 }
+    requires reads_low { inlet_reads inlet.old < 2 ^ 63 }
+    requires given_low { inlet_given inlet.old < 2 ^ 63 }
+    ensures same { sink.new.outlet.ghost_name ≡ sink.old.outlet.ghost_name }
+    ensures ok { OnOk result (Relays (R.remaining (inlet_reader inlet.old)) sink.old.target (around_of outline.now)
+        (W.contents (outlet_writer sink.old.outlet.now)) (W.contents (outlet_writer sink.new.outlet.now))) }
+    ensures any_reader { OnOk result (RelaysGiven R.remaining inlet.old inlet.new sink.old.target
+        (around_of outline.now) (W.contents (outlet_writer sink.old.outlet.now))
+        (W.contents (outlet_writer sink.new.outlet.now))) }
+    ensures failures { OnOk result (outlet_failures sink.new.outlet.now ≡ outlet_failures sink.old.outlet.now) }
+    ensures fault { IfErr result (RelayFails W.contents (R.remaining (inlet_reader inlet.old)) sink.old.target
+        (around_of outline.now) sink.old.outlet.now sink.new.outlet.now) }
+    ensures read_failed { inlet_failures inlet.new ≡ inlet_failures inlet.old + failed_reads result }
+    ensures reads { inlet_reads inlet.new ≤ inlet_reads inlet.old + 2 ^ 40 }
+    ensures turn_limit { IsErrOf result StreamFault.TurnLimit → inlet_reads inlet.new ≡ inlet_reads inlet.old + 2 ^ 40 }
 {
-    pass(inlet, block, outline.gap)?;
-    expect(inlet, block, &outline.back)?;
-    if outline.ends {
-        return expect_end(inlet, block);
+    let again = read_into(alloc, inlet, sink)?;
+    if !is_same_around(&again, outline) {
+        return Err(StreamFault::FileRefused);
     }
-    Ok(())
+    put(sink.outlet, sink.target.tail)
 }
 
-// Reads the bytes of a sound, and writes them interleaved otherwise: whole groups of blocks at a time.
-fn relay_sound<R: Read, W: Write>(
-    alloc: Global,
-    relacing: &Relacing,
-    inlet: &mut Inlet<R>,
-    buffers: &mut Buffers,
-    outlet: &mut Outlet<W>,
-) -> Result<(), StreamFault>
-    requires sound { IsRelacing relacing.now }
-    requires inlet_ready { inlet_failures inlet.old < 2 ^ 64 - 1 }
-    requires outlet_ready { outlet_failures outlet.old < 2 ^ 64 - 1 }
-    requires size { length buffers.old.block.items ≡ 65536 }
-    ensures size { length buffers.new.block.items ≡ 65536 }
-    ensures ok { OnOk result (RelaysPart (R.remaining (inlet_reader inlet.old))
-        (R.remaining (inlet_reader inlet.new)) relacing.now.sound relacing.now.to relacing.now.sound.count
-        (W.contents (outlet_writer outlet.old)) (W.contents (outlet_writer outlet.new))) }
-    ensures given { OnOk result (inlet_given inlet.new ≡ u64_saturate (inlet_given inlet.old
-        + sound_size relacing.now.sound.interleaving relacing.now.sound.channels relacing.now.sound.count)) }
-    ensures front { IfErr result (PartFront (R.remaining (inlet_reader inlet.old)) relacing.now.sound relacing.now.to
-        relacing.now.sound.count (W.contents (outlet_writer outlet.old)) (W.contents (outlet_writer outlet.new))) }
-    ensures fault { IfErr result (IsPartFault
-        (R.remaining (inlet_reader inlet.old)) relacing.now.sound relacing.now.sound.count) }
-    ensures read_failed { inlet_failures inlet.new ≡ inlet_failures inlet.old + failed_reads result }
-    ensures write_failed { outlet_failures outlet.new ≡ outlet_failures outlet.old + failed_writes result }
+// Whether two outlines have the same around the sound.
+fn is_same_around(again: &Outline, outline: &Outline) -> bool
+    ensures { IsTrue result ↔ IsSameAround (around_of again.now) (around_of outline.now) }
 {
-    groups_join();
-    // Read, so that the count is known to fit its type.
-    let _fits = inlet.given();
-    let most = stretch_bits(relacing.sound.channels);
-    let mut left = relacing.sound.count;
-    while left > 0 {
-        let bits = left.min(most);
-        let part = Part {
-            relacing: *relacing,
-            bits,
-        };
-        relay_part(alloc, part, inlet, buffers, outlet)?;
-        left -= bits;
-    }
-    Ok(())
-}
-
-// Reads the bytes of a part of a sound, and writes them interleaved otherwise.
-fn relay_part<R: Read, W: Write>(
-    alloc: Global,
-    part: Part,
-    inlet: &mut Inlet<R>,
-    buffers: &mut Buffers,
-    outlet: &mut Outlet<W>,
-) -> Result<(), StreamFault>
-    requires part { IsPart part }
-    requires inlet_ready { inlet_failures inlet.old < 2 ^ 64 - 1 }
-    requires outlet_ready { outlet_failures outlet.old < 2 ^ 64 - 1 }
-    requires size { length buffers.old.block.items ≡ 65536 }
-    ensures size { length buffers.new.block.items ≡ 65536 }
-    ensures ok { OnOk result (RelaysPart (R.remaining (inlet_reader inlet.old))
-        (R.remaining (inlet_reader inlet.new)) part.relacing.sound part.relacing.to part.bits
-        (W.contents (outlet_writer outlet.old)) (W.contents (outlet_writer outlet.new))) }
-    ensures given { OnOk result (inlet_given inlet.new ≡ u64_saturate (inlet_given inlet.old
-        + sound_size part.relacing.sound.interleaving part.relacing.sound.channels part.bits)) }
-    ensures front { IfErr result (PartFront (R.remaining (inlet_reader inlet.old)) part.relacing.sound part.relacing.to
-        part.bits (W.contents (outlet_writer outlet.old)) (W.contents (outlet_writer outlet.new))) }
-    ensures fault { IfErr result (IsPartFault (R.remaining (inlet_reader inlet.old)) part.relacing.sound part.bits) }
-    ensures read_failed { inlet_failures inlet.new ≡ inlet_failures inlet.old + failed_reads result }
-    ensures write_failed { outlet_failures outlet.new ≡ outlet_failures outlet.old + failed_writes result }
-{
-    let Relacing { sound, to } = part.relacing;
-    let size = stretch_size(sound.interleaving, sound.channels, part.bits);
-    fill(inlet, &mut buffers.block, size)?;
-    let (bytes, _) = buffers.block.split_at(size);
-    let stretch = Stretch {
-        channels: sound.channels,
-        count: part.bits,
-    };
-    buffers.out.clear();
-    push_relaced(
-        alloc,
-        &mut buffers.out,
-        bytes,
-        stretch,
-        sound.interleaving,
-        to,
-    )?;
-    put(outlet, &buffers.out)
+    again.gap == outline.gap
+        && again.ends == outline.ends
+        && again.head.as_slice() == outline.head.as_slice()
+        && again.back.as_slice() == outline.back.as_slice()
 }

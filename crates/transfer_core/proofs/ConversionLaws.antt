@@ -32,7 +32,7 @@ use Rattle.form_core.specs.Parts.{FitsIn, WrittenInParts, head_in, interleaving_
 use Rattle.form_core.proofs.OpeningLaws.{held_is_opened, holds_dsf}
 use Rattle.transfer_core.specs.Conversions.{ConversionStands, ConvertsFile, ConvertsFront, ConvertsGiven}
 use Rattle.transfer_core.specs.Converting.{Converts}
-use Rattle.transfer_core.specs.declared.fault.Fault.TheVariants.{NotWholeBytes}
+use Rattle.transfer_core.specs.declared.fault.Fault.TheVariants.{NotWholeBytes, Stream}
 use Rattle.transfer_core.specs.Faults.{as_stream, fault_of_stream, fault_of_writing}
 
 -- ---- channels in sound bytes
@@ -123,6 +123,13 @@ writing_stream writes.Memory = refl
 pub writing_not_whole : {X Y : Type 0} (w : WriteFault) → IsErrOf {T = X} (Err w) writes.NotWholeBytes → IsErrOf {T = Y} (Err (fault_of_writing w)) NotWholeBytes
 writing_not_whole writes.NotWholeBytes is = refl
 writing_not_whole writes.Memory is = absurd cc
+
+pub writing_turns : {Y : Type 0} (w : WriteFault) → IsErrOf {T = Y} (Err (fault_of_writing w)) (Stream faults.TurnLimit) → ⊥
+writing_turns writes.NotWholeBytes is = absurd cc
+writing_turns writes.Memory is = absurd cc
+
+pub turns_as : {X Y : Type 0} (f : StreamFault) → IsErrOf {T = X} (Err f) faults.TurnLimit → IsErrOf {T = Y} (Err f) faults.TurnLimit
+turns_as f is = ap Err (let same : f ≡ faults.TurnLimit = cc in same)
 
 pub stream_whole : {X : Type 0} (f : StreamFault) → IsErrOf {T = X} (Err (fault_of_stream f)) NotWholeBytes → ⊥
 stream_whole faults.Memory is = absurd cc

@@ -4,7 +4,7 @@ use Rattle.std.specs.Io.KnownBytes.{Appends}
 use Rattle.chunk_core.specs.Outlets.{AppendsFront}
 use Rattle.chunk_core.specs.declared.inlet.Inlet.{Inlet}
 use Rattle.sound_core.specs.Outlines.{AreAround, Surroundings}
-use Rattle.sound_core.specs.Reads.{ReadsCapped}
+use Rattle.sound_core.specs.Reads.{Reads}
 use Rattle.form_core.specs.declared.form.Form.{Form}
 use Rattle.form_core.specs.Parts.{FitsIn}
 use Rattle.sound_core.specs.Relays.{IsRelayFault}
@@ -21,7 +21,7 @@ ConvertsFile left form held_old held_new dropped = IfSome left (λ file. (bytes 
 -- the reader returned some bytes, as many as were counted, and what they are converted to was written; this also holds
 -- if its bytes aren't known
 abbrev pub ConvertsGiven : {R : Type 0} → (R → Option (List ℕ)) → Inlet R → Inlet R → Form → Option (List ℕ) → Option (List ℕ) → ℕ → Type 0
-ConvertsGiven left old new form held_old held_new dropped = (read : List ℕ) × (bytes : List ℕ) × ReadsCapped left old new read × Converts read form bytes dropped × Appends held_old held_new bytes
+ConvertsGiven left old new form held_old held_new dropped = (read : List ℕ) × (bytes : List ℕ) × Reads left old new read × Converts read form bytes dropped × Appends held_old held_new bytes
 
 -- a prefix of what any file with these bytes around its sound is converted to was written
 abbrev pub ConvertsFront : Option (List ℕ) → Surroundings → Form → Option (List ℕ) → Option (List ℕ) → Type 0

@@ -1,7 +1,7 @@
 //! Converts a recording from one form to another: in memory, or from a reader to a writer.
 
-ghost use Rattle.std.specs.Prelude.{◌≡◌, ◌+◌, ◌-◌, ◌<◌, ◌^◌, Err, IfErr, IfOk, IsErrOf, OnErr};
-ghost use Rattle.chunk_core.specs.Inlets.{inlet_failures, inlet_reader, inlet_reads};
+ghost use Rattle.std.specs.Prelude.{◌≡◌, ◌⊎◌, ◌+◌, ◌-◌, ◌<◌, ◌≤◌, ◌^◌, Err, IfErr, IfOk, IsErrOf, OnErr};
+ghost use Rattle.chunk_core.specs.Inlets.{inlet_failures, inlet_given, inlet_reader, inlet_reads};
 ghost use Rattle.chunk_core.specs.Outlets.{outlet_failures, outlet_writer};
 ghost use Rattle.sound_core.specs.Faults.{failed_reads, failed_writes};
 ghost use Rattle.sound_core.specs.Outlines.{AreTold, around_of};
@@ -14,7 +14,7 @@ ghost use Rattle.transfer_core.specs.Faults.{as_stream};
 use crate::fault::Fault;
 use chunk_core::{Inlet, Outlet};
 use form_core::{Form, dropped_in, ends_in, interleaving_in, read_any, write_in, written_in_parts};
-use sound_core::{Outline, Target, relay};
+use sound_core::{Outline, StreamFault, Target, relay};
 use std::alloc::Global;
 use std::io::{Read, Write};
 
@@ -55,8 +55,9 @@ pub fn convert(alloc: Global, file: &[u8], form: Form) -> Result<Converted, Faul
 ///
 /// Refusals: `NotWholeBytes` if `form` is DSDIFF and the number of bits of each channel isn't a multiple of 8, before
 /// the first read and the first write; `FileRefused` if the file is no sound in the outline, for example because it was
-/// changed since; `ReadFailed`, `WriteFailed`, `Memory`. What was written then is a prefix of what a file of the
-/// outline is converted to.
+/// changed since; `ReadFailed`, `WriteFailed`, `Memory`; `TurnLimit` after `2^40` reads, or at once if the inlet had
+/// counted `2^63` reads or bytes. There are never more reads, whatever is returned. What was written then is a prefix of
+/// what a file of the outline is converted to.
 pub fn convert_stream<R: Read, W: Write>(
     alloc: Global,
     outline: &Outline,
@@ -83,6 +84,10 @@ pub fn convert_stream<R: Read, W: Write>(
     ensures read_failed { inlet_failures inlet.new ≡ inlet_failures inlet.old + failed_reads (as_stream result) }
     ensures write_failed { outlet_failures outlet.new
         ≡ outlet_failures outlet.old + failed_writes (as_stream result) }
+    // Whatever is returned, there were at most 2^40 reads.
+    ensures reads { inlet_reads inlet.new ≤ inlet_reads inlet.old + 2 ^ 40 }
+    ensures turn_limit { IsErrOf result (Fault.Stream StreamFault.TurnLimit) → (2 ^ 63 ≤ inlet_reads inlet.old)
+        ⊎ ((2 ^ 63 ≤ inlet_given inlet.old) ⊎ (inlet_reads inlet.new ≡ inlet_reads inlet.old + 2 ^ 40)) }
     // What is refused before the first read and the first write.
     ensures unread { IsErrOf result Fault.NotWholeBytes → inlet_reads inlet.new ≡ inlet_reads inlet.old }
     ensures unwritten { IsErrOf result Fault.NotWholeBytes → outlet_writer outlet.new ≡ outlet_writer outlet.old }

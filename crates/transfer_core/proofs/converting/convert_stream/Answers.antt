@@ -1,10 +1,10 @@
-use Rattle.std.proofs.Common.{◌≡◌, ◌∙◌, Err, add-zero, ap, refl, sym}
+use Rattle.std.proofs.Common.{◌≡◌, ◌∙◌, Err, add-zero, ap, arith, refl, sym}
 use Rattle.chunk_core.specs.Inlets.{inlet_reader}
 use Rattle.chunk_core.specs.Outlets.{outlet_writer}
 use Rattle.sound_core.specs.Outlines.{around_of}
 use Rattle.form_core.specs.Parts.{head_in, tail_in}
-use Rattle.transfer_core.proofs.ConversionLaws.{converts_file, converts_front, converts_given, ends_stand, nothing_converted, relay_stands, stream_whole, writing_not_whole, writing_stream}
-use Rattle.transfer_core.proofs.StreamLaws.{answered, fault_is, same_stream}
+use Rattle.transfer_core.proofs.ConversionLaws.{converts_file, converts_front, converts_given, ends_stand, nothing_converted, relay_stands, stream_whole, turns_as, writing_not_whole, writing_stream, writing_turns}
+use Rattle.transfer_core.proofs.StreamLaws.{answered, fault_is, same_stream, stream_turns}
 use Rattle.transfer_core.proofs.converting.convert_stream.Given.{Over}
 use Rattle.transfer_core.proofs.converting.convert_stream.Goals as goal
 use Rattle.transfer_core.proofs.converting.convert_stream.Goals.{After-relay}
@@ -30,6 +30,8 @@ returns-in_err-ends g c =
       not_whole_bytes = λ is. writing_not_whole f (c.in_err-ends.ensures.not_whole_bytes.1 is);
       read_failed = rw (writing_stream f) (sym (add-zero _));
       write_failed = rw (writing_stream f) (sym (add-zero _));
+      reads = omega arith;
+      turn_limit = λ is. absurd (writing_turns f is);
       unread = λ is. refl;
       unwritten = λ is. refl;
     })
@@ -49,6 +51,8 @@ returns-in_err-relay g c =
       not_whole_bytes = λ is. absurd (is c.in_ok-ends.ensures.fits);
       read_failed = rw (same_stream f) c.in_err-relay.ensures.read_failed;
       write_failed = rw (same_stream f) c.in_err-relay.ensures.write_failed;
+      reads = c.relay.ensures.reads;
+      turn_limit = λ is. c.in_err-relay.ensures.turn_limit (turns_as f (stream_turns f is));
       unread = λ is. absurd (stream_whole f is);
       unwritten = λ is. absurd (stream_whole f is);
     })
@@ -68,6 +72,8 @@ returns g c =
       not_whole_bytes = λ is. absurd (is c.in_ok-ends.ensures.fits);
       read_failed = c.in_ok-relay.ensures.read_failed;
       write_failed = c.in_ok-relay.ensures.write_failed;
+      reads = c.relay.ensures.reads;
+      turn_limit = λ is. absurd (answered c.dropped_in.result _ is);
       unread = λ is. absurd (answered c.dropped_in.result _ is);
       unwritten = λ is. absurd (answered c.dropped_in.result _ is);
     }

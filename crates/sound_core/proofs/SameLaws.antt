@@ -1,0 +1,109 @@
+-- Two outlines of one file are the same.
+use Rattle.std.proofs.Common.{◌≡◌, ℕ, ◌+◌, ◌≤◌, inl, inr, List, [], ◌++◌, length, take, drop, sym, subst, ap, ap₂, ◌∙◌, arith, length-append, take-append-drop}
+use Rattle.std.proofs.lemmas.Bool.{cases_lt}
+use Rattle.std.proofs.lemmas.List.{append_cancel_left, take-append-le}
+use Rattle.std.proofs.Math.Seq.{take-append_seam}
+use Rattle.std.specs.Prelude.{nat_lt}
+use Rattle.dsd_bits.specs.declared.interleaving.Interleaving.{Interleaving}
+use Rattle.dsd_bits.specs.declared.interleaving.Interleaving.TheVariants.{Bytes, Blocks}
+use Rattle.dsd_bits.specs.declared.sound.Sound.{Sound}
+use Rattle.dsd_bits.specs.Contents.{Content}
+use Rattle.dsdiff_core.specs.Fronts.{left_behind}
+use Rattle.sound_core.specs.Files.{HoldsRecording, IsRefused, TellsSound}
+use Rattle.sound_core.specs.Outlines.{AreAround, AreTold, HoldsIn, KeepsBehind, StandsIn, Surroundings, with_sound}
+use Rattle.sound_core.specs.Relays.{IsSameAround}
+use Rattle.sound_core.proofs.ToldLaws.{told_once}
+
+-- of two lists that are the same as wholes, fronts of one length are the same, and so is what follows
+pub same_front : (xs ys us vs : List ℕ) → xs ++ us ≡ ys ++ vs → length xs ≡ length ys → xs ≡ ys
+same_front xs ys us vs e long = sym (take-append_seam xs us) ∙ ap₂ (λ n zs. take n zs) long e ∙ take-append_seam ys vs
+
+pub same_rest : (xs ys us vs : List ℕ) → xs ++ us ≡ ys ++ vs → length xs ≡ length ys → us ≡ vs
+same_rest xs ys us vs e long = append_cancel_left ys us vs (ap (λ zs. zs ++ us) (sym (same_front xs ys us vs e long)) ∙ e)
+
+-- of two that are the same as wholes, the one begins with the other
+longer : (xs ys us vs : List ℕ) → xs ++ us ≡ ys ++ vs → length xs ≤ length ys → ys ≡ xs ++ drop (length xs) ys
+longer xs ys us vs e few =
+    let first : take (length xs) ys ≡ xs = sym (take-append-le (length xs) ys vs few) ∙ ap (take (length xs)) (sym e) ∙ take-append_seam xs us in
+    sym (take-append-drop (length xs) ys) ∙ ap (λ zs. zs ++ drop (length xs) ys) first
+
+-- two fronts of a file tell of one sound
+pub told_same : (front other rest more : List ℕ) → front ++ rest ≡ other ++ more → (s t : Sound) → TellsSound front s → TellsSound other t → t ≡ s
+told_same front other rest more e s t tells also = elim (cases_lt (length front) (length other)) [
+  | inl less ↦ told_once front (drop (length front) other) s t tells (subst (λ xs. TellsSound xs t) (longer front other rest more e (omega (arith, less))) also)
+  | inr most ↦ sym (told_once other (drop (length other) front) t s also (subst (λ xs. TellsSound xs s) (longer other front more rest (sym e) most) tells))
+]
+
+-- ---- a file that is some sound in an outline holds a recording
+pub holds_in : (o : Interleaving) (file : List ℕ) (r : Content) → HoldsIn o file r → HoldsRecording file r
+holds_in Bytes file r h = inl h
+holds_in (Blocks order) file r h = inr (order, h)
+
+pub not_refused : (o : Surroundings) → AreTold o → (file : List ℕ) → AreAround o file → IsRefused file → ⊥
+not_refused o told file (sound, stands) refused =
+    let r = with_sound o.recording o.sound sound in
+    refused r (holds_in o.sound.interleaving file r (told.holds file sound stands))
+
+-- ---- two outlines
+module _ (o p : Surroundings) (told : AreTold o) (also : AreTold p) (file sound other : List ℕ) (stands : StandsIn o file sound) (again : StandsIn p file other) where
+  abbrev behind : Surroundings → List ℕ → List ℕ → List ℕ
+  behind q gap rest = gap ++ (q.back ++ rest)
+
+  wholes : o.head ++ (sound ++ behind o stands.gap stands.rest) ≡ p.head ++ (other ++ behind p again.gap again.rest)
+  wholes = sym stands.file_is ∙ again.file_is
+
+  pub sound_same : p.sound ≡ o.sound
+  sound_same = told_same o.head p.head (sound ++ behind o stands.gap stands.rest) (other ++ behind p again.gap again.rest) wholes o.sound p.sound told.tells also.tells
+
+  heads_long : length o.head ≡ length p.head
+  heads_long = sym told.start ∙ ap (λ (t : Sound). t.start) (sym sound_same) ∙ also.start
+
+  head_same : o.head ≡ p.head
+  head_same = same_front o.head p.head (sound ++ behind o stands.gap stands.rest) (other ++ behind p again.gap again.rest) wholes heads_long
+
+  sounds_long : length sound ≡ length other
+  sounds_long = stands.sound_long ∙ ap (λ (t : Sound). t.size) (sym sound_same) ∙ sym again.sound_long
+
+  behind_same : behind o stands.gap stands.rest ≡ behind p again.gap again.rest
+  behind_same =
+      same_rest sound other (behind o stands.gap stands.rest) (behind p again.gap again.rest)
+      (same_rest o.head p.head (sound ++ behind o stands.gap stands.rest) (other ++ behind p again.gap again.rest) wholes heads_long) sounds_long
+
+  left_same : left_behind o.head o.sound.size ≡ left_behind p.head p.sound.size
+  left_same = ap₂ (λ xs (t : Sound). left_behind xs t.size) head_same (sym sound_same)
+
+  place_same : drop (o.sound.start + o.sound.size) file ≡ drop (p.sound.start + p.sound.size) file
+  place_same = ap (λ (t : Sound). drop (t.start + t.size) file) (sym sound_same)
+
+  -- two files that end are as long
+  gaps : o.back ≡ p.back → stands.rest ≡ [] → again.rest ≡ [] → o.gap ≡ p.gap
+  gaps back none nothing =
+      omega (arith, stands.gap_long, again.gap_long, ap length behind_same, length-append stands.gap (o.back ++ stands.rest), length-append again.gap (p.back ++ again.rest), length-append o.back stands.rest, length-append p.back again.rest, ap length back, ap length none, ap length nothing)
+
+  pub same_around : IsSameAround o p
+  same_around = by o.sound.interleaving (told.keeps file sound stands) (subst (λ (t : Sound). KeepsBehind t.interleaving p file) sound_same (also.keeps file other again))
+    where
+      by : (i : Interleaving) → KeepsBehind i o file → KeepsBehind i p file → IsSameAround o p
+      by Bytes k l = record {
+        gap = k.0 ∙ sym l.0;
+        ends = k.2 ∙ ap₂ (λ xs n. nat_lt (length xs) n) place_same left_same ∙ sym l.2;
+        head = head_same;
+        back = k.1 ∙ ap₂ (λ n xs. take n xs) left_same place_same ∙ sym l.1;
+      }
+      by (Blocks order) k l = record {
+        gap = gaps (k.0 ∙ sym l.0) (stands.ended k.1) (again.ended l.1);
+        ends = k.1 ∙ sym l.1;
+        head = head_same;
+        back = k.0 ∙ sym l.0;
+      }
+
+-- what is some sound in one of two that are the same is it in the other
+pub same_stands : (o p : Surroundings) → p.sound ≡ o.sound → IsSameAround p o → (file sound : List ℕ) → StandsIn p file sound → StandsIn o file sound
+same_stands o p sound_is same file sound stands = record {
+  gap = stands.gap;
+  rest = stands.rest;
+  file_is = stands.file_is ∙ ap₂ (λ xs ys. xs ++ (sound ++ (stands.gap ++ (ys ++ stands.rest)))) same.head same.back;
+  sound_long = stands.sound_long ∙ ap (λ (t : Sound). t.size) sound_is;
+  gap_long = stands.gap_long ∙ same.gap;
+  ended = λ yes. stands.ended (same.ends ∙ yes);
+}

@@ -57,7 +57,7 @@ _dsdarc() {
     COMPREPLY=()
     if [ "$COMP_CWORD" -eq 1 ]; then
         compopt +o filenames +o default 2>/dev/null
-        _dsdarc_words info convert play edit check --help --version
+        _dsdarc_words info convert play edit check sum --help --version
         return
     fi
     case "$command:$COMP_CWORD" in
@@ -66,6 +66,14 @@ _dsdarc() {
         info:2 | convert:3 | play:3 | check:3)
             _dsdarc_files '[dD][fF][fF]' '[dD][sS][fF]'
             _dsdarc_stream
+            ;;
+        sum:*)
+            if [ "$COMP_CWORD" -eq 2 ]; then _dsdarc_words --check; fi
+            if [ "${COMP_WORDS[2]-}" = --check ]; then
+                _dsdarc_add < <(compgen -f -- "$cur")
+            else
+                _dsdarc_files '[dD][fF][fF]' '[dD][sS][fF]'
+            fi
             ;;
         convert:4 | play:4 | edit:4 | edit:5 | check:4)
             _dsdarc_add < <(compgen -f -- "$cur")

@@ -36,6 +36,12 @@ def must(entry, size, *words):
     return line
 
 
+def sums_in(entry, path):
+    """Rate of a file, and for each channel its number of bits and their SHA-256, as the program tells them."""
+    rate, bits, *sums = must(entry, lambda: 0, "sum", path).partition("  ")[0].split()
+    return int(rate), [(int(bits), total) for total in sums]
+
+
 def entry_of(key):
     return load(TABLE)["files"][key]
 
@@ -78,10 +84,11 @@ def placed(parts):
 
 
 def compare(entry, source, sum_before, part, back, kept):
-    """Rate and sums of a file's channels, once those of the converted ones are equal and it can be made again."""
-    first = channels.read(source)
-    for word, file in (("converted", part), ("back", back)):
-        if channels.read(file) != first:
+    """Rate and sums of a file's channels, once those of the converted ones are equal and it can be made again. The
+    converted file is read without the program."""
+    first = sums_in(entry, source)
+    for word, sums in (("converted", channels.read(part)), ("back", sums_in(entry, back))):
+        if sums != first:
             sys.exit(f"the {word} file has other bits: {entry['name']!r}")
     if restore.sum_of_pieces(restore.made_again(part, kept)) != sum_before:
         sys.exit(f"what is kept doesn't make the file again: {entry['name']!r}")

@@ -2,4 +2,5 @@ pub mod Commands
 pub mod Masters
 pub mod Outcomes
 pub mod Sources
+pub mod Summing
 pub mod Writing

@@ -2,7 +2,8 @@
 //!
 //! [`perform`] does a [`Task`] over a [`Folder`]. [`outcome_line`] and [`status`] are the line and the status for its
 //! outcome. [`run`] does what the words of a command line ask for. [`run_program`] is the whole program, with a
-//! runtime's words, its disk and its output.
+//! runtime's words, its disk and its output. [`sum_line`] is the line that it prints of a file for `sum`, and
+//! [`is_as_listed`] judges a file by a line of a list.
 //!
 //! The words of the contracts:
 //!
@@ -12,6 +13,9 @@
 //!   (`specs/Commands.antt`).
 //! - `ShowsDone outcome line` is the line of a command that was done, `status_of` the status with which the program
 //!   ends (`specs/Outcomes.antt`).
+//! - `SumLineComesTo name old new answer` says that an answer is the line of sums of bytes that were read of a file, or
+//!   why there is none, `ListedComesTo name line old new answer` whether that line is the one of a list
+//!   (`specs/Summing.antt`).
 //!
 //! What it promises: an outcome reports what came about. What `edit` cut and what `check` accepts is a master, and none
 //! costs less. [`run`] does some command with some file names, or none, and then nothing changed. Which words ask for
@@ -27,11 +31,14 @@
 
 mod ending;
 mod judging;
+mod listing;
 mod masters;
 mod outcome;
 mod performing;
 mod program;
 mod sources;
+mod summing;
+mod sums;
 mod writing;
 
 pub use folder_core::{Folder, FolderFault, MemoryFolder, read_files, read_whole};
@@ -39,5 +46,6 @@ pub use form_core::{form_named, name_of};
 pub use outcome::{Outcome, outcome_line, status};
 pub use performing::perform;
 pub use program::{run, run_program};
+pub use summing::{is_as_listed, sum_line};
 pub use transfer_commands::Told;
 pub use words_core::Task;

@@ -4,6 +4,7 @@ ghost use Rattle.command_core.specs.Commands.{ComesTo};
 
 use crate::outcome::{Outcome, outcome_line, status};
 use crate::performing::perform;
+use crate::sums::{Watch, run_sums};
 use archive_core::Fault;
 use disk_core::Disk;
 use folder_core::{Folder, WatchedFolder};
@@ -13,7 +14,7 @@ use std::io::Input;
 use std::os::fd::AsFd;
 use std::process::ExitCode;
 use std::rt::{Clock, Env, Files};
-use words_core::task_of;
+use words_core::{sum_task_of, task_of};
 
 /// Does what the words of a runtime ask for on its disk, prints the outcome on its output, and returns the status with
 /// which the program ends.
@@ -30,7 +31,20 @@ where
     R::File: AsFd,
 {
     let (outcome, answers) = match given_words(rt) {
-        Ok(words) => run_on_disk(rt, words.as_slice(), process, is_watched),
+        Ok(words) => match sum_task_of(rt.alloc(), words.as_slice()) {
+            Ok(Some(task)) => {
+                return ExitCode::from(run_sums(
+                    rt,
+                    &task,
+                    Watch {
+                        process,
+                        is_watched,
+                    },
+                ));
+            }
+            Ok(None) => run_on_disk(rt, words.as_slice(), process, is_watched),
+            Err(fault) => (fault.into(), Answers::ToOutput),
+        },
         Err(error) if error.kind() == io::ErrorKind::OutOfMemory => {
             (Fault::Memory.into(), Answers::ToOutput)
         }

@@ -1,7 +1,9 @@
 pub mod Converting
+pub mod Digesting
 pub mod Faults
 pub mod Hearing
 pub mod Outlining
 pub mod Playing
 pub mod Sources
+pub mod Summing
 pub mod Telling

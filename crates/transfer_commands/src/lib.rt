@@ -4,16 +4,17 @@
 //! - [`play_file`] reads a project, opens a recording, and writes its WAVE file piece by piece.
 //! - [`convert_file`] reads a recording through, and only then creates the file in the other form.
 //! - [`open_file`] reads a recording to report what it holds.
+//! - [`sum_file`] reads a recording in one pass, and digests the bits of each channel.
 //! - [`hear_sources`] reads a project and then its takes by their numbers, and keeps of them what the splice reads.
 //!
-//! The last three read a short file whole, and any other in one pass. The calls are those of `transfer_core`, the files
+//! `convert_file`, `open_file` and `hear_sources` read a short file whole, and any other in one pass. The calls are those of `transfer_core`, the files
 //! those of `folder_core`. A command returns its first fault.
 //!
 //! The words of the contracts, over any folder, of which `old` is known before and `new` after:
 //!
-//! - `PlayComesTo`, `ConvertComesTo` and `TellComesTo` say what became of the files by a command and what it returned,
-//!   whether it was done or refused, by bytes that were read of them (`specs/Playing.antt`, `specs/Converting.antt`,
-//!   `specs/Telling.antt`).
+//! - `PlayComesTo`, `ConvertComesTo`, `TellComesTo` and `SumComesTo` say what became of the files by a command and what
+//!   it returned, whether it was done or refused, by bytes that were read of them (`specs/Playing.antt`,
+//!   `specs/Converting.antt`, `specs/Telling.antt`, `specs/Summing.antt`).
 //! - `AreSources` says which bytes were read of a project and its takes, `SourcesUnread` why they weren't
 //!   (`specs/Sources.antt`), and `HearsSources` what the splice reads of them (`specs/Hearing.antt`).
 //!
@@ -27,11 +28,13 @@
 #![tactic(auto)]
 
 mod converting;
+mod digesting;
 mod fault;
 mod hearing;
 mod outlining;
 mod playing;
 mod sources;
+mod summing;
 mod telling;
 
 pub use converting::convert_file;
@@ -39,4 +42,5 @@ pub use fault::CommandFault;
 pub use outlining::MOST_KEPT;
 pub use playing::play_file;
 pub use sources::{Sources, hear_sources};
+pub use summing::{Sums, sum_file};
 pub use telling::{Told, open_file};

@@ -1,4 +1,5 @@
 //! The words of a command line: [`task_of`] reads which [`Task`] they ask for, with the names of its files.
+//! [`sum_task_of`] reads those of `sum`, which takes any number of files.
 //!
 //! What it promises: only that it is safe. It has no words of contracts. `tests/try_commands` tests which words ask for
 //! what.
@@ -11,9 +12,11 @@
 #![tactic(auto)]
 
 mod fault;
+mod sums;
 mod task;
 mod words;
 
 pub use fault::WordsFault;
+pub use sums::{SumTask, sum_task_of};
 pub use task::Task;
 pub use words::task_of;

@@ -4,13 +4,14 @@ ghost use Rattle.std.specs.Prelude.{◌≡◌, IfErr};
 ghost use Rattle.words_core.specs.declared.fault.WordsFault.TheVariants as faults;
 
 use crate::fault::WordsFault;
+use crate::sums::sum_command;
 use crate::task::Task;
 use clap::error::ErrorKind;
 use clap::{Arg, ArgAction, ArgMatches, Command, Error};
 use form_core::{Form, form_named};
 use std::alloc::{AllocError, Global};
 
-// The commands, each with the names of its words in order.
+// The commands but `sum`, each with the names of its words in order.
 const COMMANDS: [(&str, &[&str]); 5] = [
     ("info", &["FILE"]),
     ("convert", &["FORM", "IN", "OUT"]),
@@ -94,7 +95,7 @@ fn form_at(matches: &ArgMatches) -> Result<Form, WordsFault> {
     form_named(name_at(matches, "FORM")?).ok_or(WordsFault::UnknownFormName)
 }
 
-fn matches_of<'a>(alloc: Global, words: &'a [String]) -> Result<ArgMatches<'a>, Error> {
+pub(crate) fn matches_of<'a>(alloc: Global, words: &'a [String]) -> Result<ArgMatches<'a>, Error> {
     let command = command(alloc)?;
     command.try_get_matches_from(words)
 }
@@ -104,7 +105,7 @@ fn command<'a>(alloc: Global) -> Result<Command<'a>, AllocError> {
     for (name, ids) in COMMANDS {
         root = with(root, subcommand(alloc, name, ids));
     }
-    root
+    with(root, sum_command(alloc))
 }
 
 fn subcommand<'a>(

@@ -1,0 +1,68 @@
+-- What identifies the sound of a file of a folder.
+use Rattle.std.specs.Prelude.{◌≡◌, ℕ, Bool, List, IsTrue, map, Option, Some, None, ◌⊎◌, Result, Ok, Err, ⊤}
+use Rattle.sha2.specs.Sha256.{sha256}
+use Rattle.dsd_bits.specs.Channels.{count_of}
+use Rattle.dsd_bits.specs.Contents.{Content}
+use Rattle.dsd_bits.specs.Packing.{packed}
+use Rattle.form_core.specs.Forms.{HoldsSome}
+use Rattle.sound_core.specs.Files.{IsRefused}
+use Rattle.transfer_core.specs.declared.fault.Fault.TheVariants.{Memory}
+use Rattle.folder_core.specs.Files.{Gives, IsReadOf, View}
+use Rattle.sound_core.specs.declared.outline.Outline.{Outline}
+use Rattle.transfer_commands.specs.Digesting.{HoldEach}
+use Rattle.transfer_commands.specs.Telling.{IsUntold}
+use Rattle.transfer_commands.specs.declared.digesting.Digester.{Digester}
+use Rattle.transfer_commands.specs.declared.summing.Sums.{Sums}
+use Rattle.transfer_commands.specs.declared.fault.CommandFault.{CommandFault}
+use Rattle.transfer_commands.specs.declared.fault.CommandFault.TheVariants.{Call, ReadFailed, WriteFailed}
+
+-- the SHA-256 of each channel's bits, packed eight to a byte, the earliest the most significant, with zeros behind the last
+abbrev pub digests_of : List (List Bool) → List (List ℕ)
+digests_of channels = map (λ (bits : List Bool). sha256 (packed bits)) channels
+
+-- these are the rate of a recording, how many bits each of its channels has, and their digests
+pub record AreSumsOf (r : Content) (sums : Sums) : Type 0 where
+  pub rate : sums.rate ≡ r.rate
+  pub count : sums.count ≡ count_of r.channels
+  pub digests : sums.digests.items ≡ digests_of r.channels
+
+-- the bytes hold a recording, in any form, of which these are the sums
+pub record AreSumsIn (file : List ℕ) (sums : Sums) : Type 0 where
+  pub recording : Content
+  pub holds : HoldsSome file recording
+  pub are_sums : AreSumsOf recording sums
+
+-- these are the sums of a file that was read in one pass, or there are none, and it holds no recording
+abbrev pub IsSummedIn : List ℕ → Option Sums → Type 0
+IsSummedIn file (Some sums) = AreSumsIn file sums
+IsSummedIn file None = IsRefused file
+
+-- some bytes have these sums
+abbrev pub IsSummedInSome : Option Sums → Type 0
+IsSummedInSome (Some sums) = (file : List ℕ) × AreSumsIn file sums
+IsSummedInSome None = ⊤
+
+-- bytes that were read of a name have these sums
+pub record SumsRead (file_name : List ℕ) (old : View) (sums : Sums) : Type 0 where
+  pub file : List ℕ
+  pub file_read : IsReadOf old file_name file
+  pub are_sums : AreSumsIn file sums
+
+-- the same, or there are none: where the folder has known bytes, an opening of the name gives no recording
+abbrev pub SumsStream : List ℕ → View → Option Sums → Type 0
+SumsStream file_name old (Some sums) = SumsRead file_name old sums
+SumsStream file_name old None = IsTrue old.is_told → (file : List ℕ) × Gives old file_name file × IsRefused file
+
+-- the folder before and after a file was summed came to this
+abbrev pub SumComesTo : List ℕ → View → View → Result Sums CommandFault → Type 0
+SumComesTo file old new (Ok sums) = SumsRead file old sums × (new ≡ old)
+SumComesTo file old new (Err (Call fault)) = (new ≡ old) × ((fault ≡ Memory) ⊎ IsUntold file old fault)
+SumComesTo file old new (Err ReadFailed) = new ≡ old
+SumComesTo file old new (Err WriteFailed) = ⊥
+
+-- ---- stages
+-- the sums were made of an outline and of what digested its sound
+pub record IsMadeOf (outline : Outline) (k : Digester) (sums : Sums) : Type 0 where
+  pub rate : sums.rate ≡ outline.recording.rate
+  pub count : sums.count ≡ outline.sound.count
+  pub digests : (channels : List (List Bool)) → HoldEach k.hashers.items channels → sums.digests.items ≡ digests_of channels

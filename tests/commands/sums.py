@@ -1,0 +1,129 @@
+"""Sums of files: the SHA-256 of each channel's bits, as bytes with the earliest bit the highest and zeros behind the last.
+It is taken here by Python of the bytes of which the files are made."""
+import hashlib
+import itertools
+
+from asking import Case, Step
+from shapes import CHANNELS, FORMS, SIZES, file_of, sounds
+from small_files import CUT_OFF, FILE, LEAST, LONG, LONG_MOST, MOST, NINE, NINE_MOST, RATE, TAGGED, dsf, mono, stereo
+
+# The line of one byte of sound, but for its name.
+ONE = f"{RATE} 8 {hashlib.sha256(bytes([0xf0])).hexdigest()}"
+
+# A file of one byte of zeros, and how files are judged by a list.
+ZERO = mono(b"\0")
+CHECK = ["sum", "--check", "list"]
+
+# Names that are printed otherwise than they are, as on one line.
+NAMES = {"a b": "a b", " two  blanks ": " two  blanks ", "\\": "\\\\", "a\nb": "a\\nb", "a\r": "a\\r", "ä~é": "ä~é"}
+
+# Lines that `sum` never prints.
+NO_LINES = (
+    "",
+    "in",
+    f"{ONE} in",
+    f"{ONE}  ",
+    f"{ONE}  a\\b",
+    f"{ONE}  a\\",
+    f"{ONE.upper()}  in",
+    "  in",
+)
+
+
+def line_of(name, bits, *channels, rate=RATE):
+    """The line of a file: its rate, how many bits a channel has, and the digest of each channel's bytes."""
+    return " ".join([f"{rate} {bits}", *(hashlib.sha256(it).hexdigest() for it in channels)]) + f"  {name}"
+
+
+def said(words, line):
+    return Step(words, 0, line)
+
+
+def other(words, line):
+    return Step(words, 1, line)
+
+
+def faulty(words, line, before=""):
+    return Step(words, 2, f"fault: {line}", before=before)
+
+
+def shaped():
+    """One to six channels in each form have the same line, and are as it lists them; with another bit they aren't."""
+    for number, size in itertools.product(CHANNELS, SIZES):
+        channels = sounds("summed", number, size)
+        line = line_of("in", 8 * size, *channels)
+        listed = {"list": line.encode() + b"\n"}
+        for form in FORMS:
+            yield Case({"in": file_of(form, channels)} | listed, [said(["sum", "in"], line), said(CHECK, "in: OK")])
+        turned = [*channels[:-1], channels[-1][:-1] + bytes([channels[-1][-1] ^ 1])]
+        exchanged = channels[::-1]
+        for each in (turned, exchanged) if number > 1 else (turned,):
+            files = {"in": file_of("dsf", each)} | listed
+            yield Case(files, [other(CHECK, "in: FAILED")])
+
+
+# What ends within a byte: of 1, 7, 8 and 9 bits, of which a stored bit behind the last isn't one; 32,769 bits, of which the
+# last stands in a block of its own; and 9 bits of two channels.
+PARTS = (
+    (dsf(1, 1, b"\xff"), line_of("in", 1, b"\x80")),
+    (dsf(1, 7, b"\xff"), line_of("in", 7, b"\xfe")),
+    (dsf(8, 7, b"\xff"), line_of("in", 7, b"\xfe")),
+    (dsf(1, 8, b"\xff"), line_of("in", 8, b"\xff")),
+    (dsf(1, 9, b"\xff\xff"), line_of("in", 9, b"\xff\x80")),
+    (LONG, line_of("in", 32769, b"\x01" + bytes(4096), bytes(4097))),
+    (LONG_MOST, line_of("in", 32769, b"\x01" + bytes(4096), bytes(4097))),
+    (NINE, line_of("in", 9, b"\xf0\0", bytes(2))),
+    (NINE_MOST, line_of("in", 9, b"\xf0\0", bytes(2))),
+)
+
+# Zeros of other lengths that take as many bytes, and the line of another rate.
+ALIKE = (
+    (dsf(1, 9, b""), line_of("in", 10, bytes(2))),
+    (dsf(1, 10, b""), line_of("in", 9, bytes(2))),
+    (mono(bytes(2)), line_of("in", 16, bytes(2), rate=2 * RATE)),
+)
+
+
+def several():
+    """Files are summed and judged one by one, and a fault of one doesn't keep the others."""
+    files = {"a": FILE, "b": LEAST, "c": MOST, "d": TAGGED, "e": stereo(b"\xf0\x0f")}
+    lines = [f"{ONE}  {name}" for name in "abcd"] + [line_of("e", 8, b"\xf0", b"\x0f")]
+    both = "\n".join(lines)
+    files |= {"list": both.encode() + b"\n", "same": f"{lines[1]}\r\n{lines[0]}".encode(), "cut": CUT_OFF}
+    names = list("abcde")
+    yield Case(
+        files,
+        [
+            said(["sum", *names], both),
+            said(CHECK, "\n".join(f"{name}: OK" for name in names)),
+            said(["sum", "--check", "same", "list"], "\n".join(f"{name}: OK" for name in ["b", "a", *names])),
+            said(["sum", "--", "a"], lines[0]),
+            faulty(["sum", "a", "none", "b"], "ReadFailed  none", f"{lines[0]}\n{lines[1]}\n"),
+            faulty(["sum", "cut", "a"], "FileUnread Dsdiff Chunk DataCut 114  cut", f"{lines[0]}\n"),
+            faulty(["sum", "list"], "FileUnread UnknownForm  list"),
+            faulty(["sum", "--check", "none"], "ReadFailed  none"),
+            faulty(["sum", "--check", "a"], "ListRefused  a"),
+        ],
+    )
+    wrong = f"{ONE}  none\n{ONE}  e\n{ONE}  a\n".encode()
+    yield Case({"a": FILE, "e": ZERO, "list": wrong}, [faulty(CHECK, "ReadFailed  none", "none: FAILED\ne: FAILED\na: OK\n")])
+    for line in NO_LINES:
+        text = f"{ONE}  in\n{line}\n{ONE}  in\n"
+        yield Case({"in": FILE, "list": text.encode()}, [faulty(CHECK, "ListRefused line 2  list", "in: OK\nin: OK\n")])
+    for text in (b"", b"\xff\n"):
+        yield Case({"in": FILE, "list": text}, [faulty(CHECK, "ListRefused  list")])
+
+
+def sum_cases():
+    """The tables of files that are summed, and judged by lists."""
+    yield from shaped()
+    for data, line in PARTS:
+        files = {"in": data, "list": line.encode()}
+        yield Case(files, [said(["sum", "in"], line), said(CHECK, "in: OK")])
+    for data, line in ALIKE:
+        yield Case({"in": data, "list": line.encode()}, [other(CHECK, "in: FAILED")])
+    for name, shown in NAMES.items():
+        line = f"{ONE}  {shown}"
+        files = {name: FILE, "list": line.encode()}
+        yield Case(files, [said(["sum", name], line), said(CHECK, f"{shown}: OK")])
+    yield from several()

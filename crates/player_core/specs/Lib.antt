@@ -4,6 +4,8 @@ pub mod Samples
 pub mod Due
 pub mod PlayerView
 pub mod Laws
+pub mod Parts
+pub mod PartView
 pub mod Wave
 pub mod Pieces
 pub mod Playing

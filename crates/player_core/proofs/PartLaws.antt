@@ -84,7 +84,7 @@ module _ (d : Decimator) (s : Sound) (bytes : List ℕ) (is : IsSound s) (whole 
       ap₂ (λ m n. take m (drop n (all_bytes d s bytes))) rest none ∙ take_all (total_frames d s * align) (all_bytes d s bytes) (omega (arith, length_all))
 
 -- ---- numbers
-less_times : (a b c : ℕ) → (a - b) * c ≡ a * c - b * c
+pub less_times : (a b c : ℕ) → (a - b) * c ≡ a * c - b * c
 less_times a b c = elim (cases_lt a b) [
   | inl less ↦
       let none : a - b ≡ 0 = omega arith in

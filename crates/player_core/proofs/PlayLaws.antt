@@ -83,7 +83,7 @@ text_came law d s came file bytes begins few plays =
     }
 
 -- ---- whose whole sound came
-holds_in : (o : Interleaving) (file : List ℕ) (r : Content) → HoldsIn o file r → HoldsRecording file r
+pub holds_in : (o : Interleaving) (file : List ℕ) (r : Content) → HoldsIn o file r → HoldsRecording file r
 holds_in Bytes file r h = inl h
 holds_in (Blocks order) file r h = inr (order, h)
 
@@ -91,7 +91,7 @@ module _ (o : Surroundings) (told : AreTold o) (file sound : List ℕ) (stands :
   abbrev behind : List ℕ
   behind = stands.gap ++ (o.back ++ stands.rest)
 
-  own : (xs : List ℕ) → drop o.sound.start (o.head ++ xs) ≡ xs
+  pub own : (xs : List ℕ) → drop o.sound.start (o.head ++ xs) ≡ xs
   own xs = ap (λ n. drop n (o.head ++ xs)) told.start ∙ drop-append_seam o.head xs
 
   pub begins_held : (more : List ℕ) → BeginsSound o.sound sound (file ++ more)

@@ -6,6 +6,9 @@ pub mod PlayerView
 pub mod Laws
 pub mod Parts
 pub mod PartView
+pub mod PartPieces
+pub mod PartPlaying
+pub mod PartSinks
 pub mod Wave
 pub mod Pieces
 pub mod Playing

@@ -1,6 +1,7 @@
 //! Laws of what a player gives. Each function does nothing: a caller's proof cites what it ensures.
 
 ghost use Rattle.player_core.specs.Laws.{FileHasSize, FramesFill, FrontComesFirst, NothingIsDue, SoundIsPlayed};
+ghost use Rattle.player_core.specs.PartPlaying.{PartIsPlayed};
 ghost use Rattle.player_core.specs.Parts.{PartHasFrames, PartsMeet, WholeIsPart};
 
 use wave_core::parts_join;
@@ -48,3 +49,11 @@ pub fn parts_meet()
 pub fn whole_is_a_part()
     ensures { WholeIsPart }
 {}
+
+/// The law of a part's file: the WAVE text of a part of a recording that a file holds is the header, the bytes of the
+/// part's frames, and the pad; where they are too large there is none.
+pub fn part_is_played()
+    ensures { PartIsPlayed }
+{
+    parts_join();
+}

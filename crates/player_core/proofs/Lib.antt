@@ -14,6 +14,14 @@ pub mod PieceLaws
 pub mod PlayLaws
 pub mod PlaceLaws
 pub mod PaceLaws
+pub mod SliceLaws
+pub mod PartLaws
+pub mod PartFeedLaws
+pub mod PartNewLaws
+pub mod PartPieceLaws
+pub mod PartPlayLaws
+pub mod PartSinkLaws
+pub mod PartFaultLaws
 pub mod FaultLaws
 pub mod WaveLaws
 pub mod SinkLaws

@@ -88,7 +88,7 @@ module _ (o : Surroundings) (told : AreTold o) (file sound : List ℕ) (stands :
   abbrev behind : List ℕ
   behind = stands.gap ++ (o.back ++ stands.rest)
 
-  own : (xs : List ℕ) → drop o.sound.start (o.head ++ xs) ≡ xs
+  pub own : (xs : List ℕ) → drop o.sound.start (o.head ++ xs) ≡ xs
   own xs = ap (λ n. drop n (o.head ++ xs)) told.start ∙ drop-append_seam o.head xs
 
   pub begins_held : (more : List ℕ) → BeginsSound o.sound sound (file ++ more)

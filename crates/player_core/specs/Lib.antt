@@ -4,6 +4,11 @@ pub mod Samples
 pub mod Due
 pub mod PlayerView
 pub mod Laws
+pub mod Parts
+pub mod PartView
+pub mod PartPieces
+pub mod PartPlaying
+pub mod PartSinks
 pub mod Wave
 pub mod Pieces
 pub mod Playing

@@ -52,6 +52,9 @@
 
 mod groups;
 mod laws;
+mod part_playing;
+mod part_sink;
+mod parts;
 mod pieces;
 mod player;
 mod playing;
@@ -62,8 +65,10 @@ mod wave_file;
 
 pub use laws::{
     file_has_its_size, frames_fill_the_data, frames_of_a_front_come_first, nothing_is_due_at_first,
-    sound_is_played,
+    part_has_its_frames, part_is_played, parts_meet, sound_is_played, whole_is_a_part,
 };
+pub use part_playing::play_part;
+pub use parts::PartPlayer;
 pub use player::Player;
 pub use playing::play;
 pub use spec::wave_spec;

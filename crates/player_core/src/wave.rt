@@ -16,8 +16,8 @@ use sound_core::{StreamFault, put};
 use std::io::Write;
 use wave_core::{WaveFault, WaveSpec};
 
-// How many frames are played of a sound.
-fn total_frames(taps: &Taps, sound: &Sound) -> u64
+/// How many frames are played of a sound.
+pub(crate) fn total_frames(taps: &Taps, sound: &Sound) -> u64
     ensures { result ≡ total_frames taps.now sound.now }
 {
     sound.count.div_ceil(taps.factor() as usize) as u64

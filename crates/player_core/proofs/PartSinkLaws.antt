@@ -1,0 +1,339 @@
+-- What plays a part of a sound, one piece after the other.
+use Rattle.std.proofs.Common.{◌≡◌, ℕ, ◌+◌, ◌-◌, ◌*◌, ◌/◌, ◌^◌, ◌≤◌, inl, inr, List, [], ◌++◌, drop, length, slice_range, take, Option, None, Some, IfSome, Err, sym, subst, ap, ap₂, ◌∙◌, arith, append_assoc, append-nil, length-append, length-drop, mul-le-mul_left}
+use Rattle.std.specs.Io.KnownBytes.{Appends, Consumes}
+use Rattle.std.proofs.KnownBytes.{Appends-trans}
+use Rattle.std.proofs.Math.Seq.{drop-nil, take-nil}
+use Rattle.std.proofs.lemmas.List.{nil_from_length}
+use Rattle.chunk_core.specs.Inlets.{inlet_reader}
+use Rattle.chunk_core.specs.Outlets.{AppendsFront, outlet_failures, outlet_writer}
+use Rattle.chunk_core.specs.declared.inlet.Inlet.{Inlet}
+use Rattle.std.specs.Int.{div_ceil}
+use Rattle.dsd_bits.specs.declared.interleaving.Interleaving.{Interleaving}
+use Rattle.dsd_bits.specs.declared.interleaving.Interleaving.TheVariants.{Bytes, Blocks}
+use Rattle.dsd_bits.specs.declared.sound.Sound.{Sound}
+use Rattle.dsd_bits.specs.Sounds.{sound_size}
+use Rattle.fir_core.specs.Decimator.{Decimator}
+use Rattle.sound_core.specs.Faults.{IsWritingFault, failed_writes}
+use Rattle.sound_core.specs.Outlines.{AreTold, StandsIn, Surroundings}
+use Rattle.sound_core.specs.Sinks.{BeginsSound, StopsTaking, TakesFile, TakesGiven}
+use Rattle.sound_core.specs.declared.fault.StreamFault.{StreamFault}
+use Rattle.player_core.specs.Laws.{file_around, total_frames}
+use Rattle.player_core.specs.PartPieces.{PutsPartDue, PutsPartFront, PutsPartRest}
+use Rattle.player_core.specs.PartPlaying.{PartFails, PartIsPlayed, PlaysPart, StandsForPart}
+use Rattle.player_core.specs.Parts.{frames_sound, part_bytes, part_file}
+use Rattle.player_core.specs.PartSinks.{FinishesPlayingPart, IsPartOpeningFault, IsPlayingPart, RefusesPart, frames_of}
+use Rattle.player_core.specs.PartView.{IsPartFed, IsPartOf, IsPartPlayer, IsSamePart, part_all, part_due, part_fed, part_rest, part_start}
+use Rattle.player_core.specs.PlayerView.{filter_of, sound_of}
+use Rattle.player_core.specs.Playing.{PlaysFile, PlaysGiven, WritesFront}
+use Rattle.player_core.specs.Wave.{file_size, header_of, pad_of}
+use Rattle.player_core.specs.declared.part_sink.PartSink.{PartSink}
+use Rattle.player_core.specs.declared.parts.PartPlayer.{PartPlayer}
+use Rattle.player_core.proofs.FaultLaws.{outline_later, outline_unwritten, writing_later, writing_own}
+use Rattle.player_core.proofs.PaceLaws.{parted}
+use Rattle.player_core.proofs.PartFaultLaws.{part_opening_stands, part_outline_stands, writing_part_opening}
+use Rattle.player_core.proofs.PartPieceLaws.{due_same, part_front, plays_on}
+use Rattle.player_core.proofs.PartPlayLaws.{part_held, part_size, part_text_came}
+use Rattle.player_core.proofs.PieceLaws.{front_more, front_on}
+use Rattle.player_core.proofs.PlayLaws.{begins_held, none_front}
+use Rattle.player_core.proofs.SliceLaws.{drop_more_of}
+use Rattle.player_core.proofs.SoundLaws.{nothing_is_due}
+
+-- a sound's size is small
+few_size : (o : Interleaving) (channels count : ℕ) → channels ≤ 6 → count ≤ 2 ^ 36 → sound_size o channels count ≤ 2 ^ 40
+few_size Bytes channels count six low = let product : count / 8 * channels ≤ count / 8 * 6 = mul-le-mul_left (count / 8) six in omega (arith, product, low)
+few_size (Blocks order) channels count six low =
+    let product : div_ceil count 32768 * channels ≤ div_ceil count 32768 * 6 = mul-le-mul_left (div_ceil count 32768) six in
+    omega (arith, product, low)
+
+-- ---- its player
+-- before the first byte nothing of a part is due
+pub due_at_first : (p : PartPlayer) → part_due p [] ≡ []
+due_at_first p = ap (λ xs. slice_range xs p.skip p.stop) (nothing_is_due (filter_of p.player) (sound_of p.player)) ∙ ap (take (p.stop - p.skip)) (drop-nil p.skip) ∙ take-nil (p.stop - p.skip)
+
+pub record IsPartPlayerOf (d : Decimator) (s : Sound) (start stop : ℕ) (bytes : List ℕ) (p : PartPlayer) : Type 0 where
+  pub is_player : IsPartPlayer p
+  pub plays : IsPartOf d s start stop p
+  pub fed : IsPartFed p (drop (part_start p) bytes)
+
+module _ {W : Type 0} (held : W → Option (List ℕ)) (first old : PartSink W) (s : Sound) (bytes : List ℕ) (is : IsPlayingPart held first old s bytes) (p : PartPlayer) (was : old.player.now ≡ Some p) where
+  here : is.player ≡ p
+  here = same is.player p (sym is.player_is ∙ was)
+    where
+      same : (q r : PartPlayer) → (let a : Option PartPlayer = Some q in a) ≡ Some r → q ≡ r
+      same q r e = cc
+
+  pub part_player_of : IsPartPlayerOf first.taps.now s first.start first.stop bytes p
+  part_player_of = subst (IsPartPlayerOf first.taps.now s first.start first.stop bytes) here (record { is_player = is.is_player; plays = is.plays; fed = is.fed })
+
+  abbrev d : Decimator
+  d = first.taps.now
+
+  abbrev fs : Sound
+  fs = frames_of first s
+
+  abbrev n : ℕ
+  n = part_start p
+
+  abbrev a : Option (List ℕ)
+  a = held (outlet_writer first.outlet.now)
+
+  abbrev b : Option (List ℕ)
+  b = held (outlet_writer old.outlet.now)
+
+  so_far : Appends a b (header_of d fs ++ part_due p (drop n bytes))
+  so_far = subst (λ q. Appends a b (header_of d fs ++ part_due q (drop (part_start q) bytes))) here is.written
+
+  -- how many bytes its rest has
+  pub rest_long : (xs : List ℕ) → length xs ≡ s.size → length (drop n xs) ≡ (part_rest p).size
+  rest_long xs all =
+      let by = part_player_of in
+      length-drop n xs ∙ ap₂ (λ m k. m - k) all by.plays.start_is ∙ sym (ap (λ (t : Sound). t.size) by.plays.rest_is)
+
+  pub fed_few : (piece : List ℕ) → length bytes + length piece ≤ s.size → part_fed p + length (drop (part_start p - old.came) piece) ≤ (part_rest p).size
+  fed_few piece within =
+      let by = part_player_of in
+      omega (arith, within, by.fed.fed.fed, length-drop n bytes, length-drop (n - old.came) piece, is.came, by.plays.start_is, ap (λ (t : Sound). t.size) by.plays.rest_is)
+
+  pub came_few : (piece : List ℕ) → length bytes + length piece ≤ s.size → old.came + length piece ≤ 2 ^ 40
+  came_few piece within = omega (arith, within, is.came, is.is_sound.size, few_size s.interleaving s.channels s.count is.is_sound.six_channels is.is_sound.in_limit)
+
+  -- a part that is played lies in the sound
+  pub part_lies : (old.start ≤ old.stop) × (old.stop - old.start ≤ total_frames old.taps.now s)
+  part_lies = (
+    omega (arith, is.start, is.stop, is.ordered),
+    subst (λ (e : _). old.stop - old.start ≤ total_frames e.now s) (sym is.taps) (omega (arith, is.start, is.stop, is.inside)),
+  )
+
+  -- ---- a piece more
+  module _ (new : PartSink W) (piece : List ℕ) (reference : new.outlet.ghost_name ≡ old.outlet.ghost_name) where
+    abbrev c : Option (List ℕ)
+    c = held (outlet_writer new.outlet.now)
+
+    abbrev fed_piece : List ℕ
+    fed_piece = drop (n - length bytes) piece
+
+    joined : drop n (bytes ++ piece) ≡ drop n bytes ++ fed_piece
+    joined = drop_more_of n bytes piece
+
+    pub part_playing_on : new.taps ≡ old.taps → new.start ≡ old.start → new.stop ≡ old.stop → new.came ≡ old.came + length piece → (q : PartPlayer) → new.player.now ≡ Some q → IsPartPlayer q → IsSamePart p q → PutsPartDue p q (drop (n - old.came) piece) b c → outlet_failures new.outlet.now ≡ outlet_failures old.outlet.now → IsPlayingPart held first new s (bytes ++ piece)
+    part_playing_on taps start stop came q now is_player same put failures =
+        let puts : PutsPartDue p q fed_piece b c = subst (λ k. PutsPartDue p q (drop (n - k) piece) b c) is.came put in
+        let by = part_player_of in
+        let on = puts.2 (drop n bytes) by.fed in
+        let at : drop (part_start q) (bytes ++ piece) ≡ drop n bytes ++ fed_piece = ap (λ k. drop k (bytes ++ piece)) same.start ∙ joined in
+        let due : part_due q (drop (part_start q) (bytes ++ piece)) ≡ part_due p (drop n bytes) ++ puts.0 = due_same p q same (drop (part_start q) (bytes ++ piece)) ∙ ap (part_due p) at ∙ on.1 in
+        record {
+          same = reference ∙ is.same;
+          taps = taps ∙ is.taps;
+          start = start ∙ is.start;
+          stop = stop ∙ is.stop;
+          is_sound = is.is_sound;
+          divided = is.divided;
+          ordered = is.ordered;
+          inside = is.inside;
+          fits = is.fits;
+          player = q;
+          player_is = now;
+          is_player = is_player;
+          plays = plays_on d s first.start first.stop p q same by.plays;
+          fed = subst (IsPartFed q) (sym at) on.0;
+          came = omega (arith, came, is.came, length-append bytes piece);
+          written = subst (Appends a c) (append_assoc (header_of d fs) (part_due p (drop n bytes)) puts.0 ∙ ap (λ xs. header_of d fs ++ xs) (sym due)) (Appends-trans a b c (header_of d fs ++ part_due p (drop n bytes)) puts.0 so_far puts.1);
+          ready = is.ready;
+          failures = failures ∙ is.failures;
+        }
+
+    pub part_playing_refuses : (f : StreamFault) → IsWritingFault f → PutsPartFront p (drop (n - old.came) piece) b c → outlet_failures new.outlet.now ≡ outlet_failures old.outlet.now + failed_writes {X = Unit {0}} (Err f) → RefusesPart held first new s (bytes ++ piece) f
+    part_playing_refuses f fault out failures = record {
+      same = reference ∙ is.same;
+      fault = writing_part_opening d s first.start first.stop f fault;
+      unwritten = λ early. absurd (writing_later f fault early);
+      front = λ rest long.
+          let by = part_player_of in
+          let whole = (bytes ++ piece) ++ rest in
+          let behind = drop (n - length (bytes ++ piece)) rest in
+          let all : drop n whole ≡ drop n bytes ++ (fed_piece ++ behind) = drop_more_of n (bytes ++ piece) rest ∙ ap (λ xs. xs ++ behind) joined ∙ append_assoc (drop n bytes) fed_piece behind in
+          let put = subst (λ k. PutsPartFront p (drop (n - k) piece) b c) is.came out (drop n bytes) behind by.fed (ap length (sym all) ∙ rest_long whole long) in
+          let part : part_bytes d s whole first.start first.stop ≡ part_due p (drop n bytes) ++ put.0 = sym (by.plays.gives whole long) ∙ ap (part_all p) all ∙ put.1 in
+          subst (AppendsFront a c) (sym (ap (file_around d fs) part ∙ parted (header_of d fs) (part_due p (drop n bytes)) put.0 (pad_of d fs)))
+          (front_on a b c (header_of d fs ++ part_due p (drop n bytes)) (put.0 ++ pad_of d fs) so_far (front_more b c put.0 (pad_of d fs) put.2));
+      failures = failures ∙ ap (λ m. m + failed_writes {X = Unit {0}} (Err f)) is.failures;
+    }
+
+  -- nothing more came
+  pub part_rest_refuses : (new : PartSink W) → new.outlet.ghost_name ≡ old.outlet.ghost_name → (f : StreamFault) → IsWritingFault f → PutsPartFront p [] b (held (outlet_writer new.outlet.now)) → outlet_failures new.outlet.now ≡ outlet_failures old.outlet.now + failed_writes {X = Unit {0}} (Err f)
+      → RefusesPart held first new s bytes f
+  part_rest_refuses new reference f fault out failures =
+      subst (λ xs. RefusesPart held first new s xs f) (append-nil bytes)
+      (part_playing_refuses new [] reference f fault (subst (λ zs. PutsPartFront p zs b (held (outlet_writer new.outlet.now))) (sym (drop-nil (n - old.came))) out) failures)
+
+  -- ---- the end
+  module _ (m : Option (List ℕ)) (puts : PutsPartRest p b m) (long : length bytes ≡ s.size) where
+    all_put : Appends a m (header_of d fs ++ part_bytes d s bytes first.start first.stop)
+    all_put =
+        let by = part_player_of in
+        let part : part_bytes d s bytes first.start first.stop ≡ part_due p (drop n bytes) ++ puts.0 = sym (by.plays.gives bytes long) ∙ puts.2 (drop n bytes) by.fed in
+        subst (Appends a m) (append_assoc (header_of d fs) (part_due p (drop n bytes)) puts.0 ∙ ap (λ xs. header_of d fs ++ xs) (sym part)) (Appends-trans a b m (header_of d fs ++ part_due p (drop n bytes)) puts.0 so_far puts.1)
+
+    module _ (new : PartSink W) (reference : new.outlet.ghost_name ≡ old.outlet.ghost_name) (t : Sound) (frames : t ≡ frames_sound old.taps.now s (old.stop - old.start)) where
+      frames_are : t ≡ fs
+      frames_are = frames ∙ ap₂ (λ e k. frames_sound e.now s k) is.taps (ap₂ (λ i j. i - j) is.stop is.start)
+
+      pad : pad_of old.taps.now t ≡ pad_of d fs
+      pad = ap₂ (λ e u. pad_of e.now u) is.taps frames_are
+
+      pub part_finishes : Appends m (held (outlet_writer new.outlet.now)) (pad_of old.taps.now t) → outlet_failures new.outlet.now ≡ outlet_failures old.outlet.now → FinishesPlayingPart held first new s bytes
+      part_finishes out failures = record {
+        same = reference ∙ is.same;
+        written = subst (Appends a (held (outlet_writer new.outlet.now))) (append_assoc (header_of d fs) (part_bytes d s bytes first.start first.stop) (pad_of d fs))
+            (Appends-trans a m (held (outlet_writer new.outlet.now)) (header_of d fs ++ part_bytes d s bytes first.start first.stop) (pad_of d fs) all_put (subst (Appends m (held (outlet_writer new.outlet.now))) pad out));
+        failures = failures ∙ is.failures;
+      }
+
+      pub part_pad_refuses : (f : StreamFault) → IsWritingFault f → AppendsFront m (held (outlet_writer new.outlet.now)) (pad_of old.taps.now t) → outlet_failures new.outlet.now ≡ outlet_failures old.outlet.now + failed_writes {X = Unit {0}} (Err f) → RefusesPart held first new s bytes f
+      part_pad_refuses f fault out failures = record {
+        same = reference ∙ is.same;
+        fault = writing_part_opening d s first.start first.stop f fault;
+        unwritten = λ early. absurd (writing_later f fault early);
+        front = λ rest whole.
+            let none : bytes ++ rest ≡ bytes = ap (λ xs. bytes ++ xs) (nil_from_length rest (omega (arith, whole, long, length-append bytes rest))) ∙ append-nil bytes in
+            subst (λ xs. AppendsFront a (held (outlet_writer new.outlet.now)) (part_file d s first.start first.stop xs)) (sym none)
+            (subst (AppendsFront a (held (outlet_writer new.outlet.now))) (append_assoc (header_of d fs) (part_bytes d s bytes first.start first.stop) (pad_of d fs))
+            (front_on a m (held (outlet_writer new.outlet.now)) (header_of d fs ++ part_bytes d s bytes first.start first.stop) (pad_of d fs) all_put (subst (AppendsFront m (held (outlet_writer new.outlet.now))) pad out)));
+        failures = failures ∙ ap (λ k. k + failed_writes {X = Unit {0}} (Err f)) is.failures;
+      }
+
+-- ---- the whole file
+module _ {W : Type 0} (held : W → Option (List ℕ)) (old mid new : PartSink W) (o : Surroundings) (told : AreTold o) where
+  abbrev has : Sound → ℕ → List ℕ → Type 0
+  has s done bytes = IsPlayingPart held old mid s bytes
+
+  abbrev Plays : List ℕ → List ℕ → Type 0
+  Plays file bytes = PlaysPart old.taps.now old.start old.stop file bytes
+
+  abbrev all_played : List ℕ → ℕ → Type 0
+  all_played file n = (bytes : List ℕ) × Plays file bytes × (n ≡ length bytes) × Appends (held (outlet_writer old.outlet.now)) (held (outlet_writer new.outlet.now)) bytes
+
+  module _ (law : PartIsPlayed) (least : 8 ≤ old.taps.now.factor) (ends : (first : PartSink W) (bytes : List ℕ) → IsPlayingPart held first mid o.sound bytes → length bytes ≡ o.sound.size → FinishesPlayingPart held first new o.sound bytes)
+      (n : ℕ) (size : n ≡ file_size old.taps.now (frames_of old o.sound)) where
+    held_played : (file sound : List ℕ) → StandsIn o file sound → IsPlayingPart held old mid o.sound sound → all_played file n
+    held_played file sound stands is = (
+      part_file old.taps.now o.sound old.start old.stop sound,
+      part_held law old.taps.now least old.start old.stop o told file sound stands is.divided is.ordered is.inside is.fits,
+      size ∙ sym (part_size old.taps.now old.start old.stop is.ordered o.sound told.is_sound told.whole is.inside sound stands.sound_long (omega (arith, least))),
+      (ends old sound is stands.sound_long).written,
+    )
+
+    pub part_file_played : (left : Option (List ℕ)) → TakesFile has left o → PlaysFile left Plays (held (outlet_writer old.outlet.now)) (held (outlet_writer new.outlet.now)) n
+    part_file_played None (taken, h) = tt
+    part_file_played (Some file) (taken, h) = held_played file h.0 h.1 h.2
+
+    pub part_given_played : {R : Type 0} (left : R → Option (List ℕ)) (i j : Inlet R) → TakesGiven has left i j o → PlaysGiven left i j Plays (held (outlet_writer old.outlet.now)) (held (outlet_writer new.outlet.now)) n
+    part_given_played left i j (read, reads, h) = (let all = held_played read h.0 h.1 h.2 in (read, all.0, reads, all.1, all.2, all.3))
+
+  -- there is a sound to be ended
+  pub part_end_requires : {R : Type 0} (left : R → Option (List ℕ)) (i j : Inlet R) → TakesGiven has left i j o → (first : PartSink W) × (bytes : List ℕ) × IsPlayingPart held first mid o.sound bytes × (length bytes ≡ o.sound.size)
+  part_end_requires left i j (read, reads, taken) = (old, taken.0, taken.2, taken.1.sound_long)
+
+  pub part_lies_in : {R : Type 0} (left : R → Option (List ℕ)) (i j : Inlet R) → TakesGiven has left i j o → (mid.start ≤ mid.stop) × (mid.stop - mid.start ≤ total_frames mid.taps.now o.sound)
+  part_lies_in left i j (read, reads, taken) = part_lies held old mid o.sound taken.0 taken.2 taken.2.player taken.2.player_is
+
+  pub part_ended : {R : Type 0} (left : R → Option (List ℕ)) (i j : Inlet R) → TakesGiven has left i j o → ((first : PartSink W) (bytes : List ℕ) → IsPlayingPart held first mid o.sound bytes → length bytes ≡ o.sound.size → FinishesPlayingPart held first new o.sound bytes)
+      → (new.outlet.ghost_name ≡ old.outlet.ghost_name) × (outlet_failures new.outlet.now ≡ outlet_failures old.outlet.now)
+  part_ended left i j (read, reads, taken) ends = (let end = ends old taken.0 taken.2 taken.1.sound_long in (end.same, end.failures))
+
+  pub part_size_is : {R : Type 0} (left : R → Option (List ℕ)) (i j : Inlet R) → TakesGiven has left i j o → (n : ℕ) (t : Sound) → t ≡ frames_sound mid.taps.now o.sound (mid.stop - mid.start) → n ≡ file_size mid.taps.now t → n ≡ file_size old.taps.now (frames_of old o.sound)
+  part_size_is left i j (read, reads, taken) n t frames is =
+      let p = taken.2 in
+      is ∙ ap₂ (λ e u. file_size e.now u) p.taps (frames ∙ ap₂ (λ e k. frames_sound e.now o.sound k) p.taps (ap₂ (λ i j. i - j) p.stop p.start))
+
+  abbrev pub PartStops : Option (List ℕ) → ℕ → ℕ → PartSink W → StreamFault → Type 0
+  PartStops left g h end f = StopsTaking (λ a b s done bytes. IsPlayingPart held a b s bytes) (λ a b s came e. RefusesPart held a b s came e) left g h old end f
+
+  -- what is written at the end was refused
+  pub part_end_stops : {R : Type 0} (left : R → Option (List ℕ)) (i j : Inlet R) (g h : ℕ) (f : StreamFault) → IsWritingFault f → (taken : TakesGiven has left i j o)
+      → ((first : PartSink W) (bytes : List ℕ) → IsPlayingPart held first mid o.sound bytes → length bytes ≡ o.sound.size → RefusesPart held first new o.sound bytes f) → PartStops (left (inlet_reader i)) g h new f
+  part_end_stops left i j g h f fault (read, reads, taken) refuses = inr (record {
+    sound = o.sound;
+    came = taken.0;
+    few = omega (arith, taken.1.sound_long);
+    begins = by (left (inlet_reader i)) (left (inlet_reader j)) reads.consumed;
+    how = inr (record { own = writing_own f fault; refuses = refuses old taken.0 taken.2 taken.1.sound_long });
+  })
+    where
+      by : (p q : Option (List ℕ)) → Consumes p q read → IfSome p (BeginsSound o.sound taken.0)
+      by None q consumed = tt
+      by (Some xs) None consumed = absurd consumed
+      by (Some xs) (Some ys) consumed = subst (BeginsSound o.sound taken.0) (sym consumed) (begins_held o told read taken.0 taken.1 ys)
+
+-- ---- why it is not played to its end
+module _ {W : Type 0} (held : W → Option (List ℕ)) (left : Option (List ℕ)) (g h : ℕ) (old new : PartSink W) (f : StreamFault) where
+  abbrev pub Stops : Type 0
+  Stops = StopsTaking (λ a b s done bytes. IsPlayingPart held a b s bytes) (λ a b s came e. RefusesPart held a b s came e) left g h old new f
+
+  abbrev filter : Decimator
+  filter = old.taps.now
+
+  abbrev was : Option (List ℕ)
+  was = held (outlet_writer old.outlet.now)
+
+  abbrev now : Option (List ℕ)
+  now = held (outlet_writer new.outlet.now)
+
+  -- of the same outlet
+  pub part_same_outlet : Stops → new.outlet.ghost_name ≡ old.outlet.ghost_name
+  part_same_outlet (inl none) = ap (λ (k : PartSink W). k.outlet.ghost_name) none.same
+  part_same_outlet (inr some) = elim some.how [
+    | inl ends ↦ ends.taken.same
+    | inr refuses ↦ refuses.refuses.same
+  ]
+
+  refused_stands : (o : Option (List ℕ)) (s : Sound) (came : List ℕ) → IfSome o (BeginsSound s came) → IsPartOpeningFault filter s old.start old.stop f → IfSome o (λ file. StandsForPart filter old.start old.stop file f)
+  refused_stands None s came begins fault = tt
+  refused_stands (Some file) s came begins fault = subst (λ x. StandsForPart filter old.start old.stop x f) (sym begins.file_is) (part_opening_stands filter begins.front begins.rest s old.start old.stop begins.tells f fault)
+
+  module _ (law : PartIsPlayed) (least : 8 ≤ filter.factor) where
+    refused_front : (o : Option (List ℕ)) (s : Sound) (came : List ℕ) → IfSome o (BeginsSound s came) → length came ≤ s.size → RefusesPart held old new s came f → WritesFront o (PlaysPart filter old.start old.stop) was now
+    refused_front None s came begins few refuses = tt
+    refused_front (Some file) s came begins few refuses = λ bytes plays.
+        let text = part_text_came law filter least old.start old.stop s came file bytes begins few plays in
+        subst (AppendsFront was now) (sym text.is) (refuses.front text.rest text.long)
+
+    ended_front : (o : Option (List ℕ)) (s : Sound) (came : List ℕ) → IfSome o (BeginsSound s came) → length came ≤ s.size → IsPlayingPart held old new s came → WritesFront o (PlaysPart filter old.start old.stop) was now
+    ended_front None s came begins few is = tt
+    ended_front (Some file) s came begins few is = λ bytes plays.
+        let p = is.player in
+        let n = part_start p in
+        let fs = frames_of old s in
+        let text = part_text_came law filter least old.start old.stop s came file bytes begins few plays in
+        let whole = came ++ text.rest in
+        let all : drop n whole ≡ drop n came ++ drop (n - length came) text.rest = drop_more_of n came text.rest in
+        let more = part_front p is.is_player (drop n came) (drop (n - length came) text.rest) (ap length (sym all) ∙ rest_long held old new s came is p is.player_is whole text.long) in
+        let part : part_bytes filter s whole old.start old.stop ≡ part_due p (drop n came) ++ more.0 = sym (is.plays.gives whole text.long) ∙ ap (part_all p) all ∙ more.1 in (
+          header_of filter fs ++ part_due p (drop n came),
+          more.0 ++ pad_of filter fs,
+          text.is ∙ ap (file_around filter fs) part ∙ parted (header_of filter fs) (part_due p (drop n came)) more.0 (pad_of filter fs),
+          is.written,
+        )
+
+    pub part_fails : Stops → PartFails held left filter old.start old.stop old.outlet.now new.outlet.now f
+    part_fails (inl none) = record {
+      fault = part_outline_stands left filter old.start old.stop f none.fault;
+      unwritten = λ early. ap (λ (k : PartSink W). outlet_writer k.outlet.now) none.same;
+      front = subst (λ (k : PartSink W). WritesFront left (PlaysPart filter old.start old.stop) was (held (outlet_writer k.outlet.now))) (sym none.same) (none_front left (PlaysPart filter old.start old.stop) was);
+      failures = omega (arith, ap (λ (k : PartSink W). outlet_failures k.outlet.now) none.same, outline_unwritten (Unit {0}) left f none.fault);
+    }
+    part_fails (inr some) = elim some.how [
+      | inl ends ↦ record {
+        fault = part_outline_stands left filter old.start old.stop f ends.fault;
+        unwritten = λ early. absurd (outline_later left f ends.fault early);
+        front = ended_front left some.sound some.came some.begins some.few ends.taken;
+        failures = omega (arith, ends.taken.failures, outline_unwritten (Unit {0}) left f ends.fault);
+      }
+      | inr refuses ↦ record {
+        fault = refused_stands left some.sound some.came some.begins refuses.refuses.fault;
+        unwritten = refuses.refuses.unwritten;
+        front = refused_front left some.sound some.came some.begins some.few refuses.refuses;
+        failures = refuses.refuses.failures;
+      }
+    ]

@@ -1,0 +1,5 @@
+use Rattle.player_core.proofs.PartPlayLaws.{part_is_played}
+use Rattle.player_core.proofs.laws.part_is_played.Goals as goal
+
+pub returns : goal.returns
+returns c = part_is_played c.parts_join.ensures

@@ -1,0 +1,51 @@
+use Rattle.std.proofs.Common.{◌≡◌, ◌∙◌, IfErr, IfOk, OnOk, subst, sym}
+use Rattle.std.proofs.lemmas.Result.{IfErr-weaker}
+use Rattle.chunk_core.specs.Inlets.{inlet_reader}
+use Rattle.chunk_core.specs.Outlets.{outlet_failures, outlet_writer}
+use Rattle.player_core.specs.PartPlaying.{PartFails, PlaysPart}
+use Rattle.player_core.specs.Playing.{PlaysFile, PlaysGiven}
+use Rattle.player_core.proofs.FaultLaws.{of_err, writes_are}
+use Rattle.player_core.proofs.PartPlayLaws.{part_only_outside}
+use Rattle.player_core.proofs.part_playing.play_part.Goals as goal
+
+pub play_part_file-requires-clause-least : goal.play_part_file-requires-clause-least
+play_part_file-requires-clause-least g c = rw c.new-sink.ensures.taps c.keeps_limits.ensures.least_factor
+
+pub returns : goal.returns
+returns g c =
+    let left = g.R.Read.remaining (inlet_reader c.args.inlet.now) in
+    let taps = c.new-sink.ensures.taps in
+    let start = c.new-sink.ensures.part.0 in
+    let stop = c.new-sink.ensures.part.1 in
+    let was = c.new-sink.ensures.outlet in
+    let is = sym (c.outlet-1.given.1 (sym (c.play_part_file.ensures.same ∙ c.new-sink.ensures.reference))) in
+    let held = g.W.Write.contents in
+    let end = c.outlet-1.given.0 in
+    let r = c.play_part_file.result in
+    let made = c.new-sink.result in
+    let fails : IfErr r (PartFails held left c.args.taps.now c.args.start c.args.stop c.args.outlet.now end)
+    = subst (λ d. IfErr r (PartFails held left d c.args.start c.args.stop c.args.outlet.now end)) taps
+    (subst (λ m. IfErr r (PartFails held left made.taps.now m c.args.stop c.args.outlet.now end)) start
+    (subst (λ n. IfErr r (PartFails held left made.taps.now made.start n c.args.outlet.now end)) stop
+    (subst (λ i. IfErr r (PartFails held left made.taps.now made.start made.stop i end)) was
+    (subst (λ j. IfErr r (PartFails held left made.taps.now made.start made.stop made.outlet.now j)) is c.play_part_file.ensures.fault)))) in
+    record {
+      ok = subst (λ d. IfOk r (PlaysFile left (PlaysPart d c.args.start c.args.stop) (held (outlet_writer c.args.outlet.now)) (held (outlet_writer end)))) taps
+          (subst (λ m. IfOk r (PlaysFile left (PlaysPart made.taps.now m c.args.stop) (held (outlet_writer c.args.outlet.now)) (held (outlet_writer end)))) start
+          (subst (λ n. IfOk r (PlaysFile left (PlaysPart made.taps.now made.start n) (held (outlet_writer c.args.outlet.now)) (held (outlet_writer end)))) stop
+          (subst (λ i. IfOk r (PlaysFile left (PlaysPart made.taps.now made.start made.stop) (held (outlet_writer i)) (held (outlet_writer end)))) was
+          (subst (λ j. IfOk r (PlaysFile left (PlaysPart made.taps.now made.start made.stop) (held (outlet_writer made.outlet.now)) (held (outlet_writer j)))) is c.play_part_file.ensures.ok))));
+      any_reader = subst (λ d. IfOk r (PlaysGiven g.R.Read.remaining c.args.inlet.now c.play_part_file.new.inlet (PlaysPart d c.args.start c.args.stop) (held (outlet_writer c.args.outlet.now)) (held (outlet_writer end)))) taps
+          (subst (λ m. IfOk r (PlaysGiven g.R.Read.remaining c.args.inlet.now c.play_part_file.new.inlet (PlaysPart made.taps.now m c.args.stop) (held (outlet_writer c.args.outlet.now)) (held (outlet_writer end)))) start
+          (subst (λ n. IfOk r (PlaysGiven g.R.Read.remaining c.args.inlet.now c.play_part_file.new.inlet (PlaysPart made.taps.now made.start n) (held (outlet_writer c.args.outlet.now)) (held (outlet_writer end)))) stop
+          (subst (λ i. IfOk r (PlaysGiven g.R.Read.remaining c.args.inlet.now c.play_part_file.new.inlet (PlaysPart made.taps.now made.start made.stop) (held (outlet_writer i)) (held (outlet_writer end)))) was
+          (subst (λ j. IfOk r (PlaysGiven g.R.Read.remaining c.args.inlet.now c.play_part_file.new.inlet (PlaysPart made.taps.now made.start made.stop) (held (outlet_writer made.outlet.now)) (held (outlet_writer j)))) is c.play_part_file.ensures.any_reader))));
+      fault = IfErr-weaker r _ _ (λ f h. h.fault) fails;
+      cause = IfErr-weaker r _ _ (λ f h. part_only_outside c.part_is_played.ensures c.args.taps.now c.keeps_limits.ensures.least_factor c.args.start c.args.stop left f h.fault) fails;
+      unwritten = IfErr-weaker r _ _ (λ f h. h.unwritten) fails;
+      front = of_err r _ _ (λ f h. h.front) fails;
+      read_failed = c.play_part_file.ensures.read_failed;
+      write_failed = writes_are r _ _ (subst (λ i. OnOk r (outlet_failures end ≡ outlet_failures i)) was (subst (λ j. OnOk r (outlet_failures j ≡ outlet_failures made.outlet.now)) is c.play_part_file.ensures.failures)) (IfErr-weaker r _ _ (λ f h. h.failures) fails);
+      reads = c.play_part_file.ensures.reads;
+      turn_limit = c.play_part_file.ensures.turn_limit;
+    }

@@ -1,0 +1,98 @@
+use Rattle.std.proofs.Common.{◌++◌, ◌∙◌, ◌-◌, [], add-zero, ap, append-nil, arith, refl, subst, sym}
+use Rattle.std.proofs.Math.Seq.{drop-nil}
+use Rattle.std.specs.Io.KnownBytes.{Appends}
+use Rattle.chunk_core.specs.Outlets.{AppendsFront, outlet_writer}
+use Rattle.dsd_bits.specs.declared.sound.Sound.{Sound}
+use Rattle.sound_core.proofs.FaultLaws.{fault_is}
+use Rattle.wave_core.specs.Sizes.{FitsRiff}
+use Rattle.player_core.specs.Parts.{frames_sound, part_bytes}
+use Rattle.player_core.specs.PartView.{IsPartFed, part_due, part_start}
+use Rattle.player_core.specs.Wave.{IsOpeningFault, OpensWave, header_of, pad_of}
+use Rattle.player_core.proofs.PartFaultLaws.{part_opening}
+use Rattle.player_core.proofs.PartPlayLaws.{frames_number}
+use Rattle.player_core.proofs.PartSinkLaws.{due_at_first}
+use Rattle.player_core.proofs.PieceLaws.{front_more, front_nil, whole_front}
+use Rattle.player_core.proofs.part_sink.PartSinkSoundSink.begin.Goals as goal
+
+pub returns-then-not-lies_in : goal.returns-then-not-lies_in
+returns-then-not-lies_in g c = record {
+  has = tt;
+  own = tt;
+  refused = record {
+    same = refl;
+    fault = c.lies_in.ensures.outside c.if-not-lies_in.true;
+    unwritten = λ early. absurd early;
+    front = λ rest long. front_nil _ _;
+    failures = sym (add-zero _);
+  };
+}
+
+pub returns-in_err-put_header-clause-refused : goal.returns-in_err-put_header-clause-refused
+returns-in_err-put_header-clause-refused g c =
+    let p = c.args.self.now in
+    let d = p.taps.now in
+    let s = c.args.sound in
+    let at = c.lies_in.ensures.inside c.if-not-lies_in.false in
+    let fs = frames_sound d s (p.stop - p.start) in
+    let frames = c.frames_sound-frames.ensures.sound in
+    let f = c.in_err-put_header.field-0.0 in
+    let err = c.in_err-put_header.ensures.err in
+    let a = g.W.Write.contents (outlet_writer p.outlet.now) in
+    let b = g.W.Write.contents (outlet_writer c.put_header.new.outlet) in
+    rw (fault_is c.from_residual.result _ c.from_residual.ensures.1) (record {
+      same = refl;
+      fault = part_opening d s p.start p.stop (omega (arith, c.frames_sound-frames.ensures.limits.least_factor)) (omega (arith, at.0, at.1)) f (subst (λ (t : Sound). IsOpeningFault d t f) frames c.in_err-put_header.ensures.fault);
+      unwritten = c.in_err-put_header.ensures.unwritten;
+      front = λ rest long. front_more a b (header_of d fs) (part_bytes d s ([] ++ rest) p.start p.stop ++ pad_of d fs) (subst (λ (t : Sound). AppendsFront a b (header_of d t)) frames err);
+      failures = c.in_err-put_header.ensures.failures;
+    })
+
+pub returns-in_err-player-clause-refused : goal.returns-in_err-player-clause-refused
+returns-in_err-player-clause-refused g c =
+    let p = c.args.self.now in
+    let d = p.taps.now in
+    let s = c.args.sound in
+    let fs = frames_sound d s (p.stop - p.start) in
+    let a = g.W.Write.contents (outlet_writer p.outlet.now) in
+    let b = g.W.Write.contents (outlet_writer c.put_header.new.outlet) in
+    rw (fault_is c.from_residual-in_err-player.result _ c.from_residual-in_err-player.ensures.1) (record {
+      same = refl;
+      fault = tt;
+      unwritten = λ early. absurd early;
+      front = λ rest long. front_more a b (header_of d fs) (part_bytes d s ([] ++ rest) p.start p.stop ++ pad_of d fs)
+          (whole_front a b (header_of d fs) (subst (λ (t : Sound). Appends a b (header_of d t)) c.frames_sound-frames.ensures.sound c.in_ok-put_header.ensures.ok.written));
+      failures = c.in_ok-put_header.ensures.failures;
+    })
+
+pub returns-clause-has : goal.returns-clause-has
+returns-clause-has g c =
+    let p = c.args.self.now in
+    let d = p.taps.now in
+    let s = c.args.sound in
+    let at = c.lies_in.ensures.inside c.if-not-lies_in.false in
+    let fs = frames_sound d s (p.stop - p.start) in
+    let a = g.W.Write.contents (outlet_writer p.outlet.now) in
+    let b = g.W.Write.contents (outlet_writer c.put_header.new.outlet) in
+    let opens : OpensWave d fs a b = subst (λ (t : Sound). OpensWave d t a b) c.frames_sound-frames.ensures.sound c.in_ok-put_header.ensures.ok in
+    let player = c.in_ok-player.player in
+    let n = part_start player in
+    record {
+      same = refl;
+      taps = refl;
+      start = refl;
+      stop = refl;
+      is_sound = c.requires.fed.is_sound;
+      divided = opens.divided;
+      ordered = at.0;
+      inside = at.1;
+      fits = subst (FitsRiff s.channels d.width) (frames_number d s (p.stop - p.start) (omega (arith, c.frames_sound-frames.ensures.limits.least_factor)) (omega (arith, at.0, at.1))) opens.fits;
+      player = player;
+      player_is = c.put_in.ensures;
+      is_player = c.in_ok-player.ensures.ready;
+      plays = c.in_ok-player.ensures.part;
+      fed = subst (IsPartFed player) (sym (drop-nil n)) c.in_ok-player.ensures.fed;
+      came = refl;
+      written = subst (Appends a b) (sym (ap (λ xs. header_of d fs ++ xs) (ap (part_due player) (drop-nil n) ∙ due_at_first player) ∙ append-nil (header_of d fs))) opens.written;
+      ready = c.requires.ready;
+      failures = omega (arith, c.in_ok-put_header.ensures.failures);
+    }

@@ -1,0 +1,21 @@
+-- A part of a sound that is played piece by piece.
+use Rattle.std.specs.Prelude.{◌≡◌, ℕ, List, ◌++◌, length, Option}
+use Rattle.std.specs.Io.KnownBytes.{Appends}
+use Rattle.chunk_core.specs.Outlets.{AppendsFront}
+use Rattle.player_core.specs.PartView.{IsPartFed, part_all, part_due, part_rest}
+use Rattle.player_core.specs.declared.parts.PartPlayer.{PartPlayer}
+
+-- after whatever bytes of the rest the player was fed, it was fed these, and what of the part was due then and not before was written
+abbrev pub PutsPartDue : PartPlayer → PartPlayer → List ℕ → Option (List ℕ) → Option (List ℕ) → Type 0
+PutsPartDue old new bytes held_old held_new = (more : List ℕ) × Appends held_old held_new more
+    × ((before : List ℕ) → IsPartFed old before → IsPartFed new (before ++ bytes) × (part_due old (before ++ bytes) ≡ part_due old before ++ more))
+
+-- after all bytes of the rest, the rest of the part's frames was written
+abbrev pub PutsPartRest : PartPlayer → Option (List ℕ) → Option (List ℕ) → Type 0
+PutsPartRest old held_old held_new = (more : List ℕ) × Appends held_old held_new more
+    × ((before : List ℕ) → IsPartFed old before → part_all old before ≡ part_due old before ++ more)
+
+-- whatever the sound is whose rest the player was fed a front of, with these bytes behind it, a front was written of those frames of the part that were not due
+abbrev pub PutsPartFront : PartPlayer → List ℕ → Option (List ℕ) → Option (List ℕ) → Type 0
+PutsPartFront p bytes held_old held_new = (before rest : List ℕ) → IsPartFed p before → length (before ++ (bytes ++ rest)) ≡ (part_rest p).size
+    → (more : List ℕ) × (part_all p (before ++ (bytes ++ rest)) ≡ part_due p before ++ more) × AppendsFront held_old held_new more

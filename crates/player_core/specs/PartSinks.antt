@@ -1,0 +1,66 @@
+-- What plays a part of a sound to an outlet while its file is read.
+use Rattle.std.specs.Prelude.{◌≡◌, ◌≢◌, ℕ, ◌+◌, ◌-◌, ◌%◌, ◌<◌, ◌≤◌, ◌^◌, List, ◌++◌, drop, length, Option, Some, Err, ⊤}
+use Rattle.std.specs.Io.KnownBytes.{Appends}
+use Rattle.chunk_core.specs.Outlets.{AppendsFront, outlet_failures, outlet_writer}
+use Rattle.dsd_bits.specs.declared.sound.Sound.{Sound}
+use Rattle.dsd_bits.specs.Sounds.{IsSound}
+use Rattle.fir_core.specs.Decimator.{Decimator}
+use Rattle.wave_core.specs.Sizes.{FitsRiff, riff_size}
+use Rattle.sound_core.specs.Faults.{IsBeforeWriting, failed_writes}
+use Rattle.sound_core.specs.declared.fault.StreamFault.{StreamFault}
+use Rattle.sound_core.specs.declared.fault.StreamFault.TheVariants.{FileRefused, RateNotDivided, TooLarge, WriteFailed, Memory}
+use Rattle.player_core.specs.Laws.{total_frames}
+use Rattle.player_core.specs.PartPlaying.{IsOutside}
+use Rattle.player_core.specs.Parts.{frames_sound, part_file}
+use Rattle.player_core.specs.PartView.{IsPartFed, IsPartOf, IsPartPlayer, part_due, part_start}
+use Rattle.player_core.specs.Wave.{header_of}
+use Rattle.player_core.specs.declared.part_sink.PartSink.{PartSink}
+use Rattle.player_core.specs.declared.parts.PartPlayer.{PartPlayer}
+
+-- the frames of the part that a sink plays of a sound, as a sound of their own
+abbrev pub frames_of : {W : Type 0} → PartSink W → Sound → Sound
+frames_of p s = frames_sound p.taps.now s (p.stop - p.start)
+
+-- after these bytes of a sound, which the factor divides and in which the part lies, whose sizes fit, the player was fed those from its start on; the header was written, and the part's frames that are due
+pub record IsPlayingPart {W : Type 0} (held : W → Option (List ℕ)) (first now : PartSink W) (s : Sound) (bytes : List ℕ) : Type 0 where
+  pub same : now.outlet.ghost_name ≡ first.outlet.ghost_name
+  pub taps : now.taps ≡ first.taps
+  pub start : now.start ≡ first.start
+  pub stop : now.stop ≡ first.stop
+  pub is_sound : IsSound s
+  pub divided : s.rate % first.taps.now.factor ≡ 0
+  pub ordered : first.start ≤ first.stop
+  pub inside : first.stop ≤ total_frames first.taps.now s
+  pub fits : FitsRiff s.channels first.taps.now.width (first.stop - first.start)
+  pub player : PartPlayer
+  pub player_is : now.player.now ≡ Some player
+  pub is_player : IsPartPlayer player
+  pub plays : IsPartOf first.taps.now s first.start first.stop player
+  pub fed : IsPartFed player (drop (part_start player) bytes)
+  pub came : now.came ≡ length bytes
+  pub written : Appends (held (outlet_writer first.outlet.now)) (held (outlet_writer now.outlet.now)) (header_of first.taps.now (frames_of first s) ++ part_due player (drop (part_start player) bytes))
+  pub ready : outlet_failures first.outlet.now < 2 ^ 64 - 1
+  pub failures : outlet_failures now.outlet.now ≡ outlet_failures first.outlet.now
+
+-- a fault of the part's header: the part lies outside of the sound, the factor does not divide the rate, the part's sizes do not fit, or the header is not written
+abbrev pub IsPartOpeningFault : Decimator → Sound → ℕ → ℕ → StreamFault → Type 0
+IsPartOpeningFault d s start stop FileRefused = IsOutside d s start stop
+IsPartOpeningFault d s start stop RateNotDivided = s.rate % d.factor ≢ 0
+IsPartOpeningFault d s start stop TooLarge = 2 ^ 32 ≤ riff_size s.channels d.width (stop - start)
+IsPartOpeningFault d s start stop WriteFailed = ⊤
+IsPartOpeningFault d s start stop Memory = ⊤
+IsPartOpeningFault d s start stop _ = ⊥
+
+-- it was refused for this fault, which stands; of what a sound plays that begins with these bytes a front was written, and nothing where the fault comes before that
+pub record RefusesPart {W : Type 0} (held : W → Option (List ℕ)) (first now : PartSink W) (s : Sound) (came : List ℕ) (f : StreamFault) : Type 0 where
+  pub same : now.outlet.ghost_name ≡ first.outlet.ghost_name
+  pub fault : IsPartOpeningFault first.taps.now s first.start first.stop f
+  pub unwritten : IsBeforeWriting f → outlet_writer now.outlet.now ≡ outlet_writer first.outlet.now
+  pub front : (rest : List ℕ) → length (came ++ rest) ≡ s.size → AppendsFront (held (outlet_writer first.outlet.now)) (held (outlet_writer now.outlet.now)) (part_file first.taps.now s first.start first.stop (came ++ rest))
+  pub failures : outlet_failures now.outlet.now ≡ outlet_failures first.outlet.now + failed_writes {X = Unit {0}} (Err f)
+
+-- the WAVE file of the part of these sound bytes was written
+pub record FinishesPlayingPart {W : Type 0} (held : W → Option (List ℕ)) (first now : PartSink W) (s : Sound) (bytes : List ℕ) : Type 0 where
+  pub same : now.outlet.ghost_name ≡ first.outlet.ghost_name
+  pub written : Appends (held (outlet_writer first.outlet.now)) (held (outlet_writer now.outlet.now)) (part_file first.taps.now s first.start first.stop bytes)
+  pub failures : outlet_failures now.outlet.now ≡ outlet_failures first.outlet.now

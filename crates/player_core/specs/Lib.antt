@@ -3,6 +3,7 @@ pub mod Frames
 pub mod Samples
 pub mod Due
 pub mod PlayerView
+pub mod PausedView
 pub mod Laws
 pub mod Wave
 pub mod Pieces

@@ -52,6 +52,7 @@
 
 mod groups;
 mod laws;
+mod pausing;
 mod pieces;
 mod player;
 mod playing;
@@ -64,6 +65,7 @@ pub use laws::{
     file_has_its_size, frames_fill_the_data, frames_of_a_front_come_first, nothing_is_due_at_first,
     sound_is_played,
 };
+pub use pausing::PausedPlayer;
 pub use player::Player;
 pub use playing::play;
 pub use spec::wave_spec;

@@ -1,0 +1,64 @@
+//! A player between two pieces of a sound, without its filter.
+
+use crate::player::Player;
+use dsd_bits::Sound;
+use fir_core::{Stream, Taps};
+
+/// What a [`Player`] holds beside its filter. Whoever owns filter and player keeps it while no bytes come.
+#[derive(Drop)]
+pub struct PausedPlayer {
+    sound: Sound,
+    fed: usize,
+    streams: Vec<Stream>,
+    held: Vec<u8>,
+    own: Vec<u8>,
+    tile: Vec<i32>,
+}
+
+impl PausedPlayer {
+    ghost use Rattle.std.specs.Prelude.{◌≡◌, List, ℕ};
+    ghost use Rattle.player_core.specs.PausedView.{IsPaused};
+    ghost use Rattle.player_core.specs.PlayerView.{IsFed, IsPlayer, fed_of, filter_of, sound_of};
+    ghost use Rattle.player_core.specs.declared.player.Player.{Player as Playing};
+
+    /// What a player holds beside its filter.
+    pub fn of(player: Player<'_>) -> PausedPlayer
+        ensures { IsPaused player.entry result }
+    {
+        let Player {
+            sound,
+            fed,
+            streams,
+            held,
+            own,
+            tile,
+            ..
+        } = player;
+        PausedPlayer {
+            sound,
+            fed,
+            streams,
+            held,
+            own,
+            tile,
+        }
+    }
+
+    /// The player goes on, by its own filter: it is as it was.
+    pub fn resume<'a>(self, taps: &'a Taps) -> Player<'a>
+        ensures filter { filter_of result ≡ taps.now }
+        ensures same { (p : Playing) → IsPaused p self → (sound_of result ≡ sound_of p) × (fed_of result ≡ fed_of p) }
+        ensures ready { (p : Playing) → IsPaused p self → filter_of p ≡ taps.now → IsPlayer p → IsPlayer result }
+        ensures fed { (p : Playing) (bytes : List ℕ) → IsPaused p self → IsFed p bytes → IsFed result bytes }
+    {
+        Player {
+            taps,
+            sound: self.sound,
+            fed: self.fed,
+            streams: self.streams,
+            held: self.held,
+            own: self.own,
+            tile: self.tile,
+        }
+    }
+}

@@ -3,6 +3,7 @@ pub mod RoundingLemmas
 pub mod InPlace
 pub mod LimitLaws
 pub mod RowLaws
+pub mod RestLaws
 pub mod StreamLaws
 pub mod SumOrder
 pub mod Dot

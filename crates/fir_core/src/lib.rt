@@ -9,6 +9,8 @@
 //! decimator. What the code returns is these values for every input: no sum overflows, since the
 //! absolute values of the taps add up to at most `2^30`.
 //!
+//! A law for whoever plays from a place on: [`rest_is_played`], samples of a channel's rest are those of the whole.
+//!
 //! ```text
 //! let taps = Taps::new(alloc, &[1, 2, 3, 4], 8, 3, 0, 16)?;
 //! let bits = Bits::from_packed(alloc, &[0xf0], 8)?;
@@ -22,6 +24,7 @@ mod decimator;
 mod fault;
 mod kernel;
 mod lanes;
+mod laws;
 mod rounding;
 mod row_sums;
 mod rows;
@@ -36,6 +39,7 @@ pub use convolution::sum_at;
 pub use decimator::{decimate, sample};
 pub use fault::TapsFault;
 pub use kernel::{Kernel, decimate_with};
+pub use laws::rest_is_played;
 pub use stream::Stream;
 pub use tables::Tables;
 pub use taps::Taps;

@@ -46,7 +46,7 @@ place_before interleaving channels c p k low before =
     subst (λ (n : ℕ). (p / ps * channels + c) * ps + p % ps < n) turned all
 
 -- a byte behind the first groups stands as far behind them as it stands in the later ones
-place_behind : (interleaving : Interleaving) (channels c p k : ℕ) → place_in interleaving channels c (k * part_size interleaving + p) ≡ k * (channels * part_size interleaving) + place_in interleaving channels c p
+pub place_behind : (interleaving : Interleaving) (channels c p k : ℕ) → place_in interleaving channels c (k * part_size interleaving + p) ≡ k * (channels * part_size interleaving) + place_in interleaving channels c p
 place_behind interleaving channels c p k =
     let ps = part_size interleaving in
     let q : (k * ps + p) / ps ≡ k + p / ps = mul-add-div_right (some_part interleaving) k p in

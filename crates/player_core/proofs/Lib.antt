@@ -14,6 +14,10 @@ pub mod PieceLaws
 pub mod PlayLaws
 pub mod PlaceLaws
 pub mod PaceLaws
+pub mod SliceLaws
+pub mod PartLaws
+pub mod PartFeedLaws
+pub mod PartNewLaws
 pub mod FaultLaws
 pub mod WaveLaws
 pub mod SinkLaws

@@ -106,7 +106,7 @@ module _ (s : Sound) (is : IsSound s) (u i : ℕ) (within : u ≤ s.size) (stand
           (is_heard c 4096 groups s.count u i (omega (arith, number, is.six_channels)) (omega arith) (omega arith) (omega (arith, few, size)) (omega arith) place)
 
 -- ---- numbers of frames
-some_more : (j n factor : ℕ) → 0 < factor → j * factor < n → j < div_ceil n factor
+pub some_more : (j n factor : ℕ) → 0 < factor → j * factor < n → j < div_ceil n factor
 some_more j n factor some less = elim (cases_lt j (div_ceil n factor)) [
   | inl is ↦ is
   | inr most ↦ (let all : div_ceil n factor * factor ≤ j * factor = mul-le-mul_right factor most in absurd (omega (arith, all, (div_ceil_times n factor some).0, less)))

@@ -3,8 +3,10 @@ pub mod Frames
 pub mod Samples
 pub mod Due
 pub mod PlayerView
-pub mod PausedView
 pub mod Laws
+pub mod Parts
+pub mod PartView
+pub mod PausedView
 pub mod Wave
 pub mod Pieces
 pub mod Playing

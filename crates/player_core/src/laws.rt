@@ -1,6 +1,7 @@
 //! Laws of what a player gives. Each function does nothing: a caller's proof cites what it ensures.
 
 ghost use Rattle.player_core.specs.Laws.{FileHasSize, FramesFill, FrontComesFirst, NothingIsDue, SoundIsPlayed};
+ghost use Rattle.player_core.specs.Parts.{PartHasFrames, PartsMeet, WholeIsPart};
 
 use wave_core::parts_join;
 
@@ -31,4 +32,19 @@ pub fn nothing_is_due_at_first()
 /// of all frames.
 pub fn frames_of_a_front_come_first()
     ensures { FrontComesFirst }
+{}
+
+/// The law of parts: the bytes of a part are those of its frames, as the whole has them, and no others.
+pub fn part_has_its_frames()
+    ensures { PartHasFrames }
+{}
+
+/// The law of parts that meet: their bytes, one after the other, are those of one part.
+pub fn parts_meet()
+    ensures { PartsMeet }
+{}
+
+/// The law of the whole: the part from the first frame to the last is all that is played of the sound.
+pub fn whole_is_a_part()
+    ensures { WholeIsPart }
 {}

@@ -52,6 +52,7 @@
 
 mod groups;
 mod laws;
+mod parts;
 mod pausing;
 mod pieces;
 mod player;
@@ -63,9 +64,10 @@ mod wave_file;
 
 pub use laws::{
     file_has_its_size, frames_fill_the_data, frames_of_a_front_come_first, nothing_is_due_at_first,
-    sound_is_played,
+    part_has_its_frames, parts_meet, sound_is_played, whole_is_a_part,
 };
-pub use pausing::PausedPlayer;
+pub use parts::PartPlayer;
+pub use pausing::PausedPart;
 pub use player::Player;
 pub use playing::play;
 pub use spec::wave_spec;

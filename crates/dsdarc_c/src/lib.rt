@@ -19,7 +19,7 @@ use crate::content::PushPlayer;
 use crate::fault::PlayFault;
 use crate::handle::{Handle, into_box, into_pointer};
 use crate::info::{Info, info_of};
-use crate::pushing::{Pushing, end, pull, push};
+use crate::pushing::{Pushing, end, pull, push, seek};
 use crate::samples::pull_numbers;
 use crate::status::{NO_DECIMATION, done, memory, status_of, status_of_project};
 use fir_core::Taps;
@@ -112,6 +112,26 @@ pub extern "C" fn dsdarc_c_info(handle: Handle, info: &mut Info) -> u32 {
             done()
         }
         None => status_of(PlayFault::NotYet),
+    }
+}
+
+/// Goes to a frame: `offset` is the byte of the file from which on it is pushed then.
+#[unsafe(no_mangle)]
+pub extern "C" fn dsdarc_c_seek(
+    alloc: Global,
+    handle: Handle,
+    frame: u64,
+    offset: &mut u64,
+) -> u32 {
+    let mut player = into_box(handle);
+    let sought = seek(alloc, &mut player.pushing, frame);
+    forget(player);
+    match sought {
+        Ok(place) => {
+            *offset = place;
+            done()
+        }
+        Err(fault) => status_of(fault),
     }
 }
 

@@ -1,24 +1,26 @@
 //! A player whose file is pushed piece by piece, and whose frames are pulled.
 
-ghost use Rattle.std.specs.Prelude.{◌≡◌, ◌+◌, ◌≤◌, ◌^◌, IfOk, IfSome, length};
+ghost use Rattle.std.specs.Prelude.{◌≡◌, ◌+◌, ◌%◌, ◌≤◌, ◌^◌, IfOk, IfSome, length};
+ghost use Rattle.player_core.specs.Laws.{total_frames};
 ghost use Rattle.dsd_bits.specs.Sounds.{IsSound};
-ghost use Rattle.dsdarc_c.specs.Pushing.{Keeps, KeepsBehind, KeepsSound};
+ghost use Rattle.dsdarc_c.specs.Pushing.{IsFront, IsRest, Keeps, KeepsBehind, KeepsSound};
 
 use crate::ending::closes;
 use crate::fault::PlayFault;
 use crate::fronts::told_by;
 use crate::playing::play_on;
-use dsd_bits::{Sound, SoundAt};
+use dsd_bits::{Interleaving, Sound, SoundAt};
 use fir_core::Taps;
-use player_core::{PausedPlayer, Player};
-use std::alloc::Global;
+use player_core::{PartPlayer, PausedPart};
+use std::alloc::{AllocError, Global};
 use std::mem;
 
 // How many bytes are taken at once.
 const BLOCK: usize = 65_536;
 
-// So many bytes, and no more of a file.
+// So many bytes, and no more of a file; half as many before its sound, or of it.
 const MOST: usize = 1 << 62;
+const MOST_HALF: usize = 1 << 61;
 
 /// A player whose file is pushed.
 #[derive(Drop)]
@@ -44,8 +46,8 @@ pub(crate) struct Pushing {
 pub(crate) enum Stage {
     /// Its front doesn't tell of its sound yet.
     Front,
-    /// The next byte is one of this sound.
-    Sound(Sound, PausedPlayer),
+    /// So many bytes of this sound are left to be played.
+    Sound(Sound, PausedPart, usize),
     /// This sound is played; these bytes are kept of what stands behind it.
     Behind(Sound, Vec<u8>),
     /// A call was refused.
@@ -85,7 +87,14 @@ pub(crate) fn push(alloc: Global, p: &mut Pushing, bytes: &[u8]) -> Result<usize
     let (piece, _) = bytes.split_at(bytes.len().min(BLOCK));
     match mem::replace(&mut p.stage, Stage::Failed) {
         Stage::Front => push_front(alloc, p, piece),
-        Stage::Sound(sound, paused) => push_sound(alloc, p, sound, paused, piece),
+        Stage::Sound(sound, paused, left) => {
+            let rest = Rest {
+                sound,
+                paused,
+                left,
+            };
+            push_sound(alloc, p, rest, piece)
+        }
         Stage::Behind(sound, back) => push_behind(p, sound, back, piece),
         Stage::Failed => Err(PlayFault::AfterFault),
     }
@@ -114,41 +123,71 @@ fn push_front(alloc: Global, p: &mut Pushing, piece: &[u8]) -> Result<usize, Pla
             if !p.taps.rate_fits(sound.rate) {
                 return Err(PlayFault::RateNotDivided);
             }
+            if sound.start > MOST_HALF || sound.size > MOST_HALF {
+                return Err(PlayFault::TooLong);
+            }
             p.front.truncate(sound.start);
             p.told = Some(sound);
             p.place = sound.start;
-            let paused = PausedPlayer::of(Player::new(alloc, &p.taps, sound)?);
-            push_sound(alloc, p, sound, paused, &[])?;
+            let rest = rest_from(alloc, &p.taps, sound, 0)?;
+            push_sound(alloc, p, rest, &[])?;
             Ok(sound.start - before)
         }
         _ => Err(PlayFault::FileRefused),
     }
 }
 
+// What is left to be played of a sound.
+#[derive(Drop)]
+struct Rest {
+    sound: Sound,
+    paused: PausedPart,
+    left: usize,
+}
+
+// What is left of a sound from a frame on, before any byte of it.
+fn rest_from(alloc: Global, taps: &Taps, sound: Sound, frame: usize) -> Result<Rest, AllocError>
+    requires is_sound { IsSound sound }
+    requires whole { sound.interleaving ≡ Interleaving.Bytes → sound.count % 8 ≡ 0 }
+    requires frame { frame ≤ total_frames taps.now sound }
+    ensures { IfOk result (λ rest. (rest.sound ≡ sound) × IsRest taps.now rest) }
+{
+    let total = sound.count.div_ceil(taps.factor() as usize);
+    let player = PartPlayer::new(alloc, taps, sound, frame, total)?;
+    let left = sound.size.saturating_sub(player.start());
+    Ok(Rest {
+        sound,
+        paused: PausedPart::of(player),
+        left,
+    })
+}
+
 // Takes bytes of the sound, and plays them.
 fn push_sound(
     alloc: Global,
     p: &mut Pushing,
-    sound: Sound,
-    paused: PausedPlayer,
+    rest: Rest,
     piece: &[u8],
 ) -> Result<usize, PlayFault>
     requires told { IfSome p.old.told IsSound }
     requires failed { p.old.stage ≡ Stage.Failed }
-    requires sound { KeepsSound p.old.taps p.old.front.items p.old.place sound paused }
-    requires low { p.old.place ≤ 2 ^ 62 + 65536 }
+    requires sound { KeepsSound p.old.taps p.old.front.items p.old.place rest.sound rest.paused rest.left }
     requires few { length piece.now ≤ 65536 }
     ensures keeps { Keeps p.new }
     ensures taken { IfOk result (λ n. n ≤ length piece.now) }
 {
-    let left = sound.size - (p.place - sound.start);
+    let Rest {
+        sound,
+        paused,
+        left,
+    } = rest;
     let (bytes, _) = piece.split_at(piece.len().min(left));
     p.pending.clear();
     p.pulled = 0;
     let played = play_on(&p.taps, paused, bytes, left, &mut p.pending)?;
     p.place += bytes.len();
     p.stage = match played {
-        Some(paused) => Stage::Sound(sound, paused),
+        Some(paused) => Stage::Sound(sound, paused, left - bytes.len()),
         None => Stage::Behind(sound, Vec::new(alloc)),
     };
     Ok(bytes.len())
@@ -229,4 +268,38 @@ pub(crate) fn pull(p: &mut Pushing, out: &mut [u8]) -> usize
     to.copy_from_slice(from);
     p.pulled += count;
     count
+}
+
+/// Goes to a frame: the byte of the file from which on it is pushed then.
+pub(crate) fn seek(alloc: Global, p: &mut Pushing, frame: u64) -> Result<u64, PlayFault>
+    requires { Keeps p.old }
+    ensures keeps { Keeps p.new }
+{
+    let sound = match &p.stage {
+        Stage::Sound(sound, _, _) => *sound,
+        Stage::Behind(sound, _) => *sound,
+        Stage::Front => return Err(PlayFault::NotYet),
+        Stage::Failed => return Err(PlayFault::AfterFault),
+    };
+    if frame > sound.count.div_ceil(p.taps.factor() as usize) as u64 {
+        return Err(PlayFault::BehindEnd);
+    }
+    seek_in(alloc, p, sound, frame as usize)
+}
+
+// Goes to a frame of the sound.
+fn seek_in(alloc: Global, p: &mut Pushing, sound: Sound, frame: usize) -> Result<u64, PlayFault>
+    requires told { IfSome p.old.told IsSound }
+    requires front { IsFront p.old.front.items sound }
+    requires frame { frame ≤ total_frames p.old.taps sound }
+    ensures keeps { Keeps p.new }
+{
+    p.stage = Stage::Failed;
+    p.pending.clear();
+    p.pulled = 0;
+    let rest = rest_from(alloc, &p.taps, sound, frame)?;
+    let place = sound.start + (sound.size - rest.left);
+    p.place = place;
+    push_sound(alloc, p, rest, &[])?;
+    Ok(place as u64)
 }

@@ -9,6 +9,7 @@ pub mod PartView
 pub mod PartPieces
 pub mod PartPlaying
 pub mod PartSinks
+pub mod PausedView
 pub mod Wave
 pub mod Pieces
 pub mod Playing

@@ -55,6 +55,7 @@ mod laws;
 mod part_playing;
 mod part_sink;
 mod parts;
+mod pausing;
 mod pieces;
 mod player;
 mod playing;
@@ -69,6 +70,7 @@ pub use laws::{
 };
 pub use part_playing::play_part;
 pub use parts::PartPlayer;
+pub use pausing::PausedPart;
 pub use player::Player;
 pub use playing::play;
 pub use spec::wave_spec;

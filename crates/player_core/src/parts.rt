@@ -18,12 +18,12 @@ use std::alloc::{AllocError, Global};
 /// its first frame reads, and gives nothing for what comes before that frame, nor after its last.
 #[derive(Drop)]
 pub struct PartPlayer<'a> {
-    player: Player<'a>,
-    start: usize,
-    skip: usize,
-    stop: usize,
-    given: usize,
-    own: Vec<u8>,
+    pub(crate) player: Player<'a>,
+    pub(crate) start: usize,
+    pub(crate) skip: usize,
+    pub(crate) stop: usize,
+    pub(crate) given: usize,
+    pub(crate) own: Vec<u8>,
 }
 
 // How many groups of a sound are left out, and how many frames begin in them.

@@ -24,13 +24,13 @@ use wave_core::push_frames;
 /// part of one group, and in each channel's stream the bytes that a later sample reads.
 #[derive(Drop)]
 pub struct Player<'a> {
-    taps: &'a Taps,
-    sound: Sound,
-    fed: usize,
-    streams: Vec<Stream>,
-    held: Vec<u8>,
-    own: Vec<u8>,
-    tile: Vec<i32>,
+    pub(crate) taps: &'a Taps,
+    pub(crate) sound: Sound,
+    pub(crate) fed: usize,
+    pub(crate) streams: Vec<Stream>,
+    pub(crate) held: Vec<u8>,
+    pub(crate) own: Vec<u8>,
+    pub(crate) tile: Vec<i32>,
 }
 
 impl<'a> Player<'a> {

@@ -1,0 +1,33 @@
+//! Why a call is refused.
+
+ghost use Rattle.std.specs.Prelude.{◌≡◌};
+ghost use Rattle.dsdarc_c.specs.declared.fault.PlayFault.TheVariants as faults;
+
+use std::alloc::AllocError;
+
+/// Why bytes aren't taken or frames aren't played.
+#[derive(Clone, Copy, PartialEq, Eq)]
+pub enum PlayFault {
+    /// The bytes are neither a DSDIFF 1.5 nor a DSF 1.01 file that holds a recording.
+    FileRefused,
+    /// The decimation factor doesn't divide the sample rate.
+    RateNotDivided,
+    /// More than `2^62` bytes were pushed.
+    TooLong,
+    /// A call before this one was refused, and the player is of no further use.
+    AfterFault,
+    /// The sound isn't known yet.
+    NotYet,
+    /// There is no such frame.
+    BehindEnd,
+    /// Out of memory.
+    Memory,
+}
+
+impl From<AllocError> for PlayFault {
+    ghost from_gives = { λ _ e. e ≡ faults.Memory };
+
+    fn from(_e: AllocError) -> PlayFault {
+        PlayFault::Memory
+    }
+}

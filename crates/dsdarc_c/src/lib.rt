@@ -1,0 +1,142 @@
+//! Calls for programs in C, over a player whose file is pushed and whose frames are pulled (`pushing.rt`).
+//!
+//! A player stands in the heap, and C holds its pointer (`handle.rt`). Each call answers a status (`status.rt`). What C
+//! can't prove is tested here and in `c/dsdarc.c`, which has the calls of `dsdarc.h`: null pointers and sizes.
+#![tactic(auto)]
+
+mod content;
+mod ending;
+mod fault;
+mod fronts;
+mod handle;
+mod info;
+mod playing;
+mod pushing;
+mod samples;
+mod status;
+
+use crate::content::PushPlayer;
+use crate::fault::PlayFault;
+use crate::handle::{Handle, into_box, into_pointer};
+use crate::info::{Info, info_of};
+use crate::pushing::{Pushing, end, pull, push, seek};
+use crate::samples::pull_numbers;
+use crate::status::{NO_DECIMATION, done, memory, status_of, status_of_project};
+use fir_core::Taps;
+use project_core::Project;
+use std::alloc::Global;
+use std::mem::forget;
+
+/// A player by the filter of a project text, before the first byte of a file: `out` has its pointer then.
+#[unsafe(no_mangle)]
+pub extern "C" fn dsdarc_c_new(alloc: Global, project: &[u8], out: &mut *mut u8) -> u32 {
+    match project_core::read(alloc, project) {
+        Ok(Project { decimate, .. }) => match decimate {
+            Some(taps) => new_player(alloc, taps, out),
+            None => NO_DECIMATION,
+        },
+        Err(fault) => status_of_project(fault),
+    }
+}
+
+// A player by a filter.
+fn new_player(alloc: Global, taps: Taps, out: &mut *mut u8) -> u32 {
+    match Box::new(alloc, PushPlayer::of(Pushing::new(alloc, taps))) {
+        Ok(player) => {
+            *out = into_pointer(player);
+            done()
+        }
+        Err(_) => memory(),
+    }
+}
+
+/// Takes bytes of the file: `taken` says how many.
+#[unsafe(no_mangle)]
+pub extern "C" fn dsdarc_c_push(
+    alloc: Global,
+    handle: Handle,
+    bytes: &[u8],
+    taken: &mut usize,
+) -> u32 {
+    let mut player = into_box(handle);
+    let pushed = push(alloc, &mut player.pushing, bytes);
+    forget(player);
+    match pushed {
+        Ok(count) => {
+            *taken = count;
+            done()
+        }
+        Err(fault) => status_of(fault),
+    }
+}
+
+/// Takes the bytes of frames that are due: how many.
+#[unsafe(no_mangle)]
+pub extern "C" fn dsdarc_c_pull(handle: Handle, out: &mut [u8]) -> usize {
+    let mut player = into_box(handle);
+    let count = pull(&mut player.pushing, out);
+    forget(player);
+    count
+}
+
+/// Takes the samples of frames that are due, as numbers: how many.
+#[unsafe(no_mangle)]
+pub extern "C" fn dsdarc_c_pull_numbers(handle: Handle, out: &mut [i32]) -> usize {
+    let mut player = into_box(handle);
+    let count = pull_numbers(&mut player.pushing, out);
+    forget(player);
+    count
+}
+
+/// Says that no bytes come any more.
+#[unsafe(no_mangle)]
+pub extern "C" fn dsdarc_c_end(alloc: Global, handle: Handle) -> u32 {
+    let mut player = into_box(handle);
+    let ended = end(alloc, &mut player.pushing);
+    forget(player);
+    match ended {
+        Ok(()) => done(),
+        Err(fault) => status_of(fault),
+    }
+}
+
+/// What is played.
+#[unsafe(no_mangle)]
+pub extern "C" fn dsdarc_c_info(handle: Handle, info: &mut Info) -> u32 {
+    let player = into_box(handle);
+    let told = info_of(&player.pushing);
+    forget(player);
+    match told {
+        Some(told) => {
+            *info = told;
+            done()
+        }
+        None => status_of(PlayFault::NotYet),
+    }
+}
+
+/// Goes to a frame: `offset` is the byte of the file from which on it is pushed then.
+#[unsafe(no_mangle)]
+pub extern "C" fn dsdarc_c_seek(
+    alloc: Global,
+    handle: Handle,
+    frame: u64,
+    offset: &mut u64,
+) -> u32 {
+    let mut player = into_box(handle);
+    let sought = seek(alloc, &mut player.pushing, frame);
+    forget(player);
+    match sought {
+        Ok(place) => {
+            *offset = place;
+            done()
+        }
+        Err(fault) => status_of(fault),
+    }
+}
+
+/// Frees a player.
+#[unsafe(no_mangle)]
+pub extern "C" fn dsdarc_c_drop(handle: Handle) {
+    let _player = into_box(handle);
+}

@@ -1,0 +1,61 @@
+//! The statuses of the calls, as C knows them.
+
+use crate::fault::PlayFault;
+use project_core::ProjectFault;
+
+// As in dsdarc.h.
+const OK: u32 = 0;
+const MEMORY: u32 = 3;
+const AFTER_FAULT: u32 = 4;
+const NOT_YET: u32 = 5;
+const BEHIND_END: u32 = 6;
+const FILE_REFUSED: u32 = 7;
+const RATE_NOT_DIVIDED: u32 = 8;
+const TOO_LONG: u32 = 9;
+pub(crate) const NO_DECIMATION: u32 = 10;
+const NOT_TOML: u32 = 11;
+const UNKNOWN_KEY: u32 = 12;
+const MISSING_KEY: u32 = 13;
+const WRONG_KIND: u32 = 14;
+const OUT_OF_LIMIT: u32 = 15;
+const NO_TAKE: u32 = 16;
+const SHORT_CUE: u32 = 17;
+const LAST_BRIDGE: u32 = 18;
+
+/// The status of want of memory.
+pub(crate) fn memory() -> u32 {
+    MEMORY
+}
+
+/// The status of a call that was done.
+pub(crate) fn done() -> u32 {
+    OK
+}
+
+/// The status of a fault.
+pub(crate) fn status_of(fault: PlayFault) -> u32 {
+    match fault {
+        PlayFault::FileRefused => FILE_REFUSED,
+        PlayFault::RateNotDivided => RATE_NOT_DIVIDED,
+        PlayFault::TooLong => TOO_LONG,
+        PlayFault::AfterFault => AFTER_FAULT,
+        PlayFault::NotYet => NOT_YET,
+        PlayFault::BehindEnd => BEHIND_END,
+        PlayFault::Memory => MEMORY,
+    }
+}
+
+/// The status of a fault of a project text.
+pub(crate) fn status_of_project(fault: ProjectFault) -> u32 {
+    match fault {
+        ProjectFault::NotToml => NOT_TOML,
+        ProjectFault::UnknownKey => UNKNOWN_KEY,
+        ProjectFault::MissingKey(_) => MISSING_KEY,
+        ProjectFault::WrongKind(_) => WRONG_KIND,
+        ProjectFault::OutOfLimit(_) => OUT_OF_LIMIT,
+        ProjectFault::NoTake(_) => NO_TAKE,
+        ProjectFault::ShortCue(_) => SHORT_CUE,
+        ProjectFault::LastBridge => LAST_BRIDGE,
+        ProjectFault::Memory => MEMORY,
+    }
+}

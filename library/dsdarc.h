@@ -1,0 +1,126 @@
+/* dsdarc: frames of DSDIFF and DSF files, decimated by the filter of a project text.
+ *
+ * The caller reads the file and pushes its bytes; the library takes them and gives frames. It opens nothing, prints
+ * nothing, starts no thread and never aborts. A player holds the bytes before the sound, at most one piece of 65,536
+ * bytes of the sound as frames, and what its filter still reads; behind the sound it keeps what a DSDIFF form has there.
+ *
+ *     dsdarc_player *player;
+ *     if (dsdarc_player_new(text, text_size, &player) != DSDARC_OK) ...
+ *     while ((size = fread(bytes, 1, sizeof bytes, file)) > 0)
+ *         for (at = 0; at < size; at += taken) {
+ *             if (dsdarc_player_push(player, bytes + at, size - at, &taken) != DSDARC_OK) ...
+ *             while (dsdarc_player_pull(player, pcm, 1024, DSDARC_PACKED, &given) == DSDARC_OK && given > 0)
+ *                 write(pcm, given);
+ *         }
+ *     if (dsdarc_player_end(player) != DSDARC_OK) ...
+ *     dsdarc_player_drop(player);
+ *
+ * What was pulled is a front of the frames that `dsdarc play` writes, and all of them once the last byte of the sound
+ * was pushed, however pushes and pulls are cut. After a seek it is a front of the frames from that one on.
+ *
+ * Ownership. A player is made by dsdarc_player_new and freed by dsdarc_player_drop. All other memory is the caller's,
+ * and is read or written during the call alone. Buffers of one call must not overlap each other.
+ * Threads. Each player belongs to one call at a time; different players are independent of each other.
+ * Statuses. Each call answers one; after a fault (from DSDARC_FILE_REFUSED to DSDARC_TOO_LONG, or DSDARC_MEMORY) of a
+ * push, an end or a seek the frames that wait can be pulled, and all else answers DSDARC_AFTER_FAULT.
+ */
+#ifndef DSDARC_H
+#define DSDARC_H
+
+#include <stddef.h>
+#include <stdint.h>
+
+#ifdef __cplusplus
+extern "C" {
+#endif
+
+#define DSDARC_VERSION_MAJOR 0
+#define DSDARC_VERSION_MINOR 1
+#define DSDARC_VERSION_PATCH 0
+
+#if defined __GNUC__ && defined DSDARC_BUILD
+#define DSDARC_API __attribute__((visibility("default")))
+#else
+#define DSDARC_API
+#endif
+
+/* A player; what it is made of is not for the caller. */
+typedef struct dsdarc_player dsdarc_player;
+
+/* What a call answers. The names of faults are those that the program prints. */
+typedef enum dsdarc_status {
+    DSDARC_OK = 0,
+    DSDARC_NULL = 1,             /* a pointer is null that may not be */
+    DSDARC_SIZE = 2,             /* a size or a format is none that there can be */
+    DSDARC_MEMORY = 3,           /* out of memory */
+    DSDARC_AFTER_FAULT = 4,      /* a call before this one was refused for the file */
+    DSDARC_NOT_YET = 5,          /* the pushed bytes don't tell of the sound yet */
+    DSDARC_BEHIND_END = 6,       /* there is no such frame */
+    DSDARC_FILE_REFUSED = 7,     /* neither a DSDIFF 1.5 nor a DSF 1.01 file that holds a recording */
+    DSDARC_RATE_NOT_DIVIDED = 8, /* the filter's factor doesn't divide the file's sample rate */
+    DSDARC_TOO_LONG = 9,         /* more than 2^62 bytes */
+    DSDARC_NO_DECIMATION = 10,   /* the project text has no filter */
+    DSDARC_NOT_TOML = 11,        /* the project text is no TOML */
+    DSDARC_UNKNOWN_KEY = 12,
+    DSDARC_MISSING_KEY = 13,
+    DSDARC_WRONG_KIND = 14,
+    DSDARC_OUT_OF_LIMIT = 15,
+    DSDARC_NO_TAKE = 16,
+    DSDARC_SHORT_CUE = 17,
+    DSDARC_LAST_BRIDGE = 18
+} dsdarc_status;
+
+/* How samples are written. */
+typedef enum dsdarc_format {
+    DSDARC_PACKED = 0, /* as in a WAVE file: 2 or 3 bytes, the lowest first */
+    DSDARC_S32 = 1     /* numbers of 32 bits with the same values, from -2^(width-1) to 2^(width-1) - 1 */
+} dsdarc_format;
+
+/* What is played. */
+typedef struct dsdarc_info {
+    uint64_t frames;   /* how many frames there are */
+    uint32_t rate_in;  /* hertz: the sample rate of the file */
+    uint32_t rate;     /* hertz: the sample rate of the frames */
+    uint32_t channels; /* 1 to 6 */
+    uint32_t width;    /* bits of a sample: 16 or 24 */
+} dsdarc_info;
+
+/* Makes a player by the filter of a project text (`size` bytes of TOML, as the files of filters/), before the first
+ * byte of a file. *player is the caller's to drop; after another status than DSDARC_OK it is null. */
+DSDARC_API dsdarc_status dsdarc_player_new(const void *project, size_t size, dsdarc_player **player);
+
+/* Takes bytes of the file, from the next one on: *taken says how many, at most 65,536. None are taken while frames wait
+ * to be pulled. Before the sound and behind it bytes are taken that give no frames. `bytes` may be null if size is 0. */
+DSDARC_API dsdarc_status dsdarc_player_push(dsdarc_player *player, const void *bytes, size_t size, size_t *taken);
+
+/* Tells what is played, once enough bytes were pushed; before that it answers DSDARC_NOT_YET. */
+DSDARC_API dsdarc_status dsdarc_player_info(dsdarc_player *player, dsdarc_info *info);
+
+/* Gives at most `frames` frames that are due, interleaved: *given says how many, 0 if more bytes are wanted or all were
+ * given. pcm has room for frames * channels samples. It may be null if frames is 0. */
+DSDARC_API dsdarc_status dsdarc_player_pull(dsdarc_player *player, void *pcm, size_t frames, dsdarc_format format,
+                                            size_t *given);
+
+/* Says that the file ends here, and whether it holds a recording, as `dsdarc play` decides it: a DSDIFF form must be
+ * whole, and the tag of a DSF file be where its header says. Frames that wait can still be pulled. */
+DSDARC_API dsdarc_status dsdarc_player_end(dsdarc_player *player);
+
+/* Goes to a frame, from 0 to the number of frames, once the sound is known: *offset is the byte of the file from which
+ * on the caller pushes next. Frames that wait are dropped. After DSDARC_NOT_YET and DSDARC_BEHIND_END nothing has
+ * changed. */
+DSDARC_API dsdarc_status dsdarc_player_seek(dsdarc_player *player, uint64_t frame, uint64_t *offset);
+
+/* Frees a player; null is left alone. */
+DSDARC_API void dsdarc_player_drop(dsdarc_player *player);
+
+/* The name of a status, as "FileRefused"; "Unknown" for a number that is none. It is never freed. */
+DSDARC_API const char *dsdarc_status_text(dsdarc_status status);
+
+/* The version of the library, as "0.1.0". It is never freed. */
+DSDARC_API const char *dsdarc_version(void);
+
+#ifdef __cplusplus
+}
+#endif
+
+#endif

@@ -11,8 +11,8 @@
 //!
 //! The words of the contracts:
 //!
-//! - `Converts`, `Plays` and `SaysTakes` (`transfer_core`): what a file converts to, what project and file play, and which
-//!   takes a text cuts.
+//! - `Converts`, `Plays` and `SaysTakes` (`transfer_core`): what a file converts to, what project and file play, and
+//!   which takes a text cuts.
 //! - `SaysCut project files form cut` (`judge_core`) says that this is the cut of project and files.
 //! - `Edits project files form master cost` says that these bytes are the file of the master with the first least
 //!   bridges, and that this is their cost. `IsCertificate project files file cert` says that these bytes are its

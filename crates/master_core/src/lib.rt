@@ -16,8 +16,8 @@
 //!   (`specs/Best.antt`).
 //! - `PlansMaster cut form bridges`: there is one list of best channels; what they cost, what is shown of them, and
 //!   their file (`specs/Planning.antt`).
-//! - `AreBridgesOf cut bridges`: the bridges of a cut with the first least bits of each; `Certifies cut bridges cert`: the
-//!   certificate of them (`specs/Choosing.antt`, `specs/Certifying.antt`).
+//! - `AreBridgesOf cut bridges`: the bridges of a cut with the first least bits of each; `Certifies cut bridges cert`:
+//!   the certificate of them (`specs/Choosing.antt`, `specs/Certifying.antt`).
 //! - `cert_of cut channels`: the certificate of a master, one text for each list of channels
 //!   (`specs/Certificates.antt`). The law that it shows least bits to be least is on [`certificates_show`].
 //! - `WritesBest cut to old new`, `WritesMaster cut form old new`: the sound of the best master, or its file, was

@@ -73,7 +73,7 @@ PARTS = (
     (LONG, line_of("in", 32769, b"\x01" + bytes(4096), bytes(4097))),
     (LONG_MOST, line_of("in", 32769, b"\x01" + bytes(4096), bytes(4097))),
     (NINE, line_of("in", 9, b"\xf0\0", bytes(2))),
-    (NINE_MOST, line_of("in", 9, b"\xf0\0", bytes(2))),
+    (NINE_MOST, line_of("in", 9, b"\x0f\0", bytes(2))),
 )
 
 # Zeros of other lengths that take as many bytes, and the line of another rate.

@@ -4,3 +4,4 @@ pub mod PlayLaws
 pub mod ReadLaws
 pub mod StreamLaws
 pub mod TellLaws
+pub mod PartLaws

@@ -5,3 +5,4 @@ pub mod Outlining
 pub mod Playing
 pub mod Sources
 pub mod Telling
+pub mod PartPlaying

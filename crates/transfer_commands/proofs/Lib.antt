@@ -6,3 +6,4 @@ pub mod ReadLaws
 pub mod StreamLaws
 pub mod SumLaws
 pub mod TellLaws
+pub mod PartLaws

@@ -7,3 +7,4 @@ pub mod Playing
 pub mod Sources
 pub mod Summing
 pub mod Telling
+pub mod PartPlaying

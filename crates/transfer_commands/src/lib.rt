@@ -2,6 +2,7 @@
 //! reading a project and the files of its takes, and this is here, too.
 //!
 //! - [`play_file`] reads a project, opens a recording, and writes its WAVE file piece by piece.
+//! - [`play_part_file`] does so with a part of the recording, which it finds first by reading the recording through.
 //! - [`convert_file`] reads a recording through, and only then creates the file in the other form.
 //! - [`open_file`] reads a recording to report what it holds.
 //! - [`sum_file`] reads a recording in one pass, and digests the bits of each channel.
@@ -32,6 +33,7 @@ mod digesting;
 mod fault;
 mod hearing;
 mod outlining;
+mod parts;
 mod playing;
 mod sources;
 mod summing;
@@ -40,6 +42,7 @@ mod telling;
 pub use converting::convert_file;
 pub use fault::CommandFault;
 pub use outlining::MOST_KEPT;
+pub use parts::{PartFault, play_part_file};
 pub use playing::play_file;
 pub use sources::{Sources, hear_sources};
 pub use summing::{Sums, sum_file};

@@ -32,11 +32,11 @@ fault_is (Ok x) f h = absurd h
 fault_is (Err g) f h = rw h
 
 -- ---- the form of a file
-form_held : (file : List ℕ) (r : Content) → HoldsRecording file r → (form : Form) × HoldsAs file form r
+pub form_held : (file : List ℕ) (r : Content) → HoldsRecording file r → (form : Form) × HoldsAs file form r
 form_held file r (inl is) = (forms.Dsdiff, is)
 form_held file r (inr held) = (form_in (Blocks held.0), holds_dsf file r held.0 held.1)
 
-recording_held : (file : List ℕ) (form : Form) (r : Content) → HoldsAs file form r → HoldsRecording file r
+pub recording_held : (file : List ℕ) (form : Form) (r : Content) → HoldsAs file form r → HoldsRecording file r
 recording_held file forms.Dsdiff r is = inl is
 recording_held file forms.Dsf r is = inr (LeastFirst, is)
 recording_held file forms.Dsf8 r is = inr (MostFirst, is)

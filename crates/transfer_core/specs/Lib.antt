@@ -2,6 +2,8 @@ pub mod Conversions
 pub mod Converting
 pub mod Faults
 pub mod Laws
+pub mod PartStreaming
 pub mod Playing
 pub mod Projects
+pub mod Spans
 pub mod Streaming

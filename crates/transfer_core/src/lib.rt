@@ -27,10 +27,16 @@
 
 mod converting;
 mod fault;
+mod frames;
+mod parts;
 mod playing;
 mod projects;
+mod spans;
 
 pub use converting::{Converted, convert, convert_stream};
 pub use fault::Fault;
+pub use frames::PlayedFrames;
+pub use parts::play_part_stream;
 pub use playing::{play, play_stream};
 pub use projects::{splice_of, take_names};
+pub use spans::{Place, Span, SpanFault, frames_of, span_of};

@@ -18,5 +18,5 @@ pub record HasPlayed (d : Decimator) (s : Sound) (start : ℕ) (before given : L
 
 -- after these bytes more was given: what was due then, by a player that goes on, or all others
 abbrev pub PlaysOn : Decimator → Sound → ℕ → List ℕ → List ℕ → List ℕ → List ℕ → List ℕ → PartPlayer → Option PausedPart → Type 0
-PlaysOn d s start before bytes given pending_old pending_new p None = (more : List ℕ) × (pending_new ≡ pending_old ++ more) × (given ++ more ≡ part_all p (before ++ bytes))
+PlaysOn d s start before bytes given pending_old pending_new p None = (more : List ℕ) × (pending_new ≡ pending_old ++ more) × (length (before ++ bytes) ≡ (part_rest p).size) × (given ++ more ≡ part_all p (before ++ bytes))
 PlaysOn d s start before bytes given pending_old pending_new p (Some q) = (more : List ℕ) × (pending_new ≡ pending_old ++ more) × ((new : PartPlayer) × (part_rest new ≡ part_rest p) × (new.start ≡ p.start) × HasPlayed d s start (before ++ bytes) (given ++ more) new q)

@@ -1,5 +1,5 @@
 -- A player whose file is pushed piece by piece.
-use Rattle.std.specs.Prelude.{◌≡◌, ℕ, ◌+◌, ◌%◌, ◌^◌, ◌≤◌, List, length, IfSome, ⊤}
+use Rattle.std.specs.Prelude.{◌≡◌, ℕ, ◌+◌, ◌%◌, ◌^◌, ◌≤◌, List, length, Option, None, Some, IfSome, ⊤}
 use Rattle.dsd_bits.specs.declared.interleaving.Interleaving.TheVariants.{Bytes}
 use Rattle.dsd_bits.specs.declared.sound.Sound.{Sound}
 use Rattle.dsd_bits.specs.Sounds.{IsSound}
@@ -31,20 +31,25 @@ pub record IsPlaying (d : Decimator) (s : Sound) (q : PausedPart) (left : ℕ) :
   pub played : HasPlayed d s start before given player q
   pub long : length before + left ≡ (part_rest player).size
 
+-- a player that pauses, or none where nothing is left
+abbrev pub IsPlayed : Decimator → Sound → Option PausedPart → ℕ → Type 0
+IsPlayed d s None left = left ≡ 0
+IsPlayed d s (Some q) left = IsPlaying d s q left
+
 -- the same of what is left of a sound
 pub record IsRest (d : Decimator) (rest : Rest) : Type 0 where
   pub playing : IsPlaying d rest.sound rest.paused rest.left
   pub few : rest.left ≤ rest.sound.size
 
 -- so many bytes of this sound are left, and the next byte is the first of them
-pub record KeepsSound (d : Decimator) (front : List ℕ) (place : ℕ) (s : Sound) (q : PausedPart) (left : ℕ) : Type 0 where
-  pub front : IsFront front s
+pub record KeepsSound (d : Decimator) (head : List ℕ) (place : ℕ) (s : Sound) (q : PausedPart) (left : ℕ) : Type 0 where
+  pub front : IsFront head s
   pub playing : IsPlaying d s q left
   pub place_is : place + left ≡ s.start + s.size
 
 -- the next byte stands behind this sound
-pub record KeepsBehind (front : List ℕ) (place : ℕ) (s : Sound) : Type 0 where
-  pub front : IsFront front s
+pub record KeepsBehind (head : List ℕ) (place : ℕ) (s : Sound) : Type 0 where
+  pub front : IsFront head s
   pub behind : s.start + s.size ≤ place
 
 -- what each stage keeps to

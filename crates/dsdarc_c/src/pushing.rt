@@ -1,9 +1,10 @@
 //! A player whose file is pushed piece by piece, and whose frames are pulled.
 
-ghost use Rattle.std.specs.Prelude.{◌≡◌, ◌+◌, ◌%◌, ◌≤◌, ◌^◌, IfOk, IfSome, length};
+ghost use Rattle.std.specs.Prelude.{◌≡◌, ◌+◌, ◌%◌, ◌≤◌, ◌^◌, List, ℕ, IfOk, IfSome, length};
+ghost use Rattle.fir_core.specs.Decimator.{Decimator};
 ghost use Rattle.player_core.specs.Laws.{total_frames};
 ghost use Rattle.dsd_bits.specs.Sounds.{IsSound};
-ghost use Rattle.dsdarc_c.specs.Pushing.{IsFront, IsRest, Keeps, KeepsBehind, KeepsSound};
+ghost use Rattle.dsdarc_c.specs.Pushing.{IsFront, IsPlayed, IsRest, Keeps, KeepsBehind, KeepsSound, KeepsStage};
 
 use crate::ending::closes;
 use crate::fault::PlayFault;
@@ -20,6 +21,7 @@ const BLOCK: usize = 65_536;
 
 // So many bytes, and no more of a file; half as many before its sound, or of it.
 const MOST: usize = 1 << 62;
+
 const MOST_HALF: usize = 1 << 61;
 
 /// A player whose file is pushed.
@@ -128,9 +130,7 @@ fn push_front(alloc: Global, p: &mut Pushing, piece: &[u8]) -> Result<usize, Pla
             }
             p.front.truncate(sound.start);
             p.told = Some(sound);
-            p.place = sound.start;
-            let rest = rest_from(alloc, &p.taps, sound, 0)?;
-            push_sound(alloc, p, rest, &[])?;
+            seek_in(alloc, p, sound, 0)?;
             Ok(sound.start - before)
         }
         _ => Err(PlayFault::FileRefused),
@@ -163,12 +163,7 @@ fn rest_from(alloc: Global, taps: &Taps, sound: Sound, frame: usize) -> Result<R
 }
 
 // Takes bytes of the sound, and plays them.
-fn push_sound(
-    alloc: Global,
-    p: &mut Pushing,
-    rest: Rest,
-    piece: &[u8],
-) -> Result<usize, PlayFault>
+fn push_sound(alloc: Global, p: &mut Pushing, rest: Rest, piece: &[u8]) -> Result<usize, PlayFault>
     requires told { IfSome p.old.told IsSound }
     requires failed { p.old.stage ≡ Stage.Failed }
     requires sound { KeepsSound p.old.taps p.old.front.items p.old.place rest.sound rest.paused rest.left }
@@ -186,11 +181,19 @@ fn push_sound(
     p.pulled = 0;
     let played = play_on(&p.taps, paused, bytes, left, &mut p.pending)?;
     p.place += bytes.len();
-    p.stage = match played {
-        Some(paused) => Stage::Sound(sound, paused, left - bytes.len()),
-        None => Stage::Behind(sound, Vec::new(alloc)),
-    };
+    p.stage = next_stage(alloc, sound, played, left - bytes.len());
     Ok(bytes.len())
+}
+
+// The stage where so many bytes of a sound are left to be played, or all of it was.
+fn next_stage(alloc: Global, sound: Sound, played: Option<PausedPart>, left: usize) -> Stage
+    ensures { (d : Decimator) (front : List ℕ) (place : ℕ) → IsFront front sound → IsPlayed d sound played left
+        → place + left ≡ sound.start + sound.size → KeepsStage d front place result }
+{
+    match played {
+        Some(paused) => Stage::Sound(sound, paused, left),
+        None => Stage::Behind(sound, Vec::new(alloc)),
+    }
 }
 
 // Takes bytes behind the sound: those of a DSDIFF form are kept.
@@ -275,16 +278,24 @@ pub(crate) fn seek(alloc: Global, p: &mut Pushing, frame: u64) -> Result<u64, Pl
     requires { Keeps p.old }
     ensures keeps { Keeps p.new }
 {
-    let sound = match &p.stage {
-        Stage::Sound(sound, _, _) => *sound,
-        Stage::Behind(sound, _) => *sound,
-        Stage::Front => return Err(PlayFault::NotYet),
-        Stage::Failed => return Err(PlayFault::AfterFault),
-    };
+    let sound = sound_behind(p)?;
     if frame > sound.count.div_ceil(p.taps.factor() as usize) as u64 {
         return Err(PlayFault::BehindEnd);
     }
     seek_in(alloc, p, sound, frame as usize)
+}
+
+// The sound that stands behind the front of a file.
+fn sound_behind(p: &Pushing) -> Result<Sound, PlayFault>
+    requires { Keeps p.now }
+    ensures { IfOk result (IsFront p.now.front.items) }
+{
+    match &p.stage {
+        Stage::Sound(sound, _, _) => Ok(*sound),
+        Stage::Behind(sound, _) => Ok(*sound),
+        Stage::Front => Err(PlayFault::NotYet),
+        Stage::Failed => Err(PlayFault::AfterFault),
+    }
 }
 
 // Goes to a frame of the sound.

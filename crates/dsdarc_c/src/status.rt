@@ -5,21 +5,37 @@ use project_core::ProjectFault;
 
 // As in dsdarc.h.
 const OK: u32 = 0;
+
 const MEMORY: u32 = 3;
+
 const AFTER_FAULT: u32 = 4;
+
 const NOT_YET: u32 = 5;
+
 const BEHIND_END: u32 = 6;
+
 const FILE_REFUSED: u32 = 7;
+
 const RATE_NOT_DIVIDED: u32 = 8;
+
 const TOO_LONG: u32 = 9;
+
 pub(crate) const NO_DECIMATION: u32 = 10;
+
 const NOT_TOML: u32 = 11;
+
 const UNKNOWN_KEY: u32 = 12;
+
 const MISSING_KEY: u32 = 13;
+
 const WRONG_KIND: u32 = 14;
+
 const OUT_OF_LIMIT: u32 = 15;
+
 const NO_TAKE: u32 = 16;
+
 const SHORT_CUE: u32 = 17;
+
 const LAST_BRIDGE: u32 = 18;
 
 /// The status of want of memory.

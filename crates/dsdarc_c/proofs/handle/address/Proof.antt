@@ -34,5 +34,5 @@ address_spec 𝓤 𝓛 𝓜 𝓡 wired =
     enter ! _ _ _ _ _ $ alloc_all ! (λ l. pass_all ! refl ((tt, tt), tt) $
     sets ! (addr ! (through ! refl (stop !))) refl (tt, tt) $
     returns ! (look_at ! 0 refl) $ free_all ! refl $ split ! $ split ! $ move ! (2 ∷ []) $ split ! $
-    suffices ! _ (ends_at 𝓛 f.ended stayed c y (vptr b o) (block_ptr b o) (r.now, tt) (tt, tt)) $ says ! refl $ 
+    suffices ! _ (ends_at 𝓛 f.ended stayed c y (vptr b o) (block_ptr b o) (r.now, tt) (tt, tt)) $ says ! refl $
     feq_i ! _ (vptr b o ∷ []) _ refl $ move ! (1 ∷ 2 ∷ []) $ fjoin ! $ move ! (2 ∷ 3 ∷ []) $ join ! $ keep ! (0 ∷ 1 ∷ 2 ∷ []) $ done !))

@@ -1,4 +1,4 @@
-use Rattle.std.proofs.Common.{◌++◌, ◌∙◌, ap, append_assoc, arith}
+use Rattle.std.proofs.Common.{◌++◌, ◌∙◌, ap, append_assoc, arith, length-append}
 use Rattle.dsd_bits.specs.declared.sound.Sound.{Sound}
 use Rattle.dsdarc_c.proofs.PlayLaws.{Resumed, all_on, ends_on, fed_on, few_on, plays_on, ready_on, same_on}
 use Rattle.dsdarc_c.proofs.playing.play_on.Goals as goal
@@ -32,15 +32,24 @@ pub returns-then-bytes-left : goal.returns-then-bytes-left
 returns-then-bytes-left c s start before given p h all =
     let r = resumed (goal.at.returns-then-bytes-left c).After-resume-player in
     let ok = c.in_ok-feed.ensures.ok in
-    let end = c.in_ok-finish.ensures.ok in
-    (ok.0 ++ end.0,
-    end.1 ∙ ap (λ xs. xs ++ end.0) ok.1 ∙ append_assoc _ ok.0 end.0,
-    ends_on c.args.taps.now s start before given p c.args.paused c.resume-player.result r h c.feed.new.self c.in_ok-feed.ensures.same c.args.bytes.now ok.0 ok.2 end.0 end.2)
+    let end = c.in_ok-finish.ensures.ok in (
+      ok.0 ++ end.0,
+      end.1 ∙ ap (λ xs. xs ++ end.0) ok.1 ∙ append_assoc _ ok.0 end.0,
+      omega (arith, all, c.if-bytes-left.true, length-append before c.args.bytes.now),
+      ends_on c.args.taps.now s start before given p c.args.paused c.resume-player.result r h c.feed.new.self c.in_ok-feed.ensures.same c.args.bytes.now ok.0 ok.2 end.0 end.2,
+    )
 
 pub returns : goal.returns
 returns c s start before given p h all =
     let r = resumed (goal.at.returns c).After-resume-player in
     let ok = c.in_ok-feed.ensures.ok in
-    let same = all_on c.args.taps.now s start before given p c.args.paused c.resume-player.result r h c.feed.new.self c.in_ok-feed.ensures.same c.args.bytes.now ok.0 ok.2 in
-    (ok.0, ok.1, c.feed.new.self, same.rest, same.start,
-    plays_on c.args.taps.now s start before given p c.args.paused c.resume-player.result r h c.feed.new.self c.in_ok-feed.ensures.same c.args.bytes.now ok.0 ok.2 c.of.result c.of.ensures c.in_ok-feed.ensures.ready)
+    let same = all_on c.args.taps.now s start before given p c.args.paused c.resume-player.result r h c.feed.new.self c.in_ok-feed.ensures.same c.args.bytes.now ok.0 ok.2 in (
+      ok.0,
+      ok.1,
+      (
+        c.feed.new.self,
+        same.rest,
+        same.start,
+        plays_on c.args.taps.now s start before given p c.args.paused c.resume-player.result r h c.feed.new.self c.in_ok-feed.ensures.same c.args.bytes.now ok.0 ok.2 c.of.result c.of.ensures c.in_ok-feed.ensures.ready,
+      ),
+    )

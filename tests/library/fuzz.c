@@ -1,0 +1,180 @@
+/* Calls the library at random over files that are changed at random: fuzz SEED RUNS PROJECT FILE..
+ *
+ * Each run plays a file twice: once as it comes, and once in random pushes, pulls, seeks, calls with null pointers and
+ * sizes that can't be. What the second pulls from a frame on has to be what the first pulled there, and without a seek
+ * the verdict at the end has to be the same. Every buffer has just the size that is told, so that AddressSanitizer sees
+ * each byte beyond. */
+#include <dsdarc.h>
+#include <stdio.h>
+#include <stdlib.h>
+#include <string.h>
+
+static uint64_t state;
+
+static size_t below(size_t n) {
+    state ^= state << 13, state ^= state >> 7, state ^= state << 17;
+    return n ? (size_t)(state % n) : 0;
+}
+
+static void fail(const char *why, unsigned long run) {
+    printf("FOUND: %s in run %lu\n", why, run);
+    exit(1);
+}
+
+static unsigned char *whole(const char *name, size_t *size) {
+    FILE *file = fopen(name, "rb");
+    unsigned char *bytes;
+    if (!file || fseek(file, 0, SEEK_END)) exit(3);
+    *size = (size_t)ftell(file);
+    rewind(file);
+    bytes = malloc(*size + 1);
+    if (!bytes || fread(bytes, 1, *size, file) != *size) exit(3);
+    fclose(file);
+    return bytes;
+}
+
+static void *copied(const void *bytes, size_t size) {
+    void *copy = malloc(size ? size : 1);
+    memcpy(copy, bytes, size);
+    return copy;
+}
+
+/* What a file plays to, taken as it comes. */
+static unsigned char *reference(const unsigned char *text, size_t text_size, const unsigned char *bytes, size_t size,
+                                size_t *have, dsdarc_status *verdict) {
+    dsdarc_player *player;
+    dsdarc_info info;
+    unsigned char *pcm = NULL;
+    size_t at = 0, taken, given, room = 0;
+    *have = 0;
+    *verdict = dsdarc_player_new(text, text_size, &player);
+    if (*verdict != DSDARC_OK) return NULL;
+    for (;;) {
+        *verdict = dsdarc_player_push(player, bytes + at, size - at, &taken);
+        if (*verdict != DSDARC_OK) break;
+        at += taken;
+        if (dsdarc_player_info(player, &info) == DSDARC_OK) {
+            size_t frame = (size_t)info.width / 8 * info.channels;
+            do {
+                if (room < *have + 4096 * frame) pcm = realloc(pcm, room = *have + 4096 * frame);
+                if (dsdarc_player_pull(player, pcm + *have, 4096, DSDARC_PACKED, &given) != DSDARC_OK) exit(2);
+                *have += given * frame;
+            } while (given > 0);
+        }
+        if (taken == 0 && at == size) break;
+    }
+    if (*verdict == DSDARC_OK) *verdict = dsdarc_player_end(player);
+    dsdarc_player_drop(player);
+    return pcm;
+}
+
+static void at_random(unsigned long run, const unsigned char *text, size_t text_size, const unsigned char *bytes,
+                      size_t size, const unsigned char *pcm, size_t have, dsdarc_status verdict) {
+    dsdarc_player *player, *none;
+    dsdarc_info info = {0};
+    size_t at = 0, taken, given, place = 0, frame = 0, most = 1 + below(below(2) ? 70000 : 300);
+    uint64_t offset;
+    int sought = 0, told = 0;
+    dsdarc_status status = dsdarc_player_new(text, text_size, &player);
+    if (status != DSDARC_OK) {
+        if (status != verdict || player) fail("another status of new", run);
+        return;
+    }
+    for (unsigned long call = 0; call < 100000; call++) {
+        size_t kind = below(20);
+        if (kind < 9) {
+            size_t step = 1 + below(most);
+            void *piece;
+            if (step > size - at) step = size - at;
+            piece = copied(bytes + at, step);
+            status = dsdarc_player_push(player, piece, step, &taken);
+            free(piece);
+            if (status != DSDARC_OK) {
+                if (!sought && status != verdict) fail("another fault of push", run);
+                if (dsdarc_player_push(player, bytes, 0, &taken) != DSDARC_AFTER_FAULT && status != DSDARC_MEMORY)
+                    fail("taken after a fault", run);
+                break;
+            }
+            if (taken > step) fail("too many taken", run);
+            at += taken;
+        } else if (kind < 17 && told) {
+            size_t frames = below(most);
+            int as_numbers = below(3) == 0;
+            size_t size_of = frames * info.channels * (as_numbers ? 4 : info.width / 8);
+            unsigned char *to = malloc(size_of ? size_of : 1);
+            if (dsdarc_player_pull(player, to, frames, as_numbers ? DSDARC_S32 : DSDARC_PACKED, &given) != DSDARC_OK)
+                fail("a pull is refused", run);
+            if (given > frames) fail("too many given", run);
+            if (place + given * frame > have) fail("more frames than there are", run);
+            for (size_t n = 0; n < given * info.channels; n++) {
+                size_t wide = info.width / 8;
+                const unsigned char *is = pcm + place + n * wide;
+                int32_t number = is[wide - 1] < 128 ? is[wide - 1] : (int32_t)is[wide - 1] - 256, found;
+                for (size_t k = wide - 1; k-- > 0;) number = number * 256 + is[k];
+                if (as_numbers ? (memcpy(&found, to + 4 * n, 4), found != number) : memcmp(to + n * wide, is, wide) != 0)
+                    fail("another sample", run);
+            }
+            place += given * frame;
+            free(to);
+        } else if (kind == 17 && told && below(4) == 0) {
+            uint64_t to = below(info.frames + 3);
+            status = dsdarc_player_seek(player, to, &offset);
+            if (to > info.frames ? status != DSDARC_BEHIND_END : status != DSDARC_OK) fail("a seek", run);
+            if (status == DSDARC_OK) {
+                if (to * frame > have) break; /* behind a fault: nothing to compare with */
+                place = to * frame, at = offset < size ? (size_t)offset : size, sought = 1;
+            }
+        } else if (kind == 18) {
+            if (dsdarc_player_push(NULL, bytes, size, &taken) != DSDARC_NULL ||
+                dsdarc_player_push(player, NULL, 1, &taken) != DSDARC_NULL ||
+                dsdarc_player_push(player, bytes, 0, NULL) != DSDARC_NULL ||
+                dsdarc_player_push(player, bytes, SIZE_MAX, &taken) != DSDARC_SIZE ||
+                dsdarc_player_pull(player, NULL, 1, DSDARC_S32, &given) != DSDARC_NULL ||
+                dsdarc_player_pull(player, &given, 1, (dsdarc_format)7, &given) != DSDARC_SIZE ||
+                dsdarc_player_info(player, NULL) != DSDARC_NULL || dsdarc_player_seek(player, 0, NULL) != DSDARC_NULL ||
+                dsdarc_player_end(NULL) != DSDARC_NULL || dsdarc_player_new(NULL, 1, &none) != DSDARC_NULL ||
+                none || dsdarc_player_new(text, text_size, NULL) != DSDARC_NULL)
+                fail("a null pointer or a size", run);
+            dsdarc_player_drop(none);
+        } else if (!told) {
+            told = dsdarc_player_info(player, &info) == DSDARC_OK;
+            frame = (size_t)info.width / 8 * info.channels;
+        }
+        if (at == size && told && place == have && below(8) == 0) {
+            /* Bytes behind the sound may still be taken. */
+            status = dsdarc_player_end(player);
+            if (!sought && status != verdict) fail("another verdict", run);
+            break;
+        }
+    }
+    dsdarc_player_drop(player);
+}
+
+int main(int count, char **words) {
+    unsigned long runs = count > 2 ? strtoul(words[2], NULL, 10) : 0, played = 0;
+    size_t text_size;
+    unsigned char *text;
+    if (count < 5) return 3;
+    state = strtoull(words[1], NULL, 10) * 0x9E3779B97F4A7C15u + 1;
+    text = whole(words[3], &text_size);
+    for (unsigned long run = 0; run < runs; run++) {
+        size_t size, have;
+        dsdarc_status verdict;
+        unsigned char *made = whole(words[4 + below((size_t)count - 4)], &size), *bytes, *pcm, *own;
+        size_t text_now = text_size;
+        for (size_t change = below(2) ? 1 + below(3) : 0; change > 0 && size > 0; change--)
+            made[below(below(2) && size > 160 ? 160 : size)] = (unsigned char)below(256);
+        if (below(6) == 0) size = below(size + 1);
+        bytes = copied(made, size);
+        own = copied(text, text_size);
+        if (below(50) == 0) own[below(text_size)] = (unsigned char)below(256);
+        if (below(200) == 0) text_now = below(text_size);
+        pcm = reference(own, text_now, bytes, size, &have, &verdict);
+        played += verdict == DSDARC_OK;
+        at_random(run, own, text_now, bytes, size, pcm, have, verdict);
+        free(made), free(bytes), free(pcm), free(own);
+    }
+    free(text);
+    printf("%lu runs, %lu of files that are played\n", runs, played);
+    return 0;
+}

@@ -16,4 +16,4 @@ mod words;
 
 pub use fault::WordsFault;
 pub use task::Task;
-pub use words::task_of;
+pub use words::{COMMANDS, task_of};

@@ -26,6 +26,7 @@
 #![tactic(auto)]
 
 mod ending;
+mod explaining;
 mod judging;
 mod masters;
 mod outcome;

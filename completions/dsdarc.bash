@@ -53,14 +53,18 @@ _dsdarc_words() {
 }
 
 _dsdarc() {
-    local cur=${COMP_WORDS[COMP_CWORD]} command=${COMP_WORDS[1]-}
+    local cur=${COMP_WORDS[COMP_CWORD]} first=1
+    # The word that asks to explain stands before the command.
+    if [ "${COMP_WORDS[1]-}" = --explain ] && [ "$COMP_CWORD" -gt 1 ]; then first=2; fi
+    local command=${COMP_WORDS[first]-} place=$((COMP_CWORD - first + 1))
     COMPREPLY=()
-    if [ "$COMP_CWORD" -eq 1 ]; then
+    if [ "$place" -eq 1 ]; then
         compopt +o filenames +o default 2>/dev/null
-        _dsdarc_words info convert play edit check sum --help --version
+        _dsdarc_words info convert play edit check sum
+        if [ "$first" -eq 1 ]; then _dsdarc_words --explain --help --version; fi
         return
     fi
-    case "$command:$COMP_CWORD" in
+    case "$command:$place" in
         convert:2 | edit:2) compopt +o filenames 2>/dev/null; _dsdarc_words dsdiff dsf dsf8 ;;
         play:2 | edit:3 | check:2) _dsdarc_project "$command" ;;
         info:2 | convert:3 | play:3 | check:3)

@@ -15,6 +15,7 @@ import restore  # noqa: E402
 import room  # noqa: E402
 import tagging  # noqa: E402
 import waves  # noqa: E402
+from explained import lines_of  # noqa: E402
 from names import KINDS, SETTINGS, TABLE, keep, load, remove, result, shown, sum_line, sum_of  # noqa: E402
 from program import PROGRAM  # noqa: E402
 
@@ -61,13 +62,14 @@ def note_of(step, key, form):
 
 def look(key):
     """What the program tells of a file, or the fault that it is refused for, and the sum of its bytes."""
-    status, text = run("info", source_of(key))
+    status, text = run("--explain", "info", source_of(key))
+    fault, *more = lines_of(text, source_of(key)) or [""]
     if status == 0:
         lines = [line.split(" ", 1) for line in text.splitlines()]
         told = {word: value for word, value in lines if word not in ("mark", "ids")}
         found = {word: value if word == "form" else int(value) for word, value in told.items()}
-    elif status in (2, 3) and text != "fault: Memory":
-        found = {"fault": text.removeprefix("fault: ")}
+    elif status in (2, 3) and fault != "fault: Memory":
+        found = {"fault": fault.removeprefix("fault: "), "why": more}
     else:
         sys.exit(f"{text or f'status {status}'}: {entry_of(key)['name']!r}")
     keep(look_of(key), found | {"sha256": sum_of(source_of(key))})
@@ -176,6 +178,7 @@ def plan():
             }
         )
         lines += [f"{step}\t{fault}\t{shown(entry['name'])}\n" for step, fault in faults.items() if fault]
+        lines += [f"\t{line}\n" for line in found.get("why", ())]
         steps[key] = {
             "convert": "info" not in faults and not faults["convert"],
             "play": "info" not in faults and not faults["play"],

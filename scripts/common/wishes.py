@@ -6,6 +6,7 @@ import struct
 import subprocess
 
 import channels
+from explained import lines_of
 from outputs import Refused
 from program import PROGRAM, ROOT
 
@@ -82,9 +83,9 @@ def by_rates(text, is_louder=False):
     return found
 
 
-def asked(words, **how):
+def asked(words, options=(), **how):
     try:
-        return subprocess.run([PROGRAM, "info", *words], check=False, **how)
+        return subprocess.run([PROGRAM, *options, "info", *words], check=False, **how)
     except OSError as error:
         raise Refused(f"no program runs: {PROGRAM}: {error.strerror}") from None
 
@@ -103,10 +104,11 @@ def rate_in_head(name):
 
 
 def rate_of(name):
-    """The rate in which a file is stored, as the program reports it."""
-    reported = asked([f"./{name}" if name.startswith("-") and name != "-" else name], capture_output=True)
+    """The rate in which a file is stored, as the program reports it; of one that it refuses, the fault and why."""
+    word = f"./{name}" if name.startswith("-") and name != "-" else name
+    reported = asked([word], ("--explain",), capture_output=True)
     for line in reported.stdout.decode().splitlines() if reported.returncode == 0 else ():
         if line.startswith("rate "):
             return int(line[5:])
-    said = reported.stderr.decode(errors="replace").splitlines()
-    raise Refused(said[-1] if said else f"the program ended with status {reported.returncode}")
+    said = lines_of(reported.stderr.decode(errors="replace"))
+    raise Refused("\n".join(said) or f"the program ended with status {reported.returncode}")

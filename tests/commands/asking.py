@@ -21,9 +21,10 @@ EDIT = "edit dsdiff e.toml m.dff c.cert"
 CHECK = "check e.toml m.dff c.cert"
 
 # A command line, its words behind the program's name, or none where there is no name either; the status, the line that is
-# printed, on standard output where the status is 0 or 1 and else on standard error, the files that are made, and what is
-# printed on standard output before a fault.
-Step = namedtuple("Step", "words status line made before", defaults=(NONE, ""))
+# printed, on standard output where the status is 0 or 1 and else on standard error, and the files that are made. Then the
+# line that explains it, on standard error, or nothing; `{folder}` in it is the folder that the command line is run in. Last
+# what is printed on standard output before a fault.
+Step = namedtuple("Step", "words status line made why before", defaults=(NONE, "", ""))
 
 # The files that are there, and command lines one after the other.
 Case = namedtuple("Case", "files steps")
@@ -79,8 +80,9 @@ def wrong_in(step, folder, stands):
     ran = subprocess.run(
         words, executable=PROGRAM, cwd=folder, stdin=subprocess.DEVNULL, capture_output=True, check=False
     )
-    line = step.line.encode() + b"\n"
+    line, why = step.line.encode() + b"\n", step.why.replace("{folder}", os.path.realpath(folder))
     out, err = (line, b"") if step.status < 2 else (step.before.encode(), line)
+    err += why.encode() + b"\n" if why else b""
     if ran.returncode != step.status:
         yield f"status {ran.returncode}, not {step.status}"
     if ran.stdout != out:

@@ -30,6 +30,7 @@
 #![tactic(auto)]
 
 mod ending;
+mod explaining;
 mod judging;
 mod listing;
 mod masters;

@@ -2,11 +2,12 @@
 
 ghost use Rattle.command_core.specs.Commands.{ComesTo};
 
+use crate::explaining::{Shown, asks_to_explain, explain_outcome};
 use crate::outcome::{Outcome, outcome_line, status};
 use crate::performing::perform;
 use crate::sums::{Watch, run_sums};
 use archive_core::Fault;
-use disk_core::Disk;
+use disk_core::{Disk, Failure};
 use folder_core::{Folder, WatchedFolder};
 use std::alloc::Global;
 use std::io;
@@ -22,6 +23,7 @@ use words_core::{sum_task_of, task_of};
 /// What was done or judged goes to standard output, a fault to standard error. If standard output is a file that was
 /// written, what was done goes to standard error; if that is the same file, it isn't printed. `process` is the number
 /// of the process. If `is_watched` is set, standard error shows how far a file is read that takes more than a second.
+/// If it is set, or the first word is `--explain`, a fault and a rejection are explained by one more line there.
 pub fn run_program<R: Env + Files + Clock + Input + Print + Eprint + AllocGlobal>(
     rt: &R,
     process: u32,
@@ -30,27 +32,73 @@ pub fn run_program<R: Env + Files + Clock + Input + Print + Eprint + AllocGlobal
 where
     R::File: AsFd,
 {
-    let (outcome, answers) = match given_words(rt) {
-        Ok(words) => match sum_task_of(rt.alloc(), words.as_slice()) {
-            Ok(Some(task)) => {
-                return ExitCode::from(run_sums(
-                    rt,
-                    &task,
-                    Watch {
-                        process,
-                        is_watched,
-                    },
-                ));
-            }
-            Ok(None) => run_on_disk(rt, words.as_slice(), process, is_watched),
-            Err(fault) => (fault.into(), Answers::ToOutput),
-        },
-        Err(error) if error.kind() == io::ErrorKind::OutOfMemory => {
-            (Fault::Memory.into(), Answers::ToOutput)
-        }
-        Err(_) => (Outcome::WrongWords, Answers::ToOutput),
+    let is_asked = asks_to_explain(rt);
+    let watch = Watch {
+        process,
+        is_watched,
     };
-    ExitCode::from(status(&tell(rt, outcome, answers)))
+    let (words, ran) = match given_words(rt, is_asked) {
+        Ok(words) => match ran_by(rt, words.as_slice(), watch) {
+            Came::Ran(ran) => (Some(words), ran),
+            Came::Summed(status) => return ExitCode::from(status),
+        },
+        Err(error) => (None, not_run(&error)),
+    };
+    let told = tell(rt, ran.outcome, ran.answers);
+    if is_watched || is_asked {
+        explain_outcome(rt, words.as_ref(), &told, ran.failure);
+    }
+    ExitCode::from(status(&told.outcome))
+}
+
+// What came of the words, where it is told, and why a file could not be made.
+#[derive(Drop)]
+struct Ran {
+    outcome: Outcome,
+    answers: Answers,
+    failure: Option<Failure>,
+}
+
+// What came of the words: an outcome that is to be printed, or the status of `sum`, which prints its lines itself.
+#[derive(Drop)]
+enum Came {
+    Ran(Ran),
+    Summed(u8),
+}
+
+// Does what the words ask for.
+fn ran_by<R: Files + Clock + Input + Print + Eprint + AllocGlobal>(
+    rt: &R,
+    words: &[String],
+    watch: Watch,
+) -> Came
+where
+    R::File: AsFd,
+{
+    match sum_task_of(rt.alloc(), words) {
+        Ok(Some(task)) => Came::Summed(run_sums(rt, &task, watch)),
+        Ok(None) => Came::Ran(run_on_disk(rt, words, watch.process, watch.is_watched)),
+        Err(fault) => Came::Ran(not_done(fault.into())),
+    }
+}
+
+// No words could be read.
+fn not_run(error: &io::Error) -> Ran {
+    let outcome = if error.kind() == io::ErrorKind::OutOfMemory {
+        Fault::Memory.into()
+    } else {
+        Outcome::WrongWords
+    };
+    not_done(outcome)
+}
+
+// Nothing was done with the disk.
+fn not_done(outcome: Outcome) -> Ran {
+    Ran {
+        outcome,
+        answers: Answers::ToOutput,
+        failure: None,
+    }
 }
 
 // Where the line of a command that was done goes.
@@ -69,7 +117,7 @@ fn run_on_disk<R: Files + Clock + Input + Print + Eprint + AllocGlobal>(
     words: &[String],
     process: u32,
     is_watched: bool,
-) -> (Outcome, Answers)
+) -> Ran
 where
     R::File: AsFd,
 {
@@ -81,10 +129,17 @@ where
         (true, true) if !is_watched => Answers::Nowhere,
         (true, _) => Answers::ToError,
     };
-    if disk.has_wanted_memory() {
-        return (Fault::Memory.into(), answers);
+    let failure = disk.failure();
+    let outcome = if disk.has_wanted_memory() {
+        Fault::Memory.into()
+    } else {
+        outcome
+    };
+    Ran {
+        outcome,
+        answers,
+        failure,
     }
-    (outcome, answers)
 }
 
 /// Does the command that the words ask for, by [`perform`]. The first word is the program's name. The outcome is the
@@ -98,22 +153,26 @@ pub fn run<F: Folder>(alloc: Global, words: &[String], folder: &mut F) -> Outcom
     }
 }
 
-fn given_words<R: Env + AllocGlobal>(rt: &R) -> io::Result<Vec<String>> {
-    let words: Vec<String> = std::env::args(rt)?.collect(rt.alloc())?;
+// The words without the one that asks to explain.
+fn given_words<R: Env + AllocGlobal>(rt: &R, is_asked: bool) -> io::Result<Vec<String>> {
+    let mut words: Vec<String> = std::env::args(rt)?.collect(rt.alloc())?;
+    if is_asked && words.len() > 1 {
+        let _ = words.remove(1);
+    }
     Ok(words)
 }
 
 // Prints an outcome, and returns the outcome of that. If there is no memory for its line, this is out of memory; if
 // standard output doesn't take the line, it is a failed write. A line on standard error, a fault or what was done, may
 // fail to be written.
-fn tell<R: Print + Eprint + AllocGlobal>(rt: &R, outcome: Outcome, answers: Answers) -> Outcome {
+fn tell<R: Print + Eprint + AllocGlobal>(rt: &R, outcome: Outcome, answers: Answers) -> Shown {
     let Ok(line) = outcome_line(rt.alloc(), &outcome) else {
-        return untold(rt, Fault::Memory.into());
+        return untold(rt, Fault::Memory.into(), None);
     };
     match answers {
         Answers::ToOutput if is_answer(&outcome) => {
-            if println!(rt; "{line}").is_err() {
-                return untold(rt, Outcome::WriteFailed);
+            if let Err(error) = println!(rt; "{line}") {
+                return untold(rt, Outcome::WriteFailed, Some(error));
             }
         }
         Answers::Nowhere if is_answer(&outcome) => {}
@@ -121,7 +180,10 @@ fn tell<R: Print + Eprint + AllocGlobal>(rt: &R, outcome: Outcome, answers: Answ
             let _ = eprintln!(rt; "{line}");
         }
     }
-    outcome
+    Shown {
+        outcome,
+        refusal: None,
+    }
 }
 
 // What was done or judged goes to standard output, a fault to standard error.
@@ -130,9 +192,12 @@ fn is_answer(outcome: &Outcome) -> bool {
 }
 
 // Prints the fault that the outcome was not printed, if there is memory for its line.
-fn untold<R: Eprint + AllocGlobal>(rt: &R, fault: Outcome) -> Outcome {
+fn untold<R: Eprint + AllocGlobal>(rt: &R, fault: Outcome, refusal: Option<io::Error>) -> Shown {
     if let Ok(line) = outcome_line(rt.alloc(), &fault) {
         let _ = eprintln!(rt; "{line}");
     }
-    fault
+    Shown {
+        outcome: fault,
+        refusal,
+    }
 }

@@ -35,6 +35,26 @@ pub struct Disk<'a, R: Files> {
     held: Option<Held>,
     wanted_memory: bool,
     has_used_output: bool,
+    has_kept: bool,
+    failure: Option<Failure>,
+}
+
+/// Why a file could not be created, written or put in its place.
+#[derive(Clone, Copy)]
+pub struct Failure {
+    /// Which file it was.
+    pub step: Step,
+    /// What the system said.
+    pub error: Error,
+}
+
+/// Which of the files that a command makes.
+#[derive(Clone, Copy)]
+pub enum Step {
+    /// The first.
+    First,
+    /// One after the first, or one whose place was to be held for later.
+    Second,
 }
 
 // A name, and where its file goes.
@@ -55,6 +75,8 @@ impl<'a, R: Files + AllocGlobal> Disk<'a, R> {
             held: None,
             wanted_memory: false,
             has_used_output: false,
+            has_kept: false,
+            failure: None,
         }
     }
 }
@@ -75,10 +97,29 @@ impl<'a, R: Files> Disk<'a, R> {
         self.opened.is_shared()
     }
 
+    /// Why a file could not be created, written or put in its place, the first that could not.
+    pub fn failure(&self) -> Option<Failure> {
+        self.failure
+    }
+
     // The fault of an error. It is remembered if the error is out of memory.
     fn fault_of(&mut self, error: Error) -> FolderFault {
         self.wanted_memory |= error.kind() == ErrorKind::OutOfMemory;
         FolderFault
+    }
+
+    // Remembers why a file that is made failed.
+    fn remember(&mut self, step: Step, error: Error) {
+        self.failure = self.failure.or(Some(Failure { step, error }));
+    }
+
+    // Which file is being made.
+    fn step(&self) -> Step {
+        if self.has_kept {
+            Step::Second
+        } else {
+            Step::First
+        }
     }
 }
 
@@ -144,14 +185,20 @@ where
                 self.held = Some(held);
                 Ok(())
             }
-            Err(error) => Err(self.fault_of(error)),
+            Err(error) => {
+                self.remember(Step::Second, error);
+                Err(self.fault_of(error))
+            }
         }
     }
 
     fn create(&mut self, name: &str) -> Result<DiskFile<R::File, Printer<'a, R>>, FolderFault> {
         match self.create_file(name) {
             Ok(file) => Ok(file),
-            Err(error) => Err(self.fault_of(error)),
+            Err(error) => {
+                self.remember(self.step(), error);
+                Err(self.fault_of(error))
+            }
         }
     }
 
@@ -161,12 +208,23 @@ where
         out: DiskFile<R::File, Printer<'a, R>>,
     ) -> Result<(), FolderFault> {
         let _ = name;
-        out.put_in_place(self.rt).map_err(|_| FolderFault)
+        match out.put_in_place(self.rt) {
+            Ok(()) => {
+                self.has_kept = true;
+                Ok(())
+            }
+            Err(error) => {
+                self.remember(self.step(), error);
+                Err(FolderFault)
+            }
+        }
     }
 
     // An old file stays. If there is none, the new one gets the name.
     fn give_up(&mut self, name: &str, out: DiskFile<R::File, Printer<'a, R>>) {
         let _ = name;
-        out.give_up(self.rt);
+        if let Some(error) = out.give_up(self.rt) {
+            self.remember(self.step(), error);
+        }
     }
 }

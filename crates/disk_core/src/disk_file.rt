@@ -5,7 +5,7 @@ ghost use Rattle.std.specs.Io.{WritesAtMost};
 use crate::direct::Direct;
 use crate::places::Target;
 use std::fs::OpenFile;
-use std::io::{ErrorKind, Write};
+use std::io::{Error, ErrorKind, Write};
 use std::rt::Files;
 use std::{fs, io};
 
@@ -13,7 +13,8 @@ use std::{fs, io};
 /// [`give_up`](folder_core::Folder::give_up).
 pub struct DiskFile<F, O> {
     destination: Destination<F, O>,
-    has_failed: bool,
+    // Why the first write that failed did.
+    failure: Option<Error>,
 }
 
 // Where the bytes go.
@@ -61,7 +62,7 @@ impl<F, O> DiskFile<F, O> {
     fn to(destination: Destination<F, O>) -> Self {
         DiskFile {
             destination,
-            has_failed: false,
+            failure: None,
         }
     }
 }
@@ -71,39 +72,59 @@ impl<F: Write + OpenFile + Drop, O: Write + Drop> DiskFile<F, O> {
     pub(crate) fn put_in_place<R: Files>(self, rt: &R) -> io::Result<()> {
         let DiskFile {
             destination,
-            has_failed,
+            failure,
         } = self;
         match destination {
-            Destination::Beside(file, beside) => beside.end(rt, &file, has_failed),
+            Destination::Beside(file, beside) => beside.end(rt, &file, failure),
             Destination::InPlace(mut stands) => stands.end(),
             Destination::Output(mut output) => output.flush(),
         }
     }
 
-    // Gives the file its name if no other has it, or else removes what was written.
-    pub(crate) fn give_up<R: Files>(self, rt: &R) {
+    // Gives the file its name if no other has it, or else removes what was written. Returns why a write failed.
+    pub(crate) fn give_up<R: Files>(self, rt: &R) -> Option<Error> {
         let DiskFile {
             destination,
-            has_failed,
+            failure,
         } = self;
         let _ = match destination {
             Destination::Beside(file, beside) => {
-                let has_failed = has_failed || beside.target.is_there();
-                beside.end(rt, &file, has_failed)
+                let is_there = beside.target.is_there();
+                let old_stays = if is_there { Some(untaken()) } else { None };
+                beside.end(rt, &file, failure.or(old_stays))
             }
             Destination::InPlace(mut stands) => stands.file.flush(),
             Destination::Output(mut output) => output.flush(),
         };
+        failure
     }
+}
+
+impl<F, O> DiskFile<F, O> {
+    // Remembers a write that took nothing of some bytes.
+    fn remember_count(&mut self, count: usize, buf: &[u8]) {
+        if count == 0 && !buf.is_empty() {
+            self.failure = self.failure.or(Some(untaken()));
+        }
+    }
+}
+
+// The error of a write that took nothing.
+fn untaken() -> Error {
+    Error::from(ErrorKind::WriteZero)
 }
 
 impl Beside {
     // Puts what was written in the place of its target, or removes it if a write failed or it can't be put there.
-    fn end<R: Files>(&self, rt: &R, file: &impl OpenFile, has_failed: bool) -> io::Result<()> {
-        let put = if has_failed {
-            Err(io::Error::from(ErrorKind::WriteZero))
-        } else {
-            self.replace(rt, file)
+    fn end<R: Files>(
+        &self,
+        rt: &R,
+        file: &impl OpenFile,
+        failure: Option<Error>,
+    ) -> io::Result<()> {
+        let put = match failure {
+            Some(error) => Err(error),
+            None => self.replace(rt, file),
         };
         if put.is_err() {
             let _ = fs::remove_file(rt, self.leftover.as_str());
@@ -166,11 +187,11 @@ impl<F: Write + OpenFile, O: Write> Write for DiskFile<F, O> {
     fn write(&mut self, buf: &[u8]) -> io::Result<usize> {
         match self.destination.write(buf) {
             Ok(count) => {
-                self.has_failed |= count == 0 && !buf.is_empty();
+                self.remember_count(count, buf);
                 Ok(count)
             }
             Err(error) => {
-                self.has_failed = true;
+                self.failure = self.failure.or(Some(error));
                 Err(error)
             }
         }

@@ -21,6 +21,6 @@ mod leftovers;
 mod opened;
 mod places;
 
-pub use disk::Disk;
+pub use disk::{Disk, Failure, Step};
 pub use disk_file::DiskFile;
 pub use disk_input::DiskInput;

@@ -19,4 +19,4 @@ mod words;
 pub use fault::WordsFault;
 pub use sums::{SumTask, sum_task_of};
 pub use task::Task;
-pub use words::task_of;
+pub use words::{COMMANDS, task_of};

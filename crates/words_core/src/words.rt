@@ -11,8 +11,8 @@ use clap::{Arg, ArgAction, ArgMatches, Command, Error};
 use form_core::{Form, form_named};
 use std::alloc::{AllocError, Global};
 
-// The commands but `sum`, each with the names of its words in order.
-const COMMANDS: [(&str, &[&str]); 5] = [
+/// The commands but `sum`, each with the names of its words in order.
+pub const COMMANDS: [(&str, &[&str]); 5] = [
     ("info", &["FILE"]),
     ("convert", &["FORM", "IN", "OUT"]),
     ("play", &["PROJECT", "IN", "OUT"]),

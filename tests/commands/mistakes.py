@@ -1,0 +1,497 @@
+"""Mistakes that are easily made, and the line that explains each behind its fault: what it was, and what would fit.
+
+Each is asked twice: with `--explain`, and without, where the answer, the status and the files are the same and no line
+follows. What needs more than small files is in tests/try_explained."""
+import struct
+
+from asking import CHECK, EDIT, Case, Step
+from dsdiffs import chunk, dsdiff
+from small_files import (
+    CERT,
+    DECIMATE,
+    FILE,
+    FREE,
+    LEAST,
+    MASTER,
+    NINE,
+    RATE,
+    TITLED,
+    TO_PLAY,
+    TWICE,
+    UNDIVIDED,
+    WAVE,
+    changed,
+    dsf,
+    mono,
+    splice,
+    stereo,
+    to_check,
+    to_cut,
+)
+
+# More than two megabytes of sound, of which the end is missing.
+LONG_CUT = mono(bytes(2_153_286))[:2_000_000]
+
+# Files that are no recordings, the fault of `info`, and what is seen. In `FILE` the type of compression is at 95, the
+# sound's size ends at 125 and its only byte is at 126; in `LEAST` the tag's place is at 20, the version at 40, the rate
+# at 56, and a byte of the sound at 92.
+FILES = (
+    (b"", "UnknownForm", "it is empty"),
+    (FILE[:15], "UnknownForm", "it has only 15 bytes"),
+    (b"fLaC".ljust(40, b"\0"), "UnknownForm", 'it begins with "fLaC": a FLAC file, not a DSDIFF or DSF file'),
+    (WAVE, "UnknownForm", 'it begins with "RIFF": a WAVE file, not a DSDIFF or DSF file'),
+    (CERT, "UnknownForm", 'it begins with "DSPC": a certificate, not a DSDIFF or DSF file'),
+    (DECIMATE, "UnknownForm", 'it begins with "[dec": a text, not a DSDIFF or DSF file'),
+    (bytes(40), "UnknownForm", "it begins with 00 00 00 00, which no DSDIFF or DSF file does"),
+    (
+        chunk(b"FRM8", b"DST " + bytes(8)),
+        "UnknownForm",
+        'it begins with "FRM8", but as a form of the type "DST ", not "DSD "',
+    ),
+    (FILE[:126], "Dsdiff FormCut", "the file ends 2 bytes early, at byte 126: fetch it again"),
+    (LONG_CUT, "Dsdiff FormCut", "the file ends 153 kB early, at byte 2,000,000: fetch it again"),
+    (
+        changed(FILE, 125, 100),
+        "Dsdiff Chunk DataCut 114",
+        'the chunk "DSD " at byte 114 lacks 98 bytes, for what holds it ends at byte 128: fetch it again',
+    ),
+    (
+        changed(FILE, 96, ord("T")),
+        "Dsdiff Compressed",
+        'its sound is compressed ("DST "): unpack it with another tool first',
+    ),
+    (TWICE, "Dsdiff Twice 46532020", 'it has the chunk "FS  " twice'),
+    (
+        mono(b"\xf0", chunk(b"DIIN", chunk(b"MARK", bytes(21)))),
+        "Dsdiff BadMark",
+        "a mark (MARK) is shorter than its fields or the text that it names",
+    ),
+    (
+        changed(FILE, 28, 2),
+        "Dsdiff BadVersion",
+        "its version is 2.5.0.0, and only 1 is known: write it anew as DSDIFF 1.5",
+    ),
+    (
+        dsdiff(44_100, 1, b"\xf0"),
+        "Dsdiff BadRate",
+        "its rate is 44,100 Hz, and 1,000,000 to 50,000,000 Hz are supported",
+    ),
+    (
+        stereo(b"\xf0"),
+        "Dsdiff PartFrame",
+        "its sound has 1 byte for 2 channels, which leaves 1 byte: fetch it again",
+    ),
+    (LEAST[:91], "Dsf HeadCut", "the file ends inside its headers, at byte 91: fetch it again"),
+    (b"DSD ", "Dsf HeadCut", "the file ends inside its headers, at byte 4: fetch it again"),
+    (changed(LEAST, 28, 0), "Dsf BadFormat", "its second chunk is 00 6d 74 20 with 52 bytes, not \"fmt \" with 52"),
+    (changed(LEAST, 40, 2), "Dsf BadVersion", "its version is 2, and only 1 is known: write it anew"),
+    (changed(LEAST, 52, 8), "Dsf BadChannelNumber", "it has 8 channels, and 1 to 6 are supported"),
+    (dsf(2, 1, b"\x0f"), "Dsf BadBits", "it has 2 bits per sample, and 1 and 8 are known"),
+    (
+        dsf(1, 1, b"\x0f", size=4095),
+        "Dsf DataCut",
+        "only the fill of the last block is missing (1 byte): tools/mend_dsf IN OUT writes a copy that can be read",
+    ),
+    (
+        dsf(1, 32_768, b"\x0f", size=4000),
+        "Dsf DataCut",
+        "the file ends 96 bytes early, at byte 4,092: fetch it again",
+    ),
+    (
+        LEAST[:20] + struct.pack("<Q", 5000) + LEAST[28:],
+        "Dsf BadPointer",
+        "its tag is said to begin at byte 5,000; the sound ends at 4,188, and the file at 4,188: write the tag anew",
+    ),
+)
+
+# Of these, the faults that `play` meets before it writes anything.
+BEFORE = ("UnknownForm", "Compressed", "BadVersion", "BadRate", "HeadCut", "BadFormat", "BadChannelNumber", "BadBits")
+
+# Project texts for `play`, and why.
+FILTERS = (
+    (b"# A filter.\n[decimate\n", "NotToml", "line 2: unclosed table, expected `]`"),
+    (b"\xff", "NotToml", "it is not UTF-8"),
+    (
+        DECIMATE.replace(b"taps", b"tapz"),
+        "UnknownKey",
+        '"tapz" in line 2 is no key of the table "decimate"; did you mean "taps"?',
+    ),
+    (
+        DECIMATE.replace(b"factor = 8", b"factor = 12"),
+        "OutOfLimit factor",
+        '"factor" in line 3 is 12, and has to be a multiple of 8, from 8 to 1024',
+    ),
+    (
+        DECIMATE.replace(b"factor = 8", b"factor = '8'"),
+        "WrongKind factor",
+        '"factor" in line 3 is "8", and has to be a multiple of 8, from 8 to 1024',
+    ),
+    (
+        DECIMATE.replace(b"width = 16\n", b""),
+        "MissingKey width",
+        'the table "decimate" in line 1 has no "width": 16 or 24',
+    ),
+    (FILE, "NotToml", "it is a recording; PROJECT comes before the recordings"),
+)
+
+# A splice, line by line.
+TEXT = b"""[splice]
+weights = [1, 1]
+takes = ["a.dff", "b.dff"]
+
+[[splice.cue]]
+take = 0
+start = 0
+stop = 8
+bridge = 1
+
+[[splice.cue]] # the second
+take = 1
+start = 2
+stop = 9
+"""
+
+# What stands in it in place of what, and why.
+SLIPS = (
+    (
+        b"weights",
+        b"weigths",
+        "UnknownKey",
+        '"weigths" in line 2 is no key of the table "splice"; did you mean "weights"?',
+    ),
+    (
+        b"weights =",
+        b"taps = 1\nweights =",
+        "UnknownKey",
+        '"taps" in line 2 is no key of the table "splice"; it belongs to the table "decimate"',
+    ),
+    (
+        b"weights =",
+        b"gain = 1\nweights =",
+        "UnknownKey",
+        '"gain" in line 2 is no key of the table "splice"; its keys are weights, takes, cue',
+    ),
+    (
+        b"[splice]",
+        b"[splices]",
+        "UnknownKey",
+        '"splices" in line 1 is no key of the document; did you mean "splice"?',
+    ),
+    (
+        b"start = 2",
+        b"begin = 2",
+        "UnknownKey",
+        '"begin" in line 13 is no key of a cue; its keys are take, start, stop, bridge, target, line, title',
+    ),
+    (
+        b"start = 2\n",
+        b"",
+        "MissingKey start",
+        'cue 1 in line 11 has no "start": a whole number from 0 to 68,719,476,736',
+    ),
+    (
+        b"start = 2",
+        b"start = 2.0",
+        "WrongKind start",
+        '"start" in line 13 is of the kind float, and has to be a whole number from 0 to 68,719,476,736',
+    ),
+    (
+        b"bridge = 1",
+        b"bridge = 4097",
+        "OutOfLimit bridge",
+        '"bridge" in line 9 is 4097, and has to be a whole number from 0 to 4096',
+    ),
+    (
+        b"[1, 1]",
+        b"[4096, 1]",
+        "OutOfLimit weights",
+        '"weights" in line 2 is an array of 2, and has to be 2 to 12 whole numbers, with an absolute sum of at '
+        'most 4096',
+    ),
+    (
+        b"bridge = 1",
+        b'bridge = 1\ntarget = "Line"',
+        "OutOfLimit target",
+        '"target" in line 10 is "Line", and has to be "fade" or "line"',
+    ),
+    (
+        b"bridge = 1",
+        b"bridge = 1\nline = [1, 0]",
+        "OutOfLimit line",
+        '"line" in line 10 is an array of 2, and has to be two whole numbers from -4096 to 4096, and only with '
+        'target = "line"',
+    ),
+    (b"take = 1", b"take = 2", "NoTake 1", "cue 1 names take 2 in line 12; there are 2, counted from 0"),
+    (
+        b"stop = 9",
+        b"stop = 2",
+        "ShortCue 1",
+        "cue 1 in line 11 is from 2 to 2, 0 bits long; with 2 weights it needs 1 or more",
+    ),
+    (
+        b"stop = 9",
+        b"stop = 9\nbridge = 7",
+        "LastBridge",
+        '"bridge" in line 15 is 7, but cue 1 is the last: take it out',
+    ),
+)
+
+# Folders, command lines, faults, and the lines that explain them.
+OTHERS = (
+    ({}, "info nope.dff", "ReadFailed", "nope.dff (FILE): No such file or directory"),
+    ({}, "info none/nope", "ReadFailed", "none/nope (FILE): No such file or directory; there is no folder none"),
+    ({}, "info .", "ReadFailed", ". (FILE): it is a folder"),
+    ({"a": FILE}, "info a/b", "ReadFailed", "a/b (FILE): Not a directory"),
+    (TO_PLAY, "play nope.toml in.dff out", "ReadFailed", "nope.toml (PROJECT): No such file or directory"),
+    (TO_PLAY, "play p.toml out.wav in.dff", "ReadFailed", "out.wav (IN): No such file or directory"),
+    (
+        {"e.toml": TEXT, "a.dff": FILE},
+        EDIT,
+        "ReadFailed",
+        "b.dff (take 1 of e.toml): No such file or directory; takes are looked up in {folder}",
+    ),
+    (to_cut(TEXT), CHECK, "ReadFailed", "m.dff (MASTER): No such file or directory"),
+    (to_cut(TEXT) | {"m.dff": MASTER}, CHECK, "ReadFailed", "c.cert (CERT): No such file or directory"),
+    (
+        TO_PLAY,
+        "play p.toml in.dff none/out",
+        "WriteFailed",
+        "none/out (OUT): No such file or directory; there is no folder none",
+    ),
+    (TO_PLAY, "convert dsf in.dff .", "WriteFailed", ". (OUT): Is a directory"),
+    (TO_PLAY, "convert dsf in.dff /dev/full", "WriteFailed", "/dev/full (OUT): No space left on device"),
+    (
+        {"p.toml": DECIMATE, "in.dsf": NINE},
+        "convert dsdiff in.dsf out",
+        "NotWholeBytes",
+        "in.dsf (IN) has 9 bits per channel, 1 more than whole bytes: convert it to dsf or dsf8",
+    ),
+    ({"e.toml": b""}, EDIT, "NoSplice", "e.toml (PROJECT): it has no table at all"),
+    (
+        {"e.toml": DECIMATE},
+        EDIT,
+        "NoSplice",
+        'e.toml (PROJECT): it is a filter, for play; edit and check want a table "splice"',
+    ),
+    (
+        to_cut(TEXT, second=dsdiff(2 * RATE, 1, b"\0\0")),
+        EDIT,
+        "TakeMismatch 1",
+        "e.toml (PROJECT): a.dff (take 0) has 1 channel at 2,822,400 Hz, and b.dff (take 1) has 1 channel at "
+        "5,644,800 Hz: "
+        "all takes have to be alike",
+    ),
+    (
+        to_cut(TEXT, second=b"fLaC".ljust(16, b"\0")),
+        EDIT,
+        "TakeUnread 1 UnknownForm",
+        'e.toml (PROJECT): b.dff (take 1): it begins with "fLaC": a FLAC file, not a DSDIFF or DSF file',
+    ),
+    (
+        to_cut(TEXT.replace(b"stop = 9", b"stop = 17")),
+        EDIT,
+        "CueOutside 1",
+        "e.toml (PROJECT): cue 1 in line 11 stops at 17; b.dff (take 1) has 16 samples",
+    ),
+    (
+        to_cut(TEXT.replace(b"stop = 9", b"stop = 8")),
+        EDIT,
+        "NotWholeBytes",
+        "e.toml (PROJECT): the cues and bridges have 15 bits together, 7 more than whole bytes: let the last "
+        "cue stop 7 "
+        "earlier or 1 later, or cut the master as dsf",
+    ),
+    (
+        to_cut(TEXT.replace(b"start = 2\nstop = 9", b"start = 1\nstop = 8")),
+        EDIT,
+        "NoRoomBefore 0",
+        "e.toml (PROJECT): cue 1 in line 11 starts at 1; the bridge before it has 1 bit and reads 2 before the "
+        "cue: start "
+        "it at 2 or later, or shorten the bridge",
+    ),
+    (
+        to_cut(TEXT.replace(b"stop = 8", b"stop = 16")),
+        EDIT,
+        "NoRoomAfter 0",
+        "e.toml (PROJECT): cue 0 in line 5 stops at 16; its bridge reads 1 bit after it, and a.dff (take 0) "
+        "has 16: stop "
+        "it at 15 or earlier, or shorten the bridge",
+    ),
+)
+
+ALL_COMMANDS = "the commands are info, convert, play, edit, check; dsdarc --help prints the usage"
+
+# Words that are no command, and why.
+WORDS = (
+    ("", f"no command is named: {ALL_COMMANDS}"),
+    ("plya p.toml in.dff out", '"plya" is no command; did you mean play?'),
+    ("Info in.dff", '"Info" is no command; did you mean info?'),
+    ("record in.dff", f'"record" is no command: {ALL_COMMANDS}'),
+    ("info", "info takes 1 word and got 0; usage: dsdarc info FILE"),
+    ("play in.dff out", "play takes 3 words and got 2; usage: dsdarc play PROJECT IN OUT"),
+    ("edit dsdiff e.toml m.dff", "edit takes 4 words and got 3; usage: dsdarc edit FORM PROJECT MASTER CERT"),
+    ("info -in.dff", "-in.dff begins with -; as a name it is written ./-in.dff; usage: dsdarc info FILE"),
+)
+
+# Forms that aren't known, and why.
+FORMS = (
+    ("dff", "; did you mean dsdiff?"),
+    ("DSF", "; did you mean dsf?"),
+    ("dsf9", "; did you mean dsf?"),
+    ("wav", "; play writes WAVE files"),
+    ("in.dff", ""),
+)
+
+# Words of which one is no text or has what a terminal would act on.
+ODD_WORDS = (
+    (["info", b"caf\xe9\n.dff"], 3, "WrongWords", "a name has to be UTF-8, and caf\\xe9\\n.dff is not"),
+    (
+        ["info", "a\nb\x1b[31m\u202ec"],
+        2,
+        "ReadFailed",
+        "a\\nb\\u{1b}[31m\\u{202e}c (FILE): No such file or directory",
+    ),
+    (
+        ["info", "-"],
+        2,
+        "FileUnread UnknownForm",
+        "the standard stream (FILE): a pipe cannot be looked at again, and what has 2 MiB or more is read "
+        "twice: write it "
+        "to a file first",
+    ),
+)
+
+# Masters that are rejected: the project's files, the master, the certificate, the reason, and why.
+REJECTED = (
+    (
+        splice([1, 1]),
+        mono(b"\x7f\0"),
+        FREE,
+        "CuedBit 0 0",
+        "m.dff (MASTER): bit 0 of channel 0 has to be bit 0 of a.dff (take 0), by cue 0 in line 5",
+    ),
+    (
+        splice([1, 1]),
+        mono(b"\xff\x01"),
+        FREE,
+        "CuedBit 0 15",
+        "m.dff (MASTER): bit 15 of channel 0 has to be bit 8 of b.dff (take 1), by cue 1 in line 11",
+    ),
+    (
+        splice([1, 1]),
+        FILE,
+        FREE,
+        "MasterLength",
+        "m.dff (MASTER) has 8 bits per channel; the cues and bridges have 16 together",
+    ),
+    (
+        splice([1, 1]),
+        dsdiff(2 * RATE, 1, b"\xff\0"),
+        FREE,
+        "MasterShape",
+        "m.dff (MASTER) has 1 channel at 5,644,800 Hz, and a.dff (take 0) 1 channel at 2,822,400 Hz",
+    ),
+    (
+        splice([1, 1]),
+        TITLED,
+        FREE,
+        "MasterMarks",
+        "m.dff (MASTER): its marks are not those of the 0 titles of the project; info prints its marks",
+    ),
+    (splice([1, 1]), b"", FREE, "MasterUnread", "m.dff (MASTER): it is empty"),
+    (
+        splice([1, 1]),
+        mono(b"\xff\x80"),
+        FREE,
+        "Cert 0 Cost",
+        "c.cert (CERT): entry 0 is for channel 0 of the bridge after cue 0 in line 5: the bridge was changed; "
+        "edit again",
+    ),
+    (
+        splice([1, 1]),
+        MASTER,
+        FREE[:30],
+        "Cert 0 Cut",
+        "c.cert (CERT): entry 0 is for channel 0 of the bridge after cue 0 in line 5, and the file ends inside "
+        "it: fetch "
+        "it again, or edit again",
+    ),
+    (
+        splice([1, 1]),
+        MASTER,
+        changed(FREE, 7, 3),
+        "CertHead Head",
+        "c.cert (CERT): it is of version 2, for 3 weights and 1 entry; the project has 2 weights and 1 entry",
+    ),
+    (
+        splice([1, 1]),
+        MASTER,
+        FREE[:11],
+        "CertHead Cut",
+        "c.cert (CERT): it ends inside its head: fetch it again, or edit again",
+    ),
+    (
+        splice([1, 1]),
+        MASTER,
+        FREE + b"\0",
+        "CertExtra",
+        "c.cert (CERT): something was added after its last entry",
+    ),
+)
+
+
+def asked(files, words, status, line, why, made=None):
+    """A command line with `--explain` and without."""
+    words = words.split() if isinstance(words, str) else list(words)
+    made = made or {}
+    yield Case(files, [Step(["--explain", *words], status, line, made, why)])
+    yield Case(files, [Step(words, status, line, made)])
+
+
+def refusals():
+    """All that comes to a fault: its files, words, status, fault, why, and the files that are made."""
+    for data, line, why in FILES:
+        yield {"in": data}, "info in", 2, f"FileUnread {line}", f"in (FILE): {why}", None
+    for data, line, why in FILES:
+        if line.endswith(BEFORE):
+            files = {"in": data, "p.toml": DECIMATE}
+            yield files, "play p.toml in out", 2, "FileRefused", f"in (IN): {why}", {"out": b""}
+    for text, line, why in FILTERS:
+        files, why = {"in": FILE, "p.toml": text}, f"p.toml (PROJECT): {why}"
+        yield files, "play p.toml in out", 2, f"Project {line}", why, {"out": b""}
+    for old, new, line, why in SLIPS:
+        text = TEXT[::-1].replace(old[::-1], new[::-1], 1)[::-1] if old in LAST else TEXT.replace(old, new, 1)
+        yield to_cut(text), EDIT, 2, f"Project {line}", f"e.toml (PROJECT): {why}", None
+    for files, words, line, why in OTHERS:
+        yield files, words, 2, line, why, None
+    why = "p.toml (PROJECT): it is a cue list, for edit and check; the ready filters are in filters/"
+    yield {"in": FILE, "p.toml": TEXT}, "play p.toml in out", 2, "NoDecimation", why, {"out": b""}
+    why = "in (IN) has 2,822,400 Hz, which the factor 1024 of p.toml does not divide: "
+    why += "filters/pick prints the filter that fits a file"
+    yield {"in": FILE, "p.toml": UNDIVIDED}, "play p.toml in out", 2, "RateNotDivided", why, {"out": b""}
+    why = "none/c (CERT): No such file or directory; there is no folder none"
+    yield to_cut(TEXT), "edit dsdiff e.toml m.dff none/c", 2, "WriteFailed", why, {"m.dff": MASTER}
+    for words, why in WORDS:
+        yield {"in.dff": FILE}, words, 3, "WrongWords", why, None
+    for form, more in FORMS:
+        why = f'"{form}" is no form: FORM is dsdiff, dsf or dsf8{more}'
+        yield {"in.dff": FILE}, f"convert {form} in.dff out", 3, "UnknownFormName", why, None
+    for words, status, line, why in ODD_WORDS:
+        yield {"in.dff": FILE}, words, status, line, why, None
+
+
+# What stands in the last cue of the splice, and is changed there.
+LAST = (b"start = 2", b"start = 2\n", b"take = 1", b"stop = 9")
+
+
+def explained_cases():
+    """All mistakes, each as two command lines; and a command that is done, of which nothing is explained."""
+    for files, words, status, line, why, made in refusals():
+        yield from asked(files, words, status, f"fault: {line}", why, made)
+    for project, master, cert, line, why in REJECTED:
+        yield from asked(to_check(master, cert, to_cut(project)), CHECK, 1, f"rejected {line}", why)
+    yield from asked(TO_PLAY, "play p.toml in.dff out", 0, "played 46 bytes", "", {"out": WAVE})
+    # The word that asks to explain stands once, before the command.
+    why = f'"--explain" is no command: {ALL_COMMANDS}'
+    yield Case({"in.dff": FILE}, [Step(["--explain", "--explain", "info", "in.dff"], 3, "fault: WrongWords", {}, why)])
+    yield Case({"in.dff": FILE}, [Step(["info", "--explain", "in.dff"], 3, "fault: WrongWords")])

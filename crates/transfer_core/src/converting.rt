@@ -50,8 +50,8 @@ pub fn convert(alloc: Global, file: &[u8], form: Form) -> Result<Converted, Faul
 
 /// Reads a file of this outline again, and writes the file of the form that holds its recording, with every bit of
 /// every channel. These are the bytes that [`convert`] returns for it. Returns how many parts of the recording have no
-/// place in them. It holds whole groups of the channels' blocks, at most 65,536 bytes of sound, and what is made of
-/// them.
+/// place in them. Of the sound it holds whole groups of the channels' blocks, at most 65,536 bytes, and what is made of
+/// them. It holds what precedes the sound, and what follows it in a DSDIFF form, or the tag of a DSF file, once more.
 ///
 /// Refusals: `NotWholeBytes` if `form` is DSDIFF and the number of bits of each channel isn't a multiple of 8, before
 /// the first read and the first write; `FileRefused` if the file is no sound in the outline, for example because it was

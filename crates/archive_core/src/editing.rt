@@ -12,6 +12,7 @@ use crate::planning::{PlannedMaster, plan_master};
 use chunk_core::Outlet;
 use form_core::Form;
 use judge_core::cut_files;
+use master_core::Unwatched;
 use std::alloc::{AllocError, Global};
 use transfer_core::Fault;
 
@@ -63,7 +64,7 @@ pub fn edit(alloc: Global, project: &[u8], takes: &[Vec<u8>], form: Form) -> Res
         (said_cut project.now (file_bytes takes.now) (Some form))) }
 {
     let cut = cut_files(alloc, project, takes, Some(form))?;
-    let mut planned = plan_master(alloc, cut, form)?;
+    let mut planned = plan_master(alloc, cut, form, &Unwatched {})?;
     let total = planned.total();
     let master = master_of(alloc, &mut planned)?;
     let cert = cert_of(alloc, planned)?;

@@ -43,6 +43,7 @@ pub use editing::{Edited, edit};
 pub use form_core::{Form, Opened, ReadFault, read_any};
 pub use judge_core::{Reason, Verdict, accepted_is_least, check};
 pub use laws::{least_is_accepted, read_in_order};
+pub use master_core::Watch;
 pub use planning::{PlannedMaster, plan_master};
 pub use sound_core::StreamFault;
 pub use transfer_core::{Converted, Fault, convert, play, play_stream, take_names};

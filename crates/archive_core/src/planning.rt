@@ -11,7 +11,7 @@ use chunk_core::{Device, Outlet};
 use cut_core::Cut;
 use form_core::{Ends, Form};
 use master_core::{
-    CertifyingRoom, ChosenBridges, MasterRoom, Planned, certify, plan, write_master,
+    CertifyingRoom, ChosenBridges, MasterRoom, Planned, Watch, certify, plan, write_master,
 };
 use std::alloc::Global;
 use std::io::Write;
@@ -31,10 +31,16 @@ pub struct PlannedMaster {
     cert_room: CertifyingRoom,
 }
 
-/// The master of a cut, before it is written. The cut must be for a file of the form.
+/// The master of a cut, before it is written. The cut must be for a file of the form. The watch is told how far the search
+/// for its bridges has come.
 ///
 /// Refusals: `Memory`; `NotWholeBytes` only for a cut that is not for a file of the form.
-pub fn plan_master(alloc: Global, cut: Cut, form: Form) -> Result<PlannedMaster, Fault>
+pub fn plan_master<W: Watch>(
+    alloc: Global,
+    cut: Cut,
+    form: Form,
+    watch: &W,
+) -> Result<PlannedMaster, Fault>
     ensures planned { IfOk result IsPlanned }
     // It is the plan of a file.
     ensures file { IfOk result (λ planned. (file : List ℕ) × IsFileOf planned file) }
@@ -51,7 +57,7 @@ pub fn plan_master(alloc: Global, cut: Cut, form: Form) -> Result<PlannedMaster,
         ends,
         room,
         cert_room,
-    } = plan(alloc, &cut, form)?;
+    } = plan(alloc, &cut, form, watch)?;
     Ok(PlannedMaster {
         cut,
         form,

@@ -83,7 +83,7 @@ fn edit_files<F: Folder>(
     ensures { EditComesTo (record { form = form; project_name = project.now; master_name = master.now; cert_name = cert.now }) (F.view folder.old) (F.view folder.new) result }
 {
     let sources = hear_sources(alloc, folder, project, MOST_KEPT)?;
-    let mut planned = cut_sources(alloc, sources, form)?;
+    let mut planned = cut_sources(alloc, folder, sources, form)?;
     let total = planned.total();
     write_master(folder, &mut planned, master, cert)?;
     write_certificate(folder, planned, cert)?;

@@ -8,17 +8,31 @@ ghost use Rattle.judge_core.specs.Cutting.{SaysCut, said_cut};
 ghost use Rattle.archive_core.specs.Planning.{IsPlanned, Plans};
 ghost use Rattle.command_core.specs.Sources.{AreHeardOf};
 
-use archive_core::{Fault, Form, PlannedMaster, plan_master};
+use archive_core::{Fault, Form, PlannedMaster, Watch, plan_master};
 use cut_core::Cut;
+use folder_core::Folder;
 use judge_core::cut_heard;
 use std::alloc::Global;
 use transfer_commands::Sources;
 
-/// Plans the master of a project and what it reads of its takes.
+// A folder that shows how far the search for bridges has come.
+#[derive(Drop)]
+struct Shown<'a, F> {
+    folder: &'a F,
+}
+
+impl<F: Folder> Watch for Shown<'_, F> {
+    fn tell(&self, done: usize, all: usize) {
+        self.folder.show_work(done, all);
+    }
+}
+
+/// Plans the master of a project and what it reads of its takes. The folder shows how far the search has come.
 ///
 /// Refusals: the first fault in the takes' files; those of [`plan_master`].
-pub(crate) fn cut_sources(
+pub(crate) fn cut_sources<F: Folder>(
     alloc: Global,
+    folder: &F,
     sources: Sources,
     form: Form,
 ) -> Result<PlannedMaster, Fault>
@@ -31,7 +45,7 @@ pub(crate) fn cut_sources(
         → IfErr result (λ fault. Fails Fault.Memory fault (said_cut project files (Some form))) }
 {
     let cut = cut_of(sources, Some(form))?;
-    plan_master(alloc, cut, form)
+    plan_master(alloc, cut, form, &Shown { folder })
 }
 
 /// The cut of a project and what it reads of its takes, into a file of a form if one is asked for.

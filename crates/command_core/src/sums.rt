@@ -158,11 +158,12 @@ fn shown_name(alloc: Global, name: &str) -> Option<Vec<u8>> {
     Some(shown)
 }
 
-// Prints the fault of a file behind its name, and returns its status.
+// Prints the fault of a file and its name, and returns its status.
 fn tell_fault<R: Eprint + AllocGlobal>(rt: &R, fault: CommandFault, name: &str) -> u8 {
     let outcome = Outcome::from(fault);
-    if let Ok(line) = outcome_line(rt.alloc(), &outcome) {
-        tell_named(rt, &line, name);
+    match outcome_line(rt.alloc(), &outcome) {
+        Ok(line) => tell_named(rt, &line, name),
+        Err(_) => tell_want(rt),
     }
     status(&outcome)
 }
@@ -174,19 +175,32 @@ fn refuse_list<R: Eprint + AllocGlobal>(rt: &R, list: &str, number: usize) -> u8
     } else {
         format!(in rt.alloc(); "fault: ListRefused line {number}")
     };
-    if let Ok(line) = line {
-        tell_named(rt, &line, list);
+    match line {
+        Ok(line) => tell_named(rt, &line, list),
+        Err(_) => tell_want(rt),
     }
     2
 }
 
-// Prints a line and behind two blanks a name on standard error, which may fail.
+// Prints a line and behind two blanks a name on standard error, which may fail. If there is no memory for the name, it
+// is left out.
 fn tell_named<R: Eprint + AllocGlobal>(rt: &R, line: &str, name: &str) {
-    if let Some(shown) = shown_name(rt.alloc(), name) {
-        if let Ok(text) = String::from_utf8_lossy(rt.alloc(), &shown) {
-            let _ = eprintln!(rt; "{line}  {text}");
-        }
-    }
+    let _ = match named_line(rt.alloc(), line, name) {
+        Some(text) => rt.eprintln(&text),
+        None => rt.eprintln(line),
+    };
+}
+
+// A line and behind two blanks a name; None if there is no memory for it.
+fn named_line(alloc: Global, line: &str, name: &str) -> Option<String> {
+    let shown = shown_name(alloc, name)?;
+    let text = String::from_utf8_lossy(alloc, &shown).ok()?;
+    format!(in alloc; "{line}  {text}").ok()
+}
+
+// Prints that there is no memory for a line.
+fn tell_want<R: Eprint>(rt: &R) {
+    let _ = rt.eprintln("fault: Memory");
 }
 
 // Prints that standard output doesn't take a line, and returns the status.

@@ -28,6 +28,12 @@ pub trait Folder {
     // What is known of its files.
     ghost view: { Self → View };
 
+    /// Shows how far work has come that reads and writes no file: so many of all its parts are done. A folder need not
+    /// show it.
+    fn show_work(&self, done: usize, all: usize) {
+        let _ = (done, all);
+    }
+
     /// The file of a name, from its start.
     ///
     /// Refusal: `FolderFault` if there is none that can be read.

@@ -6,8 +6,8 @@
 //! - [`read_file`] reads a file to its end, [`read_files`] several in turn, [`read_short`] only one that is short,
 //!   [`read_whole`] what any reader has left.
 //! - [`write_file`] creates a file and writes it, [`hand_back`] ends one that was written.
-//! - A [`WatchedFolder`] shows on a terminal how far the files of another folder are read, in per cent if their
-//!   [`KnownLength`] is known.
+//! - A [`WatchedFolder`] shows on a terminal how far the files of another folder are read, in per cent with the time left
+//!   if their [`KnownLength`] is known, and how far work has come that [`Folder::show_work`] tells of.
 //!
 //! The words of the contracts, from `specs/Files.antt` but for the last two:
 //!

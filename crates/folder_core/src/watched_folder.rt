@@ -4,13 +4,13 @@ ghost use Rattle.std.specs.Prelude.{◌≡◌};
 ghost use Rattle.folder_core.specs.WatchedFolders.{watched_file, watched_folder};
 
 use crate::folder::{Folder, FolderFault};
-use crate::progress::ProgressLine;
+use crate::progress::{ProgressLine, show_work};
 use std::io;
 use std::io::{Eprint, Read};
 use std::rt::Clock;
 use std::time::Instant;
 
-/// A folder over another that shows how far each file is read. It writes a line to standard error, at most ten times a
+/// A folder over another that shows how far each file is read, and how far work has come. It writes a line to standard error, at most ten times a
 /// second, and clears it when the file is dropped. Nothing is shown in the first second after the folder was made. The
 /// same is known of it as of the other folder.
 #[derive(Drop)]
@@ -70,6 +70,12 @@ where
     type Out = F::Out;
 
     ghost view = { λ w. F.view (watched_folder w) };
+
+    fn show_work(&self, done: usize, all: usize) {
+        if let Some(start) = self.start {
+            show_work(self.rt, start, done as u64, all as u64);
+        }
+    }
 
     fn open(&mut self, name: &str) -> Result<WatchedFile<'a, F::In, R>, FolderFault> {
         let file = self.folder.open(name)?;

@@ -7,6 +7,7 @@ ghost use Rattle.cut_core.specs.Cuts.{channel_number};
 ghost use Rattle.master_core.specs.Choosing as specs;
 ghost use Rattle.master_core.specs.Choosing.{AreBridgesOf, AreChosen, IsChosen, IsChosenAt, IsNoBridge, window_at};
 
+use crate::watch::Watch;
 use cost_core::Window;
 use cut_core::{BridgePlace, Cut};
 use std::alloc::{AllocError, Global};
@@ -39,8 +40,13 @@ struct Choice {
     chosen: Chosen,
 }
 
-/// The bits of least cost for each bridge of a cut; of several such lists the first. Err is out of memory.
-pub(crate) fn choose_bridges(alloc: Global, cut: &Cut) -> Result<ChosenBridges, AllocError>
+/// The bits of least cost for each bridge of a cut; of several such lists the first. The watch is told how many were
+/// searched, before each and at the end. Err is out of memory.
+pub(crate) fn choose_bridges<W: Watch>(
+    alloc: Global,
+    cut: &Cut,
+    watch: &W,
+) -> Result<ChosenBridges, AllocError>
     ensures bridges { IfOk result (AreBridgesOf cut.now) }
     ensures total { IfOk result (λ made. made.total ≡ specs.chosen_cost made.chosen.items) }
 {
@@ -49,6 +55,7 @@ pub(crate) fn choose_bridges(alloc: Global, cut: &Cut) -> Result<ChosenBridges, 
     let mut chosen = Vec::with_capacity(alloc, places.len())?;
     let mut total = 0;
     for k in 0..places.len() {
+        watch.tell(k, places.len());
         let Choice {
             window,
             chosen: bits,
@@ -57,6 +64,7 @@ pub(crate) fn choose_bridges(alloc: Global, cut: &Cut) -> Result<ChosenBridges, 
         windows.push_reserved(window);
         chosen.push_reserved(bits);
     }
+    watch.tell(places.len(), places.len());
     Ok(ChosenBridges {
         places,
         windows,

@@ -1,10 +1,10 @@
 //! Masters of a cut: planned with least bridges and written with their certificate.
 //!
-//! [`plan`] searches each bridge of a [`Cut`](cut_core::Cut) and takes all memory that writing needs. [`write_master`]
-//! writes the file of the best master, and [`certify`] the certificate that shows its bridges to be least, while its
-//! rows are made. Both walk one list, the bridges of the cut by rising cue and then by rising channel: `choosing.rt`
-//! searches them, `certifying.rt` makes their rows again and writes their entries. Whether a recording is a master, and
-//! what it costs, is defined by [`judge_core`], which judges what is written here.
+//! [`plan`] searches each bridge of a [`Cut`](cut_core::Cut), tells a [`Watch`] how far it has come, and takes all memory
+//! that writing needs. [`write_master`] writes the file of the best master, and [`certify`] the certificate that shows
+//! its bridges to be least, while its rows are made. Both walk one list, the bridges of the cut by rising cue and then by
+//! rising channel: `choosing.rt` searches them, `certifying.rt` makes their rows again and writes their entries. Whether
+//! a recording is a master, and what it costs, is defined by [`judge_core`], which judges what is written here.
 //!
 //! [`write_sound`] and [`write_master`] write the best master although its channels are never in memory: group by
 //! group, each channel's part of it made from cues and chosen bridges (`parting.rt`, `writing.rt`, `filing.rt`). They
@@ -36,6 +36,7 @@ mod choosing;
 mod filing;
 mod parting;
 mod planning;
+mod watch;
 mod writing;
 
 pub use certifying::{CertifyingRoom, certificates_show, certify};
@@ -43,4 +44,5 @@ pub use choosing::ChosenBridges;
 pub use filing::{master_ends, write_master};
 pub use parting::MasterSource;
 pub use planning::{Planned, plan};
+pub use watch::{Unwatched, Watch};
 pub use writing::{MasterRoom, has_one_best, master_room, write_sound};

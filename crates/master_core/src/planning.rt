@@ -13,6 +13,7 @@ ghost use Rattle.master_core.specs.Writing.{IsRoomFor};
 use crate::certifying::CertifyingRoom;
 use crate::choosing::{ChosenBridges, choose_bridges};
 use crate::filing::master_ends;
+use crate::watch::Watch;
 use crate::writing::{MasterRoom, master_room};
 use cost_core::{least_together, places_are_windows};
 use cut_core::Cut;
@@ -37,10 +38,16 @@ pub struct Planned {
 /// the first. The master has the sample rate, the channel IDs and the layout of take 0, and for a DSDIFF file a mark at
 /// the first bit of each titled cue. No master of the cut, with whatever bridges of these lengths, costs less. Its
 /// channels are never in memory: [`write_master`](crate::write_master) writes its file, [`certify`](crate::certify) the
-/// certificate that shows each of its bridges to be least, and neither takes memory.
+/// certificate that shows each of its bridges to be least, and neither takes memory. The watch is
+/// told how far the search has come.
 ///
 /// Refusals: `NotWholeBytes` only if the form is DSDIFF and the channels would end inside a byte; `Memory`.
-pub fn plan(alloc: Global, cut: &Cut, form: Form) -> Result<Planned, WriteFault>
+pub fn plan<W: Watch>(
+    alloc: Global,
+    cut: &Cut,
+    form: Form,
+    watch: &W,
+) -> Result<Planned, WriteFault>
     ensures master { IfOk result (λ made. PlansMaster cut.now form made.bridges) }
     // What its files are written from.
     ensures bridges { IfOk result (λ made. AreBridgesOf cut.now made.bridges) }
@@ -50,7 +57,7 @@ pub fn plan(alloc: Global, cut: &Cut, form: Form) -> Result<Planned, WriteFault>
     ensures not_whole_bytes { IfErr result (λ fault. fault ≡ WriteFault.NotWholeBytes
         → FitsIn form (master_length cut.now.splice.cues) → ⊥) }
 {
-    let bridges = choose_bridges(alloc, cut)?;
+    let bridges = choose_bridges(alloc, cut, watch)?;
     let cert_room = CertifyingRoom::new(alloc, cut)?;
     let room = master_room(alloc, cut)?;
     let ends = master_ends(alloc, cut, form)?;

@@ -11,29 +11,30 @@ use Rattle.transfer_core.specs.Faults.{fault_of_writing}
 use Rattle.judge_core.proofs.CuttingLaws.{one_cut, says_cut}
 use Rattle.archive_core.proofs.EditLaws.{any_form, file_certificate, file_costs, file_is_accepted, file_is_master, file_least, one_answer, one_file, plan_only_memory}
 use Rattle.archive_core.proofs.planning.plan_master.Goals as goal
+use Rattle.archive_core.proofs.planning.plan_master.Given.{Over}
 use Rattle.archive_core.proofs.planning.plan_master.Goals.{In_err-bridges}
 
 -- ---- refusals
 -- a master that is cut into whole bytes is planned, want of memory aside
-unplanned : (c : In_err-bridges) (project : List ℕ) (files : List (List ℕ)) → SaysCut project files (Some c.args.form) c.args.cut → fault_of_writing c.in_err-bridges.field-0.0 ≡ Memory
-unplanned c project files says =
+unplanned : (g : Over) (c : In_err-bridges g) (project : List ℕ) (files : List (List ℕ)) → SaysCut project files (Some c.args.form) c.args.cut → fault_of_writing c.in_err-bridges.field-0.0 ≡ Memory
+unplanned g c project files says =
     let fault = c.in_err-bridges.field-0.0 in
     let cut_is : master_length c.args.cut.splice.cues ≡ master_length says.splice.cues = ap (λ (k : CutContent). master_length k.splice.cues) says.opens.cut_is in
     ap fault_of_writing (plan_only_memory c.args.form says.splice says.opens.whole fault (subst (λ (n : ℕ). fault ≡ writes.NotWholeBytes → FitsIn c.args.form n → ⊥) cut_is c.in_err-bridges.ensures.not_whole_bytes))
 
 pub returns-in_err-bridges-clause-refused : goal.returns-in_err-bridges-clause-refused
-returns-in_err-bridges-clause-refused c = λ project files says.
+returns-in_err-bridges-clause-refused g c = λ project files says.
     let p = err_from_is_err_and c.from_residual.result c.from_residual.ensures.1 in
-    rw (p.1, p.2) (unplanned (goal.at.returns-in_err-bridges-clause-refused c).In_err-bridges project files says)
+    rw (p.1, p.2) (unplanned g (goal.at.returns-in_err-bridges-clause-refused g c).In_err-bridges project files says)
 
 pub returns-in_err-bridges-clause-only : goal.returns-in_err-bridges-clause-only
-returns-in_err-bridges-clause-only c = λ project files says master cost edits.
+returns-in_err-bridges-clause-only g c = λ project files says master cost edits.
     let p = err_from_is_err_and c.from_residual.result c.from_residual.ensures.1 in
-    rw (p.1, p.2) (unplanned (goal.at.returns-in_err-bridges-clause-only c).In_err-bridges project files says)
+    rw (p.1, p.2) (unplanned g (goal.at.returns-in_err-bridges-clause-only g c).In_err-bridges project files says)
 
 -- ---- what is answered
 pub returns-clause-found : goal.returns-clause-found
-returns-clause-found c = λ project files cut_says.
+returns-clause-found g c = λ project files cut_says.
     let cut = c.args.cut in
     let form = c.args.form in
     let told = c.in_ok-bridges.ensures.master in
@@ -56,17 +57,17 @@ returns-clause-found c = λ project files cut_says.
     }
 
 pub returns-clause-file : goal.returns-clause-file
-returns-clause-file c =
+returns-clause-file g c =
     let told = c.in_ok-bridges.ensures.master in
     (told.file, record { channels = told.channels; best = told.best; text = told.text })
 
 pub returns-clause-planned : goal.returns-clause-planned
-returns-clause-planned c =
+returns-clause-planned g c =
     let made = c.in_ok-bridges.ensures in
     record { bridges_are = made.bridges; ends_are = made.ends; room_fits = made.room; cert_room_fits = made.cert_room }
 
 pub returns-clause-only : goal.returns-clause-only
-returns-clause-only c = λ project files says master cost edits.
+returns-clause-only g c = λ project files says master cost edits.
     let cut = c.args.cut in
     let form = c.args.form in
     let told = c.in_ok-bridges.ensures.master in

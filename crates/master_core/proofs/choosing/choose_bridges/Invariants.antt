@@ -5,7 +5,7 @@ use Rattle.master_core.specs.Choosing.{IsChosenAt, chosen_cost, window_at}
 use Rattle.master_core.proofs.choosing.choose_bridges.Given as goal
 
 abbrev pub invariant-loop-k : goal.invariant-loop-k
-invariant-loop-k l = record {
+invariant-loop-k g l = record {
   chosen : AllZip (IsChosenAt l.cut) (take l.k l.places.items) l.chosen.items;
   windows : l.windows.items ≡ map (window_at l.cut) (take l.k l.places.items);
   within : All IsBridging l.windows.items;

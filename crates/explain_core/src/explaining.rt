@@ -24,6 +24,9 @@ use std::rt::{Env, Files};
 use transfer_core::Fault;
 use words_core::{Task, task_of};
 
+// How a line ends that names a file and has nothing to say of it.
+const NAMED: &str = ": ";
+
 /// What a command came to, as far as there is something to explain.
 #[derive(Clone, Copy)]
 pub enum Ended {
@@ -57,7 +60,7 @@ pub fn explain<R: Files + Env + AllocGlobal>(
 ) -> Option<String> {
     let mut text = String::new(rt.alloc());
     match tell(&mut text, rt, words, ended) {
-        Ok(()) if !text.is_empty() => Some(text),
+        Ok(()) if !text.is_empty() && !text.as_str().ends_with(NAMED) => Some(text),
         _ => None,
     }
 }
@@ -210,7 +213,7 @@ fn tell_text<R: Files + AllocGlobal>(
     }
     match text_of(rt, rt.alloc(), project) {
         Some(source) => tell_project(text, rt.alloc(), &source, fault),
-        None => text.push_str("it cannot be read again"),
+        None => Ok(()),
     }
 }
 

@@ -163,15 +163,13 @@ pub(crate) fn tell_parts<R: Files>(
     rt: &R,
     input: &str,
 ) -> Result<(), AllocError> {
-    write!(text, "{} ", Named(input, "IN"))?;
-    if let Some(shape) = shape_of(rt, input) {
-        let rest = shape.bits % 8;
-        write!(
-            text,
-            "has {} bits per channel, {rest} more ",
-            Grouped(shape.bits)
-        )?;
-        text.push_str("than whole bytes: ")?;
+    match shape_of(rt, input) {
+        Some(shape) => {
+            let (bits, rest) = (Grouped(shape.bits), shape.bits % 8);
+            write!(text, "{} has {bits} bits per channel, ", Named(input, "IN"))?;
+            write!(text, "{rest} more than whole bytes: ")?;
+        }
+        None => write!(text, "{}: ", Named(input, "IN"))?,
     }
     text.push_str("convert it to dsf or dsf8")
 }
@@ -184,9 +182,12 @@ pub(crate) fn tell_table<R: Files>(
     project: &str,
 ) -> Result<(), AllocError> {
     let kind = match kind_of(rt, alloc, project) {
-        Kind::CueList => "it is a cue list, for edit and check; the ready filters are in filters/",
-        Kind::Filter => "it is a filter, for play; edit and check want a table \"splice\"",
-        Kind::Empty => "it has no table at all",
+        Some(Kind::CueList) => {
+            "it is a cue list, for edit and check; the ready filters are in filters/"
+        }
+        Some(Kind::Filter) => "it is a filter, for play; edit and check want a table \"splice\"",
+        Some(Kind::Empty) => "it has no table at all",
+        None => return Ok(()),
     };
     write!(text, "{}: {kind}", Named(project, "PROJECT"))
 }
@@ -199,17 +200,16 @@ enum Kind {
     Empty,
 }
 
-fn kind_of<R: Files>(rt: &R, alloc: Global, name: &str) -> Kind {
-    match text_of(rt, alloc, name) {
-        Some(source) => kind_in(alloc, &source),
-        None => Kind::Empty,
-    }
+fn kind_of<R: Files>(rt: &R, alloc: Global, name: &str) -> Option<Kind> {
+    let source = text_of(rt, alloc, name)?;
+    kind_in(alloc, &source)
 }
 
-fn kind_in(alloc: Global, source: &[u8]) -> Kind {
+fn kind_in(alloc: Global, source: &[u8]) -> Option<Kind> {
     match read(alloc, source) {
-        Ok(project) if project.splice.is_some() => Kind::CueList,
-        Ok(project) if project.decimate.is_some() => Kind::Filter,
-        _ => Kind::Empty,
+        Ok(project) if project.splice.is_some() => Some(Kind::CueList),
+        Ok(project) if project.decimate.is_some() => Some(Kind::Filter),
+        Ok(_) => Some(Kind::Empty),
+        Err(_) => None,
     }
 }

@@ -23,6 +23,7 @@ pub(crate) fn tell_unread(
         }
         (ReadFault::Dsdiff(fault), Seen::Dsdiff(look)) => dsdiff_lines::tell(text, fault, look),
         (ReadFault::Dsf(fault), Seen::Dsf(look)) => dsf_lines::tell(text, fault, look),
-        _ => text.push_str("it was changed since"),
+        // It was changed since, or can't be read any more.
+        _ => Ok(()),
     }
 }

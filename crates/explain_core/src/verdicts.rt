@@ -101,12 +101,16 @@ fn tell_length<R: Files>(
     cutting: &Cutting,
     master: &str,
 ) -> Result<(), AllocError> {
-    let bits = Grouped(cutting.bits());
-    write!(text, "{} ", Named(master, "MASTER"))?;
-    if let Some(found) = shape_of(rt, master) {
-        write!(text, "has {} bits per channel; ", Grouped(found.bits))?;
-    }
-    write!(text, "the cues and bridges have {bits} together")
+    let Some(found) = shape_of(rt, master) else {
+        return Ok(());
+    };
+    let (bits, wanted) = (Grouped(found.bits), Grouped(cutting.bits()));
+    write!(
+        text,
+        "{} has {bits} bits per channel; ",
+        Named(master, "MASTER")
+    )?;
+    write!(text, "the cues and bridges have {wanted} together")
 }
 
 fn tell_marks(text: &mut String, cutting: &Cutting, master: &str) -> Result<(), AllocError> {

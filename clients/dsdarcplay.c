@@ -1,0 +1,95 @@
+/* Plays DSDIFF and DSF files over ALSA: dsdarcplay [-D DEVICE] [-s SECONDS] FILTER FILE..
+ *
+ *     cc dsdarcplay.c $(pkg-config --cflags --libs dsdarc alsa) -o dsdarcplay
+ *     dsdarcplay "$(filters/pick 88200/24 in.dsf)" in.dsf
+ *
+ * With -s each file is played from that second on. */
+#include <alsa/asoundlib.h>
+#include <dsdarc.h>
+#include <stdio.h>
+#include <stdlib.h>
+#include <string.h>
+#include <unistd.h>
+
+enum { BLOCK = 65536, FRAMES = 4096 };
+
+static int told(const char *name, const char *what) {
+    fprintf(stderr, "dsdarcplay: %s: %s\n", name, what);
+    return 1;
+}
+
+static char *text_of(const char *name, size_t *size) {
+    FILE *file = fopen(name, "rb");
+    char *text = malloc(1 << 20);
+    if (!file || !text) return NULL;
+    *size = fread(text, 1, 1 << 20, file);
+    fclose(file);
+    return text;
+}
+
+/* Opens the device as soon as it is known what is played. */
+static int open_device(snd_pcm_t **pcm, const char *device, const dsdarc_info *info) {
+    int fault = snd_pcm_open(pcm, device, SND_PCM_STREAM_PLAYBACK, 0);
+    snd_pcm_format_t form = info->width == 16 ? SND_PCM_FORMAT_S16_LE : SND_PCM_FORMAT_S24_3LE;
+    if (fault < 0) return fault;
+    return snd_pcm_set_params(*pcm, form, SND_PCM_ACCESS_RW_INTERLEAVED, info->channels, info->rate, 1, 500000);
+}
+
+static int play(const char *device, const char *text, size_t text_size, double from, const char *name) {
+    static unsigned char bytes[BLOCK], frames[FRAMES * 6 * 3];
+    FILE *file = fopen(name, "rb");
+    snd_pcm_t *pcm = NULL;
+    dsdarc_player *player = NULL;
+    dsdarc_info info;
+    dsdarc_status status = dsdarc_player_new(text, text_size, &player);
+    size_t size, at, taken, given;
+    int fault = 0;
+    if (!file) return told(name, "it can't be read");
+    while (status == DSDARC_OK && fault >= 0 && (size = fread(bytes, 1, BLOCK, file)) > 0)
+        for (at = 0; at < size && status == DSDARC_OK && fault >= 0; at += taken) {
+            if ((status = dsdarc_player_push(player, bytes + at, size - at, &taken)) != DSDARC_OK) break;
+            if (!pcm && dsdarc_player_info(player, &info) == DSDARC_OK) {
+                uint64_t offset;
+                if ((fault = open_device(&pcm, device, &info)) < 0) break;
+                if (from > 0) {
+                    status = dsdarc_player_seek(player, (uint64_t)(from * info.rate), &offset);
+                    if (status != DSDARC_OK || fseek(file, (long)offset, SEEK_SET)) break;
+                    size = taken = at = 0;
+                }
+            }
+            while (pcm && dsdarc_player_pull(player, frames, FRAMES, DSDARC_PACKED, &given) == DSDARC_OK && given > 0)
+                for (size_t done = 0; done < given && fault >= 0;) {
+                    snd_pcm_sframes_t wrote = snd_pcm_writei(
+                        pcm, frames + done * info.channels * (info.width / 8), given - done);
+                    if (wrote < 0) fault = snd_pcm_recover(pcm, (int)wrote, 1);
+                    if (wrote > 0) done += (size_t)wrote;
+                }
+        }
+    if (status == DSDARC_OK && fault >= 0) status = dsdarc_player_end(player);
+    if (pcm && fault >= 0) snd_pcm_drain(pcm);
+    if (pcm) snd_pcm_close(pcm);
+    dsdarc_player_drop(player);
+    fclose(file);
+    if (fault < 0) return told(device, snd_strerror(fault));
+    return status == DSDARC_OK ? 0 : told(name, dsdarc_status_text(status));
+}
+
+int main(int count, char **words) {
+    const char *device = "default";
+    char *text;
+    size_t size;
+    double from = 0;
+    int word, failed = 0;
+    while ((word = getopt(count, words, "D:s:")) != -1)
+        if (word == 'D') device = optarg;
+        else if (word == 's') from = strtod(optarg, NULL);
+        else return 2;
+    if (optind + 2 > count) {
+        fprintf(stderr, "dsdarcplay [-D DEVICE] [-s SECONDS] FILTER FILE..\n");
+        return 2;
+    }
+    if (!(text = text_of(words[optind], &size))) return told(words[optind], "it can't be read");
+    for (word = optind + 1; word < count; word++) failed |= play(device, text, size, from, words[word]);
+    free(text);
+    return failed;
+}

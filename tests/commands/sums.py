@@ -106,7 +106,9 @@ def several():
         ],
     )
     wrong = f"{ONE}  none\n{ONE}  e\n{ONE}  a\n".encode()
-    yield Case({"a": FILE, "e": ZERO, "list": wrong}, [faulty(CHECK, "ReadFailed  none", "none: FAILED\ne: FAILED\na: OK\n")])
+    yield Case(
+        {"a": FILE, "e": ZERO, "list": wrong}, [faulty(CHECK, "ReadFailed  none", "none: FAILED\ne: FAILED\na: OK\n")]
+    )
     for line in NO_LINES:
         text = f"{ONE}  in\n{line}\n{ONE}  in\n"
         yield Case({"in": FILE, "list": text.encode()}, [faulty(CHECK, "ListRefused line 2  list", "in: OK\nin: OK\n")])

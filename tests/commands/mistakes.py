@@ -83,7 +83,7 @@ FILES = (
     ),
     (LEAST[:91], "Dsf HeadCut", "the file ends inside its headers, at byte 91: fetch it again"),
     (b"DSD ", "Dsf HeadCut", "the file ends inside its headers, at byte 4: fetch it again"),
-    (changed(LEAST, 28, 0), "Dsf BadFormat", "its second chunk is 00 6d 74 20 with 52 bytes, not \"fmt \" with 52"),
+    (changed(LEAST, 28, 0), "Dsf BadFormat", 'its second chunk is 00 6d 74 20 with 52 bytes, not "fmt " with 52'),
     (changed(LEAST, 40, 2), "Dsf BadVersion", "its version is 2, and only 1 is known: write it anew"),
     (changed(LEAST, 52, 8), "Dsf BadChannelNumber", "it has 8 channels, and 1 to 6 are supported"),
     (dsf(2, 1, b"\x0f"), "Dsf BadBits", "it has 2 bits per sample, and 1 and 8 are known"),
@@ -206,7 +206,7 @@ SLIPS = (
         b"[4096, 1]",
         "OutOfLimit weights",
         '"weights" in line 2 is an array of 2, and has to be 2 to 12 whole numbers, with an absolute sum of at '
-        'most 4096',
+        "most 4096",
     ),
     (
         b"bridge = 1",

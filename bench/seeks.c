@@ -1,0 +1,45 @@
+/* Shows what a seek costs by the library, until the first frame is there: seeks PROJECT FILE */
+#include <dsdarc.h>
+#include <stdio.h>
+#include <stdlib.h>
+#include <time.h>
+
+static unsigned char *whole(const char *name, size_t *size) {
+    FILE *file = fopen(name, "rb");
+    unsigned char *bytes;
+    if (!file || fseek(file, 0, SEEK_END)) exit(3);
+    *size = (size_t)ftell(file);
+    rewind(file);
+    bytes = malloc(*size + 1);
+    if (!bytes || fread(bytes, 1, *size, file) != *size) exit(3);
+    fclose(file);
+    return bytes;
+}
+
+int main(int count, char **words) {
+    enum { SEEKS = 200 };
+    static unsigned char pcm[18];
+    size_t text_size, size, taken, given = 0;
+    unsigned char *text, *bytes;
+    dsdarc_player *player;
+    dsdarc_info info;
+    clock_t began;
+    if (count != 3) return 3;
+    text = whole(words[1], &text_size), bytes = whole(words[2], &size);
+    if (dsdarc_player_new(text, text_size, &player) != DSDARC_OK) return 1;
+    if (dsdarc_player_push(player, bytes, size, &taken) != DSDARC_OK) return 1;
+    if (dsdarc_player_info(player, &info) != DSDARC_OK) return 1;
+    began = clock();
+    for (int seek = 0; seek < SEEKS; seek++) {
+        uint64_t at, frame = (uint64_t)seek * 7919 * 7919 % (info.frames - 1);
+        if (dsdarc_player_seek(player, frame, &at) != DSDARC_OK) return 1;
+        for (given = 0; given == 0; at += taken) {
+            size_t step = size - at < 8192 ? size - at : 8192;
+            if (dsdarc_player_push(player, bytes + at, step, &taken) != DSDARC_OK) return 1;
+            if (dsdarc_player_pull(player, pcm, 1, DSDARC_PACKED, &given) != DSDARC_OK) return 1;
+        }
+    }
+    printf("%.2f ms of processor for a seek and its first frame\n", 1e3 * (double)(clock() - began) / CLOCKS_PER_SEC / SEEKS);
+    dsdarc_player_drop(player);
+    return 0;
+}

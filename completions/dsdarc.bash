@@ -60,7 +60,28 @@ _dsdarc() {
         _dsdarc_words info convert play edit check --help --version
         return
     fi
-    case "$command:$COMP_CWORD" in
+    # The options of play stand before its names, and each takes a word of its own.
+    local at=$COMP_CWORD first=2
+    if [ "$command" = play ]; then
+        while [ "$first" -lt "$COMP_CWORD" ]; do
+            case "${COMP_WORDS[first]}" in
+                --from | --to) first=$((first + 2)) at=$((at - 2)) ;;
+                *) break ;;
+            esac
+        done
+        if [ "$first" -gt "$COMP_CWORD" ]; then
+            compopt +o default 2>/dev/null
+            return
+        fi
+        case "$cur" in
+            --*)
+                compopt +o filenames +o default 2>/dev/null
+                _dsdarc_words --from --to
+                return
+                ;;
+        esac
+    fi
+    case "$command:$at" in
         convert:2 | edit:2) compopt +o filenames 2>/dev/null; _dsdarc_words dsdiff dsf dsf8 ;;
         play:2 | edit:3 | check:2) _dsdarc_project "$command" ;;
         info:2 | convert:3 | play:3 | check:3)

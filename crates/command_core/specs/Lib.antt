@@ -3,3 +3,4 @@ pub mod Masters
 pub mod Outcomes
 pub mod Sources
 pub mod Writing
+pub mod Parts

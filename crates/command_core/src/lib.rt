@@ -29,6 +29,7 @@ mod ending;
 mod judging;
 mod masters;
 mod outcome;
+mod parts;
 mod performing;
 mod program;
 mod sources;

@@ -11,9 +11,11 @@
 #![tactic(auto)]
 
 mod fault;
+mod place;
 mod task;
 mod words;
 
 pub use fault::WordsFault;
+pub use place::Place;
 pub use task::Task;
 pub use words::task_of;

@@ -64,6 +64,27 @@ _dsdarc() {
         if [ "$first" -eq 1 ]; then _dsdarc_words --explain --help --version; fi
         return
     fi
+    # The options of play stand before its names, and each takes a word of its own.
+    local next=$((first + 1))
+    if [ "$command" = play ]; then
+        while [ "$next" -lt "$COMP_CWORD" ]; do
+            case "${COMP_WORDS[next]}" in
+                --from | --to) next=$((next + 2)) place=$((place - 2)) ;;
+                *) break ;;
+            esac
+        done
+        if [ "$next" -gt "$COMP_CWORD" ]; then
+            compopt +o default 2>/dev/null
+            return
+        fi
+        case "$cur" in
+            --*)
+                compopt +o filenames +o default 2>/dev/null
+                _dsdarc_words --from --to
+                return
+                ;;
+        esac
+    fi
     case "$command:$place" in
         convert:2 | edit:2) compopt +o filenames 2>/dev/null; _dsdarc_words dsdiff dsf dsf8 ;;
         play:2 | edit:3 | check:2) _dsdarc_project "$command" ;;

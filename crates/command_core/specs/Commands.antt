@@ -17,7 +17,10 @@ use Rattle.transfer_commands.specs.Sources.{AreSources, IsUnnamed}
 use Rattle.transfer_commands.specs.Telling.{TellComesTo}
 use Rattle.transfer_commands.specs.declared.fault.CommandFault.{CommandFault}
 use Rattle.transfer_commands.specs.declared.fault.CommandFault.TheVariants as faults
-use Rattle.command_core.specs.Outcomes.{outcome_of, verdict_of}
+use Rattle.transfer_commands.specs.PartPlaying.{PlayPartComesTo}
+use Rattle.transfer_commands.specs.declared.parts.PartFault.{PartFault}
+use Rattle.command_core.specs.Outcomes.{outcome_of, part_outcome_of, verdict_of}
+use Rattle.command_core.specs.Parts.{span_of}
 use Rattle.command_core.specs.declared.outcome.Outcome.{Outcome}
 use Rattle.command_core.specs.declared.outcome.Outcome.TheVariants.{Played, Converted, Edited, Info, Fault, WrongWords, UnknownFormName}
 use Rattle.words_core.specs.declared.task.Task.{Task}
@@ -141,11 +144,16 @@ CheckComesTo project master cert old new (Err faults.WriteFailed) = ⊥
 abbrev pub Says : {T : Type 0} → (T → Outcome) → (Result T CommandFault → Type 0) → Outcome → Type 0
 Says {T} done P outcome = (came : Result T CommandFault) × (outcome ≡ outcome_of done came) × P came
 
+-- the same of a command that plays a part
+abbrev pub SaysPart : (Result ℕ PartFault → Type 0) → Outcome → Type 0
+SaysPart P outcome = (came : Result ℕ PartFault) × (outcome ≡ part_outcome_of came) × P came
+
 -- how a command changes the folder: a judgement changes no file, and neither does a refusal, unless a file is played or
 -- converted piece by piece; a failed write changes one file, or two if the first is the master that was cut; and if the
 -- folder keeps old files, no fault replaces one by a prefix
 abbrev pub TaskComesTo : Task → View → View → Outcome → Type 0
 TaskComesTo (tasks.Play project input output) old new = Says Played (PlayComesTo project.now input.now output.now old new)
+TaskComesTo (tasks.PlayPart project input output from to) old new = SaysPart (PlayPartComesTo project.now input.now output.now (span_of from to) old new)
 TaskComesTo (tasks.Convert form input output) old new = Says Converted (ConvertComesTo form input.now output.now old new)
 TaskComesTo (tasks.Edit form project master cert) old new = Says Edited (EditComesTo (record { form = form; project_name = project.now; master_name = master.now; cert_name = cert.now }) old new)
 TaskComesTo (tasks.Check project master cert) old new = Says verdict_of (CheckComesTo project.now master.now cert.now old new)

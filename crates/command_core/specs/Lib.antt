@@ -4,3 +4,4 @@ pub mod Outcomes
 pub mod Sources
 pub mod Summing
 pub mod Writing
+pub mod Parts

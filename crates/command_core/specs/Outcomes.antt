@@ -7,10 +7,12 @@ use Rattle.judge_core.specs.declared.verdict.Verdict.{Verdict}
 use Rattle.judge_core.specs.declared.verdict.Verdict.TheVariants as verdicts
 use Rattle.transfer_commands.specs.declared.fault.CommandFault.{CommandFault}
 use Rattle.transfer_commands.specs.declared.fault.CommandFault.TheVariants as faults
+use Rattle.transfer_commands.specs.declared.parts.PartFault.{PartFault}
+use Rattle.transfer_commands.specs.declared.parts.PartFault.TheVariants as parts
 use Rattle.words_core.specs.declared.fault.WordsFault.{WordsFault}
 use Rattle.words_core.specs.declared.fault.WordsFault.TheVariants as words
 use Rattle.transfer_core.specs.declared.fault.Fault.TheVariants.{Memory}
-use Rattle.command_core.specs.declared.outcome.Outcome.TheVariants.{Played, Converted, Edited, Accepted, Rejected, Info, Fault, ReadFailed, WriteFailed, WrongWords, UnknownFormName}
+use Rattle.command_core.specs.declared.outcome.Outcome.TheVariants.{Played, Converted, Edited, Accepted, Rejected, Info, Fault, NoPart, ReadFailed, WriteFailed, WrongWords, UnknownFormName}
 
 -- what the printed line says: for a file that was played its number of bytes, for one that was converted what was
 -- dropped, for a master that was cut or accepted its cost, and for a file that was read the lines that describe its
@@ -32,6 +34,7 @@ status_of (Accepted n) = 0
 status_of (Rejected reason) = 1
 status_of (Info told) = 0
 status_of (Fault f) = 2
+status_of (NoPart f) = 2
 status_of ReadFailed = 2
 status_of WriteFailed = 2
 status_of WrongWords = 3
@@ -52,6 +55,16 @@ of_command faults.WriteFailed = WriteFailed
 abbrev pub outcome_of : {T : Type 0} → (T → Outcome) → Result T CommandFault → Outcome
 outcome_of done (Ok x) = done x
 outcome_of done (Err fault) = of_command fault
+
+-- the outcome of a command that plays a part and was refused
+abbrev pub of_part : PartFault → Outcome
+of_part (parts.Command fault) = of_command fault
+of_part (parts.Span fault) = NoPart fault
+
+-- the outcome of a command that plays a part and came to this
+abbrev pub part_outcome_of : Result ℕ PartFault → Outcome
+part_outcome_of (Ok n) = Played n
+part_outcome_of (Err fault) = of_part fault
 
 -- the outcome of words that ask for nothing
 abbrev pub of_words : WordsFault → Outcome

@@ -35,6 +35,7 @@ mod judging;
 mod listing;
 mod masters;
 mod outcome;
+mod parts;
 mod performing;
 mod program;
 mod sources;

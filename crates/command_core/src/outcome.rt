@@ -1,13 +1,14 @@
 //! The outcome of a command, the line that is printed, and the status with which the program ends.
 
 ghost use Rattle.std.specs.Prelude.{◌≡◌, IfOk, string_bytes};
-ghost use Rattle.command_core.specs.Outcomes.{ShowsDone, of_command, of_words, status_of};
+ghost use Rattle.command_core.specs.Outcomes.{ShowsDone, of_command, of_part, of_words, status_of};
 ghost use Rattle.command_core.specs.declared.outcome.Outcome.TheVariants as outcomes;
 
 use archive_core::{Fault, Reason};
 use form_core::info_lines;
 use std::alloc::{AllocError, Global};
-use transfer_commands::{CommandFault, Told};
+use transfer_commands::{CommandFault, PartFault, Told};
+use transfer_core::SpanFault;
 use words_core::WordsFault;
 
 /// The outcome of a command.
@@ -27,6 +28,8 @@ pub enum Outcome {
     Info(Told),
     /// The call was refused.
     Fault(Fault),
+    /// There is no such part in the recording.
+    NoPart(SpanFault),
     /// A file could not be opened or read.
     ReadFailed,
     /// A file could not be created or written.
@@ -57,6 +60,17 @@ impl From<CommandFault> for Outcome {
     }
 }
 
+impl From<PartFault> for Outcome {
+    ghost from_gives = { λ fault outcome. outcome ≡ of_part fault };
+
+    fn from(fault: PartFault) -> Outcome {
+        match fault {
+            PartFault::Command(fault) => fault.into(),
+            PartFault::Span(fault) => Outcome::NoPart(fault),
+        }
+    }
+}
+
 impl From<WordsFault> for Outcome {
     ghost from_gives = { λ fault outcome. outcome ≡ of_words fault };
 
@@ -81,6 +95,7 @@ pub fn outcome_line(alloc: Global, outcome: &Outcome) -> Result<String, AllocErr
         Outcome::Rejected(reason) => format!(in alloc; "rejected {reason}"),
         Outcome::Info(told) => info_lines(alloc, told.form, &told.description),
         Outcome::Fault(fault) => format!(in alloc; "fault: {fault}"),
+        Outcome::NoPart(fault) => format!(in alloc; "fault: {fault}"),
         Outcome::ReadFailed => format!(in alloc; "fault: ReadFailed"),
         Outcome::WriteFailed => format!(in alloc; "fault: WriteFailed"),
         Outcome::WrongWords => format!(in alloc; "fault: WrongWords"),
@@ -100,7 +115,7 @@ pub fn status(outcome: &Outcome) -> u8
         | Outcome::Accepted(_)
         | Outcome::Info(_) => 0,
         Outcome::Rejected(_) => 1,
-        Outcome::Fault(_) | Outcome::ReadFailed | Outcome::WriteFailed => 2,
+        Outcome::Fault(_) | Outcome::NoPart(_) | Outcome::ReadFailed | Outcome::WriteFailed => 2,
         Outcome::WrongWords | Outcome::UnknownFormName => 3,
     }
 }

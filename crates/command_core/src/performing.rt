@@ -9,13 +9,14 @@ use crate::ending::fault_behind;
 use crate::judging::judge_opened;
 use crate::masters::find_named;
 use crate::outcome::Outcome;
+use crate::parts::{played_part, span_of};
 use crate::sources::{cut_of, cut_sources};
 use crate::writing::{write_certificate, write_master};
 use archive_core::{Form, Verdict};
 use folder_core::Folder;
 use std::alloc::Global;
 use transfer_commands::{
-    CommandFault, MOST_KEPT, Told, convert_file, hear_sources, open_file, play_file,
+    CommandFault, MOST_KEPT, Told, convert_file, hear_sources, open_file, play_file, play_part_file,
 };
 use words_core::Task;
 
@@ -28,6 +29,8 @@ use words_core::Task;
 ///   created. Its certificate is created once the master is complete.
 /// - `Play`: The recording is opened and the WAVE file created. Then the one is read and the other written, piece by
 ///   piece.
+/// - `PlayPart`: The recording is read through as for `Info`, to find the part. Then it is played as by `Play`, and what
+///   lies before the part is dropped.
 /// - `Check`, and recordings and takes of 2 MiB or more: see below.
 ///
 /// `Check` reads a master once, and its certificate while the master is judged. Both are read to their ends, whatever
@@ -50,6 +53,13 @@ pub fn perform<F: Folder>(alloc: Global, task: Task, folder: &mut F) -> Outcome
             input,
             output,
         } => played(play_file(alloc, folder, project, input, output)),
+        Task::PlayPart {
+            project,
+            input,
+            output,
+            from,
+            to,
+        } => played_part(play_part_file(alloc, folder, project, input, output, span_of(from, to))),
         Task::Convert {
             form,
             input,

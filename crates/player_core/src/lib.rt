@@ -9,6 +9,10 @@
 //! holds at most one block of 65,536 bytes of the sound, what a player holds, what stands before the sound, and what a
 //! DSDIFF form has behind it, or the tag of a DSF file.
 //!
+//! A [`PartPlayer`] gives some of the frames, from any on: it is fed the sound from a place on before which no tap of its
+//! first frame reads, and drops what it gives before that frame and after its last. [`play_part`] plays a part of a file,
+//! by a sink of its own (`part_sink.rt`); the header and the sizes are those of the part.
+//!
 //! The words of the contracts:
 //!
 //! - `frames d channels` are the samples of channels, frame by frame, `tile_of` some of them channel by channel
@@ -27,11 +31,19 @@
 //!   bytes of the sound (`specs/Pace.antt`).
 //! - `IsPlaying held first now s bytes` says what the sink has written after these bytes of a sound (`specs/Sinks.antt`).
 //!
+//! - `part_bytes d s bytes start stop` are the bytes of frames `start` to `stop - 1`, a slice of those of all frames
+//!   (`specs/Parts.antt`). `IsPartOf d s start stop p` says that a player plays these, `IsPartFed p bytes` that it was
+//!   fed these bytes from its start on (`specs/PartView.antt`), and `PlaysPart d start stop file bytes` that these bytes
+//!   are the WAVE text of the part of a file's recording (`specs/PartPlaying.antt`).
+//!
 //! What it promises: whatever bytes a player was fed before, what [`Player::feed`] appends makes of the bytes
 //! that were due those that are due now, and what [`Player::finish`] appends makes of them those of all frames.
 //! So the pieces' sizes change nothing. Of [`play`], Ok means that exactly the bytes that the reader's file plays were
 //! written, however its reads are cut; a fault stands that is named; and a file that is played is refused only for memory,
 //! a device or the number of reads, after a front of its WAVE file, which keeps up with the reading where that stops.
+//!
+//! Laws of parts: [`parts_meet`], parts that meet are one part; [`whole_is_a_part`]; [`part_has_its_frames`], a part has
+//! the bytes of its frames; and [`part_is_played`], its WAVE text is a header of its own, these bytes, and the pad.
 //!
 //! Laws for whoever writes the file in parts: [`sound_is_played`], the WAVE text of a recording in a file is the header,
 //! the bytes of all frames of its sound, and the pad; [`frames_fill_the_data`] and [`file_has_its_size`], their numbers;

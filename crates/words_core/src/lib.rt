@@ -12,11 +12,13 @@
 #![tactic(auto)]
 
 mod fault;
+mod place;
 mod sums;
 mod task;
 mod words;
 
 pub use fault::WordsFault;
+pub use place::Place;
 pub use sums::{SumTask, sum_task_of};
 pub use task::Task;
 pub use words::{COMMANDS, task_of};

@@ -1,5 +1,6 @@
 //! What a command line asks for.
 
+use crate::place::Place;
 use form_core::Form;
 
 /// What a command line asks for, with the names of the files.
@@ -10,6 +11,14 @@ pub enum Task<'a> {
         project: &'a str,
         input: &'a str,
         output: &'a str,
+    },
+    /// `play --from T --to T PROJECT IN OUT`, with one of both or both
+    PlayPart {
+        project: &'a str,
+        input: &'a str,
+        output: &'a str,
+        from: Option<Place>,
+        to: Option<Place>,
     },
     /// `convert FORM IN OUT`
     Convert {

@@ -4,6 +4,7 @@ ghost use Rattle.std.specs.Prelude.{◌≡◌, IfErr};
 ghost use Rattle.words_core.specs.declared.fault.WordsFault.TheVariants as faults;
 
 use crate::fault::WordsFault;
+use crate::place::{Place, place_named};
 use crate::sums::sum_command;
 use crate::task::Task;
 use clap::error::ErrorKind;
@@ -19,6 +20,9 @@ pub const COMMANDS: [(&str, &[&str]); 5] = [
     ("edit", &["FORM", "PROJECT", "MASTER", "CERT"]),
     ("check", &["PROJECT", "MASTER", "CERT"]),
 ];
+
+// The options that name the places of a part.
+const PLACES: [&str; 2] = ["from", "to"];
 
 /// What the words ask for. The first word is the program's name.
 ///
@@ -45,11 +49,36 @@ fn task_in<'a>(matches: &ArgMatches<'a>) -> Result<Task<'a>, WordsFault> {
 }
 
 fn play_task<'a>(play: &ArgMatches<'a>) -> Result<Task<'a>, WordsFault> {
-    Ok(Task::Play {
-        project: name_at(play, "PROJECT")?,
-        input: name_at(play, "IN")?,
-        output: name_at(play, "OUT")?,
+    let project = name_at(play, "PROJECT")?;
+    let input = name_at(play, "IN")?;
+    let output = name_at(play, "OUT")?;
+    let from = place_at(play, "from")?;
+    let to = place_at(play, "to")?;
+    if from.is_none() && to.is_none() {
+        return Ok(Task::Play {
+            project,
+            input,
+            output,
+        });
+    }
+    Ok(Task::PlayPart {
+        project,
+        input,
+        output,
+        from,
+        to,
     })
+}
+
+// The place that an option names, if it is there.
+fn place_at(play: &ArgMatches, id: &str) -> Result<Option<Place>, WordsFault> {
+    let Some(word) = play.get_str(id) else {
+        return Ok(None);
+    };
+    match place_named(word) {
+        Some(place) => Ok(Some(place)),
+        None => Err(WordsFault::WrongWords),
+    }
 }
 
 fn convert_task<'a>(convert: &ArgMatches<'a>) -> Result<Task<'a>, WordsFault> {
@@ -117,6 +146,11 @@ fn subcommand<'a>(
     for id in ids {
         command = naming(alloc, command, id);
     }
+    if name == "play" {
+        for id in PLACES {
+            command = placing(alloc, command, id);
+        }
+    }
     command
 }
 
@@ -136,6 +170,15 @@ fn naming<'a>(
     id: &'a str,
 ) -> Result<Command<'a>, AllocError> {
     command?.arg(positional(alloc, id))
+}
+
+// A command with one more option that names a place.
+fn placing<'a>(
+    alloc: Global,
+    command: Result<Command<'a>, AllocError>,
+    id: &'a str,
+) -> Result<Command<'a>, AllocError> {
+    command?.arg(Arg::new(alloc, id).long(id).action(ArgAction::Set))
 }
 
 fn positional<'a>(alloc: Global, id: &'a str) -> Arg<'a> {

@@ -1,0 +1,136 @@
+//! A place in a recording, as a word names it.
+
+/// A place in a recording.
+#[derive(Clone, Copy)]
+pub enum Place {
+    /// A time from the beginning, in nanoseconds.
+    Time(u64),
+    /// A frame of what is played, the first being 0.
+    Frame(u64),
+    /// A mark, the first being 0.
+    Mark(u64),
+}
+
+// The nanoseconds of a second.
+const SECOND: u64 = 1_000_000_000;
+
+/// The place that a word names: `@FRAME`, `#MARK`, or a time as `SECONDS`, `MINUTES:SECONDS` or
+/// `HOURS:MINUTES:SECONDS`. Seconds may have a decimal point and up to nine digits behind it. Minutes and seconds behind
+/// a colon are below 60.
+pub fn place_named(word: &str) -> Option<Place> {
+    let bytes = word.as_bytes();
+    match bytes.first() {
+        Some(b'@') => Some(Place::Frame(number_named(&bytes[1..])?)),
+        Some(b'#') => Some(Place::Mark(number_named(&bytes[1..])?)),
+        _ => Some(Place::Time(time_named(bytes)?)),
+    }
+}
+
+// The value of a digit.
+fn digit_of(byte: u8) -> Option<u64> {
+    if byte.is_ascii_digit() {
+        Some(u64::from(byte - b'0'))
+    } else {
+        None
+    }
+}
+
+// The number that digits name.
+fn number_named(digits: &[u8]) -> Option<u64> {
+    if digits.is_empty() {
+        return None;
+    }
+    let mut number: u64 = 0;
+    for byte in digits {
+        number = number.checked_mul(10)?.checked_add(digit_of(*byte)?)?;
+    }
+    Some(number)
+}
+
+// A time that is read up to a byte: what the fields before count in units of this one, this field, how many digits it
+// has, how many fields came before, what the next digit behind the point is worth, and what those behind it are.
+#[derive(Clone, Copy)]
+struct Reading {
+    before: u64,
+    number: u64,
+    digits: u32,
+    fields: u32,
+    worth: u64,
+    nanoseconds: u64,
+    is_behind_point: bool,
+}
+
+// The nanoseconds that a word names.
+fn time_named(word: &[u8]) -> Option<u64> {
+    let mut reading = Reading {
+        before: 0,
+        number: 0,
+        digits: 0,
+        fields: 0,
+        worth: SECOND,
+        nanoseconds: 0,
+        is_behind_point: false,
+    };
+    for byte in word {
+        reading = match *byte {
+            b':' => reading.colon()?,
+            b'.' => reading.point()?,
+            other => reading.digit(digit_of(other)?)?,
+        };
+    }
+    reading.end()
+}
+
+impl Reading {
+    // Whether this field has digits, and is below 60 where another came before it.
+    fn is_field(self) -> bool {
+        self.digits > 0 && (self.fields == 0 || self.number < 60)
+    }
+
+    fn digit(self, value: u64) -> Option<Reading> {
+        let mut next = self;
+        next.digits = self.digits.checked_add(1)?;
+        if self.is_behind_point {
+            next.worth = self.worth / 10;
+            if next.worth == 0 {
+                return None;
+            }
+            next.nanoseconds = self
+                .nanoseconds
+                .checked_add(value.checked_mul(next.worth)?)?;
+        } else {
+            next.number = self.number.checked_mul(10)?.checked_add(value)?;
+        }
+        Some(next)
+    }
+
+    fn colon(self) -> Option<Reading> {
+        if self.is_behind_point || self.fields == 2 || !self.is_field() {
+            return None;
+        }
+        let mut next = self;
+        next.before = self.before.checked_add(self.number)?.checked_mul(60)?;
+        next.number = 0;
+        next.digits = 0;
+        next.fields = self.fields.checked_add(1)?;
+        Some(next)
+    }
+
+    fn point(self) -> Option<Reading> {
+        if self.is_behind_point || !self.is_field() {
+            return None;
+        }
+        let mut next = self;
+        next.is_behind_point = true;
+        next.digits = 0;
+        Some(next)
+    }
+
+    fn end(self) -> Option<u64> {
+        if !self.is_field() {
+            return None;
+        }
+        let seconds = self.before.checked_add(self.number)?;
+        seconds.checked_mul(SECOND)?.checked_add(self.nanoseconds)
+    }
+}

@@ -1,5 +1,5 @@
 -- What a splice hears of the files of its takes, under their names.
-use Rattle.std.specs.Prelude.{◌≡◌, ℕ, List, IsTrue, Option, Result, Some, None, Vec, ⊤, length}
+use Rattle.std.specs.Prelude.{◌≡◌, ℕ, List, IsTrue, Option, Result, Ok, Err, Some, None, Vec, ⊤, length}
 use Rattle.std.specs.declared.alloc.Global.{Global}
 use Rattle.dsd_bits.specs.Contents.{Content}
 use Rattle.dsd_bits.specs.Shape.{HasShape}
@@ -21,24 +21,25 @@ pub record HearsHeld (splice : SpliceContent) (number : ℕ) (file : List ℕ) (
   pub shape : HasShape recording
   pub is_heard : heard_content heard ≡ heard_of splice number recording
 
--- this was heard of a file in one pass, or nothing, and the file holds no recording
-abbrev pub IsHeardIn : SpliceContent → ℕ → List ℕ → Option Heard → Type 0
-IsHeardIn splice number file (Some heard) = HearsHeld splice number file heard
+-- this was heard of a file in one pass, or is its fault as that of the take of a number, or nothing, and the file holds no recording
+abbrev pub IsHeardIn : SpliceContent → ℕ → List ℕ → Option (Result Heard CutFault) → Type 0
+IsHeardIn splice number file (Some (Ok heard)) = HearsHeld splice number file heard
+IsHeardIn splice number file (Some (Err fault)) = take_in number file ≡ Err fault
 IsHeardIn splice number file None = IsRefused file
 
--- some bytes hold what was heard
-abbrev pub IsHeardInSome : SpliceContent → ℕ → Option Heard → Type 0
-IsHeardInSome splice number (Some heard) = (file : List ℕ) × HearsHeld splice number file heard
+-- some bytes hold what was heard, or have this fault
+abbrev pub IsHeardInSome : SpliceContent → ℕ → Option (Result Heard CutFault) → Type 0
+IsHeardInSome splice number (Some heard) = (file : List ℕ) × IsHeardIn splice number file (Some heard)
 IsHeardInSome splice number None = ⊤
 
--- this was heard of bytes that were read of a name, in one pass
-pub record StreamsRead (old : View) (splice : SpliceContent) (number : ℕ) (name : List ℕ) (heard : Heard) : Type 0 where
+-- this was heard of bytes that were read of a name, in one pass, or is their fault
+pub record StreamsRead (old : View) (splice : SpliceContent) (number : ℕ) (name : List ℕ) (heard : Result Heard CutFault) : Type 0 where
   pub file : List ℕ
   pub file_read : IsReadOf old name file
-  pub is_heard : HearsHeld splice number file heard
+  pub is_heard : IsHeardIn splice number file (Some heard)
 
 -- the same, or nothing: where the folder has known bytes, an opening of the name gives no recording
-abbrev pub StreamsFile : View → SpliceContent → ℕ → List ℕ → Option Heard → Type 0
+abbrev pub StreamsFile : View → SpliceContent → ℕ → List ℕ → Option (Result Heard CutFault) → Type 0
 StreamsFile old splice number name (Some heard) = StreamsRead old splice number name heard
 StreamsFile old splice number name None = IsTrue old.is_told → (file : List ℕ) × Gives old name file × IsRefused file
 

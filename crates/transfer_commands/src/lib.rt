@@ -6,7 +6,7 @@
 //! - [`open_file`] reads a recording to report what it holds.
 //! - [`hear_sources`] reads a project and then its takes by their numbers, and keeps of them what the splice reads.
 //!
-//! The last three read a short file whole, and any other in one pass. The calls are those of `transfer_core`, the files
+//! The last three read a file in one pass, but that [`convert_file`] reads a short one whole. The calls are those of `transfer_core`, the files
 //! those of `folder_core`. A command returns its first fault.
 //!
 //! The words of the contracts, over any folder, of which `old` is known before and `new` after:

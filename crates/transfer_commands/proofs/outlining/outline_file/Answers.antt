@@ -30,7 +30,7 @@ pub returns-in-Err-Stream-FileRefused-clause-found : goal.returns-in-Err-Stream-
 returns-in-Err-Stream-FileRefused-clause-found g c = λ told.
     let given = c.in-Ok.ensures.bytes told in
     let left = ap g.F.In.Read.remaining c.new-inlet.ensures.reader ∙ given.2 in
-    (given.0, given.1, subst (λ (o : Option (List ℕ)). IfSome o IsRefused) left (rw (c.in-Err-Stream-FileRefused.field-0-is) at c.in-Err-Stream-FileRefused.ensures.fault))
+    (given.0, given.1, subst (λ (o : Option (List ℕ)). IfSome o IsRefused) left (rw (c.in-Err-Stream-FileRefused.field-0-is, c.in-Err-Stream-FileRefused.field-0-0-is) at c.in-Err-Stream-FileRefused.ensures.fault))
 
 pub returns : goal.returns
 returns g c = record { same = c.open.ensures.same; around = tt; found = tt; fault = tt }

@@ -10,7 +10,7 @@ use chunk_core::{Inlet, Outlet};
 use fixtures::devices::{Dripping, Sipping, drip, sip};
 use fixtures::files::{FILE, ONES_FILE, STEREO, followed, mono, noted, one_bit, three, with_sound};
 use form_core::Form;
-use sound_core::{Outline, StreamFault, read_outline};
+use sound_core::{Outline, StreamFault, Unread, read_outline};
 use std::alloc::{AllocError, Global};
 use std::process::Abort;
 use std::test::Fail;
@@ -20,7 +20,11 @@ use transfer_core::{Converted, Fault, convert, convert_stream};
 fn outline_of(alloc: Global, file: &[u8]) -> Result<Outline, StreamFault>
     ensures { IfOk result (λ outline. AreTold (around_of outline)) }
 {
-    read_outline(alloc, &mut Inlet::new(drip(file, 4096, NEVER)))
+    match read_outline(alloc, &mut Inlet::new(drip(file, 4096, NEVER))) {
+        Ok(outline) => Ok(outline),
+        Err(Unread::Refused(_)) => Err(StreamFault::FileRefused),
+        Err(Unread::Stream(fault)) => Err(fault),
+    }
 }
 
 // Converts from a reader to a writer by an outline.

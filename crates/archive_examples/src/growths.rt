@@ -260,7 +260,7 @@ fn a_file_is_converted_in_blocks(rt: HostRuntime) -> Result<(), Fail> {
 fn count_told(alloc: Global, file: &[u8]) -> Result<usize, Fault> {
     let files: [(&str, &[u8]); 1] = [("in", file)];
     let mut shelf = shelf_of(&files);
-    match open_file(alloc, &mut shelf, "in", 0) {
+    match open_file(alloc, &mut shelf, "in") {
         Ok(told) => Ok(told.description.count()),
         Err(fault) => Err(fault_of(Outcome::from(fault))),
     }
@@ -283,7 +283,7 @@ fn takes_heard(alloc: Global, sources: &Sources) -> Result<usize, Fault> {
         ("b.dff", second),
     ];
     let mut shelf = shelf_of(&files);
-    match hear_sources(alloc, &mut shelf, "e.toml", 0) {
+    match hear_sources(alloc, &mut shelf, "e.toml") {
         Ok(found) => Ok(found.takes?.len()),
         Err(fault) => Err(fault_of(Outcome::from(fault))),
     }

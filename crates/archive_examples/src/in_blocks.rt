@@ -29,8 +29,8 @@ fn converted<F: Folder>(
 }
 
 // What is reported of `in` in a folder, as it is printed.
-fn told<F: Folder>(alloc: Global, folder: &mut F, most: usize) -> Result<String, AllocError> {
-    let outcome = match open_file(alloc, folder, "in", most) {
+fn told<F: Folder>(alloc: Global, folder: &mut F) -> Result<String, AllocError> {
+    let outcome = match open_file(alloc, folder, "in") {
         Ok(told) => Outcome::Info(told),
         Err(fault) => Outcome::from(fault),
     };
@@ -46,7 +46,7 @@ fn said(
 ) -> Result<String, AllocError> {
     match form {
         Some(form) => converted(alloc, folder, form, most),
-        None => told(alloc, folder, most),
+        None => told(alloc, folder),
     }
 }
 

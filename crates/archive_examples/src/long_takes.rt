@@ -145,7 +145,7 @@ fn number_of(sources: Heard) -> Result<usize, Fault> {
 
 // How many takes are read in a folder if each is treated as a long one.
 fn number_heard(alloc: Global, folder: &mut WatchedFolder) -> Result<usize, CommandFault> {
-    let sources = hear_sources(alloc, folder, "e.toml", 0)?;
+    let sources = hear_sources(alloc, folder, "e.toml")?;
     Ok(number_of(sources)?)
 }
 
@@ -179,35 +179,35 @@ const UNREAD: &str = "fault: TakeUnread 1 Dsdiff Chunk DataCut 114";
 // What fails, the line, and exactly what the folder is asked for.
 type Case = (Failure, &'static str, &'static str);
 
-// A take is opened twice.
+// A take is opened once.
 const CALLS: [Case; 4] = [
     (
         NOTHING,
         "takes 2",
-        "open e.toml\nopen a.dff\nopen a.dff\nopen b.dff\nopen b.dff\n",
+        "open e.toml\nopen a.dff\nopen b.dff\n",
     ),
     (
         ("open", "b.dff", 0),
         "fault: ReadFailed",
-        "open e.toml\nopen a.dff\nopen a.dff\nopen b.dff\n",
+        "open e.toml\nopen a.dff\nopen b.dff\n",
     ),
     (
         ("read", "b.dff", 0),
         "fault: ReadFailed",
-        "open e.toml\nopen a.dff\nopen a.dff\nopen b.dff\nopen b.dff\n",
+        "open e.toml\nopen a.dff\nopen b.dff\n",
     ),
     (
         ("read", "a.dff", 0),
         "fault: ReadFailed",
-        "open e.toml\nopen a.dff\nopen a.dff\n",
+        "open e.toml\nopen a.dff\n",
     ),
 ];
 
-// A take that holds no recording is opened a third time.
-const THRICE: Case = (
+// So is one that holds no recording.
+const REFUSED: Case = (
     NOTHING,
     UNREAD,
-    "open e.toml\nopen a.dff\nopen a.dff\nopen b.dff\nopen b.dff\nopen b.dff\n",
+    "open e.toml\nopen a.dff\nopen b.dff\n",
 );
 
 // Whether reading the takes, of which this is the second, ends as a case says.
@@ -218,12 +218,12 @@ fn asks(alloc: Global, second: &[u8], (failure, line, calls): &Case) -> Result<b
 }
 
 #[test]
-fn opens_takes_again(rt: HostRuntime) {
+fn opens_takes_once(rt: HostRuntime) {
     let alloc = rt.alloc();
     for case in &CALLS {
         assert!(rt; asks(alloc, &ZEROS, case).unwrap_or(false), "{}", case.1);
     }
-    assert!(rt; asks(alloc, &CUT_OFF, &THRICE).unwrap_or(false));
+    assert!(rt; asks(alloc, &CUT_OFF, &REFUSED).unwrap_or(false));
 }
 
 // Whether reading ends with this line if the second take is cut off at first, and whole after files were opened `often`
@@ -234,9 +234,9 @@ fn is_heard_changed(alloc: Global, often: usize, line: &str) -> Result<bool, All
     is_heard(alloc, &mut folder, line)
 }
 
-// If it is whole at its third opening, it is still read. Otherwise it is not.
+// It counts what the file is when it is opened.
 #[test]
-fn hears_a_take_that_is_whole_in_the_end(rt: HostRuntime) {
-    assert!(rt; is_heard_changed(rt.alloc(), 5, "takes 2").unwrap_or(false));
-    assert!(rt; is_heard_changed(rt.alloc(), 6, UNREAD).unwrap_or(false));
+fn hears_a_take_as_it_is_opened(rt: HostRuntime) {
+    assert!(rt; is_heard_changed(rt.alloc(), 2, "takes 2").unwrap_or(false));
+    assert!(rt; is_heard_changed(rt.alloc(), 3, UNREAD).unwrap_or(false));
 }

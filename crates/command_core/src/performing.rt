@@ -76,7 +76,7 @@ pub fn perform<F: Folder>(alloc: Global, task: Task, folder: &mut F) -> Outcome
             master,
             cert,
         } => judged(check_files(alloc, folder, project, master, cert)),
-        Task::Info { file } => told(open_file(alloc, folder, file, MOST_KEPT)),
+        Task::Info { file } => told(open_file(alloc, folder, file)),
     }
 }
 
@@ -92,7 +92,7 @@ fn edit_files<F: Folder>(
 ) -> Result<u128, CommandFault>
     ensures { EditComesTo (record { form = form; project_name = project.now; master_name = master.now; cert_name = cert.now }) (F.view folder.old) (F.view folder.new) result }
 {
-    let sources = hear_sources(alloc, folder, project, MOST_KEPT)?;
+    let sources = hear_sources(alloc, folder, project)?;
     let mut planned = cut_sources(alloc, folder, sources, form)?;
     let total = planned.total();
     write_master(folder, &mut planned, master, cert)?;
@@ -111,7 +111,7 @@ fn check_files<F: Folder>(
 ) -> Result<Verdict, CommandFault>
     ensures { CheckComesTo project.now master.now cert.now (F.view folder.old) (F.view folder.new) result }
 {
-    let sources = hear_sources(alloc, folder, project, MOST_KEPT)?;
+    let sources = hear_sources(alloc, folder, project)?;
     let cut = match cut_of(sources, None) {
         Ok(cut) => cut,
         Err(fault) => return Err(fault_behind(folder, master, cert, fault)),

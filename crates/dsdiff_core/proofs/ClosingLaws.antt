@@ -32,7 +32,7 @@ abbrev pub outline_told : Option Described → Option Content
 outline_told None = None
 outline_told (Some d) = Some (with_channels d (replicate (length d.ids) []))
 
-long_zeros : (n : ℕ) → length (replicate {A = ℕ} n 0) ≡ n
+pub long_zeros : (n : ℕ) → length (replicate {A = ℕ} n 0) ≡ n
 long_zeros n = length-replicate {A = ℕ} n 0
 
 outlined : (front back : List ℕ) (s : Sound) (r : Result Described DsdiffFault) → EndsAt front s → description_of (with_zeros front back) ≡ r → TellsOutline front s back (outline_told (result_ok r))

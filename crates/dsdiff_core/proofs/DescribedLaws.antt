@@ -7,6 +7,7 @@ use Rattle.chunk_core.specs.declared.layout.Span.{Span}
 use Rattle.chunk_core.specs.Places.{span_chunk}
 use Rattle.chunk_core.specs.Steps.{◌>>=◌}
 use Rattle.chunk_core.proofs.Steps.{bind_then}
+use Rattle.dsdiff_core.specs.Steps.{Fails}
 use Rattle.dsd_bits.specs.Channels.{count_of}
 use Rattle.dsd_bits.specs.Contents.{Content, Described, described, with_channels}
 use Rattle.dsd_bits.specs.Ids.{DSD}
@@ -14,6 +15,7 @@ use Rattle.dsd_bits.specs.Lacing.{unlaced, unlaced_all}
 use Rattle.dsd_bits.specs.Layouts.{usual_layout}
 use Rattle.dsd_bits.specs.Shape.{AreDescribed}
 use Rattle.dsdiff_core.specs.declared.fault.DsdiffFault.{DsdiffFault}
+use Rattle.dsdiff_core.specs.declared.fault.DsdiffFault.TheVariants as faults
 use Rattle.dsdiff_core.specs.declared.held.Held.{Held}
 use Rattle.dsdiff_core.specs.Forms.{top_of}
 use Rattle.dsdiff_core.specs.Fronts.{IsAccepted, form_of, located, seek, size_at}
@@ -238,3 +240,7 @@ parted_at file at f rest sound found low high few hole inside front rest_is soun
     let size : f.hole ≡ sound_size f.front.now = hole ∙ (ap (λ (xs : List ℕ). size_at xs at) whole ∙ number_front 8 (at + 4) f.front.now rest (omega (arith, front_long)) ∙ ap (size_at f.front.now) (sym place)) in
     let total : length f.front.now + f.hole + length f.back.now < 2 ^ 64 = omega (arith, front_long, inside, few, rest_long, ap length split, length-append sound f.back.now, long) in
     record { is_held = inr (head, size, total); is = whole ∙ ap (λ xs. f.front.now ++ xs) split; long = long; located = λ accepted. (head, size) }
+
+pub fails_of : (file : List ℕ) (f : DsdiffFault) → Fails f (description_of file) → Fails f (recording_of file)
+fails_of file faults.Memory h = tt
+fails_of file f h = fault_of file f h

@@ -48,7 +48,7 @@ end_ok file n e =
       same,
     )
 
-end_again : (file : List ℕ) → IsForm file → end_of file ≡ Ok (form_end file)
+pub end_again : (file : List ℕ) → IsForm file → end_of file ≡ Ok (form_end file)
 unfolding end_of
 end_again file h =
     rw (le-ltb (length file) 16 h.long, same_again (take 4 file) FRM8 refl h.form, same_again (take 4 (drop 12 file)) DSD refl h.kind, le-ltb (form_size file) 4 h.holds_type, le-ltb (length file + 1) (12 + form_size file) h.in_file) refl

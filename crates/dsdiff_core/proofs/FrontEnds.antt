@@ -128,7 +128,7 @@ same_behind short front at s range size e =
 
 -- ---- the law
 
-form_front : (front rest : List ℕ) → 16 ≤ length front → form_of (front ++ rest) ≡ form_of front
+pub form_front : (front rest : List ℕ) → 16 ≤ length front → form_of (front ++ rest) ≡ form_of front
 unfolding form_of
 form_front front rest long = rw (part_front 4 0 front rest (omega arith), part_front 4 12 front rest (omega arith), number_front 8 4 front rest (omega arith)) refl
 

@@ -8,6 +8,8 @@ pub mod WalkLaws
 pub mod Alike
 pub mod AnySound
 pub mod HeadLaws
+pub mod LocatedLaws
+pub mod CutLaws
 pub mod HeldLaws
 pub mod DescribedLaws
 pub mod ClosingLaws

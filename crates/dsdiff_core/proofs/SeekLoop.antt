@@ -1,5 +1,6 @@
 -- The loop that looks for the head of the sound.
-use Rattle.std.proofs.Common.{◌≡◌, ℕ, zero, suc, ◌+◌, ◌-◌, ◌%◌, ◌≤◌, ◌<◌, true, false, cond, ltb, List, length, take, drop, Option, Some, None, Result, Ok, Err, refl, sym, ◌∙◌, arith}
+use Rattle.std.proofs.Common.{◌≡◌, ℕ, zero, suc, ◌+◌, ◌-◌, ◌%◌, ◌≤◌, ◌<◌, true, false, cond, ltb, List, [], ◌++◌, length, take, drop, Option, Some, None, Result, Ok, Err, refl, sym, ap, subst, ◌∙◌, arith}
+use Rattle.std.proofs.lemmas.List.{append-nil, append_assoc, length-append}
 use Rattle.std.proofs.lemmas.Bool.{lt-ltb, le-ltb}
 use Rattle.chunk_core.specs.declared.fault.ChunkFault.TheVariants.{DataCut}
 use Rattle.dsd_bits.specs.Ids.{same_id, DSD}
@@ -7,14 +8,8 @@ use Rattle.dsdiff_core.specs.declared.fault.DsdiffFault.{DsdiffFault}
 use Rattle.dsdiff_core.specs.declared.fault.DsdiffFault.TheVariants as faults
 use Rattle.dsdiff_core.specs.Fields.{form_size}
 use Rattle.dsdiff_core.specs.Fronts.{seek, seek_for, size_at}
-
--- what the loop keeps: what is still sought is what was sought
-pub record IsSought (front : List ℕ) (at size : ℕ) : Type 0 where
-  pub from : 16 ≤ at
-  pub within : at ≤ length front + 1
-  pub steps : ℕ
-  pub enough : length front + 1 < at + steps
-  pub so_far : seek_for steps at front size ≡ seek front
+use Rattle.dsdiff_core.specs.Walks.{IsSought, IsWalked}
+use Rattle.dsdiff_core.proofs.LeadLaws.{number_front, part_front}
 
 pub sought_first : (front : List ℕ) (size : ℕ) → 16 ≤ length front → size ≡ form_size front → IsSought front 16 size
 unfolding seek
@@ -78,3 +73,27 @@ module _ (front : List ℕ) (at size : ℕ) (w : IsSought front at size) where
       let one : seek front ≡ seek_for on.steps (next_at front at) front size =
       on.is ∙ rw (le-ltb size at (omega arith), le-ltb (length front) (at + 12) (omega arith), le-ltb size (at + size_at front at) m, id, le-ltb (length front) (at + 12 + size_at front at) n) refl in
       record { from = omega (arith, w.from); within = omega arith; steps = on.steps; enough = omega (arith, on.enough); so_far = sym one }
+
+-- ---- whatever follows the front
+pub walked_first : (front : List ℕ) → IsWalked front 16
+walked_first front = λ rest long. sought_first (front ++ rest) (form_size (front ++ rest)) long refl
+
+pub walked_later : (front more : List ℕ) (at : ℕ) → IsWalked front at → IsWalked (front ++ more) at
+walked_later front more at w = λ rest long.
+    let whole : (front ++ more) ++ rest ≡ front ++ (more ++ rest) = append_assoc front more rest in
+    subst (λ file. IsSought file at (form_size file)) (sym whole) (w (more ++ rest) (omega (arith, ap length whole, long)))
+
+-- of the front itself
+pub walked_here : (front : List ℕ) (at size : ℕ) → 16 ≤ length front → size ≡ form_size front → IsWalked front at → IsSought front at size
+walked_here front at size long e w =
+    rw e (subst (λ file. IsSought file at (form_size file)) (append-nil front) (w [] (omega (arith, ap length (append-nil front), long))))
+
+-- over a chunk that the front holds
+pub walked_on : (front : List ℕ) (at size : ℕ) → 16 ≤ length front → size ≡ form_size front → IsWalked front at → at + size_at front at ≤ size → same_id (take 4 (drop at front)) DSD ≡ false → at + 12 + size_at front at ≤ length front → IsWalked front (next_at front at)
+walked_on front at size long e w fits id held = λ rest more.
+    let file : List ℕ = front ++ rest in
+    let here : size_at file at ≡ size_at front at = number_front 8 (at + 4) front rest (omega (arith, held)) in
+    let form : form_size file ≡ form_size front = number_front 8 4 front rest (omega (arith, long)) in
+    let other : same_id (take 4 (drop at file)) DSD ≡ false = ap (λ (x : List ℕ). same_id x DSD) (part_front 4 at front rest (omega (arith, held))) ∙ id in
+    let next : next_at file at ≡ next_at front at = ap (λ (n : ℕ). at + (12 + n + n % 2)) here in
+    subst (λ (n : ℕ). IsSought file n (form_size file)) next (sought_on file at (form_size file) (w rest more) (omega (arith, fits, here, form, e)) other (omega (arith, held, here, length-append front rest)))

@@ -17,6 +17,8 @@ pub mod Held
 pub mod Reading
 pub mod Writing
 pub mod ReadAgain
+pub mod Walks
 pub mod Laws
 pub mod Located
 pub mod SoundBytes
+pub mod Cuts

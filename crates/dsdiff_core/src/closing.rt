@@ -1,16 +1,20 @@
 //! What the bytes around the sound of a file say of it.
 
-ghost use Rattle.std.specs.Prelude.{◌≡◌, ◌≤◌, ◌+◌, ◌-◌, ◌++◌, ◌↔◌, IfOk, length, replicate, true};
+ghost use Rattle.std.specs.Prelude.{◌≡◌, ◌≤◌, ◌<◌, ◌+◌, ◌-◌, ◌++◌, ◌↔◌, List, ℕ, IfErr, IfOk, Err, Some, length, replicate, true};
 ghost use Rattle.std.specs.Result.{result_ok};
 ghost use Rattle.dsd_bits.specs.declared.sound.Sound.{Sound};
+ghost use Rattle.dsdiff_core.specs.Cuts.{EndsAtChunk, cut_fault, last_size};
+ghost use Rattle.dsdiff_core.specs.Fields.{form_end};
 ghost use Rattle.dsdiff_core.specs.Fronts.{EndsAt, EndsAtSound, IsAccepted, left_behind, size_at};
 ghost use Rattle.dsdiff_core.specs.Located.{EndsAtHead, sound_size};
 ghost use Rattle.dsdiff_core.specs.Outlines.{TellsOutline};
+ghost use Rattle.dsdiff_core.specs.Reading.{recording_of};
 ghost use Rattle.dsdiff_core.specs.SoundBytes.{description_of, with_zeros};
+ghost use Rattle.dsdiff_core.specs.Steps.{Fails};
 
-use crate::describing::describe_around;
+use crate::describing::{describe, describe_around};
 use crate::fault::DsdiffFault;
-use chunk_core::{Order, u64_at};
+use chunk_core::{ChunkFault, Order, u64_at};
 use dsd_bits::{Description, Recording};
 use std::alloc::{AllocError, Global};
 
@@ -49,18 +53,45 @@ pub fn closes(alloc: Global, front: &[u8], back: &[u8]) -> Result<bool, AllocErr
 }
 
 /// What a file tells beside its bits that is `front`, which ends where the sound starts, as many bytes as the
-/// sound has, and `back`: its recording with channels of no bits. `None` where no such file is accepted by
-/// [`crate::read`]. Which bytes the sound has does not matter.
+/// sound has, and `back`: its recording with channels of no bits, or the fault with which [`crate::read`] refuses it.
+/// Which bytes the sound has does not matter.
 ///
-/// It fails for want of memory alone.
-pub fn outline(alloc: Global, front: &[u8], back: &[u8]) -> Result<Option<Recording>, AllocError>
+/// `Memory` may come in place of any of them.
+pub fn outline(alloc: Global, front: &[u8], back: &[u8]) -> Result<Recording, DsdiffFault>
     requires { EndsAtSound front.now }
-    ensures { (s : Sound) → EndsAt front.now s → IfOk result (TellsOutline front.now s back.now) }
+    ensures told { (s : Sound) → EndsAt front.now s → IfOk result (λ r. TellsOutline front.now s back.now (Some r)) }
+    ensures fault { IfErr result (λ e. (sound : List ℕ) → length sound ≡ sound_size front.now
+        → Fails e (recording_of (front.now ++ (sound ++ back.now)))) }
 {
-    let Some(description) = told_around(alloc, front, back)? else {
-        return Ok(None);
-    };
-    Ok(Some(Recording::silent(alloc, description)?))
+    let description = describe(alloc, front, back)?;
+    Ok(Recording::silent(alloc, description)?)
+}
+
+/// The fault of a file of `total` bytes that begins with `front`, which ends with the head of a chunk of the form, where
+/// the data of that chunk end behind the form or the file: `FormCut` where the form does, and `Chunk` with `DataCut`
+/// otherwise.
+///
+/// It takes no memory.
+pub fn cut_fault(front: &[u8], total: u64) -> DsdiffFault
+    requires { EndsAtChunk front.now }
+    ensures value { result ≡ cut_fault front.now total }
+    ensures fault { (rest : List ℕ) → length (front.now ++ rest) ≡ total
+        → form_end (front.now ++ rest) < length front.now + last_size front.now
+        → recording_of (front.now ++ rest) ≡ Err result }
+{
+    fault_told(front, total)
+}
+
+// The same, by the size of the form.
+fn fault_told(front: &[u8], total: u64) -> DsdiffFault
+    requires { 12 ≤ length front.now }
+    ensures { result ≡ cut_fault front.now total }
+{
+    let size = u64_at(Order::Big, front, 4);
+    if total < 11 || total - 11 < size {
+        return DsdiffFault::FormCut;
+    }
+    DsdiffFault::Chunk(ChunkFault::DataCut(front.len() - 12))
 }
 
 // What is described, where it is accepted.

@@ -16,8 +16,8 @@
 //! where a mark is; [`mark_at`] makes the mark of a title that starts at a place. A recording whose
 //! channels end inside a byte has no file.
 //!
-//! A file can also be read and written around its sound, which is then never held: [`sound_at`] says where the
-//! sound starts, [`outline`] gives the recording without bits by what stands before the sound and behind it, and
+//! A file can also be read and written around its sound, which is then never held: [`locate`] says where the
+//! sound starts, and goes on where it ended when more bytes came, [`outline`] gives the recording without bits by what stands before the sound and behind it, and
 //! [`write_head`] and [`write_tail`] give what the file of a recording has around its sound.
 //!
 //! The words of its contracts:
@@ -64,6 +64,7 @@ mod form;
 mod front;
 mod held;
 mod laws;
+mod locating;
 mod marks;
 mod masters;
 mod once;
@@ -77,16 +78,16 @@ mod write_fault;
 mod writing;
 mod writing_laws;
 
-pub use closing::{bytes_behind, closes, outline};
+pub use closing::{bytes_behind, closes, cut_fault, outline};
 pub use describing::describe;
 pub use fault::DsdiffFault;
 pub use fields::fields_fit;
-pub use front::sound_at;
 pub use laws::{
     accepted_files_have_a_head, accepted_files_tell_their_sound,
     bytes_behind_the_form_do_not_matter, bytes_of_sound_do_not_matter, front_ends_at_sound,
     one_recording, what_is_told_is_found,
 };
+pub use locating::{Located, locate, sound_at};
 pub use places::{mark_at, place};
 pub use reading::read;
 pub use write_fault::WriteFault;

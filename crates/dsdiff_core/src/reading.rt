@@ -10,7 +10,7 @@ ghost use Rattle.dsdiff_core.specs.Steps.{Gives};
 
 use crate::describing::describe_held;
 use crate::fault::DsdiffFault;
-use crate::front::locate;
+use crate::front::find_sound;
 use crate::held::{Held, whole};
 use crate::sound::channels_of;
 use chunk_core::{Order, u64_at};
@@ -66,7 +66,7 @@ fn read_in_order(alloc: Global, file: &[u8]) -> Result<Recording, DsdiffFault>
 fn part(file: &[u8]) -> (Held, &[u8])
     ensures { IsParted file.now result.0 result.1.now }
 {
-    match locate(file) {
+    match find_sound(file) {
         Ok(Some(at)) => part_at(file, at),
         Ok(None) => (whole(file), &[]),
         Err(_) => (whole(file), &[]),

@@ -1,5 +1,5 @@
 -- What stands around a sound, by the format's own reading.
-use Rattle.std.proofs.Common.{◌≡◌, ◌≢◌, ℕ, ◌+◌, ◌%◌, ◌<◌, ◌≤◌, ◌⊎◌, inl, inr, min, Bool, true, false, List, [], ◌++◌, length, take, drop, Option, Some, None, IfSome, refl, sym, subst, ap, ap₂, ◌∙◌, arith, append_assoc, append-nil, length-append, length-drop, length-take, take-append-drop}
+use Rattle.std.proofs.Common.{◌≡◌, ◌≢◌, ℕ, ◌+◌, ◌%◌, ◌<◌, ◌≤◌, ◌⊎◌, inl, inr, min, Bool, true, false, List, [], ◌++◌, length, take, drop, Option, Some, None, IfSome, Result, Err, refl, sym, subst, ap, ap₂, ◌∙◌, arith, append_assoc, append-nil, length-append, length-drop, length-take, take-append-drop}
 use Rattle.std.proofs.lemmas.List.{nil_from_length, take_all}
 use Rattle.std.proofs.lemmas.Bool.{cases_lt, le-ltb, lt-ltb, ltb-false, ltb-true, ne_eqb}
 use Rattle.std.proofs.Math.Seq.{drop-append_seam, take-append_seam}
@@ -15,7 +15,20 @@ use Rattle.dsd_bits.specs.Contents.{Content}
 use Rattle.dsd_bits.specs.Lacing.{unlaced_all}
 use Rattle.dsd_bits.specs.Sounds.{IsSound, sound_bytes, sound_channels}
 use Rattle.dsdiff_core.specs.Files.{IsDsdiff}
+use Rattle.dsdiff_core.specs.declared.fault.DsdiffFault.{DsdiffFault}
+use Rattle.dsdiff_core.specs.declared.fault.DsdiffFault.TheVariants as dsdiff_faults
+use Rattle.dsdiff_core.specs.Fields.{form_size}
 use Rattle.dsdiff_core.specs.Fronts as dsdiff
+use Rattle.dsdiff_core.specs.Located.{EndsAtHead, sound_size}
+use Rattle.dsdiff_core.specs.Reading.{recording_of}
+use Rattle.dsdiff_core.specs.Steps.{Fails}
+use Rattle.dsdiff_core.proofs.CutLaws.{form_is_read}
+use Rattle.dsdiff_core.proofs.HeadLaws.{ends_at_head}
+use Rattle.dsdiff_core.proofs.LeadLaws.{number_front}
+use Rattle.dsdiff_core.proofs.WalkLaws as form_walk
+use Rattle.form_core.specs.Faults.{dsdiff_fault}
+use Rattle.form_core.specs.Opening.{opened_of}
+use Rattle.form_core.specs.declared.fault.ReadFault.{ReadFault}
 use Rattle.dsdiff_core.specs.Outlines as frames
 use Rattle.dsf_core.specs.Fields.{needed, tag_told}
 use Rattle.dsf_core.specs.Files.{IsDsf}
@@ -23,12 +36,14 @@ use Rattle.dsf_core.specs.Fronts as dsf
 use Rattle.dsf_core.proofs.FrontLaws.{found_leads}
 use Rattle.sound_core.specs.Files.{EndsAt, HoldsRecording, IsRefused, TellsSound}
 use Rattle.sound_core.specs.Outlines.{AreTold, HoldsIn, KeepsBehind, IsOutlineFault, IsRestFault, IsTagFault, ReadsTag, StandsIn, Surroundings, Surrounds, with_sound}
-use Rattle.sound_core.specs.Readers.{IsPassFault, Passes}
+use Rattle.sound_core.specs.Naming.{IsNamed, IsRestNamed, IsSure, NamesFault, is_memory}
+use Rattle.sound_core.specs.Readers.{FallsShort, IsPassFault, Passes}
 use Rattle.sound_core.specs.Reads.{Reads}
 use Rattle.sound_core.specs.Sinks.{BeginsSound, IsFed, StopsSound, StopsTaking}
 use Rattle.sound_core.specs.declared.fault.StreamFault.{StreamFault}
 use Rattle.sound_core.specs.declared.fault.StreamFault.TheVariants.{FileRefused, RateNotDivided, TooLarge, ReadFailed, WriteFailed, TurnLimit, Memory}
-use Rattle.sound_core.proofs.ClosingLaws.{ends, ends_at, found, leads, no_form, nothing_left, same_form}
+use Rattle.sound_core.proofs.NamingLaws.{cut_form, sure_all, sure_end}
+use Rattle.sound_core.proofs.ClosingLaws.{ends, ends_at, form_ends_at, found, leads, no_form, nothing_left, same_form}
 use Rattle.sound_core.proofs.HeadLaws.{never_found}
 use Rattle.sound_core.proofs.OutlineLaws.{left_is}
 use Rattle.sound_core.proofs.ReadLaws.{reads_on}
@@ -160,6 +175,15 @@ module _ (head : List ℕ) (s : Sound) (at : EndsAt head s) (order : BitOrder) (
             | inr (other, is) ↦ refused rest (omega (arith, size, long, long_is, length-append head rest, length-append sound (back ++ xs), length-append back xs)) (r, other, is)
           ]
 
+-- a fault that is no want of memory
+pub not_memory : (e : DsdiffFault) → is_memory e ≡ false → e ≢ dsdiff_faults.Memory
+not_memory e other same = (let both : true ≡ false = ap is_memory (sym same) ∙ other in absurd cc)
+
+-- a fault that is known
+pub fails_is : {A : Type 0} (e : DsdiffFault) (r : Result A DsdiffFault) → e ≢ dsdiff_faults.Memory → Fails e r → r ≡ Err e
+fails_is dsdiff_faults.Memory r some h = absurd (some refl)
+fails_is e r some h = h
+
 -- ---- a DSDIFF file
 -- what is kept of the bytes behind a sound: those of the form; whether the file ends with them
 pub record IsBehind (head : List ℕ) (size : ℕ) (all back : List ℕ) (ends : Bool) (new : Option (List ℕ)) : Type 0 where
@@ -276,6 +300,47 @@ module _ (head : List ℕ) (s : Sound) (at : EndsAt head s) (told : s.interleavi
             | inr (order, is_dsf) ↦ never_found head (sound ++ (back ++ (behind.rest ++ ys.0))) s r order (found head s at told) is_dsf
           ]
 
+  -- the fault of what stands around the sound is that of all that is known
+  pub frames_named : (new : Option (List ℕ)) (old all back read : List ℕ) (ends : Bool) (e : DsdiffFault) → all ≡ old ++ read → IsBehind head s.size all back ends new → e ≢ dsdiff_faults.Memory
+      → ((sound : List ℕ) → length sound ≡ sound_size head → Fails e (recording_of (head ++ (sound ++ back)))) → (sound : List ℕ) → length sound ≡ s.size → IsSure new (head ++ (sound ++ (old ++ read))) (dsdiff_fault e)
+  frames_named new old all back read final e is behind some fails sound long = by final refl
+    where
+      h : EndsAtHead head
+      h = (ends_at_head head s (form_ends_at head s at told)).0
+
+      least : 28 ≤ length head
+      least = form_walk.long head h
+
+      file : List ℕ
+      file = head ++ (sound ++ back)
+
+      here : recording_of file ≡ Err e
+      here = fails_is e (recording_of file) some (fails sound (long ∙ (ends_at_head head s (form_ends_at head s at told)).1))
+
+      named : (more : List ℕ) → recording_of (head ++ more) ≡ Err e → opened_of (head ++ more) ≡ Err (dsdiff_fault e)
+      named more = cut_form head more s e (form_ends_at head s at told)
+
+      joined : (more : List ℕ) → file ++ more ≡ head ++ (sound ++ (back ++ more))
+      joined more = append_assoc head (sound ++ back) more ∙ ap (λ xs. head ++ xs) (append_assoc sound back more)
+
+      parts : old ++ read ≡ back ++ behind.rest
+      parts = sym is ∙ behind.parts
+
+      by : (b : Bool) → final ≡ b → IsSure new (head ++ (sound ++ (old ++ read))) (dsdiff_fault e)
+      by true whole_file =
+          let last = behind.shorter whole_file in
+          let all_back : old ++ read ≡ back = parts ∙ ap (λ xs. back ++ xs) last.0 ∙ append-nil back in
+          sure_end new (head ++ (sound ++ (old ++ read))) (dsdiff_fault e) last.1 (subst (λ xs. opened_of (head ++ (sound ++ xs)) ≡ Err (dsdiff_fault e)) (sym all_back) (named (sound ++ back) here))
+      by false whole_form =
+          let size : form_size file ≡ form_size head = number_front 8 4 head (sound ++ back) (omega (arith, least)) in
+          let whole : 12 + form_size file ≤ length file = omega (arith, size, behind.whole whole_form, long, length-append head (sound ++ back), length-append sound back) in
+          sure_all new (head ++ (sound ++ (old ++ read))) (dsdiff_fault e) (λ rest.
+          let more : List ℕ = behind.rest ++ rest in
+          let file_is : (head ++ (sound ++ (old ++ read))) ++ rest ≡ head ++ (sound ++ (back ++ more)) =
+          append_assoc head (sound ++ (old ++ read)) rest ∙ ap (λ xs. head ++ xs) (append_assoc sound (old ++ read) rest ∙ ap (λ xs. sound ++ xs) (ap (λ xs. xs ++ rest) parts ∙ append_assoc back behind.rest rest)) in
+          let same : recording_of (head ++ (sound ++ (back ++ more))) ≡ Err e = subst (λ f. recording_of f ≡ Err e) (joined more) (form_is_read file more (omega (arith, least, length-append head (sound ++ back))) whole ∙ here) in
+          subst (λ f. opened_of f ≡ Err (dsdiff_fault e)) (sym file_is) (named (sound ++ (back ++ more)) same))
+
 -- ---- the whole file, of which the front was read, and then the sound passed
 module _ {R : Type 0} (left : R → Option (List ℕ)) (i j : Inlet R) (front head ahead : List ℕ) (s : Sound) (reads : Reads left i j front) (tells : TellsSound front s) (head_is : head ≡ take s.start front) (ahead_is : ahead ≡ drop s.start front) where
   front_is : front ≡ head ++ ahead
@@ -306,6 +371,18 @@ module _ {R : Type 0} (left : R → Option (List ℕ)) (i j : Inlet R) (front he
   pass_stands WriteFailed h = absurd h
   pass_stands TurnLimit h = tt
   pass_stands Memory h = tt
+
+  -- a file that ends inside its sound
+  pub short_named : (l : Inlet R) (e : ReadFault) (total : ℕ) → (short : FallsShort left j l s.size ahead) → total ≡ length head + length ahead + length short.read
+      → ((rest : List ℕ) → length (head ++ rest) ≡ total → total < length head + s.size → opened_of (head ++ rest) ≡ Err e) → NamesFault left i l e
+  short_named l e total short size fails =
+      let file : front ++ short.read ≡ head ++ (ahead ++ short.read) = ap (λ xs. xs ++ short.read) front_is ∙ append_assoc head ahead short.read in
+      let few : total < length head + s.size = omega (arith, size, short.few, length-append ahead short.read) in
+      record {
+        read = front ++ short.read;
+        reads = reads_on left i j l front short.read reads short.reads;
+        sure = sure_end (left (inlet_reader l)) (front ++ short.read) e short.at_end (subst (λ f. opened_of f ≡ Err e) (sym file) (fails (ahead ++ short.read) (omega (arith, size, length-append head (ahead ++ short.read), length-append ahead short.read)) few));
+      }
 
   -- what came of the sound begins it
   begins_sound : (came : List ℕ) → IfSome (left (inlet_reader j)) (λ xs. (more : List ℕ) × (ahead ++ xs ≡ came ++ more)) → IfSome (left (inlet_reader i)) (BeginsSound s came)
@@ -381,6 +458,16 @@ module _ {R : Type 0} (left : R → Option (List ℕ)) (i j : Inlet R) (front he
     rest_stands WriteFailed h = absurd h
     rest_stands TurnLimit h = tt
     rest_stands Memory h = tt
+
+    pub rest_named : (l : Inlet R) (cause : Option ReadFault) (f : StreamFault) → IsRestNamed left k l s head back cause f → IsNamed left i l cause f
+    rest_named l None f named = λ is. tt
+    rest_named l (Some e) f named = λ is.
+        let known = named is in
+        record {
+          read = front ++ (passes.read ++ known.0);
+          reads = reads_on left i j l front (passes.read ++ known.0) reads (reads_on left j k l passes.read known.0 passes.reads known.1);
+          sure = subst (λ xs. IsSure (left (inlet_reader l)) xs e) (sym (read_is known.0)) (known.2 passes.passed passes.long);
+        }
 
     module _ (l : Inlet R) (o : Surroundings) (sound_is : o.sound ≡ s) (own_head : o.head ≡ head) (surrounds : Surrounds left k l back o) where
       long : length passes.passed ≡ o.sound.size

@@ -39,7 +39,7 @@ pub nothing_left : (o : Option (List ℕ)) (rest : List ℕ) → IsAtEnd o → o
 nothing_left None rest end known = absurd cc
 nothing_left (Some xs) rest end known = let same : xs ≡ rest = cc in sym same ∙ end
 
-apart : FRM8 ≡ DSD → ⊥
+pub apart : FRM8 ≡ DSD → ⊥
 apart e = let differs : false ≡ true = ap (λ id. same_id id DSD) e in absurd cc
 
 pub has_order : (o : Interleaving) → has_blocks o ≡ true → (order : BitOrder) × (o ≡ Blocks order)

@@ -92,3 +92,10 @@ own_no_turn f h turn = subst IsSinkFault (let is : f ≡ TurnLimit = cc in is) h
 pub both : {X : Type 0} (r : Result X StreamFault) (P Q F : StreamFault → Type 0) → ((f : StreamFault) → P f → Q f → F f) → IfErr r P → IfErr r Q → IfErr r F
 both (Ok x) P Q F on p q = tt
 both (Err f) P Q F on p q = on f p q
+
+-- a fault of reading refuses no file
+pub reading_unnamed : {P : Type 0} (f : StreamFault) → IsReadingFault f → f ≡ FileRefused → P
+reading_unnamed {P} f h is = absurd (subst IsReadingFault is h)
+
+pub memory_unnamed : {P : Type 0} → Memory ≡ FileRefused → P
+memory_unnamed is = reading_unnamed Memory tt is

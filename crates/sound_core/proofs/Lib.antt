@@ -4,6 +4,7 @@ pub mod HeadLaws
 pub mod ToldLaws
 pub mod OutlineLaws
 pub mod ClosingLaws
+pub mod NamingLaws
 pub mod BehindLaws
 pub mod KeeperLaws
 pub mod TakingLaws

@@ -1,5 +1,5 @@
 -- A sound that is read and taken, part by part.
-use Rattle.std.proofs.Common.{◌≡◌, ℕ, ◌+◌, ◌-◌, ◌%◌, ◌<◌, ◌≤◌, inl, inr, List, [], ◌++◌, length, Option, Some, None, IfSome, refl, sym, subst, ap, ◌∙◌, arith, append_assoc, length-append}
+use Rattle.std.proofs.Common.{◌≡◌, ℕ, ◌+◌, ◌-◌, ◌%◌, ◌<◌, ◌≤◌, inl, inr, List, [], ◌++◌, length, Option, Some, None, IfSome, refl, sym, subst, ap, ◌∙◌, arith, append-nil, append_assoc, length-append}
 use Rattle.std.proofs.lemmas.Bool.{cases_lt}
 use Rattle.std.proofs.lemmas.List.{nil_from_length}
 use Rattle.chunk_core.specs.Inlets.{inlet_reader}
@@ -10,10 +10,11 @@ use Rattle.dsd_bits.specs.Sounds.{IsSound, sound_size}
 use Rattle.relace_core.proofs.GroupLaws.{size_on}
 use Rattle.sound_core.specs.Outlines.{AreTold, IsOutlineFault, StandsIn, Surroundings, SurroundsFile, SurroundsGiven}
 use Rattle.sound_core.specs.Readers.{IsPassFault, Passes}
-use Rattle.sound_core.specs.Sinks.{IsFed, IsTakenOf, StopsPart, StopsSound, StopsTaking, TakesFile, TakesGiven, TakesPart, TakesSome}
+use Rattle.sound_core.specs.Sinks.{EndsInPart, EndsShort, IsFed, IsTakenOf, StopsPart, StopsSound, StopsTaking, TakesFile, TakesGiven, TakesPart, TakesSome}
 use Rattle.sound_core.specs.declared.fault.StreamFault.{StreamFault}
 use Rattle.sound_core.specs.declared.fault.StreamFault.TheVariants.{FileRefused, RateNotDivided, TooLarge, ReadFailed, WriteFailed, TurnLimit, Memory}
 use Rattle.sound_core.specs.declared.part.SoundPart.{SoundPart}
+use Rattle.sound_core.proofs.ClosingLaws.{nothing_left}
 use Rattle.sound_core.proofs.KeeperLaws.{no_size}
 use Rattle.sound_core.proofs.OutlineLaws.{left_is, pass_none}
 use Rattle.sound_core.proofs.ReadLaws.{reads_on}
@@ -139,6 +140,25 @@ module _ {R S : Type 0} (left : R → Option (List ℕ)) (has : S → S → Soun
           begins = begins_passed left i k (length so_far.passes.passed + sound_size part.sound.interleaving part.sound.channels part.bits) a c more;
           how = inr (record { own = refuses.own; refuses = refuses.refuses old so_far.passes.passed so_far.fed so_far.taken });
         }
+
+    -- the file ends before the part does
+    pub short_on : (refused : S → S → Sound → List ℕ → StreamFault → Type 0) (k : Inlet R) (new : S) (c : List ℕ) → EndsInPart left j k now new part b → EndsShort left has refused part.sound i k old new a
+    short_on refused k new c ends = record {
+      stops = stops_on refused k new c FileRefused (inl (record { same = ends.same; fault = fewer (left (inlet_reader j)) refl; pace = λ stop. absurd stop }));
+      short = record {
+        read = so_far.passes.read ++ ends.short.read;
+        reads = reads_on left i j k so_far.passes.read ends.short.read so_far.passes.reads ends.short.reads;
+        few = omega (arith, ends.short.few, within, ap length so_far.passes.parts, length-append a (so_far.passes.read ++ ends.short.read), length-append so_far.passes.read ends.short.read, length-append a so_far.passes.read, length-append so_far.passes.passed b, length-append b ends.short.read);
+        at_end = ends.short.at_end;
+      };
+    }
+      where
+        fewer : (l : Option (List ℕ)) → left (inlet_reader j) ≡ l → IsPassFault l (sound_size part.sound.interleaving part.sound.channels part.bits) b FileRefused
+        fewer None known = tt
+        fewer (Some xs) known =
+            let ys = left_is left j k ends.short.read ends.short.reads xs known in
+            let all : xs ≡ ends.short.read = ys.2 ∙ ap (λ zs. ends.short.read ++ zs) (nothing_left (left (inlet_reader k)) ys.0 ends.short.at_end ys.1) ∙ append-nil ends.short.read in
+            subst (λ zs. length (b ++ zs) < sound_size part.sound.interleaving part.sound.channels part.bits) (sym all) ends.short.few
 
 -- ---- the whole file
 pub file_taken : (has : Sound → ℕ → List ℕ → Type 0) (left : Option (List ℕ)) (o : Surroundings) (bytes : List ℕ) → AreTold o → ((xs : List ℕ) → left ≡ Some xs → StandsIn o xs bytes) → has o.sound o.sound.count bytes → TakesFile has left o

@@ -2,7 +2,9 @@ pub mod Faults
 pub mod Files
 pub mod Reads
 pub mod Readers
+pub mod Fronts
 pub mod Outlines
+pub mod Naming
 pub mod Sinks
 pub mod Stretches
 pub mod Keepers

@@ -55,6 +55,13 @@ pub record Fills {R : Type 0} (left : R → Option (List ℕ)) (old new : Inlet 
   pub passes : Passes left old new n ahead_old ahead_new
   pub first : take n block ≡ passes.passed
 
+-- there are fewer bytes than so many, of those ahead and all that were read: the reader is at its end
+pub record FallsShort {R : Type 0} (left : R → Option (List ℕ)) (old new : Inlet R) (n : ℕ) (ahead : List ℕ) : Type 0 where
+  pub read : List ℕ
+  pub reads : Reads left old new read
+  pub few : length (ahead ++ read) < n
+  pub at_end : IsAtEnd (left (inlet_reader new))
+
 -- a fault of this: there are fewer, or one of reading
 abbrev pub IsPassFault : Option (List ℕ) → ℕ → List ℕ → StreamFault → Type 0
 IsPassFault left_old n ahead FileRefused = IfSome left_old (λ left. length (ahead ++ left) < n)

@@ -8,9 +8,10 @@ use Rattle.dsd_bits.specs.Sounds.{IsSound, sound_size}
 use Rattle.sound_core.specs.Faults.{IsSinkFault, StopsReading}
 use Rattle.sound_core.specs.Files.{GivesNone, TellsSound}
 use Rattle.sound_core.specs.Outlines.{AreTold, IsOutlineFault, StandsIn, Surroundings}
-use Rattle.sound_core.specs.Readers.{IsPassFault, Passes}
+use Rattle.sound_core.specs.Readers.{FallsShort, IsPassFault, Passes}
 use Rattle.sound_core.specs.Reads.{Reads}
 use Rattle.sound_core.specs.declared.fault.StreamFault.{StreamFault}
+use Rattle.sound_core.specs.declared.fault.StreamFault.TheVariants.{FileRefused}
 use Rattle.sound_core.specs.declared.part.SoundPart.{SoundPart}
 
 -- these bytes of a sound came, those of so many bits of each channel: whole groups of blocks, or all
@@ -122,3 +123,13 @@ pub record StopsSound {R S : Type 0} (left : R → Option (List ℕ)) (has : S �
   pub few : length came ≤ s.size
   pub begins : IfSome (left (inlet_reader i)) (λ xs. (more : List ℕ) × (ahead ++ xs ≡ came ++ more))
   pub how : EndsInSound left has s i j old new came ahead f ⊎ SinkRefuses refused old new s came f
+
+-- the file ends before a part of its sound does; the sink is as it was
+pub record EndsInPart {R S : Type 0} (left : R → Option (List ℕ)) (i j : Inlet R) (old new : S) (part : SoundPart) (ahead : List ℕ) : Type 0 where
+  pub same : new ≡ old
+  pub short : FallsShort left i j (sound_size part.sound.interleaving part.sound.channels part.bits) ahead
+
+-- the file ends before its sound does: the reading ended so, and all that there is was read
+pub record EndsShort {R S : Type 0} (left : R → Option (List ℕ)) (has : S → S → Sound → ℕ → List ℕ → Type 0) (refused : S → S → Sound → List ℕ → StreamFault → Type 0) (s : Sound) (i j : Inlet R) (old new : S) (ahead : List ℕ) : Type 0 where
+  pub stops : StopsSound left has refused s i j old new ahead FileRefused
+  pub short : FallsShort left i j s.size ahead

@@ -3,6 +3,7 @@
 ghost use Rattle.std.specs.Prelude.{◌≡◌};
 ghost use Rattle.sound_core.specs.declared.fault.StreamFault.TheVariants as faults;
 
+use form_core::ReadFault;
 use std::alloc::AllocError;
 use std::fmt;
 use thiserror::Error;
@@ -38,4 +39,13 @@ impl From<AllocError> for StreamFault {
     fn from(_e: AllocError) -> StreamFault {
         StreamFault::Memory
     }
+}
+
+/// Why a file is not read to what it holds.
+#[derive(Clone, Copy, Debug, PartialEq, Eq)]
+pub enum Unread {
+    /// It holds no recording, for this fault, the first one.
+    Refused(ReadFault),
+    /// It could not be read, or holds no recording for a fault that one reading doesn't tell.
+    Stream(StreamFault),
 }

@@ -1,15 +1,17 @@
 //! Stretches of a file's sound, kept while the file is read once.
 
-ghost use Rattle.std.specs.Prelude.{◌≡◌, ◌+◌, ◌-◌, ◌<◌, ◌≤◌, ◌^◌, IfErr, IfOk, IsErrOf};
+ghost use Rattle.std.specs.Prelude.{◌≡◌, ◌+◌, ◌-◌, ◌<◌, ◌≤◌, ◌^◌, IfErr, IfOk};
 ghost use Rattle.chunk_core.specs.Inlets.{inlet_failures, inlet_given, inlet_reader, inlet_reads};
 ghost use Rattle.sound_core.specs.Faults.{failed_reads};
 ghost use Rattle.sound_core.specs.Keeping.{KeepsFile, KeepsGiven, stretches_in};
+ghost use Rattle.form_core.specs.Steps.{map_err};
+ghost use Rattle.sound_core.specs.Naming.{IfRefused, NamesFault, plain};
 ghost use Rattle.sound_core.specs.Outlines.{IsOutlineFault, around_of};
 
-use crate::fault::StreamFault;
+use crate::fault::{StreamFault, Unread};
 use crate::keeper::Keeper;
 use crate::outline::Outline;
-use crate::taking::read_into;
+use crate::taking::read_named;
 use chunk_core::Inlet;
 use dsd_bits::{BitRange, Bits};
 use std::alloc::Global;
@@ -30,13 +32,12 @@ pub struct Kept {
 ///
 /// The inlet counts fewer than `2^63` reads and bytes at entry.
 ///
-/// Refusals: `FileRefused` where the bytes are neither a DSDIFF nor a DSF file that holds a recording; `ReadFailed`;
-/// `TurnLimit` after `2^40` reads, and whatever is answered there were no more; `Memory`.
+/// Refusals: those of [`crate::read_outline`].
 pub fn read_stretches<R: Read>(
     alloc: Global,
     inlet: &mut Inlet<R>,
     ranges: &[BitRange],
-) -> Result<Kept, StreamFault>
+) -> Result<Kept, Unread>
     requires inlet_ready { inlet_failures inlet.old < 2 ^ 64 - 1 }
     requires reads_low { inlet_reads inlet.old < 2 ^ 63 }
     requires given_low { inlet_given inlet.old < 2 ^ 63 }
@@ -46,14 +47,17 @@ pub fn read_stretches<R: Read>(
     // The same of what was read, where the reader doesn't tell its bytes.
     ensures any_reader { IfOk result (λ k. KeepsGiven R.remaining inlet.old inlet.new (around_of k.outline) ranges.now
         (stretches_in k)) }
-    ensures fault { IfErr result (IsOutlineFault (R.remaining (inlet_reader inlet.old))) }
-    ensures read_failed { inlet_failures inlet.new ≡ inlet_failures inlet.old + failed_reads result }
+    // The first fault of what was read, and of the reader's file.
+    ensures named { IfErr result (λ u. IfRefused u (NamesFault R.remaining inlet.old inlet.new)) }
+    ensures fault { IfErr result (λ u. IsOutlineFault (R.remaining (inlet_reader inlet.old)) (plain u)) }
+    ensures read_failed { inlet_failures inlet.new ≡ inlet_failures inlet.old + failed_reads (map_err plain result) }
     // Whatever is answered, there were at most 2^40 reads.
     ensures reads { inlet_reads inlet.new ≤ inlet_reads inlet.old + 2 ^ 40 }
-    ensures turn_limit { IsErrOf result StreamFault.TurnLimit → inlet_reads inlet.new ≡ inlet_reads inlet.old + 2 ^ 40 }
+    ensures turn_limit { IfErr result (λ u. plain u ≡ StreamFault.TurnLimit
+        → inlet_reads inlet.new ≡ inlet_reads inlet.old + 2 ^ 40) }
 {
     let mut keeper = Keeper::new(alloc, ranges);
-    match read_into(alloc, inlet, &mut keeper) {
+    match read_named(alloc, inlet, &mut keeper) {
         Ok(outline) => Ok(Kept {
             outline,
             stretches: keeper.stretches,

@@ -65,7 +65,7 @@ mod sink;
 mod taking;
 mod writing;
 
-pub use fault::StreamFault;
+pub use fault::{StreamFault, Unread};
 pub use keeper::Keeper;
 pub use keeping::{Kept, read_stretches};
 pub use laws::accepted_files_tell_one_sound;

@@ -1,19 +1,23 @@
 //! What a file holds beside its sound, read in one pass.
 
-ghost use Rattle.std.specs.Prelude.{◌≡◌, ◌+◌, ◌-◌, ◌%◌, ◌<◌, ◌≤◌, ◌^◌, ◌++◌, IfErr, IfOk, IsErrOf, length, true};
+ghost use Rattle.std.specs.Prelude.{◌≡◌, ◌+◌, ◌-◌, ◌%◌, ◌<◌, ◌≤◌, ◌^◌, ◌++◌, IfErr, IfOk, length, true};
 ghost use Rattle.chunk_core.specs.Inlets.{inlet_failures, inlet_given, inlet_reader, inlet_reads};
 ghost use Rattle.dsd_bits.specs.Sounds.{IsSound, has_blocks};
 ghost use Rattle.sound_core.specs.Faults.{failed_reads};
 ghost use Rattle.sound_core.specs.Files.{EndsAt};
+ghost use Rattle.form_core.specs.Steps.{map_err};
+ghost use Rattle.sound_core.specs.Naming.{IfRefused, IsRestNamed, NamesFault, is_memory, plain};
 ghost use Rattle.sound_core.specs.Outlines.{IsOutlineFault, IsRestFault, IsTagFault, ReadsTag, Surrounds, SurroundsFile, SurroundsGiven, around_of, with_ends};
 ghost use Rattle.sound_core.specs.Readers.{Counts, IsReading, IsSame};
 
-use crate::fault::StreamFault;
+use crate::fault::{StreamFault, Unread};
 use crate::nothing::Nothing;
 use crate::reader::SoundReader;
-use crate::taking::read_into;
+use crate::taking::read_named;
 use chunk_core::Inlet;
 use dsd_bits::{Interleaving, Recording, Sound};
+use dsdiff_core::DsdiffFault;
+use form_core::ReadFault;
 use std::alloc::Global;
 use std::io::Read;
 
@@ -42,9 +46,10 @@ pub struct Outline {
 ///
 /// The inlet counts fewer than `2^63` reads and bytes at entry.
 ///
-/// Refusals: `FileRefused` where the bytes are neither a DSDIFF nor a DSF file that holds a recording; `ReadFailed`;
-/// `TurnLimit` after `2^40` reads, and whatever is answered there were no more; `Memory`.
-pub fn read_outline<R: Read>(alloc: Global, inlet: &mut Inlet<R>) -> Result<Outline, StreamFault>
+/// Refusals: `Refused` with the fault that [`form_core::read_any`] answers, for bytes that are neither a DSDIFF nor a DSF
+/// file that holds a recording; `Stream` with `FileRefused` for those of them whose first fault one reading doesn't tell,
+/// `ReadFailed`, `TurnLimit` after `2^40` reads (whatever is answered there were no more), or `Memory`.
+pub fn read_outline<R: Read>(alloc: Global, inlet: &mut Inlet<R>) -> Result<Outline, Unread>
     requires inlet_ready { inlet_failures inlet.old < 2 ^ 64 - 1 }
     requires reads_low { inlet_reads inlet.old < 2 ^ 63 }
     requires given_low { inlet_given inlet.old < 2 ^ 63 }
@@ -52,13 +57,16 @@ pub fn read_outline<R: Read>(alloc: Global, inlet: &mut Inlet<R>) -> Result<Outl
     ensures ok { IfOk result (λ o. SurroundsFile (R.remaining (inlet_reader inlet.old)) (around_of o)) }
     // The same of what was read, as many bytes as were counted, where the reader doesn't tell its bytes.
     ensures any_reader { IfOk result (λ o. SurroundsGiven R.remaining inlet.old inlet.new (around_of o)) }
-    ensures fault { IfErr result (IsOutlineFault (R.remaining (inlet_reader inlet.old))) }
-    ensures read_failed { inlet_failures inlet.new ≡ inlet_failures inlet.old + failed_reads result }
+    // The first fault of what was read, and of the reader's file.
+    ensures named { IfErr result (λ u. IfRefused u (NamesFault R.remaining inlet.old inlet.new)) }
+    ensures fault { IfErr result (λ u. IsOutlineFault (R.remaining (inlet_reader inlet.old)) (plain u)) }
+    ensures read_failed { inlet_failures inlet.new ≡ inlet_failures inlet.old + failed_reads (map_err plain result) }
     // Whatever is answered, there were at most 2^40 reads.
     ensures reads { inlet_reads inlet.new ≤ inlet_reads inlet.old + 2 ^ 40 }
-    ensures turn_limit { IsErrOf result StreamFault.TurnLimit → inlet_reads inlet.new ≡ inlet_reads inlet.old + 2 ^ 40 }
+    ensures turn_limit { IfErr result (λ u. plain u ≡ StreamFault.TurnLimit
+        → inlet_reads inlet.new ≡ inlet_reads inlet.old + 2 ^ 40) }
 {
-    read_into(alloc, inlet, &mut Nothing {})
+    read_named(alloc, inlet, &mut Nothing {})
 }
 
 /// Reads the rest of a file behind its sound, as far as it matters: what is told of the whole file, which begins with
@@ -80,6 +88,8 @@ pub(crate) fn read_rest<R: Read>(
     ensures same { IsSame reader.old reader.new }
     ensures ok { IfOk result (λ o. (o.sound ≡ sound) × (o.head.items ≡ head.items)
         × Surrounds R.remaining reader.old.inlet.now reader.new.inlet.now reader.old.ahead.now.items (around_of o)) }
+    ensures named { IfErr result (IsRestNamed R.remaining reader.old.inlet.now reader.new.inlet.now sound head.items
+        reader.old.ahead.now.items reader.new.cause) }
     ensures counts { Counts reader.old reader.new result }
     ensures fault { IfErr result (IsRestFault
         (R.remaining (inlet_reader reader.old.inlet.now)) sound head.items reader.old.ahead.now.items) }
@@ -123,6 +133,8 @@ fn read_behind<R: Read>(
     ensures same { IsSame reader.old reader.new }
     ensures ok { IfOk result (λ b. Surrounds R.remaining reader.old.inlet.now reader.new.inlet.now
         reader.old.ahead.now.items (with_ends sound.now head.now reader.new.ahead.now.items b)) }
+    ensures named { IfErr result (IsRestNamed R.remaining reader.old.inlet.now reader.new.inlet.now sound.now head.now
+        reader.old.ahead.now.items reader.new.cause) }
     ensures counts { Counts reader.old reader.new result }
     ensures fault { IfErr result (IsRestFault
         (R.remaining (inlet_reader reader.old.inlet.now)) sound.now head.now reader.old.ahead.now.items) }
@@ -150,15 +162,24 @@ fn behind_blocks<R: Read>(
     ensures same { IsSame reader.old reader.new }
     ensures ok { IfOk result (λ b. Surrounds R.remaining reader.old.inlet.now reader.new.inlet.now
         reader.old.ahead.now.items (with_ends sound.now head.now reader.new.ahead.now.items b)) }
+    ensures named { IfErr result (IsRestNamed R.remaining reader.old.inlet.now reader.new.inlet.now sound.now head.now
+        reader.old.ahead.now.items reader.new.cause) }
     ensures counts { Counts reader.old reader.new result }
     ensures fault { IfErr result (IsRestFault
         (R.remaining (inlet_reader reader.old.inlet.now)) sound.now head.now reader.old.ahead.now.items) }
 {
     let stop = (head.len() + sound.size) as u64;
-    let gap = read_tag(dsf_core::tag_at(head), stop, reader)?;
+    let gap = match read_tag(dsf_core::tag_at(head), stop, reader) {
+        Ok(gap) => gap,
+        Err(fault) => {
+            reader.cause = None;
+            return Err(fault);
+        }
+    };
     let total = reader.inlet.given() - reader.given;
     let tag = Vec::from_slice(alloc, reader.ahead.as_slice())?;
     let Some(recording) = dsf_core::outline(alloc, head, total, tag)? else {
+        reader.cause = None;
         return Err(StreamFault::FileRefused);
     };
     Ok(Behind {
@@ -183,6 +204,8 @@ fn behind_frames<R: Read>(
     ensures same { IsSame reader.old reader.new }
     ensures ok { IfOk result (λ b. Surrounds R.remaining reader.old.inlet.now reader.new.inlet.now
         reader.old.ahead.now.items (with_ends sound.now head.now reader.new.ahead.now.items b)) }
+    ensures named { IfErr result (IsRestNamed R.remaining reader.old.inlet.now reader.new.inlet.now sound.now head.now
+        reader.old.ahead.now.items reader.new.cause) }
     ensures counts { Counts reader.old reader.new result }
     ensures fault { IfErr result (IsRestFault
         (R.remaining (inlet_reader reader.old.inlet.now)) sound.now head.now reader.old.ahead.now.items) }
@@ -192,14 +215,29 @@ fn behind_frames<R: Read>(
     let ends = (reader.ahead.len() as u64) < wanted;
     let kept = reader.ahead.len().min(wanted as usize);
     reader.ahead.truncate(kept);
-    let Some(recording) = dsdiff_core::outline(alloc, head, reader.ahead.as_slice())? else {
-        return Err(StreamFault::FileRefused);
+    let recording = match dsdiff_core::outline(alloc, head, reader.ahead.as_slice()) {
+        Ok(recording) => recording,
+        Err(fault) if is_memory(fault) => return Err(StreamFault::Memory),
+        Err(fault) => {
+            reader.cause = Some(ReadFault::from(fault));
+            return Err(StreamFault::FileRefused);
+        }
     };
     Ok(Behind {
         gap: 0,
         ends,
         recording,
     })
+}
+
+// Whether a fault is want of memory.
+fn is_memory(fault: DsdiffFault) -> bool
+    ensures { result ≡ is_memory fault }
+{
+    match fault {
+        DsdiffFault::Memory => true,
+        _ => false,
+    }
 }
 
 // Reads a DSF file to its end, and keeps its tag, which stands at this place, 0 for none. The sound ends at `stop`. It

@@ -1,15 +1,16 @@
 //! A file that is read: a block at a time, and in no more reads than one call may ask for.
 
-ghost use Rattle.std.specs.Prelude.{◌≡◌, ◌+◌, ◌-◌, ◌<◌, ◌≤◌, ◌^◌, ◌++◌, [], List, ℕ, IfErr, IfOk, MatchResult, OnErr, OnOk, drop, length, take};
+ghost use Rattle.std.specs.Prelude.{◌≡◌, ◌+◌, ◌-◌, ◌<◌, ◌≤◌, ◌^◌, ◌++◌, [], List, ℕ, IfErr, IfOk, MatchResult, OnErr, OnOk, drop, false, length, take, true};
 ghost use Rattle.std.specs.Io.KnownBytes.{IsAtEnd};
 ghost use Rattle.std.specs.Io.Iter.{u64_saturate};
 ghost use Rattle.chunk_core.specs.Inlets.{PullsBehind, inlet_failures, inlet_given, inlet_reader, inlet_reads};
 ghost use Rattle.sound_core.specs.Faults.{IsReadingFault, StopsReading};
-ghost use Rattle.sound_core.specs.Readers.{Counts, Fills, IsAtStart, IsPassFault, IsReading, IsSame, Passes, PullsTo};
+ghost use Rattle.sound_core.specs.Readers.{Counts, FallsShort, Fills, IsAtStart, IsPassFault, IsReading, IsSame, Passes, PullsTo};
 ghost use Rattle.sound_core.specs.Reads.{Reads, ReadsAll, ReadsToEnd, ReadsUntil};
 
 use crate::fault::StreamFault;
 use chunk_core::{Device, Inlet, MOST_READS};
+use form_core::ReadFault;
 use std::alloc::{AllocError, Global};
 use std::io::Read;
 use std::mem;
@@ -75,6 +76,8 @@ pub(crate) struct SoundReader<'a, R> {
     pub(crate) block: &'a mut Vec<u8>,
     /// The bytes that were read, and not yet taken or passed.
     pub(crate) ahead: &'a mut Vec<u8>,
+    /// The first fault of a file that was refused, where it is known.
+    pub(crate) cause: Option<ReadFault>,
 }
 
 impl<'a, R: Read> SoundReader<'a, R> {
@@ -104,6 +107,7 @@ impl<'a, R: Read> SoundReader<'a, R> {
             limit,
             block,
             ahead,
+            cause: None,
         }
     }
 
@@ -133,31 +137,33 @@ impl<'a, R: Read> SoundReader<'a, R> {
         }
     }
 
-    /// Makes the next so many bytes the first of the block: those ahead, and then what is read.
+    /// Makes the next so many bytes the first of the block: those ahead, and then what is read. It answers whether there
+    /// are so many: if not, the file is at its end.
     ///
-    /// Refusals: `FileRefused` where the file ends before; those of [`SoundReader::pull_behind`].
-    pub(crate) fn fill(&mut self, size: usize) -> Result<(), StreamFault>
+    /// Refusals: those of [`SoundReader::pull_behind`].
+    pub(crate) fn fill(&mut self, size: usize) -> Result<bool, StreamFault>
         requires reading { IsReading self.old }
         requires fits { size ≤ 65536 }
         ensures same { IsSame self.old self.new }
         ensures reading { OnOk result (IsReading self.new) }
-        ensures ok { OnOk result (Fills R.remaining self.old.inlet.now self.new.inlet.now size
+        ensures ok { IfOk result (λ full. full ≡ true → Fills R.remaining self.old.inlet.now self.new.inlet.now size
             self.old.ahead.now.items self.new.ahead.now.items self.new.block.now.items) }
+        ensures short { IfOk result (λ full. full ≡ false → FallsShort R.remaining self.old.inlet.now self.new.inlet.now
+            size self.old.ahead.now.items) }
         ensures pace { IfErr result (λ f. StopsReading f → inlet_given self.new.inlet.now
             + length self.old.ahead.now.items ≤ inlet_given self.old.inlet.now + size) }
         ensures counts { Counts self.old self.new result }
-        ensures fault { IfErr result (IsPassFault
-            (R.remaining (inlet_reader self.old.inlet.now)) size self.old.ahead.now.items) }
+        ensures fault { IfErr result IsReadingFault }
     {
         let mut filled = self.move_ahead(size);
         while filled < size {
             let count = self.pull_behind(filled, size)?;
             if count == 0 {
-                return Err(StreamFault::FileRefused);
+                return Ok(false);
             }
             filled += count;
         }
-        Ok(())
+        Ok(true)
     }
 
     // Moves the first so many bytes ahead, or as many as there are, to the front of the block: how many.

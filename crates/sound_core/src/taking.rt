@@ -1,13 +1,18 @@
 //! A sound taken by a sink while its file is read once.
 
-ghost use Rattle.std.specs.Prelude.{◌≡◌, ◌+◌, ◌-◌, ◌<◌, ◌≤◌, ◌^◌, [], ℕ, List, IfErr, IfOk, IsErrOf, OnOk};
+ghost use Rattle.std.specs.Prelude.{◌≡◌, ◌+◌, ◌-◌, ◌<◌, ◌≤◌, ◌^◌, ◌++◌, [], ℕ, List, Err, IfErr, IfOk, Some, IsErrOf, OnOk, false, length, true};
 ghost use Rattle.chunk_core.specs.Inlets.{inlet_failures, inlet_given, inlet_reader, inlet_reads};
+ghost use Rattle.form_core.specs.Opening.{opened_of};
+ghost use Rattle.form_core.specs.Steps.{map_err};
+ghost use Rattle.form_core.specs.declared.fault.ReadFault.{ReadFault};
 ghost use Rattle.sound_core.specs.Faults.{failed_reads};
+ghost use Rattle.sound_core.specs.Files.{EndsAt};
+ghost use Rattle.sound_core.specs.Naming.{IfRefused, IsNamed, NamesFault, plain};
 ghost use Rattle.sound_core.specs.Outlines.{around_of};
 ghost use Rattle.sound_core.specs.Readers.{Counts, IsAtStart, IsReading, IsSame};
-ghost use Rattle.sound_core.specs.Sinks.{IsFed, StopsPart, StopsSound, StopsTaking, TakesFile, TakesGiven, TakesPart, TakesSome};
+ghost use Rattle.sound_core.specs.Sinks.{EndsInPart, EndsShort, IsFed, StopsPart, StopsSound, StopsTaking, TakesFile, TakesGiven, TakesPart, TakesSome};
 
-use crate::fault::StreamFault;
+use crate::fault::{StreamFault, Unread};
 use crate::front::read_front;
 use crate::outline::{Outline, read_rest};
 use crate::part::SoundPart;
@@ -15,6 +20,8 @@ use crate::reader::{SoundReader, new_block};
 use crate::sink::SoundSink;
 use chunk_core::Inlet;
 use dsd_bits::Sound;
+use dsf_core::DsfFault;
+use form_core::ReadFault;
 use relace_core::{stretch_bits, stretch_size};
 use std::alloc::Global;
 use std::io::Read;
@@ -49,16 +56,58 @@ pub fn read_into<R: Read, S: SoundSink>(
     ensures reads { inlet_reads inlet.new ≤ inlet_reads inlet.old + 2 ^ 40 }
     ensures turn_limit { IsErrOf result StreamFault.TurnLimit → inlet_reads inlet.new ≡ inlet_reads inlet.old + 2 ^ 40 }
 {
-    let mut block = new_block(alloc)?;
-    let mut ahead = Vec::new(alloc);
-    take_file(
-        alloc,
-        sink,
-        &mut SoundReader::new(inlet, &mut block, &mut ahead),
-    )
+    match read_named(alloc, inlet, sink) {
+        Ok(outline) => Ok(outline),
+        Err(Unread::Refused(_)) => Err(StreamFault::FileRefused),
+        Err(Unread::Stream(fault)) => Err(fault),
+    }
 }
 
-// Reads a file, and has a sink take its sound.
+/// The same, and the first fault of a file that holds no recording, where one reading tells it.
+pub(crate) fn read_named<R: Read, S: SoundSink>(
+    alloc: Global,
+    inlet: &mut Inlet<R>,
+    sink: &mut S,
+) -> Result<Outline, Unread>
+    requires inlet_ready { inlet_failures inlet.old < 2 ^ 64 - 1 }
+    requires reads_low { inlet_reads inlet.old < 2 ^ 63 }
+    requires given_low { inlet_given inlet.old < 2 ^ 63 }
+    requires sink_ready { S.ready sink.old }
+    ensures ok { IfOk result (λ o. TakesFile
+        (S.has sink.old sink.new) (R.remaining (inlet_reader inlet.old)) (around_of o)) }
+    ensures any_reader { IfOk result (λ o. TakesGiven
+        (S.has sink.old sink.new) R.remaining inlet.old inlet.new (around_of o)) }
+    ensures named { IfErr result (λ u. IfRefused u (NamesFault R.remaining inlet.old inlet.new)) }
+    ensures fault { IfErr result (λ u. StopsTaking S.has S.refused (R.remaining (inlet_reader inlet.old))
+        (inlet_given inlet.old) (inlet_given inlet.new) sink.old sink.new (plain u)) }
+    ensures read_failed { inlet_failures inlet.new ≡ inlet_failures inlet.old + failed_reads (map_err plain result) }
+    ensures reads { inlet_reads inlet.new ≤ inlet_reads inlet.old + 2 ^ 40 }
+    ensures turn_limit { IfErr result (λ u. plain u ≡ StreamFault.TurnLimit
+        → inlet_reads inlet.new ≡ inlet_reads inlet.old + 2 ^ 40) }
+{
+    let Ok(mut block) = new_block(alloc) else {
+        return Err(Unread::Stream(StreamFault::Memory));
+    };
+    let mut ahead = Vec::new(alloc);
+    let mut reader = SoundReader::new(inlet, &mut block, &mut ahead);
+    match take_file(alloc, sink, &mut reader) {
+        Ok(outline) => Ok(outline),
+        Err(fault) => Err(named(fault, reader.cause)),
+    }
+}
+
+// The fault of a file that isn't taken, by what is known of it.
+fn named(fault: StreamFault, cause: Option<ReadFault>) -> Unread
+    ensures plain { plain result ≡ fault }
+    ensures named { IfRefused result (λ e. (fault ≡ StreamFault.FileRefused) × (cause ≡ Some e)) }
+{
+    match (fault, cause) {
+        (StreamFault::FileRefused, Some(cause)) => Unread::Refused(cause),
+        _ => Unread::Stream(fault),
+    }
+}
+
+// Reads a file, and has a sink take its sound. What is known of a refused file is its cause.
 fn take_file<R: Read, S: SoundSink>(
     alloc: Global,
     sink: &mut S,
@@ -71,30 +120,57 @@ fn take_file<R: Read, S: SoundSink>(
         (S.has sink.old sink.new) (R.remaining (inlet_reader reader.old.inlet.now)) (around_of o)) }
     ensures any_reader { IfOk result (λ o. TakesGiven
         (S.has sink.old sink.new) R.remaining reader.old.inlet.now reader.new.inlet.now (around_of o)) }
+    ensures named { IfErr result (IsNamed R.remaining reader.old.inlet.now reader.new.inlet.now reader.new.cause) }
     ensures counts { Counts reader.old reader.new result }
     ensures fault { IfErr result (StopsTaking S.has S.refused (R.remaining (inlet_reader reader.old.inlet.now))
         (inlet_given reader.old.inlet.now) (inlet_given reader.new.inlet.now) sink.old sink.new) }
 {
     let sound = read_front(alloc, reader)?;
     let head = reader.take_head(alloc, sound.start)?;
-    take_sound(alloc, sound, sink, reader)?;
+    match take_sound(alloc, sound, sink, reader) {
+        Ok(true) => {}
+        Ok(false) => {
+            let total = reader.inlet.given() - reader.given;
+            reader.cause = Some(cut_in(&sound, &head, total));
+            return Err(StreamFault::FileRefused);
+        }
+        Err(fault) => {
+            reader.cause = None;
+            return Err(fault);
+        }
+    }
     read_rest(alloc, sound, head, reader)
 }
 
-// Reads a sound to its end, and has a sink take it, a few groups of blocks at a time.
+// The first fault of a file of so many bytes that begins with this head, and ends inside its sound.
+fn cut_in(sound: &Sound, head: &[u8], total: u64) -> ReadFault
+    requires { EndsAt head.now sound.now }
+    ensures { (rest : List ℕ) → length (head.now ++ rest) ≡ total → total < length head.now + sound.now.size
+        → opened_of (head.now ++ rest) ≡ Err result }
+{
+    if sound.interleaving.has_blocks() {
+        return ReadFault::Dsf(DsfFault::DataCut);
+    }
+    ReadFault::from(dsdiff_core::cut_fault(head, total))
+}
+
+// Reads a sound to its end, and has a sink take it, a few groups of blocks at a time. It answers whether the file has all
+// of it.
 fn take_sound<R: Read, S: SoundSink>(
     alloc: Global,
     sound: Sound,
     sink: &mut S,
     reader: &mut SoundReader<'_, R>,
-) -> Result<(), StreamFault>
+) -> Result<bool, StreamFault>
     requires fed { IsFed sound 0 [] }
     requires ready { S.ready sink.old }
     requires reading { IsReading reader.old }
     ensures same { IsSame reader.old reader.new }
     ensures reading { OnOk result (IsReading reader.new) }
-    ensures ok { OnOk result (TakesSome R.remaining S.has sound reader.old.inlet.now reader.new.inlet.now
-        sink.old sink.new sound.count reader.old.ahead.now.items reader.new.ahead.now.items) }
+    ensures ok { IfOk result (λ whole. whole ≡ true → TakesSome R.remaining S.has sound reader.old.inlet.now
+        reader.new.inlet.now sink.old sink.new sound.count reader.old.ahead.now.items reader.new.ahead.now.items) }
+    ensures short { IfOk result (λ whole. whole ≡ false → EndsShort R.remaining S.has S.refused sound reader.old.inlet.now
+        reader.new.inlet.now sink.old sink.new reader.old.ahead.now.items) }
     ensures counts { Counts reader.old reader.new result }
     ensures fault { IfErr result (StopsSound R.remaining S.has S.refused sound reader.old.inlet.now reader.new.inlet.now
         sink.old sink.new reader.old.ahead.now.items) }
@@ -105,32 +181,39 @@ fn take_sound<R: Read, S: SoundSink>(
     while done < sound.count {
         let bits = (sound.count - done).min(most);
         let part = SoundPart { sound, done, bits };
-        take_part(alloc, part, sink, reader)?;
+        if !take_part(alloc, part, sink, reader)? {
+            return Ok(false);
+        }
         done += bits;
     }
-    Ok(())
+    Ok(true)
 }
 
-// Reads the bytes of the next part of a sound, and has a sink take them.
+// Reads the bytes of the next part of a sound, and has a sink take them. It answers whether the file has all of them.
 fn take_part<R: Read, S: SoundSink>(
     alloc: Global,
     part: SoundPart,
     sink: &mut S,
     reader: &mut SoundReader<'_, R>,
-) -> Result<(), StreamFault>
+) -> Result<bool, StreamFault>
     requires fed { (first : S) × (before : List ℕ) × IsFed part.sound part.done before
         × S.has first sink.old part.sound part.done before }
     requires reading { IsReading reader.old }
     ensures same { IsSame reader.old reader.new }
     ensures reading { OnOk result (IsReading reader.new) }
-    ensures ok { OnOk result (TakesPart R.remaining S.has reader.old.inlet.now reader.new.inlet.now
-        sink.old sink.new part reader.old.ahead.now.items reader.new.ahead.now.items) }
+    ensures ok { IfOk result (λ full. full ≡ true → TakesPart R.remaining S.has reader.old.inlet.now
+        reader.new.inlet.now sink.old sink.new part reader.old.ahead.now.items reader.new.ahead.now.items) }
+    ensures short { IfOk result (λ full. full ≡ false → EndsInPart R.remaining reader.old.inlet.now
+        reader.new.inlet.now sink.old sink.new part reader.old.ahead.now.items) }
     ensures counts { Counts reader.old reader.new result }
     ensures fault { IfErr result (StopsPart R.remaining S.has S.refused reader.old.inlet.now reader.new.inlet.now
         sink.old sink.new part reader.old.ahead.now.items reader.new.ahead.now.items) }
 {
     let size = stretch_size(part.sound.interleaving, part.sound.channels, part.bits);
-    reader.fill(size)?;
+    if !reader.fill(size)? {
+        return Ok(false);
+    }
     let (bytes, _) = reader.block.split_at(size);
-    sink.take(alloc, part, bytes)
+    sink.take(alloc, part, bytes)?;
+    Ok(true)
 }

@@ -6,6 +6,11 @@ use Rattle.dsd_bits.specs.Contents.{Content, described}
 use Rattle.chunk_core.specs.Outlets.{AppendsFront}
 use Rattle.form_core.specs.Forms.{HoldsAs, dropped_in, form_in, text_in}
 use Rattle.form_core.specs.Laws.{HeldIsOpened}
+use Rattle.form_core.specs.Opening.{Opens, opened_of}
+use Rattle.form_core.specs.declared.fault.ReadFault.{ReadFault}
+use Rattle.form_core.specs.declared.fault.ReadFault.TheVariants as reads
+use Rattle.transfer_core.specs.Faults.{fault_of_file}
+use Rattle.transfer_core.specs.declared.fault.Fault as calls
 use Rattle.form_core.specs.Parts.{FitsIn, WrittenInParts}
 use Rattle.form_core.specs.Steps.{Fails}
 use Rattle.form_core.specs.declared.form.Form.{Form}
@@ -20,9 +25,9 @@ use Rattle.transfer_core.specs.Conversions as streams
 use Rattle.transfer_core.specs.declared.fault.Fault.TheVariants.{Memory, NotWholeBytes}
 use Rattle.transfer_commands.specs.declared.fault.CommandFault.{CommandFault}
 use Rattle.transfer_commands.specs.declared.fault.CommandFault.TheVariants as faults
-use Rattle.transfer_commands.specs.Converting.{ConvertComesTo, ConvertsFile, ConvertsFront, KeepsOld}
+use Rattle.transfer_commands.specs.Converting.{ConvertComesTo, ConvertsFile, ConvertsFront, IsUnconverted, KeepsOld}
 use Rattle.transfer_commands.specs.Faults.{of_file}
-use Rattle.transfer_commands.specs.Outlining.{IsOutlined, IsUnread, OutlinesRead}
+use Rattle.transfer_commands.specs.Outlining.{IsOutlined, IsUnoutlined, IsUnread, OutlinesRead}
 use Rattle.sound_core.proofs.HeldLaws.{channels_count}
 use Rattle.transfer_commands.proofs.ReadLaws.{last_of, untold}
 use Rattle.transfer_core.proofs.FormLaws.{holds_as}
@@ -182,3 +187,22 @@ pub unconverted : (form : Form) (input output : List ℕ) (old new : View) (faul
 unconverted form input output old new (faults.Call Memory) same is = inl same
 unconverted form input output old new faults.ReadFailed same is = inl same
 unconverted form input output old new fault same is = absurd is
+
+-- ---- a file that holds no recording
+first_fault : (file : List ℕ) (form : Form) (cause : ReadFault) (fault : calls.Fault) → Opens (Err cause) (opened_of file) → fault ≡ fault_of_file cause → Fails Memory fault (converted_of file form)
+unfolding converted_of
+first_fault file form reads.Memory fault reading named = inl named
+first_fault file form reads.UnknownForm fault reading named = inr (rw (named, reading) refl)
+first_fault file form (reads.Dsdiff d) fault reading named = inr (rw (named, reading) refl)
+first_fault file form (reads.Dsf d) fault reading named = inr (rw (named, reading) refl)
+
+refused_first : (form : Form) (input output : List ℕ) (old new : View) (fault : calls.Fault) → new ≡ old → IsUnconverted form input old fault → ConvertComesTo form input output old new (Err (faults.Call fault))
+refused_first form input output old new Memory same is = inl same
+refused_first form input output old new fault same is = (same, is)
+
+pub unoutlined_unconverted : (form : Form) (input output : List ℕ) (old new : View) (f : CommandFault) → new ≡ old → IsUnoutlined input old f → ConvertComesTo form input output old new (Err f)
+unoutlined_unconverted form input output old new (faults.Call fault) same (inl none) = subst (λ (g : calls.Fault). ConvertComesTo form input output old new (Err (faults.Call g))) (sym none) (inl same)
+unoutlined_unconverted form input output old new (faults.Call fault) same (inr is) =
+    refused_first form input output old new fault same (record { file = is.file; file_read = is.file_read; first = first_fault is.file form is.unopened.cause fault is.unopened.reading is.unopened.named })
+unoutlined_unconverted form input output old new faults.ReadFailed same is = inl same
+unoutlined_unconverted form input output old new faults.WriteFailed same is = absurd is

@@ -1,5 +1,5 @@
 -- What is heard of a file that was read in one pass.
-use Rattle.std.proofs.Common.{◌≡◌, ℕ, Err, IfOk, List, None, Ok, Option, Result, Some, refl, sym, subst}
+use Rattle.std.proofs.Common.{◌≡◌, ℕ, Err, IfOk, List, None, Ok, Option, Result, Some, inr, refl, sym, subst}
 use Rattle.std.specs.Prelude.{IfSome}
 use Rattle.dsd_bits.specs.declared.stretches.BitRange.{BitRange}
 use Rattle.dsd_bits.specs.Shape.{HasShape}
@@ -7,7 +7,10 @@ use Rattle.splice_core.specs.Splices.{SpliceContent}
 use Rattle.form_core.specs.Laws.{HeldIsOpened}
 use Rattle.cut_core.specs.declared.heard.Heard.{Heard}
 use Rattle.cut_core.specs.Hearing.{ranges_of}
-use Rattle.cut_core.specs.Opening.{HearsTake, take_in}
+use Rattle.cut_core.specs.Opening.{HearsTake, fault_of_take, take_in}
+use Rattle.cut_core.specs.declared.fault.CutFault.{CutFault}
+use Rattle.form_core.specs.Opening.{opened_of}
+use Rattle.form_core.specs.declared.fault.ReadFault.{ReadFault}
 use Rattle.sound_core.specs.Keeping.{IsKeptOf, KeepsFile, stretches_in}
 use Rattle.sound_core.specs.Outlines.{AreTold, around_of}
 use Rattle.sound_core.specs.declared.keeping.Kept.{Kept}
@@ -59,24 +62,36 @@ pub given_heard : (kept : Kept) (splice : SpliceContent) (number : ℕ) (heard :
 given_heard kept splice number heard ranges own hears told read is =
     hears splice number read told (subst (λ (r : List BitRange). IsKeptOf (around_of kept.outline) r (stretches_in kept) read) own is)
 
+-- a file that holds no recording has this fault as that of the take of a number
+pub take_named : (number : ℕ) (file : List ℕ) (cause : ReadFault) → opened_of file ≡ Err cause → take_in number file ≡ Err (fault_of_take number cause)
+take_named number file cause e = rw e refl
+
+pub left_named : (left : Option (List ℕ)) (splice : SpliceContent) (number : ℕ) (cause : ReadFault) (fault : CutFault) → fault ≡ fault_of_take number cause → IfSome left (λ file. opened_of file ≡ Err cause) → IfSome left (λ file. IsHeardIn splice number file (Some (Err fault)))
+left_named None splice number cause fault named e = tt
+left_named (Some file) splice number cause fault named e = rw named (take_named number file cause e)
+
 -- the file of a name was heard, or nothing, whether the folder tells its bytes or not
-pub streams_file : (view : View) (splice : SpliceContent) (number : ℕ) (name : List ℕ) (left : Option (List ℕ)) → IsGiven view name left → (found : Option Heard) → IfSome left (λ file. IsHeardIn splice number file found) → IsHeardInSome splice number found → StreamsFile view splice number name found
+pub streams_file : (view : View) (splice : SpliceContent) (number : ℕ) (name : List ℕ) (left : Option (List ℕ)) → IsGiven view name left → (found : Option (Result Heard CutFault)) → IfSome left (λ file. IsHeardIn splice number file found) → IsHeardInSome splice number found → StreamsFile view splice number name found
 streams_file view splice number name left given (Some heard) known some =
-    let read = known_or_some view name left (λ file. HearsHeld splice number file heard) given known some in
+    let read = known_or_some view name left (λ file. IsHeardIn splice number file (Some heard)) given known some in
     record { file = read.0; file_read = read.1; is_heard = read.2 }
 streams_file view splice number name left given None known some = λ told.
     let h = given told in
     (h.0, h.1, subst (λ o. IfSome o (λ file. IsHeardIn splice number file None)) h.2 known)
 
+hears_take : HeldIsOpened → (splice : SpliceContent) (number : ℕ) (file : List ℕ) (heard : Result Heard CutFault) → IsHeardIn splice number file (Some heard) → HearsTake splice number heard (take_in number file)
+hears_take law splice number file (Ok heard) is = held_hears law splice number file heard is
+hears_take law splice number file (Err fault) is = inr is
+
 -- of the file of a name
-pub streamed_hears : HeldIsOpened → (old mid : View) (splice : SpliceContent) (number : ℕ) (name : List ℕ) (heard : Heard) → mid ≡ old → StreamsRead mid splice number name heard → HearsFile old splice number name (Ok heard)
+pub streamed_hears : HeldIsOpened → (old mid : View) (splice : SpliceContent) (number : ℕ) (name : List ℕ) (heard : Result Heard CutFault) → mid ≡ old → StreamsRead mid splice number name heard → HearsFile old splice number name heard
 streamed_hears law old mid splice number name heard same found = record {
   file = found.file;
   file_read = subst (λ (v : View). IsReadOf v name found.file) same found.file_read;
-  hears = held_hears law splice number found.file heard found.is_heard;
+  hears = hears_take law splice number found.file heard found.is_heard;
 }
 
 -- the same of an answer
-pub streams_found : (view : View) (splice : SpliceContent) (number : ℕ) (name : List ℕ) (left : Option (List ℕ)) → IsGiven view name left → (r : Result (Option Heard) CommandFault) → IfOk r (λ found. IfSome left (λ file. IsHeardIn splice number file found)) → IfOk r (IsHeardInSome splice number) → IfOk r (StreamsFile view splice number name)
+pub streams_found : (view : View) (splice : SpliceContent) (number : ℕ) (name : List ℕ) (left : Option (List ℕ)) → IsGiven view name left → (r : Result (Option (Result Heard CutFault)) CommandFault) → IfOk r (λ found. IfSome left (λ file. IsHeardIn splice number file found)) → IfOk r (IsHeardInSome splice number) → IfOk r (StreamsFile view splice number name)
 streams_found view splice number name left given (Ok found) known some = streams_file view splice number name left given found known some
 streams_found view splice number name left given (Err fault) known some = tt

@@ -1,17 +1,25 @@
 -- What is told of a file by its outline.
-use Rattle.std.proofs.Common.{◌≡◌, ℕ, List, [], Result, Ok, Err, IfOk, IfErr, inr, length, sym, ap, ◌∙◌, refl, subst}
+use Rattle.std.proofs.Common.{◌≡◌, ℕ, List, [], Result, Ok, Err, IfOk, IfErr, Option, inr, length, sym, ap, ◌∙◌, refl, subst}
 use Rattle.std.proofs.lemmas.List.{length-replicate}
 use Rattle.dsd_bits.specs.Contents.{described}
 use Rattle.dsd_bits.specs.Sounds.{sound_channels}
+use Rattle.std.specs.Prelude.{IfSome}
 use Rattle.form_core.specs.Forms.{form_in}
+use Rattle.form_core.specs.Opening.{Opens, opened_of}
+use Rattle.form_core.specs.declared.fault.ReadFault.{ReadFault}
+use Rattle.form_core.specs.declared.fault.ReadFault.TheVariants as reads
+use Rattle.form_core.specs.declared.opening.Opened.{Opened}
+use Rattle.transfer_core.specs.Faults.{fault_of_file}
+use Rattle.transfer_core.specs.declared.fault.Fault as calls
+use Rattle.transfer_commands.proofs.ReadLaws.{known_or_some}
 use Rattle.sound_core.specs.Outlines.{around_of, with_sound}
 use Rattle.sound_core.specs.declared.outline.Outline.{Outline}
 use Rattle.sound_core.proofs.HeldLaws.{channels_count, channels_number}
-use Rattle.folder_core.specs.Files.{IsReadOf, View}
+use Rattle.folder_core.specs.Files.{IsGiven, IsReadOf, View}
 use Rattle.transfer_commands.specs.declared.telling.Told.{Told}
 use Rattle.transfer_core.proofs.FormLaws.{holds_as}
-use Rattle.transfer_commands.specs.Outlining.{IsOutlined, OutlinesRead}
-use Rattle.transfer_commands.specs.Telling.{IsToldOf, IsUntoldOf, TellComesTo, TellsFile}
+use Rattle.transfer_commands.specs.Outlining.{IsOutlined, IsUnoutlined, OutlinesRead}
+use Rattle.transfer_commands.specs.Telling.{IsToldOf, IsUntold, IsUntoldOf, TellComesTo, TellsFile}
 use Rattle.transfer_commands.specs.declared.fault.CommandFault.{CommandFault}
 use Rattle.transfer_commands.specs.declared.fault.CommandFault.TheVariants.{Call, ReadFailed, WriteFailed}
 
@@ -47,3 +55,21 @@ whole_told file_name old new file (Ok told) is not same read = record { file = f
 whole_told file_name old new file (Err (Call fault)) is not same read = (same, inr (record { file = file; file_read = read; unopened = not }))
 whole_told file_name old new file (Err ReadFailed) is not same read = absurd not
 whole_told file_name old new file (Err WriteFailed) is not same read = absurd not
+
+-- ---- a file whose fault was told in one pass
+opens_err : (cause : ReadFault) (reading : Result Opened ReadFault) → reading ≡ Err cause → Opens (Err cause) reading
+opens_err reads.Memory reading e = tt
+opens_err reads.UnknownForm reading e = e
+opens_err (reads.Dsdiff fault) reading e = e
+opens_err (reads.Dsf fault) reading e = e
+
+pub untold_named : (view : View) (name : List ℕ) (left : Option (List ℕ)) (cause : ReadFault) (fault : calls.Fault) → IsGiven view name left → IfSome left (λ file. opened_of file ≡ Err cause) → (read : List ℕ) → opened_of read ≡ Err cause
+    → fault ≡ fault_of_file cause → IsUntold name view fault
+untold_named view name left cause fault given known read first named =
+    let is = known_or_some view name left (λ file. opened_of file ≡ Err cause) given known (read, first) in
+    record { file = is.0; file_read = is.1; unopened = record { cause = cause; reading = opens_err cause (opened_of is.0) is.2; named = named } }
+
+pub unoutlined_told : (file_name : List ℕ) (old new : View) (f : CommandFault) → new ≡ old → IsUnoutlined file_name old f → TellComesTo file_name old new (Err f)
+unoutlined_told file_name old new (Call fault) same is = (same, is)
+unoutlined_told file_name old new ReadFailed same is = same
+unoutlined_told file_name old new WriteFailed same is = absurd is

@@ -1,5 +1,5 @@
 -- What a splice reads of the files of its takes, under their names.
-use Rattle.std.specs.Prelude.{◌≡◌, ℕ, List, IsTrue, Option, Result, Some, None, Vec, ⊤, length}
+use Rattle.std.specs.Prelude.{◌≡◌, ℕ, List, IsTrue, Option, Result, Ok, Err, Some, None, Vec, ⊤, length}
 use Rattle.std.specs.declared.alloc.Global.{Global}
 use Rattle.dsd_bits.specs.Contents.{Content}
 use Rattle.dsd_bits.specs.Shape.{HasShape}
@@ -21,24 +21,26 @@ pub record HearsHeld (splice : SpliceContent) (number : ℕ) (file : List ℕ) (
   pub shape : HasShape recording
   pub is_heard : heard_content heard ≡ heard_of splice number recording
 
--- this was read of a file in one pass; or nothing, and the file doesn't hold a recording
-abbrev pub IsHeardIn : SpliceContent → ℕ → List ℕ → Option Heard → Type 0
-IsHeardIn splice number file (Some heard) = HearsHeld splice number file heard
+-- this was read of a file in one pass; or it is the file's fault, as that of the take with this number; or nothing, and the
+-- file holds no recording
+abbrev pub IsHeardIn : SpliceContent → ℕ → List ℕ → Option (Result Heard CutFault) → Type 0
+IsHeardIn splice number file (Some (Ok heard)) = HearsHeld splice number file heard
+IsHeardIn splice number file (Some (Err fault)) = take_in number file ≡ Err fault
 IsHeardIn splice number file None = IsRefused file
 
--- some bytes hold what was read
-abbrev pub IsHeardInSome : SpliceContent → ℕ → Option Heard → Type 0
-IsHeardInSome splice number (Some heard) = (file : List ℕ) × HearsHeld splice number file heard
+-- some bytes hold what was read, or have this fault
+abbrev pub IsHeardInSome : SpliceContent → ℕ → Option (Result Heard CutFault) → Type 0
+IsHeardInSome splice number (Some heard) = (file : List ℕ) × IsHeardIn splice number file (Some heard)
 IsHeardInSome splice number None = ⊤
 
--- this was read, in one pass, of bytes of a name
-pub record StreamsRead (old : View) (splice : SpliceContent) (number : ℕ) (name : List ℕ) (heard : Heard) : Type 0 where
+-- this was read, in one pass, of bytes of a name, or is their fault
+pub record StreamsRead (old : View) (splice : SpliceContent) (number : ℕ) (name : List ℕ) (heard : Result Heard CutFault) : Type 0 where
   pub file : List ℕ
   pub file_read : IsReadOf old name file
-  pub is_heard : HearsHeld splice number file heard
+  pub is_heard : IsHeardIn splice number file (Some heard)
 
 -- the same, or nothing: then, if the folder's bytes are known, an opening of the name gives no recording
-abbrev pub StreamsFile : View → SpliceContent → ℕ → List ℕ → Option Heard → Type 0
+abbrev pub StreamsFile : View → SpliceContent → ℕ → List ℕ → Option (Result Heard CutFault) → Type 0
 StreamsFile old splice number name (Some heard) = StreamsRead old splice number name heard
 StreamsFile old splice number name None = IsTrue old.is_told → (file : List ℕ) × Gives old name file × IsRefused file
 

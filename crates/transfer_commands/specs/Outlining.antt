@@ -1,12 +1,13 @@
 -- What is known of a file of a folder without its sound.
-use Rattle.std.specs.Prelude.{ℕ, List, IsTrue, Option, Some, None, ⊤}
+use Rattle.std.specs.Prelude.{◌≡◌, ◌⊎◌, ℕ, List, IsTrue, Option, Some, None, ⊤}
 use Rattle.sound_core.specs.Files.{IsRefused}
 use Rattle.sound_core.specs.Outlines.{AreAround, AreTold, around_of}
 use Rattle.sound_core.specs.declared.outline.Outline.{Outline}
 use Rattle.transfer_core.specs.declared.fault.Fault.TheVariants.{Memory}
 use Rattle.folder_core.specs.Files.{Gives, IsReadOf, View}
 use Rattle.transfer_commands.specs.declared.fault.CommandFault.{CommandFault}
-use Rattle.transfer_commands.specs.declared.fault.CommandFault.TheVariants.{Call, ReadFailed}
+use Rattle.transfer_commands.specs.declared.fault.CommandFault.TheVariants.{Call, ReadFailed, WriteFailed}
+use Rattle.transfer_commands.specs.Telling.{IsUntold}
 
 -- the file is this outline with some sound, and the outline describes what it holds
 pub record IsOutlined (file : List ℕ) (outline : Outline) : Type 0 where
@@ -29,3 +30,9 @@ abbrev pub IsUnread : CommandFault → Type 0
 IsUnread (Call Memory) = ⊤
 IsUnread ReadFailed = ⊤
 IsUnread _ = ⊥
+
+-- a file was not read, or bytes that were read of it hold no recording for this fault
+abbrev pub IsUnoutlined : List ℕ → View → CommandFault → Type 0
+IsUnoutlined file_name old (Call fault) = (fault ≡ Memory) ⊎ IsUntold file_name old fault
+IsUnoutlined file_name old ReadFailed = ⊤
+IsUnoutlined file_name old WriteFailed = ⊥

@@ -22,9 +22,9 @@ use transfer_core::{Fault, convert, convert_stream};
 /// Converts a file to the other form. Returns how many parts of its recording have no place in it.
 ///
 /// A file of fewer than `most` bytes is read whole and converted in memory, and only then the other file is created.
-/// Any other file is opened again and read in one pass, which doesn't hold its sound. If it holds no recording, it is
-/// opened a third time and read whole, so that the fault can be named. Otherwise it is opened once more, the other file
-/// is created, and the one is converted to the other block by block. After a fault of that the other file may hold a
+/// Any other file is opened again and read in one pass, which doesn't hold its sound. If it holds no recording for a
+/// fault that this pass doesn't tell, it is opened a third time and read whole, so that the fault can be named. Otherwise
+/// it is opened once more, the other file is created, and the one is converted to the other block by block. After a fault of that the other file may hold a
 /// prefix of what was due, but a folder that keeps old files keeps an old one.
 ///
 /// If a file was changed around its sound between its readings, the answer is `ReadFailed`. If its sound was changed,

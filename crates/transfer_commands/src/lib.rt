@@ -8,7 +8,7 @@
 //! - [`sum_file`] reads a recording in one pass, and digests the bits of each channel.
 //! - [`hear_sources`] reads a project and then its takes by their numbers, and keeps of them what the splice reads.
 //!
-//! `convert_file`, `open_file` and `hear_sources` read a short file whole, and any other in one pass. The calls are those of `transfer_core`, the files
+//! All but `play_file` read a recording in one pass, but that [`convert_file`] reads a short one whole. The calls are those of `transfer_core`, the files
 //! those of `folder_core`. A command returns its first fault.
 //!
 //! The words of the contracts, over any folder, of which `old` is known before and `new` after:

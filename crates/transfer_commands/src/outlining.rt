@@ -2,21 +2,23 @@
 
 ghost use Rattle.std.specs.Prelude.{◌≡◌, IfErr, IfOk, IfSome};
 ghost use Rattle.sound_core.specs.Outlines.{AreTold, around_of};
-ghost use Rattle.transfer_commands.specs.Outlining.{IsUnread, OutlinesFile};
+ghost use Rattle.transfer_commands.specs.Outlining.{IsUnoutlined, OutlinesFile};
 
 use crate::fault::CommandFault;
 use chunk_core::Inlet;
 use folder_core::Folder;
-use sound_core::{Outline, StreamFault, read_outline};
+use sound_core::{Outline, StreamFault, Unread, read_outline};
 use std::alloc::Global;
 use transfer_core::Fault;
 
 /// Files of fewer bytes are held whole: 2 MiB.
 pub const MOST_KEPT: usize = 1 << 21;
 
-/// What a file holds besides its sound, read in one pass; None for a file that holds no recording.
+/// What a file holds besides its sound, read in one pass; None for a file that holds no recording, for a fault that one
+/// reading doesn't tell.
 ///
-/// Refusals: `ReadFailed` if it can't be opened, a read fails, or it isn't at its end after `2^40` reads; `Memory`.
+/// Refusals: `ReadFailed` if it can't be opened, a read fails, or it isn't at its end after `2^40` reads; `FileUnread`
+/// with the first fault of a file that holds no recording; `Memory`.
 pub(crate) fn outline_file<F: Folder>(
     alloc: Global,
     folder: &mut F,
@@ -25,7 +27,7 @@ pub(crate) fn outline_file<F: Folder>(
     ensures same { F.view folder.new ≡ F.view folder.old }
     ensures around { IfOk result (λ found. IfSome found (λ outline. AreTold (around_of outline))) }
     ensures found { IfOk result (OutlinesFile name.now (F.view folder.old)) }
-    ensures fault { IfErr result IsUnread }
+    ensures fault { IfErr result (IsUnoutlined name.now (F.view folder.old)) }
 {
     let Ok(file) = folder.open(name) else {
         return Err(CommandFault::ReadFailed);
@@ -33,8 +35,9 @@ pub(crate) fn outline_file<F: Folder>(
     let mut inlet = Inlet::new(file);
     match read_outline(alloc, &mut inlet) {
         Ok(outline) => Ok(Some(outline)),
-        Err(StreamFault::FileRefused) => Ok(None),
-        Err(StreamFault::Memory) => Err(CommandFault::Call(Fault::Memory)),
-        Err(_) => Err(CommandFault::ReadFailed),
+        Err(Unread::Refused(fault)) => Err(CommandFault::Call(Fault::from(fault))),
+        Err(Unread::Stream(StreamFault::FileRefused)) => Ok(None),
+        Err(Unread::Stream(StreamFault::Memory)) => Err(CommandFault::Call(Fault::Memory)),
+        Err(Unread::Stream(_)) => Err(CommandFault::ReadFailed),
     }
 }

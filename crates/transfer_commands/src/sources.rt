@@ -23,14 +23,13 @@ pub struct Sources {
     pub takes: Result<Vec<Heard>, CutFault>,
 }
 
-/// Reads the project, then the takes that it names, and keeps of them what the splice reads. A take's file of fewer
-/// than `most` bytes is read whole. Any other file is opened again and read in one pass, which doesn't hold its sound.
-/// If it holds no recording, it is opened a third time and read whole, so that the fault can be named.
+/// Reads the project, then the takes that it names, and keeps of them what the splice reads. A take's file is read in
+/// one pass, which doesn't hold its sound. If it holds no recording for a fault that this pass doesn't tell, it is opened
+/// again and read whole, so that the fault can be named.
 pub fn hear_sources<F: Folder>(
     alloc: Global,
     folder: &mut F,
     project: &str,
-    most: usize,
 ) -> Result<Sources, CommandFault>
     ensures same { F.view folder.new ≡ F.view folder.old }
     ensures heard { IfOk result (λ found. HearsSources project.now (F.view folder.old)
@@ -41,6 +40,6 @@ pub fn hear_sources<F: Folder>(
 {
     let project = read_file(alloc, folder, project)?;
     let splice = splice_of(alloc, &project)?;
-    let takes = hear_files(alloc, folder, &splice, most)?;
+    let takes = hear_files(alloc, folder, &splice)?;
     Ok(Sources { splice, takes })
 }

@@ -9,7 +9,7 @@ ghost use Rattle.transfer_commands.specs.Telling.{IsToldOf, IsUntoldOf, TellCome
 use crate::fault::CommandFault;
 use crate::outlining::outline_file;
 use dsd_bits::Description;
-use folder_core::{Folder, read_file, read_short};
+use folder_core::{Folder, read_file};
 use form_core::{Form, Opened, form_in, read_any};
 use sound_core::Outline;
 use std::alloc::Global;
@@ -24,20 +24,15 @@ pub struct Told {
     pub description: Description,
 }
 
-/// What a file holds, without its bits. A file of fewer than `most` bytes is read whole. Any other file is opened again
-/// and read in one pass, which doesn't hold its sound. If it holds no recording, it is opened a third time and read
-/// whole, so that the fault can be named.
+/// What a file holds, without its bits. It is read in one pass, which doesn't hold its sound. If it holds no recording
+/// for a fault that this pass doesn't tell, it is opened again and read whole, so that the fault can be named.
 pub fn open_file<F: Folder>(
     alloc: Global,
     folder: &mut F,
     file: &str,
-    most: usize,
 ) -> Result<Told, CommandFault>
     ensures { TellComesTo file.now (F.view folder.old) (F.view folder.new) result }
 {
-    if let Some(bytes) = read_short(alloc, folder, file, most)? {
-        return told_of(alloc, &bytes);
-    }
     if let Some(outline) = outline_file(alloc, folder, file)? {
         return Ok(told_by(outline));
     }

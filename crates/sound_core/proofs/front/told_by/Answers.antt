@@ -1,24 +1,19 @@
-use Rattle.sound_core.proofs.HeadLaws.{dsdiff_found, dsdiff_more, dsf_found, dsf_more, dsf_refused, not_refused}
-use Rattle.sound_core.proofs.ToldLaws.{dsf_wanted, form_wanted}
+use Rattle.std.proofs.Common.{◌≡◌}
+use Rattle.dsd_bits.specs.declared.sound.SoundAt.TheVariants.{More, Found}
+use Rattle.sound_core.proofs.NamingLaws.{form_before, form_found, form_more, lost_refuses, untold_refuses}
 use Rattle.sound_core.proofs.front.told_by.Goals as goal
 
-pub returns-in-Refused : goal.returns-in-Refused
-returns-in-Refused c =
-    let no_form = rw c.in-Refused.is at c.in_ok-told.ensures.refused in
-    let told = c.sound_at-in-Refused in
-    record {
-      found = dsf_found c.args.front.now no_form told.result told.ensures.exact told.ensures.found told.ensures.limits told.ensures.within told.ensures.interleaving;
-      refused = dsf_refused c.args.front.now no_form c.sound_at-in-Refused.result c.sound_at-in-Refused.ensures.exact c.sound_at-in-Refused.ensures.refused;
-      more = dsf_more c.args.front.now no_form c.sound_at-in-Refused.result c.sound_at-in-Refused.ensures.exact c.sound_at-in-Refused.ensures.more;
-      before = dsf_wanted c.args.front.now no_form c.sound_at-in-Refused.result c.sound_at-in-Refused.ensures.more;
-    }
+pub returns-in-Found-clause-found : goal.returns-in-Found-clause-found
+returns-in-Found-clause-found c = form_found c.args.front.now (Found c.in-Found.sound) (rw c.in-Found.is at c.in_ok-sound.ensures.exact)
 
-pub returns-in_default : goal.returns-in_default
-returns-in_default c =
-    let told = c.in_ok-told in
-    record {
-      found = dsdiff_found c.args.front.now told.told told.ensures.exact told.ensures.found told.ensures.limits told.ensures.within;
-      refused = not_refused told.told _ c.in_default.not-Refused;
-      more = dsdiff_more c.args.front.now told.told told.ensures.exact told.ensures.more;
-      before = form_wanted c.args.front.now told.told told.ensures.exact told.ensures.more;
-    }
+pub returns-in-More-clause-more : goal.returns-in-More-clause-more
+returns-in-More-clause-more c = form_more c.args.front.now More (rw c.in-More.is at c.in_ok-sound.ensures.exact)
+
+pub returns-in-More-clause-before : goal.returns-in-More-clause-before
+returns-in-More-clause-before c = form_before c.args.front.now More (rw c.in-More.is at c.in_ok-sound.ensures.exact)
+
+pub returns-in-Untold-clause-refused : goal.returns-in-Untold-clause-refused
+returns-in-Untold-clause-refused c = untold_refuses c.args.front.now c.in-Untold.field-0 (rw c.in-Untold.is at c.in_ok-sound.ensures.told).1 (rw c.in-Untold.is at c.in_ok-sound.ensures.exact)
+
+pub returns-in-NoSound-clause-refused : goal.returns-in-NoSound-clause-refused
+returns-in-NoSound-clause-refused c = lost_refuses c.args.front.now (rw c.in-NoSound.is at c.in_ok-sound.ensures.told).1 (rw c.in-NoSound.is at c.in_ok-sound.ensures.exact)

@@ -6,6 +6,7 @@ pub returns-then-has_blocks : goal.returns-then-has_blocks
 returns-then-has_blocks g c = record {
   same = c.behind_blocks.ensures.same;
   ok = c.behind_blocks.ensures.ok;
+  named = c.behind_blocks.ensures.named;
   counts = c.behind_blocks.ensures.counts;
   fault = c.behind_blocks.ensures.fault;
 }
@@ -14,6 +15,7 @@ pub returns-else-has_blocks : goal.returns-else-has_blocks
 returns-else-has_blocks g c = record {
   same = c.behind_frames.ensures.same;
   ok = c.behind_frames.ensures.ok;
+  named = c.behind_frames.ensures.named;
   counts = c.behind_frames.ensures.counts;
   fault = c.behind_frames.ensures.fault;
 }

@@ -17,6 +17,7 @@ returns-in_err-behind g c =
     rw (fault_is c.from_residual.result _ c.from_residual.ensures.1) (record {
       same = c.read_behind.ensures.same;
       ok = tt;
+      named = rw (← c.deref.ensures.value) c.in_err-behind.ensures.named;
       counts = same_counts c.args.reader.now c.read_behind.new.reader c.in_err-behind.field-0.0 c.in_err-behind.ensures.counts;
       fault = rw (← c.deref.ensures.value) c.in_err-behind.ensures.fault;
     })
@@ -25,6 +26,7 @@ pub returns : goal.returns
 returns g c = record {
   same = same_on c.args.reader.now c.read_behind.new.reader c.take_ahead-back.new.self c.read_behind.ensures.same c.take_ahead-back.ensures.same;
   ok = (refl, refl, rw (c.take_ahead-back.ensures.untouched, c.take_ahead-back.ensures.taken, ← c.deref.ensures.value) c.in_ok-behind.ensures.ok);
+  named = tt;
   counts = counts_kept c.args.reader.now c.read_behind.new.reader c.take_ahead-back.new.self _ _ c.take_ahead-back.ensures.untouched c.in_ok-behind.ensures.counts;
   fault = tt;
 }

@@ -1,25 +1,28 @@
-use Rattle.std.proofs.Common.{◌++◌, ◌∙◌, arith, inl, refl, subst, sym}
+use Rattle.std.proofs.Common.{◌≡◌, ◌++◌, ◌+◌, ◌-◌, ◌<◌, ◌∙◌, ℕ, List, Err, ap, arith, inl, length, length-drop, length-take, refl, subst, sym}
+use Rattle.form_core.specs.Opening.{opened_of}
+use Rattle.sound_core.specs.declared.fault.StreamFault.TheVariants.{FileRefused}
+use Rattle.chunk_core.specs.Inlets.{inlet_given}
 use Rattle.std.proofs.lemmas.Result.{IfErr-weaker, IfOk-weaker}
 use Rattle.chunk_core.specs.Inlets.{inlet_reader}
 use Rattle.dsd_bits.specs.declared.sound.Sound.{Sound}
 use Rattle.sound_core.specs.Outlines.{around_of}
 use Rattle.sound_core.specs.Readers.{Passes}
 use Rattle.sound_core.specs.Reads.{Reads}
-use Rattle.sound_core.proofs.BehindLaws.{at_sound, file_stands, given_is, given_stands, rest_stands, stops_behind, stops_in_sound}
+use Rattle.sound_core.proofs.BehindLaws.{at_sound, file_stands, given_is, given_stands, rest_named, rest_stands, short_named, stops_behind, stops_in_sound}
 use Rattle.sound_core.proofs.TakingLaws.{fed_none, file_taken}
 use Rattle.sound_core.proofs.FaultLaws.{fault_is, front_in_outline}
 use Rattle.sound_core.proofs.taking.take_file.Given.{Over}
 use Rattle.sound_core.proofs.taking.take_file.Goals as goal
-use Rattle.sound_core.proofs.taking.take_file.Goals.{In_ok-head, In_ok-take_sound}
+use Rattle.sound_core.proofs.taking.take_file.Goals.{In_ok-head, In-Ok-true}
 
 -- the front was read before the head was taken of it
 reads_is : (g : Over) (c : In_ok-head g) → Reads g.R.Read.remaining c.args.reader.now.inlet.now c.take_head.new.self.inlet.now c.read_front.new.reader.ahead.now.items
 reads_is g c = subst (λ k. Reads g.R.Read.remaining c.args.reader.now.inlet.now k c.read_front.new.reader.ahead.now.items) (sym c.take_head.ensures.untouched) c.in_ok-sound.ensures.read
 
 -- what was taken was read
-abbrev passes_is : (g : Over) (c : In_ok-take_sound g) → Passes g.R.Read.remaining c.take_head.new.self.inlet.now c.take_sound.new.reader.inlet.now c.in_ok-sound.sound.size c.take_head.new.self.ahead.now.items c.take_sound.new.reader.ahead.now.items
+abbrev passes_is : (g : Over) (c : In-Ok-true g) → Passes g.R.Read.remaining c.take_head.new.self.inlet.now c.take_sound.new.reader.inlet.now c.in_ok-sound.sound.size c.take_head.new.self.ahead.now.items c.take_sound.new.reader.ahead.now.items
 passes_is g c =
-    let passes = c.in_ok-take_sound.ensures.ok.passes in
+    let passes = (c.in-Ok-true.ensures.ok c.in-Ok-true.field-0-test).passes in
     record {
       passed = passes.passed;
       read = passes.read;
@@ -39,7 +42,7 @@ read_rest-requires-clause-at_sound g c =
 pub read_rest-requires-clause-given : goal.read_rest-requires-clause-given
 read_rest-requires-clause-given g c =
     let k = (goal.at.read_rest-requires-clause-given g c).In_ok-head in
-    let l = (goal.at.read_rest-requires-clause-given g c).In_ok-take_sound in
+    let l = (goal.at.read_rest-requires-clause-given g c).In-Ok-true in
     omega (
       arith,
       c.take_sound.ensures.same.given,
@@ -60,40 +63,81 @@ returns-in_err-head-clause-fault g c =
     rw (fault_is c.from_residual-in_err-head.result _ c.from_residual-in_err-head.ensures.1, c.in_err-head.ensures.fault) (inl (record { same = refl; fault = tt; none = λ stop. absurd stop }))
 
 -- some came
-pub returns-in_err-take_sound-clause-fault : goal.returns-in_err-take_sound-clause-fault
-returns-in_err-take_sound-clause-fault g c =
-    let k = (goal.at.returns-in_err-take_sound-clause-fault g c).In_ok-head in
-    rw (fault_is c.from_residual-in_err-take_sound.result _ c.from_residual-in_err-take_sound.ensures.1)
+pub returns-in-Err-clause-fault : goal.returns-in-Err-clause-fault
+returns-in-Err-clause-fault g c =
+    let k = (goal.at.returns-in-Err-clause-fault g c).In_ok-head in
     (stops_in_sound g.R.Read.remaining _ _ _ _ _ c.in_ok-sound.sound (reads_is g k) c.in_ok-sound.ensures.tells c.in_ok-head.ensures.head c.in_ok-head.ensures.rest
-    g.S.SoundSink.has g.S.SoundSink.refused c.take_sound.new.reader.inlet.now c.args.sink.now c.take_sound.new.sink c.in_err-take_sound.field-0.0 c.in_err-take_sound.ensures.fault)
+    g.S.SoundSink.has g.S.SoundSink.refused c.take_sound.new.reader.inlet.now c.args.sink.now c.take_sound.new.sink c.in-Err.fault c.in-Err.ensures.fault)
+
+-- the file ends before its sound does
+pub cut_in-requires : goal.cut_in-requires
+cut_in-requires g c =
+    let k = (goal.at.cut_in-requires g c).In_ok-head in
+    rw c.deref.ensures.value (at_sound g.R.Read.remaining _ _ _ _ _ c.in_ok-sound.sound (reads_is g k) c.in_ok-sound.ensures.tells c.in_ok-head.ensures.head c.in_ok-head.ensures.rest)
+
+pub returns-in-Ok-false-clause-fault : goal.returns-in-Ok-false-clause-fault
+returns-in-Ok-false-clause-fault g c =
+    let k = (goal.at.returns-in-Ok-false-clause-fault g c).In_ok-head in
+    stops_in_sound g.R.Read.remaining _ _ _ _ _ c.in_ok-sound.sound (reads_is g k) c.in_ok-sound.ensures.tells c.in_ok-head.ensures.head c.in_ok-head.ensures.rest
+    g.S.SoundSink.has g.S.SoundSink.refused c.take_sound.new.reader.inlet.now c.args.sink.now c.take_sound.new.sink FileRefused (c.in-Ok-false.ensures.short c.in-Ok-false.field-0-test).stops
+
+pub returns-in-Ok-false-clause-named : goal.returns-in-Ok-false-clause-named
+returns-in-Ok-false-clause-named g c = λ is.
+    let k = (goal.at.returns-in-Ok-false-clause-named g c).In_ok-head in
+    let short = (c.in-Ok-false.ensures.short c.in-Ok-false.field-0-test).short in
+    let size : c.given.result - c.take_sound.new.reader.given ≡ length c.in_ok-head.head.items + length c.take_head.new.self.ahead.now.items + length short.read =
+    omega (
+      arith,
+      c.given.ensures,
+      short.reads.given,
+      c.take_sound.ensures.same.given,
+      c.take_head.ensures.same.given,
+      c.read_front.ensures.same.given,
+      ap inlet_given c.take_head.ensures.untouched,
+      c.in_ok-sound.ensures.given,
+      c.in_ok-sound.ensures.tells.within,
+      ap length c.in_ok-head.ensures.head,
+      ap length c.in_ok-head.ensures.rest,
+      length-take c.in_ok-sound.sound.start c.read_front.new.reader.ahead.now.items,
+      length-drop c.in_ok-sound.sound.start c.read_front.new.reader.ahead.now.items,
+    ) in
+    short_named g.R.Read.remaining _ _ _ _ _ c.in_ok-sound.sound (reads_is g k) c.in_ok-sound.ensures.tells c.in_ok-head.ensures.head c.in_ok-head.ensures.rest
+    c.take_sound.new.reader.inlet.now c.cut_in.result _ short size (subst (λ xs. (rest : List ℕ) → length (xs ++ rest) ≡ c.given.result - c.take_sound.new.reader.given → c.given.result - c.take_sound.new.reader.given < length xs + c.in_ok-sound.sound.size → opened_of (xs ++ rest) ≡ Err c.cut_in.result) c.deref.ensures.value c.cut_in.ensures)
+
+pub returns-clause-named : goal.returns-clause-named
+returns-clause-named g c =
+    let at = goal.at.returns-clause-named g c in
+    IfErr-weaker c.read_rest.result _ _ (λ f named.
+    rest_named g.R.Read.remaining _ _ _ _ _ c.in_ok-sound.sound (reads_is g at.In_ok-head) c.in_ok-sound.ensures.tells c.in_ok-head.ensures.head c.in_ok-head.ensures.rest _ _ (passes_is g at.In-Ok-true)
+    c.read_rest.new.reader.inlet.now c.read_rest.new.reader.cause f named) c.read_rest.ensures.named
 
 pub returns-clause-fault : goal.returns-clause-fault
 returns-clause-fault g c =
     let at = goal.at.returns-clause-fault g c in
-    let taken = c.in_ok-take_sound.ensures.ok in
+    let taken = (c.in-Ok-true.ensures.ok c.in-Ok-true.field-0-test) in
     IfErr-weaker c.read_rest.result _ _ (λ f stands.
-    stops_behind g.R.Read.remaining _ _ _ _ _ c.in_ok-sound.sound (reads_is g at.In_ok-head) c.in_ok-sound.ensures.tells c.in_ok-head.ensures.head c.in_ok-head.ensures.rest _ _ (passes_is g at.In_ok-take_sound)
+    stops_behind g.R.Read.remaining _ _ _ _ _ c.in_ok-sound.sound (reads_is g at.In_ok-head) c.in_ok-sound.ensures.tells c.in_ok-head.ensures.head c.in_ok-head.ensures.rest _ _ (passes_is g at.In-Ok-true)
     g.S.SoundSink.has g.S.SoundSink.refused c.read_rest.new.reader.inlet.now c.args.sink.now c.take_sound.new.sink f taken.fed taken.taken
-    (rest_stands g.R.Read.remaining _ _ _ _ _ c.in_ok-sound.sound (reads_is g at.In_ok-head) c.in_ok-sound.ensures.tells c.in_ok-head.ensures.head c.in_ok-head.ensures.rest _ _ (passes_is g at.In_ok-take_sound) f stands)) c.read_rest.ensures.fault
+    (rest_stands g.R.Read.remaining _ _ _ _ _ c.in_ok-sound.sound (reads_is g at.In_ok-head) c.in_ok-sound.ensures.tells c.in_ok-head.ensures.head c.in_ok-head.ensures.rest _ _ (passes_is g at.In-Ok-true) f stands)) c.read_rest.ensures.fault
 
 -- all came
 pub returns-clause-ok : goal.returns-clause-ok
 returns-clause-ok g c =
     let at = goal.at.returns-clause-ok g c in
-    let taken = c.in_ok-take_sound.ensures.ok in
+    let taken = (c.in-Ok-true.ensures.ok c.in-Ok-true.field-0-test) in
     let has = g.S.SoundSink.has c.args.sink.now c.take_sound.new.sink in
     IfOk-weaker c.read_rest.result _ _ (λ o told.
     file_taken has (g.R.Read.remaining _) (around_of o) taken.passes.passed told.2.told
-    (file_stands g.R.Read.remaining _ _ _ _ _ c.in_ok-sound.sound (reads_is g at.In_ok-head) c.in_ok-sound.ensures.tells c.in_ok-head.ensures.head c.in_ok-head.ensures.rest _ _ (passes_is g at.In_ok-take_sound) _ (around_of o) told.0 told.1 told.2)
+    (file_stands g.R.Read.remaining _ _ _ _ _ c.in_ok-sound.sound (reads_is g at.In_ok-head) c.in_ok-sound.ensures.tells c.in_ok-head.ensures.head c.in_ok-head.ensures.rest _ _ (passes_is g at.In-Ok-true) _ (around_of o) told.0 told.1 told.2)
     (subst (λ (s : Sound). has s s.count taken.passes.passed) (sym told.0) taken.taken)) c.read_rest.ensures.ok
 
 pub returns-clause-any_reader : goal.returns-clause-any_reader
 returns-clause-any_reader g c =
     let at = goal.at.returns-clause-any_reader g c in
-    let taken = c.in_ok-take_sound.ensures.ok in
+    let taken = (c.in-Ok-true.ensures.ok c.in-Ok-true.field-0-test) in
     let has = g.S.SoundSink.has c.args.sink.now c.take_sound.new.sink in
     IfOk-weaker c.read_rest.result _ _ (λ o told.
-    let stands = given_stands g.R.Read.remaining _ _ _ _ _ c.in_ok-sound.sound (reads_is g at.In_ok-head) c.in_ok-sound.ensures.tells c.in_ok-head.ensures.head c.in_ok-head.ensures.rest _ _ (passes_is g at.In_ok-take_sound) _ (around_of o) told.0 told.1 told.2 in (
+    let stands = given_stands g.R.Read.remaining _ _ _ _ _ c.in_ok-sound.sound (reads_is g at.In_ok-head) c.in_ok-sound.ensures.tells c.in_ok-head.ensures.head c.in_ok-head.ensures.rest _ _ (passes_is g at.In-Ok-true) _ (around_of o) told.0 told.1 told.2 in (
       c.read_front.new.reader.ahead.now.items ++ (taken.passes.read ++ told.2.read),
       stands.0,
       (taken.passes.passed, stands.1, subst (λ (s : Sound). has s s.count taken.passes.passed) (sym told.0) taken.taken),

@@ -2,7 +2,7 @@ use Rattle.std.proofs.Common.{◌+◌, ◌-◌, ◌≤◌, inl, inr, arith, refl
 use Rattle.relace_core.proofs.GroupLaws.{last_groups, size_fits}
 use Rattle.sound_core.proofs.FaultLaws.{fault_is}
 use Rattle.sound_core.proofs.ReaderLaws.{same_on, same_self}
-use Rattle.sound_core.proofs.TakingLaws.{some_all, some_none, some_on, stops_on}
+use Rattle.sound_core.proofs.TakingLaws.{short_on, some_all, some_none, some_on, stops_on}
 use Rattle.sound_core.proofs.taking.take_sound.Goals as goal
 
 pub loop-done-init : goal.loop-done-init
@@ -35,7 +35,7 @@ pub loop-done-preserved : goal.loop-done-preserved
 loop-done-preserved g c =
     let so_far = c.loop-done.invariant in (
       some_on g.R.Read.remaining g.S.SoundSink.has _ c.args.reader.now.inlet.now c.loop-done.reader.inlet.now c.args.sink.now c.loop-done.sink c.args.reader.now.ahead.now.items c.loop-done.reader.ahead.now.items so_far.0
-          c.take_part.new.reader.inlet.now c.take_part.new.sink c.take_part.new.reader.ahead.now.items c.in_ok-take_part.ensures.ok,
+          c.take_part.new.reader.inlet.now c.take_part.new.sink c.take_part.new.reader.ahead.now.items (c.in_ok-take_part.ensures.ok c.if-not-branch.false),
       c.in_ok-take_part.ensures.reading,
       same_on c.args.reader.now c.loop-done.reader c.take_part.new.reader so_far.2 c.take_part.ensures.same,
       omega (arith, so_far.3, c.in_ok-take_part.ensures.counts.failures),
@@ -48,5 +48,11 @@ returns-in_err-take_part-clause-fault g c =
     g.S.SoundSink.refused c.take_part.new.reader.inlet.now c.take_part.new.sink c.take_part.new.reader.ahead.now.items c.in_err-take_part.field-0.0 c.in_err-take_part.ensures.fault)
 
 pub returns-clause-ok : goal.returns-clause-ok
-returns-clause-ok g c =
+returns-clause-ok g c = λ yes.
     some_all g.R.Read.remaining g.S.SoundSink.has c.args.sound c.args.reader.now.inlet.now c.loop-done.reader.inlet.now c.args.sink.now c.loop-done.sink c.loop-done.done c.args.reader.now.ahead.now.items c.loop-done.reader.ahead.now.items c.loop-done.invariant.0 c.loop-done-test.false
+
+pub returns-then-not-branch-clause-short : goal.returns-then-not-branch-clause-short
+returns-then-not-branch-clause-short g c = λ no.
+    let short = c.in_ok-take_part.ensures.short c.if-not-branch.true in
+    short_on g.R.Read.remaining g.S.SoundSink.has _ c.args.reader.now.inlet.now c.loop-done.reader.inlet.now c.args.sink.now c.loop-done.sink c.args.reader.now.ahead.now.items c.loop-done.reader.ahead.now.items c.loop-done.invariant.0
+    g.S.SoundSink.refused c.take_part.new.reader.inlet.now c.take_part.new.sink c.take_part.new.reader.ahead.now.items short

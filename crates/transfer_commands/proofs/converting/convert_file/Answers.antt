@@ -5,8 +5,8 @@ use Rattle.folder_core.specs.Files.{IsReadOf, View}
 use Rattle.folder_core.specs.ShortFiles.{IsShortOf}
 use Rattle.sound_core.specs.Outlines.{AreTold, around_of}
 use Rattle.transfer_commands.specs.Converting.{ConvertComesTo}
-use Rattle.transfer_commands.specs.Outlining.{OutlinesFile, OutlinesRead}
-use Rattle.transfer_commands.proofs.ConvertLaws.{unconverted}
+use Rattle.transfer_commands.specs.Outlining.{IsUnoutlined, OutlinesFile, OutlinesRead}
+use Rattle.transfer_commands.proofs.ConvertLaws.{unconverted, unoutlined_unconverted}
 use Rattle.transfer_commands.proofs.HearLaws.{unread_of}
 use Rattle.transfer_commands.proofs.ReadLaws.{short_read}
 use Rattle.transfer_commands.proofs.converting.convert_file.Goals as goal
@@ -50,7 +50,7 @@ pub returns-in_err-outline : goal.returns-in_err-outline
 returns-in_err-outline g c =
     let view = g.F.Folder.view in
     let e = err_from_is_err_and c.from_residual-in_err-outline.result c.from_residual-in_err-outline.ensures.1 in
-    subst (ConvertComesTo c.args.form c.args.input.now c.args.output.now (view c.args.folder.now) (view c.outline_file.new.folder)) (sym (e.1 ∙ ap Err e.2)) (unconverted c.args.form c.args.input.now c.args.output.now (view c.args.folder.now) (view c.outline_file.new.folder) c.in_err-outline.field-0.0 (c.outline_file.ensures.same ∙ c.read_short.ensures.same) c.in_err-outline.ensures.fault)
+    subst (ConvertComesTo c.args.form c.args.input.now c.args.output.now (view c.args.folder.now) (view c.outline_file.new.folder)) (sym (e.1 ∙ ap Err e.2)) (unoutlined_unconverted c.args.form c.args.input.now c.args.output.now (view c.args.folder.now) (view c.outline_file.new.folder) c.in_err-outline.field-0.0 (c.outline_file.ensures.same ∙ c.read_short.ensures.same) (subst (λ (v : View). IsUnoutlined c.args.input.now v c.in_err-outline.field-0.0) c.read_short.ensures.same c.in_err-outline.ensures.fault))
 
 pub returns-in_err-file-2 : goal.returns-in_err-file-2
 returns-in_err-file-2 g c =

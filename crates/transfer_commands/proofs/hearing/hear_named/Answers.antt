@@ -1,17 +1,16 @@
-use Rattle.std.proofs.Common.{◌≡◌, ◌<◌, ◌∙◌, [], Err, Global, List, Ok, Option, Some, String, ℕ, ap, arith, get_or, length, map, subst, sym}
+use Rattle.std.proofs.Common.{◌≡◌, ◌<◌, ◌∙◌, [], Err, Global, List, Option, Result, String, ℕ, ap, arith, get_or, length, map, refl, subst, sym}
 use Rattle.std.specs.Prelude.{IfSome, string_bytes}
 use Rattle.std.proofs.lemmas.List.{get_or-map, length-map}
 use Rattle.std.proofs.lemmas.Result.{err_from_is_err_and}
 use Rattle.dsd_bits.proofs.ExitLaws.{no_value}
 use Rattle.splice_core.specs.Splices.{splice_content}
 use Rattle.cut_core.specs.Opening.{HearsTake, IsOfTake, take_in}
+use Rattle.cut_core.specs.declared.fault.CutFault.{CutFault}
 use Rattle.cut_core.specs.declared.heard.Heard.{Heard}
 use Rattle.folder_core.specs.Files.{IsReadOf, View}
-use Rattle.folder_core.specs.ShortFiles.{IsShortOf}
 use Rattle.transfer_commands.specs.Hearing.{StreamsFile, StreamsRead}
 use Rattle.transfer_commands.specs.Outlining.{IsUnread}
 use Rattle.transfer_commands.proofs.HearLaws.{err_says, unread_of}
-use Rattle.transfer_commands.proofs.ReadLaws.{short_read}
 use Rattle.transfer_commands.proofs.StreamLaws.{streamed_hears}
 use Rattle.transfer_commands.proofs.hearing.hear_named.Goals as goal
 
@@ -22,84 +21,54 @@ named names n name bytes there is own = own ∙ ap string_bytes is ∙ sym (get_
 pub returns-in-Some : goal.returns-in-Some
 returns-in-Some g c =
     let old = g.F.Folder.view c.args.folder.now in
-    let short = c.in_ok-file.ensures in
-    record {
-      same = short.same;
-      heard =
-          let name = named c.args.splice.now.takes.items c.args.number c.index-name.result.now c.deref.result.now c.requires c.index-name.ensures c.deref.ensures in
-          let read = short_read c.args.most old c.deref.result.now c.in-Some.file (subst (IsShortOf c.args.most old c.deref.result.now) c.in-Some.is short.bytes) in
-          record {
-            file = c.in-Some.file.items;
-            file_read = subst (λ (n : List ℕ). IsReadOf old n c.in-Some.file.items) name read;
-            hears = subst (λ (bytes : List ℕ). HearsTake (splice_content c.args.splice.now) c.args.number c.hear_file.result (take_in c.args.number bytes)) c.deref-in-Some.ensures.value c.hear_file.ensures.heard;
-          };
-      of = c.hear_file.ensures.of;
-      fault = tt;
-    }
-
-pub returns-in-Some-2 : goal.returns-in-Some-2
-returns-in-Some-2 g c =
-    let old = g.F.Folder.view c.args.folder.now in
-    let mid = g.F.Folder.view c.read_short.new.folder in
     let splice = splice_content c.args.splice.now in
     let n = c.args.number in
     record {
-      same = c.hear_streamed.ensures.same ∙ c.read_short.ensures.same;
+      same = c.hear_streamed.ensures.same;
       heard =
-          let name = named c.args.splice.now.takes.items n c.index-name.result.now c.deref-2.result.now c.requires c.index-name.ensures c.deref-2.ensures in
-          let found = subst (λ (h : Option Heard). StreamsFile mid splice n c.deref-2.result.now h) c.in-Some-2.is c.in_ok-heard.ensures.heard in
-          streamed_hears c.held_is_opened.ensures old mid splice n (get_or splice.takes n []) c.in-Some-2.heard c.read_short.ensures.same (subst (λ (name : List ℕ). StreamsRead mid splice n name c.in-Some-2.heard) name found);
-      of = subst (λ o. IfSome o (λ heard. IsOfTake splice n (Ok heard))) c.in-Some-2.is c.in_ok-heard.ensures.of;
+          let name = named c.args.splice.now.takes.items n c.index-name.result.now c.deref.result.now c.requires c.index-name.ensures c.deref.ensures in
+          let found = subst (λ (h : Option (Result Heard CutFault)). StreamsFile old splice n c.deref.result.now h) c.in-Some.is c.in_ok-heard.ensures.heard in
+          streamed_hears c.held_is_opened.ensures old old splice n (get_or splice.takes n []) c.in-Some.heard refl (subst (λ (name : List ℕ). StreamsRead old splice n name c.in-Some.heard) name found);
+      of = subst (λ o. IfSome o (IsOfTake splice n)) c.in-Some.is c.in_ok-heard.ensures.of;
       fault = tt;
     }
 
 pub returns : goal.returns
 returns g c =
     let old = g.F.Folder.view c.args.folder.now in
-    let same = c.hear_streamed.ensures.same ∙ c.read_short.ensures.same in
+    let same = c.hear_streamed.ensures.same in
     record {
       same = c.read_file.ensures.same ∙ same;
       heard =
-          let name = named c.args.splice.now.takes.items c.args.number c.index-name.result.now c.deref-3.result.now c.requires c.index-name.ensures c.deref-3.ensures in
-          let read = subst (λ (v : View). IsReadOf v c.deref-3.result.now c.in_ok-file-2.file.items) same c.in_ok-file-2.ensures.bytes in
+          let name = named c.args.splice.now.takes.items c.args.number c.index-name.result.now c.deref-2.result.now c.requires c.index-name.ensures c.deref-2.ensures in
+          let read = subst (λ (v : View). IsReadOf v c.deref-2.result.now c.in_ok-file.file.items) same c.in_ok-file.ensures.bytes in
           record {
-            file = c.in_ok-file-2.file.items;
-            file_read = subst (λ (n : List ℕ). IsReadOf old n c.in_ok-file-2.file.items) name read;
-            hears = subst (λ (bytes : List ℕ). HearsTake (splice_content c.args.splice.now) c.args.number c.hear_file-2.result (take_in c.args.number bytes)) c.deref-4.ensures.value c.hear_file-2.ensures.heard;
+            file = c.in_ok-file.file.items;
+            file_read = subst (λ (n : List ℕ). IsReadOf old n c.in_ok-file.file.items) name read;
+            hears = subst (λ (bytes : List ℕ). HearsTake (splice_content c.args.splice.now) c.args.number c.hear_file.result (take_in c.args.number bytes)) c.deref-3.ensures.value c.hear_file.ensures.heard;
           };
-      of = c.hear_file-2.ensures.of;
+      of = c.hear_file.ensures.of;
       fault = tt;
     }
 
 pub returns-in_err-heard : goal.returns-in_err-heard
 returns-in_err-heard g c =
-    let r = c.from_residual-in_err-heard.result in
-    let e = err_from_is_err_and r c.from_residual-in_err-heard.ensures.1 in
+    let r = c.from_residual.result in
+    let e = err_from_is_err_and r c.from_residual.ensures.1 in
     record {
-      same = c.hear_streamed.ensures.same ∙ c.read_short.ensures.same;
-      heard = no_value _ _ r c.from_residual-in_err-heard.ensures.1;
-      of = no_value _ _ r c.from_residual-in_err-heard.ensures.1;
+      same = c.hear_streamed.ensures.same;
+      heard = no_value _ _ r c.from_residual.ensures.1;
+      of = no_value _ _ r c.from_residual.ensures.1;
       fault = err_says r _ IsUnread (e.1 ∙ ap Err e.2) (c.in_err-heard.ensures.fault);
     }
 
 pub returns-in_err-file : goal.returns-in_err-file
 returns-in_err-file g c =
-    let r = c.from_residual.result in
-    let e = err_from_is_err_and r c.from_residual.ensures.1 in
+    let r = c.from_residual-in_err-file.result in
+    let e = err_from_is_err_and r c.from_residual-in_err-file.ensures.1 in
     record {
-      same = c.read_short.ensures.same;
-      heard = no_value _ _ r c.from_residual.ensures.1;
-      of = no_value _ _ r c.from_residual.ensures.1;
+      same = c.read_file.ensures.same ∙ c.hear_streamed.ensures.same;
+      heard = no_value _ _ r c.from_residual-in_err-file.ensures.1;
+      of = no_value _ _ r c.from_residual-in_err-file.ensures.1;
       fault = err_says r _ IsUnread (e.1 ∙ ap Err e.2) (unread_of c.in_err-file.field-0.0 c.in_err-file.ensures.fault);
-    }
-
-pub returns-in_err-file-2 : goal.returns-in_err-file-2
-returns-in_err-file-2 g c =
-    let r = c.from_residual-in_err-file-2.result in
-    let e = err_from_is_err_and r c.from_residual-in_err-file-2.ensures.1 in
-    record {
-      same = c.read_file.ensures.same ∙ c.hear_streamed.ensures.same ∙ c.read_short.ensures.same;
-      heard = no_value _ _ r c.from_residual-in_err-file-2.ensures.1;
-      of = no_value _ _ r c.from_residual-in_err-file-2.ensures.1;
-      fault = err_says r _ IsUnread (e.1 ∙ ap Err e.2) (unread_of c.in_err-file-2.field-0.0 c.in_err-file-2.ensures.fault);
     }

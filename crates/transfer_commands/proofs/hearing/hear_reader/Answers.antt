@@ -1,9 +1,10 @@
-use Rattle.std.proofs.Common.{◌∙◌, List, Option, ℕ, ap, subst}
+use Rattle.std.proofs.Common.{◌∙◌, Err, Some, List, Option, ℕ, ap, subst}
 use Rattle.std.specs.Prelude.{IfSome}
 use Rattle.splice_core.specs.Splices.{splice_content}
 use Rattle.sound_core.specs.Files.{IsRefused}
-use Rattle.transfer_commands.specs.Hearing.{HearsHeld}
-use Rattle.transfer_commands.proofs.StreamLaws.{given_heard, left_heard}
+use Rattle.sound_core.proofs.NamingLaws.{file_named}
+use Rattle.transfer_commands.specs.Hearing.{HearsHeld, IsHeardIn}
+use Rattle.transfer_commands.proofs.StreamLaws.{given_heard, left_heard, left_named, take_named}
 use Rattle.transfer_commands.proofs.hearing.hear_reader.Goals as goal
 
 pub returns-in-Ok-read_stretches : goal.returns-in-Ok-read_stretches
@@ -21,16 +22,17 @@ returns-in-Ok-read_stretches g c =
       fault = tt;
     }
 
-pub returns-in-Err-FileRefused : goal.returns-in-Err-FileRefused
-returns-in-Err-FileRefused g c = record {
-  heard = subst (λ (o : Option (List ℕ)). IfSome o IsRefused) (ap g.R.Read.remaining c.new-inlet.ensures.reader) (rw c.in-Err-FileRefused.field-0-is at c.in-Err-FileRefused.ensures.fault);
-  any_reader = tt;
-  of = tt;
-  fault = tt;
-}
-
-pub returns-in-Err-Memory : goal.returns-in-Err-Memory
-returns-in-Err-Memory g c = record { heard = tt; any_reader = tt; of = tt; fault = tt }
+pub returns-in-Err-Refused : goal.returns-in-Err-Refused
+returns-in-Err-Refused g c =
+    let named = rw c.in-Err-Refused.field-0-is at c.in-Err-Refused.ensures.named in
+    let splice = splice_content c.args.splice.now in
+    record {
+      heard = subst (λ (o : Option (List ℕ)). IfSome o (λ file. IsHeardIn splice c.args.number file (Some (Err c.take_unread.result)))) (ap g.R.Read.remaining c.new-inlet.ensures.reader)
+          (left_named _ splice c.args.number c.in-Err-Refused.fault c.take_unread.result c.take_unread.ensures (file_named g.R.Read.remaining _ _ c.in-Err-Refused.fault named));
+      any_reader = (named.read, rw c.take_unread.ensures (take_named c.args.number named.read c.in-Err-Refused.fault named.sure.now));
+      of = tt;
+      fault = tt;
+    }
 
 pub returns-in_default : goal.returns-in_default
 returns-in_default g c = record { heard = tt; any_reader = tt; of = tt; fault = tt }

@@ -1,7 +1,10 @@
-use Rattle.std.proofs.Common.{◌∙◌, List, Option, ap, subst, ℕ}
+use Rattle.std.proofs.Common.{◌≡◌, ◌∙◌, Err, List, inr, Option, ap, subst, ℕ}
 use Rattle.std.specs.Prelude.{IfSome}
 use Rattle.sound_core.specs.Files.{IsRefused}
 use Rattle.sound_core.specs.Outlines.{AreAround, around_of}
+use Rattle.form_core.specs.Opening.{opened_of}
+use Rattle.sound_core.proofs.NamingLaws.{file_named}
+use Rattle.transfer_commands.proofs.TellLaws.{untold_named}
 use Rattle.transfer_commands.proofs.ReadLaws.{known_or_some}
 use Rattle.transfer_commands.proofs.outlining.outline_file.Goals as goal
 
@@ -23,19 +26,22 @@ returns-in-Ok-read_outline g c =
       fault = tt;
     }
 
-pub returns-in-Err-FileRefused : goal.returns-in-Err-FileRefused
-returns-in-Err-FileRefused g c = record {
-  same = c.open.ensures.same;
-  around = tt;
-  found = λ told.
-      let given = c.in-Ok.ensures.bytes told in
-      let left = ap g.F.In.Read.remaining c.new-inlet.ensures.reader ∙ given.2 in
-      (given.0, given.1, subst (λ (o : Option (List ℕ)). IfSome o IsRefused) left (rw c.in-Err-FileRefused.field-0-is at c.in-Err-FileRefused.ensures.fault));
-  fault = tt;
-}
-
-pub returns-in-Err-Memory : goal.returns-in-Err-Memory
-returns-in-Err-Memory g c = record { same = c.open.ensures.same; around = tt; found = tt; fault = tt }
+pub returns-in-Err-Stream-FileRefused-clause-found : goal.returns-in-Err-Stream-FileRefused-clause-found
+returns-in-Err-Stream-FileRefused-clause-found g c = λ told.
+    let given = c.in-Ok.ensures.bytes told in
+    let left = ap g.F.In.Read.remaining c.new-inlet.ensures.reader ∙ given.2 in
+    (given.0, given.1, subst (λ (o : Option (List ℕ)). IfSome o IsRefused) left (rw (c.in-Err-Stream-FileRefused.field-0-is, c.in-Err-Stream-FileRefused.field-0-0-is) at c.in-Err-Stream-FileRefused.ensures.fault))
 
 pub returns : goal.returns
 returns g c = record { same = c.open.ensures.same; around = tt; found = tt; fault = tt }
+
+pub returns-in-Err-Refused : goal.returns-in-Err-Refused
+returns-in-Err-Refused g c =
+    let named = rw c.in-Err-Refused.field-0-is at c.in-Err-Refused.ensures.named in
+    record {
+      same = c.open.ensures.same;
+      around = tt;
+      found = tt;
+      fault = inr (untold_named (g.F.Folder.view c.args.folder.now) c.args.name.now (g.F.In.Read.remaining c.in-Ok.file) c.in-Err-Refused.fault c.from.result c.in-Ok.ensures.bytes
+          (subst (λ (o : Option (List ℕ)). IfSome o (λ file. opened_of file ≡ Err c.in-Err-Refused.fault)) (ap g.F.In.Read.remaining c.new-inlet.ensures.reader) (file_named g.F.In.Read.remaining _ _ c.in-Err-Refused.fault named)) named.read named.sure.now c.from.ensures);
+    }

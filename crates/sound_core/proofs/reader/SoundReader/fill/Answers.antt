@@ -2,7 +2,7 @@ use Rattle.std.proofs.Common.{◌≡◌, ◌<◌, ◌++◌, [], ◌∙◌, ap, a
 use Rattle.chunk_core.specs.Inlets.{inlet_failures}
 use Rattle.sound_core.specs.Reads.{Reads}
 use Rattle.sound_core.proofs.FaultLaws.{fault_is}
-use Rattle.sound_core.proofs.ReadLaws.{at_end, joined_behind, reads_none, reads_on}
+use Rattle.sound_core.proofs.ReadLaws.{joined_behind, reads_none, reads_on}
 use Rattle.sound_core.proofs.ReaderLaws.{same_on}
 use Rattle.sound_core.proofs.reader.SoundReader.fill.Goals as goal
 
@@ -41,16 +41,20 @@ returns-in_err-count-clause-pace g c =
     rw (fault_is c.from_residual.result _ c.from_residual.ensures.1) (λ stops.
     omega (arith, so_far.1.given, so_far.3, c.in_err-count.ensures.none, c.loop-filled-test.true, length-take c.args.size c.args.self.now.ahead.now.items))
 
-pub returns-then-count-eq0-clause-fault : goal.returns-then-count-eq0-clause-fault
-returns-then-count-eq0-clause-fault g c =
+pub returns-then-count-eq0-clause-short : goal.returns-then-count-eq0-clause-short
+returns-then-count-eq0-clause-short g c = λ no.
     let so_far = c.loop-filled.invariant in
     let pulls = c.in_ok-count.ensures.read in
     let ahead = c.args.self.now.ahead.now.items in
-    at_end g.R.Read.remaining c.args.self.now.inlet.now c.loop-filled.self.inlet.now c.pull_behind.new.self.inlet.now so_far.0 pulls.read (λ left. length (ahead ++ left) < c.args.size) so_far.1 pulls.reads (omega (arith, pulls.number, c.if-count-eq0.true))
-    (pulls.end c.if-count-eq0.true) (omega (arith, so_far.3, c.loop-filled-test.true, length-append ahead so_far.0, length-take c.args.size ahead))
+    record {
+      read = so_far.0 ++ pulls.read;
+      reads = reads_on g.R.Read.remaining c.args.self.now.inlet.now c.loop-filled.self.inlet.now c.pull_behind.new.self.inlet.now so_far.0 pulls.read so_far.1 pulls.reads;
+      few = omega (arith, so_far.3, c.loop-filled-test.true, pulls.number, c.if-count-eq0.true, length-append ahead (so_far.0 ++ pulls.read), length-append so_far.0 pulls.read, length-take c.args.size ahead);
+      at_end = pulls.end c.if-count-eq0.true;
+    }
 
 pub returns-clause-ok : goal.returns-clause-ok
-returns-clause-ok g c =
+returns-clause-ok g c = λ yes.
     let so_far = c.loop-filled.invariant in
     let ahead = c.args.self.now.ahead.now.items in
     let first = take c.args.size ahead in

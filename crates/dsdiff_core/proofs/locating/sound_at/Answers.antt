@@ -1,7 +1,7 @@
 use Rattle.dsdiff_core.specs.Fronts.{sound_at}
 use Rattle.std.proofs.Common.{◌≡◌}
 use Rattle.dsdiff_core.proofs.FrontLaws.{if_found, if_more, if_refused, in_limits, inside, when_ok}
-use Rattle.dsdiff_core.proofs.front.sound_at.Goals as goal
+use Rattle.dsdiff_core.proofs.locating.sound_at.Goals as goal
 
 pub returns-clause-found : goal.returns-clause-found
 returns-clause-found c = when_ok (λ x. x ≡ sound_at c.args.front.now) _ c.answer.result (λ x e. if_found c.args.front.now x e) c.answer.ensures

@@ -1,0 +1,49 @@
+-- The first fault of a file that was read.
+use Rattle.std.specs.Prelude.{◌≡◌, ℕ, Bool, true, false, List, ◌++◌, length, Option, IfSome, Err, ⊤}
+use Rattle.chunk_core.specs.Inlets.{inlet_reader}
+use Rattle.chunk_core.specs.declared.inlet.Inlet.{Inlet}
+use Rattle.dsd_bits.specs.declared.sound.Sound.{Sound}
+use Rattle.dsdiff_core.specs.declared.fault.DsdiffFault.{DsdiffFault}
+use Rattle.dsdiff_core.specs.declared.fault.DsdiffFault.TheVariants as dsdiffs
+use Rattle.form_core.specs.Opening.{opened_of}
+use Rattle.form_core.specs.declared.fault.ReadFault.{ReadFault}
+use Rattle.sound_core.specs.Reads.{Reads}
+use Rattle.sound_core.specs.declared.fault.StreamFault.{StreamFault}
+use Rattle.sound_core.specs.declared.fault.StreamFault.TheVariants.{FileRefused}
+use Rattle.sound_core.specs.declared.fault.Unread.{Unread}
+use Rattle.sound_core.specs.declared.fault.Unread.TheVariants as answers
+
+-- this is the first fault of what was read, and with what is left of it
+pub record IsSure (left : Option (List ℕ)) (read : List ℕ) (fault : ReadFault) : Type 0 where
+  pub now : opened_of read ≡ Err fault
+  pub later : IfSome left (λ rest. opened_of (read ++ rest) ≡ Err fault)
+
+-- bytes were read of which this is the first fault, and of all that there are
+pub record NamesFault {R : Type 0} (left : R → Option (List ℕ)) (old new : Inlet R) (fault : ReadFault) : Type 0 where
+  pub read : List ℕ
+  pub reads : Reads left old new read
+  pub sure : IsSure (left (inlet_reader new)) read fault
+
+-- where a file is refused, and its first fault is known, it is this one
+abbrev pub IsNamed : {R : Type 0} → (R → Option (List ℕ)) → Inlet R → Inlet R → Option ReadFault → StreamFault → Type 0
+IsNamed left old new cause f = f ≡ FileRefused → IfSome cause (NamesFault left old new)
+
+-- the same of a file that begins with a head and a sound, of which some bytes were read behind it
+abbrev pub IsRestNamed : {R : Type 0} → (R → Option (List ℕ)) → Inlet R → Inlet R → Sound → List ℕ → List ℕ → Option ReadFault → StreamFault → Type 0
+IsRestNamed left old new s head back cause f = f ≡ FileRefused → IfSome cause (λ fault. (read : List ℕ) × Reads left old new read
+    × ((sound : List ℕ) → length sound ≡ s.size → IsSure (left (inlet_reader new)) (head ++ (sound ++ (back ++ read))) fault))
+
+-- a fault without its cause
+abbrev pub plain : Unread → StreamFault
+plain (answers.Refused e) = FileRefused
+plain (answers.Stream f) = f
+
+-- the first fault of a file that is refused for it has this property
+abbrev pub IfRefused : Unread → (ReadFault → Type 0) → Type 0
+IfRefused (answers.Refused e) P = P e
+IfRefused (answers.Stream f) P = ⊤
+
+-- the fault is want of memory
+abbrev pub is_memory : DsdiffFault → Bool
+is_memory dsdiffs.Memory = true
+is_memory _ = false

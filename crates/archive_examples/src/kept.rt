@@ -5,10 +5,10 @@ use crate::played::two_groups;
 use crate::streamed::NEVER;
 use chunk_core::Inlet;
 use dsd_bits::{BitRange, Bits};
+use dsdiff_core::DsdiffFault;
 use fixtures::compared::equal;
 use fixtures::devices::drip;
 use fixtures::files::{FILE, STEREO, mono, noted, one_bit, stereo};
-use dsdiff_core::DsdiffFault;
 use form_core::{ReadFault, read_any};
 use sound_core::{Kept, StreamFault, Unread, read_stretches};
 use std::alloc::{AllocError, Global};
@@ -201,14 +201,16 @@ const FAULTS: [(usize, u64, Unread, (u64, u64)); 4] = [
     (128, 1, Unread::Stream(StreamFault::ReadFailed), (1, 1)),
     (128, 127, Unread::Stream(StreamFault::ReadFailed), (127, 1)),
     (0, NEVER, Unread::Refused(ReadFault::UnknownForm), (1, 0)),
-    (126, NEVER, Unread::Refused(ReadFault::Dsdiff(DsdiffFault::FormCut)), (127, 0)),
+    (
+        126,
+        NEVER,
+        Unread::Refused(ReadFault::Dsdiff(DsdiffFault::FormCut)),
+        (127, 0),
+    ),
 ];
 
 // Whether reading has this result.
-fn fails(
-    alloc: Global,
-    (length, read, fault, counts): (usize, u64, Unread, (u64, u64)),
-) -> bool {
+fn fails(alloc: Global, (length, read, fault, counts): (usize, u64, Unread, (u64, u64))) -> bool {
     let (file, _) = FILE.split_at(length.min(128));
     let mut inlet = Inlet::new(drip(file, 1, read));
     match read_stretches(alloc, &mut inlet, &[range(0, 8)]) {

@@ -181,11 +181,7 @@ type Case = (Failure, &'static str, &'static str);
 
 // A take is opened once.
 const CALLS: [Case; 4] = [
-    (
-        NOTHING,
-        "takes 2",
-        "open e.toml\nopen a.dff\nopen b.dff\n",
-    ),
+    (NOTHING, "takes 2", "open e.toml\nopen a.dff\nopen b.dff\n"),
     (
         ("open", "b.dff", 0),
         "fault: ReadFailed",
@@ -204,11 +200,7 @@ const CALLS: [Case; 4] = [
 ];
 
 // So is one that holds no recording.
-const REFUSED: Case = (
-    NOTHING,
-    UNREAD,
-    "open e.toml\nopen a.dff\nopen b.dff\n",
-);
+const REFUSED: Case = (NOTHING, UNREAD, "open e.toml\nopen a.dff\nopen b.dff\n");
 
 // Whether reading the takes, of which this is the second, ends as a case says.
 fn asks(alloc: Global, second: &[u8], (failure, line, calls): &Case) -> Result<bool, AllocError> {

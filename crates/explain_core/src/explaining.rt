@@ -124,7 +124,8 @@ fn tell_unwritten<R: Files + AllocGlobal>(
     failure: Failure,
 ) -> Result<(), AllocError> {
     let (name, word) = match task {
-        Task::Play { output, .. } | Task::Convert { output, .. } => (output, "OUT"),
+        Task::Play { output, .. } | Task::PlayPart { output, .. } | Task::Convert { output, .. } =>
+            (output, "OUT"),
         Task::Edit { master, cert, .. } => match failure.step {
             Step::First => (master, "MASTER"),
             Step::Second => (cert, "CERT"),
@@ -148,23 +149,30 @@ fn tell_fault<R: Files + Env + AllocGlobal>(
             tell_role(text, file, "FILE")?;
             recordings::tell_unread(text, rt.alloc(), why, &see(rt, file))
         }
-        (Fault::FileUnread(why), Task::Convert { input, .. }) => {
+        (Fault::FileUnread(why), Task::Convert { input, .. } | Task::PlayPart { input, .. }) => {
             tell_role(text, input, "IN")?;
             recordings::tell_unread(text, rt.alloc(), why, &see(rt, input))
         }
         (Fault::NotWholeBytes, Task::Convert { input, .. }) => {
             playing::tell_parts(text, rt, input)
         }
-        (Fault::Stream(fault), Task::Play { project, input, .. }) => {
-            tell_played(text, rt, Played { project, input }, fault)
-        }
+        (
+            Fault::Stream(fault),
+            Task::Play { project, input, .. } | Task::PlayPart { project, input, .. },
+        ) => tell_played(text, rt, Played { project, input }, fault),
         (
             Fault::Project(fault),
-            Task::Play { project, .. } | Task::Edit { project, .. } | Task::Check { project, .. },
+            Task::Play { project, .. }
+            | Task::PlayPart { project, .. }
+            | Task::Edit { project, .. }
+            | Task::Check { project, .. },
         ) => tell_text(text, rt, project, fault),
         (
             Fault::NoDecimation | Fault::NoSplice,
-            Task::Play { project, .. } | Task::Edit { project, .. } | Task::Check { project, .. },
+            Task::Play { project, .. }
+            | Task::PlayPart { project, .. }
+            | Task::Edit { project, .. }
+            | Task::Check { project, .. },
         ) => playing::tell_table(text, rt, rt.alloc(), project),
         (Fault::Cut(fault), Task::Edit { project, .. } | Task::Check { project, .. }) => {
             tell_cutting(text, rt, project, fault)
@@ -236,7 +244,7 @@ fn tell_cutting<R: Files + AllocGlobal>(
 // Adds what a command holds.
 fn tell_memory(text: &mut String, task: Task) -> Result<(), AllocError> {
     text.push_str(match task {
-        Task::Info { .. } | Task::Convert { .. } | Task::Play { .. } => {
+        Task::Info { .. } | Task::Convert { .. } | Task::Play { .. } | Task::PlayPart { .. } => {
             "what surrounds the sound is held whole, and a file of fewer than 2 MiB: "
         }
         Task::Edit { .. } | Task::Check { .. } => {

@@ -37,7 +37,7 @@ pub(crate) fn tell_unread<R: Files + Env + AllocGlobal>(
     match task {
         Task::Info { file } => tell_name(text, rt, file, Role::Word("FILE"))?,
         Task::Convert { input, .. } => tell_name(text, rt, input, Role::Word("IN"))?,
-        Task::Play { project, input, .. } => {
+        Task::Play { project, input, .. } | Task::PlayPart { project, input, .. } => {
             tell_name(text, rt, project, Role::Word("PROJECT"))?;
             tell_name(text, rt, input, Role::Word("IN"))?;
         }

@@ -8,7 +8,6 @@ ghost use Rattle.transfer_commands.specs.declared.fault.CommandFault.TheVariants
 ghost use Rattle.transfer_commands.specs.declared.parts.PartFault.TheVariants as faults;
 
 use crate::fault::CommandFault;
-use crate::outlining::MOST_KEPT;
 use crate::telling::open_file;
 use chunk_core::{Inlet, Outlet};
 use folder_core::{FileFault, Folder, hand_back, read_file};
@@ -102,7 +101,7 @@ fn part_of<'a, F: Folder>(
     ensures found { IfOk result (λ part. HasSpan project.now input.now (F.view folder.old) span part.start part.stop) }
     ensures refused { IfErr result IsPartRefused }
 {
-    let told = open_file(alloc, folder, input, MOST_KEPT)?;
+    let told = open_file(alloc, folder, input)?;
     let rate = told.description.rate();
     let frames = frames_of(alloc, project, rate, told.description.count())?;
     let (start, stop) = span_of(span, frames, rate, told.description.marks())?;

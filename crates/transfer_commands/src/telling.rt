@@ -26,11 +26,7 @@ pub struct Told {
 
 /// What a file holds, without its bits. It is read in one pass, which doesn't hold its sound. If it holds no recording
 /// for a fault that this pass doesn't tell, it is opened again and read whole, so that the fault can be named.
-pub fn open_file<F: Folder>(
-    alloc: Global,
-    folder: &mut F,
-    file: &str,
-) -> Result<Told, CommandFault>
+pub fn open_file<F: Folder>(alloc: Global, folder: &mut F, file: &str) -> Result<Told, CommandFault>
     ensures { TellComesTo file.now (F.view folder.old) (F.view folder.new) result }
 {
     if let Some(outline) = outline_file(alloc, folder, file)? {

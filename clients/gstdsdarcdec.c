@@ -132,7 +132,6 @@ static gboolean src_event(GstPad *pad, GstObject *parent, GstEvent *event) {
         if (format != GST_FORMAT_TIME || rate != 1.0 || start < 0 || !(flags & GST_SEEK_FLAG_FLUSH)) return FALSE;
         frame = gst_util_uint64_scale((guint64)start, dec->info.rate, GST_SECOND);
         /* What is under way is flushed first, so that no call pushes meanwhile. */
-        gst_pad_push_event(dec->sink, gst_event_new_flush_start());
         gst_pad_push_event(dec->src, gst_event_new_flush_start());
         GST_PAD_STREAM_LOCK(dec->sink);
         if (dsdarc_player_seek(dec->player, frame, &offset) != DSDARC_OK) {

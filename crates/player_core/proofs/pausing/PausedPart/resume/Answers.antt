@@ -14,7 +14,7 @@ fed_again : (c : After-resume) (p : PartPlayer) (bytes : List ℕ) → IsPausedP
 fed_again c p bytes is filter h =
     let same = (c.resume.ensures.same p.player is.player).0 in
     let e : due_bytes (filter_of p.player) (sound_of p.player) bytes ≡ due_bytes (filter_of c.resume.result) (sound_of c.resume.result) bytes =
-        ap (λ (d : Decimator). due_bytes d (sound_of p.player) bytes) (filter ∙ sym c.resume.ensures.filter) ∙ ap (λ (s : Sound). due_bytes (filter_of c.resume.result) s bytes) (sym same) in
+    ap (λ (d : Decimator). due_bytes d (sound_of p.player) bytes) (filter ∙ sym c.resume.ensures.filter) ∙ ap (λ (s : Sound). due_bytes (filter_of c.resume.result) s bytes) (sym same) in
     record { fed = c.resume.ensures.fed p.player bytes is.player h.fed; given = is.given ∙ h.given ∙ ap length e }
 
 pub returns-clause-fed : goal.returns-clause-fed

@@ -156,6 +156,9 @@ fn tell_fault<R: Files + Env + AllocGlobal>(
         (Fault::NotWholeBytes, Task::Convert { input, .. }) => {
             playing::tell_parts(text, rt, input)
         }
+        (Fault::Stream(StreamFault::TooLarge), Task::PlayPart { input, .. }) => {
+            playing::tell_large_part(text, input)
+        }
         (
             Fault::Stream(fault),
             Task::Play { project, input, .. } | Task::PlayPart { project, input, .. },

@@ -157,6 +157,16 @@ pub(crate) fn tell_large<R: Files>(
     text.push_str("choose a filter for a lower rate or 16 bits, or play it in parts")
 }
 
+/// Adds that a part is too large for a WAVE file.
+pub(crate) fn tell_large_part(text: &mut String, input: &str) -> Result<(), AllocError> {
+    write!(
+        text,
+        "the part of {} would make a WAVE file of more than {}: name shorter parts",
+        Named(input, "IN"),
+        Amount(MOST_WAVE)
+    )
+}
+
 /// Adds by how much the channels of a file are not whole bytes.
 pub(crate) fn tell_parts<R: Files>(
     text: &mut String,
